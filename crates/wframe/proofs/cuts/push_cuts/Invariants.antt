@@ -1,0 +1,13 @@
+use Rattle.std.proofs.Common.{◌≡◌, ℕ, ◌+◌, ◌<◌, ◌≤◌, true, length, get_or}
+use Rattle.wframe.specs.Cuts.{CutsFrom, BeginsWith}
+use Rattle.wframe.proofs.cuts.push_cuts.Given as goal
+
+abbrev pub invariant-loop-row : goal.invariant-loop-row
+invariant-loop-row g l =
+    record {
+      before : (j : ℕ) → j < l.end → l.row < l.rows → g.C.Cut.passes l.cut l.row j ≡ true;
+      within : l.end ≤ l.rows;
+      long : length l.ends.items ≡ l.first + l.row;
+      stays : BeginsWith l.fn.ends.items l.ends.items;
+      each : (i : ℕ) → i < l.row → CutsFrom l.first l.rows (g.C.Cut.passes l.cut i) (get_or l.ends.items (l.first + i) 0);
+    }

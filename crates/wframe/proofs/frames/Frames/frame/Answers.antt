@@ -1,0 +1,20 @@
+use Rattle.std.proofs.Common.{length, subst, ap, arith}
+use Rattle.wframe.specs.FrameEnds.{HasFrames}
+use Rattle.wframe.specs.Frame.{frame_span}
+use Rattle.wframe.proofs.EndFacts.{IsFrameOf, frame_at, apart_wider}
+use Rattle.wframe.proofs.FrameFacts.{frame_left}
+use Rattle.wframe.proofs.frames.Frames.frame.Goals as goal
+
+found : (c : goal.After-without) → IsFrameOf c.args.self.now c.args.row (frame_span c.args.self.now c.args.row)
+found c =
+    let has = subst (λ q. HasFrames q c.self.inside.span.from c.self.inside.ends.now) c.self.view_is c.self.invariant.1 in
+    frame_at c.args.self.now c.self.inside.span.from c.args.row c.self.inside.ends.now has c.requires
+
+pub returns-clause-rows : goal.returns-clause-rows
+returns-clause-rows c =
+    let p = c.args.self.now in
+    frame_left p c.args.row c.span.result c.peers.result c.self.inside.frame.exclusion c.without.result (found c).start (found c).end c.span.ensures.span
+    (ap (λ q. q.frame.exclusion) c.self.view_is) c.peers.ensures.each (c.without.ensures.rows (length p.keys) c.span.ensures.within)
+
+pub returns-clause-within : goal.returns-clause-within
+returns-clause-within c = apart_wider c.span.result.from c.span.result.to 0 (length c.args.self.now.keys) c.without.result (omega arith) c.span.ensures.within c.without.ensures.apart

@@ -1,0 +1,37 @@
+-- Lists that have the frames and the peers of partitions.
+use Rattle.std.specs.Prelude.{◌≡◌, ℕ, ◌<◌, not, length}
+use Rattle.wvalues.specs.Order.{keys_cmp}
+use Rattle.wframe.specs.declared.ends.FrameEnds.{FrameEnds}
+use Rattle.wframe.specs.Peers.{AreOrdered, is_before, is_upto}
+use Rattle.wframe.specs.Cuts.{HasCuts, BeginsWith}
+use Rattle.wframe.specs.Places.{span_at, Tiles}
+use Rattle.wframe.specs.Partition.{Partition, Partitioned, partition_of}
+use Rattle.wframe.specs.Frame.{is_before_start, is_after_end}
+
+-- from `first` on, the frames and peers of a partition
+pub record HasFrames (p : Partition) (first : ℕ) (stored : FrameEnds) : Type 0 where
+  pub ordered : AreOrdered (keys_cmp p.order) p.keys
+  pub starts : HasCuts first (length p.keys) (is_before_start p.order p.keys p.frame.mode p.frame.start) stored.starts.items
+  pub ends : HasCuts first (length p.keys) (λ i j. not (is_after_end p.order p.keys p.frame.mode p.frame.end i j)) stored.ends.items
+  pub peer_starts : HasCuts first (length p.keys) (is_before (keys_cmp p.order) p.keys) stored.peer_starts.items
+  pub peer_ends : HasCuts first (length p.keys) (is_upto (keys_cmp p.order) p.keys) stored.peer_ends.items
+
+-- what is there stays
+pub record Extends (old new : FrameEnds) : Type 0 where
+  pub starts : BeginsWith old.starts.items new.starts.items
+  pub ends : BeginsWith old.ends.items new.ends.items
+  pub peer_starts : BeginsWith old.peer_starts.items new.peer_starts.items
+  pub peer_ends : BeginsWith old.peer_ends.items new.peer_ends.items
+
+-- each list has n places
+pub record AreLong (n : ℕ) (stored : FrameEnds) : Type 0 where
+  pub starts : length stored.starts.items ≡ n
+  pub ends : length stored.ends.items ≡ n
+  pub peer_starts : length stored.peer_starts.items ≡ n
+  pub peer_ends : length stored.peer_ends.items ≡ n
+
+-- the frames and peers of each partition
+pub record HasAllFrames (all : Partitioned) (stored : FrameEnds) : Type 0 where
+  pub tiles : Tiles 0 all.spans (length all.keys)
+  pub long : AreLong (length all.keys) stored
+  pub each : (k : ℕ) → k < length all.spans → HasFrames (partition_of all (span_at all.spans k)) (span_at all.spans k).from stored

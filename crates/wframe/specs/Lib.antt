@@ -1,0 +1,14 @@
+pub mod Places
+pub mod Peers
+pub mod Partition
+pub mod Bounds
+pub mod Frame
+pub mod Ties
+pub mod Offsets
+pub mod Steps
+pub mod Partitions
+pub mod Cells
+pub mod KeyRows
+pub mod Cuts
+pub mod Numbered
+pub mod FrameEnds

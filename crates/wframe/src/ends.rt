@@ -1,0 +1,99 @@
+ghost use Rattle.std.specs.Prelude.{◌≡◌, ◌+◌, ◌<◌, ◌^◌, ◌&&◌, length, max, slice_index, IsTrue, IfOk, OnOk};
+
+use crate::bounds::{push_ends, push_starts};
+use crate::frame::{Frame, FrameBound, FrameMode, Span};
+use crate::groups::group_numbers;
+use crate::key_rows::KeyRows;
+use std::alloc::{AllocError, Global};
+
+/// Where frames and peers begin and end, for the rows of one partition after another, by places among all rows.
+#[derive(Drop)]
+pub struct FrameEnds {
+    starts: Vec<usize>,
+    ends: Vec<usize>,
+    peer_starts: Vec<usize>,
+    peer_ends: Vec<usize>,
+}
+
+impl FrameEnds {
+    ghost use Rattle.wframe.specs.KeyRows.{key_lists, sort_keys, AreInOrder};
+    ghost use Rattle.wframe.specs.Bounds.{is_offset};
+    ghost use Rattle.wframe.specs.Offsets.{is_range};
+    ghost use Rattle.wframe.specs.FrameEnds.{HasFrames, Extends, AreLong};
+
+    /// Room for the ends of so many rows, and none yet.
+    pub fn with_capacity(alloc: Global, rows: usize) -> Result<FrameEnds, AllocError>
+        ensures { IfOk result (AreLong 0) }
+    {
+        Ok(FrameEnds {
+            starts: Vec::with_capacity(alloc, rows)?,
+            ends: Vec::with_capacity(alloc, rows)?,
+            peer_starts: Vec::with_capacity(alloc, rows)?,
+            peer_ends: Vec::with_capacity(alloc, rows)?,
+        })
+    }
+
+    /// Adds the ends of a partition, whose first row has the place `first`.
+    pub fn push_partition(
+        &mut self,
+        alloc: Global,
+        rows: &KeyRows,
+        frame: Frame,
+        first: usize,
+    ) -> Result<(), AllocError>
+        requires ordered { AreInOrder rows.now }
+        requires start { IsTrue (is_range frame.mode && is_offset frame.start) → length (sort_keys rows.now) ≡ 1 }
+        requires end { IsTrue (is_range frame.mode && is_offset frame.end) → length (sort_keys rows.now) ≡ 1 }
+        requires first { AreLong first self.old }
+        requires room { first + length (key_lists rows.now) < 2 ^ 64 }
+        ensures frames { OnOk result (HasFrames (record { order = sort_keys rows.now; keys = key_lists rows.now; frame = frame }) first self.new) }
+        ensures extends { OnOk result (Extends self.old self.new) }
+        ensures long { OnOk result (AreLong (first + length (key_lists rows.now)) self.new) }
+    {
+        let numbers = if frame.mode == FrameMode::Groups {
+            group_numbers(alloc, rows)?
+        } else {
+            Vec::new(alloc)
+        };
+        let groups = numbers.as_slice();
+        push_starts(
+            &mut self.starts,
+            rows,
+            groups,
+            frame.mode,
+            frame.start,
+            first,
+        )?;
+        push_ends(&mut self.ends, rows, groups, frame.mode, frame.end, first)?;
+        let (range, peer) = (FrameMode::Range, FrameBound::CurrentRow);
+        push_starts(&mut self.peer_starts, rows, groups, range, peer, first)?;
+        push_ends(&mut self.peer_ends, rows, groups, range, peer, first)
+    }
+
+    /// The span of a row's frame, before the exclusion.
+    pub fn frame(&self, row: usize) -> Span
+        requires starts { row < length self.now.starts.items }
+        requires ends { row < length self.now.ends.items }
+        ensures from { result.from ≡ slice_index self.now.starts.items row }
+        ensures to { result.to ≡ max (slice_index self.now.starts.items row) (slice_index self.now.ends.items row) }
+    {
+        let from = self.starts[row];
+        Span {
+            from,
+            to: from.max(self.ends[row]),
+        }
+    }
+
+    /// The span of a row's peers.
+    pub fn peers(&self, row: usize) -> Span
+        requires starts { row < length self.now.peer_starts.items }
+        requires ends { row < length self.now.peer_ends.items }
+        ensures from { result.from ≡ slice_index self.now.peer_starts.items row }
+        ensures to { result.to ≡ slice_index self.now.peer_ends.items row }
+    {
+        Span {
+            from: self.peer_starts[row],
+            to: self.peer_ends[row],
+        }
+    }
+}

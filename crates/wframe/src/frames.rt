@@ -1,0 +1,128 @@
+ghost use Rattle.std.specs.Prelude.{◌≡◌, ◌<◌, ◌≤◌, ◌+◌, ◌-◌, ℕ, length};
+ghost use Rattle.wvalues.specs.Order.{keys_cmp};
+ghost use Rattle.wframe.specs.Peers.{AreOrdered, are_peers, smaller_keys};
+ghost use Rattle.wframe.specs.Places.{span_places, spans_places, is_in_span, AreApart, IsPlain, IsRisen};
+ghost use Rattle.wframe.specs.Partition.{Partition, peer_rows};
+ghost use Rattle.wframe.specs.Frame.{frame_rows, frame_start, frame_span};
+
+use crate::ends::FrameEnds;
+use crate::exclusion::without;
+use crate::frame::{Frame, FrameExclusion, Span};
+use crate::key_rows::KeyRows;
+use std::marker::Model;
+
+/// One partition with the peers and the frame of each of its rows, lent by [`crate::Partitions`].
+///
+/// Rows are named by their places in the partition, from 0. No call takes memory.
+#[derive(Drop)]
+pub struct Frames<'a> {
+    rows: KeyRows<'a>,
+    frame: Frame,
+    span: Span,
+    ends: &'a FrameEnds,
+}
+
+impl<'a> Model for Frames<'a> {
+    ghost use Rattle.std.specs.Prelude.{◌≡◌, ◌+◌, length};
+    ghost use Rattle.wframe.specs.Partition.{Partition};
+    ghost use Rattle.wframe.specs.KeyRows.{key_lists, sort_keys};
+    ghost use Rattle.wframe.specs.FrameEnds.{HasFrames};
+
+    ghost Value = { Partition };
+
+    ghost view = { λ f. record { order = sort_keys f.rows; keys = key_lists f.rows; frame = f.frame } };
+
+    ghost invariant = { λ f. (f.span.to ≡ f.span.from + length (key_lists f.rows)) × HasFrames (record { order = sort_keys f.rows; keys = key_lists f.rows; frame = f.frame }) f.span.from f.ends.now };
+}
+
+// A span counted from a place before it.
+fn counted_from(span: Span, place: usize) -> Span
+    requires from { place ≤ span.from }
+    requires to { place ≤ span.to }
+    ensures from { result.from ≡ span.from - place }
+    ensures to { result.to ≡ span.to - place }
+{
+    Span {
+        from: span.from - place,
+        to: span.to - place,
+    }
+}
+
+impl<'a> Frames<'a> {
+    ghost use Rattle.wframe.specs.KeyRows.{key_lists, sort_keys};
+    ghost use Rattle.wframe.specs.FrameEnds.{HasFrames};
+
+    // The rows of a span, which have their ends there.
+    pub(crate) fn new(
+        rows: KeyRows<'a>,
+        frame: Frame,
+        span: Span,
+        ends: &'a FrameEnds,
+    ) -> Frames<'a>
+        requires span { span.to ≡ span.from + length (key_lists rows) }
+        requires frames { HasFrames (record { order = sort_keys rows; keys = key_lists rows; frame = frame }) span.from ends.now }
+        ensures order { result.order ≡ sort_keys rows.entry }
+        ensures keys { result.keys ≡ key_lists rows.entry }
+        ensures frame { result.frame ≡ frame }
+    {
+        Frames {
+            rows,
+            frame,
+            span,
+            ends,
+        }
+    }
+
+    /// How many rows the partition has.
+    pub fn count(&self) -> usize
+        ensures count { result ≡ length self.now.keys }
+        ensures ordered { AreOrdered (keys_cmp self.now.order) self.now.keys }
+    {
+        self.rows.count()
+    }
+
+    /// What the frames leave out.
+    pub fn exclusion(&self) -> FrameExclusion
+        ensures { result ≡ self.now.frame.exclusion }
+    {
+        self.frame.exclusion
+    }
+
+    /// The peers of a row, which are never none.
+    pub fn peers(&self, row: usize) -> Span
+        requires { row < length self.now.keys }
+        ensures peers { span_places result ≡ peer_rows self.now row }
+        ensures each { (j : ℕ) → j < length self.now.keys → is_in_span result j ≡ are_peers (keys_cmp self.now.order) self.now.keys row j }
+        ensures smaller { result.from ≡ length (smaller_keys (keys_cmp self.now.order) self.now.keys row) }
+        ensures from { result.from ≤ row }
+        ensures to { row < result.to }
+        ensures within { result.to ≤ length self.now.keys }
+    {
+        let first = self.span.from;
+        counted_from(self.ends.peers(first + row), first)
+    }
+
+    /// The frame of a row before the exclusion takes rows out. Where it takes out none, this is the frame.
+    pub fn span(&self, row: usize) -> Span
+        requires { row < length self.now.keys }
+        ensures span { result ≡ frame_span self.now row }
+        ensures ordered { result.from ≤ result.to }
+        ensures within { result.to ≤ length self.now.keys }
+        ensures risen { (before : ℕ) → before ≤ row → IsRisen (length self.now.keys) (frame_span self.now before) result }
+        ensures rows { self.now.frame.exclusion ≡ FrameExclusion.NoOthers → span_places result ≡ frame_rows self.now row }
+    {
+        let first = self.span.from;
+        counted_from(self.ends.frame(first + row), first)
+    }
+
+    /// The frame of a row: three spans in order, apart from one another, of which some may be empty.
+    pub fn frame(&self, row: usize) -> [Span; 3]
+        requires { row < length self.now.keys }
+        ensures rows { spans_places result ≡ frame_rows self.now row }
+        ensures apart { AreApart (frame_start self.now row) result (frame_span self.now row).to }
+        ensures within { AreApart 0 result (length self.now.keys) }
+        ensures plain { self.now.frame.exclusion ≡ FrameExclusion.NoOthers → IsPlain (frame_span self.now row) result }
+    {
+        without(self.span(row), self.frame.exclusion, row, self.peers(row))
+    }
+}

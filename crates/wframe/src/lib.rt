@@ -1,0 +1,36 @@
+//! Partitions, peers and window frames over rows that stand in order.
+//!
+//! - Gives each row its peers as one span, and its frame as at most three rising spans.
+//! - Promises: the spans hold exactly the frame's rows, and neither end of a frame ever goes back.
+//! - Asks: rows by partition values, then by window keys; one integer key where RANGE has an offset.
+//! - Leaves: ordering, also among peers, to the planner; values to `wplaces` and `wslide`. It evaluates nothing.
+//!
+//! Read `specs/Places.antt`, `specs/Peers.antt` and `specs/Partition.antt`, then `specs/Bounds.antt` and
+//! `specs/Frame.antt`; `specs/Partitions.antt`, `specs/Offsets.antt` and `specs/Ties.antt` say what callers meet.
+#![tactic(auto)]
+
+mod bounds;
+mod conditions;
+mod cuts;
+mod ends;
+mod exclusion;
+mod frame;
+mod frames;
+mod groups;
+mod key_rows;
+mod laws;
+mod order;
+mod partitions;
+
+pub use conditions::{are_in_order, has_integer_key};
+pub use frame::{Frame, FrameBound, FrameExclusion, FrameMode, Span};
+pub use frames::Frames;
+pub use key_rows::KeyRows;
+pub use laws::{
+    frames_slide, group_numbers_step, order_splits, peers_share_frames, starts_and_ends_rise,
+};
+pub use order::compare_lists;
+pub use partitions::Partitions;
+
+#[cfg(test)]
+mod tests;

@@ -1,0 +1,183 @@
+ghost use Rattle.std.specs.Prelude.{◌≡◌, ◌<◌, ◌≤◌, ◌&&◌, length, All, IfOk, IsTrue};
+ghost use Rattle.wvalues.specs.Order.{keys_cmp};
+ghost use Rattle.wframe.specs.KeyRows.{key_lists, sort_keys, AreInOrder, AreInOrderWithin};
+ghost use Rattle.wframe.specs.Peers.{is_before, is_upto};
+ghost use Rattle.wframe.specs.Cuts.{CutsAt};
+ghost use Rattle.wframe.specs.Bounds.{is_offset};
+ghost use Rattle.wframe.specs.Offsets.{is_range, has_range_offset, HasIntegerKey};
+ghost use Rattle.wframe.specs.Partitions.{IsPartition};
+ghost use Rattle.wframe.specs.FrameEnds.{HasAllFrames};
+ghost use Rattle.wframe.specs.Places.{Tiles, span_at, span_places, spans_places, AreApart};
+ghost use Rattle.wframe.specs.Partition.{Partitioned, AreAmongAll, partition_of, peer_rows};
+ghost use Rattle.wframe.specs.Frame.{frame_rows};
+
+use crate::ends::FrameEnds;
+use crate::exclusion::without;
+use crate::frame::{Frame, Span};
+use crate::frames::Frames;
+use crate::key_rows::KeyRows;
+use crate::order::compare_lists;
+use std::alloc::{AllocError, Global};
+use std::marker::Model;
+
+// Where the rows that agree with a row end, which is the first of them.
+fn agreeing_end(rows: &KeyRows, first: usize) -> usize
+    requires ordered { AreInOrder rows.now }
+    requires first { first < length (key_lists rows.now) }
+    requires before { CutsAt (length (key_lists rows.now)) (is_before (keys_cmp (sort_keys rows.now)) (key_lists rows.now) first) first }
+    ensures { CutsAt (length (key_lists rows.now)) (is_upto (keys_cmp (sort_keys rows.now)) (key_lists rows.now) first) result }
+{
+    let count = rows.count();
+    for place in first..count {
+        if compare_lists(rows.row(first), rows.row(place), rows.keys()).is_lt() {
+            return place;
+        }
+    }
+    count
+}
+
+// The spans of rows that agree on all partition values.
+fn partition_spans(alloc: Global, values: &KeyRows) -> Result<Vec<Span>, AllocError>
+    requires { AreInOrder values.now }
+    ensures tiles { IfOk result (λ spans. Tiles 0 spans.items (length (key_lists values.now))) }
+    ensures each { IfOk result (λ spans. All (IsPartition (keys_cmp (sort_keys values.now)) (key_lists values.now)) spans.items) }
+{
+    let count = values.count();
+    let mut spans = Vec::new(alloc);
+    let mut from = 0;
+    while from < count {
+        let to = agreeing_end(values, from);
+        spans.push(Span { from, to })?;
+        from = to;
+    }
+    Ok(spans)
+}
+
+// The frames and peers of the rows of each span.
+fn all_ends(
+    alloc: Global,
+    values: &KeyRows,
+    keys: &KeyRows,
+    frame: Frame,
+    spans: &[Span],
+) -> Result<FrameEnds, AllocError>
+    requires count { length (key_lists values.now) ≡ length (key_lists keys.now) }
+    requires ordered { AreInOrderWithin values.now keys.now }
+    requires start { IsTrue (is_range frame.mode && is_offset frame.start) → length (sort_keys keys.now) ≡ 1 }
+    requires end { IsTrue (is_range frame.mode && is_offset frame.end) → length (sort_keys keys.now) ≡ 1 }
+    requires tiles { Tiles 0 spans.now (length (key_lists values.now)) }
+    requires spans { All (IsPartition (keys_cmp (sort_keys values.now)) (key_lists values.now)) spans.now }
+    ensures { IfOk result (HasAllFrames (record { order = sort_keys keys.now; keys = key_lists keys.now; frame = frame; spans = spans.now })) }
+{
+    let mut ends = FrameEnds::with_capacity(alloc, keys.count())?;
+    for span in spans {
+        let part = keys.part(*span);
+        ends.push_partition(alloc, &part, frame, span.from)?;
+    }
+    Ok(ends)
+}
+
+/// Rows in partitions, with the peers and the frame of each.
+#[derive(Drop)]
+pub struct Partitions<'a> {
+    keys: KeyRows<'a>,
+    frame: Frame,
+    spans: Vec<Span>,
+    ends: FrameEnds,
+}
+
+impl<'a> Model for Partitions<'a> {
+    ghost use Rattle.wframe.specs.Partition.{Partitioned};
+    ghost use Rattle.wframe.specs.KeyRows.{key_lists, sort_keys};
+    ghost use Rattle.wframe.specs.FrameEnds.{HasAllFrames};
+
+    ghost Value = { Partitioned };
+
+    ghost view = { λ p. record { order = sort_keys p.keys; keys = key_lists p.keys; frame = p.frame; spans = p.spans.items } };
+
+    ghost invariant = { λ p. HasAllFrames (record { order = sort_keys p.keys; keys = key_lists p.keys; frame = p.frame; spans = p.spans.items }) p.ends };
+}
+
+impl<'a> Partitions<'a> {
+    /// Finds the partitions, the peers and the frames of rows that stand by their partition values, then by their keys.
+    ///
+    /// `values` has the partition values of each row, and `keys` its window keys; [`crate::are_in_order`] tests their
+    /// order, and [`crate::has_integer_key`] what an offset in RANGE asks. Which of several peers comes first is the
+    /// caller's choice, and places are told by it. The work grows with the rows alone, whatever the offsets.
+    ///
+    /// It answers `AllocError` where memory was refused.
+    pub fn build(
+        alloc: Global,
+        values: &KeyRows,
+        keys: KeyRows<'a>,
+        frame: Frame,
+    ) -> Result<Partitions<'a>, AllocError>
+        requires count { length (key_lists values.now) ≡ length (key_lists keys) }
+        requires by_values { AreInOrder values.now }
+        requires by_keys { AreInOrderWithin values.now keys }
+        requires offset_key { IsTrue (has_range_offset frame) → HasIntegerKey (sort_keys keys) (key_lists keys) }
+        ensures order { IfOk result (λ all. all.order ≡ sort_keys keys.entry) }
+        ensures keys { IfOk result (λ all. all.keys ≡ key_lists keys.entry) }
+        ensures frame { IfOk result (λ all. all.frame ≡ frame) }
+        ensures tiles { IfOk result (λ all. Tiles 0 all.spans (length all.keys)) }
+        ensures each { IfOk result (λ all. All (IsPartition (keys_cmp (sort_keys values.now)) (key_lists values.now)) all.spans) }
+    {
+        let spans = partition_spans(alloc, values)?;
+        let ends = all_ends(alloc, values, &keys, frame, &spans)?;
+        Ok(Partitions {
+            keys,
+            frame,
+            spans,
+            ends,
+        })
+    }
+
+    /// How many partitions there are.
+    pub fn count(&self) -> usize
+        ensures count { result ≡ length self.now.spans }
+        ensures tiles { Tiles 0 self.now.spans (length self.now.keys) }
+    {
+        self.spans.len()
+    }
+
+    /// The rows of a partition, by their places among all rows.
+    pub fn span(&self, partition: usize) -> Span
+        requires { partition < length self.now.spans }
+        ensures span { result ≡ span_at self.now.spans partition }
+        ensures some { result.from < result.to }
+        ensures within { result.to ≤ length self.now.keys }
+    {
+        self.spans[partition]
+    }
+
+    /// A partition with its peers and frames.
+    pub fn partition(&self, partition: usize) -> Frames<'_>
+        requires { partition < length self.now.spans }
+        ensures { result ≡ partition_of self.now (span_at self.now.spans partition) }
+    {
+        let span = self.span(partition);
+        Frames::new(self.keys.part(span), self.frame, span, &self.ends)
+    }
+
+    /// The peers of a row. Here rows are named by their places among all rows.
+    pub fn peers(&self, row: usize) -> Span
+        requires { row < length self.now.keys }
+        ensures rows { AreAmongAll self.now peer_rows row (span_places result) }
+        ensures from { result.from ≤ row }
+        ensures to { row < result.to }
+        ensures within { result.to ≤ length self.now.keys }
+    {
+        self.ends.peers(row)
+    }
+
+    /// The frame of a row: three spans in order, apart from one another, of which some may be empty.
+    /// Here rows are named by their places among all rows.
+    pub fn frame(&self, row: usize) -> [Span; 3]
+        requires { row < length self.now.keys }
+        ensures rows { AreAmongAll self.now frame_rows row (spans_places result) }
+        ensures apart { AreApart 0 result (length self.now.keys) }
+    {
+        let span = self.ends.frame(row);
+        without(span, self.frame.exclusion, row, self.ends.peers(row))
+    }
+}

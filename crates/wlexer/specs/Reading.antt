@@ -1,0 +1,28 @@
+-- What the reader answers.
+use Rattle.std.specs.Prelude.{ℕ, ◌≤◌, List, [], ◌∷◌}
+use Rattle.wlexer.specs.declared.fault.LexFault.{LexFault}
+use Rattle.wlexer.specs.declared.fault.LexFault.TheVariants as faults
+use Rattle.wlexer.specs.declared.fault.Miss.{Miss}
+use Rattle.wlexer.specs.declared.fault.Miss.TheVariants as misses
+use Rattle.wlexer.specs.Lexing.{HasFaultAt}
+use Rattle.wlexer.specs.Spelling.{Quoted}
+
+-- nothing is quoted here
+abbrev pub IsOpen : ℕ → List ℕ → Type 0
+IsOpen quote text = (body rest : List ℕ) → Quoted quote text body rest → ⊥
+
+-- the fact, unless memory ran out
+abbrev pub Misses : Miss → Type 0 → Type 0
+Misses misses.Nothing P = P
+Misses misses.NoMemory P = Unit {0}
+
+-- no ASCII byte stands at the front
+abbrev pub BeginsBeyondAscii : List ℕ → Type 0
+BeginsBeyondAscii [] = Unit {0}
+BeginsBeyondAscii (b ∷ rest) = 128 ≤ b
+
+-- a fault that reading the tokens can meet
+abbrev pub IsLexicalFault : List ℕ → LexFault → Type 0
+IsLexicalFault text (faults.At place) = HasFaultAt text place
+IsLexicalFault text faults.NoMemory = Unit {0}
+IsLexicalFault text _ = ⊥

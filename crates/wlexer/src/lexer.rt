@@ -1,0 +1,106 @@
+//! Reads the tokens of a text.
+
+ghost use Rattle.std.specs.Prelude.{◌≡◌, ◌↔◌, ◌⊎◌, ℕ, ◌<◌, ◌≤◌, List, length, map, Err, IfOk, IfErr, IfSome, IfNone};
+ghost use Rattle.std.specs.Str.{IsUtf8};
+ghost use Rattle.wlexer.specs.declared.fault.LexFault.TheVariants.{TooLong, NotUtf8, At};
+ghost use Rattle.wlexer.specs.Lexing.{IsBare, Separates, Lexes, HasFaultAt};
+ghost use Rattle.wlexer.specs.Reading.{IsLexicalFault};
+ghost use Rattle.wlexer.specs.Token.{PlacedToken, placed};
+
+use crate::bytes::{Stretch, is_blank};
+use crate::fault::{LexFault, Miss};
+use crate::pieces::{first_ascii, split_stretch};
+use crate::reading::token;
+use crate::token::Token;
+use std::alloc::Global;
+
+/// The most bytes of a text.
+pub const LONGEST_TEXT: usize = 65_536;
+
+/// What follows a blank or a comment, where one stands at the front.
+fn behind_separator(text: &str) -> Option<&str>
+    ensures some { IfSome result (λ x. (length x.now < length text.now) × ((rest : List ℕ) → Separates x.now rest → Separates text.now rest)) }
+    ensures none { IfNone result (IsBare text.now) }
+{
+    let (first, after) = first_ascii(text)?;
+    if is_blank(first) {
+        return Some(after);
+    }
+    let (second, comment) = first_ascii(after)?;
+    if first == b'-' && second == b'-' {
+        return Some(split_stretch(Stretch::Comment, comment).1);
+    }
+    None
+}
+
+/// What follows the blanks and comments at the front.
+fn behind_separators(text: &str) -> &str
+    ensures { Separates text.now result.now }
+{
+    let mut left = text;
+    'separators: while let Some(after) = behind_separator(left) {
+        left = after;
+    }
+    left
+}
+
+/// The tokens of a text that is short enough and UTF-8, or the place of its first fault.
+fn lex_text(alloc: Global, text: &str) -> Result<Vec<Token>, LexFault>
+    ensures found { IfOk result (λ tokens. Lexes text.now (map placed tokens.items)) }
+    ensures fault { IfErr result (λ e. IsLexicalFault text.now e) }
+{
+    let mut tokens = Vec::new(alloc);
+    let mut left = text;
+    'tokens: loop {
+        let here = behind_separators(left);
+        if here.is_empty() {
+            return Ok(tokens);
+        }
+        match token(alloc, here) {
+            Err(Miss::NoMemory) => return Err(LexFault::NoMemory),
+            Err(Miss::Nothing) => {
+                return Err(LexFault::At {
+                    place: text.len() - here.len(),
+                });
+            }
+            Ok((lexeme, after)) => {
+                tokens.push(Token {
+                    lexeme,
+                    from: text.len() - here.len(),
+                    to: text.len() - after.len(),
+                })?;
+                left = after;
+            }
+        }
+    }
+}
+
+/// The tokens of a text of at most 65,536 bytes, with the bytes that each was read from.
+///
+/// # Errors
+/// `TooLong`, else `NotUtf8`, else `At` the first byte that begins neither a token nor a blank nor a comment.
+/// `NoMemory` where a growth was refused.
+pub fn lex(alloc: Global, text: &[u8]) -> Result<Vec<Token>, LexFault>
+    ensures tokens { IfOk result (λ tokens. Lexes text.now (map placed tokens.items)) }
+
+    // The faults, in the order in which they are judged.
+    ensures too_long { (result ≡ Err TooLong) ↔ (LONGEST_TEXT < length text.now) }
+    ensures not_utf8 { (result ≡ Err NotUtf8) ↔ (length text.now ≤ LONGEST_TEXT) × (¬ IsUtf8 text.now) }
+    ensures fault_at { (place : ℕ) → result ≡ Err (At place) → HasFaultAt text.now place }
+{
+    if text.len() > LONGEST_TEXT {
+        return Err(LexFault::TooLong);
+    }
+    match str::from_utf8(text) {
+        Err(_) => Err(LexFault::NotUtf8),
+        Ok(text) => lex_text(alloc, text),
+    }
+}
+
+/// A text has one list of tokens, or one first fault, and never both.
+pub fn one_lexing()
+    ensures some { (text : List ℕ) → ((tokens : List PlacedToken) × Lexes text tokens) ⊎ ((place : ℕ) × HasFaultAt text place) }
+    ensures one_list { (text : List ℕ) (these those : List PlacedToken) → Lexes text these → Lexes text those → these ≡ those }
+    ensures tokens_or_fault { (text : List ℕ) (tokens : List PlacedToken) (place : ℕ) → Lexes text tokens → HasFaultAt text place → ⊥ }
+    ensures one_place { (text : List ℕ) (one other : ℕ) → HasFaultAt text one → HasFaultAt text other → one ≡ other }
+{}

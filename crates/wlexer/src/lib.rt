@@ -1,0 +1,27 @@
+//! The longest tokens of a text, or the place of the first fault.
+//!
+//! - Gives keywords, names, numbers, texts and symbols, each with the bytes that it was read from.
+//! - Promises: tokens and faults are those of the definitions, which allow one reading of a text; each byte is
+//!   looked at a few times at most, however long the text.
+//! - Asks nothing: any bytes may be handed in.
+//! - Leaves the grammar to `wparser`.
+//!
+//! Read `specs/Token.antt`, `specs/Bytes.antt`, `specs/Keywords.antt`, `specs/Symbols.antt`, then
+//! `specs/Spelling.antt` and `specs/Lexing.antt`.
+#![tactic(auto)]
+
+mod bytes;
+mod fault;
+mod keyword;
+mod lexer;
+mod pieces;
+mod reading;
+mod symbol;
+#[cfg(test)]
+mod tests;
+mod token;
+
+pub use fault::LexFault;
+pub use keyword::Keyword;
+pub use lexer::{LONGEST_TEXT, lex, one_lexing};
+pub use token::{Lexeme, Symbol, Token};

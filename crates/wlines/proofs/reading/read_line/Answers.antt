@@ -1,0 +1,16 @@
+use Rattle.std.proofs.Common.{arith, ◌≡◌}
+use Rattle.wlines.specs.Pending.{left}
+use Rattle.wlines.proofs.Lines.{closed_line, full_line}
+use Rattle.wlines.proofs.reading.read_line.Goals as goal
+
+pub returns-else-is_empty-clause-reads : goal.returns-else-is_empty-clause-reads
+returns-else-is_empty-clause-reads g c =
+    let kept = rw c.in_default.is at c.in_ok-next.ensures.kept in
+    let end = rw c.in_default.is at c.in_ok-next.ensures.end in
+    closed_line _ _ (left g.R.Read.remaining c.next.new.self c.next.new.input) c.bytes.line c.bytes.invariant.consumed kept end c.bytes.invariant.lacks
+    (λ e. cc (c.is_empty.ensures.1 e, c.if-is_empty.false))
+
+pub returns-then-is_full-clause-reads : goal.returns-then-is_full-clause-reads
+returns-then-is_full-clause-reads g c =
+    let given = rw c.in-Some.is at c.in_ok-next.ensures.some in
+    full_line _ _ (left g.R.Read.remaining c.next.new.self c.next.new.input) c.bytes.line c.in-Some.byte c.bytes.invariant.consumed given c.bytes.invariant.lacks c.if-byte-eq10.false (c.is_full.ensures.0 c.if-is_full.true)

@@ -1,0 +1,3 @@
+pub mod Words
+pub mod Pending
+pub mod Reads

@@ -1,0 +1,189 @@
+-- What is read has no chain with a chain of its own kind first.
+use Rattle.std.proofs.Common.{◌≡◌, Bool, true, false, ℕ, zero, suc, List, refl, if◌then◌else◌}
+use Rattle.wlexer.specs.Token.{TokenMeaning}
+use Rattle.wparser.specs.declared.expression.ChainKind.{ChainKind}
+use Rattle.wparser.specs.declared.expression.ChainKind.TheVariants.{Disjunction, Conjunction, Sum, Product}
+use Rattle.wparser.specs.declared.expression.Operator.{Operator}
+use Rattle.wparser.specs.Tree.{Tree, KeyTree, WindowTree, Joined, Further, NoLinks, trees, keys, is_chain, lengthened, joined}
+use Rattle.wparser.specs.Lefts.{IsLeft, AreLeft, AreGivenLeft, IsFilterLeft, IsReachLeft, AreKeysLeft}
+use Rattle.wparser.specs.Notation.{Tokens, Row, After, after, Then, before, Done, done, Perhaps, absent, present, Either, first, second, Room, room, Listed, last, next, GoesOn, over, further, Chain, chain, As}
+use Rattle.wparser.specs.Grammar.{Closed, key, window, window_inside, reaching, arguments, filtered, call, named, primary, signing, test, ranging, comparing, testing, Rank, Chains, Negations, Signs, signs_over, negations_over, operands_over, row_over, deeper, conditions}
+
+pub record Upholds {X : Type 0} (B : X → Type 0) (P : Row X) : Type 0 where
+  pub upholds : (x : X) (ts rest : Tokens) → P x ts rest → B x
+
+always : {X : Type 0} {B : X → Type 0} {P : Row X} → ((x : X) → B x) → Upholds B P
+always g = record { upholds = λ x ts rest p. g x }
+
+after_left' : {X : Type 0} {B : X → Type 0} {token : TokenMeaning} {P : Row X} → Upholds B P → (x : X) (ts rest : Tokens) → After token P x ts rest → B x
+after_left' u x ts rest (after {ts = us} p) = u.upholds x us rest p
+
+after_left : {X : Type 0} {B : X → Type 0} {token : TokenMeaning} {P : Row X} → Upholds B P → Upholds B (After token P)
+after_left u = record { upholds = after_left' u }
+
+then_left' : {X Y : Type 0} (A : X → Type 0) {B : Y → Type 0} {P : Row X} {Q : X → Row Y} → Upholds A P → ((x : X) → A x → Upholds B (Q x)) → (y : Y) (ts rest : Tokens) → Then P Q y ts rest → B y
+then_left' A u v y ts rest (before {x = x} {us = us} p q) = (v x (u.upholds x ts us p)).upholds y us rest q
+
+then_left : {X Y : Type 0} (A : X → Type 0) {B : Y → Type 0} {P : Row X} {Q : X → Row Y} → Upholds A P → ((x : X) → A x → Upholds B (Q x)) → Upholds B (Then P Q)
+then_left A u v = record { upholds = then_left' A u v }
+
+done_left' : {X : Type 0} (B : X → Type 0) {x : X} → B x → (y : X) (ts rest : Tokens) → Done x y ts rest → B y
+done_left' B b y ts rest done = b
+
+done_left : {X : Type 0} {B : X → Type 0} {x : X} → B x → Upholds B (Done x)
+done_left {B = B} b = record { upholds = done_left' B b }
+
+perhaps_left' : {X : Type 0} {B : X → Type 0} {d : X} {P : Row X} → B d → Upholds B P → (y : X) (ts rest : Tokens) → Perhaps d P y ts rest → B y
+perhaps_left' b u y ts rest absent = b
+perhaps_left' b u y ts rest (present p) = u.upholds y ts rest p
+
+perhaps_left : {X : Type 0} {B : X → Type 0} {d : X} {P : Row X} → B d → Upholds B P → Upholds B (Perhaps d P)
+perhaps_left b u = record { upholds = perhaps_left' b u }
+
+either_left' : {X : Type 0} {B : X → Type 0} {P Q : Row X} → Upholds B P → Upholds B Q → (y : X) (ts rest : Tokens) → Either P Q y ts rest → B y
+either_left' u v y ts rest (first p) = u.upholds y ts rest p
+either_left' u v y ts rest (second q) = v.upholds y ts rest q
+
+either_left : {X : Type 0} {B : X → Type 0} {P Q : Row X} → Upholds B P → Upholds B Q → Upholds B (Either P Q)
+either_left u v = record { upholds = either_left' u v }
+
+room_left' : {X : Type 0} {B : X → Type 0} {n : ℕ} {P : Row X} → Upholds B P → (y : X) (ts rest : Tokens) → Room n P y ts rest → B y
+room_left' u y ts rest (room lt p) = u.upholds y ts rest p
+
+room_left : {X : Type 0} {B : X → Type 0} {n : ℕ} {P : Row X} → Upholds B P → Upholds B (Room n P)
+room_left u = record { upholds = room_left' u }
+
+list_left' : {P : Row Tree} → Upholds IsLeft P → (y : List Tree) (ts rest : Tokens) → Listed P y ts rest → AreLeft (trees y)
+list_left' u y ts rest (last {x = x} p) = (u.upholds x ts rest p, tt)
+list_left' u y ts rest (next {x = x} {xs = xs} {us = us} p l) = (u.upholds x ts _ p, list_left' u xs us rest l)
+
+list_left : {P : Row Tree} → Upholds IsLeft P → Upholds (λ (l : List Tree). AreLeft (trees l)) (Listed P)
+list_left u = record { upholds = list_left' u }
+
+abbrev IsKeyLeft : KeyTree → Type 0
+IsKeyLeft k = IsLeft k.expression
+
+abbrev IsWindowLeft : WindowTree → Type 0
+IsWindowLeft w = AreLeft (trees w.partition) × AreKeysLeft (keys w.order)
+
+keys_left' : {P : Row KeyTree} → Upholds IsKeyLeft P → (y : List KeyTree) (ts rest : Tokens) → Listed P y ts rest → AreKeysLeft (keys y)
+keys_left' u y ts rest (last {x = x} p) = (u.upholds x ts rest p, tt)
+keys_left' u y ts rest (next {x = x} {xs = xs} {us = us} p l) = (u.upholds x ts _ p, keys_left' u xs us rest l)
+
+keys_left : {P : Row KeyTree} → Upholds IsKeyLeft P → Upholds (λ (l : List KeyTree). AreKeysLeft (keys l)) (Listed P)
+keys_left u = record { upholds = keys_left' u }
+
+-- chains
+lengthened_left : (t : Tree) (operator : Operator) (o : Tree) → IsLeft t → IsLeft o → IsLeft (lengthened t operator o)
+lengthened_left (Joined kind f links) operator o a b = (a.0, a.1, (a.2, b))
+lengthened_left _ operator o a b = a
+
+joined_cases : (kind : ChainKind) (t : Tree) (operator : Operator) (o : Tree) → IsLeft t → IsLeft o → (c : Bool) → is_chain kind t ≡ c → IsLeft (if c then lengthened t operator o else Joined kind t (Further NoLinks operator o))
+joined_cases kind t operator o a b true e = lengthened_left t operator o a b
+joined_cases kind t operator o a b false e = (e, a, (tt, b))
+
+joined_left : (kind : ChainKind) (t : Tree) (operator : Operator) (o : Tree) → IsLeft t → IsLeft o → IsLeft (joined kind t operator o)
+unfolding joined
+joined_left kind t operator o a b = joined_cases kind t operator o a b (is_chain kind t) refl
+
+goes_left : {kind : ChainKind} {P : Row Tree} → Upholds IsLeft P → (t y : Tree) (ts rest : Tokens) → IsLeft t → GoesOn kind P t y ts rest → IsLeft y
+goes_left u t y ts rest a over = a
+goes_left {kind = kind} u t y ts rest a (further {operator = operator} {operand = o} {ts = us} {us = vs} e p g) =
+    goes_left u (joined kind t operator o) y vs rest (joined_left kind t operator o a (u.upholds o us vs p)) g
+
+chain_left' : {kind : ChainKind} {P : Row Tree} → Upholds IsLeft P → (y : Tree) (ts rest : Tokens) → Chain kind P y ts rest → IsLeft y
+chain_left' u y ts rest (chain {first = t} {us = us} p g) = goes_left u t y us rest (u.upholds t ts us p) g
+
+chain_left : {kind : ChainKind} {P : Row Tree} → Upholds IsLeft P → Upholds IsLeft (Chain kind P)
+chain_left u = record { upholds = chain_left' u }
+
+-- the rows of expressions
+abbrev IsAny : {X : Type 0} → X → Type 0
+IsAny x = Unit {0}
+
+any_left : {X : Type 0} {P : Row X} → Upholds (λ (x : X). Unit {0}) P
+any_left = record { upholds = λ x ts rest p. tt }
+
+as_left : {X Y : Type 0} (A : X → Type 0) {B : Y → Type 0} {f : X → Y} {P : Row X} → Upholds A P → ((x : X) → A x → B (f x)) → Upholds B (As f P)
+as_left A u g = then_left A u (λ x a. done_left (g x a))
+
+closed_left : {X : Type 0} {B : X → Type 0} {P : Row X} → Upholds B P → Upholds B (Closed P)
+closed_left {B = B} u = then_left B u (λ x b. after_left (done_left b))
+
+key_left : {C : Row Tree} → Upholds IsLeft C → Upholds IsKeyLeft (key C)
+key_left u = then_left IsLeft u (λ e a. then_left (λ (d : Bool). Unit {0}) any_left (λ d i. then_left (λ n. Unit {0}) any_left (λ n j. done_left a)))
+
+window_left : {C : Row Tree} → Upholds IsLeft C → Upholds IsWindowLeft (window C)
+window_left u =
+    then_left (λ c. Unit {0}) any_left (λ c i. then_left (λ (l : List Tree). AreLeft (trees l)) (perhaps_left tt (after_left (after_left (list_left u)))) (λ p a.
+    then_left (λ (l : List KeyTree). AreKeysLeft (keys l)) (perhaps_left tt (after_left (after_left (keys_left (key_left u))))) (λ o b.
+    then_left (λ f. Unit {0}) any_left (λ f j. done_left (a, b)))))
+
+inside_left : {n : ℕ} {C : Row Tree} → Upholds IsLeft C → Upholds IsWindowLeft (window_inside n C)
+inside_left u = either_left (after_left (done_left (tt, tt))) (room_left (closed_left (window_left u)))
+
+reaching_left : {n : ℕ} {C : Row Tree} → Upholds IsLeft C → Upholds IsReachLeft (reaching n C)
+reaching_left u = perhaps_left tt (after_left (either_left (as_left (λ (x : List ℕ). Unit {0}) any_left (λ x i. tt)) (after_left (as_left IsWindowLeft (inside_left u) (λ w a. a)))))
+
+arguments_left : {n : ℕ} {C : Row Tree} → Upholds IsLeft C → Upholds AreGivenLeft (arguments n C)
+arguments_left u = either_left (after_left (done_left tt)) (either_left (after_left (room_left (after_left (done_left tt)))) (as_left (λ (l : List Tree). AreLeft (trees l)) (closed_left (list_left u)) (λ l a. a)))
+
+filtered_left : {C : Row Tree} → Upholds IsLeft C → Upholds IsFilterLeft (filtered C)
+filtered_left u = perhaps_left tt (after_left (after_left (after_left (as_left IsLeft (closed_left u) (λ e a. a)))))
+
+call_left : {n : ℕ} {C : Row Tree} {name : List ℕ} → Upholds IsLeft C → Upholds IsLeft (call n C name)
+call_left u = then_left AreGivenLeft (arguments_left u) (λ g a. then_left IsFilterLeft (filtered_left u) (λ f b. then_left IsReachLeft (reaching_left u) (λ r c. done_left (a, b, c))))
+
+named_left : {n : ℕ} {C : Row Tree} {name : List ℕ} → Upholds IsLeft C → Upholds IsLeft (named n C name)
+named_left u = perhaps_left tt (either_left (after_left (as_left (λ (x : List ℕ). Unit {0}) any_left (λ x i. tt))) (after_left (call_left u)))
+
+primary_left : {n : ℕ} {C : Row Tree} → Upholds IsLeft C → Upholds IsLeft (primary n C)
+primary_left u =
+    either_left (as_left (λ (x : ℕ). Unit {0}) any_left (λ x i. tt)) (either_left (as_left (λ (x : List ℕ). Unit {0}) any_left (λ x i. tt)) (either_left (after_left (done_left tt))
+    (either_left (then_left (λ (x : List ℕ). Unit {0}) any_left (λ x i. named_left u)) (after_left (closed_left u)))))
+
+signing_left : {U P : Row Tree} → Upholds IsLeft U → Upholds IsLeft P → Upholds IsLeft (signing U P)
+signing_left u p = either_left (then_left (λ (m : Bool). Unit {0}) any_left (λ m i. as_left IsLeft u (λ e a. a))) p
+
+test_left : {A U : Row Tree} {e : Tree} {b : Bool} → IsLeft e → Upholds IsLeft A → Upholds IsLeft U → Upholds IsLeft (test A U e b)
+test_left i a u =
+    either_left (after_left (then_left IsLeft a (λ low x. after_left (as_left IsLeft a (λ high y. (i, x, y))))))
+    (after_left (after_left (as_left (λ (l : List Tree). AreLeft (trees l)) (closed_left (list_left u)) (λ l x. (i, x)))))
+
+ranging_left : {A U : Row Tree} → Upholds IsLeft A → Upholds IsLeft U → Upholds IsLeft (ranging A U)
+ranging_left a u = then_left IsLeft a (λ e i. perhaps_left i (then_left (λ (b : Bool). Unit {0}) any_left (λ b j. test_left i a u)))
+
+comparing_left : {R : Row Tree} → Upholds IsLeft R → Upholds IsLeft (comparing R)
+comparing_left r = then_left IsLeft r (λ l i. perhaps_left i (then_left (λ c. Unit {0}) any_left (λ c j. as_left IsLeft r (λ x k. (i, k)))))
+
+testing_left : {R : Row Tree} → Upholds IsLeft R → Upholds IsLeft (testing R)
+testing_left r = then_left IsLeft r (λ e i. perhaps_left i (after_left (then_left (λ (b : Bool). Unit {0}) any_left (λ b j. after_left (done_left i)))))
+
+module _ (n : ℕ) (U : Rank → Row Tree) (u : (rank : Rank) → Upholds IsLeft (U rank)) where
+  signs_left : Upholds IsLeft (signs_over n U)
+  signs_left = signing_left (u Signs) (primary_left (u (Chains Disjunction)))
+
+  negations_left : Upholds IsLeft (negations_over n U)
+  negations_left = either_left (after_left (as_left IsLeft (u Negations) (λ e a. a))) (testing_left (comparing_left (ranging_left (chain_left (chain_left signs_left)) (u (Chains Sum)))))
+
+  operands_left : (kind : ChainKind) → Upholds IsLeft (operands_over n U kind)
+  operands_left Disjunction = chain_left negations_left
+  operands_left Conjunction = negations_left
+  operands_left Sum = chain_left signs_left
+  operands_left Product = signs_left
+
+  row_left : (rank : Rank) → Upholds IsLeft (row_over n U rank)
+  row_left (Chains kind) = chain_left (operands_left kind)
+  row_left Negations = negations_left
+  row_left Signs = signs_left
+
+none_left : {P : Row Tree} → ((y : Tree) (ts rest : Tokens) → P y ts rest → ⊥) → Upholds IsLeft P
+none_left g = record { upholds = λ y ts rest p. absurd (g y ts rest p) }
+
+deeper_left : (n : ℕ) (rank : Rank) → Upholds IsLeft (deeper n rank)
+unfolding deeper
+deeper_left zero rank = none_left (λ y ts rest p. p)
+deeper_left (suc n) rank = row_left n (deeper n) (deeper_left n) rank
+
+pub no_chain_first : (n : ℕ) (t : Tree) (ts rest : Tokens) → conditions n t ts rest → IsLeft t
+no_chain_first n t ts rest p = (row_left n (deeper n) (deeper_left n) (Chains Disjunction)).upholds t ts rest p

@@ -1,0 +1,8 @@
+pub mod Chains
+pub mod Steps
+pub mod Rows
+pub mod Fits
+pub mod Parts
+pub mod Asks
+pub mod Singles
+pub mod Lefts

@@ -1,0 +1,101 @@
+-- The grammar of whole queries (ISO/IEC 9075-2, <query specification>, narrowed to this language).
+use Rattle.std.specs.Prelude.{ℕ, zero, suc, List, [], Bool, true, false, Option, Some, None}
+use Rattle.wlexer.specs.declared.keyword.Keyword.{Keyword}
+use Rattle.wlexer.specs.declared.keyword.Keyword.TheVariants as keywords
+use Rattle.wlexer.specs.declared.token.Symbol.TheVariants as symbols
+use Rattle.wparser.specs.Tree.{Tree, Field}
+use Rattle.wparser.specs.QueryTree.{QueryTree, SourceTree, ItemTree, EntryTree, AllColumns, Computed, FromTable, FromQuery, query_of, entry_of}
+use Rattle.wparser.specs.Words.{OpenSign, name_of, number_of}
+use Rattle.wparser.specs.Notation.{Tokens, Row, One, After, Then, Done, Perhaps, Either, Listed, As}
+use Rattle.wparser.specs.Grammar.{Word, Sign, Closed, qualified_by, window_inside, order, conditions, inner}
+
+-- [AS]
+abbrev pub perhaps_as : Row Bool
+perhaps_as = Perhaps false (Word keywords.As (Done true))
+
+-- [AS] name
+abbrev pub alias_name : Row (List ℕ)
+alias_name = Then perhaps_as (λ _. One name_of)
+
+-- [[AS] name]
+abbrev pub alias : Row (Option (List ℕ))
+alias = Perhaps None (As Some alias_name)
+
+-- item = * | cond [[AS] name]
+abbrev pub computed_item : ℕ → Row ItemTree
+computed_item n = Then (conditions n) (λ e. As (Computed e) alias)
+
+abbrev pub item : ℕ → Row ItemTree
+item n = Either (Sign symbols.Asterisk (Done AllColumns)) (computed_item n)
+
+-- source = name [[AS] name] | ( query ) [AS] name
+abbrev pub derived : Row QueryTree → Row SourceTree
+derived Under = Then (Closed Under) (λ query. As (FromQuery query) alias_name)
+
+abbrev pub source : Row QueryTree → Row SourceTree
+source Under = Either (Then (One name_of) (λ name. As (FromTable name) alias)) (After OpenSign (derived Under))
+
+-- [WHERE cond], [HAVING cond]
+abbrev pub clause : Keyword → ℕ → Row (Option Tree)
+clause keyword n = Perhaps None (As Some (Word keyword (conditions n)))
+
+-- column = name [. name]
+abbrev pub column_behind : List ℕ → Row Tree
+column_behind name = Perhaps (Field None name) (Sign symbols.Dot (qualified_by name))
+
+abbrev pub column : Row Tree
+column = Then (One name_of) column_behind
+
+-- [GROUP BY column {, column}]
+abbrev pub grouping : Row (List Tree)
+grouping = Perhaps [] (Word keywords.Group (Word keywords.By (Listed column)))
+
+-- entry = name AS ( window )
+abbrev pub entry : ℕ → Row EntryTree
+entry n = Then (One name_of) (λ name. Word keywords.As (After OpenSign (As (entry_of name) (window_inside n (inner n)))))
+
+-- [WINDOW entry {, entry}]
+abbrev pub windows : ℕ → Row (List EntryTree)
+windows n = Perhaps [] (Word keywords.Window (Listed (entry n)))
+
+-- [LIMIT number], [OFFSET number]
+abbrev pub count : Keyword → Row (Option ℕ)
+count keyword = Perhaps None (As Some (Word keyword (One number_of)))
+
+-- LIMIT number [OFFSET number] | OFFSET number [LIMIT number]
+abbrev pub written_limits : Row (Option ℕ × Option ℕ)
+written_limits =
+    Either (Word keywords.Limit (Then (One number_of) (λ limit. As (λ offset. (Some limit, offset)) (count keywords.Offset))))
+    (Word keywords.Offset (Then (One number_of) (λ offset. As (λ limit. (limit, Some offset)) (count keywords.Limit))))
+
+abbrev pub limits : Row (Option ℕ × Option ℕ)
+limits = Perhaps (None, None) written_limits
+
+-- [WHERE cond] [GROUP BY column {, column}] [HAVING cond] [WINDOW entry {, entry}] [ORDER BY key {, key}] [limits]
+abbrev pub clauses : ℕ → List ItemTree → SourceTree → Row QueryTree
+clauses n items source =
+    Then (clause keywords.Where n) (λ condition. Then grouping (λ groups. Then (clause keywords.Having n) (λ having.
+    Then (windows n) (λ entries. Then (order (conditions n)) (λ keys. Then limits (λ counts.
+    Done (query_of items source condition groups having entries keys counts)))))))
+
+-- query = SELECT item {, item} FROM source ..
+abbrev pub query_over : ℕ → Row QueryTree → Row QueryTree
+query_over n Under =
+    Word keywords.Select (Then (Listed (item n)) (λ items. Word keywords.From (Then (source Under) (λ source. clauses n items source))))
+
+-- The queries one level deeper, where `n` levels of nesting are left; there are none below the last.
+unfoldable pub deeper_queries : ℕ → Row QueryTree
+deeper_queries zero = λ query ts rest. ⊥
+deeper_queries (suc n) = query_over n (deeper_queries n)
+
+-- the queries where `n` levels are left
+abbrev pub queries : ℕ → Row QueryTree
+queries n = query_over n (deeper_queries n)
+
+-- text = query [;]
+abbrev pub texts : Row QueryTree
+texts = Then (queries 64) (λ query. Then (Perhaps false (Sign symbols.Semicolon (Done true))) (λ _. Done query))
+
+-- The tokens spell the query, each of them nested at most 64 deep.
+abbrev pub Spells : QueryTree → Tokens → Type 0
+Spells query tokens = texts query tokens []

@@ -1,0 +1,407 @@
+//! Reads whole queries; `depth` levels of nesting are left.
+
+ghost use Rattle.std.specs.Prelude.{◌≡◌, ◌≤◌, List, map, Some, None, IfOk};
+ghost use Rattle.std.specs.Rc.{rc_str_bytes};
+ghost use Rattle.wparser.specs.Tree.{view, view_column, view_keys, view_optional, name_bytes};
+ghost use Rattle.wparser.specs.QueryTree.{QueryTree, view_query, view_source, view_item, view_entry, query_of};
+ghost use Rattle.wparser.specs.Words.{name_of};
+ghost use Rattle.wparser.specs.Notation.{Listed, One};
+ghost use Rattle.wparser.specs.Queries.{alias_name, alias, item, derived, source, clause, column, grouping, entry, windows, count, limits, clauses, queries, deeper_queries, texts, Spells};
+ghost use Rattle.wparser.specs.Grips.{keyword_grip};
+ghost use Rattle.wparser.specs.declared.fault.ParseFault.TheVariants.{Syntax};
+ghost use Rattle.wparser.specs.Finding.{meanings, outcome, Answers};
+
+use crate::composing::{self as build, Clauses};
+use crate::expression::{ChainKind, Column, Expression};
+use crate::fault::ParseFault;
+use crate::query::{Item, Query, Source, WindowEntry};
+use crate::reading::{chain, enclosed_window, ordered};
+use crate::tokens::{keyword, name, number, symbol};
+use std::alloc::Global;
+use std::rc::RcStr;
+use wlexer::{Keyword, Symbol, Token};
+
+fn copied_name(tokens: &[Token]) -> Result<(RcStr, &[Token]), ParseFault>
+    ensures { Answers (One name_of) 31 (meanings tokens.now) (outcome (λ x. rc_str_bytes x.0) (λ x. x.1.now) result) }
+{
+    match name(tokens) {
+        None => Err(ParseFault::Syntax),
+        Some((name, rest)) => {
+            let name = name.clone()?;
+            Ok((name, rest))
+        }
+    }
+}
+
+/// A name, with or without AS before it.
+fn required_alias(tokens: &[Token]) -> Result<(RcStr, &[Token]), ParseFault>
+    ensures { Answers alias_name 31 (meanings tokens.now) (outcome (λ x. rc_str_bytes x.0) (λ x. x.1.now) result) }
+{
+    match keyword(tokens, Keyword::As) {
+        None => copied_name(tokens),
+        Some(after) => copied_name(after),
+    }
+}
+
+fn optional_alias(tokens: &[Token]) -> Result<(Option<RcStr>, &[Token]), ParseFault>
+    ensures { Answers alias 14 (meanings tokens.now) (outcome (λ x. name_bytes x.0) (λ x. x.1.now) result) }
+{
+    if let Some(after) = keyword(tokens, Keyword::As) {
+        return match copied_name(after) {
+            Err(f) => Err(f),
+            Ok((name, rest)) => Ok((Some(name), rest)),
+        };
+    }
+    match name(tokens) {
+        None => Ok((None, tokens)),
+        Some((name, rest)) => {
+            let name = name.clone()?;
+            Ok((Some(name), rest))
+        }
+    }
+}
+
+fn item_of(alloc: Global, depth: u32, tokens: &[Token]) -> Result<(Item, &[Token]), ParseFault>
+    ensures { Answers (item depth) 14 (meanings tokens.now) (outcome (λ x. view_item x.0) (λ x. x.1.now) result) }
+{
+    if let Some(rest) = symbol(tokens, Symbol::Asterisk) {
+        return Ok((Item::All, rest));
+    }
+    match chain(alloc, ChainKind::Disjunction, depth, tokens) {
+        Err(f) => Err(f),
+        Ok((expression, rest)) => match optional_alias(rest) {
+            Err(f) => Err(f),
+            Ok((alias, rest)) => Ok((Item::Value { expression, alias }, rest)),
+        },
+    }
+}
+
+fn items(alloc: Global, depth: u32, tokens: &[Token]) -> Result<(Vec<Item>, &[Token]), ParseFault>
+    ensures { Answers (Listed (item depth)) 12 (meanings tokens.now) (outcome (λ x. map view_item x.0.items) (λ x. x.1.now) result) }
+{
+    let mut items = Vec::new(alloc);
+    let mut left = tokens;
+    'items: loop {
+        match item_of(alloc, depth, left) {
+            Err(f) => return Err(f),
+            Ok((item, rest)) => {
+                build::push_item(&mut items, item)?;
+                match symbol(rest, Symbol::Comma) {
+                    None => return Ok((items, rest)),
+                    Some(after) => left = after,
+                }
+            }
+        }
+    }
+}
+
+/// The condition behind WHERE or HAVING, if that comes first.
+fn condition(
+    alloc: Global,
+    depth: u32,
+    word: Keyword,
+    tokens: &[Token],
+) -> Result<(Option<Expression>, &[Token]), ParseFault>
+    requires { keyword_grip word ≤ 20 }
+    ensures { Answers (clause word depth) (keyword_grip word) (meanings tokens.now) (outcome (λ x. view_optional x.0) (λ x. x.1.now) result) }
+{
+    let Some(after) = keyword(tokens, word) else {
+        return Ok((None, tokens));
+    };
+    match chain(alloc, ChainKind::Disjunction, depth, after) {
+        Err(f) => Err(f),
+        Ok((e, rest)) => Ok((Some(e), rest)),
+    }
+}
+
+fn column_of(tokens: &[Token]) -> Result<(Column, &[Token]), ParseFault>
+    ensures { Answers column 14 (meanings tokens.now) (outcome (λ x. view_column x.0) (λ x. x.1.now) result) }
+{
+    match copied_name(tokens) {
+        Err(f) => Err(f),
+        Ok((name, rest)) => {
+            let Some(after) = symbol(rest, Symbol::Dot) else {
+                return Ok((
+                    Column {
+                        qualifier: None,
+                        name,
+                    },
+                    rest,
+                ));
+            };
+            match copied_name(after) {
+                Err(f) => Err(f),
+                Ok((column, rest)) => Ok((
+                    Column {
+                        qualifier: Some(name),
+                        name: column,
+                    },
+                    rest,
+                )),
+            }
+        }
+    }
+}
+
+fn columns(alloc: Global, tokens: &[Token]) -> Result<(Vec<Column>, &[Token]), ParseFault>
+    ensures { Answers (Listed column) 12 (meanings tokens.now) (outcome (λ x. map view_column x.0.items) (λ x. x.1.now) result) }
+{
+    let mut columns = Vec::new(alloc);
+    let mut left = tokens;
+    'columns: loop {
+        match column_of(left) {
+            Err(f) => return Err(f),
+            Ok((column, rest)) => {
+                build::push_column(&mut columns, column)?;
+                match symbol(rest, Symbol::Comma) {
+                    None => return Ok((columns, rest)),
+                    Some(after) => left = after,
+                }
+            }
+        }
+    }
+}
+
+fn grouped(alloc: Global, tokens: &[Token]) -> Result<(Vec<Column>, &[Token]), ParseFault>
+    ensures { Answers grouping 8 (meanings tokens.now) (outcome (λ x. map view_column x.0.items) (λ x. x.1.now) result) }
+{
+    let Some(after) = keyword(tokens, Keyword::Group) else {
+        return Ok((Vec::new(alloc), tokens));
+    };
+    match keyword(after, Keyword::By) {
+        None => Err(ParseFault::Syntax),
+        Some(after) => columns(alloc, after),
+    }
+}
+
+fn entry_of(
+    alloc: Global,
+    depth: u32,
+    tokens: &[Token],
+) -> Result<(WindowEntry, &[Token]), ParseFault>
+    ensures { Answers (entry depth) 31 (meanings tokens.now) (outcome (λ x. view_entry x.0) (λ x. x.1.now) result) }
+{
+    match copied_name(tokens) {
+        Err(f) => Err(f),
+        Ok((name, rest)) => {
+            let Some(after) = keyword(rest, Keyword::As) else {
+                return Err(ParseFault::Syntax);
+            };
+            let Some(after) = symbol(after, Symbol::OpenParenthesis) else {
+                return Err(ParseFault::Syntax);
+            };
+            match enclosed_window(alloc, depth, after) {
+                Err(f) => Err(f),
+                Ok((window, rest)) => Ok((WindowEntry { name, window }, rest)),
+            }
+        }
+    }
+}
+
+fn entries(
+    alloc: Global,
+    depth: u32,
+    tokens: &[Token],
+) -> Result<(Vec<WindowEntry>, &[Token]), ParseFault>
+    ensures { Answers (Listed (entry depth)) 12 (meanings tokens.now) (outcome (λ x. map view_entry x.0.items) (λ x. x.1.now) result) }
+{
+    let mut entries = Vec::new(alloc);
+    let mut left = tokens;
+    'entries: loop {
+        match entry_of(alloc, depth, left) {
+            Err(f) => return Err(f),
+            Ok((entry, rest)) => {
+                build::push_entry(&mut entries, entry)?;
+                match symbol(rest, Symbol::Comma) {
+                    None => return Ok((entries, rest)),
+                    Some(after) => left = after,
+                }
+            }
+        }
+    }
+}
+
+fn window_clause(
+    alloc: Global,
+    depth: u32,
+    tokens: &[Token],
+) -> Result<(Vec<WindowEntry>, &[Token]), ParseFault>
+    ensures { Answers (windows depth) 6 (meanings tokens.now) (outcome (λ x. map view_entry x.0.items) (λ x. x.1.now) result) }
+{
+    match keyword(tokens, Keyword::Window) {
+        None => Ok((Vec::new(alloc), tokens)),
+        Some(after) => entries(alloc, depth, after),
+    }
+}
+
+/// The number behind LIMIT or OFFSET, if that comes first.
+fn counted(word: Keyword, tokens: &[Token]) -> Result<(Option<u128>, &[Token]), ParseFault>
+    ensures { Answers (count word) (keyword_grip word) (meanings tokens.now) (outcome (λ x. x.0) (λ x. x.1.now) result) }
+{
+    let Some(after) = keyword(tokens, word) else {
+        return Ok((None, tokens));
+    };
+    match number(after) {
+        None => Err(ParseFault::Syntax),
+        Some((n, rest)) => Ok((Some(n), rest)),
+    }
+}
+
+/// What LIMIT and OFFSET say, in either order.
+fn limited(tokens: &[Token]) -> Result<((Option<u128>, Option<u128>), &[Token]), ParseFault>
+    ensures { Answers limits 4 (meanings tokens.now) (outcome (λ x. x.0) (λ x. x.1.now) result) }
+{
+    if let Some(after) = keyword(tokens, Keyword::Limit) {
+        let Some((limit, rest)) = number(after) else {
+            return Err(ParseFault::Syntax);
+        };
+        return match counted(Keyword::Offset, rest) {
+            Err(f) => Err(f),
+            Ok((offset, rest)) => Ok(((Some(limit), offset), rest)),
+        };
+    }
+    let Some(after) = keyword(tokens, Keyword::Offset) else {
+        return Ok(((None, None), tokens));
+    };
+    let Some((offset, rest)) = number(after) else {
+        return Err(ParseFault::Syntax);
+    };
+    match counted(Keyword::Limit, rest) {
+        Err(f) => Err(f),
+        Ok((limit, rest)) => Ok(((limit, Some(offset)), rest)),
+    }
+}
+
+fn query_clauses(
+    alloc: Global,
+    depth: u32,
+    items: Vec<Item>,
+    source: Source,
+    tokens: &[Token],
+) -> Result<(Query, &[Token]), ParseFault>
+    ensures { Answers (clauses depth (map view_item items.items) (view_source source)) 4 (meanings tokens.now) (outcome (λ x. view_query x.0) (λ x. x.1.now) result) }
+{
+    match condition(alloc, depth, Keyword::Where, tokens) {
+        Err(f) => Err(f),
+        Ok((kept, rest)) => match grouped(alloc, rest) {
+            Err(f) => Err(f),
+            Ok((grouping, rest)) => match condition(alloc, depth, Keyword::Having, rest) {
+                Err(f) => Err(f),
+                Ok((having, rest)) => match window_clause(alloc, depth, rest) {
+                    Err(f) => Err(f),
+                    Ok((windows, rest)) => match ordered(alloc, depth, rest) {
+                        Err(f) => Err(f),
+                        Ok((order, rest)) => match limited(rest) {
+                            Err(f) => Err(f),
+                            Ok((limits, rest)) => {
+                                let clauses = Clauses {
+                                    condition: kept,
+                                    grouping,
+                                    having,
+                                    windows,
+                                    order,
+                                    limits,
+                                };
+                                Ok((build::query(items, source, clauses), rest))
+                            }
+                        },
+                    },
+                },
+            },
+        },
+    }
+}
+
+/// A query.
+#[cycle(asking)]
+pub fn query(alloc: Global, depth: u32, tokens: &[Token]) -> Result<(Query, &[Token]), ParseFault>
+    ensures { Answers (queries depth) 4 (meanings tokens.now) (outcome (λ x. view_query x.0) (λ x. x.1.now) result) }
+{
+    let Some(after) = keyword(tokens, Keyword::Select) else {
+        return Err(ParseFault::Syntax);
+    };
+    match items(alloc, depth, after) {
+        Err(f) => Err(f),
+        Ok((items, rest)) => {
+            let Some(after) = keyword(rest, Keyword::From) else {
+                return Err(ParseFault::Syntax);
+            };
+            match source_of(alloc, depth, after) {
+                Err(f) => Err(f),
+                Ok((source, rest)) => query_clauses(alloc, depth, items, source, rest),
+            }
+        }
+    }
+}
+
+#[cycle(asking)]
+fn source_of(alloc: Global, depth: u32, tokens: &[Token]) -> Result<(Source, &[Token]), ParseFault>
+    ensures { Answers (source (deeper_queries depth)) 14 (meanings tokens.now) (outcome (λ x. view_source x.0) (λ x. x.1.now) result) }
+{
+    if let Some((table, rest)) = name(tokens) {
+        let table = table.clone()?;
+        return match optional_alias(rest) {
+            Err(f) => Err(f),
+            Ok((alias, rest)) => Ok((build::table(table, alias), rest)),
+        };
+    }
+    match symbol(tokens, Symbol::OpenParenthesis) {
+        None => Err(ParseFault::Syntax),
+        Some(after) => derived_of(alloc, depth, after),
+    }
+}
+
+#[cycle(asking)]
+fn derived_of(alloc: Global, depth: u32, tokens: &[Token]) -> Result<(Source, &[Token]), ParseFault>
+    ensures { Answers (derived (deeper_queries depth)) 31 (meanings tokens.now) (outcome (λ x. view_source x.0) (λ x. x.1.now) result) }
+{
+    if depth == 0 {
+        return Err(ParseFault::Syntax);
+    }
+    match query(alloc, depth - 1, tokens) {
+        Err(f) => Err(f),
+        Ok((query, rest)) => {
+            let Some(after) = symbol(rest, Symbol::CloseParenthesis) else {
+                return Err(ParseFault::Syntax);
+            };
+            match required_alias(after) {
+                Err(f) => Err(f),
+                Ok((alias, rest)) => {
+                    let source = build::derived(alloc, query, alias)?;
+                    Ok((source, rest))
+                }
+            }
+        }
+    }
+}
+
+/// A query and the semicolon behind it, if there is one.
+fn terminated(alloc: Global, tokens: &[Token]) -> Result<(Query, &[Token]), ParseFault>
+    ensures { Answers texts 1 (meanings tokens.now) (outcome (λ x. view_query x.0) (λ x. x.1.now) result) }
+{
+    match query(alloc, 64, tokens) {
+        Err(f) => Err(f),
+        Ok((query, rest)) => match symbol(rest, Symbol::Semicolon) {
+            None => Ok((query, rest)),
+            Some(rest) => Ok((query, rest)),
+        },
+    }
+}
+
+/// The one query that the tokens spell.
+///
+/// It answers `Syntax` where they spell none that is nested at most 64 deep.
+pub fn parse(alloc: Global, tokens: &[Token]) -> Result<Query, ParseFault>
+    // What is answered is spelled by the tokens.
+    ensures spelled { IfOk result (λ query. Spells (view_query query) (meanings tokens.now)) }
+    // Only what spells no query is refused.
+    ensures refused { result ≡ Err Syntax → (query : QueryTree) → Spells query (meanings tokens.now) → ⊥ }
+{
+    match terminated(alloc, tokens) {
+        Err(f) => Err(f),
+        Ok((query, rest)) => match rest {
+            [] => Ok(query),
+            _ => Err(ParseFault::Syntax),
+        },
+    }
+}

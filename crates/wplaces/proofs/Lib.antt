@@ -1,0 +1,4 @@
+pub mod RowFacts
+pub mod SpanPlaces
+pub mod TileFacts
+pub mod RankFacts

@@ -1,0 +1,55 @@
+-- Columns of answers.
+use Rattle.std.proofs.Common.{◌≡◌, ℕ, zero, suc, ◌+◌, ◌-◌, ◌<◌, ◌≤◌, List, [], ◌∷◌, ◌++◌, length, map, nat_lt, Result, IfOk, true, false, refl, sym, ap, ◌∙◌, arith}
+use Rattle.std.specs.List.{range_with_len, filter}
+use Rattle.std.specs.Fn.{Called, Mut}
+use Rattle.std.specs.Vec.{vec_items}
+use Rattle.std.specs.declared.vec.Vec.{Vec}
+use Rattle.std.specs.declared.iter.Map.{Map}
+use Rattle.std.specs.declared.ops.Range.{Range}
+use Rattle.std.specs.Iterator.Adapters.{map_source, map_callee}
+use Rattle.std.proofs.iter.Yields.{nat_range_steps}
+use Rattle.std.proofs.lemmas.Result.{IfOk-weaker}
+use Rattle.std.proofs.lemmas.Bool.Decides.{nat_tests}
+use Rattle.std.proofs.lemmas.Iterator.{maps, IsCollectResult, YieldsList-from_range, YieldsList-from_map, items_from_collect}
+use Rattle.wframe.specs.declared.frame.Span.{Span}
+use Rattle.wframe.specs.Places.{places_from, places, is_in_span}
+use Rattle.wframe.specs.Partition.{Partition}
+use Rattle.wplaces.specs.EachRow.{each_row}
+
+same_answers : {X : Type 0} (f g : ℕ → X) (a n : ℕ) → ((j : ℕ) → a ≤ j → j < a + n → f j ≡ g j) → map f (range_with_len a n) ≡ map g (places_from a n)
+same_answers f g a zero h = refl
+same_answers f g a (suc n) h =
+    ap (λ x. x ∷ map f (range_with_len (a + 1) n)) (h a (omega arith) (omega arith))
+    ∙ ap (λ xs. g a ∷ xs) (same_answers f g (a + 1) n (λ j l m. h j (omega arith) (omega arith)))
+
+-- what a closure tells of a range of rows is a column, where it tells each row's answer
+pub column : {X F Z E : Type 0} {s : Map (Range ℕ) F} {g : Mut F (ℕ × Unit {0}) X} {f : F} (r : Result (Vec X Z) E) (p : Partition) (n : ℕ) (told answer : ℕ → X) →
+    IsCollectResult (maps nat_range_steps g) s r → map_source s ≡ record { start = 0; end = n } → map_callee s ≡ f → n ≡ length p.keys →
+    ((x : ℕ) (y : X) (q : F) → Called g f (x, tt) y q → (q ≡ f) × (y ≡ told x)) → ((j : ℕ) → j < length p.keys → told j ≡ answer j) →
+    IfOk r (λ v. v.items ≡ each_row p answer)
+column r p n told answer ran source callee e closure same =
+    IfOk-weaker r (λ v. vec_items v ≡ map told (range_with_len 0 n)) (λ v. v.items ≡ each_row p answer)
+    (λ v q. q ∙ ap (λ m. map told (range_with_len 0 m)) e ∙ same_answers told answer 0 (length p.keys) (λ j l m. same j (omega arith)))
+    (items_from_collect r ran (YieldsList-from_map _ told (YieldsList-from_range 0 n n source (omega arith)) callee closure))
+
+-- how many places lie before a place
+pub length_before : (a n i : ℕ) → i ≤ a + n → length (filter (λ j. nat_lt j i) (places_from a n)) ≡ i - a
+length_before a zero i h = omega arith
+length_before a (suc n) i h = let e : length (filter (λ j. nat_lt j i) (places_from (a + 1) n)) ≡ i - (a + 1) = length_before (a + 1) n i (omega arith) in grind (arith, nat_tests)
+
+-- one row more
+pub column_more : {X : Type 0} (f : ℕ → X) (a n j : ℕ) → a + n ≡ j → map f (places_from a (n + 1)) ≡ map f (places_from a n) ++ f j ∷ []
+column_more f a zero j e = ap (λ k. f k ∷ []) (omega arith)
+column_more f a (suc n) j e =
+    let s : suc n + 1 ≡ suc (n + 1) = omega arith in
+    ap (λ m. map f (places_from a m)) s ∙ ap (λ xs. f a ∷ xs) (column_more f (a + 1) n j (omega arith))
+
+pub more_answers : {X : Type 0} (f : ℕ → X) (xs ys : List X) (n : ℕ) (x : X) → xs ≡ map f (places n) → ys ≡ xs ++ x ∷ [] → x ≡ f n → ys ≡ map f (places (n + 1))
+more_answers f xs ys n x told e same = e ∙ ap (λ zs. zs ++ x ∷ []) told ∙ ap (λ y. map f (places n) ++ y ∷ []) same ∙ sym (column_more f 0 n n (omega arith))
+
+-- the row after a span's last place is not in it, and after another of its places it is
+pub past_last : (s : Span) (row : ℕ) → s.to ≡ row + 1 → is_in_span s (row + 1) ≡ false
+past_last s row e = grind (arith, nat_tests)
+
+pub before_last : (s : Span) (row : ℕ) → s.from ≤ row → row < s.to → (s.to ≡ row + 1 → ⊥) → is_in_span s (row + 1) ≡ true
+before_last s row l h e = grind (arith, nat_tests)

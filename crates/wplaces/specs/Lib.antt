@@ -1,0 +1,4 @@
+pub mod EachRow
+pub mod Ranks
+pub mod Tile
+pub mod RowPlaces

@@ -1,0 +1,26 @@
+//! Ranks, and places in a partition or a frame.
+//!
+//! - Gives, for every row of one partition, its number, rank or tile, or the place of the row whose value a call tells.
+//!   Numbers count from 1, places from 0, both in the partition's order.
+//! - Promises: the answers are the counts and places of the definitions. The one error is that memory was refused.
+//! - Asks: at least one tile for `ntile`, and a count from 1 on for `nth_value`. Which of several peers comes first is
+//!   the caller's choice: ranks do not tell it, the other answers do.
+//! - Leaves: values and nulls to the caller. A place is none where there is no such row, for a default or a null.
+//!
+//! Read `specs/EachRow.antt`, `specs/Ranks.antt`, `specs/Tile.antt`, then `specs/RowPlaces.antt`.
+#![tactic(auto)]
+
+mod frame_values;
+mod laws;
+mod offsets;
+mod ranks;
+mod tiles;
+
+pub use frame_values::{first_value, last_value, nth_value};
+pub use laws::{ranks_tell_first_peers, tiles_share_the_rows};
+pub use offsets::{lag, lead};
+pub use ranks::{dense_rank, rank, row_number};
+pub use tiles::ntile;
+
+#[cfg(test)]
+mod tests;

@@ -1,0 +1,46 @@
+ghost use Rattle.std.specs.Prelude.{◌≡◌, length, IfOk};
+ghost use Rattle.wplaces.specs.EachRow.{each_row};
+ghost use Rattle.wplaces.specs.RowPlaces.{lag_place, lead_place};
+
+use std::alloc::{AllocError, Global};
+use wframe::Frames;
+
+// The place so many rows before a row.
+fn place_before(row: usize, rows: usize) -> Option<usize>
+    ensures { result ≡ lag_place rows row }
+{
+    row.checked_sub(rows)
+}
+
+// The place so many rows after a row, where there are `count` rows.
+fn place_after(row: usize, rows: usize, count: usize) -> Option<usize>
+    ensures { result ≡ lead_place count rows row }
+{
+    let place = row.checked_add(rows)?;
+    (place < count).then_some(place)
+}
+
+/// The place of the row so many rows before each row, or none where the partition does not go back so far.
+///
+/// 0 rows before is the row itself.
+pub fn lag(alloc: Global, frames: &Frames, rows: u64) -> Result<Vec<Option<usize>>, AllocError>
+    ensures { IfOk result (λ found. found.items ≡ each_row frames.now (lag_place rows)) }
+{
+    let rows = rows as usize;
+    (0..frames.count())
+        .map(|row| place_before(row, rows))
+        .collect(alloc)
+}
+
+/// The place of the row so many rows after each row, or none where the partition does not go on so far.
+///
+/// 0 rows after is the row itself.
+pub fn lead(alloc: Global, frames: &Frames, rows: u64) -> Result<Vec<Option<usize>>, AllocError>
+    ensures { IfOk result (λ found. found.items ≡ each_row frames.now (lead_place (length frames.now.keys) rows)) }
+{
+    let count = frames.count();
+    let rows = rows as usize;
+    (0..count)
+        .map(|row| place_after(row, rows, count))
+        .collect(alloc)
+}

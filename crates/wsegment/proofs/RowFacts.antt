@@ -1,0 +1,74 @@
+-- Cells and rows one after the other, as the loops read them.
+use Rattle.std.proofs.Common.{◌≡◌, ◌∙◌, ◌+◌, ◌<◌, ◌≤◌, ◌++◌, ℕ, List, [], ◌∷◌, inl, inr, length, Result, Ok, Err, refl, sym, ap}
+use Rattle.std.proofs.lemmas.List.{append-nil}
+use Rattle.std.proofs.lemmas.Bool.{eq-eqb, le-ltb, lt-ltb, ne_eqb}
+use Rattle.wvalues.specs.Meaning.{Meaning}
+use Rattle.wsegment.specs.Cells.{cell_of, cells_of, row_of, rows_from}
+use Rattle.wsegment.specs.Outcome.{Fails}
+use Rattle.wsegment.specs.declared.kind.Kind.{Kind}
+use Rattle.wsegment.specs.declared.fault.SegmentFault.{SegmentFault}
+use Rattle.wsegment.specs.declared.fault.SegmentFault.TheVariants as faults
+use Rattle.wsegment.proofs.Fronts.{regroup, with_front}
+
+-- one more cell
+pub cells-go : (row : ℕ) (ks rest : List Kind) (fs after : List (List ℕ)) (k : Kind) (f : List ℕ) (front : List Meaning) (x : Meaning) (total : Result (List Meaning) SegmentFault)
+    → ks ≡ k ∷ rest → fs ≡ f ∷ after → cell_of row k f ≡ Ok x → with_front front (cells_of row ks fs) ≡ total → with_front (front ++ x ∷ []) (cells_of row rest after) ≡ total
+unfolding cells_of
+cells-go row ks rest fs after k f front x total ek ef ex so_far =
+    let one : with_front front (cells_of row ks fs) ≡ with_front (front ++ x ∷ []) (cells_of row rest after) = rw (ek, ef, ex) (regroup front x (cells_of row rest after)) in
+    sym one ∙ so_far
+
+-- a cell's fault is the row's
+pub cells-stop : (fault : SegmentFault) (row : ℕ) (ks rest : List Kind) (fs after : List (List ℕ)) (k : Kind) (f : List ℕ) (front : List Meaning) (total : Result (List Meaning) SegmentFault)
+    → ks ≡ k ∷ rest → fs ≡ f ∷ after → Fails fault (cell_of row k f) → with_front front (cells_of row ks fs) ≡ total → Fails fault total
+unfolding cells_of
+cells-stop fault row ks rest fs after k f front total ek ef (inl memory) so_far = inl memory
+cells-stop fault row ks rest fs after k f front total ek ef (inr failed) so_far =
+    let one : with_front front (cells_of row ks fs) ≡ Err fault = rw (ek, ef, failed) refl in
+    inr (sym so_far ∙ one)
+
+pub cells-end : (row : ℕ) (ks : List Kind) (fs : List (List ℕ)) (front : List Meaning) (total : Result (List Meaning) SegmentFault) → ks ≡ [] → with_front front (cells_of row ks fs) ≡ total → total ≡ Ok front
+unfolding cells_of
+cells-end row ks fs front total e so_far =
+    let one : with_front front (cells_of row ks fs) ≡ Ok front = rw e (ap (λ (ys : List Meaning). Ok ys) (append-nil front)) in
+    sym so_far ∙ one
+
+-- a row of the right length, and one of another
+pub row-cells : (row : ℕ) (ks : List Kind) (fs : List (List ℕ)) → length fs ≡ length ks → row_of row ks fs ≡ cells_of row ks fs
+unfolding row_of
+row-cells row ks fs e = rw (eq-eqb _ _ e) refl
+
+pub row-refused : (row : ℕ) (ks : List Kind) (fs : List (List ℕ)) → (length fs ≡ length ks → ⊥) → row_of row ks fs ≡ Err (faults.RowLength row)
+unfolding row_of
+row-refused row ks fs differ = rw (ne_eqb _ _ differ) refl
+
+-- one more row
+pub rows-go : (ks : List Kind) (n : ℕ) (left rest : List (List (List ℕ))) (r : List (List ℕ)) (front : List (List Meaning)) (x : List Meaning) (total : Result (List (List Meaning)) SegmentFault)
+    → n ≤ 1000000 → left ≡ r ∷ rest → row_of n ks r ≡ Ok x → with_front front (rows_from ks n left) ≡ total → with_front (front ++ x ∷ []) (rows_from ks (n + 1) rest) ≡ total
+unfolding rows_from
+rows-go ks n left rest r front x total few e ex so_far =
+    let one : with_front front (rows_from ks n left) ≡ with_front (front ++ x ∷ []) (rows_from ks (n + 1) rest) = rw (e, le-ltb 1000000 n few, ex) (regroup front x (rows_from ks (n + 1) rest)) in
+    sym one ∙ so_far
+
+-- a row's fault is the segment's
+pub rows-stop : (fault : SegmentFault) (ks : List Kind) (n : ℕ) (left rest : List (List (List ℕ))) (r : List (List ℕ)) (front : List (List Meaning)) (total : Result (List (List Meaning)) SegmentFault)
+    → n ≤ 1000000 → left ≡ r ∷ rest → Fails fault (row_of n ks r) → with_front front (rows_from ks n left) ≡ total → Fails fault total
+unfolding rows_from
+rows-stop fault ks n left rest r front total few e (inl memory) so_far = inl memory
+rows-stop fault ks n left rest r front total few e (inr failed) so_far =
+    let one : with_front front (rows_from ks n left) ≡ Err fault = rw (e, le-ltb 1000000 n few, failed) refl in
+    inr (sym so_far ∙ one)
+
+pub rows-end : (ks : List Kind) (n : ℕ) (left : List (List (List ℕ))) (front : List (List Meaning)) (total : Result (List (List Meaning)) SegmentFault)
+    → left ≡ [] → with_front front (rows_from ks n left) ≡ total → total ≡ Ok front
+unfolding rows_from
+rows-end ks n left front total e so_far =
+    let one : with_front front (rows_from ks n left) ≡ Ok front = rw e (ap (λ (ys : List (List Meaning)). Ok ys) (append-nil front)) in
+    sym so_far ∙ one
+
+pub rows-many : (ks : List Kind) (n : ℕ) (left rest : List (List (List ℕ))) (r : List (List ℕ)) (front : List (List Meaning)) (total : Result (List (List Meaning)) SegmentFault)
+    → 1000000 < n → left ≡ r ∷ rest → with_front front (rows_from ks n left) ≡ total → total ≡ Err faults.TooManyRows
+unfolding rows_from
+rows-many ks n left rest r front total many e so_far =
+    let one : with_front front (rows_from ks n left) ≡ Err faults.TooManyRows = rw (e, lt-ltb 1000000 n many) refl in
+    sym so_far ∙ one

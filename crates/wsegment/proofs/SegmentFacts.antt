@@ -1,0 +1,61 @@
+-- The rows of a segment, by what was found out about its bytes.
+use Rattle.std.proofs.Common.{◌≡◌, ◌∙◌, ◌<◌, ◌≤◌, ◌⊎◌, inl, inr, true, false, ℕ, List, [], ◌∷◌, length, map, Some, Ok, Err, refl, ap}
+use Rattle.std.proofs.lemmas.Bool.{le-ltb, lt-ltb}
+use Rattle.csv.specs.Reading.{default_config, records, strip_bom}
+use Rattle.wvalues.specs.Meaning.{Meaning}
+use Rattle.wsegment.specs.Cells.{rows_from}
+use Rattle.wsegment.specs.Declaration.{Declaration, Described}
+use Rattle.wsegment.specs.Header.{field_of, is_complete, kinds_of, named_each}
+use Rattle.wsegment.specs.Kept.{cells_at}
+use Rattle.wsegment.specs.Outcome.{Fails}
+use Rattle.wsegment.specs.Rows.{rows_of, rows_of_records, rows_under}
+use Rattle.wsegment.specs.declared.fault.SegmentFault.{SegmentFault}
+use Rattle.wsegment.specs.declared.fault.SegmentFault.TheVariants as faults
+use Rattle.wsegment.proofs.HeaderFacts.{in-order}
+
+pub rows-long : (d : Declaration) (bytes : List ℕ) → 67108864 < length bytes → rows_of d bytes ≡ Err faults.TooLong
+unfolding rows_of
+rows-long d bytes long = rw (lt-ltb 67108864 (length bytes) long) refl
+
+rows-short : (d : Declaration) (bytes : List ℕ) → length bytes ≤ 67108864 → rows_of d bytes ≡ rows_of_records d (records default_config (strip_bom bytes))
+unfolding rows_of
+rows-short d bytes short = rw (le-ltb 67108864 (length bytes) short) refl
+
+pub rows-none : (d : Declaration) (bytes : List ℕ) → length bytes ≤ 67108864 → records default_config (strip_bom bytes) ≡ [] → rows_of d bytes ≡ Err faults.NoHeader
+unfolding rows_of_records
+rows-none d bytes short e = rows-short d bytes short ∙ rw e refl
+
+-- bytes with a header, and the records below it
+pub record IsHeaded (d : Declaration) (bytes : List ℕ) (header : List (List ℕ)) (below : List (List (List ℕ))) : Type 0 where
+  pub short : length bytes ≤ 67108864
+  pub all : records default_config (strip_bom bytes) ≡ header ∷ below
+
+pub stop-header : (fault : SegmentFault) (d : Declaration) (bytes : List ℕ) (header : List (List ℕ)) (below : List (List (List ℕ))) → IsHeaded d bytes header below
+    → Fails fault (named_each d.columns [] header) → Fails fault (rows_of d bytes)
+unfolding rows_of_records
+stop-header fault d bytes header below h (inl memory) = inl memory
+stop-header fault d bytes header below h (inr failed) = inr (rows-short d bytes h.short ∙ rw (h.all, failed) refl)
+
+go-header : (d : Declaration) (bytes : List ℕ) (header : List (List ℕ)) (below : List (List (List ℕ))) (found : List Described) → IsHeaded d bytes header below
+    → named_each d.columns [] header ≡ Ok found → rows_of d bytes ≡ rows_under d below found
+unfolding rows_of_records
+go-header d bytes header below found h p = rows-short d bytes h.short ∙ rw (h.all, p) refl
+
+pub stop-fields : (fault : SegmentFault) (d : Declaration) (bytes : List ℕ) (header : List (List ℕ)) (below : List (List (List ℕ))) (found : List Described) → IsHeaded d bytes header below
+    → named_each d.columns [] header ≡ Ok found → (fault ≡ faults.NoMemory) ⊎ ((fault ≡ faults.MissingColumn) × (is_complete d.columns found ≡ false)) → Fails fault (rows_of d bytes)
+unfolding rows_under
+stop-fields fault d bytes header below found h p (inl memory) = inl memory
+stop-fields fault d bytes header below found h p (inr missing) = inr (go-header d bytes header below found h p ∙ rw (missing.0, missing.1) refl)
+
+pub stop-rows : (fault : SegmentFault) (d : Declaration) (bytes : List ℕ) (header : List (List ℕ)) (below : List (List (List ℕ))) (found : List Described) → IsHeaded d bytes header below
+    → named_each d.columns [] header ≡ Ok found → is_complete d.columns found ≡ true → Fails fault (rows_from (kinds_of found) 1 below) → Fails fault (rows_of d bytes)
+unfolding rows_under
+stop-rows fault d bytes header below found h p complete (inl memory) = inl memory
+stop-rows fault d bytes header below found h p complete (inr failed) = inr (go-header d bytes header below found h p ∙ rw (complete, failed) refl)
+
+pub all-rows : (d : Declaration) (bytes : List ℕ) (header : List (List ℕ)) (below : List (List (List ℕ))) (found : List Described) (fields : List ℕ) (rows : List (List Meaning)) → IsHeaded d bytes header below
+    → named_each d.columns [] header ≡ Ok found → is_complete d.columns found ≡ true → map Some fields ≡ map (field_of found) d.columns → rows_from (kinds_of found) 1 below ≡ Ok rows
+    → rows_of d bytes ≡ Ok (map (cells_at fields) rows)
+unfolding rows_under
+all-rows d bytes header below found fields rows h p complete e all =
+    go-header d bytes header below found h p ∙ rw (complete, all) (ap (λ (found : List (List Meaning)). Ok found) (in-order found d.columns fields rows e))

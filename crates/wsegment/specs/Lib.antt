@@ -1,0 +1,11 @@
+pub mod Declaration
+pub mod Spelling
+pub mod Integer
+pub mod Outcome
+pub mod Cells
+pub mod Header
+pub mod Rows
+pub mod Kept
+pub mod Progress
+pub mod KeptSchema
+pub mod Table

@@ -1,0 +1,94 @@
+//! A segment: rows of the table with the bytes that they were read from.
+ghost use Rattle.std.specs.Prelude.{◌≡◌, ◌<◌, IfOk, length};
+ghost use Rattle.wvalues.specs.Meaning.{meaning};
+ghost use Rattle.wsegment.specs.Outcome.{Gives};
+ghost use Rattle.wsegment.specs.Rows.{cell, rows_of};
+
+use crate::fault::SegmentFault;
+use crate::header::{column_fields, header_columns};
+use crate::records::{reader_of, take_record};
+use crate::rows::{Rows, read_rows};
+use crate::schema::Schema;
+use csv::ByteRecord;
+use std::alloc::Global;
+use std::marker::Model;
+use wvalues::Value;
+
+/// The most bytes of a segment.
+const MAX_BYTES: usize = 67_108_864;
+
+/// The typed rows of some bytes, with these bytes. Rows and columns are counted from 0 here, and columns stand
+/// in the order of the table.
+#[derive(Debug, Drop)]
+pub struct Segment {
+    bytes: Vec<u8>,
+    // The field of each column.
+    fields: Vec<usize>,
+    rows: Rows,
+}
+
+impl Model for Segment {
+    ghost use Rattle.wsegment.specs.Rows.{Content};
+
+    ghost Value = { Content };
+
+    ghost use Rattle.wsegment.specs.Kept.{IsKept, content_of};
+
+    ghost view = { content_of };
+
+    ghost invariant = { IsKept };
+}
+
+impl Segment {
+    /// The typed rows of these bytes, or their first fault. Their number is judged first, then the header from left
+    /// to right, then whether a column is missing, then row by row whether there are too many, the row's length, and
+    /// its fields from left to right.
+    pub fn read(alloc: Global, schema: &Schema, bytes: &[u8]) -> Result<Segment, SegmentFault>
+        ensures rows { Gives (λ segment. segment.rows) result (rows_of schema.now bytes.now) }
+        ensures bytes { IfOk result (λ segment. segment.bytes ≡ bytes.now) }
+        ensures columns { IfOk result (λ segment. segment.columns ≡ length schema.now.columns) }
+    {
+        if bytes.len() > MAX_BYTES {
+            return Err(SegmentFault::TooLong);
+        }
+        let mut reader = reader_of(alloc, bytes);
+        let mut header = ByteRecord::new(alloc);
+        if !take_record(&mut reader, &mut header)? {
+            return Err(SegmentFault::NoHeader);
+        }
+        let columns = schema.columns();
+        let header = header_columns(alloc, columns, &header)?;
+        let fields = column_fields(alloc, columns, &header)?;
+        let rows = read_rows(alloc, &mut reader, &header)?;
+        let bytes = Vec::from_slice(alloc, bytes)?;
+        Ok(Segment {
+            bytes,
+            fields,
+            rows,
+        })
+    }
+
+    /// How many rows it has.
+    pub fn rows(&self) -> usize
+        ensures { result ≡ length self.now.rows }
+    {
+        self.rows.count
+    }
+
+    /// The bytes that it was read from.
+    pub fn bytes(&self) -> &[u8]
+        ensures { result.now ≡ self.now.bytes }
+    {
+        self.bytes.as_slice()
+    }
+
+    /// The value of a row and a column, both counted from 0.
+    pub fn value(&self, row: usize, col: usize) -> &Value
+        requires row { row < length self.now.rows }
+        requires col { col < self.now.columns }
+        ensures { meaning result.now ≡ cell self.now.rows row col }
+    {
+        let field = self.fields[col];
+        &self.rows.cells[row * self.rows.width + field]
+    }
+}

@@ -1,0 +1,9 @@
+mod Joining
+pub mod Union
+mod Finding
+mod Merging
+mod Singles
+mod LiveNames
+mod Maps
+mod Sets
+mod Tables

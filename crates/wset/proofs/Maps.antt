@@ -1,0 +1,56 @@
+-- The view that rising entries stand for.
+use Rattle.std.proofs.Common.{◌≡◌, ℕ, T, List, refl, sym, ap, ◌∙◌, subst, [], ◌∷◌, length, arith}
+use Rattle.std.specs.FinMap.Entries.{is_sorted-put}
+use Rattle.std.specs.FinMap.{empty, len-entries, len-empty, find, put, is_sorted, entries, insert, get, from_sorted, entries_sorted, same_entries_map, entries-insert, entries-from_sorted, get-from_sorted}
+use Rattle.wvalues.specs.Names.{NameParts, name_cmp, names_total}
+use Rattle.wset.specs.Views.{Known, View, join, lives, live_of}
+use Rattle.wset.specs.declared.entries.Entry.{Entry}
+use Rattle.wset.specs.Entries.{known_entries, IsRising, places}
+use Rattle.wset.specs.Merging.{join_lists}
+use Rattle.std.specs.List.{filter_map}
+use Rattle.wset.proofs.LiveNames.{live_count}
+use Rattle.wset.proofs.Merging.{entries-join}
+
+abbrev pub stored_view : List Entry → View
+stored_view es = from_sorted (known_entries es)
+
+pub entries-view : (es : List Entry) → IsRising es → entries (stored_view es) ≡ known_entries es
+entries-view es h = entries-from_sorted name_cmp (known_entries es) h
+
+pub get-view : (es : List Entry) (n : NameParts) → IsRising es → get (stored_view es) n ≡ find name_cmp n (known_entries es)
+get-view es n h = get-from_sorted name_cmp (known_entries es) n h
+
+pub rising_put : (es fs : List Entry) (n : NameParts) (k : Known) → IsRising es → known_entries fs ≡ put name_cmp n k (known_entries es) → IsRising fs
+rising_put es fs n k h is = subst (λ l. T (is_sorted name_cmp l)) (sym is) (is_sorted-put name_cmp names_total n k (known_entries es) h)
+
+pub view_put : (es fs : List Entry) (n : NameParts) (k : Known) → IsRising es → known_entries fs ≡ put name_cmp n k (known_entries es) → stored_view fs ≡ insert (stored_view es) n k
+view_put es fs n k h is = same_entries_map _ _ (
+    entries-view fs (rising_put es fs n k h is) ∙ is ∙ ap (put name_cmp n k) (sym (entries-view es h)) ∙ sym (entries-insert names_total (stored_view es) n k))
+
+joined_entries : (es fs gs : List Entry) → IsRising es → IsRising fs → known_entries gs ≡ join_lists (known_entries es) (known_entries fs) → known_entries gs ≡ entries (join (stored_view es) (stored_view fs))
+joined_entries es fs gs h k is =
+    is ∙ ap (λ l. join_lists l (known_entries fs)) (sym (entries-view es h)) ∙ ap (join_lists (entries (stored_view es))) (sym (entries-view fs k))
+    ∙ sym (entries-join (stored_view es) (stored_view fs))
+
+pub rising_join : (es fs gs : List Entry) → IsRising es → IsRising fs → known_entries gs ≡ join_lists (known_entries es) (known_entries fs) → IsRising gs
+rising_join es fs gs h k is =
+    subst (λ l. T (is_sorted name_cmp l)) (sym (joined_entries es fs gs h k is)) (entries_sorted (join (stored_view es) (stored_view fs)))
+
+pub view_join : (es fs gs : List Entry) → IsRising es → IsRising fs → known_entries gs ≡ join_lists (known_entries es) (known_entries fs) → stored_view gs ≡ join (stored_view es) (stored_view fs)
+view_join es fs gs h k is = same_entries_map _ _ (entries-view gs (rising_join es fs gs h k is) ∙ joined_entries es fs gs h k is)
+
+pub view_none : stored_view [] ≡ empty
+view_none = same_entries_map _ _ (entries-view [] tt ∙ sym (nothing (entries empty) (sym (len-entries empty) ∙ len-empty name_cmp Known)))
+  where
+    nothing : (es : List (NameParts × Known)) → length es ≡ 0 → es ≡ []
+    nothing [] e = refl
+    nothing (x ∷ xs) e = absurd (omega arith)
+
+pub lives-view : (es : List Entry) (v : View) → IsRising es → stored_view es ≡ v → lives v ≡ filter_map live_of (known_entries es)
+lives-view es v h is = ap (λ w. filter_map live_of (entries w)) (sym is) ∙ ap (filter_map live_of) (entries-view es h)
+
+pub entries-is : (es : List Entry) (v : View) → IsRising es → stored_view es ≡ v → entries v ≡ known_entries es
+entries-is es v h is = ap entries (sym is) ∙ entries-view es h
+
+pub live_places : (es : List Entry) (live : List ℕ) (v : View) → IsRising es → live ≡ places 0 (known_entries es) → stored_view es ≡ v → length live ≡ length (lives v)
+live_places es live v h marked is = ap length marked ∙ live_count 0 (known_entries es) ∙ ap length (sym (lives-view es v h is))

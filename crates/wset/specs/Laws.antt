@@ -1,0 +1,29 @@
+-- The laws of views.
+use Rattle.std.specs.Prelude.{◌≡◌, List, ◌++◌}
+use Rattle.std.specs.List.{IsAmong}
+use Rattle.std.specs.FinMap.{get}
+use Rattle.wvalues.specs.Names.{NameParts}
+use Rattle.wset.specs.Views.{View, join}
+use Rattle.wset.specs.Items.{Item, status_of, view_of}
+
+-- in whatever order views are joined, and however often
+pub record JoinLaws : Type 0 where
+  pub associative : (u v w : View) → join (join u v) w ≡ join u (join v w)
+  pub commutative : (v w : View) → join v w ≡ join w v
+  pub idempotent : (v : View) → join v v ≡ v
+
+-- what two lists of items tell together is the join of what they tell
+abbrev pub ViewOfUnion : Type 0
+ViewOfUnion = (j k : List Item) → view_of (j ++ k) ≡ join (view_of j) (view_of k)
+
+-- a view of items tells the status of each name, unknown names too
+abbrev pub ViewTellsStatus : Type 0
+ViewTellsStatus = (items : List Item) (n : NameParts) → get (view_of items) n ≡ status_of items n
+
+-- the items of one list are all in the other
+abbrev pub AreAmong : List Item → List Item → Type 0
+AreAmong j k = (i : Item) → IsAmong j i → IsAmong k i
+
+-- items that are the same, in whatever order and however often, have one view
+abbrev pub SameItemsSameView : Type 0
+SameItemsSameView = (j k : List Item) → AreAmong j k → AreAmong k j → view_of j ≡ view_of k

@@ -1,0 +1,12 @@
+pub mod Views
+pub mod Items
+pub mod Laws
+pub mod Tables
+pub mod Sets
+pub mod Words
+pub mod Listing
+pub mod Codes
+pub mod Holding
+pub mod Entries
+pub mod Merging
+pub mod Storing

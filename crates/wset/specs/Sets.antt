@@ -1,0 +1,20 @@
+-- What a set stands for.
+use Rattle.std.specs.Prelude.{◌≡◌, IsOk, Ok, length}
+use Rattle.std.specs.List.{All}
+use Rattle.wsegment.specs.Declaration.{Declaration}
+use Rattle.wsegment.specs.Rows.{Content, rows_of}
+use Rattle.wset.specs.Views.{View, lives}
+
+-- the declaration by which segments are read, and what is known of each name
+pub record DeclaredView : Type 0 where
+  pub schema : Declaration
+  pub view : View
+
+-- a segment's rows are those of its bytes by the declaration
+pub record IsReadBy (d : Declaration) (content : Content) : Type 0 where
+  pub columns : content.columns ≡ length d.columns
+  pub rows : rows_of d content.bytes ≡ Ok content.rows
+
+-- each live content is a segment by the declaration
+abbrev pub LivesAreRead : DeclaredView → Type 0
+LivesAreRead s = All (λ e. IsOk (rows_of s.schema e.1)) (lives s.view)

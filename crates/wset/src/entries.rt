@@ -1,0 +1,195 @@
+//! Entries in the order of their names, and the places of the live ones among them.
+ghost use Rattle.std.specs.Prelude.{◌≡◌, ◌+◌, ◌*◌, ◌^◌, ◌<◌, ◌≤◌, length, map, option_map, slice_get, take, Some, vec_capacity, IfOk, IfErr, OnOk, OnErr};
+ghost use Rattle.std.specs.List.{filter_map, insert, sum_by};
+ghost use Rattle.std.specs.Option.{option_copied};
+ghost use Rattle.std.specs.FinMap.{find, put};
+ghost use Rattle.wsegment.specs.Declaration.{Declaration};
+ghost use Rattle.wvalues.specs.Names.{name_cmp};
+ghost use Rattle.wset.specs.Views.{join_known, live_of};
+ghost use Rattle.wset.specs.Holding.{IsHeldBy, known_of, row_count_of};
+ghost use Rattle.wset.specs.Sets.{IsReadBy};
+ghost use Rattle.wset.specs.Entries.{AllHeldBy, IsGap, IsPlace, IsRising, known_entries, known_entry, listing_of, places};
+
+use crate::held::Held;
+use crate::words::Listed;
+use std::alloc::{AllocError, Global};
+use wsegment::Segment;
+use wvalues::Name;
+
+/// A name that is not unknown, and what is held of it. It is small: an insert moves those behind it.
+#[derive(Drop)]
+pub(crate) struct Entry {
+    pub(crate) name: Name,
+    pub(crate) held: Held,
+}
+
+impl Entry {
+    /// The same, for another set.
+    pub(crate) fn share(&self) -> Result<Entry, AllocError>
+        ensures { IfOk result (λ entry. entry ≡ self.now) }
+    {
+        let held = self.held.share()?;
+        Ok(Entry {
+            name: self.name,
+            held,
+        })
+    }
+
+    /// What two sets know together of a name, of which these are the entries.
+    pub(crate) fn joined(&self, other: &Entry) -> Result<Entry, AllocError>
+        ensures known { let known = join_known (known_of self.now.held) (known_of other.now.held) in
+            IfOk result (λ entry. known_entry entry ≡ (self.now.name, known)) }
+        ensures read { IfOk result
+            (λ entry. (d : Declaration) → IsHeldBy d self.now.held → IsHeldBy d entry.held) }
+    {
+        let held = self.held.joined(&other.held)?;
+        Ok(Entry {
+            name: self.name,
+            held,
+        })
+    }
+}
+
+/// Where a name is, or else where it would go.
+fn place(entries: &[Entry], name: &Name) -> Result<usize, usize>
+    requires { IsRising entries.now }
+    ensures bound { IfOk result (λ i. i < length entries.now) }
+    ensures end { IfErr result (λ i. i ≤ length entries.now) }
+    ensures found { IfOk result (IsPlace entries.now name.now) }
+    ensures absent { IfErr result (IsGap entries.now name.now) }
+{
+    entries.binary_search_by_key(name, |entry| entry.name)
+}
+
+/// What is held of a name, if it is not unknown.
+pub(crate) fn held_of<'a>(entries: &'a [Entry], name: &Name) -> Option<&'a Held>
+    requires { IsRising entries.now }
+    ensures { option_map known_of (option_copied result)
+        ≡ find name_cmp name.now (known_entries entries.now) }
+{
+    match place(entries, name) {
+        Ok(i) => Some(&entries[i].held),
+        Err(_) => None,
+    }
+}
+
+/// Writes down the places of the live names from a place on, behind those of the live names before it.
+pub(crate) fn mark(live: &mut Vec<usize>, entries: &[Entry], from: usize)
+    requires from { from ≤ length entries.now }
+    requires before { live.old.items ≡ places 0 (known_entries (take from entries.now)) }
+    requires room { length entries.now ≤ vec_capacity live.old }
+    ensures places { live.new.items ≡ places 0 (known_entries entries.now) }
+    ensures capacity { vec_capacity live.new ≡ vec_capacity live.old }
+{
+    'entries: for at in from..entries.len() {
+        if entries[at].held.is_live() {
+            live.push_reserved(at);
+        }
+    }
+}
+
+/// Inserts an entry at the place where its name goes. Where it finds no memory nothing is changed.
+fn insert_entry(
+    entries: &mut Vec<Entry>,
+    live: &mut Vec<usize>,
+    i: usize,
+    entry: Entry,
+) -> Result<(), AllocError>
+    requires place { i ≤ length entries.old.items }
+    requires marked { live.old.items ≡ places 0 (known_entries entries.old.items) }
+    requires room { length entries.old.items ≤ vec_capacity live.old }
+    ensures ok { OnOk result (entries.new.items ≡ insert entries.old.items i entry) }
+    ensures marked { OnOk result (live.new.items ≡ places 0 (known_entries entries.new.items)) }
+    ensures room { length entries.new.items ≤ vec_capacity live.new }
+    ensures err { OnErr result
+        ((entries.new.items ≡ entries.old.items) × (live.new.items ≡ live.old.items)) }
+{
+    let room = entries.len().saturating_sub(live.len()).saturating_add(1);
+    live.reserve(room)?;
+    let is_last = i == entries.len();
+    entries.insert(i, entry)?;
+    if is_last {
+        mark(live, entries, i);
+        return Ok(());
+    }
+    live.clear();
+    mark(live, entries, 0);
+    Ok(())
+}
+
+/// Puts what is held of a name, in the place of what was. Where it finds no memory nothing is changed.
+pub(crate) fn put_entry(
+    entries: &mut Vec<Entry>,
+    live: &mut Vec<usize>,
+    name: Name,
+    held: Held,
+) -> Result<(), AllocError>
+    requires rising { IsRising entries.old.items }
+    requires marked { live.old.items ≡ places 0 (known_entries entries.old.items) }
+    requires room { length entries.old.items ≤ vec_capacity live.old }
+    ensures ok { OnOk result
+        (known_entries entries.new.items
+        ≡ put name_cmp name (known_of held) (known_entries entries.old.items)) }
+    ensures marked { OnOk result (live.new.items ≡ places 0 (known_entries entries.new.items)) }
+    ensures room { length entries.new.items ≤ vec_capacity live.new }
+    ensures read { (d : Declaration)
+        → AllHeldBy d entries.old.items → IsHeldBy d held → AllHeldBy d entries.new.items }
+    ensures err { OnErr result
+        ((entries.new.items ≡ entries.old.items) × (live.new.items ≡ live.old.items)) }
+{
+    match place(entries, &name) {
+        Ok(i) => {
+            let entry = &mut entries[i];
+            entry.held = held;
+            live.clear();
+            mark(live, entries, 0);
+            Ok(())
+        }
+        Err(i) => {
+            insert_entry(entries, live, i, Entry { name, held })?;
+            Ok(())
+        }
+    }
+}
+
+/// The i-th live name, and its segment.
+pub(crate) fn live_entry<'a>(entries: &'a [Entry], live: &[usize], i: usize) -> (Name, &'a Segment)
+    requires marked { live.now ≡ places 0 (known_entries entries.now) }
+    requires below { i < length live.now }
+    ensures known { slice_get (filter_map live_of (known_entries entries.now)) i
+        ≡ Some (result.0, result.1.now.bytes) }
+    ensures read { (d : Declaration) → AllHeldBy d entries.now → IsReadBy d result.1.now }
+{
+    let at = live[i];
+    let entry = &entries[at];
+    match &entry.held {
+        Held::Live(kept) => (entry.name, kept.segment()),
+        Held::Disputed | Held::Retired => unreachable!(),
+    }
+}
+
+/// Each entry's name, status and number of rows.
+pub(crate) fn listing(alloc: Global, entries: &[Entry]) -> Result<Vec<Listed>, AllocError>
+    ensures { IfOk result (λ all. all.items ≡ map listing_of entries.now) }
+{
+    let mut all = Vec::new(alloc);
+    'entries: for entry in entries {
+        all.push(Listed {
+            name: entry.name,
+            status: entry.held.status(),
+            rows: entry.held.rows(),
+        })?;
+    }
+    Ok(all)
+}
+
+/// The number of rows of all live segments. Fewer than 2^64 entries have fewer than 2^64 rows each.
+pub(crate) fn rows_of_all(entries: &[Entry]) -> u128
+    ensures { result ≡ sum_by (λ entry. row_count_of entry.held) entries.now }
+{
+    let mut total = 0u128;
+    'entries: for entry in entries {
+        total += entry.held.rows() as u128;
+    }
+    total
+}

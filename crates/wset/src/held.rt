@@ -1,0 +1,89 @@
+//! What a set holds of a name.
+ghost use Rattle.std.specs.Prelude.{◌≡◌, IfOk};
+ghost use Rattle.wset.specs.Views.{Live, is_live, join_known};
+ghost use Rattle.wset.specs.Sets.{IsReadBy};
+ghost use Rattle.wset.specs.Words.{status_of_known};
+ghost use Rattle.wsegment.specs.Declaration.{Declaration};
+ghost use Rattle.wset.specs.Holding.{IsHeldBy, known_of, row_count_of};
+
+use crate::kept::Kept;
+use crate::words::Status;
+use std::alloc::AllocError;
+
+/// What is held of a name that is not unknown. The bytes of disputed and retired names are dropped.
+#[derive(Drop)]
+pub(crate) enum Held {
+    Live(Kept),
+    Disputed,
+    Retired,
+}
+
+/// What two sets know together of a name that is live in both.
+fn contents_joined(ours: &Kept, theirs: &Kept) -> Result<Held, AllocError>
+    ensures known { IfOk result
+        (λ held. known_of held ≡ join_known (Live ours.now.bytes) (Live theirs.now.bytes)) }
+    ensures read { IfOk result (λ held. (d : Declaration) → IsReadBy d ours.now → IsHeldBy d held) }
+{
+    if ours.bytes() != theirs.bytes() {
+        return Ok(Held::Disputed);
+    }
+    let shared = ours.share()?;
+    Ok(Held::Live(shared))
+}
+
+impl Held {
+    /// The same, for another set.
+    pub(crate) fn share(&self) -> Result<Held, AllocError>
+        ensures { IfOk result (λ held. held ≡ self.now) }
+    {
+        match self {
+            Held::Live(kept) => {
+                let shared = kept.share()?;
+                Ok(Held::Live(shared))
+            }
+            Held::Disputed => Ok(Held::Disputed),
+            Held::Retired => Ok(Held::Retired),
+        }
+    }
+
+    /// What two sets know together of a name of which they hold these.
+    pub(crate) fn joined(&self, other: &Held) -> Result<Held, AllocError>
+        ensures known { IfOk result
+            (λ held. known_of held ≡ join_known (known_of self.now) (known_of other.now)) }
+        ensures read { IfOk result (λ held. (d : Declaration) → IsHeldBy d self.now → IsHeldBy d held) }
+    {
+        match (self, other) {
+            (Held::Retired, _) | (_, Held::Retired) => Ok(Held::Retired),
+            (Held::Disputed, _) | (_, Held::Disputed) => Ok(Held::Disputed),
+            (Held::Live(ours), Held::Live(theirs)) => contents_joined(ours, theirs),
+        }
+    }
+
+    /// Whether a segment is held.
+    pub(crate) fn is_live(&self) -> bool
+        ensures { result ≡ is_live (known_of self.now) }
+    {
+        matches!(self, Held::Live(_))
+    }
+
+    /// The number of rows of the segment, and none where there is no segment.
+    pub(crate) fn rows(&self) -> usize
+        ensures { result ≡ row_count_of self.now }
+    {
+        match self {
+            Held::Live(kept) => kept.segment().rows(),
+            Held::Disputed | Held::Retired => 0,
+        }
+    }
+
+    /// How a name stands of which this is held.
+    pub(crate) fn status(&self) -> Status
+        ensures { result ≡ status_of_known (known_of self.now) }
+    {
+        match self {
+            Held::Live(_) => Status::Live,
+            Held::Disputed => Status::Disputed,
+            Held::Retired => Status::Retired,
+        }
+    }
+}

@@ -1,0 +1,22 @@
+//! The laws of views. The functions do nothing when run: each is the proof of its contract.
+ghost use Rattle.wset.specs.Laws.{JoinLaws, SameItemsSameView, ViewOfUnion, ViewTellsStatus};
+
+/// Joining views is associative, commutative and idempotent.
+pub fn join_laws()
+    ensures { JoinLaws }
+{}
+
+/// The view of two lists of items together is the join of their views.
+pub fn view_of_union()
+    ensures { ViewOfUnion }
+{}
+
+/// The view of items tells the status of each name among them.
+pub fn view_tells_status()
+    ensures { ViewTellsStatus }
+{}
+
+/// The same items, in whatever order and however often, have one view.
+pub fn same_items_same_view()
+    ensures { SameItemsSameView }
+{}

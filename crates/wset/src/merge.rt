@@ -1,0 +1,101 @@
+//! The entries of two sets, joined name by name.
+ghost use Rattle.std.specs.Prelude.{◌≡◌, ◌<◌, [], length, IfOk, MatchOption};
+ghost use Rattle.wsegment.specs.Declaration.{Declaration};
+ghost use Rattle.wset.specs.Entries.{AllHeldBy, IsRising, known_entries};
+ghost use Rattle.wset.specs.Merging.{Joins, join_lists};
+
+use crate::entries::Entry;
+use std::alloc::{AllocError, Global};
+use std::cmp::Ordering;
+
+/// The first entry of a join, and what is left of both lists.
+#[derive(Drop)]
+struct Step<'a> {
+    entry: Entry,
+    ours: &'a [Entry],
+    theirs: &'a [Entry],
+}
+
+/// The first entry of the join of two lists that are not empty.
+fn first_of_both<'a>(ours: &'a [Entry], theirs: &'a [Entry]) -> Result<Step<'a>, AllocError>
+    requires ours { IsRising ours.now }
+    requires theirs { IsRising theirs.now }
+    requires ours_filled { 0 < length ours.now }
+    requires theirs_filled { 0 < length theirs.now }
+    ensures { IfOk result (λ s. Joins ours.now theirs.now s.entry s.ours.now s.theirs.now) }
+{
+    let Some((first, ours_after)) = ours.split_first() else {
+        unreachable!()
+    };
+    let Some((other, theirs_after)) = theirs.split_first() else {
+        unreachable!()
+    };
+    let (entry, ours, theirs) = match first.name.cmp(&other.name) {
+        Ordering::Less => (first.share()?, ours_after, theirs),
+        Ordering::Equal => (first.joined(other)?, ours_after, theirs_after),
+        Ordering::Greater => (other.share()?, ours, theirs_after),
+    };
+    Ok(Step {
+        entry,
+        ours,
+        theirs,
+    })
+}
+
+/// The first entry of the join of two lists of entries, if one has any.
+fn first_joined<'a>(ours: &'a [Entry], theirs: &'a [Entry]) -> Result<Option<Step<'a>>, AllocError>
+    requires ours { IsRising ours.now }
+    requires theirs { IsRising theirs.now }
+    ensures { let none = join_lists (known_entries ours.now) (known_entries theirs.now) ≡ [] in
+        IfOk result
+        (λ step. MatchOption step none
+        (λ s. Joins ours.now theirs.now s.entry s.ours.now s.theirs.now)) }
+{
+    let Some((first, ours_after)) = ours.split_first() else {
+        let Some((other, theirs_after)) = theirs.split_first() else {
+            return Ok(None);
+        };
+        let entry = other.share()?;
+        return Ok(Some(Step {
+            entry,
+            ours,
+            theirs: theirs_after,
+        }));
+    };
+    if theirs.is_empty() {
+        let entry = first.share()?;
+        return Ok(Some(Step {
+            entry,
+            ours: ours_after,
+            theirs,
+        }));
+    }
+    let step = first_of_both(ours, theirs)?;
+    Ok(Some(step))
+}
+
+/// The entries of the join of two sets. Segments are shared, and none is read again.
+pub(crate) fn merged(
+    alloc: Global,
+    ours: &[Entry],
+    theirs: &[Entry],
+) -> Result<Vec<Entry>, AllocError>
+    requires ours { IsRising ours.now }
+    requires theirs { IsRising theirs.now }
+    ensures known { IfOk result
+        (λ all. known_entries all.items
+        ≡ join_lists (known_entries ours.now) (known_entries theirs.now)) }
+    ensures read { IfOk result
+        (λ all. (d : Declaration)
+        → AllHeldBy d ours.now → AllHeldBy d theirs.now → AllHeldBy d all.items) }
+{
+    let mut all = Vec::new(alloc);
+    let mut ours = ours;
+    let mut theirs = theirs;
+    'merge: while let Some(step) = first_joined(ours, theirs)? {
+        all.push(step.entry)?;
+        ours = step.ours;
+        theirs = step.theirs;
+    }
+    Ok(all)
+}

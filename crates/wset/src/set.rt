@@ -1,0 +1,215 @@
+//! A set of segments and retirements under one declaration.
+ghost use Rattle.std.specs.Prelude.{◌≡◌, ◌≢◌, ◌<◌, length, map as list_map, option_map, slice_get, Some, Err, IsOk, IfOk, IfErr, OnOk, OnErr};
+ghost use Rattle.std.specs.FinMap as map;
+ghost use Rattle.std.specs.Option.{option_copied};
+ghost use Rattle.wsegment.specs.Outcome.{Fails};
+ghost use Rattle.wsegment.specs.Rows.{rows_of};
+ghost use Rattle.wset.specs.Views.{Live, join, lives};
+ghost use Rattle.wset.specs.Items.{SegmentItem, RetirementItem, view_of_item};
+ghost use Rattle.wset.specs.Tables.{table_of};
+ghost use Rattle.wset.specs.Words.{retired_word, status_word, taken_word};
+ghost use Rattle.wset.specs.Listing.{listed};
+ghost use Rattle.wset.specs.Sets.{IsReadBy, LivesAreRead};
+ghost use Rattle.wset.specs.Holding.{IsHeldBy, known_of};
+
+use crate::entries::{Entry, held_of, listing, live_entry, mark, put_entry, rows_of_all};
+use crate::held::Held;
+use crate::kept::Kept;
+use crate::merge::merged;
+use crate::words::{JoinError, Listed, Retired, Status, TakeError, Taken};
+use std::alloc::{AllocError, Global};
+use std::marker::Model;
+use wsegment::{Schema, Segment, SegmentFault};
+use wvalues::Name;
+
+/// What is known of each name, and the declaration by which all its segments were read.
+///
+/// In a contract it is the declaration and the view. It keeps an entry for each name that is not
+/// unknown, in the order of names, beside the places of the live ones. A segment's bytes and cells are
+/// shared by all sets that know it, so a set that is new and then joins another is a cheap copy of it.
+#[derive(Drop)]
+pub struct SegmentSet {
+    alloc: Global,
+    schema: Schema,
+    entries: Vec<Entry>,
+    live: Vec<usize>,
+}
+
+impl Model for SegmentSet {
+    ghost use Rattle.wset.specs.Sets.{DeclaredView};
+    ghost use Rattle.wset.specs.Codes.{coded_declared_view};
+
+    ghost Value = { DeclaredView };
+
+    ghost coded = { coded_declared_view };
+
+    ghost use Rattle.wset.specs.Storing.{declared_view, IsOrderly};
+
+    ghost view = { declared_view };
+
+    ghost invariant = { IsOrderly };
+}
+
+impl SegmentSet {
+    /// A set that knows nothing, for segments of this declaration. It takes no memory.
+    pub fn new(alloc: Global, schema: Schema) -> SegmentSet
+        ensures { result ≡ record { schema = schema; view = map.empty } }
+    {
+        SegmentSet {
+            alloc,
+            schema,
+            entries: Vec::new(alloc),
+            live: Vec::new(alloc),
+        }
+    }
+
+    /// The declaration that `new` was handed, by which each live segment was read.
+    pub fn schema(&self) -> &Schema
+        ensures schema { result.now ≡ self.now.schema }
+        ensures read { LivesAreRead self.now }
+    {
+        &self.schema
+    }
+
+    /// What is held of a name, if it is not unknown.
+    fn held(&self, name: &Name) -> Option<&Held>
+        ensures { option_map known_of (option_copied result) ≡ map.get self.now.view name.now }
+    {
+        held_of(&self.entries, name)
+    }
+
+    /// Puts what is held of a name, in the place of what was.
+    fn put(&mut self, name: Name, held: Held) -> Result<(), AllocError>
+        requires { IsHeldBy self.old.schema held }
+        ensures ok { OnOk result
+            (self.new ≡ record self.old { view = map.insert self.old.view name (known_of held) }) }
+        ensures err { OnErr result (self.new ≡ self.old) }
+    {
+        put_entry(&mut self.entries, &mut self.live, name, held)?;
+        Ok(())
+    }
+
+    /// Makes a name live with the first segment that is known of it.
+    fn put_live(&mut self, name: Name, segment: Segment) -> Result<(), AllocError>
+        requires { IsReadBy self.old.schema segment }
+        ensures ok { OnOk result
+            (self.new ≡ record self.old { view = map.insert self.old.view name (Live segment.bytes) }) }
+        ensures err { OnErr result (self.new ≡ self.old) }
+    {
+        let kept = Kept::new(self.alloc, segment)?;
+        self.put(name, Held::Live(kept))?;
+        Ok(())
+    }
+
+    /// Takes a segment: these bytes under this name. The bytes are read first, whatever is known of the
+    /// name; where they are refused, or memory runs out, the set is as it was.
+    pub fn take(&mut self, name: Name, bytes: &[u8]) -> Result<Taken, TakeError>
+        ensures word { IfOk result (λ word. word ≡ taken_word (map.get self.old.view name) bytes.now) }
+        ensures ok { let item = view_of_item (SegmentItem name bytes.now) in
+            OnOk result (self.new ≡ record self.old { view = join self.old.view item }) }
+        ensures read { OnOk result (IsOk (rows_of self.old.schema bytes.now)) }
+        ensures refused { IfErr result (λ fault. Fails fault (rows_of self.old.schema bytes.now)) }
+        ensures err { OnErr result (self.new ≡ self.old) }
+    {
+        let segment = Segment::read(self.alloc, &self.schema, bytes)?;
+        match self.held(&name) {
+            None => {
+                self.put_live(name, segment)?;
+                Ok(Taken::New)
+            }
+            Some(Held::Live(known)) if known.bytes() == bytes => Ok(Taken::Same),
+            Some(Held::Live(_)) => {
+                self.put(name, Held::Disputed)?;
+                Ok(Taken::Disputed)
+            }
+            Some(Held::Disputed) => Ok(Taken::Ignored),
+            Some(Held::Retired) => Ok(Taken::Ignored),
+        }
+    }
+
+    /// Retires a name. Where memory runs out the set is as it was.
+    pub fn retire(&mut self, name: Name) -> Result<Retired, AllocError>
+        ensures word { IfOk result (λ word. word ≡ retired_word (map.get self.old.view name)) }
+        ensures ok { let item = view_of_item (RetirementItem name) in
+            OnOk result (self.new ≡ record self.old { view = join self.old.view item }) }
+        ensures err { OnErr result (self.new ≡ self.old) }
+    {
+        if let Some(Held::Retired) = self.held(&name) {
+            return Ok(Retired::Same);
+        }
+        self.put(name, Held::Retired)?;
+        Ok(Retired::New)
+    }
+
+    /// Learns all that the other set knows. Sets of different declarations are not joined; there, and
+    /// where memory runs out, the set is as it was.
+    ///
+    /// It walks the names of both sets once, whatever the segments' sizes: it makes a new list of
+    /// entries, some 64 bytes a name that either knows, and one of places, 8 bytes a name, and lets
+    /// the old ones go. Segments are shared: none is read, and no byte or cell is copied.
+    pub fn join(&mut self, other: &SegmentSet) -> Result<(), JoinError>
+        ensures ok { OnOk result (self.new ≡ record self.old { view = join self.old.view other.now.view }) }
+        ensures same { OnOk result (self.old.schema ≡ other.now.schema) }
+        ensures refused { result ≡ Err JoinError.OtherSchema → self.old.schema ≢ other.now.schema }
+        ensures other { self.old.schema ≢ other.now.schema → result ≡ Err JoinError.OtherSchema }
+        ensures err { OnErr result (self.new ≡ self.old) }
+    {
+        if !self.schema.is_same(&other.schema) {
+            return Err(JoinError::OtherSchema);
+        }
+        let Ok(entries) = merged(self.alloc, &self.entries, &other.entries) else {
+            return Err(JoinError::NoMemory);
+        };
+        let Ok(mut live) = Vec::with_capacity(self.alloc, entries.len()) else {
+            return Err(JoinError::NoMemory);
+        };
+        mark(&mut live, &entries, 0);
+        self.entries = entries;
+        self.live = live;
+        Ok(())
+    }
+
+    /// How a name stands.
+    pub fn status(&self, name: Name) -> Status
+        ensures { result ≡ status_word (map.get self.now.view name) }
+    {
+        match self.held(&name) {
+            None => Status::Unknown,
+            Some(held) => held.status(),
+        }
+    }
+
+    /// Each name that is not unknown, in the order of names.
+    pub fn list(&self) -> Result<Vec<Listed>, AllocError>
+        ensures { IfOk result
+            (λ all. all.items ≡ list_map (listed self.now.schema) (map.entries self.now.view)) }
+    {
+        let all = listing(self.alloc, &self.entries)?;
+        Ok(all)
+    }
+
+    /// How many names are live.
+    pub fn live_count(&self) -> usize
+        ensures { result ≡ length (lives self.now.view) }
+    {
+        self.live.as_slice().len()
+    }
+
+    /// The i-th live name from 0, in the order of names, and its segment, which was read by the set's
+    /// declaration. It takes constant time.
+    pub fn live_at(&self, i: usize) -> (Name, &Segment)
+        requires { i < length (lives self.now.view) }
+        ensures known { slice_get (lives self.now.view) i ≡ Some (result.0, result.1.now.bytes) }
+        ensures read { IsReadBy self.now.schema result.1.now }
+    {
+        live_entry(&self.entries, &self.live, i)
+    }
+
+    /// The number of rows of the table: those of all live segments. It fits whatever the set holds,
+    /// since there are fewer than 2^64 names, and fewer than 2^64 rows in each segment.
+    pub fn row_count(&self) -> u128
+        ensures { result ≡ length (table_of self.now.schema self.now.view) }
+    {
+        rows_of_all(&self.entries)
+    }
+}

@@ -1,0 +1,9 @@
+pub mod Totals
+pub mod Counting
+pub mod ExactSums
+pub mod LeastRows
+pub mod Stacks
+pub mod Levels
+pub mod Heights
+pub mod Climbs
+pub mod Spans

@@ -1,0 +1,13 @@
+pub mod Laws
+pub mod Frames
+pub mod Height
+pub mod Aggregates
+pub mod Counts
+pub mod Sums
+pub mod Leasts
+pub mod Lawful
+pub mod Rows
+pub mod Stacks
+pub mod Queue
+pub mod Tree
+pub mod AffineMaps

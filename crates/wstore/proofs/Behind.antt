@@ -1,0 +1,85 @@
+-- From lines and bodies to commands.
+use Rattle.std.proofs.Common.{◌≡◌, ◌≢◌, ℕ, ◌<◌, ◌≤◌, Bool, true, false, List, [], ◌∷◌, ◌++◌, length, Option, None, Some, IfSome, Result, Ok, Err, refl, sym, ap, ◌∙◌, subst, append_assoc}
+use Rattle.std.specs.Io.KnownBytes.{Consumes}
+use Rattle.wvalues.specs.Names.{NameParts}
+use Rattle.wvalues.specs.NameReading.{ReadsName}
+use Rattle.wvalues.specs.declared.name.NameFault.{NameFault}
+use Rattle.wlines.specs.Reads.{HasNoBody}
+use Rattle.wstore.specs.Commands.{Form, DeclareForm, TakeForm, RetireForm, ListForm, AskForm, Command, Declare, Take, Retire, Listing, Ask, IsAllowed, form_of, behind}
+use Rattle.wstore.specs.Headers.{IsHeaderOf}
+use Rattle.wstore.specs.Requests.{IsBadBehind, Behind}
+use Rattle.wstore.specs.declared.header.Header.TheVariants as headers
+
+-- ---- a body that is not there
+
+some_weaker : (a : Option (List ℕ)) (P Q : List ℕ → Type 0) → IfSome a P → ((xs : List ℕ) → P xs → Q xs) → IfSome a Q
+some_weaker None P Q p f = tt
+some_weaker (Some xs) P Q p f = f xs p
+
+declare_bad : (len : ℕ) (d : Bool) (xs : List ℕ) → HasNoBody len xs → IsBadBehind (headers.Declare len) d xs
+declare_bad len d xs none (Declare s) rest h a e = none s rest h (e ∙ append_assoc s (10 ∷ []) rest)
+declare_bad len d xs none (Take n o m b) rest h a e = h
+declare_bad len d xs none (Retire n o m) rest h a e = h
+declare_bad len d xs none (Listing n) rest h a e = h
+declare_bad len d xs none (Ask n t) rest h a e = h
+
+take_bad : (node : ℕ) (name : Result NameParts NameFault) (len : ℕ) (d : Bool) (xs : List ℕ) → HasNoBody len xs → IsBadBehind (headers.Take node name len) d xs
+take_bad node name len d xs none (Declare s) rest h a e = h
+take_bad node name len d xs none (Take n o m b) rest h a e = none b rest h.2 (e ∙ append_assoc b (10 ∷ []) rest)
+take_bad node name len d xs none (Retire n o m) rest h a e = h
+take_bad node name len d xs none (Listing n) rest h a e = h
+take_bad node name len d xs none (Ask n t) rest h a e = h
+
+ask_bad : (node len : ℕ) (d : Bool) (xs : List ℕ) → HasNoBody len xs → IsBadBehind (headers.Ask node len) d xs
+ask_bad node len d xs none (Declare s) rest h a e = h
+ask_bad node len d xs none (Take n o m b) rest h a e = h
+ask_bad node len d xs none (Retire n o m) rest h a e = h
+ask_bad node len d xs none (Listing n) rest h a e = h
+ask_bad node len d xs none (Ask n t) rest h a e = none t rest h.1 (e ∙ append_assoc t (10 ∷ []) rest)
+
+pub no_declaration : (len : ℕ) (d : Bool) (old : Option (List ℕ)) → IfSome old (λ xs. HasNoBody len xs) → IfSome old (λ xs. IsBadBehind (headers.Declare len) d xs)
+no_declaration len d old h = some_weaker old (λ xs. HasNoBody len xs) (λ xs. IsBadBehind (headers.Declare len) d xs) h (λ xs. declare_bad len d xs)
+
+pub no_segment : (node : ℕ) (name : Result NameParts NameFault) (len : ℕ) (d : Bool) (old : Option (List ℕ)) → IfSome old (λ xs. HasNoBody len xs) → IfSome old (λ xs. IsBadBehind (headers.Take node name len) d xs)
+no_segment node name len d old h = some_weaker old (λ xs. HasNoBody len xs) (λ xs. IsBadBehind (headers.Take node name len) d xs) h (λ xs. take_bad node name len d xs)
+
+pub no_query : (node len : ℕ) (d : Bool) (old : Option (List ℕ)) → IfSome old (λ xs. HasNoBody len xs) → IfSome old (λ xs. IsBadBehind (headers.Ask node len) d xs)
+no_query node len d old h = some_weaker old (λ xs. HasNoBody len xs) (λ xs. IsBadBehind (headers.Ask node len) d xs) h (λ xs. ask_bad node len d xs)
+
+-- ---- a body that is there
+
+module _ (P : Command → Type 0) (old new : Option (List ℕ)) where
+  pub declared_behind : (len : ℕ) (bytes : List ℕ) → P (Declare bytes) → Consumes old new (bytes ++ 10 ∷ []) → length bytes ≡ len → Behind (headers.Declare len) false P old new
+  declared_behind len bytes p k size (DeclareForm m) e = (Declare bytes, ap DeclareForm (size ∙ sym e), p, refl, k)
+  declared_behind len bytes p k size (TakeForm n o j m) e = absurd e
+  declared_behind len bytes p k size (RetireForm n o j) e = absurd e
+  declared_behind len bytes p k size (ListForm n) e = absurd e
+  declared_behind len bytes p k size (AskForm n m) e = absurd e
+
+  pub segment_behind : (node : ℕ) (name : Result NameParts NameFault) (len : ℕ) (bytes : List ℕ) → ((origin number : List ℕ) → ReadsName origin number name → P (Take node origin number bytes)) → Consumes old new (bytes ++ 10 ∷ []) → length bytes ≡ len → Behind (headers.Take node name len) true P old new
+  segment_behind node name len bytes p k size (DeclareForm m) e = absurd e
+  segment_behind node name len bytes p k size (TakeForm n o j m) e = (Take node o j bytes, cc (e.0, e.2, size), p o j e.1, refl, k)
+  segment_behind node name len bytes p k size (RetireForm n o j) e = absurd e
+  segment_behind node name len bytes p k size (ListForm n) e = absurd e
+  segment_behind node name len bytes p k size (AskForm n m) e = absurd e
+
+  pub query_behind : (node len : ℕ) (text : List ℕ) → P (Ask node text) → Consumes old new (text ++ 10 ∷ []) → length text ≡ len → Behind (headers.Ask node len) true P old new
+  query_behind node len text p k size (DeclareForm m) e = absurd e
+  query_behind node len text p k size (TakeForm n o j m) e = absurd e
+  query_behind node len text p k size (RetireForm n o j) e = absurd e
+  query_behind node len text p k size (ListForm n) e = absurd e
+  query_behind node len text p k size (AskForm n m) e = (Ask node text, cc (e.0, e.1, size), p, refl, k)
+
+  pub retired_behind : (node : ℕ) (name : Result NameParts NameFault) → ((origin number : List ℕ) → ReadsName origin number name → P (Retire node origin number)) → Consumes old new [] → Behind (headers.Retire node name) true P old new
+  retired_behind node name p k (DeclareForm m) e = absurd e
+  retired_behind node name p k (TakeForm n o j m) e = absurd e
+  retired_behind node name p k (RetireForm n o j) e = (Retire node o j, ap (λ n. RetireForm n o j) (sym e.0), p o j e.1, refl, k)
+  retired_behind node name p k (ListForm n) e = absurd e
+  retired_behind node name p k (AskForm n m) e = absurd e
+
+  pub listed_behind : (node : ℕ) → P (Listing node) → Consumes old new [] → Behind (headers.List node) true P old new
+  listed_behind node p k (DeclareForm m) e = absurd e
+  listed_behind node p k (TakeForm n o j m) e = absurd e
+  listed_behind node p k (RetireForm n o j) e = absurd e
+  listed_behind node p k (ListForm n) e = (Listing node, ap ListForm (sym e), p, refl, k)
+  listed_behind node p k (AskForm n m) e = absurd e

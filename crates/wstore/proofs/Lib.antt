@@ -1,0 +1,9 @@
+pub mod Words
+pub mod Behind
+pub mod Spelling
+pub mod Standing
+pub mod Answering
+pub mod Telling
+pub mod Writing
+pub mod Stepping
+pub mod WholeRuns

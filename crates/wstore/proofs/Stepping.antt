@@ -1,0 +1,63 @@
+-- Steps of a run that failed.
+use Rattle.std.proofs.Common.{◌≡◌, ℕ, Bool, true, false, List, [], ◌∷◌, ◌++◌, take, Option, None, Some, IfSome, is_some, refl, sym, ap, ◌∙◌, subst}
+use Rattle.std.specs.Io.KnownBytes.{Appends, Consumes}
+use Rattle.std.proofs.KnownBytes.{Appends-nil}
+use Rattle.wstore.specs.Commands.{Command, Declare, Take, Retire, Listing, Ask, IsAllowed, IsCommand, IsDeclaration, IsMalformed, spell}
+use Rattle.wstore.specs.History.{Step, is_declared}
+use Rattle.wstore.specs.Replies.{text_of, bad_script}
+use Rattle.wstore.specs.Requests.{IsCommandOf, IsOrderAt}
+use Rattle.wstore.specs.Runs.{Stops, Begins, nothing, answer, last}
+use Rattle.wstore.specs.Sessions.{ClusterStands, Stands, MayStand}
+use Rattle.wstore.specs.Steps.{AnsweredPart, Unanswered, StepFails}
+use Rattle.wstore.specs.declared.cluster.Cluster.{Cluster}
+use Rattle.wstore.specs.declared.request.Command as code
+use Rattle.wstore.specs.declared.request.Command.TheVariants as commands
+use Rattle.wstore.specs.declared.request.Order.{Order}
+use Rattle.wstore.specs.declared.request.Order.TheVariants as orders
+use Rattle.wstore.specs.declared.runs.RunFault.{RunFault}
+use Rattle.wstore.specs.declared.runs.RunFault.TheVariants as faults
+use Rattle.wstore.specs.declared.session.Session.{Session}
+use Rattle.wstore.proofs.Spelling.{front_of}
+
+-- a command that a node is told or asked stands where the table is declared
+order_allowed : (n : ℕ) (order : Order) (c : Command) (declared : Bool) → IsOrderAt n order c → IsAllowed declared c → declared ≡ true
+order_allowed n (orders.Take name bytes) (Declare s) d is allowed = absurd is
+order_allowed n (orders.Retire name) (Declare s) d is allowed = absurd is
+order_allowed n orders.List (Declare s) d is allowed = absurd is
+order_allowed n (orders.Ask text) (Declare s) d is allowed = absurd is
+order_allowed n order (Take m o k b) d is allowed = allowed
+order_allowed n order (Retire m o k) d is allowed = allowed
+order_allowed n order (Listing m) d is allowed = allowed
+order_allowed n order (Ask m t) d is allowed = allowed
+
+pub may_stand : (session : Session) (command : code.Command) (c : Command) → IsCommandOf command c → IsAllowed (is_some session.cluster) c → MayStand session command
+may_stand session (commands.Declare bytes) c is allowed = tt
+may_stand session (commands.Refused refusal) c is allowed = tt
+may_stand session (commands.At node order) c is allowed = order_allowed node order c (is_some session.cluster) is allowed
+
+-- nothing was written
+pub fails_at_once : (h : List Step) (left held : Option (List ℕ)) → StepFails faults.Read h left held held
+fails_at_once h None held = tt
+fails_at_once h (Some xs) held = ([], refl, Appends-nil held)
+
+-- a front of the last line was written
+pub fails_at_last : (fault : RunFault) (h : List Step) (left held new_held : Option (List ℕ)) (n : ℕ) → fault ≡ faults.Write → IfSome left (λ xs. IsMalformed (is_declared h) xs) → Appends held new_held (take n bad_script) → StepFails fault h left held new_held
+fails_at_last fault h left held new_held n e bad k = subst (λ f. StepFails f h left held new_held) (sym e) (by left bad)
+  where
+    by : (left : Option (List ℕ)) → IfSome left (λ xs. IsMalformed (is_declared h) xs) → StepFails faults.Write h left held new_held
+    by None bad = tt
+    by (Some xs) bad = (take n bad_script, last n bad, k)
+
+-- a command was read, and not answered in full
+pub fails_at_answer : (fault : RunFault) (h : List Step) (left new_left held new_held : Option (List ℕ)) (c : Command) → IsCommand (is_declared h) c → Consumes left new_left (spell c) → Unanswered fault h c held new_held → StepFails fault h left held new_held
+fails_at_answer faults.Read h left new_left held new_held c is k part = absurd part
+fails_at_answer faults.Write h left new_left held new_held c is k part =
+    front_of left new_left (spell c) (λ xs. (p : List ℕ) × Begins h xs p × Appends held new_held p) k
+    (λ rest. (take part.n (text_of part.reply), answer c rest part.reply part.n is refl part.answers, part.appends))
+fails_at_answer faults.NoMemory h left new_left held new_held (Declare bytes) is k part =
+    front_of left new_left (spell (Declare bytes)) (λ xs. (p : List ℕ) × Stops faults.NoMemory h xs p × Appends held new_held p) k
+    (λ rest. ([], (refl, record { bytes = bytes; more = rest; command = is; rest_is = refl }), part.1))
+fails_at_answer faults.NoMemory h left new_left held new_held (Take n o m b) is k part = absurd part.0
+fails_at_answer faults.NoMemory h left new_left held new_held (Retire n o m) is k part = absurd part.0
+fails_at_answer faults.NoMemory h left new_left held new_held (Listing n) is k part = absurd part.0
+fails_at_answer faults.NoMemory h left new_left held new_held (Ask n t) is k part = absurd part.0

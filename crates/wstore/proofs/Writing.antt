@@ -1,0 +1,37 @@
+-- Replies that were written, in full or in part.
+use Rattle.std.proofs.Common.{◌≡◌, ℕ, Bool, List, [], ◌∷◌, take, Option, None, Some, refl, sym, ap, ◌∙◌, subst, codes}
+use Rattle.std.specs.Io.KnownBytes.{Appends}
+use Rattle.std.proofs.KnownBytes.{Appends-nil}
+use Rattle.wstore.specs.Commands.{Command, Declare, Take, Retire, Listing, Ask, IsDeclaration}
+use Rattle.wstore.specs.History.{Step}
+use Rattle.wstore.specs.Replies.{text_of}
+use Rattle.wstore.specs.Requests.{IsOrderAt}
+use Rattle.wstore.specs.Sessions.{Tells}
+use Rattle.wstore.specs.Steps.{Answered, AnsweredPart, Unanswered}
+use Rattle.wstore.specs.declared.request.Order.{Order}
+use Rattle.wstore.specs.declared.request.Order.TheVariants as orders
+use Rattle.wstore.specs.declared.runs.RunFault.{RunFault}
+use Rattle.wstore.specs.declared.runs.RunFault.TheVariants as faults
+use Rattle.wstore.specs.declared.session.Session.{Session}
+
+module _ (session : Session) (h : List Step) (c : Command) (text : List ℕ) (held new_held : Option (List ℕ)) (tells : Tells session h c text) where
+  pub answered : Appends held new_held text → Answered session h c held new_held
+  answered k = record { reply = tells.reply; answers = tells.answers; appends = subst (Appends held new_held) tells.text_is k; stands = tells.stands }
+
+  pub answered_part : (n : ℕ) → Appends held new_held (take n text) → AnsweredPart h c held new_held
+  answered_part n k = record { reply = tells.reply; n = n; answers = tells.answers; appends = subst (λ t. Appends held new_held (take n t)) tells.text_is k }
+
+-- a write fault leaves a front
+pub unanswered : (fault : RunFault) (h : List Step) (c : Command) (held new_held : Option (List ℕ)) → fault ≡ faults.Write → AnsweredPart h c held new_held → Unanswered fault h c held new_held
+unanswered fault h c held new_held e part = subst (λ f. Unanswered f h c held new_held) (sym e) part
+
+-- what speaks to a node declares nothing
+pub no_declaration : (n : ℕ) (order : Order) (c : Command) → IsOrderAt n order c → ¬ (IsDeclaration c)
+no_declaration n (orders.Take name bytes) (Declare s) is = λ _. is
+no_declaration n (orders.Retire name) (Declare s) is = λ _. is
+no_declaration n orders.List (Declare s) is = λ _. is
+no_declaration n (orders.Ask text) (Declare s) is = λ _. is
+no_declaration n order (Take m o k b) is = λ x. x
+no_declaration n order (Retire m o k) is = λ x. x
+no_declaration n order (Listing m) is = λ x. x
+no_declaration n order (Ask m t) is = λ x. x

@@ -1,0 +1,9 @@
+use Rattle.std.proofs.Common.{Some, subst}
+use Rattle.wstore.specs.Sessions.{ClusterStands}
+use Rattle.wstore.proofs.session.Session.order.Goals as goal
+
+pub returns-clause-tells : goal.returns-clause-tells
+returns-clause-tells c = λ h command order stands.
+    let s : ClusterStands (Some c.in-Some.cluster) h = subst (λ o. ClusterStands o h) c.in-Some.is stands in
+    let a = c.in_ok-text.ensures.answers s.0 h command order s.1 in
+    record { reply = a.reply; answers = a.answers; text_is = a.text_is; stands = (s.0, a.stand) }

@@ -1,0 +1,105 @@
+-- The commands of a script, and how each is spelled.
+use Rattle.std.specs.Prelude.{◌≡◌, ◌≢◌, ℕ, ◌^◌, ◌<◌, ◌≤◌, Bool, true, false, List, [], ◌∷◌, ◌++◌, length}
+use Rattle.std.specs.Fmt.{decimal}
+use Rattle.wlines.specs.Words.{IsWord}
+
+-- how many nodes a script has
+abbrev pub node_count : ℕ
+node_count = 1
+
+pub data Command : Type 0 where
+  -- the bytes of a table's declaration
+  Declare : List ℕ → Command
+  -- node, origin, number and bytes of a segment
+  Take : ℕ → List ℕ → List ℕ → List ℕ → Command
+  -- node, origin and number
+  Retire : ℕ → List ℕ → List ℕ → Command
+  -- node
+  Listing : ℕ → Command
+  -- node and text of a query
+  Ask : ℕ → List ℕ → Command
+
+-- what a header line says: the words of a name as they stand, and the length of a body
+pub data Form : Type 0 where
+  DeclareForm : ℕ → Form
+  TakeForm : ℕ → List ℕ → List ℕ → ℕ → Form
+  RetireForm : ℕ → List ℕ → List ℕ → Form
+  ListForm : ℕ → Form
+  AskForm : ℕ → ℕ → Form
+
+-- the words behind the first, parted by one space each
+abbrev pub retire_words : ℕ → List ℕ → List ℕ → List ℕ
+retire_words node origin number = decimal node ++ (32 ∷ (origin ++ (32 ∷ number)))
+
+abbrev pub take_words : ℕ → List ℕ → List ℕ → ℕ → List ℕ
+take_words node origin number len = decimal node ++ (32 ∷ (origin ++ (32 ∷ (number ++ (32 ∷ decimal len)))))
+
+abbrev pub ask_words : ℕ → ℕ → List ℕ
+ask_words node len = decimal node ++ (32 ∷ decimal len)
+
+-- the header line, without its line feed
+abbrev pub line_of : Form → List ℕ
+line_of (DeclareForm len) = 84 ∷ 32 ∷ decimal len
+line_of (TakeForm node origin number len) = 83 ∷ 32 ∷ take_words node origin number len
+line_of (RetireForm node origin number) = 82 ∷ 32 ∷ retire_words node origin number
+line_of (ListForm node) = 76 ∷ 32 ∷ decimal node
+line_of (AskForm node len) = 81 ∷ 32 ∷ ask_words node len
+
+pub record IsNode (node : ℕ) : Type 0 where
+  pub low : 0 < node
+  pub high : node ≤ node_count
+
+-- the length of a body has 32 bits
+pub record IsLength (len : ℕ) : Type 0 where
+  pub fits : len < 2 ^ 32
+
+abbrev pub IsForm : Form → Type 0
+IsForm (DeclareForm len) = IsLength len
+IsForm (TakeForm node origin number len) = IsNode node × IsWord origin × IsWord number × IsLength len
+IsForm (RetireForm node origin number) = IsNode node × IsWord origin × IsWord number
+IsForm (ListForm node) = IsNode node
+IsForm (AskForm node len) = IsNode node × IsLength len
+
+abbrev pub form_of : Command → Form
+form_of (Declare bytes) = DeclareForm (length bytes)
+form_of (Take node origin number bytes) = TakeForm node origin number (length bytes)
+form_of (Retire node origin number) = RetireForm node origin number
+form_of (Listing node) = ListForm node
+form_of (Ask node text) = AskForm node (length text)
+
+-- what stands behind the header line
+abbrev pub behind : Command → List ℕ
+behind (Declare bytes) = bytes ++ 10 ∷ []
+behind (Take node origin number bytes) = bytes ++ 10 ∷ []
+behind (Retire node origin number) = []
+behind (Listing node) = []
+behind (Ask node text) = text ++ 10 ∷ []
+
+abbrev pub spell : Command → List ℕ
+spell c = line_of (form_of c) ++ (10 ∷ behind c)
+
+-- the declaration stands first, and once
+abbrev pub IsAllowed : Bool → Command → Type 0
+IsAllowed declared (Declare bytes) = declared ≡ false
+IsAllowed declared (Take node origin number bytes) = declared ≡ true
+IsAllowed declared (Retire node origin number) = declared ≡ true
+IsAllowed declared (Listing node) = declared ≡ true
+IsAllowed declared (Ask node text) = declared ≡ true
+
+-- a command that may stand next, its header line at most 200 bytes long
+pub record IsCommand (declared : Bool) (c : Command) : Type 0 where
+  pub form : IsForm (form_of c)
+  pub short : length (line_of (form_of c)) ≤ 200
+  pub allowed : IsAllowed declared c
+
+-- the bytes are not at their end, and do not begin with a command
+pub record IsMalformed (declared : Bool) (bytes : List ℕ) : Type 0 where
+  pub more : bytes ≢ []
+  pub none : (c : Command) (rest : List ℕ) → IsCommand declared c → bytes ≢ spell c ++ rest
+
+abbrev pub IsDeclaration : Command → Type 0
+IsDeclaration (Declare bytes) = Unit {0}
+IsDeclaration (Take node origin number bytes) = ⊥
+IsDeclaration (Retire node origin number) = ⊥
+IsDeclaration (Listing node) = ⊥
+IsDeclaration (Ask node text) = ⊥

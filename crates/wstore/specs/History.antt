@@ -1,0 +1,100 @@
+-- What nodes are told by a history of commands and replies, item by item, and the replies that it allows. A history has its newest step first.
+use Rattle.std.specs.Prelude.{◌≡◌, ◌≢◌, ℕ, Bool, false, true, List, [], ◌∷◌, ◌++◌, map, ◌==◌, ◌⊎◌, if◌then◌else◌, Option, None, Some, is_some, Result, Ok, Err}
+use Rattle.std.specs.FinMap.{get, entries}
+use Rattle.wvalues.specs.Names.{NameParts}
+use Rattle.wvalues.specs.NameReading.{ReadsName}
+use Rattle.wvalues.specs.Meaning.{Meaning}
+use Rattle.wvalues.specs.declared.name.NameFault.{NameFault}
+use Rattle.wsegment.specs.Declaration.{Declaration}
+use Rattle.wsegment.specs.Spelling.{ReadsDeclaration}
+use Rattle.wsegment.specs.Rows.{rows_of}
+use Rattle.wsegment.specs.declared.fault.SegmentFault.{SegmentFault}
+use Rattle.wsegment.specs.declared.schema_fault.SchemaFault.TheVariants as tables
+use Rattle.wset.specs.Views.{View}
+use Rattle.wset.specs.Items.{Item, SegmentItem, RetirementItem, view_of}
+use Rattle.wset.specs.Words.{taken_word, retired_word}
+use Rattle.wset.specs.Listing.{listed}
+use Rattle.wstore.specs.Commands.{Command, Declare, Take, Retire, Listing, Ask, IsDeclaration}
+use Rattle.wstore.specs.Replies.{Reply, Declared, RefusedTable, Took, Was, RefusedName, RefusedSegment, Names, Answered, RefusedQuery, NoMemory}
+use Rattle.wstore.specs.Queries.{answer_of}
+use Rattle.wstore.specs.declared.fault.AskFault.{AskFault}
+
+pub record Step : Type 0 where
+  pub command : Command
+  pub reply : Reply
+
+-- ---- what is known
+
+-- the items that a step delivers to a node
+abbrev pub delivers : Command → Reply → ℕ → List Item
+delivers (Take m origin number bytes) (Took name word) n = if m == n then SegmentItem name bytes ∷ [] else []
+delivers (Retire m origin number) (Was name word) n = if m == n then RetirementItem name ∷ [] else []
+delivers c r n = []
+
+-- the items that a node knows
+abbrev pub known : List Step → ℕ → List Item
+known [] n = []
+known (s ∷ h) n = known h n ++ delivers s.command s.reply n
+
+-- the table that a reply declares, else the one before
+abbrev pub declared_by : Reply → Option Declaration → Option Declaration
+declared_by (Declared d) before = Some d
+declared_by r before = before
+
+abbrev pub declaration : List Step → Option Declaration
+declaration [] = None
+declaration (s ∷ h) = declared_by s.reply (declaration h)
+
+abbrev pub is_declared : List Step → Bool
+is_declared h = is_some (declaration h)
+
+-- ---- what is answered
+
+-- the declaration that the bytes spell, or why they spell none
+abbrev pub DeclareAnswers : List ℕ → Reply → Type 0
+DeclareAnswers bytes (Declared d) = ReadsDeclaration bytes (Ok d)
+DeclareAnswers bytes (RefusedTable fault) = (fault ≢ tables.NoMemory) × ReadsDeclaration bytes (Err fault)
+DeclareAnswers bytes r = ⊥
+
+-- a segment that was read is taken, else its fault is told
+abbrev pub segment_reply : Result (List (List Meaning)) SegmentFault → View → NameParts → List ℕ → Reply
+segment_reply (Ok rows) v name bytes = Took name (taken_word (get v name) bytes)
+segment_reply (Err fault) v name bytes = RefusedSegment fault
+
+-- a bad name is told first
+abbrev pub take_reply : Result NameParts NameFault → Declaration → View → List ℕ → Reply
+take_reply (Ok name) d v bytes = segment_reply (rows_of d bytes) v name bytes
+take_reply (Err fault) d v bytes = RefusedName fault
+
+abbrev pub retire_reply : Result NameParts NameFault → View → Reply
+retire_reply (Ok name) v = Was name (retired_word (get v name))
+retire_reply (Err fault) v = RefusedName fault
+
+abbrev pub query_reply : Result (List ℕ) AskFault → Reply
+query_reply (Ok bytes) = Answered bytes
+query_reply (Err fault) = RefusedQuery fault
+
+-- the reply to a command at a node of this view, under this declaration
+abbrev pub NodeAnswers : Declaration → View → Command → Reply → Type 0
+NodeAnswers d v (Declare bytes) r = ⊥
+NodeAnswers d v (Take n origin number bytes) r = (name : Result NameParts NameFault) × ReadsName origin number name × (r ≡ take_reply name d v bytes)
+NodeAnswers d v (Retire n origin number) r = (name : Result NameParts NameFault) × ReadsName origin number name × (r ≡ retire_reply name v)
+NodeAnswers d v (Listing n) r = r ≡ Names (map (listed d) (entries v))
+NodeAnswers d v (Ask n text) r = r ≡ query_reply (answer_of d v text)
+
+-- the node that a command speaks to
+abbrev pub node_of : Command → ℕ
+node_of (Declare bytes) = 0
+node_of (Take n origin number bytes) = n
+node_of (Retire n origin number) = n
+node_of (Listing n) = n
+node_of (Ask n text) = n
+
+abbrev pub AnswersUnder : Option Declaration → List Step → Command → Reply → Type 0
+AnswersUnder None h (Declare bytes) r = DeclareAnswers bytes r
+AnswersUnder None h c r = ⊥
+AnswersUnder (Some d) h c r = NodeAnswers d (view_of (known h (node_of c))) c r
+
+-- the reply that the history allows; any command but a declaration may find no memory
+abbrev pub Answers : List Step → Command → Reply → Type 0
+Answers h c r = AnswersUnder (declaration h) h c r ⊎ (¬ (IsDeclaration c) × (r ≡ NoMemory))

@@ -1,0 +1,11 @@
+pub mod Commands
+pub mod Headers
+pub mod Requests
+pub mod Replies
+pub mod Queries
+pub mod History
+pub mod Runs
+pub mod Texts
+pub mod Standing
+pub mod Sessions
+pub mod Steps

@@ -1,0 +1,76 @@
+-- What a request of the code stands for, and what was read where it was: old was left before it and new after it.
+use Rattle.std.specs.Prelude.{◌≡◌, ◌≢◌, ℕ, ◌<◌, Bool, List, ◌++◌, length, Option, IfSome, Result, Ok, Err}
+use Rattle.std.specs.Io.KnownBytes.{Keeps, Consumes, IsAtEnd}
+use Rattle.wvalues.specs.Names.{NameParts}
+use Rattle.wvalues.specs.NameReading.{ReadsName}
+use Rattle.wstore.specs.Commands.{Form, Command, Declare, Take, Retire, Listing, Ask, IsAllowed, IsCommand, IsDeclaration, IsMalformed, form_of, behind, spell}
+use Rattle.wstore.specs.Headers.{IsHeaderOf}
+use Rattle.wstore.specs.declared.header.Header.{Header}
+use Rattle.wstore.specs.declared.request.Command as code
+use Rattle.wstore.specs.declared.request.Command.TheVariants as commands
+use Rattle.wstore.specs.declared.request.Order.{Order}
+use Rattle.wstore.specs.declared.request.Order.TheVariants as orders
+use Rattle.wstore.specs.declared.request.Refusal.{Refusal}
+use Rattle.wstore.specs.declared.request.Refusal.TheVariants as refusals
+use Rattle.wstore.specs.declared.request.Request.{Request}
+use Rattle.wstore.specs.declared.request.Request.TheVariants as requests
+
+-- the form of the command is why it is refused: its body is too long, or its words spell no name
+abbrev pub IsRefusedAs : Refusal → Command → Type 0
+IsRefusedAs refusals.LongDeclaration (Declare bytes) = 65536 < length bytes
+IsRefusedAs (refusals.BadName fault) (Take node origin number bytes) = ReadsName origin number (Err fault)
+IsRefusedAs (refusals.BadName fault) (Retire node origin number) = ReadsName origin number (Err fault)
+IsRefusedAs refusals.LongSegment (Take node origin number bytes) = (name : NameParts) × ReadsName origin number (Ok name) × (67108864 < length bytes)
+IsRefusedAs refusals.LongQuery (Ask node text) = 65536 < length text
+IsRefusedAs _ _ = ⊥
+
+-- a node is told or asked this
+abbrev pub IsOrderAt : ℕ → Order → Command → Type 0
+IsOrderAt n (orders.Take name kept) (Take node origin number bytes) = (node ≡ n) × ReadsName origin number (Ok name) × (bytes ≡ kept.items)
+IsOrderAt n (orders.Retire name) (Retire node origin number) = (node ≡ n) × ReadsName origin number (Ok name)
+IsOrderAt n orders.List (Listing node) = node ≡ n
+IsOrderAt n (orders.Ask kept) (Ask node text) = (node ≡ n) × (text ≡ kept.items)
+IsOrderAt _ _ _ = ⊥
+
+-- the code's command is this one
+abbrev pub IsCommandOf : code.Command → Command → Type 0
+IsCommandOf (commands.Declare kept) (Declare bytes) = bytes ≡ kept.items
+IsCommandOf (commands.Refused refusal) c = IsRefusedAs refusal c
+IsCommandOf (commands.At n order) c = IsOrderAt n order c
+IsCommandOf _ _ = ⊥
+
+-- the bytes are not what stands behind this header, for any command
+abbrev pub IsBadBehind : Header → Bool → List ℕ → Type 0
+IsBadBehind header declared xs = (c : Command) (rest : List ℕ) → IsHeaderOf header (form_of c) → IsAllowed declared c → xs ≢ behind c ++ rest
+
+-- the bytes that were consumed stand behind this header, as those of a command with the property P
+abbrev pub Behind : Header → Bool → (Command → Type 0) → Option (List ℕ) → Option (List ℕ) → Type 0
+Behind header declared P old new = (f : Form) → IsHeaderOf header f → (c : Command) × (form_of c ≡ f) × P c × IsAllowed declared c × Consumes old new (behind c)
+
+-- what was read behind a header
+abbrev pub BehindReads : Request → Header → Bool → Option (List ℕ) → Option (List ℕ) → Type 0
+BehindReads (requests.Whole command) header declared old new = Behind header declared (IsCommandOf command) old new
+BehindReads requests.NoMemory header declared old new = Behind header declared (λ c. ¬ (IsDeclaration c)) old new
+BehindReads requests.NoRoom header declared old new = Behind header declared IsDeclaration old new
+BehindReads requests.Closed header declared old new = ⊥
+BehindReads requests.Malformed header declared old new = IfSome old (λ xs. IsBadBehind header declared xs)
+
+-- a command with the property P was consumed
+abbrev pub ReadsCommand : Bool → (Command → Type 0) → Option (List ℕ) → Option (List ℕ) → Type 0
+ReadsCommand declared P old new = (c : Command) × P c × IsCommand declared c × Consumes old new (spell c)
+
+-- what was read next
+abbrev pub RequestReads : Request → Bool → Option (List ℕ) → Option (List ℕ) → Type 0
+RequestReads (requests.Whole command) declared old new = ReadsCommand declared (IsCommandOf command) old new
+RequestReads requests.NoMemory declared old new = ReadsCommand declared (λ c. ¬ (IsDeclaration c)) old new
+RequestReads requests.NoRoom declared old new = ReadsCommand declared IsDeclaration old new
+RequestReads requests.Closed declared old new = Keeps old new × IsAtEnd new
+RequestReads requests.Malformed declared old new = IfSome old (λ xs. IsMalformed declared xs)
+
+-- the run goes on behind it
+abbrev pub GoesOn : Request → Type 0
+GoesOn (requests.Whole command) = Unit {0}
+GoesOn requests.NoMemory = Unit {0}
+GoesOn requests.NoRoom = ⊥
+GoesOn requests.Closed = ⊥
+GoesOn requests.Malformed = ⊥

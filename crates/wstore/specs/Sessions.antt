@@ -1,0 +1,32 @@
+-- Where a session stands after a history.
+use Rattle.std.specs.Prelude.{◌≡◌, ℕ, List, [], ◌∷◌, Option, None, Some, is_some, true}
+use Rattle.wsegment.specs.Declaration.{Declaration}
+use Rattle.wstore.specs.Commands.{Command}
+use Rattle.wstore.specs.Replies.{Reply, text_of}
+use Rattle.wstore.specs.History.{Step, Answers, declaration, known}
+use Rattle.wstore.specs.Standing.{StandAt}
+use Rattle.wstore.specs.declared.cluster.Cluster.{Cluster}
+use Rattle.wstore.specs.declared.request.Command as code
+use Rattle.wstore.specs.declared.request.Command.TheVariants as commands
+use Rattle.wstore.specs.declared.session.Session.{Session}
+
+abbrev pub ClusterStands : Option Cluster → List Step → Type 0
+ClusterStands None h = (declaration h ≡ None) × ((n : ℕ) → known h n ≡ [])
+ClusterStands (Some cluster) h = (d : Declaration) × StandAt d cluster.nodes.items h
+
+-- nothing was declared and nothing is known, or the nodes stand where the history led
+abbrev pub Stands : Session → List Step → Type 0
+Stands session h = ClusterStands session.cluster h
+
+-- a command was answered by this text, and the session stands behind it
+pub record Tells (session : Session) (h : List Step) (c : Command) (text : List ℕ) : Type 0 where
+  pub reply : Reply
+  pub answers : Answers h c reply
+  pub text_is : text ≡ text_of reply
+  pub stands : Stands session (record { command = c; reply = reply } ∷ h)
+
+-- a node is spoken to only once the table is declared
+abbrev pub MayStand : Session → code.Command → Type 0
+MayStand session (commands.Declare bytes) = Unit {0}
+MayStand session (commands.Refused refusal) = Unit {0}
+MayStand session (commands.At node order) = is_some session.cluster ≡ true

@@ -1,0 +1,66 @@
+-- What one step of a run tells: old was left and held before it, new after it.
+use Rattle.std.specs.Prelude.{◌≡◌, ℕ, ◌^◌, ◌⊎◌, List, [], ◌∷◌, take, Option, None, Some, IfSome}
+use Rattle.std.specs.Io.KnownBytes.{Keeps, Appends, Consumes, IsAtEnd}
+use Rattle.wvalues.specs.Counts.{Counts}
+use Rattle.wlines.specs.Pending.{ReadFailed}
+use Rattle.wstore.specs.Commands.{Command, IsCommand, IsDeclaration, IsMalformed, spell}
+use Rattle.wstore.specs.Replies.{Reply, text_of, bad_script}
+use Rattle.wstore.specs.History.{Step, Answers, is_declared}
+use Rattle.wstore.specs.Runs.{Stops}
+use Rattle.wstore.specs.Sessions.{Stands}
+use Rattle.wstore.specs.declared.session.Session.{Session}
+use Rattle.wstore.specs.declared.runs.End.{End}
+use Rattle.wstore.specs.declared.runs.End.TheVariants.{Done, Bad}
+use Rattle.wstore.specs.declared.runs.RunFault.{RunFault}
+use Rattle.wstore.specs.declared.runs.RunFault.TheVariants.{Read, Write, NoMemory}
+
+-- each fault has its cause
+abbrev pub HasCause : {R W : Type 0} → RunFault → Counts R → Counts W → Type 0
+HasCause Read input output = ReadFailed input
+HasCause Write input output = output.failures ≡ 1
+HasCause NoMemory input output = Unit {0}
+
+-- a fault of a reply: the reader has no part in it
+abbrev pub HasWriteCause : {W : Type 0} → RunFault → Counts W → Type 0
+HasWriteCause Read output = ⊥
+HasWriteCause Write output = output.failures ≡ 1
+HasWriteCause NoMemory output = Unit {0}
+
+-- a command was answered in full, and the session stands behind it
+pub record Answered (session : Session) (h : List Step) (c : Command) (held new_held : Option (List ℕ)) : Type 0 where
+  pub reply : Reply
+  pub answers : Answers h c reply
+  pub appends : Appends held new_held (text_of reply)
+  pub stands : Stands session (record { command = c; reply = reply } ∷ h)
+
+-- a front of a reply to the command was written
+pub record AnsweredPart (h : List Step) (c : Command) (held new_held : Option (List ℕ)) : Type 0 where
+  pub reply : Reply
+  pub n : ℕ
+  pub answers : Answers h c reply
+  pub appends : Appends held new_held (take n (text_of reply))
+
+-- a command was not answered in full: the writer failed, or a declaration found no memory
+abbrev pub Unanswered : RunFault → List Step → Command → Option (List ℕ) → Option (List ℕ) → Type 0
+Unanswered Read h c held new_held = ⊥
+Unanswered Write h c held new_held = AnsweredPart h c held new_held
+Unanswered NoMemory h c held new_held = IsDeclaration c × Appends held new_held []
+
+-- one step
+pub record StepsOn (session : Session) (h : List Step) (left new_left held new_held : Option (List ℕ)) : Type 0 where
+  pub command : Command
+  pub is : IsCommand (is_declared h) command
+  pub consumes : Consumes left new_left (spell command)
+  pub answered : Answered session h command held new_held
+
+abbrev pub StepEnds : End → List Step → Option (List ℕ) → Option (List ℕ) → Option (List ℕ) → Option (List ℕ) → Type 0
+StepEnds Done h left new_left held new_held = Keeps left new_left × IsAtEnd new_left × Appends held new_held []
+StepEnds Bad h left new_left held new_held = IfSome left (λ xs. IsMalformed (is_declared h) xs) × Appends held new_held bad_script
+
+abbrev pub StepTells : Option End → Session → List Step → Option (List ℕ) → Option (List ℕ) → Option (List ℕ) → Option (List ℕ) → Type 0
+StepTells None session h left new_left held new_held = StepsOn session h left new_left held new_held
+StepTells (Some end) session h left new_left held new_held = StepEnds end h left new_left held new_held
+
+-- a step that failed
+abbrev pub StepFails : RunFault → List Step → Option (List ℕ) → Option (List ℕ) → Option (List ℕ) → Type 0
+StepFails fault h left held new_held = IfSome left (λ xs. (part : List ℕ) × Stops fault h xs part × Appends held new_held part)

@@ -1,0 +1,156 @@
+//! Header lines of commands.
+ghost use Rattle.std.specs.Prelude.{◌≡◌, ℕ, ◌<◌, ◌≤◌, List, [], ◌∷◌, ◌++◌, IfSome, IsSomeAnd, decimal, Some};
+ghost use Rattle.wlines.specs.Words.{Lacks, IsWord};
+ghost use Rattle.wvalues.specs.NameReading.{ReadsName};
+ghost use Rattle.wstore.specs.Commands.{Form, DeclareForm, TakeForm, RetireForm, ListForm, AskForm, IsForm, IsNode, IsLength, line_of, take_words, retire_words, ask_words};
+ghost use Rattle.wstore.specs.Headers.{IsHeaderOf};
+
+use crate::cluster::NodeNumber;
+use wlines::{is_word, split_word};
+use wvalues::{Name, NameFault, number_word};
+
+/// What a header line says: its node, the name that its words spell or why they spell none, and the length of
+/// the body behind it.
+#[derive(Clone, Copy, Debug)]
+pub(crate) enum Header {
+    Declare(u32),
+    Take(NodeNumber, Result<Name, NameFault>, u32),
+    Retire(NodeNumber, Result<Name, NameFault>),
+    List(NodeNumber),
+    Ask(NodeNumber, u32),
+}
+
+// The node that a word names.
+fn node_word(word: &[u8]) -> Option<NodeNumber>
+    ensures found { IfSome result (λ n. (word.now ≡ decimal n) × IsNode n) }
+    ensures only { (n : ℕ) → IsNode n → word.now ≡ decimal n → result ≡ Some n }
+{
+    match number_word(word) {
+        Some(number) => NodeNumber::new(number),
+        None => None,
+    }
+}
+
+// The length that a word tells.
+fn length_word(word: &[u8]) -> Option<u32>
+    ensures found { IfSome result (λ n. (word.now ≡ decimal n) × IsLength n) }
+    ensures only { (n : ℕ) → IsLength n → word.now ≡ decimal n → result ≡ Some n }
+{
+    number_word(word)
+}
+
+// The node in front, and the words behind it.
+fn split_node(words: &[u8]) -> Option<(NodeNumber, &[u8])>
+    ensures found { IfSome result (λ parts. IsNode parts.0 × (words.now ≡ decimal parts.0 ++ (32 ∷ parts.1.now))) }
+    ensures only { (n : ℕ) (rest : List ℕ) → IsNode n → words.now ≡ decimal n ++ (32 ∷ rest) → IsSomeAnd result (λ parts. (parts.0 ≡ n) × (parts.1.now ≡ rest)) }
+{
+    let Some((first, rest)) = split_word(words) else {
+        return None;
+    };
+    let Some(node) = node_word(first) else {
+        return None;
+    };
+    Some((node, rest))
+}
+
+// The word in front, and the words behind it.
+fn split_any(words: &[u8]) -> Option<(&[u8], &[u8])>
+    ensures found { IfSome result (λ parts. IsWord parts.0.now × (words.now ≡ parts.0.now ++ (32 ∷ parts.1.now))) }
+    ensures only { (word rest : List ℕ) → IsWord word → words.now ≡ word ++ (32 ∷ rest) → IsSomeAnd result (λ parts. (parts.0.now ≡ word) × (parts.1.now ≡ rest)) }
+{
+    let Some((first, rest)) = split_word(words) else {
+        return None;
+    };
+    if !is_word(first) {
+        return None;
+    }
+    Some((first, rest))
+}
+
+// The words behind `R`.
+fn retire_header(words: &[u8]) -> Option<Header>
+    ensures found { IfSome result (λ h. (node : ℕ) × (origin : List ℕ) × (number : List ℕ) × IsForm (RetireForm node origin number) × IsHeaderOf h (RetireForm node origin number) × (words.now ≡ retire_words node origin number)) }
+    ensures only { (node : ℕ) (origin number : List ℕ) → IsForm (RetireForm node origin number) → words.now ≡ retire_words node origin number → IsSomeAnd result (λ h. IsHeaderOf h (RetireForm node origin number)) }
+{
+    let Some((node, rest)) = split_node(words) else {
+        return None;
+    };
+    let Some((origin, number)) = split_any(rest) else {
+        return None;
+    };
+    if !is_word(number) {
+        return None;
+    }
+    Some(Header::Retire(node, Name::read(origin, number)))
+}
+
+// The words behind `S`.
+fn take_header(words: &[u8]) -> Option<Header>
+    ensures found { IfSome result (λ h. (node : ℕ) × (origin : List ℕ) × (number : List ℕ) × (len : ℕ) × IsForm (TakeForm node origin number len) × IsHeaderOf h (TakeForm node origin number len) × (words.now ≡ take_words node origin number len)) }
+    ensures only { (node : ℕ) (origin number : List ℕ) (len : ℕ) → IsForm (TakeForm node origin number len) → words.now ≡ take_words node origin number len → IsSomeAnd result (λ h. IsHeaderOf h (TakeForm node origin number len)) }
+{
+    let Some((node, rest)) = split_node(words) else {
+        return None;
+    };
+    let Some((origin, rest)) = split_any(rest) else {
+        return None;
+    };
+    let Some((number, last)) = split_any(rest) else {
+        return None;
+    };
+    let Some(len) = length_word(last) else {
+        return None;
+    };
+    Some(Header::Take(node, Name::read(origin, number), len))
+}
+
+// The words behind `Q`.
+fn ask_header(words: &[u8]) -> Option<Header>
+    ensures found { IfSome result (λ h. (node : ℕ) × (len : ℕ) × IsForm (AskForm node len) × IsHeaderOf h (AskForm node len) × (words.now ≡ ask_words node len)) }
+    ensures only { (node len : ℕ) → IsForm (AskForm node len) → words.now ≡ ask_words node len → IsSomeAnd result (λ h. IsHeaderOf h (AskForm node len)) }
+{
+    let Some((node, last)) = split_node(words) else {
+        return None;
+    };
+    let Some(len) = length_word(last) else {
+        return None;
+    };
+    Some(Header::Ask(node, len))
+}
+
+// The words behind `T`.
+fn declare_header(words: &[u8]) -> Option<Header>
+    ensures found { IfSome result (λ h. (len : ℕ) × IsForm (DeclareForm len) × IsHeaderOf h (DeclareForm len) × (words.now ≡ decimal len)) }
+    ensures only { (len : ℕ) → IsForm (DeclareForm len) → words.now ≡ decimal len → IsSomeAnd result (λ h. IsHeaderOf h (DeclareForm len)) }
+{
+    let Some(len) = length_word(words) else {
+        return None;
+    };
+    Some(Header::Declare(len))
+}
+
+// The words behind `L`.
+fn list_header(words: &[u8]) -> Option<Header>
+    ensures found { IfSome result (λ h. (node : ℕ) × IsForm (ListForm node) × IsHeaderOf h (ListForm node) × (words.now ≡ decimal node)) }
+    ensures only { (node : ℕ) → IsForm (ListForm node) → words.now ≡ decimal node → IsSomeAnd result (λ h. IsHeaderOf h (ListForm node)) }
+{
+    let Some(node) = node_word(words) else {
+        return None;
+    };
+    Some(Header::List(node))
+}
+
+/// What a header line says, where it is one.
+pub(crate) fn read_header(line: &[u8]) -> Option<Header>
+    ensures found { IfSome result (λ h. (f : Form) × IsForm f × IsHeaderOf h f × (line.now ≡ line_of f)) }
+    ensures only { (f : Form) → IsForm f → line.now ≡ line_of f → IsSomeAnd result (λ h. IsHeaderOf h f) }
+{
+    match line {
+        [b'T', b' ', words @ ..] => declare_header(words),
+        [b'S', b' ', words @ ..] => take_header(words),
+        [b'R', b' ', words @ ..] => retire_header(words),
+        [b'L', b' ', words @ ..] => list_header(words),
+        [b'Q', b' ', words @ ..] => ask_header(words),
+        _ => None,
+    }
+}

@@ -1,0 +1,46 @@
+//! Commands, as they are read.
+use crate::cluster::NodeNumber;
+use wvalues::{Name, NameFault};
+
+/// Why the form of a command refuses it, whatever a node knows.
+#[derive(Clone, Copy, Debug)]
+pub(crate) enum Refusal {
+    /// A declaration over 65,536 bytes. It was dropped.
+    LongDeclaration,
+    /// The words of the name spell none. A body was dropped.
+    BadName(NameFault),
+    /// A segment over 67,108,864 bytes. It was dropped.
+    LongSegment,
+    /// A query over 65,536 bytes. It was dropped.
+    LongQuery,
+}
+
+/// What a node is told or asked, with its body.
+#[derive(Drop)]
+pub(crate) enum Order {
+    Take(Name, Vec<u8>),
+    Retire(Name),
+    List,
+    Ask(Vec<u8>),
+}
+
+/// A command.
+#[derive(Drop)]
+pub(crate) enum Command {
+    Declare(Vec<u8>),
+    Refused(Refusal),
+    At(NodeNumber, Order),
+}
+
+/// What stands next in a script.
+#[derive(Drop)]
+pub(crate) enum Request {
+    Whole(Command),
+    /// A command, not a declaration, whose body found no memory and was dropped.
+    NoMemory,
+    /// A declaration that found no memory and was dropped.
+    NoRoom,
+    /// The end of the input.
+    Closed,
+    Malformed,
+}

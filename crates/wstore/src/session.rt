@@ -1,0 +1,89 @@
+//! What a script has declared, and the replies to its commands.
+ghost use Rattle.std.specs.Prelude.{[], ◌≡◌, ◌<◌, ℕ, List, ◌∷◌, IsTrue, ◌↔◌, IfOk, OnErr, is_some, false, true};
+ghost use Rattle.wsegment.specs.Declaration.{Declaration};
+ghost use Rattle.wstore.specs.Commands.{Command as Spelled, Declare, IsAllowed};
+ghost use Rattle.wstore.specs.Requests.{IsOrderAt, IsRefusedAs};
+ghost use Rattle.wstore.specs.History.{Step, is_declared};
+ghost use Rattle.wstore.specs.Texts.{bytes_of};
+ghost use Rattle.wstore.specs.Sessions.{Stands, Tells};
+
+use crate::cluster::{Cluster, NodeNumber};
+use crate::fault::AskFault;
+use crate::replies::{Text, refused_name, refused_query, refused_table};
+use crate::request::{Order, Refusal};
+use std::alloc::{AllocError, Global};
+use wsegment::Schema;
+
+/// The nodes of a script, once its table is declared.
+#[derive(Drop)]
+pub(crate) struct Session {
+    alloc: Global,
+    cluster: Option<Cluster>,
+}
+
+impl Session {
+    /// Nothing is declared.
+    pub(crate) fn new(alloc: Global) -> Session
+        ensures { Stands result [] }
+    {
+        Session {
+            alloc,
+            cluster: None,
+        }
+    }
+
+    /// Whether the table was declared.
+    pub(crate) fn is_declared(&self) -> bool
+        ensures history { (h : List Step) → Stands self.now h → result ≡ is_declared h }
+        ensures cluster { result ≡ is_some self.now.cluster }
+    {
+        self.cluster.is_some()
+    }
+
+    /// Declares the table, if its bytes do. Where it finds no memory, nothing is changed.
+    pub(crate) fn declare(&mut self, bytes: &[u8]) -> Result<Text, AllocError>
+        ensures tells { IfOk result (λ text. (h : List Step) → is_declared h ≡ false → Stands self.old h → Tells self.new h (Declare bytes.now) (bytes_of text)) }
+        ensures err { OnErr result (self.new ≡ self.old) }
+    {
+        match Schema::read(self.alloc, bytes) {
+            Ok(schema) => {
+                let cluster = Cluster::new(self.alloc, &schema)?;
+                self.cluster = Some(cluster);
+                Ok(Text::Fixed(b"ok\n"))
+            }
+            Err(fault) => {
+                let Some(text) = refused_table(fault) else {
+                    return Err(AllocError);
+                };
+                Ok(Text::Fixed(text))
+            }
+        }
+    }
+}
+
+impl Session {
+    /// The reply of a node. Where it finds no memory, nothing is changed.
+    pub(crate) fn order(&mut self, node: NodeNumber, order: &Order) -> Result<Text, AllocError>
+        requires { is_some self.old.cluster ≡ true }
+        ensures tells { IfOk result (λ text. (h : List Step) (c : Spelled) → IsOrderAt node order.now c → Stands self.old h → Tells self.new h c (bytes_of text)) }
+        ensures err { OnErr result ((h : List Step) → Stands self.old h → Stands self.new h) }
+    {
+        let Some(cluster) = &mut self.cluster else {
+            unreachable!()
+        };
+        let text = cluster.answer(node, order)?;
+        Ok(text)
+    }
+}
+
+/// The refusal of a command whose form alone refuses it.
+pub(crate) fn refuse(refusal: Refusal) -> &'static [u8]
+    ensures { (session : Session) (h : List Step) (c : Spelled) → IsRefusedAs refusal c → IsAllowed (is_declared h) c → Stands session h → Tells session h c result.now }
+{
+    match refusal {
+        Refusal::LongDeclaration => b"refused T1\n",
+        Refusal::BadName(fault) => refused_name(fault),
+        Refusal::LongSegment => b"refused S1\n",
+        Refusal::LongQuery => refused_query(AskFault::TooLong),
+    }
+}

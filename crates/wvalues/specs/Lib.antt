@@ -1,0 +1,9 @@
+pub mod Whole
+pub mod Meaning
+pub mod Order
+pub mod OrderLaws
+pub mod Number
+pub mod Names
+pub mod NameView
+pub mod NameReading
+pub mod Counts
