@@ -1,4 +1,4 @@
-mod Joining
+pub mod Joining
 pub mod Union
 mod Finding
 mod Merging

@@ -1,12 +1,11 @@
 -- From lines and bodies to commands.
-use Rattle.std.proofs.Common.{◌≡◌, ◌≢◌, ℕ, ◌<◌, ◌≤◌, Bool, true, false, List, [], ◌∷◌, ◌++◌, length, Option, None, Some, IfSome, Result, Ok, Err, refl, sym, ap, ◌∙◌, subst, append_assoc}
+use Rattle.std.proofs.Common.{◌≡◌, ℕ, Bool, true, false, List, [], ◌∷◌, ◌++◌, length, Option, None, Some, IfSome, Result, refl, sym, ap, ◌∙◌, append_assoc}
 use Rattle.std.specs.Io.KnownBytes.{Consumes}
 use Rattle.wvalues.specs.Names.{NameParts}
 use Rattle.wvalues.specs.NameReading.{ReadsName}
 use Rattle.wvalues.specs.declared.name.NameFault.{NameFault}
 use Rattle.wlines.specs.Reads.{HasNoBody}
-use Rattle.wstore.specs.Commands.{Form, DeclareForm, TakeForm, RetireForm, ListForm, AskForm, Command, Declare, Take, Retire, Listing, Ask, IsAllowed, form_of, behind}
-use Rattle.wstore.specs.Headers.{IsHeaderOf}
+use Rattle.wstore.specs.Commands.{DeclareForm, TakeForm, RetireForm, ListForm, AskForm, PutForm, GetForm, Command, Declare, Take, Retire, Listing, Ask, Put, Get}
 use Rattle.wstore.specs.Requests.{IsBadBehind, Behind}
 use Rattle.wstore.specs.declared.header.Header.TheVariants as headers
 
@@ -22,6 +21,8 @@ declare_bad len d xs none (Take n o m b) rest h a e = h
 declare_bad len d xs none (Retire n o m) rest h a e = h
 declare_bad len d xs none (Listing n) rest h a e = h
 declare_bad len d xs none (Ask n t) rest h a e = h
+declare_bad len d xs none (Put n k) rest h a e = h
+declare_bad len d xs none (Get k n) rest h a e = h
 
 take_bad : (node : ℕ) (name : Result NameParts NameFault) (len : ℕ) (d : Bool) (xs : List ℕ) → HasNoBody len xs → IsBadBehind (headers.Take node name len) d xs
 take_bad node name len d xs none (Declare s) rest h a e = h
@@ -29,6 +30,8 @@ take_bad node name len d xs none (Take n o m b) rest h a e = none b rest h.2 (e 
 take_bad node name len d xs none (Retire n o m) rest h a e = h
 take_bad node name len d xs none (Listing n) rest h a e = h
 take_bad node name len d xs none (Ask n t) rest h a e = h
+take_bad node name len d xs none (Put n k) rest h a e = h
+take_bad node name len d xs none (Get k n) rest h a e = h
 
 ask_bad : (node len : ℕ) (d : Bool) (xs : List ℕ) → HasNoBody len xs → IsBadBehind (headers.Ask node len) d xs
 ask_bad node len d xs none (Declare s) rest h a e = h
@@ -36,6 +39,8 @@ ask_bad node len d xs none (Take n o m b) rest h a e = h
 ask_bad node len d xs none (Retire n o m) rest h a e = h
 ask_bad node len d xs none (Listing n) rest h a e = h
 ask_bad node len d xs none (Ask n t) rest h a e = none t rest h.1 (e ∙ append_assoc t (10 ∷ []) rest)
+ask_bad node len d xs none (Put n k) rest h a e = h
+ask_bad node len d xs none (Get k n) rest h a e = h
 
 pub no_declaration : (len : ℕ) (d : Bool) (old : Option (List ℕ)) → IfSome old (λ xs. HasNoBody len xs) → IfSome old (λ xs. IsBadBehind (headers.Declare len) d xs)
 no_declaration len d old h = some_weaker old (λ xs. HasNoBody len xs) (λ xs. IsBadBehind (headers.Declare len) d xs) h (λ xs. declare_bad len d xs)
@@ -55,6 +60,8 @@ module _ (P : Command → Type 0) (old new : Option (List ℕ)) where
   declared_behind len bytes p k size (RetireForm n o j) e = absurd e
   declared_behind len bytes p k size (ListForm n) e = absurd e
   declared_behind len bytes p k size (AskForm n m) e = absurd e
+  declared_behind len bytes p k size (PutForm n m) e = absurd e
+  declared_behind len bytes p k size (GetForm m n) e = absurd e
 
   pub segment_behind : (node : ℕ) (name : Result NameParts NameFault) (len : ℕ) (bytes : List ℕ) → ((origin number : List ℕ) → ReadsName origin number name → P (Take node origin number bytes)) → Consumes old new (bytes ++ 10 ∷ []) → length bytes ≡ len → Behind (headers.Take node name len) true P old new
   segment_behind node name len bytes p k size (DeclareForm m) e = absurd e
@@ -62,6 +69,8 @@ module _ (P : Command → Type 0) (old new : Option (List ℕ)) where
   segment_behind node name len bytes p k size (RetireForm n o j) e = absurd e
   segment_behind node name len bytes p k size (ListForm n) e = absurd e
   segment_behind node name len bytes p k size (AskForm n m) e = absurd e
+  segment_behind node name len bytes p k size (PutForm n m) e = absurd e
+  segment_behind node name len bytes p k size (GetForm m n) e = absurd e
 
   pub query_behind : (node len : ℕ) (text : List ℕ) → P (Ask node text) → Consumes old new (text ++ 10 ∷ []) → length text ≡ len → Behind (headers.Ask node len) true P old new
   query_behind node len text p k size (DeclareForm m) e = absurd e
@@ -69,6 +78,8 @@ module _ (P : Command → Type 0) (old new : Option (List ℕ)) where
   query_behind node len text p k size (RetireForm n o j) e = absurd e
   query_behind node len text p k size (ListForm n) e = absurd e
   query_behind node len text p k size (AskForm n m) e = (Ask node text, cc (e.0, e.1, size), p, refl, k)
+  query_behind node len text p k size (PutForm n m) e = absurd e
+  query_behind node len text p k size (GetForm m n) e = absurd e
 
   pub retired_behind : (node : ℕ) (name : Result NameParts NameFault) → ((origin number : List ℕ) → ReadsName origin number name → P (Retire node origin number)) → Consumes old new [] → Behind (headers.Retire node name) true P old new
   retired_behind node name p k (DeclareForm m) e = absurd e
@@ -76,6 +87,8 @@ module _ (P : Command → Type 0) (old new : Option (List ℕ)) where
   retired_behind node name p k (RetireForm n o j) e = (Retire node o j, ap (λ n. RetireForm n o j) (sym e.0), p o j e.1, refl, k)
   retired_behind node name p k (ListForm n) e = absurd e
   retired_behind node name p k (AskForm n m) e = absurd e
+  retired_behind node name p k (PutForm n m) e = absurd e
+  retired_behind node name p k (GetForm m n) e = absurd e
 
   pub listed_behind : (node : ℕ) → P (Listing node) → Consumes old new [] → Behind (headers.List node) true P old new
   listed_behind node p k (DeclareForm m) e = absurd e
@@ -83,3 +96,23 @@ module _ (P : Command → Type 0) (old new : Option (List ℕ)) where
   listed_behind node p k (RetireForm n o j) e = absurd e
   listed_behind node p k (ListForm n) e = (Listing node, ap ListForm (sym e), p, refl, k)
   listed_behind node p k (AskForm n m) e = absurd e
+  listed_behind node p k (PutForm n m) e = absurd e
+  listed_behind node p k (GetForm m n) e = absurd e
+
+  pub put_behind : (node slot : ℕ) → P (Put node slot) → Consumes old new [] → Behind (headers.Put node slot) true P old new
+  put_behind node slot p k (DeclareForm m) e = absurd e
+  put_behind node slot p k (TakeForm n o j m) e = absurd e
+  put_behind node slot p k (RetireForm n o j) e = absurd e
+  put_behind node slot p k (ListForm n) e = absurd e
+  put_behind node slot p k (AskForm n m) e = absurd e
+  put_behind node slot p k (PutForm n m) e = (Put node slot, cc (e.0, e.1), p, refl, k)
+  put_behind node slot p k (GetForm m n) e = absurd e
+
+  pub get_behind : (slot node : ℕ) → P (Get slot node) → Consumes old new [] → Behind (headers.Get slot node) true P old new
+  get_behind slot node p k (DeclareForm m) e = absurd e
+  get_behind slot node p k (TakeForm n o j m) e = absurd e
+  get_behind slot node p k (RetireForm n o j) e = absurd e
+  get_behind slot node p k (ListForm n) e = absurd e
+  get_behind slot node p k (AskForm n m) e = absurd e
+  get_behind slot node p k (PutForm n m) e = absurd e
+  get_behind slot node p k (GetForm m n) e = (Get slot node, cc (e.0, e.1), p, refl, k)

@@ -7,3 +7,5 @@ pub mod Telling
 pub mod Writing
 pub mod Stepping
 pub mod WholeRuns
+pub mod Copying
+pub mod Histories

@@ -1,11 +1,11 @@
 -- From header lines, and what stands behind them, to commands.
-use Rattle.std.proofs.Common.{◌≡◌, ◌≢◌, ℕ, ◌<◌, ◌≤◌, ◌^◌, Bool, List, [], ◌∷◌, ◌++◌, length, Option, None, Some, IfSome, refl, sym, ap, ◌∙◌, subst, arith, append_assoc}
+use Rattle.std.proofs.Common.{◌≡◌, ◌≢◌, ℕ, ◌≤◌, Bool, List, [], ◌∷◌, ◌++◌, length, Option, None, Some, IfSome, refl, sym, ap, ◌∙◌, subst, arith, append_assoc}
 use Rattle.std.specs.Fmt.{decimal}
 use Rattle.std.specs.Io.KnownBytes.{Consumes}
 use Rattle.std.proofs.KnownBytes.{Consumes-trans}
-use Rattle.wlines.specs.Words.{Lacks, IsWord}
+use Rattle.wlines.specs.Words.{Lacks}
 use Rattle.wlines.specs.Reads.{HasNoLine}
-use Rattle.wstore.specs.Commands.{Form, DeclareForm, TakeForm, RetireForm, ListForm, AskForm, IsForm, IsNode, IsLength, Command, IsCommand, IsMalformed, IsDeclaration, line_of, form_of, behind, spell}
+use Rattle.wstore.specs.Commands.{Form, DeclareForm, TakeForm, RetireForm, ListForm, AskForm, PutForm, GetForm, IsForm, IsNode, IsSlot, Command, IsMalformed, IsDeclaration, line_of, form_of, behind, spell}
 use Rattle.wstore.specs.Headers.{IsHeaderOf}
 use Rattle.wstore.specs.Requests.{IsCommandOf, IsBadBehind, Behind, BehindReads, ReadsCommand, RequestReads}
 use Rattle.wstore.specs.declared.header.Header.{Header}
@@ -29,6 +29,9 @@ begun letter rest ne k = (ne, ((λ e. omega (arith, e)), k))
 node_lacks : (n : ℕ) → IsNode n → Lacks 10 (decimal n)
 node_lacks n h = no_feed n (omega (arith, h.high))
 
+slot_lacks : (n : ℕ) → IsSlot n → Lacks 10 (decimal n)
+slot_lacks n h = no_feed n (omega (arith, h.high))
+
 -- a header line has no line feed in it
 pub line_lacks : (f : Form) → IsForm f → Lacks 10 (line_of f)
 line_lacks (DeclareForm len) h = begun 84 _ (λ e. omega (arith, e)) (no_feed len h.fits)
@@ -37,6 +40,8 @@ line_lacks (TakeForm node origin number len) h =
 line_lacks (RetireForm node origin number) h = begun 82 _ (λ e. omega (arith, e)) (spaced (decimal node) _ (node_lacks node h.0) (spaced origin _ h.1.no_lf h.2.no_lf))
 line_lacks (ListForm node) h = begun 76 _ (λ e. omega (arith, e)) (node_lacks node h)
 line_lacks (AskForm node len) h = begun 81 _ (λ e. omega (arith, e)) (spaced (decimal node) _ (node_lacks node h.0) (no_feed len h.1.fits))
+line_lacks (PutForm node slot) h = begun 80 _ (λ e. omega (arith, e)) (spaced (decimal node) _ (node_lacks node h.0) (slot_lacks slot h.1))
+line_lacks (GetForm slot node) h = begun 71 _ (λ e. omega (arith, e)) (spaced (decimal slot) _ (slot_lacks slot h.0) (node_lacks node h.1))
 
 -- there is one way to cut at the first such byte
 cut_once : (c : ℕ) (a a' b b' : List ℕ) → Lacks c a → Lacks c a' → a ++ (c ∷ b) ≡ a' ++ (c ∷ b') → (a ≡ a') × (b ≡ b')

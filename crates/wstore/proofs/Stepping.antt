@@ -1,15 +1,14 @@
 -- Steps of a run that failed.
-use Rattle.std.proofs.Common.{◌≡◌, ℕ, Bool, true, false, List, [], ◌∷◌, ◌++◌, take, Option, None, Some, IfSome, is_some, refl, sym, ap, ◌∙◌, subst}
+use Rattle.std.proofs.Common.{◌≡◌, ℕ, Bool, true, List, [], take, Option, None, Some, IfSome, is_some, refl, sym, subst}
 use Rattle.std.specs.Io.KnownBytes.{Appends, Consumes}
 use Rattle.std.proofs.KnownBytes.{Appends-nil}
-use Rattle.wstore.specs.Commands.{Command, Declare, Take, Retire, Listing, Ask, IsAllowed, IsCommand, IsDeclaration, IsMalformed, spell}
+use Rattle.wstore.specs.Commands.{Command, Declare, Take, Retire, Listing, Ask, Put, Get, IsAllowed, IsCommand, IsMalformed, spell}
 use Rattle.wstore.specs.History.{Step, is_declared}
 use Rattle.wstore.specs.Replies.{text_of, bad_script}
 use Rattle.wstore.specs.Requests.{IsCommandOf, IsOrderAt}
-use Rattle.wstore.specs.Runs.{Stops, Begins, nothing, answer, last}
-use Rattle.wstore.specs.Sessions.{ClusterStands, Stands, MayStand}
-use Rattle.wstore.specs.Steps.{AnsweredPart, Unanswered, StepFails}
-use Rattle.wstore.specs.declared.cluster.Cluster.{Cluster}
+use Rattle.wstore.specs.Runs.{Stops, Begins, answer, last}
+use Rattle.wstore.specs.Sessions.{MayStand}
+use Rattle.wstore.specs.Steps.{Unanswered, StepFails}
 use Rattle.wstore.specs.declared.request.Command as code
 use Rattle.wstore.specs.declared.request.Command.TheVariants as commands
 use Rattle.wstore.specs.declared.request.Order.{Order}
@@ -25,10 +24,14 @@ order_allowed n (orders.Take name bytes) (Declare s) d is allowed = absurd is
 order_allowed n (orders.Retire name) (Declare s) d is allowed = absurd is
 order_allowed n orders.List (Declare s) d is allowed = absurd is
 order_allowed n (orders.Ask text) (Declare s) d is allowed = absurd is
+order_allowed n (orders.Put k) (Declare s) d is allowed = absurd is
+order_allowed n (orders.Get k) (Declare s) d is allowed = absurd is
 order_allowed n order (Take m o k b) d is allowed = allowed
 order_allowed n order (Retire m o k) d is allowed = allowed
 order_allowed n order (Listing m) d is allowed = allowed
 order_allowed n order (Ask m t) d is allowed = allowed
+order_allowed n order (Put m s) d is allowed = allowed
+order_allowed n order (Get s m) d is allowed = allowed
 
 pub may_stand : (session : Session) (command : code.Command) (c : Command) → IsCommandOf command c → IsAllowed (is_some session.cluster) c → MayStand session command
 may_stand session (commands.Declare bytes) c is allowed = tt
@@ -61,3 +64,5 @@ fails_at_answer faults.NoMemory h left new_left held new_held (Take n o m b) is 
 fails_at_answer faults.NoMemory h left new_left held new_held (Retire n o m) is k part = absurd part.0
 fails_at_answer faults.NoMemory h left new_left held new_held (Listing n) is k part = absurd part.0
 fails_at_answer faults.NoMemory h left new_left held new_held (Ask n t) is k part = absurd part.0
+fails_at_answer faults.NoMemory h left new_left held new_held (Put m s) is k part = absurd part.0
+fails_at_answer faults.NoMemory h left new_left held new_held (Get s m) is k part = absurd part.0

@@ -1,11 +1,11 @@
 -- A run, step by step.
-use Rattle.std.proofs.Common.{◌≡◌, ℕ, Bool, List, [], ◌∷◌, ◌++◌, take, Option, None, Some, IfSome, ◌⊎◌, refl, sym, ap, ◌∙◌, subst, inl, inr, append_assoc, append-nil}
-use Rattle.std.specs.Io.KnownBytes.{Keeps, Appends, Consumes, IsAtEnd, prepend_known}
+use Rattle.std.proofs.Common.{◌≡◌, ℕ, List, [], ◌∷◌, ◌++◌, Option, None, Some, IfSome, refl, sym, ap, ◌∙◌, subst, inl, inr, append_assoc, append-nil}
+use Rattle.std.specs.Io.KnownBytes.{Appends, Consumes, prepend_known}
 use Rattle.std.proofs.KnownBytes.{Appends-nil, Appends-trans, Consumes-trans, Consumes-whole, Consumes-kept}
 use Rattle.wstore.specs.Commands.{IsCommand, IsMalformed, spell}
 use Rattle.wstore.specs.History.{Step, Answers, is_declared}
 use Rattle.wstore.specs.Replies.{text_of, bad_script}
-use Rattle.wstore.specs.Runs.{Ran, asked, told, RepliesDone, RepliesBad, RepliesBegun, Replies, Stops, StopsRun}
+use Rattle.wstore.specs.Runs.{Ran, asked, told, RepliesDone, RepliesBad, RepliesBegun, Replies, Stops}
 use Rattle.wstore.specs.Sessions.{Stands}
 use Rattle.wstore.specs.Steps.{StepsOn, StepEnds, StepFails}
 use Rattle.wstore.specs.declared.runs.End.{End}

@@ -1,10 +1,8 @@
 -- Replies that were written, in full or in part.
-use Rattle.std.proofs.Common.{◌≡◌, ℕ, Bool, List, [], ◌∷◌, take, Option, None, Some, refl, sym, ap, ◌∙◌, subst, codes}
+use Rattle.std.proofs.Common.{◌≡◌, ℕ, List, take, Option, sym, subst}
 use Rattle.std.specs.Io.KnownBytes.{Appends}
-use Rattle.std.proofs.KnownBytes.{Appends-nil}
-use Rattle.wstore.specs.Commands.{Command, Declare, Take, Retire, Listing, Ask, IsDeclaration}
+use Rattle.wstore.specs.Commands.{Command, Declare, Take, Retire, Listing, Ask, Put, Get, IsDeclaration}
 use Rattle.wstore.specs.History.{Step}
-use Rattle.wstore.specs.Replies.{text_of}
 use Rattle.wstore.specs.Requests.{IsOrderAt}
 use Rattle.wstore.specs.Sessions.{Tells}
 use Rattle.wstore.specs.Steps.{Answered, AnsweredPart, Unanswered}
@@ -31,7 +29,11 @@ no_declaration n (orders.Take name bytes) (Declare s) is = λ _. is
 no_declaration n (orders.Retire name) (Declare s) is = λ _. is
 no_declaration n orders.List (Declare s) is = λ _. is
 no_declaration n (orders.Ask text) (Declare s) is = λ _. is
+no_declaration n (orders.Put k) (Declare s) is = λ _. is
+no_declaration n (orders.Get k) (Declare s) is = λ _. is
 no_declaration n order (Take m o k b) is = λ x. x
 no_declaration n order (Retire m o k) is = λ x. x
 no_declaration n order (Listing m) is = λ x. x
 no_declaration n order (Ask m t) is = λ x. x
+no_declaration n order (Put m s) is = λ x. x
+no_declaration n order (Get s m) is = λ x. x

@@ -5,7 +5,11 @@ use Rattle.wlines.specs.Words.{IsWord}
 
 -- how many nodes a script has
 abbrev pub node_count : ℕ
-node_count = 1
+node_count = 16
+
+-- how many slots it has
+abbrev pub slot_count : ℕ
+slot_count = 16
 
 pub data Command : Type 0 where
   -- the bytes of a table's declaration
@@ -18,6 +22,10 @@ pub data Command : Type 0 where
   Listing : ℕ → Command
   -- node and text of a query
   Ask : ℕ → List ℕ → Command
+  -- a node, and the slot that what it knows is put into
+  Put : ℕ → ℕ → Command
+  -- a slot, and the node that gets what it holds
+  Get : ℕ → ℕ → Command
 
 -- what a header line says: the words of a name as they stand, and the length of a body
 pub data Form : Type 0 where
@@ -26,6 +34,8 @@ pub data Form : Type 0 where
   RetireForm : ℕ → List ℕ → List ℕ → Form
   ListForm : ℕ → Form
   AskForm : ℕ → ℕ → Form
+  PutForm : ℕ → ℕ → Form
+  GetForm : ℕ → ℕ → Form
 
 -- the words behind the first, parted by one space each
 abbrev pub retire_words : ℕ → List ℕ → List ℕ → List ℕ
@@ -34,8 +44,9 @@ retire_words node origin number = decimal node ++ (32 ∷ (origin ++ (32 ∷ num
 abbrev pub take_words : ℕ → List ℕ → List ℕ → ℕ → List ℕ
 take_words node origin number len = decimal node ++ (32 ∷ (origin ++ (32 ∷ (number ++ (32 ∷ decimal len)))))
 
-abbrev pub ask_words : ℕ → ℕ → List ℕ
-ask_words node len = decimal node ++ (32 ∷ decimal len)
+-- two numbers
+abbrev pub pair_words : ℕ → ℕ → List ℕ
+pair_words first second = decimal first ++ (32 ∷ decimal second)
 
 -- the header line, without its line feed
 abbrev pub line_of : Form → List ℕ
@@ -43,11 +54,17 @@ line_of (DeclareForm len) = 84 ∷ 32 ∷ decimal len
 line_of (TakeForm node origin number len) = 83 ∷ 32 ∷ take_words node origin number len
 line_of (RetireForm node origin number) = 82 ∷ 32 ∷ retire_words node origin number
 line_of (ListForm node) = 76 ∷ 32 ∷ decimal node
-line_of (AskForm node len) = 81 ∷ 32 ∷ ask_words node len
+line_of (AskForm node len) = 81 ∷ 32 ∷ pair_words node len
+line_of (PutForm node slot) = 80 ∷ 32 ∷ pair_words node slot
+line_of (GetForm slot node) = 71 ∷ 32 ∷ pair_words slot node
 
 pub record IsNode (node : ℕ) : Type 0 where
   pub low : 0 < node
   pub high : node ≤ node_count
+
+pub record IsSlot (slot : ℕ) : Type 0 where
+  pub low : 0 < slot
+  pub high : slot ≤ slot_count
 
 -- the length of a body has 32 bits
 pub record IsLength (len : ℕ) : Type 0 where
@@ -59,6 +76,8 @@ IsForm (TakeForm node origin number len) = IsNode node × IsWord origin × IsWor
 IsForm (RetireForm node origin number) = IsNode node × IsWord origin × IsWord number
 IsForm (ListForm node) = IsNode node
 IsForm (AskForm node len) = IsNode node × IsLength len
+IsForm (PutForm node slot) = IsNode node × IsSlot slot
+IsForm (GetForm slot node) = IsSlot slot × IsNode node
 
 abbrev pub form_of : Command → Form
 form_of (Declare bytes) = DeclareForm (length bytes)
@@ -66,6 +85,8 @@ form_of (Take node origin number bytes) = TakeForm node origin number (length by
 form_of (Retire node origin number) = RetireForm node origin number
 form_of (Listing node) = ListForm node
 form_of (Ask node text) = AskForm node (length text)
+form_of (Put node slot) = PutForm node slot
+form_of (Get slot node) = GetForm slot node
 
 -- what stands behind the header line
 abbrev pub behind : Command → List ℕ
@@ -74,6 +95,8 @@ behind (Take node origin number bytes) = bytes ++ 10 ∷ []
 behind (Retire node origin number) = []
 behind (Listing node) = []
 behind (Ask node text) = text ++ 10 ∷ []
+behind (Put node slot) = []
+behind (Get slot node) = []
 
 abbrev pub spell : Command → List ℕ
 spell c = line_of (form_of c) ++ (10 ∷ behind c)
@@ -85,6 +108,8 @@ IsAllowed declared (Take node origin number bytes) = declared ≡ true
 IsAllowed declared (Retire node origin number) = declared ≡ true
 IsAllowed declared (Listing node) = declared ≡ true
 IsAllowed declared (Ask node text) = declared ≡ true
+IsAllowed declared (Put node slot) = declared ≡ true
+IsAllowed declared (Get slot node) = declared ≡ true
 
 -- a command that may stand next, its header line at most 200 bytes long
 pub record IsCommand (declared : Bool) (c : Command) : Type 0 where
@@ -103,3 +128,5 @@ IsDeclaration (Take node origin number bytes) = ⊥
 IsDeclaration (Retire node origin number) = ⊥
 IsDeclaration (Listing node) = ⊥
 IsDeclaration (Ask node text) = ⊥
+IsDeclaration (Put node slot) = ⊥
+IsDeclaration (Get slot node) = ⊥

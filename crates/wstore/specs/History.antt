@@ -14,8 +14,8 @@ use Rattle.wset.specs.Views.{View}
 use Rattle.wset.specs.Items.{Item, SegmentItem, RetirementItem, view_of}
 use Rattle.wset.specs.Words.{taken_word, retired_word}
 use Rattle.wset.specs.Listing.{listed}
-use Rattle.wstore.specs.Commands.{Command, Declare, Take, Retire, Listing, Ask, IsDeclaration}
-use Rattle.wstore.specs.Replies.{Reply, Declared, RefusedTable, Took, Was, RefusedName, RefusedSegment, Names, Answered, RefusedQuery, NoMemory}
+use Rattle.wstore.specs.Commands.{Command, Declare, Take, Retire, Listing, Ask, Put, Get, IsDeclaration}
+use Rattle.wstore.specs.Replies.{Reply, Declared, RefusedTable, Took, Was, RefusedName, RefusedSegment, Names, Answered, RefusedQuery, Done, RefusedFile, NoMemory}
 use Rattle.wstore.specs.Queries.{answer_of}
 use Rattle.wstore.specs.declared.fault.AskFault.{AskFault}
 
@@ -31,10 +31,44 @@ delivers (Take m origin number bytes) (Took name word) n = if m == n then Segmen
 delivers (Retire m origin number) (Was name word) n = if m == n then RetirementItem name ∷ [] else []
 delivers c r n = []
 
--- the items that a node knows
-abbrev pub known : List Step → ℕ → List Item
-known [] n = []
-known (s ∷ h) n = known h n ++ delivers s.command s.reply n
+-- the slot that a step got into a node
+abbrev pub gets : Command → Reply → ℕ → Option ℕ
+gets (Get slot m) Done n = if m == n then Some slot else None
+gets c r n = None
+
+-- the node that a step put into a slot
+abbrev pub puts : Command → Reply → ℕ → Option ℕ
+puts (Put m slot) Done k = if slot == k then Some m else None
+puts c r k = None
+
+-- what is drawn from another place, if from any
+abbrev pub drawn : Option ℕ → (ℕ → List Item) → List Item
+drawn None there = []
+drawn (Some k) there = there k
+
+-- what is drawn from another place, in the place of what was here
+abbrev pub replaced : Option ℕ → (ℕ → List Item) → List Item → List Item
+replaced None there here = here
+replaced (Some n) there here = there n
+
+-- the items that a node knows, and those that a slot holds
+abbrev mutual
+  pub known : List Step → ℕ → List Item
+  known [] n = []
+  known (s ∷ h) n = (known h n ++ drawn (gets s.command s.reply n) (λ k. held h k)) ++ delivers s.command s.reply n
+
+  pub held : List Step → ℕ → List Item
+  held [] k = []
+  held (s ∷ h) k = replaced (puts s.command s.reply k) (λ n. known h n) (held h k)
+
+-- a slot was put
+abbrev pub is_put_by : Option ℕ → Bool → Bool
+is_put_by None before = before
+is_put_by (Some n) before = true
+
+abbrev pub is_put : List Step → ℕ → Bool
+is_put [] k = false
+is_put (s ∷ h) k = is_put_by (puts s.command s.reply k) (is_put h k)
 
 -- the table that a reply declares, else the one before
 abbrev pub declared_by : Reply → Option Declaration → Option Declaration
@@ -76,24 +110,27 @@ query_reply (Err fault) = RefusedQuery fault
 
 -- the reply to a command at a node of this view, under this declaration
 abbrev pub NodeAnswers : Declaration → View → Command → Reply → Type 0
-NodeAnswers d v (Declare bytes) r = ⊥
 NodeAnswers d v (Take n origin number bytes) r = (name : Result NameParts NameFault) × ReadsName origin number name × (r ≡ take_reply name d v bytes)
 NodeAnswers d v (Retire n origin number) r = (name : Result NameParts NameFault) × ReadsName origin number name × (r ≡ retire_reply name v)
 NodeAnswers d v (Listing n) r = r ≡ Names (map (listed d) (entries v))
 NodeAnswers d v (Ask n text) r = r ≡ query_reply (answer_of d v text)
+NodeAnswers d v c r = ⊥
 
--- the node that a command speaks to
-abbrev pub node_of : Command → ℕ
-node_of (Declare bytes) = 0
-node_of (Take n origin number bytes) = n
-node_of (Retire n origin number) = n
-node_of (Listing n) = n
-node_of (Ask n text) = n
+-- a slot that nobody put is no file
+abbrev pub get_reply : Bool → Reply
+get_reply true = Done
+get_reply false = RefusedFile
 
 abbrev pub AnswersUnder : Option Declaration → List Step → Command → Reply → Type 0
 AnswersUnder None h (Declare bytes) r = DeclareAnswers bytes r
 AnswersUnder None h c r = ⊥
-AnswersUnder (Some d) h c r = NodeAnswers d (view_of (known h (node_of c))) c r
+AnswersUnder (Some d) h (Declare bytes) r = ⊥
+AnswersUnder (Some d) h (Take n origin number bytes) r = NodeAnswers d (view_of (known h n)) (Take n origin number bytes) r
+AnswersUnder (Some d) h (Retire n origin number) r = NodeAnswers d (view_of (known h n)) (Retire n origin number) r
+AnswersUnder (Some d) h (Listing n) r = NodeAnswers d (view_of (known h n)) (Listing n) r
+AnswersUnder (Some d) h (Ask n text) r = NodeAnswers d (view_of (known h n)) (Ask n text) r
+AnswersUnder (Some d) h (Put n slot) r = r ≡ Done
+AnswersUnder (Some d) h (Get slot n) r = r ≡ get_reply (is_put h slot)
 
 -- the reply that the history allows; any command but a declaration may find no memory
 abbrev pub Answers : List Step → Command → Reply → Type 0

@@ -4,6 +4,7 @@ pub mod Requests
 pub mod Replies
 pub mod Queries
 pub mod History
+pub mod Laws
 pub mod Runs
 pub mod Texts
 pub mod Standing

@@ -31,6 +31,10 @@ pub data Reply : Type 0 where
   Names : List Listed → Reply
   Answered : List ℕ → Reply
   RefusedQuery : AskFault → Reply
+  -- a node was put into a slot, or got one
+  Done : Reply
+  -- a slot that nobody put
+  RefusedFile : Reply
   NoMemory : Reply
 
 abbrev pub bad_script : List ℕ
@@ -107,4 +111,6 @@ text_of (RefusedSegment fault) = segment_text fault
 text_of (Names all) = names_text all
 text_of (Answered bytes) = answer_text bytes
 text_of (RefusedQuery fault) = query_text fault
+text_of Done = codes "ok\n"
+text_of RefusedFile = codes "refused X2\n"
 text_of NoMemory = no_memory

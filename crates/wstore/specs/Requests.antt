@@ -1,9 +1,9 @@
 -- What a request of the code stands for, and what was read where it was: old was left before it and new after it.
-use Rattle.std.specs.Prelude.{◌≡◌, ◌≢◌, ℕ, ◌<◌, Bool, List, ◌++◌, length, Option, IfSome, Result, Ok, Err}
+use Rattle.std.specs.Prelude.{◌≡◌, ◌≢◌, ℕ, ◌<◌, Bool, List, ◌++◌, length, Option, IfSome, Ok, Err}
 use Rattle.std.specs.Io.KnownBytes.{Keeps, Consumes, IsAtEnd}
 use Rattle.wvalues.specs.Names.{NameParts}
 use Rattle.wvalues.specs.NameReading.{ReadsName}
-use Rattle.wstore.specs.Commands.{Form, Command, Declare, Take, Retire, Listing, Ask, IsAllowed, IsCommand, IsDeclaration, IsMalformed, form_of, behind, spell}
+use Rattle.wstore.specs.Commands.{Form, Command, Declare, Take, Retire, Listing, Ask, Put, Get, IsAllowed, IsCommand, IsDeclaration, IsMalformed, form_of, behind, spell}
 use Rattle.wstore.specs.Headers.{IsHeaderOf}
 use Rattle.wstore.specs.declared.header.Header.{Header}
 use Rattle.wstore.specs.declared.request.Command as code
@@ -24,12 +24,14 @@ IsRefusedAs refusals.LongSegment (Take node origin number bytes) = (name : NameP
 IsRefusedAs refusals.LongQuery (Ask node text) = 65536 < length text
 IsRefusedAs _ _ = ⊥
 
--- a node is told or asked this
+-- a node is told, asked, put or gets this
 abbrev pub IsOrderAt : ℕ → Order → Command → Type 0
 IsOrderAt n (orders.Take name kept) (Take node origin number bytes) = (node ≡ n) × ReadsName origin number (Ok name) × (bytes ≡ kept.items)
 IsOrderAt n (orders.Retire name) (Retire node origin number) = (node ≡ n) × ReadsName origin number (Ok name)
 IsOrderAt n orders.List (Listing node) = node ≡ n
 IsOrderAt n (orders.Ask kept) (Ask node text) = (node ≡ n) × (text ≡ kept.items)
+IsOrderAt n (orders.Put k) (Put node slot) = (node ≡ n) × (slot ≡ k)
+IsOrderAt n (orders.Get k) (Get slot node) = (slot ≡ k) × (node ≡ n)
 IsOrderAt _ _ _ = ⊥
 
 -- the code's command is this one

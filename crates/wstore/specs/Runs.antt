@@ -1,5 +1,5 @@
 -- A whole run: the replies that an input has.
-use Rattle.std.specs.Prelude.{◌≡◌, ℕ, List, [], ◌∷◌, ◌++◌, take, ◌⊎◌, false}
+use Rattle.std.specs.Prelude.{◌≡◌, ℕ, List, [], ◌∷◌, ◌++◌, take, ◌⊎◌}
 use Rattle.std.specs.List.{flat_map}
 use Rattle.wstore.specs.Commands.{Command, Declare, IsCommand, IsMalformed, spell}
 use Rattle.wstore.specs.Replies.{Reply, text_of, bad_script}

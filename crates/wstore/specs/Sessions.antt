@@ -1,20 +1,20 @@
 -- Where a session stands after a history.
-use Rattle.std.specs.Prelude.{◌≡◌, ℕ, List, [], ◌∷◌, Option, None, Some, is_some, true}
+use Rattle.std.specs.Prelude.{◌≡◌, ℕ, List, [], ◌∷◌, Option, None, Some, is_some, true, false}
 use Rattle.wsegment.specs.Declaration.{Declaration}
 use Rattle.wstore.specs.Commands.{Command}
 use Rattle.wstore.specs.Replies.{Reply, text_of}
-use Rattle.wstore.specs.History.{Step, Answers, declaration, known}
-use Rattle.wstore.specs.Standing.{StandAt}
+use Rattle.wstore.specs.History.{Step, Answers, declaration, known, is_put}
+use Rattle.wstore.specs.Standing.{StandAt, places}
 use Rattle.wstore.specs.declared.cluster.Cluster.{Cluster}
 use Rattle.wstore.specs.declared.request.Command as code
 use Rattle.wstore.specs.declared.request.Command.TheVariants as commands
 use Rattle.wstore.specs.declared.session.Session.{Session}
 
 abbrev pub ClusterStands : Option Cluster → List Step → Type 0
-ClusterStands None h = (declaration h ≡ None) × ((n : ℕ) → known h n ≡ [])
-ClusterStands (Some cluster) h = (d : Declaration) × StandAt d cluster.nodes.items h
+ClusterStands None h = (declaration h ≡ None) × ((n : ℕ) → known h n ≡ []) × ((k : ℕ) → is_put h k ≡ false)
+ClusterStands (Some cluster) h = (d : Declaration) × StandAt d (places cluster.nodes.items cluster.slots.items) h
 
--- nothing was declared and nothing is known, or the nodes stand where the history led
+-- nothing was declared, known or put, or the nodes and slots stand where the history led
 abbrev pub Stands : Session → List Step → Type 0
 Stands session h = ClusterStands session.cluster h
 

@@ -1,89 +1,70 @@
 //! The nodes of a script, under one declaration.
-ghost use Rattle.std.specs.Prelude.{◌≡◌, ℕ, ◌+◌, ◌<◌, ◌↔◌, List, Some, Ok, replicate, IsSome, IfSome, IfOk, OnErr, vec_len};
+ghost use Rattle.std.specs.Prelude.{◌≡◌, ℕ, List, None, Ok, replicate, IfOk, OnErr, vec_len};
 ghost use Rattle.std.specs.FinMap as map;
 ghost use Rattle.wsegment.specs.Declaration.{Declaration};
 ghost use Rattle.wvalues.specs.NameReading.{ReadsName};
-ghost use Rattle.wstore.specs.Commands.{Command as Spelled, Take, Retire as Retiring, Listing, Ask, IsNode, node_count};
+ghost use Rattle.wstore.specs.Commands.{Command as Spelled, Take, Retire as Retiring, Listing, Ask, Put, Get, node_count, slot_count};
 ghost use Rattle.wstore.specs.History.{Step, declaration};
 
 use crate::node::Node;
+use crate::numbers::{NODES, NodeNumber, SLOTS, SlotNumber};
 use crate::replies::{Text, answer, names, refused_query, refused_segment, retired, taken};
 use crate::request::Order;
 use std::alloc::{AllocError, Global};
-use std::marker::Model;
 use wsegment::Schema;
+use wset::SegmentSet;
 use wvalues::Name;
 
-/// How many nodes a script has.
-const NODES: u32 = 1;
-
-/// The number of a node, from 1.
-#[derive(Clone, Copy, Debug)]
-pub(crate) struct NodeNumber {
-    number: u32,
-}
-
-impl Model for NodeNumber {
-    ghost use Rattle.std.specs.Prelude.{ℕ};
-    ghost use Rattle.std.specs.Coded.{coded_ℕ};
-    ghost use Rattle.wstore.specs.Commands.{IsNode};
-
-    ghost Value = { ℕ };
-
-    ghost coded = { coded_ℕ };
-
-    ghost view = { λ n. n.number };
-
-    ghost invariant = { λ n. IsNode n.number };
-
-    ghost inverse = { λ n. record { number = n } };
-}
-
-impl NodeNumber {
-    /// The node of this number, if there is one.
-    pub(crate) fn new(number: u32) -> Option<NodeNumber>
-        ensures found { IsSome result ↔ IsNode number }
-        ensures value { IfSome result (λ node. node ≡ number) }
-    {
-        if 0 < number && number <= NODES {
-            Some(NodeNumber { number })
-        } else {
-            None
-        }
-    }
-
-    /// Its place among the nodes, from 0.
-    fn place(self) -> usize
-        ensures place { result + 1 ≡ self }
-        ensures in_range { result < node_count }
-    {
-        (self.number - 1) as usize
-    }
-}
-
-/// The nodes of a script.
+/// The nodes and slots of a script. A slot holds nothing, or what a node knew when it was put.
 #[derive(Drop)]
 pub(crate) struct Cluster {
     alloc: Global,
     nodes: Vec<Node>,
+    slots: Vec<Option<SegmentSet>>,
     ghost full: { vec_len nodes ≡ node_count },
+    ghost full_slots: { vec_len slots ≡ slot_count },
+}
+
+// Nodes that know nothing.
+fn new_nodes(alloc: Global, schema: &Schema) -> Result<Vec<Node>, AllocError>
+    ensures { IfOk result (λ nodes. nodes.items ≡ replicate node_count (record { schema = schema.now; view = map.empty })) }
+{
+    let mut nodes = Vec::new(alloc);
+    for _ in 0..NODES {
+        let copied = schema.copy()?;
+        nodes.push(Node::new(alloc, copied))?;
+    }
+    Ok(nodes)
+}
+
+// Slots that hold nothing.
+fn empty_slots(alloc: Global) -> Result<Vec<Option<SegmentSet>>, AllocError>
+    ensures { IfOk result (λ slots. slots.items ≡ replicate slot_count None) }
+{
+    let mut slots = Vec::new(alloc);
+    for _ in 0..SLOTS {
+        slots.push(None)?;
+    }
+    Ok(slots)
 }
 
 impl Cluster {
-    ghost use Rattle.wstore.specs.Standing.{StandAt, AnswersAs};
+    ghost use Rattle.wstore.specs.Standing.{StandAt, AnswersAs, places};
     ghost use Rattle.wstore.specs.Texts.{bytes_of};
     ghost use Rattle.wstore.specs.Requests.{IsOrderAt};
 
     /// Nodes that know nothing.
     pub(crate) fn new(alloc: Global, schema: &Schema) -> Result<Cluster, AllocError>
-        ensures { IfOk result (λ c. c.nodes.items ≡ replicate node_count (record { schema = schema.now; view = map.empty })) }
+        ensures nodes { IfOk result (λ c. c.nodes.items ≡ replicate node_count (record { schema = schema.now; view = map.empty })) }
+        ensures slots { IfOk result (λ c. c.slots.items ≡ replicate slot_count None) }
     {
-        let mut nodes = Vec::new(alloc);
-        for _ in 0..NODES {
-            let copied = schema.copy()?;
-            nodes.push(Node::new(alloc, copied))?;
-        }
-        Ok(Cluster { alloc, nodes })
+        let nodes = new_nodes(alloc, schema)?;
+        let slots = empty_slots(alloc)?;
+        Ok(Cluster {
+            alloc,
+            nodes,
+            slots,
+        })
     }
 
     /// Takes a segment at a node.
@@ -93,8 +74,9 @@ impl Cluster {
         name: Name,
         bytes: &[u8],
     ) -> Result<Text, AllocError>
-        ensures answers { IfOk result (λ text. (d : Declaration) (h : List Step) (origin number : List ℕ) → ReadsName origin number (Ok name) → StandAt d self.old.nodes.items h → AnswersAs d self.new.nodes.items h (Take node origin number bytes.now) (bytes_of text)) }
+        ensures answers { IfOk result (λ text. (d : Declaration) (h : List Step) (origin number : List ℕ) → ReadsName origin number (Ok name) → StandAt d (places self.old.nodes.items self.old.slots.items) h → AnswersAs d (places self.new.nodes.items self.new.slots.items) h (Take node origin number bytes.now) (bytes_of text)) }
         ensures err { OnErr result (self.new.nodes.items ≡ self.old.nodes.items) }
+        ensures err_slots { OnErr result (self.new.slots.items ≡ self.old.slots.items) }
     {
         let place = node.place();
         match self.nodes[place].take(name, bytes) {
@@ -108,8 +90,9 @@ impl Cluster {
 
     /// Retires a name at a node.
     pub(crate) fn retire(&mut self, node: NodeNumber, name: Name) -> Result<Text, AllocError>
-        ensures answers { IfOk result (λ text. (d : Declaration) (h : List Step) (origin number : List ℕ) → ReadsName origin number (Ok name) → StandAt d self.old.nodes.items h → AnswersAs d self.new.nodes.items h (Retiring node origin number) (bytes_of text)) }
+        ensures answers { IfOk result (λ text. (d : Declaration) (h : List Step) (origin number : List ℕ) → ReadsName origin number (Ok name) → StandAt d (places self.old.nodes.items self.old.slots.items) h → AnswersAs d (places self.new.nodes.items self.new.slots.items) h (Retiring node origin number) (bytes_of text)) }
         ensures err { OnErr result (self.new.nodes.items ≡ self.old.nodes.items) }
+        ensures err_slots { OnErr result (self.new.slots.items ≡ self.old.slots.items) }
     {
         let place = node.place();
         let word = self.nodes[place].retire(name)?;
@@ -118,7 +101,7 @@ impl Cluster {
 
     /// Lists the names that a node knows.
     pub(crate) fn list(&self, node: NodeNumber) -> Result<Text, AllocError>
-        ensures { IfOk result (λ text. (d : Declaration) (h : List Step) → StandAt d self.now.nodes.items h → AnswersAs d self.now.nodes.items h (Listing node) (bytes_of text)) }
+        ensures { IfOk result (λ text. (d : Declaration) (h : List Step) → StandAt d (places self.now.nodes.items self.now.slots.items) h → AnswersAs d (places self.now.nodes.items self.now.slots.items) h (Listing node) (bytes_of text)) }
     {
         let place = node.place();
         let all = self.nodes[place].list()?;
@@ -128,7 +111,7 @@ impl Cluster {
 
     /// Asks a node.
     pub(crate) fn ask(&self, node: NodeNumber, text: &[u8]) -> Result<Text, AllocError>
-        ensures { IfOk result (λ reply. (d : Declaration) (h : List Step) → StandAt d self.now.nodes.items h → AnswersAs d self.now.nodes.items h (Ask node text.now) (bytes_of reply)) }
+        ensures { IfOk result (λ reply. (d : Declaration) (h : List Step) → StandAt d (places self.now.nodes.items self.now.slots.items) h → AnswersAs d (places self.now.nodes.items self.now.slots.items) h (Ask node text.now) (bytes_of reply)) }
     {
         let place = node.place();
         match self.nodes[place].ask(text) {
@@ -140,10 +123,43 @@ impl Cluster {
         }
     }
 
+    /// Puts what a node knows into a slot. Later steps of the node do not reach it.
+    pub(crate) fn put(&mut self, node: NodeNumber, slot: SlotNumber) -> Result<Text, AllocError>
+        ensures answers { IfOk result (λ text. (d : Declaration) (h : List Step) → StandAt d (places self.old.nodes.items self.old.slots.items) h → AnswersAs d (places self.new.nodes.items self.new.slots.items) h (Put node slot) (bytes_of text)) }
+        ensures err { OnErr result (self.new.nodes.items ≡ self.old.nodes.items) }
+        ensures err_slots { OnErr result (self.new.slots.items ≡ self.old.slots.items) }
+    {
+        let from = node.place();
+        let to = slot.place();
+        let set = self.nodes[from].copied()?;
+        self.slots[to] = Some(set);
+        Ok(Text::Fixed(b"ok\n"))
+    }
+
+    /// Joins what a slot holds into a node. A slot that nobody put is refused.
+    pub(crate) fn get(&mut self, slot: SlotNumber, node: NodeNumber) -> Result<Text, AllocError>
+        ensures answers { IfOk result (λ text. (d : Declaration) (h : List Step) → StandAt d (places self.old.nodes.items self.old.slots.items) h → AnswersAs d (places self.new.nodes.items self.new.slots.items) h (Get slot node) (bytes_of text)) }
+        ensures err { OnErr result (self.new.nodes.items ≡ self.old.nodes.items) }
+        ensures err_slots { OnErr result (self.new.slots.items ≡ self.old.slots.items) }
+    {
+        let from = slot.place();
+        let to = node.place();
+        let Some(held) = &self.slots[from] else {
+            return Ok(Text::Fixed(b"refused X2\n"));
+        };
+        let node = &mut self.nodes[to];
+        // The nodes and slots of a script have one schema, so that a join fails for want of memory alone.
+        match node.join(held) {
+            Ok(()) => Ok(Text::Fixed(b"ok\n")),
+            Err(_) => Err(AllocError),
+        }
+    }
+
     /// The reply of a node.
     pub(crate) fn answer(&mut self, node: NodeNumber, order: &Order) -> Result<Text, AllocError>
-        ensures answers { IfOk result (λ text. (d : Declaration) (h : List Step) (c : Spelled) → IsOrderAt node order.now c → StandAt d self.old.nodes.items h → AnswersAs d self.new.nodes.items h c (bytes_of text)) }
+        ensures answers { IfOk result (λ text. (d : Declaration) (h : List Step) (c : Spelled) → IsOrderAt node order.now c → StandAt d (places self.old.nodes.items self.old.slots.items) h → AnswersAs d (places self.new.nodes.items self.new.slots.items) h c (bytes_of text)) }
         ensures err { OnErr result (self.new.nodes.items ≡ self.old.nodes.items) }
+        ensures err_slots { OnErr result (self.new.slots.items ≡ self.old.slots.items) }
     {
         match order {
             Order::Take(name, bytes) => {
@@ -160,6 +176,14 @@ impl Cluster {
             }
             Order::Ask(text) => {
                 let text = self.ask(node, text)?;
+                Ok(text)
+            }
+            Order::Put(slot) => {
+                let text = self.put(node, *slot)?;
+                Ok(text)
+            }
+            Order::Get(slot) => {
+                let text = self.get(*slot, node)?;
                 Ok(text)
             }
         }

@@ -2,10 +2,10 @@
 ghost use Rattle.std.specs.Prelude.{◌≡◌, ℕ, ◌<◌, ◌≤◌, List, [], ◌∷◌, ◌++◌, IfSome, IsSomeAnd, decimal, Some};
 ghost use Rattle.wlines.specs.Words.{Lacks, IsWord};
 ghost use Rattle.wvalues.specs.NameReading.{ReadsName};
-ghost use Rattle.wstore.specs.Commands.{Form, DeclareForm, TakeForm, RetireForm, ListForm, AskForm, IsForm, IsNode, IsLength, line_of, take_words, retire_words, ask_words};
+ghost use Rattle.wstore.specs.Commands.{Form, DeclareForm, TakeForm, RetireForm, ListForm, AskForm, PutForm, GetForm, IsForm, IsNode, IsSlot, IsLength, line_of, take_words, retire_words, pair_words};
 ghost use Rattle.wstore.specs.Headers.{IsHeaderOf};
 
-use crate::cluster::NodeNumber;
+use crate::numbers::{NodeNumber, SlotNumber};
 use wlines::{is_word, split_word};
 use wvalues::{Name, NameFault, number_word};
 
@@ -18,6 +18,8 @@ pub(crate) enum Header {
     Retire(NodeNumber, Result<Name, NameFault>),
     List(NodeNumber),
     Ask(NodeNumber, u32),
+    Put(NodeNumber, SlotNumber),
+    Get(SlotNumber, NodeNumber),
 }
 
 // The node that a word names.
@@ -27,6 +29,17 @@ fn node_word(word: &[u8]) -> Option<NodeNumber>
 {
     match number_word(word) {
         Some(number) => NodeNumber::new(number),
+        None => None,
+    }
+}
+
+// The slot that a word names.
+fn slot_word(word: &[u8]) -> Option<SlotNumber>
+    ensures found { IfSome result (λ n. (word.now ≡ decimal n) × IsSlot n) }
+    ensures only { (n : ℕ) → IsSlot n → word.now ≡ decimal n → result ≡ Some n }
+{
+    match number_word(word) {
+        Some(number) => SlotNumber::new(number),
         None => None,
     }
 }
@@ -51,6 +64,20 @@ fn split_node(words: &[u8]) -> Option<(NodeNumber, &[u8])>
         return None;
     };
     Some((node, rest))
+}
+
+// The slot in front, and the words behind it.
+fn split_slot(words: &[u8]) -> Option<(SlotNumber, &[u8])>
+    ensures found { IfSome result (λ parts. IsSlot parts.0 × (words.now ≡ decimal parts.0 ++ (32 ∷ parts.1.now))) }
+    ensures only { (n : ℕ) (rest : List ℕ) → IsSlot n → words.now ≡ decimal n ++ (32 ∷ rest) → IsSomeAnd result (λ parts. (parts.0 ≡ n) × (parts.1.now ≡ rest)) }
+{
+    let Some((first, rest)) = split_word(words) else {
+        return None;
+    };
+    let Some(slot) = slot_word(first) else {
+        return None;
+    };
+    Some((slot, rest))
 }
 
 // The word in front, and the words behind it.
@@ -106,8 +133,8 @@ fn take_header(words: &[u8]) -> Option<Header>
 
 // The words behind `Q`.
 fn ask_header(words: &[u8]) -> Option<Header>
-    ensures found { IfSome result (λ h. (node : ℕ) × (len : ℕ) × IsForm (AskForm node len) × IsHeaderOf h (AskForm node len) × (words.now ≡ ask_words node len)) }
-    ensures only { (node len : ℕ) → IsForm (AskForm node len) → words.now ≡ ask_words node len → IsSomeAnd result (λ h. IsHeaderOf h (AskForm node len)) }
+    ensures found { IfSome result (λ h. (node : ℕ) × (len : ℕ) × IsForm (AskForm node len) × IsHeaderOf h (AskForm node len) × (words.now ≡ pair_words node len)) }
+    ensures only { (node len : ℕ) → IsForm (AskForm node len) → words.now ≡ pair_words node len → IsSomeAnd result (λ h. IsHeaderOf h (AskForm node len)) }
 {
     let Some((node, last)) = split_node(words) else {
         return None;
@@ -140,6 +167,34 @@ fn list_header(words: &[u8]) -> Option<Header>
     Some(Header::List(node))
 }
 
+// The words behind `P`.
+fn put_header(words: &[u8]) -> Option<Header>
+    ensures found { IfSome result (λ h. (node : ℕ) × (slot : ℕ) × IsForm (PutForm node slot) × IsHeaderOf h (PutForm node slot) × (words.now ≡ pair_words node slot)) }
+    ensures only { (node slot : ℕ) → IsForm (PutForm node slot) → words.now ≡ pair_words node slot → IsSomeAnd result (λ h. IsHeaderOf h (PutForm node slot)) }
+{
+    let Some((node, last)) = split_node(words) else {
+        return None;
+    };
+    let Some(slot) = slot_word(last) else {
+        return None;
+    };
+    Some(Header::Put(node, slot))
+}
+
+// The words behind `G`.
+fn get_header(words: &[u8]) -> Option<Header>
+    ensures found { IfSome result (λ h. (slot : ℕ) × (node : ℕ) × IsForm (GetForm slot node) × IsHeaderOf h (GetForm slot node) × (words.now ≡ pair_words slot node)) }
+    ensures only { (slot node : ℕ) → IsForm (GetForm slot node) → words.now ≡ pair_words slot node → IsSomeAnd result (λ h. IsHeaderOf h (GetForm slot node)) }
+{
+    let Some((slot, last)) = split_slot(words) else {
+        return None;
+    };
+    let Some(node) = node_word(last) else {
+        return None;
+    };
+    Some(Header::Get(slot, node))
+}
+
 /// What a header line says, where it is one.
 pub(crate) fn read_header(line: &[u8]) -> Option<Header>
     ensures found { IfSome result (λ h. (f : Form) × IsForm f × IsHeaderOf h f × (line.now ≡ line_of f)) }
@@ -151,6 +206,8 @@ pub(crate) fn read_header(line: &[u8]) -> Option<Header>
         [b'R', b' ', words @ ..] => retire_header(words),
         [b'L', b' ', words @ ..] => list_header(words),
         [b'Q', b' ', words @ ..] => ask_header(words),
+        [b'P', b' ', words @ ..] => put_header(words),
+        [b'G', b' ', words @ ..] => get_header(words),
         _ => None,
     }
 }

@@ -1,20 +1,24 @@
 //! Nodes, and the scripts that speak to them.
 //!
 //! - Gives a node, which takes segments, retires names, lists them and answers queries, and `run`, which reads
-//!   a script of such commands from any reader and writes a reply to each.
+//!   a script of such commands to sixteen nodes from any reader and writes a reply to each. Nodes exchange what they
+//!   know through sixteen slots.
 //! - Promises: what `run` has written is what the script's commands are answered, each by what its node was told
-//!   before it; at a fault it is a beginning of that. A node is what it knows, and a refused command changes nothing.
+//!   before it, itself or through slots; at a fault it is a beginning of that. Nodes that know the same answer the
+//!   same (`laws`). A node is what it knows, and a refused command changes nothing.
 //! - Asks: a reader and a writer that have counted nothing yet.
 //! - Leaves segments to `wsegment`, what is known of names to `wset`, and lines and bodies to `wlines`.
 //!
 //! Read `specs/Commands.antt`, `specs/Replies.antt`, `specs/Queries.antt`, `specs/History.antt`, then
-//! `specs/Runs.antt`; the others say how the code stands for them.
+//! `specs/Laws.antt` and `specs/Runs.antt`; the others say how the code stands for them.
 #![tactic(auto)]
 
 mod cluster;
 mod fault;
 mod header;
+pub mod laws;
 mod node;
+mod numbers;
 mod reading;
 mod replies;
 mod request;

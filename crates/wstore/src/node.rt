@@ -1,5 +1,5 @@
 //! One node.
-ghost use Rattle.std.specs.Prelude.{◌≡◌, ◌⊎◌, ◌<◌, ◌++◌, ◌∷◌, length, map as list_map, Ok, Err, IsOk, IfOk, IfErr, OnOk, OnErr, MatchResult, IfSome, codes, decimal};
+ghost use Rattle.std.specs.Prelude.{◌≢◌, ◌≡◌, ◌⊎◌, ◌<◌, ◌++◌, ◌∷◌, length, map as list_map, Ok, Err, IsOk, IfOk, IfErr, OnOk, OnErr, MatchResult, IfSome, codes, decimal};
 ghost use Rattle.std.specs.FinMap as map;
 ghost use Rattle.std.specs.Str.{bytes_eq};
 ghost use Rattle.wsegment.specs.Outcome.{Fails};
@@ -16,7 +16,7 @@ use itoa::Buffer;
 use std::alloc::{AllocError, Global};
 use std::marker::Model;
 use wsegment::Schema;
-use wset::{Listed, Retired, SegmentSet, TakeError, Taken};
+use wset::{JoinError, Listed, Retired, SegmentSet, TakeError, Taken};
 use wvalues::Name;
 
 /// The most bytes of a query.
@@ -91,6 +91,28 @@ impl Node {
         ensures err { OnErr result (self.new ≡ self.old) }
     {
         self.set.retire(name)
+    }
+
+    /// A copy of what the node knows, which shares its segments.
+    pub(crate) fn copied(&self) -> Result<SegmentSet, AllocError>
+        ensures { IfOk result (λ copy. copy ≡ self.now) }
+    {
+        let schema = self.set.schema().copy()?;
+        let mut copy = SegmentSet::new(self.alloc, schema);
+        let Ok(()) = copy.join(&self.set) else {
+            return Err(AllocError);
+        };
+        Ok(copy)
+    }
+
+    /// Learns all that a set knows, as `SegmentSet::join` does.
+    pub(crate) fn join(&mut self, set: &SegmentSet) -> Result<(), JoinError>
+        ensures ok { OnOk result (self.new ≡ record self.old { view = join self.old.view set.now.view }) }
+        ensures same { OnOk result (self.old.schema ≡ set.now.schema) }
+        ensures refused { result ≡ Err JoinError.OtherSchema → self.old.schema ≢ set.now.schema }
+        ensures err { OnErr result (self.new ≡ self.old) }
+    {
+        self.set.join(set)
     }
 
     /// Each name that is not unknown, in the order of names.

@@ -4,8 +4,8 @@ ghost use Rattle.wvalues.specs.NameReading.{ReadsName};
 ghost use Rattle.wlines.specs.Pending.{left, budget, IsSound, ReadFailed};
 ghost use Rattle.wstore.specs.Requests.{BehindReads, RequestReads, GoesOn};
 
-use crate::cluster::NodeNumber;
 use crate::header::{Header, read_header};
+use crate::numbers::NodeNumber;
 use crate::request::{Command, Order, Refusal, Request};
 use std::alloc::Global;
 use std::io::Read;
@@ -169,6 +169,8 @@ fn read_behind<R: Read>(
         Header::Retire(node, name) => Ok(retire_request(node, name)),
         Header::List(node) => Ok(Request::Whole(Command::At(node, Order::List))),
         Header::Ask(node, len) => read_query(alloc, source, input, node, len),
+        Header::Put(node, slot) => Ok(Request::Whole(Command::At(node, Order::Put(slot)))),
+        Header::Get(slot, node) => Ok(Request::Whole(Command::At(node, Order::Get(slot)))),
     }
 }
 

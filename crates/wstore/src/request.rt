@@ -1,5 +1,5 @@
 //! Commands, as they are read.
-use crate::cluster::NodeNumber;
+use crate::numbers::{NodeNumber, SlotNumber};
 use wvalues::{Name, NameFault};
 
 /// Why the form of a command refuses it, whatever a node knows.
@@ -15,13 +15,15 @@ pub(crate) enum Refusal {
     LongQuery,
 }
 
-/// What a node is told or asked, with its body.
+/// What a node is told, asked, puts or gets, with its body.
 #[derive(Drop)]
 pub(crate) enum Order {
     Take(Name, Vec<u8>),
     Retire(Name),
     List,
     Ask(Vec<u8>),
+    Put(SlotNumber),
+    Get(SlotNumber),
 }
 
 /// A command.

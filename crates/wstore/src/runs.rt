@@ -9,7 +9,7 @@ ghost use Rattle.wstore.specs.Runs.{Replies, RepliesBegun};
 ghost use Rattle.wstore.specs.Sessions.{Stands, MayStand};
 ghost use Rattle.wstore.specs.Steps.{HasCause, HasWriteCause, Answered, Unanswered, StepTells, StepFails};
 
-use crate::cluster::NodeNumber;
+use crate::numbers::NodeNumber;
 use crate::reading::read_command;
 use crate::request::{Command, Order, Refusal, Request};
 use crate::session::{Session, refuse};

@@ -7,8 +7,9 @@ ghost use Rattle.wstore.specs.History.{Step, is_declared};
 ghost use Rattle.wstore.specs.Texts.{bytes_of};
 ghost use Rattle.wstore.specs.Sessions.{Stands, Tells};
 
-use crate::cluster::{Cluster, NodeNumber};
+use crate::cluster::Cluster;
 use crate::fault::AskFault;
+use crate::numbers::NodeNumber;
 use crate::replies::{Text, refused_name, refused_query, refused_table};
 use crate::request::{Order, Refusal};
 use std::alloc::{AllocError, Global};

@@ -1,7 +1,5 @@
 use Rattle.std.proofs.Common.{◌≡◌, ◌++◌, take, drop, codes, sym, ap, ◌∙◌, take-append-drop, rules}
 use Rattle.std.specs.Cmp.Lexicographic.{bytes_decides}
-use Rattle.std.specs.Str.{bytes_eq}
-use Rattle.wstore.specs.Queries.{count_query}
 use Rattle.wstore.proofs.node.is_count_query.Goals as goal
 
 pub returns-in-Some : goal.returns-in-Some

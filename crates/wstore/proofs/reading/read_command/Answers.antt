@@ -1,6 +1,5 @@
-use Rattle.std.proofs.Common.{◌≡◌, refl, sym, ap, ◌∙◌, subst, true, false}
+use Rattle.std.proofs.Common.{sym, ◌∙◌}
 use Rattle.wlines.specs.Pending.{left}
-use Rattle.wstore.specs.Requests.{BehindReads}
 use Rattle.wstore.proofs.Spelling.{bad_line, bad_header, request_reads}
 use Rattle.wstore.proofs.reading.read_command.Goals as goal
 

@@ -1,6 +1,5 @@
-use Rattle.std.proofs.Common.{◌≡◌, sym}
 use Rattle.wstore.specs.Texts.{bytes_of}
-use Rattle.wstore.proofs.Writing.{answered, answered_part, unanswered}
+use Rattle.wstore.proofs.Writing.{answered}
 use Rattle.wstore.proofs.runs.declare.Goals as goal
 
 pub returns-clause-ok : goal.returns-clause-ok

@@ -1,5 +1,5 @@
 use Rattle.wlines.specs.Pending.{left}
-use Rattle.wstore.proofs.WholeRuns.{none_so_far, one_step_more, run_ends, run_fails, run_not_begun}
+use Rattle.wstore.proofs.WholeRuns.{one_step_more, run_ends, run_fails, run_not_begun}
 use Rattle.wstore.proofs.runs.run.Goals as goal
 
 pub returns-in_default-clause-begun : goal.returns-in_default-clause-begun

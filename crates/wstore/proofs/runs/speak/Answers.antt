@@ -1,4 +1,3 @@
-use Rattle.std.proofs.Common.{◌≡◌, sym}
 use Rattle.wstore.specs.Replies.{no_memory}
 use Rattle.wstore.specs.Texts.{bytes_of}
 use Rattle.wstore.proofs.Telling.{finds_no_memory}

@@ -1,4 +1,3 @@
-use Rattle.std.proofs.Common.{◌≡◌}
 use Rattle.wlines.specs.Pending.{left}
 use Rattle.wstore.specs.Replies.{no_memory}
 use Rattle.wstore.proofs.Stepping.{may_stand, fails_at_last, fails_at_answer}

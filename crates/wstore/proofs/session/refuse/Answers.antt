@@ -1,4 +1,4 @@
-use Rattle.std.proofs.Common.{◌≡◌, sym, subst}
+use Rattle.std.proofs.Common.{subst}
 use Rattle.wstore.specs.Requests.{IsRefusedAs}
 use Rattle.wstore.proofs.Telling.{long_declaration, bad_name, long_segment, long_query}
 use Rattle.wstore.proofs.session.refuse.Goals as goal

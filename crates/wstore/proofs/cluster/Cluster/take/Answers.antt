@@ -1,5 +1,6 @@
 use Rattle.std.proofs.Common.{◌≡◌, ◌∙◌, ap, set}
 use Rattle.std.proofs.lemmas.List.{set-get_or}
+use Rattle.wstore.specs.Standing.{places}
 use Rattle.wstore.proofs.Answering.{taken_at, refused_at}
 use Rattle.wstore.proofs.cluster.Cluster.take.Goals as goal
 
@@ -14,5 +15,5 @@ returns-in_ok-text-in-Err-clause-answers c = λ d h origin number named stand.
     let p = c.place-place.result in
     let kept : set nodes p c.take.new.self ≡ nodes = ap (set nodes p) (c.in-Err.ensures.err ∙ c.index_mut.ensures.value) ∙ set-get_or nodes p c.index_mut.result.now in
     rw kept
-    (refused_at d nodes h c.args.node p c.index_mut.result.now stand c.place-place.ensures.place c.place-place.ensures.in_range c.index_mut.ensures.value
+    (refused_at d (places nodes c.args.self.now.slots.items) h c.args.node p c.index_mut.result.now stand c.place-place.ensures.place c.place-place.ensures.in_range c.index_mut.ensures.value
     origin number c.args.bytes.now c.args.name c.in-Err.fault _ named c.in-Err.ensures.refused c.in_ok-text-in-Err.ensures)

@@ -1,0 +1,58 @@
+-- What histories tell: what a node knows and a slot holds, item by item, and the laws of it.
+use Rattle.std.specs.Prelude.{◌≡◌, ◌≢◌, ◌↔◌, ℕ, true, List, [], ◌∷◌, Option, None, Some, ◌⊎◌}
+use Rattle.std.specs.List.{IsAmong}
+use Rattle.wsegment.specs.Declaration.{Declaration}
+use Rattle.wset.specs.Views.{join}
+use Rattle.wset.specs.Items.{Item, view_of}
+use Rattle.wstore.specs.Commands.{Listing, Ask, Get}
+use Rattle.wstore.specs.Replies.{Reply, Done, NoMemory}
+use Rattle.wstore.specs.History.{Step, Answers, declaration, delivers, gets, puts, known, held, is_put}
+
+-- it is so at another place, if at any
+abbrev pub Drawn : Option ℕ → (ℕ → Type 0) → Type 0
+Drawn None there = ⊥
+Drawn (Some k) there = there k
+
+-- it is so at another place, in the place of here
+abbrev pub Replaced : Option ℕ → (ℕ → Type 0) → Type 0 → Type 0
+Replaced None there here = here
+Replaced (Some n) there here = there n
+
+-- a node knows what it knew, what a slot held that it got, and what it was told; a slot holds what its node knew when it was put last
+abbrev mutual
+  pub Knows : List Step → ℕ → Item → Type 0
+  Knows [] n i = ⊥
+  Knows (s ∷ h) n i = Knows h n i ⊎ (Drawn (gets s.command s.reply n) (λ k. Holds h k i) ⊎ IsAmong (delivers s.command s.reply n) i)
+
+  pub Holds : List Step → ℕ → Item → Type 0
+  Holds [] k i = ⊥
+  Holds (s ∷ h) k i = Replaced (puts s.command s.reply k) (λ n. Knows h n i) (Holds h k i)
+
+-- the lists of items are what is known and held, item by item
+pub record ListsAreExact : Type 0 where
+  pub knows : (h : List Step) (n : ℕ) (i : Item) → IsAmong (known h n) i ↔ Knows h n i
+  pub holds : (h : List Step) (k : ℕ) (i : Item) → IsAmong (held h k) i ↔ Holds h k i
+
+-- a slot that was got was put, and makes the view of its node the join of its view with the slot's
+abbrev pub SlotsJoin : Type 0
+SlotsJoin = (h : List Step) (k n : ℕ) (d : Declaration) → declaration h ≡ Some d → Answers h (Get k n) Done →
+    (is_put h k ≡ true) × (view_of (known (record { command = Get k n; reply = Done } ∷ h) n) ≡ join (view_of (known h n)) (view_of (held h k)))
+
+-- two nodes, at any moments of any two histories, know the same items
+pub record KnowTheSame (g h : List Step) (m n : ℕ) : Type 0 where
+  pub to : (i : Item) → Knows g m i → Knows h n i
+  pub back : (i : Item) → Knows h n i → Knows g m i
+
+-- they have the same view
+abbrev pub SameViews : Type 0
+SameViews = (g h : List Step) (m n : ℕ) → KnowTheSame g h m n → view_of (known g m) ≡ view_of (known h n)
+
+-- under one declaration they answer the same to every query, where both answer
+abbrev pub SameAnswers : Type 0
+SameAnswers = (g h : List Step) (m n : ℕ) (d : Declaration) (text : List ℕ) (r s : Reply) → KnowTheSame g h m n → declaration g ≡ Some d → declaration h ≡ Some d →
+    Answers g (Ask m text) r → Answers h (Ask n text) s → r ≢ NoMemory → s ≢ NoMemory → r ≡ s
+
+-- and list the same
+abbrev pub SameLists : Type 0
+SameLists = (g h : List Step) (m n : ℕ) (d : Declaration) (r s : Reply) → KnowTheSame g h m n → declaration g ≡ Some d → declaration h ≡ Some d →
+    Answers g (Listing m) r → Answers h (Listing n) s → r ≢ NoMemory → s ≢ NoMemory → r ≡ s
