@@ -18,8 +18,8 @@ use Rattle.wset.specs.declared.words.Retired.{Retired}
 use Rattle.wset.specs.declared.words.Listed.{Listed}
 use Rattle.wstore.specs.Commands.{Command, Take, Retire as Retiring, Listing, Ask, Put, Get, node_count, slot_count}
 use Rattle.wstore.specs.Replies.{Reply, text_of, Took, Was, RefusedSegment, Names, Answered, RefusedQuery, Done, RefusedFile, NoMemory, taken_text, retired_text, segment_text, names_text, answer_text, query_text}
-use Rattle.wstore.specs.History.{Step, Answers, NodeAnswers, declaration, declared_by, segment_reply, query_reply, delivers, gets, puts, drawn, get_reply, held, is_put, known}
-use Rattle.wstore.specs.Queries.{answer_of}
+use Rattle.wstore.specs.History.{Step, Answers, NodeAnswers, declaration, declared_by, segment_reply, delivers, gets, puts, drawn, get_reply, held, is_put, known}
+use Rattle.wstore.specs.Queries.{IsAnswer}
 use Rattle.wstore.specs.Standing.{KnowsThese, HoldsThese, Places, StandAt, AnswersAs, places}
 use Rattle.wstore.specs.declared.fault.AskFault.{AskFault}
 use Rattle.wstore.specs.declared.fault.AskFault.TheVariants as queries
@@ -92,16 +92,16 @@ module _ (d : Declaration) (at : Places) (h : List Step) (n p : ℕ) (node : Dec
       quietly (Listing n) (Names all) text (under d h (Listing n) (Names all) stand.declared (here (Listing n) (Names all) (ap Names all_is))) text_is refl
       (record { delivers_none = λ m. refl; gets_none = λ m. refl; puts_none = λ k. refl })
 
-  pub answered_at : (query bytes text : List ℕ) → answer_of node.schema node.view query ≡ Ok bytes → text ≡ answer_text bytes → AnswersAs d at h (Ask n query) text
+  pub answered_at : (query bytes text : List ℕ) → IsAnswer node.schema node.view query (Ok bytes) → text ≡ answer_text bytes → AnswersAs d at h (Ask n query) text
   answered_at query bytes text answer_is text_is =
-      quietly (Ask n query) (Answered bytes) text (under d h (Ask n query) (Answered bytes) stand.declared (here (Ask n query) (Answered bytes) (ap query_reply (sym answer_is)))) text_is refl
+      quietly (Ask n query) (Answered bytes) text (under d h (Ask n query) (Answered bytes) stand.declared (here (Ask n query) (Answered bytes) (Ok bytes, answer_is, refl))) text_is refl
       (record { delivers_none = λ m. refl; gets_none = λ m. refl; puts_none = λ k. refl })
 
-  pub unanswered_at : (query text : List ℕ) (fault : AskFault) → (fault ≡ queries.NoMemory) ⊎ (answer_of node.schema node.view query ≡ Err fault) → text ≡ query_text fault → AnswersAs d at h (Ask n query) text
+  pub unanswered_at : (query text : List ℕ) (fault : AskFault) → (fault ≡ queries.NoMemory) ⊎ IsAnswer node.schema node.view query (Err fault) → text ≡ query_text fault → AnswersAs d at h (Ask n query) text
   unanswered_at query text fault fails text_is = elim fails [
     | inl e ↦ quietly (Ask n query) NoMemory text (inr (λ x. x, refl)) (text_is ∙ ap query_text e) refl (record { delivers_none = λ m. refl; gets_none = λ m. refl; puts_none = λ k. refl })
     | inr e ↦ quietly (Ask n query) (RefusedQuery fault) text
-        (under d h (Ask n query) (RefusedQuery fault) stand.declared (here (Ask n query) (RefusedQuery fault) (ap query_reply (sym e)))) text_is refl
+        (under d h (Ask n query) (RefusedQuery fault) stand.declared (here (Ask n query) (RefusedQuery fault) (Err fault, e, refl))) text_is refl
         (record { delivers_none = λ m. refl; gets_none = λ m. refl; puts_none = λ k. refl })
   ]
 

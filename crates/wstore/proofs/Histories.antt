@@ -9,7 +9,8 @@ use Rattle.wset.specs.Listing.{listed}
 use Rattle.wset.proofs.Union.{view_of_union, same_items_same_view}
 use Rattle.wstore.specs.Commands.{Command, Listing, Ask, Get}
 use Rattle.wstore.specs.Replies.{Reply, Names, Done, NoMemory}
-use Rattle.wstore.specs.Queries.{answer_of}
+use Rattle.wstore.specs.Queries.{IsAnswer}
+use Rattle.wstore.proofs.Asking.{one_answer}
 use Rattle.wstore.specs.History.{Step, Answers, AnswersUnder, declaration, delivers, gets, puts, drawn, replaced, known, held, is_put, get_reply, query_reply}
 use Rattle.wstore.specs.Laws.{Drawn, Replaced, Knows, Holds, ListsAreExact, SlotsJoin, SameViews, SameAnswers, SameLists}
 use Rattle.wstore.proofs.Standing.{drawn_here}
@@ -147,9 +148,9 @@ told h d c r is answers some = elim answers [
 
 pub same_answers : SameAnswers
 same_answers g h m n d text r s same at_g at_h by_g by_h some_r some_s =
-    told g d (Ask m text) r at_g by_g some_r
-    ∙ ap (λ v. query_reply (answer_of d v text)) (same_views g h m n same)
-    ∙ sym (told h d (Ask n text) s at_h by_h some_s)
+    let one = told g d (Ask m text) r at_g by_g some_r in
+    let other = told h d (Ask n text) s at_h by_h some_s in
+    one.2 ∙ ap query_reply (one_answer d (view_of (known h n)) text one.0 other.0 (subst (λ v. IsAnswer d v text one.0) (same_views g h m n same) one.1) other.1) ∙ sym other.2
 
 pub same_lists : SameLists
 same_lists g h m n d r s same at_g at_h by_g by_h some_r some_s =

@@ -8,4 +8,5 @@ pub mod Writing
 pub mod Stepping
 pub mod WholeRuns
 pub mod Copying
+pub mod Asking
 pub mod Histories

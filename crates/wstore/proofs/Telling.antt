@@ -1,5 +1,5 @@
 -- Commands that a session answers.
-use Rattle.std.proofs.Common.{◌≡◌, ◌≢◌, ℕ, ◌+◌, ◌<◌, Bool, true, false, List, [], ◌∷◌, length, replicate, Option, None, Some, is_some, if◌then◌else◌, nat_lt, Ok, Err, refl, sym, ap, ◌∙◌, subst, inl, inr, arith}
+use Rattle.std.proofs.Common.{◌≡◌, ◌≢◌, ℕ, ◌+◌, ◌<◌, Bool, true, false, List, [], ◌∷◌, length, replicate, Option, None, Some, is_some, nat_lt, Ok, Err, refl, sym, ap, ◌∙◌, subst, inl, inr, arith}
 use Rattle.std.proofs.lemmas.List.{length-replicate, get_or-replicate}
 use Rattle.std.proofs.lemmas.Bool.Decides.{nat_tests}
 use Rattle.std.specs.FinMap as map
@@ -10,16 +10,12 @@ use Rattle.wsegment.specs.declared.schema_fault.SchemaFault.TheVariants as table
 use Rattle.wsegment.specs.Rows.{rows_of}
 use Rattle.wsegment.specs.declared.fault.SegmentFault.TheVariants as segments
 use Rattle.wvalues.specs.declared.name.NameFault.{NameFault}
-use Rattle.wset.specs.Views.{View}
-use Rattle.wset.specs.Tables.{table_of}
 use Rattle.wset.specs.Items.{Item, view_of}
 use Rattle.wset.specs.Sets.{DeclaredView}
-use Rattle.std.specs.Str.{bytes_eq}
 use Rattle.wstore.specs.Commands.{Command, Declare, Take, Retire, Listing, Ask, Put, Get, IsAllowed, IsDeclaration, node_count, slot_count}
 use Rattle.wstore.specs.Replies.{Reply, Declared, RefusedTable, RefusedName, RefusedSegment, RefusedQuery, NoMemory, table_text, name_text, segment_text, query_text, no_memory, text_of}
 use Rattle.wstore.specs.Requests.{IsRefusedAs}
-use Rattle.wstore.specs.Queries.{answer_of, count_query, count_table}
-use Rattle.wstore.specs.History.{Step, AnswersUnder, declaration, declared_by, is_declared, is_put, is_put_by, held, known, segment_reply, query_reply}
+use Rattle.wstore.specs.History.{Step, AnswersUnder, declaration, declared_by, is_declared, is_put, is_put_by, held, known, segment_reply}
 use Rattle.wstore.specs.Standing.{KnowsThese, HoldsThese, StandAt, places}
 use Rattle.wstore.specs.declared.fault.AskFault.TheVariants as queries
 use Rattle.wstore.specs.declared.request.Refusal.TheVariants as refusals
@@ -169,9 +165,6 @@ long_segment session h (Ask n text) long allowed stands = absurd long
 long_segment session h (Put m s) long allowed stands = absurd long
 long_segment session h (Get s m) long allowed stands = absurd long
 
-long_text : (d : Declaration) (v : View) (text : List ℕ) → 65536 < length text → answer_of d v text ≡ Err queries.TooLong
-long_text d v text h = ap (λ b. if b then Err queries.TooLong else (if bytes_eq text (count_query d.table) then Ok (count_table (length (table_of d v))) else Err queries.NotYet)) (less 65536 (length text) h)
-
 pub long_query : (session : Session) (h : List Step) (c : Command) → IsRefusedAs refusals.LongQuery c → IsAllowed (is_declared h) c → Stands session h → Tells session h c (query_text queries.TooLong)
 long_query session h (Declare bytes) long allowed stands = absurd long
 long_query session h (Take n o m bytes) long allowed stands = absurd long
@@ -180,4 +173,4 @@ long_query session h (Listing n) long allowed stands = absurd long
 long_query session h (Put n k) long allowed stands = absurd long
 long_query session h (Get k n) long allowed stands = absurd long
 long_query session h (Ask n text) long allowed stands =
-    node_tells session h (Ask n text) (RefusedQuery queries.TooLong) (query_text queries.TooLong) allowed stands (λ d. ap query_reply (sym (long_text d (view_of (known h n)) text long))) refl (record { delivers_none = λ n. refl; gets_none = λ n. refl; puts_none = λ k. refl }) refl
+    node_tells session h (Ask n text) (RefusedQuery queries.TooLong) (query_text queries.TooLong) allowed stands (λ d. (Err queries.TooLong, long, refl)) refl (record { delivers_none = λ n. refl; gets_none = λ n. refl; puts_none = λ k. refl }) refl

@@ -16,7 +16,7 @@ use Rattle.wset.specs.Words.{taken_word, retired_word}
 use Rattle.wset.specs.Listing.{listed}
 use Rattle.wstore.specs.Commands.{Command, Declare, Take, Retire, Listing, Ask, Put, Get, IsDeclaration}
 use Rattle.wstore.specs.Replies.{Reply, Declared, RefusedTable, Took, Was, RefusedName, RefusedSegment, Names, Answered, RefusedQuery, Done, RefusedFile, NoMemory}
-use Rattle.wstore.specs.Queries.{answer_of}
+use Rattle.wstore.specs.Queries.{IsAnswer}
 use Rattle.wstore.specs.declared.fault.AskFault.{AskFault}
 
 pub record Step : Type 0 where
@@ -113,7 +113,7 @@ abbrev pub NodeAnswers : Declaration → View → Command → Reply → Type 0
 NodeAnswers d v (Take n origin number bytes) r = (name : Result NameParts NameFault) × ReadsName origin number name × (r ≡ take_reply name d v bytes)
 NodeAnswers d v (Retire n origin number) r = (name : Result NameParts NameFault) × ReadsName origin number name × (r ≡ retire_reply name v)
 NodeAnswers d v (Listing n) r = r ≡ Names (map (listed d) (entries v))
-NodeAnswers d v (Ask n text) r = r ≡ query_reply (answer_of d v text)
+NodeAnswers d v (Ask n text) r = (answer : Result (List ℕ) AskFault) × IsAnswer d v text answer × (r ≡ query_reply answer)
 NodeAnswers d v c r = ⊥
 
 -- a slot that nobody put is no file

@@ -64,24 +64,27 @@ name_text names.BadOrigin = codes "refused N1\n"
 name_text names.BadNumber = codes "refused N2\n"
 
 -- a refusal that carries the number of a row
-abbrev pub at_row : List ℕ → ℕ → List ℕ
-at_row words row = words ++ (decimal row ++ 10 ∷ [])
+abbrev pub at_number : List ℕ → ℕ → List ℕ
+at_number words row = words ++ (decimal row ++ 10 ∷ [])
 
 abbrev pub segment_text : SegmentFault → List ℕ
 segment_text segments.TooLong = codes "refused S1\n"
 segment_text segments.NoHeader = codes "refused S2\n"
 segment_text segments.HeaderNotUtf8 = codes "refused S3\n"
-segment_text (segments.RowNotUtf8 row) = at_row (codes "refused S3 row ") row
+segment_text (segments.RowNotUtf8 row) = at_number (codes "refused S3 row ") row
 segment_text segments.UnknownColumn = codes "refused S4\n"
 segment_text segments.RepeatedColumn = codes "refused S5\n"
 segment_text segments.MissingColumn = codes "refused S6\n"
-segment_text (segments.RowLength row) = at_row (codes "refused S7 row ") row
-segment_text (segments.NotInteger row) = at_row (codes "refused S8 row ") row
+segment_text (segments.RowLength row) = at_number (codes "refused S7 row ") row
+segment_text (segments.NotInteger row) = at_number (codes "refused S8 row ") row
 segment_text segments.TooManyRows = codes "refused S9\n"
 segment_text segments.NoMemory = no_memory
 
 abbrev pub query_text : AskFault → List ℕ
 query_text queries.TooLong = codes "refused Q1\n"
+query_text queries.NotUtf8 = codes "refused Q2\n"
+query_text (queries.At place) = at_number (codes "refused Q3 at ") place
+query_text queries.Syntax = codes "refused Q4\n"
 query_text queries.NotYet = codes "refused Q9\n"
 query_text queries.NoMemory = no_memory
 

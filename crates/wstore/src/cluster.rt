@@ -119,7 +119,10 @@ impl Cluster {
                 let reply = answer(self.alloc, &bytes)?;
                 Ok(reply)
             }
-            Err(fault) => Ok(Text::Fixed(refused_query(fault))),
+            Err(fault) => {
+                let reply = refused_query(self.alloc, fault)?;
+                Ok(reply)
+            }
         }
     }
 

@@ -14,6 +14,7 @@
 #![tactic(auto)]
 
 mod cluster;
+mod counting;
 mod fault;
 mod header;
 pub mod laws;

@@ -1,7 +1,6 @@
 //! One node.
 ghost use Rattle.std.specs.Prelude.{◌≢◌, ◌≡◌, ◌⊎◌, ◌<◌, ◌++◌, ◌∷◌, length, map as list_map, Ok, Err, IsOk, IfOk, IfErr, OnOk, OnErr, MatchResult, IfSome, codes, decimal};
 ghost use Rattle.std.specs.FinMap as map;
-ghost use Rattle.std.specs.Str.{bytes_eq};
 ghost use Rattle.wsegment.specs.Outcome.{Fails};
 ghost use Rattle.wsegment.specs.Rows.{rows_of};
 ghost use Rattle.wset.specs.Views.{join};
@@ -9,18 +8,18 @@ ghost use Rattle.wset.specs.Items.{SegmentItem, RetirementItem, view_of_item};
 ghost use Rattle.wset.specs.Tables.{table_of};
 ghost use Rattle.wset.specs.Words.{retired_word, taken_word};
 ghost use Rattle.wset.specs.Listing.{listed};
-ghost use Rattle.wstore.specs.Queries.{answer_of, count_query, count_table};
+ghost use Rattle.wstore.specs.Queries.{IsAnswer, count_table};
 
+use crate::counting::is_count_query;
 use crate::fault::AskFault;
 use itoa::Buffer;
 use std::alloc::{AllocError, Global};
 use std::marker::Model;
+use wlexer::lex;
+use wparser::parse;
 use wsegment::Schema;
 use wset::{JoinError, Listed, Retired, SegmentSet, TakeError, Taken};
 use wvalues::Name;
-
-/// The most bytes of a query.
-const LONGEST_QUERY: usize = 65_536;
 
 /// A node: what it knows under a declaration, and the queries that it answers. Contracts see it as the
 /// declaration and the view.
@@ -39,16 +38,6 @@ impl Model for Node {
     ghost coded = { coded_declared_view };
 
     ghost view = { λ n. n.set };
-}
-
-// Whether the text is the query that counts the rows of the table.
-fn is_count_query(text: &[u8], table: &str) -> bool
-    ensures { result ≡ bytes_eq text.now (count_query table.now) }
-{
-    match text.strip_prefix(b"SELECT count(*) FROM ") {
-        Some(name) => name == table.as_bytes(),
-        None => false,
-    }
 }
 
 // The header line and one row of a count.
@@ -125,18 +114,15 @@ impl Node {
     /// The bytes of the answer to a query, or why there is none.
     pub fn ask(&self, text: &[u8]) -> Result<Vec<u8>, AskFault>
         ensures { MatchResult result
-            (λ bytes. answer_of self.now.schema self.now.view text.now ≡ Ok bytes.items)
-            (λ fault. (fault ≡ AskFault.NoMemory) ⊎ (answer_of self.now.schema self.now.view text.now ≡ Err fault)) }
+            (λ bytes. IsAnswer self.now.schema self.now.view text.now (Ok bytes.items))
+            (λ fault. (fault ≡ AskFault.NoMemory) ⊎ IsAnswer self.now.schema self.now.view text.now (Err fault)) }
     {
-        if text.len() > LONGEST_QUERY {
-            return Err(AskFault::TooLong);
-        }
-        if !is_count_query(text, self.set.schema().table()) {
+        let tokens = lex(self.alloc, text)?;
+        let query = parse(self.alloc, &tokens)?;
+        if !is_count_query(&query, self.set.schema().table()) {
             return Err(AskFault::NotYet);
         }
-        let Ok(bytes) = count_bytes(self.alloc, self.set.row_count()) else {
-            return Err(AskFault::NoMemory);
-        };
+        let bytes = count_bytes(self.alloc, self.set.row_count())?;
         Ok(bytes)
     }
 }

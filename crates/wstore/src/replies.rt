@@ -1,7 +1,7 @@
 //! Replies to commands, as they are spelled.
 ghost use Rattle.std.specs.Prelude.{◌≢◌, ◌↔◌, IfSome, IsSome, ◌≡◌, ◌^◌, ◌<◌, ◌++◌, ◌∷◌, decimal, map, IfOk, IfErr, OnOk, codes};
 ghost use Rattle.std.specs.List.{flat_map};
-ghost use Rattle.wstore.specs.Replies.{table_text, taken_text, retired_text, name_text, at_row, segment_text, query_text, status_text, listed_text, names_text, answer_text};
+ghost use Rattle.wstore.specs.Replies.{table_text, taken_text, retired_text, name_text, at_number, segment_text, query_text, status_text, listed_text, names_text, answer_text};
 ghost use Rattle.wstore.specs.Texts.{bytes_of};
 
 use crate::fault::AskFault;
@@ -72,16 +72,6 @@ pub(crate) fn refused_name(fault: NameFault) -> &'static [u8]
     }
 }
 
-pub(crate) fn refused_query(fault: AskFault) -> &'static [u8]
-    ensures { result.now ≡ query_text fault }
-{
-    match fault {
-        AskFault::TooLong => b"refused Q1\n",
-        AskFault::NotYet => b"refused Q9\n",
-        AskFault::NoMemory => b"no memory\n",
-    }
-}
-
 // Adds the digits of a number.
 fn push_number(text: &mut Vec<u8>, number: u64) -> Result<(), AllocError>
     ensures { OnOk result (text.new.items ≡ text.old.items ++ decimal number) }
@@ -91,12 +81,12 @@ fn push_number(text: &mut Vec<u8>, number: u64) -> Result<(), AllocError>
     Ok(())
 }
 
-// A refusal that carries the number of a row.
-fn refused_at_row(alloc: Global, words: &[u8], row: u32) -> Result<Text, AllocError>
-    ensures { IfOk result (λ text. bytes_of text ≡ at_row words.now row) }
+// A refusal that carries a number.
+fn refused_at(alloc: Global, words: &[u8], number: u64) -> Result<Text, AllocError>
+    ensures { IfOk result (λ text. bytes_of text ≡ at_number words.now number) }
 {
     let mut text = Vec::from_slice(alloc, words)?;
-    push_number(&mut text, u64::from(row))?;
+    push_number(&mut text, number)?;
     text.push(b'\n')?;
     Ok(Text::Made(text))
 }
@@ -109,14 +99,28 @@ pub(crate) fn refused_segment(alloc: Global, fault: SegmentFault) -> Result<Text
         SegmentFault::TooLong => Ok(Text::Fixed(b"refused S1\n")),
         SegmentFault::NoHeader => Ok(Text::Fixed(b"refused S2\n")),
         SegmentFault::HeaderNotUtf8 => Ok(Text::Fixed(b"refused S3\n")),
-        SegmentFault::RowNotUtf8 { row } => refused_at_row(alloc, b"refused S3 row ", row),
+        SegmentFault::RowNotUtf8 { row } => refused_at(alloc, b"refused S3 row ", u64::from(row)),
         SegmentFault::UnknownColumn => Ok(Text::Fixed(b"refused S4\n")),
         SegmentFault::RepeatedColumn => Ok(Text::Fixed(b"refused S5\n")),
         SegmentFault::MissingColumn => Ok(Text::Fixed(b"refused S6\n")),
-        SegmentFault::RowLength { row } => refused_at_row(alloc, b"refused S7 row ", row),
-        SegmentFault::NotInteger { row } => refused_at_row(alloc, b"refused S8 row ", row),
+        SegmentFault::RowLength { row } => refused_at(alloc, b"refused S7 row ", u64::from(row)),
+        SegmentFault::NotInteger { row } => refused_at(alloc, b"refused S8 row ", u64::from(row)),
         SegmentFault::TooManyRows => Ok(Text::Fixed(b"refused S9\n")),
         SegmentFault::NoMemory => Ok(Text::Fixed(b"no memory\n")),
+    }
+}
+
+/// The refusal of a query.
+pub(crate) fn refused_query(alloc: Global, fault: AskFault) -> Result<Text, AllocError>
+    ensures { IfOk result (λ text. bytes_of text ≡ query_text fault) }
+{
+    match fault {
+        AskFault::TooLong => Ok(Text::Fixed(b"refused Q1\n")),
+        AskFault::NotUtf8 => Ok(Text::Fixed(b"refused Q2\n")),
+        AskFault::At { place } => refused_at(alloc, b"refused Q3 at ", place as u64),
+        AskFault::Syntax => Ok(Text::Fixed(b"refused Q4\n")),
+        AskFault::NotYet => Ok(Text::Fixed(b"refused Q9\n")),
+        AskFault::NoMemory => Ok(Text::Fixed(b"no memory\n")),
     }
 }
 

@@ -8,9 +8,8 @@ ghost use Rattle.wstore.specs.Texts.{bytes_of};
 ghost use Rattle.wstore.specs.Sessions.{Stands, Tells};
 
 use crate::cluster::Cluster;
-use crate::fault::AskFault;
 use crate::numbers::NodeNumber;
-use crate::replies::{Text, refused_name, refused_query, refused_table};
+use crate::replies::{Text, refused_name, refused_table};
 use crate::request::{Order, Refusal};
 use std::alloc::{AllocError, Global};
 use wsegment::Schema;
@@ -85,6 +84,6 @@ pub(crate) fn refuse(refusal: Refusal) -> &'static [u8]
         Refusal::LongDeclaration => b"refused T1\n",
         Refusal::BadName(fault) => refused_name(fault),
         Refusal::LongSegment => b"refused S1\n",
-        Refusal::LongQuery => refused_query(AskFault::TooLong),
+        Refusal::LongQuery => b"refused Q1\n",
     }
 }

@@ -17,4 +17,4 @@ returns-in-LongSegment c = λ session h command refused allowed stands.
 
 pub returns-in-LongQuery : goal.returns-in-LongQuery
 returns-in-LongQuery c = λ session h command refused allowed stands.
-    rw c.refused_query.ensures (long_query session h command (subst (λ r. IsRefusedAs r command) c.in-LongQuery.is refused) allowed stands)
+    long_query session h command (subst (λ r. IsRefusedAs r command) c.in-LongQuery.is refused) allowed stands

@@ -8,7 +8,7 @@ returns-in_ok-reply-in-Ok c = λ d h stand.
     answered_at d _ h c.args.node c.place-place.result c.index.result.now stand c.place-place.ensures.place c.place-place.ensures.in_range c.index.ensures
     c.args.text.now c.in-Ok.bytes.items _ c.in-Ok.ensures (c.in_ok-reply-in-Ok.ensures ∙ ap answer_text c.deref.ensures.value)
 
-pub returns-in-Err : goal.returns-in-Err
-returns-in-Err c = λ d h stand.
+pub returns-in_ok-reply-in-Err : goal.returns-in_ok-reply-in-Err
+returns-in_ok-reply-in-Err c = λ d h stand.
     unanswered_at d _ h c.args.node c.place-place.result c.index.result.now stand c.place-place.ensures.place c.place-place.ensures.in_range c.index.ensures
-    c.args.text.now _ c.in-Err.fault c.in-Err.ensures c.refused_query.ensures
+    c.args.text.now _ c.in-Err.fault c.in-Err.ensures c.in_ok-reply-in-Err.ensures
