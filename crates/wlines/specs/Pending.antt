@@ -24,10 +24,10 @@ pub record IsSound {R : Type 0} (input : Counts R) : Type 0 where
   pub reads : input.reads ≤ most_reads
   pub failures : input.failures ≡ 0
 
--- a read may be refused only so
+-- a read may be refused only so: one read failed, or none did and their number is used up
 pub record ReadFailed {R : Type 0} (input : Counts R) : Type 0 where
   pub reads : input.reads ≤ most_reads
-  pub cause : (input.failures ≡ 1) ⊎ (input.reads ≡ most_reads)
+  pub cause : (input.failures ≡ 1) ⊎ ((input.failures ≡ 0) × (input.reads ≡ most_reads))
 
 -- no failure has been counted, and no read
 pub record IsSoundWriter {W : Type 0} (output : Counts W) : Type 0 where

@@ -5,13 +5,14 @@ use Rattle.wlexer.specs.declared.keyword.Keyword.{Keyword}
 use Rattle.wlexer.specs.declared.keyword.Keyword.TheVariants as keywords
 use Rattle.wlexer.specs.declared.token.Symbol.{Symbol}
 use Rattle.wlexer.specs.declared.token.Symbol.TheVariants as symbols
+use Rattle.wlexer.specs.declared.token.Token.{Token}
 use Rattle.wparser.specs.declared.fault.ParseFault.{ParseFault}
 use Rattle.wparser.specs.declared.fault.ParseFault.TheVariants.{NoMemory, Syntax}
 use Rattle.wparser.specs.Words.{CommaSign, CloseSign}
 use Rattle.wparser.specs.Notation.{Tokens, Row, One, one, After, after, Then, before, Done, done, Perhaps, absent, present, Either, first, second, Room, room, Listed, last, next, As, Never}
 use Rattle.wparser.specs.Grammar.{Closed}
 use Rattle.wparser.specs.Grips.{grip, keyword_grip, symbol_grip, Stops}
-use Rattle.wparser.specs.Finding.{Outcome, Got, Refused, Short, failed, IsRead, Agrees, Answers}
+use Rattle.wparser.specs.Finding.{Outcome, Got, Refused, Short, failed, settled, IsRead, Agrees, Answers}
 
 pub stops_more : {j k : ℕ} → j ≤ k → (rest : Tokens) → Stops j rest → Stops k rest
 stops_more le [] h = tt
@@ -38,6 +39,10 @@ never NoMemory g = record { found = tt; only = λ y rest p h. tt }
 
 pub missing : {X : Type 0} {P : Row X} {k : ℕ} {ts : Tokens} → Never P ts → Answers P k ts Refused
 missing g = record { found = tt; only = λ y rest p h. g y rest p }
+
+-- a `?` gives up
+pub given_up : {A X : Type 0} (value : A → X) (left : A → List Token) {P : Row X} {k : ℕ} {ts : Tokens} {r : Option A} → r ≡ None → Answers P k ts Refused → Answers P k ts (settled value left r)
+given_up {A} {X} value left {P} {k} {ts} {r} e a = subst (λ (o : Option A). Answers P k ts (settled value left o)) (sym e) a
 
 pub short : {X : Type 0} {P : Row X} {k : ℕ} {ts : Tokens} (f : ParseFault) → f ≡ NoMemory → Answers P k ts (failed f)
 short {X} {P} {k} {ts} f e = subst (λ (x : ParseFault). Answers P k ts (failed x)) (sym e) (record { found = tt; only = λ y rest p h. tt })

@@ -1,5 +1,5 @@
 -- What a function that reads answers.
-use Rattle.std.specs.Prelude.{◌≡◌, ◌≢◌, ℕ, List, ◌∷◌, Result, Ok, Err, map}
+use Rattle.std.specs.Prelude.{◌≡◌, ◌≢◌, ℕ, List, ◌∷◌, Option, Some, None, Result, Ok, Err, map}
 use Rattle.wlexer.specs.Token.{TokenMeaning, KeywordToken, meaning_of}
 use Rattle.wlexer.specs.declared.keyword.Keyword.TheVariants as keywords
 use Rattle.wlexer.specs.declared.token.Token.{Token}
@@ -25,6 +25,11 @@ failed NoMemory = Short
 abbrev pub outcome : {A X : Type 0} → (A → X) → (A → List Token) → Result A ParseFault → Outcome X
 outcome value left (Ok x) = Got (value x) (meanings (left x))
 outcome value left (Err f) = failed f
+
+-- the same of a function that asks for no memory
+abbrev pub settled : {A X : Type 0} → (A → X) → (A → List Token) → Option A → Outcome X
+settled value left (Some x) = Got (value x) (meanings (left x))
+settled value left None = Refused
 
 -- what was got is what the row reads
 abbrev pub IsRead : {X : Type 0} → Row X → Tokens → Outcome X → Type 0

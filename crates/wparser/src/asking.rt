@@ -9,7 +9,7 @@ ghost use Rattle.wparser.specs.Notation.{Listed, One};
 ghost use Rattle.wparser.specs.Queries.{alias_name, alias, item, derived, source, clause, column, grouping, entry, windows, count, limits, clauses, queries, deeper_queries, texts, Spells};
 ghost use Rattle.wparser.specs.Grips.{keyword_grip};
 ghost use Rattle.wparser.specs.declared.fault.ParseFault.TheVariants.{Syntax};
-ghost use Rattle.wparser.specs.Finding.{meanings, outcome, Answers};
+ghost use Rattle.wparser.specs.Finding.{meanings, outcome, settled, Answers};
 
 use crate::composing::{self as build, Clauses};
 use crate::expression::{ChainKind, Column, Expression};
@@ -234,42 +234,32 @@ fn window_clause(
     }
 }
 
-/// The number behind LIMIT or OFFSET, if that comes first.
-fn counted(word: Keyword, tokens: &[Token]) -> Result<(Option<u128>, &[Token]), ParseFault>
-    ensures { Answers (count word) (keyword_grip word) (meanings tokens.now) (outcome (λ x. x.0) (λ x. x.1.now) result) }
+/// The number behind LIMIT or OFFSET, if that comes first. It refuses the word alone.
+fn counted(word: Keyword, tokens: &[Token]) -> Option<(Option<u128>, &[Token])>
+    ensures { Answers (count word) (keyword_grip word) (meanings tokens.now) (settled (λ x. x.0) (λ x. x.1.now) result) }
 {
     let Some(after) = keyword(tokens, word) else {
-        return Ok((None, tokens));
+        return Some((None, tokens));
     };
-    match number(after) {
-        None => Err(ParseFault::Syntax),
-        Some((n, rest)) => Ok((Some(n), rest)),
-    }
+    let (n, rest) = number(after)?;
+    Some((Some(n), rest))
 }
 
-/// What LIMIT and OFFSET say, in either order.
-fn limited(tokens: &[Token]) -> Result<((Option<u128>, Option<u128>), &[Token]), ParseFault>
-    ensures { Answers limits 4 (meanings tokens.now) (outcome (λ x. x.0) (λ x. x.1.now) result) }
+/// What LIMIT and OFFSET say, in either order. It refuses either word alone.
+fn limited(tokens: &[Token]) -> Option<((Option<u128>, Option<u128>), &[Token])>
+    ensures { Answers limits 4 (meanings tokens.now) (settled (λ x. x.0) (λ x. x.1.now) result) }
 {
     if let Some(after) = keyword(tokens, Keyword::Limit) {
-        let Some((limit, rest)) = number(after) else {
-            return Err(ParseFault::Syntax);
-        };
-        return match counted(Keyword::Offset, rest) {
-            Err(f) => Err(f),
-            Ok((offset, rest)) => Ok(((Some(limit), offset), rest)),
-        };
+        let (limit, rest) = number(after)?;
+        let (offset, rest) = counted(Keyword::Offset, rest)?;
+        return Some(((Some(limit), offset), rest));
     }
     let Some(after) = keyword(tokens, Keyword::Offset) else {
-        return Ok(((None, None), tokens));
+        return Some(((None, None), tokens));
     };
-    let Some((offset, rest)) = number(after) else {
-        return Err(ParseFault::Syntax);
-    };
-    match counted(Keyword::Limit, rest) {
-        Err(f) => Err(f),
-        Ok((limit, rest)) => Ok(((limit, Some(offset)), rest)),
-    }
+    let (offset, rest) = number(after)?;
+    let (limit, rest) = counted(Keyword::Limit, rest)?;
+    Some(((limit, Some(offset)), rest))
 }
 
 fn query_clauses(
@@ -292,8 +282,8 @@ fn query_clauses(
                     Ok((windows, rest)) => match ordered(alloc, depth, rest) {
                         Err(f) => Err(f),
                         Ok((order, rest)) => match limited(rest) {
-                            Err(f) => Err(f),
-                            Ok((limits, rest)) => {
+                            None => Err(ParseFault::Syntax),
+                            Some((limits, rest)) => {
                                 let clauses = Clauses {
                                     condition: kept,
                                     grouping,
@@ -390,7 +380,8 @@ fn terminated(alloc: Global, tokens: &[Token]) -> Result<(Query, &[Token]), Pars
 
 /// The one query that the tokens spell.
 ///
-/// It answers `Syntax` where they spell none that is nested at most 64 deep.
+/// It answers `Syntax` where they spell none that is nested at most 64 deep, and `NoMemory` where
+/// a growth was refused.
 pub fn parse(alloc: Global, tokens: &[Token]) -> Result<Query, ParseFault>
     // What is answered is spelled by the tokens.
     ensures spelled { IfOk result (λ query. Spells (view_query query) (meanings tokens.now)) }

@@ -1,11 +1,11 @@
-//! Reads the parts of windows that hold no expressions.
+//! Reads the parts of windows that hold no expressions. What asks for no memory refuses with `None`.
 
 ghost use Rattle.std.specs.Prelude.{◌≡◌, List, false, Some, None};
 ghost use Rattle.wparser.specs.Tree.{name_bytes};
 ghost use Rattle.wparser.specs.Words.{direction_of};
 ghost use Rattle.wparser.specs.Notation.{One, Perhaps};
 ghost use Rattle.wparser.specs.Grammar.{perhaps_not, perhaps_name, perhaps_frame, nulls_placed, frame, extent, bound, toward, exclusion, excluding};
-ghost use Rattle.wparser.specs.Finding.{meanings, outcome, Got, Answers};
+ghost use Rattle.wparser.specs.Finding.{meanings, outcome, settled, Got, Answers};
 
 use crate::expression::NullOrder;
 use crate::fault::ParseFault;
@@ -47,80 +47,58 @@ pub fn descending(tokens: &[Token]) -> (bool, &[Token])
     }
 }
 
-/// The place of nulls, if NULLS comes first.
-pub fn placed_nulls(tokens: &[Token]) -> Result<(Option<NullOrder>, &[Token]), ParseFault>
-    ensures { Answers nulls_placed 15 (meanings tokens.now) (outcome (λ x. x.0) (λ x. x.1.now) result) }
+/// The place of nulls, if NULLS comes first. It refuses NULLS alone.
+pub fn placed_nulls(tokens: &[Token]) -> Option<(Option<NullOrder>, &[Token])>
+    ensures { Answers nulls_placed 15 (meanings tokens.now) (settled (λ x. x.0) (λ x. x.1.now) result) }
 {
     let Some(after) = keyword(tokens, Keyword::Nulls) else {
-        return Ok((None, tokens));
+        return Some((None, tokens));
     };
-    match null_order(after) {
-        None => Err(ParseFault::Syntax),
-        Some((nulls, rest)) => Ok((Some(nulls), rest)),
-    }
+    let (nulls, rest) = null_order(after)?;
+    Some((Some(nulls), rest))
 }
 
-/// A frame clause, if a mode comes first.
-pub fn optional_frame(tokens: &[Token]) -> Result<(Option<Frame>, &[Token]), ParseFault>
-    ensures { Answers perhaps_frame 3 (meanings tokens.now) (outcome (λ x. x.0) (λ x. x.1.now) result) }
+/// A frame clause, if a mode comes first. It refuses what only begins as one.
+pub fn optional_frame(tokens: &[Token]) -> Option<(Option<Frame>, &[Token])>
+    ensures { Answers perhaps_frame 3 (meanings tokens.now) (settled (λ x. x.0) (λ x. x.1.now) result) }
 {
-    match mode(tokens) {
-        None => Ok((None, tokens)),
-        Some(_) => match frame_clause(tokens) {
-            Err(f) => Err(f),
-            Ok((frame, rest)) => Ok((Some(frame), rest)),
-        },
-    }
-}
-
-fn frame_clause(tokens: &[Token]) -> Result<(Frame, &[Token]), ParseFault>
-    ensures { Answers frame 3 (meanings tokens.now) (outcome (λ x. x.0) (λ x. x.1.now) result) }
-{
-    let Some((mode, rest)) = mode(tokens) else {
-        return Err(ParseFault::Syntax);
+    let Some(_) = mode(tokens) else {
+        return Some((None, tokens));
     };
-    match ends(rest) {
-        Err(f) => Err(f),
-        Ok(((start, end), rest)) => match optional_exclusion(rest) {
-            Err(f) => Err(f),
-            Ok((exclusion, rest)) => {
-                let frame = Frame {
-                    mode,
-                    start,
-                    end,
-                    exclusion,
-                };
-                Ok((frame, rest))
-            }
-        },
-    }
+    let (frame, rest) = frame_clause(tokens)?;
+    Some((Some(frame), rest))
 }
 
-fn ends(tokens: &[Token]) -> Result<((FrameBound, Option<FrameBound>), &[Token]), ParseFault>
-    ensures { Answers extent 31 (meanings tokens.now) (outcome (λ x. x.0) (λ x. x.1.now) result) }
+fn frame_clause(tokens: &[Token]) -> Option<(Frame, &[Token])>
+    ensures { Answers frame 3 (meanings tokens.now) (settled (λ x. x.0) (λ x. x.1.now) result) }
+{
+    let (mode, rest) = mode(tokens)?;
+    let ((start, end), rest) = ends(rest)?;
+    let (exclusion, rest) = optional_exclusion(rest)?;
+    let frame = Frame {
+        mode,
+        start,
+        end,
+        exclusion,
+    };
+    Some((frame, rest))
+}
+
+fn ends(tokens: &[Token]) -> Option<((FrameBound, Option<FrameBound>), &[Token])>
+    ensures { Answers extent 31 (meanings tokens.now) (settled (λ x. x.0) (λ x. x.1.now) result) }
 {
     let Some(after) = keyword(tokens, Keyword::Between) else {
-        return match frame_bound(tokens) {
-            Err(f) => Err(f),
-            Ok((start, rest)) => Ok(((start, None), rest)),
-        };
+        let (start, rest) = frame_bound(tokens)?;
+        return Some(((start, None), rest));
     };
-    match frame_bound(after) {
-        Err(f) => Err(f),
-        Ok((start, rest)) => {
-            let Some(after) = keyword(rest, Keyword::And) else {
-                return Err(ParseFault::Syntax);
-            };
-            match frame_bound(after) {
-                Err(f) => Err(f),
-                Ok((end, rest)) => Ok(((start, Some(end)), rest)),
-            }
-        }
-    }
+    let (start, rest) = frame_bound(after)?;
+    let after = keyword(rest, Keyword::And)?;
+    let (end, rest) = frame_bound(after)?;
+    Some(((start, Some(end)), rest))
 }
 
-fn frame_bound(tokens: &[Token]) -> Result<(FrameBound, &[Token]), ParseFault>
-    ensures { Answers bound 31 (meanings tokens.now) (outcome (λ x. x.0) (λ x. x.1.now) result) }
+fn frame_bound(tokens: &[Token]) -> Option<(FrameBound, &[Token])>
+    ensures { Answers bound 31 (meanings tokens.now) (settled (λ x. x.0) (λ x. x.1.now) result) }
 {
     if let Some(after) = keyword(tokens, Keyword::Unbounded) {
         return bound_toward(
@@ -130,65 +108,51 @@ fn frame_bound(tokens: &[Token]) -> Result<(FrameBound, &[Token]), ParseFault>
         );
     }
     if let Some(after) = keyword(tokens, Keyword::Current) {
-        return match keyword(after, Keyword::Row) {
-            None => Err(ParseFault::Syntax),
-            Some(rest) => Ok((FrameBound::CurrentRow, rest)),
-        };
+        let rest = keyword(after, Keyword::Row)?;
+        return Some((FrameBound::CurrentRow, rest));
     }
-    match number(tokens) {
-        None => Err(ParseFault::Syntax),
-        Some((n, after)) => bound_toward(after, FrameBound::Preceding(n), FrameBound::Following(n)),
-    }
+    let (n, after) = number(tokens)?;
+    bound_toward(after, FrameBound::Preceding(n), FrameBound::Following(n))
 }
 
 fn bound_toward(
     tokens: &[Token],
     back: FrameBound,
     ahead: FrameBound,
-) -> Result<(FrameBound, &[Token]), ParseFault>
-    ensures { Answers (toward back ahead) 31 (meanings tokens.now) (outcome (λ x. x.0) (λ x. x.1.now) result) }
+) -> Option<(FrameBound, &[Token])>
+    ensures { Answers (toward back ahead) 31 (meanings tokens.now) (settled (λ x. x.0) (λ x. x.1.now) result) }
 {
     if let Some(rest) = keyword(tokens, Keyword::Preceding) {
-        return Ok((back, rest));
+        return Some((back, rest));
     }
-    match keyword(tokens, Keyword::Following) {
-        None => Err(ParseFault::Syntax),
-        Some(rest) => Ok((ahead, rest)),
-    }
+    let rest = keyword(tokens, Keyword::Following)?;
+    Some((ahead, rest))
 }
 
-fn optional_exclusion(tokens: &[Token]) -> Result<(Option<FrameExclusion>, &[Token]), ParseFault>
-    ensures { Answers excluding 3 (meanings tokens.now) (outcome (λ x. x.0) (λ x. x.1.now) result) }
+fn optional_exclusion(tokens: &[Token]) -> Option<(Option<FrameExclusion>, &[Token])>
+    ensures { Answers excluding 3 (meanings tokens.now) (settled (λ x. x.0) (λ x. x.1.now) result) }
 {
     let Some(after) = keyword(tokens, Keyword::Exclude) else {
-        return Ok((None, tokens));
+        return Some((None, tokens));
     };
-    match excluded(after) {
-        Err(f) => Err(f),
-        Ok((exclusion, rest)) => Ok((Some(exclusion), rest)),
-    }
+    let (exclusion, rest) = excluded(after)?;
+    Some((Some(exclusion), rest))
 }
 
-fn excluded(tokens: &[Token]) -> Result<(FrameExclusion, &[Token]), ParseFault>
-    ensures { Answers exclusion 31 (meanings tokens.now) (outcome (λ x. x.0) (λ x. x.1.now) result) }
+fn excluded(tokens: &[Token]) -> Option<(FrameExclusion, &[Token])>
+    ensures { Answers exclusion 31 (meanings tokens.now) (settled (λ x. x.0) (λ x. x.1.now) result) }
 {
     if let Some(after) = keyword(tokens, Keyword::Current) {
-        return match keyword(after, Keyword::Row) {
-            None => Err(ParseFault::Syntax),
-            Some(rest) => Ok((FrameExclusion::CurrentRow, rest)),
-        };
+        let rest = keyword(after, Keyword::Row)?;
+        return Some((FrameExclusion::CurrentRow, rest));
     }
     if let Some(rest) = keyword(tokens, Keyword::Group) {
-        return Ok((FrameExclusion::Group, rest));
+        return Some((FrameExclusion::Group, rest));
     }
     if let Some(rest) = keyword(tokens, Keyword::Ties) {
-        return Ok((FrameExclusion::Ties, rest));
+        return Some((FrameExclusion::Ties, rest));
     }
-    let Some(after) = keyword(tokens, Keyword::No) else {
-        return Err(ParseFault::Syntax);
-    };
-    match keyword(after, Keyword::Others) {
-        None => Err(ParseFault::Syntax),
-        Some(rest) => Ok((FrameExclusion::NoOthers, rest)),
-    }
+    let after = keyword(tokens, Keyword::No)?;
+    let rest = keyword(after, Keyword::Others)?;
+    Some((FrameExclusion::NoOthers, rest))
 }

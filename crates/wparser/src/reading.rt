@@ -7,7 +7,7 @@ ghost use Rattle.wparser.specs.Tree.{view, views, view_arguments, view_over, vie
 ghost use Rattle.wparser.specs.Notation.{GoesOn, Listed};
 ghost use Rattle.wparser.specs.Grammar.{Closed, Chains, deeper, inner, operands, chains, conditions, sums, ranges, comparisons, negations, signs, testing, null_tested, compared, tested, test, within_row, primary, named, qualified_by, everything_closed, call, arguments, filtered, reaching, window_inside, window, partition, order, key};
 ghost use Rattle.wparser.specs.Grips.{Stops, kind_class, operand_class};
-ghost use Rattle.wparser.specs.Finding.{meanings, outcome, Answers, IsNoTest};
+ghost use Rattle.wparser.specs.Finding.{meanings, outcome, settled, Answers, IsNoTest};
 
 use crate::building as build;
 use crate::expression::{Arguments, ChainKind, Expression, Key, Over, Window};
@@ -381,7 +381,10 @@ fn given(alloc: Global, depth: u32, tokens: &[Token]) -> Result<(Arguments, &[To
         return Ok((build::listed(Vec::new(alloc)), rest));
     }
     if let Some(after) = symbol(tokens, Symbol::Asterisk) {
-        return everything(depth, after);
+        return match everything(depth, after) {
+            None => Err(ParseFault::Syntax),
+            Some((star, rest)) => Ok((star, rest)),
+        };
     }
     match closed_list(alloc, ChainKind::Disjunction, depth, tokens) {
         Err(f) => Err(f),
@@ -389,16 +392,14 @@ fn given(alloc: Global, depth: u32, tokens: &[Token]) -> Result<(Arguments, &[To
     }
 }
 
-fn everything(depth: u32, tokens: &[Token]) -> Result<(Arguments, &[Token]), ParseFault>
-    ensures { Answers (everything_closed depth) 31 (meanings tokens.now) (outcome (λ x. view_arguments x.0) (λ x. x.1.now) result) }
+fn everything(depth: u32, tokens: &[Token]) -> Option<(Arguments, &[Token])>
+    ensures { Answers (everything_closed depth) 31 (meanings tokens.now) (settled (λ x. view_arguments x.0) (λ x. x.1.now) result) }
 {
     if depth == 0 {
-        return Err(ParseFault::Syntax);
+        return None;
     }
-    match symbol(tokens, Symbol::CloseParenthesis) {
-        None => Err(ParseFault::Syntax),
-        Some(rest) => Ok((build::star(), rest)),
-    }
+    let rest = symbol(tokens, Symbol::CloseParenthesis)?;
+    Some((build::star(), rest))
 }
 
 #[cycle(parser)]
@@ -532,8 +533,11 @@ fn window_parts(
             Ok((partition, rest)) => match ordered(alloc, depth, rest) {
                 Err(f) => Err(f),
                 Ok((order, rest)) => match optional_frame(rest) {
-                    Err(f) => Err(f),
-                    Ok((frame, rest)) => Ok((build::window(copied, partition, order, frame), rest)),
+                    None => Err(ParseFault::Syntax),
+                    Some((frame, rest)) => Ok((
+                        build::window(copied, partition, order, frame),
+                        rest,
+                    )),
                 },
             },
         },
@@ -604,8 +608,8 @@ fn sort_key(alloc: Global, depth: u32, tokens: &[Token]) -> Result<(Key, &[Token
         Ok((e, rest)) => {
             let (descending, rest) = descending(rest);
             match placed_nulls(rest) {
-                Err(f) => Err(f),
-                Ok((nulls, rest)) => Ok((build::key(e, descending, nulls), rest)),
+                None => Err(ParseFault::Syntax),
+                Some((nulls, rest)) => Ok((build::key(e, descending, nulls), rest)),
             }
         }
     }

@@ -76,8 +76,8 @@ module _ {P : Type 0} {is_part : P → Type 0} {neutral : P} {joined : P → P �
       ∙ ap (λ p. joined p right) first
       ∙ laws.assoc left (total neutral joined (slice_range xs a b)) right hl (total_range_is laws xs a b hs) hr
 
-  -- no level is left
-  pub level_none : (a b : ℕ) (left right : P) → is_part right → a ≤ b → b ≤ 0 → joined left (joined (total neutral joined (slice_range [] a b)) right) ≡ joined left right
-  level_none a b left right hr h k =
+  -- nothing is left to take
+  pub level_none : (xs : List P) (a b : ℕ) (left right : P) → is_part right → b ≤ a → joined left (joined (total neutral joined (slice_range xs a b)) right) ≡ joined left right
+  level_none xs a b left right hr h =
       let n : b - a ≡ 0 = omega arith in
-      ap (λ m. joined left (joined (total neutral joined (take m (drop a []))) right)) n ∙ ap (joined left) (laws.left_neutral right hr)
+      ap (λ m. joined left (joined (total neutral joined (take m (drop a xs))) right)) n ∙ ap (joined left) (laws.left_neutral right hr)

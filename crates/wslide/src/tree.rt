@@ -140,6 +140,9 @@ impl<P: Copy> FoldTree<P> {
         let mut right = fold.unit();
         let mut cut = span;
         for level in &self.levels {
+            if cut.from == cut.to {
+                break;
+            }
             let (left_part, from) = take_left(fold, meter, level, left, cut);
             let (right_part, to) = take_right(fold, meter, level, right, Span { from, to: cut.to });
             left = left_part;

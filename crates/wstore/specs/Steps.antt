@@ -2,7 +2,7 @@
 use Rattle.std.specs.Prelude.{◌≡◌, ℕ, List, [], ◌∷◌, take, Option, None, Some, IfSome}
 use Rattle.std.specs.Io.KnownBytes.{Keeps, Appends, Consumes, IsAtEnd}
 use Rattle.wvalues.specs.Counts.{Counts}
-use Rattle.wlines.specs.Pending.{ReadFailed}
+use Rattle.wlines.specs.Pending.{IsSound, IsSoundWriter, ReadFailed}
 use Rattle.wstore.specs.Commands.{Command, IsCommand, IsDeclaration, IsMalformed, spell}
 use Rattle.wstore.specs.Replies.{Reply, text_of, bad_script}
 use Rattle.wstore.specs.History.{Step, Answers, is_declared}
@@ -14,17 +14,17 @@ use Rattle.wstore.specs.declared.runs.End.TheVariants.{Done, Bad}
 use Rattle.wstore.specs.declared.runs.RunFault.{RunFault}
 use Rattle.wstore.specs.declared.runs.RunFault.TheVariants.{Read, Write, NoMemory}
 
--- each fault has its cause
+-- each fault has its cause, and nothing else has failed
 abbrev pub HasCause : {R W : Type 0} → RunFault → Counts R → Counts W → Type 0
-HasCause Read input output = ReadFailed input
-HasCause Write input output = output.failures ≡ 1
-HasCause NoMemory input output = Unit {0}
+HasCause Read input output = ReadFailed input × IsSoundWriter output
+HasCause Write input output = IsSound input × (output.failures ≡ 1)
+HasCause NoMemory input output = IsSound input × IsSoundWriter output
 
 -- a fault of a reply: the reader has no part in it
 abbrev pub HasWriteCause : {W : Type 0} → RunFault → Counts W → Type 0
 HasWriteCause Read output = ⊥
 HasWriteCause Write output = output.failures ≡ 1
-HasWriteCause NoMemory output = Unit {0}
+HasWriteCause NoMemory output = IsSoundWriter output
 
 -- a command was answered in full, and the session stands behind it
 pub record Answered (session : Session) (h : List Step) (c : Command) (held new_held : Option (List ℕ)) : Type 0 where

@@ -7,7 +7,7 @@ ghost use Rattle.wstore.specs.Queries.{count_query};
 use wparser::{Arguments, Call, Expression, Item, Query, Source};
 
 // Whether the call is `count(*)`, without FILTER and OVER.
-#[tactic(auto, unfolding(wparser::specs::Tree::view, wparser::specs::Tree::view_call, wparser::specs::Tree::view_arguments, wparser::specs::Tree::view_over, wparser::specs::QueryTree::view_query, wparser::specs::QueryTree::view_source))]
+#[tactic(auto, unfolding(wparser::specs::Tree::view_call, wparser::specs::Tree::view_arguments, wparser::specs::Tree::view_over))]
 fn is_count_call(call: &Call) -> bool
     ensures { (result ≡ true) ↔ (view_call call.now ≡ Invoked (codes "count") Everything Unfiltered ItsGroup) }
 {
@@ -27,7 +27,7 @@ fn is_count_call(call: &Call) -> bool
 }
 
 // Whether the item is `count(*)` without an alias.
-#[tactic(auto, unfolding(wparser::specs::Tree::view, wparser::specs::Tree::view_call, wparser::specs::Tree::view_arguments, wparser::specs::Tree::view_over, wparser::specs::QueryTree::view_query, wparser::specs::QueryTree::view_source))]
+#[tactic(auto, unfolding(wparser::specs::Tree::view, wparser::specs::Tree::view_call))]
 fn is_count_item(item: &Item) -> bool
     ensures { (result ≡ true) ↔ (view_item item.now ≡ Computed (Invoked (codes "count") Everything Unfiltered ItsGroup) None) }
 {
@@ -44,7 +44,7 @@ fn is_count_item(item: &Item) -> bool
 }
 
 // Whether the source is the table, without an alias.
-#[tactic(auto, unfolding(wparser::specs::Tree::view, wparser::specs::Tree::view_call, wparser::specs::Tree::view_arguments, wparser::specs::Tree::view_over, wparser::specs::QueryTree::view_query, wparser::specs::QueryTree::view_source))]
+#[tactic(auto, unfolding(wparser::specs::QueryTree::view_source))]
 fn is_source(source: &Source, table: &str) -> bool
     ensures { (result ≡ true) ↔ (view_source source.now ≡ FromTable table.now None) }
 {
@@ -56,7 +56,7 @@ fn is_source(source: &Source, table: &str) -> bool
 }
 
 /// Whether the query is the count of the rows of the table, and nothing else.
-#[tactic(auto, unfolding(wparser::specs::Tree::view, wparser::specs::Tree::view_call, wparser::specs::Tree::view_arguments, wparser::specs::Tree::view_over, wparser::specs::QueryTree::view_query, wparser::specs::QueryTree::view_source))]
+#[tactic(auto, unfolding(wparser::specs::QueryTree::view_query, wparser::specs::QueryTree::view_source))]
 pub(crate) fn is_count_query(query: &Query, table: &str) -> bool
     ensures { (result ≡ true) ↔ (view_query query.now ≡ count_query table.now) }
 {

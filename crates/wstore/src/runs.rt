@@ -92,20 +92,11 @@ fn speak<W: Write>(
     ensures part { IfErr result (λ fault. (h : List Step) (c : Spelled) → IsOrderAt node order.now c → Stands session.old h → Unanswered fault h c (W.contents output.old.inner) (W.contents output.new.inner)) }
     ensures cause { IfErr result (λ e. HasWriteCause e output.new) }
 {
-    match session.order(node, order) {
-        Ok(text) => {
-            if let Err(fault) = send(output, text.as_slice()) {
-                return Err(fault);
-            }
-            Ok(())
-        }
-        Err(_) => {
-            if let Err(fault) = send(output, b"no memory\n") {
-                return Err(fault);
-            }
-            Ok(())
-        }
+    let text = session.reply(node, order);
+    if let Err(fault) = send(output, text.as_slice()) {
+        return Err(fault);
     }
+    Ok(())
 }
 
 /// Writes the refusal of a command whose form alone refuses it.
@@ -165,22 +156,16 @@ fn step<R: Read, W: Write>(
     match request {
         Request::Closed => Ok(Some(End::Done)),
         Request::Malformed => {
-            if let Err(fault) = send(output, b"bad script\n") {
-                return Err(fault);
-            }
+            send(output, b"bad script\n")?;
             Ok(Some(End::Bad))
         }
         Request::NoRoom => Err(RunFault::NoMemory),
         Request::NoMemory => {
-            if let Err(fault) = send(output, b"no memory\n") {
-                return Err(fault);
-            }
+            send(output, b"no memory\n")?;
             Ok(None)
         }
         Request::Whole(command) => {
-            if let Err(fault) = answer_command(output, session, &command) {
-                return Err(fault);
-            }
+            answer_command(output, session, &command)?;
             Ok(None)
         }
     }
@@ -200,7 +185,10 @@ pub fn run<R: Read, W: Write>(
     // At a fault it is a beginning of them.
     ensures begun { IfErr result (λ fault. IfSome (R.remaining input.old.inner) (λ bytes.
         (written : List ℕ) × Appends (W.contents output.old.inner) (W.contents output.new.inner) written × RepliesBegun fault input.new.reads bytes written)) }
-    // A read fault comes only where a read failed or the reads are used up, a write fault only where a write failed.
+    // A run that ends has seen no failure.
+    ensures sound { OnOk result (IsSound input.new × IsSoundWriter output.new) }
+    // A read fault comes only where a read failed or the reads are used up, a write fault only where a write failed,
+    // and nothing else has failed.
     ensures cause { IfErr result (λ fault. HasCause fault input.new output.new) }
 {
     let Ok(mut source) = Source::new(alloc) else {

@@ -51,19 +51,17 @@ impl Session {
                 self.cluster = Some(cluster);
                 Ok(Text::Fixed(b"ok\n"))
             }
-            Err(fault) => {
-                let Some(text) = refused_table(fault) else {
-                    return Err(AllocError);
-                };
-                Ok(Text::Fixed(text))
-            }
+            Err(fault) => match refused_table(fault) {
+                Some(text) => Ok(Text::Fixed(text)),
+                None => Err(AllocError),
+            },
         }
     }
 }
 
 impl Session {
-    /// The reply of a node. Where it finds no memory, nothing is changed.
-    pub(crate) fn order(&mut self, node: NodeNumber, order: &Order) -> Result<Text, AllocError>
+    /// What a node answers. Where it finds no memory, nothing is changed.
+    fn order(&mut self, node: NodeNumber, order: &Order) -> Result<Text, AllocError>
         requires { is_some self.old.cluster ≡ true }
         ensures tells { IfOk result (λ text. (h : List Step) (c : Spelled) → IsOrderAt node order.now c → Stands self.old h → Tells self.new h c (bytes_of text)) }
         ensures err { OnErr result ((h : List Step) → Stands self.old h → Stands self.new h) }
@@ -73,6 +71,17 @@ impl Session {
         };
         let text = cluster.answer(node, order)?;
         Ok(text)
+    }
+
+    /// The reply of a node, which may be that it finds no memory.
+    pub(crate) fn reply(&mut self, node: NodeNumber, order: &Order) -> Text
+        requires { is_some self.old.cluster ≡ true }
+        ensures { (h : List Step) (c : Spelled) → IsOrderAt node order.now c → Stands self.old h → Tells self.new h c (bytes_of result) }
+    {
+        match self.order(node, order) {
+            Ok(text) => text,
+            Err(_) => Text::Fixed(b"no memory\n"),
+        }
     }
 }
 

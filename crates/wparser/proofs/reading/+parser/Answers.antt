@@ -165,8 +165,11 @@ calls-returns-in_ok-e-in-Ok-over t c = got_along c.in_ok-e-in-Ok-over.ensures re
 pub given-returns-in-Some : goal.given-returns-in-Some
 given-returns-in-Some t c = got_along (c.listed.ensures ∙ ap (λ (v : List Expression). These (trees (views v))) c.new.ensures.items) refl (either_first (never_either (other_token c.in-Some.ensures (λ q. cc)) (no_list c.args.depth c.in-Some.ensures (omega arith))) (after_got c.in-Some.ensures done_got))
 
-pub given-returns-in-Some-symbol : goal.given-returns-in-Some-symbol
-given-returns-in-Some-symbol t c = either_second (after_never c.in_default.ensures) (either_first (no_list c.args.depth c.in-Some-symbol.ensures (omega arith)) (after_got c.in-Some-symbol.ensures c.everything.ensures))
+pub given-returns-in-None : goal.given-returns-in-None
+given-returns-in-None t c = either_second (after_never c.in_default.ensures) (either_first (no_list c.args.depth c.in-Some-symbol.ensures (omega arith)) (after_got c.in-Some-symbol.ensures c.in-None.ensures))
+
+pub given-returns-in-Some-everything : goal.given-returns-in-Some-everything
+given-returns-in-Some-everything t c = either_second (after_never c.in_default.ensures) (either_first (no_list c.args.depth c.in-Some-symbol.ensures (omega arith)) (after_got c.in-Some-symbol.ensures c.in-Some-everything.ensures))
 
 pub given-returns-in-Err : goal.given-returns-in-Err
 given-returns-in-Err t c = either_second (after_never c.in_default.ensures) (either_second (after_never c.in_default-symbol.ensures) (as_refused c.in-Err.f c.in-Err.ensures))
@@ -249,11 +252,11 @@ window_parts-returns-in-Err-partitioned t c = then_got (λ x. window_leads_parts
 pub window_parts-returns-in-Err-ordered : goal.window_parts-returns-in-Err-ordered
 window_parts-returns-in-Err-ordered t c = then_got (λ x. window_leads_parts) c.in-Ok.ensures (then_got (λ x. window_leads_order) c.in-Ok-partitioned.ensures (then_refused c.in-Err-ordered.f (λ x. window_leads_frame) c.in-Err-ordered.ensures))
 
-pub window_parts-returns-in-Err-optional_frame : goal.window_parts-returns-in-Err-optional_frame
-window_parts-returns-in-Err-optional_frame t c = then_got (λ x. window_leads_parts) c.in-Ok.ensures (then_got (λ x. window_leads_order) c.in-Ok-partitioned.ensures (then_got (λ x. window_leads_frame) c.in-Ok-ordered.ensures (then_refused c.in-Err-optional_frame.f (λ x. done_leads (omega arith)) c.in-Err-optional_frame.ensures)))
+pub window_parts-returns-in-None : goal.window_parts-returns-in-None
+window_parts-returns-in-None t c = then_got (λ x. window_leads_parts) c.in-Ok.ensures (then_got (λ x. window_leads_order) c.in-Ok-partitioned.ensures (then_got (λ x. window_leads_frame) c.in-Ok-ordered.ensures (then_refused Syntax (λ x. done_leads (omega arith)) c.in-None.ensures)))
 
-pub window_parts-returns-in-Ok-optional_frame : goal.window_parts-returns-in-Ok-optional_frame
-window_parts-returns-in-Ok-optional_frame t c = got_along c.window.ensures refl (then_got (λ x. window_leads_parts) c.in-Ok.ensures (then_got (λ x. window_leads_order) c.in-Ok-partitioned.ensures (then_got (λ x. window_leads_frame) c.in-Ok-ordered.ensures (then_got (λ x. done_leads (omega arith)) c.in-Ok-optional_frame.ensures done_got))))
+pub window_parts-returns-in-Some : goal.window_parts-returns-in-Some
+window_parts-returns-in-Some t c = got_along c.window.ensures refl (then_got (λ x. window_leads_parts) c.in-Ok.ensures (then_got (λ x. window_leads_order) c.in-Ok-partitioned.ensures (then_got (λ x. window_leads_frame) c.in-Ok-ordered.ensures (then_got (λ x. done_leads (omega arith)) c.in-Some.ensures done_got))))
 
 pub partitioned-returns-in_default : goal.partitioned-returns-in_default
 partitioned-returns-in_default t c = got_along (ap views c.new.ensures.items) refl (perhaps_absent (after_never c.in_default.ensures))
@@ -288,8 +291,8 @@ keys-keys-preserved t c = listing_more (omega arith) c.keys.invariant c.in-Ok.en
 pub sort_key-returns-in-Err : goal.sort_key-returns-in-Err
 sort_key-returns-in-Err t c = then_refused c.in-Err.f (λ e. key_leads) c.in-Err.ensures
 
-pub sort_key-returns-in-Err-placed_nulls : goal.sort_key-returns-in-Err-placed_nulls
-sort_key-returns-in-Err-placed_nulls t c = then_got (λ e. key_leads) c.in-Ok.ensures (then_got (λ d. key_leads_nulls) c.descending-descending.ensures (then_refused c.in-Err-placed_nulls.f (λ n. done_leads (omega arith)) c.in-Err-placed_nulls.ensures))
+pub sort_key-returns-in-None : goal.sort_key-returns-in-None
+sort_key-returns-in-None t c = then_got (λ e. key_leads) c.in-Ok.ensures (then_got (λ d. key_leads_nulls) c.descending-descending.ensures (then_refused Syntax (λ n. done_leads (omega arith)) c.in-None.ensures))
 
-pub sort_key-returns-in-Ok-placed_nulls : goal.sort_key-returns-in-Ok-placed_nulls
-sort_key-returns-in-Ok-placed_nulls t c = got_along c.key.ensures refl (then_got (λ e. key_leads) c.in-Ok.ensures (then_got (λ d. key_leads_nulls) c.descending-descending.ensures (then_got (λ n. done_leads (omega arith)) c.in-Ok-placed_nulls.ensures done_got)))
+pub sort_key-returns-in-Some : goal.sort_key-returns-in-Some
+sort_key-returns-in-Some t c = got_along c.key.ensures refl (then_got (λ e. key_leads) c.in-Ok.ensures (then_got (λ d. key_leads_nulls) c.descending-descending.ensures (then_got (λ n. done_leads (omega arith)) c.in-Some.ensures done_got)))

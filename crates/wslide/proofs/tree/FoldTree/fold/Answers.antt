@@ -10,6 +10,7 @@ use Rattle.wslide.proofs.Heights.{height_enough}
 use Rattle.wslide.proofs.Levels.{length-paired, total_range_is}
 use Rattle.wslide.proofs.Climbs.{next_is, next_climbs, paired_All, level_more, level_none}
 use Rattle.wslide.proofs.tree.FoldTree.fold.Goals as goal
+use Rattle.wslide.proofs.tree.FoldTree.fold.Goals.{else-loop-level-test, then-loop-level-test+then-cut}
 
 pub loop-level-init : goal.loop-level-init
 loop-level-init g c =
@@ -104,16 +105,19 @@ loop-level-preserved g c =
 
 pub returns-clause-value : goal.returns-clause-value
 returns-clause-value g c =
-    let f = c.args.fold.now in
-    let joined = g.F.Fold.joined f in
-    let neutral = g.F.Fold.neutral f in
     let was = c.loop-level in
     let inv = c.loop-level.invariant in
     let items = c.args.self.now.levels.items in
-    let past : length items ≤ was.level-index = omega (arith, ap length c.deref-level-items.ensures.value) in
-    let none : drop was.level-index items ≡ [] = drop_of_length-le items past in
-    let within : was.cut.to ≤ 0 = subst (λ ls. was.cut.to ≤ length (lowest ls)) none inv.within in
+    let done : was.cut.to ≤ was.cut.from =
+    elim c.loop-level-test.branch [
+      | else-loop-level-test w ↦
+          let past : length items ≤ was.level-index = omega (arith, ap length c.deref-level-items.ensures.value) in
+          let none : drop was.level-index items ≡ [] = drop_of_length-le items past in
+          let within : was.cut.to ≤ 0 = subst (λ ls. was.cut.to ≤ length (lowest ls)) none inv.within in
+          omega arith
+      | then-loop-level-test+then-cut w ↦ omega arith
+    ]
+    in
     c.join.ensures.value
-    ∙ sym (level_none (g.met.F.Fold.laws f) was.cut.from was.cut.to was.left was.right inv.right inv.ordered within)
-    ∙ ap (λ ls. joined was.left (joined (total neutral joined (slice_range (lowest ls) was.cut.from was.cut.to)) was.right)) (sym none)
+    ∙ sym (level_none (g.met.F.Fold.laws c.args.fold.now) (lowest (drop was.level-index items)) was.cut.from was.cut.to was.left was.right inv.right done)
     ∙ inv.sum
