@@ -31,6 +31,3 @@ pub use laws::{
 };
 pub use order::compare_lists;
 pub use partitions::Partitions;
-
-#[cfg(test)]
-mod tests;

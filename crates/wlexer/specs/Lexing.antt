@@ -5,6 +5,10 @@ use Rattle.wlexer.specs.Bytes.{dash, is_blank}
 use Rattle.wlexer.specs.Spelling.{behind, IsStuck, Spelled}
 use Rattle.wlexer.specs.Token.{PlacedToken}
 
+-- the most bytes of a text
+abbrev pub longest_text : ℕ
+longest_text = 65536
+
 -- neither a blank nor a comment begins here
 abbrev pub IsBare : List ℕ → Type 0
 IsBare [] = Unit {0}

@@ -3,7 +3,7 @@
 ghost use Rattle.std.specs.Prelude.{◌≡◌, ◌↔◌, ◌⊎◌, ℕ, ◌<◌, ◌≤◌, List, length, map, Err, IfOk, IfErr, IfSome, IfNone};
 ghost use Rattle.std.specs.Str.{IsUtf8};
 ghost use Rattle.wlexer.specs.declared.fault.LexFault.TheVariants.{TooLong, NotUtf8, At};
-ghost use Rattle.wlexer.specs.Lexing.{IsBare, Separates, Lexes, HasFaultAt};
+ghost use Rattle.wlexer.specs.Lexing.{longest_text, IsBare, Separates, Lexes, HasFaultAt};
 ghost use Rattle.wlexer.specs.Reading.{IsLexicalFault};
 ghost use Rattle.wlexer.specs.Token.{PlacedToken, placed};
 
@@ -84,8 +84,8 @@ pub fn lex(alloc: Global, text: &[u8]) -> Result<Vec<Token>, LexFault>
     ensures tokens { IfOk result (λ tokens. Lexes text.now (map placed tokens.items)) }
 
     // The faults, in the order in which they are judged.
-    ensures too_long { (result ≡ Err TooLong) ↔ (LONGEST_TEXT < length text.now) }
-    ensures not_utf8 { (result ≡ Err NotUtf8) ↔ (length text.now ≤ LONGEST_TEXT) × (¬ IsUtf8 text.now) }
+    ensures too_long { (result ≡ Err TooLong) ↔ (longest_text < length text.now) }
+    ensures not_utf8 { (result ≡ Err NotUtf8) ↔ (length text.now ≤ longest_text) × (¬ IsUtf8 text.now) }
     ensures fault_at { (place : ℕ) → result ≡ Err (At place) → HasFaultAt text.now place }
 {
     if text.len() > LONGEST_TEXT {

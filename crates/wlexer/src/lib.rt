@@ -14,14 +14,14 @@ mod bytes;
 mod fault;
 mod keyword;
 mod lexer;
+mod number;
 mod pieces;
 mod reading;
 mod symbol;
-#[cfg(test)]
-mod tests;
 mod token;
 
 pub use fault::LexFault;
 pub use keyword::Keyword;
 pub use lexer::{LONGEST_TEXT, lex, one_lexing};
+pub use number::Number;
 pub use token::{Lexeme, Symbol, Token};

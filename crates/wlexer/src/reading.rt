@@ -11,6 +11,7 @@ ghost use Rattle.wlexer.specs.Token.{lexeme_meaning};
 use crate::bytes::{Stretch, TokenKind, kind_of};
 use crate::fault::Miss;
 use crate::keyword::keyword_of;
+use crate::number::{NUMBER_LIMIT, Number};
 use crate::pieces::{ends_number, first_ascii, split_stretch, unquoted};
 use crate::symbol::{symbol_of_one, symbol_of_two};
 use crate::token::{Lexeme, Symbol};
@@ -19,9 +20,6 @@ use std::rc::RcStr;
 
 /// The most bytes of a name.
 const LONGEST_NAME: usize = 63;
-
-/// The first number that is too large.
-const NUMBER_LIMIT: u128 = 1 << 95;
 
 /// A keyword, or a name in lower case.
 fn word(alloc: Global, text: &str) -> Result<(Lexeme, &str), Miss>
@@ -65,7 +63,7 @@ fn quoted_text(alloc: Global, text: &str) -> Result<(Lexeme, &str), Miss>
 }
 
 /// The number that digits spell, where it is small enough.
-fn number_of(digits: &[u8]) -> Option<u128>
+fn number_of(digits: &[u8]) -> Option<Number>
     ensures { MatchOption result (2 ^ 95 ≤ number_of digits.now) (λ n. (n ≡ number_of digits.now) × (n < 2 ^ 95)) }
 {
     let mut number: u128 = 0;
@@ -75,7 +73,7 @@ fn number_of(digits: &[u8]) -> Option<u128>
             return None;
         }
     }
-    Some(number)
+    Number::new(number)
 }
 
 fn number(text: &str) -> Result<(Lexeme, &str), Miss>

@@ -1,6 +1,7 @@
 //! Tokens.
 
 use crate::keyword::Keyword;
+use crate::number::Number;
 use std::rc::RcStr;
 
 /// A symbol. `!=` is another spelling of `NotEqual`.
@@ -28,8 +29,7 @@ pub enum Lexeme {
     Keyword(Keyword),
     /// A name of 1 to 63 bytes: folded to lower case, or as it stood in its quotes.
     Name(RcStr),
-    /// A number below 2^95.
-    Number(u128),
+    Number(Number),
     /// A text, without its quotes, each doubled one in it written once.
     Text(RcStr),
     Symbol(Symbol),

@@ -1,3 +1,4 @@
 pub mod Held
 pub mod Cuts
 pub mod Lines
+pub mod Decimals

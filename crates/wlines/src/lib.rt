@@ -23,6 +23,3 @@ pub use reading::{read_body, read_line, skip_body};
 pub use source::{ReadFault, Source};
 pub use words::{is_word, split_word};
 pub use writing::{WriteFault, write_reply};
-
-#[cfg(test)]
-mod tests;

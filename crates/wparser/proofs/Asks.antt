@@ -3,9 +3,9 @@ use Rattle.std.proofs.Common.{◌≡◌, true, false, ℕ, zero, suc, ◌-◌, �
 use Rattle.wlexer.specs.Token.{KeywordToken, SymbolToken}
 use Rattle.wlexer.specs.declared.keyword.Keyword.TheVariants as keywords
 use Rattle.wlexer.specs.declared.token.Symbol.TheVariants as symbols
-use Rattle.wparser.specs.declared.expression.ChainKind.TheVariants.{Disjunction}
-use Rattle.wparser.specs.Tree.{Tree, KeyTree}
-use Rattle.wparser.specs.QueryTree.{QueryTree, SourceTree, ItemTree, EntryTree, query_of}
+use Rattle.wquery.specs.declared.expression.ChainKind.TheVariants.{Disjunction}
+use Rattle.wquery.specs.Tree.{Tree, KeyTree}
+use Rattle.wquery.specs.QueryTree.{QueryTree, SourceTree, ItemTree, EntryTree, query_of}
 use Rattle.wparser.specs.Words.{name_of}
 use Rattle.wparser.specs.Notation.{Tokens, Row, One, After, Then, Done, Perhaps, As, Never}
 use Rattle.wparser.specs.Grammar.{Chains, deeper, conditions, order}

@@ -1,13 +1,19 @@
--- What is read has no chain with a chain of its own kind first.
-use Rattle.std.proofs.Common.{◌≡◌, Bool, true, false, ℕ, zero, suc, List, refl, if◌then◌else◌}
-use Rattle.wlexer.specs.Token.{TokenMeaning}
-use Rattle.wparser.specs.declared.expression.ChainKind.{ChainKind}
-use Rattle.wparser.specs.declared.expression.ChainKind.TheVariants.{Disjunction, Conjunction, Sum, Product}
-use Rattle.wparser.specs.declared.expression.Operator.{Operator}
-use Rattle.wparser.specs.Tree.{Tree, KeyTree, WindowTree, Joined, Further, NoLinks, trees, keys, is_chain, lengthened, joined}
-use Rattle.wparser.specs.Lefts.{IsLeft, AreLeft, AreGivenLeft, IsFilterLeft, IsReachLeft, AreKeysLeft}
+-- What is read has no chain with a chain of its own kind first, and no operator in a chain of another kind.
+use Rattle.std.proofs.Common.{◌≡◌, Bool, true, false, ℕ, zero, suc, List, [], ◌∷◌, Option, Some, None, refl, sym, subst, ◌∙◌, if◌then◌else◌}
+use Rattle.wlexer.specs.declared.keyword.Keyword.{Keyword}
+use Rattle.wlexer.specs.declared.keyword.Keyword.TheVariants as keywords
+use Rattle.wlexer.specs.declared.token.Symbol.TheVariants as symbols
+use Rattle.wlexer.specs.Token.{TokenMeaning, KeywordToken, SymbolToken}
+use Rattle.wquery.specs.declared.expression.ChainKind.{ChainKind}
+use Rattle.wquery.specs.declared.expression.ChainKind.TheVariants.{Disjunction, Conjunction, Sum, Product}
+use Rattle.wquery.specs.declared.expression.Operator.{Operator}
+use Rattle.wquery.specs.Tree.{Tree, KeyTree, WindowTree, Joined, Further, NoLinks, trees, keys, same_kind, is_chain, lengthened, joined}
+use Rattle.wquery.specs.Lefts.{chain_kind, IsLeft, AreLeft, AreGivenLeft, IsFilterLeft, IsReachLeft, AreKeysLeft, IsWindowLeft, IsOptionalLeft, AreItemsLeft, AreEntriesLeft, AreClausesLeft, IsQueryLeft, IsSourceLeft}
+use Rattle.wparser.specs.Words.{operator_of}
 use Rattle.wparser.specs.Notation.{Tokens, Row, After, after, Then, before, Done, done, Perhaps, absent, present, Either, first, second, Room, room, Listed, last, next, GoesOn, over, further, Chain, chain, As}
-use Rattle.wparser.specs.Grammar.{Closed, key, window, window_inside, reaching, arguments, filtered, call, named, primary, signing, test, ranging, comparing, testing, Rank, Chains, Negations, Signs, signs_over, negations_over, operands_over, row_over, deeper, conditions}
+use Rattle.wquery.specs.QueryTree.{QueryTree, SourceTree, ItemTree, EntryTree, AllColumns, Computed}
+use Rattle.wparser.specs.Queries.{item, computed_item, alias, source, derived, clause, grouping, entry, windows, limits, clauses, query_over, deeper_queries, queries, Spells}
+use Rattle.wparser.specs.Grammar.{inner, order, Closed, key, window, window_inside, reaching, arguments, filtered, call, named, primary, signing, test, ranging, comparing, testing, Rank, Chains, Negations, Signs, signs_over, negations_over, operands_over, row_over, deeper, conditions}
 
 pub record Upholds {X : Type 0} (B : X → Type 0) (P : Row X) : Type 0 where
   pub upholds : (x : X) (ts rest : Tokens) → P x ts rest → B x
@@ -63,9 +69,6 @@ list_left u = record { upholds = list_left' u }
 abbrev IsKeyLeft : KeyTree → Type 0
 IsKeyLeft k = IsLeft k.expression
 
-abbrev IsWindowLeft : WindowTree → Type 0
-IsWindowLeft w = AreLeft (trees w.partition) × AreKeysLeft (keys w.order)
-
 keys_left' : {P : Row KeyTree} → Upholds IsKeyLeft P → (y : List KeyTree) (ts rest : Tokens) → Listed P y ts rest → AreKeysLeft (keys y)
 keys_left' u y ts rest (last {x = x} p) = (u.upholds x ts rest p, tt)
 keys_left' u y ts rest (next {x = x} {xs = xs} {us = us} p l) = (u.upholds x ts _ p, keys_left' u xs us rest l)
@@ -74,22 +77,44 @@ keys_left : {P : Row KeyTree} → Upholds IsKeyLeft P → Upholds (λ (l : List 
 keys_left u = record { upholds = keys_left' u }
 
 -- chains
-lengthened_left : (t : Tree) (operator : Operator) (o : Tree) → IsLeft t → IsLeft o → IsLeft (lengthened t operator o)
-lengthened_left (Joined kind f links) operator o a b = (a.0, a.1, (a.2, b))
-lengthened_left _ operator o a b = a
+abbrev kind_in : ChainKind → Option Operator → ChainKind
+kind_in kind None = kind
+kind_in kind (Some operator) = chain_kind operator
 
-joined_cases : (kind : ChainKind) (t : Tree) (operator : Operator) (o : Tree) → IsLeft t → IsLeft o → (c : Bool) → is_chain kind t ≡ c → IsLeft (if c then lengthened t operator o else Joined kind t (Further NoLinks operator o))
-joined_cases kind t operator o a b true e = lengthened_left t operator o a b
-joined_cases kind t operator o a b false e = (e, a, (tt, b))
+kind_says : (kind : ChainKind) (token : TokenMeaning) → kind_in kind (operator_of kind token) ≡ kind
+kind_says Disjunction (KeywordToken keywords.Or) = refl
+kind_says Conjunction (KeywordToken keywords.And) = refl
+kind_says Sum (SymbolToken symbols.Plus) = refl
+kind_says Sum (SymbolToken symbols.Minus) = refl
+kind_says Product (SymbolToken symbols.Asterisk) = refl
+kind_says _ _ = refl
 
-joined_left : (kind : ChainKind) (t : Tree) (operator : Operator) (o : Tree) → IsLeft t → IsLeft o → IsLeft (joined kind t operator o)
+operator_kind : (kind : ChainKind) (token : TokenMeaning) (operator : Operator) → operator_of kind token ≡ Some operator → chain_kind operator ≡ kind
+operator_kind kind token operator e = subst (λ (x : Option Operator). kind_in kind x ≡ kind) e (kind_says kind token)
+
+same_kind_is : (k j : ChainKind) → same_kind k j ≡ true → k ≡ j
+same_kind_is Disjunction Disjunction e = refl
+same_kind_is Conjunction Conjunction e = refl
+same_kind_is Sum Sum e = refl
+same_kind_is Product Product e = refl
+same_kind_is _ _ e = cc
+
+lengthened_left : (k : ChainKind) (t : Tree) (operator : Operator) (o : Tree) → is_chain k t ≡ true → chain_kind operator ≡ k → IsLeft t → IsLeft o → IsLeft (lengthened t operator o)
+lengthened_left k (Joined kind f links) operator o e q a b = (a.0, a.1, (a.2, q ∙ sym (same_kind_is kind k e), b))
+lengthened_left k _ operator o e q a b = a
+
+joined_cases : (kind : ChainKind) (t : Tree) (operator : Operator) (o : Tree) → chain_kind operator ≡ kind → IsLeft t → IsLeft o → (c : Bool) → is_chain kind t ≡ c → IsLeft (if c then lengthened t operator o else Joined kind t (Further NoLinks operator o))
+joined_cases kind t operator o q a b true e = lengthened_left kind t operator o e q a b
+joined_cases kind t operator o q a b false e = (e, a, (tt, q, b))
+
+joined_left : (kind : ChainKind) (t : Tree) (operator : Operator) (o : Tree) → chain_kind operator ≡ kind → IsLeft t → IsLeft o → IsLeft (joined kind t operator o)
 unfolding joined
-joined_left kind t operator o a b = joined_cases kind t operator o a b (is_chain kind t) refl
+joined_left kind t operator o q a b = joined_cases kind t operator o q a b (is_chain kind t) refl
 
 goes_left : {kind : ChainKind} {P : Row Tree} → Upholds IsLeft P → (t y : Tree) (ts rest : Tokens) → IsLeft t → GoesOn kind P t y ts rest → IsLeft y
 goes_left u t y ts rest a over = a
-goes_left {kind = kind} u t y ts rest a (further {operator = operator} {operand = o} {ts = us} {us = vs} e p g) =
-    goes_left u (joined kind t operator o) y vs rest (joined_left kind t operator o a (u.upholds o us vs p)) g
+goes_left {kind = kind} u t y ts rest a (further {token = token} {operator = operator} {operand = o} {ts = us} {us = vs} e p g) =
+    goes_left u (joined kind t operator o) y vs rest (joined_left kind t operator o (operator_kind kind token operator e) a (u.upholds o us vs p)) g
 
 chain_left' : {kind : ChainKind} {P : Row Tree} → Upholds IsLeft P → (y : Tree) (ts rest : Tokens) → Chain kind P y ts rest → IsLeft y
 chain_left' u y ts rest (chain {first = t} {us = us} p g) = goes_left u t y us rest (u.upholds t ts us p) g
@@ -187,3 +212,57 @@ deeper_left (suc n) rank = row_left n (deeper n) (deeper_left n) rank
 
 pub no_chain_first : (n : ℕ) (t : Tree) (ts rest : Tokens) → conditions n t ts rest → IsLeft t
 no_chain_first n t ts rest p = (row_left n (deeper n) (deeper_left n) (Chains Disjunction)).upholds t ts rest p
+
+-- whole queries
+conditions_left : (n : ℕ) → Upholds IsLeft (conditions n)
+conditions_left n = row_left n (deeper n) (deeper_left n) (Chains Disjunction)
+
+item_left' : (n : ℕ) (y : ItemTree) (ts rest : Tokens) → item n y ts rest → AreItemsLeft (y ∷ [])
+item_left' n = (either_left {B = λ (i : ItemTree). AreItemsLeft (i ∷ [])} (after_left (done_left tt)) (then_left IsLeft (conditions_left n) (λ e a. as_left (λ (x : Option (List ℕ)). Unit {0}) any_left (λ x i. (a, tt))))).upholds
+
+items_more : (y : ItemTree) (ys : List ItemTree) → AreItemsLeft (y ∷ []) → AreItemsLeft ys → AreItemsLeft (y ∷ ys)
+items_more AllColumns ys a b = b
+items_more (Computed t alias) ys a b = (a.0, b)
+
+items_left : (n : ℕ) (y : List ItemTree) (ts rest : Tokens) → Listed (item n) y ts rest → AreItemsLeft y
+items_left n y ts rest (last {x = x} p) = item_left' n x ts rest p
+items_left n y ts rest (next {x = x} {xs = xs} {us = us} p l) = items_more x xs (item_left' n x ts _ p) (items_left n xs us rest l)
+
+clause_left : (k : Keyword) (n : ℕ) → Upholds IsOptionalLeft (clause k n)
+clause_left k n = perhaps_left tt (as_left IsLeft (after_left (conditions_left n)) (λ e a. a))
+
+entry_left : (n : ℕ) → Upholds (λ (e : EntryTree). IsWindowLeft e.window) (entry n)
+entry_left n = then_left (λ (x : List ℕ). Unit {0}) any_left (λ x i. after_left (after_left (as_left IsWindowLeft (inside_left (deeper_left n (Chains Disjunction))) (λ w a. a))))
+
+entries_left : (n : ℕ) (y : List EntryTree) (ts rest : Tokens) → Listed (entry n) y ts rest → AreEntriesLeft y
+entries_left n y ts rest (last {x = x} p) = ((entry_left n).upholds x ts rest p, tt)
+entries_left n y ts rest (next {x = x} {xs = xs} {us = us} p l) = ((entry_left n).upholds x ts _ p, entries_left n xs us rest l)
+
+order_left : (n : ℕ) → Upholds (λ (l : List KeyTree). AreKeysLeft (keys l)) (order (conditions n))
+order_left n = perhaps_left tt (after_left (after_left (keys_left (key_left (conditions_left n)))))
+
+clauses_left : (n : ℕ) (items : List ItemTree) (s : SourceTree) → AreItemsLeft items → IsSourceLeft s → Upholds IsQueryLeft (clauses n items s)
+clauses_left n items s a b =
+    then_left IsOptionalLeft (clause_left _ n) (λ c i. then_left (λ (g : List Tree). Unit {0}) any_left (λ g j. then_left IsOptionalLeft (clause_left _ n) (λ h k.
+    then_left AreEntriesLeft (perhaps_left tt (after_left (record { upholds = entries_left n }))) (λ w l. then_left (λ (o : List KeyTree). AreKeysLeft (keys o)) (order_left n) (λ o m.
+    then_left (λ (x : Option ℕ × Option ℕ). Unit {0}) any_left (λ x p. done_left ((a, i, k, l, m), b)))))))
+
+source_left : {U : Row QueryTree} → Upholds IsQueryLeft U → Upholds IsSourceLeft (source U)
+source_left u =
+    either_left (then_left (λ (x : List ℕ). Unit {0}) any_left (λ x i. as_left (λ (y : Option (List ℕ)). Unit {0}) any_left (λ y j. tt)))
+    (after_left (then_left IsQueryLeft (closed_left u) (λ q a. as_left (λ (x : List ℕ). Unit {0}) any_left (λ x i. a))))
+
+query_left : (n : ℕ) {U : Row QueryTree} → Upholds IsQueryLeft U → Upholds IsQueryLeft (query_over n U)
+query_left n u =
+    after_left (then_left AreItemsLeft (record { upholds = items_left n }) (λ items a. after_left (then_left IsSourceLeft (source_left u) (λ s b. clauses_left n items s a b))))
+
+no_query : {P : Row QueryTree} → ((y : QueryTree) (ts rest : Tokens) → P y ts rest → ⊥) → Upholds IsQueryLeft P
+no_query g = record { upholds = λ y ts rest p. absurd (g y ts rest p) }
+
+queries_deeper : (n : ℕ) → Upholds IsQueryLeft (deeper_queries n)
+unfolding deeper_queries
+queries_deeper zero = no_query (λ y ts rest p. p)
+queries_deeper (suc n) = query_left n (queries_deeper n)
+
+pub no_query_chain_first : (q : QueryTree) (ts : Tokens) → Spells q ts → IsQueryLeft q
+no_query_chain_first q ts p = (then_left IsQueryLeft (query_left 64 (queries_deeper 64)) (λ x a. then_left (λ (b : Bool). Unit {0}) any_left (λ b i. done_left a))).upholds q ts [] p

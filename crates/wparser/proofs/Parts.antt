@@ -5,10 +5,10 @@ use Rattle.wlexer.specs.Token.{TokenMeaning, KeywordToken, NameToken, NumberToke
 use Rattle.wlexer.specs.declared.token.Token.{Token}
 use Rattle.wlexer.specs.declared.keyword.Keyword.TheVariants as keywords
 use Rattle.wlexer.specs.declared.token.Symbol.{Symbol}
-use Rattle.wparser.specs.declared.expression.ChainKind.{ChainKind}
-use Rattle.wparser.specs.declared.expression.ChainKind.TheVariants.{Disjunction, Conjunction, Sum, Product}
-use Rattle.wparser.specs.declared.frame.FrameMode.{FrameMode}
-use Rattle.wparser.specs.Tree.{Tree, KeyTree, Invoked, Given, Filter, NullWord, Numeral, Quoted, no_window, window_of, key_of}
+use Rattle.wquery.specs.declared.expression.ChainKind.{ChainKind}
+use Rattle.wquery.specs.declared.expression.ChainKind.TheVariants.{Disjunction, Conjunction, Sum, Product}
+use Rattle.wquery.specs.declared.frame.FrameMode.{FrameMode}
+use Rattle.wquery.specs.Tree.{Tree, KeyTree, Invoked, Given, Filter, NullWord, Numeral, Quoted, no_window, window_of, key_of}
 use Rattle.wparser.specs.Words.{OpenSign, CloseSign, name_of, number_of, text_of, mode_of, direction_of}
 use Rattle.wparser.specs.Notation.{Tokens, Row, One, Then, Done, Perhaps, Listed, As, Never}
 use Rattle.wparser.specs.Grips.{grip, Stops, kind_class}

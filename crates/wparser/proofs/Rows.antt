@@ -4,11 +4,11 @@ use Rattle.wlexer.specs.Token.{TokenMeaning, KeywordToken, SymbolToken}
 use Rattle.wlexer.specs.declared.keyword.Keyword.TheVariants as keywords
 use Rattle.wlexer.specs.declared.token.Symbol.TheVariants as symbols
 use Rattle.wparser.specs.declared.fault.ParseFault.{ParseFault}
-use Rattle.wparser.specs.declared.expression.ChainKind.{ChainKind}
-use Rattle.wparser.specs.declared.expression.ChainKind.TheVariants.{Disjunction, Conjunction, Sum, Product}
-use Rattle.wparser.specs.declared.expression.Operator.{Operator}
-use Rattle.wparser.specs.declared.expression.Comparison.{Comparison}
-use Rattle.wparser.specs.Tree.{Tree, joined}
+use Rattle.wquery.specs.declared.expression.ChainKind.{ChainKind}
+use Rattle.wquery.specs.declared.expression.ChainKind.TheVariants.{Disjunction, Conjunction, Sum, Product}
+use Rattle.wquery.specs.declared.expression.Operator.{Operator}
+use Rattle.wquery.specs.declared.expression.Comparison.{Comparison}
+use Rattle.wquery.specs.Tree.{Tree, joined}
 use Rattle.wparser.specs.Words.{operator_of, comparison_of}
 use Rattle.wparser.specs.Notation.{Tokens, Row, One, one, Then, before, GoesOn, over, further, Chain, chain, Never}
 use Rattle.wparser.specs.Grips.{grip, Stops, kind_class, operand_class}

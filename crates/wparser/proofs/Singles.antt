@@ -3,13 +3,13 @@ use Rattle.std.proofs.Common.{◌≡◌, Bool, ℕ, zero, suc, ◌<◌, ◌≤�
 use Rattle.wlexer.specs.Token.{TokenMeaning, KeywordToken, SymbolToken}
 use Rattle.wlexer.specs.declared.keyword.Keyword.TheVariants as keywords
 use Rattle.wlexer.specs.declared.token.Symbol.{Symbol}
-use Rattle.wparser.specs.declared.expression.ChainKind.{ChainKind}
-use Rattle.wparser.specs.declared.expression.ChainKind.TheVariants.{Disjunction, Conjunction, Sum, Product}
-use Rattle.wparser.specs.declared.expression.Comparison.{Comparison}
-use Rattle.wparser.specs.declared.frame.FrameBound.{FrameBound}
-use Rattle.wparser.specs.declared.frame.FrameMode.{FrameMode}
-use Rattle.wparser.specs.Tree.{Tree, WindowTree, joined, no_window}
-use Rattle.wparser.specs.QueryTree.{QueryTree, SourceTree, ItemTree}
+use Rattle.wquery.specs.declared.expression.ChainKind.{ChainKind}
+use Rattle.wquery.specs.declared.expression.ChainKind.TheVariants.{Disjunction, Conjunction, Sum, Product}
+use Rattle.wquery.specs.declared.expression.Comparison.{Comparison}
+use Rattle.wquery.specs.declared.frame.FrameBound.{FrameBound}
+use Rattle.wquery.specs.declared.frame.FrameMode.{FrameMode}
+use Rattle.wquery.specs.Tree.{Tree, WindowTree, joined, no_window}
+use Rattle.wquery.specs.QueryTree.{QueryTree, SourceTree, ItemTree}
 use Rattle.wparser.specs.Words.{CommaSign, CloseSign, name_of, mode_of, direction_of, comparison_of, operator_of}
 use Rattle.wparser.specs.Notation.{Tokens, Row, One, one, After, after, Then, before, Done, done, Perhaps, absent, present, Either, first, second, Room, room, Listed, last, next, GoesOn, over, further, Chain, chain, As, Never}
 use Rattle.wparser.specs.Grammar.{Closed, toward, bound, extent, exclusion, excluding, frame, key, partition, order, window, window_inside, reach, reaching, arguments, filtered, call, named, primary, test, perhaps_not, ranging, comparing, testing, signing, perhaps_frame, nulls_placed, Rank, Chains, Negations, Signs, signs_over, sums_over, comparisons_over, negations_over, operands_over, row_over, deeper, conditions}

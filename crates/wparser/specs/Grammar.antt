@@ -5,15 +5,15 @@ use Rattle.wlexer.specs.declared.keyword.Keyword.{Keyword}
 use Rattle.wlexer.specs.declared.keyword.Keyword.TheVariants as keywords
 use Rattle.wlexer.specs.declared.token.Symbol.{Symbol}
 use Rattle.wlexer.specs.declared.token.Symbol.TheVariants as symbols
-use Rattle.wparser.specs.declared.expression.ChainKind.{ChainKind}
-use Rattle.wparser.specs.declared.expression.ChainKind.TheVariants.{Disjunction, Conjunction, Sum, Product}
-use Rattle.wparser.specs.declared.expression.NullOrder.{NullOrder}
-use Rattle.wparser.specs.declared.frame.Frame.{Frame}
-use Rattle.wparser.specs.declared.frame.FrameBound.{FrameBound}
-use Rattle.wparser.specs.declared.frame.FrameBound.TheVariants as bounds
-use Rattle.wparser.specs.declared.frame.FrameExclusion.{FrameExclusion}
-use Rattle.wparser.specs.declared.frame.FrameExclusion.TheVariants as exclusions
-use Rattle.wparser.specs.Tree.{Tree, Given, Filter, Reach, KeyTree, WindowTree, NullWord, Numeral, Quoted, Field, Invoked, Negated, Signed, Compared, NullTest, Within, Among, NoTrees, Everything, These, Unfiltered, FilteredBy, ItsGroup, ThatWindow, trees, own_window, no_window, window_of, key_of}
+use Rattle.wquery.specs.declared.expression.ChainKind.{ChainKind}
+use Rattle.wquery.specs.declared.expression.ChainKind.TheVariants.{Disjunction, Conjunction, Sum, Product}
+use Rattle.wquery.specs.declared.expression.NullOrder.{NullOrder}
+use Rattle.wquery.specs.declared.frame.Frame.{Frame}
+use Rattle.wquery.specs.declared.frame.FrameBound.{FrameBound}
+use Rattle.wquery.specs.declared.frame.FrameBound.TheVariants as bounds
+use Rattle.wquery.specs.declared.frame.FrameExclusion.{FrameExclusion}
+use Rattle.wquery.specs.declared.frame.FrameExclusion.TheVariants as exclusions
+use Rattle.wquery.specs.Tree.{Tree, Given, Filter, Reach, KeyTree, WindowTree, NullWord, Numeral, Quoted, Field, Invoked, Negated, Signed, Compared, NullTest, Within, Among, NoTrees, Everything, These, Unfiltered, FilteredBy, ItsGroup, ThatWindow, trees, own_window, no_window, window_of, key_of}
 use Rattle.wparser.specs.Words.{OpenSign, CloseSign, name_of, number_of, text_of, comparison_of, sign_of, direction_of, null_order_of, mode_of}
 use Rattle.wparser.specs.Notation.{Row, One, After, Then, Done, Perhaps, Either, Room, Listed, Chain, As}
 
@@ -38,11 +38,17 @@ bound =
     (Either (Word keywords.Current (Word keywords.Row (Done bounds.CurrentRow)))
     (Then (One number_of) (λ n. toward (bounds.Preceding n) (bounds.Following n))))
 
+-- AND bound, behind the first
+abbrev pub other_bound : FrameBound → Row (FrameBound × Option FrameBound)
+other_bound start = Word keywords.And (As (λ end. (start, Some end)) bound)
+
+-- bound AND bound, behind BETWEEN
+abbrev pub two_bounds : Row (FrameBound × Option FrameBound)
+two_bounds = Then bound other_bound
+
 -- bound | BETWEEN bound AND bound
 abbrev pub extent : Row (FrameBound × Option FrameBound)
-extent =
-    Either (Word keywords.Between (Then bound (λ start. Word keywords.And (As (λ end. (start, Some end)) bound))))
-    (As (λ start. (start, None)) bound)
+extent = Either (Word keywords.Between two_bounds) (As (λ start. (start, None)) bound)
 
 -- EXCLUDE CURRENT ROW | EXCLUDE GROUP | EXCLUDE TIES | EXCLUDE NO OTHERS, behind EXCLUDE
 abbrev pub exclusion : Row FrameExclusion
@@ -141,25 +147,33 @@ named n Under name =
     Perhaps (Field None name)
     (Either (Sign symbols.Dot (qualified_by name)) (After OpenSign (call n Under name)))
 
--- prim = number | text literal | NULL | column | call | ( cond ); parentheses leave no mark
+-- primary = number | text literal | NULL | column | call | ( cond ); parentheses leave no mark
 abbrev pub primary : ℕ → Row Tree → Row Tree
 primary n Under =
     Either (As Numeral (One number_of)) (Either (As Quoted (One text_of)) (Either (Word keywords.Null (Done NullWord))
     (Either (Then (One name_of) (named n Under)) (After OpenSign (Closed Under)))))
 
--- sign = (+ | -) sign | prim
+-- sign = (+ | -) sign | primary
 abbrev pub signing : Row Tree → Row Tree → Row Tree
 signing Under Primary = Either (Then (One sign_of) (λ minus. As (Signed minus) Under)) Primary
 
+-- AND add, behind the lower end
+abbrev pub up_to : Row Tree → Tree → Bool → Tree → Row Tree
+up_to Adds e negated low = Word keywords.And (As (Within negated e low) Adds)
+
 -- add AND add, behind BETWEEN, whose AND is its own
 abbrev pub within_row : Row Tree → Tree → Bool → Row Tree
-within_row Adds e negated = Then Adds (λ low. Word keywords.And (As (Within negated e low) Adds))
+within_row Adds e negated = Then Adds (up_to Adds e negated)
+
+-- ( add {, add} ), behind IN
+abbrev pub among_row : Row Tree → Tree → Bool → Row Tree
+among_row Under e negated = After OpenSign (As (λ list. Among negated e (trees list)) (Closed (Listed Under)))
 
 -- BETWEEN add AND add | IN ( add {, add} ), behind an operand
 abbrev pub test : Row Tree → Row Tree → Tree → Bool → Row Tree
 test Adds Under e negated =
     Either (Word keywords.Between (within_row Adds e negated))
-    (Word keywords.In (After OpenSign (As (λ list. Among negated e (trees list)) (Closed (Listed Under)))))
+    (Word keywords.In (among_row Under e negated))
 
 -- [NOT]
 abbrev pub perhaps_not : Row Bool
@@ -189,7 +203,7 @@ null_tested e = Perhaps e (Word keywords.Is (Then perhaps_not (λ negated. Word 
 abbrev pub testing : Row Tree → Row Tree
 testing Comparison = Then Comparison null_tested
 
--- neg = NOT neg | test
+-- negation = NOT negation | test
 abbrev pub negation : Row Tree → Row Tree → Row Tree
 negation Under Test = Either (Word keywords.Not (As Negated Under)) Test
 
@@ -215,7 +229,7 @@ comparisons_over n Under = comparing (ranges_over n Under)
 abbrev pub negations_over : ℕ → (Rank → Row Tree) → Row Tree
 negations_over n Under = negation (Under Negations) (testing (comparisons_over n Under))
 
--- cond = conj {OR conj}, conj = neg {AND neg}, add = mul {(+ | -) mul}, mul = sign {* sign}
+-- cond = conj {OR conj}, conj = negation {AND negation}, add = mul {(+ | -) mul}, mul = sign {* sign}
 abbrev pub operands_over : ℕ → (Rank → Row Tree) → ChainKind → Row Tree
 operands_over n Under Disjunction = Chain Conjunction (negations_over n Under)
 operands_over n Under Conjunction = negations_over n Under

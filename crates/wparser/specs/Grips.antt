@@ -5,8 +5,8 @@ use Rattle.wlexer.specs.declared.keyword.Keyword.{Keyword}
 use Rattle.wlexer.specs.declared.keyword.Keyword.TheVariants as keywords
 use Rattle.wlexer.specs.declared.token.Symbol.{Symbol}
 use Rattle.wlexer.specs.declared.token.Symbol.TheVariants as symbols
-use Rattle.wparser.specs.declared.expression.ChainKind.{ChainKind}
-use Rattle.wparser.specs.declared.expression.ChainKind.TheVariants.{Disjunction, Conjunction, Sum, Product}
+use Rattle.wquery.specs.declared.expression.ChainKind.{ChainKind}
+use Rattle.wquery.specs.declared.expression.ChainKind.TheVariants.{Disjunction, Conjunction, Sum, Product}
 use Rattle.wparser.specs.Notation.{Tokens}
 
 -- how tightly a token binds to what stands before it; 0 where it goes on with nothing

@@ -1,9 +1,6 @@
-pub mod Tree
 pub mod Words
 pub mod Notation
 pub mod Grammar
 pub mod Grips
 pub mod Finding
-pub mod QueryTree
 pub mod Queries
-pub mod Lefts

@@ -1,9 +1,9 @@
 -- The notation of the grammar: what it means that tokens are read by a row, up to a rest.
 use Rattle.std.specs.Prelude.{◌≡◌, ℕ, ◌<◌, List, [], ◌∷◌, Option, Some}
 use Rattle.wlexer.specs.Token.{TokenMeaning}
-use Rattle.wparser.specs.declared.expression.ChainKind.{ChainKind}
-use Rattle.wparser.specs.declared.expression.Operator.{Operator}
-use Rattle.wparser.specs.Tree.{Tree, joined}
+use Rattle.wquery.specs.declared.expression.ChainKind.{ChainKind}
+use Rattle.wquery.specs.declared.expression.Operator.{Operator}
+use Rattle.wquery.specs.Tree.{Tree, joined}
 use Rattle.wparser.specs.Words.{operator_of, CommaSign}
 
 abbrev pub Tokens : Type 0

@@ -3,8 +3,8 @@ use Rattle.std.specs.Prelude.{ℕ, zero, suc, List, [], Bool, true, false, Optio
 use Rattle.wlexer.specs.declared.keyword.Keyword.{Keyword}
 use Rattle.wlexer.specs.declared.keyword.Keyword.TheVariants as keywords
 use Rattle.wlexer.specs.declared.token.Symbol.TheVariants as symbols
-use Rattle.wparser.specs.Tree.{Tree, Field}
-use Rattle.wparser.specs.QueryTree.{QueryTree, SourceTree, ItemTree, EntryTree, AllColumns, Computed, FromTable, FromQuery, query_of, entry_of}
+use Rattle.wquery.specs.Tree.{Tree, Field}
+use Rattle.wquery.specs.QueryTree.{QueryTree, SourceTree, ItemTree, EntryTree, AllColumns, Computed, FromTable, FromQuery, query_of, entry_of}
 use Rattle.wparser.specs.Words.{OpenSign, name_of, number_of}
 use Rattle.wparser.specs.Notation.{Tokens, Row, One, After, Then, Done, Perhaps, Either, Listed, As}
 use Rattle.wparser.specs.Grammar.{Word, Sign, Closed, qualified_by, window_inside, order, conditions, inner}
@@ -62,21 +62,35 @@ windows n = Perhaps [] (Word keywords.Window (Listed (entry n)))
 abbrev pub count : Keyword → Row (Option ℕ)
 count keyword = Perhaps None (As Some (Word keyword (One number_of)))
 
+-- number [OFFSET number], behind LIMIT
+abbrev pub limit_row : Row (Option ℕ × Option ℕ)
+limit_row = Then (One number_of) (λ limit. As (λ offset. (Some limit, offset)) (count keywords.Offset))
+
+-- number [LIMIT number], behind OFFSET
+abbrev pub offset_row : Row (Option ℕ × Option ℕ)
+offset_row = Then (One number_of) (λ offset. As (λ limit. (limit, Some offset)) (count keywords.Limit))
+
 -- LIMIT number [OFFSET number] | OFFSET number [LIMIT number]
 abbrev pub written_limits : Row (Option ℕ × Option ℕ)
-written_limits =
-    Either (Word keywords.Limit (Then (One number_of) (λ limit. As (λ offset. (Some limit, offset)) (count keywords.Offset))))
-    (Word keywords.Offset (Then (One number_of) (λ offset. As (λ limit. (limit, Some offset)) (count keywords.Limit))))
+written_limits = Either (Word keywords.Limit limit_row) (Word keywords.Offset offset_row)
 
 abbrev pub limits : Row (Option ℕ × Option ℕ)
 limits = Perhaps (None, None) written_limits
 
+-- [ORDER BY key {, key}] [limits]
+abbrev pub behind_windows : ℕ → List ItemTree → SourceTree → Option Tree → List Tree → Option Tree → List EntryTree → Row QueryTree
+behind_windows n items source condition groups having entries =
+    Then (order (conditions n)) (λ keys. Then limits (λ counts.
+    Done (query_of items source condition groups having entries keys counts)))
+
+-- [HAVING cond] [WINDOW entry {, entry}] ..
+abbrev pub behind_groups : ℕ → List ItemTree → SourceTree → Option Tree → List Tree → Row QueryTree
+behind_groups n items source condition groups =
+    Then (clause keywords.Having n) (λ having. Then (windows n) (behind_windows n items source condition groups having))
+
 -- [WHERE cond] [GROUP BY column {, column}] [HAVING cond] [WINDOW entry {, entry}] [ORDER BY key {, key}] [limits]
 abbrev pub clauses : ℕ → List ItemTree → SourceTree → Row QueryTree
-clauses n items source =
-    Then (clause keywords.Where n) (λ condition. Then grouping (λ groups. Then (clause keywords.Having n) (λ having.
-    Then (windows n) (λ entries. Then (order (conditions n)) (λ keys. Then limits (λ counts.
-    Done (query_of items source condition groups having entries keys counts)))))))
+clauses n items source = Then (clause keywords.Where n) (λ condition. Then grouping (behind_groups n items source condition))
 
 -- query = SELECT item {, item} FROM source ..
 abbrev pub query_over : ℕ → Row QueryTree → Row QueryTree

@@ -3,16 +3,16 @@ use Rattle.std.specs.Prelude.{ℕ, List, Bool, true, false, Option, Some, None}
 use Rattle.wlexer.specs.Token.{TokenMeaning, KeywordToken, NameToken, NumberToken, TextToken, SymbolToken}
 use Rattle.wlexer.specs.declared.keyword.Keyword.TheVariants as keywords
 use Rattle.wlexer.specs.declared.token.Symbol.TheVariants as symbols
-use Rattle.wparser.specs.declared.expression.ChainKind.{ChainKind}
-use Rattle.wparser.specs.declared.expression.ChainKind.TheVariants.{Disjunction, Conjunction, Sum, Product}
-use Rattle.wparser.specs.declared.expression.Operator.{Operator}
-use Rattle.wparser.specs.declared.expression.Operator.TheVariants.{Or, And, Plus, Minus, Times}
-use Rattle.wparser.specs.declared.expression.Comparison.{Comparison}
-use Rattle.wparser.specs.declared.expression.Comparison.TheVariants as comparisons
-use Rattle.wparser.specs.declared.expression.NullOrder.{NullOrder}
-use Rattle.wparser.specs.declared.expression.NullOrder.TheVariants as null_orders
-use Rattle.wparser.specs.declared.frame.FrameMode.{FrameMode}
-use Rattle.wparser.specs.declared.frame.FrameMode.TheVariants as modes
+use Rattle.wquery.specs.declared.expression.ChainKind.{ChainKind}
+use Rattle.wquery.specs.declared.expression.ChainKind.TheVariants.{Disjunction, Conjunction, Sum, Product}
+use Rattle.wquery.specs.declared.expression.Operator.{Operator}
+use Rattle.wquery.specs.declared.expression.Operator.TheVariants.{Or, And, Plus, Minus, Times}
+use Rattle.wquery.specs.declared.expression.Comparison.{Comparison}
+use Rattle.wquery.specs.declared.expression.Comparison.TheVariants as comparisons
+use Rattle.wquery.specs.declared.expression.NullOrder.{NullOrder}
+use Rattle.wquery.specs.declared.expression.NullOrder.TheVariants as null_orders
+use Rattle.wquery.specs.declared.frame.FrameMode.{FrameMode}
+use Rattle.wquery.specs.declared.frame.FrameMode.TheVariants as modes
 
 abbrev pub CommaSign : TokenMeaning
 CommaSign = SymbolToken symbols.Comma

@@ -1,10 +1,10 @@
 //! What holds of the grammar by itself.
 
 ghost use Rattle.std.specs.Prelude.{◌≡◌, ℕ};
-ghost use Rattle.wparser.specs.Tree.{Tree};
+ghost use Rattle.wquery.specs.Tree.{Tree};
 ghost use Rattle.wparser.specs.Grammar.{conditions};
-ghost use Rattle.wparser.specs.Lefts.{IsLeft};
-ghost use Rattle.wparser.specs.QueryTree.{QueryTree};
+ghost use Rattle.wquery.specs.Lefts.{IsLeft, IsQueryLeft};
+ghost use Rattle.wquery.specs.QueryTree.{QueryTree};
 ghost use Rattle.wparser.specs.Notation.{Tokens};
 ghost use Rattle.wparser.specs.Queries.{Spells};
 
@@ -13,7 +13,8 @@ pub fn one_query()
     ensures { (p q : QueryTree) (tokens : Tokens) → Spells p tokens → Spells q tokens → p ≡ q }
 {}
 
-/// No chain that tokens spell has a chain of its own kind first, in any part of it.
+/// No chain that tokens spell has a chain of its own kind first, nor an operator of another kind, in any part of it.
 pub fn no_chain_first()
-    ensures { (depth : ℕ) (t : Tree) (tokens rest : Tokens) → conditions depth t tokens rest → IsLeft t }
+    ensures conditions { (depth : ℕ) (t : Tree) (tokens rest : Tokens) → conditions depth t tokens rest → IsLeft t }
+    ensures queries { (q : QueryTree) (tokens : Tokens) → Spells q tokens → IsQueryLeft q }
 {}

@@ -7,10 +7,9 @@ ghost use Rattle.wparser.specs.Words.{name_of, number_of, text_of, operator_of, 
 ghost use Rattle.wparser.specs.Notation.{Tokens, One, Never};
 ghost use Rattle.wparser.specs.Finding.{meanings};
 
-use crate::expression::{ChainKind, Comparison, NullOrder, Operator};
-use crate::frame::FrameMode;
 use std::rc::RcStr;
-use wlexer::{Keyword, Lexeme, Symbol, Token};
+use wlexer::{Keyword, Lexeme, Number, Symbol, Token};
+use wquery::{ChainKind, Comparison, FrameMode, NullOrder, Operator};
 
 /// The first token, and what follows it.
 fn front(tokens: &[Token]) -> Option<(&Lexeme, &[Token])>
@@ -101,13 +100,13 @@ pub fn text(tokens: &[Token]) -> Option<(&RcStr, &[Token])>
 }
 
 /// A number, where one comes first, and what follows it.
-pub fn number(tokens: &[Token]) -> Option<(u128, &[Token])>
-    ensures { MatchOption result (Never (One number_of) (meanings tokens.now)) (λ x. One number_of (x.0) (meanings tokens.now) (meanings x.1.now)) }
+pub fn number(tokens: &[Token]) -> Option<(&Number, &[Token])>
+    ensures { MatchOption result (Never (One number_of) (meanings tokens.now)) (λ x. One number_of (x.0.now) (meanings tokens.now) (meanings x.1.now)) }
 {
     match front(tokens) {
         None => None,
         Some((lexeme, rest)) => match lexeme {
-            Lexeme::Number(n) => Some((*n, rest)),
+            Lexeme::Number(n) => Some((n, rest)),
             _ => None,
         },
     }

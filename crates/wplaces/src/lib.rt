@@ -21,6 +21,3 @@ pub use laws::{ranks_tell_first_peers, tiles_share_the_rows};
 pub use offsets::{lag, lead};
 pub use ranks::{dense_rank, rank, row_number};
 pub use tiles::ntile;
-
-#[cfg(test)]
-mod tests;

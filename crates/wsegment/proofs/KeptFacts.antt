@@ -1,12 +1,16 @@
 -- A segment as it is kept.
-use Rattle.std.proofs.Common.{◌≡◌, ◌∙◌, ◌<◌, ℕ, get_or, length}
-use Rattle.std.proofs.lemmas.List.{length-map}
-use Rattle.wsegment.specs.Kept.{IsKept, cells_at, content_of, rows_kept}
+use Rattle.std.proofs.Common.{◌≡◌, ◌∙◌, ◌<◌, ℕ, List, [], ap, get_or, length, map, sym}
+use Rattle.std.proofs.lemmas.List.{get_or-map}
+use Rattle.wvalues.specs.Meaning.{Meaning, Null, meaning}
+use Rattle.wvalues.specs.declared.value.Value.{Value}
+use Rattle.wsegment.specs.Rows.{cell}
+use Rattle.wsegment.specs.Kept.{content_of}
 use Rattle.wsegment.specs.declared.segment.Segment.TheInside.{Inside}
 use Rattle.wsegment.proofs.LaidFacts.{length-laid}
 
 pub rows-count : (a : Inside) → length (content_of a).rows ≡ a.rows.count
-rows-count a = length-map (rows_kept a.rows) (cells_at a.fields.items) ∙ length-laid a.rows.width a.rows.count a.rows.cells.items
+rows-count a = length-laid a.rows.width a.rows.count a.rows.cells.items
 
-pub field-within : (a : Inside) (col field : ℕ) → IsKept a → col < length a.fields.items → field ≡ get_or a.fields.items col field → field < a.rows.width
-field-within a col field kept lt is = rw (is) (kept.within col field lt)
+-- a value by its place in a row
+pub row-value : (values : List Value) (rows : List (List Meaning)) (row col : ℕ) (v : Value) → v ≡ get_or values col v → col < length values → map meaning values ≡ get_or rows row [] → meaning v ≡ cell rows row col
+row-value values rows row col v is within same = ap meaning is ∙ sym (get_or-map meaning values col v Null within) ∙ ap (λ cells. get_or cells col Null) same

@@ -1,12 +1,10 @@
 -- Rows that are laid out one after another.
 use Rattle.std.proofs.Common.{◌≡◌, ◌∙◌, ◌+◌, ◌*◌, ◌<◌, ◌≤◌, ◌++◌, ℕ, zero, suc, List, [], ◌∷◌, drop, take, get_or, length, map, refl, sym, ap, arith}
 use Rattle.std.proofs.Math.Nat.{mul-le-mul_right}
-use Rattle.std.proofs.lemmas.List.{drop-append-le, drop-drop, length-drop, length-take-le, get_or-drop, get_or-map, get_or-take, take-append-drop, take-append-le, take_all}
-use Rattle.std.specs.Prelude.{slice_index_or}
+use Rattle.std.proofs.lemmas.List.{drop-append-le, drop-drop, length-drop, length-take-le, take-append-drop, take-append-le, take_all}
 use Rattle.wvalues.specs.declared.value.Value.{Value}
-use Rattle.wvalues.specs.Meaning.{Null, meaning}
-use Rattle.wsegment.specs.Kept.{cells_at, laid}
-use Rattle.wsegment.specs.Rows.{cell}
+use Rattle.wvalues.specs.Meaning.{meaning}
+use Rattle.wsegment.specs.Kept.{laid}
 
 pub length-laid : (width n : ℕ) (cells : List Value) → length (laid width n cells) ≡ n
 length-laid width zero cells = refl
@@ -42,21 +40,12 @@ laid-more width n old new full before added =
     let one : length (drop (length old) new) ≡ width = omega (arith, added, length-drop (length old) new) in
     ap (laid width (suc n)) whole ∙ laid-push width n old (drop (length old) new) full one
 
--- a cell by its place
-pub cell-at : (width n : ℕ) (cells : List Value) (fields : List ℕ) (row col field : ℕ) (v : Value) → length cells ≡ n * width → row < n → col < length fields → field ≡ get_or fields col field → field < width
-    → v ≡ get_or cells (row * width + field) v → meaning v ≡ cell (map (cells_at fields) (laid width n cells)) row col
-cell-at width n cells fields row col field v full in_rows in_fields is_field in_row is_value =
-    let rows = laid width n cells in
+-- a row by its place
+pub row-at : (width n : ℕ) (cells : List Value) (row : ℕ) → length cells ≡ n * width → row < n → (length (take width (drop (row * width) cells)) ≡ width) × (map meaning (take width (drop (row * width) cells)) ≡ get_or (laid width n cells) row [])
+row-at width n cells row full in_rows =
     let behind = drop (row * width) cells in
-    let row_cells = map meaning (take width behind) in
-    let listed : row < length rows = omega (arith, in_rows, length-laid width n cells) in
     let whole : width ≤ length behind = omega (arith, full, row-within width n row in_rows, length-drop (row * width) cells) in
-    let long : field < length (take width behind) = omega (arith, in_row, length-take-le width behind whole) in
-    let the_row : get_or (map (cells_at fields) rows) row [] ≡ cells_at fields row_cells = get_or-map (cells_at fields) rows row [] [] listed ∙ ap (cells_at fields) (laid-at width n cells row in_rows) in
-    let the_field : get_or (cells_at fields row_cells) col Null ≡ get_or row_cells field Null = get_or-map (λ field. slice_index_or row_cells field Null) fields col field Null in_fields ∙ ap (λ field. get_or row_cells field Null) (sym is_field) in
-    let the_value : get_or row_cells field Null ≡ meaning v =
-    get_or-map meaning (take width behind) field v Null long ∙ ap meaning (get_or-take width behind field v in_row ∙ get_or-drop (row * width) cells field v ∙ sym is_value) in
-    sym (ap (λ cells. get_or cells col Null) the_row ∙ the_field ∙ the_value)
+    (length-take-le width behind whole, sym (laid-at width n cells row in_rows))
 
 pub rows-filled : (n width old new : ℕ) → old ≡ n * width → new ≡ old + width → new ≡ (n + 1) * width
 rows-filled n width old new full added = omega arith

@@ -4,7 +4,8 @@ use Rattle.std.proofs.lemmas.List.{append-nil}
 use Rattle.std.proofs.lemmas.Bool.{eq-eqb, le-ltb, lt-ltb, ne_eqb}
 use Rattle.wvalues.specs.Meaning.{Meaning}
 use Rattle.wsegment.specs.Cells.{cell_of, cells_of, row_of, rows_from}
-use Rattle.wsegment.specs.Outcome.{Fails}
+use Rattle.wsegment.specs.Kept.{cells_at, in_order_of}
+use Rattle.wsegment.specs.Outcome.{◌>>=◌, Fails}
 use Rattle.wsegment.specs.declared.kind.Kind.{Kind}
 use Rattle.wsegment.specs.declared.fault.SegmentFault.{SegmentFault}
 use Rattle.wsegment.specs.declared.fault.SegmentFault.TheVariants as faults
@@ -42,33 +43,41 @@ pub row-refused : (row : ℕ) (ks : List Kind) (fs : List (List ℕ)) → (lengt
 unfolding row_of
 row-refused row ks fs differ = rw (ne_eqb _ _ differ) refl
 
+-- rows in the order of fields, one after the other
+order-more : (fields : List ℕ) (x : List Meaning) (read : Result (List (List Meaning)) SegmentFault) → in_order_of fields (read >>= λ xs. Ok (x ∷ xs)) ≡ (in_order_of fields read >>= λ ys. Ok (cells_at fields x ∷ ys))
+order-more fields x (Ok xs) = refl
+order-more fields x (Err fault) = refl
+
 -- one more row
-pub rows-go : (ks : List Kind) (n : ℕ) (left rest : List (List (List ℕ))) (r : List (List ℕ)) (front : List (List Meaning)) (x : List Meaning) (total : Result (List (List Meaning)) SegmentFault)
-    → n ≤ 1000000 → left ≡ r ∷ rest → row_of n ks r ≡ Ok x → with_front front (rows_from ks n left) ≡ total → with_front (front ++ x ∷ []) (rows_from ks (n + 1) rest) ≡ total
+pub rows-go : (ks : List Kind) (fields : List ℕ) (n : ℕ) (left rest : List (List (List ℕ))) (r : List (List ℕ)) (front : List (List Meaning)) (x y : List Meaning) (total : Result (List (List Meaning)) SegmentFault)
+    → n ≤ 1000000 → left ≡ r ∷ rest → row_of n ks r ≡ Ok x → y ≡ cells_at fields x → with_front front (in_order_of fields (rows_from ks n left)) ≡ total → with_front (front ++ y ∷ []) (in_order_of fields (rows_from ks (n + 1) rest)) ≡ total
 unfolding rows_from
-rows-go ks n left rest r front x total few e ex so_far =
-    let one : with_front front (rows_from ks n left) ≡ with_front (front ++ x ∷ []) (rows_from ks (n + 1) rest) = rw (e, le-ltb 1000000 n few, ex) (regroup front x (rows_from ks (n + 1) rest)) in
+rows-go ks fields n left rest r front x y total few e ex ey so_far =
+    let read : rows_from ks n left ≡ (rows_from ks (n + 1) rest >>= λ xs. Ok (x ∷ xs)) = rw (e, le-ltb 1000000 n few, ex) refl in
+    let ordered : in_order_of fields (rows_from ks n left) ≡ (in_order_of fields (rows_from ks (n + 1) rest) >>= λ ys. Ok (y ∷ ys))
+    = ap (in_order_of fields) read ∙ order-more fields x (rows_from ks (n + 1) rest) ∙ ap (λ (z : List Meaning). in_order_of fields (rows_from ks (n + 1) rest) >>= λ ys. Ok (z ∷ ys)) (sym ey) in
+    let one : with_front front (in_order_of fields (rows_from ks n left)) ≡ with_front (front ++ y ∷ []) (in_order_of fields (rows_from ks (n + 1) rest)) = ap (with_front front) ordered ∙ regroup front y (in_order_of fields (rows_from ks (n + 1) rest)) in
     sym one ∙ so_far
 
 -- a row's fault is the segment's
-pub rows-stop : (fault : SegmentFault) (ks : List Kind) (n : ℕ) (left rest : List (List (List ℕ))) (r : List (List ℕ)) (front : List (List Meaning)) (total : Result (List (List Meaning)) SegmentFault)
-    → n ≤ 1000000 → left ≡ r ∷ rest → Fails fault (row_of n ks r) → with_front front (rows_from ks n left) ≡ total → Fails fault total
+pub rows-stop : (fault : SegmentFault) (ks : List Kind) (fields : List ℕ) (n : ℕ) (left rest : List (List (List ℕ))) (r : List (List ℕ)) (front : List (List Meaning)) (total : Result (List (List Meaning)) SegmentFault)
+    → n ≤ 1000000 → left ≡ r ∷ rest → Fails fault (row_of n ks r) → with_front front (in_order_of fields (rows_from ks n left)) ≡ total → Fails fault total
 unfolding rows_from
-rows-stop fault ks n left rest r front total few e (inl memory) so_far = inl memory
-rows-stop fault ks n left rest r front total few e (inr failed) so_far =
-    let one : with_front front (rows_from ks n left) ≡ Err fault = rw (e, le-ltb 1000000 n few, failed) refl in
+rows-stop fault ks fields n left rest r front total few e (inl memory) so_far = inl memory
+rows-stop fault ks fields n left rest r front total few e (inr failed) so_far =
+    let one : with_front front (in_order_of fields (rows_from ks n left)) ≡ Err fault = rw (e, le-ltb 1000000 n few, failed) refl in
     inr (sym so_far ∙ one)
 
-pub rows-end : (ks : List Kind) (n : ℕ) (left : List (List (List ℕ))) (front : List (List Meaning)) (total : Result (List (List Meaning)) SegmentFault)
-    → left ≡ [] → with_front front (rows_from ks n left) ≡ total → total ≡ Ok front
+pub rows-end : (ks : List Kind) (fields : List ℕ) (n : ℕ) (left : List (List (List ℕ))) (front : List (List Meaning)) (total : Result (List (List Meaning)) SegmentFault)
+    → left ≡ [] → with_front front (in_order_of fields (rows_from ks n left)) ≡ total → total ≡ Ok front
 unfolding rows_from
-rows-end ks n left front total e so_far =
-    let one : with_front front (rows_from ks n left) ≡ Ok front = rw e (ap (λ (ys : List (List Meaning)). Ok ys) (append-nil front)) in
+rows-end ks fields n left front total e so_far =
+    let one : with_front front (in_order_of fields (rows_from ks n left)) ≡ Ok front = rw e (ap (λ (ys : List (List Meaning)). Ok ys) (append-nil front)) in
     sym so_far ∙ one
 
-pub rows-many : (ks : List Kind) (n : ℕ) (left rest : List (List (List ℕ))) (r : List (List ℕ)) (front : List (List Meaning)) (total : Result (List (List Meaning)) SegmentFault)
-    → 1000000 < n → left ≡ r ∷ rest → with_front front (rows_from ks n left) ≡ total → total ≡ Err faults.TooManyRows
+pub rows-many : (ks : List Kind) (fields : List ℕ) (n : ℕ) (left rest : List (List (List ℕ))) (r : List (List ℕ)) (front : List (List Meaning)) (total : Result (List (List Meaning)) SegmentFault)
+    → 1000000 < n → left ≡ r ∷ rest → with_front front (in_order_of fields (rows_from ks n left)) ≡ total → total ≡ Err faults.TooManyRows
 unfolding rows_from
-rows-many ks n left rest r front total many e so_far =
-    let one : with_front front (rows_from ks n left) ≡ Err faults.TooManyRows = rw (e, lt-ltb 1000000 n many) refl in
+rows-many ks fields n left rest r front total many e so_far =
+    let one : with_front front (in_order_of fields (rows_from ks n left)) ≡ Err faults.TooManyRows = rw (e, lt-ltb 1000000 n many) refl in
     sym so_far ∙ one

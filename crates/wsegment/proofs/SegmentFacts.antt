@@ -1,13 +1,13 @@
 -- The rows of a segment, by what was found out about its bytes.
-use Rattle.std.proofs.Common.{◌≡◌, ◌∙◌, ◌<◌, ◌≤◌, ◌⊎◌, inl, inr, true, false, ℕ, List, [], ◌∷◌, length, map, Some, Ok, Err, refl, ap}
+use Rattle.std.proofs.Common.{◌≡◌, ◌∙◌, ◌<◌, ◌≤◌, ◌⊎◌, inl, inr, true, false, ℕ, List, [], ◌∷◌, length, map, Result, Some, Ok, Err, refl, ap}
 use Rattle.std.proofs.lemmas.Bool.{le-ltb, lt-ltb}
 use Rattle.csv.specs.Reading.{default_config, records, strip_bom}
 use Rattle.wvalues.specs.Meaning.{Meaning}
 use Rattle.wsegment.specs.Cells.{rows_from}
 use Rattle.wsegment.specs.Declaration.{Declaration, Described}
-use Rattle.wsegment.specs.Header.{field_of, is_complete, kinds_of, named_each}
-use Rattle.wsegment.specs.Kept.{cells_at}
-use Rattle.wsegment.specs.Outcome.{Fails}
+use Rattle.wsegment.specs.Header.{field_of, in_table_order, is_complete, kinds_of, named_each}
+use Rattle.wsegment.specs.Kept.{in_order_of}
+use Rattle.wsegment.specs.Outcome.{◌>>=◌, Fails}
 use Rattle.wsegment.specs.Rows.{rows_of, rows_of_records, rows_under}
 use Rattle.wsegment.specs.declared.fault.SegmentFault.{SegmentFault}
 use Rattle.wsegment.specs.declared.fault.SegmentFault.TheVariants as faults
@@ -47,15 +47,26 @@ unfolding rows_under
 stop-fields fault d bytes header below found h p (inl memory) = inl memory
 stop-fields fault d bytes header below found h p (inr missing) = inr (go-header d bytes header below found h p ∙ rw (missing.0, missing.1) refl)
 
-pub stop-rows : (fault : SegmentFault) (d : Declaration) (bytes : List ℕ) (header : List (List ℕ)) (below : List (List (List ℕ))) (found : List Described) → IsHeaded d bytes header below
-    → named_each d.columns [] header ≡ Ok found → is_complete d.columns found ≡ true → Fails fault (rows_from (kinds_of found) 1 below) → Fails fault (rows_of d bytes)
+-- rows in the order of the table's columns are rows in the order of their fields
+order-same : (found : List Described) (columns : List Described) (fields : List ℕ) (read : Result (List (List Meaning)) SegmentFault) → map Some fields ≡ map (field_of found) columns
+    → (read >>= λ rows. Ok (map (in_table_order columns found) rows)) ≡ in_order_of fields read
+order-same found columns fields (Ok rows) e = ap (λ (found : List (List Meaning)). Ok found) (in-order found columns fields rows e)
+order-same found columns fields (Err fault) e = refl
+
+rows-ordered : (d : Declaration) (bytes : List ℕ) (header : List (List ℕ)) (below : List (List (List ℕ))) (found : List Described) (fields : List ℕ) → IsHeaded d bytes header below
+    → named_each d.columns [] header ≡ Ok found → is_complete d.columns found ≡ true → map Some fields ≡ map (field_of found) d.columns
+    → rows_of d bytes ≡ in_order_of fields (rows_from (kinds_of found) 1 below)
 unfolding rows_under
-stop-rows fault d bytes header below found h p complete (inl memory) = inl memory
-stop-rows fault d bytes header below found h p complete (inr failed) = inr (go-header d bytes header below found h p ∙ rw (complete, failed) refl)
+rows-ordered d bytes header below found fields h p complete e =
+    go-header d bytes header below found h p ∙ rw complete (order-same found d.columns fields (rows_from (kinds_of found) 1 below) e)
+
+pub stop-rows : (fault : SegmentFault) (d : Declaration) (bytes : List ℕ) (header : List (List ℕ)) (below : List (List (List ℕ))) (found : List Described) (fields : List ℕ) → IsHeaded d bytes header below
+    → named_each d.columns [] header ≡ Ok found → is_complete d.columns found ≡ true → map Some fields ≡ map (field_of found) d.columns → Fails fault (in_order_of fields (rows_from (kinds_of found) 1 below))
+    → Fails fault (rows_of d bytes)
+stop-rows fault d bytes header below found fields h p complete e (inl memory) = inl memory
+stop-rows fault d bytes header below found fields h p complete e (inr failed) = inr (rows-ordered d bytes header below found fields h p complete e ∙ failed)
 
 pub all-rows : (d : Declaration) (bytes : List ℕ) (header : List (List ℕ)) (below : List (List (List ℕ))) (found : List Described) (fields : List ℕ) (rows : List (List Meaning)) → IsHeaded d bytes header below
-    → named_each d.columns [] header ≡ Ok found → is_complete d.columns found ≡ true → map Some fields ≡ map (field_of found) d.columns → rows_from (kinds_of found) 1 below ≡ Ok rows
-    → rows_of d bytes ≡ Ok (map (cells_at fields) rows)
-unfolding rows_under
-all-rows d bytes header below found fields rows h p complete e all =
-    go-header d bytes header below found h p ∙ rw (complete, all) (ap (λ (found : List (List Meaning)). Ok found) (in-order found d.columns fields rows e))
+    → named_each d.columns [] header ≡ Ok found → is_complete d.columns found ≡ true → map Some fields ≡ map (field_of found) d.columns → in_order_of fields (rows_from (kinds_of found) 1 below) ≡ Ok rows
+    → rows_of d bytes ≡ Ok rows
+all-rows d bytes header below found fields rows h p complete e all = rows-ordered d bytes header below found fields h p complete e ∙ all

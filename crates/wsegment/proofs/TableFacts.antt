@@ -1,8 +1,9 @@
 -- What is known of a segment that has rows.
-use Rattle.std.proofs.Common.{◌≡◌, ◌∙◌, ◌++◌, ◌==◌, ◌+◌, ◌<◌, ◌≤◌, Bool, true, false, cond, ℕ, zero, suc, List, [], ◌∷◌, get_or, length, map, Option, Some, None, Result, Ok, Err, refl, sym, ap, arith}
+use Rattle.std.proofs.Common.{◌≡◌, ◌≢◌, ◌∙◌, ◌++◌, ◌||◌, ◌==◌, ◌+◌, ◌<◌, ◌≤◌, Bool, true, false, true≢false, cond, subst, ℕ, zero, suc, List, [], ◌∷◌, get_or, length, map, Option, Some, None, Result, Ok, Err, refl, sym, ap, arith}
 use Rattle.std.proofs.lemmas.Bool.{eqb-true}
 use Rattle.std.proofs.lemmas.Bool.Decides.{nat_tests}
-use Rattle.std.proofs.lemmas.List.{get_or-map, length-map}
+use Rattle.std.proofs.lemmas.List.{get_or-map, length-map, map-append}
+use Rattle.std.proofs.lemmas.List.Folds.{list_any-append}
 use Rattle.std.proofs.lemmas.List.Quantifiers.{position-Some}
 use Rattle.std.proofs.lemmas.Slice.Eq.{bytes_eq-Decides}
 use Rattle.std.specs.List.{AllByRecursion, find, list_all, list_any, position}
@@ -21,7 +22,7 @@ use Rattle.wsegment.specs.declared.kind.Kind.{Kind}
 use Rattle.wsegment.specs.declared.kind.Kind.TheVariants as kinds
 use Rattle.wsegment.specs.declared.fault.SegmentFault.{SegmentFault}
 use Rattle.wsegment.specs.declared.fault.SegmentFault.TheVariants as faults
-use Rattle.wsegment.proofs.ListFacts.{position-map}
+use Rattle.wsegment.proofs.ListFacts.{list_any-map, position-map}
 
 next-ok : {A B : Type 0} (read : Result A SegmentFault) (f : A → Result B SegmentFault) (y : B) → (read >>= f) ≡ Ok y → (x : A) × (read ≡ Ok x) × (f x ≡ Ok y)
 next-ok (Ok x) f y e = (x, refl, e)
@@ -76,6 +77,58 @@ header-ok columns earlier (w ∷ ws) found e =
     let name : c.name ≡ w = name-found columns w c is in
     let after = header-ok columns (earlier ++ c ∷ []) ws cs rest.1 in
     rw (← same-ok (c ∷ cs) found rest.2) (ap (λ (n : List ℕ). n ∷ map (λ c. c.name) cs) name ∙ ap (λ (ns : List (List ℕ)). w ∷ ns) after.0, (ap (λ n. column_named n columns) name ∙ is, after.1))
+
+-- no word is the name of an earlier field
+abbrev AreNew : List (List ℕ) → List (List ℕ) → Type 0
+AreNew earlier [] = Unit {0}
+AreNew earlier (w ∷ ws) = (list_any (λ n. bytes_eq n w) earlier ≡ false) × AreNew (earlier ++ w ∷ []) ws
+
+fresh-new : (earlier : List Described) (column : Option Described) (c : Described) → fresh earlier column ≡ Ok c → list_any (λ other. bytes_eq other.name c.name) earlier ≡ false
+fresh-new earlier None c e = cc e
+fresh-new earlier (Some x) c e =
+    let h = else-ok (list_any (λ other. bytes_eq other.name x.name) earlier) (Ok x) faults.RepeatedColumn c e in
+    ap (λ (c : Described). list_any (λ other. bytes_eq other.name c.name) earlier) (sym (same-ok x c h.1)) ∙ h.0
+
+named-new : (columns earlier : List Described) (field : List ℕ) (c : Described) → named columns earlier field ≡ Ok c → list_any (λ other. bytes_eq other.name c.name) earlier ≡ false
+unfolding named
+named-new columns earlier field c e = fresh-new earlier (column_named field columns) c (if-ok (is_utf8 field) (fresh earlier (column_named field columns)) faults.HeaderNotUtf8 c e).1
+
+header-new : (columns earlier : List Described) (words : List (List ℕ)) (found : List Described) → named_each columns earlier words ≡ Ok found → AreNew (map (λ c. c.name) earlier) words × (list_all (λ word. is_some (column_named word columns)) words ≡ true)
+unfolding named_each
+header-new columns earlier [] found e = (tt, refl)
+header-new columns earlier (w ∷ ws) found e =
+    let one = next-ok (named columns earlier w) (λ c. named_each columns (earlier ++ c ∷ []) ws >>= λ cs. Ok (c ∷ cs)) found e in
+    let c = one.0 in
+    let rest = next-ok (named_each columns (earlier ++ c ∷ []) ws) (λ cs. Ok (c ∷ cs)) found one.2 in
+    let is = named-ok columns earlier w c one.1 in
+    let name : c.name ≡ w = name-found columns w c is in
+    let after = header-new columns (earlier ++ c ∷ []) ws rest.0 rest.1 in
+    let names : map (λ (c : Described). c.name) (earlier ++ c ∷ []) ≡ map (λ (c : Described). c.name) earlier ++ w ∷ []
+    = map-append (λ (c : Described). c.name) earlier (c ∷ []) ∙ ap (λ (n : List ℕ). map (λ (c : Described). c.name) earlier ++ n ∷ []) name in
+    let none : list_any (λ n. bytes_eq n w) (map (λ (c : Described). c.name) earlier) ≡ false
+    = list_any-map (λ n. bytes_eq n w) (λ (c : Described). c.name) earlier ∙ ap (λ n. list_any (λ (other : Described). bytes_eq other.name n) earlier) (sym name) ∙ named-new columns earlier w c one.1 in
+    ((none, subst (λ ns. AreNew ns ws) names after.0), rw is after.1)
+
+or-false : (a b : Bool) → (a || (b || false)) ≡ false → (a ≡ false) × (b ≡ false)
+or-false true b e = cc e
+or-false false true e = cc e
+or-false false false e = (refl, refl)
+
+later-new : (earlier ws : List (List ℕ)) (j : ℕ) → AreNew earlier ws → j < length ws → list_any (λ n. bytes_eq n (get_or ws j [])) earlier ≡ false
+later-new earlier [] j h lt = absurd (omega arith)
+later-new earlier (w ∷ ws) zero h lt = h.0
+later-new earlier (w ∷ ws) (suc j) h lt =
+    let p = λ (n : List ℕ). bytes_eq n (get_or ws j []) in
+    (or-false (list_any p earlier) (p w) (sym (list_any-append p earlier (w ∷ [])) ∙ later-new (earlier ++ w ∷ []) ws j h.1 (omega (arith, lt)))).0
+
+words-apart : (earlier ws : List (List ℕ)) → AreNew earlier ws → (i j : ℕ) → i < j → j < length ws → get_or ws i [] ≢ get_or ws j []
+words-apart earlier [] h i j below lt = absurd (omega (arith, lt))
+words-apart earlier (w ∷ ws) h i zero below lt = absurd (omega (arith, below))
+words-apart earlier (w ∷ ws) h zero (suc j) below lt =
+    let p = λ (n : List ℕ). bytes_eq n (get_or ws j []) in
+    let none = (or-false (list_any p earlier) (p w) (sym (list_any-append p earlier (w ∷ [])) ∙ later-new (earlier ++ w ∷ []) ws j h.1 (omega (arith, lt)))).1 in
+    λ same. true≢false (sym ((bytes_eq-Decides w (get_or ws j [])).1 same) ∙ none)
+words-apart earlier (w ∷ ws) h (suc i) (suc j) below lt = words-apart (earlier ++ w ∷ []) ws h.1 i j (omega (arith, below)) (omega (arith, lt))
 
 row-ok : (row : ℕ) (ks : List Kind) (fs : List (List ℕ)) (xs : List Meaning) → row_of row ks fs ≡ Ok xs → (length fs ≡ length ks) × (cells_of row ks fs ≡ Ok xs)
 unfolding row_of
@@ -161,18 +214,22 @@ ordered-cell d found raw name c row column field lt placed here =
     ∙ get_or-map (λ c. cell_at cells (field_of found c)) d.columns column c Null first.0
     ∙ ap (cell_at cells) its_field
 
-assemble : (d : Declaration) (bytes : List ℕ) (header : List (List ℕ)) (below : List (List (List ℕ))) (found : List Described) (raw : List (List Meaning)) → records default_config (strip_bom bytes) ≡ header ∷ below → Names d.columns found header
+assemble : (d : Declaration) (bytes : List ℕ) (header : List (List ℕ)) (below : List (List (List ℕ))) (found : List Described) (raw : List (List Meaning)) → length bytes ≤ 67108864 → named_each d.columns [] header ≡ Ok found → records default_config (strip_bom bytes) ≡ header ∷ below → Names d.columns found header
     → is_complete d.columns found ≡ true → AreRows (kinds_of found) 1 below raw → IsTable d bytes (map (in_table_order d.columns found) raw)
-assemble d bytes header below found raw split names complete all =
+assemble d bytes header below found raw short named split names complete all =
     let long : length (map (in_table_order d.columns found) raw) ≡ length raw = length-map raw (in_table_order d.columns found) in
     let wide : length (kinds_of found) ≡ length found = length-map found (λ c. c.kind) in
+    let new = header-new d.columns [] header found named in
     let words : length found ≡ length header = sym (length-map found (λ (c : Described). c.name)) ∙ ap length names.0 in
     record {
+      short = short;
       header = header;
       below = below;
       split = split;
       count = long ∙ all.count;
       few = rw long (few-of (length raw) all.few);
+      known = new.1;
+      distinct = words-apart [] header new.0;
       complete = rw (← names.0) (sym (complete-words found d.columns) ∙ complete);
       widths = λ row lt. (row-ok (1 + row) (kinds_of found) (get_or below row []) (get_or raw row []) (all.each row (rw long at lt))).0 ∙ wide ∙ words;
       values = λ name c row column field lt is placed at.
@@ -188,14 +245,18 @@ assemble d bytes header below found raw split names complete all =
 
 pub table : (d : Declaration) (bytes : List ℕ) (rows : List (List Meaning)) → rows_of d bytes ≡ Ok rows → IsTable d bytes rows
 unfolding rows_of rows_of_records rows_under
-table d bytes rows e = by (records default_config (strip_bom bytes)) refl (else-ok (nat_lt 67108864 (length bytes)) (rows_of_records d (records default_config (strip_bom bytes))) faults.TooLong rows e).1
+table d bytes rows e =
+    let within = else-ok (nat_lt 67108864 (length bytes)) (rows_of_records d (records default_config (strip_bom bytes))) faults.TooLong rows e in
+    let tested = within.0 in
+    let short : length bytes ≤ 67108864 = grind (arith, nat_tests, tested) in
+    by short (records default_config (strip_bom bytes)) refl within.1
   where
-    by : (all : List (List (List ℕ))) → records default_config (strip_bom bytes) ≡ all → rows_of_records d all ≡ Ok rows → IsTable d bytes rows
-    by [] split e = cc e
-    by (header ∷ below) split e =
+    by : length bytes ≤ 67108864 → (all : List (List (List ℕ))) → records default_config (strip_bom bytes) ≡ all → rows_of_records d all ≡ Ok rows → IsTable d bytes rows
+    by short [] split e = cc e
+    by short (header ∷ below) split e =
         let one = next-ok (named_each d.columns [] header) (rows_under d below) rows e in
         let found = one.0 in
         let order = in_table_order d.columns found in
         let under = if-ok (is_complete d.columns found) (rows_from (kinds_of found) 1 below >>= λ rows. Ok (map order rows)) faults.MissingColumn rows one.2 in
         let raw = next-ok (rows_from (kinds_of found) 1 below) (λ rows. Ok (map order rows)) rows under.1 in
-        rw (← same-ok (map order raw.0) rows raw.2) (assemble d bytes header below found raw.0 split (header-ok d.columns [] header found one.1) under.0 (rows-ok (kinds_of found) 1 below raw.0 raw.1))
+        rw (← same-ok (map order raw.0) rows raw.2) (assemble d bytes header below found raw.0 short one.1 split (header-ok d.columns [] header found one.1) under.0 (rows-ok (kinds_of found) 1 below raw.0 raw.1))

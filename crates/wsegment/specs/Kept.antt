@@ -1,8 +1,10 @@
--- How a segment is kept: its cells one row after another in the order of the header, and the field of each column.
-use Rattle.std.specs.Prelude.{◌≡◌, ◌<◌, ◌*◌, ℕ, zero, suc, All, List, [], ◌∷◌, length, map, slice_index_or, take, drop}
+-- How a segment is kept: its cells one row after another in the order of the table's columns.
+use Rattle.std.specs.Prelude.{◌≡◌, ◌*◌, ℕ, zero, suc, List, [], ◌∷◌, length, map, slice_index_or, take, drop, Result, Ok}
 use Rattle.wvalues.specs.Meaning.{Meaning, Null, meaning}
 use Rattle.wvalues.specs.declared.value.Value.{Value}
+use Rattle.wsegment.specs.Outcome.{◌>>=◌}
 use Rattle.wsegment.specs.Rows.{Content}
+use Rattle.wsegment.specs.declared.fault.SegmentFault.{SegmentFault}
 use Rattle.wsegment.specs.declared.rows.Rows.{Rows}
 use Rattle.wsegment.specs.declared.segment.Segment.TheInside.{Inside}
 
@@ -18,14 +20,17 @@ rows_kept r = laid r.width r.count r.cells.items
 abbrev pub cells_at : List ℕ → List Meaning → List Meaning
 cells_at fields cells = map (λ field. slice_index_or cells field Null) fields
 
+-- each row's cells at these fields
+abbrev pub in_order_of : List ℕ → Result (List (List Meaning)) SegmentFault → Result (List (List Meaning)) SegmentFault
+in_order_of fields read = read >>= λ rows. Ok (map (cells_at fields) rows)
+
 abbrev pub content_of : Inside → Content
 content_of a = record {
   bytes = a.bytes.items;
-  columns = length a.fields.items;
-  rows = map (cells_at a.fields.items) (rows_kept a.rows);
+  columns = a.rows.width;
+  rows = rows_kept a.rows;
 }
 
--- all rows are there, and each has each field
+-- all rows are there
 pub record IsKept (a : Inside) : Type 0 where
   pub filled : length a.rows.cells.items ≡ a.rows.count * a.rows.width
-  pub within : All (λ field. field < a.rows.width) a.fields.items

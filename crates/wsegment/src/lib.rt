@@ -3,7 +3,7 @@
 //! - Gives a table's declaration, read from its one spelling, and the rows of a segment, read from CSV.
 //! - Promises: a schema is what its text spells and nothing else is; a segment has exactly the rows of its bytes,
 //!   in the order of the table's columns; a fault is the first one in reading order.
-//! - Asks: a row and a column in range, of `Segment::value` alone.
+//! - Asks: a row and a column in range, of `Segment::row` and `Segment::value` alone.
 //! - Leaves names, sets and files to `wset` and `wexchange`.
 //!
 //! Read `specs/Declaration.antt`, `specs/Spelling.antt`, then `specs/Integer.antt`, `specs/Cells.antt`,
@@ -22,6 +22,7 @@ mod schema;
 mod schema_fault;
 mod segment;
 mod spelling;
+mod texts;
 
 pub use column::Column;
 pub use fault::SegmentFault;
@@ -30,6 +31,3 @@ pub use laws::{one_spelling, rows_need_no_memory, values_stand_under_their_names
 pub use schema::Schema;
 pub use schema_fault::SchemaFault;
 pub use segment::Segment;
-
-#[cfg(test)]
-mod tests;

@@ -7,15 +7,19 @@ ghost use Rattle.wsegment.specs.Progress.{IsReading, Takes, records_left};
 use csv::{ByteRecord, ErrorKind, Reader, ReaderBuilder};
 use std::alloc::{AllocError, Global};
 
-/// A reader of all records, of whatever lengths, the first as the others.
-pub(crate) fn reader_of<'a>(alloc: Global, bytes: &'a [u8]) -> Reader<&'a [u8]>
-    ensures reading { IsReading result }
-    ensures all { records_left result ≡ records default_config (strip_bom bytes.now) }
+/// A reader of all records, of whatever lengths, the first as the others. It is given a header of no field, so that
+/// it keeps no copy of the first record.
+pub(crate) fn reader_of<'a>(alloc: Global, bytes: &'a [u8]) -> Result<Reader<&'a [u8]>, AllocError>
+    ensures reading { IfOk result IsReading }
+    ensures all { IfOk result (λ reader. records_left reader ≡ records default_config (strip_bom bytes.now)) }
 {
-    ReaderBuilder::new()
-        .has_headers(false)
+    let mut reader = ReaderBuilder::new()
         .flexible(true)
-        .from_reader(alloc, bytes)
+        .from_reader(alloc, bytes);
+    match reader.set_byte_headers(ByteRecord::new(alloc)) {
+        Ok(()) => Ok(reader),
+        Err(_) => Err(AllocError),
+    }
 }
 
 /// Takes the next record, and says whether there was one.

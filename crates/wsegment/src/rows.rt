@@ -1,10 +1,10 @@
 //! The rows below a header, laid out one after another.
-ghost use Rattle.std.specs.Prelude.{◌≡◌, ◌*◌, ◌+◌, ◌<◌, ◌≤◌, Ok, OnOk, IfOk, IfErr, length, map, take, drop};
+ghost use Rattle.std.specs.Prelude.{◌≡◌, ◌*◌, ◌+◌, ◌<◌, All, Ok, OnOk, IfOk, IfErr, length, map, take, drop};
 ghost use Rattle.csv.specs.Records.{fields_of};
 ghost use Rattle.wvalues.specs.Meaning.{meaning};
 ghost use Rattle.wsegment.specs.Cells.{row_of, rows_from};
 ghost use Rattle.wsegment.specs.Header.{all_now, kinds_of};
-ghost use Rattle.wsegment.specs.Kept.{rows_kept};
+ghost use Rattle.wsegment.specs.Kept.{cells_at, in_order_of, rows_kept};
 ghost use Rattle.wsegment.specs.Outcome.{Fails, Gives};
 ghost use Rattle.wsegment.specs.Progress.{IsReading, records_left};
 
@@ -12,14 +12,15 @@ use crate::cell::cell;
 use crate::column::Column;
 use crate::fault::SegmentFault;
 use crate::records::take_record;
+use crate::texts::Texts;
 use csv::{ByteRecord, Reader};
-use std::alloc::Global;
+use std::alloc::{AllocError, Global};
 use wvalues::Value;
 
 /// The most rows of a segment.
 const MAX_ROWS: u32 = 1_000_000;
 
-/// Rows of cells in the order of the header, one row after another.
+/// Rows of cells in the order of the table's columns, one row after another.
 #[derive(Debug, Drop)]
 pub(crate) struct Rows {
     pub(crate) cells: Vec<Value>,
@@ -27,20 +28,13 @@ pub(crate) struct Rows {
     pub(crate) count: usize,
 }
 
-// The cell of the row before in the place where the next cell is appended.
-fn above(cells: &[Value], width: usize) -> Option<&Value> {
-    if cells.len() < width {
-        return None;
-    }
-    cells.get(cells.len() - width)
-}
-
-// Appends the cells of a row, or its first fault.
+// Appends the cells of a row in the order of the header, or finds its first fault.
 fn push_row(
     alloc: Global,
     number: u32,
     header: &[&Column],
     row: &ByteRecord,
+    texts: &mut Texts,
     cells: &mut Vec<Value>,
 ) -> Result<(), SegmentFault>
     ensures before { OnOk result (take (length cells.old.items) cells.new.items ≡ cells.old.items) }
@@ -55,30 +49,42 @@ fn push_row(
         let Some(field) = row.get(i) else {
             unreachable!()
         };
-        let value = cell(
-            alloc,
-            number,
-            column.kind(),
-            field,
-            above(cells, header.len()),
-        )?;
+        let value = cell(alloc, number, column.kind(), field, texts)?;
         cells.push(value)?;
     }
     Ok(())
 }
 
-/// Every row that is left, or the first fault. One record is filled over and over.
+// Appends the cells at these fields.
+fn lay_row(fields: &[usize], found: &[Value], cells: &mut Vec<Value>) -> Result<(), AllocError>
+    requires { All (λ field. field < length found.now) fields.now }
+    ensures before { OnOk result (take (length cells.old.items) cells.new.items ≡ cells.old.items) }
+    ensures added { OnOk result (length cells.new.items ≡ length cells.old.items + length fields.now) }
+    ensures row { OnOk result (map meaning (drop (length cells.old.items) cells.new.items) ≡ cells_at fields.now (map meaning found.now)) }
+{
+    for field in fields {
+        cells.push(found[*field].duplicate()?)?;
+    }
+    Ok(())
+}
+
+/// Every row that is left, of which each column's cell stands at its field, or the first fault. One record is filled
+/// over and over.
 pub(crate) fn read_rows(
     alloc: Global,
     reader: &mut Reader<&[u8]>,
     header: &[&Column],
+    fields: &[usize],
 ) -> Result<Rows, SegmentFault>
-    requires { IsReading reader.old }
-    ensures gives { Gives rows_kept result (rows_from (kinds_of (all_now header.now)) 1 (records_left reader.old)) }
+    requires reading { IsReading reader.old }
+    requires within { All (λ field. field < length header.now) fields.now }
+    ensures gives { Gives rows_kept result (in_order_of fields.now (rows_from (kinds_of (all_now header.now)) 1 (records_left reader.old))) }
     ensures filled { IfOk result (λ rows. length rows.cells.items ≡ rows.count * rows.width) }
-    ensures width { IfOk result (λ rows. rows.width ≡ length header.now) }
+    ensures width { IfOk result (λ rows. rows.width ≡ length fields.now) }
 {
     let mut cells = Vec::new(alloc);
+    let mut found = Vec::new(alloc);
+    let mut texts = Texts::new(alloc)?;
     let mut row = ByteRecord::new(alloc);
     let mut count = 0;
     while take_record(reader, &mut row)? {
@@ -86,11 +92,13 @@ pub(crate) fn read_rows(
             return Err(SegmentFault::TooManyRows);
         }
         count += 1;
-        push_row(alloc, count, header, &row, &mut cells)?;
+        found.clear();
+        push_row(alloc, count, header, &row, &mut texts, &mut found)?;
+        lay_row(fields, &found, &mut cells)?;
     }
     Ok(Rows {
         cells,
-        width: header.len(),
+        width: fields.len(),
         count: count as usize,
     })
 }

@@ -1,5 +1,5 @@
 //! A segment: rows of the table with the bytes that they were read from.
-ghost use Rattle.std.specs.Prelude.{◌≡◌, ◌<◌, IfOk, length};
+ghost use Rattle.std.specs.Prelude.{◌≡◌, ◌+◌, ◌*◌, ◌<◌, ◌≤◌, [], IfOk, drop, length, map, slice_index_or, take};
 ghost use Rattle.wvalues.specs.Meaning.{meaning};
 ghost use Rattle.wsegment.specs.Outcome.{Gives};
 ghost use Rattle.wsegment.specs.Rows.{cell, rows_of};
@@ -22,8 +22,6 @@ const MAX_BYTES: usize = 67_108_864;
 #[derive(Debug, Drop)]
 pub struct Segment {
     bytes: Vec<u8>,
-    // The field of each column.
-    fields: Vec<usize>,
     rows: Rows,
 }
 
@@ -39,6 +37,15 @@ impl Model for Segment {
     ghost invariant = { IsKept };
 }
 
+// The cells of a row, where each row has so many.
+fn part(cells: &[Value], row: usize, width: usize) -> &[Value]
+    requires { row * width + width ≤ length cells.now }
+    ensures { result.now ≡ take width (drop (row * width) cells.now) }
+{
+    let start = row * width;
+    &cells[start..start + width]
+}
+
 impl Segment {
     /// The typed rows of these bytes, or their first fault. Their number is judged first, then the header from left
     /// to right, then whether a column is missing, then row by row whether there are too many, the row's length, and
@@ -51,7 +58,7 @@ impl Segment {
         if bytes.len() > MAX_BYTES {
             return Err(SegmentFault::TooLong);
         }
-        let mut reader = reader_of(alloc, bytes);
+        let mut reader = reader_of(alloc, bytes)?;
         let mut header = ByteRecord::new(alloc);
         if !take_record(&mut reader, &mut header)? {
             return Err(SegmentFault::NoHeader);
@@ -59,13 +66,9 @@ impl Segment {
         let columns = schema.columns();
         let header = header_columns(alloc, columns, &header)?;
         let fields = column_fields(alloc, columns, &header)?;
-        let rows = read_rows(alloc, &mut reader, &header)?;
+        let rows = read_rows(alloc, &mut reader, &header, &fields)?;
         let bytes = Vec::from_slice(alloc, bytes)?;
-        Ok(Segment {
-            bytes,
-            fields,
-            rows,
-        })
+        Ok(Segment { bytes, rows })
     }
 
     /// How many rows it has.
@@ -82,13 +85,22 @@ impl Segment {
         self.bytes.as_slice()
     }
 
+    /// The values of a row, counted from 0, in the order of the table's columns.
+    pub fn row(&self, row: usize) -> &[Value]
+        requires { row < length self.now.rows }
+        ensures values { map meaning result.now ≡ slice_index_or self.now.rows row [] }
+        ensures width { length result.now ≡ self.now.columns }
+    {
+        part(&self.rows.cells, row, self.rows.width)
+    }
+
     /// The value of a row and a column, both counted from 0.
     pub fn value(&self, row: usize, col: usize) -> &Value
         requires row { row < length self.now.rows }
         requires col { col < self.now.columns }
         ensures { meaning result.now ≡ cell self.now.rows row col }
     {
-        let field = self.fields[col];
-        &self.rows.cells[row * self.rows.width + field]
+        let values = self.row(row);
+        &values[col]
     }
 }

@@ -1,5 +1,6 @@
 pub mod Joining
 pub mod Union
+pub mod Later
 mod Finding
 mod Merging
 mod Singles

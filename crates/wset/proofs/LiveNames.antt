@@ -53,12 +53,12 @@ known_entry_at [] i d lt = absurd (omega arith)
 known_entry_at (e ∷ es) zero d lt = refl
 known_entry_at (e ∷ es) (suc i) d lt = known_entry_at es i d (omega arith)
 
-length-known_entries : (es : List Entry) → length (known_entries es) ≡ length es
+pub length-known_entries : (es : List Entry) → length (known_entries es) ≡ length es
 length-known_entries [] = refl
 length-known_entries (e ∷ es) = ap suc (length-known_entries es)
 
 -- the declaration holds the entry at a place
-held_at : (d : Declaration) (es : List Entry) (i : ℕ) (e : Entry) → i < length es → AllHeldBy d es → IsHeldBy d (get_or es i e).held
+pub held_at : (d : Declaration) (es : List Entry) (i : ℕ) (e : Entry) → i < length es → AllHeldBy d es → IsHeldBy d (get_or es i e).held
 held_at d [] i e lt all = absurd (omega arith)
 held_at d (x ∷ es) zero e lt all = all.0
 held_at d (x ∷ es) (suc i) e lt all = held_at d es i e (omega arith) all.1

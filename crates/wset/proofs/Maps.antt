@@ -3,13 +3,14 @@ use Rattle.std.proofs.Common.{◌≡◌, ℕ, T, List, refl, sym, ap, ◌∙◌,
 use Rattle.std.specs.FinMap.Entries.{is_sorted-put}
 use Rattle.std.specs.FinMap.{empty, len-entries, len-empty, find, put, is_sorted, entries, insert, get, from_sorted, entries_sorted, same_entries_map, entries-insert, entries-from_sorted, get-from_sorted}
 use Rattle.wvalues.specs.Names.{NameParts, name_cmp, names_total}
-use Rattle.wset.specs.Views.{Known, View, join, lives, live_of}
+use Rattle.wset.specs.Views.{Known, View, join, join_told, lives, live_of}
 use Rattle.wset.specs.declared.entries.Entry.{Entry}
 use Rattle.wset.specs.Entries.{known_entries, IsRising, places}
-use Rattle.wset.specs.Merging.{join_lists}
-use Rattle.std.specs.List.{filter_map}
+use Rattle.wset.specs.Merging.{IsKnownTo, join_lists}
+use Rattle.std.specs.List.{AllByRecursion, filter_map}
 use Rattle.wset.proofs.LiveNames.{live_count}
-use Rattle.wset.proofs.Merging.{entries-join}
+use Rattle.wset.proofs.Joining.{same_view, get-join}
+use Rattle.wset.proofs.Merging.{entries-join, told_again}
 
 abbrev pub stored_view : List Entry → View
 stored_view es = from_sorted (known_entries es)
@@ -54,3 +55,12 @@ entries-is es v h is = ap entries (sym is) ∙ entries-view es h
 
 pub live_places : (es : List Entry) (live : List ℕ) (v : View) → IsRising es → live ≡ places 0 (known_entries es) → stored_view es ≡ v → length live ≡ length (lives v)
 live_places es live v h marked is = ap length marked ∙ live_count 0 (known_entries es) ∙ ap length (sym (lives-view es v h is))
+
+-- a view that is told what it knows
+pub view_again : (es fs : List Entry) → IsRising es → IsRising fs → AllByRecursion (IsKnownTo es) fs → stored_view es ≡ join (stored_view es) (stored_view fs)
+view_again es fs h k all = sym (same_view _ _ (λ q.
+    get-join (stored_view es) (stored_view fs) q
+    ∙ ap (λ o. join_told o (get (stored_view fs) q)) (get-view es q h)
+    ∙ ap (join_told (find name_cmp q (known_entries es))) (get-view fs q k)
+    ∙ told_again es fs q all
+    ∙ sym (get-view es q h)))

@@ -10,10 +10,11 @@ use Rattle.wsegment.specs.Declaration.{Declaration}
 use Rattle.wset.specs.Views.{Known, View, join, join_told, join_known}
 use Rattle.wset.specs.Holding.{IsHeldBy, known_of}
 use Rattle.wset.specs.Entries.{AllHeldBy, IsRising, known_entry, known_entries}
-use Rattle.wset.specs.Merging.{join_with, join_lists, Joins}
+use Rattle.std.specs.List.{AllByRecursion}
+use Rattle.wset.specs.Merging.{IsKnownTo, join_with, join_lists, Joins}
 use Rattle.wset.specs.declared.entries.Entry.{Entry}
 use Rattle.wset.proofs.Finding.{both, first, second, less, is_less, turned, below_all_below, find_below, put_here}
-use Rattle.wset.proofs.Joining.{exact_names, is_equal, same_view, get-join, with_none}
+use Rattle.wset.proofs.Joining.{exact_names, is_equal, same_name-true, same_view, get-join, with_none}
 
 -- ---- the entries of a join
 
@@ -187,3 +188,20 @@ joined_more (x ∷ all) entry rest left is = ap (λ l. known_entry x ∷ l) (joi
 pub held_more : (d : Declaration) (all : List Entry) (entry : Entry) → AllHeldBy d all → IsHeldBy d entry.held → AllHeldBy d (all ++ entry ∷ [])
 held_more d [] entry all held = (held, tt)
 held_more d (x ∷ xs) entry all held = (all.0, held_more d xs entry all.1 held)
+
+-- ---- what is known already
+
+pub told_known : (o : Option Known) (j k : Known) → o ≡ Some j → join_known j k ≡ j → join_told o (Some k) ≡ o
+told_known o j k is same = rw is (ap (λ (k : Known). Some k) same)
+
+-- what a name's entry tells besides is known
+pub told_again : (es fs : List Entry) (q : NameParts) → AllByRecursion (IsKnownTo es) fs → join_told (find name_cmp q (known_entries es)) (find name_cmp q (known_entries fs)) ≡ find name_cmp q (known_entries es)
+told_again es [] q all = sym (with_none (find name_cmp q (known_entries es)))
+told_again es (f ∷ fs) q all = by (is_eq (name_cmp q f.name)) refl (told_again es fs q all.1)
+  where
+    by : (b : Bool) → is_eq (name_cmp q f.name) ≡ b → join_told (find name_cmp q (known_entries es)) (find name_cmp q (known_entries fs)) ≡ find name_cmp q (known_entries es)
+        → join_told (find name_cmp q (known_entries es)) (find name_cmp q (known_entries (f ∷ fs))) ≡ find name_cmp q (known_entries es)
+    by true e later =
+        let same : f.name ≡ q = sym (same_name-true q f.name e) in
+        rw e (subst (λ n. join_told (find name_cmp n (known_entries es)) (Some (known_of f.held)) ≡ find name_cmp n (known_entries es)) same all.0)
+    by false e later = rw e later

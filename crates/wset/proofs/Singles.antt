@@ -1,12 +1,12 @@
 -- Joining what one item tells.
-use Rattle.std.proofs.Common.{◌≡◌, ℕ, Bool, true, false, cond, List, [], ◌∷◌, Option, None, Some, refl, sym, ap, ◌∙◌}
+use Rattle.std.proofs.Common.{◌≡◌, ℕ, Bool, true, false, cond, List, [], ◌∷◌, Option, None, Some, refl, sym, ap, subst, ◌∙◌, true≢false}
 use Rattle.std.specs.Ordering.{eq_by_cmp}
-use Rattle.std.specs.FinMap.{get, insert, get-insert}
+use Rattle.std.specs.FinMap.{get, insert, empty, get-insert, get-empty}
 use Rattle.wvalues.specs.Names.{NameParts, name_cmp, names_total}
 use Rattle.wset.specs.Views.{Known, Live, Disputed, Retired, View, same_name, same_bytes, join, join_known, join_told}
 use Rattle.wset.specs.Items.{SegmentItem, RetirementItem, status_of, view_of_item}
 use Rattle.wset.specs.Merging.{join_with}
-use Rattle.wset.proofs.Joining.{same_view, get-join, with_none, same_name-true, same_bytes-refl, retired_last}
+use Rattle.wset.proofs.Joining.{same_view, get-join, with_none, same_name-true, same_bytes-refl, same_bytes-true, retired_last}
 use Rattle.wset.proofs.Union.{view_tells_status}
 use Rattle.wset.proofs.Merging.{at_first}
 
@@ -74,3 +74,39 @@ retire_other v n = ap (insert v n) (sym (by (get v n))) ∙ put_joins v _ n Reti
     by : (o : Option Known) → join_with o Retired ≡ Retired
     by None = refl
     by (Some k) = retired_last k
+
+-- ---- a name that is made disputed
+
+disputed_single : (n : NameParts) → IsSingle (insert empty n Disputed) n Disputed
+disputed_single n q = get-insert names_total empty n Disputed q ∙ ap (cond (eq_by_cmp name_cmp q n) (Some Disputed)) (get-empty name_cmp q)
+
+pub dispute_same : (v : View) (n : NameParts) → get v n ≡ Some Disputed → v ≡ join v (insert empty n Disputed)
+dispute_same v n e = kept_joins v _ n Disputed Disputed (disputed_single n) e refl
+
+pub dispute_retired : (v : View) (n : NameParts) → get v n ≡ Some Retired → v ≡ join v (insert empty n Disputed)
+dispute_retired v n e = kept_joins v _ n Retired Disputed (disputed_single n) e refl
+
+pub dispute_live : (v : View) (n : NameParts) (a : List ℕ) → get v n ≡ Some (Live a) → insert v n Disputed ≡ join v (insert empty n Disputed)
+dispute_live v n a e = ap (insert v n) (sym (ap (λ o. join_with o Disputed) e)) ∙ put_joins v _ n Disputed (disputed_single n)
+
+pub dispute_new : (v : View) (n : NameParts) → get v n ≡ None → insert v n Disputed ≡ join v (insert empty n Disputed)
+dispute_new v n e = ap (insert v n) (sym (ap (λ o. join_with o Disputed) e)) ∙ put_joins v _ n Disputed (disputed_single n)
+
+-- a content that is not the known one
+pub other_content : (v : View) (n : NameParts) (a b : List ℕ) (r : Bool) → (r ≡ true → get v n ≡ Some (Live b)) × (get v n ≡ Some (Live b) → r ≡ true) → r ≡ false → get v n ≡ Some (Live a) → same_bytes a b ≡ false
+other_content v n a b r known other was = by (same_bytes a b) refl
+  where
+    by : (t : Bool) → same_bytes a b ≡ t → same_bytes a b ≡ false
+    by false e = e
+    by true e = absurd (true≢false (sym (known.1 (was ∙ ap (λ (bytes : List ℕ). Some (Live bytes)) (same_bytes-true a b e))) ∙ other))
+
+-- whether a name is live with a content: it is not live, or it is with one that was compared
+pub not_live : (v : View) (n : NameParts) (o : Option Known) (b : List ℕ) → get v n ≡ o → (o ≡ Some (Live b) → ⊥) → (false ≡ true → get v n ≡ Some (Live b)) × (get v n ≡ Some (Live b) → false ≡ true)
+not_live v n o b is other = (λ e. absurd (true≢false (sym e)), λ e. absurd (other (sym is ∙ e)))
+
+pub tested_live : (v : View) (n : NameParts) (a b : List ℕ) (r : Bool) → get v n ≡ Some (Live a) → r ≡ same_bytes a b → (r ≡ true → get v n ≡ Some (Live b)) × (get v n ≡ Some (Live b) → r ≡ true)
+tested_live v n a b r is tested =
+    (λ e. is ∙ ap (λ (bytes : List ℕ). Some (Live bytes)) (same_bytes-true a b (sym tested ∙ e)), λ e. tested ∙ same (sym is ∙ e))
+  where
+    same : Some (Live a) ≡ Some (Live b) → same_bytes a b ≡ true
+    same e = let f : a ≡ b = cc in subst (λ bytes. same_bytes a bytes ≡ true) f (same_bytes-refl a)

@@ -1,10 +1,11 @@
 -- The laws of views.
-use Rattle.std.specs.Prelude.{◌≡◌, List, ◌++◌}
+use Rattle.std.specs.Prelude.{◌≡◌, ℕ, List, [], ◌∷◌, ◌++◌}
 use Rattle.std.specs.List.{IsAmong}
-use Rattle.std.specs.FinMap.{get}
+use Rattle.std.specs.FinMap.{get, entries}
 use Rattle.wvalues.specs.Names.{NameParts}
-use Rattle.wset.specs.Views.{View, join}
-use Rattle.wset.specs.Items.{Item, status_of, view_of}
+use Rattle.wset.specs.Views.{View, Live, Disputed, Retired, join}
+use Rattle.wset.specs.Lending.{IsAbove, only_disputed}
+use Rattle.wset.specs.Items.{Item, SegmentItem, RetirementItem, status_of, view_of, view_of_item}
 
 -- in whatever order views are joined, and however often
 pub record JoinLaws : Type 0 where
@@ -27,3 +28,9 @@ AreAmong j k = (i : Item) → IsAmong j i → IsAmong k i
 -- items that are the same, in whatever order and however often, have one view
 abbrev pub SameItemsSameView : Type 0
 SameItemsSameView = (j k : List Item) → AreAmong j k → AreAmong k j → view_of j ≡ view_of k
+
+-- a name behind all that are known is added at the end
+pub record LaterNames : Type 0 where
+  pub take : (v : View) (n : NameParts) (bytes : List ℕ) → IsAbove v n → entries (join v (view_of_item (SegmentItem n bytes))) ≡ entries v ++ (n, Live bytes) ∷ []
+  pub retire : (v : View) (n : NameParts) → IsAbove v n → entries (join v (view_of_item (RetirementItem n))) ≡ entries v ++ (n, Retired) ∷ []
+  pub dispute : (v : View) (n : NameParts) → IsAbove v n → entries (join v (only_disputed n)) ≡ entries v ++ (n, Disputed) ∷ []

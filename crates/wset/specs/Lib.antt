@@ -10,3 +10,4 @@ pub mod Holding
 pub mod Entries
 pub mod Merging
 pub mod Storing
+pub mod Lending

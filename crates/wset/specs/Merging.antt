@@ -3,8 +3,8 @@ use Rattle.std.specs.Prelude.{◌≡◌, ◌<◌, ◌+◌, List, [], ◌∷◌, 
 use Rattle.std.specs.FinMap.{put, find}
 use Rattle.wvalues.specs.Names.{NameParts, name_cmp}
 use Rattle.wsegment.specs.Declaration.{Declaration}
-use Rattle.wset.specs.Views.{Known, join_known}
-use Rattle.wset.specs.Holding.{IsHeldBy}
+use Rattle.wset.specs.Views.{Known, join_known, join_told}
+use Rattle.wset.specs.Holding.{IsHeldBy, known_of}
 use Rattle.wset.specs.Entries.{AllHeldBy, IsRising, known_entries, known_entry}
 use Rattle.wset.specs.declared.entries.Entry.{Entry}
 
@@ -29,3 +29,7 @@ pub record Joins (ours theirs : List Entry) (entry : Entry) (ours_left theirs_le
   pub read :
       (d : Declaration) → AllHeldBy d ours → AllHeldBy d theirs
       → IsHeldBy d entry.held × AllHeldBy d ours_left × AllHeldBy d theirs_left
+
+-- what the entry tells of its name is known to ours
+abbrev pub IsKnownTo : List Entry → Entry → Type 0
+IsKnownTo ours e = join_told (find name_cmp e.name (known_entries ours)) (Some (known_of e.held)) ≡ find name_cmp e.name (known_entries ours)

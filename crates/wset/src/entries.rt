@@ -1,5 +1,5 @@
 //! Entries in the order of their names, and the places of the live ones among them.
-ghost use Rattle.std.specs.Prelude.{◌≡◌, ◌+◌, ◌*◌, ◌^◌, ◌<◌, ◌≤◌, length, map, option_map, slice_get, take, Some, vec_capacity, IfOk, IfErr, OnOk, OnErr};
+ghost use Rattle.std.specs.Prelude.{◌≡◌, ◌+◌, ◌*◌, ◌^◌, ◌<◌, ◌≤◌, length, map, option_map, slice_get, take, Some, vec_capacity, IfSome, IfOk, IfErr, OnOk, OnErr};
 ghost use Rattle.std.specs.List.{filter_map, insert, sum_by};
 ghost use Rattle.std.specs.Option.{option_copied};
 ghost use Rattle.std.specs.FinMap.{find, put};
@@ -7,10 +7,12 @@ ghost use Rattle.wsegment.specs.Declaration.{Declaration};
 ghost use Rattle.wvalues.specs.Names.{name_cmp};
 ghost use Rattle.wset.specs.Views.{join_known, live_of};
 ghost use Rattle.wset.specs.Holding.{IsHeldBy, known_of, row_count_of};
+ghost use Rattle.wset.specs.Lending.{IsLentBy, told_of};
 ghost use Rattle.wset.specs.Sets.{IsReadBy};
 ghost use Rattle.wset.specs.Entries.{AllHeldBy, IsGap, IsPlace, IsRising, known_entries, known_entry, listing_of, places};
 
 use crate::held::Held;
+use crate::known::Known;
 use crate::words::Listed;
 use std::alloc::{AllocError, Global};
 use wsegment::Segment;
@@ -64,8 +66,10 @@ fn place(entries: &[Entry], name: &Name) -> Result<usize, usize>
 /// What is held of a name, if it is not unknown.
 pub(crate) fn held_of<'a>(entries: &'a [Entry], name: &Name) -> Option<&'a Held>
     requires { IsRising entries.now }
-    ensures { option_map known_of (option_copied result)
+    ensures known { option_map known_of (option_copied result)
         ≡ find name_cmp name.now (known_entries entries.now) }
+    ensures read { IfSome result
+        (λ held. (d : Declaration) → AllHeldBy d entries.now → IsHeldBy d held.now) }
 {
     match place(entries, name) {
         Ok(i) => Some(&entries[i].held),
@@ -166,6 +170,16 @@ pub(crate) fn live_entry<'a>(entries: &'a [Entry], live: &[usize], i: usize) -> 
         Held::Live(kept) => (entry.name, kept.segment()),
         Held::Disputed | Held::Retired => unreachable!(),
     }
+}
+
+/// The name at a place, and what is known of it.
+pub(crate) fn entry_at(entries: &[Entry], i: usize) -> (Name, Known<'_>)
+    requires { i < length entries.now }
+    ensures known { slice_get (known_entries entries.now) i ≡ Some (result.0, told_of result.1) }
+    ensures read { (d : Declaration) → AllHeldBy d entries.now → IsLentBy d result.1 }
+{
+    let entry = &entries[i];
+    (entry.name, entry.held.lent())
 }
 
 /// Each entry's name, status and number of rows.

@@ -1,12 +1,14 @@
 //! What a set holds of a name.
-ghost use Rattle.std.specs.Prelude.{◌≡◌, IfOk};
+ghost use Rattle.std.specs.Prelude.{◌≡◌, false, IfOk};
 ghost use Rattle.wset.specs.Views.{Live, is_live, join_known};
 ghost use Rattle.wset.specs.Sets.{IsReadBy};
 ghost use Rattle.wset.specs.Words.{status_of_known};
 ghost use Rattle.wsegment.specs.Declaration.{Declaration};
+ghost use Rattle.wset.specs.Lending.{IsLentBy, told_of};
 ghost use Rattle.wset.specs.Holding.{IsHeldBy, known_of, row_count_of};
 
 use crate::kept::Kept;
+use crate::known::Known;
 use crate::words::Status;
 use std::alloc::AllocError;
 
@@ -59,6 +61,19 @@ impl Held {
         }
     }
 
+    /// Whether another's knowledge of a name adds to this.
+    pub(crate) fn learns(&self, other: &Held) -> bool
+        ensures { result ≡ false → join_known (known_of self.now) (known_of other.now) ≡ known_of self.now }
+    {
+        match (self, other) {
+            (Held::Retired, _) => false,
+            (_, Held::Retired) => true,
+            (Held::Disputed, _) => false,
+            (Held::Live(_), Held::Disputed) => true,
+            (Held::Live(ours), Held::Live(theirs)) => ours.bytes() != theirs.bytes(),
+        }
+    }
+
     /// Whether a segment is held.
     pub(crate) fn is_live(&self) -> bool
         ensures { result ≡ is_live (known_of self.now) }
@@ -73,6 +88,18 @@ impl Held {
         match self {
             Held::Live(kept) => kept.segment().rows(),
             Held::Disputed | Held::Retired => 0,
+        }
+    }
+
+    /// What is known of a name of which this is held.
+    pub(crate) fn lent(&self) -> Known<'_>
+        ensures known { told_of result ≡ known_of self.now }
+        ensures read { (d : Declaration) → IsHeldBy d self.now → IsLentBy d result }
+    {
+        match self {
+            Held::Live(kept) => Known::Live(kept.segment()),
+            Held::Disputed => Known::Disputed,
+            Held::Retired => Known::Retired,
         }
     }
 

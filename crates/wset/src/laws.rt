@@ -1,5 +1,5 @@
 //! The laws of views. The functions do nothing when run: each is the proof of its contract.
-ghost use Rattle.wset.specs.Laws.{JoinLaws, SameItemsSameView, ViewOfUnion, ViewTellsStatus};
+ghost use Rattle.wset.specs.Laws.{JoinLaws, LaterNames, SameItemsSameView, ViewOfUnion, ViewTellsStatus};
 
 /// Joining views is associative, commutative and idempotent.
 pub fn join_laws()
@@ -19,4 +19,9 @@ pub fn view_tells_status()
 /// The same items, in whatever order and however often, have one view.
 pub fn same_items_same_view()
     ensures { SameItemsSameView }
+{}
+
+/// A name behind all that are known is added at the end.
+pub fn later_names()
+    ensures { LaterNames }
 {}

@@ -1,27 +1,27 @@
 //! What a node knows of each name: live, disputed or retired.
 //!
-//! - Gives a set of segments under one declaration: it takes segments and retirements, joins what
-//!   another set knows, lists the names, and lends the live segments in the order of names.
+//! - Gives a set of segments under one declaration: it takes segments, retirements and disputes,
+//!   joins what another set knows, lists the names, and lends what it knows in the order of names.
 //! - Promises: a set is a view, a finite map from names to what is known of them. Each call tells the
-//!   whole view after it, at an error the one before. `take`, `retire` and `join` are joins of views,
-//!   and joining is associative, commutative and idempotent (`laws`).
-//! - Asks: nothing but that a place given to `live_at` is one of a live name.
+//!   whole view after it, at an error the one before. `take`, `retire`, `dispute` and `join` are joins
+//!   of views, and joining is associative, commutative and idempotent (`laws`).
+//! - Asks: nothing but that a place given to `name_at` or `live_at` is one of a name.
 //! - Leaves reading to `wsegment`, files and streams to `wexchange`.
 //!
 //! Read `specs/Views.antt`, `specs/Items.antt`, `specs/Laws.antt`, `specs/Tables.antt`, then
-//! `specs/Words.antt`, `specs/Listing.antt` and `specs/Sets.antt`; the others say how a set is kept.
+//! `specs/Words.antt`, `specs/Listing.antt`, `specs/Sets.antt` and `specs/Lending.antt`; the others
+//! say how a set is kept.
 #![tactic(auto)]
 
 mod entries;
 mod held;
 mod kept;
+mod known;
 pub mod laws;
 mod merge;
 mod set;
 mod words;
 
+pub use known::Known;
 pub use set::SegmentSet;
 pub use words::{JoinError, Listed, Retired, Status, TakeError, Taken};
-
-#[cfg(test)]
-mod tests;

@@ -1,10 +1,11 @@
 //! The entries of two sets, joined name by name.
-ghost use Rattle.std.specs.Prelude.{◌≡◌, ◌<◌, [], length, IfOk, MatchOption};
+ghost use Rattle.std.specs.Prelude.{◌≡◌, ◌<◌, [], false, length, IfOk, MatchOption};
+ghost use Rattle.std.specs.List.{AllByRecursion};
 ghost use Rattle.wsegment.specs.Declaration.{Declaration};
 ghost use Rattle.wset.specs.Entries.{AllHeldBy, IsRising, known_entries};
-ghost use Rattle.wset.specs.Merging.{Joins, join_lists};
+ghost use Rattle.wset.specs.Merging.{IsKnownTo, Joins, join_lists};
 
-use crate::entries::Entry;
+use crate::entries::{Entry, held_of};
 use std::alloc::{AllocError, Global};
 use std::cmp::Ordering;
 
@@ -72,6 +73,30 @@ fn first_joined<'a>(ours: &'a [Entry], theirs: &'a [Entry]) -> Result<Option<Ste
     }
     let step = first_of_both(ours, theirs)?;
     Ok(Some(step))
+}
+
+/// Whether an entry adds to what is known of its name.
+fn adds(ours: &[Entry], entry: &Entry) -> bool
+    requires { IsRising ours.now }
+    ensures { result ≡ false → IsKnownTo ours.now entry.now }
+{
+    match held_of(ours, &entry.name) {
+        None => true,
+        Some(held) => held.learns(&entry.held),
+    }
+}
+
+/// Whether theirs add to what ours tell.
+pub(crate) fn teaches(ours: &[Entry], theirs: &[Entry]) -> bool
+    requires { IsRising ours.now }
+    ensures { result ≡ false → AllByRecursion (IsKnownTo ours.now) theirs.now }
+{
+    'theirs: for entry in theirs {
+        if adds(ours, entry) {
+            return true;
+        }
+    }
+    false
 }
 
 /// The entries of the join of two sets. Segments are shared, and none is read again.

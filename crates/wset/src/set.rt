@@ -1,5 +1,5 @@
 //! A set of segments and retirements under one declaration.
-ghost use Rattle.std.specs.Prelude.{◌≡◌, ◌≢◌, ◌<◌, length, map as list_map, option_map, slice_get, Some, Err, IsOk, IfOk, IfErr, OnOk, OnErr};
+ghost use Rattle.std.specs.Prelude.{◌≡◌, ◌≢◌, ◌↔◌, ◌<◌, IsTrue, IfSome, length, map as list_map, option_map, slice_get, Some, Err, IsOk, IfOk, IfErr, OnOk, OnErr};
 ghost use Rattle.std.specs.FinMap as map;
 ghost use Rattle.std.specs.Option.{option_copied};
 ghost use Rattle.wsegment.specs.Outcome.{Fails};
@@ -10,12 +10,14 @@ ghost use Rattle.wset.specs.Tables.{table_of};
 ghost use Rattle.wset.specs.Words.{retired_word, status_word, taken_word};
 ghost use Rattle.wset.specs.Listing.{listed};
 ghost use Rattle.wset.specs.Sets.{IsReadBy, LivesAreRead};
+ghost use Rattle.wset.specs.Lending.{IsLentBy, only_disputed, told_of};
 ghost use Rattle.wset.specs.Holding.{IsHeldBy, known_of};
 
-use crate::entries::{Entry, held_of, listing, live_entry, mark, put_entry, rows_of_all};
+use crate::entries::{Entry, entry_at, held_of, listing, live_entry, mark, put_entry, rows_of_all};
 use crate::held::Held;
 use crate::kept::Kept;
-use crate::merge::merged;
+use crate::known::Known;
+use crate::merge::{merged, teaches};
 use crate::words::{JoinError, Listed, Retired, Status, TakeError, Taken};
 use std::alloc::{AllocError, Global};
 use std::marker::Model;
@@ -73,9 +75,23 @@ impl SegmentSet {
 
     /// What is held of a name, if it is not unknown.
     fn held(&self, name: &Name) -> Option<&Held>
-        ensures { option_map known_of (option_copied result) ≡ map.get self.now.view name.now }
+        ensures known { option_map known_of (option_copied result) ≡ map.get self.now.view name.now }
+        ensures read { IfSome result (λ held. IsHeldBy self.now.schema held.now) }
     {
         held_of(&self.entries, name)
+    }
+
+    /// Whether a name is live with these bytes.
+    fn is_known(&self, name: &Name, bytes: &[u8]) -> bool
+        ensures known { IsTrue result ↔ (map.get self.now.view name.now ≡ Some (Live bytes.now)) }
+        ensures read { IsTrue result → IsOk (rows_of self.now.schema bytes.now) }
+    {
+        match self.held(name) {
+            None => false,
+            Some(Held::Live(known)) => known.bytes() == bytes,
+            Some(Held::Disputed) => false,
+            Some(Held::Retired) => false,
+        }
     }
 
     /// Puts what is held of a name, in the place of what was.
@@ -102,7 +118,8 @@ impl SegmentSet {
     }
 
     /// Takes a segment: these bytes under this name. The bytes are read first, whatever is known of the
-    /// name; where they are refused, or memory runs out, the set is as it was.
+    /// name, unless it is live with these bytes, which were read before; where they are refused, or memory
+    /// runs out, the set is as it was.
     pub fn take(&mut self, name: Name, bytes: &[u8]) -> Result<Taken, TakeError>
         ensures word { IfOk result (λ word. word ≡ taken_word (map.get self.old.view name) bytes.now) }
         ensures ok { let item = view_of_item (SegmentItem name bytes.now) in
@@ -111,13 +128,15 @@ impl SegmentSet {
         ensures refused { IfErr result (λ fault. Fails fault (rows_of self.old.schema bytes.now)) }
         ensures err { OnErr result (self.new ≡ self.old) }
     {
+        if self.is_known(&name, bytes) {
+            return Ok(Taken::Same);
+        }
         let segment = Segment::read(self.alloc, &self.schema, bytes)?;
         match self.held(&name) {
             None => {
                 self.put_live(name, segment)?;
                 Ok(Taken::New)
             }
-            Some(Held::Live(known)) if known.bytes() == bytes => Ok(Taken::Same),
             Some(Held::Live(_)) => {
                 self.put(name, Held::Disputed)?;
                 Ok(Taken::Disputed)
@@ -141,11 +160,26 @@ impl SegmentSet {
         Ok(Retired::New)
     }
 
+    /// Makes a name disputed, unless it is retired: two different contents of it are known, though
+    /// neither is at hand. Where memory runs out the set is as it was.
+    pub fn dispute(&mut self, name: Name) -> Result<(), AllocError>
+        ensures ok { OnOk result
+            (self.new ≡ record self.old { view = join self.old.view (only_disputed name) }) }
+        ensures err { OnErr result (self.new ≡ self.old) }
+    {
+        match self.held(&name) {
+            None => self.put(name, Held::Disputed),
+            Some(Held::Live(_)) => self.put(name, Held::Disputed),
+            Some(Held::Disputed) => Ok(()),
+            Some(Held::Retired) => Ok(()),
+        }
+    }
+
     /// Learns all that the other set knows. Sets of different declarations are not joined; there, and
     /// where memory runs out, the set is as it was.
     ///
-    /// It walks the names of both sets once, whatever the segments' sizes: it makes a new list of
-    /// entries, some 64 bytes a name that either knows, and one of places, 8 bytes a name, and lets
+    /// A join that teaches nothing looks each of the other's names up and makes no list. Any other walks
+    /// the names of both sets once, whatever the segments' sizes: it makes a new list of entries, some 64 bytes a name that either knows, and one of places, 8 bytes a name, and lets
     /// the old ones go. Segments are shared: none is read, and no byte or cell is copied.
     pub fn join(&mut self, other: &SegmentSet) -> Result<(), JoinError>
         ensures ok { OnOk result (self.new ≡ record self.old { view = join self.old.view other.now.view }) }
@@ -156,6 +190,9 @@ impl SegmentSet {
     {
         if !self.schema.is_same(&other.schema) {
             return Err(JoinError::OtherSchema);
+        }
+        if !teaches(&self.entries, &other.entries) {
+            return Ok(());
         }
         let Ok(entries) = merged(self.alloc, &self.entries, &other.entries) else {
             return Err(JoinError::NoMemory);
@@ -186,6 +223,23 @@ impl SegmentSet {
     {
         let all = listing(self.alloc, &self.entries)?;
         Ok(all)
+    }
+
+    /// How many names are not unknown.
+    pub fn name_count(&self) -> usize
+        ensures { result ≡ length (map.entries self.now.view) }
+    {
+        self.entries.as_slice().len()
+    }
+
+    /// The i-th name from 0 that is not unknown, in the order of names, and what is known of it. It
+    /// takes constant time and no memory.
+    pub fn name_at(&self, i: usize) -> (Name, Known<'_>)
+        requires { i < length (map.entries self.now.view) }
+        ensures known { slice_get (map.entries self.now.view) i ≡ Some (result.0, told_of result.1) }
+        ensures read { IsLentBy self.now.schema result.1 }
+    {
+        entry_at(&self.entries, i)
     }
 
     /// How many names are live.

@@ -5,7 +5,7 @@ use Rattle.wvalues.specs.Names.{NameParts}
 use Rattle.wvalues.specs.NameReading.{ReadsName}
 use Rattle.wvalues.specs.declared.name.NameFault.{NameFault}
 use Rattle.wlines.specs.Reads.{HasNoBody}
-use Rattle.wstore.specs.Commands.{DeclareForm, TakeForm, RetireForm, ListForm, AskForm, PutForm, GetForm, Command, Declare, Take, Retire, Listing, Ask, Put, Get}
+use Rattle.wstore.specs.Commands.{DeclareForm, TakeForm, RetireForm, ListForm, AskForm, FeedForm, PutForm, GetForm, Command, Declare, Take, Retire, Listing, Ask, Feed, Put, Get}
 use Rattle.wstore.specs.Requests.{IsBadBehind, Behind}
 use Rattle.wstore.specs.declared.header.Header.TheVariants as headers
 
@@ -21,6 +21,7 @@ declare_bad len d xs none (Take n o m b) rest h a e = h
 declare_bad len d xs none (Retire n o m) rest h a e = h
 declare_bad len d xs none (Listing n) rest h a e = h
 declare_bad len d xs none (Ask n t) rest h a e = h
+declare_bad len d xs none (Feed n p) rest h a e = h
 declare_bad len d xs none (Put n k) rest h a e = h
 declare_bad len d xs none (Get k n) rest h a e = h
 
@@ -30,6 +31,7 @@ take_bad node name len d xs none (Take n o m b) rest h a e = none b rest h.2 (e 
 take_bad node name len d xs none (Retire n o m) rest h a e = h
 take_bad node name len d xs none (Listing n) rest h a e = h
 take_bad node name len d xs none (Ask n t) rest h a e = h
+take_bad node name len d xs none (Feed n p) rest h a e = h
 take_bad node name len d xs none (Put n k) rest h a e = h
 take_bad node name len d xs none (Get k n) rest h a e = h
 
@@ -39,8 +41,22 @@ ask_bad node len d xs none (Take n o m b) rest h a e = h
 ask_bad node len d xs none (Retire n o m) rest h a e = h
 ask_bad node len d xs none (Listing n) rest h a e = h
 ask_bad node len d xs none (Ask n t) rest h a e = none t rest h.1 (e ∙ append_assoc t (10 ∷ []) rest)
+ask_bad node len d xs none (Feed n p) rest h a e = h
 ask_bad node len d xs none (Put n k) rest h a e = h
 ask_bad node len d xs none (Get k n) rest h a e = h
+
+feed_bad : (node len : ℕ) (d : Bool) (xs : List ℕ) → HasNoBody len xs → IsBadBehind (headers.Feed node len) d xs
+feed_bad node len d xs none (Declare s) rest h a e = h
+feed_bad node len d xs none (Take n o m b) rest h a e = h
+feed_bad node len d xs none (Retire n o m) rest h a e = h
+feed_bad node len d xs none (Listing n) rest h a e = h
+feed_bad node len d xs none (Ask n t) rest h a e = h
+feed_bad node len d xs none (Feed n p) rest h a e = none p rest h.1 (e ∙ append_assoc p (10 ∷ []) rest)
+feed_bad node len d xs none (Put n k) rest h a e = h
+feed_bad node len d xs none (Get k n) rest h a e = h
+
+pub no_piece : (node len : ℕ) (d : Bool) (old : Option (List ℕ)) → IfSome old (λ xs. HasNoBody len xs) → IfSome old (λ xs. IsBadBehind (headers.Feed node len) d xs)
+no_piece node len d old h = some_weaker old (λ xs. HasNoBody len xs) (λ xs. IsBadBehind (headers.Feed node len) d xs) h (λ xs. feed_bad node len d xs)
 
 pub no_declaration : (len : ℕ) (d : Bool) (old : Option (List ℕ)) → IfSome old (λ xs. HasNoBody len xs) → IfSome old (λ xs. IsBadBehind (headers.Declare len) d xs)
 no_declaration len d old h = some_weaker old (λ xs. HasNoBody len xs) (λ xs. IsBadBehind (headers.Declare len) d xs) h (λ xs. declare_bad len d xs)
@@ -60,6 +76,7 @@ module _ (P : Command → Type 0) (old new : Option (List ℕ)) where
   declared_behind len bytes p k size (RetireForm n o j) e = absurd e
   declared_behind len bytes p k size (ListForm n) e = absurd e
   declared_behind len bytes p k size (AskForm n m) e = absurd e
+  declared_behind len bytes p k size (FeedForm n m) e = absurd e
   declared_behind len bytes p k size (PutForm n m) e = absurd e
   declared_behind len bytes p k size (GetForm m n) e = absurd e
 
@@ -69,6 +86,7 @@ module _ (P : Command → Type 0) (old new : Option (List ℕ)) where
   segment_behind node name len bytes p k size (RetireForm n o j) e = absurd e
   segment_behind node name len bytes p k size (ListForm n) e = absurd e
   segment_behind node name len bytes p k size (AskForm n m) e = absurd e
+  segment_behind node name len bytes p k size (FeedForm n m) e = absurd e
   segment_behind node name len bytes p k size (PutForm n m) e = absurd e
   segment_behind node name len bytes p k size (GetForm m n) e = absurd e
 
@@ -78,8 +96,19 @@ module _ (P : Command → Type 0) (old new : Option (List ℕ)) where
   query_behind node len text p k size (RetireForm n o j) e = absurd e
   query_behind node len text p k size (ListForm n) e = absurd e
   query_behind node len text p k size (AskForm n m) e = (Ask node text, cc (e.0, e.1, size), p, refl, k)
+  query_behind node len text p k size (FeedForm n m) e = absurd e
   query_behind node len text p k size (PutForm n m) e = absurd e
   query_behind node len text p k size (GetForm m n) e = absurd e
+
+  pub piece_behind : (node len : ℕ) (piece : List ℕ) → P (Feed node piece) → Consumes old new (piece ++ 10 ∷ []) → length piece ≡ len → Behind (headers.Feed node len) true P old new
+  piece_behind node len piece p k size (DeclareForm m) e = absurd e
+  piece_behind node len piece p k size (TakeForm n o j m) e = absurd e
+  piece_behind node len piece p k size (RetireForm n o j) e = absurd e
+  piece_behind node len piece p k size (ListForm n) e = absurd e
+  piece_behind node len piece p k size (AskForm n m) e = absurd e
+  piece_behind node len piece p k size (FeedForm n m) e = (Feed node piece, cc (e.0, e.1, size), p, refl, k)
+  piece_behind node len piece p k size (PutForm n m) e = absurd e
+  piece_behind node len piece p k size (GetForm m n) e = absurd e
 
   pub retired_behind : (node : ℕ) (name : Result NameParts NameFault) → ((origin number : List ℕ) → ReadsName origin number name → P (Retire node origin number)) → Consumes old new [] → Behind (headers.Retire node name) true P old new
   retired_behind node name p k (DeclareForm m) e = absurd e
@@ -87,6 +116,7 @@ module _ (P : Command → Type 0) (old new : Option (List ℕ)) where
   retired_behind node name p k (RetireForm n o j) e = (Retire node o j, ap (λ n. RetireForm n o j) (sym e.0), p o j e.1, refl, k)
   retired_behind node name p k (ListForm n) e = absurd e
   retired_behind node name p k (AskForm n m) e = absurd e
+  retired_behind node name p k (FeedForm n m) e = absurd e
   retired_behind node name p k (PutForm n m) e = absurd e
   retired_behind node name p k (GetForm m n) e = absurd e
 
@@ -96,6 +126,7 @@ module _ (P : Command → Type 0) (old new : Option (List ℕ)) where
   listed_behind node p k (RetireForm n o j) e = absurd e
   listed_behind node p k (ListForm n) e = (Listing node, ap ListForm (sym e), p, refl, k)
   listed_behind node p k (AskForm n m) e = absurd e
+  listed_behind node p k (FeedForm n m) e = absurd e
   listed_behind node p k (PutForm n m) e = absurd e
   listed_behind node p k (GetForm m n) e = absurd e
 
@@ -105,6 +136,7 @@ module _ (P : Command → Type 0) (old new : Option (List ℕ)) where
   put_behind node slot p k (RetireForm n o j) e = absurd e
   put_behind node slot p k (ListForm n) e = absurd e
   put_behind node slot p k (AskForm n m) e = absurd e
+  put_behind node slot p k (FeedForm n m) e = absurd e
   put_behind node slot p k (PutForm n m) e = (Put node slot, cc (e.0, e.1), p, refl, k)
   put_behind node slot p k (GetForm m n) e = absurd e
 
@@ -114,5 +146,6 @@ module _ (P : Command → Type 0) (old new : Option (List ℕ)) where
   get_behind slot node p k (RetireForm n o j) e = absurd e
   get_behind slot node p k (ListForm n) e = absurd e
   get_behind slot node p k (AskForm n m) e = absurd e
+  get_behind slot node p k (FeedForm n m) e = absurd e
   get_behind slot node p k (PutForm n m) e = absurd e
   get_behind slot node p k (GetForm m n) e = (Get slot node, cc (e.0, e.1), p, refl, k)

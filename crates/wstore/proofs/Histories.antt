@@ -1,18 +1,22 @@
 -- What histories tell, item by item, and the laws of nodes that know the same.
-use Rattle.std.proofs.Common.{◌≡◌, ◌≢◌, ℕ, zero, suc, Bool, true, false, List, [], ◌∷◌, ◌++◌, map, Option, None, Some, ◌⊎◌, inl, inr, refl, sym, ap, ◌∙◌, subst, arith, append-nil}
+use Rattle.std.proofs.Common.{◌≡◌, ◌≢◌, ℕ, zero, suc, Bool, true, false, List, [], ◌∷◌, ◌++◌, map, Option, None, Some, Result, Ok, Err, ◌⊎◌, inl, inr, refl, sym, ap, ◌∙◌, subst, arith, append-nil}
 use Rattle.std.specs.FinMap.{entries}
 use Rattle.std.specs.List.{IsAmong}
 use Rattle.wsegment.specs.Declaration.{Declaration}
-use Rattle.wset.specs.Views.{join}
+use Rattle.wset.specs.Views.{View, join}
 use Rattle.wset.specs.Items.{Item, view_of}
 use Rattle.wset.specs.Listing.{listed}
 use Rattle.wset.proofs.Union.{view_of_union, same_items_same_view}
-use Rattle.wstore.specs.Commands.{Command, Listing, Ask, Get}
+use Rattle.wexchange.specs.Files.{file_of}
+use Rattle.wexchange.specs.Judging.{Judges}
+use Rattle.wexchange.specs.declared.fault.FileFault.{FileFault}
+use Rattle.wstore.specs.Commands.{Command, Listing, Ask, Put, Get}
 use Rattle.wstore.specs.Replies.{Reply, Names, Done, NoMemory}
-use Rattle.wstore.specs.Queries.{IsAnswer}
-use Rattle.wstore.proofs.Asking.{one_answer}
-use Rattle.wstore.specs.History.{Step, Answers, AnswersUnder, declaration, delivers, gets, puts, drawn, replaced, known, held, is_put, get_reply, query_reply}
-use Rattle.wstore.specs.Laws.{Drawn, Replaced, Knows, Holds, ListsAreExact, SlotsJoin, SameViews, SameAnswers, SameLists}
+use Rattle.wask.specs.Asking.{IsAnswer}
+use Rattle.wask.proofs.OneAnswer.{one_answer}
+use Rattle.wstore.specs.History.{Step, Answers, AnswersUnder, declaration, delivers, gets, puts, drawn, replaced, known, held, is_put, is_put_by, file_if, slot_file, file_reply, FileAnswers, query_reply}
+use Rattle.wstore.specs.Laws.{Drawn, Replaced, Knows, Holds, ListsAreExact, SlotsJoin, SameViews, SameFiles, SameAnswers, SameLists}
+use Rattle.wstore.proofs.Soundness.{no_file}
 use Rattle.wstore.proofs.Standing.{drawn_here}
 
 no_item : (i : Item) → ¬ (IsAmong [] i)
@@ -109,15 +113,19 @@ exact_lists = record {
 
 -- ---- what a slot brings
 
--- a file is refused where the slot was not put
-put_first : (b : Bool) → Done ≡ get_reply b → b ≡ true
-put_first true e = refl
-put_first false e = cc
+-- bytes that are a file are those of a slot that was put
+put_first : (d : Declaration) (b : Bool) (items : List Item) → FileAnswers d (file_if b d items) Done → b ≡ true
+put_first d true items f = refl
+put_first d false items f = absurd (by f.judged f.judges f.reply_is)
+  where
+    by : (r : Result View FileFault) → Judges d [] r → Done ≡ file_reply r → ⊥
+    by (Ok v) j e = no_file d v j.bytes_are
+    by (Err fault) j e = cc
 
 pub slots_join : SlotsJoin
-slots_join h k n d is answers = (put_first (is_put h k) allowed, view_is)
+slots_join h k n d is answers = (put_first d (is_put h k) (held h k) allowed, view_is)
   where
-    allowed : Done ≡ get_reply (is_put h k)
+    allowed : FileAnswers d (slot_file d h k) Done
     allowed = elim answers [
       | inl a ↦ subst (λ o. AnswersUnder o h (Get k n) Done) is a
       | inr b ↦ absurd (no_memory b.1)
@@ -138,6 +146,13 @@ same_views g h m n same =
     same_items_same_view (known g m) (known h n)
     (λ i x. (exact h).from_knows n i (same.to i ((exact g).to_knows m i x)))
     (λ i x. (exact g).from_knows m i (same.back i ((exact h).to_knows n i x)))
+
+-- the file that a node puts is that of its view
+put_file : (h : List Step) (d : Declaration) (m k : ℕ) → slot_file d (record { command = Put m k; reply = Done } ∷ h) k ≡ file_of d (view_of (known h m))
+put_file h d m k = ap (λ o. file_if (is_put_by o (is_put h k)) d (replaced o (λ n. known h n) (held h k))) (drawn_here k k m refl)
+
+pub same_files : SameFiles
+same_files g h m n j k d same = put_file g d m j ∙ ap (file_of d) (same_views g h m n same) ∙ sym (put_file h d n k)
 
 -- a reply that is not for lack of memory is told under the declaration in force
 told : (h : List Step) (d : Declaration) (c : Command) (r : Reply) → declaration h ≡ Some d → Answers h c r → r ≢ NoMemory → AnswersUnder (Some d) h c r

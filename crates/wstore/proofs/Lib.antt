@@ -1,12 +1,14 @@
 pub mod Words
 pub mod Behind
 pub mod Spelling
+pub mod Learning
+pub mod Soundness
 pub mod Standing
 pub mod Answering
 pub mod Telling
+pub mod Handling
+pub mod Fed
 pub mod Writing
 pub mod Stepping
 pub mod WholeRuns
-pub mod Copying
-pub mod Asking
 pub mod Histories

@@ -5,7 +5,7 @@ use Rattle.std.specs.Io.KnownBytes.{Consumes}
 use Rattle.std.proofs.KnownBytes.{Consumes-trans}
 use Rattle.wlines.specs.Words.{Lacks}
 use Rattle.wlines.specs.Reads.{HasNoLine}
-use Rattle.wstore.specs.Commands.{Form, DeclareForm, TakeForm, RetireForm, ListForm, AskForm, PutForm, GetForm, IsForm, IsNode, IsSlot, Command, IsMalformed, IsDeclaration, line_of, form_of, behind, spell}
+use Rattle.wstore.specs.Commands.{Form, DeclareForm, TakeForm, RetireForm, ListForm, AskForm, FeedForm, PutForm, GetForm, IsForm, IsNode, IsSlot, Command, IsMalformed, IsDeclaration, line_of, form_of, behind, spell}
 use Rattle.wstore.specs.Headers.{IsHeaderOf}
 use Rattle.wstore.specs.Requests.{IsCommandOf, IsBadBehind, Behind, BehindReads, ReadsCommand, RequestReads}
 use Rattle.wstore.specs.declared.header.Header.{Header}
@@ -40,6 +40,7 @@ line_lacks (TakeForm node origin number len) h =
 line_lacks (RetireForm node origin number) h = begun 82 _ (λ e. omega (arith, e)) (spaced (decimal node) _ (node_lacks node h.0) (spaced origin _ h.1.no_lf h.2.no_lf))
 line_lacks (ListForm node) h = begun 76 _ (λ e. omega (arith, e)) (node_lacks node h)
 line_lacks (AskForm node len) h = begun 81 _ (λ e. omega (arith, e)) (spaced (decimal node) _ (node_lacks node h.0) (no_feed len h.1.fits))
+line_lacks (FeedForm node len) h = begun 70 _ (λ e. omega (arith, e)) (spaced (decimal node) _ (node_lacks node h.0) (no_feed len (omega (arith, h.1.fits))))
 line_lacks (PutForm node slot) h = begun 80 _ (λ e. omega (arith, e)) (spaced (decimal node) _ (node_lacks node h.0) (slot_lacks slot h.1))
 line_lacks (GetForm slot node) h = begun 71 _ (λ e. omega (arith, e)) (spaced (decimal slot) _ (slot_lacks slot h.0) (node_lacks node h.1))
 

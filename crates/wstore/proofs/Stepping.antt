@@ -1,12 +1,13 @@
 -- Steps of a run that failed.
-use Rattle.std.proofs.Common.{◌≡◌, ℕ, Bool, true, List, [], take, Option, None, Some, IfSome, is_some, refl, sym, subst}
+use Rattle.std.proofs.Common.{◌≡◌, ℕ, Bool, true, List, [], take, Option, None, Some, IfSome, is_some, ◌++◌, inl, inr, refl, sym, ap, subst}
 use Rattle.std.specs.Io.KnownBytes.{Appends, Consumes}
 use Rattle.std.proofs.KnownBytes.{Appends-nil}
-use Rattle.wstore.specs.Commands.{Command, Declare, Take, Retire, Listing, Ask, Put, Get, IsAllowed, IsCommand, IsMalformed, spell}
+use Rattle.wstore.specs.Commands.{Command, Declare, Take, Retire, Listing, Ask, Feed, Put, Get, IsAllowed, IsCommand, IsMalformed, spell}
 use Rattle.wstore.specs.History.{Step, is_declared}
-use Rattle.wstore.specs.Replies.{text_of, bad_script}
+use Rattle.std.specs.List.{flat_map}
+use Rattle.wstore.specs.Replies.{line_text, text_of, bad_script}
 use Rattle.wstore.specs.Requests.{IsCommandOf, IsOrderAt}
-use Rattle.wstore.specs.Runs.{Stops, Begins, answer, last}
+use Rattle.wstore.specs.Runs.{Stops, Begins, answer, lines, last}
 use Rattle.wstore.specs.Sessions.{MayStand}
 use Rattle.wstore.specs.Steps.{Unanswered, StepFails}
 use Rattle.wstore.specs.declared.request.Command as code
@@ -30,12 +31,21 @@ order_allowed n order (Take m o k b) d is allowed = allowed
 order_allowed n order (Retire m o k) d is allowed = allowed
 order_allowed n order (Listing m) d is allowed = allowed
 order_allowed n order (Ask m t) d is allowed = allowed
+order_allowed n order (Feed m p) d is allowed = allowed
 order_allowed n order (Put m s) d is allowed = allowed
 order_allowed n order (Get s m) d is allowed = allowed
 
 pub may_stand : (session : Session) (command : code.Command) (c : Command) → IsCommandOf command c → IsAllowed (is_some session.cluster) c → MayStand session command
 may_stand session (commands.Declare bytes) c is allowed = tt
 may_stand session (commands.Refused refusal) c is allowed = tt
+may_stand session (commands.Feed node kept) (Feed n p) is allowed = allowed
+may_stand session (commands.Feed node kept) (Declare s) is allowed = absurd is
+may_stand session (commands.Feed node kept) (Take n o m b) is allowed = absurd is
+may_stand session (commands.Feed node kept) (Retire n o m) is allowed = absurd is
+may_stand session (commands.Feed node kept) (Listing n) is allowed = absurd is
+may_stand session (commands.Feed node kept) (Ask n t) is allowed = absurd is
+may_stand session (commands.Feed node kept) (Put n k) is allowed = absurd is
+may_stand session (commands.Feed node kept) (Get k n) is allowed = absurd is
 may_stand session (commands.At node order) c is allowed = order_allowed node order c (is_some session.cluster) is allowed
 
 -- nothing was written
@@ -54,9 +64,12 @@ fails_at_last fault h left held new_held n e bad k = subst (λ f. StepFails f h 
 -- a command was read, and not answered in full
 pub fails_at_answer : (fault : RunFault) (h : List Step) (left new_left held new_held : Option (List ℕ)) (c : Command) → IsCommand (is_declared h) c → Consumes left new_left (spell c) → Unanswered fault h c held new_held → StepFails fault h left held new_held
 fails_at_answer faults.Read h left new_left held new_held c is k part = absurd part
-fails_at_answer faults.Write h left new_left held new_held c is k part =
+fails_at_answer faults.Write h left new_left held new_held c is k (inl part) =
     front_of left new_left (spell c) (λ xs. (p : List ℕ) × Begins h xs p × Appends held new_held p) k
     (λ rest. (take part.n (text_of part.reply), answer c rest part.reply part.n is refl part.answers, part.appends))
+fails_at_answer faults.Write h left new_left held new_held c is k (inr part) =
+    front_of left new_left (spell c) (λ xs. (p : List ℕ) × Begins h xs p × Appends held new_held p) k
+    (λ rest. (take part.n (flat_map line_text part.lines), lines part.d part.node part.piece rest part.lines part.n (subst (IsCommand (is_declared h)) part.command_is is) (ap (λ q. spell q ++ rest) part.command_is) part.declared part.begins, part.appends))
 fails_at_answer faults.NoMemory h left new_left held new_held (Declare bytes) is k part =
     front_of left new_left (spell (Declare bytes)) (λ xs. (p : List ℕ) × Stops faults.NoMemory h xs p × Appends held new_held p) k
     (λ rest. ([], (refl, record { bytes = bytes; more = rest; command = is; rest_is = refl }), part.1))
@@ -64,5 +77,6 @@ fails_at_answer faults.NoMemory h left new_left held new_held (Take n o m b) is 
 fails_at_answer faults.NoMemory h left new_left held new_held (Retire n o m) is k part = absurd part.0
 fails_at_answer faults.NoMemory h left new_left held new_held (Listing n) is k part = absurd part.0
 fails_at_answer faults.NoMemory h left new_left held new_held (Ask n t) is k part = absurd part.0
+fails_at_answer faults.NoMemory h left new_left held new_held (Feed n p) is k part = absurd part.0
 fails_at_answer faults.NoMemory h left new_left held new_held (Put m s) is k part = absurd part.0
 fails_at_answer faults.NoMemory h left new_left held new_held (Get s m) is k part = absurd part.0

@@ -1,5 +1,5 @@
 -- Commands that a session answers.
-use Rattle.std.proofs.Common.{◌≡◌, ◌≢◌, ℕ, ◌+◌, ◌<◌, Bool, true, false, List, [], ◌∷◌, length, replicate, Option, None, Some, is_some, nat_lt, Ok, Err, refl, sym, ap, ◌∙◌, subst, inl, inr, arith}
+use Rattle.std.proofs.Common.{◌≡◌, ◌≢◌, ℕ, ◌+◌, ◌<◌, true, false, List, [], ◌∷◌, length, replicate, Option, None, Some, is_some, nat_lt, Ok, Err, refl, sym, ap, ◌∙◌, subst, inl, inr, arith, ◌++◌, ◌||◌, append-nil}
 use Rattle.std.proofs.lemmas.List.{length-replicate, get_or-replicate}
 use Rattle.std.proofs.lemmas.Bool.Decides.{nat_tests}
 use Rattle.std.specs.FinMap as map
@@ -10,17 +10,20 @@ use Rattle.wsegment.specs.declared.schema_fault.SchemaFault.TheVariants as table
 use Rattle.wsegment.specs.Rows.{rows_of}
 use Rattle.wsegment.specs.declared.fault.SegmentFault.TheVariants as segments
 use Rattle.wvalues.specs.declared.name.NameFault.{NameFault}
-use Rattle.wset.specs.Items.{Item, view_of}
-use Rattle.wset.specs.Sets.{DeclaredView}
-use Rattle.wstore.specs.Commands.{Command, Declare, Take, Retire, Listing, Ask, Put, Get, IsAllowed, IsDeclaration, node_count, slot_count}
+use Rattle.std.specs.List.{flat_map, AllByRecursion}
+use Rattle.wexchange.specs.Messages.{IsMessage, message_text}
+use Rattle.wset.specs.Items.{view_of}
+use Rattle.wstore.specs.Nodes.{NodeState, fresh_node}
+use Rattle.wstore.specs.Commands.{Command, Declare, Take, Retire, Listing, Ask, Feed, Put, Get, IsAllowed, IsDeclaration, node_count, slot_count}
 use Rattle.wstore.specs.Replies.{Reply, Declared, RefusedTable, RefusedName, RefusedSegment, RefusedQuery, NoMemory, table_text, name_text, segment_text, query_text, no_memory, text_of}
 use Rattle.wstore.specs.Requests.{IsRefusedAs}
-use Rattle.wstore.specs.History.{Step, AnswersUnder, declaration, declared_by, is_declared, is_put, is_put_by, held, known, segment_reply}
-use Rattle.wstore.specs.Standing.{KnowsThese, HoldsThese, StandAt, places}
-use Rattle.wstore.specs.declared.fault.AskFault.TheVariants as queries
+use Rattle.wstore.specs.History.{Step, AnswersUnder, declaration, declared_by, is_declared, is_put, is_put_by, held, known, puts, replaced, file_if, heard, heard_items, heard_bad, entered, stream, handled, is_bad, segment_reply}
+use Rattle.wstore.specs.Standing.{KnowsThese, IsSound, Listens, StandAt, places}
+use Rattle.wplanner.specs.declared.fault.AskFault.TheVariants as queries
 use Rattle.wstore.specs.declared.request.Refusal.TheVariants as refusals
-use Rattle.wstore.proofs.Standing.{IsQuiet, stand_quiet, untold}
-use Rattle.wstore.specs.Sessions.{ClusterStands, Stands, Tells}
+use Rattle.wstore.proofs.Soundness.{sound_nothing}
+use Rattle.wstore.proofs.Standing.{IsQuiet, stand_quiet, untold, or_none, listens_still}
+use Rattle.wstore.specs.Sessions.{ClusterStands, IsSilent, Stands, Tells}
 use Rattle.wstore.specs.declared.cluster.Cluster.{Cluster}
 use Rattle.wstore.specs.declared.session.Session.{Session}
 
@@ -29,38 +32,66 @@ none_of None e = refl
 none_of (Some d) e = cc
 
 -- where nothing is declared, nothing is known or put
-nothing_yet : (cluster : Option Cluster) (h : List Step) → is_declared h ≡ false → ClusterStands cluster h → ((n : ℕ) → known h n ≡ []) × ((k : ℕ) → is_put h k ≡ false)
-nothing_yet None h e stands = (stands.1, stands.2)
+nothing_yet : (cluster : Option Cluster) (h : List Step) → is_declared h ≡ false → ClusterStands cluster h → ((n : ℕ) → known h n ≡ []) × ((k : ℕ) → is_put h k ≡ false) × ((n : ℕ) → IsSilent h n)
+nothing_yet None h e stands = (stands.1, stands.2, stands.3)
 nothing_yet (Some cluster) h e stands = let wrong : true ≡ false = sym (ap (λ o. is_some o) (stands.1.declared)) ∙ e in cc
 
-abbrev fresh : Declaration → DeclaredView
-fresh d = record { schema = d; view = map.empty }
+abbrev fresh : Declaration → NodeState
+fresh d = fresh_node d map.empty
+
+-- a node that was fed nothing, and is fed nothing
+silent_still : (h : List Step) (c : Command) (r : Reply) (n : ℕ) → heard c r n ≡ None → IsSilent h n → IsSilent (record { command = c; reply = r } ∷ h) n
+silent_still h c r n e s = (
+  ap (λ o. is_bad h n || heard_bad o) e ∙ or_none (is_bad h n) ∙ s.0,
+  ap (λ o. stream h n ++ entered (is_bad h n) o) e ∙ append-nil (stream h n) ∙ s.1,
+  ap (λ o. handled h n ++ heard_items o) e ∙ append-nil (handled h n) ∙ s.2,
+)
+
+silent_listens : (d : Declaration) (h : List Step) (n : ℕ) → IsSilent h n → Listens h n (fresh_node d map.empty)
+silent_listens d h n s = record {
+  bad_is = sym s.0;
+  held_is = λ good. s.1 ∙ sym (ap (λ l. flat_map message_text l ++ []) s.2);
+  each = subst (AllByRecursion IsMessage) (sym s.2) tt;
+}
 
 -- a step by which no node is told anything, nothing is put, and nothing is declared
 pub stands_untold : (cluster : Option Cluster) (h : List Step) (c : Command) (r : Reply) → ClusterStands cluster h → declared_by r (declaration h) ≡ declaration h → IsQuiet c r → ClusterStands cluster (record { command = c; reply = r } ∷ h)
 stands_untold None h c r stands same quiet =
-    (same ∙ stands.0, λ n. untold h c r n (quiet.delivers_none n) (quiet.gets_none n) ∙ stands.1 n, λ k. ap (λ o. is_put_by o (is_put h k)) (quiet.puts_none k) ∙ stands.2 k)
+    (same ∙ stands.0, λ n. untold h c r n (quiet.delivers_none n) (quiet.gets_none n) ∙ stands.1 n, λ k. ap (λ o. is_put_by o (is_put h k)) (quiet.puts_none k) ∙ stands.2 k, λ n. silent_still h c r n (quiet.hears_none n) (stands.3 n))
 stands_untold (Some cluster) h c r stands same quiet = (stands.0, stand_quiet stands.0 (places cluster.nodes.items cluster.slots.items) h c r stands.1 same quiet)
 
-empty_slot : (b : Bool) (d : Declaration) (items : List Item) → b ≡ false → HoldsThese b d items None
-empty_slot true d items e = cc
-empty_slot false d items e = tt
+-- a slot that was not put holds nothing
+holds_none : (h : List Step) (k : ℕ) → is_put h k ≡ false → held h k ≡ []
+holds_none [] k e = refl
+holds_none (s ∷ h) k e = by (puts s.command s.reply k) e (holds_none h k)
+  where
+    by : (o : Option ℕ) → is_put_by o (is_put h k) ≡ false → (is_put h k ≡ false → held h k ≡ []) → replaced o (λ n. known h n) (held h k) ≡ []
+    by None e rest = rest e
+    by (Some n) e rest = cc
 
 -- nodes that know nothing and slots that hold nothing, where nothing is known or put
-fresh_stand : (d : Declaration) (h : List Step) (c : Command) (r : Reply) (k j : ℕ) → k ≡ node_count → j ≡ slot_count → declared_by r (declaration h) ≡ Some d → IsQuiet c r → ((n : ℕ) → known h n ≡ []) → ((k : ℕ) → is_put h k ≡ false) → StandAt d (places (replicate k (fresh d)) (replicate j None)) (record { command = c; reply = r } ∷ h)
-fresh_stand d h c r k j is js declared quiet none unput = record {
+fresh_stand : (d : Declaration) (h : List Step) (c : Command) (r : Reply) (k j : ℕ) → k ≡ node_count → j ≡ slot_count → declared_by r (declaration h) ≡ Some d → IsQuiet c r → ((n : ℕ) → known h n ≡ []) → ((k : ℕ) → is_put h k ≡ false) → ((n : ℕ) → IsSilent h n) → StandAt d (places (replicate k (fresh d)) (replicate j [])) (record { command = c; reply = r } ∷ h)
+fresh_stand d h c r k j is js declared quiet none unput silent = record {
   declared = declared;
-  count = length-replicate {A = DeclaredView} k (fresh d) ∙ is;
-  slot_number = length-replicate {A = Option DeclaredView} j None ∙ js;
+  count = length-replicate {A = NodeState} k (fresh d) ∙ is;
+  slot_number = length-replicate {A = List ℕ} j [] ∙ js;
   node = λ n x low.
-      subst (KnowsThese d (known (record { command = c; reply = r } ∷ h) (n + 1))) (sym (get_or-replicate {A = DeclaredView} k n (fresh d) x (omega (arith, is))))
+      subst (KnowsThese d (known (record { command = c; reply = r } ∷ h) (n + 1))) (sym (get_or-replicate {A = NodeState} k n (fresh d) x (omega (arith, is))))
       (record { schema_is = refl; view_is = sym (ap view_of (untold h c r (n + 1) (quiet.delivers_none (n + 1)) (quiet.gets_none (n + 1)) ∙ none (n + 1))) });
   slot = λ n x low.
-      subst (HoldsThese (is_put (record { command = c; reply = r } ∷ h) (n + 1)) d (held (record { command = c; reply = r } ∷ h) (n + 1))) (sym (get_or-replicate {A = Option DeclaredView} j n None x (omega (arith, js))))
-      (empty_slot (is_put (record { command = c; reply = r } ∷ h) (n + 1)) d _ (ap (λ o. is_put_by o (is_put h (n + 1))) (quiet.puts_none (n + 1)) ∙ unput (n + 1)));
+      get_or-replicate {A = List ℕ} j n [] x (omega (arith, js))
+      ∙ sym (ap (λ b. file_if b d (held (record { command = c; reply = r } ∷ h) (n + 1))) (still_unput (n + 1)));
+  listens = λ n x low.
+      subst (Listens (record { command = c; reply = r } ∷ h) (n + 1)) (sym (get_or-replicate {A = NodeState} k n (fresh d) x (omega (arith, is))))
+      (listens_still h c r (n + 1) (fresh d) (quiet.hears_none (n + 1)) (silent_listens d h (n + 1) (silent (n + 1))));
+  sound = λ n. subst (IsSound d) (sym (untold h c r n (quiet.delivers_none n) (quiet.gets_none n) ∙ none n)) (sound_nothing d);
+  sound_slots = λ n. subst (IsSound d) (sym (holds_none (record { command = c; reply = r } ∷ h) n (still_unput n))) (sound_nothing d);
 }
+  where
+    still_unput : (n : ℕ) → is_put (record { command = c; reply = r } ∷ h) n ≡ false
+    still_unput n = ap (λ o. is_put_by o (is_put h n)) (quiet.puts_none n) ∙ unput n
 
-pub declares : (session : Session) (new : Cluster) (h : List Step) (bytes : List ℕ) (d : Declaration) → is_declared h ≡ false → Stands session h → ReadsDeclaration bytes (Ok d) → new.nodes.items ≡ replicate node_count (record { schema = d; view = map.empty }) → new.slots.items ≡ replicate slot_count None → Tells (record session { cluster = Some new }) h (Declare bytes) (111 ∷ 107 ∷ 10 ∷ [])
+pub declares : (session : Session) (new : Cluster) (h : List Step) (bytes : List ℕ) (d : Declaration) → is_declared h ≡ false → Stands session h → ReadsDeclaration bytes (Ok d) → new.nodes.items ≡ replicate node_count (fresh_node d map.empty) → new.slots.items ≡ replicate slot_count [] → Tells (record session { cluster = Some new }) h (Declare bytes) (111 ∷ 107 ∷ 10 ∷ [])
 declares session new h bytes d e stands reads nodes_is slots_are =
     let none = nothing_yet session.cluster h e stands in
     let s : Step = record { command = Declare bytes; reply = Declared d } in
@@ -71,8 +102,8 @@ declares session new h bytes d e stands reads nodes_is slots_are =
       stands = (
         d,
         subst (λ slots. StandAt d (places new.nodes.items slots) (s ∷ h)) (sym slots_are)
-            (subst (λ nodes. StandAt d (places nodes (replicate slot_count None)) (s ∷ h)) (sym nodes_is)
-            (fresh_stand d h (Declare bytes) (Declared d) node_count slot_count refl refl refl (record { delivers_none = λ n. refl; gets_none = λ n. refl; puts_none = λ k. refl }) none.0 none.1)),
+            (subst (λ nodes. StandAt d (places nodes (replicate slot_count [])) (s ∷ h)) (sym nodes_is)
+            (fresh_stand d h (Declare bytes) (Declared d) node_count slot_count refl refl refl (record { delivers_none = λ n. refl; gets_none = λ n. refl; puts_none = λ k. refl; hears_none = λ n. refl }) none.0 none.1 none.2)),
       );
     }
 
@@ -81,7 +112,7 @@ refuses_table session h bytes text fault e stands reads judged text_is = record 
   reply = RefusedTable fault;
   answers = inl (subst (λ o. AnswersUnder o h (Declare bytes) (RefusedTable fault)) (sym (none_of (declaration h) e)) (judged, reads));
   text_is = text_is;
-  stands = stands_untold session.cluster h (Declare bytes) (RefusedTable fault) stands refl (record { delivers_none = λ n. refl; gets_none = λ n. refl; puts_none = λ k. refl });
+  stands = stands_untold session.cluster h (Declare bytes) (RefusedTable fault) stands refl (record { delivers_none = λ n. refl; gets_none = λ n. refl; puts_none = λ k. refl; hears_none = λ n. refl });
 }
 
 -- any command but a declaration may find no memory
@@ -94,13 +125,14 @@ finds_no_memory session h c other stands = record {
 }
   where
     quiet : (c : Command) → IsQuiet c NoMemory
-    quiet (Declare bytes) = record { delivers_none = λ n. refl; gets_none = λ n. refl; puts_none = λ k. refl }
-    quiet (Take m o k bytes) = record { delivers_none = λ n. refl; gets_none = λ n. refl; puts_none = λ k. refl }
-    quiet (Retire m o k) = record { delivers_none = λ n. refl; gets_none = λ n. refl; puts_none = λ k. refl }
-    quiet (Listing m) = record { delivers_none = λ n. refl; gets_none = λ n. refl; puts_none = λ k. refl }
-    quiet (Ask m text) = record { delivers_none = λ n. refl; gets_none = λ n. refl; puts_none = λ k. refl }
-    quiet (Put m k) = record { delivers_none = λ n. refl; gets_none = λ n. refl; puts_none = λ k. refl }
-    quiet (Get k m) = record { delivers_none = λ n. refl; gets_none = λ n. refl; puts_none = λ k. refl }
+    quiet (Declare bytes) = record { delivers_none = λ n. refl; gets_none = λ n. refl; puts_none = λ k. refl; hears_none = λ n. refl }
+    quiet (Take m o k bytes) = record { delivers_none = λ n. refl; gets_none = λ n. refl; puts_none = λ k. refl; hears_none = λ n. refl }
+    quiet (Retire m o k) = record { delivers_none = λ n. refl; gets_none = λ n. refl; puts_none = λ k. refl; hears_none = λ n. refl }
+    quiet (Listing m) = record { delivers_none = λ n. refl; gets_none = λ n. refl; puts_none = λ k. refl; hears_none = λ n. refl }
+    quiet (Ask m text) = record { delivers_none = λ n. refl; gets_none = λ n. refl; puts_none = λ k. refl; hears_none = λ n. refl }
+    quiet (Feed m p) = record { delivers_none = λ n. refl; gets_none = λ n. refl; puts_none = λ k. refl; hears_none = λ n. refl }
+    quiet (Put m k) = record { delivers_none = λ n. refl; gets_none = λ n. refl; puts_none = λ k. refl; hears_none = λ n. refl }
+    quiet (Get k m) = record { delivers_none = λ n. refl; gets_none = λ n. refl; puts_none = λ k. refl; hears_none = λ n. refl }
 
 -- ---- commands that their form refuses
 
@@ -133,17 +165,19 @@ long_declaration session h (Take n o m bytes) long allowed stands = absurd long
 long_declaration session h (Retire n o m) long allowed stands = absurd long
 long_declaration session h (Listing n) long allowed stands = absurd long
 long_declaration session h (Ask n text) long allowed stands = absurd long
+long_declaration session h (Feed m s) long allowed stands = absurd long
 long_declaration session h (Put m s) long allowed stands = absurd long
 long_declaration session h (Get s m) long allowed stands = absurd long
 
 pub bad_name : (session : Session) (h : List Step) (c : Command) (fault : NameFault) → IsRefusedAs (refusals.BadName fault) c → IsAllowed (is_declared h) c → Stands session h → Tells session h c (name_text fault)
 bad_name session h (Declare bytes) fault named allowed stands = absurd named
 bad_name session h (Take n o m bytes) fault named allowed stands =
-    node_tells session h (Take n o m bytes) (RefusedName fault) (name_text fault) allowed stands (λ d. (Err fault, named, refl)) refl (record { delivers_none = λ n. refl; gets_none = λ n. refl; puts_none = λ k. refl }) refl
+    node_tells session h (Take n o m bytes) (RefusedName fault) (name_text fault) allowed stands (λ d. (Err fault, named, refl)) refl (record { delivers_none = λ n. refl; gets_none = λ n. refl; puts_none = λ k. refl; hears_none = λ n. refl }) refl
 bad_name session h (Retire n o m) fault named allowed stands =
-    node_tells session h (Retire n o m) (RefusedName fault) (name_text fault) allowed stands (λ d. (Err fault, named, refl)) refl (record { delivers_none = λ n. refl; gets_none = λ n. refl; puts_none = λ k. refl }) refl
+    node_tells session h (Retire n o m) (RefusedName fault) (name_text fault) allowed stands (λ d. (Err fault, named, refl)) refl (record { delivers_none = λ n. refl; gets_none = λ n. refl; puts_none = λ k. refl; hears_none = λ n. refl }) refl
 bad_name session h (Listing n) fault named allowed stands = absurd named
 bad_name session h (Ask n text) fault named allowed stands = absurd named
+bad_name session h (Feed m s) fault named allowed stands = absurd named
 bad_name session h (Put m s) fault named allowed stands = absurd named
 bad_name session h (Get s m) fault named allowed stands = absurd named
 
@@ -158,10 +192,11 @@ pub long_segment : (session : Session) (h : List Step) (c : Command) → IsRefus
 long_segment session h (Declare bytes) long allowed stands = absurd long
 long_segment session h (Take n o m bytes) long allowed stands =
     node_tells session h (Take n o m bytes) (RefusedSegment segments.TooLong) (segment_text segments.TooLong) allowed stands
-    (λ d. (Ok long.0, long.1, ap (λ r. segment_reply r (view_of (known h n)) long.0 bytes) (sym (too_long d bytes long.2)))) refl (record { delivers_none = λ n. refl; gets_none = λ n. refl; puts_none = λ k. refl }) refl
+    (λ d. (Ok long.0, long.1, ap (λ r. segment_reply r (view_of (known h n)) long.0 bytes) (sym (too_long d bytes long.2)))) refl (record { delivers_none = λ n. refl; gets_none = λ n. refl; puts_none = λ k. refl; hears_none = λ n. refl }) refl
 long_segment session h (Retire n o m) long allowed stands = absurd long
 long_segment session h (Listing n) long allowed stands = absurd long
 long_segment session h (Ask n text) long allowed stands = absurd long
+long_segment session h (Feed m s) long allowed stands = absurd long
 long_segment session h (Put m s) long allowed stands = absurd long
 long_segment session h (Get s m) long allowed stands = absurd long
 
@@ -170,7 +205,8 @@ long_query session h (Declare bytes) long allowed stands = absurd long
 long_query session h (Take n o m bytes) long allowed stands = absurd long
 long_query session h (Retire n o m) long allowed stands = absurd long
 long_query session h (Listing n) long allowed stands = absurd long
+long_query session h (Feed n k) long allowed stands = absurd long
 long_query session h (Put n k) long allowed stands = absurd long
 long_query session h (Get k n) long allowed stands = absurd long
 long_query session h (Ask n text) long allowed stands =
-    node_tells session h (Ask n text) (RefusedQuery queries.TooLong) (query_text queries.TooLong) allowed stands (λ d. (Err queries.TooLong, long, refl)) refl (record { delivers_none = λ n. refl; gets_none = λ n. refl; puts_none = λ k. refl }) refl
+    node_tells session h (Ask n text) (RefusedQuery queries.TooLong) (query_text queries.TooLong) allowed stands (λ d. (Err queries.TooLong, inl long, refl)) refl (record { delivers_none = λ n. refl; gets_none = λ n. refl; puts_none = λ k. refl; hears_none = λ n. refl }) refl

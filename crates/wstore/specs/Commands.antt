@@ -22,6 +22,8 @@ pub data Command : Type 0 where
   Listing : ℕ → Command
   -- node and text of a query
   Ask : ℕ → List ℕ → Command
+  -- node, and a piece of its delivery stream
+  Feed : ℕ → List ℕ → Command
   -- a node, and the slot that what it knows is put into
   Put : ℕ → ℕ → Command
   -- a slot, and the node that gets what it holds
@@ -34,6 +36,7 @@ pub data Form : Type 0 where
   RetireForm : ℕ → List ℕ → List ℕ → Form
   ListForm : ℕ → Form
   AskForm : ℕ → ℕ → Form
+  FeedForm : ℕ → ℕ → Form
   PutForm : ℕ → ℕ → Form
   GetForm : ℕ → ℕ → Form
 
@@ -55,6 +58,7 @@ line_of (TakeForm node origin number len) = 83 ∷ 32 ∷ take_words node origin
 line_of (RetireForm node origin number) = 82 ∷ 32 ∷ retire_words node origin number
 line_of (ListForm node) = 76 ∷ 32 ∷ decimal node
 line_of (AskForm node len) = 81 ∷ 32 ∷ pair_words node len
+line_of (FeedForm node len) = 70 ∷ 32 ∷ pair_words node len
 line_of (PutForm node slot) = 80 ∷ 32 ∷ pair_words node slot
 line_of (GetForm slot node) = 71 ∷ 32 ∷ pair_words slot node
 
@@ -70,12 +74,17 @@ pub record IsSlot (slot : ℕ) : Type 0 where
 pub record IsLength (len : ℕ) : Type 0 where
   pub fits : len < 2 ^ 32
 
+-- a piece has 67,108,864 bytes at most
+pub record IsPieceLength (len : ℕ) : Type 0 where
+  pub fits : len ≤ 67108864
+
 abbrev pub IsForm : Form → Type 0
 IsForm (DeclareForm len) = IsLength len
 IsForm (TakeForm node origin number len) = IsNode node × IsWord origin × IsWord number × IsLength len
 IsForm (RetireForm node origin number) = IsNode node × IsWord origin × IsWord number
 IsForm (ListForm node) = IsNode node
 IsForm (AskForm node len) = IsNode node × IsLength len
+IsForm (FeedForm node len) = IsNode node × IsPieceLength len
 IsForm (PutForm node slot) = IsNode node × IsSlot slot
 IsForm (GetForm slot node) = IsSlot slot × IsNode node
 
@@ -85,6 +94,7 @@ form_of (Take node origin number bytes) = TakeForm node origin number (length by
 form_of (Retire node origin number) = RetireForm node origin number
 form_of (Listing node) = ListForm node
 form_of (Ask node text) = AskForm node (length text)
+form_of (Feed node piece) = FeedForm node (length piece)
 form_of (Put node slot) = PutForm node slot
 form_of (Get slot node) = GetForm slot node
 
@@ -95,6 +105,7 @@ behind (Take node origin number bytes) = bytes ++ 10 ∷ []
 behind (Retire node origin number) = []
 behind (Listing node) = []
 behind (Ask node text) = text ++ 10 ∷ []
+behind (Feed node piece) = piece ++ 10 ∷ []
 behind (Put node slot) = []
 behind (Get slot node) = []
 
@@ -108,6 +119,7 @@ IsAllowed declared (Take node origin number bytes) = declared ≡ true
 IsAllowed declared (Retire node origin number) = declared ≡ true
 IsAllowed declared (Listing node) = declared ≡ true
 IsAllowed declared (Ask node text) = declared ≡ true
+IsAllowed declared (Feed node piece) = declared ≡ true
 IsAllowed declared (Put node slot) = declared ≡ true
 IsAllowed declared (Get slot node) = declared ≡ true
 
@@ -128,5 +140,6 @@ IsDeclaration (Take node origin number bytes) = ⊥
 IsDeclaration (Retire node origin number) = ⊥
 IsDeclaration (Listing node) = ⊥
 IsDeclaration (Ask node text) = ⊥
+IsDeclaration (Feed node piece) = ⊥
 IsDeclaration (Put node slot) = ⊥
 IsDeclaration (Get slot node) = ⊥

@@ -1,5 +1,6 @@
 -- What nodes are told by a history of commands and replies, item by item, and the replies that it allows. A history has its newest step first.
-use Rattle.std.specs.Prelude.{◌≡◌, ◌≢◌, ℕ, Bool, false, true, List, [], ◌∷◌, ◌++◌, map, ◌==◌, ◌⊎◌, if◌then◌else◌, Option, None, Some, is_some, Result, Ok, Err}
+use Rattle.std.specs.Prelude.{◌≡◌, ◌≢◌, ℕ, Bool, false, true, List, [], ◌∷◌, ◌++◌, map, ◌==◌, ◌⊎◌, if◌then◌else◌, Option, None, Some, is_some, Result, Ok, Err, IsOk, ⊤, ◌||◌}
+use Rattle.std.specs.List.{flat_map, AllByRecursion}
 use Rattle.std.specs.FinMap.{get, entries}
 use Rattle.wvalues.specs.Names.{NameParts}
 use Rattle.wvalues.specs.NameReading.{ReadsName}
@@ -10,14 +11,19 @@ use Rattle.wsegment.specs.Spelling.{ReadsDeclaration}
 use Rattle.wsegment.specs.Rows.{rows_of}
 use Rattle.wsegment.specs.declared.fault.SegmentFault.{SegmentFault}
 use Rattle.wsegment.specs.declared.schema_fault.SchemaFault.TheVariants as tables
-use Rattle.wset.specs.Views.{View}
+use Rattle.wset.specs.Views.{View, join}
 use Rattle.wset.specs.Items.{Item, SegmentItem, RetirementItem, view_of}
 use Rattle.wset.specs.Words.{taken_word, retired_word}
 use Rattle.wset.specs.Listing.{listed}
-use Rattle.wstore.specs.Commands.{Command, Declare, Take, Retire, Listing, Ask, Put, Get, IsDeclaration}
-use Rattle.wstore.specs.Replies.{Reply, Declared, RefusedTable, Took, Was, RefusedName, RefusedSegment, Names, Answered, RefusedQuery, Done, RefusedFile, NoMemory}
-use Rattle.wstore.specs.Queries.{IsAnswer}
-use Rattle.wstore.specs.declared.fault.AskFault.{AskFault}
+use Rattle.wexchange.specs.Files.{file_of}
+use Rattle.wexchange.specs.Judging.{Judges}
+use Rattle.wexchange.specs.Messages.{IsMessage, IsOpen, IsBad, Splits, message_text}
+use Rattle.wexchange.specs.declared.fault.FileFault.{FileFault}
+use Rattle.wexchange.specs.declared.fault.FileFault.TheVariants as files
+use Rattle.wstore.specs.Commands.{Command, Declare, Take, Retire, Listing, Ask, Feed, Put, Get, IsDeclaration}
+use Rattle.wstore.specs.Replies.{Reply, Line, TookLine, WasLine, RefusedLine, SpentLine, line_item, line_items, Fed, Declared, RefusedTable, Took, Was, RefusedName, RefusedSegment, Names, Answered, RefusedQuery, Done, RefusedFile, NoMemory}
+use Rattle.wask.specs.Asking.{IsAnswer}
+use Rattle.wplanner.specs.declared.fault.AskFault.{AskFault}
 
 pub record Step : Type 0 where
   pub command : Command
@@ -29,6 +35,7 @@ pub record Step : Type 0 where
 abbrev pub delivers : Command → Reply → ℕ → List Item
 delivers (Take m origin number bytes) (Took name word) n = if m == n then SegmentItem name bytes ∷ [] else []
 delivers (Retire m origin number) (Was name word) n = if m == n then RetirementItem name ∷ [] else []
+delivers (Feed m piece) (Fed lines bad) n = if m == n then flat_map line_items lines else []
 delivers c r n = []
 
 -- the slot that a step got into a node
@@ -40,6 +47,45 @@ gets c r n = None
 abbrev pub puts : Command → Reply → ℕ → Option ℕ
 puts (Put m slot) Done k = if slot == k then Some m else None
 puts c r k = None
+
+-- a piece that entered the stream of a node, the messages that were handled then, and whether the stream was found bad
+pub record Heard : Type 0 where
+  pub piece : List ℕ
+  pub items : List Item
+  pub is_bad : Bool
+
+abbrev pub heard : Command → Reply → ℕ → Option Heard
+heard (Feed m piece) (Fed lines bad) n = if m == n then Some (record { piece = piece; items = map line_item lines; is_bad = bad }) else None
+heard c r n = None
+
+abbrev pub heard_items : Option Heard → List Item
+heard_items None = []
+heard_items (Some x) = x.items
+
+abbrev pub heard_bad : Option Heard → Bool
+heard_bad None = false
+heard_bad (Some x) = x.is_bad
+
+-- what a piece adds to a stream: nothing once it is bad
+abbrev pub entered : Bool → Option Heard → List ℕ
+entered before None = []
+entered true (Some x) = []
+entered false (Some x) = x.piece
+
+-- the stream of a node was found bad
+abbrev pub is_bad : List Step → ℕ → Bool
+is_bad [] n = false
+is_bad (s ∷ h) n = is_bad h n || heard_bad (heard s.command s.reply n)
+
+-- the pieces that a node was fed, joined
+abbrev pub stream : List Step → ℕ → List ℕ
+stream [] n = []
+stream (s ∷ h) n = stream h n ++ entered (is_bad h n) (heard s.command s.reply n)
+
+-- the messages that it has handled
+abbrev pub handled : List Step → ℕ → List Item
+handled [] n = []
+handled (s ∷ h) n = handled h n ++ heard_items (heard s.command s.reply n)
 
 -- what is drawn from another place, if from any
 abbrev pub drawn : Option ℕ → (ℕ → List Item) → List Item
@@ -69,6 +115,15 @@ is_put_by (Some n) before = true
 abbrev pub is_put : List Step → ℕ → Bool
 is_put [] k = false
 is_put (s ∷ h) k = is_put_by (puts s.command s.reply k) (is_put h k)
+
+-- the file of the view of these items, where a slot was put, and no bytes where it was not
+abbrev pub file_if : Bool → Declaration → List Item → List ℕ
+file_if true d items = file_of d (view_of items)
+file_if false d items = []
+
+-- the bytes that a slot holds
+abbrev pub slot_file : Declaration → List Step → ℕ → List ℕ
+slot_file d h k = file_if (is_put h k) d (held h k)
 
 -- the table that a reply declares, else the one before
 abbrev pub declared_by : Reply → Option Declaration → Option Declaration
@@ -116,10 +171,55 @@ NodeAnswers d v (Listing n) r = r ≡ Names (map (listed d) (entries v))
 NodeAnswers d v (Ask n text) r = (answer : Result (List ℕ) AskFault) × IsAnswer d v text answer × (r ≡ query_reply answer)
 NodeAnswers d v c r = ⊥
 
--- a slot that nobody put is no file
-abbrev pub get_reply : Bool → Reply
-get_reply true = Done
-get_reply false = RefusedFile
+-- a file is joined, else its fault is told
+abbrev pub file_reply : Result View FileFault → Reply
+file_reply (Ok view) = Done
+file_reply (Err fault) = RefusedFile fault
+
+-- the bytes of a slot are judged
+pub record FileAnswers (d : Declaration) (bytes : List ℕ) (r : Reply) : Type 0 where
+  pub judged : Result View FileFault
+  pub judges : Judges d bytes judged
+  pub is_judged : judged ≢ Err files.NoMemory
+  pub reply_is : r ≡ file_reply judged
+
+-- a message is told what the command would be told that speaks of its item, or that it found no memory
+abbrev pub LineAnswers : Declaration → View → Line → Type 0
+LineAnswers d v (TookLine name bytes word) = IsOk (rows_of d bytes) × (word ≡ taken_word (get v name) bytes)
+LineAnswers d v (WasLine name word) = word ≡ retired_word (get v name)
+LineAnswers d v (RefusedLine name bytes fault) = rows_of d bytes ≡ Err fault
+LineAnswers d v (SpentLine item) = ⊤
+
+-- messages are told so one after the other, each by the view that those before it have left
+abbrev pub LinesAnswer : Declaration → View → List Line → Type 0
+LinesAnswer d v [] = ⊤
+LinesAnswer d v (l ∷ ls) = LineAnswers d v l × LinesAnswer d (join v (view_of (line_items l))) ls
+
+-- a rest that is open, or bad
+abbrev pub IsRest : Bool → List ℕ → Type 0
+IsRest true rest = IsBad rest
+IsRest false rest = IsOpen rest
+
+-- the messages that a piece makes whole are handled
+pub record FeedAnswers (d : Declaration) (h : List Step) (n : ℕ) (piece : List ℕ) (lines : List Line) (bad : Bool) : Type 0 where
+  pub rest : List ℕ
+  pub splits : Splits (stream h n ++ piece) (handled h n ++ map line_item lines) rest
+  pub end : IsRest bad rest
+  pub lines_are : LinesAnswer d (view_of (known h n)) lines
+
+-- the first messages of a piece are handled, whatever stands behind them
+pub record FeedBegins (d : Declaration) (h : List Step) (n : ℕ) (piece : List ℕ) (lines : List Line) : Type 0 where
+  pub rest : List ℕ
+  pub good : is_bad h n ≡ false
+  pub whole : stream h n ++ piece ≡ flat_map message_text (handled h n ++ map line_item lines) ++ rest
+  pub each : AllByRecursion IsMessage (map line_item lines)
+  pub lines_are : LinesAnswer d (view_of (known h n)) lines
+
+-- a stream that was found bad stays bad
+abbrev pub PieceAnswers : Bool → Declaration → List Step → ℕ → List ℕ → Reply → Type 0
+PieceAnswers true d h n piece (Fed lines bad) = (lines ≡ []) × (bad ≡ true)
+PieceAnswers false d h n piece (Fed lines bad) = FeedAnswers d h n piece lines bad
+PieceAnswers before d h n piece r = ⊥
 
 abbrev pub AnswersUnder : Option Declaration → List Step → Command → Reply → Type 0
 AnswersUnder None h (Declare bytes) r = DeclareAnswers bytes r
@@ -129,8 +229,9 @@ AnswersUnder (Some d) h (Take n origin number bytes) r = NodeAnswers d (view_of 
 AnswersUnder (Some d) h (Retire n origin number) r = NodeAnswers d (view_of (known h n)) (Retire n origin number) r
 AnswersUnder (Some d) h (Listing n) r = NodeAnswers d (view_of (known h n)) (Listing n) r
 AnswersUnder (Some d) h (Ask n text) r = NodeAnswers d (view_of (known h n)) (Ask n text) r
+AnswersUnder (Some d) h (Feed n piece) r = PieceAnswers (is_bad h n) d h n piece r
 AnswersUnder (Some d) h (Put n slot) r = r ≡ Done
-AnswersUnder (Some d) h (Get slot n) r = r ≡ get_reply (is_put h slot)
+AnswersUnder (Some d) h (Get slot n) r = FileAnswers d (slot_file d h slot) r
 
 -- the reply that the history allows; any command but a declaration may find no memory
 abbrev pub Answers : List Step → Command → Reply → Type 0

@@ -4,9 +4,9 @@ use Rattle.std.specs.List.{IsAmong}
 use Rattle.wsegment.specs.Declaration.{Declaration}
 use Rattle.wset.specs.Views.{join}
 use Rattle.wset.specs.Items.{Item, view_of}
-use Rattle.wstore.specs.Commands.{Listing, Ask, Get}
+use Rattle.wstore.specs.Commands.{Listing, Ask, Put, Get}
 use Rattle.wstore.specs.Replies.{Reply, Done, NoMemory}
-use Rattle.wstore.specs.History.{Step, Answers, declaration, delivers, gets, puts, known, held, is_put}
+use Rattle.wstore.specs.History.{Step, Answers, declaration, delivers, gets, puts, known, held, is_put, slot_file}
 
 -- it is so at another place, if at any
 abbrev pub Drawn : Option ℕ → (ℕ → Type 0) → Type 0
@@ -46,6 +46,11 @@ pub record KnowTheSame (g h : List Step) (m n : ℕ) : Type 0 where
 -- they have the same view
 abbrev pub SameViews : Type 0
 SameViews = (g h : List Step) (m n : ℕ) → KnowTheSame g h m n → view_of (known g m) ≡ view_of (known h n)
+
+-- the files that they put are equal
+abbrev pub SameFiles : Type 0
+SameFiles = (g h : List Step) (m n j k : ℕ) (d : Declaration) → KnowTheSame g h m n →
+    slot_file d (record { command = Put m j; reply = Done } ∷ g) j ≡ slot_file d (record { command = Put n k; reply = Done } ∷ h) k
 
 -- under one declaration they answer the same to every query, where both answer
 abbrev pub SameAnswers : Type 0

@@ -2,7 +2,8 @@ pub mod Commands
 pub mod Headers
 pub mod Requests
 pub mod Replies
-pub mod Queries
+pub mod Nodes
+pub mod Feeding
 pub mod History
 pub mod Laws
 pub mod Runs

@@ -1,5 +1,5 @@
 -- The replies to commands, and how each is spelled.
-use Rattle.std.specs.Prelude.{ℕ, List, [], ◌∷◌, ◌++◌, codes, length}
+use Rattle.std.specs.Prelude.{ℕ, Bool, true, false, List, [], ◌∷◌, ◌++◌, codes, length}
 use Rattle.std.specs.Fmt.{decimal}
 use Rattle.std.specs.List.{flat_map}
 use Rattle.wvalues.specs.Names.{NameParts}
@@ -10,6 +10,7 @@ use Rattle.wsegment.specs.declared.fault.SegmentFault.{SegmentFault}
 use Rattle.wsegment.specs.declared.fault.SegmentFault.TheVariants as segments
 use Rattle.wsegment.specs.declared.schema_fault.SchemaFault.{SchemaFault}
 use Rattle.wsegment.specs.declared.schema_fault.SchemaFault.TheVariants as tables
+use Rattle.wset.specs.Items.{Item, SegmentItem, RetirementItem}
 use Rattle.wset.specs.declared.words.Taken.{Taken}
 use Rattle.wset.specs.declared.words.Taken.TheVariants as takings
 use Rattle.wset.specs.declared.words.Retired.{Retired}
@@ -17,8 +18,31 @@ use Rattle.wset.specs.declared.words.Retired.TheVariants as retirements
 use Rattle.wset.specs.declared.words.Status.{Status}
 use Rattle.wset.specs.declared.words.Status.TheVariants as statuses
 use Rattle.wset.specs.declared.words.Listed.{Listed}
-use Rattle.wstore.specs.declared.fault.AskFault.{AskFault}
-use Rattle.wstore.specs.declared.fault.AskFault.TheVariants as queries
+use Rattle.wexchange.specs.declared.fault.FileFault.{FileFault}
+use Rattle.wexchange.specs.declared.fault.FileFault.TheVariants as files
+use Rattle.wplanner.specs.declared.fault.AskFault.{AskFault}
+use Rattle.wplanner.specs.declared.fault.AskFault.TheVariants as queries
+
+-- a message of a delivery stream, and what it was told
+pub data Line : Type 0 where
+  TookLine : NameParts → List ℕ → Taken → Line
+  WasLine : NameParts → Retired → Line
+  RefusedLine : NameParts → List ℕ → SegmentFault → Line
+  -- it found no memory, and is spent
+  SpentLine : Item → Line
+
+abbrev pub line_item : Line → Item
+line_item (TookLine name bytes word) = SegmentItem name bytes
+line_item (WasLine name word) = RetirementItem name
+line_item (RefusedLine name bytes fault) = SegmentItem name bytes
+line_item (SpentLine item) = item
+
+-- the items that it delivered
+abbrev pub line_items : Line → List Item
+line_items (TookLine name bytes word) = SegmentItem name bytes ∷ []
+line_items (WasLine name word) = RetirementItem name ∷ []
+line_items (RefusedLine name bytes fault) = []
+line_items (SpentLine item) = []
 
 pub data Reply : Type 0 where
   Declared : Declaration → Reply
@@ -31,10 +55,11 @@ pub data Reply : Type 0 where
   Names : List Listed → Reply
   Answered : List ℕ → Reply
   RefusedQuery : AskFault → Reply
+  -- the messages of a piece, and whether the stream is bad behind them
+  Fed : List Line → Bool → Reply
   -- a node was put into a slot, or got one
   Done : Reply
-  -- a slot that nobody put
-  RefusedFile : Reply
+  RefusedFile : FileFault → Reply
   NoMemory : Reply
 
 abbrev pub bad_script : List ℕ
@@ -63,22 +88,38 @@ abbrev pub name_text : NameFault → List ℕ
 name_text names.BadOrigin = codes "refused N1\n"
 name_text names.BadNumber = codes "refused N2\n"
 
--- a refusal that carries the number of a row
+-- a refusal that ends in a number
 abbrev pub at_number : List ℕ → ℕ → List ℕ
 at_number words row = words ++ (decimal row ++ 10 ∷ [])
 
+-- a fault of a segment, by its number, and the row where it has one
+abbrev pub segment_words : SegmentFault → List ℕ
+segment_words segments.TooLong = codes "S1\n"
+segment_words segments.NoHeader = codes "S2\n"
+segment_words segments.HeaderNotUtf8 = codes "S3\n"
+segment_words (segments.RowNotUtf8 row) = at_number (codes "S3 row ") row
+segment_words segments.UnknownColumn = codes "S4\n"
+segment_words segments.RepeatedColumn = codes "S5\n"
+segment_words segments.MissingColumn = codes "S6\n"
+segment_words (segments.RowLength row) = at_number (codes "S7 row ") row
+segment_words (segments.NotInteger row) = at_number (codes "S8 row ") row
+segment_words segments.TooManyRows = codes "S9\n"
+segment_words segments.NoMemory = []
+
 abbrev pub segment_text : SegmentFault → List ℕ
-segment_text segments.TooLong = codes "refused S1\n"
-segment_text segments.NoHeader = codes "refused S2\n"
-segment_text segments.HeaderNotUtf8 = codes "refused S3\n"
-segment_text (segments.RowNotUtf8 row) = at_number (codes "refused S3 row ") row
-segment_text segments.UnknownColumn = codes "refused S4\n"
-segment_text segments.RepeatedColumn = codes "refused S5\n"
-segment_text segments.MissingColumn = codes "refused S6\n"
-segment_text (segments.RowLength row) = at_number (codes "refused S7 row ") row
-segment_text (segments.NotInteger row) = at_number (codes "refused S8 row ") row
-segment_text segments.TooManyRows = codes "refused S9\n"
 segment_text segments.NoMemory = no_memory
+segment_text fault = codes "refused " ++ segment_words fault
+
+-- a fault of a file; a segment that is refused is told behind its number
+abbrev pub file_text : FileFault → List ℕ
+file_text files.OtherFormat = codes "refused X1\n"
+file_text files.Truncated = codes "refused X2\n"
+file_text files.NotRising = codes "refused X3\n"
+file_text files.OtherCount = codes "refused X4\n"
+file_text files.OtherSchema = codes "refused X5\n"
+file_text (files.Segment fault) = codes "refused X6 " ++ segment_words fault
+file_text files.Trailing = codes "refused X7\n"
+file_text files.NoMemory = no_memory
 
 abbrev pub query_text : AskFault → List ℕ
 query_text queries.TooLong = codes "refused Q1\n"
@@ -86,6 +127,9 @@ query_text queries.NotUtf8 = codes "refused Q2\n"
 query_text (queries.At place) = at_number (codes "refused Q3 at ") place
 query_text queries.Syntax = codes "refused Q4\n"
 query_text queries.NotYet = codes "refused Q9\n"
+query_text (queries.Broken rule) = at_number (codes "refused Q") rule
+query_text queries.OutOfRange = codes "refused Q40\n"
+query_text queries.TooManyRows = codes "refused Q41\n"
 query_text queries.NoMemory = no_memory
 
 -- how a name stands, and its rows where it is live
@@ -104,6 +148,17 @@ names_text all = codes "list " ++ (decimal (length all) ++ (10 ∷ flat_map list
 abbrev pub answer_text : List ℕ → List ℕ
 answer_text bytes = codes "answer " ++ (decimal (length bytes) ++ (10 ∷ bytes))
 
+abbrev pub line_text : Line → List ℕ
+line_text (TookLine name bytes word) = taken_text word
+line_text (WasLine name word) = retired_text word
+line_text (RefusedLine name bytes fault) = segment_text fault
+line_text (SpentLine item) = no_memory
+
+-- the last line: the number of messages, or that the stream is bad
+abbrev pub fed_text : ℕ → Bool → List ℕ
+fed_text n true = codes "refused B1\n"
+fed_text n false = codes "fed " ++ (decimal n ++ 10 ∷ [])
+
 abbrev pub text_of : Reply → List ℕ
 text_of (Declared d) = codes "ok\n"
 text_of (RefusedTable fault) = table_text fault
@@ -114,6 +169,7 @@ text_of (RefusedSegment fault) = segment_text fault
 text_of (Names all) = names_text all
 text_of (Answered bytes) = answer_text bytes
 text_of (RefusedQuery fault) = query_text fault
+text_of (Fed lines bad) = flat_map line_text lines ++ fed_text (length lines) bad
 text_of Done = codes "ok\n"
-text_of RefusedFile = codes "refused X2\n"
+text_of (RefusedFile fault) = file_text fault
 text_of NoMemory = no_memory

@@ -3,7 +3,7 @@ use Rattle.std.specs.Prelude.{◌≡◌, ◌≢◌, ℕ, ◌<◌, Bool, List, �
 use Rattle.std.specs.Io.KnownBytes.{Keeps, Consumes, IsAtEnd}
 use Rattle.wvalues.specs.Names.{NameParts}
 use Rattle.wvalues.specs.NameReading.{ReadsName}
-use Rattle.wstore.specs.Commands.{Form, Command, Declare, Take, Retire, Listing, Ask, Put, Get, IsAllowed, IsCommand, IsDeclaration, IsMalformed, form_of, behind, spell}
+use Rattle.wstore.specs.Commands.{Form, Command, Declare, Take, Retire, Listing, Ask, Feed, Put, Get, IsAllowed, IsCommand, IsDeclaration, IsMalformed, form_of, behind, spell}
 use Rattle.wstore.specs.Headers.{IsHeaderOf}
 use Rattle.wstore.specs.declared.header.Header.{Header}
 use Rattle.wstore.specs.declared.request.Command as code
@@ -34,11 +34,17 @@ IsOrderAt n (orders.Put k) (Put node slot) = (node ≡ n) × (slot ≡ k)
 IsOrderAt n (orders.Get k) (Get slot node) = (slot ≡ k) × (node ≡ n)
 IsOrderAt _ _ _ = ⊥
 
+-- a node is fed this piece
+abbrev pub IsFeedOf : ℕ → List ℕ → Command → Type 0
+IsFeedOf n bytes (Feed node piece) = (node ≡ n) × (piece ≡ bytes)
+IsFeedOf n bytes c = ⊥
+
 -- the code's command is this one
 abbrev pub IsCommandOf : code.Command → Command → Type 0
 IsCommandOf (commands.Declare kept) (Declare bytes) = bytes ≡ kept.items
 IsCommandOf (commands.Refused refusal) c = IsRefusedAs refusal c
 IsCommandOf (commands.At n order) c = IsOrderAt n order c
+IsCommandOf (commands.Feed n kept) c = IsFeedOf n kept.items c
 IsCommandOf _ _ = ⊥
 
 -- the bytes are not what stands behind this header, for any command

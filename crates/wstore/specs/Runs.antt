@@ -1,9 +1,10 @@
 -- A whole run: the replies that an input has.
-use Rattle.std.specs.Prelude.{◌≡◌, ℕ, List, [], ◌∷◌, ◌++◌, take, ◌⊎◌}
+use Rattle.std.specs.Prelude.{◌≡◌, ℕ, List, [], ◌∷◌, ◌++◌, take, Some, ◌⊎◌}
 use Rattle.std.specs.List.{flat_map}
-use Rattle.wstore.specs.Commands.{Command, Declare, IsCommand, IsMalformed, spell}
-use Rattle.wstore.specs.Replies.{Reply, text_of, bad_script}
-use Rattle.wstore.specs.History.{Step, Answers, is_declared}
+use Rattle.wsegment.specs.Declaration.{Declaration}
+use Rattle.wstore.specs.Commands.{Command, Declare, Feed, IsCommand, IsMalformed, spell}
+use Rattle.wstore.specs.Replies.{Reply, Line, line_text, text_of, bad_script}
+use Rattle.wstore.specs.History.{Step, Answers, FeedBegins, declaration, is_declared}
 use Rattle.wstore.specs.declared.runs.End.{End}
 use Rattle.wstore.specs.declared.runs.End.TheVariants.{Done, Bad}
 use Rattle.wstore.specs.declared.runs.RunFault.{RunFault}
@@ -39,10 +40,11 @@ pub record RepliesBad (input output : List ℕ) : Type 0 where
   pub input_is : input ≡ asked steps ++ rest
   pub output_is : output ≡ told steps ++ bad_script
 
--- what comes next may begin so: a front of a reply to the next command, or of the last line
+-- what comes next may begin so: a front of a reply to the next command, or of what the first messages of a piece are told, or of the last line
 pub data Begins (h : List Step) (rest : List ℕ) : List ℕ → Type 0 where
   nothing : Begins h rest []
   answer : (c : Command) (more : List ℕ) (reply : Reply) (n : ℕ) → IsCommand (is_declared h) c → rest ≡ spell c ++ more → Answers h c reply → Begins h rest (take n (text_of reply))
+  lines : (d : Declaration) (node : ℕ) (piece more : List ℕ) (told : List Line) (n : ℕ) → IsCommand (is_declared h) (Feed node piece) → rest ≡ spell (Feed node piece) ++ more → declaration h ≡ Some d → FeedBegins d h node piece told → Begins h rest (take n (flat_map line_text told))
   last : (n : ℕ) → IsMalformed (is_declared h) rest → Begins h rest (take n bad_script)
 
 -- the rest begins with a declaration, which may stand there

@@ -3,15 +3,19 @@ use Rattle.std.specs.Prelude.{◌≡◌, ℕ, List, [], ◌∷◌, Option, None,
 use Rattle.wsegment.specs.Declaration.{Declaration}
 use Rattle.wstore.specs.Commands.{Command}
 use Rattle.wstore.specs.Replies.{Reply, text_of}
-use Rattle.wstore.specs.History.{Step, Answers, declaration, known, is_put}
+use Rattle.wstore.specs.History.{Step, Answers, declaration, known, is_put, is_bad, stream, handled}
 use Rattle.wstore.specs.Standing.{StandAt, places}
 use Rattle.wstore.specs.declared.cluster.Cluster.{Cluster}
 use Rattle.wstore.specs.declared.request.Command as code
 use Rattle.wstore.specs.declared.request.Command.TheVariants as commands
 use Rattle.wstore.specs.declared.session.Session.{Session}
 
+-- a node was fed nothing
+abbrev pub IsSilent : List Step → ℕ → Type 0
+IsSilent h n = (is_bad h n ≡ false) × (stream h n ≡ []) × (handled h n ≡ [])
+
 abbrev pub ClusterStands : Option Cluster → List Step → Type 0
-ClusterStands None h = (declaration h ≡ None) × ((n : ℕ) → known h n ≡ []) × ((k : ℕ) → is_put h k ≡ false)
+ClusterStands None h = (declaration h ≡ None) × ((n : ℕ) → known h n ≡ []) × ((k : ℕ) → is_put h k ≡ false) × ((n : ℕ) → IsSilent h n)
 ClusterStands (Some cluster) h = (d : Declaration) × StandAt d (places cluster.nodes.items cluster.slots.items) h
 
 -- nothing was declared, known or put, or the nodes and slots stand where the history led
@@ -30,3 +34,4 @@ abbrev pub MayStand : Session → code.Command → Type 0
 MayStand session (commands.Declare bytes) = Unit {0}
 MayStand session (commands.Refused refusal) = Unit {0}
 MayStand session (commands.At node order) = is_some session.cluster ≡ true
+MayStand session (commands.Feed node piece) = is_some session.cluster ≡ true

@@ -1,11 +1,13 @@
 -- What one step of a run tells: old was left and held before it, new after it.
-use Rattle.std.specs.Prelude.{◌≡◌, ℕ, List, [], ◌∷◌, take, Option, None, Some, IfSome}
+use Rattle.std.specs.Prelude.{◌≡◌, ℕ, List, [], ◌∷◌, take, Option, None, Some, IfSome, ◌⊎◌}
+use Rattle.std.specs.List.{flat_map}
 use Rattle.std.specs.Io.KnownBytes.{Keeps, Appends, Consumes, IsAtEnd}
 use Rattle.wvalues.specs.Counts.{Counts}
 use Rattle.wlines.specs.Pending.{IsSound, IsSoundWriter, ReadFailed}
-use Rattle.wstore.specs.Commands.{Command, IsCommand, IsDeclaration, IsMalformed, spell}
-use Rattle.wstore.specs.Replies.{Reply, text_of, bad_script}
-use Rattle.wstore.specs.History.{Step, Answers, is_declared}
+use Rattle.wsegment.specs.Declaration.{Declaration}
+use Rattle.wstore.specs.Commands.{Command, Feed, IsCommand, IsDeclaration, IsMalformed, spell}
+use Rattle.wstore.specs.Replies.{Reply, Line, line_text, text_of, bad_script}
+use Rattle.wstore.specs.History.{Step, Answers, FeedBegins, declaration, is_declared}
 use Rattle.wstore.specs.Runs.{Stops}
 use Rattle.wstore.specs.Sessions.{Stands}
 use Rattle.wstore.specs.declared.session.Session.{Session}
@@ -40,10 +42,26 @@ pub record AnsweredPart (h : List Step) (c : Command) (held new_held : Option (L
   pub answers : Answers h c reply
   pub appends : Appends held new_held (take n (text_of reply))
 
+-- a front was written of what the first messages of a piece are told
+pub record AnsweredLines (h : List Step) (c : Command) (held new_held : Option (List ℕ)) : Type 0 where
+  pub d : Declaration
+  pub node : ℕ
+  pub piece : List ℕ
+  pub lines : List Line
+  pub n : ℕ
+  pub declared : declaration h ≡ Some d
+  pub command_is : c ≡ Feed node piece
+  pub begins : FeedBegins d h node piece lines
+  pub appends : Appends held new_held (take n (flat_map line_text lines))
+
+-- a front was written of the reply to a piece
+abbrev pub FedPart : List Step → ℕ → List ℕ → Option (List ℕ) → Option (List ℕ) → Type 0
+FedPart h n piece held new_held = AnsweredPart h (Feed n piece) held new_held ⊎ AnsweredLines h (Feed n piece) held new_held
+
 -- a command was not answered in full: the writer failed, or a declaration found no memory
 abbrev pub Unanswered : RunFault → List Step → Command → Option (List ℕ) → Option (List ℕ) → Type 0
 Unanswered Read h c held new_held = ⊥
-Unanswered Write h c held new_held = AnsweredPart h c held new_held
+Unanswered Write h c held new_held = AnsweredPart h c held new_held ⊎ AnsweredLines h c held new_held
 Unanswered NoMemory h c held new_held = IsDeclaration c × Appends held new_held []
 
 -- one step

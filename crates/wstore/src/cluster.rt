@@ -1,33 +1,41 @@
 //! The nodes of a script, under one declaration.
-ghost use Rattle.std.specs.Prelude.{◌≡◌, ℕ, List, None, Ok, replicate, IfOk, OnErr, vec_len};
+ghost use Rattle.std.specs.Prelude.{◌≡◌, ℕ, List, [], Ok, replicate, IfOk, IfErr, OnOk, OnErr, vec_len};
+ghost use Rattle.wlines.specs.Pending.{IsSoundWriter};
 ghost use Rattle.std.specs.FinMap as map;
 ghost use Rattle.wsegment.specs.Declaration.{Declaration};
 ghost use Rattle.wvalues.specs.NameReading.{ReadsName};
 ghost use Rattle.wstore.specs.Commands.{Command as Spelled, Take, Retire as Retiring, Listing, Ask, Put, Get, node_count, slot_count};
 ghost use Rattle.wstore.specs.History.{Step, declaration};
+ghost use Rattle.wstore.specs.Nodes.{fresh_node};
 
+use crate::feeding::tell_messages;
 use crate::node::Node;
 use crate::numbers::{NODES, NodeNumber, SLOTS, SlotNumber};
-use crate::replies::{Text, answer, names, refused_query, refused_segment, retired, taken};
+use crate::replies::{
+    Text, answer, names, refused_file, refused_query, refused_segment, retired, taken,
+};
 use crate::request::Order;
+use crate::runs::{RunFault, send};
+use crate::slot::Slot;
 use std::alloc::{AllocError, Global};
+use std::io::Write;
+use wexchange::PushFault;
 use wsegment::Schema;
-use wset::SegmentSet;
-use wvalues::Name;
+use wvalues::{Counted, Name};
 
-/// The nodes and slots of a script. A slot holds nothing, or what a node knew when it was put.
+/// The nodes and slots of a script. A slot holds the exchange file of what a node knew when it was put, or no bytes.
 #[derive(Drop)]
 pub(crate) struct Cluster {
     alloc: Global,
     nodes: Vec<Node>,
-    slots: Vec<Option<SegmentSet>>,
+    slots: Vec<Slot>,
     ghost full: { vec_len nodes ≡ node_count },
     ghost full_slots: { vec_len slots ≡ slot_count },
 }
 
 // Nodes that know nothing.
 fn new_nodes(alloc: Global, schema: &Schema) -> Result<Vec<Node>, AllocError>
-    ensures { IfOk result (λ nodes. nodes.items ≡ replicate node_count (record { schema = schema.now; view = map.empty })) }
+    ensures { IfOk result (λ nodes. nodes.items ≡ replicate node_count (fresh_node schema.now map.empty)) }
 {
     let mut nodes = Vec::new(alloc);
     for _ in 0..NODES {
@@ -37,13 +45,13 @@ fn new_nodes(alloc: Global, schema: &Schema) -> Result<Vec<Node>, AllocError>
     Ok(nodes)
 }
 
-// Slots that hold nothing.
-fn empty_slots(alloc: Global) -> Result<Vec<Option<SegmentSet>>, AllocError>
-    ensures { IfOk result (λ slots. slots.items ≡ replicate slot_count None) }
+// Slots that hold no bytes.
+fn empty_slots(alloc: Global) -> Result<Vec<Slot>, AllocError>
+    ensures { IfOk result (λ slots. slots.items ≡ replicate slot_count []) }
 {
     let mut slots = Vec::new(alloc);
     for _ in 0..SLOTS {
-        slots.push(None)?;
+        slots.push(Slot::empty(alloc))?;
     }
     Ok(slots)
 }
@@ -52,11 +60,13 @@ impl Cluster {
     ghost use Rattle.wstore.specs.Standing.{StandAt, AnswersAs, places};
     ghost use Rattle.wstore.specs.Texts.{bytes_of};
     ghost use Rattle.wstore.specs.Requests.{IsOrderAt};
+    ghost use Rattle.wstore.specs.Feeding.{FedAs};
+    ghost use Rattle.wstore.specs.Steps.{FedPart};
 
     /// Nodes that know nothing.
     pub(crate) fn new(alloc: Global, schema: &Schema) -> Result<Cluster, AllocError>
-        ensures nodes { IfOk result (λ c. c.nodes.items ≡ replicate node_count (record { schema = schema.now; view = map.empty })) }
-        ensures slots { IfOk result (λ c. c.slots.items ≡ replicate slot_count None) }
+        ensures nodes { IfOk result (λ c. c.nodes.items ≡ replicate node_count (fresh_node schema.now map.empty)) }
+        ensures slots { IfOk result (λ c. c.slots.items ≡ replicate slot_count []) }
     {
         let nodes = new_nodes(alloc, schema)?;
         let slots = empty_slots(alloc)?;
@@ -126,7 +136,7 @@ impl Cluster {
         }
     }
 
-    /// Puts what a node knows into a slot. Later steps of the node do not reach it.
+    /// Puts the exchange file of what a node knows into a slot. Later steps of the node do not reach it.
     pub(crate) fn put(&mut self, node: NodeNumber, slot: SlotNumber) -> Result<Text, AllocError>
         ensures answers { IfOk result (λ text. (d : Declaration) (h : List Step) → StandAt d (places self.old.nodes.items self.old.slots.items) h → AnswersAs d (places self.new.nodes.items self.new.slots.items) h (Put node slot) (bytes_of text)) }
         ensures err { OnErr result (self.new.nodes.items ≡ self.old.nodes.items) }
@@ -134,12 +144,12 @@ impl Cluster {
     {
         let from = node.place();
         let to = slot.place();
-        let set = self.nodes[from].copied()?;
-        self.slots[to] = Some(set);
+        let bytes = self.nodes[from].put()?;
+        self.slots[to] = Slot::new(bytes);
         Ok(Text::Fixed(b"ok\n"))
     }
 
-    /// Joins what a slot holds into a node. A slot that nobody put is refused.
+    /// Joins what the file of a slot tells into a node, or refuses the slot's bytes.
     pub(crate) fn get(&mut self, slot: SlotNumber, node: NodeNumber) -> Result<Text, AllocError>
         ensures answers { IfOk result (λ text. (d : Declaration) (h : List Step) → StandAt d (places self.old.nodes.items self.old.slots.items) h → AnswersAs d (places self.new.nodes.items self.new.slots.items) h (Get slot node) (bytes_of text)) }
         ensures err { OnErr result (self.new.nodes.items ≡ self.old.nodes.items) }
@@ -147,14 +157,36 @@ impl Cluster {
     {
         let from = slot.place();
         let to = node.place();
-        let Some(held) = &self.slots[from] else {
-            return Ok(Text::Fixed(b"refused X2\n"));
-        };
-        let node = &mut self.nodes[to];
-        // The nodes and slots of a script have one schema, so that a join fails for want of memory alone.
-        match node.join(held) {
+        let file = self.slots[from].as_slice();
+        match self.nodes[to].get(file) {
             Ok(()) => Ok(Text::Fixed(b"ok\n")),
-            Err(_) => Err(AllocError),
+            Err(fault) => {
+                let text = refused_file(self.alloc, fault)?;
+                Ok(text)
+            }
+        }
+    }
+
+    /// Feeds a node a piece of its delivery stream, and writes what its messages are told.
+    pub(crate) fn feed<W: Write>(
+        &mut self,
+        output: &mut Counted<W>,
+        node: NodeNumber,
+        piece: &[u8],
+    ) -> Result<(), RunFault>
+        requires { IsSoundWriter output.old }
+        ensures ok { OnOk result ((d : Declaration) (h : List Step) → StandAt d (places self.old.nodes.items self.old.slots.items) h → FedAs d (places self.new.nodes.items self.new.slots.items) h node piece.now (W.contents output.old.inner) (W.contents output.new.inner)) }
+        ensures sound { OnOk result (IsSoundWriter output.new) }
+        ensures part { OnErr result ((d : Declaration) (h : List Step) → StandAt d (places self.old.nodes.items self.old.slots.items) h → FedPart h node piece.now (W.contents output.old.inner) (W.contents output.new.inner)) }
+        ensures fault { IfErr result (λ e. e ≡ RunFault.Write) }
+        ensures cause { OnErr result (output.new.failures ≡ 1) }
+    {
+        let place = node.place();
+        let fed = &mut self.nodes[place];
+        match fed.feed(piece) {
+            Ok(()) => tell_messages(self.alloc, output, fed),
+            Err(PushFault::Bad) => send(output, b"refused B1\n"),
+            Err(PushFault::NoMemory) => send(output, b"no memory\n"),
         }
     }
 

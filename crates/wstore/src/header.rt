@@ -1,8 +1,8 @@
 //! Header lines of commands.
-ghost use Rattle.std.specs.Prelude.{◌≡◌, ℕ, ◌<◌, ◌≤◌, List, [], ◌∷◌, ◌++◌, IfSome, IsSomeAnd, decimal, Some};
+ghost use Rattle.std.specs.Prelude.{◌≡◌, ℕ, ◌<◌, ◌≤◌, List, [], ◌∷◌, ◌++◌, IfSome, IsSome, IsSomeAnd, decimal, Some, ◌↔◌};
 ghost use Rattle.wlines.specs.Words.{Lacks, IsWord};
 ghost use Rattle.wvalues.specs.NameReading.{ReadsName};
-ghost use Rattle.wstore.specs.Commands.{Form, DeclareForm, TakeForm, RetireForm, ListForm, AskForm, PutForm, GetForm, IsForm, IsNode, IsSlot, IsLength, line_of, take_words, retire_words, pair_words};
+ghost use Rattle.wstore.specs.Commands.{Form, DeclareForm, TakeForm, RetireForm, ListForm, AskForm, FeedForm, PutForm, GetForm, IsForm, IsNode, IsSlot, IsLength, IsPieceLength, line_of, take_words, retire_words, pair_words};
 ghost use Rattle.wstore.specs.Headers.{IsHeaderOf};
 
 use crate::numbers::{NodeNumber, SlotNumber};
@@ -18,9 +18,13 @@ pub(crate) enum Header {
     Retire(NodeNumber, Result<Name, NameFault>),
     List(NodeNumber),
     Ask(NodeNumber, u32),
+    Feed(NodeNumber, u32),
     Put(NodeNumber, SlotNumber),
     Get(SlotNumber, NodeNumber),
 }
+
+/// The most bytes of a piece.
+const LONGEST_PIECE: u32 = 67_108_864;
 
 // The node that a word names.
 fn node_word(word: &[u8]) -> Option<NodeNumber>
@@ -50,6 +54,29 @@ fn length_word(word: &[u8]) -> Option<u32>
     ensures only { (n : ℕ) → IsLength n → word.now ≡ decimal n → result ≡ Some n }
 {
     number_word(word)
+}
+
+// The length, if a piece may have it.
+fn piece_length(len: u32) -> Option<u32>
+    ensures found { IsSome result ↔ IsPieceLength len }
+    ensures value { IfSome result (λ n. n ≡ len) }
+{
+    if len <= LONGEST_PIECE {
+        Some(len)
+    } else {
+        None
+    }
+}
+
+// The length of a piece that a word tells.
+fn piece_word(word: &[u8]) -> Option<u32>
+    ensures found { IfSome result (λ n. (word.now ≡ decimal n) × IsPieceLength n) }
+    ensures only { (n : ℕ) → IsPieceLength n → word.now ≡ decimal n → result ≡ Some n }
+{
+    match number_word(word) {
+        Some(number) => piece_length(number),
+        None => None,
+    }
 }
 
 // The node in front, and the words behind it.
@@ -145,6 +172,20 @@ fn ask_header(words: &[u8]) -> Option<Header>
     Some(Header::Ask(node, len))
 }
 
+// The words behind `F`.
+fn feed_header(words: &[u8]) -> Option<Header>
+    ensures found { IfSome result (λ h. (node : ℕ) × (len : ℕ) × IsForm (FeedForm node len) × IsHeaderOf h (FeedForm node len) × (words.now ≡ pair_words node len)) }
+    ensures only { (node len : ℕ) → IsForm (FeedForm node len) → words.now ≡ pair_words node len → IsSomeAnd result (λ h. IsHeaderOf h (FeedForm node len)) }
+{
+    let Some((node, last)) = split_node(words) else {
+        return None;
+    };
+    let Some(len) = piece_word(last) else {
+        return None;
+    };
+    Some(Header::Feed(node, len))
+}
+
 // The words behind `T`.
 fn declare_header(words: &[u8]) -> Option<Header>
     ensures found { IfSome result (λ h. (len : ℕ) × IsForm (DeclareForm len) × IsHeaderOf h (DeclareForm len) × (words.now ≡ decimal len)) }
@@ -206,6 +247,7 @@ pub(crate) fn read_header(line: &[u8]) -> Option<Header>
         [b'R', b' ', words @ ..] => retire_header(words),
         [b'L', b' ', words @ ..] => list_header(words),
         [b'Q', b' ', words @ ..] => ask_header(words),
+        [b'F', b' ', words @ ..] => feed_header(words),
         [b'P', b' ', words @ ..] => put_header(words),
         [b'G', b' ', words @ ..] => get_header(words),
         _ => None,

@@ -1,5 +1,5 @@
 //! One node.
-ghost use Rattle.std.specs.Prelude.{◌≢◌, ◌≡◌, ◌⊎◌, ◌<◌, ◌++◌, ◌∷◌, length, map as list_map, Ok, Err, IsOk, IfOk, IfErr, OnOk, OnErr, MatchResult, IfSome, codes, decimal};
+ghost use Rattle.std.specs.Prelude.{◌≢◌, ◌≡◌, ◌⊎◌, ◌<◌, ◌++◌, ◌∷◌, length, map as list_map, true, false, Ok, Err, IsOk, IfOk, IfErr, OnOk, OnErr, MatchResult, IfSome, codes, decimal};
 ghost use Rattle.std.specs.FinMap as map;
 ghost use Rattle.wsegment.specs.Outcome.{Fails};
 ghost use Rattle.wsegment.specs.Rows.{rows_of};
@@ -8,57 +8,84 @@ ghost use Rattle.wset.specs.Items.{SegmentItem, RetirementItem, view_of_item};
 ghost use Rattle.wset.specs.Tables.{table_of};
 ghost use Rattle.wset.specs.Words.{retired_word, taken_word};
 ghost use Rattle.wset.specs.Listing.{listed};
-ghost use Rattle.wstore.specs.Queries.{IsAnswer, count_table};
+ghost use Rattle.wexchange.specs.Files.{file_of};
+ghost use Rattle.wexchange.specs.Judging.{IsFault};
+ghost use Rattle.wstore.specs.Nodes.{IsTold, LearnsFile, NextReply, fresh_node};
+ghost use Rattle.wask.specs.Asking.{IsAnswer};
 
-use crate::counting::is_count_query;
-use crate::fault::AskFault;
-use itoa::Buffer;
 use std::alloc::{AllocError, Global};
 use std::marker::Model;
-use wlexer::lex;
-use wparser::parse;
-use wsegment::Schema;
-use wset::{JoinError, Listed, Retired, SegmentSet, TakeError, Taken};
-use wvalues::Name;
+use wask::{AskFault, ask};
+use wexchange::{BadStream, FileFault, Inbox, Message, PushFault, read, write};
+use wsegment::{Schema, SegmentFault};
+use wset::{Listed, Retired, SegmentSet, TakeError, Taken};
+use wvalues::{Counted, Name};
 
-/// A node: what it knows under a declaration, and the queries that it answers. Contracts see it as the
-/// declaration and the view.
+/// What a message of a stream was told.
+#[derive(Clone, Copy, Debug, PartialEq, Eq)]
+pub enum Reply {
+    /// A segment was taken.
+    Taken(Taken),
+    /// A name was retired.
+    Retired(Retired),
+    /// The bytes are no segment.
+    Refused(SegmentFault),
+    /// A growth was refused. The message is spent, and the node knows nothing of it.
+    NoMemory,
+}
+
+/// A node: what it knows under a declaration, the queries that it answers, and its delivery stream. Contracts see it
+/// as the declaration and the view, the bytes of the stream that were not handled, and whether the stream was found
+/// bad.
 #[derive(Drop)]
 pub struct Node {
     alloc: Global,
     set: SegmentSet,
+    inbox: Inbox,
 }
 
 impl Model for Node {
-    ghost use Rattle.wset.specs.Sets.{DeclaredView};
-    ghost use Rattle.wset.specs.Codes.{coded_declared_view};
+    ghost use Rattle.wstore.specs.Nodes.{NodeState, coded_node};
 
-    ghost Value = { DeclaredView };
+    ghost Value = { NodeState };
 
-    ghost coded = { coded_declared_view };
+    ghost coded = { coded_node };
 
-    ghost view = { λ n. n.set };
+    ghost view = { λ n. record { schema = n.set.schema; view = n.set.view; held = n.inbox.held; is_bad = n.inbox.is_bad } };
 }
 
-// The header line and one row of a count.
-fn count_bytes(alloc: Global, count: u128) -> Result<Vec<u8>, AllocError>
-    ensures { IfOk result (λ bytes. bytes.items ≡ count_table count) }
+// Takes the segment of a message.
+fn take_message(set: &mut SegmentSet, name: Name, bytes: &[u8]) -> Reply
+    ensures told { IsTold set.old.schema set.old.view (SegmentItem name bytes.now) result set.new.view }
+    ensures schema { set.new.schema ≡ set.old.schema }
 {
-    let mut buffer = Buffer::new();
-    let mut bytes = Vec::from_slice(alloc, b"count\n")?;
-    bytes.extend_from_slice(buffer.format(count).as_bytes())?;
-    bytes.push(b'\n')?;
-    Ok(bytes)
+    match set.take(name, bytes) {
+        Ok(word) => Reply::Taken(word),
+        Err(SegmentFault::NoMemory) => Reply::NoMemory,
+        Err(fault) => Reply::Refused(fault),
+    }
+}
+
+// Retires the name of a message.
+fn retire_message(set: &mut SegmentSet, name: Name) -> Reply
+    ensures told { IsTold set.old.schema set.old.view (RetirementItem name) result set.new.view }
+    ensures schema { set.new.schema ≡ set.old.schema }
+{
+    match set.retire(name) {
+        Ok(word) => Reply::Retired(word),
+        Err(_) => Reply::NoMemory,
+    }
 }
 
 impl Node {
     /// A node that knows nothing. It takes no memory.
     pub fn new(alloc: Global, schema: Schema) -> Node
-        ensures { result ≡ record { schema = schema; view = map.empty } }
+        ensures { result ≡ fresh_node schema map.empty }
     {
         Node {
             alloc,
             set: SegmentSet::new(alloc, schema),
+            inbox: Inbox::new(alloc),
         }
     }
 
@@ -82,26 +109,66 @@ impl Node {
         self.set.retire(name)
     }
 
-    /// A copy of what the node knows, which shares its segments.
-    pub(crate) fn copied(&self) -> Result<SegmentSet, AllocError>
-        ensures { IfOk result (λ copy. copy ≡ self.now) }
+    /// The exchange file of what the node knows.
+    pub fn put(&self) -> Result<Vec<u8>, AllocError>
+        ensures { IfOk result (λ bytes. bytes.items ≡ file_of self.now.schema self.now.view) }
     {
-        let schema = self.set.schema().copy()?;
-        let mut copy = SegmentSet::new(self.alloc, schema);
-        let Ok(()) = copy.join(&self.set) else {
-            return Err(AllocError);
-        };
-        Ok(copy)
+        let mut output = Counted::new(Vec::new(self.alloc));
+        match write(&self.set, &mut output) {
+            Ok(()) => Ok(output.into_inner()),
+            Err(_) => Err(AllocError),
+        }
     }
 
-    /// Learns all that a set knows, as `SegmentSet::join` does.
-    pub(crate) fn join(&mut self, set: &SegmentSet) -> Result<(), JoinError>
-        ensures ok { OnOk result (self.new ≡ record self.old { view = join self.old.view set.now.view }) }
-        ensures same { OnOk result (self.old.schema ≡ set.now.schema) }
-        ensures refused { result ≡ Err JoinError.OtherSchema → self.old.schema ≢ set.now.schema }
+    /// Learns all that an exchange file tells. Where the bytes are no such file of the node's table, or memory runs
+    /// out, the node is as it was.
+    pub fn get(&mut self, bytes: &[u8]) -> Result<(), FileFault>
+        ensures ok { OnOk result (LearnsFile self.old bytes.now self.new) }
+        ensures refused { IfErr result (λ fault. IsFault self.old.schema bytes.now fault) }
         ensures err { OnErr result (self.new ≡ self.old) }
     {
-        self.set.join(set)
+        match read(self.alloc, self.set.schema(), bytes) {
+            Ok(set) => match self.set.join(&set) {
+                Ok(()) => Ok(()),
+                // The file is of the node's table, so that a join fails for want of memory alone.
+                Err(_) => Err(FileFault::NoMemory),
+            },
+            Err(fault) => Err(fault),
+        }
+    }
+
+    /// Adds a piece at the end of the node's delivery stream. Where the stream was found bad, or memory runs out, the
+    /// piece does not enter it.
+    pub fn feed(&mut self, piece: &[u8]) -> Result<(), PushFault>
+        ensures ok { OnOk result (self.new ≡ record self.old { held = self.old.held ++ piece.now }) }
+        ensures good { OnOk result (self.old.is_bad ≡ false) }
+        ensures bad { result ≡ Err PushFault.Bad → self.old.is_bad ≡ true }
+        ensures stays_bad { self.old.is_bad ≡ true → result ≡ Err PushFault.Bad }
+        ensures err { OnErr result (self.new ≡ self.old) }
+    {
+        self.inbox.push(piece)
+    }
+
+    /// How many bytes of the stream are held.
+    pub(crate) fn pending(&self) -> usize
+        ensures { result ≡ length self.now.held }
+    {
+        self.inbox.pending()
+    }
+
+    /// Handles the next message of the stream, if it is whole: takes the segment, or retires the name. Where no message
+    /// can stand there the stream is bad, and stays so.
+    pub fn next_reply(&mut self) -> Result<Option<Reply>, BadStream>
+        ensures { NextReply self.old result self.new }
+    {
+        match self.inbox.next() {
+            Err(fault) => Err(fault),
+            Ok(None) => Ok(None),
+            Ok(Some(Message::Take(name, bytes))) => {
+                Ok(Some(take_message(&mut self.set, *name, bytes)))
+            }
+            Ok(Some(Message::Retire(name))) => Ok(Some(retire_message(&mut self.set, *name))),
+        }
     }
 
     /// Each name that is not unknown, in the order of names.
@@ -117,12 +184,6 @@ impl Node {
             (λ bytes. IsAnswer self.now.schema self.now.view text.now (Ok bytes.items))
             (λ fault. (fault ≡ AskFault.NoMemory) ⊎ IsAnswer self.now.schema self.now.view text.now (Err fault)) }
     {
-        let tokens = lex(self.alloc, text)?;
-        let query = parse(self.alloc, &tokens)?;
-        if !is_count_query(&query, self.set.schema().table()) {
-            return Err(AskFault::NotYet);
-        }
-        let bytes = count_bytes(self.alloc, self.set.row_count())?;
-        Ok(bytes)
+        ask(self.alloc, &self.set, text)
     }
 }

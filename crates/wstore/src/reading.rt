@@ -119,6 +119,27 @@ fn read_query<R: Read>(
     }
 }
 
+// Reads a piece of a delivery stream.
+fn read_piece<R: Read>(
+    alloc: Global,
+    source: &mut Source,
+    input: &mut Counted<R>,
+    node: NodeNumber,
+    len: u32,
+) -> Result<Request, ReadFault>
+    requires { IsSound input.old }
+    ensures sound { OnOk result (IsSound input.new) }
+    ensures reads { IfOk result (λ request. BehindReads request (Header.Feed node len) true (left R.remaining source.old input.old) (left R.remaining source.new input.new)) }
+    ensures falls { IfOk result (λ request. GoesOn request → budget source.new input.new ≤ budget source.old input.old) }
+    ensures fault { OnErr result (ReadFailed input.new) }
+{
+    match read_body(alloc, source, input, len as usize)? {
+        Body::Whole(piece) => Ok(Request::Whole(Command::Feed(node, piece))),
+        Body::NoMemory => Ok(Request::NoMemory),
+        Body::Malformed => Ok(Request::Malformed),
+    }
+}
+
 // Reads the body of a segment, or drops it where its words spell no name.
 fn read_take<R: Read>(
     alloc: Global,
@@ -169,6 +190,7 @@ fn read_behind<R: Read>(
         Header::Retire(node, name) => Ok(retire_request(node, name)),
         Header::List(node) => Ok(Request::Whole(Command::At(node, Order::List))),
         Header::Ask(node, len) => read_query(alloc, source, input, node, len),
+        Header::Feed(node, len) => read_piece(alloc, source, input, node, len),
         Header::Put(node, slot) => Ok(Request::Whole(Command::At(node, Order::Put(slot)))),
         Header::Get(slot, node) => Ok(Request::Whole(Command::At(node, Order::Get(slot)))),
     }

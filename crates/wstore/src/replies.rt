@@ -1,12 +1,13 @@
 //! Replies to commands, as they are spelled.
 ghost use Rattle.std.specs.Prelude.{◌≢◌, ◌↔◌, IfSome, IsSome, ◌≡◌, ◌^◌, ◌<◌, ◌++◌, ◌∷◌, decimal, map, IfOk, IfErr, OnOk, codes};
 ghost use Rattle.std.specs.List.{flat_map};
-ghost use Rattle.wstore.specs.Replies.{table_text, taken_text, retired_text, name_text, at_number, segment_text, query_text, status_text, listed_text, names_text, answer_text};
+ghost use Rattle.wstore.specs.Replies.{table_text, taken_text, retired_text, name_text, at_number, segment_words, segment_text, file_text, query_text, status_text, listed_text, names_text, answer_text};
 ghost use Rattle.wstore.specs.Texts.{bytes_of};
 
-use crate::fault::AskFault;
 use itoa::Buffer;
 use std::alloc::{AllocError, Global};
+use wask::AskFault;
+use wexchange::FileFault;
 use wsegment::{SchemaFault, SegmentFault};
 use wset::{Listed, Retired, Status, Taken};
 use wvalues::NameFault;
@@ -91,22 +92,67 @@ fn refused_at(alloc: Global, words: &[u8], number: u64) -> Result<Text, AllocErr
     Ok(Text::Made(text))
 }
 
+// Adds words, a number and a line feed.
+fn push_at(text: &mut Vec<u8>, words: &[u8], number: u64) -> Result<(), AllocError>
+    ensures { OnOk result (text.new.items ≡ text.old.items ++ at_number words.now number) }
+{
+    text.extend_from_slice(words)?;
+    push_number(text, number)?;
+    text.push(b'\n')?;
+    Ok(())
+}
+
+// Adds the fault of a segment.
+fn push_segment_fault(text: &mut Vec<u8>, fault: SegmentFault) -> Result<(), AllocError>
+    ensures { OnOk result (text.new.items ≡ text.old.items ++ segment_words fault) }
+{
+    match fault {
+        SegmentFault::TooLong => text.extend_from_slice(b"S1\n"),
+        SegmentFault::NoHeader => text.extend_from_slice(b"S2\n"),
+        SegmentFault::HeaderNotUtf8 => text.extend_from_slice(b"S3\n"),
+        SegmentFault::RowNotUtf8 { row } => push_at(text, b"S3 row ", u64::from(row)),
+        SegmentFault::UnknownColumn => text.extend_from_slice(b"S4\n"),
+        SegmentFault::RepeatedColumn => text.extend_from_slice(b"S5\n"),
+        SegmentFault::MissingColumn => text.extend_from_slice(b"S6\n"),
+        SegmentFault::RowLength { row } => push_at(text, b"S7 row ", u64::from(row)),
+        SegmentFault::NotInteger { row } => push_at(text, b"S8 row ", u64::from(row)),
+        SegmentFault::TooManyRows => text.extend_from_slice(b"S9\n"),
+        SegmentFault::NoMemory => Ok(()),
+    }
+}
+
+// A refusal that ends in the fault of a segment.
+fn refused_with(alloc: Global, words: &[u8], fault: SegmentFault) -> Result<Text, AllocError>
+    ensures { IfOk result (λ text. bytes_of text ≡ words.now ++ segment_words fault) }
+{
+    let mut text = Vec::from_slice(alloc, words)?;
+    push_segment_fault(&mut text, fault)?;
+    Ok(Text::Made(text))
+}
+
 /// The refusal of a segment.
 pub(crate) fn refused_segment(alloc: Global, fault: SegmentFault) -> Result<Text, AllocError>
     ensures { IfOk result (λ text. bytes_of text ≡ segment_text fault) }
 {
     match fault {
-        SegmentFault::TooLong => Ok(Text::Fixed(b"refused S1\n")),
-        SegmentFault::NoHeader => Ok(Text::Fixed(b"refused S2\n")),
-        SegmentFault::HeaderNotUtf8 => Ok(Text::Fixed(b"refused S3\n")),
-        SegmentFault::RowNotUtf8 { row } => refused_at(alloc, b"refused S3 row ", u64::from(row)),
-        SegmentFault::UnknownColumn => Ok(Text::Fixed(b"refused S4\n")),
-        SegmentFault::RepeatedColumn => Ok(Text::Fixed(b"refused S5\n")),
-        SegmentFault::MissingColumn => Ok(Text::Fixed(b"refused S6\n")),
-        SegmentFault::RowLength { row } => refused_at(alloc, b"refused S7 row ", u64::from(row)),
-        SegmentFault::NotInteger { row } => refused_at(alloc, b"refused S8 row ", u64::from(row)),
-        SegmentFault::TooManyRows => Ok(Text::Fixed(b"refused S9\n")),
         SegmentFault::NoMemory => Ok(Text::Fixed(b"no memory\n")),
+        _ => refused_with(alloc, b"refused ", fault),
+    }
+}
+
+/// The refusal of an exchange file.
+pub(crate) fn refused_file(alloc: Global, fault: FileFault) -> Result<Text, AllocError>
+    ensures { IfOk result (λ text. bytes_of text ≡ file_text fault) }
+{
+    match fault {
+        FileFault::OtherFormat => Ok(Text::Fixed(b"refused X1\n")),
+        FileFault::Truncated => Ok(Text::Fixed(b"refused X2\n")),
+        FileFault::NotRising => Ok(Text::Fixed(b"refused X3\n")),
+        FileFault::OtherCount => Ok(Text::Fixed(b"refused X4\n")),
+        FileFault::OtherSchema => Ok(Text::Fixed(b"refused X5\n")),
+        FileFault::Segment(refused) => refused_with(alloc, b"refused X6 ", refused),
+        FileFault::Trailing => Ok(Text::Fixed(b"refused X7\n")),
+        FileFault::NoMemory => Ok(Text::Fixed(b"no memory\n")),
     }
 }
 
@@ -120,6 +166,9 @@ pub(crate) fn refused_query(alloc: Global, fault: AskFault) -> Result<Text, Allo
         AskFault::At { place } => refused_at(alloc, b"refused Q3 at ", place as u64),
         AskFault::Syntax => Ok(Text::Fixed(b"refused Q4\n")),
         AskFault::NotYet => Ok(Text::Fixed(b"refused Q9\n")),
+        AskFault::Broken { rule } => refused_at(alloc, b"refused Q", rule as u64),
+        AskFault::OutOfRange => Ok(Text::Fixed(b"refused Q40\n")),
+        AskFault::TooManyRows => Ok(Text::Fixed(b"refused Q41\n")),
         AskFault::NoMemory => Ok(Text::Fixed(b"no memory\n")),
     }
 }

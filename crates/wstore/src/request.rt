@@ -32,6 +32,8 @@ pub(crate) enum Command {
     Declare(Vec<u8>),
     Refused(Refusal),
     At(NodeNumber, Order),
+    /// A piece of a node's delivery stream.
+    Feed(NodeNumber, Vec<u8>),
 }
 
 /// What stands next in a script.

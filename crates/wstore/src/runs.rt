@@ -3,7 +3,7 @@ ghost use Rattle.std.specs.Prelude.{false, ◌≡◌, ℕ, ◌<◌, take, List, 
 ghost use Rattle.std.specs.Io.KnownBytes.{Appends};
 ghost use Rattle.wlines.specs.Pending.{left, budget, IsNew, IsSound, IsSoundWriter};
 ghost use Rattle.wstore.specs.Commands.{Command as Spelled, Declare, IsAllowed};
-ghost use Rattle.wstore.specs.Requests.{IsCommandOf, IsOrderAt, IsRefusedAs};
+ghost use Rattle.wstore.specs.Requests.{IsCommandOf, IsFeedOf, IsOrderAt, IsRefusedAs};
 ghost use Rattle.wstore.specs.History.{Step, is_declared};
 ghost use Rattle.wstore.specs.Runs.{Replies, RepliesBegun};
 ghost use Rattle.wstore.specs.Sessions.{Stands, MayStand};
@@ -43,7 +43,7 @@ pub enum RunFault {
 }
 
 /// Writes a reply, or fails as a run does.
-fn send<W: Write>(output: &mut Counted<W>, reply: &[u8]) -> Result<(), RunFault>
+pub(crate) fn send<W: Write>(output: &mut Counted<W>, reply: &[u8]) -> Result<(), RunFault>
     requires { IsSoundWriter output.old }
     ensures ok { OnOk result (Appends (W.contents output.old.inner) (W.contents output.new.inner) reply.now) }
     ensures sound { OnOk result (IsSoundWriter output.new) }
@@ -99,6 +99,26 @@ fn speak<W: Write>(
     Ok(())
 }
 
+/// Feeds a node, and writes the reply.
+fn feed<W: Write>(
+    output: &mut Counted<W>,
+    session: &mut Session,
+    node: NodeNumber,
+    piece: &[u8],
+) -> Result<(), RunFault>
+    requires output { IsSoundWriter output.old }
+    requires declared { is_some session.old.cluster ≡ true }
+    ensures ok { OnOk result ((h : List Step) (c : Spelled) → IsFeedOf node piece.now c → Stands session.old h → Answered session.new h c (W.contents output.old.inner) (W.contents output.new.inner)) }
+    ensures sound { OnOk result (IsSoundWriter output.new) }
+    ensures part { IfErr result (λ fault. (h : List Step) (c : Spelled) → IsFeedOf node piece.now c → Stands session.old h → Unanswered fault h c (W.contents output.old.inner) (W.contents output.new.inner)) }
+    ensures cause { IfErr result (λ e. HasWriteCause e output.new) }
+{
+    if let Err(fault) = session.feed(output, node, piece) {
+        return Err(fault);
+    }
+    Ok(())
+}
+
 /// Writes the refusal of a command whose form alone refuses it.
 fn turn_down<W: Write>(output: &mut Counted<W>, refusal: Refusal) -> Result<(), RunFault>
     requires { IsSoundWriter output.old }
@@ -130,6 +150,7 @@ fn answer_command<W: Write>(
         Command::Declare(bytes) => declare(output, session, bytes),
         Command::Refused(refusal) => turn_down(output, *refusal),
         Command::At(node, order) => speak(output, session, *node, order),
+        Command::Feed(node, piece) => feed(output, session, *node, piece),
     }
 }
 

@@ -1,18 +1,23 @@
 //! What a script has declared, and the replies to its commands.
-ghost use Rattle.std.specs.Prelude.{[], ◌≡◌, ◌<◌, ℕ, List, ◌∷◌, IsTrue, ◌↔◌, IfOk, OnErr, is_some, false, true};
+ghost use Rattle.std.specs.Prelude.{[], ◌≡◌, ◌<◌, ℕ, List, ◌∷◌, IsTrue, ◌↔◌, IfOk, IfErr, OnOk, OnErr, is_some, false, true};
 ghost use Rattle.wsegment.specs.Declaration.{Declaration};
-ghost use Rattle.wstore.specs.Commands.{Command as Spelled, Declare, IsAllowed};
+ghost use Rattle.wstore.specs.Commands.{Command as Spelled, Declare, Feed, IsAllowed};
 ghost use Rattle.wstore.specs.Requests.{IsOrderAt, IsRefusedAs};
 ghost use Rattle.wstore.specs.History.{Step, is_declared};
 ghost use Rattle.wstore.specs.Texts.{bytes_of};
+ghost use Rattle.wlines.specs.Pending.{IsSoundWriter};
 ghost use Rattle.wstore.specs.Sessions.{Stands, Tells};
+ghost use Rattle.wstore.specs.Steps.{Answered, FedPart};
 
 use crate::cluster::Cluster;
 use crate::numbers::NodeNumber;
 use crate::replies::{Text, refused_name, refused_table};
 use crate::request::{Order, Refusal};
+use crate::runs::RunFault;
 use std::alloc::{AllocError, Global};
+use std::io::Write;
 use wsegment::Schema;
+use wvalues::Counted;
 
 /// The nodes of a script, once its table is declared.
 #[derive(Drop)]
@@ -71,6 +76,27 @@ impl Session {
         };
         let text = cluster.answer(node, order)?;
         Ok(text)
+    }
+
+    /// Feeds a node, and writes what its messages are told.
+    pub(crate) fn feed<W: Write>(
+        &mut self,
+        output: &mut Counted<W>,
+        node: NodeNumber,
+        piece: &[u8],
+    ) -> Result<(), RunFault>
+        requires output { IsSoundWriter output.old }
+        requires declared { is_some self.old.cluster ≡ true }
+        ensures ok { OnOk result ((h : List Step) → Stands self.old h → Answered self.new h (Feed node piece.now) (W.contents output.old.inner) (W.contents output.new.inner)) }
+        ensures sound { OnOk result (IsSoundWriter output.new) }
+        ensures part { OnErr result ((h : List Step) → Stands self.old h → FedPart h node piece.now (W.contents output.old.inner) (W.contents output.new.inner)) }
+        ensures fault { IfErr result (λ e. e ≡ RunFault.Write) }
+        ensures cause { OnErr result (output.new.failures ≡ 1) }
+    {
+        let Some(cluster) = &mut self.cluster else {
+            unreachable!()
+        };
+        cluster.feed(output, node, piece)
     }
 
     /// The reply of a node, which may be that it finds no memory.

@@ -1,5 +1,8 @@
 pub mod Whole
+pub mod WholeView
+pub mod Truth
 pub mod Meaning
+pub mod Sameness
 pub mod Order
 pub mod OrderLaws
 pub mod Number

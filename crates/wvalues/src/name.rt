@@ -59,6 +59,8 @@ impl Model for Name {
 }
 
 impl Clone for Name {
+    ghost is_clone = { λ name copy. copy ≡ name };
+
     fn clone(&self) -> Result<Name, AllocError> {
         Ok(*self)
     }

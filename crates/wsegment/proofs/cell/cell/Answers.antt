@@ -12,10 +12,10 @@ returns-in_default c = inr (cell-no_text c.args.row c.args.kind c.args.field.now
 pub returns-then-is_empty : goal.returns-then-is_empty
 returns-then-is_empty c = cell-empty c.args.row c.args.kind c.args.field.now c.in-Ok.text.now c.in-Ok.ensures.cases.0 c.in-Ok.ensures.cases.1 c.if-is_empty.ensures
 
-pub returns-in_ok-shared_text-in-Text : goal.returns-in_ok-shared_text-in-Text
-returns-in_ok-shared_text-in-Text c =
+pub returns-in_ok-shared-in-Text : goal.returns-in_ok-shared-in-Text
+returns-in_ok-shared-in-Text c =
     cell-typed c.args.row c.args.kind c.args.field.now c.in-Ok.text.now c.in-Ok.ensures.cases.0 c.in-Ok.ensures.cases.1 c.if-is_empty.ensures
-    ∙ rw c.in-Text.is (ap (λ (t : List ℕ). Ok (Text t)) (sym c.in_ok-shared_text-in-Text.ensures))
+    ∙ rw c.in-Text.is (ap (λ (t : List ℕ). Ok (Text t)) (sym c.in_ok-shared-in-Text.ensures))
 
 pub returns-in-Some : goal.returns-in-Some
 returns-in-Some c =

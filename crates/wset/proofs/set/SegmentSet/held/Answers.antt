@@ -1,8 +1,14 @@
-use Rattle.std.proofs.Common.{sym, ap, ◌∙◌}
+use Rattle.std.proofs.Common.{◌∙◌, IfSome, sym, ap, subst}
 use Rattle.std.specs.FinMap.{get}
+use Rattle.wset.specs.Holding.{IsHeldBy}
 use Rattle.wset.proofs.Maps.{get-view}
+use Rattle.wset.proofs.Sets.{held_read}
 use Rattle.wset.proofs.set.SegmentSet.held.Goals as goal
 
-pub returns : goal.returns
-returns c =
-    (rw c.deref.ensures.value at c.held_of.ensures) ∙ sym (get-view _ c.args.name.now c.self.invariant.rising) ∙ ap (λ s. get s.view c.args.name.now) c.self.view_is
+pub returns-clause-known : goal.returns-clause-known
+returns-clause-known c =
+    (rw c.deref.ensures.value at c.held_of.ensures.known) ∙ sym (get-view _ c.args.name.now c.self.invariant.rising) ∙ ap (λ s. get s.view c.args.name.now) c.self.view_is
+
+pub returns-clause-read : goal.returns-clause-read
+returns-clause-read c =
+    subst (λ s. IfSome c.held_of.result (λ held. IsHeldBy s.schema held.now)) c.self.view_is (held_read c.self.inside.schema _ c.held_of.result (rw c.deref.ensures.value at c.held_of.ensures.read) c.self.invariant.read)

@@ -1,8 +1,8 @@
-use Rattle.std.proofs.Common.{refl}
+use Rattle.std.proofs.Common.{refl, ◌∙◌}
 use Rattle.wstore.proofs.Answering.{put_at}
 use Rattle.wstore.proofs.cluster.Cluster.put.Goals as goal
 
 pub returns-clause-answers : goal.returns-clause-answers
 returns-clause-answers c = λ d h stand.
     put_at d _ h c.args.node c.place-from.result c.index.result.now stand c.place-from.ensures.place c.place-from.ensures.in_range c.index.ensures
-    c.args.slot c.place-to.result c.in_ok-set.set _ c.place-to.ensures.place c.place-to.ensures.in_range c.in_ok-set.ensures refl
+    c.args.slot c.place-to.result c.new.result _ c.place-to.ensures.place c.place-to.ensures.in_range (c.new.ensures ∙ c.in_ok-bytes.ensures) refl

@@ -1,0 +1,3 @@
+mod Answered
+pub mod OneAnswer
+mod Read

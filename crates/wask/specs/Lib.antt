@@ -1,0 +1,4 @@
+pub mod Texts
+pub mod Counting
+pub mod Asking
+pub mod Laws

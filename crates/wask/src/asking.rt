@@ -1,0 +1,109 @@
+//! The way of a text: tokens, query, plan, table, bytes.
+ghost use Rattle.std.specs.Prelude.{◌≡◌, ◌⊎◌, Ok, Err, MatchResult};
+ghost use Rattle.wquery.specs.QueryTree.{view_query};
+ghost use Rattle.wask.specs.Texts.{IsRefused, Reads, lexical, syntactical};
+ghost use Rattle.wplan.specs.Plans.{plans};
+ghost use Rattle.wplanner.specs.Tables.{rows_of_set};
+ghost use Rattle.wplanner.specs.declared.fault.AskFault.TheVariants.{NoMemory};
+ghost use Rattle.wask.specs.Asking.{IsAnswer, QueryAnswers, plan_answer, query_answer};
+
+use crate::counting::{count_bytes, is_count_query};
+use std::alloc::Global;
+use wlexer::{LexFault, lex};
+use wparser::{ParseFault, parse};
+use wplan::Resolved;
+use wplanner::{AskFault, execute, print};
+use wquery::Query;
+use wresolve::{ResolveFault, resolve};
+use wset::SegmentSet;
+
+fn lexical_fault(fault: LexFault) -> AskFault
+    ensures { result ≡ lexical fault }
+{
+    match fault {
+        LexFault::TooLong => AskFault::TooLong,
+        LexFault::NotUtf8 => AskFault::NotUtf8,
+        LexFault::At { place } => AskFault::At { place },
+        LexFault::NoMemory => AskFault::NoMemory,
+    }
+}
+
+fn syntactical_fault(fault: ParseFault) -> AskFault
+    ensures { result ≡ syntactical fault }
+{
+    match fault {
+        ParseFault::Syntax => AskFault::Syntax,
+        ParseFault::NoMemory => AskFault::NoMemory,
+    }
+}
+
+// The query that a text spells, or why it spells none.
+fn read(alloc: Global, text: &[u8]) -> Result<Query, AskFault>
+    ensures { MatchResult result (λ query. Reads text.now (view_query query)) (λ fault. IsRefused text.now fault) }
+{
+    let tokens = match lex(alloc, text) {
+        Err(fault) => return Err(lexical_fault(fault)),
+        Ok(tokens) => tokens,
+    };
+    match parse(alloc, &tokens) {
+        Err(fault) => Err(syntactical_fault(fault)),
+        Ok(query) => Ok(query),
+    }
+}
+
+// What a query with its names settled is answered on the rows of the set.
+fn executed(alloc: Global, set: &SegmentSet, query: &Resolved) -> Result<Vec<u8>, AskFault>
+    ensures { MatchResult result
+        (λ bytes. plan_answer (plans query.now) (rows_of_set set.now) ≡ Ok bytes.items)
+        (λ fault. (fault ≡ NoMemory) ⊎ (plan_answer (plans query.now) (rows_of_set set.now) ≡ Err fault)) }
+{
+    match execute(alloc, set, query) {
+        Err(fault) => Err(fault),
+        Ok(table) => match print(alloc, &table) {
+            Err(_) => Err(AskFault::NoMemory),
+            Ok(bytes) => Ok(bytes),
+        },
+    }
+}
+
+// What a query is answered on the rows of the set, if it is not the one that counts them.
+fn judged(alloc: Global, set: &SegmentSet, query: &Query) -> Result<Vec<u8>, AskFault>
+    ensures { MatchResult result
+        (λ bytes. query_answer set.now.schema set.now.view (view_query query.now) ≡ Ok bytes.items)
+        (λ fault. (fault ≡ NoMemory) ⊎ (query_answer set.now.schema set.now.view (view_query query.now) ≡ Err fault)) }
+{
+    match resolve(alloc, set.schema(), query) {
+        Err(ResolveFault::NoMemory) => Err(AskFault::NoMemory),
+        Err(ResolveFault::Broken(rule)) => Err(AskFault::Broken {
+            rule: rule.number(),
+        }),
+        Ok(resolved) => executed(alloc, set, &resolved),
+    }
+}
+
+// What a query is answered on the rows of the set.
+fn answer(alloc: Global, set: &SegmentSet, query: &Query) -> Result<Vec<u8>, AskFault>
+    ensures { MatchResult result
+        (λ bytes. QueryAnswers set.now.schema set.now.view (view_query query.now) (Ok bytes.items))
+        (λ fault. (fault ≡ NoMemory) ⊎ QueryAnswers set.now.schema set.now.view (view_query query.now) (Err fault)) }
+{
+    if !is_count_query(query, set.schema().table()) {
+        return judged(alloc, set, query);
+    }
+    match count_bytes(alloc, set.row_count()) {
+        Err(_) => Err(AskFault::NoMemory),
+        Ok(bytes) => Ok(bytes),
+    }
+}
+
+/// The bytes of the answer to a text on the rows of the set, or its first fault.
+pub fn ask(alloc: Global, set: &SegmentSet, text: &[u8]) -> Result<Vec<u8>, AskFault>
+    ensures { MatchResult result
+        (λ bytes. IsAnswer set.now.schema set.now.view text.now (Ok bytes.items))
+        (λ fault. (fault ≡ NoMemory) ⊎ IsAnswer set.now.schema set.now.view text.now (Err fault)) }
+{
+    match read(alloc, text) {
+        Err(fault) => Err(fault),
+        Ok(query) => answer(alloc, set, &query),
+    }
+}

@@ -1,0 +1,22 @@
+-- The files that a choice works on.
+use Rattle.std.specs.Prelude.{Option, Some, None}
+use Rattle.std.specs.Borrow.{Bor}
+use Rattle.clap.specs.Words.{Text}
+use Rattle.wcommand.specs.declared.choice.Choice.{Choice}
+use Rattle.wcommand.specs.declared.choice.Choice.TheVariants as choices
+use Rattle.wcommand.specs.declared.choice.Paths.{Paths}
+
+-- the table and the store, but for a session
+abbrev pub paths_of : Choice → Option Paths
+paths_of choices.Session = None
+paths_of (choices.Take paths origin number csv) = Some paths
+paths_of (choices.Retire paths origin number) = Some paths
+paths_of (choices.Join paths other) = Some paths
+paths_of (choices.List paths) = Some paths
+paths_of (choices.Ask paths query) = Some paths
+
+-- the rows that are taken, or the store that is joined
+abbrev pub input_of : Choice → Option (Bor Text)
+input_of (choices.Take paths origin number csv) = Some csv
+input_of (choices.Join paths other) = Some other
+input_of _ = None

@@ -1,0 +1,4 @@
+pub mod CommandSet
+pub mod Choices
+pub mod Inputs
+pub mod Required

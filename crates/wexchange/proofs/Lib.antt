@@ -1,0 +1,9 @@
+pub mod Words
+pub mod Shapes
+pub mod Streams
+pub mod Faults
+pub mod Fronts
+pub mod FirstMessage
+pub mod WholeReads
+pub mod OneView
+pub mod OneJudgement

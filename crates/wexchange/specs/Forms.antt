@@ -1,0 +1,34 @@
+-- Header lines of exchange files and of delivery streams, and what stands behind them.
+use Rattle.std.specs.Prelude.{◌≡◌, ℕ, ◌^◌, ◌<◌, List, [], ◌∷◌, ◌++◌, length, Option, None, Some}
+use Rattle.std.specs.Fmt.{decimal}
+use Rattle.wvalues.specs.Names.{NameParts, IsName}
+use Rattle.wexchange.specs.declared.form.Form.{Form}
+use Rattle.wexchange.specs.declared.form.Form.TheVariants as forms
+
+-- the two words of a name
+abbrev pub name_words : NameParts → List ℕ
+name_words n = n.origin ++ (32 ∷ decimal n.number)
+
+-- the two words of a name, and then a length
+abbrev pub content_words : NameParts → ℕ → List ℕ
+content_words n len = n.origin ++ (32 ∷ (decimal n.number ++ (32 ∷ decimal len)))
+
+-- the header line, without its line feed
+abbrev pub line_of : Form → List ℕ
+line_of (forms.Table len) = 84 ∷ 32 ∷ decimal len
+line_of (forms.Content name len) = 83 ∷ 32 ∷ content_words name len
+line_of (forms.Dispute name) = 68 ∷ 32 ∷ name_words name
+line_of (forms.Retirement name) = 82 ∷ 32 ∷ name_words name
+line_of (forms.End count) = 69 ∷ 32 ∷ decimal count
+
+-- a number has 32 bits
+pub record IsNumber (n : ℕ) : Type 0 where
+  pub fits : n < 2 ^ 32
+
+-- the names and numbers of a line are such
+abbrev pub IsForm : Form → Type 0
+IsForm (forms.Table len) = IsNumber len
+IsForm (forms.Content name len) = IsName name × IsNumber len
+IsForm (forms.Dispute name) = IsName name
+IsForm (forms.Retirement name) = IsName name
+IsForm (forms.End count) = IsNumber count

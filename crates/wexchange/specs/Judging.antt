@@ -1,0 +1,204 @@
+-- What the bytes of a file are: the view that they spell, or the first fault from left to right.
+use Rattle.std.specs.Prelude.{◌≡◌, ◌≢◌, ⊤, ℕ, ◌≤◌, List, [], ◌∷◌, ◌++◌, length, Option, None, Some, ◌⊎◌, Result, Ok, Err}
+use Rattle.std.specs.FinMap.{entries}
+use Rattle.wvalues.specs.Names.{NameParts}
+use Rattle.wlines.specs.Words.{Lacks}
+use Rattle.wsegment.specs.Declaration.{Declaration, declaration_text}
+use Rattle.wsegment.specs.Rows.{rows_of}
+use Rattle.wsegment.specs.declared.fault.SegmentFault.{SegmentFault}
+use Rattle.wset.specs.Views.{View}
+use Rattle.wset.specs.Lending.{IsAbove}
+use Rattle.wexchange.specs.Forms.{IsForm, IsNumber, line_of}
+use Rattle.wexchange.specs.Cuts.{IsUnfed}
+use Rattle.wexchange.specs.Files.{head, begun, file_of, end_text, AreRecords, IsView}
+use Rattle.wexchange.specs.declared.form.Form.{Form}
+use Rattle.wexchange.specs.declared.form.Form.TheVariants as forms
+use Rattle.wexchange.specs.declared.fault.FileFault.{FileFault}
+use Rattle.wexchange.specs.declared.fault.FileFault.TheVariants as faults
+
+-- how far a file is good: up to the line of the table, or behind the records of a view
+pub data Place : Type 0 where
+  AtTable : Place
+  Behind : View → Place
+
+-- what stands before that place
+abbrev pub before : Declaration → Place → List ℕ
+before d AtTable = head
+before d (Behind v) = begun d (entries v)
+
+-- what is good there is made of records
+abbrev pub IsGood : Declaration → Place → Type 0
+IsGood d AtTable = ⊤
+IsGood d (Behind v) = AreRecords d v
+
+-- the bytes are good up to this place, and so go on
+pub record GoesOn (d : Declaration) (p : Place) (bytes rest : List ℕ) : Type 0 where
+  pub good : IsGood d p
+  pub bytes_are : bytes ≡ before d p ++ rest
+
+-- the lines that may stand there, whatever their names
+abbrev pub MayStand : Place → Form → Type 0
+MayStand AtTable (forms.Table len) = ⊤
+MayStand AtTable (forms.Content name len) = ⊥
+MayStand AtTable (forms.Dispute name) = ⊥
+MayStand AtTable (forms.Retirement name) = ⊥
+MayStand AtTable (forms.End count) = ⊥
+MayStand (Behind v) (forms.Table len) = ⊥
+MayStand (Behind v) (forms.Content name len) = ⊤
+MayStand (Behind v) (forms.Dispute name) = ⊤
+MayStand (Behind v) (forms.Retirement name) = ⊤
+MayStand (Behind v) (forms.End count) = ⊤
+
+-- and those whose name is greater than all before it, too
+abbrev pub Follows : Place → Form → Type 0
+Follows AtTable (forms.Table len) = ⊤
+Follows AtTable (forms.Content name len) = ⊥
+Follows AtTable (forms.Dispute name) = ⊥
+Follows AtTable (forms.Retirement name) = ⊥
+Follows AtTable (forms.End count) = ⊥
+Follows (Behind v) (forms.Table len) = ⊥
+Follows (Behind v) (forms.Content name len) = IsAbove v name
+Follows (Behind v) (forms.Dispute name) = IsAbove v name
+Follows (Behind v) (forms.Retirement name) = IsAbove v name
+Follows (Behind v) (forms.End count) = ⊤
+
+-- the name of a record
+abbrev pub record_name : Form → Option NameParts
+record_name (forms.Table len) = None
+record_name (forms.Content name len) = Some name
+record_name (forms.Dispute name) = Some name
+record_name (forms.Retirement name) = Some name
+record_name (forms.End count) = None
+
+-- the length of the body behind a line
+abbrev pub body_length : Form → Option ℕ
+body_length (forms.Table len) = Some len
+body_length (forms.Content name len) = Some len
+body_length (forms.Dispute name) = None
+body_length (forms.Retirement name) = None
+body_length (forms.End count) = None
+
+-- behind what is good stands this line, and then this
+pub record Stands (d : Declaration) (p : Place) (f : Form) (bytes after : List ℕ) : Type 0 where
+  pub form : IsForm f
+  pub follows : Follows p f
+  pub goes_on : GoesOn d p bytes (line_of f ++ (10 ∷ after))
+
+-- ---- X1
+
+-- the bytes are not begun by the head, and do not begin it
+pub record HasOtherHead (bytes : List ℕ) : Type 0 where
+  pub not_begun : (rest : List ℕ) → bytes ≢ head ++ rest
+  pub no_beginning : (more : List ℕ) → head ≢ bytes ++ more
+
+-- a line with its line feed is none that may stand there
+pub record HasBadLine (d : Declaration) (bytes : List ℕ) : Type 0 where
+  pub place : Place
+  pub line : List ℕ
+  pub after : List ℕ
+  pub lacks : Lacks 10 line
+  pub goes_on : GoesOn d place bytes (line ++ (10 ∷ after))
+  pub none : (f : Form) → IsForm f → MayStand place f → line ≢ line_of f
+
+-- another byte than a line feed stands behind a body
+pub record HasUnfedBody (d : Declaration) (bytes : List ℕ) : Type 0 where
+  pub place : Place
+  pub form : Form
+  pub after : List ℕ
+  pub len : ℕ
+  pub stands : Stands d place form bytes after
+  pub length_is : body_length form ≡ Some len
+  pub unfed : IsUnfed len after
+
+-- ---- X2
+
+-- more bytes make it the head
+pub record IsCutHead (bytes : List ℕ) : Type 0 where
+  pub more : List ℕ
+  pub some : more ≢ []
+  pub head_is : head ≡ bytes ++ more
+
+-- no line feed is left for a line
+pub record HasCutLine (d : Declaration) (bytes : List ℕ) : Type 0 where
+  pub place : Place
+  pub rest : List ℕ
+  pub goes_on : GoesOn d place bytes rest
+  pub lacks : Lacks 10 rest
+
+-- too few bytes are left for a body and its line feed
+pub record HasCutBody (d : Declaration) (bytes : List ℕ) : Type 0 where
+  pub place : Place
+  pub form : Form
+  pub after : List ℕ
+  pub len : ℕ
+  pub stands : Stands d place form bytes after
+  pub length_is : body_length form ≡ Some len
+  pub short : length after ≤ len
+
+-- ---- X3 to X7
+
+-- the name of a record is not greater than those before it
+pub record HasLowName (d : Declaration) (bytes : List ℕ) : Type 0 where
+  pub view : View
+  pub form : Form
+  pub name : NameParts
+  pub after : List ℕ
+  pub is_form : IsForm form
+  pub name_is : record_name form ≡ Some name
+  pub low : ¬ (IsAbove view name)
+  pub goes_on : GoesOn d (Behind view) bytes (line_of form ++ (10 ∷ after))
+
+-- the count of the end is not the number of records
+pub record HasOtherCount (d : Declaration) (bytes : List ℕ) : Type 0 where
+  pub view : View
+  pub count : ℕ
+  pub after : List ℕ
+  pub stands : Stands d (Behind view) (forms.End count) bytes after
+  pub other : count ≢ length (entries view)
+
+-- the declaration is not that of the reader
+pub record HasOtherTable (d : Declaration) (bytes : List ℕ) : Type 0 where
+  pub table : List ℕ
+  pub after : List ℕ
+  pub stands : Stands d AtTable (forms.Table (length table)) bytes (table ++ (10 ∷ after))
+  pub other : table ≢ declaration_text d
+
+-- a content is no segment
+pub record HasBadSegment (d : Declaration) (bytes : List ℕ) (fault : SegmentFault) : Type 0 where
+  pub view : View
+  pub name : NameParts
+  pub content : List ℕ
+  pub after : List ℕ
+  pub stands : Stands d (Behind view) (forms.Content name (length content)) bytes (content ++ (10 ∷ after))
+  pub refused : rows_of d content ≡ Err fault
+
+-- a whole file is followed by more
+pub record HasMore (d : Declaration) (bytes : List ℕ) : Type 0 where
+  pub view : View
+  pub byte : ℕ
+  pub more : List ℕ
+  pub is_view : IsView d view
+  pub bytes_are : bytes ≡ file_of d view ++ (byte ∷ more)
+
+-- ---- all together
+
+-- the first fault of these bytes
+abbrev pub IsFault : Declaration → List ℕ → FileFault → Type 0
+IsFault d bytes faults.OtherFormat = HasOtherHead bytes ⊎ (HasBadLine d bytes ⊎ HasUnfedBody d bytes)
+IsFault d bytes faults.Truncated = IsCutHead bytes ⊎ (HasCutLine d bytes ⊎ HasCutBody d bytes)
+IsFault d bytes faults.NotRising = HasLowName d bytes
+IsFault d bytes faults.OtherCount = HasOtherCount d bytes
+IsFault d bytes faults.OtherSchema = HasOtherTable d bytes
+IsFault d bytes (faults.Segment fault) = HasBadSegment d bytes fault
+IsFault d bytes faults.Trailing = HasMore d bytes
+IsFault d bytes faults.NoMemory = ⊤
+
+-- the bytes are the file of this view
+pub record IsFileOf (d : Declaration) (v : View) (bytes : List ℕ) : Type 0 where
+  pub is_view : IsView d v
+  pub bytes_are : bytes ≡ file_of d v
+
+-- what the bytes are, unless memory ran out
+abbrev pub Judges : Declaration → List ℕ → Result View FileFault → Type 0
+Judges d bytes (Ok v) = IsFileOf d v bytes
+Judges d bytes (Err fault) = IsFault d bytes fault

@@ -1,0 +1,29 @@
+//! Exchange files and delivery streams: nodes meet by bytes alone.
+//!
+//! - Gives `write`, which spells what a set knows as an exchange file, into any counted writer; `read`, which reads
+//!   such a file into a set; and an `Inbox`, which is fed a delivery stream in pieces and hands out its messages.
+//! - Promises: a view has one file, and `read` answers the view whose file the bytes are, or their first fault from
+//!   left to right. However a stream is cut, its messages are those of its bytes. A file of n bytes is read once,
+//!   and a pushed byte costs constant time.
+//! - Asks: a writer that has counted nothing yet.
+//! - Leaves segments to `wsegment`, what is known of names to `wset`, and what a message does to the crates above.
+//!
+//! Read `specs/Forms.antt`, `specs/Files.antt`, `specs/Judging.antt`, `specs/Messages.antt`, `specs/Inboxes.antt`,
+//! then `specs/Laws.antt`; the others say what the steps of reading and writing tell.
+#![tactic(auto)]
+
+mod cut;
+mod fault;
+mod form;
+mod found;
+mod inbox;
+pub mod laws;
+mod message;
+mod reading;
+mod writing;
+
+pub use fault::FileFault;
+pub use inbox::Inbox;
+pub use message::{BadStream, Message, PushFault};
+pub use reading::read;
+pub use writing::write;

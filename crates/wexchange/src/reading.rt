@@ -1,0 +1,271 @@
+//! Reads exchange files.
+ghost use Rattle.std.specs.Prelude.{◌≡◌, ◌<◌, ℕ, List, [], ◌∷◌, ◌++◌, IfOk, IfErr, OnOk, IsTrue, ◌↔◌, length};
+ghost use Rattle.std.specs.FinMap as map;
+ghost use Rattle.wvalues.specs.Names.{IsName};
+ghost use Rattle.wsegment.specs.Declaration.{Declaration, declaration_text};
+ghost use Rattle.wset.specs.Lending.{IsAbove};
+ghost use Rattle.wexchange.specs.Forms.{IsForm, IsNumber, line_of};
+ghost use Rattle.wexchange.specs.Files.{head, begun, table_text, end_text, AreRecords};
+ghost use Rattle.wexchange.specs.Judging.{GoesOn, AtTable, Behind, IsFault, IsFileOf};
+ghost use Rattle.wexchange.specs.Steps.{ReadsNext, Spoils, file_fault};
+
+use crate::cut::{Body, cut_body, cut_line};
+use crate::fault::FileFault;
+use crate::form::{Form, read_form};
+use std::alloc::Global;
+use wsegment::{Schema, SegmentFault};
+use wset::SegmentSet;
+use wvalues::Name;
+
+/// The first line.
+pub(crate) const HEAD: &[u8] = b"WSX1\n";
+
+/// What was read behind the records before it.
+enum Next<'a> {
+    /// A record, and what stands behind it.
+    Record(&'a [u8]),
+    /// The count of the records, and what stands behind its line.
+    End(u32, &'a [u8]),
+}
+
+// What stands behind the first line.
+fn read_head(bytes: &[u8]) -> Result<&[u8], FileFault>
+    ensures found { IfOk result (λ rest. bytes.now ≡ head ++ rest.now) }
+    ensures fault { IfErr result (λ fault. (d : Declaration) → IsFault d bytes.now fault) }
+{
+    if bytes.starts_with(HEAD) {
+        return Ok(&bytes[HEAD.len()..]);
+    }
+    if HEAD.starts_with(bytes) {
+        return Err(FileFault::Truncated);
+    }
+    Err(FileFault::OtherFormat)
+}
+
+// The length of the declaration, and what stands behind its line.
+fn read_table_line(rest: &[u8]) -> Result<(u32, &[u8]), FileFault>
+    ensures found { IfOk result (λ x. IsNumber x.0 × (rest.now ≡ line_of (Form.Table x.0) ++ (10 ∷ x.1.now))) }
+    ensures fault { IfErr result (λ fault. (d : Declaration) (bytes : List ℕ) → GoesOn d AtTable bytes rest.now → IsFault d bytes fault) }
+{
+    let Some((line, after)) = cut_line(rest) else {
+        return Err(FileFault::Truncated);
+    };
+    match read_form(line) {
+        Some(Form::Table(len)) => Ok((len, after)),
+        _ => Err(FileFault::OtherFormat),
+    }
+}
+
+// What stands behind the declaration of the table, whose line was read.
+fn table_behind<'a>(schema: &Schema, len: u32, after: &'a [u8]) -> Result<&'a [u8], FileFault>
+    requires { IsNumber len }
+    ensures found { IfOk result (λ more. line_of (Form.Table len) ++ (10 ∷ after.now) ≡ table_text schema.now ++ more.now) }
+    ensures fault { IfErr result (λ fault. (bytes : List ℕ) → GoesOn schema.now AtTable bytes (line_of (Form.Table len) ++ (10 ∷ after.now)) → IsFault schema.now bytes fault) }
+{
+    match cut_body(after, len) {
+        Body::Whole(table, more) => {
+            if table == schema.text() {
+                Ok(more)
+            } else {
+                Err(FileFault::OtherSchema)
+            }
+        }
+        Body::Short => Err(FileFault::Truncated),
+        Body::Unfed => Err(FileFault::OtherFormat),
+    }
+}
+
+// What stands behind the declaration of the table.
+fn read_table<'a>(schema: &Schema, rest: &'a [u8]) -> Result<&'a [u8], FileFault>
+    ensures found { IfOk result (λ more. rest.now ≡ table_text schema.now ++ more.now) }
+    ensures fault { IfErr result (λ fault. (bytes : List ℕ) → GoesOn schema.now AtTable bytes rest.now → IsFault schema.now bytes fault) }
+{
+    match read_table_line(rest) {
+        Ok((len, after)) => table_behind(schema, len, after),
+        Err(fault) => Err(fault),
+    }
+}
+
+// Whether a name is greater than all that a set knows.
+fn is_above(set: &SegmentSet, name: &Name) -> bool
+    ensures { IsTrue result ↔ IsAbove set.now.view name.now }
+{
+    let count = set.name_count();
+    if count == 0 {
+        return true;
+    }
+    let (last, _) = set.name_at(count - 1);
+    last.cmp(name).is_lt()
+}
+
+// The fault of a file with a content that is refused.
+fn refused(fault: SegmentFault) -> FileFault
+    ensures { result ≡ file_fault fault }
+{
+    match fault {
+        SegmentFault::NoMemory => FileFault::NoMemory,
+        _ => FileFault::Segment(fault),
+    }
+}
+
+// Adds a content behind its line.
+fn add_content<'a>(
+    set: &mut SegmentSet,
+    name: Name,
+    len: u32,
+    after: &'a [u8],
+) -> Result<Next<'a>, FileFault>
+    requires name { IsName name }
+    requires number { IsNumber len }
+    ensures found { IfOk result (λ next. ReadsNext set.old.schema set.old.view (line_of (Form.Content name len) ++ (10 ∷ after.now)) set.new.view next) }
+    ensures schema { OnOk result (set.new.schema ≡ set.old.schema) }
+    ensures fault { IfErr result (λ fault. Spoils set.old.schema set.old.view (line_of (Form.Content name len) ++ (10 ∷ after.now)) fault) }
+{
+    if !is_above(set, &name) {
+        return Err(FileFault::NotRising);
+    }
+    match cut_body(after, len) {
+        Body::Whole(content, more) => match set.take(name, content) {
+            Ok(_) => Ok(Next::Record(more)),
+            Err(fault) => Err(refused(fault)),
+        },
+        Body::Short => Err(FileFault::Truncated),
+        Body::Unfed => Err(FileFault::OtherFormat),
+    }
+}
+
+// Adds a name that is disputed.
+fn add_dispute<'a>(set: &mut SegmentSet, name: Name, after: &'a [u8]) -> Result<Next<'a>, FileFault>
+    requires { IsName name }
+    ensures found { IfOk result (λ next. ReadsNext set.old.schema set.old.view (line_of (Form.Dispute name) ++ (10 ∷ after.now)) set.new.view next) }
+    ensures schema { OnOk result (set.new.schema ≡ set.old.schema) }
+    ensures fault { IfErr result (λ fault. Spoils set.old.schema set.old.view (line_of (Form.Dispute name) ++ (10 ∷ after.now)) fault) }
+{
+    if !is_above(set, &name) {
+        return Err(FileFault::NotRising);
+    }
+    match set.dispute(name) {
+        Ok(()) => Ok(Next::Record(after)),
+        Err(_) => Err(FileFault::NoMemory),
+    }
+}
+
+// Adds a name that is retired.
+fn add_retirement<'a>(
+    set: &mut SegmentSet,
+    name: Name,
+    after: &'a [u8],
+) -> Result<Next<'a>, FileFault>
+    requires { IsName name }
+    ensures found { IfOk result (λ next. ReadsNext set.old.schema set.old.view (line_of (Form.Retirement name) ++ (10 ∷ after.now)) set.new.view next) }
+    ensures schema { OnOk result (set.new.schema ≡ set.old.schema) }
+    ensures fault { IfErr result (λ fault. Spoils set.old.schema set.old.view (line_of (Form.Retirement name) ++ (10 ∷ after.now)) fault) }
+{
+    if !is_above(set, &name) {
+        return Err(FileFault::NotRising);
+    }
+    match set.retire(name) {
+        Ok(_) => Ok(Next::Record(after)),
+        Err(_) => Err(FileFault::NoMemory),
+    }
+}
+
+// Adds the record of a line, or reads the count.
+fn read_form_of<'a>(
+    set: &mut SegmentSet,
+    form: Form,
+    after: &'a [u8],
+) -> Result<Next<'a>, FileFault>
+    requires { IsForm form }
+    ensures found { IfOk result (λ next. ReadsNext set.old.schema set.old.view (line_of form ++ (10 ∷ after.now)) set.new.view next) }
+    ensures schema { OnOk result (set.new.schema ≡ set.old.schema) }
+    ensures fault { IfErr result (λ fault. Spoils set.old.schema set.old.view (line_of form ++ (10 ∷ after.now)) fault) }
+{
+    match form {
+        Form::Table(_) => Err(FileFault::OtherFormat),
+        Form::End(count) => Ok(Next::End(count, after)),
+        Form::Content(name, len) => add_content(set, name, len, after),
+        Form::Dispute(name) => add_dispute(set, name, after),
+        Form::Retirement(name) => add_retirement(set, name, after),
+    }
+}
+
+// Reads the next record, or the line of the end.
+fn read_next<'a>(set: &mut SegmentSet, rest: &'a [u8]) -> Result<Next<'a>, FileFault>
+    ensures found { IfOk result (λ next. ReadsNext set.old.schema set.old.view rest.now set.new.view next) }
+    ensures schema { OnOk result (set.new.schema ≡ set.old.schema) }
+    ensures fault { IfErr result (λ fault. Spoils set.old.schema set.old.view rest.now fault) }
+{
+    let Some((line, after)) = cut_line(rest) else {
+        return Err(FileFault::Truncated);
+    };
+    let Some(form) = read_form(line) else {
+        return Err(FileFault::OtherFormat);
+    };
+    read_form_of(set, form, after)
+}
+
+// Judges what stands behind the records: their count, and then nothing.
+fn ended(set: SegmentSet, count: u32, after: &[u8]) -> Result<SegmentSet, FileFault>
+    requires number { IsNumber count }
+    requires records { AreRecords set.schema set.view }
+    ensures same { IfOk result (λ new. new ≡ set) }
+    ensures file { OnOk result ((bytes : List ℕ) → GoesOn set.schema (Behind set.view) bytes (end_text count ++ after.now) → IsFileOf set.schema set.view bytes) }
+    ensures fault { IfErr result (λ fault. Spoils set.schema set.view (end_text count ++ after.now) fault) }
+{
+    if set.name_count() != count as usize {
+        return Err(FileFault::OtherCount);
+    }
+    if !after.is_empty() {
+        return Err(FileFault::Trailing);
+    }
+    Ok(set)
+}
+
+// Reads the records and the end into a set.
+fn read_records(set: SegmentSet, rest: &[u8]) -> Result<SegmentSet, FileFault>
+    requires { AreRecords set.schema set.view }
+    ensures schema { IfOk result (λ new. new.schema ≡ set.schema) }
+    ensures file { IfOk result (λ new. (bytes : List ℕ) → GoesOn set.schema (Behind set.view) bytes rest.now → IsFileOf set.schema new.view bytes) }
+    ensures fault { IfErr result (λ fault. Spoils set.schema set.view rest.now fault) }
+{
+    let mut set = set;
+    let mut rest = rest;
+    'records: loop {
+        match read_next(&mut set, rest) {
+            Ok(Next::Record(more)) => {
+                rest = more;
+            }
+            Ok(Next::End(count, more)) => return ended(set, count, more),
+            Err(fault) => return Err(fault),
+        }
+    }
+}
+
+// Reads what stands behind the first line into a set.
+fn read_behind(alloc: Global, schema: &Schema, rest: &[u8]) -> Result<SegmentSet, FileFault>
+    ensures schema { IfOk result (λ set. set.schema ≡ schema.now) }
+    ensures view { IfOk result (λ set. (bytes : List ℕ) → GoesOn schema.now AtTable bytes rest.now → IsFileOf schema.now set.view bytes) }
+    ensures fault { IfErr result (λ fault. (bytes : List ℕ) → GoesOn schema.now AtTable bytes rest.now → IsFault schema.now bytes fault) }
+{
+    match read_table(schema, rest) {
+        Err(fault) => Err(fault),
+        Ok(records) => match schema.copy() {
+            Err(_) => Err(FileFault::NoMemory),
+            Ok(copied) => read_records(SegmentSet::new(alloc, copied), records),
+        },
+    }
+}
+
+/// The set whose file the bytes are, under this declaration, or their first fault from left to right. The bytes are
+/// read once, and each content in them once.
+pub fn read(alloc: Global, schema: &Schema, bytes: &[u8]) -> Result<SegmentSet, FileFault>
+    ensures view { IfOk result (λ set. IsFileOf schema.now set.view bytes.now) }
+    ensures schema { IfOk result (λ set. set.schema ≡ schema.now) }
+    ensures fault { IfErr result (λ fault. IsFault schema.now bytes.now fault) }
+{
+    match read_head(bytes) {
+        Ok(rest) => read_behind(alloc, schema, rest),
+        Err(fault) => Err(fault),
+    }
+}

@@ -1,0 +1,5 @@
+mod Given
+mod Fields
+mod Typed
+mod Outputs
+mod Listed

@@ -1,0 +1,5 @@
+use Rattle.wnames.proofs.Listed.{listed_given}
+use Rattle.wnames.proofs.calls.is_given.Goals as goal
+
+pub returns-in-Listed : goal.returns-in-Listed
+returns-in-Listed c = listed_given c.args.arguments.now c.args.function c.in-Listed.list c.as_slice.result.now c.is_list_given.result c.in-Listed.is c.as_slice.ensures.value c.is_list_given.ensures

@@ -1,0 +1,169 @@
+//! The rules on the names of tables and columns.
+
+ghost use Rattle.std.specs.Prelude.{◌≡◌, Bool, map};
+ghost use Rattle.std.specs.List.{list_any};
+ghost use Rattle.wquery.specs.Tree.{Tree, view_column};
+ghost use Rattle.wquery.specs.QueryTree.{view_query, view_source};
+ghost use Rattle.wscope.specs.Scope.{clauses_of};
+ghost use Rattle.wscope.specs.Sources.{all_titled};
+ghost use Rattle.wscope.specs.Finding.{finds};
+ghost use Rattle.wnames.specs.Names.{source_of, names_other_table as is_other_table, is_misqualified, is_missing, is_ambiguous, count_named, breaks_tables, breaks_columns};
+
+use wquery::{Column, Expression, Query, Source};
+use wscope::{Look, NodeTest, SourceColumn, any_anywhere, found_if, has_column};
+
+/// A test of the columns that a query names.
+pub(crate) trait ColumnTest {
+    ghost holds: { Self → Tree → Bool };
+
+    /// Whether the rule is broken by this column.
+    fn is_hit(&self, column: &Column) -> bool
+        ensures { result ≡ holds self.now (view_column column.now) };
+}
+
+/// Whether some column of GROUP BY is hit.
+pub(crate) fn any_grouping<T: ColumnTest>(test: &T, grouping: &[Column]) -> bool
+    ensures { result ≡ list_any (T.holds test.now) (map view_column grouping.now) }
+{
+    'grouping: for column in grouping {
+        if test.is_hit(column) {
+            return true;
+        }
+    }
+    false
+}
+
+/// A column behind another name than the source's alias.
+#[derive(Drop)]
+struct Misqualified<'a> {
+    alias: &'a str,
+}
+
+impl<'a> ColumnTest for Misqualified<'a> {
+    ghost holds = { λ m. is_misqualified m.alias.now };
+
+    fn is_hit(&self, column: &Column) -> bool {
+        match &column.qualifier {
+            None => false,
+            Some(qualifier) => qualifier.as_str() != self.alias,
+        }
+    }
+}
+
+impl<'a> NodeTest for Misqualified<'a> {
+    ghost sees = { λ m. finds (is_misqualified m.alias.now) };
+
+    #[tactic(auto, unfolding(wquery::specs::Tree::view))]
+    fn look(&self, node: &Expression) -> Look {
+        match node {
+            Expression::Column(column) => found_if(self.is_hit(column)),
+            _ => Look::Below,
+        }
+    }
+}
+
+/// A column that the source lacks.
+#[derive(Drop)]
+struct Missing<'a> {
+    columns: &'a [SourceColumn],
+}
+
+impl<'a> ColumnTest for Missing<'a> {
+    ghost holds = { λ m. is_missing (all_titled m.columns.now) };
+
+    fn is_hit(&self, column: &Column) -> bool {
+        !has_column(self.columns, column.name.as_str())
+    }
+}
+
+impl<'a> NodeTest for Missing<'a> {
+    ghost sees = { λ m. finds (is_missing (all_titled m.columns.now)) };
+
+    #[tactic(auto, unfolding(wquery::specs::Tree::view))]
+    fn look(&self, node: &Expression) -> Look {
+        match node {
+            Expression::Column(column) => found_if(self.is_hit(column)),
+            _ => Look::Below,
+        }
+    }
+}
+
+/// A column whose name two columns have.
+#[derive(Drop)]
+pub(crate) struct Ambiguous<'a> {
+    pub(crate) columns: &'a [SourceColumn],
+}
+
+fn count_of_name(columns: &[SourceColumn], name: &str) -> usize
+    ensures { result ≡ count_named name.now (all_titled columns.now) }
+{
+    let mut count = 0;
+    'columns: for column in columns {
+        if column.name.as_str() == name {
+            count += 1;
+        }
+    }
+    count
+}
+
+impl<'a> ColumnTest for Ambiguous<'a> {
+    ghost holds = { λ m. is_ambiguous (all_titled m.columns.now) };
+
+    fn is_hit(&self, column: &Column) -> bool {
+        count_of_name(self.columns, column.name.as_str()) > 1
+    }
+}
+
+impl<'a> NodeTest for Ambiguous<'a> {
+    ghost sees = { λ m. finds (is_ambiguous (all_titled m.columns.now)) };
+
+    #[tactic(auto, unfolding(wquery::specs::Tree::view))]
+    fn look(&self, node: &Expression) -> Look {
+        match node {
+            Expression::Column(column) => found_if(self.is_hit(column)),
+            _ => Look::Below,
+        }
+    }
+}
+
+#[tactic(auto, unfolding(wquery::specs::QueryTree::view_source))]
+fn names_other_table(table: &str, source: &Source) -> bool
+    ensures { result ≡ is_other_table table.now (view_source source.now) }
+{
+    match source {
+        Source::Table { name, .. } => name.as_str() != table,
+        Source::Derived { .. } => false,
+    }
+}
+
+/// Q10.
+#[tactic(auto, unfolding(wquery::specs::QueryTree::view_query, wquery::specs::QueryTree::view_source))]
+pub fn names_unknown_table(
+    table: &str,
+    alias: &str,
+    columns: &[SourceColumn],
+    query: &Query,
+) -> bool
+    ensures { result ≡ breaks_tables table.now alias.now (all_titled columns.now) (clauses_of (view_query query.now)) (source_of (view_query query.now)) }
+{
+    if names_other_table(table, &query.source) {
+        return true;
+    }
+    let test = Misqualified { alias };
+    if any_anywhere(&test, columns, query) {
+        return true;
+    }
+    any_grouping(&test, query.grouping.as_slice())
+}
+
+/// Q11.
+#[tactic(auto, unfolding(wquery::specs::QueryTree::view_query))]
+pub fn names_unknown_column(columns: &[SourceColumn], query: &Query) -> bool
+    ensures { result ≡ breaks_columns (all_titled columns.now) (clauses_of (view_query query.now)) }
+{
+    let test = Missing { columns };
+    if any_anywhere(&test, columns, query) {
+        return true;
+    }
+    any_grouping(&test, query.grouping.as_slice())
+}

@@ -1,0 +1,259 @@
+//! The rules on where calls and columns may stand.
+
+ghost use Rattle.std.specs.Prelude.{◌≡◌, ◌&&◌, Bool, map, if◌then◌else◌};
+ghost use Rattle.std.specs.List.{list_any};
+ghost use Rattle.wquery.specs.Tree.{view, view_column, view_call};
+ghost use Rattle.wquery.specs.QueryTree.{view_query, view_item};
+ghost use Rattle.wscope.specs.Scope.{clauses_of, some_shown, some_option};
+ghost use Rattle.wscope.specs.Sources.{all_titled};
+ghost use Rattle.wscope.specs.declared.look.Look.TheVariants.{Found, Below};
+ghost use Rattle.wscope.specs.Finding.{finds};
+ghost use Rattle.wnames.specs.Places.{is_window_call as is_call_over, is_misplaced_window_call as is_misplaced, is_group_call as is_call_of_group, is_nested_group_call as is_nested, names, sees_ungrouped, is_ungrouped_column as is_outside, is_star, names_ungrouped as names_outside, is_grouped as has_groups, breaks_window_places, breaks_aggregate_places, breaks_grouping};
+
+use crate::calls::is_aggregate_name;
+use wquery::{Column, Expression, Item, Query};
+use wscope::{
+    Look, NodeTest, SourceColumn, any_anywhere, any_below, any_in_entries, any_in_option,
+    any_shown, found_if,
+};
+
+/// A call with OVER.
+#[derive(Drop)]
+pub struct WindowCall;
+
+impl NodeTest for WindowCall {
+    ghost sees = { λ _. finds is_call_over };
+
+    #[tactic(auto, unfolding(wquery::specs::Tree::view, wquery::specs::Tree::view_call, wquery::specs::Tree::view_over))]
+    fn look(&self, node: &Expression) -> Look {
+        match node {
+            Expression::Call(call) => found_if(call.over.is_some()),
+            _ => Look::Below,
+        }
+    }
+}
+
+/// Whether it is an aggregate without OVER.
+#[tactic(auto, unfolding(wquery::specs::Tree::view, wquery::specs::Tree::view_call, wquery::specs::Tree::view_over))]
+pub fn is_group_call(node: &Expression) -> bool
+    ensures { result ≡ is_call_of_group (view node.now) }
+{
+    let Expression::Call(call) = node else {
+        return false;
+    };
+    if call.over.is_some() {
+        return false;
+    }
+    is_aggregate_name(call.name.as_str())
+}
+
+/// An aggregate without OVER.
+#[derive(Drop)]
+pub struct GroupCall;
+
+impl NodeTest for GroupCall {
+    ghost sees = { λ _. finds is_call_of_group };
+
+    fn look(&self, node: &Expression) -> Look {
+        found_if(is_group_call(node))
+    }
+}
+
+#[tactic(auto, unfolding(wquery::specs::Tree::view, wquery::specs::Tree::view_call, wquery::specs::Tree::view_over))]
+fn is_misplaced_window_call(node: &Expression) -> bool
+    ensures { result ≡ is_misplaced (view node.now) }
+{
+    let Expression::Call(call) = node else {
+        return false;
+    };
+    if any_below(&WindowCall, node) {
+        return true;
+    }
+    if call.over.is_some() {
+        return false;
+    }
+    !is_aggregate_name(call.name.as_str())
+}
+
+/// A call in whose arguments, FILTER or window a call with OVER stands, or one of no aggregate that has no OVER.
+#[derive(Drop)]
+struct MisplacedWindowCall;
+
+impl NodeTest for MisplacedWindowCall {
+    ghost sees = { λ _. finds is_misplaced };
+
+    fn look(&self, node: &Expression) -> Look {
+        found_if(is_misplaced_window_call(node))
+    }
+}
+
+/// Q15.
+#[tactic(auto, unfolding(wquery::specs::QueryTree::view_query))]
+pub fn misplaces_window_calls(columns: &[SourceColumn], query: &Query) -> bool
+    ensures { result ≡ breaks_window_places (all_titled columns.now) (clauses_of (view_query query.now)) }
+{
+    if any_in_option(&WindowCall, &query.condition) {
+        return true;
+    }
+    if any_in_option(&WindowCall, &query.having) {
+        return true;
+    }
+    if any_in_entries(&WindowCall, query.windows.as_slice()) {
+        return true;
+    }
+    any_anywhere(&MisplacedWindowCall, columns, query)
+}
+
+/// An aggregate without OVER, in whose arguments or FILTER another one stands.
+#[derive(Drop)]
+struct NestedGroupCall;
+
+impl NodeTest for NestedGroupCall {
+    ghost sees = { λ _. finds is_nested };
+
+    fn look(&self, node: &Expression) -> Look {
+        if !is_group_call(node) {
+            return Look::Below;
+        }
+        found_if(any_below(&GroupCall, node))
+    }
+}
+
+/// Q16.
+#[tactic(auto, unfolding(wquery::specs::QueryTree::view_query))]
+pub fn misplaces_aggregates(columns: &[SourceColumn], query: &Query) -> bool
+    ensures { result ≡ breaks_aggregate_places (all_titled columns.now) (clauses_of (view_query query.now)) }
+{
+    if any_in_option(&GroupCall, &query.condition) {
+        return true;
+    }
+    any_anywhere(&NestedGroupCall, columns, query)
+}
+
+/// Whether a query over these columns is grouped: by GROUP BY, HAVING, or an aggregate without OVER in the SELECT list,
+/// WINDOW or ORDER BY.
+#[tactic(auto, unfolding(wquery::specs::QueryTree::view_query))]
+pub fn is_grouped(columns: &[SourceColumn], query: &Query) -> bool
+    ensures { result ≡ has_groups (all_titled columns.now) (clauses_of (view_query query.now)) }
+{
+    if !query.grouping.is_empty() {
+        return true;
+    }
+    if query.having.is_some() {
+        return true;
+    }
+    any_shown(&GroupCall, columns, query)
+}
+
+fn is_grouping(grouping: &[Column], name: &str) -> bool
+    ensures { result ≡ list_any (names name.now) (map view_column grouping.now) }
+{
+    'grouping: for column in grouping {
+        if name == column.name.as_str() {
+            return true;
+        }
+    }
+    false
+}
+
+fn look_at_column(grouping: &[Column], name: &str) -> Look
+    ensures { result ≡ if list_any (names name.now) (map view_column grouping.now) then Below else Found }
+{
+    if is_grouping(grouping, name) {
+        Look::Below
+    } else {
+        Look::Found
+    }
+}
+
+/// A column outside GROUP BY, not in arguments and FILTER of aggregates without OVER.
+#[derive(Drop)]
+struct Ungrouped<'a> {
+    grouping: &'a [Column],
+}
+
+impl<'a> NodeTest for Ungrouped<'a> {
+    ghost sees = { λ u. sees_ungrouped (map view_column u.grouping.now) };
+
+    #[tactic(auto, unfolding(wquery::specs::Tree::view))]
+    fn look(&self, node: &Expression) -> Look {
+        match node {
+            Expression::Column(column) => look_at_column(self.grouping, column.name.as_str()),
+            Expression::Call(_) => {
+                if is_group_call(node) {
+                    Look::Closed
+                } else {
+                    Look::Below
+                }
+            }
+            _ => Look::Below,
+        }
+    }
+}
+
+fn any_ungrouped_column(columns: &[SourceColumn], grouping: &[Column]) -> bool
+    ensures { result ≡ list_any (is_outside (map view_column grouping.now)) (all_titled columns.now) }
+{
+    'columns: for column in columns {
+        if !is_grouping(grouping, column.name.as_str()) {
+            return true;
+        }
+    }
+    false
+}
+
+fn has_star(items: &[Item]) -> bool
+    ensures { result ≡ list_any is_star (map view_item items.now) }
+{
+    'items: for item in items {
+        if matches!(item, Item::All) {
+            return true;
+        }
+    }
+    false
+}
+
+#[tactic(auto, unfolding(wquery::specs::QueryTree::view_query))]
+fn shows_ungrouped(columns: &[SourceColumn], query: &Query) -> bool
+    ensures { result ≡ some_shown (all_titled columns.now) (clauses_of (view_query query.now)) (sees_ungrouped (clauses_of (view_query query.now)).grouping) }
+{
+    let grouping = query.grouping.as_slice();
+    any_shown(&Ungrouped { grouping }, columns, query)
+}
+
+#[tactic(auto, unfolding(wquery::specs::QueryTree::view_query))]
+fn has_ungrouped(query: &Query) -> bool
+    ensures { result ≡ some_option (sees_ungrouped (clauses_of (view_query query.now)).grouping) (clauses_of (view_query query.now)).having }
+{
+    let grouping = query.grouping.as_slice();
+    any_in_option(&Ungrouped { grouping }, &query.having)
+}
+
+#[tactic(auto, unfolding(wquery::specs::QueryTree::view_query))]
+fn stars_ungrouped(columns: &[SourceColumn], query: &Query) -> bool
+    ensures { result ≡ (list_any is_star (clauses_of (view_query query.now)).items && list_any (is_outside (clauses_of (view_query query.now)).grouping) (all_titled columns.now)) }
+{
+    if !has_star(query.items.as_slice()) {
+        return false;
+    }
+    any_ungrouped_column(columns, query.grouping.as_slice())
+}
+
+fn names_ungrouped(columns: &[SourceColumn], query: &Query) -> bool
+    ensures { result ≡ names_outside (all_titled columns.now) (clauses_of (view_query query.now)) }
+{
+    if shows_ungrouped(columns, query) {
+        return true;
+    }
+    if has_ungrouped(query) {
+        return true;
+    }
+    stars_ungrouped(columns, query)
+}
+
+/// Q17.
+pub fn names_ungrouped_column(columns: &[SourceColumn], query: &Query) -> bool
+    ensures { result ≡ breaks_grouping (all_titled columns.now) (clauses_of (view_query query.now)) }
+{
+    is_grouped(columns, query) && names_ungrouped(columns, query)
+}

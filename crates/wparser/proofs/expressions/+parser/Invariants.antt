@@ -1,0 +1,121 @@
+use Rattle.std.proofs.Common.{ℕ, ◌+◌, ◌-◌, ◌*◌, length}
+use Rattle.wquery.specs.declared.expression.ChainKind.{ChainKind}
+use Rattle.wquery.specs.declared.expression.ChainKind.TheVariants.{Disjunction, Conjunction, Sum, Product}
+use Rattle.wquery.specs.Tree.{view, views, view_keys}
+use Rattle.wparser.specs.Grammar.{operands, chains, conditions, key}
+use Rattle.wparser.specs.Finding.{meanings}
+use Rattle.wparser.proofs.Steps.{Listing}
+use Rattle.wparser.proofs.Rows.{Going}
+use Rattle.wparser.proofs.expressions.+parser.Given as goal
+
+-- the places of the chains among the rows of one depth
+abbrev pub height : ChainKind → ℕ
+height Disjunction = 50
+height Conjunction = 47
+height Sum = 30
+height Product = 27
+
+abbrev pub decreases-list : goal.decreases-list
+decreases-list l = 64 * l.depth + (height l.kind + 1)
+
+abbrev pub decreases-chain : goal.decreases-chain
+decreases-chain l = 64 * l.depth + height l.kind
+
+abbrev pub decreases-goes_on : goal.decreases-goes_on
+decreases-goes_on l = 64 * l.depth + (height l.kind - 1)
+
+abbrev pub decreases-operand : goal.decreases-operand
+decreases-operand l = 64 * l.depth + (height l.kind - 2)
+
+abbrev pub invariant-goes_on-chain : goal.invariant-goes_on-chain
+invariant-goes_on-chain l = Going l.kind (operands l.depth l.kind) (meanings l.tokens) (view l.fn.first) (meanings l.rest) (view l.tree)
+
+abbrev pub decreases-goes_on-chain : goal.decreases-goes_on-chain
+decreases-goes_on-chain l = length l.rest
+
+abbrev pub invariant-list-list : goal.invariant-list-list
+invariant-list-list l = Listing (chains l.depth l.kind) (meanings l.tokens) (views l.items.items) (meanings l.left)
+
+abbrev pub decreases-list-list : goal.decreases-list-list
+decreases-list-list l = length l.left
+
+abbrev pub invariant-keys-keys : goal.invariant-keys-keys
+invariant-keys-keys l = Listing (key (conditions l.depth)) (meanings l.tokens) (view_keys l.items.items) (meanings l.left)
+
+abbrev pub decreases-keys-keys : goal.decreases-keys-keys
+decreases-keys-keys l = length l.left
+
+abbrev pub decreases-window_parts : goal.decreases-window_parts
+decreases-window_parts l = 64 * l.depth + 60
+
+abbrev pub decreases-partitioned : goal.decreases-partitioned
+decreases-partitioned l = 64 * l.depth + 59
+
+abbrev pub decreases-ordered : goal.decreases-ordered
+decreases-ordered l = 64 * l.depth + 59
+
+abbrev pub decreases-keys : goal.decreases-keys
+decreases-keys l = 64 * l.depth + 58
+
+abbrev pub decreases-sort_key : goal.decreases-sort_key
+decreases-sort_key l = 64 * l.depth + 57
+
+abbrev pub decreases-negation : goal.decreases-negation
+decreases-negation l = 64 * l.depth + 44
+
+abbrev pub decreases-tested_for_null : goal.decreases-tested_for_null
+decreases-tested_for_null l = 64 * l.depth + 43
+
+abbrev pub decreases-compares : goal.decreases-compares
+decreases-compares l = 64 * l.depth + 42
+
+abbrev pub decreases-compares_to : goal.decreases-compares_to
+decreases-compares_to l = 64 * l.depth + 41
+
+abbrev pub decreases-range : goal.decreases-range
+decreases-range l = 64 * l.depth + 40
+
+abbrev pub decreases-tests : goal.decreases-tests
+decreases-tests l = 64 * l.depth + 39
+
+abbrev pub decreases-tests_for : goal.decreases-tests_for
+decreases-tests_for l = 64 * l.depth + 38
+
+abbrev pub decreases-between : goal.decreases-between
+decreases-between l = 64 * l.depth + 37
+
+abbrev pub decreases-between_from : goal.decreases-between_from
+decreases-between_from l = 64 * l.depth + 36
+
+abbrev pub decreases-among : goal.decreases-among
+decreases-among l = 64 * l.depth + 37
+
+abbrev pub decreases-signed : goal.decreases-signed
+decreases-signed l = 64 * l.depth + 24
+
+abbrev pub decreases-primary : goal.decreases-primary
+decreases-primary l = 64 * l.depth + 20
+
+abbrev pub decreases-column_or_call : goal.decreases-column_or_call
+decreases-column_or_call l = 64 * l.depth + 19
+
+abbrev pub decreases-calls : goal.decreases-calls
+decreases-calls l = 64 * l.depth + 18
+
+abbrev pub decreases-given : goal.decreases-given
+decreases-given l = 64 * l.depth + 17
+
+abbrev pub decreases-filter : goal.decreases-filter
+decreases-filter l = 64 * l.depth + 17
+
+abbrev pub decreases-over : goal.decreases-over
+decreases-over l = 64 * l.depth + 17
+
+abbrev pub decreases-enclosed_window : goal.decreases-enclosed_window
+decreases-enclosed_window l = 64 * l.depth + 16
+
+abbrev pub decreases-closed_list : goal.decreases-closed_list
+decreases-closed_list l = 64 * l.depth + 16
+
+abbrev pub decreases-enclosed : goal.decreases-enclosed
+decreases-enclosed l = 64 * l.depth + 15

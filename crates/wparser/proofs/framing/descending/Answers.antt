@@ -1,9 +1,0 @@
-use Rattle.wparser.proofs.Steps.{one_got, perhaps_absent, perhaps_present}
-use Rattle.wparser.proofs.Parts.{one_grips, direction_grip}
-use Rattle.wparser.proofs.framing.descending.Goals as goal
-
-pub returns-in-None : goal.returns-in-None
-returns-in-None c = perhaps_absent c.in-None.ensures
-
-pub returns-in-Some : goal.returns-in-Some
-returns-in-Some c = perhaps_present (one_grips direction_grip c.in-Some.ensures) (one_got c.in-Some.ensures)

@@ -1,0 +1,647 @@
+//! Reads expressions, row by row of the grammar; `depth` levels of nesting are left.
+
+ghost use Rattle.std.specs.Prelude.{◌≡◌, List, true, false, Some, None};
+ghost use Rattle.std.specs.Rc.{rc_str_bytes};
+ghost use Rattle.wquery.specs.declared.expression.ChainKind.TheVariants.{Disjunction, Sum};
+ghost use Rattle.wquery.specs.Tree.{view, views, view_arguments, view_over, view_key, view_keys, view_window, view_optional, view_optional_over, filter_of, reach_of};
+ghost use Rattle.wparser.specs.Notation.{GoesOn, Listed};
+ghost use Rattle.wparser.specs.Grammar.{Closed, Chains, deeper, inner, operands, chains, conditions, sums, ranges, comparisons, negations, signs, testing, null_tested, compared, tested, test, among_row, within_row, up_to, primary, named, qualified_by, everything_closed, call, arguments, filtered, reaching, window_inside, window, partition, order, key};
+ghost use Rattle.wparser.specs.Grips.{Stops, kind_class, operand_class};
+ghost use Rattle.wparser.specs.Finding.{meanings, outcome, settled, Answers, IsNoTest};
+
+use crate::fault::ParseFault;
+use crate::frames::{descending, negated, optional_frame, optional_name, placed_nulls};
+use crate::tokens::{comparison, keyword, name, number, operator, sign, symbol, text};
+use std::alloc::Global;
+use std::rc::RcStr;
+use wlexer::{Keyword, Symbol, Token};
+use wquery::{Arguments, ChainKind, Expression, Key, Over, Window, build};
+
+#[cycle(parser)]
+fn operand(
+    alloc: Global,
+    kind: ChainKind,
+    depth: u32,
+    tokens: &[Token],
+) -> Result<(Expression, &[Token]), ParseFault>
+    ensures { Answers (operands depth kind) (operand_class kind) (meanings tokens.now) (outcome (λ x. view x.0) (λ x. x.1.now) result) }
+{
+    match kind {
+        ChainKind::Disjunction => chain(alloc, ChainKind::Conjunction, depth, tokens),
+        ChainKind::Conjunction => negation(alloc, depth, tokens),
+        ChainKind::Sum => chain(alloc, ChainKind::Product, depth, tokens),
+        ChainKind::Product => signed(alloc, depth, tokens),
+    }
+}
+
+/// A chain of this kind, or one operand of it.
+#[cycle(parser)]
+pub fn chain(
+    alloc: Global,
+    kind: ChainKind,
+    depth: u32,
+    tokens: &[Token],
+) -> Result<(Expression, &[Token]), ParseFault>
+    ensures { Answers (chains depth kind) (kind_class kind) (meanings tokens.now) (outcome (λ x. view x.0) (λ x. x.1.now) result) }
+{
+    match operand(alloc, kind, depth, tokens) {
+        Err(f) => Err(f),
+        Ok((first, rest)) => goes_on(alloc, kind, depth, first, rest),
+    }
+}
+
+#[cycle(parser)]
+fn goes_on(
+    alloc: Global,
+    kind: ChainKind,
+    depth: u32,
+    first: Expression,
+    tokens: &[Token],
+) -> Result<(Expression, &[Token]), ParseFault>
+    ensures { Answers (GoesOn kind (operands depth kind) (view first)) (kind_class kind) (meanings tokens.now) (outcome (λ x. view x.0) (λ x. x.1.now) result) }
+{
+    let mut tree = first;
+    let mut rest = tokens;
+    'chain: while let Some((operator, after)) = operator(kind, rest) {
+        match operand(alloc, kind, depth, after) {
+            Err(f) => return Err(f),
+            Ok((next, left)) => {
+                tree = build::join(alloc, kind, tree, operator, next)?;
+                rest = left;
+            }
+        }
+    }
+    Ok((tree, rest))
+}
+
+#[cycle(parser)]
+fn negation(
+    alloc: Global,
+    depth: u32,
+    tokens: &[Token],
+) -> Result<(Expression, &[Token]), ParseFault>
+    ensures { Answers (negations depth) 22 (meanings tokens.now) (outcome (λ x. view x.0) (λ x. x.1.now) result) }
+{
+    let Some(after) = keyword(tokens, Keyword::Not) else {
+        return tested_for_null(alloc, depth, tokens);
+    };
+    if depth == 0 {
+        return Err(ParseFault::Syntax);
+    }
+    match negation(alloc, depth - 1, after) {
+        Err(f) => Err(f),
+        Ok((e, rest)) => {
+            let e = build::not(alloc, e)?;
+            Ok((e, rest))
+        }
+    }
+}
+
+#[cycle(parser)]
+fn tested_for_null(
+    alloc: Global,
+    depth: u32,
+    tokens: &[Token],
+) -> Result<(Expression, &[Token]), ParseFault>
+    ensures { Answers (testing (comparisons depth)) 22 (meanings tokens.now) (outcome (λ x. view x.0) (λ x. x.1.now) result) }
+{
+    match compares(alloc, depth, tokens) {
+        Err(f) => Err(f),
+        Ok((e, rest)) => null_test(alloc, e, rest),
+    }
+}
+
+fn null_test(
+    alloc: Global,
+    e: Expression,
+    tokens: &[Token],
+) -> Result<(Expression, &[Token]), ParseFault>
+    ensures { Answers (null_tested (view e)) 22 (meanings tokens.now) (outcome (λ x. view x.0) (λ x. x.1.now) result) }
+{
+    let Some(after) = keyword(tokens, Keyword::Is) else {
+        return Ok((e, tokens));
+    };
+    let (negated, after) = negated(after);
+    let Some(rest) = keyword(after, Keyword::Null) else {
+        return Err(ParseFault::Syntax);
+    };
+    let e = build::null_test(alloc, negated, e)?;
+    Ok((e, rest))
+}
+
+#[cycle(parser)]
+fn compares(
+    alloc: Global,
+    depth: u32,
+    tokens: &[Token],
+) -> Result<(Expression, &[Token]), ParseFault>
+    ensures { Answers (comparisons depth) 23 (meanings tokens.now) (outcome (λ x. view x.0) (λ x. x.1.now) result) }
+{
+    match range(alloc, depth, tokens) {
+        Err(f) => Err(f),
+        Ok((left, rest)) => compares_to(alloc, depth, left, rest),
+    }
+}
+
+#[cycle(parser)]
+fn compares_to(
+    alloc: Global,
+    depth: u32,
+    left: Expression,
+    tokens: &[Token],
+) -> Result<(Expression, &[Token]), ParseFault>
+    ensures { Answers (compared (ranges depth) (view left)) 23 (meanings tokens.now) (outcome (λ x. view x.0) (λ x. x.1.now) result) }
+{
+    let Some((comparison, after)) = comparison(tokens) else {
+        return Ok((left, tokens));
+    };
+    match range(alloc, depth, after) {
+        Err(f) => Err(f),
+        Ok((right, rest)) => {
+            let e = build::compared(alloc, comparison, left, right)?;
+            Ok((e, rest))
+        }
+    }
+}
+
+#[cycle(parser)]
+fn range(alloc: Global, depth: u32, tokens: &[Token]) -> Result<(Expression, &[Token]), ParseFault>
+    ensures { Answers (ranges depth) 24 (meanings tokens.now) (outcome (λ x. view x.0) (λ x. x.1.now) result) }
+{
+    match chain(alloc, ChainKind::Sum, depth, tokens) {
+        Err(f) => Err(f),
+        Ok((e, rest)) => tests(alloc, depth, e, rest),
+    }
+}
+
+/// Whether BETWEEN or IN comes first, or NOT.
+fn test_follows(tokens: &[Token]) -> bool
+    ensures yes { result ≡ true → Stops 24 (meanings tokens.now) → ⊥ }
+    ensures other { result ≡ false → IsNoTest (meanings tokens.now) }
+{
+    keyword(tokens, Keyword::Not).is_some()
+        || keyword(tokens, Keyword::Between).is_some()
+        || keyword(tokens, Keyword::In).is_some()
+}
+
+#[cycle(parser)]
+fn tests(
+    alloc: Global,
+    depth: u32,
+    e: Expression,
+    tokens: &[Token],
+) -> Result<(Expression, &[Token]), ParseFault>
+    ensures { Answers (tested (sums depth) (deeper depth (Chains Sum)) (view e)) 24 (meanings tokens.now) (outcome (λ x. view x.0) (λ x. x.1.now) result) }
+{
+    if test_follows(tokens) {
+        let (negated, after) = negated(tokens);
+        return tests_for(alloc, depth, negated, e, after);
+    }
+    Ok((e, tokens))
+}
+
+#[cycle(parser)]
+fn tests_for(
+    alloc: Global,
+    depth: u32,
+    negated: bool,
+    e: Expression,
+    tokens: &[Token],
+) -> Result<(Expression, &[Token]), ParseFault>
+    ensures { Answers (test (sums depth) (deeper depth (Chains Sum)) (view e) negated) 24 (meanings tokens.now) (outcome (λ x. view x.0) (λ x. x.1.now) result) }
+{
+    if let Some(after) = keyword(tokens, Keyword::Between) {
+        return between(alloc, depth, negated, e, after);
+    }
+    match keyword(tokens, Keyword::In) {
+        None => Err(ParseFault::Syntax),
+        Some(after) => among(alloc, depth, negated, e, after),
+    }
+}
+
+/// A list in parentheses, behind IN.
+#[cycle(parser)]
+fn among(
+    alloc: Global,
+    depth: u32,
+    negated: bool,
+    e: Expression,
+    tokens: &[Token],
+) -> Result<(Expression, &[Token]), ParseFault>
+    ensures { Answers (among_row (deeper depth (Chains Sum)) (view e) negated) 24 (meanings tokens.now) (outcome (λ x. view x.0) (λ x. x.1.now) result) }
+{
+    let Some(after) = symbol(tokens, Symbol::OpenParenthesis) else {
+        return Err(ParseFault::Syntax);
+    };
+    match closed_list(alloc, ChainKind::Sum, depth, after) {
+        Err(f) => Err(f),
+        Ok((list, rest)) => {
+            let e = build::among(alloc, negated, e, list)?;
+            Ok((e, rest))
+        }
+    }
+}
+
+/// Two ends, behind BETWEEN.
+#[cycle(parser)]
+fn between(
+    alloc: Global,
+    depth: u32,
+    negated: bool,
+    e: Expression,
+    tokens: &[Token],
+) -> Result<(Expression, &[Token]), ParseFault>
+    ensures { Answers (within_row (sums depth) (view e) negated) 24 (meanings tokens.now) (outcome (λ x. view x.0) (λ x. x.1.now) result) }
+{
+    match chain(alloc, ChainKind::Sum, depth, tokens) {
+        Err(f) => Err(f),
+        Ok((low, rest)) => between_from(alloc, depth, negated, e, low, rest),
+    }
+}
+
+/// The upper end, behind the lower one.
+#[cycle(parser)]
+fn between_from(
+    alloc: Global,
+    depth: u32,
+    negated: bool,
+    e: Expression,
+    low: Expression,
+    tokens: &[Token],
+) -> Result<(Expression, &[Token]), ParseFault>
+    ensures { Answers (up_to (sums depth) (view e) negated (view low)) 24 (meanings tokens.now) (outcome (λ x. view x.0) (λ x. x.1.now) result) }
+{
+    let Some(after) = keyword(tokens, Keyword::And) else {
+        return Err(ParseFault::Syntax);
+    };
+    match chain(alloc, ChainKind::Sum, depth, after) {
+        Err(f) => Err(f),
+        Ok((high, rest)) => {
+            let e = build::within(alloc, negated, e, low, high)?;
+            Ok((e, rest))
+        }
+    }
+}
+
+#[cycle(parser)]
+fn signed(alloc: Global, depth: u32, tokens: &[Token]) -> Result<(Expression, &[Token]), ParseFault>
+    ensures { Answers (signs depth) 28 (meanings tokens.now) (outcome (λ x. view x.0) (λ x. x.1.now) result) }
+{
+    let Some((minus, after)) = sign(tokens) else {
+        return primary(alloc, depth, tokens);
+    };
+    if depth == 0 {
+        return Err(ParseFault::Syntax);
+    }
+    match signed(alloc, depth - 1, after) {
+        Err(f) => Err(f),
+        Ok((e, rest)) => {
+            let e = build::signed(alloc, minus, e)?;
+            Ok((e, rest))
+        }
+    }
+}
+
+#[cycle(parser)]
+fn primary(
+    alloc: Global,
+    depth: u32,
+    tokens: &[Token],
+) -> Result<(Expression, &[Token]), ParseFault>
+    ensures { Answers (primary depth (inner depth)) 28 (meanings tokens.now) (outcome (λ x. view x.0) (λ x. x.1.now) result) }
+{
+    if let Some((n, rest)) = number(tokens) {
+        return Ok((build::number(*n), rest));
+    }
+    if let Some((text, rest)) = text(tokens) {
+        let text = text.clone()?;
+        return Ok((build::text(text), rest));
+    }
+    if let Some(rest) = keyword(tokens, Keyword::Null) {
+        return Ok((build::null(), rest));
+    }
+    if let Some((name, rest)) = name(tokens) {
+        let name = name.clone()?;
+        return column_or_call(alloc, depth, name, rest);
+    }
+    match symbol(tokens, Symbol::OpenParenthesis) {
+        None => Err(ParseFault::Syntax),
+        Some(after) => enclosed(alloc, depth, after),
+    }
+}
+
+#[cycle(parser)]
+fn enclosed(
+    alloc: Global,
+    depth: u32,
+    tokens: &[Token],
+) -> Result<(Expression, &[Token]), ParseFault>
+    ensures { Answers (Closed (inner depth)) 31 (meanings tokens.now) (outcome (λ x. view x.0) (λ x. x.1.now) result) }
+{
+    if depth == 0 {
+        return Err(ParseFault::Syntax);
+    }
+    match chain(alloc, ChainKind::Disjunction, depth - 1, tokens) {
+        Err(f) => Err(f),
+        Ok((e, rest)) => match symbol(rest, Symbol::CloseParenthesis) {
+            None => Err(ParseFault::Syntax),
+            Some(rest) => Ok((e, rest)),
+        },
+    }
+}
+
+#[cycle(parser)]
+fn column_or_call(
+    alloc: Global,
+    depth: u32,
+    own: RcStr,
+    tokens: &[Token],
+) -> Result<(Expression, &[Token]), ParseFault>
+    ensures { Answers (named depth (inner depth) (rc_str_bytes own)) 28 (meanings tokens.now) (outcome (λ x. view x.0) (λ x. x.1.now) result) }
+{
+    if let Some(after) = symbol(tokens, Symbol::Dot) {
+        return qualified(own, after);
+    }
+    match symbol(tokens, Symbol::OpenParenthesis) {
+        None => Ok((build::column(None, own), tokens)),
+        Some(after) => calls(alloc, depth, own, after),
+    }
+}
+
+fn qualified(qualifier: RcStr, tokens: &[Token]) -> Result<(Expression, &[Token]), ParseFault>
+    ensures { Answers (qualified_by (rc_str_bytes qualifier)) 31 (meanings tokens.now) (outcome (λ x. view x.0) (λ x. x.1.now) result) }
+{
+    match name(tokens) {
+        None => Err(ParseFault::Syntax),
+        Some((column, rest)) => {
+            let column = column.clone()?;
+            Ok((build::column(Some(qualifier), column), rest))
+        }
+    }
+}
+
+#[cycle(parser)]
+fn calls(
+    alloc: Global,
+    depth: u32,
+    function: RcStr,
+    tokens: &[Token],
+) -> Result<(Expression, &[Token]), ParseFault>
+    ensures { Answers (call depth (inner depth) (rc_str_bytes function)) 28 (meanings tokens.now) (outcome (λ x. view x.0) (λ x. x.1.now) result) }
+{
+    match given(alloc, depth, tokens) {
+        Err(f) => Err(f),
+        Ok((arguments, rest)) => match filter(alloc, depth, rest) {
+            Err(f) => Err(f),
+            Ok((filter, rest)) => match over(alloc, depth, rest) {
+                Err(f) => Err(f),
+                Ok((over, rest)) => {
+                    let e = build::call(alloc, function, arguments, filter, over)?;
+                    Ok((e, rest))
+                }
+            },
+        },
+    }
+}
+
+#[cycle(parser)]
+fn given(alloc: Global, depth: u32, tokens: &[Token]) -> Result<(Arguments, &[Token]), ParseFault>
+    ensures { Answers (arguments depth (inner depth)) 31 (meanings tokens.now) (outcome (λ x. view_arguments x.0) (λ x. x.1.now) result) }
+{
+    if let Some(rest) = symbol(tokens, Symbol::CloseParenthesis) {
+        return Ok((build::listed(Vec::new(alloc)), rest));
+    }
+    if let Some(after) = symbol(tokens, Symbol::Asterisk) {
+        return match everything(depth, after) {
+            None => Err(ParseFault::Syntax),
+            Some((star, rest)) => Ok((star, rest)),
+        };
+    }
+    match closed_list(alloc, ChainKind::Disjunction, depth, tokens) {
+        Err(f) => Err(f),
+        Ok((list, rest)) => Ok((build::listed(list), rest)),
+    }
+}
+
+fn everything(depth: u32, tokens: &[Token]) -> Option<(Arguments, &[Token])>
+    ensures { Answers (everything_closed depth) 31 (meanings tokens.now) (settled (λ x. view_arguments x.0) (λ x. x.1.now) result) }
+{
+    if depth == 0 {
+        return None;
+    }
+    let rest = symbol(tokens, Symbol::CloseParenthesis)?;
+    Some((build::star(), rest))
+}
+
+#[cycle(parser)]
+fn closed_list(
+    alloc: Global,
+    kind: ChainKind,
+    depth: u32,
+    tokens: &[Token],
+) -> Result<(Vec<Expression>, &[Token]), ParseFault>
+    ensures { Answers (Closed (Listed (deeper depth (Chains kind)))) 31 (meanings tokens.now) (outcome (λ x. views x.0.items) (λ x. x.1.now) result) }
+{
+    if depth == 0 {
+        return Err(ParseFault::Syntax);
+    }
+    match list(alloc, kind, depth - 1, tokens) {
+        Err(f) => Err(f),
+        Ok((list, rest)) => match symbol(rest, Symbol::CloseParenthesis) {
+            None => Err(ParseFault::Syntax),
+            Some(rest) => Ok((list, rest)),
+        },
+    }
+}
+
+#[cycle(parser)]
+fn list(
+    alloc: Global,
+    kind: ChainKind,
+    depth: u32,
+    tokens: &[Token],
+) -> Result<(Vec<Expression>, &[Token]), ParseFault>
+    ensures { Answers (Listed (chains depth kind)) 12 (meanings tokens.now) (outcome (λ x. views x.0.items) (λ x. x.1.now) result) }
+{
+    let mut items = Vec::new(alloc);
+    let mut left = tokens;
+    'list: loop {
+        match chain(alloc, kind, depth, left) {
+            Err(f) => return Err(f),
+            Ok((item, rest)) => {
+                build::push(&mut items, item)?;
+                match symbol(rest, Symbol::Comma) {
+                    None => return Ok((items, rest)),
+                    Some(after) => left = after,
+                }
+            }
+        }
+    }
+}
+
+#[cycle(parser)]
+fn filter(
+    alloc: Global,
+    depth: u32,
+    tokens: &[Token],
+) -> Result<(Option<Expression>, &[Token]), ParseFault>
+    ensures { Answers (filtered (inner depth)) 29 (meanings tokens.now) (outcome (λ x. filter_of (view_optional x.0)) (λ x. x.1.now) result) }
+{
+    let Some(after) = keyword(tokens, Keyword::Filter) else {
+        return Ok((None, tokens));
+    };
+    let Some(after) = symbol(after, Symbol::OpenParenthesis) else {
+        return Err(ParseFault::Syntax);
+    };
+    let Some(after) = keyword(after, Keyword::Where) else {
+        return Err(ParseFault::Syntax);
+    };
+    match enclosed(alloc, depth, after) {
+        Err(f) => Err(f),
+        Ok((e, rest)) => Ok((Some(e), rest)),
+    }
+}
+
+#[cycle(parser)]
+fn over(alloc: Global, depth: u32, tokens: &[Token]) -> Result<(Option<Over>, &[Token]), ParseFault>
+    ensures { Answers (reaching depth (inner depth)) 28 (meanings tokens.now) (outcome (λ x. reach_of (view_optional_over x.0)) (λ x. x.1.now) result) }
+{
+    let Some(after) = keyword(tokens, Keyword::Over) else {
+        return Ok((None, tokens));
+    };
+    if let Some((name, rest)) = name(after) {
+        let name = name.clone()?;
+        return Ok((Some(build::named_window(name)), rest));
+    }
+    let Some(after) = symbol(after, Symbol::OpenParenthesis) else {
+        return Err(ParseFault::Syntax);
+    };
+    match enclosed_window(alloc, depth, after) {
+        Err(f) => Err(f),
+        Ok((window, rest)) => Ok((Some(build::windowed(window)), rest)),
+    }
+}
+
+/// A window, behind its opening parenthesis.
+#[cycle(parser)]
+pub fn enclosed_window(
+    alloc: Global,
+    depth: u32,
+    tokens: &[Token],
+) -> Result<(Window, &[Token]), ParseFault>
+    ensures { Answers (window_inside depth (inner depth)) 31 (meanings tokens.now) (outcome (λ x. view_window x.0) (λ x. x.1.now) result) }
+{
+    if let Some(rest) = symbol(tokens, Symbol::CloseParenthesis) {
+        return Ok((
+            build::window(None, Vec::new(alloc), Vec::new(alloc), None),
+            rest,
+        ));
+    }
+    if depth == 0 {
+        return Err(ParseFault::Syntax);
+    }
+    match window_parts(alloc, depth - 1, tokens) {
+        Err(f) => Err(f),
+        Ok((window, rest)) => match symbol(rest, Symbol::CloseParenthesis) {
+            None => Err(ParseFault::Syntax),
+            Some(rest) => Ok((window, rest)),
+        },
+    }
+}
+
+#[cycle(parser)]
+fn window_parts(
+    alloc: Global,
+    depth: u32,
+    tokens: &[Token],
+) -> Result<(Window, &[Token]), ParseFault>
+    ensures { Answers (window (conditions depth)) 3 (meanings tokens.now) (outcome (λ x. view_window x.0) (λ x. x.1.now) result) }
+{
+    match optional_name(tokens) {
+        Err(f) => Err(f),
+        Ok((copied, rest)) => match partitioned(alloc, depth, rest) {
+            Err(f) => Err(f),
+            Ok((partition, rest)) => match ordered(alloc, depth, rest) {
+                Err(f) => Err(f),
+                Ok((order, rest)) => match optional_frame(rest) {
+                    None => Err(ParseFault::Syntax),
+                    Some((frame, rest)) => Ok((
+                        build::window(copied, partition, order, frame),
+                        rest,
+                    )),
+                },
+            },
+        },
+    }
+}
+
+#[cycle(parser)]
+fn partitioned(
+    alloc: Global,
+    depth: u32,
+    tokens: &[Token],
+) -> Result<(Vec<Expression>, &[Token]), ParseFault>
+    ensures { Answers (partition (conditions depth)) 6 (meanings tokens.now) (outcome (λ x. views x.0.items) (λ x. x.1.now) result) }
+{
+    let Some(after) = keyword(tokens, Keyword::Partition) else {
+        return Ok((Vec::new(alloc), tokens));
+    };
+    match keyword(after, Keyword::By) {
+        None => Err(ParseFault::Syntax),
+        Some(after) => list(alloc, ChainKind::Disjunction, depth, after),
+    }
+}
+
+/// The keys behind ORDER BY, none where it is left out.
+#[cycle(parser)]
+pub fn ordered(
+    alloc: Global,
+    depth: u32,
+    tokens: &[Token],
+) -> Result<(Vec<Key>, &[Token]), ParseFault>
+    ensures { Answers (order (conditions depth)) 5 (meanings tokens.now) (outcome (λ x. view_keys x.0.items) (λ x. x.1.now) result) }
+{
+    let Some(after) = keyword(tokens, Keyword::Order) else {
+        return Ok((Vec::new(alloc), tokens));
+    };
+    match keyword(after, Keyword::By) {
+        None => Err(ParseFault::Syntax),
+        Some(after) => keys(alloc, depth, after),
+    }
+}
+
+#[cycle(parser)]
+fn keys(alloc: Global, depth: u32, tokens: &[Token]) -> Result<(Vec<Key>, &[Token]), ParseFault>
+    ensures { Answers (Listed (key (conditions depth))) 12 (meanings tokens.now) (outcome (λ x. view_keys x.0.items) (λ x. x.1.now) result) }
+{
+    let mut items = Vec::new(alloc);
+    let mut left = tokens;
+    'keys: loop {
+        match sort_key(alloc, depth, left) {
+            Err(f) => return Err(f),
+            Ok((item, rest)) => {
+                build::push_key(&mut items, item)?;
+                match symbol(rest, Symbol::Comma) {
+                    None => return Ok((items, rest)),
+                    Some(after) => left = after,
+                }
+            }
+        }
+    }
+}
+
+#[cycle(parser)]
+fn sort_key(alloc: Global, depth: u32, tokens: &[Token]) -> Result<(Key, &[Token]), ParseFault>
+    ensures { Answers (key (conditions depth)) 15 (meanings tokens.now) (outcome (λ x. view_key x.0) (λ x. x.1.now) result) }
+{
+    match chain(alloc, ChainKind::Disjunction, depth, tokens) {
+        Err(f) => Err(f),
+        Ok((e, rest)) => {
+            let (descending, rest) = descending(rest);
+            match placed_nulls(rest) {
+                None => Err(ParseFault::Syntax),
+                Some((nulls, rest)) => Ok((build::key(e, descending, nulls), rest)),
+            }
+        }
+    }
+}

@@ -1,0 +1,470 @@
+//! Reads whole queries; `depth` levels of nesting are left.
+
+ghost use Rattle.std.specs.Prelude.{◌≡◌, ◌≤◌, List, map, Some, None, IfOk};
+ghost use Rattle.std.specs.Rc.{rc_str_bytes};
+ghost use Rattle.wquery.specs.Tree.{view, view_column, view_keys, view_optional, name_bytes};
+ghost use Rattle.wquery.specs.QueryTree.{QueryTree, view_query, view_source, view_item, view_entry, query_of};
+ghost use Rattle.wparser.specs.Words.{name_of};
+ghost use Rattle.wparser.specs.Notation.{Listed, One};
+ghost use Rattle.wparser.specs.Queries.{alias_name, alias, item, derived, source, clause, column, grouping, entry, windows, count, limit_row, offset_row, limits, behind_groups, behind_windows, clauses, queries, deeper_queries, texts, Spells};
+ghost use Rattle.wparser.specs.Grips.{keyword_grip};
+ghost use Rattle.wparser.specs.declared.fault.ParseFault.TheVariants.{Syntax};
+ghost use Rattle.wparser.specs.Finding.{meanings, outcome, settled, Answers};
+
+use crate::expressions::{chain, enclosed_window, ordered};
+use crate::fault::ParseFault;
+use crate::tokens::{keyword, name, number, symbol};
+use std::alloc::Global;
+use std::rc::RcStr;
+use wlexer::{Keyword, Number, Symbol, Token};
+use wquery::build::{self, Clauses};
+use wquery::{ChainKind, Column, Expression, Item, Query, Source, WindowEntry};
+
+fn copied_name(tokens: &[Token]) -> Result<(RcStr, &[Token]), ParseFault>
+    ensures { Answers (One name_of) 31 (meanings tokens.now) (outcome (λ x. rc_str_bytes x.0) (λ x. x.1.now) result) }
+{
+    match name(tokens) {
+        None => Err(ParseFault::Syntax),
+        Some((name, rest)) => {
+            let name = name.clone()?;
+            Ok((name, rest))
+        }
+    }
+}
+
+/// A name, with or without AS before it.
+fn required_alias(tokens: &[Token]) -> Result<(RcStr, &[Token]), ParseFault>
+    ensures { Answers alias_name 31 (meanings tokens.now) (outcome (λ x. rc_str_bytes x.0) (λ x. x.1.now) result) }
+{
+    match keyword(tokens, Keyword::As) {
+        None => copied_name(tokens),
+        Some(after) => copied_name(after),
+    }
+}
+
+fn optional_alias(tokens: &[Token]) -> Result<(Option<RcStr>, &[Token]), ParseFault>
+    ensures { Answers alias 14 (meanings tokens.now) (outcome (λ x. name_bytes x.0) (λ x. x.1.now) result) }
+{
+    if let Some(after) = keyword(tokens, Keyword::As) {
+        return match copied_name(after) {
+            Err(f) => Err(f),
+            Ok((name, rest)) => Ok((Some(name), rest)),
+        };
+    }
+    match name(tokens) {
+        None => Ok((None, tokens)),
+        Some((name, rest)) => {
+            let name = name.clone()?;
+            Ok((Some(name), rest))
+        }
+    }
+}
+
+fn item_of(alloc: Global, depth: u32, tokens: &[Token]) -> Result<(Item, &[Token]), ParseFault>
+    ensures { Answers (item depth) 14 (meanings tokens.now) (outcome (λ x. view_item x.0) (λ x. x.1.now) result) }
+{
+    if let Some(rest) = symbol(tokens, Symbol::Asterisk) {
+        return Ok((Item::All, rest));
+    }
+    match chain(alloc, ChainKind::Disjunction, depth, tokens) {
+        Err(f) => Err(f),
+        Ok((expression, rest)) => match optional_alias(rest) {
+            Err(f) => Err(f),
+            Ok((alias, rest)) => Ok((Item::Value { expression, alias }, rest)),
+        },
+    }
+}
+
+fn items(alloc: Global, depth: u32, tokens: &[Token]) -> Result<(Vec<Item>, &[Token]), ParseFault>
+    ensures { Answers (Listed (item depth)) 12 (meanings tokens.now) (outcome (λ x. map view_item x.0.items) (λ x. x.1.now) result) }
+{
+    let mut items = Vec::new(alloc);
+    let mut left = tokens;
+    'items: loop {
+        match item_of(alloc, depth, left) {
+            Err(f) => return Err(f),
+            Ok((item, rest)) => {
+                build::push_item(&mut items, item)?;
+                match symbol(rest, Symbol::Comma) {
+                    None => return Ok((items, rest)),
+                    Some(after) => left = after,
+                }
+            }
+        }
+    }
+}
+
+/// The condition behind WHERE or HAVING, if that comes first.
+fn condition(
+    alloc: Global,
+    depth: u32,
+    word: Keyword,
+    tokens: &[Token],
+) -> Result<(Option<Expression>, &[Token]), ParseFault>
+    requires { keyword_grip word ≤ 20 }
+    ensures { Answers (clause word depth) (keyword_grip word) (meanings tokens.now) (outcome (λ x. view_optional x.0) (λ x. x.1.now) result) }
+{
+    let Some(after) = keyword(tokens, word) else {
+        return Ok((None, tokens));
+    };
+    match chain(alloc, ChainKind::Disjunction, depth, after) {
+        Err(f) => Err(f),
+        Ok((e, rest)) => Ok((Some(e), rest)),
+    }
+}
+
+fn column_of(tokens: &[Token]) -> Result<(Column, &[Token]), ParseFault>
+    ensures { Answers column 14 (meanings tokens.now) (outcome (λ x. view_column x.0) (λ x. x.1.now) result) }
+{
+    match copied_name(tokens) {
+        Err(f) => Err(f),
+        Ok((name, rest)) => {
+            let Some(after) = symbol(rest, Symbol::Dot) else {
+                return Ok((
+                    Column {
+                        qualifier: None,
+                        name,
+                    },
+                    rest,
+                ));
+            };
+            match copied_name(after) {
+                Err(f) => Err(f),
+                Ok((column, rest)) => Ok((
+                    Column {
+                        qualifier: Some(name),
+                        name: column,
+                    },
+                    rest,
+                )),
+            }
+        }
+    }
+}
+
+fn columns(alloc: Global, tokens: &[Token]) -> Result<(Vec<Column>, &[Token]), ParseFault>
+    ensures { Answers (Listed column) 12 (meanings tokens.now) (outcome (λ x. map view_column x.0.items) (λ x. x.1.now) result) }
+{
+    let mut columns = Vec::new(alloc);
+    let mut left = tokens;
+    'columns: loop {
+        match column_of(left) {
+            Err(f) => return Err(f),
+            Ok((column, rest)) => {
+                build::push_column(&mut columns, column)?;
+                match symbol(rest, Symbol::Comma) {
+                    None => return Ok((columns, rest)),
+                    Some(after) => left = after,
+                }
+            }
+        }
+    }
+}
+
+fn grouped(alloc: Global, tokens: &[Token]) -> Result<(Vec<Column>, &[Token]), ParseFault>
+    ensures { Answers grouping 8 (meanings tokens.now) (outcome (λ x. map view_column x.0.items) (λ x. x.1.now) result) }
+{
+    let Some(after) = keyword(tokens, Keyword::Group) else {
+        return Ok((Vec::new(alloc), tokens));
+    };
+    match keyword(after, Keyword::By) {
+        None => Err(ParseFault::Syntax),
+        Some(after) => columns(alloc, after),
+    }
+}
+
+fn entry_of(
+    alloc: Global,
+    depth: u32,
+    tokens: &[Token],
+) -> Result<(WindowEntry, &[Token]), ParseFault>
+    ensures { Answers (entry depth) 31 (meanings tokens.now) (outcome (λ x. view_entry x.0) (λ x. x.1.now) result) }
+{
+    match copied_name(tokens) {
+        Err(f) => Err(f),
+        Ok((name, rest)) => {
+            let Some(after) = keyword(rest, Keyword::As) else {
+                return Err(ParseFault::Syntax);
+            };
+            let Some(after) = symbol(after, Symbol::OpenParenthesis) else {
+                return Err(ParseFault::Syntax);
+            };
+            match enclosed_window(alloc, depth, after) {
+                Err(f) => Err(f),
+                Ok((window, rest)) => Ok((WindowEntry { name, window }, rest)),
+            }
+        }
+    }
+}
+
+fn entries(
+    alloc: Global,
+    depth: u32,
+    tokens: &[Token],
+) -> Result<(Vec<WindowEntry>, &[Token]), ParseFault>
+    ensures { Answers (Listed (entry depth)) 12 (meanings tokens.now) (outcome (λ x. map view_entry x.0.items) (λ x. x.1.now) result) }
+{
+    let mut entries = Vec::new(alloc);
+    let mut left = tokens;
+    'entries: loop {
+        match entry_of(alloc, depth, left) {
+            Err(f) => return Err(f),
+            Ok((entry, rest)) => {
+                build::push_entry(&mut entries, entry)?;
+                match symbol(rest, Symbol::Comma) {
+                    None => return Ok((entries, rest)),
+                    Some(after) => left = after,
+                }
+            }
+        }
+    }
+}
+
+fn window_clause(
+    alloc: Global,
+    depth: u32,
+    tokens: &[Token],
+) -> Result<(Vec<WindowEntry>, &[Token]), ParseFault>
+    ensures { Answers (windows depth) 6 (meanings tokens.now) (outcome (λ x. map view_entry x.0.items) (λ x. x.1.now) result) }
+{
+    match keyword(tokens, Keyword::Window) {
+        None => Ok((Vec::new(alloc), tokens)),
+        Some(after) => entries(alloc, depth, after),
+    }
+}
+
+/// The number behind LIMIT or OFFSET, if that comes first. It refuses the word alone.
+fn counted(word: Keyword, tokens: &[Token]) -> Option<(Option<Number>, &[Token])>
+    ensures { Answers (count word) (keyword_grip word) (meanings tokens.now) (settled (λ x. x.0) (λ x. x.1.now) result) }
+{
+    let Some(after) = keyword(tokens, word) else {
+        return Some((None, tokens));
+    };
+    match number(after) {
+        None => None,
+        Some((n, rest)) => Some((Some(*n), rest)),
+    }
+}
+
+/// A number, and then what OFFSET says, behind LIMIT.
+fn limit_first(tokens: &[Token]) -> Option<((Option<Number>, Option<Number>), &[Token])>
+    ensures { Answers limit_row 4 (meanings tokens.now) (settled (λ x. x.0) (λ x. x.1.now) result) }
+{
+    match number(tokens) {
+        None => None,
+        Some((limit, rest)) => match counted(Keyword::Offset, rest) {
+            None => None,
+            Some((offset, rest)) => Some(((Some(*limit), offset), rest)),
+        },
+    }
+}
+
+/// A number, and then what LIMIT says, behind OFFSET.
+fn offset_first(tokens: &[Token]) -> Option<((Option<Number>, Option<Number>), &[Token])>
+    ensures { Answers offset_row 4 (meanings tokens.now) (settled (λ x. x.0) (λ x. x.1.now) result) }
+{
+    match number(tokens) {
+        None => None,
+        Some((offset, rest)) => match counted(Keyword::Limit, rest) {
+            None => None,
+            Some((limit, rest)) => Some(((limit, Some(*offset)), rest)),
+        },
+    }
+}
+
+/// What LIMIT and OFFSET say, in either order. It refuses either word alone.
+fn limited(tokens: &[Token]) -> Option<((Option<Number>, Option<Number>), &[Token])>
+    ensures { Answers limits 4 (meanings tokens.now) (settled (λ x. x.0) (λ x. x.1.now) result) }
+{
+    if let Some(after) = keyword(tokens, Keyword::Limit) {
+        return limit_first(after);
+    }
+    match keyword(tokens, Keyword::Offset) {
+        None => Some(((None, None), tokens)),
+        Some(after) => offset_first(after),
+    }
+}
+
+/// What was read of a query, up to its groups.
+#[derive(Drop)]
+struct Front {
+    items: Vec<Item>,
+    source: Source,
+    condition: Option<Expression>,
+    grouping: Vec<Column>,
+}
+
+fn query_clauses(
+    alloc: Global,
+    depth: u32,
+    items: Vec<Item>,
+    source: Source,
+    tokens: &[Token],
+) -> Result<(Query, &[Token]), ParseFault>
+    ensures { Answers (clauses depth (map view_item items.items) (view_source source)) 4 (meanings tokens.now) (outcome (λ x. view_query x.0) (λ x. x.1.now) result) }
+{
+    match condition(alloc, depth, Keyword::Where, tokens) {
+        Err(f) => Err(f),
+        Ok((kept, rest)) => match grouped(alloc, rest) {
+            Err(f) => Err(f),
+            Ok((grouping, rest)) => {
+                let front = Front {
+                    items,
+                    source,
+                    condition: kept,
+                    grouping,
+                };
+                clauses_behind_groups(alloc, depth, front, rest)
+            }
+        },
+    }
+}
+
+fn clauses_behind_groups(
+    alloc: Global,
+    depth: u32,
+    front: Front,
+    tokens: &[Token],
+) -> Result<(Query, &[Token]), ParseFault>
+    ensures { Answers (behind_groups depth (map view_item front.items.items) (view_source front.source) (view_optional front.condition) (map view_column front.grouping.items)) 4 (meanings tokens.now) (outcome (λ x. view_query x.0) (λ x. x.1.now) result) }
+{
+    match condition(alloc, depth, Keyword::Having, tokens) {
+        Err(f) => Err(f),
+        Ok((having, rest)) => match window_clause(alloc, depth, rest) {
+            Err(f) => Err(f),
+            Ok((windows, rest)) => {
+                clauses_behind_windows(alloc, depth, front, having, windows, rest)
+            }
+        },
+    }
+}
+
+fn clauses_behind_windows(
+    alloc: Global,
+    depth: u32,
+    front: Front,
+    having: Option<Expression>,
+    windows: Vec<WindowEntry>,
+    tokens: &[Token],
+) -> Result<(Query, &[Token]), ParseFault>
+    ensures { Answers (behind_windows depth (map view_item front.items.items) (view_source front.source) (view_optional front.condition) (map view_column front.grouping.items) (view_optional having) (map view_entry windows.items)) 4 (meanings tokens.now) (outcome (λ x. view_query x.0) (λ x. x.1.now) result) }
+{
+    match ordered(alloc, depth, tokens) {
+        Err(f) => Err(f),
+        Ok((order, rest)) => match limited(rest) {
+            None => Err(ParseFault::Syntax),
+            Some((limits, rest)) => {
+                let Front {
+                    items,
+                    source,
+                    condition: kept,
+                    grouping,
+                } = front;
+                let clauses = Clauses {
+                    condition: kept,
+                    grouping,
+                    having,
+                    windows,
+                    order,
+                    limits,
+                };
+                Ok((build::query(items, source, clauses), rest))
+            }
+        },
+    }
+}
+
+/// A query.
+#[cycle(queries)]
+pub fn query(alloc: Global, depth: u32, tokens: &[Token]) -> Result<(Query, &[Token]), ParseFault>
+    ensures { Answers (queries depth) 4 (meanings tokens.now) (outcome (λ x. view_query x.0) (λ x. x.1.now) result) }
+{
+    let Some(after) = keyword(tokens, Keyword::Select) else {
+        return Err(ParseFault::Syntax);
+    };
+    match items(alloc, depth, after) {
+        Err(f) => Err(f),
+        Ok((items, rest)) => {
+            let Some(after) = keyword(rest, Keyword::From) else {
+                return Err(ParseFault::Syntax);
+            };
+            match source_of(alloc, depth, after) {
+                Err(f) => Err(f),
+                Ok((source, rest)) => query_clauses(alloc, depth, items, source, rest),
+            }
+        }
+    }
+}
+
+#[cycle(queries)]
+fn source_of(alloc: Global, depth: u32, tokens: &[Token]) -> Result<(Source, &[Token]), ParseFault>
+    ensures { Answers (source (deeper_queries depth)) 14 (meanings tokens.now) (outcome (λ x. view_source x.0) (λ x. x.1.now) result) }
+{
+    if let Some((table, rest)) = name(tokens) {
+        let table = table.clone()?;
+        return match optional_alias(rest) {
+            Err(f) => Err(f),
+            Ok((alias, rest)) => Ok((build::table(table, alias), rest)),
+        };
+    }
+    match symbol(tokens, Symbol::OpenParenthesis) {
+        None => Err(ParseFault::Syntax),
+        Some(after) => derived_of(alloc, depth, after),
+    }
+}
+
+#[cycle(queries)]
+fn derived_of(alloc: Global, depth: u32, tokens: &[Token]) -> Result<(Source, &[Token]), ParseFault>
+    ensures { Answers (derived (deeper_queries depth)) 31 (meanings tokens.now) (outcome (λ x. view_source x.0) (λ x. x.1.now) result) }
+{
+    if depth == 0 {
+        return Err(ParseFault::Syntax);
+    }
+    match query(alloc, depth - 1, tokens) {
+        Err(f) => Err(f),
+        Ok((query, rest)) => {
+            let Some(after) = symbol(rest, Symbol::CloseParenthesis) else {
+                return Err(ParseFault::Syntax);
+            };
+            match required_alias(after) {
+                Err(f) => Err(f),
+                Ok((alias, rest)) => {
+                    let source = build::derived(alloc, query, alias)?;
+                    Ok((source, rest))
+                }
+            }
+        }
+    }
+}
+
+/// A query and the semicolon behind it, if there is one.
+fn terminated(alloc: Global, tokens: &[Token]) -> Result<(Query, &[Token]), ParseFault>
+    ensures { Answers texts 1 (meanings tokens.now) (outcome (λ x. view_query x.0) (λ x. x.1.now) result) }
+{
+    match query(alloc, 64, tokens) {
+        Err(f) => Err(f),
+        Ok((query, rest)) => match symbol(rest, Symbol::Semicolon) {
+            None => Ok((query, rest)),
+            Some(rest) => Ok((query, rest)),
+        },
+    }
+}
+
+/// The one query that the tokens spell.
+///
+/// It answers `Syntax` where they spell none that is nested at most 64 deep, and `NoMemory` where
+/// a growth was refused.
+pub fn parse(alloc: Global, tokens: &[Token]) -> Result<Query, ParseFault>
+    // What is answered is spelled by the tokens.
+    ensures spelled { IfOk result (λ query. Spells (view_query query) (meanings tokens.now)) }
+    // Only what spells no query is refused.
+    ensures refused { result ≡ Err Syntax → (query : QueryTree) → Spells query (meanings tokens.now) → ⊥ }
+{
+    match terminated(alloc, tokens) {
+        Err(f) => Err(f),
+        Ok((query, rest)) => match rest {
+            [] => Ok(query),
+            _ => Err(ParseFault::Syntax),
+        },
+    }
+}

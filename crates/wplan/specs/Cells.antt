@@ -1,0 +1,25 @@
+-- What an outcome in memory says, and how an outcome is answered.
+use Rattle.std.specs.Prelude.{◌≡◌, Result, Ok, Err}
+use Rattle.wvalues.specs.Meaning.{meaning}
+use Rattle.wvalues.specs.declared.truth.Truth.{Truth}
+use Rattle.wplan.specs.Values.{Outcome, Held, Judged, TooLarge}
+use Rattle.wplan.specs.declared.cell.Cell.{Cell}
+use Rattle.wplan.specs.declared.cell.Cell.TheVariants as cells
+use Rattle.wplan.specs.declared.cell.EvalFault.{EvalFault}
+use Rattle.wplan.specs.declared.cell.EvalFault.TheVariants.{OutOfRange, NoMemory}
+
+abbrev pub outcome : Cell → Outcome
+outcome (cells.Value v) = Held (meaning v)
+outcome (cells.Truth t) = Judged t
+
+-- the outcome, unless memory was refused
+abbrev pub Gives : Result Cell EvalFault → Outcome → Type 0
+Gives (Ok cell) o = outcome cell ≡ o
+Gives (Err OutOfRange) o = o ≡ TooLarge
+Gives (Err NoMemory) o = Unit {0}
+
+-- the same of a truth
+abbrev pub GivesTruth : Result Truth EvalFault → Outcome → Type 0
+GivesTruth (Ok t) o = Judged t ≡ o
+GivesTruth (Err OutOfRange) o = o ≡ TooLarge
+GivesTruth (Err NoMemory) o = Unit {0}

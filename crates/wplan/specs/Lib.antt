@@ -1,0 +1,4 @@
+pub mod Formula
+pub mod Values
+pub mod Cells
+pub mod Plans

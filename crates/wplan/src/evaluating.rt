@@ -1,0 +1,162 @@
+//! The value of an expression on a row.
+
+ghost use Rattle.std.specs.Prelude.{◌≡◌, map, get_or};
+ghost use Rattle.std.specs.Rc.{rc_str_bytes};
+ghost use Rattle.wvalues.specs.Meaning.{meaning, Null, Text};
+ghost use Rattle.wvalues.specs.declared.truth.Truth.TheVariants.{No};
+ghost use Rattle.wplan.specs.Formula.{formula, formulas, operand_of};
+ghost use Rattle.wplan.specs.Values.{Outcome, value_of, value_along, is_among, value_in, Held, Judged, after, apply, turned, truth_of};
+ghost use Rattle.wplan.specs.Cells.{outcome, Gives, GivesTruth};
+
+use crate::cell::{Cell, EvalFault};
+use crate::expr::{Expr, Further};
+use crate::operating::{
+    applied, between_truth, cells_compared, null_truth, signed_cell, turned_truth,
+};
+use std::rc::RcStr;
+use wquery::Comparison;
+use wvalues::{Truth, Value};
+
+fn copied(value: &Value) -> Result<Cell, EvalFault>
+    ensures { Gives result (Held (meaning value.now)) }
+{
+    let value = value.duplicate()?;
+    Ok(Cell::Value(value))
+}
+
+fn shared(text: &RcStr) -> Result<Cell, EvalFault>
+    ensures { Gives result (Held (Text (rc_str_bytes text.now))) }
+{
+    let text = text.clone()?;
+    Ok(Cell::Value(Value::Text(text)))
+}
+
+// The value at a place of a row, null where the row has none.
+fn at(row: &[Value], place: usize) -> Result<Cell, EvalFault>
+    ensures { Gives result (Held (get_or (map meaning row.now) place Null)) }
+{
+    match row.get(place) {
+        Some(value) => copied(value),
+        None => Ok(Cell::Value(Value::Null)),
+    }
+}
+
+/// What an expression comes to on a row: a value or a truth. It is out of range where any part of it is, whatever the
+/// other parts come to: both sides of AND and OR, and all entries of a list, are evaluated.
+///
+/// Texts are shared, so it takes no memory; `NoMemory` is answered where a text is shared too often.
+#[cycle(eval)]
+#[tactic(auto, unfolding(crate::specs::Formula::formula, crate::specs::Formula::operand_of))]
+pub fn eval(e: &Expr, row: &[Value]) -> Result<Cell, EvalFault>
+    ensures { Gives result (value_of (map meaning row.now) (formula e.now)) }
+{
+    match e {
+        Expr::Null => Ok(Cell::Value(Value::Null)),
+        Expr::Number(n) => Ok(Cell::Value(Value::Int(*n))),
+        Expr::Text(text) => shared(text),
+        Expr::Place(place) => at(row, *place),
+        Expr::Not(operand) => {
+            let x = eval(operand, row)?;
+            Ok(Cell::Truth(x.truth().not()))
+        }
+        Expr::Sign { minus, operand } => {
+            let x = eval(operand, row)?;
+            Ok(signed_cell(*minus, &x))
+        }
+        Expr::Chain { first, links } => eval_chain(eval(first, row), links.as_slice(), row),
+        Expr::Compare {
+            comparison,
+            left,
+            right,
+        } => {
+            let x = eval(left, row)?;
+            let y = eval(right, row)?;
+            Ok(Cell::Truth(cells_compared(*comparison, &x, &y)))
+        }
+        Expr::IsNull { negated, operand } => {
+            let x = eval(operand, row)?;
+            Ok(Cell::Truth(turned_truth(*negated, null_truth(&x))))
+        }
+        Expr::Between {
+            negated,
+            operand,
+            low,
+            high,
+        } => {
+            let x = eval(operand, row)?;
+            let y = eval(low, row)?;
+            let z = eval(high, row)?;
+            Ok(Cell::Truth(turned_truth(*negated, between_truth(&x, &y, &z))))
+        }
+        Expr::In {
+            negated,
+            operand,
+            list,
+        } => {
+            let x = eval(operand, row)?;
+            eval_in(*negated, &x, list.as_slice(), row)
+        }
+    }
+}
+
+// A chain of which the first operand gave this.
+#[cycle(eval)]
+fn eval_chain(
+    first: Result<Cell, EvalFault>,
+    links: &[Further],
+    row: &[Value],
+) -> Result<Cell, EvalFault>
+    ensures { (o : Outcome) → Gives first o → Gives result (value_along (map meaning row.now) o (map operand_of links.now)) }
+{
+    match first {
+        Err(f) => Err(f),
+        Ok(x) => eval_links(x, links, row),
+    }
+}
+
+#[cycle(eval)]
+fn eval_links(first: Cell, links: &[Further], row: &[Value]) -> Result<Cell, EvalFault>
+    ensures { Gives result (value_along (map meaning row.now) (outcome first) (map operand_of links.now)) }
+{
+    let mut so_far = first;
+    'links: for link in links {
+        match eval_link(&so_far, link, row) {
+            Err(f) => return Err(f),
+            Ok(next) => {
+                so_far = next;
+            }
+        }
+    }
+    Ok(so_far)
+}
+
+#[cycle(eval)]
+fn eval_link(so_far: &Cell, link: &Further, row: &[Value]) -> Result<Cell, EvalFault>
+    ensures { Gives result (after (value_of (map meaning row.now) (formula link.now.operand)) (λ y. apply link.now.operator (outcome so_far.now) y)) }
+{
+    let operand = eval(&link.operand, row)?;
+    applied(link.operator, so_far, &operand)
+}
+
+#[cycle(eval)]
+fn eval_in(negated: bool, x: &Cell, list: &[Expr], row: &[Value]) -> Result<Cell, EvalFault>
+    ensures { Gives result (after (is_among (map meaning row.now) (value_in (outcome x.now)) No (formulas (map formula list.now))) (λ found. Judged (turned negated (truth_of found)))) }
+{
+    match eval_among(x, list, row) {
+        Err(f) => Err(f),
+        Ok(found) => Ok(Cell::Truth(turned_truth(negated, found))),
+    }
+}
+
+// Whether a value is equal to one of a list.
+#[cycle(eval)]
+fn eval_among(x: &Cell, list: &[Expr], row: &[Value]) -> Result<Truth, EvalFault>
+    ensures { GivesTruth result (is_among (map meaning row.now) (value_in (outcome x.now)) No (formulas (map formula list.now))) }
+{
+    let mut found = Truth::No;
+    'list: for e in list {
+        let y = eval(e, row)?;
+        found = found.or(cells_compared(Comparison::Equal, x, &y));
+    }
+    Ok(found)
+}

@@ -1,0 +1,140 @@
+//! What operators make of values and truths.
+
+ghost use Rattle.std.specs.Prelude.{◌≡◌, ◌+ℤ◌, ◌-ℤ◌, ◌*ℤ◌};
+ghost use Rattle.wvalues.specs.Meaning.{meaning};
+ghost use Rattle.wplan.specs.Values.{ranged, on_numbers, apply, order_of, meets, judged, compared, turned, is_null, between, signed, value_in, truth_of};
+ghost use Rattle.wplan.specs.Cells.{outcome, Gives};
+
+use crate::cell::{Cell, EvalFault};
+use std::cmp::Ordering;
+use wquery::{Comparison, Operator};
+use wvalues::{Truth, Value, Whole};
+
+// A number, where there is one in range.
+fn in_range(number: Option<Whole>) -> Result<Cell, EvalFault>
+    ensures { Gives result (ranged number) }
+{
+    match number {
+        None => Err(EvalFault::OutOfRange),
+        Some(n) => Ok(Cell::Value(Value::Int(n))),
+    }
+}
+
+fn sum(x: &Cell, y: &Cell) -> Result<Cell, EvalFault>
+    ensures { Gives result (on_numbers (λ a b. a +ℤ b) (value_in (outcome x.now)) (value_in (outcome y.now))) }
+{
+    match (x, y) {
+        (Cell::Value(Value::Int(x)), Cell::Value(Value::Int(y))) => in_range(x.add(*y)),
+        _ => Ok(Cell::Value(Value::Null)),
+    }
+}
+
+fn difference(x: &Cell, y: &Cell) -> Result<Cell, EvalFault>
+    ensures { Gives result (on_numbers (λ a b. a -ℤ b) (value_in (outcome x.now)) (value_in (outcome y.now))) }
+{
+    match (x, y) {
+        (Cell::Value(Value::Int(x)), Cell::Value(Value::Int(y))) => in_range(x.sub(*y)),
+        _ => Ok(Cell::Value(Value::Null)),
+    }
+}
+
+fn product(x: &Cell, y: &Cell) -> Result<Cell, EvalFault>
+    ensures { Gives result (on_numbers (λ a b. a *ℤ b) (value_in (outcome x.now)) (value_in (outcome y.now))) }
+{
+    match (x, y) {
+        (Cell::Value(Value::Int(x)), Cell::Value(Value::Int(y))) => in_range(x.mul(*y)),
+        _ => Ok(Cell::Value(Value::Null)),
+    }
+}
+
+/// What an operator makes of two operands.
+pub(crate) fn applied(operator: Operator, x: &Cell, y: &Cell) -> Result<Cell, EvalFault>
+    ensures { Gives result (apply operator (outcome x.now) (outcome y.now)) }
+{
+    match operator {
+        Operator::Or => Ok(Cell::Truth(x.truth().or(y.truth()))),
+        Operator::And => Ok(Cell::Truth(x.truth().and(y.truth()))),
+        Operator::Plus => sum(x, y),
+        Operator::Minus => difference(x, y),
+        Operator::Times => product(x, y),
+    }
+}
+
+fn order(x: &Value, y: &Value) -> Option<Ordering>
+    ensures { result ≡ order_of (meaning x.now) (meaning y.now) }
+{
+    match (x, y) {
+        (Value::Int(x), Value::Int(y)) => Some(x.cmp(y)),
+        (Value::Text(x), Value::Text(y)) => Some(x.cmp(y)),
+        _ => None,
+    }
+}
+
+fn is_met(comparison: Comparison, order: Ordering) -> bool
+    ensures { result ≡ meets comparison order }
+{
+    match comparison {
+        Comparison::Equal => order.is_eq(),
+        Comparison::NotEqual => order.is_ne(),
+        Comparison::Less => order.is_lt(),
+        Comparison::LessOrEqual => order.is_le(),
+        Comparison::Greater => order.is_gt(),
+        Comparison::GreaterOrEqual => order.is_ge(),
+    }
+}
+
+fn judge(comparison: Comparison, order: Option<Ordering>) -> Truth
+    ensures { result ≡ judged comparison order }
+{
+    match order {
+        None => Truth::Unknown,
+        Some(order) if is_met(comparison, order) => Truth::Yes,
+        Some(_) => Truth::No,
+    }
+}
+
+/// How two values compare.
+pub(crate) fn cells_compared(comparison: Comparison, x: &Cell, y: &Cell) -> Truth
+    ensures { result ≡ compared comparison (value_in (outcome x.now)) (value_in (outcome y.now)) }
+{
+    match (x, y) {
+        (Cell::Value(x), Cell::Value(y)) => judge(comparison, order(x, y)),
+        _ => Truth::Unknown,
+    }
+}
+
+/// NOT, where it stands.
+pub(crate) fn turned_truth(negated: bool, truth: Truth) -> Truth
+    ensures { result ≡ turned negated truth }
+{
+    if negated { truth.not() } else { truth }
+}
+
+/// IS NULL.
+pub(crate) fn null_truth(x: &Cell) -> Truth
+    ensures { result ≡ is_null (outcome x.now) }
+{
+    match x {
+        Cell::Value(Value::Null) | Cell::Truth(Truth::Unknown) => Truth::Yes,
+        _ => Truth::No,
+    }
+}
+
+/// BETWEEN.
+pub(crate) fn between_truth(x: &Cell, low: &Cell, high: &Cell) -> Truth
+    ensures { result ≡ between (value_in (outcome x.now)) (value_in (outcome low.now)) (value_in (outcome high.now)) }
+{
+    let above = cells_compared(Comparison::GreaterOrEqual, x, low);
+    let below = cells_compared(Comparison::LessOrEqual, x, high);
+    above.and(below)
+}
+
+/// A sign before a number.
+pub(crate) fn signed_cell(minus: bool, x: &Cell) -> Cell
+    ensures { outcome result ≡ signed minus (value_in (outcome x.now)) }
+{
+    match x {
+        Cell::Value(Value::Int(n)) => Cell::Value(Value::Int(if minus { n.neg() } else { *n })),
+        _ => Cell::Value(Value::Null),
+    }
+}

@@ -1,0 +1,7 @@
+mod Lines
+mod TextLines
+mod Rows
+mod SourceFacts
+mod PlanFacts
+mod Listed
+mod Worked

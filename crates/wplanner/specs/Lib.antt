@@ -1,0 +1,11 @@
+pub mod Frames
+pub mod Aggregating
+pub mod Grouping
+pub mod Windows
+pub mod Calls
+pub mod Answers
+pub mod Parts
+pub mod Kept
+pub mod Printing
+pub mod Asking
+pub mod Tables

@@ -1,0 +1,59 @@
+ghost use Rattle.std.specs.Prelude.{◌≡◌};
+ghost use Rattle.wplanner.specs.declared.fault.AskFault.TheVariants.{NoMemory};
+ghost use Rattle.wplanner.specs.Asking.{unanswered};
+
+use std::alloc::AllocError;
+use thiserror::Error;
+use wrows::AnswerFault;
+
+/// Why a query is not answered.
+#[derive(Clone, Copy, Debug, PartialEq, Eq, Error)]
+pub enum AskFault {
+    /// Q1: over 65,536 bytes.
+    #[error("the query is over 65536 bytes")]
+    TooLong,
+    /// Q2: not UTF-8.
+    #[error("the query is not UTF-8")]
+    NotUtf8,
+    /// Q3: neither a token nor a comment stands at this byte, counted from 0.
+    #[error("no token stands at byte {place}")]
+    At { place: usize },
+    /// Q4: the tokens spell no query.
+    #[error("the tokens spell no query")]
+    Syntax,
+    /// Q9: a query that is not answered yet.
+    #[error("this query is not answered yet")]
+    NotYet,
+    /// Q10 to Q27: the least rule that the query breaks.
+    #[error("the query breaks rule {rule}")]
+    Broken { rule: u8 },
+    /// Q40: a number is not strictly between -2^95 and 2^95.
+    #[error("a number is out of range")]
+    OutOfRange,
+    /// Q41: more than 2,147,483,647 rows are kept, or groups made.
+    #[error("there are too many rows")]
+    TooManyRows,
+    /// Memory was refused. It judges nothing.
+    #[error("out of memory")]
+    NoMemory,
+}
+
+impl From<AllocError> for AskFault {
+    ghost from_gives = { λ _ fault. fault ≡ NoMemory };
+
+    fn from(_: AllocError) -> AskFault {
+        AskFault::NoMemory
+    }
+}
+
+impl From<AnswerFault> for AskFault {
+    ghost from_gives = { λ fault asked. asked ≡ unanswered fault };
+
+    fn from(fault: AnswerFault) -> AskFault {
+        match fault {
+            AnswerFault::OutOfRange => AskFault::OutOfRange,
+            AnswerFault::TooManyRows => AskFault::TooManyRows,
+            AnswerFault::NoMemory => AskFault::NoMemory,
+        }
+    }
+}

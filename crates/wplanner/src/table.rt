@@ -1,0 +1,87 @@
+//! The table of an answer.
+ghost use Rattle.std.specs.Prelude.{◌≡◌, ◌+◌, ◌<◌, ◌≤◌, [], drop, length, map, slice_index_or, take, vec_len};
+ghost use Rattle.std.specs.Rc.{rc_str_bytes};
+ghost use Rattle.wvalues.specs.Meaning.{meaning};
+ghost use Rattle.wrows.specs.Laid.{rows_in};
+ghost use Rattle.wplanner.specs.Parts.{value_at};
+
+use std::marker::Model;
+use std::rc::RcStr;
+use wrows::Cells;
+use wvalues::Value;
+
+/// Output names, and rows with a value under each name. Rows and columns are counted from 0.
+#[derive(Debug, Drop)]
+pub struct Table {
+    names: Vec<RcStr>,
+    // One row after another.
+    cells: Vec<Value>,
+    rows: usize,
+}
+
+impl Model for Table {
+    ghost use Rattle.wplanner.specs.Parts.{TableParts};
+
+    ghost Value = { TableParts };
+
+    ghost use Rattle.wplanner.specs.Kept.{IsKept, parts_of};
+
+    ghost view = { parts_of };
+
+    ghost invariant = { IsKept };
+}
+
+// The cells of a row, from its first one on.
+fn cells_from(cells: &[Value], start: usize, width: usize) -> &[Value]
+    requires { start + width ≤ length cells.now }
+    ensures { result.now ≡ take width (drop start cells.now) }
+{
+    &cells[start..start + width]
+}
+
+impl Table {
+    /// A table of rows with a value under each name.
+    pub(crate) fn new(names: Vec<RcStr>, rows: Cells) -> Table
+        requires { rows.width ≡ vec_len names }
+        ensures { result ≡ record { names = map rc_str_bytes names.items; rows = rows_in rows } }
+    {
+        Table {
+            names,
+            cells: rows.cells,
+            rows: rows.count,
+        }
+    }
+
+    /// How many rows it has.
+    pub fn rows(&self) -> usize
+        ensures { result ≡ length self.now.rows }
+    {
+        self.rows
+    }
+
+    /// The output names.
+    pub fn names(&self) -> &[RcStr]
+        ensures { map rc_str_bytes result.now ≡ self.now.names }
+    {
+        self.names.as_slice()
+    }
+
+    /// The values of a row.
+    pub fn row(&self, row: usize) -> &[Value]
+        requires { row < length self.now.rows }
+        ensures values { map meaning result.now ≡ slice_index_or self.now.rows row [] }
+        ensures whole { length result.now ≡ length self.now.names }
+    {
+        let width = self.names.len();
+        cells_from(&self.cells, row * width, width)
+    }
+
+    /// The value of a row and a column.
+    pub fn value(&self, row: usize, col: usize) -> &Value
+        requires row { row < length self.now.rows }
+        requires col { col < length self.now.names }
+        ensures { meaning result.now ≡ value_at self.now.rows row col }
+    {
+        &self.row(row)[col]
+    }
+}

@@ -1,0 +1,32 @@
+-- What stands at a place of a list.
+use Rattle.std.proofs.Common.{◌≡◌, ℕ, zero, suc, ◌<◌, ◌≤◌, List, [], ◌∷◌, length, get_or, map, refl, ap, sym, arith}
+use Rattle.wquery.specs.declared.expression.Expression.{Expression}
+use Rattle.wquery.specs.Tree.{NullWord, view, views, trees}
+use Rattle.wscope.specs.Sources.{Spelled}
+use Rattle.wresolve.specs.declared.shown.ShownOutput.{ShownOutput}
+use Rattle.wresolve.specs.Selecting.{tree_at, item_at, has_some}
+use Rattle.wresolve.specs.Shown.{shown_of, shown_items}
+
+pub tree_at_past : (es : List Expression) (n : ℕ) → length es ≤ n → tree_at n (trees (views es)) ≡ NullWord
+tree_at_past [] n h = refl
+tree_at_past (e ∷ es) zero h = absurd (omega arith)
+tree_at_past (e ∷ es) (suc n) h = tree_at_past es n (omega arith)
+
+pub tree_at_here : (es : List Expression) (n : ℕ) (e : Expression) → n < length es → e ≡ get_or es n e → tree_at n (trees (views es)) ≡ view e
+tree_at_here [] n e h is = absurd (omega arith)
+tree_at_here (x ∷ xs) zero e h is = ap view (sym is)
+tree_at_here (x ∷ xs) (suc n) e h is = tree_at_here xs n e (omega arith) is
+
+pub item_at_past : (os : List ShownOutput) (n : ℕ) → length os ≤ n → item_at n (shown_items os) ≡ Spelled NullWord
+item_at_past [] n h = refl
+item_at_past (o ∷ os) zero h = absurd (omega arith)
+item_at_past (o ∷ os) (suc n) h = item_at_past os n (omega arith)
+
+pub item_at_here : (os : List ShownOutput) (n : ℕ) (o : ShownOutput) → n < length os → o ≡ get_or os n o → item_at n (shown_items os) ≡ shown_of o.value
+item_at_here [] n o h is = absurd (omega arith)
+item_at_here (x ∷ xs) zero o h is = ap (λ (y : ShownOutput). shown_of y.value) (sym is)
+item_at_here (x ∷ xs) (suc n) o h is = item_at_here xs n o (omega arith) is
+
+pub has_some_map : {A B : Type 0} (f : A → B) (xs : List A) → has_some (map f xs) ≡ has_some xs
+has_some_map f [] = refl
+has_some_map f (x ∷ xs) = refl

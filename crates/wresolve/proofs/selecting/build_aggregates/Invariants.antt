@@ -1,0 +1,9 @@
+use Rattle.std.proofs.Common.{◌≡◌, ◌++◌, drop, map}
+use Rattle.wplan.specs.Plans.{aggregate_plan}
+use Rattle.wresolve.specs.Calls.{call_trees}
+use Rattle.wresolve.specs.Resolving.{layout_of}
+use Rattle.wresolve.specs.Selecting.{aggregate_made}
+use Rattle.wresolve.proofs.selecting.build_aggregates.Given as goal
+
+abbrev pub invariant-calls : goal.invariant-calls
+invariant-calls l = map aggregate_plan l.made.items ++ map (aggregate_made (layout_of l.layout)) (call_trees (drop l.call-index l.calls)) ≡ map (aggregate_made (layout_of l.layout)) (call_trees l.calls)

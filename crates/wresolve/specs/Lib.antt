@@ -1,0 +1,6 @@
+pub mod Calls
+pub mod Clauses
+pub mod Resolving
+pub mod Selecting
+pub mod Shown
+pub mod Outcomes

@@ -1,0 +1,279 @@
+-- The SELECTs that a query stands for, with each name and default settled. (SQL, `<query specification>`, `<window
+-- clause>`, `<window function>`; PostgreSQL, SELECT, ORDER BY Clause.)
+use Rattle.std.specs.Prelude.{ℕ, zero, suc, ◌-◌, pos, neg_ℤ, nat_lt, ◌^◌, Bool, true, false, ◌||◌, List, [], ◌∷◌, ◌++◌, map, length, Option, Some, None, is_some, if◌then◌else◌, unwrap_or}
+use Rattle.std.specs.Str.{bytes_eq}
+use Rattle.wsegment.specs.Declaration.{Declaration}
+use Rattle.std.specs.Borrow.{Bor}
+use Rattle.wquery.specs.declared.expression.Expression.{Expression}
+use Rattle.wquery.specs.declared.expression.NullOrder.{NullOrder}
+use Rattle.wquery.specs.declared.expression.NullOrder.TheVariants.{First, Last}
+use Rattle.wquery.specs.declared.frame.Frame.{Frame}
+use Rattle.wquery.specs.declared.frame.FrameMode.TheVariants.{Range}
+use Rattle.wquery.specs.declared.frame.FrameBound.TheVariants.{UnboundedPreceding, CurrentRow}
+use Rattle.wquery.specs.declared.frame.FrameExclusion.{FrameExclusion}
+use Rattle.wquery.specs.declared.frame.FrameExclusion.TheVariants.{NoOthers}
+use Rattle.wquery.specs.Tree.{Tree, NullWord, Numeral, Quoted, Field, Invoked, Signed, Trees, NoTrees, MoreTrees, Given, Everything, These, Filter, Unfiltered, FilteredBy, Reach, ItsGroup, ThatWindow, OwnWindow, Keys, NoKeys, MoreKeys, KeyTree, view}
+use Rattle.wquery.specs.QueryTree.{Clauses, QueryTree, Selected, SourceTree, FromTable, FromQuery}
+use Rattle.wvalues.specs.declared.key.SortKey.{SortKey}
+use Rattle.wvalues.specs.Meaning.{Meaning, Null, Int, Text}
+use Rattle.wsame.specs.Bounds.{end_of}
+use Rattle.wscope.specs.declared.function.Function.{Function}
+use Rattle.wscope.specs.declared.function.Function.TheVariants as functions
+use Rattle.wscope.specs.Functions.{function_of}
+use Rattle.wscope.specs.Types.{Titled, place_named}
+use Rattle.wscope.specs.Sources.{Shown, Placed, Spelled, ShownItem, written_out, origin_of}
+use Rattle.wscope.specs.Windows.{NamedWindow, Settled, settle, settle_all}
+use Rattle.wplan.specs.declared.resolved.AggregateFunction.{AggregateFunction}
+use Rattle.wplan.specs.declared.resolved.AggregateFunction.TheVariants as aggregates
+use Rattle.wplan.specs.declared.resolved.SettledFrame.{SettledFrame}
+use Rattle.wplan.specs.Formula.{Formula, At}
+use Rattle.wplan.specs.Plans.{AggregatePlan, GroupingPlan, KeyPlan, WindowPlan, FunctionPlan, RowNumber, Rank, DenseRank, Tile, Lag, Lead, FirstValue, LastValue, NthValue, Aggregated, CallPlan, OutputPlan, SelectPlan}
+use Rattle.wresolve.specs.Calls.{group_calls, window_calls}
+use Rattle.wresolve.specs.Resolving.{Layout, source_row, cell_of, resolved, resolved_option, literal}
+
+-- calls
+
+-- the argument at a place, NULL where there is none
+abbrev pub tree_at : ℕ → Trees → Tree
+tree_at n NoTrees = NullWord
+tree_at zero (MoreTrees t ts) = t
+tree_at (suc n) (MoreTrees t ts) = tree_at n ts
+
+abbrev pub argument : ℕ → Given → Tree
+argument n Everything = NullWord
+argument n (These ts) = tree_at n ts
+
+-- an argument in memory
+abbrev pub tree_or_null : Option (Bor Expression) → Tree
+tree_or_null None = NullWord
+tree_or_null (Some e) = view e.now
+
+-- a number literal, or else a default
+abbrev pub number_or : ℕ → Tree → ℕ
+number_or d (Numeral n) = n
+number_or d _ = d
+
+-- numbers of queries are below 2^95
+abbrev pub negative : ℕ → Meaning
+negative n = if nat_lt n (2 ^ 95) then Int (neg_ℤ (pos n)) else Null
+
+-- a number with at most one minus, or a text; NULL otherwise
+abbrev pub literal_of : Tree → Meaning
+literal_of (Numeral n) = literal n
+literal_of (Signed true (Numeral n)) = negative n
+literal_of (Quoted text) = Text text
+literal_of _ = Null
+
+abbrev pub filter_made : Layout → Filter → Option Formula
+filter_made l Unfiltered = None
+filter_made l (FilteredBy t) = Some (resolved l t)
+
+abbrev pub aggregate_function : Option Function → Given → AggregateFunction
+aggregate_function (Some functions.Sum) given = aggregates.Sum
+aggregate_function (Some functions.Min) given = aggregates.Min
+aggregate_function (Some functions.Max) given = aggregates.Max
+aggregate_function f Everything = aggregates.CountRows
+aggregate_function f (These ts) = aggregates.Count
+
+abbrev pub aggregated : Layout → Option Function → Given → Filter → AggregatePlan
+aggregated l f given filter = record { function = aggregate_function f given; argument = resolved l (argument 0 given); filter = filter_made l filter }
+
+-- an aggregate, with or without OVER
+abbrev pub aggregate_made : Layout → Tree → AggregatePlan
+aggregate_made l (Invoked name given filter reach) = aggregated l (function_of name) given filter
+aggregate_made l _ = aggregated l None Everything Unfiltered
+
+-- lag and lead look one row away and have the default NULL where nothing else is said
+abbrev pub function_made : Layout → Option Function → Given → Filter → FunctionPlan
+function_made l (Some functions.RowNumber) given filter = RowNumber
+function_made l (Some functions.Rank) given filter = Rank
+function_made l (Some functions.DenseRank) given filter = DenseRank
+function_made l (Some functions.Ntile) given filter = Tile (number_or 1 (argument 0 given))
+function_made l (Some functions.Lag) given filter = Lag (resolved l (argument 0 given)) (number_or 1 (argument 1 given)) (literal_of (argument 2 given))
+function_made l (Some functions.Lead) given filter = Lead (resolved l (argument 0 given)) (number_or 1 (argument 1 given)) (literal_of (argument 2 given))
+function_made l (Some functions.FirstValue) given filter = FirstValue (resolved l (argument 0 given))
+function_made l (Some functions.LastValue) given filter = LastValue (resolved l (argument 0 given))
+function_made l (Some functions.NthValue) given filter = NthValue (resolved l (argument 0 given)) (number_or 1 (argument 1 given))
+function_made l f given filter = Aggregated (aggregated l f given filter)
+
+abbrev pub call_function : Layout → Tree → FunctionPlan
+call_function l (Invoked name given filter reach) = function_made l (function_of name) given filter
+call_function l _ = RowNumber
+
+-- windows
+
+-- nulls stand last where nothing is said, and first where the order descends
+abbrev pub nulls_first : Bool → Option NullOrder → Bool
+nulls_first descending None = descending
+nulls_first descending (Some First) = true
+nulls_first descending (Some Last) = false
+
+abbrev pub sort_key : Bool → Option NullOrder → SortKey
+sort_key descending nulls = record { col = 0; desc = descending; nulls_first = nulls_first descending nulls }
+
+abbrev pub key_made : Formula → Bool → Option NullOrder → KeyPlan
+key_made value descending nulls = record { value = value; order = sort_key descending nulls }
+
+abbrev pub trees_made : Layout → Trees → List Formula
+trees_made l NoTrees = []
+trees_made l (MoreTrees t ts) = resolved l t ∷ trees_made l ts
+
+abbrev pub keys_made : Layout → Keys → List KeyPlan
+keys_made l NoKeys = []
+keys_made l (MoreKeys t descending nulls more) = key_made (resolved l t) descending nulls ∷ keys_made l more
+
+abbrev pub or_no_others : Option FrameExclusion → FrameExclusion
+or_no_others None = NoOthers
+or_no_others (Some e) = e
+
+-- the default frame is RANGE UNBOUNDED PRECEDING
+abbrev pub frame_made : Option Frame → SettledFrame
+frame_made None = record { mode = Range; start = UnboundedPreceding; end = CurrentRow; exclusion = NoOthers }
+frame_made (Some f) = record { mode = f.mode; start = f.start; end = end_of f; exclusion = or_no_others f.exclusion }
+
+abbrev pub window_made : Layout → Settled → WindowPlan
+window_made l w = record { partition = trees_made l w.partition; keys = keys_made l w.order; frame = frame_made w.frame }
+
+-- the windows of WINDOW entries, used or not
+abbrev pub entries_made : Layout → List NamedWindow → List WindowPlan
+entries_made l [] = []
+entries_made l (w ∷ ws) = window_made l w.window ∷ entries_made l ws
+
+-- a window of its own
+abbrev pub is_own_window : Reach → Bool
+is_own_window ItsGroup = false
+is_own_window (ThatWindow name) = false
+is_own_window (OwnWindow copied partition order frame) = true
+
+-- a call with a window of its own
+abbrev pub has_own_window : Tree → Bool
+has_own_window (Invoked name given filter reach) = is_own_window reach
+has_own_window _ = false
+
+-- a window of its own, with what it copies from WINDOW entries
+abbrev pub window_of_reach : Layout → List NamedWindow → Reach → List WindowPlan
+window_of_reach l ws ItsGroup = []
+window_of_reach l ws (ThatWindow name) = []
+window_of_reach l ws (OwnWindow copied partition order frame) = window_made l (settle ws copied partition order frame) ∷ []
+
+abbrev pub own_window : Layout → List NamedWindow → Tree → List WindowPlan
+own_window l ws (Invoked name given filter reach) = window_of_reach l ws reach
+own_window l ws _ = []
+
+-- the windows that calls have of their own, in the order of the calls, with what they copy from WINDOW entries
+abbrev pub own_windows : Layout → List NamedWindow → List Tree → List WindowPlan
+own_windows l ws [] = []
+own_windows l ws (t ∷ ts) = own_window l ws t ++ own_windows l ws ts
+
+-- the place of the first window of this name, or their number
+abbrev pub window_place : List NamedWindow → List ℕ → ℕ
+window_place [] name = 0
+window_place (w ∷ ws) name = if bytes_eq w.name name then 0 else suc (window_place ws name)
+
+abbrev pub place_of_reach : List NamedWindow → ℕ → Reach → ℕ
+place_of_reach ws next ItsGroup = next
+place_of_reach ws next (ThatWindow name) = window_place ws name
+place_of_reach ws next (OwnWindow copied partition order frame) = next
+
+-- the place of a call's window, where the next window of a call's own has this place
+abbrev pub place_over : List NamedWindow → ℕ → Tree → ℕ
+place_over ws next (Invoked name given filter reach) = place_of_reach ws next reach
+place_over ws next _ = next
+
+-- the calls with OVER; their own windows stand behind the WINDOW entries, in the order of the calls
+abbrev pub calls_made : Layout → List NamedWindow → ℕ → List Tree → List CallPlan
+calls_made l ws next [] = []
+calls_made l ws next (t ∷ ts) =
+    record { window = place_over ws next t; function = call_function l t } ∷ calls_made l ws (if has_own_window t then suc next else next) ts
+
+-- one SELECT
+
+abbrev pub has_some : {X : Type 0} → List X → Bool
+has_some [] = false
+has_some (x ∷ xs) = true
+
+abbrev pub column_place : List Titled → Tree → ℕ
+column_place cs (Field qualifier name) = place_named cs name
+column_place cs _ = length cs
+
+-- the places of GROUP BY's columns in the source's row
+abbrev pub group_columns : List Titled → Clauses → List ℕ
+group_columns cs c = map (column_place cs) c.grouping
+
+-- GROUP BY, HAVING, or an aggregate without OVER in the SELECT list, WINDOW or ORDER BY, of which these are all
+abbrev pub is_grouped : Clauses → List Tree → Bool
+is_grouped c grouped = has_some c.grouping || (is_some c.having || has_some grouped)
+
+-- the row of windows, items and keys: the source's, or GROUP BY's columns and the aggregates; behind it what the calls
+-- with OVER answer
+abbrev pub shown_row : List Titled → Clauses → List Tree → List Tree → Layout
+shown_row cs c grouped windowed = record { columns = cs; grouping = if is_grouped c grouped then Some (group_columns cs c) else None; calls = grouped ++ windowed }
+
+abbrev pub shown_formula : Layout → Shown → Formula
+shown_formula l (Placed place) = At (cell_of l place)
+shown_formula l (Spelled t) = resolved l t
+
+abbrev pub output_made : Layout → ShownItem → OutputPlan
+output_made l i = record { name = i.name; value = shown_formula l i.shown }
+
+-- the first item of an output name, or else this
+abbrev pub called_or : Shown → List ℕ → List ShownItem → Shown
+called_or otherwise name [] = otherwise
+called_or otherwise name (i ∷ is) = if bytes_eq i.name name then i.shown else called_or otherwise name is
+
+-- the item of a place, counted from 0; NULL where there is none
+abbrev pub item_at : ℕ → List ShownItem → Shown
+item_at n [] = Spelled NullWord
+item_at zero (i ∷ is) = i.shown
+item_at (suc n) (i ∷ is) = item_at n is
+
+-- what a key of the query's ORDER BY stands for: a bare number for an item, a bare name for an output first
+abbrev pub key_shown : List ShownItem → Tree → Shown
+key_shown items (Numeral n) = item_at (n - 1) items
+key_shown items (Field None name) = called_or (Spelled (Field None name)) name items
+key_shown items t = Spelled t
+
+abbrev pub order_made : Layout → List ShownItem → KeyTree → KeyPlan
+order_made l items k = key_made (shown_formula l (key_shown items k.expression)) k.descending k.nulls
+
+-- GROUP BY where the row of windows, items and keys is a group's; the aggregates are over the source's row, HAVING over the
+-- group's
+abbrev pub grouping_over : List Titled → List Tree → Layout → Clauses → Option (List ℕ) → Option GroupingPlan
+grouping_over cs grouped l c None = None
+grouping_over cs grouped l c (Some places) = Some (record { columns = places; aggregates = map (aggregate_made (source_row cs)) grouped; having = resolved_option l c.having })
+
+-- those of WINDOW entries, used or not, and behind them those of calls
+abbrev pub windows_made : Layout → List NamedWindow → List Tree → List WindowPlan
+windows_made l ws windowed = entries_made l ws ++ own_windows l ws windowed
+
+-- a SELECT over these columns, with these aggregates without OVER and these calls with OVER, whose items are over this row
+abbrev pub select_over : List Titled → List Tree → List Tree → Layout → Clauses → SelectPlan
+select_over cs grouped windowed l c = record {
+  condition = resolved_option (source_row cs) c.condition;
+  grouping = grouping_over cs grouped l c l.grouping;
+  windows = windows_made l (settle_all [] c.windows) windowed;
+  calls = calls_made l (settle_all [] c.windows) (length (settle_all [] c.windows)) windowed;
+  items = map (output_made l) (written_out cs c.items);
+  keys = map (order_made l (written_out cs c.items)) c.order;
+  offset = unwrap_or c.offset 0;
+  limit = c.limit;
+}
+
+-- the same over the row that these calls make
+abbrev pub select_with : List Titled → Clauses → List Tree → List Tree → SelectPlan
+select_with cs c grouped windowed = select_over cs grouped windowed (shown_row cs c grouped windowed) c
+
+-- a SELECT over these columns
+abbrev pub select_made : List Titled → Clauses → SelectPlan
+select_made cs c = select_with cs c (group_calls c) (window_calls c)
+
+-- a query
+
+abbrev mutual
+  -- the innermost SELECT first: each is over the answer of the one before, the first over the declared table
+  pub resolved_query : Declaration → QueryTree → List SelectPlan
+  resolved_query d (Selected c s) = resolved_source d s ++ (select_made (origin_of d s).columns c ∷ [])
+
+  pub resolved_source : Declaration → SourceTree → List SelectPlan
+  resolved_source d (FromTable name alias) = []
+  resolved_source d (FromQuery q alias) = resolved_query d q

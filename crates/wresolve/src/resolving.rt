@@ -1,0 +1,126 @@
+//! Expressions of queries as expressions over rows.
+
+ghost use Rattle.std.specs.Prelude.{◌≡◌, ◌+◌, IfOk, map};
+ghost use Rattle.wquery.specs.Tree.{view, view_call, view_link, views};
+ghost use Rattle.wplan.specs.Formula.{formula, operand_of, At};
+ghost use Rattle.wresolve.specs.Resolving.{resolved, branch_made, cell_of, place_of_same, width};
+ghost use Rattle.wresolve.specs.Resolving.{layout_of};
+ghost use Rattle.wscope.specs.Types.{place_named as place_of_name};
+
+use crate::layout::{RowLayout, place_of_call};
+use crate::making::{among, chain, compared, not, null_test, number, signed, within};
+use std::alloc::{AllocError, Global};
+use wplan::{Expr, Further};
+use wquery::{Call, Expression, Link};
+use wscope::place_named;
+
+#[tactic(auto, unfolding(wplan::specs::Formula::formula))]
+fn field(layout: &RowLayout, name: &str) -> Expr
+    ensures { formula result ≡ At (cell_of (layout_of layout.now) (place_of_name (layout_of layout.now).columns name.now)) }
+{
+    Expr::Place(layout.cell(place_named(layout.columns, name)))
+}
+
+// What a call answers stands behind the row's own cells.
+#[tactic(auto, unfolding(wplan::specs::Formula::formula))]
+fn answer(layout: &RowLayout, call: &Call) -> Expr
+    ensures { formula result ≡ At (width (layout_of layout.now) + place_of_same (layout_of layout.now).calls (view_call call.now)) }
+{
+    Expr::Place(layout.width() + place_of_call(layout.calls, call))
+}
+
+/// The expression over a row.
+#[cycle(resolving)]
+#[tactic(auto, unfolding(wquery::specs::Tree::view, wplan::specs::Formula::formula, wquery::specs::Tree::view_link))]
+pub fn build(alloc: Global, layout: &RowLayout, e: &Expression) -> Result<Expr, AllocError>
+    ensures { IfOk result (λ x. formula x ≡ resolved (layout_of layout.now) (view e.now)) }
+{
+    match e {
+        Expression::Null => Ok(Expr::Null),
+        Expression::Number(n) => Ok(number(n.get())),
+        Expression::Text(text) => Ok(Expr::Text(text.clone()?)),
+        Expression::Column(column) => Ok(field(layout, column.name.as_str())),
+        Expression::Not(operand) => {
+            let x = build(alloc, layout, operand)?;
+            not(alloc, x)
+        }
+        Expression::Sign { minus, operand } => {
+            let x = build(alloc, layout, operand)?;
+            signed(alloc, *minus, x)
+        }
+        Expression::Chain { first, links, .. } => {
+            let x = build(alloc, layout, first)?;
+            let further = build_links(alloc, layout, links.as_slice())?;
+            chain(alloc, x, further)
+        }
+        Expression::Compare {
+            comparison,
+            left,
+            right,
+        } => {
+            let x = build(alloc, layout, left)?;
+            let y = build(alloc, layout, right)?;
+            compared(alloc, *comparison, x, y)
+        }
+        Expression::IsNull { negated, operand } => {
+            let x = build(alloc, layout, operand)?;
+            null_test(alloc, *negated, x)
+        }
+        Expression::Between {
+            negated,
+            operand,
+            low,
+            high,
+        } => {
+            let x = build(alloc, layout, operand)?;
+            let y = build(alloc, layout, low)?;
+            let z = build(alloc, layout, high)?;
+            within(alloc, *negated, x, y, z)
+        }
+        Expression::In {
+            negated,
+            operand,
+            list,
+        } => {
+            let x = build(alloc, layout, operand)?;
+            let made = build_listed(alloc, layout, list.as_slice())?;
+            among(alloc, *negated, x, made)
+        }
+        Expression::Call(call) => Ok(answer(layout, call)),
+    }
+}
+
+#[cycle(resolving)]
+fn build_links(
+    alloc: Global,
+    layout: &RowLayout,
+    links: &[Link],
+) -> Result<Vec<Further>, AllocError>
+    ensures { IfOk result (λ made. map operand_of made.items ≡ map (branch_made (layout_of layout.now)) (map view_link links.now)) }
+{
+    let mut made = Vec::new(alloc);
+    'links: for link in links {
+        let operand = build(alloc, layout, &link.operand)?;
+        made.push(Further {
+            operator: link.operator,
+            operand,
+        })?;
+    }
+    Ok(made)
+}
+
+#[cycle(resolving)]
+pub fn build_listed(
+    alloc: Global,
+    layout: &RowLayout,
+    list: &[Expression],
+) -> Result<Vec<Expr>, AllocError>
+    ensures { IfOk result (λ made. map formula made.items ≡ map (resolved (layout_of layout.now)) (views list.now)) }
+{
+    let mut made = Vec::new(alloc);
+    'list: for e in list {
+        let x = build(alloc, layout, e)?;
+        made.push(x)?;
+    }
+    Ok(made)
+}

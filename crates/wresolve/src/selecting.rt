@@ -1,0 +1,346 @@
+//! SELECTs with each name and default settled.
+
+ghost use Rattle.std.specs.Prelude.{◌≡◌, ◌++◌, ◌∷◌, [], ◌||◌, IfOk, OnOk, map, length, Some, None, is_some, unwrap_or, if◌then◌else◌};
+ghost use Rattle.std.specs.Rc.{rc_str_bytes};
+ghost use Rattle.wquery.specs.Tree.{view_key, view_column, view_optional};
+ghost use Rattle.wplan.specs.Formula.{formula};
+ghost use Rattle.wplan.specs.Plans.{aggregate_plan, grouping_plan, optional_grouping, output_plan, key_plan, select_plan, window_plan, call_plan};
+ghost use Rattle.wscope.specs.Sources.{all_titled};
+ghost use Rattle.wscope.specs.Windows.{named_windows};
+ghost use Rattle.wresolve.specs.Calls.{call_trees};
+ghost use Rattle.wresolve.specs.Clauses.{clauses_in};
+ghost use Rattle.wresolve.specs.Resolving.{layout_of, places_of, source_row, resolved_option};
+ghost use Rattle.wresolve.specs.Shown.{shown_of, shown_item, shown_items};
+ghost use Rattle.wresolve.specs.Selecting.{aggregate_made, column_place, output_made, order_made, shown_formula, grouping_over, windows_made, calls_made, has_some, is_grouped as is_grouped_query, select_over, select_with, select_made};
+
+use crate::calls::{group_calls, window_calls};
+use crate::functions::{build_aggregate, build_option};
+use crate::layout::RowLayout;
+use crate::resolving::build;
+use crate::shown::{ShownOutput, ShownValue, key_value, written_out};
+use crate::windows::{build_calls, build_entries, push_own_windows, sort_key};
+use std::alloc::{AllocError, Global};
+use std::rc::RcStr;
+use wplan::{Aggregate, CallOver, Expr, Grouping, Output, Selection, SettledKey, SettledWindow};
+use wquery::{Call, Column, Key, Query};
+use wscope::{FullEntry, SourceColumn, place_named, settle_all};
+
+fn group_columns(
+    alloc: Global,
+    columns: &[SourceColumn],
+    grouping: &[Column],
+) -> Result<Vec<usize>, AllocError>
+    ensures { IfOk result (λ places. places.items ≡ map (column_place (all_titled columns.now)) (map view_column grouping.now)) }
+{
+    let mut places = Vec::with_capacity(alloc, grouping.len())?;
+    'grouping: for column in grouping {
+        let place = place_named(columns, column.name.as_str());
+        places.push(place)?;
+    }
+    Ok(places)
+}
+
+fn build_aggregates(
+    alloc: Global,
+    layout: &RowLayout,
+    calls: &[&Call],
+) -> Result<Vec<Aggregate>, AllocError>
+    ensures { IfOk result (λ made. map aggregate_plan made.items ≡ map (aggregate_made (layout_of layout.now)) (call_trees calls.now)) }
+{
+    let mut made = Vec::with_capacity(alloc, calls.len())?;
+    'calls: for call in calls {
+        let next = build_aggregate(alloc, layout, call)?;
+        made.push(next)?;
+    }
+    Ok(made)
+}
+
+#[tactic(auto, unfolding(wplan::specs::Formula::formula))]
+fn build_shown(alloc: Global, layout: &RowLayout, value: &ShownValue) -> Result<Expr, AllocError>
+    ensures { IfOk result (λ x. formula x ≡ shown_formula (layout_of layout.now) (shown_of value.now)) }
+{
+    match value {
+        ShownValue::Column(place) => Ok(Expr::Place(layout.cell(*place))),
+        ShownValue::Expression(e) => build(alloc, layout, e),
+        ShownValue::Nothing => Ok(Expr::Null),
+    }
+}
+
+fn build_output(alloc: Global, layout: &RowLayout, item: &ShownOutput) -> Result<Output, AllocError>
+    ensures { IfOk result (λ o. output_plan o ≡ output_made (layout_of layout.now) (shown_item item.now)) }
+{
+    let name = RcStr::from_str(alloc, item.name)?;
+    let value = build_shown(alloc, layout, &item.value)?;
+    Ok(Output { name, value })
+}
+
+fn build_outputs(
+    alloc: Global,
+    layout: &RowLayout,
+    shown: &[ShownOutput],
+) -> Result<Vec<Output>, AllocError>
+    ensures { IfOk result (λ made. map output_plan made.items ≡ map (output_made (layout_of layout.now)) (shown_items shown.now)) }
+{
+    let mut made = Vec::with_capacity(alloc, shown.len())?;
+    'shown: for item in shown {
+        let next = build_output(alloc, layout, item)?;
+        made.push(next)?;
+    }
+    Ok(made)
+}
+
+#[tactic(auto, unfolding(wquery::specs::Tree::view_key, wquery::specs::Tree::view))]
+fn build_order_key(
+    alloc: Global,
+    layout: &RowLayout,
+    shown: &[ShownOutput],
+    key: &Key,
+) -> Result<SettledKey, AllocError>
+    ensures { IfOk result (λ k. key_plan k ≡ order_made (layout_of layout.now) (shown_items shown.now) (view_key key.now)) }
+{
+    let value = build_shown(alloc, layout, &key_value(shown, &key.expression))?;
+    Ok(SettledKey {
+        value,
+        order: sort_key(key.descending, key.nulls),
+    })
+}
+
+fn build_order(
+    alloc: Global,
+    layout: &RowLayout,
+    shown: &[ShownOutput],
+    order: &[Key],
+) -> Result<Vec<SettledKey>, AllocError>
+    ensures { IfOk result (λ made. map key_plan made.items ≡ map (order_made (layout_of layout.now) (shown_items shown.now)) (map view_key order.now)) }
+{
+    let mut made = Vec::with_capacity(alloc, order.len())?;
+    'keys: for key in order {
+        let next = build_order_key(alloc, layout, shown, key)?;
+        made.push(next)?;
+    }
+    Ok(made)
+}
+
+// The calls whose answers stand behind the cells of the row of items and keys: aggregates without OVER, then calls with
+// OVER.
+fn all_calls<'a>(
+    alloc: Global,
+    grouped: &[&'a Call],
+    windowed: &[&'a Call],
+) -> Result<Vec<&'a Call>, AllocError>
+    ensures { IfOk result (λ calls. call_trees calls.items ≡ call_trees grouped.now ++ call_trees windowed.now) }
+{
+    let mut calls = Vec::with_capacity(alloc, grouped.len())?;
+    'grouped: for call in grouped {
+        calls.push(*call)?;
+    }
+    'windowed: for call in windowed {
+        calls.push(*call)?;
+    }
+    Ok(calls)
+}
+
+fn is_grouped(query: &Query, grouped: &[&Call]) -> bool
+    ensures { result ≡ (has_some (map view_column query.now.grouping.items) || (is_some (view_optional query.now.having) || has_some (call_trees grouped.now))) }
+{
+    !query.grouping.is_empty() || (query.having.is_some() || !grouped.is_empty())
+}
+
+fn places_if(is_grouped: bool, places: &[usize]) -> Option<&[usize]>
+    ensures { places_of result ≡ if is_grouped then Some places.now else None }
+{
+    if is_grouped { Some(places) } else { None }
+}
+
+fn row_layout<'a>(
+    columns: &'a [SourceColumn],
+    grouping: Option<&'a [usize]>,
+    calls: &'a [&'a Call],
+) -> RowLayout<'a>
+    ensures { layout_of result ≡ record { columns = all_titled columns.now; grouping = places_of grouping.entry; calls = call_trees calls.now } }
+{
+    RowLayout {
+        columns,
+        grouping,
+        calls,
+    }
+}
+
+fn source_layout(columns: &[SourceColumn]) -> RowLayout<'_>
+    ensures { layout_of result ≡ source_row (all_titled columns.now) }
+{
+    row_layout(columns, None, &[])
+}
+
+fn build_grouping(
+    alloc: Global,
+    columns: &[SourceColumn],
+    places: &[usize],
+    grouped: &[&Call],
+    layout: &RowLayout,
+    query: &Query,
+) -> Result<Grouping, AllocError>
+    ensures { IfOk result (λ g. grouping_plan g ≡ record { columns = places.now; aggregates = map (aggregate_made (source_row (all_titled columns.now))) (call_trees grouped.now); having = resolved_option (layout_of layout.now) (view_optional query.now.having) }) }
+{
+    let source = source_layout(columns);
+    let aggregates = build_aggregates(alloc, &source, grouped)?;
+    let having = build_option(alloc, layout, &query.having)?;
+    let columns = places.to_vec(alloc)?;
+    Ok(Grouping {
+        columns,
+        aggregates,
+        having,
+    })
+}
+
+fn build_optional_grouping(
+    alloc: Global,
+    columns: &[SourceColumn],
+    grouped: &[&Call],
+    layout: &RowLayout,
+    query: &Query,
+) -> Result<Option<Grouping>, AllocError>
+    ensures { IfOk result (λ g. optional_grouping g ≡ grouping_over (all_titled columns.now) (call_trees grouped.now) (layout_of layout.now) (clauses_in query.now) (layout_of layout.now).grouping) }
+{
+    match layout.grouping {
+        None => Ok(None),
+        Some(places) => {
+            let grouping = build_grouping(alloc, columns, places, grouped, layout, query)?;
+            Ok(Some(grouping))
+        }
+    }
+}
+
+fn build_windows(
+    alloc: Global,
+    layout: &RowLayout,
+    entries: &[FullEntry],
+    windowed: &[&Call],
+) -> Result<Vec<SettledWindow>, AllocError>
+    ensures { IfOk result (λ made. map window_plan made.items ≡ windows_made (layout_of layout.now) (named_windows entries.now) (call_trees windowed.now)) }
+{
+    let mut windows = build_entries(alloc, layout, entries)?;
+    push_own_windows(alloc, layout, entries, &mut windows, windowed)?;
+    Ok(windows)
+}
+
+fn build_window_calls(
+    alloc: Global,
+    layout: &RowLayout,
+    entries: &[FullEntry],
+    windowed: &[&Call],
+) -> Result<Vec<CallOver>, AllocError>
+    ensures { IfOk result (λ made. map call_plan made.items ≡ calls_made (layout_of layout.now) (named_windows entries.now) (length (named_windows entries.now)) (call_trees windowed.now)) }
+{
+    build_calls(alloc, layout, entries, entries.len(), windowed)
+}
+
+fn build_selection<'a>(
+    alloc: Global,
+    columns: &'a [SourceColumn],
+    grouped: &'a [&'a Call],
+    windowed: &'a [&'a Call],
+    layout: &RowLayout<'a>,
+    query: &'a Query,
+) -> Result<Selection, AllocError>
+    ensures { IfOk result (λ s. select_plan s ≡ select_over (all_titled columns.now) (call_trees grouped.now) (call_trees windowed.now) (layout_of layout.now) (clauses_in query.now)) }
+{
+    let source = source_layout(columns);
+    let condition = build_option(alloc, &source, &query.condition)?;
+    let grouping = build_optional_grouping(alloc, columns, grouped, layout, query)?;
+    let entries = settle_all(alloc, query.windows.as_slice())?;
+    let windows = build_windows(alloc, layout, entries.as_slice(), windowed)?;
+    let calls = build_window_calls(alloc, layout, entries.as_slice(), windowed)?;
+    let shown = written_out(alloc, columns, query.items.as_slice())?;
+    let items = build_outputs(alloc, layout, shown.as_slice())?;
+    let keys = build_order(alloc, layout, shown.as_slice(), query.order.as_slice())?;
+    Ok(Selection {
+        condition,
+        grouping,
+        windows,
+        calls,
+        items,
+        keys,
+        offset: offset_of(query),
+        limit: limit_of(query),
+    })
+}
+
+fn offset_of(query: &Query) -> u128
+    ensures { result ≡ unwrap_or (clauses_in query.now).offset 0 }
+{
+    match &query.offset {
+        Some(offset) => offset.get(),
+        None => 0,
+    }
+}
+
+fn limit_of(query: &Query) -> Option<u128>
+    ensures { result ≡ (clauses_in query.now).limit }
+{
+    match &query.limit {
+        Some(limit) => Some(limit.get()),
+        None => None,
+    }
+}
+
+// A SELECT over the row of these columns, calls and places of the group's columns.
+fn build_over<'a>(
+    alloc: Global,
+    columns: &'a [SourceColumn],
+    grouped: &'a [&'a Call],
+    windowed: &'a [&'a Call],
+    places: &'a [usize],
+    calls: &'a [&'a Call],
+    query: &'a Query,
+) -> Result<Selection, AllocError>
+    ensures { IfOk result (λ s. select_plan s ≡ select_over (all_titled columns.now) (call_trees grouped.now) (call_trees windowed.now) (record { columns = all_titled columns.now; grouping = if is_grouped_query (clauses_in query.now) (call_trees grouped.now) then Some places.now else None; calls = call_trees calls.now }) (clauses_in query.now)) }
+{
+    let grouping = places_if(is_grouped(query, grouped), places);
+    let layout = row_layout(columns, grouping, calls);
+    let selection = build_selection(alloc, columns, grouped, windowed, &layout, query)?;
+    Ok(selection)
+}
+
+fn build_with<'a>(
+    alloc: Global,
+    columns: &'a [SourceColumn],
+    grouped: &'a [&'a Call],
+    windowed: &'a [&'a Call],
+    query: &'a Query,
+) -> Result<Selection, AllocError>
+    ensures { IfOk result (λ s. select_plan s ≡ select_with (all_titled columns.now) (clauses_in query.now) (call_trees grouped.now) (call_trees windowed.now)) }
+{
+    let calls = all_calls(alloc, grouped, windowed)?;
+    let places = group_columns(alloc, columns, query.grouping.as_slice())?;
+    let selection = build_over(
+        alloc,
+        columns,
+        grouped,
+        windowed,
+        places.as_slice(),
+        calls.as_slice(),
+        query,
+    )?;
+    Ok(selection)
+}
+
+/// A SELECT over the columns of its source.
+pub fn build_select<'a>(
+    alloc: Global,
+    columns: &'a [SourceColumn],
+    query: &'a Query,
+) -> Result<Selection, AllocError>
+    ensures { IfOk result (λ s. select_plan s ≡ select_made (all_titled columns.now) (clauses_in query.now)) }
+{
+    let grouped = group_calls(alloc, query)?;
+    let windowed = window_calls(alloc, query)?;
+    let selection = build_with(
+        alloc,
+        columns,
+        grouped.as_slice(),
+        windowed.as_slice(),
+        query,
+    )?;
+    Ok(selection)
+}

@@ -1,0 +1,4 @@
+pub mod RowFacts
+pub mod SortFacts
+mod MoreSorting
+mod CodeFacts

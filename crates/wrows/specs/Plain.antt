@@ -1,0 +1,47 @@
+-- A SELECT without groups and windows (<query specification>, <order by clause>, <result offset clause>, <fetch first clause>).
+use Rattle.std.specs.Prelude.{ℕ, List, map, length, take, drop, min, Option, Some, None, Result, Ok}
+use Rattle.std.specs.Ordering.{on}
+use Rattle.wvalues.specs.declared.key.SortKey.{SortKey}
+use Rattle.wvalues.specs.Meaning.{Meaning}
+use Rattle.wvalues.specs.Order.{keys_cmp}
+use Rattle.wframe.specs.Peers.{key_at}
+use Rattle.wframe.specs.Places.{places}
+use Rattle.wplan.specs.Formula.{Formula}
+use Rattle.wrows.specs.declared.fault.AnswerFault.{AnswerFault}
+use Rattle.wrows.specs.Outcomes.{◌>>=◌}
+use Rattle.wrows.specs.Columns.{Row, held_rows, not_too_many, lists_of}
+use Rattle.wrows.specs.Sorting.{sorted}
+
+-- the numbers of rows by their keys, and then by number
+abbrev pub numbers_by : List SortKey → List (List Meaning) → ℕ → List ℕ
+numbers_by order keys count = sorted (on (key_at keys) (keys_cmp order)) (places count)
+
+-- rows by their keys, and then by number
+abbrev pub ordered : List SortKey → List (List Meaning) → List Row → List Row
+ordered order keys rows = map (key_at rows) (numbers_by order keys (length rows))
+
+-- at most so many, where there is a limit
+abbrev pub at_most_limit : Option ℕ → ℕ → ℕ
+at_most_limit None n = n
+at_most_limit (Some limit) n = min limit n
+
+-- without the first ones, and of the others the first
+abbrev pub cut : {X : Type 0} → ℕ → Option ℕ → List X → List X
+cut offset None rows = drop offset rows
+cut offset (Some limit) rows = take limit (drop offset rows)
+
+-- the rows that a condition keeps, if they are not too many
+abbrev pub kept_of : Option Formula → List Row → Result (List Row) AnswerFault
+kept_of condition rows = held_rows condition rows >>= not_too_many
+
+-- the items of the rows that are asked for, in order. All items and keys are evaluated, on every row
+abbrev pub ordered_of : List Formula → List Formula → List SortKey → ℕ → Option ℕ → List Row → Result (List Row) AnswerFault
+ordered_of items keys order offset limit rows = do
+  told ← lists_of items rows
+  by ← lists_of keys rows
+  Ok (cut offset limit (ordered order by told))
+
+abbrev pub plain_of : Option Formula → List Formula → List Formula → List SortKey → ℕ → Option ℕ → List Row → Result (List Row) AnswerFault
+plain_of condition items keys order offset limit rows = do
+  kept ← kept_of condition rows
+  ordered_of items keys order offset limit kept

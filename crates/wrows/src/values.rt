@@ -1,0 +1,40 @@
+//! What an expression comes to on one row.
+ghost use Rattle.std.specs.Prelude.{◌≡◌, map};
+ghost use Rattle.wvalues.specs.Meaning.{meaning};
+ghost use Rattle.wplan.specs.Formula.{formula};
+ghost use Rattle.wplan.specs.Values.{is_yes};
+ghost use Rattle.wrows.specs.declared.fault.AnswerFault.TheVariants.{OutOfRange};
+ghost use Rattle.wrows.specs.Outcomes.{Gives, unless};
+ghost use Rattle.wrows.specs.Columns.{is_out_of_range, holds_on, value_on};
+
+use crate::fault::AnswerFault;
+use wplan::{EvalFault, Expr, eval};
+use wvalues::{Truth, Value};
+
+fn is_yes(truth: Truth) -> bool
+    ensures { result ≡ is_yes truth }
+{
+    matches!(truth, Truth::Yes)
+}
+
+/// Whether a condition is true on a row.
+pub(crate) fn holds(condition: &Expr, row: &[Value]) -> Result<bool, AnswerFault>
+    ensures { Gives (λ b. b) result (unless (is_out_of_range (formula condition.now) (map meaning row.now)) OutOfRange (holds_on (formula condition.now) (map meaning row.now))) }
+{
+    match eval(condition, row) {
+        Ok(cell) => Ok(is_yes(cell.truth())),
+        Err(EvalFault::OutOfRange) => Err(AnswerFault::OutOfRange),
+        Err(EvalFault::NoMemory) => Err(AnswerFault::NoMemory),
+    }
+}
+
+/// The value of an expression on a row.
+pub(crate) fn value(expr: &Expr, row: &[Value]) -> Result<Value, AnswerFault>
+    ensures { Gives meaning result (unless (is_out_of_range (formula expr.now) (map meaning row.now)) OutOfRange (value_on (formula expr.now) (map meaning row.now))) }
+{
+    match eval(expr, row) {
+        Ok(cell) => Ok(cell.into_value()),
+        Err(EvalFault::OutOfRange) => Err(AnswerFault::OutOfRange),
+        Err(EvalFault::NoMemory) => Err(AnswerFault::NoMemory),
+    }
+}

@@ -1,0 +1,252 @@
+//! The least rule that a query breaks.
+
+ghost use Rattle.std.specs.Prelude.{◌≡◌, IfOk, None, nat_lt};
+ghost use Rattle.wsegment.specs.Declaration.{Declaration};
+ghost use Rattle.wquery.specs.QueryTree.{view_query, view_source};
+ghost use Rattle.wscope.specs.Scope.{clauses_of};
+ghost use Rattle.wscope.specs.Sources.{all_titled, answered, origin_of};
+ghost use Rattle.wscope.specs.Windows.{named_windows};
+ghost use Rattle.wnames.specs.Names.{source_of};
+ghost use Rattle.wwindows.specs.Windows.{windows_of};
+ghost use Rattle.wrules.specs.Rules.{least_broken, first_of_names as first_on_names, first_of_windows as first_on_windows, least, least_source, depth, first_broken_rule as least_rule};
+ghost use Rattle.wrules.specs.Judging.{JudgesQuery, JudgesSource};
+
+use crate::rule::Rule;
+use std::alloc::{AllocError, Global};
+use wnames::{
+    calls_wrongly, counts_none, filters_wrongly, has_wrong_types, misplaces_aggregates,
+    misplaces_window_calls, names_ambiguously, names_ungrouped_column, names_unknown_column,
+    names_unknown_table,
+};
+use wquery::{Query, Source};
+use wscope::{FullEntry, SourceColumn, declared_columns, output_columns, settle_all};
+use wsegment::Schema;
+use wwindows::{
+    bounds_wrongly, copies_wrongly, exceeds_limits, has_unordered_groups, has_wrong_place,
+    has_wrong_range_key, names_unknown_window, repeats_windows,
+};
+
+/// What judging a query, or the source of one, has found.
+#[derive(Drop)]
+pub(crate) enum Judgement {
+    /// The least rule that it breaks.
+    Broken(Rule),
+    /// None, and these columns.
+    Columns(Vec<SourceColumn>),
+}
+
+/// The first rule that is broken of those on names, calls, types and groups.
+fn first_of_names(table: &str, alias: &str, columns: &[SourceColumn], query: &Query) -> Option<Rule>
+    ensures { result ≡ first_on_names table.now alias.now (all_titled columns.now) (clauses_of (view_query query.now)) (source_of (view_query query.now)) }
+{
+    if names_unknown_table(table, alias, columns, query) {
+        return Some(Rule::UnknownTable);
+    }
+    if names_unknown_column(columns, query) {
+        return Some(Rule::UnknownColumn);
+    }
+    if names_ambiguously(columns, query) {
+        return Some(Rule::AmbiguousName);
+    }
+    if calls_wrongly(columns, query) {
+        return Some(Rule::WrongCall);
+    }
+    if has_wrong_types(columns, query) {
+        return Some(Rule::WrongType);
+    }
+    if misplaces_window_calls(columns, query) {
+        return Some(Rule::MisplacedWindowCall);
+    }
+    if misplaces_aggregates(columns, query) {
+        return Some(Rule::MisplacedAggregate);
+    }
+    if names_ungrouped_column(columns, query) {
+        return Some(Rule::UngroupedColumn);
+    }
+    if filters_wrongly(columns, query) {
+        return Some(Rule::WrongFilter);
+    }
+    None
+}
+
+/// The first rule that is broken of those on windows, places and limits.
+#[tactic(auto, unfolding(wquery::specs::QueryTree::view_query))]
+fn first_of_windows(windows: &[FullEntry], columns: &[SourceColumn], query: &Query) -> Option<Rule>
+    ensures { result ≡ first_on_windows (named_windows windows.now) (all_titled columns.now) (clauses_of (view_query query.now)) }
+{
+    if names_unknown_window(windows, columns, query) {
+        return Some(Rule::UnknownWindow);
+    }
+    if repeats_windows(query.windows.as_slice()) {
+        return Some(Rule::RepeatedWindow);
+    }
+    if copies_wrongly(windows, columns, query) {
+        return Some(Rule::WrongCopy);
+    }
+    if bounds_wrongly(windows, columns, query) {
+        return Some(Rule::WrongBounds);
+    }
+    if has_unordered_groups(windows, columns, query) {
+        return Some(Rule::UnorderedGroups);
+    }
+    if has_wrong_range_key(windows, columns, query) {
+        return Some(Rule::WrongRangeKey);
+    }
+    if counts_none(columns, query) {
+        return Some(Rule::ZeroCount);
+    }
+    if has_wrong_place(columns, query) {
+        return Some(Rule::WrongPlace);
+    }
+    if exceeds_limits(columns, query) {
+        return Some(Rule::OverLimit);
+    }
+    None
+}
+
+#[tactic(auto, unfolding(wquery::specs::QueryTree::view_query))]
+fn settled_windows<'a>(alloc: Global, query: &'a Query) -> Result<Vec<FullEntry<'a>>, AllocError>
+    ensures { IfOk result (λ windows. named_windows windows.items ≡ windows_of (clauses_of (view_query query.now))) }
+{
+    settle_all(alloc, query.windows.as_slice())
+}
+
+/// The first rule that is broken of those on windows, places and limits, with what the windows copy.
+fn windows_rule(
+    alloc: Global,
+    columns: &[SourceColumn],
+    query: &Query,
+) -> Result<Option<Rule>, AllocError>
+    ensures { IfOk result (λ rule. rule ≡ first_on_windows (windows_of (clauses_of (view_query query.now))) (all_titled columns.now) (clauses_of (view_query query.now))) }
+{
+    let windows = settled_windows(alloc, query)?;
+    Ok(first_of_windows(windows.as_slice(), columns, query))
+}
+
+/// The least rule that a query over these columns breaks, its derived table aside, by the declared table's name and the
+/// source's alias.
+pub fn broken_rule(
+    alloc: Global,
+    table: &str,
+    alias: &str,
+    columns: &[SourceColumn],
+    query: &Query,
+) -> Result<Option<Rule>, AllocError>
+    ensures { IfOk result (λ rule. rule ≡ least_broken table.now alias.now (all_titled columns.now) (clauses_of (view_query query.now)) (source_of (view_query query.now))) }
+{
+    match first_of_names(table, alias, columns, query) {
+        Some(rule) => Ok(Some(rule)),
+        None => windows_rule(alloc, columns, query),
+    }
+}
+
+#[tactic(auto, unfolding(wquery::specs::QueryTree::view_source))]
+fn alias_of(source: &Source) -> &str
+    ensures { (d : Declaration) → result.now ≡ (origin_of d (view_source source.now)).alias }
+{
+    match source {
+        Source::Table { name, alias } => match alias {
+            Some(alias) => alias.as_str(),
+            None => name.as_str(),
+        },
+        Source::Derived { alias, .. } => alias.as_str(),
+    }
+}
+
+#[tactic(auto, unfolding(wquery::specs::QueryTree::view_query, wquery::specs::QueryTree::view_source))]
+fn query_alias(query: &Query) -> &str
+    ensures { (d : Declaration) → result.now ≡ (origin_of d (source_of (view_query query.now))).alias }
+{
+    alias_of(&query.source)
+}
+
+#[tactic(auto, unfolding(wquery::specs::QueryTree::view_query))]
+fn answer_of(
+    alloc: Global,
+    columns: &[SourceColumn],
+    query: &Query,
+) -> Result<Vec<SourceColumn>, AllocError>
+    ensures { IfOk result (λ made. all_titled made.items ≡ answered (all_titled columns.now) (clauses_of (view_query query.now)).items) }
+{
+    output_columns(alloc, columns, query.items.as_slice())
+}
+
+fn judge_over(
+    alloc: Global,
+    schema: &Schema,
+    columns: &[SourceColumn],
+    query: &Query,
+) -> Result<Judgement, AllocError>
+    ensures { least_source schema.now (source_of (view_query query.now)) ≡ None → all_titled columns.now ≡ (origin_of schema.now (source_of (view_query query.now))).columns → IfOk result (JudgesQuery schema.now (view_query query.now)) }
+{
+    let broken = broken_rule(alloc, schema.table(), query_alias(query), columns, query)?;
+    match broken {
+        Some(rule) => Ok(Judgement::Broken(rule)),
+        None => {
+            let answer = answer_of(alloc, columns, query)?;
+            Ok(Judgement::Columns(answer))
+        }
+    }
+}
+
+#[cycle(judging)]
+#[tactic(auto, unfolding(wquery::specs::QueryTree::view_query, wquery::specs::QueryTree::view_source))]
+fn judge(alloc: Global, schema: &Schema, query: &Query) -> Result<Judgement, AllocError>
+    ensures { IfOk result (JudgesQuery schema.now (view_query query.now)) }
+{
+    let judgement = judge_source(alloc, schema, &query.source)?;
+    match judgement {
+        Judgement::Broken(rule) => Ok(Judgement::Broken(rule)),
+        Judgement::Columns(columns) => judge_over(alloc, schema, columns.as_slice(), query),
+    }
+}
+
+#[cycle(judging)]
+#[tactic(auto, unfolding(wquery::specs::QueryTree::view_query, wquery::specs::QueryTree::view_source))]
+fn judge_source(alloc: Global, schema: &Schema, source: &Source) -> Result<Judgement, AllocError>
+    ensures { IfOk result (JudgesSource schema.now (view_source source.now)) }
+{
+    match source {
+        Source::Table { .. } => {
+            let columns = declared_columns(alloc, schema)?;
+            Ok(Judgement::Columns(columns))
+        }
+        Source::Derived { query, .. } => judge(alloc, schema, query),
+    }
+}
+
+/// Whether more derived tables than this stand one in another.
+#[tactic(auto, unfolding(wquery::specs::QueryTree::view_query, wquery::specs::QueryTree::view_source))]
+fn is_deeper(query: &Query, most: u8) -> bool
+    ensures { result ≡ nat_lt most (depth (view_query query.now)) }
+{
+    match &query.source {
+        Source::Table { .. } => false,
+        Source::Derived { query: inner, .. } => {
+            if most == 0 {
+                return true;
+            }
+            is_deeper(inner, most - 1)
+        }
+    }
+}
+
+/// The least rule that a query over the declared table breaks. Its derived table is judged first, and over 8 derived
+/// tables one in another come last of all.
+pub fn first_broken_rule(
+    alloc: Global,
+    schema: &Schema,
+    query: &Query,
+) -> Result<Option<Rule>, AllocError>
+    ensures { IfOk result (λ rule. rule ≡ least_rule schema.now (view_query query.now)) }
+{
+    let judgement = judge(alloc, schema, query)?;
+    if let Judgement::Broken(rule) = judgement {
+        return Ok(Some(rule));
+    }
+    if is_deeper(query, 8) {
+        Ok(Some(Rule::OverLimit))
+    } else {
+        Ok(None)
+    }
+}

@@ -1,0 +1,136 @@
+-- Equality of expressions, by the parts of each.
+use Rattle.std.proofs.Common.{◌≡◌, ℕ, suc, ◌+◌, ◌<◌, ◌≤◌, Bool, true, false, ◌&&◌, List, [], ◌∷◌, refl, ◌∙◌, ap, sym, map, drop, length, arith, length-drop}
+use Rattle.std.specs.Rc.{rc_str_bytes}
+use Rattle.std.specs.Str.{bytes_eq}
+use Rattle.std.specs.declared.alloc.Global.{Global}
+use Rattle.std.specs.declared.boxed.Box.{Box}
+use Rattle.std.specs.declared.vec.Vec.{Vec}
+use Rattle.wquery.specs.declared.expression.Arguments.{Arguments}
+use Rattle.wquery.specs.declared.expression.Arguments.TheVariants as given
+use Rattle.wquery.specs.declared.expression.Call.{Call}
+use Rattle.wquery.specs.declared.expression.ChainKind.{ChainKind}
+use Rattle.wquery.specs.declared.expression.Key.{Key}
+use Rattle.wquery.specs.declared.expression.Link.{Link}
+use Rattle.wquery.specs.declared.expression.Window.{Window, out-Window}
+use Rattle.wquery.specs.declared.expression.Expression.{Expression}
+use Rattle.wquery.specs.declared.expression.Expression.TheVariants as queries
+use Rattle.wquery.specs.declared.expression.Arguments.TheOpen as layer
+use Rattle.wquery.specs.declared.expression.Arguments.TheFolds.{fold-Arguments, fold-roll-Arguments, fold_out-Window}
+use Rattle.wquery.specs.Tree.{Tree, Invoked, Joined, Among, view_window, view_key, view_link, view_keys, keys, same_kind, Given, These, Reach, KeyTree, Branch, WindowTree, Links, NoLinks, Further, linked, trees, views, view, view_call, view_arguments, view_optional, view_optional_over, filter_of, reach_of, arguments_step, expression_step, over_step, call_step, key_step, link_step, window_step}
+use Rattle.wsame.specs.Sameness.{is_same, are_same, are_same_links, are_same_given, is_same_filter, is_same_reach, is_same_branch, are_same_keys, same_bool}
+use Rattle.wsame.proofs.Views.{view_call_is, view_of_call, view_of_chain, view_of_in}
+
+pub and_second : (a b : Bool) → a ≡ true → (a && b) ≡ b
+and_second a b e = rw e refl
+
+pub and_first : (a b : Bool) → a ≡ false → (a && b) ≡ false
+and_first a b e = rw e refl
+
+and_true : (a : Bool) → (a && true) ≡ a
+and_true true = refl
+and_true false = refl
+
+and_false : (a : Bool) → (a && false) ≡ false
+and_false true = refl
+and_false false = refl
+
+and_assoc : (a b c : Bool) → ((a && b) && c) ≡ (a && (b && c))
+and_assoc true b c = refl
+and_assoc false b c = refl
+
+-- chains
+
+abbrev pub same_branches : List Branch → List Branch → Bool
+same_branches [] [] = true
+same_branches (x ∷ xs) (y ∷ ys) = is_same_branch x y && same_branches xs ys
+same_branches _ _ = false
+
+abbrev count_links : Links → ℕ
+count_links NoLinks = 0
+count_links (Further front operator t) = suc (count_links front)
+
+count_linked : (f : Links) (bs : List Branch) → count_links (linked f bs) ≡ count_links f + length bs
+count_linked f [] = omega arith
+count_linked f (b ∷ bs) = rw (count_linked (Further f b.operator b.operand) bs) (omega arith)
+
+other_count : (f g : Links) → (count_links f ≡ count_links g → ⊥) → are_same_links f g ≡ false
+other_count NoLinks NoLinks h = absurd (h refl)
+other_count NoLinks (Further g b u) h = refl
+other_count (Further f a t) NoLinks h = refl
+other_count (Further f a t) (Further g b u) h = and_first _ _ (other_count f g (λ e. h (ap suc e)))
+
+same_linked : (f g : Links) (xs ys : List Branch) → count_links f ≡ count_links g → are_same_links (linked f xs) (linked g ys) ≡ (are_same_links f g && same_branches xs ys)
+same_linked f g [] [] e = sym (and_true (are_same_links f g))
+same_linked f g [] (y ∷ ys) e = other_count f (linked (Further g y.operator y.operand) ys) (λ h. let k : count_links (linked (Further g y.operator y.operand) ys) ≡ suc (count_links g) + length ys = count_linked (Further g y.operator y.operand) ys in absurd (omega arith)) ∙ sym (and_false (are_same_links f g))
+same_linked f g (x ∷ xs) [] e = other_count (linked (Further f x.operator x.operand) xs) g (λ h. let k : count_links (linked (Further f x.operator x.operand) xs) ≡ suc (count_links f) + length xs = count_linked (Further f x.operator x.operand) xs in absurd (omega arith)) ∙ sym (and_false (are_same_links f g))
+same_linked f g (x ∷ xs) (y ∷ ys) e = same_linked (Further f x.operator x.operand) (Further g y.operator y.operand) xs ys (ap suc e) ∙ and_assoc (are_same_links f g) (is_same_branch x y) (same_branches xs ys)
+
+pub same_from_front : (xs ys : List Branch) → are_same_links (linked NoLinks xs) (linked NoLinks ys) ≡ same_branches xs ys
+same_from_front xs ys = same_linked NoLinks NoLinks xs ys refl
+
+-- calls
+
+pub same_calls : (a b : Call) → is_same (view_call a) (view_call b) ≡ (bytes_eq (rc_str_bytes a.name) (rc_str_bytes b.name) && (are_same_given (view_arguments a.arguments) (view_arguments b.arguments) && (is_same_filter (filter_of (view_optional a.filter)) (filter_of (view_optional b.filter)) && is_same_reach (reach_of (view_optional_over a.over)) (reach_of (view_optional_over b.over)))))
+same_calls a b = ap (λ (t : Tree). is_same t (view_call b)) (view_call_is a) ∙ ap (is_same (Invoked (rc_str_bytes a.name) (view_arguments a.arguments) (filter_of (view_optional a.filter)) (reach_of (view_optional_over a.over)))) (view_call_is b)
+
+pub same_call_views : (a b : Expression) (x y : Box Call Global) → a ≡ queries.Call x → b ≡ queries.Call y → is_same (view a) (view b) ≡ is_same (view_call x.value) (view_call y.value)
+same_call_views a b x y ea eb = ap (λ (e : Expression). is_same (view e) (view b)) ea ∙ ap (λ (e : Expression). is_same (view (queries.Call x)) (view e)) eb ∙ ap (λ (t : Tree). is_same t (view (queries.Call y))) (view_of_call x) ∙ ap (is_same (view_call x.value)) (view_of_call y)
+
+view_of_listed : (v : Vec Expression Global) → view_arguments (given.Listed v) ≡ These (trees (views v.items))
+unfolding view_arguments view
+view_of_listed v = ap (fold-Arguments Given Tree Reach Tree KeyTree Branch WindowTree arguments_step expression_step over_step call_step key_step link_step window_step) (sym (given.rolls-Listed v)) ∙ fold-roll-Arguments Given Tree Reach Tree KeyTree Branch WindowTree arguments_step expression_step over_step call_step key_step link_step window_step (layer.Listed v)
+
+pub same_listed_views : (a b : Arguments) (x y : Vec Expression Global) → a ≡ given.Listed x → b ≡ given.Listed y → are_same_given (view_arguments a) (view_arguments b) ≡ are_same (trees (views x.items)) (trees (views y.items))
+same_listed_views a b x y ea eb = ap (λ (e : Arguments). are_same_given (view_arguments e) (view_arguments b)) ea ∙ ap (λ (e : Arguments). are_same_given (view_arguments (given.Listed x)) (view_arguments e)) eb ∙ ap (λ (t : Given). are_same_given t (view_arguments (given.Listed y))) (view_of_listed x) ∙ ap (are_same_given (These (trees (views x.items)))) (view_of_listed y)
+
+pub same_chain_views : (a b : Expression) (k l : ChainKind) (x y : Box Expression Global) (xs ys : Vec Link Global) → a ≡ queries.Chain k x xs → b ≡ queries.Chain l y ys → is_same (view a) (view b) ≡ (same_kind k l && (is_same (view x.value) (view y.value) && are_same_links (linked NoLinks (map view_link xs.items)) (linked NoLinks (map view_link ys.items))))
+same_chain_views a b k l x y xs ys ea eb = ap (λ (e : Expression). is_same (view e) (view b)) ea ∙ ap (λ (e : Expression). is_same (view (queries.Chain k x xs)) (view e)) eb ∙ ap (λ (t : Tree). is_same t (view (queries.Chain l y ys))) (view_of_chain k x xs) ∙ ap (is_same (Joined k (view x.value) (linked NoLinks (map view_link xs.items)))) (view_of_chain l y ys)
+
+pub same_in_views : (a b : Expression) (k l : Bool) (x y : Box Expression Global) (xs ys : Vec Expression Global) → a ≡ queries.In k x xs → b ≡ queries.In l y ys → is_same (view a) (view b) ≡ (same_bool k l && (is_same (view x.value) (view y.value) && are_same (trees (views xs.items)) (trees (views ys.items))))
+same_in_views a b k l x y xs ys ea eb = ap (λ (e : Expression). is_same (view e) (view b)) ea ∙ ap (λ (e : Expression). is_same (view (queries.In k x xs)) (view e)) eb ∙ ap (λ (t : Tree). is_same t (view (queries.In l y ys))) (view_of_in k x xs) ∙ ap (is_same (Among k (view x.value) (trees (views xs.items)))) (view_of_in l y ys)
+
+-- lists that do not end at once
+
+shorter : (xs ys : List Expression) → length xs ≡ 0 → 0 < length ys → are_same (trees (views xs)) (trees (views ys)) ≡ false
+shorter [] [] h k = absurd (omega arith)
+shorter [] (y ∷ ys) h k = refl
+shorter (x ∷ xs) ys h k = absurd (omega arith)
+
+pub listed_ends : (xs ys : List Expression) (i : ℕ) → length xs ≤ i → i < length ys → are_same (trees (views (drop i xs))) (trees (views (drop i ys))) ≡ false
+listed_ends xs ys i h k = shorter (drop i xs) (drop i ys) (simp length-drop (omega arith)) (simp length-drop (omega arith))
+
+shorter_chain : (xs ys : List Link) → length xs ≡ 0 → 0 < length ys → same_branches (map view_link xs) (map view_link ys) ≡ false
+shorter_chain [] [] h k = absurd (omega arith)
+shorter_chain [] (y ∷ ys) h k = refl
+shorter_chain (x ∷ xs) ys h k = absurd (omega arith)
+
+pub links_end : (xs ys : List Link) (i : ℕ) → length xs ≤ i → i < length ys → same_branches (map view_link (drop i xs)) (map view_link (drop i ys)) ≡ false
+links_end xs ys i h k = shorter_chain (drop i xs) (drop i ys) (simp length-drop (omega arith)) (simp length-drop (omega arith))
+
+shorter_order : (xs ys : List Key) → length xs ≡ 0 → 0 < length ys → are_same_keys (keys (view_keys xs)) (keys (view_keys ys)) ≡ false
+shorter_order [] [] h k = absurd (omega arith)
+shorter_order [] (y ∷ ys) h k = refl
+shorter_order (x ∷ xs) ys h k = absurd (omega arith)
+
+pub keys_end : (xs ys : List Key) (i : ℕ) → length xs ≤ i → i < length ys → are_same_keys (keys (view_keys (drop i xs))) (keys (view_keys (drop i ys))) ≡ false
+keys_end xs ys i h k = shorter_order (drop i xs) (drop i ys) (simp length-drop (omega arith)) (simp length-drop (omega arith))
+
+pub chain_same : (a b : Expression) (k l : ChainKind) (x y : Box Expression Global) (xs ys : Vec Link Global) (kr sr lr : Bool) (d e : Expression) (us vs : List Link) → a ≡ queries.Chain k x xs → b ≡ queries.Chain l y ys → kr ≡ same_kind k l → kr ≡ true → d ≡ x.value → e ≡ y.value → sr ≡ is_same (view d) (view e) → sr ≡ true → us ≡ xs.items → vs ≡ ys.items → lr ≡ are_same_links (linked NoLinks (map view_link us)) (linked NoLinks (map view_link vs)) → lr ≡ is_same (view a) (view b)
+chain_same a b k l x y xs ys kr sr lr d e us vs ea eb ek hk ed ee es hs eu ev el =
+    el ∙ ap (λ (zs : List Link). are_same_links (linked NoLinks (map view_link zs)) (linked NoLinks (map view_link vs))) eu ∙ ap (λ (zs : List Link). are_same_links (linked NoLinks (map view_link xs.items)) (linked NoLinks (map view_link zs))) ev
+    ∙ sym (same_chain_views a b k l x y xs ys ea eb ∙ and_second _ _ (sym ek ∙ hk) ∙ and_second _ _ (sym (es ∙ ap (λ (z : Expression). is_same (view z) (view e)) ed ∙ ap (λ (z : Expression). is_same (view x.value) (view z)) ee) ∙ hs))
+
+pub in_same : (a b : Expression) (k l : Bool) (x y : Box Expression Global) (xs ys : Vec Expression Global) (kr sr lr : Bool) (d e : Expression) (us vs : List Expression) → a ≡ queries.In k x xs → b ≡ queries.In l y ys → kr ≡ same_bool k l → kr ≡ true → d ≡ x.value → e ≡ y.value → sr ≡ is_same (view d) (view e) → sr ≡ true → us ≡ xs.items → vs ≡ ys.items → lr ≡ are_same (trees (views us)) (trees (views vs)) → lr ≡ is_same (view a) (view b)
+in_same a b k l x y xs ys kr sr lr d e us vs ea eb ek hk ed ee es hs eu ev el =
+    el ∙ ap (λ (zs : List Expression). are_same (trees (views zs)) (trees (views vs))) eu ∙ ap (λ (zs : List Expression). are_same (trees (views xs.items)) (trees (views zs))) ev
+    ∙ sym (same_in_views a b k l x y xs ys ea eb ∙ and_second _ _ (sym ek ∙ hk) ∙ and_second _ _ (sym (es ∙ ap (λ (z : Expression). is_same (view z) (view e)) ed ∙ ap (λ (z : Expression). is_same (view x.value) (view z)) ee) ∙ hs))
+
+-- windows
+
+pub partition_is : (w : Window) → (view_window w).partition ≡ views (out-Window w).partition.items
+unfolding view_window view
+partition_is w = ap (λ (x : WindowTree). x.partition) (fold_out-Window Given Tree Reach Tree KeyTree Branch WindowTree arguments_step expression_step over_step call_step key_step link_step window_step w)
+
+pub order_is : (w : Window) → (view_window w).order ≡ view_keys (out-Window w).order.items
+unfolding view_window view_key
+order_is w = ap (λ (x : WindowTree). x.order) (fold_out-Window Given Tree Reach Tree KeyTree Branch WindowTree arguments_step expression_step over_step call_step key_step link_step window_step w)

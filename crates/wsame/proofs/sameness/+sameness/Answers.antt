@@ -1,0 +1,84 @@
+use Rattle.std.proofs.Common.{◌≡◌, ◌<◌, length, subst, map, refl, ◌∙◌, sym, ap}
+use Rattle.wsame.proofs.Equal.{and_first, and_second, same_calls, same_call_views, same_listed_views, same_from_front, listed_ends, links_end, keys_end, chain_same, in_same, partition_is, order_is}
+use Rattle.wquery.specs.Tree.{trees, views, keys, view_keys, view_window, view_call, view_link}
+use Rattle.wsame.specs.Sameness.{is_same, are_same, are_same_keys}
+use Rattle.wsame.proofs.sameness.+sameness.Goals as goal
+
+pub same_call-returns : goal.same_call-returns
+same_call-returns t c =
+    c.same_reach.ensures ∙ sym (same_calls c.args.a.now c.args.b.now ∙ and_second _ _ (sym c.same_name.ensures ∙ c.if-not-same_name.false) ∙ and_second _ _ (sym c.same_arguments.ensures ∙ c.if-not-same_arguments.false) ∙ and_second _ _ (sym c.same_filter.ensures ∙ c.if-not-same_filter.false))
+
+pub same_call-returns-then-not-same_name : goal.same_call-returns-then-not-same_name
+same_call-returns-then-not-same_name t c =
+    sym (same_calls c.args.a.now c.args.b.now ∙ and_first _ _ (sym c.same_name.ensures ∙ c.if-not-same_name.true))
+
+pub same_call-returns-then-not-same_arguments : goal.same_call-returns-then-not-same_arguments
+same_call-returns-then-not-same_arguments t c =
+    sym (same_calls c.args.a.now c.args.b.now ∙ and_second _ _ (sym c.same_name.ensures ∙ c.if-not-same_name.false) ∙ and_first _ _ (sym c.same_arguments.ensures ∙ c.if-not-same_arguments.true))
+
+pub same_call-returns-then-not-same_filter : goal.same_call-returns-then-not-same_filter
+same_call-returns-then-not-same_filter t c =
+    sym (same_calls c.args.a.now c.args.b.now ∙ and_second _ _ (sym c.same_name.ensures ∙ c.if-not-same_name.false) ∙ and_second _ _ (sym c.same_arguments.ensures ∙ c.if-not-same_arguments.false) ∙ and_first _ _ (sym c.same_filter.ensures ∙ c.if-not-same_filter.true))
+
+pub same_links-links-init : goal.same_links-links-init
+same_links-links-init t c = (refl, same_from_front (map view_link c.args.a.now) (map view_link c.args.b.now))
+
+pub same-returns-in-Call-b : goal.same-returns-in-Call-b
+same-returns-in-Call-b t c =
+    c.same_call.ensures ∙ ap (λ x. is_same (view_call x) (view_call c.deref-in-Call-b.result.now)) c.deref.ensures ∙ ap (λ y. is_same (view_call c.in-Call.x.value) (view_call y)) c.deref-in-Call-b.ensures ∙ sym (same_call_views c.args.a.now c.args.b.now c.in-Call.x c.in-Call-b.y c.in-Call.is c.in-Call-b.is)
+
+pub same_arguments-returns-in-Listed-b-2 : goal.same_arguments-returns-in-Listed-b-2
+same_arguments-returns-in-Listed-b-2 t c =
+    c.same_listed.ensures ∙ ap (λ x. are_same (trees (views x)) (trees (views c.as_slice-in-Listed-b-2.result.now))) c.as_slice.ensures.value ∙ ap (λ y. are_same (trees (views c.in-Listed.x.items)) (trees (views y))) c.as_slice-in-Listed-b-2.ensures.value ∙ sym (same_listed_views c.args.a.now c.args.b.now c.in-Listed.x c.in-Listed-b-2.y c.in-Listed.is c.in-Listed-b-2.is)
+
+pub same_window-returns : goal.same_window-returns
+same_window-returns t c =
+    c.same_window_frames.ensures ∙ sym (and_second _ _ (sym c.same_copies.ensures ∙ c.if-not-same_copies.false) ∙ and_second _ _ (sym c.same_partitions.ensures ∙ c.if-not-same_partitions.false) ∙ and_second _ _ (sym c.same_orders.ensures ∙ c.if-not-same_orders.false))
+
+pub same_window-returns-then-not-same_partitions : goal.same_window-returns-then-not-same_partitions
+same_window-returns-then-not-same_partitions t c =
+    sym (and_second _ _ (sym c.same_copies.ensures ∙ c.if-not-same_copies.false) ∙ and_first _ _ (sym c.same_partitions.ensures ∙ c.if-not-same_partitions.true))
+
+pub same_window-returns-then-not-same_orders : goal.same_window-returns-then-not-same_orders
+same_window-returns-then-not-same_orders t c =
+    sym (and_second _ _ (sym c.same_copies.ensures ∙ c.if-not-same_copies.false) ∙ and_second _ _ (sym c.same_partitions.ensures ∙ c.if-not-same_partitions.false) ∙ and_first _ _ (sym c.same_orders.ensures ∙ c.if-not-same_orders.true))
+
+pub same_listed-returns-then-place-b-2 : goal.same_listed-returns-then-place-b-2
+same_listed-returns-then-place-b-2 t c =
+    sym (c.list.invariant.1 ∙ listed_ends c.args.a.now c.args.b.now c.list.x-index c.list-test.false (subst (λ n. n < length c.args.b.now) c.list.invariant.0 c.if-place-b-2.true))
+
+pub same_links-returns-then-place-b-2 : goal.same_links-returns-then-place-b-2
+same_links-returns-then-place-b-2 t c =
+    sym (c.links.invariant.1 ∙ links_end c.args.a.now c.args.b.now c.links.x-index c.links-test.false (subst (λ n. n < length c.args.b.now) c.links.invariant.0 c.if-place-b-2.true))
+
+pub same_keys-returns-then-place-b-2 : goal.same_keys-returns-then-place-b-2
+same_keys-returns-then-place-b-2 t c =
+    sym (c.keys.invariant.1 ∙ keys_end c.args.a.now c.args.b.now c.keys.x-index c.keys-test.false (subst (λ n. n < length c.args.b.now) c.keys.invariant.0 c.if-place-b-2.true))
+
+pub same-returns-then-same : goal.same-returns-then-same
+same-returns-then-same t c =
+    chain_same c.args.a.now c.args.b.now c.in-Chain.kind c.in-Chain-b.other c.in-Chain.first c.in-Chain-b.x c.in-Chain.links c.in-Chain-b.others c.same_kind.result c.same-then-same_kind.result c.same_links.result c.deref-then-same_kind.result.now c.deref-then-same_kind-2.result.now c.as_slice.result.now c.as_slice-then-same.result.now c.in-Chain.is c.in-Chain-b.is c.same_kind.ensures c.if-same_kind.true c.deref-then-same_kind.ensures c.deref-then-same_kind-2.ensures c.same-then-same_kind.ensures c.if-same.true c.as_slice.ensures.value c.as_slice-then-same.ensures.value c.same_links.ensures
+
+pub same-returns-then-same-5 : goal.same-returns-then-same-5
+same-returns-then-same-5 t c =
+    in_same c.args.a.now c.args.b.now c.in-In.negated c.in-In-b.other c.in-In.operand c.in-In-b.x c.in-In.list c.in-In-b.others c.same_flag-in-In-b.result c.same-then-same_flag-4.result c.same_listed.result c.deref-then-same_flag-4.result.now c.deref-then-same_flag-4-2.result.now c.as_slice-then-same-5.result.now c.as_slice-then-same-5-2.result.now c.in-In.is c.in-In-b.is c.same_flag-in-In-b.ensures c.if-same_flag-4.true c.deref-then-same_flag-4.ensures c.deref-then-same_flag-4-2.ensures c.same-then-same_flag-4.ensures c.if-same-5.true c.as_slice-then-same-5.ensures.value c.as_slice-then-same-5-2.ensures.value c.same_listed.ensures
+
+pub same_partition_as-returns : goal.same_partition_as-returns
+same_partition_as-returns t c =
+    let k : views c.as_slice.result.now ≡ (view_window c.args.a.now).partition = ap views c.as_slice.ensures.value ∙ sym (partition_is c.args.a.now) in
+    c.same_listed.ensures ∙ ap (λ ts. are_same (trees ts) (trees (views c.args.list.now))) k
+
+pub same_partitions-returns : goal.same_partitions-returns
+same_partitions-returns t c =
+    let k : views c.as_slice.result.now ≡ (view_window c.args.b.now).partition = ap views c.as_slice.ensures.value ∙ sym (partition_is c.args.b.now) in
+    c.same_partition_as.ensures ∙ ap (λ ts. are_same (trees (view_window c.args.a.now).partition) (trees ts)) k
+
+pub same_order_as-returns : goal.same_order_as-returns
+same_order_as-returns t c =
+    let k : view_keys c.as_slice.result.now ≡ (view_window c.args.a.now).order = ap view_keys c.as_slice.ensures.value ∙ sym (order_is c.args.a.now) in
+    c.same_keys.ensures ∙ ap (λ ks. are_same_keys (keys ks) (keys (view_keys c.args.list.now))) k
+
+pub same_orders-returns : goal.same_orders-returns
+same_orders-returns t c =
+    let k : view_keys c.as_slice.result.now ≡ (view_window c.args.b.now).order = ap view_keys c.as_slice.ensures.value ∙ sym (order_is c.args.b.now) in
+    c.same_order_as.ensures ∙ ap (λ ks. are_same_keys (keys (view_window c.args.a.now).order) (keys ks)) k

@@ -1,0 +1,477 @@
+//! Expressions that are equal.
+
+ghost use Rattle.std.specs.Prelude.{◌≡◌, map, Some, nat_eq};
+ghost use Rattle.std.specs.Rc.{rc_str_bytes};
+ghost use Rattle.std.specs.Str.{bytes_eq};
+ghost use Rattle.wquery.specs.Tree.{view, view_over, view_window, view_call, view_key, view_link, view_arguments, view_optional, view_optional_over, filter_of, reach_of, trees, views, keys, view_keys, own_window, linked, name_bytes, NoLinks, same_kind as is_same_kind};
+ghost use Rattle.wsame.specs.Sameness.{is_same, is_same_branch, is_same_key, are_same, are_same_links, are_same_given, is_same_filter, is_same_reach, are_same_keys, same_bool, same_frame as is_same_frame, same_bound as is_same_bound, same_copied as is_same_copied, operator_number as number_of_operator, comparison_number as number_of_comparison, nulls_number as number_of_nulls, mode_number as number_of_mode, exclusion_number as number_of_exclusion, offset_in};
+
+use crate::bounds::{bound_place, frame_end};
+use std::rc::RcStr;
+use wquery::{
+    Arguments, Call, ChainKind, Comparison, Expression, Frame, FrameBound, FrameExclusion,
+    FrameMode, Key, Link, NullOrder, Operator, Over, Window,
+};
+
+fn same_kind(a: ChainKind, b: ChainKind) -> bool
+    ensures { result ≡ is_same_kind a b }
+{
+    match (a, b) {
+        (ChainKind::Disjunction, ChainKind::Disjunction) => true,
+        (ChainKind::Conjunction, ChainKind::Conjunction) => true,
+        (ChainKind::Sum, ChainKind::Sum) => true,
+        (ChainKind::Product, ChainKind::Product) => true,
+        _ => false,
+    }
+}
+
+fn operator_number(operator: Operator) -> u8
+    ensures { result ≡ number_of_operator operator }
+{
+    match operator {
+        Operator::Or => 0,
+        Operator::And => 1,
+        Operator::Plus => 2,
+        Operator::Minus => 3,
+        Operator::Times => 4,
+    }
+}
+
+fn comparison_number(comparison: Comparison) -> u8
+    ensures { result ≡ number_of_comparison comparison }
+{
+    match comparison {
+        Comparison::Equal => 0,
+        Comparison::NotEqual => 1,
+        Comparison::Less => 2,
+        Comparison::LessOrEqual => 3,
+        Comparison::Greater => 4,
+        Comparison::GreaterOrEqual => 5,
+    }
+}
+
+fn nulls_number(nulls: Option<NullOrder>) -> u8
+    ensures { result ≡ number_of_nulls nulls }
+{
+    match nulls {
+        None => 0,
+        Some(NullOrder::First) => 1,
+        Some(NullOrder::Last) => 2,
+    }
+}
+
+fn mode_number(mode: FrameMode) -> u8
+    ensures { result ≡ number_of_mode mode }
+{
+    match mode {
+        FrameMode::Rows => 0,
+        FrameMode::Range => 1,
+        FrameMode::Groups => 2,
+    }
+}
+
+fn exclusion_number(exclusion: Option<FrameExclusion>) -> u8
+    ensures { result ≡ number_of_exclusion exclusion }
+{
+    match exclusion {
+        None => 0,
+        Some(FrameExclusion::NoOthers) => 0,
+        Some(FrameExclusion::CurrentRow) => 1,
+        Some(FrameExclusion::Group) => 2,
+        Some(FrameExclusion::Ties) => 3,
+    }
+}
+
+fn bound_offset(bound: &FrameBound) -> u128
+    ensures { result ≡ offset_in bound.now }
+{
+    match bound {
+        FrameBound::Preceding(n) => n.get(),
+        FrameBound::Following(n) => n.get(),
+        _ => 0,
+    }
+}
+
+fn same_bound(a: &FrameBound, b: &FrameBound) -> bool
+    ensures { result ≡ is_same_bound a.now b.now }
+{
+    bound_place(a) == bound_place(b) && bound_offset(a) == bound_offset(b)
+}
+
+fn same_frames(a: &Frame, b: &Frame) -> bool
+    ensures { result ≡ is_same_frame (Some a.now) (Some b.now) }
+{
+    if mode_number(a.mode) != mode_number(b.mode) {
+        return false;
+    }
+    if !same_bound(&a.start, &b.start) {
+        return false;
+    }
+    if !same_bound(&frame_end(a), &frame_end(b)) {
+        return false;
+    }
+    exclusion_number(a.exclusion) == exclusion_number(b.exclusion)
+}
+
+fn same_frame(a: &Option<Frame>, b: &Option<Frame>) -> bool
+    ensures { result ≡ is_same_frame a.now b.now }
+{
+    match a {
+        None => b.is_none(),
+        Some(f) => match b {
+            None => false,
+            Some(g) => same_frames(f, g),
+        },
+    }
+}
+
+fn same_copied(a: &Option<RcStr>, b: &Option<RcStr>) -> bool
+    ensures { result ≡ is_same_copied (name_bytes a.now) (name_bytes b.now) }
+{
+    match a {
+        None => b.is_none(),
+        Some(x) => match b {
+            None => false,
+            Some(y) => x.as_str() == y.as_str(),
+        },
+    }
+}
+
+fn same_flag(a: bool, b: bool) -> bool
+    ensures { result ≡ same_bool a b }
+{
+    if a { b } else { !b }
+}
+
+fn same_comparison(a: Comparison, b: Comparison) -> bool
+    ensures { result ≡ nat_eq (number_of_comparison a) (number_of_comparison b) }
+{
+    comparison_number(a) == comparison_number(b)
+}
+
+fn same_name(a: &RcStr, b: &RcStr) -> bool
+    ensures { result ≡ bytes_eq (rc_str_bytes a.now) (rc_str_bytes b.now) }
+{
+    a.as_str() == b.as_str()
+}
+
+/// Whether two expressions are equal. A column is the same where its name is.
+#[cycle(sameness)]
+#[tactic(auto, unfolding(wquery::specs::Tree::view))]
+pub fn same(a: &Expression, b: &Expression) -> bool
+    ensures { result ≡ is_same (view a.now) (view b.now) }
+{
+    match a {
+        Expression::Null => match b {
+            Expression::Null => true,
+            _ => false,
+        },
+        Expression::Number(n) => match b {
+            Expression::Number(m) => n.get() == m.get(),
+            _ => false,
+        },
+        Expression::Text(x) => match b {
+            Expression::Text(y) => x.as_str() == y.as_str(),
+            _ => false,
+        },
+        Expression::Column(x) => match b {
+            Expression::Column(y) => x.name.as_str() == y.name.as_str(),
+            _ => false,
+        },
+        Expression::Call(x) => match b {
+            Expression::Call(y) => same_call(x, y),
+            _ => false,
+        },
+        Expression::Not(x) => match b {
+            Expression::Not(y) => same(x, y),
+            _ => false,
+        },
+        Expression::Sign { minus, operand } => match b {
+            Expression::Sign {
+                minus: other,
+                operand: x,
+            } => same_flag(*minus, *other) && same(operand, x),
+            _ => false,
+        },
+        Expression::Chain { kind, first, links } => match b {
+            Expression::Chain {
+                kind: other,
+                first: x,
+                links: others,
+            } => {
+                same_kind(*kind, *other)
+                    && (same(first, x) && same_links(links.as_slice(), others.as_slice()))
+            }
+            _ => false,
+        },
+        Expression::Compare {
+            comparison,
+            left,
+            right,
+        } => match b {
+            Expression::Compare {
+                comparison: other,
+                left: x,
+                right: y,
+            } => { same_comparison(*comparison, *other) && (same(left, x) && same(right, y)) }
+            _ => false,
+        },
+        Expression::IsNull { negated, operand } => match b {
+            Expression::IsNull {
+                negated: other,
+                operand: x,
+            } => same_flag(*negated, *other) && same(operand, x),
+            _ => false,
+        },
+        Expression::Between {
+            negated,
+            operand,
+            low,
+            high,
+        } => match b {
+            Expression::Between {
+                negated: other,
+                operand: x,
+                low: y,
+                high: z,
+            } => {
+                same_flag(*negated, *other) && (same(operand, x) && (same(low, y) && same(high, z)))
+            }
+            _ => false,
+        },
+        Expression::In {
+            negated,
+            operand,
+            list,
+        } => match b {
+            Expression::In {
+                negated: other,
+                operand: x,
+                list: others,
+            } => {
+                same_flag(*negated, *other)
+                    && (same(operand, x) && same_listed(list.as_slice(), others.as_slice()))
+            }
+            _ => false,
+        },
+    }
+}
+
+#[cycle(sameness)]
+fn same_listed(a: &[Expression], b: &[Expression]) -> bool
+    ensures { result ≡ are_same (trees (views a.now)) (trees (views b.now)) }
+{
+    let mut place = 0;
+    'list: for x in a {
+        if place >= b.len() {
+            return false;
+        }
+        if !same(x, &b[place]) {
+            return false;
+        }
+        place += 1;
+    }
+    if place < b.len() {
+        return false;
+    }
+    true
+}
+
+// The last operand is the outermost, so the lists are compared from their ends.
+#[cycle(sameness)]
+fn same_links(a: &[Link], b: &[Link]) -> bool
+    ensures { result ≡ are_same_links (linked NoLinks (map view_link a.now)) (linked NoLinks (map view_link b.now)) }
+{
+    let mut place = 0;
+    'links: for x in a {
+        if place >= b.len() {
+            return false;
+        }
+        if !same_link(x, &b[place]) {
+            return false;
+        }
+        place += 1;
+    }
+    if place < b.len() {
+        return false;
+    }
+    true
+}
+
+#[cycle(sameness)]
+#[tactic(auto, unfolding(wquery::specs::Tree::view, wquery::specs::Tree::view_link))]
+fn same_link(a: &Link, b: &Link) -> bool
+    ensures { result ≡ is_same_branch (view_link a.now) (view_link b.now) }
+{
+    operator_number(a.operator) == operator_number(b.operator) && same(&a.operand, &b.operand)
+}
+
+#[cycle(sameness)]
+fn same_keys(a: &[Key], b: &[Key]) -> bool
+    ensures { result ≡ are_same_keys (keys (view_keys a.now)) (keys (view_keys b.now)) }
+{
+    let mut place = 0;
+    'keys: for x in a {
+        if place >= b.len() {
+            return false;
+        }
+        if !same_key(x, &b[place]) {
+            return false;
+        }
+        place += 1;
+    }
+    if place < b.len() {
+        return false;
+    }
+    true
+}
+
+#[cycle(sameness)]
+#[tactic(auto, unfolding(wquery::specs::Tree::view, wquery::specs::Tree::view_key))]
+fn same_key(a: &Key, b: &Key) -> bool
+    ensures { result ≡ is_same_key (view_key a.now) (view_key b.now) }
+{
+    same(&a.expression, &b.expression)
+        && (same_flag(a.descending, b.descending) && nulls_number(a.nulls) == nulls_number(b.nulls))
+}
+
+#[cycle(sameness)]
+#[tactic(auto, unfolding(wquery::specs::Tree::view, wquery::specs::Tree::view_key, wquery::specs::Tree::view_window))]
+fn same_window(a: &Window, b: &Window) -> bool
+    ensures { result ≡ is_same_reach (own_window (view_window a.now)) (own_window (view_window b.now)) }
+{
+    if !same_copies(a, b) {
+        return false;
+    }
+    if !same_partitions(a, b) {
+        return false;
+    }
+    if !same_orders(a, b) {
+        return false;
+    }
+    same_window_frames(a, b)
+}
+
+#[tactic(auto, unfolding(wquery::specs::Tree::view_window))]
+fn same_copies(a: &Window, b: &Window) -> bool
+    ensures { result ≡ is_same_copied (view_window a.now).copied (view_window b.now).copied }
+{
+    same_copied(&a.copied, &b.copied)
+}
+
+#[cycle(sameness)]
+#[tactic(auto, unfolding(wquery::specs::Tree::view, wquery::specs::Tree::view_window))]
+fn same_partition_as(a: &Window, list: &[Expression]) -> bool
+    ensures { result ≡ are_same (trees (view_window a.now).partition) (trees (views list.now)) }
+{
+    same_listed(a.partition.as_slice(), list)
+}
+
+#[cycle(sameness)]
+#[tactic(auto, unfolding(wquery::specs::Tree::view, wquery::specs::Tree::view_window))]
+fn same_partitions(a: &Window, b: &Window) -> bool
+    ensures { result ≡ are_same (trees (view_window a.now).partition) (trees (view_window b.now).partition) }
+{
+    same_partition_as(a, b.partition.as_slice())
+}
+
+#[cycle(sameness)]
+#[tactic(auto, unfolding(wquery::specs::Tree::view_key, wquery::specs::Tree::view_window))]
+fn same_order_as(a: &Window, list: &[Key]) -> bool
+    ensures { result ≡ are_same_keys (keys (view_window a.now).order) (keys (view_keys list.now)) }
+{
+    same_keys(a.order.as_slice(), list)
+}
+
+#[cycle(sameness)]
+#[tactic(auto, unfolding(wquery::specs::Tree::view_key, wquery::specs::Tree::view_window))]
+fn same_orders(a: &Window, b: &Window) -> bool
+    ensures { result ≡ are_same_keys (keys (view_window a.now).order) (keys (view_window b.now).order) }
+{
+    same_order_as(a, b.order.as_slice())
+}
+
+#[tactic(auto, unfolding(wquery::specs::Tree::view_window))]
+fn same_window_frames(a: &Window, b: &Window) -> bool
+    ensures { result ≡ is_same_frame (view_window a.now).frame (view_window b.now).frame }
+{
+    same_frame(&a.frame, &b.frame)
+}
+
+#[cycle(sameness)]
+#[tactic(auto, unfolding(wquery::specs::Tree::view, wquery::specs::Tree::view_arguments))]
+fn same_arguments(a: &Arguments, b: &Arguments) -> bool
+    ensures { result ≡ are_same_given (view_arguments a.now) (view_arguments b.now) }
+{
+    match a {
+        Arguments::Star => match b {
+            Arguments::Star => true,
+            Arguments::Listed(_) => false,
+        },
+        Arguments::Listed(x) => match b {
+            Arguments::Star => false,
+            Arguments::Listed(y) => same_listed(x.as_slice(), y.as_slice()),
+        },
+    }
+}
+
+#[cycle(sameness)]
+fn same_filter(a: &Option<Expression>, b: &Option<Expression>) -> bool
+    ensures { result ≡ is_same_filter (filter_of (view_optional a.now)) (filter_of (view_optional b.now)) }
+{
+    match a {
+        None => b.is_none(),
+        Some(x) => match b {
+            None => false,
+            Some(y) => same(x, y),
+        },
+    }
+}
+
+#[cycle(sameness)]
+#[tactic(auto, unfolding(wquery::specs::Tree::view_over, wquery::specs::Tree::view_window))]
+fn same_over(a: &Over, b: &Over) -> bool
+    ensures { result ≡ is_same_reach (view_over a.now) (view_over b.now) }
+{
+    match a {
+        Over::Named(x) => match b {
+            Over::Named(y) => x.as_str() == y.as_str(),
+            Over::Windowed(_) => false,
+        },
+        Over::Windowed(x) => match b {
+            Over::Named(_) => false,
+            Over::Windowed(y) => same_window(x, y),
+        },
+    }
+}
+
+#[cycle(sameness)]
+#[tactic(auto, unfolding(wquery::specs::Tree::view_over, wquery::specs::Tree::view_window))]
+fn same_reach(a: &Option<Over>, b: &Option<Over>) -> bool
+    ensures { result ≡ is_same_reach (reach_of (view_optional_over a.now)) (reach_of (view_optional_over b.now)) }
+{
+    match a {
+        None => b.is_none(),
+        Some(x) => match b {
+            None => false,
+            Some(y) => same_over(x, y),
+        },
+    }
+}
+
+/// Whether two calls are equal.
+#[cycle(sameness)]
+pub fn same_call(a: &Call, b: &Call) -> bool
+    ensures { result ≡ is_same (view_call a.now) (view_call b.now) }
+{
+    if !same_name(&a.name, &b.name) {
+        return false;
+    }
+    if !same_arguments(&a.arguments, &b.arguments) {
+        return false;
+    }
+    if !same_filter(&a.filter, &b.filter) {
+        return false;
+    }
+    same_reach(&a.over, &b.over)
+}

@@ -1,0 +1,3 @@
+mod Links
+mod TypeFacts
+mod Answered

@@ -1,0 +1,41 @@
+//! What the words of a query stand for: its columns, functions, types and windows, and where its expressions stand.
+//!
+//! - Gives the columns of a source and of an answer, functions by their names, the type of an expression, windows with
+//!   what they copy, and walks that look for a node of an expression or of a whole query.
+//! - Promises: each answer is that of its definition; a walk goes as deep as the nesting alone and takes no memory.
+//! - Asks nothing. A name that no column has stands for none: its type is that of NULL.
+//! - Leaves to `wrules` what a query may not say, and to `wresolve` the form that execution reads.
+//!
+//! Read `specs/Functions.antt`, `specs/Types.antt`, `specs/Sources.antt`, then `specs/Seeking.antt`,
+//! `specs/Scope.antt` and `specs/Windows.antt`.
+#![tactic(auto)]
+
+mod data_type;
+mod finding;
+mod full_window;
+mod function;
+mod look;
+mod names;
+mod naming;
+mod outputs;
+mod scoping;
+mod seeking;
+mod settling;
+mod source;
+mod typing;
+
+pub use data_type::DataType;
+pub use finding::found_if;
+pub use full_window::{FullEntry, FullWindow};
+pub use function::Function;
+pub use look::Look;
+pub use names::{has_column, names_item, output_name, own_name, place_named};
+pub use naming::function_of;
+pub use outputs::{declared_columns, known, output_columns};
+pub use scoping::{
+    any_anywhere, any_in_entries, any_in_items, any_in_option, any_in_order, any_shown, is_output,
+};
+pub use seeking::{NodeTest, any_below, any_in_window, any_node};
+pub use settling::{find_window, settle, settle_all};
+pub use source::SourceColumn;
+pub use typing::type_of;

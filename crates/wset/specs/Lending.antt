@@ -1,0 +1,35 @@
+-- What a set lends of a name.
+use Rattle.std.specs.Prelude.{⊤, ◌≡◌, List}
+use Rattle.std.specs.List.{AllByRecursion}
+use Rattle.std.specs.declared.cmp.Ordering.TheVariants.{Less}
+use Rattle.wsegment.specs.Declaration.{Declaration}
+use Rattle.std.specs.FinMap as map
+use Rattle.wvalues.specs.Names.{NameParts, name_cmp}
+use Rattle.wset.specs.Views.{Known, Live, Disputed, Retired, View}
+use Rattle.wset.specs.Sets.{IsReadBy}
+use Rattle.wset.specs.declared.known.Known as lent
+use Rattle.wset.specs.declared.known.Known.TheVariants as lents
+
+-- what is known by it
+abbrev pub told_of : lent.Known → Known
+told_of (lents.Live segment) = Live segment.now.bytes
+told_of lents.Disputed = Disputed
+told_of lents.Retired = Retired
+
+-- a segment that is lent was read by the declaration
+abbrev pub IsLentBy : Declaration → lent.Known → Type 0
+IsLentBy d (lents.Live segment) = IsReadBy d segment.now
+IsLentBy d lents.Disputed = ⊤
+IsLentBy d lents.Retired = ⊤
+
+-- the view in which this name alone is known
+abbrev pub only_disputed : NameParts → View
+only_disputed n = map.insert map.empty n Disputed
+
+-- these names stand before the name
+abbrev pub AreBelow : NameParts → List (NameParts × Known) → Type 0
+AreBelow n es = AllByRecursion (λ e. name_cmp e.0 n ≡ Less) es
+
+-- the name stands behind all that are known
+abbrev pub IsAbove : View → NameParts → Type 0
+IsAbove v n = AreBelow n (map.entries v)

@@ -1,0 +1,54 @@
+-- What feeding a node writes.
+use Rattle.std.specs.Prelude.{◌≡◌, ℕ, Bool, List, ◌∷◌, ◌++◌, take, length, Option, ◌⊎◌}
+use Rattle.std.specs.List.{flat_map}
+use Rattle.std.specs.Io.KnownBytes.{Appends}
+use Rattle.wsegment.specs.Declaration.{Declaration}
+use Rattle.wstore.specs.Commands.{Feed}
+use Rattle.wstore.specs.Replies as history
+use Rattle.wstore.specs.History.{Step, Answers}
+use Rattle.wstore.specs.Standing.{Places, StandAt}
+use Rattle.wstore.specs.Replies.{text_of, Line, line_text, fed_text, taken_text, retired_text, segment_text, no_memory}
+use Rattle.wstore.specs.Nodes.{NodeState, Tells, TellsAll}
+use Rattle.wstore.specs.declared.node.Reply.{Reply}
+use Rattle.wstore.specs.declared.node.Reply.TheVariants as replies
+
+-- how it is spelled; a refusal that finds no memory is told as a message that found none
+abbrev pub IsTextOf : Reply → List ℕ → Type 0
+IsTextOf (replies.Taken word) text = text ≡ taken_text word
+IsTextOf (replies.Retired word) text = text ≡ retired_text word
+IsTextOf (replies.Refused fault) text = (text ≡ segment_text fault) ⊎ (text ≡ no_memory)
+IsTextOf replies.NoMemory text = text ≡ no_memory
+
+-- the messages that are whole were handled, and all that they are told was written
+pub record SendsAll (old new : NodeState) (held new_held : Option (List ℕ)) : Type 0 where
+  pub lines : List Line
+  pub bad : Bool
+  pub tells : TellsAll old lines bad new
+  pub appends : Appends held new_held (flat_map line_text lines ++ fed_text (length lines) bad)
+
+-- a front was written of what the first messages are told
+pub record SendsSome (old : NodeState) (held new_held : Option (List ℕ)) : Type 0 where
+  pub lines : List Line
+  pub new : NodeState
+  pub n : ℕ
+  pub tells : Tells old lines new
+  pub appends : Appends held new_held (take n (flat_map line_text lines))
+
+-- or of all
+pub record SendsFront (old : NodeState) (held new_held : Option (List ℕ)) : Type 0 where
+  pub lines : List Line
+  pub bad : Bool
+  pub new : NodeState
+  pub n : ℕ
+  pub tells : TellsAll old lines bad new
+  pub appends : Appends held new_held (take n (flat_map line_text lines ++ fed_text (length lines) bad))
+
+abbrev pub SendsPart : NodeState → Option (List ℕ) → Option (List ℕ) → Type 0
+SendsPart old held new_held = SendsSome old held new_held ⊎ SendsFront old held new_held
+
+-- a node was fed a piece, which was answered in full, and the nodes and slots stand behind it
+pub record FedAs (d : Declaration) (at : Places) (h : List Step) (n : ℕ) (piece : List ℕ) (held new_held : Option (List ℕ)) : Type 0 where
+  pub reply : history.Reply
+  pub answers : Answers h (Feed n piece) reply
+  pub appends : Appends held new_held (text_of reply)
+  pub stand : StandAt d at (record { command = Feed n piece; reply = reply } ∷ h)

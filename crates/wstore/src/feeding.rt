@@ -1,0 +1,104 @@
+//! Handles the messages of a node's delivery stream, and writes what they are told.
+ghost use Rattle.std.specs.Prelude.{◌≡◌, ◌++◌, ℕ, [], ◌∷◌, take, decimal, false, IfErr, OnOk, OnErr};
+ghost use Rattle.std.specs.Io.KnownBytes.{Appends};
+ghost use Rattle.wlines.specs.Pending.{IsSoundWriter};
+ghost use Rattle.wstore.specs.Texts.{bytes_of};
+ghost use Rattle.wstore.specs.Replies.{fed_text};
+ghost use Rattle.wstore.specs.Feeding.{IsTextOf, SendsAll, SendsPart};
+
+use crate::node::{Node, Reply};
+use crate::replies::{Text, refused_segment, retired, taken};
+use crate::runs::{RunFault, send};
+use itoa::Buffer;
+use std::alloc::Global;
+use std::io::Write;
+use wvalues::Counted;
+
+// What a message was told, as it is spelled. A refusal that finds no memory is told as a message that found none.
+fn reply_text(alloc: Global, reply: Reply) -> Text
+    ensures { IsTextOf reply (bytes_of result) }
+{
+    match reply {
+        Reply::Taken(word) => Text::Fixed(taken(word)),
+        Reply::Retired(word) => Text::Fixed(retired(word)),
+        Reply::Refused(fault) => match refused_segment(alloc, fault) {
+            Ok(text) => text,
+            Err(_) => Text::Fixed(b"no memory\n"),
+        },
+        Reply::NoMemory => Text::Fixed(b"no memory\n"),
+    }
+}
+
+// Writes the digits of a number.
+fn send_digits<W: Write>(output: &mut Counted<W>, number: usize) -> Result<(), RunFault>
+    requires { IsSoundWriter output.old }
+    ensures ok { OnOk result (Appends (W.contents output.old.inner) (W.contents output.new.inner) (decimal number)) }
+    ensures sound { OnOk result (IsSoundWriter output.new) }
+    ensures fault { IfErr result (λ e. e ≡ RunFault.Write) }
+    ensures front { OnErr result ((n : ℕ) × Appends (W.contents output.old.inner) (W.contents output.new.inner) (take n (decimal number))) }
+    ensures cause { OnErr result (output.new.failures ≡ 1) }
+{
+    let mut buffer = Buffer::new();
+    send(output, buffer.format(number).as_bytes())
+}
+
+// Writes a number and a line feed.
+fn send_number<W: Write>(output: &mut Counted<W>, number: usize) -> Result<(), RunFault>
+    requires { IsSoundWriter output.old }
+    ensures ok { OnOk result (Appends (W.contents output.old.inner) (W.contents output.new.inner) (decimal number ++ 10 ∷ [])) }
+    ensures sound { OnOk result (IsSoundWriter output.new) }
+    ensures fault { IfErr result (λ e. e ≡ RunFault.Write) }
+    ensures front { OnErr result ((n : ℕ) × Appends (W.contents output.old.inner) (W.contents output.new.inner) (take n (decimal number ++ 10 ∷ []))) }
+    ensures cause { OnErr result (output.new.failures ≡ 1) }
+{
+    if let Err(fault) = send_digits(output, number) {
+        return Err(fault);
+    }
+    send(output, b"\n")
+}
+
+// Writes the last line of a piece whose stream is good.
+fn send_fed<W: Write>(output: &mut Counted<W>, count: usize) -> Result<(), RunFault>
+    requires { IsSoundWriter output.old }
+    ensures ok { OnOk result (Appends (W.contents output.old.inner) (W.contents output.new.inner) (fed_text count false)) }
+    ensures sound { OnOk result (IsSoundWriter output.new) }
+    ensures fault { IfErr result (λ e. e ≡ RunFault.Write) }
+    ensures front { OnErr result ((n : ℕ) × Appends (W.contents output.old.inner) (W.contents output.new.inner) (take n (fed_text count false))) }
+    ensures cause { OnErr result (output.new.failures ≡ 1) }
+{
+    if let Err(fault) = send(output, b"fed ") {
+        return Err(fault);
+    }
+    send_number(output, count)
+}
+
+/// Handles the messages that are whole, and writes what each is told, and then their number, or that the stream is bad.
+pub(crate) fn tell_messages<W: Write>(
+    alloc: Global,
+    output: &mut Counted<W>,
+    node: &mut Node,
+) -> Result<(), RunFault>
+    requires output { IsSoundWriter output.old }
+    requires good { node.old.is_bad ≡ false }
+    ensures ok { OnOk result (SendsAll node.old node.new (W.contents output.old.inner) (W.contents output.new.inner)) }
+    ensures sound { OnOk result (IsSoundWriter output.new) }
+    ensures part { OnErr result (SendsPart node.old (W.contents output.old.inner) (W.contents output.new.inner)) }
+    ensures fault { IfErr result (λ e. e ≡ RunFault.Write) }
+    ensures cause { OnErr result (output.new.failures ≡ 1) }
+{
+    let _most = node.pending();
+    let mut count: usize = 0;
+    'messages: loop {
+        match node.next_reply() {
+            Ok(Some(reply)) => {
+                let text = reply_text(alloc, reply);
+                if let Err(fault) = send(output, text.as_slice()) {
+                    return Err(fault);
+                }
+                count += 1;
+            }
+            Ok(None) => return send_fed(output, count),
+            Err(_) => return send(output, b"refused B1\n"),
+        }
+    }
+}

@@ -1,0 +1,3 @@
+pub mod Windows
+pub mod Order
+pub mod Limits

@@ -1,0 +1,80 @@
+-- The rule on limits: Q27.
+use Rattle.std.specs.Prelude.{ℕ, zero, suc, Bool, true, false, ◌||◌, ◌&&◌, ◌+◌, not, nat_lt, List, [], ◌∷◌, length, if◌then◌else◌}
+use Rattle.std.specs.List.{list_any}
+use Rattle.wquery.specs.Tree.{Tree, NullWord, Numeral, Quoted, Field, Invoked, Negated, Signed, Joined, Compared, NullTest, Within, Among, Trees, NoTrees, MoreTrees, Links, NoLinks, Further, Given, Everything, These, Filter, Unfiltered, FilteredBy, Reach, ItsGroup, ThatWindow, OwnWindow, Keys, NoKeys, MoreKeys, KeyTree, own_window}
+use Rattle.wquery.specs.QueryTree.{Clauses, ItemTree, AllColumns, Computed, EntryTree}
+use Rattle.wscope.specs.Types.{Titled}
+use Rattle.wscope.specs.Scope.{some_anywhere}
+use Rattle.wscope.specs.Finding.{finds, count_trees, count_keys}
+use Rattle.wwindows.specs.Order.{count_items}
+use Rattle.wwindows.specs.Windows.{reach_is}
+
+abbrev mutual
+  -- how often OVER stands with parentheses in an expression
+  pub count_over : Tree → ℕ
+  count_over NullWord = 0
+  count_over (Numeral n) = 0
+  count_over (Quoted text) = 0
+  count_over (Field qualifier name) = 0
+  count_over (Invoked name given filter reach) = over_given given + (over_filter filter + over_reach reach)
+  count_over (Negated t) = count_over t
+  count_over (Signed minus t) = count_over t
+  count_over (Joined kind t links) = count_over t + over_links links
+  count_over (Compared comparison l r) = count_over l + count_over r
+  count_over (NullTest negated t) = count_over t
+  count_over (Within negated t l h) = count_over t + (count_over l + count_over h)
+  count_over (Among negated t list) = count_over t + over_trees list
+
+  pub over_trees : Trees → ℕ
+  over_trees NoTrees = 0
+  over_trees (MoreTrees t ts) = count_over t + over_trees ts
+
+  pub over_links : Links → ℕ
+  over_links NoLinks = 0
+  over_links (Further front operator t) = over_links front + count_over t
+
+  pub over_given : Given → ℕ
+  over_given Everything = 0
+  over_given (These ts) = over_trees ts
+
+  pub over_filter : Filter → ℕ
+  over_filter Unfiltered = 0
+  over_filter (FilteredBy t) = count_over t
+
+  pub over_reach : Reach → ℕ
+  over_reach ItsGroup = 0
+  over_reach (ThatWindow name) = 0
+  over_reach (OwnWindow copied partition order frame) = 1 + (over_trees partition + over_keys order)
+
+  pub over_keys : Keys → ℕ
+  over_keys NoKeys = 0
+  over_keys (MoreKeys t descending nulls more) = count_over t + over_keys more
+
+abbrev pub over_items : List ItemTree → ℕ
+over_items [] = 0
+over_items (AllColumns ∷ items) = over_items items
+over_items (Computed t alias ∷ items) = count_over t + over_items items
+
+abbrev pub over_order : List KeyTree → ℕ
+over_order [] = 0
+over_order (k ∷ ks) = count_over k.expression + over_order ks
+
+-- WINDOW entries, and OVER with parentheses in the SELECT list and the query's ORDER BY, the places where it may stand
+abbrev pub count_windows : Clauses → ℕ
+count_windows c = length c.windows + (over_items c.items + over_order c.order)
+
+-- over 16 entries in a list of a call's own window
+abbrev pub has_long_list : Reach → Bool
+has_long_list (OwnWindow copied partition order frame) = nat_lt 16 (count_trees partition) || nat_lt 16 (count_keys order)
+has_long_list _ = false
+
+abbrev pub is_long_entry : EntryTree → Bool
+is_long_entry e = has_long_list (own_window e.window)
+
+-- Q27: over 64 items after `*` is written out, over 32 windows, over 16 entries in one list of GROUP BY, PARTITION BY or
+-- ORDER BY
+abbrev pub breaks_limits : List Titled → Clauses → Bool
+breaks_limits cs c =
+    nat_lt 64 (count_items cs c.items) || (nat_lt 32 (count_windows c)
+    || ((nat_lt 16 (length c.grouping) || nat_lt 16 (length c.order))
+    || (list_any is_long_entry c.windows || some_anywhere cs c (finds (reach_is has_long_list)))))

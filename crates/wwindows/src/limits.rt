@@ -1,0 +1,130 @@
+//! The rule on limits.
+
+ghost use Rattle.std.specs.Prelude.{◌≡◌, ◌||◌, ◌+◌, ℕ, Bool, map, min, length, nat_lt};
+ghost use Rattle.std.specs.List.{list_any};
+ghost use Rattle.wquery.specs.Tree.{trees, views, keys, view_keys, view_window, view_optional_over, reach_of, own_window};
+ghost use Rattle.wquery.specs.QueryTree.{view_item, view_entry, view_query};
+ghost use Rattle.wscope.specs.Scope.{clauses_of};
+ghost use Rattle.wscope.specs.Sources.{all_titled};
+ghost use Rattle.wscope.specs.Finding.{count_trees, count_keys};
+ghost use Rattle.wwindows.specs.Order.{count_items as number_of_items};
+ghost use Rattle.wwindows.specs.Limits.{count_windows as number_of_windows, has_long_list as is_reach_long, is_long_entry as is_entry_long, breaks_limits};
+
+use crate::counting::{count_in_items, count_in_order, plus};
+use crate::order::count_items;
+use crate::windows::{ReachTest, any_over};
+use wquery::{Expression, Key, Over, Query, Window, WindowEntry};
+use wscope::SourceColumn;
+
+/// The most items, `*` written out.
+const MAX_ITEMS: u128 = 64;
+
+/// The most WINDOW entries and windows of calls together.
+const MAX_WINDOWS: usize = 32;
+
+/// The most entries in one list of GROUP BY, PARTITION BY or ORDER BY.
+const MAX_ENTRIES: usize = 16;
+
+fn are_many(list: &[Expression]) -> bool
+    ensures { result ≡ nat_lt 16 (count_trees (trees (views list.now))) }
+{
+    list.len() > MAX_ENTRIES
+}
+
+fn are_many_keys(order: &[Key]) -> bool
+    ensures { result ≡ nat_lt 16 (count_keys (keys (view_keys order.now))) }
+{
+    order.len() > MAX_ENTRIES
+}
+
+#[tactic(auto, unfolding(wquery::specs::Tree::view_window, wquery::specs::Tree::view, wquery::specs::Tree::view_key))]
+fn is_window_long(window: &Window) -> bool
+    ensures { result ≡ is_reach_long (own_window (view_window window.now)) }
+{
+    are_many(window.partition.as_slice()) || are_many_keys(window.order.as_slice())
+}
+
+/// Over 16 entries in a list of a call's own window.
+#[derive(Drop)]
+struct LongList;
+
+impl ReachTest for LongList {
+    ghost holds = { λ _. is_reach_long };
+
+    #[tactic(auto, unfolding(wquery::specs::Tree::view_over, wquery::specs::Tree::view_window))]
+    fn is_hit(&self, over: &Option<Over>) -> bool {
+        match over {
+            None => false,
+            Some(Over::Named(_)) => false,
+            Some(Over::Windowed(window)) => is_window_long(window),
+        }
+    }
+}
+
+fn any_long_entry(entries: &[WindowEntry]) -> bool
+    ensures { result ≡ list_any is_entry_long (map view_entry entries.now) }
+{
+    'entries: for entry in entries {
+        if is_window_long(&entry.window) {
+            return true;
+        }
+    }
+    false
+}
+
+fn exceeds_windows(entries: usize, in_items: u32, in_order: u32) -> bool
+    ensures { (items order : ℕ) → in_items ≡ min 33 items → in_order ≡ min 33 order → result ≡ nat_lt 32 (entries + (items + order)) }
+{
+    if entries > MAX_WINDOWS {
+        return true;
+    }
+    entries as u32 + plus(in_items, in_order) > 32
+}
+
+#[tactic(auto, unfolding(wquery::specs::QueryTree::view_query))]
+fn has_many_windows(query: &Query) -> bool
+    ensures { result ≡ nat_lt 32 (number_of_windows (clauses_of (view_query query.now))) }
+{
+    exceeds_windows(
+        query.windows.len(),
+        count_in_items(query.items.as_slice()),
+        count_in_order(query.order.as_slice()),
+    )
+}
+
+#[tactic(auto, unfolding(wquery::specs::QueryTree::view_query))]
+fn has_many_items(columns: &[SourceColumn], query: &Query) -> bool
+    ensures { result ≡ nat_lt 64 (number_of_items (all_titled columns.now) (clauses_of (view_query query.now)).items) }
+{
+    count_items(columns, query.items.as_slice()) > MAX_ITEMS
+}
+
+#[tactic(auto, unfolding(wquery::specs::QueryTree::view_query))]
+fn has_long_clause(query: &Query) -> bool
+    ensures { result ≡ (nat_lt 16 (length (clauses_of (view_query query.now)).grouping) || nat_lt 16 (length (clauses_of (view_query query.now)).order)) }
+{
+    if query.grouping.len() > MAX_ENTRIES {
+        return true;
+    }
+    query.order.len() > MAX_ENTRIES
+}
+
+/// Q27, but for the depth of derived tables.
+#[tactic(auto, unfolding(wquery::specs::QueryTree::view_query))]
+pub fn exceeds_limits(columns: &[SourceColumn], query: &Query) -> bool
+    ensures { result ≡ breaks_limits (all_titled columns.now) (clauses_of (view_query query.now)) }
+{
+    if has_many_items(columns, query) {
+        return true;
+    }
+    if has_many_windows(query) {
+        return true;
+    }
+    if has_long_clause(query) {
+        return true;
+    }
+    if any_long_entry(query.windows.as_slice()) {
+        return true;
+    }
+    any_over(&LongList, columns, query)
+}
