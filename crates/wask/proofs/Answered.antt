@@ -6,7 +6,7 @@ use Rattle.wquery.specs.QueryTree.{QueryTree}
 use Rattle.wplanner.specs.declared.fault.AskFault.{AskFault}
 use Rattle.wplanner.specs.declared.fault.AskFault.TheVariants as faults
 use Rattle.wask.specs.Texts.{IsRefused, IsUnread, Reads}
-use Rattle.wask.specs.Asking.{IsAnswer, QueryAnswers}
+use Rattle.wask.specs.Asking.{IsAnswer, query_answer}
 
 -- a fault that is want of memory or an answer
 abbrev IsTold : Declaration → View → List ℕ → AskFault → Type 0
@@ -17,7 +17,6 @@ unread_told d v text faults.TooLong a = inr (inl a)
 unread_told d v text faults.NotUtf8 a = inr (inl a)
 unread_told d v text (faults.At k) a = inr (inl a)
 unread_told d v text faults.Syntax a = inr (inl a)
-unread_told d v text faults.NotYet a = inr (inl a)
 unread_told d v text (faults.Broken r) a = inr (inl a)
 unread_told d v text faults.OutOfRange a = inr (inl a)
 unread_told d v text faults.TooManyRows a = inr (inl a)
@@ -28,25 +27,24 @@ pub refused : (d : Declaration) (v : View) (text : List ℕ) (fault : AskFault) 
 refused d v text fault (inl e) = inl e
 refused d v text fault (inr a) = unread_told d v text fault a
 
-read_told : (d : Declaration) (v : View) (text : List ℕ) (q : QueryTree) (fault : AskFault) → Reads text q → QueryAnswers d v q (Err fault) → IsTold d v text fault
+read_told : (d : Declaration) (v : View) (text : List ℕ) (q : QueryTree) (fault : AskFault) → Reads text q → (query_answer d v q ≡ Err fault) → IsTold d v text fault
 read_told d v text q faults.TooLong reads a = inr (inr (q, reads, a))
 read_told d v text q faults.NotUtf8 reads a = inr (inr (q, reads, a))
 read_told d v text q (faults.At k) reads a = inr (inr (q, reads, a))
 read_told d v text q faults.Syntax reads a = inr (inr (q, reads, a))
-read_told d v text q faults.NotYet reads a = inr (inr (q, reads, a))
 read_told d v text q (faults.Broken r) reads a = inr (inr (q, reads, a))
 read_told d v text q faults.OutOfRange reads a = inr (inr (q, reads, a))
 read_told d v text q faults.TooManyRows reads a = inr (inr (q, reads, a))
 read_told d v text q faults.NoMemory reads a = inl refl
 
 -- a query that is not answered
-pub unanswered : (d : Declaration) (v : View) (text : List ℕ) (q : QueryTree) (fault : AskFault) → Reads text q → (fault ≡ faults.NoMemory) ⊎ QueryAnswers d v q (Err fault) → (fault ≡ faults.NoMemory) ⊎ IsAnswer d v text (Err fault)
+pub unanswered : (d : Declaration) (v : View) (text : List ℕ) (q : QueryTree) (fault : AskFault) → Reads text q → (fault ≡ faults.NoMemory) ⊎ (query_answer d v q ≡ Err fault) → (fault ≡ faults.NoMemory) ⊎ IsAnswer d v text (Err fault)
 unanswered d v text q fault reads (inl e) = inl e
 unanswered d v text q fault reads (inr a) = read_told d v text q fault reads a
 
 -- what a query is answered, where the text spells it
 pub answered_by : {A : Type 0} (d : Declaration) (v : View) (text : List ℕ) (q : QueryTree) (items : A → List ℕ) (r : Result A AskFault) → Reads text q
-    → MatchResult r (λ a. QueryAnswers d v q (Ok (items a))) (λ fault. (fault ≡ faults.NoMemory) ⊎ QueryAnswers d v q (Err fault))
+    → MatchResult r (λ a. (query_answer d v q ≡ Ok (items a))) (λ fault. (fault ≡ faults.NoMemory) ⊎ (query_answer d v q ≡ Err fault))
     → MatchResult r (λ a. IsAnswer d v text (Ok (items a))) (λ fault. (fault ≡ faults.NoMemory) ⊎ IsAnswer d v text (Err fault))
 answered_by d v text q items (Ok a) reads told = (q, reads, told)
 answered_by d v text q items (Err fault) reads told = unanswered d v text q fault reads told

@@ -1,3 +1,7 @@
+mod Accepted
 mod Answered
+mod Nodes
 pub mod OneAnswer
 mod Read
+mod SoundCalls
+mod SoundWindows

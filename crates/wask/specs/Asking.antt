@@ -1,8 +1,7 @@
 -- What a text is answered on the rows of a view.
-use Rattle.std.specs.Prelude.{◌≡◌, ◌≢◌, ℕ, List, length, Option, None, Some, Result, Ok, Err, ◌⊎◌, if◌then◌else◌}
+use Rattle.std.specs.Prelude.{◌≡◌, ℕ, List, Option, None, Some, Result, Ok, Err, ◌⊎◌}
 use Rattle.wsegment.specs.Declaration.{Declaration}
 use Rattle.wset.specs.Views.{View}
-use Rattle.wset.specs.Tables.{table_of}
 use Rattle.wquery.specs.QueryTree.{QueryTree}
 use Rattle.wplan.specs.Plans.{SelectPlan}
 use Rattle.wrows.specs.Columns.{Row}
@@ -11,23 +10,22 @@ use Rattle.wrules.specs.declared.rule.Rule.{Rule}
 use Rattle.wrules.specs.Rules.{first_broken_rule, number_of}
 use Rattle.wresolve.specs.Selecting.{resolved_query}
 use Rattle.wplanner.specs.Parts.{TableParts}
-use Rattle.wplanner.specs.Answers.{is_plain_query, table_answer}
+use Rattle.wplanner.specs.Answers.{table_answer}
 use Rattle.wplanner.specs.Printing.{table_text}
 use Rattle.wplanner.specs.Asking.{unanswered}
 use Rattle.wplanner.specs.Tables.{rows_of_set}
 use Rattle.wplanner.specs.declared.fault.AskFault.{AskFault}
 use Rattle.wplanner.specs.declared.fault.AskFault.TheVariants as faults
 use Rattle.wask.specs.Texts.{Reads, IsUnread}
-use Rattle.wask.specs.Counting.{count_query, count_table}
 
 -- the bytes of a table, or why there is none
 abbrev pub printed : Result TableParts AnswerFault → Result (List ℕ) AskFault
 printed (Ok table) = Ok (table_text table.names table.rows)
 printed (Err fault) = Err (unanswered fault)
 
--- what a query with its names settled is answered on some rows; one with groups or windows is not answered yet
+-- what a query with its names settled is answered on some rows
 abbrev pub plan_answer : List SelectPlan → List Row → Result (List ℕ) AskFault
-plan_answer plans rows = if is_plain_query plans then printed (table_answer plans rows) else Err faults.NotYet
+plan_answer plans rows = printed (table_answer plans rows)
 
 -- the first broken rule, else what is meant
 abbrev pub unless_broken : Option Rule → Result (List ℕ) AskFault → Result (List ℕ) AskFault
@@ -38,13 +36,8 @@ unless_broken (Some rule) meant = Err (faults.Broken (number_of rule))
 abbrev pub query_answer : Declaration → View → QueryTree → Result (List ℕ) AskFault
 query_answer d v query = unless_broken (first_broken_rule d query) (plan_answer (resolved_query d query) (rows_of_set (record { schema = d; view = v })))
 
--- the same, where the query that counts the rows is answered by itself
-abbrev pub QueryAnswers : Declaration → View → QueryTree → Result (List ℕ) AskFault → Type 0
-QueryAnswers d v query answer =
-    ((query ≡ count_query d.table) × (answer ≡ Ok (count_table (length (table_of d v))))) ⊎ ((query ≢ count_query d.table) × (query_answer d v query ≡ answer))
-
 -- what a text is answered: why it spells no query, else what its query is answered
 abbrev pub IsAnswer : Declaration → View → List ℕ → Result (List ℕ) AskFault → Type 0
-IsAnswer d v text (Ok bytes) = (query : QueryTree) × Reads text query × QueryAnswers d v query (Ok bytes)
+IsAnswer d v text (Ok bytes) = (query : QueryTree) × Reads text query × (query_answer d v query ≡ Ok bytes)
 IsAnswer d v text (Err faults.NoMemory) = ⊥
-IsAnswer d v text (Err fault) = IsUnread text fault ⊎ ((query : QueryTree) × Reads text query × QueryAnswers d v query (Err fault))
+IsAnswer d v text (Err fault) = IsUnread text fault ⊎ ((query : QueryTree) × Reads text query × (query_answer d v query ≡ Err fault))

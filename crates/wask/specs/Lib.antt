@@ -1,4 +1,3 @@
 pub mod Texts
-pub mod Counting
 pub mod Asking
 pub mod Laws

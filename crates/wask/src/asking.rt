@@ -1,13 +1,13 @@
 //! The way of a text: tokens, query, plan, table, bytes.
-ghost use Rattle.std.specs.Prelude.{◌≡◌, ◌⊎◌, Ok, Err, MatchResult};
+ghost use Rattle.std.specs.Prelude.{◌≡◌, ◌⊎◌, true, Ok, Err, MatchResult};
 ghost use Rattle.wquery.specs.QueryTree.{view_query};
 ghost use Rattle.wask.specs.Texts.{IsRefused, Reads, lexical, syntactical};
 ghost use Rattle.wplan.specs.Plans.{plans};
+ghost use Rattle.wplanner.specs.Sound.{is_sound_query};
 ghost use Rattle.wplanner.specs.Tables.{rows_of_set};
 ghost use Rattle.wplanner.specs.declared.fault.AskFault.TheVariants.{NoMemory};
-ghost use Rattle.wask.specs.Asking.{IsAnswer, QueryAnswers, plan_answer, query_answer};
+ghost use Rattle.wask.specs.Asking.{IsAnswer, plan_answer, query_answer};
 
-use crate::counting::{count_bytes, is_count_query};
 use std::alloc::Global;
 use wlexer::{LexFault, lex};
 use wparser::{ParseFault, parse};
@@ -53,6 +53,7 @@ fn read(alloc: Global, text: &[u8]) -> Result<Query, AskFault>
 
 // What a query with its names settled is answered on the rows of the set.
 fn executed(alloc: Global, set: &SegmentSet, query: &Resolved) -> Result<Vec<u8>, AskFault>
+    requires { is_sound_query (plans query.now) ≡ true }
     ensures { MatchResult result
         (λ bytes. plan_answer (plans query.now) (rows_of_set set.now) ≡ Ok bytes.items)
         (λ fault. (fault ≡ NoMemory) ⊎ (plan_answer (plans query.now) (rows_of_set set.now) ≡ Err fault)) }
@@ -66,8 +67,8 @@ fn executed(alloc: Global, set: &SegmentSet, query: &Resolved) -> Result<Vec<u8>
     }
 }
 
-// What a query is answered on the rows of the set, if it is not the one that counts them.
-fn judged(alloc: Global, set: &SegmentSet, query: &Query) -> Result<Vec<u8>, AskFault>
+// What a query is answered on the rows of the set.
+fn answer(alloc: Global, set: &SegmentSet, query: &Query) -> Result<Vec<u8>, AskFault>
     ensures { MatchResult result
         (λ bytes. query_answer set.now.schema set.now.view (view_query query.now) ≡ Ok bytes.items)
         (λ fault. (fault ≡ NoMemory) ⊎ (query_answer set.now.schema set.now.view (view_query query.now) ≡ Err fault)) }
@@ -78,21 +79,6 @@ fn judged(alloc: Global, set: &SegmentSet, query: &Query) -> Result<Vec<u8>, Ask
             rule: rule.number(),
         }),
         Ok(resolved) => executed(alloc, set, &resolved),
-    }
-}
-
-// What a query is answered on the rows of the set.
-fn answer(alloc: Global, set: &SegmentSet, query: &Query) -> Result<Vec<u8>, AskFault>
-    ensures { MatchResult result
-        (λ bytes. QueryAnswers set.now.schema set.now.view (view_query query.now) (Ok bytes.items))
-        (λ fault. (fault ≡ NoMemory) ⊎ QueryAnswers set.now.schema set.now.view (view_query query.now) (Err fault)) }
-{
-    if !is_count_query(query, set.schema().table()) {
-        return judged(alloc, set, query);
-    }
-    match count_bytes(alloc, set.row_count()) {
-        Err(_) => Err(AskFault::NoMemory),
-        Ok(bytes) => Ok(bytes),
     }
 }
 

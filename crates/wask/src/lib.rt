@@ -2,17 +2,16 @@
 //!
 //! - Gives `ask`, which answers any text on the rows of a set.
 //! - Promises: the answer is the one that the text has on what the set knows, or its first fault. A text has one answer
-//!   (`one_answer`).
+//!   (`one_answer`). A query that breaks no rule is answered its meaning or its fault (`accepted_is_sound`).
 //! - Asks: nothing. Want of memory alone may come in the place of an answer.
 //! - Leaves each step to the crate that it belongs to: `wlexer`, `wparser`, `wresolve` and `wplanner`.
 //!
-//! Read `specs/Texts.antt`, then `specs/Counting.antt`, `specs/Asking.antt` and `specs/Laws.antt`.
+//! Read `specs/Texts.antt`, then `specs/Asking.antt` and `specs/Laws.antt`.
 #![tactic(auto)]
 
 mod asking;
-mod counting;
 mod laws;
 
 pub use asking::ask;
-pub use laws::one_answer;
+pub use laws::{accepted_is_sound, one_answer};
 pub use wplanner::AskFault;

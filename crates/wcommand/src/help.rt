@@ -114,12 +114,13 @@ Exit status: 0 done, 1 a table or a store is refused, 2 words, 3 a fault.";
 pub(crate) const ASK: &str = "Answer a query over the rows that count, as CSV";
 
 pub(crate) const AFTER_ASK: &str = "\
-QUERY is one SELECT over the table. Quote it, so that the shell hands it on as one word. The answer's first line
-names its columns. Two stores that know the same answer the same bytes.
+QUERY is one SELECT over the table. Quote it, so that the shell hands it on as one word. One that may begin with
+a comment is given behind '--'. The answer's first line names its columns. Two stores that know the same answer
+the same bytes.
 
 Examples:
   wstore ask --table sales.table --store sales.wsx 'SELECT count(*) FROM sales'
-  wstore ask --table sales.table --store sales.wsx \"$(cat report.sql)\" > report.csv
+  wstore ask --table sales.table --store sales.wsx -- \"$(cat report.sql)\" > report.csv
 
 Exit status: 0 answered, 1 refused (standard output has 'refused' and the rule that is broken), 2 words,
 3 a fault.";

@@ -1,5 +1,5 @@
 -- The faults of a file, by what was read last.
-use Rattle.std.proofs.Common.{◌≡◌, ◌≢◌, ◌==◌, nat_eq, take, drop, take-append-drop, ℕ, zero, suc, ◌+◌, ◌-◌, ◌<◌, ◌≤◌, ◌↔◌, Bool, true, false, List, [], ◌∷◌, ◌++◌, length, slice_get, Option, None, Some, Result, Ok, Err, IsOk, IsTrue, inl, inr, refl, sym, ap, ◌∙◌, subst, arith, append_assoc, append-nil, length-append}
+use Rattle.std.proofs.Common.{◌≡◌, ◌≢◌, ◌==◌, nat_eq, take, drop, take-append-drop, ℕ, ◌-◌, ◌<◌, ◌≤◌, ◌↔◌, Bool, true, false, List, [], ◌∷◌, ◌++◌, length, slice_get, Some, Err, IsOk, IsTrue, inl, inr, refl, sym, ap, ◌∙◌, subst, arith, append_assoc, append-nil, length-append}
 use Rattle.std.specs.List.{flat_map, starts_with, AllByRecursion}
 use Rattle.std.specs.Cmp.Lexicographic.{pointwise, bytes_decides}
 use Rattle.std.specs.Ordering.{is_lt}
@@ -8,7 +8,6 @@ use Rattle.std.specs.declared.cmp.Ordering.TheVariants.{Less, Equal, Greater}
 use Rattle.std.specs.FinMap.{entries}
 use Rattle.std.specs.FinMap as FinMap
 use Rattle.wvalues.specs.Names.{NameParts, IsName, name_cmp}
-use Rattle.wlines.specs.Words.{Lacks}
 use Rattle.wsegment.specs.Declaration.{Declaration, declaration_text}
 use Rattle.wsegment.specs.Rows.{rows_of}
 use Rattle.wsegment.specs.Outcome.{Fails}
@@ -20,8 +19,8 @@ use Rattle.wset.specs.Lending.{IsAbove, only_disputed}
 use Rattle.wset.proofs.Later.{take_later, retire_later, dispute_later, above_last, last_less}
 use Rattle.wexchange.specs.Forms.{IsForm, IsNumber, line_of}
 use Rattle.wexchange.specs.Cuts.{IsUnfed}
-use Rattle.wexchange.specs.Files.{head, begun, end_text, table_text, file_of, record_text, IsRecord, AreRecords, IsView}
-use Rattle.wexchange.specs.Judging.{IsCutHead, GoesOn, AtTable, Behind, Place, Follows, MayStand, Stands, body_length, record_name, IsFault, HasLowName, HasOtherCount, HasOtherTable, HasBadSegment, HasMore, IsFileOf}
+use Rattle.wexchange.specs.Files.{head, begun, end_text, table_text, record_text, IsRecord, AreRecords}
+use Rattle.wexchange.specs.Judging.{IsCutHead, GoesOn, AtTable, Behind, Place, Follows, MayStand, body_length, record_name, IsFault, HasOtherTable, HasBadSegment, HasTable, IsFileOf}
 use Rattle.wexchange.specs.Steps.{Adds, Spoils, file_fault}
 use Rattle.wexchange.specs.declared.fault.FileFault.TheVariants as faults
 use Rattle.wexchange.specs.declared.form.Form.{Form}
@@ -87,8 +86,32 @@ has_more d v count (b ∷ rest) number is more bytes g = record {
   bytes_are = g.bytes_are ∙ sym (append_assoc (begun d (entries v)) (end_text count) (b ∷ rest)) ∙ ap (λ k. (begun d (entries v) ++ end_text k) ++ (b ∷ rest)) (sym is);
 }
 
+-- what is read behind the declaration stands behind it
+behind_table : (d : Declaration) (v : View) (bytes rest : List ℕ) → GoesOn d (Behind v) bytes rest → HasTable d bytes
+behind_table d v bytes rest g = record {
+  rest = flat_map record_text (entries v) ++ rest;
+  bytes_are = g.bytes_are ∙ append_assoc (head ++ table_text d) (flat_map record_text (entries v)) rest;
+}
+
+pub lacks_memory : (d : Declaration) (v : View) (rest : List ℕ) → Spoils d v rest faults.NoMemory
+lacks_memory d v rest bytes g = behind_table d v bytes rest g
+
+pub table_lacks_memory : (d : Declaration) (records bytes : List ℕ) → bytes ≡ head ++ (table_text d ++ records) → HasTable d bytes
+table_lacks_memory d records bytes is = record { rest = records; bytes_are = is ∙ sym (append_assoc head (table_text d) records) }
+
+-- a file has its declaration
+pub file_has_table : (d : Declaration) (v : View) (bytes : List ℕ) → IsFileOf d v bytes → HasTable d bytes
+file_has_table d v bytes f = record {
+  rest = flat_map record_text (entries v) ++ end_text (length (entries v));
+  bytes_are = f.bytes_are ∙ append_assoc (head ++ table_text d) (flat_map record_text (entries v)) (end_text (length (entries v)));
+}
+
+-- so has one of which a content is refused
+pub segment_has_table : (d : Declaration) (bytes : List ℕ) (fault : SegmentFault) → HasBadSegment d bytes fault → HasTable d bytes
+segment_has_table d bytes fault h = behind_table d h.view bytes _ h.stands.goes_on
+
 pub file_refused : (d : Declaration) (v : View) (n : NameParts) (len : ℕ) (content more after : List ℕ) (fault : SegmentFault) → IsName n → IsNumber len → IsAbove v n → after ≡ content ++ (10 ∷ more) → length content ≡ len → Fails fault (rows_of d content) → Spoils d v (line_of (forms.Content n len) ++ (10 ∷ after)) (file_fault fault)
-file_refused d v n len content more after fault name number above is size (inl e) bytes g = subst (λ f. IsFault d bytes (file_fault f)) (sym e) tt
+file_refused d v n len content more after fault name number above is size (inl e) bytes g = subst (λ f. IsFault d bytes (file_fault f)) (sym e) (behind_table d v bytes _ g)
 file_refused d v n len content more after fault name number above is size (inr r) bytes g = by fault r
   where
     bad : (f : SegmentFault) → rows_of d content ≡ Err f → HasBadSegment d bytes f
@@ -116,7 +139,7 @@ file_refused d v n len content more after fault name number above is size (inr r
     by (segments.RowLength row) r = bad (segments.RowLength row) r
     by (segments.NotInteger row) r = bad (segments.NotInteger row) r
     by segments.TooManyRows r = bad segments.TooManyRows r
-    by segments.NoMemory r = tt
+    by segments.NoMemory r = behind_table d v bytes _ g
 
 -- ---- what was added
 

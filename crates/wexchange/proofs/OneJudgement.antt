@@ -1,5 +1,5 @@
 -- The file of a view is judged to be that view.
-use Rattle.std.proofs.Common.{◌≡◌, ◌≢◌, ℕ, ◌^◌, ◌<◌, ◌≤◌, Bool, true, false, ◌&&◌, T, List, [], ◌∷◌, ◌++◌, length, Option, None, Some, Result, Ok, Err, IsOk, ◌⊎◌, inl, inr, refl, sym, ap, ◌∙◌, subst, arith, append_assoc, append-nil, length-append}
+use Rattle.std.proofs.Common.{◌≡◌, ◌≢◌, ℕ, Bool, true, false, ◌&&◌, T, List, [], ◌∷◌, ◌++◌, length, None, Some, Ok, Err, IsOk, inl, inr, refl, sym, ap, ◌∙◌, subst, arith, append_assoc, append-nil, length-append}
 use Rattle.std.specs.List.{flat_map, AllByRecursion}
 use Rattle.std.specs.Ordering.{is_lt}
 use Rattle.std.specs.declared.cmp.Ordering.{Ordering}
@@ -7,7 +7,6 @@ use Rattle.std.specs.declared.cmp.Ordering.TheVariants.{Less, Equal, Greater}
 use Rattle.std.specs.FinMap.Entries.{below_all}
 use Rattle.std.specs.FinMap.{entries, is_sorted, entries_sorted}
 use Rattle.wvalues.specs.Names.{NameParts, name_cmp}
-use Rattle.wlines.specs.Words.{Lacks}
 use Rattle.wlines.proofs.Cuts.{cut_once, no_cut}
 use Rattle.wsegment.specs.Declaration.{Declaration, declaration_text}
 use Rattle.wsegment.specs.Spelling.{IsDeclaration}
@@ -17,7 +16,7 @@ use Rattle.wset.specs.Views.{Known, Live, Disputed, Retired, View}
 use Rattle.wset.specs.Lending.{AreBelow, IsAbove}
 use Rattle.wexchange.specs.Forms.{IsForm, IsNumber, line_of}
 use Rattle.wexchange.specs.Files.{head, table_text, record_text, end_text, begun, file_of, IsRecord, AreRecords, IsView}
-use Rattle.wexchange.specs.Judging.{Place, AtTable, Behind, GoesOn, MayStand, Stands, record_name, body_length, HasOtherHead, HasBadLine, HasUnfedBody, IsCutHead, HasCutLine, HasCutBody, HasLowName, HasOtherCount, HasOtherTable, HasBadSegment, HasMore, IsFault, Judges}
+use Rattle.wexchange.specs.Judging.{Place, AtTable, Behind, GoesOn, MayStand, record_name, body_length, HasOtherHead, HasBadLine, HasUnfedBody, IsCutHead, HasCutLine, HasCutBody, HasLowName, HasOtherCount, HasOtherTable, HasBadSegment, HasMore, IsFault}
 use Rattle.wexchange.specs.Laws.{OwnJudgement}
 use Rattle.wexchange.specs.declared.form.Form.{Form}
 use Rattle.wexchange.specs.declared.form.Form.TheVariants as forms

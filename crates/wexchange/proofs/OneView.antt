@@ -1,12 +1,12 @@
 -- A file is that of one view.
-use Rattle.std.proofs.Common.{◌≡◌, ℕ, ◌^◌, ◌<◌, ◌≤◌, List, [], ◌∷◌, ◌++◌, length, inl, inr, refl, sym, ap, ◌∙◌, arith, append_assoc}
+use Rattle.std.proofs.Common.{◌≡◌, ℕ, List, [], ◌∷◌, ◌++◌, length, refl, sym, ap, ◌∙◌, arith, append_assoc}
 use Rattle.std.specs.List.{flat_map, AllByRecursion}
 use Rattle.std.specs.FinMap.{entries, same_entries_map}
-use Rattle.wvalues.specs.Names.{NameParts, IsName}
+use Rattle.wvalues.specs.Names.{NameParts}
 use Rattle.wsegment.specs.Declaration.{Declaration}
-use Rattle.wset.specs.Views.{Known, Live, Disputed, Retired, View}
-use Rattle.wexchange.specs.Forms.{IsForm, IsNumber, line_of}
-use Rattle.wexchange.specs.Files.{head, table_text, record_text, end_text, begun, IsRecord}
+use Rattle.wset.specs.Views.{Known, Live, Disputed, Retired}
+use Rattle.wexchange.specs.Forms.{IsForm, line_of}
+use Rattle.wexchange.specs.Files.{head, table_text, record_text, end_text, IsRecord}
 use Rattle.wexchange.specs.Laws.{OneView}
 use Rattle.wexchange.specs.declared.form.Form.{Form}
 use Rattle.wexchange.specs.declared.form.Form.TheVariants as forms

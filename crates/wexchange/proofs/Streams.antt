@@ -9,7 +9,7 @@ use Rattle.wvalues.specs.Names.{NameParts, IsName}
 use Rattle.wset.specs.Items.{Item, SegmentItem, RetirementItem}
 use Rattle.wexchange.specs.Cuts.{IsUnfed}
 use Rattle.wexchange.specs.Forms.{IsNumber, IsForm, line_of}
-use Rattle.wexchange.specs.Messages.{most_bytes, message_text, IsMessage, IsOpenLine, IsOpenBody, IsOpen, IsBad}
+use Rattle.wexchange.specs.Messages.{most_bytes, message_text, IsMessage, IsOpen, IsBad}
 use Rattle.wexchange.specs.Inboxes.{BeginsWith, body_in}
 use Rattle.wexchange.specs.declared.form.Form.{Form}
 use Rattle.wexchange.specs.declared.form.Form.TheVariants as forms

@@ -1,12 +1,12 @@
 -- The bytes that the words of names and numbers lack.
-use Rattle.std.proofs.Common.{◌≡◌, ◌≢◌, ℕ, ◌^◌, ◌<◌, ◌≤◌, Bool, true, false, ◌&&◌, List, [], ◌∷◌, ◌++◌, refl, sym, ap, ◌∙◌, subst, arith}
+use Rattle.std.proofs.Common.{◌≡◌, ◌≢◌, ℕ, Bool, true, false, ◌&&◌, List, [], ◌∷◌, ◌++◌, refl, ap, arith}
 use Rattle.std.specs.Fmt.{decimal}
 use Rattle.std.specs.List.{list_all}
 use Rattle.wlines.specs.Words.{Lacks}
 use Rattle.wlines.proofs.Decimals.{no_space}
 use Rattle.wlines.proofs.Decimals as Decimals
 use Rattle.wvalues.specs.Names.{NameParts, IsName, is_origin_byte}
-use Rattle.wexchange.specs.Forms.{IsNumber, IsForm, line_of, name_words, content_words}
+use Rattle.wexchange.specs.Forms.{IsNumber, IsForm, line_of}
 use Rattle.wexchange.specs.declared.form.Form.{Form}
 use Rattle.wexchange.specs.declared.form.Form.TheVariants as forms
 

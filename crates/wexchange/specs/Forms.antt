@@ -1,5 +1,5 @@
 -- Header lines of exchange files and of delivery streams, and what stands behind them.
-use Rattle.std.specs.Prelude.{◌≡◌, ℕ, ◌^◌, ◌<◌, List, [], ◌∷◌, ◌++◌, length, Option, None, Some}
+use Rattle.std.specs.Prelude.{ℕ, ◌^◌, ◌<◌, List, ◌∷◌, ◌++◌}
 use Rattle.std.specs.Fmt.{decimal}
 use Rattle.wvalues.specs.Names.{NameParts, IsName}
 use Rattle.wexchange.specs.declared.form.Form.{Form}

@@ -1,6 +1,5 @@
 -- What an inbox stands for, what its calls tell, and how its steps lie in its bytes.
-use Rattle.std.specs.Prelude.{◌≡◌, ℕ, ◌-◌, ◌+◌, ◌<◌, ◌≤◌, Bool, true, false, List, ◌++◌, ◌∷◌, [], take, drop, length, Option, None, Some, Result, Ok, Err, ◌⊎◌}
-use Rattle.wvalues.specs.Names.{NameParts}
+use Rattle.std.specs.Prelude.{◌≡◌, ℕ, ◌-◌, ◌+◌, ◌<◌, ◌≤◌, Bool, true, false, List, ◌++◌, take, drop, length, Option, None, Some, Result, Ok, Err, ◌⊎◌}
 use Rattle.wset.specs.Items.{Item, SegmentItem, RetirementItem}
 use Rattle.wexchange.specs.Messages.{IsMessage, IsOpen, IsBad, message_text}
 use Rattle.wexchange.specs.declared.found.Found.{Found}

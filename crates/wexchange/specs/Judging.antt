@@ -8,9 +8,9 @@ use Rattle.wsegment.specs.Rows.{rows_of}
 use Rattle.wsegment.specs.declared.fault.SegmentFault.{SegmentFault}
 use Rattle.wset.specs.Views.{View}
 use Rattle.wset.specs.Lending.{IsAbove}
-use Rattle.wexchange.specs.Forms.{IsForm, IsNumber, line_of}
+use Rattle.wexchange.specs.Forms.{IsForm, line_of}
 use Rattle.wexchange.specs.Cuts.{IsUnfed}
-use Rattle.wexchange.specs.Files.{head, begun, file_of, end_text, AreRecords, IsView}
+use Rattle.wexchange.specs.Files.{head, table_text, begun, file_of, AreRecords, IsView}
 use Rattle.wexchange.specs.declared.form.Form.{Form}
 use Rattle.wexchange.specs.declared.form.Form.TheVariants as forms
 use Rattle.wexchange.specs.declared.fault.FileFault.{FileFault}
@@ -180,9 +180,16 @@ pub record HasMore (d : Declaration) (bytes : List ℕ) : Type 0 where
   pub is_view : IsView d view
   pub bytes_are : bytes ≡ file_of d view ++ (byte ∷ more)
 
+-- ---- want of memory
+
+-- the first line and the reader's own declaration stand first: whatever is refused before them needs no memory
+pub record HasTable (d : Declaration) (bytes : List ℕ) : Type 0 where
+  pub rest : List ℕ
+  pub bytes_are : bytes ≡ (head ++ table_text d) ++ rest
+
 -- ---- all together
 
--- the first fault of these bytes
+-- the first fault of these bytes, or where memory may run out
 abbrev pub IsFault : Declaration → List ℕ → FileFault → Type 0
 IsFault d bytes faults.OtherFormat = HasOtherHead bytes ⊎ (HasBadLine d bytes ⊎ HasUnfedBody d bytes)
 IsFault d bytes faults.Truncated = IsCutHead bytes ⊎ (HasCutLine d bytes ⊎ HasCutBody d bytes)
@@ -191,7 +198,7 @@ IsFault d bytes faults.OtherCount = HasOtherCount d bytes
 IsFault d bytes faults.OtherSchema = HasOtherTable d bytes
 IsFault d bytes (faults.Segment fault) = HasBadSegment d bytes fault
 IsFault d bytes faults.Trailing = HasMore d bytes
-IsFault d bytes faults.NoMemory = ⊤
+IsFault d bytes faults.NoMemory = HasTable d bytes
 
 -- the bytes are the file of this view
 pub record IsFileOf (d : Declaration) (v : View) (bytes : List ℕ) : Type 0 where

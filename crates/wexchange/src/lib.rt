@@ -1,7 +1,7 @@
 //! Exchange files and delivery streams: nodes meet by bytes alone.
 //!
 //! - Gives `write`, which spells what a set knows as an exchange file, into any counted writer; `read`, which reads
-//!   such a file into a set; and an `Inbox`, which is fed a delivery stream in pieces and hands out its messages.
+//!   such a file into a set, and `read_beside`, which shares what a set at hand knows; and an `Inbox`, which is fed a delivery stream in pieces and hands out its messages.
 //! - Promises: a view has one file, and `read` answers the view whose file the bytes are, or their first fault from
 //!   left to right. However a stream is cut, its messages are those of its bytes. A file of n bytes is read once,
 //!   and a pushed byte costs constant time.
@@ -25,5 +25,5 @@ mod writing;
 pub use fault::FileFault;
 pub use inbox::Inbox;
 pub use message::{BadStream, Message, PushFault};
-pub use reading::read;
+pub use reading::{read, read_beside};
 pub use writing::write;

@@ -111,10 +111,12 @@ fn refused(fault: SegmentFault) -> FileFault
 // Adds a content behind its line.
 fn add_content<'a>(
     set: &mut SegmentSet,
+    known: &SegmentSet,
     name: Name,
     len: u32,
     after: &'a [u8],
 ) -> Result<Next<'a>, FileFault>
+    requires same { set.old.schema ≡ known.now.schema }
     requires name { IsName name }
     requires number { IsNumber len }
     ensures found { IfOk result (λ next. ReadsNext set.old.schema set.old.view (line_of (Form.Content name len) ++ (10 ∷ after.now)) set.new.view next) }
@@ -125,7 +127,7 @@ fn add_content<'a>(
         return Err(FileFault::NotRising);
     }
     match cut_body(after, len) {
-        Body::Whole(content, more) => match set.take(name, content) {
+        Body::Whole(content, more) => match set.take_beside(name, content, known) {
             Ok(_) => Ok(Next::Record(more)),
             Err(fault) => Err(refused(fault)),
         },
@@ -173,10 +175,12 @@ fn add_retirement<'a>(
 // Adds the record of a line, or reads the count.
 fn read_form_of<'a>(
     set: &mut SegmentSet,
+    known: &SegmentSet,
     form: Form,
     after: &'a [u8],
 ) -> Result<Next<'a>, FileFault>
-    requires { IsForm form }
+    requires same { set.old.schema ≡ known.now.schema }
+    requires form { IsForm form }
     ensures found { IfOk result (λ next. ReadsNext set.old.schema set.old.view (line_of form ++ (10 ∷ after.now)) set.new.view next) }
     ensures schema { OnOk result (set.new.schema ≡ set.old.schema) }
     ensures fault { IfErr result (λ fault. Spoils set.old.schema set.old.view (line_of form ++ (10 ∷ after.now)) fault) }
@@ -184,14 +188,19 @@ fn read_form_of<'a>(
     match form {
         Form::Table(_) => Err(FileFault::OtherFormat),
         Form::End(count) => Ok(Next::End(count, after)),
-        Form::Content(name, len) => add_content(set, name, len, after),
+        Form::Content(name, len) => add_content(set, known, name, len, after),
         Form::Dispute(name) => add_dispute(set, name, after),
         Form::Retirement(name) => add_retirement(set, name, after),
     }
 }
 
 // Reads the next record, or the line of the end.
-fn read_next<'a>(set: &mut SegmentSet, rest: &'a [u8]) -> Result<Next<'a>, FileFault>
+fn read_next<'a>(
+    set: &mut SegmentSet,
+    known: &SegmentSet,
+    rest: &'a [u8],
+) -> Result<Next<'a>, FileFault>
+    requires { set.old.schema ≡ known.now.schema }
     ensures found { IfOk result (λ next. ReadsNext set.old.schema set.old.view rest.now set.new.view next) }
     ensures schema { OnOk result (set.new.schema ≡ set.old.schema) }
     ensures fault { IfErr result (λ fault. Spoils set.old.schema set.old.view rest.now fault) }
@@ -202,7 +211,7 @@ fn read_next<'a>(set: &mut SegmentSet, rest: &'a [u8]) -> Result<Next<'a>, FileF
     let Some(form) = read_form(line) else {
         return Err(FileFault::OtherFormat);
     };
-    read_form_of(set, form, after)
+    read_form_of(set, known, form, after)
 }
 
 // Judges what stands behind the records: their count, and then nothing.
@@ -223,8 +232,9 @@ fn ended(set: SegmentSet, count: u32, after: &[u8]) -> Result<SegmentSet, FileFa
 }
 
 // Reads the records and the end into a set.
-fn read_records(set: SegmentSet, rest: &[u8]) -> Result<SegmentSet, FileFault>
-    requires { AreRecords set.schema set.view }
+fn read_records(set: SegmentSet, known: &SegmentSet, rest: &[u8]) -> Result<SegmentSet, FileFault>
+    requires same { set.schema ≡ known.now.schema }
+    requires records { AreRecords set.schema set.view }
     ensures schema { IfOk result (λ new. new.schema ≡ set.schema) }
     ensures file { IfOk result (λ new. (bytes : List ℕ) → GoesOn set.schema (Behind set.view) bytes rest.now → IsFileOf set.schema new.view bytes) }
     ensures fault { IfErr result (λ fault. Spoils set.schema set.view rest.now fault) }
@@ -232,7 +242,7 @@ fn read_records(set: SegmentSet, rest: &[u8]) -> Result<SegmentSet, FileFault>
     let mut set = set;
     let mut rest = rest;
     'records: loop {
-        match read_next(&mut set, rest) {
+        match read_next(&mut set, known, rest) {
             Ok(Next::Record(more)) => {
                 rest = more;
             }
@@ -242,18 +252,40 @@ fn read_records(set: SegmentSet, rest: &[u8]) -> Result<SegmentSet, FileFault>
     }
 }
 
-// Reads what stands behind the first line into a set.
-fn read_behind(alloc: Global, schema: &Schema, rest: &[u8]) -> Result<SegmentSet, FileFault>
-    ensures schema { IfOk result (λ set. set.schema ≡ schema.now) }
-    ensures view { IfOk result (λ set. (bytes : List ℕ) → GoesOn schema.now AtTable bytes rest.now → IsFileOf schema.now set.view bytes) }
-    ensures fault { IfErr result (λ fault. (bytes : List ℕ) → GoesOn schema.now AtTable bytes rest.now → IsFault schema.now bytes fault) }
+// What stands behind the declaration.
+fn read_front<'a>(schema: &Schema, bytes: &'a [u8]) -> Result<&'a [u8], FileFault>
+    ensures found { IfOk result (λ records. bytes.now ≡ head ++ (table_text schema.now ++ records.now)) }
+    ensures fault { IfErr result (λ fault. IsFault schema.now bytes.now fault) }
 {
-    match read_table(schema, rest) {
+    match read_head(bytes) {
+        Ok(rest) => read_table(schema, rest),
         Err(fault) => Err(fault),
-        Ok(records) => match schema.copy() {
-            Err(_) => Err(FileFault::NoMemory),
-            Ok(copied) => read_records(SegmentSet::new(alloc, copied), records),
-        },
+    }
+}
+
+// Reads what stands behind the declaration into a set, beside one that is known.
+fn read_behind(alloc: Global, known: &SegmentSet, records: &[u8]) -> Result<SegmentSet, FileFault>
+    ensures schema { IfOk result (λ set. set.schema ≡ known.now.schema) }
+    ensures view { IfOk result (λ set. (bytes : List ℕ) → bytes ≡ head ++ (table_text known.now.schema ++ records.now) → IsFileOf known.now.schema set.view bytes) }
+    ensures fault { IfErr result (λ fault. (bytes : List ℕ) → bytes ≡ head ++ (table_text known.now.schema ++ records.now) → IsFault known.now.schema bytes fault) }
+{
+    let Ok(schema) = known.schema().copy() else {
+        return Err(FileFault::NoMemory);
+    };
+    read_records(SegmentSet::new(alloc, schema), known, records)
+}
+
+/// The set whose file the bytes are, under the declaration of a set that is known, or their first fault from left to
+/// right. The bytes are read once. A content that the known set has live under its name is compared with it and shared,
+/// and each other content is read once.
+pub fn read_beside(alloc: Global, known: &SegmentSet, bytes: &[u8]) -> Result<SegmentSet, FileFault>
+    ensures view { IfOk result (λ set. IsFileOf known.now.schema set.view bytes.now) }
+    ensures schema { IfOk result (λ set. set.schema ≡ known.now.schema) }
+    ensures fault { IfErr result (λ fault. IsFault known.now.schema bytes.now fault) }
+{
+    match read_front(known.schema(), bytes) {
+        Ok(records) => read_behind(alloc, known, records),
+        Err(fault) => Err(fault),
     }
 }
 
@@ -264,8 +296,11 @@ pub fn read(alloc: Global, schema: &Schema, bytes: &[u8]) -> Result<SegmentSet, 
     ensures schema { IfOk result (λ set. set.schema ≡ schema.now) }
     ensures fault { IfErr result (λ fault. IsFault schema.now bytes.now fault) }
 {
-    match read_head(bytes) {
-        Ok(rest) => read_behind(alloc, schema, rest),
+    match read_front(schema, bytes) {
+        Ok(records) => match schema.copy() {
+            Ok(copied) => read_behind(alloc, &SegmentSet::new(alloc, copied), records),
+            Err(_) => Err(FileFault::NoMemory),
+        },
         Err(fault) => Err(fault),
     }
 }

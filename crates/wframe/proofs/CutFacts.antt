@@ -76,6 +76,10 @@ cut_found n passes i c cut hi hc before here = record {
     later true e l hj = let h : true ≡ false = sym (cut.down i c _ hi l hj (sym e)) ∙ here in cc
     later false e l hj = sym e
 
+-- tests that agree have the same cut
+pub cut_same : (n : ℕ) (p q : ℕ → Bool) (c : ℕ) → ((j : ℕ) → p j ≡ q j) → CutsAt n p c → CutsAt n q c
+cut_same n p q c e at = record { within = at.within; passed = λ j l. sym (e j) ∙ at.passed j l; others = λ j l h. sym (e j) ∙ at.others j l h }
+
 -- what passes for a row passes for the next
 pub cut_next : (n : ℕ) (passes : ℕ → ℕ → Bool) (i c : ℕ) → IsCut n passes → CutsAt n (passes i) c → (j : ℕ) → j < c → i + 1 < n → passes (i + 1) j ≡ true
 cut_next n passes i c cut at j hj hi = cut.rises i (i + 1) j (omega arith) hi (omega (arith, at.within)) (at.passed j hj)

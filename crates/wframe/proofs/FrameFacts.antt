@@ -107,6 +107,22 @@ not_false : (b : Bool) → not b ≡ false → b ≡ true
 not_false true h = refl
 not_false false h = cc
 
+module _ {R : List Meaning → List Meaning → Ordering} (o : IsTotalOrder R) (keys : List (List Meaning)) where
+  pub own_peer : (i : ℕ) → are_peers R keys i i ≡ true
+  own_peer i = ap is_eq (tied_itself o (key_at keys i))
+
+  -- the rows behind a row's peers are none
+  pub no_peer : (n i e : ℕ) → CutsAt n (is_upto R keys i) e → (j : ℕ) → e ≤ j → j < n → are_peers R keys i j ≡ false
+  no_peer n i e to j l h = lt_not_eq (R (key_at keys i) (key_at keys j)) (not_false (is_lt (R (key_at keys i) (key_at keys j))) (to.others j l h))
+
+  -- a row's peers end behind it
+  pub end_behind : (n i e : ℕ) → i < n → CutsAt n (is_upto R keys i) e → i < e
+  end_behind n i e hi to = by_cases (cases_lt i e)
+    where
+      by_cases : (i < e) ⊎ (e ≤ i) → i < e
+      by_cases (inl h) = h
+      by_cases (inr h) = let f : false ≡ true = ap is_lt (sym (tied_itself o (key_at keys i))) ∙ not_false (is_lt (R (key_at keys i) (key_at keys i))) (to.others i h hi) in cc
+
 module _ {R : List Meaning → List Meaning → Ordering} (o : IsTotalOrder R) (keys : List (List Meaning)) (n i s e : ℕ) (hi : i < n) (at : CutsAt n (is_before R keys i) s) (to : CutsAt n (is_upto R keys i) e) where
   -- a row is among its peers
   pub peers_from : s ≤ i
@@ -117,11 +133,7 @@ module _ {R : List Meaning → List Meaning → Ordering} (o : IsTotalOrder R) (
       by_cases (inr h) = h
 
   pub peers_to : i < e
-  peers_to = by_cases (cases_lt i e)
-    where
-      by_cases : (i < e) ⊎ (e ≤ i) → i < e
-      by_cases (inl h) = h
-      by_cases (inr h) = let f : false ≡ true = ap is_lt (sym (tied_itself o (key_at keys i))) ∙ not_false (is_lt (R (key_at keys i) (key_at keys i))) (to.others i h hi) in cc
+  peers_to = end_behind o keys n i e hi to
 
   -- the span between the cuts has the peers
   pub in_peers : (j : ℕ) → j < n → is_in_span (record { from = s; to = e }) j ≡ are_peers R keys i j

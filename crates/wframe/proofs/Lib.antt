@@ -1,5 +1,6 @@
 mod CutFacts
 mod BoundFacts
+mod MoveFacts
 mod SpanFacts
 mod PieceFacts
 mod CellFacts
@@ -17,3 +18,9 @@ mod StepFacts
 mod TieFacts
 mod SplitFacts
 mod Worked
+mod SortFacts
+mod ValueFacts
+mod RowFacts
+mod GapFacts
+mod GroupSteps
+mod ReachFacts

@@ -77,18 +77,24 @@ module _ {R : List Meaning → List Meaning → Ordering} (o : IsTotalOrder R) (
           upto_lt o (key_at keys j) k k' up step ∙ sym (between_or (R (key_at keys j) k) up)
 
   -- the same by a row and the one before it
-  pub same_before : (row : ℕ) → 0 < row → R (key_at keys (row - 1)) (key_at keys row) ≡ Equal → group_number R keys (row - 1) ≡ group_number R keys row
+  same_before : (row : ℕ) → 0 < row → R (key_at keys (row - 1)) (key_at keys row) ≡ Equal → group_number R keys (row - 1) ≡ group_number R keys row
   same_before row h e =
       let n : row - 1 + 1 ≡ row = omega arith in
       sym (subst (λ r. R (key_at keys (row - 1)) (key_at keys r) ≡ Equal → group_number R keys r ≡ group_number R keys (row - 1)) n (same_number (row - 1)) e)
 
-  pub next_before : (row : ℕ) → 0 < row → row < length keys → R (key_at keys (row - 1)) (key_at keys row) ≢ Equal → group_number R keys (row - 1) + 1 ≡ group_number R keys row
+  next_before : (row : ℕ) → 0 < row → row < length keys → R (key_at keys (row - 1)) (key_at keys row) ≢ Equal → group_number R keys (row - 1) + 1 ≡ group_number R keys row
   next_before row h l d =
       let n : row - 1 + 1 ≡ row = omega arith in
       sym (subst (λ r. r < length keys → R (key_at keys (row - 1)) (key_at keys r) ≢ Equal → group_number R keys r ≡ group_number R keys (row - 1) + 1) n (next_number (row - 1)) l d)
 
   pub first_row : (row : ℕ) → row ≡ 0 → row < length keys → 0 ≡ group_number R keys row
   first_row row e l = sym (ap (group_number R keys) e ∙ first_number (omega arith))
+
+  pub peer_before : (row : ℕ) → 0 < row → is_eq (R (key_at keys (row - 1)) (key_at keys row)) ≡ true → group_number R keys (row - 1) ≡ group_number R keys row
+  peer_before row h e = same_before row h (eq_equal (R (key_at keys (row - 1)) (key_at keys row)) e)
+
+  pub other_before : (row : ℕ) → 0 < row → row < length keys → is_eq (R (key_at keys (row - 1)) (key_at keys row)) ≡ false → group_number R keys (row - 1) + 1 ≡ group_number R keys row
+  other_before row h l e = next_before row h l (λ f. let g : true ≡ false = ap is_eq (sym f) ∙ e in cc)
 
   -- the same by whether the two rows are peers
   pub peers_number : (i : ℕ) → is_eq (R (key_at keys i) (key_at keys (i + 1))) ≡ true → group_number R keys (i + 1) ≡ group_number R keys i

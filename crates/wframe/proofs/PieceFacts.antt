@@ -5,7 +5,7 @@ use Rattle.std.proofs.lemmas.Bool.Decides.{nat_tests}
 use Rattle.std.proofs.lemmas.List.Elements.{filter_agree}
 use Rattle.wframe.specs.declared.frame.Span.{Span}
 use Rattle.wframe.specs.declared.frame.FrameExclusion.{FrameExclusion}
-use Rattle.wframe.specs.declared.frame.FrameExclusion.TheVariants.{Ties}
+use Rattle.wframe.specs.declared.frame.FrameExclusion.TheVariants.{Group, Ties}
 use Rattle.wframe.specs.Frame.{is_excluded}
 use Rattle.wframe.specs.Places.{places, spans_places, is_in_span}
 use Rattle.wframe.proofs.SpanFacts.{between, filter_spans}
@@ -88,3 +88,14 @@ pub ties_rows : (span peers : Span) (row n : ℕ) (exclusion : FrameExclusion) (
 ties_rows span peers row n exclusion spans h k e r =
     r ∙ filter_agree (is_left span.from span.to peers.from row (row + 1) peers.to) (λ j. is_in_span span j && not (is_excluded exclusion row j (is_in_span peers j)))
     (λ j. ties_at span.from span.to peers.from peers.to row j h k ∙ ap (λ x. is_in_span span j && not (is_excluded x row j (is_in_span peers j))) (sym e)) (places n)
+
+-- without its peers, and without the row
+group_at : (f t a b row j : ℕ) → a ≤ row → row < b → is_left f t a b b b j ≡ ((nat_le f j && nat_lt j t) && not (nat_le a j && nat_lt j b))
+group_at f t a b row j h k = grind (arith, nat_tests)
+
+pub group_rows : (span peers : Span) (row n : ℕ) (exclusion : FrameExclusion) (spans : List Span) → peers.from ≤ row → row < peers.to → exclusion ≡ Group →
+    spans_places spans ≡ filter (is_left span.from span.to peers.from peers.to peers.to peers.to) (places n) →
+    spans_places spans ≡ filter (λ j. is_in_span span j && not (is_excluded exclusion row j (is_in_span peers j))) (places n)
+group_rows span peers row n exclusion spans h k e r =
+    r ∙ filter_agree (is_left span.from span.to peers.from peers.to peers.to peers.to) (λ j. is_in_span span j && not (is_excluded exclusion row j (is_in_span peers j)))
+    (λ j. group_at span.from span.to peers.from peers.to row j h k ∙ ap (λ x. is_in_span span j && not (is_excluded x row j (is_in_span peers j))) (sym e)) (places n)

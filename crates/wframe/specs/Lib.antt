@@ -5,6 +5,7 @@ pub mod Bounds
 pub mod Frame
 pub mod Ties
 pub mod Offsets
+pub mod Moves
 pub mod Steps
 pub mod Partitions
 pub mod Cells
@@ -12,3 +13,5 @@ pub mod KeyRows
 pub mod Cuts
 pub mod Numbered
 pub mod FrameEnds
+pub mod Sorting
+pub mod Gaps

@@ -1,4 +1,4 @@
-ghost use Rattle.std.specs.Prelude.{◌≡◌, ◌<◌, ◌≤◌, ◌+◌, ◌^◌, ℕ, Bool, true, length, OnOk};
+ghost use Rattle.std.specs.Prelude.{◌≡◌, ◌<◌, ◌≤◌, ◌+◌, ◌^◌, ℕ, Bool, true, nat_le, length, OnOk};
 ghost use Rattle.wframe.specs.Cuts.{IsCut, CutsAt, HasCuts, BeginsWith};
 
 use std::alloc::AllocError;
@@ -16,6 +16,14 @@ pub trait Cut {
         requires row { row < row_count self.now }
         requires place { place < row_count self.now }
         ensures { result ≡ passes self.now row place };
+
+    /// Where the rows end, from this one on, that the test cannot tell apart.
+    fn end_of_equals(&self, row: usize) -> usize
+        requires { row < row_count self.now }
+        ensures more { row < result }
+        ensures within { result ≤ row_count self.now }
+        ensures places { (i j : ℕ) → row ≤ j → j < result → passes self.now i j ≡ passes self.now i row }
+        ensures rows { (i j : ℕ) → row ≤ i → i < result → passes self.now i j ≡ passes self.now row j };
 }
 
 // Where the places that pass for a row end, when all before `from` are known to pass.
@@ -27,17 +35,47 @@ fn advance<C: Cut>(cut: &C, rows: usize, row: usize, from: usize) -> usize
     requires before { (j : ℕ) → j < from → C.passes cut.now row j ≡ true }
     ensures { CutsAt rows (C.passes cut.now row) result }
 {
-    for place in from..rows {
+    let mut place = from;
+    while place < rows {
         if !cut.is_passed(row, place) {
             return place;
         }
+        place = cut.end_of_equals(place);
     }
     rows
 }
 
+// Where the places that pass end, and the rows for which that is known.
+#[derive(Clone, Copy)]
+struct Reached {
+    end: usize,
+    rows_end: usize,
+}
+
+// Where the places that pass for a row end, after those for the row before.
+fn next_end<C: Cut>(cut: &C, rows: usize, row: usize, last: Reached) -> Reached
+    requires rows { rows ≡ C.row_count cut.now }
+    requires cut { IsCut rows (C.passes cut.now) }
+    requires row { row < rows }
+    requires within { last.end ≤ rows }
+    requires before { (j : ℕ) → j < last.end → C.passes cut.now row j ≡ true }
+    requires known { (i : ℕ) → row ≤ i → i < last.rows_end → CutsAt rows (C.passes cut.now i) last.end }
+    ensures more { row < result.rows_end }
+    ensures known { (i : ℕ) → row ≤ i → i < result.rows_end → CutsAt rows (C.passes cut.now i) result.end }
+{
+    if row < last.rows_end {
+        return last;
+    }
+    Reached {
+        end: advance(cut, rows, row, last.end),
+        rows_end: cut.end_of_equals(row),
+    }
+}
+
 /// Adds, for each row, where the places that pass end, counted on from `first`.
 ///
-/// The end moves along with the rows and never back: a place is tested once, and once more for each row whose end it is.
+/// The end moves along with the rows and never back: of rows that the test cannot tell apart one is tested once, and once
+/// more where it is an end.
 pub fn push_cuts<C: Cut>(
     ends: &mut Vec<usize>,
     cut: &C,
@@ -52,10 +90,57 @@ pub fn push_cuts<C: Cut>(
     ensures stays { OnOk result (BeginsWith ends.old.items ends.new.items) }
     ensures long { OnOk result (length ends.new.items ≡ first + rows) }
 {
-    let mut end = 0;
+    let mut reached = Reached {
+        end: 0,
+        rows_end: 0,
+    };
     for row in 0..rows {
-        end = advance(cut, rows, row, end);
-        ends.push(first + end)?;
+        reached = next_end(cut, rows, row, reached);
+        ends.push(first + reached.end)?;
     }
     Ok(())
+}
+
+#[cfg(test)]
+mod tests {
+    use super::*;
+    use std::cell::Cell;
+    use std::test::Fail;
+
+    /// Passes the places up to the third one after a row, and counts how often it is asked.
+    #[derive(Drop)]
+    struct Counted {
+        rows: usize,
+        calls: Cell<u64>,
+    }
+
+    impl Cut for Counted {
+        ghost row_count = { λ counted. counted.rows };
+
+        ghost passes = { λ _ row place. nat_le place (row + 3) };
+
+        fn is_passed(&self, row: usize, place: usize) -> bool {
+            self.calls.set(self.calls.get().wrapping_add(1));
+            place <= row || place - row <= 3
+        }
+
+        fn end_of_equals(&self, row: usize) -> usize {
+            row + 1
+        }
+    }
+
+    #[test]
+    fn the_end_moves_along(rt: HostRuntime) -> Result<(), Fail> {
+        let counted = Counted {
+            rows: 1000,
+            calls: Cell::new(0),
+        };
+        let mut ends = Vec::new(rt.alloc());
+        push_cuts(&mut ends, &counted, 1000, 0)?;
+        assert_eq!(rt; ends.len(), 1000);
+        assert_eq!(rt; ends.first(), Some(&4));
+        assert_eq!(rt; ends.last(), Some(&1000));
+        assert!(rt; counted.calls.get() <= 2000);
+        Ok(())
+    }
 }

@@ -1,9 +1,10 @@
 ghost use Rattle.std.specs.Prelude.{◌≡◌, ◌+◌, ◌<◌, ◌^◌, ◌&&◌, length, max, slice_index, IsTrue, IfOk, OnOk};
 
 use crate::bounds::{push_ends, push_starts};
-use crate::frame::{Frame, FrameBound, FrameMode, Span};
-use crate::groups::group_numbers;
+use crate::frame::{Frame, FrameMode, Span};
+use crate::groups::number_groups;
 use crate::key_rows::KeyRows;
+use crate::peers::{PeerEnds, push_peers};
 use std::alloc::{AllocError, Global};
 
 /// Where frames and peers begin and end, for the rows of one partition after another, by places among all rows.
@@ -33,10 +34,11 @@ impl FrameEnds {
         })
     }
 
-    /// Adds the ends of a partition, whose first row has the place `first`.
+    /// Adds the ends of a partition, whose first row has the place `first`. Where groups are counted, their numbers are put
+    /// in `groups`.
     pub fn push_partition(
         &mut self,
-        alloc: Global,
+        groups: &mut Vec<usize>,
         rows: &KeyRows,
         frame: Frame,
         first: usize,
@@ -50,24 +52,13 @@ impl FrameEnds {
         ensures extends { OnOk result (Extends self.old self.new) }
         ensures long { OnOk result (AreLong (first + length (key_lists rows.now)) self.new) }
     {
-        let numbers = if frame.mode == FrameMode::Groups {
-            group_numbers(alloc, rows)?
-        } else {
-            Vec::new(alloc)
-        };
-        let groups = numbers.as_slice();
-        push_starts(
-            &mut self.starts,
-            rows,
-            groups,
-            frame.mode,
-            frame.start,
-            first,
-        )?;
-        push_ends(&mut self.ends, rows, groups, frame.mode, frame.end, first)?;
-        let (range, peer) = (FrameMode::Range, FrameBound::CurrentRow);
-        push_starts(&mut self.peer_starts, rows, groups, range, peer, first)?;
-        push_ends(&mut self.peer_ends, rows, groups, range, peer, first)
+        push_peers(&mut self.peer_starts, &mut self.peer_ends, rows, first)?;
+        let peers = PeerEnds::new(*rows, &self.peer_ends, first);
+        if frame.mode == FrameMode::Groups {
+            number_groups(groups, &peers)?;
+        }
+        push_starts(&mut self.starts, &peers, groups, frame.mode, frame.start)?;
+        push_ends(&mut self.ends, &peers, groups, frame.mode, frame.end)
     }
 
     /// The span of a row's frame, before the exclusion.

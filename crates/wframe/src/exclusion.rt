@@ -1,6 +1,7 @@
-ghost use Rattle.std.specs.Prelude.{◌≡◌, ◌<◌, ◌≤◌, ℕ, ◌&&◌, ◌||◌, not, nat_le, nat_lt, filter};
+ghost use Rattle.std.specs.Prelude.{◌≡◌, ◌<◌, ◌≤◌, ℕ, ◌&&◌, ◌||◌, not, nat_le, nat_lt, filter, [], ◌∷◌};
 ghost use Rattle.wframe.specs.Places.{places, spans_places, is_in_span, AreApart, IsPlain};
 ghost use Rattle.wframe.specs.Frame.{is_excluded};
+ghost use Rattle.wframe.specs.Gaps.{nearest, before_gap, within_gap, behind_gap};
 
 use crate::frame::{FrameExclusion, Span};
 
@@ -12,6 +13,7 @@ fn clip(span: Span, place: usize) -> usize
     ensures before { place ≤ span.from → result ≡ span.from }
     ensures after { span.to ≤ place → result ≡ span.to }
     ensures inside { span.from ≤ place → place ≤ span.to → result ≡ place }
+    ensures nearest { result ≡ nearest span place }
 {
     if place < span.from {
         span.from
@@ -31,6 +33,7 @@ fn pieces(span: Span, a: usize, b: usize, c: usize, d: usize) -> [Span; 3]
     ensures rows { (n : ℕ) → span.to ≤ n → spans_places result ≡ filter (λ j. is_in_span span j && (nat_lt j a || (nat_le b j && nat_lt j c) || nat_le d j)) (places n) }
     ensures apart { AreApart span.from result span.to }
     ensures plain { span.to ≤ a → IsPlain span result }
+    ensures list { result ≡ record { from = span.from; to = nearest span a } ∷ record { from = nearest span b; to = nearest span c } ∷ record { from = nearest span d; to = span.to } ∷ [] }
 {
     let a = clip(span, a);
     let b = clip(span, b);
@@ -57,6 +60,7 @@ pub fn without(span: Span, exclusion: FrameExclusion, row: usize, peers: Span) -
     ensures rows { (n : ℕ) → span.to ≤ n → spans_places result ≡ filter (λ j. is_in_span span j && not (is_excluded exclusion row j (is_in_span peers j))) (places n) }
     ensures apart { AreApart span.from result span.to }
     ensures plain { exclusion ≡ FrameExclusion.NoOthers → IsPlain span result }
+    ensures list { result ≡ before_gap exclusion span row peers ∷ within_gap exclusion span row peers ∷ behind_gap exclusion span row peers ∷ [] }
 {
     match exclusion {
         FrameExclusion::NoOthers => pieces(span, span.to, span.to, span.to, span.to),

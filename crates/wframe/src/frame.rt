@@ -10,9 +10,9 @@ pub enum FrameMode {
 #[derive(Clone, Copy, Debug, PartialEq, Eq)]
 pub enum FrameBound {
     UnboundedPreceding,
-    Preceding(u64),
+    Preceding(u128),
     CurrentRow,
-    Following(u64),
+    Following(u128),
     UnboundedFollowing,
 }
 

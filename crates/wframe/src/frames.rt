@@ -1,9 +1,10 @@
-ghost use Rattle.std.specs.Prelude.{◌≡◌, ◌<◌, ◌≤◌, ◌+◌, ◌-◌, ℕ, length};
+ghost use Rattle.std.specs.Prelude.{◌≡◌, ◌<◌, ◌≤◌, ◌+◌, ◌-◌, ℕ, [], ◌∷◌, length};
 ghost use Rattle.wvalues.specs.Order.{keys_cmp};
 ghost use Rattle.wframe.specs.Peers.{AreOrdered, are_peers, smaller_keys};
 ghost use Rattle.wframe.specs.Places.{span_places, spans_places, is_in_span, AreApart, IsPlain, IsRisen};
 ghost use Rattle.wframe.specs.Partition.{Partition, peer_rows};
 ghost use Rattle.wframe.specs.Frame.{frame_rows, frame_start, frame_span};
+ghost use Rattle.wframe.specs.Gaps.{peer_span, before_span, within_span, behind_span};
 
 use crate::ends::FrameEnds;
 use crate::exclusion::without;
@@ -93,6 +94,7 @@ impl<'a> Frames<'a> {
         requires { row < length self.now.keys }
         ensures peers { span_places result ≡ peer_rows self.now row }
         ensures each { (j : ℕ) → j < length self.now.keys → is_in_span result j ≡ are_peers (keys_cmp self.now.order) self.now.keys row j }
+        ensures span { result ≡ peer_span self.now row }
         ensures smaller { result.from ≡ length (smaller_keys (keys_cmp self.now.order) self.now.keys row) }
         ensures from { result.from ≤ row }
         ensures to { row < result.to }
@@ -122,6 +124,7 @@ impl<'a> Frames<'a> {
         ensures apart { AreApart (frame_start self.now row) result (frame_span self.now row).to }
         ensures within { AreApart 0 result (length self.now.keys) }
         ensures plain { self.now.frame.exclusion ≡ FrameExclusion.NoOthers → IsPlain (frame_span self.now row) result }
+        ensures list { result ≡ before_span self.now row ∷ within_span self.now row ∷ behind_span self.now row ∷ [] }
     {
         without(self.span(row), self.frame.exclusion, row, self.peers(row))
     }

@@ -2,7 +2,7 @@
 //!
 //! - Gives each row its peers as one span, and its frame as at most three rising spans.
 //! - Promises: the spans hold exactly the frame's rows, and neither end of a frame ever goes back.
-//! - Asks: rows by partition values, then by window keys; one integer key where RANGE has an offset.
+//! - Asks: rows by partition values, then by window keys; one key where RANGE has an offset.
 //! - Leaves: ordering, also among peers, to the planner; values to `wplaces` and `wslide`. It evaluates nothing.
 //!
 //! Read `specs/Places.antt`, `specs/Peers.antt` and `specs/Partition.antt`, then `specs/Bounds.antt` and
@@ -19,15 +19,19 @@ mod frames;
 mod groups;
 mod key_rows;
 mod laws;
+mod moves;
 mod order;
 mod partitions;
+mod peers;
 
-pub use conditions::{are_in_order, has_integer_key};
+pub use conditions::are_in_order;
 pub use frame::{Frame, FrameBound, FrameExclusion, FrameMode, Span};
 pub use frames::Frames;
 pub use key_rows::KeyRows;
 pub use laws::{
-    frames_slide, group_numbers_step, order_splits, peers_share_frames, starts_and_ends_rise,
+    frames_are_rows, frames_slide, gaps_slide, group_numbers_step, keys_order_values, order_splits,
+    peers_may_change_places, peers_share_frames, spans_reach_each_place, stable_sorts_agree,
+    starts_and_ends_rise,
 };
 pub use order::compare_lists;
 pub use partitions::Partitions;

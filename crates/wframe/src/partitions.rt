@@ -1,10 +1,8 @@
 ghost use Rattle.std.specs.Prelude.{◌≡◌, ◌<◌, ◌≤◌, ◌&&◌, length, All, IfOk, IsTrue};
 ghost use Rattle.wvalues.specs.Order.{keys_cmp};
 ghost use Rattle.wframe.specs.KeyRows.{key_lists, sort_keys, AreInOrder, AreInOrderWithin};
-ghost use Rattle.wframe.specs.Peers.{is_before, is_upto};
-ghost use Rattle.wframe.specs.Cuts.{CutsAt};
 ghost use Rattle.wframe.specs.Bounds.{is_offset};
-ghost use Rattle.wframe.specs.Offsets.{is_range, has_range_offset, HasIntegerKey};
+ghost use Rattle.wframe.specs.Offsets.{is_range, has_range_offset};
 ghost use Rattle.wframe.specs.Partitions.{IsPartition};
 ghost use Rattle.wframe.specs.FrameEnds.{HasAllFrames};
 ghost use Rattle.wframe.specs.Places.{Tiles, span_at, span_places, spans_places, AreApart};
@@ -16,25 +14,9 @@ use crate::exclusion::without;
 use crate::frame::{Frame, Span};
 use crate::frames::Frames;
 use crate::key_rows::KeyRows;
-use crate::order::compare_lists;
+use crate::peers::agreeing_end;
 use std::alloc::{AllocError, Global};
 use std::marker::Model;
-
-// Where the rows that agree with a row end, which is the first of them.
-fn agreeing_end(rows: &KeyRows, first: usize) -> usize
-    requires ordered { AreInOrder rows.now }
-    requires first { first < length (key_lists rows.now) }
-    requires before { CutsAt (length (key_lists rows.now)) (is_before (keys_cmp (sort_keys rows.now)) (key_lists rows.now) first) first }
-    ensures { CutsAt (length (key_lists rows.now)) (is_upto (keys_cmp (sort_keys rows.now)) (key_lists rows.now) first) result }
-{
-    let count = rows.count();
-    for place in first..count {
-        if compare_lists(rows.row(first), rows.row(place), rows.keys()).is_lt() {
-            return place;
-        }
-    }
-    count
-}
 
 // The spans of rows that agree on all partition values.
 fn partition_spans(alloc: Global, values: &KeyRows) -> Result<Vec<Span>, AllocError>
@@ -70,9 +52,10 @@ fn all_ends(
     ensures { IfOk result (HasAllFrames (record { order = sort_keys keys.now; keys = key_lists keys.now; frame = frame; spans = spans.now })) }
 {
     let mut ends = FrameEnds::with_capacity(alloc, keys.count())?;
+    let mut groups = Vec::new(alloc);
     for span in spans {
         let part = keys.part(*span);
-        ends.push_partition(alloc, &part, frame, span.from)?;
+        ends.push_partition(&mut groups, &part, frame, span.from)?;
     }
     Ok(ends)
 }
@@ -102,8 +85,9 @@ impl<'a> Partitions<'a> {
     /// Finds the partitions, the peers and the frames of rows that stand by their partition values, then by their keys.
     ///
     /// `values` has the partition values of each row, and `keys` its window keys; [`crate::are_in_order`] tests their
-    /// order, and [`crate::has_integer_key`] what an offset in RANGE asks. Which of several peers comes first is the
-    /// caller's choice, and places are told by it. The work grows with the rows alone, whatever the offsets.
+    /// order. An offset in RANGE asks for one key; it moves integers, and leaves a text or a null where it is. Which of
+    /// several peers comes first is the caller's choice, and places are told by it. The work grows with the rows
+    /// alone, whatever the offsets.
     ///
     /// It answers `AllocError` where memory was refused.
     pub fn build(
@@ -115,7 +99,7 @@ impl<'a> Partitions<'a> {
         requires count { length (key_lists values.now) ≡ length (key_lists keys) }
         requires by_values { AreInOrder values.now }
         requires by_keys { AreInOrderWithin values.now keys }
-        requires offset_key { IsTrue (has_range_offset frame) → HasIntegerKey (sort_keys keys) (key_lists keys) }
+        requires offset_key { IsTrue (has_range_offset frame) → length (sort_keys keys) ≡ 1 }
         ensures order { IfOk result (λ all. all.order ≡ sort_keys keys.entry) }
         ensures keys { IfOk result (λ all. all.keys ≡ key_lists keys.entry) }
         ensures frame { IfOk result (λ all. all.frame ≡ frame) }

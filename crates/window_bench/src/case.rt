@@ -86,7 +86,7 @@ fn bound_word(word: &str) -> Option<FrameBound> {
 
 fn offset_word(word: &str) -> Option<FrameBound> {
     let (number, side) = word.split_once('-')?;
-    let offset = number.parse::<u64>().ok()?;
+    let offset = number.parse::<u128>().ok()?;
     match side {
         "preceding" => Some(FrameBound::Preceding(offset)),
         "following" => Some(FrameBound::Following(offset)),
@@ -169,7 +169,10 @@ mod tests {
             ("8 0 rows", CaseFault::Peers),
             ("8 2 row 1-preceding", CaseFault::Mode),
             ("8 2 rows preceding", CaseFault::Start),
-            ("8 2 rows 18446744073709551616-preceding", CaseFault::Start),
+            (
+                "8 2 rows 340282366920938463463374607431768211456-preceding",
+                CaseFault::Start,
+            ),
             ("8 2 rows current-row 1-next", CaseFault::End),
             ("8 2 rows current-row current-row tie", CaseFault::Exclusion),
             (

@@ -22,3 +22,10 @@ pub fn numbers(alloc: Global, rows: usize) -> Result<Vec<Value>, AllocError>
         .map(|row| Value::Int(Whole::from((row % 10 * 7 % 10) as i64)))
         .collect(alloc)
 }
+
+/// What is lent of a column.
+pub fn lent<'a>(alloc: Global, values: &'a [Value]) -> Result<Vec<&'a Value>, AllocError>
+    ensures { IfOk result (λ lent. length lent.items ≡ length values.now) }
+{
+    values.iter().collect(alloc)
+}

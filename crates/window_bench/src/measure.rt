@@ -3,12 +3,12 @@ ghost use Rattle.std.specs.Prelude.{◌≡◌, ◌≤◌, ◌<◌, ◌+◌, ◌^
 ghost use Rattle.wslide.specs.Frames.{most};
 
 use crate::case::{Aggregate, Case};
-use crate::columns::{keys, numbers};
+use crate::columns::{keys, lent, numbers};
 use crate::failure::Failure;
 use std::alloc::{AllocError, Global};
 use std::rt::Clock;
 use std::time::{Duration, Instant};
-use wframe::{Frames, KeyRows, Partitions, are_in_order, has_integer_key};
+use wframe::{Frames, KeyRows, Partitions, are_in_order};
 use wslide::{Count, Greatest, Least, Meter, Sum, frame_folds, most_is_small};
 use wvalues::{SortKey, Value};
 
@@ -34,7 +34,7 @@ pub struct Outcome {
 }
 
 // The number at a row of a column; 0 where there is none.
-fn number_at(numbers: &[Value], row: Option<usize>) -> i128 {
+fn number_at(numbers: &[&Value], row: Option<usize>) -> i128 {
     match row.and_then(|row| numbers.get(row)) {
         Some(Value::Int(number)) => number.get(),
         _ => 0,
@@ -42,7 +42,7 @@ fn number_at(numbers: &[Value], row: Option<usize>) -> i128 {
 }
 
 // The sum of a column's numbers at these rows, each of which may be none.
-fn sum_at(numbers: &[Value], rows: &[Option<usize>]) -> i128 {
+fn sum_at(numbers: &[&Value], rows: &[Option<usize>]) -> i128 {
     let numbers = rows.iter().map(|row| number_at(numbers, *row));
     numbers.fold(0, i128::wrapping_add)
 }
@@ -52,27 +52,26 @@ fn sum_of_folds(
     alloc: Global,
     frames: &Frames,
     aggregate: Aggregate,
-    values: &[Value],
-    filter: &[bool],
+    values: &[&Value],
     meter: &mut Meter,
 ) -> Result<i128, AllocError>
     requires values { length frames.now.keys ≡ length values.now }
-    requires filter { length values.now ≡ length filter.now }
-    requires few { length filter.now < 2 ^ 31 }
+    requires few { length values.now < 2 ^ 31 }
     requires fresh { meter.old ≡ 0 }
-    ensures joins { meter.new ≤ most frames.now.frame.exclusion (length filter.now) }
+    ensures joins { meter.new ≤ most frames.now.frame.exclusion (length values.now) }
 {
     most_is_small();
+    let filter = None;
     match aggregate {
         Aggregate::Count => {
-            let values = Some(values);
             let counts = frame_folds(alloc, &Count { values, filter }, frames, meter)?;
             let numbers = counts.iter().map(|count| *count as i128);
             Ok(numbers.fold(0, i128::wrapping_add))
         }
         Aggregate::Sum => {
             let sums = frame_folds(alloc, &Sum { values, filter }, frames, meter)?;
-            Ok(sums.iter().copied().fold(0, i128::wrapping_add))
+            let numbers = sums.iter().map(|sum| sum.unwrap_or(0));
+            Ok(numbers.fold(0, i128::wrapping_add))
         }
         Aggregate::Least => {
             let places = frame_folds(alloc, &Least { values, filter }, frames, meter)?;
@@ -98,11 +97,11 @@ fn folded(
 {
     let alloc = rt.alloc();
     let rows = frames.count();
-    let values = numbers(alloc, rows)?;
-    let filter = vec![in alloc; true; rows]?;
+    let made = numbers(alloc, rows)?;
+    let values = lent(alloc, &made)?;
     let mut meter = Meter::new();
     let start = Instant::now(rt)?;
-    let sum = sum_of_folds(alloc, frames, aggregate, &values, &filter, &mut meter)?;
+    let sum = sum_of_folds(alloc, frames, aggregate, &values, &mut meter)?;
     let folding = start.elapsed(rt)?;
     Ok(Outcome {
         rows,
@@ -121,11 +120,12 @@ pub fn measured(rt: &(impl Clock + AllocGlobal), case: &Case) -> Result<Outcome,
     ensures joins { IfOk result (λ outcome. outcome.joins ≤ most case.now.frame.exclusion outcome.rows) }
 {
     let alloc = rt.alloc();
-    let cells = keys(alloc, case.rows, case.peers)?;
+    let made = keys(alloc, case.rows, case.peers)?;
+    let cells = lent(alloc, &made)?;
     let by_key = [BY_KEY];
     let values = KeyRows::new(&[], &[], cells.len());
     let keys = KeyRows::new(&cells, &by_key, cells.len());
-    if !are_in_order(&values, &keys) || !has_integer_key(&keys) {
+    if !are_in_order(&values, &keys) {
         return Err(Failure::Order);
     }
     let start = Instant::now(rt)?;

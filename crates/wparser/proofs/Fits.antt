@@ -12,7 +12,7 @@ use Rattle.wquery.specs.Tree.{Tree}
 use Rattle.wparser.specs.Words.{CommaSign, name_of, number_of, text_of, sign_of}
 use Rattle.wparser.specs.Notation.{Tokens, Row, One, one, After, after, Then, before, Done, done, Perhaps, absent, present, Either, first, second, Room, room, Listed, last, next, GoesOn, over, further, Chain, chain, As, Never}
 use Rattle.wparser.proofs.Steps.{one_parts}
-use Rattle.wparser.specs.Grammar.{Closed, toward, bound, extent, exclusion, frame, key, window, window_inside, reach, arguments, filter, call, perhaps_not, primary, signing, ranging, comparing, testing, negation, Rank, Chains, Negations, Signs, signs_over, comparisons_over, negations_over, operands_over, row_over, deeper, operands}
+use Rattle.wparser.specs.Grammar.{Closed, toward, bound, extent, exclusion, frame, key, window, window_inside, reach, arguments, filter, call, perhaps_not, primary, signing, ranging, comparing, testing, negating, Rank, Chains, Negations, Signs, signs_over, comparisons_over, negations_over, operands_over, row_over, deeper, operands}
 
 -- with what an operand may begin: 1 NOT, 2 a sign, 3 anything else
 abbrev pub keyword_start : Keyword → ℕ
@@ -203,7 +203,7 @@ comparing_falls f = then_falls f (λ l. perhaps_keeps (then_keeps (falls_keeps o
 testing_falls : {R : Row Tree} → Falls R → Falls (testing R)
 testing_falls f = then_falls f (λ e. perhaps_keeps (falls_keeps (after_falls (then_keeps perhaps_not_keeps (λ n. falls_keeps (after_falls done_keeps))))))
 
-negation_falls : {U T : Row Tree} → Falls U → Falls T → Falls (negation U T)
+negation_falls : {U T : Row Tree} → Falls U → Falls T → Falls (negating U T)
 negation_falls f g = either_falls (after_falls (as_keeps (falls_keeps f))) g
 
 module _ (n : ℕ) (U : Rank → Row Tree) (u : (rank : Rank) → Falls (U rank)) where

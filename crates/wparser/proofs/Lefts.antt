@@ -13,7 +13,7 @@ use Rattle.wparser.specs.Words.{operator_of}
 use Rattle.wparser.specs.Notation.{Tokens, Row, After, after, Then, before, Done, done, Perhaps, absent, present, Either, first, second, Room, room, Listed, last, next, GoesOn, over, further, Chain, chain, As}
 use Rattle.wquery.specs.QueryTree.{QueryTree, SourceTree, ItemTree, EntryTree, AllColumns, Computed}
 use Rattle.wparser.specs.Queries.{item, computed_item, alias, source, derived, clause, grouping, entry, windows, limits, clauses, query_over, deeper_queries, queries, Spells}
-use Rattle.wparser.specs.Grammar.{inner, order, Closed, key, window, window_inside, reaching, arguments, filtered, call, named, primary, signing, test, ranging, comparing, testing, Rank, Chains, Negations, Signs, signs_over, negations_over, operands_over, row_over, deeper, conditions}
+use Rattle.wparser.specs.Grammar.{inner, order, Closed, key, window, window_inside, reaching, arguments, filtered, call, named, primary, signing, range_test, ranging, comparing, testing, Rank, Chains, Negations, Signs, signs_over, negations_over, operands_over, row_over, deeper, conditions}
 
 pub record Upholds {X : Type 0} (B : X → Type 0) (P : Row X) : Type 0 where
   pub upholds : (x : X) (ts rest : Tokens) → P x ts rest → B x
@@ -24,39 +24,39 @@ always g = record { upholds = λ x ts rest p. g x }
 after_left' : {X : Type 0} {B : X → Type 0} {token : TokenMeaning} {P : Row X} → Upholds B P → (x : X) (ts rest : Tokens) → After token P x ts rest → B x
 after_left' u x ts rest (after {ts = us} p) = u.upholds x us rest p
 
-after_left : {X : Type 0} {B : X → Type 0} {token : TokenMeaning} {P : Row X} → Upholds B P → Upholds B (After token P)
+pub after_left : {X : Type 0} {B : X → Type 0} {token : TokenMeaning} {P : Row X} → Upholds B P → Upholds B (After token P)
 after_left u = record { upholds = after_left' u }
 
 then_left' : {X Y : Type 0} (A : X → Type 0) {B : Y → Type 0} {P : Row X} {Q : X → Row Y} → Upholds A P → ((x : X) → A x → Upholds B (Q x)) → (y : Y) (ts rest : Tokens) → Then P Q y ts rest → B y
 then_left' A u v y ts rest (before {x = x} {us = us} p q) = (v x (u.upholds x ts us p)).upholds y us rest q
 
-then_left : {X Y : Type 0} (A : X → Type 0) {B : Y → Type 0} {P : Row X} {Q : X → Row Y} → Upholds A P → ((x : X) → A x → Upholds B (Q x)) → Upholds B (Then P Q)
+pub then_left : {X Y : Type 0} (A : X → Type 0) {B : Y → Type 0} {P : Row X} {Q : X → Row Y} → Upholds A P → ((x : X) → A x → Upholds B (Q x)) → Upholds B (Then P Q)
 then_left A u v = record { upholds = then_left' A u v }
 
 done_left' : {X : Type 0} (B : X → Type 0) {x : X} → B x → (y : X) (ts rest : Tokens) → Done x y ts rest → B y
 done_left' B b y ts rest done = b
 
-done_left : {X : Type 0} {B : X → Type 0} {x : X} → B x → Upholds B (Done x)
+pub done_left : {X : Type 0} {B : X → Type 0} {x : X} → B x → Upholds B (Done x)
 done_left {B = B} b = record { upholds = done_left' B b }
 
 perhaps_left' : {X : Type 0} {B : X → Type 0} {d : X} {P : Row X} → B d → Upholds B P → (y : X) (ts rest : Tokens) → Perhaps d P y ts rest → B y
 perhaps_left' b u y ts rest absent = b
 perhaps_left' b u y ts rest (present p) = u.upholds y ts rest p
 
-perhaps_left : {X : Type 0} {B : X → Type 0} {d : X} {P : Row X} → B d → Upholds B P → Upholds B (Perhaps d P)
+pub perhaps_left : {X : Type 0} {B : X → Type 0} {d : X} {P : Row X} → B d → Upholds B P → Upholds B (Perhaps d P)
 perhaps_left b u = record { upholds = perhaps_left' b u }
 
 either_left' : {X : Type 0} {B : X → Type 0} {P Q : Row X} → Upholds B P → Upholds B Q → (y : X) (ts rest : Tokens) → Either P Q y ts rest → B y
 either_left' u v y ts rest (first p) = u.upholds y ts rest p
 either_left' u v y ts rest (second q) = v.upholds y ts rest q
 
-either_left : {X : Type 0} {B : X → Type 0} {P Q : Row X} → Upholds B P → Upholds B Q → Upholds B (Either P Q)
+pub either_left : {X : Type 0} {B : X → Type 0} {P Q : Row X} → Upholds B P → Upholds B Q → Upholds B (Either P Q)
 either_left u v = record { upholds = either_left' u v }
 
 room_left' : {X : Type 0} {B : X → Type 0} {n : ℕ} {P : Row X} → Upholds B P → (y : X) (ts rest : Tokens) → Room n P y ts rest → B y
 room_left' u y ts rest (room lt p) = u.upholds y ts rest p
 
-room_left : {X : Type 0} {B : X → Type 0} {n : ℕ} {P : Row X} → Upholds B P → Upholds B (Room n P)
+pub room_left : {X : Type 0} {B : X → Type 0} {n : ℕ} {P : Row X} → Upholds B P → Upholds B (Room n P)
 room_left u = record { upholds = room_left' u }
 
 list_left' : {P : Row Tree} → Upholds IsLeft P → (y : List Tree) (ts rest : Tokens) → Listed P y ts rest → AreLeft (trees y)
@@ -126,13 +126,13 @@ chain_left u = record { upholds = chain_left' u }
 abbrev IsAny : {X : Type 0} → X → Type 0
 IsAny x = Unit {0}
 
-any_left : {X : Type 0} {P : Row X} → Upholds (λ (x : X). Unit {0}) P
+pub any_left : {X : Type 0} {P : Row X} → Upholds (λ (x : X). Unit {0}) P
 any_left = record { upholds = λ x ts rest p. tt }
 
-as_left : {X Y : Type 0} (A : X → Type 0) {B : Y → Type 0} {f : X → Y} {P : Row X} → Upholds A P → ((x : X) → A x → B (f x)) → Upholds B (As f P)
+pub as_left : {X Y : Type 0} (A : X → Type 0) {B : Y → Type 0} {f : X → Y} {P : Row X} → Upholds A P → ((x : X) → A x → B (f x)) → Upholds B (As f P)
 as_left A u g = then_left A u (λ x a. done_left (g x a))
 
-closed_left : {X : Type 0} {B : X → Type 0} {P : Row X} → Upholds B P → Upholds B (Closed P)
+pub closed_left : {X : Type 0} {B : X → Type 0} {P : Row X} → Upholds B P → Upholds B (Closed P)
 closed_left {B = B} u = then_left B u (λ x b. after_left (done_left b))
 
 key_left : {C : Row Tree} → Upholds IsLeft C → Upholds IsKeyLeft (key C)
@@ -170,7 +170,7 @@ primary_left u =
 signing_left : {U P : Row Tree} → Upholds IsLeft U → Upholds IsLeft P → Upholds IsLeft (signing U P)
 signing_left u p = either_left (then_left (λ (m : Bool). Unit {0}) any_left (λ m i. as_left IsLeft u (λ e a. a))) p
 
-test_left : {A U : Row Tree} {e : Tree} {b : Bool} → IsLeft e → Upholds IsLeft A → Upholds IsLeft U → Upholds IsLeft (test A U e b)
+test_left : {A U : Row Tree} {e : Tree} {b : Bool} → IsLeft e → Upholds IsLeft A → Upholds IsLeft U → Upholds IsLeft (range_test A U e b)
 test_left i a u =
     either_left (after_left (then_left IsLeft a (λ low x. after_left (as_left IsLeft a (λ high y. (i, x, y))))))
     (after_left (after_left (as_left (λ (l : List Tree). AreLeft (trees l)) (closed_left (list_left u)) (λ l x. (i, x)))))

@@ -12,7 +12,7 @@ use Rattle.wquery.specs.Tree.{Tree, KeyTree, Invoked, Given, Filter, NullWord, N
 use Rattle.wparser.specs.Words.{OpenSign, CloseSign, name_of, number_of, text_of, mode_of, direction_of}
 use Rattle.wparser.specs.Notation.{Tokens, Row, One, Then, Done, Perhaps, Listed, As, Never}
 use Rattle.wparser.specs.Grips.{grip, Stops, kind_class}
-use Rattle.wparser.specs.Grammar.{Closed, perhaps_not, perhaps_frame, frame, partition, order, nulls_placed, window, window_inside, reaching, named, primary, test, tested, compared, null_tested, inner}
+use Rattle.wparser.specs.Grammar.{Closed, perhaps_not, perhaps_frame, frame, partition, order, nulls_placed, window, window_inside, reaching, named, primary, range_test, range_tested, compared, null_tested, inner}
 use Rattle.wparser.specs.Finding.{Outcome, Got, Refused, Answers, IsNoTest, meanings}
 use Rattle.wparser.proofs.Steps.{Leads, answers_less, grips, missing, other_token, not_said, one_parts, never_either, never_then, never_listed, any_leads, one_then_leads, one_leads, then_leads, perhaps_leads, after_leads, either_leads, done_leads, as_leads, then_got, after_got, after_never, as_got, one_got, never_perhaps_then, perhaps_absent, either_first, either_second, done_got, either_same, room_agrees, closed_got}
 use Rattle.wparser.proofs.Rows.{comparison_grip}
@@ -69,16 +69,16 @@ null_tested_leads = perhaps_leads (omega arith) (after_leads (omega arith))
 pub compared_leads : {R : Row Tree} {l : Tree} → Leads (compared R l) 23 24
 compared_leads = perhaps_leads (omega arith) (one_then_leads (λ token x e. let q = comparison_grip token x e in omega arith))
 
-pub test_leads : {A U : Row Tree} {e : Tree} {negated : Bool} → Leads (test A U e negated) 24 25
+pub test_leads : {A U : Row Tree} {e : Tree} {negated : Bool} → Leads (range_test A U e negated) 24 25
 test_leads = either_leads (after_leads (omega arith)) (after_leads (omega arith))
 
 pub perhaps_not_leads : {k : ℕ} → k ≤ 26 → Leads perhaps_not k 26
 perhaps_not_leads le = perhaps_leads le (after_leads (omega arith))
 
-pub tested_leads : {A U : Row Tree} {e : Tree} → Leads (tested A U e) 24 26
+pub tested_leads : {A U : Row Tree} {e : Tree} → Leads (range_tested A U e) 24 26
 tested_leads = perhaps_leads (omega arith) (then_leads (λ n. test_leads) (perhaps_not_leads (omega arith)))
 
-pub no_test : {A U : Row Tree} {e : Tree} {ts : Tokens} → IsNoTest ts → Never (Then perhaps_not (test A U e)) ts
+pub no_test : {A U : Row Tree} {e : Tree} {ts : Tokens} → IsNoTest ts → Never (Then perhaps_not (range_test A U e)) ts
 no_test g = never_perhaps_then (after_never (λ us. (g us).0)) (λ b. never_either (after_never (λ us. (g us).1)) (after_never (λ us. (g us).2)))
 
 pub reaching_leads : {n : ℕ} {C : Row Tree} → Leads (reaching n C) 28 29

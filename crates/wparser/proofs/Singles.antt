@@ -12,7 +12,7 @@ use Rattle.wquery.specs.Tree.{Tree, WindowTree, joined, no_window}
 use Rattle.wquery.specs.QueryTree.{QueryTree, SourceTree, ItemTree}
 use Rattle.wparser.specs.Words.{CommaSign, CloseSign, name_of, mode_of, direction_of, comparison_of, operator_of}
 use Rattle.wparser.specs.Notation.{Tokens, Row, One, one, After, after, Then, before, Done, done, Perhaps, absent, present, Either, first, second, Room, room, Listed, last, next, GoesOn, over, further, Chain, chain, As, Never}
-use Rattle.wparser.specs.Grammar.{Closed, toward, bound, extent, exclusion, excluding, frame, key, partition, order, window, window_inside, reach, reaching, arguments, filtered, call, named, primary, test, perhaps_not, ranging, comparing, testing, signing, perhaps_frame, nulls_placed, Rank, Chains, Negations, Signs, signs_over, sums_over, comparisons_over, negations_over, operands_over, row_over, deeper, conditions}
+use Rattle.wparser.specs.Grammar.{Closed, toward, bound, extent, exclusion, excluding, frame, key, partition, order, window, window_inside, reach, reaching, arguments, filtered, call, named, primary, range_test, perhaps_not, ranging, comparing, testing, signing, perhaps_frame, nulls_placed, Rank, Chains, Negations, Signs, signs_over, sums_over, comparisons_over, negations_over, operands_over, row_over, deeper, conditions}
 use Rattle.wparser.specs.Grips.{grip, Stops, kind_class, operand_class}
 use Rattle.wparser.specs.Queries.{alias_name, alias, item, source, clause, column, grouping, entry, windows, count, limits, clauses, query_over, deeper_queries, texts, Spells}
 use Rattle.wparser.specs.Finding.{Got, Answers}
@@ -289,7 +289,7 @@ signing_single u p = either_single (one_apart (λ z ts us o. primary_no_sign o))
 perhaps_not_single : Single 25 perhaps_not
 perhaps_not_single = perhaps_single (after_grips (omega arith)) (after_single done_single)
 
-test_single : {A U : Row Tree} {e : Tree} {b : Bool} → Single 26 A → Single 26 U → Single 24 (test A U e b)
+test_single : {A U : Row Tree} {e : Tree} {b : Bool} → Single 26 A → Single 26 U → Single 24 (range_test A U e b)
 test_single a u =
     either_single (after_apart (λ ts us e. other_token e (λ q. cc))) (after_single (then_single (λ low. after_leads (omega arith)) a (λ low. after_single (as_single (single_less (omega arith) a)))))
     (after_single (after_single (as_single (closed_single {j = 12} (omega arith) (listed_single (omega arith) u)))))

@@ -72,13 +72,13 @@ frame =
 abbrev pub nulls_placed : Row (Option NullOrder)
 nulls_placed = Perhaps None (As Some (Word keywords.Nulls (One null_order_of)))
 
--- key = cond [ASC | DESC] [NULLS FIRST | NULLS LAST]
+-- key = condition [ASC | DESC] [NULLS FIRST | NULLS LAST]
 abbrev pub key : Row Tree → Row KeyTree
 key Cond =
     Then Cond (λ e. Then (Perhaps false (One direction_of)) (λ descending. Then nulls_placed (λ nulls.
     Done (key_of e descending nulls))))
 
--- [PARTITION BY cond {, cond}]
+-- [PARTITION BY condition {, condition}]
 abbrev pub partition : Row Tree → Row (List Tree)
 partition Cond = Perhaps [] (Word keywords.Partition (Word keywords.By (Listed Cond)))
 
@@ -112,18 +112,18 @@ reach n Under = Either (As ThatWindow (One name_of)) (After OpenSign (As own_win
 abbrev pub everything_closed : ℕ → Row Given
 everything_closed n = Room n (After CloseSign (Done Everything))
 
--- [* | cond {, cond}] ), behind the opening parenthesis
+-- [* | condition {, condition}] ), behind the opening parenthesis
 abbrev pub arguments : ℕ → Row Tree → Row Given
 arguments n Under =
     Either (After CloseSign (Done (These NoTrees)))
     (Either (Sign symbols.Asterisk (everything_closed n))
     (As (λ list. These (trees list)) (Closed (Listed Under))))
 
--- ( WHERE cond ), behind FILTER
+-- ( WHERE condition ), behind FILTER
 abbrev pub filter : Row Tree → Row Filter
 filter Under = After OpenSign (Word keywords.Where (As FilteredBy (Closed Under)))
 
--- [FILTER ( WHERE cond )]
+-- [FILTER ( WHERE condition )]
 abbrev pub filtered : Row Tree → Row Filter
 filtered Under = Perhaps Unfiltered (Word keywords.Filter (filter Under))
 
@@ -147,7 +147,7 @@ named n Under name =
     Perhaps (Field None name)
     (Either (Sign symbols.Dot (qualified_by name)) (After OpenSign (call n Under name)))
 
--- primary = number | text literal | NULL | column | call | ( cond ); parentheses leave no mark
+-- primary = number | text literal | NULL | column | call | ( condition ); parentheses leave no mark
 abbrev pub primary : ℕ → Row Tree → Row Tree
 primary n Under =
     Either (As Numeral (One number_of)) (Either (As Quoted (One text_of)) (Either (Word keywords.Null (Done NullWord))
@@ -157,21 +157,21 @@ primary n Under =
 abbrev pub signing : Row Tree → Row Tree → Row Tree
 signing Under Primary = Either (Then (One sign_of) (λ minus. As (Signed minus) Under)) Primary
 
--- AND add, behind the lower end
+-- AND sum, behind the lower end
 abbrev pub up_to : Row Tree → Tree → Bool → Tree → Row Tree
 up_to Adds e negated low = Word keywords.And (As (Within negated e low) Adds)
 
--- add AND add, behind BETWEEN, whose AND is its own
+-- sum AND sum, behind BETWEEN, whose AND is its own
 abbrev pub within_row : Row Tree → Tree → Bool → Row Tree
 within_row Adds e negated = Then Adds (up_to Adds e negated)
 
--- ( add {, add} ), behind IN
+-- ( sum {, sum} ), behind IN
 abbrev pub among_row : Row Tree → Tree → Bool → Row Tree
 among_row Under e negated = After OpenSign (As (λ list. Among negated e (trees list)) (Closed (Listed Under)))
 
--- BETWEEN add AND add | IN ( add {, add} ), behind an operand
-abbrev pub test : Row Tree → Row Tree → Tree → Bool → Row Tree
-test Adds Under e negated =
+-- BETWEEN sum AND sum | IN ( sum {, sum} ), behind an operand
+abbrev pub range_test : Row Tree → Row Tree → Tree → Bool → Row Tree
+range_test Adds Under e negated =
     Either (Word keywords.Between (within_row Adds e negated))
     (Word keywords.In (among_row Under e negated))
 
@@ -180,18 +180,18 @@ abbrev pub perhaps_not : Row Bool
 perhaps_not = Perhaps false (Word keywords.Not (Done true))
 
 -- [[NOT] BETWEEN .. | [NOT] IN ..], behind an operand
-abbrev pub tested : Row Tree → Row Tree → Tree → Row Tree
-tested Adds Under e = Perhaps e (Then perhaps_not (test Adds Under e))
+abbrev pub range_tested : Row Tree → Row Tree → Tree → Row Tree
+range_tested Adds Under e = Perhaps e (Then perhaps_not (range_test Adds Under e))
 
--- rng = add [[NOT] BETWEEN .. | [NOT] IN ..]
+-- range = sum [[NOT] BETWEEN .. | [NOT] IN ..]
 abbrev pub ranging : Row Tree → Row Tree → Row Tree
-ranging Adds Under = Then Adds (tested Adds Under)
+ranging Adds Under = Then Adds (range_tested Adds Under)
 
--- [(= | <> | < | <= | > | >=) rng], behind an operand
+-- [(= | <> | < | <= | > | >=) range], behind an operand
 abbrev pub compared : Row Tree → Tree → Row Tree
 compared Range l = Perhaps l (Then (One comparison_of) (λ comparison. As (Compared comparison l) Range))
 
--- comp = rng [(= | <> | < | <= | > | >=) rng]
+-- comparison = range [(= | <> | < | <= | > | >=) range]
 abbrev pub comparing : Row Tree → Row Tree
 comparing Range = Then Range (compared Range)
 
@@ -199,13 +199,13 @@ comparing Range = Then Range (compared Range)
 abbrev pub null_tested : Tree → Row Tree
 null_tested e = Perhaps e (Word keywords.Is (Then perhaps_not (λ negated. Word keywords.Null (Done (NullTest negated e)))))
 
--- test = comp [IS [NOT] NULL]
+-- test = comparison [IS [NOT] NULL]
 abbrev pub testing : Row Tree → Row Tree
 testing Comparison = Then Comparison null_tested
 
 -- negation = NOT negation | test
-abbrev pub negation : Row Tree → Row Tree → Row Tree
-negation Under Test = Either (Word keywords.Not (As Negated Under)) Test
+abbrev pub negating : Row Tree → Row Tree → Row Tree
+negating Under Test = Either (Word keywords.Not (As Negated Under)) Test
 
 -- the rows that stand one level deeper somewhere
 pub data Rank : Type 0 where
@@ -227,9 +227,10 @@ abbrev pub comparisons_over : ℕ → (Rank → Row Tree) → Row Tree
 comparisons_over n Under = comparing (ranges_over n Under)
 
 abbrev pub negations_over : ℕ → (Rank → Row Tree) → Row Tree
-negations_over n Under = negation (Under Negations) (testing (comparisons_over n Under))
+negations_over n Under = negating (Under Negations) (testing (comparisons_over n Under))
 
--- cond = conj {OR conj}, conj = negation {AND negation}, add = mul {(+ | -) mul}, mul = sign {* sign}
+-- condition = conjunction {OR conjunction}, conjunction = negation {AND negation},
+-- sum = product {(+ | -) product}, product = sign {* sign}
 abbrev pub operands_over : ℕ → (Rank → Row Tree) → ChainKind → Row Tree
 operands_over n Under Disjunction = Chain Conjunction (negations_over n Under)
 operands_over n Under Conjunction = negations_over n Under

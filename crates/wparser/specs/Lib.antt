@@ -4,3 +4,4 @@ pub mod Grammar
 pub mod Grips
 pub mod Finding
 pub mod Queries
+pub mod Depth

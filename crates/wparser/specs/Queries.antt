@@ -21,7 +21,7 @@ alias_name = Then perhaps_as (λ _. One name_of)
 abbrev pub alias : Row (Option (List ℕ))
 alias = Perhaps None (As Some alias_name)
 
--- item = * | cond [[AS] name]
+-- item = * | condition [[AS] name]
 abbrev pub computed_item : ℕ → Row ItemTree
 computed_item n = Then (conditions n) (λ e. As (Computed e) alias)
 
@@ -35,7 +35,7 @@ derived Under = Then (Closed Under) (λ query. As (FromQuery query) alias_name)
 abbrev pub source : Row QueryTree → Row SourceTree
 source Under = Either (Then (One name_of) (λ name. As (FromTable name) alias)) (After OpenSign (derived Under))
 
--- [WHERE cond], [HAVING cond]
+-- [WHERE condition], [HAVING condition]
 abbrev pub clause : Keyword → ℕ → Row (Option Tree)
 clause keyword n = Perhaps None (As Some (Word keyword (conditions n)))
 
@@ -83,12 +83,12 @@ behind_windows n items source condition groups having entries =
     Then (order (conditions n)) (λ keys. Then limits (λ counts.
     Done (query_of items source condition groups having entries keys counts)))
 
--- [HAVING cond] [WINDOW entry {, entry}] ..
+-- [HAVING condition] [WINDOW entry {, entry}] ..
 abbrev pub behind_groups : ℕ → List ItemTree → SourceTree → Option Tree → List Tree → Row QueryTree
 behind_groups n items source condition groups =
     Then (clause keywords.Having n) (λ having. Then (windows n) (behind_windows n items source condition groups having))
 
--- [WHERE cond] [GROUP BY column {, column}] [HAVING cond] [WINDOW entry {, entry}] [ORDER BY key {, key}] [limits]
+-- [WHERE condition] [GROUP BY column {, column}] [HAVING condition] [WINDOW entry {, entry}] [ORDER BY key {, key}] [limits]
 abbrev pub clauses : ℕ → List ItemTree → SourceTree → Row QueryTree
 clauses n items source = Then (clause keywords.Where n) (λ condition. Then grouping (behind_groups n items source condition))
 

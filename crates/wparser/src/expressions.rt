@@ -5,13 +5,15 @@ ghost use Rattle.std.specs.Rc.{rc_str_bytes};
 ghost use Rattle.wquery.specs.declared.expression.ChainKind.TheVariants.{Disjunction, Sum};
 ghost use Rattle.wquery.specs.Tree.{view, views, view_arguments, view_over, view_key, view_keys, view_window, view_optional, view_optional_over, filter_of, reach_of};
 ghost use Rattle.wparser.specs.Notation.{GoesOn, Listed};
-ghost use Rattle.wparser.specs.Grammar.{Closed, Chains, deeper, inner, operands, chains, conditions, sums, ranges, comparisons, negations, signs, testing, null_tested, compared, tested, test, among_row, within_row, up_to, primary, named, qualified_by, everything_closed, call, arguments, filtered, reaching, window_inside, window, partition, order, key};
+ghost use Rattle.wparser.specs.Grammar.{Closed, Chains, deeper, inner, operands, chains, conditions, sums, ranges, comparisons, negations, signs, testing, null_tested, compared, range_tested, range_test, among_row, within_row, up_to, primary, named, qualified_by, everything_closed, call, arguments, filtered, reaching, window_inside, window, partition, order, key};
 ghost use Rattle.wparser.specs.Grips.{Stops, kind_class, operand_class};
 ghost use Rattle.wparser.specs.Finding.{meanings, outcome, settled, Answers, IsNoTest};
 
 use crate::fault::ParseFault;
 use crate::frames::{descending, negated, optional_frame, optional_name, placed_nulls};
-use crate::tokens::{comparison, keyword, name, number, operator, sign, symbol, text};
+use crate::tokens::{
+    comparison_operator, keyword, leading_sign, name, number, operator, symbol, text,
+};
 use std::alloc::Global;
 use std::rc::RcStr;
 use wlexer::{Keyword, Symbol, Token};
@@ -30,7 +32,7 @@ fn operand(
         ChainKind::Disjunction => chain(alloc, ChainKind::Conjunction, depth, tokens),
         ChainKind::Conjunction => negation(alloc, depth, tokens),
         ChainKind::Sum => chain(alloc, ChainKind::Product, depth, tokens),
-        ChainKind::Product => signed(alloc, depth, tokens),
+        ChainKind::Product => sign(alloc, depth, tokens),
     }
 }
 
@@ -44,10 +46,8 @@ pub fn chain(
 ) -> Result<(Expression, &[Token]), ParseFault>
     ensures { Answers (chains depth kind) (kind_class kind) (meanings tokens.now) (outcome (λ x. view x.0) (λ x. x.1.now) result) }
 {
-    match operand(alloc, kind, depth, tokens) {
-        Err(f) => Err(f),
-        Ok((first, rest)) => goes_on(alloc, kind, depth, first, rest),
-    }
+    let (first, rest) = got!(operand(alloc, kind, depth, tokens));
+    goes_on(alloc, kind, depth, first, rest)
 }
 
 #[cycle(parser)]
@@ -63,13 +63,9 @@ fn goes_on(
     let mut tree = first;
     let mut rest = tokens;
     'chain: while let Some((operator, after)) = operator(kind, rest) {
-        match operand(alloc, kind, depth, after) {
-            Err(f) => return Err(f),
-            Ok((next, left)) => {
-                tree = build::join(alloc, kind, tree, operator, next)?;
-                rest = left;
-            }
-        }
+        let (next, left) = got!(operand(alloc, kind, depth, after));
+        tree = build::join(alloc, kind, tree, operator, next)?;
+        rest = left;
     }
     Ok((tree, rest))
 }
@@ -83,32 +79,22 @@ fn negation(
     ensures { Answers (negations depth) 22 (meanings tokens.now) (outcome (λ x. view x.0) (λ x. x.1.now) result) }
 {
     let Some(after) = keyword(tokens, Keyword::Not) else {
-        return tested_for_null(alloc, depth, tokens);
+        return test(alloc, depth, tokens);
     };
     if depth == 0 {
         return Err(ParseFault::Syntax);
     }
-    match negation(alloc, depth - 1, after) {
-        Err(f) => Err(f),
-        Ok((e, rest)) => {
-            let e = build::not(alloc, e)?;
-            Ok((e, rest))
-        }
-    }
+    let (e, rest) = got!(negation(alloc, depth - 1, after));
+    let e = build::not(alloc, e)?;
+    Ok((e, rest))
 }
 
 #[cycle(parser)]
-fn tested_for_null(
-    alloc: Global,
-    depth: u32,
-    tokens: &[Token],
-) -> Result<(Expression, &[Token]), ParseFault>
+fn test(alloc: Global, depth: u32, tokens: &[Token]) -> Result<(Expression, &[Token]), ParseFault>
     ensures { Answers (testing (comparisons depth)) 22 (meanings tokens.now) (outcome (λ x. view x.0) (λ x. x.1.now) result) }
 {
-    match compares(alloc, depth, tokens) {
-        Err(f) => Err(f),
-        Ok((e, rest)) => null_test(alloc, e, rest),
-    }
+    let (e, rest) = got!(comparison(alloc, depth, tokens));
+    null_test(alloc, e, rest)
 }
 
 fn null_test(
@@ -130,21 +116,19 @@ fn null_test(
 }
 
 #[cycle(parser)]
-fn compares(
+fn comparison(
     alloc: Global,
     depth: u32,
     tokens: &[Token],
 ) -> Result<(Expression, &[Token]), ParseFault>
     ensures { Answers (comparisons depth) 23 (meanings tokens.now) (outcome (λ x. view x.0) (λ x. x.1.now) result) }
 {
-    match range(alloc, depth, tokens) {
-        Err(f) => Err(f),
-        Ok((left, rest)) => compares_to(alloc, depth, left, rest),
-    }
+    let (left, rest) = got!(range(alloc, depth, tokens));
+    compared(alloc, depth, left, rest)
 }
 
 #[cycle(parser)]
-fn compares_to(
+fn compared(
     alloc: Global,
     depth: u32,
     left: Expression,
@@ -152,30 +136,24 @@ fn compares_to(
 ) -> Result<(Expression, &[Token]), ParseFault>
     ensures { Answers (compared (ranges depth) (view left)) 23 (meanings tokens.now) (outcome (λ x. view x.0) (λ x. x.1.now) result) }
 {
-    let Some((comparison, after)) = comparison(tokens) else {
+    let Some((comparison, after)) = comparison_operator(tokens) else {
         return Ok((left, tokens));
     };
-    match range(alloc, depth, after) {
-        Err(f) => Err(f),
-        Ok((right, rest)) => {
-            let e = build::compared(alloc, comparison, left, right)?;
-            Ok((e, rest))
-        }
-    }
+    let (right, rest) = got!(range(alloc, depth, after));
+    let e = build::compared(alloc, comparison, left, right)?;
+    Ok((e, rest))
 }
 
 #[cycle(parser)]
 fn range(alloc: Global, depth: u32, tokens: &[Token]) -> Result<(Expression, &[Token]), ParseFault>
     ensures { Answers (ranges depth) 24 (meanings tokens.now) (outcome (λ x. view x.0) (λ x. x.1.now) result) }
 {
-    match chain(alloc, ChainKind::Sum, depth, tokens) {
-        Err(f) => Err(f),
-        Ok((e, rest)) => tests(alloc, depth, e, rest),
-    }
+    let (e, rest) = got!(chain(alloc, ChainKind::Sum, depth, tokens));
+    range_tested(alloc, depth, e, rest)
 }
 
 /// Whether BETWEEN or IN comes first, or NOT.
-fn test_follows(tokens: &[Token]) -> bool
+fn range_test_follows(tokens: &[Token]) -> bool
     ensures yes { result ≡ true → Stops 24 (meanings tokens.now) → ⊥ }
     ensures other { result ≡ false → IsNoTest (meanings tokens.now) }
 {
@@ -185,30 +163,30 @@ fn test_follows(tokens: &[Token]) -> bool
 }
 
 #[cycle(parser)]
-fn tests(
+fn range_tested(
     alloc: Global,
     depth: u32,
     e: Expression,
     tokens: &[Token],
 ) -> Result<(Expression, &[Token]), ParseFault>
-    ensures { Answers (tested (sums depth) (deeper depth (Chains Sum)) (view e)) 24 (meanings tokens.now) (outcome (λ x. view x.0) (λ x. x.1.now) result) }
+    ensures { Answers (range_tested (sums depth) (deeper depth (Chains Sum)) (view e)) 24 (meanings tokens.now) (outcome (λ x. view x.0) (λ x. x.1.now) result) }
 {
-    if test_follows(tokens) {
+    if range_test_follows(tokens) {
         let (negated, after) = negated(tokens);
-        return tests_for(alloc, depth, negated, e, after);
+        return range_test(alloc, depth, negated, e, after);
     }
     Ok((e, tokens))
 }
 
 #[cycle(parser)]
-fn tests_for(
+fn range_test(
     alloc: Global,
     depth: u32,
     negated: bool,
     e: Expression,
     tokens: &[Token],
 ) -> Result<(Expression, &[Token]), ParseFault>
-    ensures { Answers (test (sums depth) (deeper depth (Chains Sum)) (view e) negated) 24 (meanings tokens.now) (outcome (λ x. view x.0) (λ x. x.1.now) result) }
+    ensures { Answers (range_test (sums depth) (deeper depth (Chains Sum)) (view e) negated) 24 (meanings tokens.now) (outcome (λ x. view x.0) (λ x. x.1.now) result) }
 {
     if let Some(after) = keyword(tokens, Keyword::Between) {
         return between(alloc, depth, negated, e, after);
@@ -233,13 +211,9 @@ fn among(
     let Some(after) = symbol(tokens, Symbol::OpenParenthesis) else {
         return Err(ParseFault::Syntax);
     };
-    match closed_list(alloc, ChainKind::Sum, depth, after) {
-        Err(f) => Err(f),
-        Ok((list, rest)) => {
-            let e = build::among(alloc, negated, e, list)?;
-            Ok((e, rest))
-        }
-    }
+    let (list, rest) = got!(closed_list(alloc, ChainKind::Sum, depth, after));
+    let e = build::among(alloc, negated, e, list)?;
+    Ok((e, rest))
 }
 
 /// Two ends, behind BETWEEN.
@@ -253,15 +227,13 @@ fn between(
 ) -> Result<(Expression, &[Token]), ParseFault>
     ensures { Answers (within_row (sums depth) (view e) negated) 24 (meanings tokens.now) (outcome (λ x. view x.0) (λ x. x.1.now) result) }
 {
-    match chain(alloc, ChainKind::Sum, depth, tokens) {
-        Err(f) => Err(f),
-        Ok((low, rest)) => between_from(alloc, depth, negated, e, low, rest),
-    }
+    let (low, rest) = got!(chain(alloc, ChainKind::Sum, depth, tokens));
+    up_to(alloc, depth, negated, e, low, rest)
 }
 
 /// The upper end, behind the lower one.
 #[cycle(parser)]
-fn between_from(
+fn up_to(
     alloc: Global,
     depth: u32,
     negated: bool,
@@ -274,32 +246,24 @@ fn between_from(
     let Some(after) = keyword(tokens, Keyword::And) else {
         return Err(ParseFault::Syntax);
     };
-    match chain(alloc, ChainKind::Sum, depth, after) {
-        Err(f) => Err(f),
-        Ok((high, rest)) => {
-            let e = build::within(alloc, negated, e, low, high)?;
-            Ok((e, rest))
-        }
-    }
+    let (high, rest) = got!(chain(alloc, ChainKind::Sum, depth, after));
+    let e = build::within(alloc, negated, e, low, high)?;
+    Ok((e, rest))
 }
 
 #[cycle(parser)]
-fn signed(alloc: Global, depth: u32, tokens: &[Token]) -> Result<(Expression, &[Token]), ParseFault>
+fn sign(alloc: Global, depth: u32, tokens: &[Token]) -> Result<(Expression, &[Token]), ParseFault>
     ensures { Answers (signs depth) 28 (meanings tokens.now) (outcome (λ x. view x.0) (λ x. x.1.now) result) }
 {
-    let Some((minus, after)) = sign(tokens) else {
+    let Some((minus, after)) = leading_sign(tokens) else {
         return primary(alloc, depth, tokens);
     };
     if depth == 0 {
         return Err(ParseFault::Syntax);
     }
-    match signed(alloc, depth - 1, after) {
-        Err(f) => Err(f),
-        Ok((e, rest)) => {
-            let e = build::signed(alloc, minus, e)?;
-            Ok((e, rest))
-        }
-    }
+    let (e, rest) = got!(sign(alloc, depth - 1, after));
+    let e = build::signed(alloc, minus, e)?;
+    Ok((e, rest))
 }
 
 #[cycle(parser)]
@@ -341,12 +305,10 @@ fn enclosed(
     if depth == 0 {
         return Err(ParseFault::Syntax);
     }
-    match chain(alloc, ChainKind::Disjunction, depth - 1, tokens) {
-        Err(f) => Err(f),
-        Ok((e, rest)) => match symbol(rest, Symbol::CloseParenthesis) {
-            None => Err(ParseFault::Syntax),
-            Some(rest) => Ok((e, rest)),
-        },
+    let (e, rest) = got!(chain(alloc, ChainKind::Disjunction, depth - 1, tokens));
+    match symbol(rest, Symbol::CloseParenthesis) {
+        None => Err(ParseFault::Syntax),
+        Some(rest) => Ok((e, rest)),
     }
 }
 
@@ -389,19 +351,11 @@ fn calls(
 ) -> Result<(Expression, &[Token]), ParseFault>
     ensures { Answers (call depth (inner depth) (rc_str_bytes function)) 28 (meanings tokens.now) (outcome (λ x. view x.0) (λ x. x.1.now) result) }
 {
-    match given(alloc, depth, tokens) {
-        Err(f) => Err(f),
-        Ok((arguments, rest)) => match filter(alloc, depth, rest) {
-            Err(f) => Err(f),
-            Ok((filter, rest)) => match over(alloc, depth, rest) {
-                Err(f) => Err(f),
-                Ok((over, rest)) => {
-                    let e = build::call(alloc, function, arguments, filter, over)?;
-                    Ok((e, rest))
-                }
-            },
-        },
-    }
+    let (arguments, rest) = got!(given(alloc, depth, tokens));
+    let (filter, rest) = got!(filter(alloc, depth, rest));
+    let (over, rest) = got!(over(alloc, depth, rest));
+    let e = build::call(alloc, function, arguments, filter, over)?;
+    Ok((e, rest))
 }
 
 #[cycle(parser)]
@@ -417,10 +371,8 @@ fn given(alloc: Global, depth: u32, tokens: &[Token]) -> Result<(Arguments, &[To
             Some((star, rest)) => Ok((star, rest)),
         };
     }
-    match closed_list(alloc, ChainKind::Disjunction, depth, tokens) {
-        Err(f) => Err(f),
-        Ok((list, rest)) => Ok((build::listed(list), rest)),
-    }
+    let (list, rest) = got!(closed_list(alloc, ChainKind::Disjunction, depth, tokens));
+    Ok((build::listed(list), rest))
 }
 
 fn everything(depth: u32, tokens: &[Token]) -> Option<(Arguments, &[Token])>
@@ -445,12 +397,10 @@ fn closed_list(
     if depth == 0 {
         return Err(ParseFault::Syntax);
     }
-    match list(alloc, kind, depth - 1, tokens) {
-        Err(f) => Err(f),
-        Ok((list, rest)) => match symbol(rest, Symbol::CloseParenthesis) {
-            None => Err(ParseFault::Syntax),
-            Some(rest) => Ok((list, rest)),
-        },
+    let (list, rest) = got!(list(alloc, kind, depth - 1, tokens));
+    match symbol(rest, Symbol::CloseParenthesis) {
+        None => Err(ParseFault::Syntax),
+        Some(rest) => Ok((list, rest)),
     }
 }
 
@@ -466,15 +416,11 @@ fn list(
     let mut items = Vec::new(alloc);
     let mut left = tokens;
     'list: loop {
-        match chain(alloc, kind, depth, left) {
-            Err(f) => return Err(f),
-            Ok((item, rest)) => {
-                build::push(&mut items, item)?;
-                match symbol(rest, Symbol::Comma) {
-                    None => return Ok((items, rest)),
-                    Some(after) => left = after,
-                }
-            }
+        let (item, rest) = got!(chain(alloc, kind, depth, left));
+        build::push(&mut items, item)?;
+        match symbol(rest, Symbol::Comma) {
+            None => return Ok((items, rest)),
+            Some(after) => left = after,
         }
     }
 }
@@ -496,10 +442,8 @@ fn filter(
     let Some(after) = keyword(after, Keyword::Where) else {
         return Err(ParseFault::Syntax);
     };
-    match enclosed(alloc, depth, after) {
-        Err(f) => Err(f),
-        Ok((e, rest)) => Ok((Some(e), rest)),
-    }
+    let (e, rest) = got!(enclosed(alloc, depth, after));
+    Ok((Some(e), rest))
 }
 
 #[cycle(parser)]
@@ -516,10 +460,8 @@ fn over(alloc: Global, depth: u32, tokens: &[Token]) -> Result<(Option<Over>, &[
     let Some(after) = symbol(after, Symbol::OpenParenthesis) else {
         return Err(ParseFault::Syntax);
     };
-    match enclosed_window(alloc, depth, after) {
-        Err(f) => Err(f),
-        Ok((window, rest)) => Ok((Some(build::windowed(window)), rest)),
-    }
+    let (window, rest) = got!(enclosed_window(alloc, depth, after));
+    Ok((Some(build::windowed(window)), rest))
 }
 
 /// A window, behind its opening parenthesis.
@@ -540,12 +482,10 @@ pub fn enclosed_window(
     if depth == 0 {
         return Err(ParseFault::Syntax);
     }
-    match window_parts(alloc, depth - 1, tokens) {
-        Err(f) => Err(f),
-        Ok((window, rest)) => match symbol(rest, Symbol::CloseParenthesis) {
-            None => Err(ParseFault::Syntax),
-            Some(rest) => Ok((window, rest)),
-        },
+    let (window, rest) = got!(window_parts(alloc, depth - 1, tokens));
+    match symbol(rest, Symbol::CloseParenthesis) {
+        None => Err(ParseFault::Syntax),
+        Some(rest) => Ok((window, rest)),
     }
 }
 
@@ -557,22 +497,13 @@ fn window_parts(
 ) -> Result<(Window, &[Token]), ParseFault>
     ensures { Answers (window (conditions depth)) 3 (meanings tokens.now) (outcome (λ x. view_window x.0) (λ x. x.1.now) result) }
 {
-    match optional_name(tokens) {
-        Err(f) => Err(f),
-        Ok((copied, rest)) => match partitioned(alloc, depth, rest) {
-            Err(f) => Err(f),
-            Ok((partition, rest)) => match ordered(alloc, depth, rest) {
-                Err(f) => Err(f),
-                Ok((order, rest)) => match optional_frame(rest) {
-                    None => Err(ParseFault::Syntax),
-                    Some((frame, rest)) => Ok((
-                        build::window(copied, partition, order, frame),
-                        rest,
-                    )),
-                },
-            },
-        },
-    }
+    let (copied, rest) = got!(optional_name(tokens));
+    let (partition, rest) = got!(partitioned(alloc, depth, rest));
+    let (order, rest) = got!(ordered(alloc, depth, rest));
+    let Some((frame, rest)) = optional_frame(rest) else {
+        return Err(ParseFault::Syntax);
+    };
+    Ok((build::window(copied, partition, order, frame), rest))
 }
 
 #[cycle(parser)]
@@ -617,15 +548,11 @@ fn keys(alloc: Global, depth: u32, tokens: &[Token]) -> Result<(Vec<Key>, &[Toke
     let mut items = Vec::new(alloc);
     let mut left = tokens;
     'keys: loop {
-        match sort_key(alloc, depth, left) {
-            Err(f) => return Err(f),
-            Ok((item, rest)) => {
-                build::push_key(&mut items, item)?;
-                match symbol(rest, Symbol::Comma) {
-                    None => return Ok((items, rest)),
-                    Some(after) => left = after,
-                }
-            }
+        let (item, rest) = got!(sort_key(alloc, depth, left));
+        build::push_key(&mut items, item)?;
+        match symbol(rest, Symbol::Comma) {
+            None => return Ok((items, rest)),
+            Some(after) => left = after,
         }
     }
 }
@@ -634,14 +561,10 @@ fn keys(alloc: Global, depth: u32, tokens: &[Token]) -> Result<(Vec<Key>, &[Toke
 fn sort_key(alloc: Global, depth: u32, tokens: &[Token]) -> Result<(Key, &[Token]), ParseFault>
     ensures { Answers (key (conditions depth)) 15 (meanings tokens.now) (outcome (λ x. view_key x.0) (λ x. x.1.now) result) }
 {
-    match chain(alloc, ChainKind::Disjunction, depth, tokens) {
-        Err(f) => Err(f),
-        Ok((e, rest)) => {
-            let (descending, rest) = descending(rest);
-            match placed_nulls(rest) {
-                None => Err(ParseFault::Syntax),
-                Some((nulls, rest)) => Ok((build::key(e, descending, nulls), rest)),
-            }
-        }
-    }
+    let (e, rest) = got!(chain(alloc, ChainKind::Disjunction, depth, tokens));
+    let (descending, rest) = descending(rest);
+    let Some((nulls, rest)) = placed_nulls(rest) else {
+        return Err(ParseFault::Syntax);
+    };
+    Ok((build::key(e, descending, nulls), rest))
 }

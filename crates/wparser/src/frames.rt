@@ -74,21 +74,17 @@ fn frame_clause(tokens: &[Token]) -> Option<(Frame, &[Token])>
     ensures { Answers frame 3 (meanings tokens.now) (settled (λ x. x.0) (λ x. x.1.now) result) }
 {
     let (mode, rest) = mode(tokens)?;
-    match ends(rest) {
-        None => None,
-        Some((ends, rest)) => match optional_exclusion(rest) {
-            None => None,
-            Some((exclusion, rest)) => {
-                let frame = Frame {
-                    mode,
-                    start: ends.0,
-                    end: ends.1,
-                    exclusion,
-                };
-                Some((frame, rest))
-            }
-        },
-    }
+    let Some((ends, rest)) = ends(rest) else {
+        return None;
+    };
+    let (exclusion, rest) = optional_exclusion(rest)?;
+    let frame = Frame {
+        mode,
+        start: ends.0,
+        end: ends.1,
+        exclusion,
+    };
+    Some((frame, rest))
 }
 
 fn ends(tokens: &[Token]) -> Option<((FrameBound, Option<FrameBound>), &[Token])>

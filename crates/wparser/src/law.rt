@@ -1,7 +1,8 @@
 //! What holds of the grammar by itself.
 
-ghost use Rattle.std.specs.Prelude.{◌≡◌, ℕ};
+ghost use Rattle.std.specs.Prelude.{◌≡◌, ℕ, ◌≤◌, ◌+◌, ◌*◌};
 ghost use Rattle.wquery.specs.Tree.{Tree};
+ghost use Rattle.wparser.specs.Depth.{height};
 ghost use Rattle.wparser.specs.Grammar.{conditions};
 ghost use Rattle.wquery.specs.Lefts.{IsLeft, IsQueryLeft};
 ghost use Rattle.wquery.specs.QueryTree.{QueryTree};
@@ -17,4 +18,9 @@ pub fn one_query()
 pub fn no_chain_first()
     ensures conditions { (depth : ℕ) (t : Tree) (tokens rest : Tokens) → conditions depth t tokens rest → IsLeft t }
     ensures queries { (q : QueryTree) (tokens : Tokens) → Spells q tokens → IsQueryLeft q }
+{}
+
+/// A walk over a condition goes at most eight deep for each level of nesting, however long its chains are.
+pub fn bounded_height()
+    ensures { (depth : ℕ) (t : Tree) (tokens rest : Tokens) → conditions depth t tokens rest → height t ≤ 8 * (depth + 1) }
 {}

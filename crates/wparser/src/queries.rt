@@ -23,13 +23,11 @@ use wquery::{ChainKind, Column, Expression, Item, Query, Source, WindowEntry};
 fn copied_name(tokens: &[Token]) -> Result<(RcStr, &[Token]), ParseFault>
     ensures { Answers (One name_of) 31 (meanings tokens.now) (outcome (λ x. rc_str_bytes x.0) (λ x. x.1.now) result) }
 {
-    match name(tokens) {
-        None => Err(ParseFault::Syntax),
-        Some((name, rest)) => {
-            let name = name.clone()?;
-            Ok((name, rest))
-        }
-    }
+    let Some((name, rest)) = name(tokens) else {
+        return Err(ParseFault::Syntax);
+    };
+    let name = name.clone()?;
+    Ok((name, rest))
 }
 
 /// A name, with or without AS before it.
@@ -46,10 +44,8 @@ fn optional_alias(tokens: &[Token]) -> Result<(Option<RcStr>, &[Token]), ParseFa
     ensures { Answers alias 14 (meanings tokens.now) (outcome (λ x. name_bytes x.0) (λ x. x.1.now) result) }
 {
     if let Some(after) = keyword(tokens, Keyword::As) {
-        return match copied_name(after) {
-            Err(f) => Err(f),
-            Ok((name, rest)) => Ok((Some(name), rest)),
-        };
+        let (name, rest) = got!(copied_name(after));
+        return Ok((Some(name), rest));
     }
     match name(tokens) {
         None => Ok((None, tokens)),
@@ -66,13 +62,9 @@ fn item_of(alloc: Global, depth: u32, tokens: &[Token]) -> Result<(Item, &[Token
     if let Some(rest) = symbol(tokens, Symbol::Asterisk) {
         return Ok((Item::All, rest));
     }
-    match chain(alloc, ChainKind::Disjunction, depth, tokens) {
-        Err(f) => Err(f),
-        Ok((expression, rest)) => match optional_alias(rest) {
-            Err(f) => Err(f),
-            Ok((alias, rest)) => Ok((Item::Value { expression, alias }, rest)),
-        },
-    }
+    let (expression, rest) = got!(chain(alloc, ChainKind::Disjunction, depth, tokens));
+    let (alias, rest) = got!(optional_alias(rest));
+    Ok((Item::Value { expression, alias }, rest))
 }
 
 fn items(alloc: Global, depth: u32, tokens: &[Token]) -> Result<(Vec<Item>, &[Token]), ParseFault>
@@ -81,15 +73,11 @@ fn items(alloc: Global, depth: u32, tokens: &[Token]) -> Result<(Vec<Item>, &[To
     let mut items = Vec::new(alloc);
     let mut left = tokens;
     'items: loop {
-        match item_of(alloc, depth, left) {
-            Err(f) => return Err(f),
-            Ok((item, rest)) => {
-                build::push_item(&mut items, item)?;
-                match symbol(rest, Symbol::Comma) {
-                    None => return Ok((items, rest)),
-                    Some(after) => left = after,
-                }
-            }
+        let (item, rest) = got!(item_of(alloc, depth, left));
+        build::push_item(&mut items, item)?;
+        match symbol(rest, Symbol::Comma) {
+            None => return Ok((items, rest)),
+            Some(after) => left = after,
         }
     }
 }
@@ -107,39 +95,21 @@ fn condition(
     let Some(after) = keyword(tokens, word) else {
         return Ok((None, tokens));
     };
-    match chain(alloc, ChainKind::Disjunction, depth, after) {
-        Err(f) => Err(f),
-        Ok((e, rest)) => Ok((Some(e), rest)),
-    }
+    let (e, rest) = got!(chain(alloc, ChainKind::Disjunction, depth, after));
+    Ok((Some(e), rest))
 }
 
 fn column_of(tokens: &[Token]) -> Result<(Column, &[Token]), ParseFault>
     ensures { Answers column 14 (meanings tokens.now) (outcome (λ x. view_column x.0) (λ x. x.1.now) result) }
 {
-    match copied_name(tokens) {
-        Err(f) => Err(f),
-        Ok((name, rest)) => {
-            let Some(after) = symbol(rest, Symbol::Dot) else {
-                return Ok((
-                    Column {
-                        qualifier: None,
-                        name,
-                    },
-                    rest,
-                ));
-            };
-            match copied_name(after) {
-                Err(f) => Err(f),
-                Ok((column, rest)) => Ok((
-                    Column {
-                        qualifier: Some(name),
-                        name: column,
-                    },
-                    rest,
-                )),
-            }
-        }
-    }
+    let (name, rest) = got!(copied_name(tokens));
+    let Some(after) = symbol(rest, Symbol::Dot) else {
+        let qualifier = None;
+        return Ok((Column { qualifier, name }, rest));
+    };
+    let qualifier = Some(name);
+    let (name, rest) = got!(copied_name(after));
+    Ok((Column { qualifier, name }, rest))
 }
 
 fn columns(alloc: Global, tokens: &[Token]) -> Result<(Vec<Column>, &[Token]), ParseFault>
@@ -148,15 +118,11 @@ fn columns(alloc: Global, tokens: &[Token]) -> Result<(Vec<Column>, &[Token]), P
     let mut columns = Vec::new(alloc);
     let mut left = tokens;
     'columns: loop {
-        match column_of(left) {
-            Err(f) => return Err(f),
-            Ok((column, rest)) => {
-                build::push_column(&mut columns, column)?;
-                match symbol(rest, Symbol::Comma) {
-                    None => return Ok((columns, rest)),
-                    Some(after) => left = after,
-                }
-            }
+        let (column, rest) = got!(column_of(left));
+        build::push_column(&mut columns, column)?;
+        match symbol(rest, Symbol::Comma) {
+            None => return Ok((columns, rest)),
+            Some(after) => left = after,
         }
     }
 }
@@ -180,21 +146,15 @@ fn entry_of(
 ) -> Result<(WindowEntry, &[Token]), ParseFault>
     ensures { Answers (entry depth) 31 (meanings tokens.now) (outcome (λ x. view_entry x.0) (λ x. x.1.now) result) }
 {
-    match copied_name(tokens) {
-        Err(f) => Err(f),
-        Ok((name, rest)) => {
-            let Some(after) = keyword(rest, Keyword::As) else {
-                return Err(ParseFault::Syntax);
-            };
-            let Some(after) = symbol(after, Symbol::OpenParenthesis) else {
-                return Err(ParseFault::Syntax);
-            };
-            match enclosed_window(alloc, depth, after) {
-                Err(f) => Err(f),
-                Ok((window, rest)) => Ok((WindowEntry { name, window }, rest)),
-            }
-        }
-    }
+    let (name, rest) = got!(copied_name(tokens));
+    let Some(after) = keyword(rest, Keyword::As) else {
+        return Err(ParseFault::Syntax);
+    };
+    let Some(after) = symbol(after, Symbol::OpenParenthesis) else {
+        return Err(ParseFault::Syntax);
+    };
+    let (window, rest) = got!(enclosed_window(alloc, depth, after));
+    Ok((WindowEntry { name, window }, rest))
 }
 
 fn entries(
@@ -207,15 +167,11 @@ fn entries(
     let mut entries = Vec::new(alloc);
     let mut left = tokens;
     'entries: loop {
-        match entry_of(alloc, depth, left) {
-            Err(f) => return Err(f),
-            Ok((entry, rest)) => {
-                build::push_entry(&mut entries, entry)?;
-                match symbol(rest, Symbol::Comma) {
-                    None => return Ok((entries, rest)),
-                    Some(after) => left = after,
-                }
-            }
+        let (entry, rest) = got!(entry_of(alloc, depth, left));
+        build::push_entry(&mut entries, entry)?;
+        match symbol(rest, Symbol::Comma) {
+            None => return Ok((entries, rest)),
+            Some(after) => left = after,
         }
     }
 }
@@ -250,12 +206,12 @@ fn counted(word: Keyword, tokens: &[Token]) -> Option<(Option<Number>, &[Token])
 fn limit_first(tokens: &[Token]) -> Option<((Option<Number>, Option<Number>), &[Token])>
     ensures { Answers limit_row 4 (meanings tokens.now) (settled (λ x. x.0) (λ x. x.1.now) result) }
 {
-    match number(tokens) {
+    let Some((limit, rest)) = number(tokens) else {
+        return None;
+    };
+    match counted(Keyword::Offset, rest) {
         None => None,
-        Some((limit, rest)) => match counted(Keyword::Offset, rest) {
-            None => None,
-            Some((offset, rest)) => Some(((Some(*limit), offset), rest)),
-        },
+        Some((offset, rest)) => Some(((Some(*limit), offset), rest)),
     }
 }
 
@@ -263,12 +219,12 @@ fn limit_first(tokens: &[Token]) -> Option<((Option<Number>, Option<Number>), &[
 fn offset_first(tokens: &[Token]) -> Option<((Option<Number>, Option<Number>), &[Token])>
     ensures { Answers offset_row 4 (meanings tokens.now) (settled (λ x. x.0) (λ x. x.1.now) result) }
 {
-    match number(tokens) {
+    let Some((offset, rest)) = number(tokens) else {
+        return None;
+    };
+    match counted(Keyword::Limit, rest) {
         None => None,
-        Some((offset, rest)) => match counted(Keyword::Limit, rest) {
-            None => None,
-            Some((limit, rest)) => Some(((limit, Some(*offset)), rest)),
-        },
+        Some((limit, rest)) => Some(((limit, Some(*offset)), rest)),
     }
 }
 
@@ -303,21 +259,15 @@ fn query_clauses(
 ) -> Result<(Query, &[Token]), ParseFault>
     ensures { Answers (clauses depth (map view_item items.items) (view_source source)) 4 (meanings tokens.now) (outcome (λ x. view_query x.0) (λ x. x.1.now) result) }
 {
-    match condition(alloc, depth, Keyword::Where, tokens) {
-        Err(f) => Err(f),
-        Ok((kept, rest)) => match grouped(alloc, rest) {
-            Err(f) => Err(f),
-            Ok((grouping, rest)) => {
-                let front = Front {
-                    items,
-                    source,
-                    condition: kept,
-                    grouping,
-                };
-                clauses_behind_groups(alloc, depth, front, rest)
-            }
-        },
-    }
+    let (condition, rest) = got!(condition(alloc, depth, Keyword::Where, tokens));
+    let (grouping, rest) = got!(grouped(alloc, rest));
+    let front = Front {
+        items,
+        source,
+        condition,
+        grouping,
+    };
+    clauses_behind_groups(alloc, depth, front, rest)
 }
 
 fn clauses_behind_groups(
@@ -328,15 +278,9 @@ fn clauses_behind_groups(
 ) -> Result<(Query, &[Token]), ParseFault>
     ensures { Answers (behind_groups depth (map view_item front.items.items) (view_source front.source) (view_optional front.condition) (map view_column front.grouping.items)) 4 (meanings tokens.now) (outcome (λ x. view_query x.0) (λ x. x.1.now) result) }
 {
-    match condition(alloc, depth, Keyword::Having, tokens) {
-        Err(f) => Err(f),
-        Ok((having, rest)) => match window_clause(alloc, depth, rest) {
-            Err(f) => Err(f),
-            Ok((windows, rest)) => {
-                clauses_behind_windows(alloc, depth, front, having, windows, rest)
-            }
-        },
-    }
+    let (having, rest) = got!(condition(alloc, depth, Keyword::Having, tokens));
+    let (windows, rest) = got!(window_clause(alloc, depth, rest));
+    clauses_behind_windows(alloc, depth, front, having, windows, rest)
 }
 
 fn clauses_behind_windows(
@@ -349,29 +293,25 @@ fn clauses_behind_windows(
 ) -> Result<(Query, &[Token]), ParseFault>
     ensures { Answers (behind_windows depth (map view_item front.items.items) (view_source front.source) (view_optional front.condition) (map view_column front.grouping.items) (view_optional having) (map view_entry windows.items)) 4 (meanings tokens.now) (outcome (λ x. view_query x.0) (λ x. x.1.now) result) }
 {
-    match ordered(alloc, depth, tokens) {
-        Err(f) => Err(f),
-        Ok((order, rest)) => match limited(rest) {
-            None => Err(ParseFault::Syntax),
-            Some((limits, rest)) => {
-                let Front {
-                    items,
-                    source,
-                    condition: kept,
-                    grouping,
-                } = front;
-                let clauses = Clauses {
-                    condition: kept,
-                    grouping,
-                    having,
-                    windows,
-                    order,
-                    limits,
-                };
-                Ok((build::query(items, source, clauses), rest))
-            }
-        },
-    }
+    let (order, rest) = got!(ordered(alloc, depth, tokens));
+    let Some((limits, rest)) = limited(rest) else {
+        return Err(ParseFault::Syntax);
+    };
+    let Front {
+        items,
+        source,
+        condition,
+        grouping,
+    } = front;
+    let clauses = Clauses {
+        condition,
+        grouping,
+        having,
+        windows,
+        order,
+        limits,
+    };
+    Ok((build::query(items, source, clauses), rest))
 }
 
 /// A query.
@@ -382,18 +322,12 @@ pub fn query(alloc: Global, depth: u32, tokens: &[Token]) -> Result<(Query, &[To
     let Some(after) = keyword(tokens, Keyword::Select) else {
         return Err(ParseFault::Syntax);
     };
-    match items(alloc, depth, after) {
-        Err(f) => Err(f),
-        Ok((items, rest)) => {
-            let Some(after) = keyword(rest, Keyword::From) else {
-                return Err(ParseFault::Syntax);
-            };
-            match source_of(alloc, depth, after) {
-                Err(f) => Err(f),
-                Ok((source, rest)) => query_clauses(alloc, depth, items, source, rest),
-            }
-        }
-    }
+    let (items, rest) = got!(items(alloc, depth, after));
+    let Some(after) = keyword(rest, Keyword::From) else {
+        return Err(ParseFault::Syntax);
+    };
+    let (source, rest) = got!(source_of(alloc, depth, after));
+    query_clauses(alloc, depth, items, source, rest)
 }
 
 #[cycle(queries)]
@@ -402,10 +336,8 @@ fn source_of(alloc: Global, depth: u32, tokens: &[Token]) -> Result<(Source, &[T
 {
     if let Some((table, rest)) = name(tokens) {
         let table = table.clone()?;
-        return match optional_alias(rest) {
-            Err(f) => Err(f),
-            Ok((alias, rest)) => Ok((build::table(table, alias), rest)),
-        };
+        let (alias, rest) = got!(optional_alias(rest));
+        return Ok((build::table(table, alias), rest));
     }
     match symbol(tokens, Symbol::OpenParenthesis) {
         None => Err(ParseFault::Syntax),
@@ -420,33 +352,23 @@ fn derived_of(alloc: Global, depth: u32, tokens: &[Token]) -> Result<(Source, &[
     if depth == 0 {
         return Err(ParseFault::Syntax);
     }
-    match query(alloc, depth - 1, tokens) {
-        Err(f) => Err(f),
-        Ok((query, rest)) => {
-            let Some(after) = symbol(rest, Symbol::CloseParenthesis) else {
-                return Err(ParseFault::Syntax);
-            };
-            match required_alias(after) {
-                Err(f) => Err(f),
-                Ok((alias, rest)) => {
-                    let source = build::derived(alloc, query, alias)?;
-                    Ok((source, rest))
-                }
-            }
-        }
-    }
+    let (query, rest) = got!(query(alloc, depth - 1, tokens));
+    let Some(after) = symbol(rest, Symbol::CloseParenthesis) else {
+        return Err(ParseFault::Syntax);
+    };
+    let (alias, rest) = got!(required_alias(after));
+    let source = build::derived(alloc, query, alias)?;
+    Ok((source, rest))
 }
 
 /// A query and the semicolon behind it, if there is one.
 fn terminated(alloc: Global, tokens: &[Token]) -> Result<(Query, &[Token]), ParseFault>
     ensures { Answers texts 1 (meanings tokens.now) (outcome (λ x. view_query x.0) (λ x. x.1.now) result) }
 {
-    match query(alloc, 64, tokens) {
-        Err(f) => Err(f),
-        Ok((query, rest)) => match symbol(rest, Symbol::Semicolon) {
-            None => Ok((query, rest)),
-            Some(rest) => Ok((query, rest)),
-        },
+    let (query, rest) = got!(query(alloc, 64, tokens));
+    match symbol(rest, Symbol::Semicolon) {
+        None => Ok((query, rest)),
+        Some(rest) => Ok((query, rest)),
     }
 }
 
@@ -460,11 +382,9 @@ pub fn parse(alloc: Global, tokens: &[Token]) -> Result<Query, ParseFault>
     // Only what spells no query is refused.
     ensures refused { result ≡ Err Syntax → (query : QueryTree) → Spells query (meanings tokens.now) → ⊥ }
 {
-    match terminated(alloc, tokens) {
-        Err(f) => Err(f),
-        Ok((query, rest)) => match rest {
-            [] => Ok(query),
-            _ => Err(ParseFault::Syntax),
-        },
+    let (query, rest) = got!(terminated(alloc, tokens));
+    match rest {
+        [] => Ok(query),
+        _ => Err(ParseFault::Syntax),
     }
 }

@@ -25,15 +25,13 @@ fn front(tokens: &[Token]) -> Option<(&Lexeme, &[Token])>
 pub fn keyword(tokens: &[Token], wanted: Keyword) -> Option<&[Token]>
     ensures { MatchOption result ((ts : Tokens) → meanings tokens.now ≢ KeywordToken wanted ∷ ts) (λ x. meanings tokens.now ≡ KeywordToken wanted ∷ meanings x.now) }
 {
-    match front(tokens) {
-        None => None,
-        Some((lexeme, rest)) => {
-            if is_keyword(lexeme, wanted) {
-                Some(rest)
-            } else {
-                None
-            }
-        }
+    let Some((lexeme, rest)) = front(tokens) else {
+        return None;
+    };
+    if is_keyword(lexeme, wanted) {
+        Some(rest)
+    } else {
+        None
     }
 }
 
@@ -51,15 +49,13 @@ fn is_keyword(lexeme: &Lexeme, wanted: Keyword) -> bool
 pub fn symbol(tokens: &[Token], wanted: Symbol) -> Option<&[Token]>
     ensures { MatchOption result ((ts : Tokens) → meanings tokens.now ≢ SymbolToken wanted ∷ ts) (λ x. meanings tokens.now ≡ SymbolToken wanted ∷ meanings x.now) }
 {
-    match front(tokens) {
-        None => None,
-        Some((lexeme, rest)) => {
-            if is_symbol(lexeme, wanted) {
-                Some(rest)
-            } else {
-                None
-            }
-        }
+    let Some((lexeme, rest)) = front(tokens) else {
+        return None;
+    };
+    if is_symbol(lexeme, wanted) {
+        Some(rest)
+    } else {
+        None
     }
 }
 
@@ -161,8 +157,8 @@ fn comparison_of(lexeme: &Lexeme) -> Option<Comparison>
     }
 }
 
-/// A comparison, where one comes first, and what follows it.
-pub fn comparison(tokens: &[Token]) -> Option<(Comparison, &[Token])>
+/// The operator of a comparison, where one comes first, and what follows it.
+pub fn comparison_operator(tokens: &[Token]) -> Option<(Comparison, &[Token])>
     ensures { MatchOption result (Never (One comparison_of) (meanings tokens.now)) (λ x. One comparison_of (x.0) (meanings tokens.now) (meanings x.1.now)) }
 {
     match front(tokens) {
@@ -184,8 +180,8 @@ fn sign_of(lexeme: &Lexeme) -> Option<bool>
     }
 }
 
-/// Whether a sign is a minus, where one comes first, and what follows it.
-pub fn sign(tokens: &[Token]) -> Option<(bool, &[Token])>
+/// Whether a leading sign is a minus, where one comes first, and what follows it.
+pub fn leading_sign(tokens: &[Token]) -> Option<(bool, &[Token])>
     ensures { MatchOption result (Never (One sign_of) (meanings tokens.now)) (λ x. One sign_of (x.0) (meanings tokens.now) (meanings x.1.now)) }
 {
     match front(tokens) {

@@ -17,7 +17,7 @@ mod ranks;
 mod tiles;
 
 pub use frame_values::{first_value, last_value, nth_value};
-pub use laws::{ranks_tell_first_peers, tiles_share_the_rows};
+pub use laws::{ranks_tell_first_peers, ranks_tell_keys_alone, tiles_share_the_rows};
 pub use offsets::{lag, lead};
 pub use ranks::{dense_rank, rank, row_number};
 pub use tiles::ntile;

@@ -1,20 +1,23 @@
--- Plain SELECTs, and queries of them.
-use Rattle.std.proofs.Common.{◌≡◌, ℕ, zero, suc, ◌+◌, ◌<◌, ◌≤◌, Bool, true, false, ◌&&◌, List, [], ◌∷◌, ◌++◌, length, map, drop, drop-cons, get_or, add-one, Option, Some, None, Result, Ok, Err, refl, sym, ap, ◌∙◌, subst, arith}
+-- SELECTs, and queries of them.
+use Rattle.std.proofs.Common.{◌≡◌, ℕ, zero, suc, ◌+◌, ◌<◌, ◌≤◌, Bool, true, false, ◌&&◌, List, [], ◌∷◌, ◌++◌, length, map, drop, drop-cons, get_or, add-one, Result, Ok, Err, refl, sym, ap, ◌∙◌, subst, arith}
 use Rattle.std.specs.List.{list_all}
+use Rattle.std.proofs.lemmas.Bool.Decides.{nat_tests}
 use Rattle.std.proofs.lemmas.List.{append-nil, length-map}
 use Rattle.wvalues.specs.declared.key.SortKey.{SortKey}
 use Rattle.wframe.specs.Peers.{key_at}
 use Rattle.wframe.specs.Places.{places_from}
 use Rattle.wplan.specs.Formula.{Formula}
-use Rattle.wplan.specs.Plans.{GroupingPlan, WindowPlan, CallPlan, SelectPlan, output_plan, select_plan}
+use Rattle.wplan.specs.Plans.{WindowPlan, CallPlan, SelectPlan, output_plan, select_plan}
 use Rattle.wplan.specs.declared.resolved.Selection.{Selection}
 use Rattle.wrows.specs.declared.fault.AnswerFault.{AnswerFault}
 use Rattle.wrows.specs.declared.fault.AnswerFault.TheVariants.{OutOfRange, TooManyRows, NoMemory}
 use Rattle.wrows.specs.Outcomes.{Gives, ◌>>=◌, each}
 use Rattle.wrows.specs.Columns.{Row, beside}
-use Rattle.wrows.specs.Plain.{kept_of, ordered_of, plain_of}
-use Rattle.wplanner.specs.Answers.{answer_of, call_column, is_plain, is_plain_query, left_rows, names_of, select_of, table_answer, width_of}
-use Rattle.wplanner.specs.Windows.{windowed}
+use Rattle.wrows.specs.Plain.{ordered_of}
+use Rattle.wplanner.specs.Answers.{answer_of, call_column, items_of, left_items, names_of, select_of, table_answer, width_of}
+use Rattle.wcalls.specs.Sound.{is_sound_window}
+use Rattle.wplanner.specs.Sound.{is_sound_call, is_sound_query, is_sound_select}
+use Rattle.wcalls.specs.Windows.{windowed}
 use Rattle.wplanner.specs.declared.fault.AskFault.{AskFault}
 use Rattle.wplanner.specs.Asking.{unanswered}
 use Rattle.wplanner.specs.Parts.{TableParts}
@@ -29,33 +32,22 @@ same_at_places f g a (suc n) h = ap (λ x. x ∷ map f (places_from (a + 1) n)) 
 pub beside_nothing : (rows : List Row) → beside rows [] ≡ rows
 beside_nothing rows = same_at_places (λ i. key_at rows i ++ []) (λ i. get_or rows i []) 0 (length rows) (λ j. append-nil (key_at rows j)) ∙ all_places [] rows
 
--- what a plain SELECT answers
-abbrev plain_select : SelectPlan → List Row → Result (List Row) AnswerFault
-plain_select s rows = plain_of s.condition (map (λ o. o.value) s.items) (map (λ k. k.value) s.keys) (map (λ k. k.order) s.keys) s.offset s.limit rows
-
-pub plain_is : (s : SelectPlan) (rows : List Row) → is_plain s ≡ true → select_of s rows ≡ plain_select s rows
-plain_is s rows e = go s.grouping s.windows s.calls e
+-- rows without windows are asked for as they are
+pub no_calls : (s : SelectPlan) (rows : List Row) → length s.windows ≡ 0 → is_sound_select s ≡ true → left_items s rows ≡ items_of s rows
+no_calls s rows none e = go s.windows s.calls none e
   where
-    rest : List Row → Result (List Row) AnswerFault
-    rest left = ordered_of (map (λ o. o.value) s.items) (map (λ k. k.value) s.keys) (map (λ k. k.order) s.keys) s.offset s.limit left
+    go : (ws : List WindowPlan) (cs : List CallPlan) → length ws ≡ 0 → (list_all is_sound_window ws && list_all (is_sound_call (length ws)) cs) ≡ true
+        → ((each (windowed rows) ws >>= λ windows. each (call_column rows windows) cs) >>= λ columns. items_of s (beside rows columns)) ≡ items_of s rows
+    go [] [] h k = ap (items_of s) (beside_nothing rows)
+    go [] (c ∷ cs) h k = let no : c.window < 0 = grind (arith, nat_tests, k) in absurd (omega (arith, no))
+    go (w ∷ ws) cs h k = absurd (omega arith)
 
-    after : (r : Result (List Row) AnswerFault) → (r >>= λ kept. rest (beside kept [])) ≡ (r >>= rest)
-    after (Ok kept) = ap rest (beside_nothing kept)
-    after (Err f) = refl
+-- a query that is sound is one of which each SELECT is so
+pub each_is_sound : (ss : List SelectPlan) → is_sound_query ss ≡ true → list_all is_sound_select ss ≡ true
+each_is_sound [] h = absurd (cc)
+each_is_sound (s ∷ ss) h = h
 
-    go : (g : Option GroupingPlan) (ws : List WindowPlan) (cs : List CallPlan) → is_plain (record s { grouping = g; windows = ws; calls = cs }) ≡ true
-        → (kept_of s.condition rows >>= λ kept. left_rows g kept >>= λ left. each (windowed left) ws >>= λ windows. each (call_column left windows) cs >>= λ columns. rest (beside left columns)) ≡ (kept_of s.condition rows >>= rest)
-    go None [] [] h = after (kept_of s.condition rows)
-    go (Some g) ws cs h = absurd (cc)
-    go None (w ∷ ws) cs h = absurd (cc)
-    go None [] (c ∷ cs) h = absurd (cc)
-
--- a query of plain SELECTs is one of which each is plain
-pub each_is_plain : (ss : List SelectPlan) → is_plain_query ss ≡ true → list_all is_plain ss ≡ true
-each_is_plain [] h = absurd (cc)
-each_is_plain (s ∷ ss) h = h
-
-pub some_select : (ss : List Selection) → is_plain_query (map select_plan ss) ≡ true → 0 < length ss
+pub some_select : (ss : List Selection) → is_sound_query (map select_plan ss) ≡ true → 0 < length ss
 some_select [] h = absurd (cc)
 some_select (s ∷ ss) h = omega arith
 
@@ -77,14 +69,14 @@ names_wide (s ∷ t ∷ ss) width h = names_wide (t ∷ ss) (length s.items) (om
 pub rest_is : (ss : List Selection) (i : ℕ) (s : Selection) → i < length ss → s ≡ get_or ss i s → map select_plan (drop i ss) ≡ select_plan s ∷ map select_plan (drop (i + 1) ss)
 rest_is ss i s h e = ap (map select_plan) (drop-cons ss i s h) ∙ ap (λ x. select_plan x ∷ map select_plan (drop (suc i) ss)) (sym e) ∙ ap (λ k. select_plan s ∷ map select_plan (drop k ss)) (sym (add-one i))
 
-pub plain_at : (ss : List Selection) (i : ℕ) (s : Selection) → i < length ss → s ≡ get_or ss i s → list_all is_plain (map select_plan ss) ≡ true → is_plain (select_plan s) ≡ true
-plain_at [] i s h e all = absurd (omega arith)
-plain_at (x ∷ xs) zero s h e all = ap (λ y. is_plain (select_plan y)) e ∙ first (is_plain (select_plan x)) (list_all is_plain (map select_plan xs)) all
+pub sound_at : (ss : List Selection) (i : ℕ) (s : Selection) → i < length ss → s ≡ get_or ss i s → list_all is_sound_select (map select_plan ss) ≡ true → is_sound_select (select_plan s) ≡ true
+sound_at [] i s h e all = absurd (omega arith)
+sound_at (x ∷ xs) zero s h e all = ap (λ y. is_sound_select (select_plan y)) e ∙ first (is_sound_select (select_plan x)) (list_all is_sound_select (map select_plan xs)) all
   where
     first : (a b : Bool) → (a && b) ≡ true → a ≡ true
     first true b k = refl
     first false b k = k
-plain_at (x ∷ xs) (suc i) s h e all = plain_at xs i s (omega arith) e (second (is_plain (select_plan x)) (list_all is_plain (map select_plan xs)) all)
+sound_at (x ∷ xs) (suc i) s h e all = sound_at xs i s (omega arith) e (second (is_sound_select (select_plan x)) (list_all is_sound_select (map select_plan xs)) all)
   where
     second : (a b : Bool) → (a && b) ≡ true → b ≡ true
     second true b k = k
@@ -119,32 +111,30 @@ finished [] (suc i) h = refl
 finished (s ∷ ss) zero h = absurd (omega arith)
 finished (s ∷ ss) (suc i) h = finished ss i (omega arith)
 
-all_mapped : (ss : List Selection) → list_all (λ s. is_plain (select_plan s)) ss ≡ list_all is_plain (map select_plan ss)
+all_mapped : (ss : List Selection) → list_all (λ s. is_sound_select (select_plan s)) ss ≡ list_all is_sound_select (map select_plan ss)
 all_mapped [] = refl
-all_mapped (s ∷ ss) = ap (λ b. is_plain (select_plan s) && b) (all_mapped ss)
+all_mapped (s ∷ ss) = ap (λ b. is_sound_select (select_plan s) && b) (all_mapped ss)
 
-pub no_query : (ss : List Selection) → length ss ≡ 0 → false ≡ is_plain_query (map select_plan ss)
+pub no_query : (ss : List Selection) → length ss ≡ 0 → false ≡ is_sound_query (map select_plan ss)
 no_query [] h = refl
 no_query (s ∷ ss) h = absurd (omega arith)
 
-pub some_query : (ss : List Selection) → 0 < length ss → list_all (λ s. is_plain (select_plan s)) ss ≡ is_plain_query (map select_plan ss)
+pub some_query : (ss : List Selection) → 0 < length ss → list_all (λ s. is_sound_select (select_plan s)) ss ≡ is_sound_query (map select_plan ss)
 some_query [] h = absurd (omega arith)
 some_query (s ∷ ss) h = all_mapped (s ∷ ss)
 
--- what a SELECT answers, from its parts
-pub plain_answers : (s : Selection) (rows : List Row) (items keys : List Formula) (order : List SortKey) (source : List Row) → is_plain (select_plan s) ≡ true
-    → items ≡ map (λ o. o.value) (select_plan s).items → keys ≡ map (λ k. k.value) (select_plan s).keys → order ≡ map (λ k. k.order) (select_plan s).keys → source ≡ rows
-    → plain_of (select_plan s).condition items keys order s.offset s.limit source ≡ select_of (select_plan s) rows
-plain_answers s rows items keys order source h ei ek eo er =
+-- the items of rows, from the parts of a SELECT
+pub items_from : (s : Selection) (items keys : List Formula) (order : List SortKey) (rows : List Row)
+    → items ≡ map (λ o. o.value) (select_plan s).items → keys ≡ map (λ k. k.value) (select_plan s).keys → order ≡ map (λ k. k.order) (select_plan s).keys
+    → ordered_of items keys order s.offset s.limit rows ≡ items_of (select_plan s) rows
+items_from s items keys order rows ei ek eo =
     let p = select_plan s in
-    ap (λ xs. plain_of p.condition xs keys order s.offset s.limit source) ei
-    ∙ ap (λ xs. plain_of p.condition (map (λ o. o.value) p.items) xs order s.offset s.limit source) ek
-    ∙ ap (λ xs. plain_of p.condition (map (λ o. o.value) p.items) (map (λ k. k.value) p.keys) xs s.offset s.limit source) eo
-    ∙ ap (λ xs. plain_of p.condition (map (λ o. o.value) p.items) (map (λ k. k.value) p.keys) (map (λ k. k.order) p.keys) s.offset s.limit xs) er
-    ∙ sym (plain_is p rows h)
+    ap (λ xs. ordered_of xs keys order s.offset s.limit rows) ei
+    ∙ ap (λ xs. ordered_of (map (λ o. o.value) p.items) xs order s.offset s.limit rows) ek
+    ∙ ap (λ xs. ordered_of (map (λ o. o.value) p.items) (map (λ k. k.value) p.keys) xs s.offset s.limit rows) eo
 
 -- a table has as many names as its rows have values
-pub table_wide : (ss : List Selection) (width long : ℕ) (names : List (List ℕ)) → is_plain_query (map select_plan ss) ≡ true → names ≡ names_of (map select_plan ss) → width ≡ width_of (map select_plan ss) long → width ≡ length names
+pub table_wide : (ss : List Selection) (width long : ℕ) (names : List (List ℕ)) → is_sound_query (map select_plan ss) ≡ true → names ≡ names_of (map select_plan ss) → width ≡ width_of (map select_plan ss) long → width ≡ length names
 table_wide ss width long names h e w = w ∙ sym (names_wide (map select_plan ss) long (omega (arith, length-map ss select_plan, some_select ss h))) ∙ ap length (sym e)
 
 pub table_told : (ss : List SelectPlan) (rows cells : List Row) (names : List (List ℕ)) → answer_of ss rows ≡ Ok cells → names ≡ names_of ss → table_answer ss rows ≡ Ok (record { names = names; rows = cells })

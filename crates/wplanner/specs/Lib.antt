@@ -1,9 +1,6 @@
-pub mod Frames
-pub mod Aggregating
-pub mod Grouping
-pub mod Windows
-pub mod Calls
 pub mod Answers
+pub mod Sound
+pub mod ByWindow
 pub mod Parts
 pub mod Kept
 pub mod Printing

@@ -1,79 +1,45 @@
 //! Answers resolved queries.
-ghost use Rattle.std.specs.Prelude.{◌≡◌, ◌<◌, false, true, Err, IfOk, length, map};
+ghost use Rattle.std.specs.Prelude.{◌≡◌, ◌<◌, true, IfOk, length, map};
 ghost use Rattle.std.specs.List.{list_all};
 ghost use Rattle.std.specs.Rc.{rc_str_bytes};
 ghost use Rattle.wplan.specs.Plans.{plans, select_plan};
 ghost use Rattle.wrows.specs.Outcomes.{Gives};
-ghost use Rattle.wrows.specs.Laid.{rows_in};
-ghost use Rattle.wplanner.specs.Answers.{answer_of, is_plain, is_plain_query, names_of, select_of, table_answer, width_of};
-ghost use Rattle.wplanner.specs.declared.fault.AskFault.TheVariants.{NotYet};
+ghost use Rattle.wrows.specs.Laid.{rows_in, rows_seen};
+ghost use Rattle.wplanner.specs.Answers.{answer_of, names_of, select_of, table_answer, width_of};
+ghost use Rattle.wplanner.specs.Sound.{is_sound_query, is_sound_select};
 ghost use Rattle.wplanner.specs.Tables.{rows_of_set, Tells};
 
 use crate::fault::AskFault;
-use crate::parts::{item_names, item_values, key_orders, key_values};
+use crate::parts::item_names;
+use crate::selecting::select_rows;
 use crate::source::table_rows;
 use crate::table::Table;
 use std::alloc::{AllocError, Global};
 use std::rc::RcStr;
 use wplan::{Resolved, Selection};
-use wrows::{AnswerFault, Cells, lent_rows, plain_rows};
+use wrows::{AnswerFault, Cells, lent_rows};
 use wset::SegmentSet;
+use wvalues::Value;
 
-// Whether a SELECT has no groups, windows and calls.
-fn is_plain(select: &Selection) -> bool
-    ensures { result ≡ is_plain (select_plan select.now) }
-{
-    select.grouping.is_none() && select.windows.is_empty() && select.calls.is_empty()
-}
-
-// Whether all are such SELECTs.
-fn all_are_plain(selects: &[Selection]) -> bool
-    ensures { result ≡ list_all (λ s. is_plain (select_plan s)) selects.now }
-{
-    selects.iter().all(|select| is_plain(select))
-}
-
-// Whether all are such SELECTs, and there is one.
-fn are_plain(selects: &[Selection]) -> bool
-    ensures { result ≡ is_plain_query (map select_plan selects.now) }
-{
-    if selects.is_empty() {
-        return false;
-    }
-    all_are_plain(selects)
-}
-
-// What one SELECT answers.
-fn select_rows(alloc: Global, select: &Selection, source: &Cells) -> Result<Cells, AnswerFault>
-    requires { is_plain (select_plan select.now) ≡ true }
+// What one SELECT answers on the rows of the one before.
+fn select_cells(alloc: Global, select: &Selection, source: &Cells) -> Result<Cells, AnswerFault>
+    requires { is_sound_select (select_plan select.now) ≡ true }
     ensures rows { Gives rows_in result (select_of (select_plan select.now) (rows_in source.now)) }
     ensures width { IfOk result (λ cells. cells.width ≡ length select.now.items.items) }
 {
     let rows = lent_rows(alloc, source)?;
-    let items = item_values(alloc, &select.items)?;
-    let keys = key_values(alloc, &select.keys)?;
-    let order = key_orders(alloc, &select.keys)?;
-    plain_rows(
-        alloc,
-        &select.condition,
-        &items,
-        &keys,
-        &order,
-        select.offset,
-        select.limit,
-        &rows,
-    )
+    select_rows(alloc, select, &rows)
 }
 
 // What the SELECTs answer, each over the rows of the one before.
 fn answered(alloc: Global, selects: &[Selection], source: Cells) -> Result<Cells, AnswerFault>
-    requires { list_all is_plain (map select_plan selects.now) ≡ true }
+    requires { list_all is_sound_select (map select_plan selects.now) ≡ true }
     ensures rows { Gives rows_in result (answer_of (map select_plan selects.now) (rows_in source)) }
     ensures width { IfOk result (λ cells. cells.width ≡ width_of (map select_plan selects.now) source.width) }
 {
     let mut cells = source;
     'selects: for select in selects {
-        match select_rows(alloc, select, &cells) {
+        match select_cells(alloc, select, &cells) {
             Err(fault) => return Err(fault),
             Ok(next) => cells = next,
         }
@@ -91,12 +57,28 @@ fn output_names(alloc: Global, selects: &[Selection]) -> Result<Vec<RcStr>, Allo
     Ok(names)
 }
 
-// The answer of a query without groups and windows on the rows of a table.
-fn plain_answer(alloc: Global, selects: &[Selection], source: Cells) -> Result<Table, AnswerFault>
-    requires { is_plain_query (map select_plan selects.now) ≡ true }
-    ensures { Gives (λ table. table) result (table_answer (map select_plan selects.now) (rows_in source)) }
+// What the SELECTs answer, of which the first is over these rows.
+fn query_rows(alloc: Global, selects: &[Selection], rows: &[&[Value]]) -> Result<Cells, AnswerFault>
+    requires { is_sound_query (map select_plan selects.now) ≡ true }
+    ensures rows { Gives rows_in result (answer_of (map select_plan selects.now) (rows_seen rows.now)) }
+    ensures width { IfOk result (λ cells. cells.width ≡ width_of (map select_plan selects.now) 0) }
 {
-    let cells = match answered(alloc, selects, source) {
+    match select_rows(alloc, &selects[0], rows) {
+        Err(fault) => Err(fault),
+        Ok(cells) => answered(alloc, &selects[1..], cells),
+    }
+}
+
+// The answer of a query on the rows of a table.
+fn query_answer(
+    alloc: Global,
+    selects: &[Selection],
+    rows: &[&[Value]],
+) -> Result<Table, AnswerFault>
+    requires { is_sound_query (map select_plan selects.now) ≡ true }
+    ensures { Gives (λ table. table) result (table_answer (map select_plan selects.now) (rows_seen rows.now)) }
+{
+    let cells = match query_rows(alloc, selects, rows) {
         Err(fault) => return Err(fault),
         Ok(cells) => cells,
     };
@@ -106,20 +88,19 @@ fn plain_answer(alloc: Global, selects: &[Selection], source: Cells) -> Result<T
 
 /// The answer of a query on the rows of the set's live segments, by name and then by place.
 ///
-/// Nothing is skipped: it is `OutOfRange` where a condition, an item or a key is so on any row that it is evaluated
-/// on, whatever is left out, and `TooManyRows` where more than 2,147,483,647 rows are kept. A query with groups,
-/// windows or calls with OVER, in any of its SELECTs, is `NotYet`, as one without a SELECT is. Otherwise it answers
-/// the table, unless memory is refused.
+/// Nothing is skipped: it is `OutOfRange` where a condition, an item, a key, an argument or a filter is so on any row
+/// that it is evaluated on, or a result is, whatever is left out, and `TooManyRows` where more than 2,147,483,647 rows are
+/// kept or groups made. Otherwise it answers the table, unless memory is refused.
+///
+/// The query is to be sound: it has a SELECT, each call is over one of its windows, an offset in RANGE has one key, there
+/// is a tile at least, and places count from 1. So is each one that `resolve` answers, since it breaks no rule.
 pub fn execute(alloc: Global, set: &SegmentSet, query: &Resolved) -> Result<Table, AskFault>
-    ensures answered { is_plain_query (plans query.now) ≡ true → Tells result (table_answer (plans query.now) (rows_of_set set.now)) }
-    ensures not_yet { is_plain_query (plans query.now) ≡ false → result ≡ Err NotYet }
+    requires sound { is_sound_query (plans query.now) ≡ true }
+    ensures answered { Tells result (table_answer (plans query.now) (rows_of_set set.now)) }
 {
     let selects = query.selections.as_slice();
-    if !are_plain(selects) {
-        return Err(AskFault::NotYet);
-    }
     let source = table_rows(alloc, set)?;
-    match plain_answer(alloc, selects, source) {
+    match query_answer(alloc, selects, &source) {
         Err(fault) => Err(AskFault::from(fault)),
         Ok(table) => Ok(table),
     }

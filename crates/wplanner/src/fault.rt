@@ -21,9 +21,6 @@ pub enum AskFault {
     /// Q4: the tokens spell no query.
     #[error("the tokens spell no query")]
     Syntax,
-    /// Q9: a query that is not answered yet.
-    #[error("this query is not answered yet")]
-    NotYet,
     /// Q10 to Q27: the least rule that the query breaks.
     #[error("the query breaks rule {rule}")]
     Broken { rule: u8 },

@@ -1,14 +1,13 @@
 //! The meaning of a query on a table, and its answer.
 //!
-//! - Gives the meaning of every query, its answer as a table for queries without groups and windows, and the text of
-//!   an answer as comma-separated values.
+//! - Gives the meaning of every query, its answer as a table, and the text of an answer as comma-separated values.
 //! - Promises: `execute` answers exactly the rows of the meaning, or the first fault; the text of a table is the lines
 //!   of its names and rows, whatever they hold.
-//! - Asks: nothing. Groups and windows are answered `NotYet`.
-//! - Leaves expressions to `wplan`, and frames, ranks, places and folds to `wframe`, `wplaces` and `wslide`.
+//! - Asks: a query whose windows and calls are sound, as each that breaks no rule is.
+//! - Leaves single rows to `wrows`, groups to `wgroup` and calls with OVER to `wcalls`, which have their meaning too.
 //!
-//! Read `specs/Answers.antt` first, then `specs/Grouping.antt`, `specs/Aggregating.antt`, `specs/Windows.antt`,
-//! `specs/Frames.antt` and `specs/Calls.antt`; `specs/Tables.antt`, `specs/Parts.antt`, `specs/Printing.antt`.
+//! Read `specs/Answers.antt`, `specs/Sound.antt`, `specs/ByWindow.antt`; then `specs/Tables.antt`, `specs/Parts.antt`,
+//! `specs/Printing.antt`.
 #![tactic(auto)]
 
 mod executing;
@@ -16,8 +15,10 @@ mod fault;
 mod field;
 mod parts;
 mod printing;
+mod selecting;
 mod source;
 mod table;
+mod windows;
 
 pub use executing::execute;
 pub use fault::AskFault;

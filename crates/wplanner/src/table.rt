@@ -31,8 +31,8 @@ impl Model for Table {
     ghost invariant = { IsKept };
 }
 
-// The cells of a row, from its first one on.
-fn cells_from(cells: &[Value], start: usize, width: usize) -> &[Value]
+/// The cells of a row, from its first one on.
+pub(crate) fn cells_from(cells: &[Value], start: usize, width: usize) -> &[Value]
     requires { start + width ≤ length cells.now }
     ensures { result.now ≡ take width (drop start cells.now) }
 {

@@ -6,3 +6,4 @@ mod FunctionFacts
 mod Made
 mod Queried
 mod Cases
+mod Grouped

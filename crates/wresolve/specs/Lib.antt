@@ -4,3 +4,4 @@ pub mod Resolving
 pub mod Selecting
 pub mod Shown
 pub mod Outcomes
+pub mod Laws

@@ -13,6 +13,7 @@
 mod arguments;
 mod calls;
 mod functions;
+mod laws;
 mod layout;
 mod making;
 mod query;
@@ -22,5 +23,6 @@ mod selecting;
 mod shown;
 mod windows;
 
+pub use laws::grouped_alike;
 pub use query::resolved;
 pub use resolve_query::{ResolveFault, resolve};

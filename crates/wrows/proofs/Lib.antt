@@ -1,4 +1,10 @@
 pub mod RowFacts
+mod BesideFacts
 pub mod SortFacts
 mod MoreSorting
 mod CodeFacts
+pub mod ChainFacts
+mod KeyFacts
+mod RankFacts
+mod PlaceFacts
+mod SeenFacts

@@ -1,5 +1,5 @@
 -- What expressions come to on all rows (<value expression>, <search condition>). Nothing is skipped: out of range on any row refuses.
-use Rattle.std.specs.Prelude.{ℕ, ◌++◌, Bool, true, List, map, filter, length, Option, Some, None, Result, Ok, nat_lt, slice_index_or, unwrap_or}
+use Rattle.std.specs.Prelude.{ℕ, ◌++◌, Bool, List, map, filter, length, Option, Some, None, Result, Ok, nat_lt, slice_index_or, unwrap_or}
 use Rattle.std.specs.List.{list_any}
 use Rattle.std.specs.Option.{is_none}
 use Rattle.wvalues.specs.Meaning.{Meaning, Null}
@@ -37,10 +37,10 @@ column_of t rows = unless (list_any (is_out_of_range t) rows) OutOfRange (map (v
 abbrev pub lists_of : List Formula → List Row → Result (List (List Meaning)) AnswerFault
 lists_of ts rows = unless (list_any (λ row. list_any (λ t. is_out_of_range t row) ts) rows) OutOfRange (map (λ row. map (λ t. value_on t row) ts) rows)
 
--- whether a condition is true on each row, as it is where there is none
-abbrev pub tests_of : Option Formula → List Row → Result (List Bool) AnswerFault
-tests_of None rows = Ok (map (λ row. true) rows)
-tests_of (Some t) rows = unless (list_any (is_out_of_range t) rows) OutOfRange (map (holds_on t) rows)
+-- whether a filter is true on each row, if there is one
+abbrev pub filter_of : Option Formula → List Row → Result (Option (List Bool)) AnswerFault
+filter_of None rows = Ok None
+filter_of (Some t) rows = unless (list_any (is_out_of_range t) rows) OutOfRange (Some (map (holds_on t) rows))
 
 -- the rows on which a condition is true: all, where there is none
 abbrev pub held_rows : Option Formula → List Row → Result (List Row) AnswerFault

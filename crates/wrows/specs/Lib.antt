@@ -6,3 +6,5 @@ pub mod Laid
 pub mod Plain
 pub mod Codes
 pub mod CodedRows
+pub mod Told
+pub mod Ranks

@@ -1,4 +1,4 @@
--- A SELECT without groups and windows (<query specification>, <order by clause>, <result offset clause>, <fetch first clause>).
+-- Kept rows, and the items of rows in order (<query specification>, <order by clause>, <result offset clause>, <fetch first clause>).
 use Rattle.std.specs.Prelude.{ℕ, List, map, length, take, drop, min, Option, Some, None, Result, Ok}
 use Rattle.std.specs.Ordering.{on}
 use Rattle.wvalues.specs.declared.key.SortKey.{SortKey}
@@ -10,7 +10,7 @@ use Rattle.wplan.specs.Formula.{Formula}
 use Rattle.wrows.specs.declared.fault.AnswerFault.{AnswerFault}
 use Rattle.wrows.specs.Outcomes.{◌>>=◌}
 use Rattle.wrows.specs.Columns.{Row, held_rows, not_too_many, lists_of}
-use Rattle.wrows.specs.Sorting.{sorted}
+use Rattle.wframe.specs.Sorting.{sorted}
 
 -- the numbers of rows by their keys, and then by number
 abbrev pub numbers_by : List SortKey → List (List Meaning) → ℕ → List ℕ
@@ -40,8 +40,3 @@ ordered_of items keys order offset limit rows = do
   told ← lists_of items rows
   by ← lists_of keys rows
   Ok (cut offset limit (ordered order by told))
-
-abbrev pub plain_of : Option Formula → List Formula → List Formula → List SortKey → ℕ → Option ℕ → List Row → Result (List Row) AnswerFault
-plain_of condition items keys order offset limit rows = do
-  kept ← kept_of condition rows
-  ordered_of items keys order offset limit kept

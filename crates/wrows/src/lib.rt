@@ -1,29 +1,34 @@
 //! What expressions come to on all rows, and rows in the order of their keys.
 //!
 //! - Gives the rows that a condition keeps, the values of expressions on each row, the numbers of rows in the order of
-//!   keys, and the answer of a SELECT without groups and windows.
+//!   keys, and the items of rows in that order, cut by OFFSET and LIMIT, also of rows with columns behind their cells.
 //! - Promises: nothing is skipped, so a number that is out of range on any row refuses; ties are settled by number.
-//!   The order of one integer key is found by codes of 32 bits, where its numbers lie close enough.
+//!   Rows are sorted by codes of 32 bits, a key at a time and the last one first: distances of numbers that lie close
+//!   enough, and else ranks among the distinct values.
 //! - Asks: an order for each key.
 //! - Leaves expressions to `wplan`, and groups, windows and whole queries to `wplanner`.
 //!
 //! Read `specs/Outcomes.antt`, `specs/Columns.antt`, `specs/Sorting.antt` and `specs/Plain.antt`, then
-//! `specs/LaidRows.antt` and `specs/Laid.antt`; `specs/Codes.antt` and `specs/CodedRows.antt` say what is sorted.
+//! `specs/LaidRows.antt` and `specs/Laid.antt`; `specs/Codes.antt`, `specs/CodedRows.antt`, `specs/Told.antt` and
+//! `specs/Ranks.antt` say what is sorted.
 #![tactic(auto)]
 
 mod cells;
 mod coded;
 mod codes;
 mod fault;
+mod joined;
 mod lent;
 mod order;
 mod plain;
+mod ranks;
 mod rows;
+mod told;
 mod values;
 
 pub use cells::Cells;
 pub use fault::AnswerFault;
 pub use lent::lent_rows;
-pub use order::sorted_numbers;
-pub use plain::{ordered_items, plain_rows};
+pub use order::{resorted_numbers, sorted_numbers};
+pub use plain::{joined_items, ordered_items};
 pub use rows::{kept_rows, lists};

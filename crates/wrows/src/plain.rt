@@ -1,15 +1,17 @@
-//! A SELECT without groups and windows.
-ghost use Rattle.std.specs.Prelude.{◌≡◌, ◌≤◌, ◌+◌, ◌-◌, IfOk, length, min};
-ghost use Rattle.wplan.specs.Plans.{optional_formula};
+//! The items of rows, in order and cut.
+ghost use Rattle.std.specs.Prelude.{◌≡◌, ◌≤◌, ◌+◌, ◌-◌, ◌*◌, IfOk, length, min};
 ghost use Rattle.wrows.specs.Outcomes.{Gives};
 ghost use Rattle.wrows.specs.Laid.{formulas_seen, rows_in, rows_seen};
-ghost use Rattle.wrows.specs.Plain.{at_most_limit, ordered_of, plain_of};
+ghost use Rattle.wrows.specs.Columns.{beside};
+ghost use Rattle.wrows.specs.LaidRows.{laid};
+ghost use Rattle.wrows.specs.Plain.{at_most_limit, cut, ordered, ordered_of};
 
 use crate::cells::{Cells, gathered};
 use crate::fault::AnswerFault;
+use crate::joined::joined_lists;
 use crate::order::sorted_numbers;
-use crate::rows::{kept_rows, lists};
-use std::alloc::Global;
+use crate::rows::lists;
+use std::alloc::{AllocError, Global};
 use wplan::Expr;
 use wvalues::{SortKey, Value};
 
@@ -45,6 +47,30 @@ fn asked_for(offset: u128, limit: Option<u128>, count: usize) -> (usize, usize)
     (from, limited(limit, count - from))
 }
 
+// Rows in the order of their keys and then by number, cut. `key_cells` has the keys of each row.
+fn in_order(
+    alloc: Global,
+    rows: &Cells,
+    key_cells: &[Value],
+    order: &[SortKey],
+    offset: u128,
+    limit: Option<u128>,
+) -> Result<Cells, AllocError>
+    requires { length key_cells.now ≡ rows.now.count * length order.now }
+    ensures width { IfOk result (λ cells. cells.width ≡ rows.now.width) }
+    ensures rows { IfOk result (λ cells. rows_in cells ≡ cut offset limit (ordered order.now (laid (length order.now) rows.now.count key_cells.now) (rows_in rows.now))) }
+{
+    let numbers = sorted_numbers(alloc, key_cells, order, rows.count)?;
+    let (from, count) = asked_for(offset, limit, rows.count);
+    let taken = &numbers[from..from + count];
+    let cells = gathered(alloc, &rows.cells, rows.width, rows.count, taken)?;
+    Ok(Cells {
+        cells,
+        width: rows.width,
+        count,
+    })
+}
+
 /// The items on all rows, in the order of the keys and then by number, without the first `offset` and of the others
 /// the first `limit`. All items and keys are evaluated on every row, whatever is left out.
 pub fn ordered_items(
@@ -60,34 +86,37 @@ pub fn ordered_items(
     ensures width { IfOk result (λ cells. cells.width ≡ length items.now) }
     ensures rows { Gives rows_in result (ordered_of (formulas_seen items.now) (formulas_seen keys.now) order.now offset limit (rows_seen rows.now)) }
 {
-    let item_cells = lists(alloc, items, rows)?;
-    let key_cells = lists(alloc, keys, rows)?;
-    let numbers = sorted_numbers(alloc, &key_cells, order, rows.len())?;
-    let (from, count) = asked_for(offset, limit, rows.len());
-    let taken = &numbers[from..from + count];
-    let cells = gathered(alloc, &item_cells, items.len(), rows.len(), taken)?;
-    Ok(Cells {
-        cells,
+    let told = Cells {
+        cells: lists(alloc, items, rows)?,
         width: items.len(),
-        count,
-    })
+        count: rows.len(),
+    };
+    let key_cells = lists(alloc, keys, rows)?;
+    let cells = in_order(alloc, &told, &key_cells, order, offset, limit)?;
+    Ok(cells)
 }
 
-/// What a SELECT without groups and windows answers: the rows that its condition keeps, then `ordered_items`.
-pub fn plain_rows(
+/// The same of rows that have the values of some columns behind their cells. One such row lies in memory at a time.
+pub fn joined_items(
     alloc: Global,
-    condition: &Option<Expr>,
     items: &[&Expr],
     keys: &[&Expr],
     order: &[SortKey],
     offset: u128,
     limit: Option<u128>,
     rows: &[&[Value]],
+    columns: &[&[Value]],
 ) -> Result<Cells, AnswerFault>
     requires { length keys.now ≡ length order.now }
     ensures width { IfOk result (λ cells. cells.width ≡ length items.now) }
-    ensures rows { Gives rows_in result (plain_of (optional_formula condition.now) (formulas_seen items.now) (formulas_seen keys.now) order.now offset limit (rows_seen rows.now)) }
+    ensures rows { Gives rows_in result (ordered_of (formulas_seen items.now) (formulas_seen keys.now) order.now offset limit (beside (rows_seen rows.now) (rows_seen columns.now))) }
 {
-    let kept = kept_rows(alloc, condition, rows)?;
-    ordered_items(alloc, items, keys, order, offset, limit, &kept)
+    let told = Cells {
+        cells: joined_lists(alloc, items, rows, columns)?,
+        width: items.len(),
+        count: rows.len(),
+    };
+    let key_cells = joined_lists(alloc, keys, rows, columns)?;
+    let cells = in_order(alloc, &told, &key_cells, order, offset, limit)?;
+    Ok(cells)
 }

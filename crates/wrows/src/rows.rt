@@ -70,8 +70,12 @@ pub fn kept_rows<'a>(
     Ok(held)
 }
 
-// Appends the values of several expressions on a row.
-fn push_values(exprs: &[&Expr], row: &[Value], cells: &mut Vec<Value>) -> Result<(), AnswerFault>
+/// Appends the values of several expressions on a row.
+pub(crate) fn push_values(
+    exprs: &[&Expr],
+    row: &[Value],
+    cells: &mut Vec<Value>,
+) -> Result<(), AnswerFault>
     ensures gives { Gives (λ u. u) result (unless (list_any (λ t. is_out_of_range t (map meaning row.now)) (formulas_seen exprs.now)) OutOfRange tt) }
     ensures added { OnOk result (map meaning cells.new.items ≡ map meaning cells.old.items ++ map (λ t. value_on t (map meaning row.now)) (formulas_seen exprs.now)) }
 {

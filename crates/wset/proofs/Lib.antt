@@ -8,3 +8,4 @@ mod LiveNames
 mod Maps
 mod Sets
 mod Tables
+mod BlockFacts

@@ -1,14 +1,14 @@
 -- The view that rising entries stand for.
-use Rattle.std.proofs.Common.{◌≡◌, ℕ, T, List, refl, sym, ap, ◌∙◌, subst, [], ◌∷◌, length, arith}
-use Rattle.std.specs.FinMap.Entries.{is_sorted-put}
+use Rattle.std.proofs.Common.{◌≡◌, T, List, refl, sym, ap, ◌∙◌, subst, [], ◌∷◌, length, arith, ◌+◌, ◌≤◌, Bool, true, false, cond, is_some}
+use Rattle.std.specs.FinMap.Entries.{is_sorted-put, length-put}
 use Rattle.std.specs.FinMap.{empty, len-entries, len-empty, find, put, is_sorted, entries, insert, get, from_sorted, entries_sorted, same_entries_map, entries-insert, entries-from_sorted, get-from_sorted}
 use Rattle.wvalues.specs.Names.{NameParts, name_cmp, names_total}
 use Rattle.wset.specs.Views.{Known, View, join, join_told, lives, live_of}
 use Rattle.wset.specs.declared.entries.Entry.{Entry}
-use Rattle.wset.specs.Entries.{known_entries, IsRising, places}
+use Rattle.wset.specs.Entries.{known_entries, IsRising}
 use Rattle.wset.specs.Merging.{IsKnownTo, join_lists}
 use Rattle.std.specs.List.{AllByRecursion, filter_map}
-use Rattle.wset.proofs.LiveNames.{live_count}
+use Rattle.wset.proofs.LiveNames.{length-known_entries}
 use Rattle.wset.proofs.Joining.{same_view, get-join}
 use Rattle.wset.proofs.Merging.{entries-join, told_again}
 
@@ -53,9 +53,6 @@ lives-view es v h is = ap (λ w. filter_map live_of (entries w)) (sym is) ∙ ap
 pub entries-is : (es : List Entry) (v : View) → IsRising es → stored_view es ≡ v → entries v ≡ known_entries es
 entries-is es v h is = ap entries (sym is) ∙ entries-view es h
 
-pub live_places : (es : List Entry) (live : List ℕ) (v : View) → IsRising es → live ≡ places 0 (known_entries es) → stored_view es ≡ v → length live ≡ length (lives v)
-live_places es live v h marked is = ap length marked ∙ live_count 0 (known_entries es) ∙ ap length (sym (lives-view es v h is))
-
 -- a view that is told what it knows
 pub view_again : (es fs : List Entry) → IsRising es → IsRising fs → AllByRecursion (IsKnownTo es) fs → stored_view es ≡ join (stored_view es) (stored_view fs)
 view_again es fs h k all = sym (same_view _ _ (λ q.
@@ -64,3 +61,11 @@ view_again es fs h k all = sym (same_view _ _ (λ q.
     ∙ ap (join_told (find name_cmp q (known_entries es))) (get-view fs q k)
     ∙ told_again es fs q all
     ∙ sym (get-view es q h)))
+
+-- what is put is one entry more, or none
+pub put_sized : (es fs : List Entry) (n : NameParts) (k : Known) → IsRising es → known_entries fs ≡ put name_cmp n k (known_entries es) → (length es ≤ length fs) × (length fs ≤ length es + 1)
+put_sized es fs n k h is = by (is_some (find name_cmp n (known_entries es))) (sym (length-known_entries fs) ∙ ap length is ∙ length-put name_cmp names_total n k (known_entries es) h)
+  where
+    by : (b : Bool) → length fs ≡ cond b (length (known_entries es)) (length (known_entries es) + 1) → (length es ≤ length fs) × (length fs ≤ length es + 1)
+    by true e = (omega (arith, e, length-known_entries es), omega (arith, e, length-known_entries es))
+    by false e = (omega (arith, e, length-known_entries es), omega (arith, e, length-known_entries es))

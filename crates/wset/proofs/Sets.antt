@@ -1,10 +1,9 @@
 -- A set whose view is changed, by what it keeps.
-use Rattle.std.proofs.Common.{◌≡◌, ℕ, List, Option, None, Some, IfSome, IsOk, refl, sym, ap, subst}
+use Rattle.std.proofs.Common.{◌≡◌, List, Option, None, Some, IfSome, ap, subst}
 use Rattle.std.specs.Borrow.{Bor}
 use Rattle.wsegment.specs.Declaration.{Declaration}
 use Rattle.wset.specs.Views.{View}
-use Rattle.wsegment.specs.Rows.{Content, rows_of}
-use Rattle.wset.specs.Sets.{DeclaredView, IsReadBy}
+use Rattle.wset.specs.Sets.{DeclaredView}
 use Rattle.wset.specs.Holding.{IsHeldBy}
 use Rattle.wset.specs.Entries.{AllHeldBy}
 use Rattle.wset.specs.declared.entries.Entry.{Entry}
@@ -22,7 +21,3 @@ same_view s v w e = ap (λ (x : View). record { schema = s.schema; view = x }) e
 pub held_read : (d : Declaration) (es : List Entry) (o : Option (Bor Held)) → IfSome o (λ held. (d : Declaration) → AllHeldBy d es → IsHeldBy d held.now) → AllHeldBy d es → IfSome o (λ held. IsHeldBy d held.now)
 held_read d es None h all = tt
 held_read d es (Some held) h all = h d all
-
--- bytes that are held were read by the declaration
-pub bytes_read : (d : Declaration) (content : Content) (bytes : List ℕ) → IsReadBy d content → content.bytes ≡ bytes → IsOk (rows_of d bytes)
-bytes_read d content bytes h same = subst (λ bs. IsOk (rows_of d bs)) same (subst IsOk (sym h.rows) refl)

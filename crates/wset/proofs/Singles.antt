@@ -1,5 +1,5 @@
 -- Joining what one item tells.
-use Rattle.std.proofs.Common.{◌≡◌, ℕ, Bool, true, false, cond, List, [], ◌∷◌, Option, None, Some, refl, sym, ap, subst, ◌∙◌, true≢false}
+use Rattle.std.proofs.Common.{◌≡◌, ℕ, Bool, true, false, cond, List, [], ◌∷◌, Option, None, Some, refl, sym, ap, ◌∙◌, true≢false}
 use Rattle.std.specs.Ordering.{eq_by_cmp}
 use Rattle.std.specs.FinMap.{get, insert, empty, get-insert, get-empty}
 use Rattle.wvalues.specs.Names.{NameParts, name_cmp, names_total}
@@ -99,14 +99,3 @@ other_content v n a b r known other was = by (same_bytes a b) refl
     by : (t : Bool) → same_bytes a b ≡ t → same_bytes a b ≡ false
     by false e = e
     by true e = absurd (true≢false (sym (known.1 (was ∙ ap (λ (bytes : List ℕ). Some (Live bytes)) (same_bytes-true a b e))) ∙ other))
-
--- whether a name is live with a content: it is not live, or it is with one that was compared
-pub not_live : (v : View) (n : NameParts) (o : Option Known) (b : List ℕ) → get v n ≡ o → (o ≡ Some (Live b) → ⊥) → (false ≡ true → get v n ≡ Some (Live b)) × (get v n ≡ Some (Live b) → false ≡ true)
-not_live v n o b is other = (λ e. absurd (true≢false (sym e)), λ e. absurd (other (sym is ∙ e)))
-
-pub tested_live : (v : View) (n : NameParts) (a b : List ℕ) (r : Bool) → get v n ≡ Some (Live a) → r ≡ same_bytes a b → (r ≡ true → get v n ≡ Some (Live b)) × (get v n ≡ Some (Live b) → r ≡ true)
-tested_live v n a b r is tested =
-    (λ e. is ∙ ap (λ (bytes : List ℕ). Some (Live bytes)) (same_bytes-true a b (sym tested ∙ e)), λ e. tested ∙ same (sym is ∙ e))
-  where
-    same : Some (Live a) ≡ Some (Live b) → same_bytes a b ≡ true
-    same e = let f : a ≡ b = cc in subst (λ bytes. same_bytes a bytes ≡ true) f (same_bytes-refl a)

@@ -8,6 +8,8 @@ pub mod Listing
 pub mod Codes
 pub mod Holding
 pub mod Entries
+pub mod Blocks
+pub mod Marking
 pub mod Merging
 pub mod Storing
 pub mod Lending

@@ -1,17 +1,18 @@
 -- How a set is kept.
-use Rattle.std.specs.Prelude.{◌≡◌, ◌≤◌, length, vec_capacity}
+use Rattle.std.specs.Prelude.{◌≡◌, ◌<◌, ◌^◌, length}
 use Rattle.std.specs.FinMap.{from_sorted}
 use Rattle.wset.specs.Sets.{DeclaredView}
-use Rattle.wset.specs.Entries.{AllHeldBy, IsRising, known_entries, places}
+use Rattle.wset.specs.Entries.{AllHeldBy, IsRising, known_entries}
+use Rattle.wset.specs.Blocks.{flat}
 use Rattle.wset.specs.declared.set.SegmentSet.TheInside.{Inside}
 
 -- the view of the entries, under the declaration
 abbrev pub declared_view : Inside → DeclaredView
-declared_view s = record { schema = s.schema; view = from_sorted (known_entries s.entries.items) }
+declared_view s = record { schema = s.schema; view = from_sorted (known_entries (flat s.blocks.items)) }
 
--- the names rise, there is room for a place each, and each segment was read by the declaration
+-- the names rise, they are counted by a number of 64 bits, and each segment was read by the declaration
 pub record IsOrderly (s : Inside) : Type 0 where
-  pub rising : IsRising s.entries.items
-  pub marked : s.live.items ≡ places 0 (known_entries s.entries.items)
-  pub room : length s.entries.items ≤ vec_capacity s.live
-  pub read : AllHeldBy s.schema s.entries.items
+  pub rising : IsRising (flat s.blocks.items)
+  pub counted : s.count ≡ length (flat s.blocks.items)
+  pub few : s.count < 2 ^ 64
+  pub read : AllHeldBy s.schema (flat s.blocks.items)

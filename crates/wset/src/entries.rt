@@ -1,5 +1,5 @@
 //! Entries in the order of their names, and the places of the live ones among them.
-ghost use Rattle.std.specs.Prelude.{◌≡◌, ◌+◌, ◌*◌, ◌^◌, ◌<◌, ◌≤◌, length, map, option_map, slice_get, take, Some, vec_capacity, IfSome, IfOk, IfErr, OnOk, OnErr};
+ghost use Rattle.std.specs.Prelude.{◌≡◌, ◌+◌, ◌*◌, ◌^◌, ◌<◌, ◌≤◌, ◌++◌, length, map, option_map, slice_get, take, Some, vec_capacity, IfSome, IfOk, IfErr, OnOk, OnErr};
 ghost use Rattle.std.specs.List.{filter_map, insert, sum_by};
 ghost use Rattle.std.specs.Option.{option_copied};
 ghost use Rattle.std.specs.FinMap.{find, put};
@@ -7,18 +7,17 @@ ghost use Rattle.wsegment.specs.Declaration.{Declaration};
 ghost use Rattle.wvalues.specs.Names.{name_cmp};
 ghost use Rattle.wset.specs.Views.{join_known, live_of};
 ghost use Rattle.wset.specs.Holding.{IsHeldBy, known_of, row_count_of};
-ghost use Rattle.wset.specs.Lending.{IsLentBy, told_of};
 ghost use Rattle.wset.specs.Sets.{IsReadBy};
 ghost use Rattle.wset.specs.Entries.{AllHeldBy, IsGap, IsPlace, IsRising, known_entries, known_entry, listing_of, places};
 
 use crate::held::Held;
-use crate::known::Known;
 use crate::words::Listed;
-use std::alloc::{AllocError, Global};
+use std::alloc::AllocError;
 use wsegment::Segment;
 use wvalues::Name;
 
-/// A name that is not unknown, and what is held of it. It is small: an insert moves those behind it.
+/// A name that is not unknown, and what is held of it. It is small: an insert moves those behind it in
+/// their block.
 #[derive(Drop)]
 pub(crate) struct Entry {
     pub(crate) name: Name,
@@ -50,6 +49,17 @@ impl Entry {
             held,
         })
     }
+}
+
+/// Puts the same entries behind others.
+pub(crate) fn share_entries(all: &mut Vec<Entry>, entries: &[Entry]) -> Result<(), AllocError>
+    ensures { OnOk result (all.new.items ≡ all.old.items ++ entries.now) }
+{
+    'entries: for entry in entries {
+        let shared = entry.share()?;
+        all.push(shared)?;
+    }
+    Ok(())
 }
 
 /// Where a name is, or else where it would go.
@@ -172,21 +182,10 @@ pub(crate) fn live_entry<'a>(entries: &'a [Entry], live: &[usize], i: usize) -> 
     }
 }
 
-/// The name at a place, and what is known of it.
-pub(crate) fn entry_at(entries: &[Entry], i: usize) -> (Name, Known<'_>)
-    requires { i < length entries.now }
-    ensures known { slice_get (known_entries entries.now) i ≡ Some (result.0, told_of result.1) }
-    ensures read { (d : Declaration) → AllHeldBy d entries.now → IsLentBy d result.1 }
+/// Puts each entry's name, status and number of rows behind others.
+pub(crate) fn list_entries(all: &mut Vec<Listed>, entries: &[Entry]) -> Result<(), AllocError>
+    ensures { OnOk result (all.new.items ≡ all.old.items ++ map listing_of entries.now) }
 {
-    let entry = &entries[i];
-    (entry.name, entry.held.lent())
-}
-
-/// Each entry's name, status and number of rows.
-pub(crate) fn listing(alloc: Global, entries: &[Entry]) -> Result<Vec<Listed>, AllocError>
-    ensures { IfOk result (λ all. all.items ≡ map listing_of entries.now) }
-{
-    let mut all = Vec::new(alloc);
     'entries: for entry in entries {
         all.push(Listed {
             name: entry.name,
@@ -194,12 +193,13 @@ pub(crate) fn listing(alloc: Global, entries: &[Entry]) -> Result<Vec<Listed>, A
             rows: entry.held.rows(),
         })?;
     }
-    Ok(all)
+    Ok(())
 }
 
-/// The number of rows of all live segments. Fewer than 2^64 entries have fewer than 2^64 rows each.
+/// The number of rows of all live segments.
 pub(crate) fn rows_of_all(entries: &[Entry]) -> u128
-    ensures { result ≡ sum_by (λ entry. row_count_of entry.held) entries.now }
+    ensures sum { result ≡ sum_by (λ entry. row_count_of entry.held) entries.now }
+    ensures few { result ≤ length entries.now * 2 ^ 64 }
 {
     let mut total = 0u128;
     'entries: for entry in entries {

@@ -13,6 +13,7 @@
 //! say how a set is kept.
 #![tactic(auto)]
 
+mod blocks;
 mod entries;
 mod held;
 mod kept;

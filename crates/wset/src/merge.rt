@@ -3,9 +3,11 @@ ghost use Rattle.std.specs.Prelude.{◌≡◌, ◌<◌, [], false, length, IfOk,
 ghost use Rattle.std.specs.List.{AllByRecursion};
 ghost use Rattle.wsegment.specs.Declaration.{Declaration};
 ghost use Rattle.wset.specs.Entries.{AllHeldBy, IsRising, known_entries};
+ghost use Rattle.wset.specs.Blocks.{flat};
 ghost use Rattle.wset.specs.Merging.{IsKnownTo, Joins, join_lists};
 
-use crate::entries::{Entry, held_of};
+use crate::blocks::{Block, held_in, shared};
+use crate::entries::Entry;
 use std::alloc::{AllocError, Global};
 use std::cmp::Ordering;
 
@@ -76,20 +78,20 @@ fn first_joined<'a>(ours: &'a [Entry], theirs: &'a [Entry]) -> Result<Option<Ste
 }
 
 /// Whether an entry adds to what is known of its name.
-fn adds(ours: &[Entry], entry: &Entry) -> bool
-    requires { IsRising ours.now }
-    ensures { result ≡ false → IsKnownTo ours.now entry.now }
+fn adds(ours: &[Block], entry: &Entry) -> bool
+    requires { IsRising (flat ours.now) }
+    ensures { result ≡ false → IsKnownTo (flat ours.now) entry.now }
 {
-    match held_of(ours, &entry.name) {
+    match held_in(ours, &entry.name) {
         None => true,
         Some(held) => held.learns(&entry.held),
     }
 }
 
-/// Whether theirs add to what ours tell.
-pub(crate) fn teaches(ours: &[Entry], theirs: &[Entry]) -> bool
-    requires { IsRising ours.now }
-    ensures { result ≡ false → AllByRecursion (IsKnownTo ours.now) theirs.now }
+/// Whether some of these add to what ours tell.
+fn some_add(ours: &[Block], theirs: &[Entry]) -> bool
+    requires { IsRising (flat ours.now) }
+    ensures { result ≡ false → AllByRecursion (IsKnownTo (flat ours.now)) theirs.now }
 {
     'theirs: for entry in theirs {
         if adds(ours, entry) {
@@ -99,12 +101,21 @@ pub(crate) fn teaches(ours: &[Entry], theirs: &[Entry]) -> bool
     false
 }
 
-/// The entries of the join of two sets. Segments are shared, and none is read again.
-pub(crate) fn merged(
-    alloc: Global,
-    ours: &[Entry],
-    theirs: &[Entry],
-) -> Result<Vec<Entry>, AllocError>
+/// Whether theirs add to what ours tell.
+pub(crate) fn teaches(ours: &[Block], theirs: &[Block]) -> bool
+    requires { IsRising (flat ours.now) }
+    ensures { result ≡ false → AllByRecursion (IsKnownTo (flat ours.now)) (flat theirs.now) }
+{
+    'theirs: for block in theirs {
+        if some_add(ours, block.entries()) {
+            return true;
+        }
+    }
+    false
+}
+
+/// The join of two lists of entries. Segments are shared, and none is read again.
+fn merged(alloc: Global, ours: &[Entry], theirs: &[Entry]) -> Result<Vec<Entry>, AllocError>
     requires ours { IsRising ours.now }
     requires theirs { IsRising theirs.now }
     ensures known { IfOk result
@@ -122,5 +133,26 @@ pub(crate) fn merged(
         ours = step.ours;
         theirs = step.theirs;
     }
+    Ok(all)
+}
+
+/// The entries of the join of two sets.
+pub(crate) fn joined(
+    alloc: Global,
+    ours: &[Block],
+    theirs: &[Block],
+) -> Result<Vec<Entry>, AllocError>
+    requires ours { IsRising (flat ours.now) }
+    requires theirs { IsRising (flat theirs.now) }
+    ensures known { IfOk result
+        (λ all. known_entries all.items
+        ≡ join_lists (known_entries (flat ours.now)) (known_entries (flat theirs.now))) }
+    ensures read { IfOk result
+        (λ all. (d : Declaration)
+        → AllHeldBy d (flat ours.now) → AllHeldBy d (flat theirs.now) → AllHeldBy d all.items) }
+{
+    let ours = shared(alloc, ours)?;
+    let theirs = shared(alloc, theirs)?;
+    let all = merged(alloc, &ours, &theirs)?;
     Ok(all)
 }

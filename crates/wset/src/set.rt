@@ -1,5 +1,5 @@
 //! A set of segments and retirements under one declaration.
-ghost use Rattle.std.specs.Prelude.{◌≡◌, ◌≢◌, ◌↔◌, ◌<◌, IsTrue, IfSome, length, map as list_map, option_map, slice_get, Some, Err, IsOk, IfOk, IfErr, OnOk, OnErr};
+ghost use Rattle.std.specs.Prelude.{◌≡◌, ◌≢◌, ◌↔◌, ◌<◌, IsTrue, IfSome, is_some, length, map as list_map, option_map, slice_get, Some, Err, IsOk, IfOk, IfErr, OnOk, OnErr};
 ghost use Rattle.std.specs.FinMap as map;
 ghost use Rattle.std.specs.Option.{option_copied};
 ghost use Rattle.wsegment.specs.Outcome.{Fails};
@@ -13,11 +13,14 @@ ghost use Rattle.wset.specs.Sets.{IsReadBy, LivesAreRead};
 ghost use Rattle.wset.specs.Lending.{IsLentBy, only_disputed, told_of};
 ghost use Rattle.wset.specs.Holding.{IsHeldBy, known_of};
 
-use crate::entries::{Entry, entry_at, held_of, listing, live_entry, mark, put_entry, rows_of_all};
+use crate::blocks::{
+    Block, count_after, held_in, in_blocks, listing, live_count_in, live_in, name_in, put_in,
+    rows_in,
+};
 use crate::held::Held;
 use crate::kept::Kept;
 use crate::known::Known;
-use crate::merge::{merged, teaches};
+use crate::merge::{joined, teaches};
 use crate::words::{JoinError, Listed, Retired, Status, TakeError, Taken};
 use std::alloc::{AllocError, Global};
 use std::marker::Model;
@@ -27,14 +30,16 @@ use wvalues::Name;
 /// What is known of each name, and the declaration by which all its segments were read.
 ///
 /// In a contract it is the declaration and the view. It keeps an entry for each name that is not
-/// unknown, in the order of names, beside the places of the live ones. A segment's bytes and cells are
-/// shared by all sets that know it, so a set that is new and then joins another is a cheap copy of it.
+/// unknown, in the order of names and in blocks of at most 512, each beside the places of its live ones;
+/// only a join makes a longer block, which is cut in two as its names are put. A segment's bytes and
+/// cells are shared by all sets that know it, so a set that is new and then joins another is a cheap copy
+/// of it.
 #[derive(Drop)]
 pub struct SegmentSet {
     alloc: Global,
     schema: Schema,
-    entries: Vec<Entry>,
-    live: Vec<usize>,
+    blocks: Vec<Block>,
+    count: usize,
 }
 
 impl Model for SegmentSet {
@@ -52,6 +57,17 @@ impl Model for SegmentSet {
     ghost invariant = { IsOrderly };
 }
 
+/// A segment, if these are its bytes.
+fn with_bytes<'a>(kept: &'a Kept, bytes: &[u8]) -> Option<&'a Kept>
+    ensures known { IsTrue (is_some result) ↔ (kept.now.bytes ≡ bytes.now) }
+    ensures same { IfSome result (λ same. same.now ≡ kept.now) }
+{
+    if kept.bytes() == bytes {
+        return Some(kept);
+    }
+    None
+}
+
 impl SegmentSet {
     /// A set that knows nothing, for segments of this declaration. It takes no memory.
     pub fn new(alloc: Global, schema: Schema) -> SegmentSet
@@ -60,8 +76,8 @@ impl SegmentSet {
         SegmentSet {
             alloc,
             schema,
-            entries: Vec::new(alloc),
-            live: Vec::new(alloc),
+            blocks: Vec::new(alloc),
+            count: 0,
         }
     }
 
@@ -78,19 +94,20 @@ impl SegmentSet {
         ensures known { option_map known_of (option_copied result) ≡ map.get self.now.view name.now }
         ensures read { IfSome result (λ held. IsHeldBy self.now.schema held.now) }
     {
-        held_of(&self.entries, name)
+        held_in(&self.blocks, name)
     }
 
-    /// Whether a name is live with these bytes.
-    fn is_known(&self, name: &Name, bytes: &[u8]) -> bool
-        ensures known { IsTrue result ↔ (map.get self.now.view name.now ≡ Some (Live bytes.now)) }
-        ensures read { IsTrue result → IsOk (rows_of self.now.schema bytes.now) }
+    /// The segment of a name that is live with these bytes.
+    fn known_segment(&self, name: &Name, bytes: &[u8]) -> Option<&Kept>
+        ensures known { IsTrue (is_some result) ↔ (map.get self.now.view name.now ≡ Some (Live bytes.now)) }
+        ensures bytes { IfSome result (λ kept. kept.now.bytes ≡ bytes.now) }
+        ensures read { IfSome result (λ kept. IsReadBy self.now.schema kept.now) }
     {
         match self.held(name) {
-            None => false,
-            Some(Held::Live(known)) => known.bytes() == bytes,
-            Some(Held::Disputed) => false,
-            Some(Held::Retired) => false,
+            Some(Held::Live(known)) => with_bytes(known, bytes),
+            Some(Held::Disputed) => None,
+            Some(Held::Retired) => None,
+            None => None,
         }
     }
 
@@ -101,20 +118,35 @@ impl SegmentSet {
             (self.new ≡ record self.old { view = map.insert self.old.view name (known_of held) }) }
         ensures err { OnErr result (self.new ≡ self.old) }
     {
-        put_entry(&mut self.entries, &mut self.live, name, held)?;
+        let count = count_after(&self.blocks, self.count, &name)?;
+        put_in(self.alloc, &mut self.blocks, name, held)?;
+        self.count = count;
         Ok(())
     }
 
-    /// Makes a name live with the first segment that is known of it.
-    fn put_live(&mut self, name: Name, segment: Segment) -> Result<(), AllocError>
-        requires { IsReadBy self.old.schema segment }
-        ensures ok { OnOk result
-            (self.new ≡ record self.old { view = map.insert self.old.view name (Live segment.bytes) }) }
+    /// Takes bytes under this name that were read before.
+    fn take_read(&mut self, name: Name, kept: Kept) -> Result<Taken, AllocError>
+        requires { IsReadBy self.old.schema kept }
+        ensures word { IfOk result (λ word. word ≡ taken_word (map.get self.old.view name) kept.bytes) }
+        ensures ok { let item = view_of_item (SegmentItem name kept.bytes) in
+            OnOk result (self.new ≡ record self.old { view = join self.old.view item }) }
         ensures err { OnErr result (self.new ≡ self.old) }
     {
-        let kept = Kept::new(self.alloc, segment)?;
-        self.put(name, Held::Live(kept))?;
-        Ok(())
+        if self.known_segment(&name, kept.bytes()).is_some() {
+            return Ok(Taken::Same);
+        }
+        match self.held(&name) {
+            None => {
+                self.put(name, Held::Live(kept))?;
+                Ok(Taken::New)
+            }
+            Some(Held::Live(_)) => {
+                self.put(name, Held::Disputed)?;
+                Ok(Taken::Disputed)
+            }
+            Some(Held::Disputed) => Ok(Taken::Ignored),
+            Some(Held::Retired) => Ok(Taken::Ignored),
+        }
     }
 
     /// Takes a segment: these bytes under this name. The bytes are read first, whatever is known of the
@@ -128,22 +160,38 @@ impl SegmentSet {
         ensures refused { IfErr result (λ fault. Fails fault (rows_of self.old.schema bytes.now)) }
         ensures err { OnErr result (self.new ≡ self.old) }
     {
-        if self.is_known(&name, bytes) {
+        if self.known_segment(&name, bytes).is_some() {
             return Ok(Taken::Same);
         }
         let segment = Segment::read(self.alloc, &self.schema, bytes)?;
-        match self.held(&name) {
-            None => {
-                self.put_live(name, segment)?;
-                Ok(Taken::New)
-            }
-            Some(Held::Live(_)) => {
-                self.put(name, Held::Disputed)?;
-                Ok(Taken::Disputed)
-            }
-            Some(Held::Disputed) => Ok(Taken::Ignored),
-            Some(Held::Retired) => Ok(Taken::Ignored),
-        }
+        let kept = Kept::new(self.alloc, segment)?;
+        let taken = self.take_read(name, kept)?;
+        Ok(taken)
+    }
+
+    /// Takes a segment beside another set of the same declaration, which does not change: what `take`
+    /// does, but where the other has the name live with these bytes its segment is shared, and no byte
+    /// is read again.
+    pub fn take_beside(
+        &mut self,
+        name: Name,
+        bytes: &[u8],
+        known: &SegmentSet,
+    ) -> Result<Taken, TakeError>
+        requires { self.old.schema ≡ known.now.schema }
+        ensures word { IfOk result (λ word. word ≡ taken_word (map.get self.old.view name) bytes.now) }
+        ensures ok { let item = view_of_item (SegmentItem name bytes.now) in
+            OnOk result (self.new ≡ record self.old { view = join self.old.view item }) }
+        ensures read { OnOk result (IsOk (rows_of self.old.schema bytes.now)) }
+        ensures refused { IfErr result (λ fault. Fails fault (rows_of self.old.schema bytes.now)) }
+        ensures err { OnErr result (self.new ≡ self.old) }
+    {
+        let Some(kept) = known.known_segment(&name, bytes) else {
+            return self.take(name, bytes);
+        };
+        let shared = kept.share()?;
+        let taken = self.take_read(name, shared)?;
+        Ok(taken)
     }
 
     /// Retires a name. Where memory runs out the set is as it was.
@@ -179,8 +227,9 @@ impl SegmentSet {
     /// where memory runs out, the set is as it was.
     ///
     /// A join that teaches nothing looks each of the other's names up and makes no list. Any other walks
-    /// the names of both sets once, whatever the segments' sizes: it makes a new list of entries, some 64 bytes a name that either knows, and one of places, 8 bytes a name, and lets
-    /// the old ones go. Segments are shared: none is read, and no byte or cell is copied.
+    /// the names of both sets once, whatever the segments' sizes: it makes a list of the entries of each
+    /// set and one of both, some 64 bytes a name each, and keeps the last as one block. Segments are
+    /// shared: none is read, and no byte or cell is copied.
     pub fn join(&mut self, other: &SegmentSet) -> Result<(), JoinError>
         ensures ok { OnOk result (self.new ≡ record self.old { view = join self.old.view other.now.view }) }
         ensures same { OnOk result (self.old.schema ≡ other.now.schema) }
@@ -191,18 +240,18 @@ impl SegmentSet {
         if !self.schema.is_same(&other.schema) {
             return Err(JoinError::OtherSchema);
         }
-        if !teaches(&self.entries, &other.entries) {
+        if !teaches(&self.blocks, &other.blocks) {
             return Ok(());
         }
-        let Ok(entries) = merged(self.alloc, &self.entries, &other.entries) else {
+        let Ok(entries) = joined(self.alloc, &self.blocks, &other.blocks) else {
             return Err(JoinError::NoMemory);
         };
-        let Ok(mut live) = Vec::with_capacity(self.alloc, entries.len()) else {
+        let count = entries.len();
+        let Ok(blocks) = in_blocks(self.alloc, entries) else {
             return Err(JoinError::NoMemory);
         };
-        mark(&mut live, &entries, 0);
-        self.entries = entries;
-        self.live = live;
+        self.blocks = blocks;
+        self.count = count;
         Ok(())
     }
 
@@ -221,7 +270,7 @@ impl SegmentSet {
         ensures { IfOk result
             (λ all. all.items ≡ list_map (listed self.now.schema) (map.entries self.now.view)) }
     {
-        let all = listing(self.alloc, &self.entries)?;
+        let all = listing(self.alloc, &self.blocks)?;
         Ok(all)
     }
 
@@ -229,34 +278,34 @@ impl SegmentSet {
     pub fn name_count(&self) -> usize
         ensures { result ≡ length (map.entries self.now.view) }
     {
-        self.entries.as_slice().len()
+        self.count
     }
 
     /// The i-th name from 0 that is not unknown, in the order of names, and what is known of it. It
-    /// takes constant time and no memory.
+    /// takes no memory, and a step for each block before it.
     pub fn name_at(&self, i: usize) -> (Name, Known<'_>)
         requires { i < length (map.entries self.now.view) }
         ensures known { slice_get (map.entries self.now.view) i ≡ Some (result.0, told_of result.1) }
         ensures read { IsLentBy self.now.schema result.1 }
     {
-        entry_at(&self.entries, i)
+        name_in(&self.blocks, i)
     }
 
     /// How many names are live.
     pub fn live_count(&self) -> usize
         ensures { result ≡ length (lives self.now.view) }
     {
-        self.live.as_slice().len()
+        live_count_in(&self.blocks)
     }
 
     /// The i-th live name from 0, in the order of names, and its segment, which was read by the set's
-    /// declaration. It takes constant time.
+    /// declaration. It takes a step for each block before it.
     pub fn live_at(&self, i: usize) -> (Name, &Segment)
         requires { i < length (lives self.now.view) }
         ensures known { slice_get (lives self.now.view) i ≡ Some (result.0, result.1.now.bytes) }
         ensures read { IsReadBy self.now.schema result.1.now }
     {
-        live_entry(&self.entries, &self.live, i)
+        live_in(&self.blocks, i)
     }
 
     /// The number of rows of the table: those of all live segments. It fits whatever the set holds,
@@ -264,6 +313,6 @@ impl SegmentSet {
     pub fn row_count(&self) -> u128
         ensures { result ≡ length (table_of self.now.schema self.now.view) }
     {
-        rows_of_all(&self.entries)
+        rows_in(&self.blocks)
     }
 }

@@ -19,7 +19,7 @@ own false v h = absurd (cc)
 differ : {P : Type 0} (b : Bool) → b ≡ false → b ≡ true → P
 differ b e f = absurd (cc)
 
-module _ {order : Meaning → Meaning → Ordering} (total : IsTotalOrder order) (values : List Meaning) (filter : List Bool) where
+module _ {order : Meaning → Meaning → Ordering} (total : IsTotalOrder order) (values : List Meaning) (filter : Option (List Bool)) where
   -- a row that feeds a value feeds its own
   fed_own : (row : ℕ) → is_value (fed values filter row) ≡ true → fed values filter row ≡ value_at values row
   fed_own row h = own (passes filter row) (value_at values row) h

@@ -7,3 +7,6 @@ pub mod Levels
 pub mod Heights
 pub mod Climbs
 pub mod Spans
+pub mod Picked
+pub mod Around
+pub mod InRange

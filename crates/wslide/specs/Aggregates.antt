@@ -1,18 +1,20 @@
 -- What the aggregates of a list of rows are (ISO/IEC 9075-2, <aggregate function>, <filter clause>).
-use Rattle.std.specs.Prelude.{◌≡◌, ℕ, ℤ, pos, ◌+ℤ◌, Bool, true, false, List, [], ◌∷◌, ◌++◌, Option, Some, None, slice_index_or, if◌then◌else◌, All}
-use Rattle.std.specs.List.{count_by}
+use Rattle.std.specs.Prelude.{◌≡◌, ℕ, ℤ, pos, ◌+ℤ◌, Bool, true, false, List, [], ◌∷◌, ◌++◌, map, Option, Some, None, slice_index_or, if◌then◌else◌, All}
+use Rattle.std.specs.Borrow.{Bor}
+use Rattle.std.specs.List.{count_by, list_any}
 use Rattle.std.specs.Ordering.{is_lt, is_gt}
 use Rattle.std.specs.declared.cmp.Ordering.{Ordering}
 use Rattle.wvalues.specs.Meaning.{Meaning, Null, Int, Text}
 use Rattle.wvalues.specs.Order.{key_cmp}
 use Rattle.wvalues.specs.Whole.{IsWhole}
 
--- whether a row's filter is true
-abbrev pub passes : List Bool → ℕ → Bool
-passes filter row = slice_index_or filter row false
+-- whether a row's filter is true, or there is none
+abbrev pub passes : Option (List Bool) → ℕ → Bool
+passes None row = true
+passes (Some tests) row = slice_index_or tests row false
 
--- what a row feeds an aggregate: its value where its filter is true, else null
-abbrev pub fed : List Meaning → List Bool → ℕ → Meaning
+-- what a row feeds an aggregate: its value where its filter is true or there is none, else null
+abbrev pub fed : List Meaning → Option (List Bool) → ℕ → Meaning
 fed values filter row = if passes filter row then slice_index_or values row Null else Null
 
 -- whether it is no null
@@ -34,7 +36,7 @@ IsInRange (Int x) = IsWhole x
 IsInRange (Text x) = Unit {0}
 
 -- the number of rows whose filter is true
-abbrev pub count_of_rows : List Bool → List ℕ → ℕ
+abbrev pub count_of_rows : Option (List Bool) → List ℕ → ℕ
 count_of_rows filter rows = count_by (passes filter) rows
 
 -- the number of rows that feed a value
@@ -45,6 +47,23 @@ count_of feed rows = count_by (λ row. is_value (feed row)) rows
 abbrev pub sum_of : (ℕ → Meaning) → List ℕ → ℤ
 sum_of feed [] = pos 0
 sum_of feed (row ∷ rows) = number_of (feed row) +ℤ sum_of feed rows
+
+-- the sum of what is fed; none where no value is fed
+abbrev pub sum_or_none : (ℕ → Meaning) → List ℕ → Option ℤ
+sum_or_none feed rows = if list_any (λ row. is_value (feed row)) rows then Some (sum_of feed rows) else None
+
+-- the tests of a filter, if there is one
+abbrev pub tests : Option (Bor (List Bool)) → Option (List Bool)
+tests None = None
+tests (Some filter) = Some filter.now
+
+-- a column's values, and a filter's tests, at the numbers of some rows
+abbrev pub picked_values : List Meaning → List ℕ → List Meaning
+picked_values values rows = map (λ row. slice_index_or values row Null) rows
+
+abbrev pub picked_tests : Option (List Bool) → List ℕ → Option (List Bool)
+picked_tests None rows = None
+picked_tests (Some tests) rows = Some (map (λ row. slice_index_or tests row false) rows)
 
 -- numbers by size and texts by bytes
 abbrev pub by_value : Meaning → Meaning → Ordering

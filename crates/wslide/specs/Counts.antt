@@ -1,8 +1,6 @@
 -- Counting rows.
-use Rattle.std.specs.Prelude.{ℕ, ◌+◌, ◌%◌, ◌^◌, ◌<◌, List, map, Bool, Option, Some, None, if◌then◌else◌}
-use Rattle.std.specs.Borrow.{Bor}
-use Rattle.wvalues.specs.declared.value.Value.{Value}
-use Rattle.wvalues.specs.Meaning.{Meaning, meaning}
+use Rattle.std.specs.Prelude.{ℕ, ◌+◌, ◌%◌, ◌^◌, ◌<◌, List, Bool, Option, Some, None, if◌then◌else◌}
+use Rattle.wvalues.specs.Meaning.{Meaning}
 use Rattle.wslide.specs.Aggregates.{passes, fed, is_value}
 
 -- a number of 64 bits
@@ -13,16 +11,11 @@ IsCount n = n < 2 ^ 64
 abbrev pub counts_joined : ℕ → ℕ → ℕ
 counts_joined m n = (m + n) % 2 ^ 64
 
--- what the values of a column say, if there is a column
-abbrev pub column : Option (Bor (List Value)) → Option (List Meaning)
-column None = None
-column (Some values) = Some (map meaning values.now)
-
 -- whether a row counts: where its filter is true, and its value is not null if there is a column
-abbrev pub counts : Option (List Meaning) → List Bool → ℕ → Bool
+abbrev pub counts : Option (List Meaning) → Option (List Bool) → ℕ → Bool
 counts None filter row = passes filter row
 counts (Some values) filter row = is_value (fed values filter row)
 
 -- the part of a row
-abbrev pub count_at : Option (List Meaning) → List Bool → ℕ → ℕ
+abbrev pub count_at : Option (List Meaning) → Option (List Bool) → ℕ → ℕ
 count_at values filter row = if counts values filter row then 1 else 0

@@ -1,12 +1,12 @@
 -- The joins of the four folds obey the laws of a fold.
-use Rattle.std.specs.Prelude.{◌≡◌, ℕ, ℤ, pos, ◌+ℤ◌, ◌<◌, List, Bool, true, false, Option, Some, None, FitsSigned, length, if◌then◌else◌, refl}
+use Rattle.std.specs.Prelude.{◌≡◌, ℕ, ℤ, ◌+ℤ◌, ◌<◌, List, Bool, true, false, Option, Some, None, length, if◌then◌else◌, refl}
 use Rattle.std.specs.Int.{int_wrap, w128}
 use Rattle.std.specs.Ordering.{is_lt, is_gt, ordering_reverse}
 use Rattle.std.specs.Cmp.{IsTotalOrder, upto, alike_right}
 use Rattle.std.specs.declared.cmp.Ordering.{Ordering}
 use Rattle.std.specs.declared.cmp.Ordering.TheVariants.{Less, Equal, Greater}
 use Rattle.std.proofs.Common.{arith, sym, ap, ◌∙◌}
-use Rattle.std.proofs.lemmas.Int.{ints, SFits-int_wrap, int_wrap_fits, int_wrap-add_left, int_wrap-add_right}
+use Rattle.std.proofs.lemmas.Int.{ints, SFits-int_wrap, int_wrap-add_left, int_wrap-add_right}
 use Rattle.wvalues.specs.Meaning.{Meaning}
 use Rattle.wvalues.specs.OrderLaws.{key_total}
 use Rattle.wslide.specs.Aggregates.{by_value, by_value_descending}
@@ -24,25 +24,31 @@ count_laws = record {
   assoc = λ x y z hx hy hz. omega arith;
 }
 
-zero_is : FitsSigned w128 (pos 0)
-zero_is = omega (arith, ints)
-
-left_zero : (x : ℤ) → pos 0 +ℤ x ≡ x
-left_zero x = omega (arith, ints)
-
-right_zero : (x : ℤ) → x +ℤ pos 0 ≡ x
-right_zero x = omega (arith, ints)
-
 add_assoc : (x y z : ℤ) → (x +ℤ y) +ℤ z ≡ x +ℤ (y +ℤ z)
 add_assoc x y z = omega (arith, ints)
 
-pub sum_laws : FoldLaws IsSum (pos 0) sums_joined
+sum_assoc : (x y z : Option ℤ) → sums_joined (sums_joined x y) z ≡ sums_joined x (sums_joined y z)
+sum_assoc None y z = refl
+sum_assoc (Some x) None z = refl
+sum_assoc (Some x) (Some y) None = refl
+sum_assoc (Some x) (Some y) (Some z) = ap Some (int_wrap-add_left w128 (x +ℤ y) z ∙ ap (int_wrap w128) (add_assoc x y z) ∙ sym (int_wrap-add_right w128 x (y +ℤ z)))
+
+sum_closed : (x y : Option ℤ) → IsSum x → IsSum y → IsSum (sums_joined x y)
+sum_closed None y hx hy = hy
+sum_closed (Some x) None hx hy = hx
+sum_closed (Some x) (Some y) hx hy = SFits-int_wrap w128 (x +ℤ y)
+
+sum_right : (x : Option ℤ) → sums_joined x None ≡ x
+sum_right None = refl
+sum_right (Some x) = refl
+
+pub sum_laws : FoldLaws IsSum None sums_joined
 sum_laws = record {
-  neutral_is = zero_is;
-  closed = λ x y hx hy. SFits-int_wrap w128 (x +ℤ y);
-  left_neutral = λ x hx. ap (int_wrap w128) (left_zero x) ∙ int_wrap_fits w128 x hx;
-  right_neutral = λ x hx. ap (int_wrap w128) (right_zero x) ∙ int_wrap_fits w128 x hx;
-  assoc = λ x y z hx hy hz. int_wrap-add_left w128 (x +ℤ y) z ∙ ap (int_wrap w128) (add_assoc x y z) ∙ sym (int_wrap-add_right w128 x (y +ℤ z));
+  neutral_is = tt;
+  closed = sum_closed;
+  left_neutral = λ x hx. refl;
+  right_neutral = λ x hx. sum_right x;
+  assoc = λ x y z hx hy hz. sum_assoc x y z;
 }
 
 chosen : (values : List Meaning) (i j : ℕ) (b : Bool) → i < length values → j < length values → IsPlace values (if b then Some j else Some i)

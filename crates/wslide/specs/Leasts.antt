@@ -24,5 +24,5 @@ leasts_joined order values (Some i) None = Some i
 leasts_joined order values (Some i) (Some j) = if is_less_right order values i j then Some j else Some i
 
 -- the row's place, if it feeds a value
-abbrev pub place_at : List Meaning → List Bool → ℕ → Option ℕ
+abbrev pub place_at : List Meaning → Option (List Bool) → ℕ → Option ℕ
 place_at values filter row = if is_value (fed values filter row) then Some row else None

@@ -10,4 +10,3 @@ pub mod Rows
 pub mod Stacks
 pub mod Queue
 pub mod Tree
-pub mod AffineMaps

@@ -1,12 +1,13 @@
-ghost use Rattle.std.specs.Prelude.{◌≡◌, None, length, map};
-ghost use Rattle.wvalues.specs.Meaning.{meaning};
-ghost use Rattle.wslide.specs.Aggregates.{by_value_descending};
+ghost use Rattle.std.specs.Prelude.{◌≡◌, None, length};
+ghost use Rattle.std.specs.Option.{ForSome};
+ghost use Rattle.wframe.specs.Cells.{meanings};
+ghost use Rattle.wslide.specs.Aggregates.{by_value_descending, tests};
 ghost use Rattle.wslide.specs.Leasts.{IsPlace, leasts_joined, place_at};
 ghost use Rattle.wslide.specs.Lawful.{least_laws, by_value_descending_total};
 
 use crate::fold::Fold;
 use crate::meter::Meter;
-use crate::places::{fed_place, first_place};
+use crate::places::{first_place, value_place};
 use wvalues::{SortKey, Value};
 
 /// Numbers by size, texts by bytes, the greatest first.
@@ -22,10 +23,10 @@ const BY_VALUE_DESCENDING: SortKey = SortKey {
 #[derive(Clone, Copy, Debug)]
 pub struct Greatest<'a> {
     /// The column's values in the partition's order, numbers or texts.
-    pub values: &'a [Value],
-    /// Whether each row of the partition is fed.
-    pub filter: &'a [bool],
-    ghost one_each: { length values.now ≡ length filter.now },
+    pub values: &'a [&'a Value],
+    /// Whether each row of the partition is fed; `None` feeds all.
+    pub filter: Option<&'a [bool]>,
+    ghost one_each: { ForSome filter (λ filter. length filter.now ≡ length values.now) },
 }
 
 impl<'a> Fold for Greatest<'a> {
@@ -33,19 +34,19 @@ impl<'a> Fold for Greatest<'a> {
 
     type Meter = Meter;
 
-    ghost is_part = { λ greatest. IsPlace (map meaning greatest.values.now) };
+    ghost is_part = { λ greatest. IsPlace (meanings greatest.values.now) };
 
     ghost neutral = { λ _. None };
 
-    ghost joined = { λ greatest. leasts_joined by_value_descending (map meaning greatest.values.now) };
+    ghost joined = { λ greatest. leasts_joined by_value_descending (meanings greatest.values.now) };
 
-    ghost rows = { λ greatest. length greatest.filter.now };
+    ghost rows = { λ greatest. length greatest.values.now };
 
-    ghost part_at = { λ greatest. place_at (map meaning greatest.values.now) greatest.filter.now };
+    ghost part_at = { λ greatest. place_at (meanings greatest.values.now) (tests greatest.filter) };
 
     ghost count = { λ meter. meter };
 
-    ghost laws = { λ greatest. least_laws by_value_descending_total (map meaning greatest.values.now) };
+    ghost laws = { λ greatest. least_laws by_value_descending_total (meanings greatest.values.now) };
 
     fn joins(&self, meter: &Meter) -> u64 {
         meter.joins()
@@ -56,7 +57,16 @@ impl<'a> Fold for Greatest<'a> {
     }
 
     fn of(&self, row: usize) -> Option<usize> {
-        fed_place(self.values, self.filter, row)
+        match self.filter {
+            None => value_place(self.values, row),
+            Some(filter) => {
+                if filter[row] {
+                    value_place(self.values, row)
+                } else {
+                    None
+                }
+            }
+        }
     }
 
     fn join(&self, meter: &mut Meter, left: Option<usize>, right: Option<usize>) -> Option<usize> {

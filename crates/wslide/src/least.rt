@@ -1,12 +1,13 @@
-ghost use Rattle.std.specs.Prelude.{◌≡◌, None, length, map};
-ghost use Rattle.wvalues.specs.Meaning.{meaning};
-ghost use Rattle.wslide.specs.Aggregates.{by_value};
+ghost use Rattle.std.specs.Prelude.{◌≡◌, None, length};
+ghost use Rattle.std.specs.Option.{ForSome};
+ghost use Rattle.wframe.specs.Cells.{meanings};
+ghost use Rattle.wslide.specs.Aggregates.{by_value, tests};
 ghost use Rattle.wslide.specs.Leasts.{IsPlace, leasts_joined, place_at};
 ghost use Rattle.wslide.specs.Lawful.{least_laws, by_value_total};
 
 use crate::fold::Fold;
 use crate::meter::Meter;
-use crate::places::{fed_place, first_place};
+use crate::places::{first_place, value_place};
 use wvalues::{SortKey, Value};
 
 /// Numbers by size, texts by bytes.
@@ -22,10 +23,10 @@ const BY_VALUE: SortKey = SortKey {
 #[derive(Clone, Copy, Debug)]
 pub struct Least<'a> {
     /// The column's values in the partition's order, numbers or texts.
-    pub values: &'a [Value],
-    /// Whether each row of the partition is fed.
-    pub filter: &'a [bool],
-    ghost one_each: { length values.now ≡ length filter.now },
+    pub values: &'a [&'a Value],
+    /// Whether each row of the partition is fed; `None` feeds all.
+    pub filter: Option<&'a [bool]>,
+    ghost one_each: { ForSome filter (λ filter. length filter.now ≡ length values.now) },
 }
 
 impl<'a> Fold for Least<'a> {
@@ -33,19 +34,19 @@ impl<'a> Fold for Least<'a> {
 
     type Meter = Meter;
 
-    ghost is_part = { λ least. IsPlace (map meaning least.values.now) };
+    ghost is_part = { λ least. IsPlace (meanings least.values.now) };
 
     ghost neutral = { λ _. None };
 
-    ghost joined = { λ least. leasts_joined by_value (map meaning least.values.now) };
+    ghost joined = { λ least. leasts_joined by_value (meanings least.values.now) };
 
-    ghost rows = { λ least. length least.filter.now };
+    ghost rows = { λ least. length least.values.now };
 
-    ghost part_at = { λ least. place_at (map meaning least.values.now) least.filter.now };
+    ghost part_at = { λ least. place_at (meanings least.values.now) (tests least.filter) };
 
     ghost count = { λ meter. meter };
 
-    ghost laws = { λ least. least_laws by_value_total (map meaning least.values.now) };
+    ghost laws = { λ least. least_laws by_value_total (meanings least.values.now) };
 
     fn joins(&self, meter: &Meter) -> u64 {
         meter.joins()
@@ -56,7 +57,16 @@ impl<'a> Fold for Least<'a> {
     }
 
     fn of(&self, row: usize) -> Option<usize> {
-        fed_place(self.values, self.filter, row)
+        match self.filter {
+            None => value_place(self.values, row),
+            Some(filter) => {
+                if filter[row] {
+                    value_place(self.values, row)
+                } else {
+                    None
+                }
+            }
+        }
     }
 
     fn join(&self, meter: &mut Meter, left: Option<usize>, right: Option<usize>) -> Option<usize> {

@@ -2,7 +2,7 @@
 //!
 //! - Gives the trait of lawful folds, the folds of the aggregates, and the fold of every frame of a partition.
 //! - Promises: each fold is that of the frame's rows from left to right, and the meter shows each join.
-//! - Asks: one column's values in the partition's order, whether each row's filter is true, room on the meter.
+//! - Asks: one column's values in the partition's order, each row's filter if there is one, room on the meter.
 //! - Leaves: partitions and frames to `wframe`, results and their range to `wplanner`.
 //!
 //! Read `specs/Laws.antt`, `specs/Frames.antt` and `specs/Height.antt`; then `specs/Aggregates.antt` with
@@ -10,6 +10,7 @@
 #![tactic(auto)]
 
 mod count;
+mod excluded;
 mod fold;
 mod frames;
 mod greatest;
@@ -19,24 +20,23 @@ mod meter;
 mod places;
 mod plain;
 mod queue;
+mod ranges;
 mod sliding;
-mod spanned;
 mod sum;
-#[cfg(test)]
-mod tests;
 mod tree;
 
-pub use count::Count;
+pub use count::{Count, CountRows};
 pub use fold::Fold;
-pub use frames::frame_folds;
+pub use frames::{FrameQueues, frame_folds, push_frame_folds};
 pub use greatest::Greatest;
 pub use laws::{
-    counts_are_exact, height_is_least, most_is_small, most_of_few_rows, places_are_least,
-    sums_are_exact,
+    counts_are_exact, height_is_least, most_is_small, most_of_few_rows, picked_rows_feed_alike,
+    places_are_least, sums_are_exact,
 };
 pub use least::Least;
 pub use meter::Meter;
 pub use plain::plain_folds;
 pub use queue::FoldQueue;
+pub use ranges::see_ranges;
 pub use sum::Sum;
 pub use tree::FoldTree;

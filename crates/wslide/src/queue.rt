@@ -48,6 +48,33 @@ impl<P: Copy> FoldQueue<P> {
         })
     }
 
+    /// Takes all parts out. Another fold may fill the queue after it.
+    pub fn restart<F: Fold<Part = P>>(&mut self, fold: &F)
+        ensures filled { IsFilledBy (F.is_part fold.now) (F.neutral fold.now) (F.joined fold.now) self.new }
+        ensures parts { parts self.new ≡ [] }
+        ensures capacity { capacity self.new ≡ capacity self.old }
+        ensures owed { owed self.new ≡ 0 }
+    {
+        self.front.clear();
+        self.front_folds.clear();
+        self.back.clear();
+        self.back_fold = fold.unit();
+    }
+
+    /// How many parts it holds.
+    pub fn len(&self) -> usize
+        ensures { result ≡ length (parts self.now) }
+    {
+        self.front.len() + self.back.len()
+    }
+
+    /// How many parts it has room for.
+    pub fn capacity(&self) -> usize
+        ensures { result ≡ capacity self.now }
+    {
+        self.limit
+    }
+
     /// Adds a part at the end, by one join.
     pub fn push<F: Fold<Part = P>>(&mut self, fold: &F, meter: &mut F::Meter, part: P)
         requires filled { IsFilledBy (F.is_part fold.now) (F.neutral fold.now) (F.joined fold.now) self.old }
@@ -91,6 +118,7 @@ impl<P: Copy> FoldQueue<P> {
         ensures capacity { capacity self.new ≡ capacity self.old }
         ensures not_less { F.count meter.old ≤ F.count meter.new }
         ensures joins { F.count meter.new + owed self.new ≤ F.count meter.old + owed self.old }
+        ensures few { F.count meter.new ≤ F.count meter.old + length (parts self.old) }
     {
         if self.front.is_empty() {
             self.turn(fold, meter);

@@ -1,4 +1,4 @@
-ghost use Rattle.std.specs.Prelude.{◌≡◌, ◌≤◌, ◌<◌, ◌+◌, ◌*◌, ◌-◌, ◌^◌, length, IfOk, All};
+ghost use Rattle.std.specs.Prelude.{◌≡◌, ◌≤◌, ◌<◌, ◌+◌, ◌*◌, ◌-◌, ◌^◌, ◌++◌, length, OnOk, All};
 ghost use Rattle.wframe.specs.Places.{IsRisen};
 ghost use Rattle.wslide.specs.Laws.{total};
 ghost use Rattle.wslide.specs.Frames.{folds_of_frames, most_by_queue};
@@ -7,11 +7,11 @@ ghost use Rattle.wslide.specs.Rows.{span_parts};
 
 use crate::fold::Fold;
 use crate::queue::FoldQueue;
-use std::alloc::{AllocError, Global};
+use std::alloc::AllocError;
 use wframe::{FrameExclusion, Frames, Span};
 
-// Moves what a queue holds on from one span to the next.
-fn advance<F: Fold>(
+/// Moves what a queue holds on from one span to the next.
+pub(crate) fn advance<F: Fold>(
     queue: &mut FoldQueue<F::Part>,
     fold: &F,
     meter: &mut F::Meter,
@@ -59,30 +59,32 @@ fn held_fold<F: Fold>(
     queue.fold(fold, meter)
 }
 
-/// The fold of each row's frame, where the frames are single spans: a queue moves on from one frame to the next.
-pub(crate) fn sliding_folds<F: Fold>(
-    alloc: Global,
+/// Adds the fold of each row's frame, where the frames are single spans: a queue moves on from one frame to the next.
+pub(crate) fn push_sliding_folds<F: Fold>(
+    queue: &mut FoldQueue<F::Part>,
+    folds: &mut Vec<F::Part>,
     fold: &F,
     frames: &Frames,
     meter: &mut F::Meter,
-) -> Result<Vec<F::Part>, AllocError>
+) -> Result<(), AllocError>
     requires rows { length frames.now.keys ≡ F.rows fold.now }
     requires single { frames.now.frame.exclusion ≡ FrameExclusion.NoOthers }
+    requires space { F.rows fold.now ≤ capacity queue.old }
     requires room { F.count meter.old + (most_by_queue (F.rows fold.now) + F.rows fold.now) < 2 ^ 64 }
-    ensures folds { IfOk result (λ folds. folds.items ≡ folds_of_frames (F.neutral fold.now) (F.joined fold.now) (F.part_at fold.now) frames.now) }
-    ensures parts { IfOk result (λ folds. All (F.is_part fold.now) folds.items) }
+    ensures folds { OnOk result (folds.new.items ≡ folds.old.items ++ folds_of_frames (F.neutral fold.now) (F.joined fold.now) (F.part_at fold.now) frames.now) }
+    ensures parts { OnOk result (All (F.is_part fold.now) (folds_of_frames (F.neutral fold.now) (F.joined fold.now) (F.part_at fold.now) frames.now)) }
+    ensures capacity { capacity queue.new ≡ capacity queue.old }
     ensures not_less { F.count meter.old ≤ F.count meter.new }
     ensures joins { F.count meter.new ≤ F.count meter.old + most_by_queue (F.rows fold.now) }
 {
+    queue.restart(fold);
     let rows = frames.count();
-    let mut queue = FoldQueue::with_capacity(alloc, fold, rows)?;
-    let mut folds = Vec::with_capacity(alloc, rows)?;
     let mut held = Span { from: 0, to: 0 };
     for row in 0..rows {
         let span = frames.span(row);
-        advance(&mut queue, fold, meter, held, span);
+        advance(queue, fold, meter, held, span);
         held = span;
-        folds.push(held_fold(&queue, fold, meter, held))?;
+        folds.push(held_fold(queue, fold, meter, held))?;
     }
-    Ok(folds)
+    Ok(())
 }

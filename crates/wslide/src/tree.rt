@@ -4,6 +4,7 @@ use wframe::Span;
 
 /// Parts with the joins of neighbors, level over level, for the fold of any span.
 ///
+/// It is for spans that go back, or come in any order. Those of frames rise, and [`crate::FoldQueue`] takes fewer joins.
 /// One fold builds a tree, and is lent to each call.
 #[derive(Drop)]
 pub struct FoldTree<P> {
@@ -123,6 +124,16 @@ impl<P: Copy> FoldTree<P> {
         }
         levels.push(level)?;
         Ok(FoldTree { levels })
+    }
+
+    /// How many parts it was built of.
+    pub fn len(&self) -> usize
+        ensures { result ≡ length (tree_parts self.now) }
+    {
+        match self.levels.first() {
+            None => 0,
+            Some(level) => level.len(),
+        }
     }
 
     /// The fold of a span of the parts, by at most two joins for each level and three; an empty span gives the unit.

@@ -1,5 +1,5 @@
 -- Commands that nodes answer.
-use Rattle.std.proofs.Common.{◌≡◌, ◌≢◌, ℕ, ◌+◌, ◌<◌, List, [], ◌∷◌, ◌++◌, get_or, set, map, None, Some, Result, Ok, Err, IsOk, ◌⊎◌, refl, sym, ap, ◌∙◌, subst, inl, inr, cond, ◌==◌, append-nil, true, false}
+use Rattle.std.proofs.Common.{Bool, ◌≡◌, ◌≢◌, ℕ, ◌+◌, ◌<◌, ◌≤◌, length, List, [], ◌∷◌, ◌++◌, get_or, set, map, None, Some, Result, Ok, Err, IsOk, ◌⊎◌, refl, sym, ap, ◌∙◌, subst, inl, inr, cond, ◌==◌, append-nil, true, false}
 use Rattle.std.specs.FinMap.{get, entries}
 use Rattle.wvalues.specs.Names.{NameParts}
 use Rattle.wvalues.specs.Meaning.{Meaning}
@@ -17,11 +17,13 @@ use Rattle.wset.specs.declared.words.Taken.{Taken}
 use Rattle.wset.specs.declared.words.Retired.{Retired}
 use Rattle.wset.specs.declared.words.Listed.{Listed}
 use Rattle.wstore.specs.Commands.{Command, Take, Retire as Retiring, Listing, Ask, Put, Get, node_count, slot_count}
-use Rattle.wstore.specs.Replies.{Reply, text_of, Took, Was, RefusedSegment, Names, Answered, RefusedQuery, Done, RefusedFile, NoMemory, file_text, taken_text, retired_text, segment_text, names_text, answer_text, query_text}
-use Rattle.wstore.specs.History.{Step, Answers, NodeAnswers, declaration, declared_by, segment_reply, delivers, gets, puts, heard, drawn, held, is_put, known, slot_file}
+use Rattle.wstore.specs.Replies.{Reply, text_of, Took, Was, RefusedSegment, Names, Answered, RefusedQuery, Done, RefusedFile, NoMemory}
+use Rattle.wreplies.specs.Spelling.{file_text, taken_text, retired_text, segment_text, names_text, answer_text, query_text}
+use Rattle.wstore.specs.History.{Step, Answers, NodeAnswers, file_if, declaration, declared_by, segment_reply, delivers, gets, puts, heard, drawn, held, is_put, known, slot_file}
 use Rattle.wask.specs.Asking.{IsAnswer}
 use Rattle.wexchange.specs.Files.{file_of}
-use Rattle.wexchange.specs.Judging.{IsFault, IsFileOf}
+use Rattle.wexchange.specs.Judging.{HasTable, HasBadSegment, IsFault, IsFileOf}
+use Rattle.wexchange.proofs.Faults.{segment_has_table}
 use Rattle.wexchange.specs.declared.fault.FileFault.{FileFault}
 use Rattle.wexchange.specs.declared.fault.FileFault.TheVariants as files
 use Rattle.wstore.specs.Nodes.{LearnsFile}
@@ -34,6 +36,14 @@ use Rattle.wstore.proofs.Standing.{IsQuiet, stand_quiet, stand_told, stand_put, 
 read_reply : (r : Result (List (List Meaning)) SegmentFault) (v : View) (name : NameParts) (bytes : List ℕ) → IsOk r → Took name (taken_word (get v name) bytes) ≡ segment_reply r v name bytes
 read_reply (Ok rows) v name bytes h = refl
 read_reply (Err fault) v name bytes h = let wrong : false ≡ true = h in cc
+
+-- a slot whose bytes have a declaration was put
+put_where : (d : Declaration) (b : Bool) (items : List Item) → HasTable d (file_if b d items) → b ≡ true
+put_where d true items h = refl
+put_where d false items h = absurd (empty 87 _ h.bytes_are)
+  where
+    empty : (x : ℕ) (xs : List ℕ) → [] ≡ x ∷ xs → ⊥
+    empty x xs e = cc
 
 abbrev judged : FileFault → Result View FileFault
 judged f = Err f
@@ -71,11 +81,11 @@ module _ (d : Declaration) (at : Places) (h : List Step) (n p : ℕ) (node : Nod
         stand = learns c r (SegmentItem name bytes) new (sound_segment d name bytes named.is_name (subst (λ s. IsOk (rows_of s bytes)) here_schema read)) refl new_is (λ m. refl) (λ m. refl) (λ k. refl) (λ m. refl);
       }
 
-  pub refused_at : (origin number bytes : List ℕ) (name : NameParts) (fault : SegmentFault) (text : List ℕ) → SpellsName origin number name → Fails fault (rows_of node.schema bytes) → text ≡ segment_text fault → AnswersAs d at h (Take n origin number bytes) text
-  refused_at origin number bytes name fault text named fails text_is =
+  pub refused_at : (origin number bytes : List ℕ) (name : NameParts) (fault : SegmentFault) (text : List ℕ) → length bytes ≤ 67108864 → SpellsName origin number name → Fails fault (rows_of node.schema bytes) → text ≡ segment_text fault → AnswersAs d at h (Take n origin number bytes) text
+  refused_at origin number bytes name fault text short named fails text_is =
       let c = Take n origin number bytes in
       elim fails [
-        | inl e ↦ quietly c NoMemory text (inr (λ x. x, refl)) (text_is ∙ ap segment_text e) refl (record { delivers_none = λ m. refl; gets_none = λ m. refl; puts_none = λ k. refl; hears_none = λ m. refl })
+        | inl e ↦ quietly c NoMemory text (inr (((name, named), short), refl)) (text_is ∙ ap segment_text e) refl (record { delivers_none = λ m. refl; gets_none = λ m. refl; puts_none = λ k. refl; hears_none = λ m. refl })
         | inr e ↦ quietly c (RefusedSegment fault) text
             (under d h c (RefusedSegment fault) stand.declared (here c (RefusedSegment fault) (Ok name, named, ap (λ r. segment_reply r node.view name bytes) (sym e)))) text_is refl
             (record { delivers_none = λ m. refl; gets_none = λ m. refl; puts_none = λ k. refl; hears_none = λ m. refl })
@@ -102,9 +112,9 @@ module _ (d : Declaration) (at : Places) (h : List Step) (n p : ℕ) (node : Nod
       quietly (Ask n query) (Answered bytes) text (under d h (Ask n query) (Answered bytes) stand.declared (here (Ask n query) (Answered bytes) (Ok bytes, answer_is, refl))) text_is refl
       (record { delivers_none = λ m. refl; gets_none = λ m. refl; puts_none = λ k. refl; hears_none = λ m. refl })
 
-  pub unanswered_at : (query text : List ℕ) (fault : AskFault) → (fault ≡ queries.NoMemory) ⊎ IsAnswer node.schema node.view query (Err fault) → text ≡ query_text fault → AnswersAs d at h (Ask n query) text
-  unanswered_at query text fault fails text_is = elim fails [
-    | inl e ↦ quietly (Ask n query) NoMemory text (inr (λ x. x, refl)) (text_is ∙ ap query_text e) refl (record { delivers_none = λ m. refl; gets_none = λ m. refl; puts_none = λ k. refl; hears_none = λ m. refl })
+  pub unanswered_at : (query text : List ℕ) (fault : AskFault) → length query ≤ 65536 → (fault ≡ queries.NoMemory) ⊎ IsAnswer node.schema node.view query (Err fault) → text ≡ query_text fault → AnswersAs d at h (Ask n query) text
+  unanswered_at query text fault short fails text_is = elim fails [
+    | inl e ↦ quietly (Ask n query) NoMemory text (inr (short, refl)) (text_is ∙ ap query_text e) refl (record { delivers_none = λ m. refl; gets_none = λ m. refl; puts_none = λ k. refl; hears_none = λ m. refl })
     | inr e ↦ quietly (Ask n query) (RefusedQuery fault) text
         (under d h (Ask n query) (RefusedQuery fault) stand.declared (here (Ask n query) (RefusedQuery fault) (Err fault, e, refl))) text_is refl
         (record { delivers_none = λ m. refl; gets_none = λ m. refl; puts_none = λ k. refl; hears_none = λ m. refl })
@@ -164,4 +174,11 @@ module _ (d : Declaration) (at : Places) (h : List Step) (n p : ℕ) (node : Nod
       by files.OtherSchema i t = told files.OtherSchema i (λ w. cc) t
       by (files.Segment fault) i t = told (files.Segment fault) i (λ w. cc) t
       by files.Trailing i t = told files.Trailing i (λ w. cc) t
-      by files.NoMemory i t = quietly (Get slot n) NoMemory text (inr (λ x. x, refl)) t refl (record { delivers_none = λ m. refl; gets_none = λ m. refl; puts_none = λ k. refl; hears_none = λ m. refl })
+      by files.NoMemory i t = quietly (Get slot n) NoMemory text (inr (put_where d (is_put h slot) (held h slot) i, refl)) t refl (record { delivers_none = λ m. refl; gets_none = λ m. refl; puts_none = λ k. refl; hears_none = λ m. refl })
+
+  -- a slot whose file is refused for a segment was put
+  pub got_put : (slot q : ℕ) (bytes e : List ℕ) (fault : FileFault) (refused : SegmentFault) → q + 1 ≡ slot → q < slot_count → bytes ≡ get_or at.slots q e → IsFault node.schema bytes fault → fault ≡ files.Segment refused → is_put h slot ≡ true
+  got_put slot q bytes e fault refused slot_is q_low bytes_are is_fault fault_is = put_where d (is_put h slot) (held h slot) (segment_has_table d (slot_file d h slot) refused here_fault)
+    where
+      here_fault : HasBadSegment d (slot_file d h slot) refused
+      here_fault = subst (λ s. HasBadSegment s (slot_file d h slot) refused) here_schema (subst (λ b. HasBadSegment node.schema b refused) (file_is slot q bytes e slot_is q_low bytes_are) (subst (IsFault node.schema bytes) fault_is is_fault))

@@ -11,7 +11,8 @@ use Rattle.wset.specs.Items.{Item, SegmentItem, RetirementItem, view_of}
 use Rattle.wset.proofs.Union.{view_of_union}
 use Rattle.wexchange.specs.Messages.{IsMessage, IsOpen, IsBad, message_text}
 use Rattle.wstore.specs.Commands.{Feed, node_count}
-use Rattle.wstore.specs.Replies.{Line, TookLine, WasLine, RefusedLine, SpentLine, line_item, line_items, fed_text, no_memory, Fed, NoMemory}
+use Rattle.wstore.specs.Replies.{Line, TookLine, WasLine, RefusedLine, SpentLine, line_item, line_items, fed_text, Fed, NoMemory}
+use Rattle.wreplies.specs.Spelling.{no_memory}
 use Rattle.wstore.specs.History.{Step, Answers, LinesAnswer, IsRest, FeedBegins, PieceAnswers, Heard, heard, heard_items, heard_bad, entered, stream, handled, is_bad, declaration, known, held, slot_file}
 use Rattle.wstore.specs.Nodes.{NodeState, Tells, TellsAll, told_view}
 use Rattle.wstore.specs.Feeding.{SendsAll, SendsPart, FedAs}
@@ -197,13 +198,13 @@ module _ (d : Declaration) (at : Places) (h : List Step) (p : ℕ) (node : NodeS
       let kept : set at.nodes p new ≡ at.nodes = ap (set at.nodes p) (same ∙ is) ∙ set-get_or at.nodes p node in
       subst (λ nodes. FedAs d (places nodes at.slots) h n piece a b) (sym kept) (record {
         reply = NoMemory;
-        answers = inr (λ x. x, refl);
+        answers = inr (tt, refl);
         appends = k;
         stand = stand_quiet d at h (Feed n piece) NoMemory stand refl (record { delivers_none = λ m. refl; gets_none = λ m. refl; puts_none = λ k. refl; hears_none = λ m. refl });
       })
 
   pub fed_starved_part : (n : ℕ) (a b : Option (List ℕ)) → ((k : ℕ) × Appends a b (take k no_memory)) → FedPart h n piece a b
-  fed_starved_part n a b w = inl (record { reply = NoMemory; n = w.0; answers = inr (λ x. x, refl); appends = w.1 })
+  fed_starved_part n a b w = inl (record { reply = NoMemory; n = w.0; answers = inr (tt, refl); appends = w.1 })
 
   -- ---- a stream that was found bad
 

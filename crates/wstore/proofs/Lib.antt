@@ -12,3 +12,5 @@ pub mod Writing
 pub mod Stepping
 pub mod WholeRuns
 pub mod Histories
+pub mod OneReading
+pub mod OneReply

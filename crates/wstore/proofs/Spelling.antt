@@ -5,9 +5,9 @@ use Rattle.std.specs.Io.KnownBytes.{Consumes}
 use Rattle.std.proofs.KnownBytes.{Consumes-trans}
 use Rattle.wlines.specs.Words.{Lacks}
 use Rattle.wlines.specs.Reads.{HasNoLine}
-use Rattle.wstore.specs.Commands.{Form, DeclareForm, TakeForm, RetireForm, ListForm, AskForm, FeedForm, PutForm, GetForm, IsForm, IsNode, IsSlot, Command, IsMalformed, IsDeclaration, line_of, form_of, behind, spell}
+use Rattle.wstore.specs.Commands.{Form, DeclareForm, TakeForm, RetireForm, ListForm, AskForm, FeedForm, PutForm, GetForm, IsForm, IsNode, IsSlot, Command, IsMalformed, IsShortDeclaration, line_of, form_of, behind, spell}
 use Rattle.wstore.specs.Headers.{IsHeaderOf}
-use Rattle.wstore.specs.Requests.{IsCommandOf, IsBadBehind, Behind, BehindReads, ReadsCommand, RequestReads}
+use Rattle.wstore.specs.Requests.{IsCommandOf, IsBadBehind, KeepsBody, Behind, BehindReads, ReadsCommand, RequestReads}
 use Rattle.wstore.specs.declared.header.Header.{Header}
 use Rattle.wstore.specs.declared.request.Request.{Request}
 use Rattle.wstore.specs.declared.request.Request.TheVariants as requests
@@ -118,7 +118,7 @@ bad_behind d old mid line h k lacks only bad =
 -- what was read behind a header, and so with its line
 pub request_reads : (r : Request) (d : Bool) (old mid new : Option (List ℕ)) (line : List ℕ) (h : Header) (f : Form) → IsHeaderOf h f → IsForm f → line ≡ line_of f → length line ≤ 200 → Lacks 10 line → Consumes old mid (line ++ 10 ∷ []) → ((f : Form) → IsForm f → line ≡ line_of f → IsHeaderOf h f) → BehindReads r h d mid new → RequestReads r d old new
 request_reads (requests.Whole command) d old mid new line h f is form line_is short lacks k only b = whole_command d (IsCommandOf command) old mid new line h f is form line_is short k b
-request_reads requests.NoMemory d old mid new line h f is form line_is short lacks k only b = whole_command d (λ c. ¬ (IsDeclaration c)) old mid new line h f is form line_is short k b
-request_reads requests.NoRoom d old mid new line h f is form line_is short lacks k only b = whole_command d IsDeclaration old mid new line h f is form line_is short k b
+request_reads requests.NoMemory d old mid new line h f is form line_is short lacks k only b = whole_command d KeepsBody old mid new line h f is form line_is short k b
+request_reads requests.NoRoom d old mid new line h f is form line_is short lacks k only b = whole_command d IsShortDeclaration old mid new line h f is form line_is short k b
 request_reads requests.Closed d old mid new line h f is form line_is short lacks k only b = absurd b
 request_reads requests.Malformed d old mid new line h f is form line_is short lacks k only b = bad_behind d old mid line h k lacks only b

@@ -72,7 +72,7 @@ fails_at_answer faults.Write h left new_left held new_held c is k (inr part) =
     (λ rest. (take part.n (flat_map line_text part.lines), lines part.d part.node part.piece rest part.lines part.n (subst (IsCommand (is_declared h)) part.command_is is) (ap (λ q. spell q ++ rest) part.command_is) part.declared part.begins, part.appends))
 fails_at_answer faults.NoMemory h left new_left held new_held (Declare bytes) is k part =
     front_of left new_left (spell (Declare bytes)) (λ xs. (p : List ℕ) × Stops faults.NoMemory h xs p × Appends held new_held p) k
-    (λ rest. ([], (refl, record { bytes = bytes; more = rest; command = is; rest_is = refl }), part.1))
+    (λ rest. ([], (refl, record { bytes = bytes; fits = part.0; more = rest; command = is; rest_is = refl }), part.1))
 fails_at_answer faults.NoMemory h left new_left held new_held (Take n o m b) is k part = absurd part.0
 fails_at_answer faults.NoMemory h left new_left held new_held (Retire n o m) is k part = absurd part.0
 fails_at_answer faults.NoMemory h left new_left held new_held (Listing n) is k part = absurd part.0

@@ -14,10 +14,11 @@ use Rattle.std.specs.List.{flat_map, AllByRecursion}
 use Rattle.wexchange.specs.Messages.{IsMessage, message_text}
 use Rattle.wset.specs.Items.{view_of}
 use Rattle.wstore.specs.Nodes.{NodeState, fresh_node}
-use Rattle.wstore.specs.Commands.{Command, Declare, Take, Retire, Listing, Ask, Feed, Put, Get, IsAllowed, IsDeclaration, node_count, slot_count}
-use Rattle.wstore.specs.Replies.{Reply, Declared, RefusedTable, RefusedName, RefusedSegment, RefusedQuery, NoMemory, table_text, name_text, segment_text, query_text, no_memory, text_of}
+use Rattle.wstore.specs.Commands.{Command, Declare, Take, Retire, Listing, Ask, Feed, Put, Get, IsAllowed, node_count, slot_count}
+use Rattle.wstore.specs.Replies.{Reply, Declared, RefusedTable, RefusedName, RefusedSegment, RefusedQuery, NoMemory, text_of}
+use Rattle.wreplies.specs.Spelling.{table_text, name_text, segment_text, query_text, no_memory}
 use Rattle.wstore.specs.Requests.{IsRefusedAs}
-use Rattle.wstore.specs.History.{Step, AnswersUnder, declaration, declared_by, is_declared, is_put, is_put_by, held, known, puts, replaced, file_if, heard, heard_items, heard_bad, entered, stream, handled, is_bad, segment_reply}
+use Rattle.wstore.specs.History.{Step, AnswersUnder, MayLackMemory, declaration, declared_by, is_declared, is_put, is_put_by, held, known, puts, replaced, file_if, heard, heard_items, heard_bad, entered, stream, handled, is_bad, segment_reply}
 use Rattle.wstore.specs.Standing.{KnowsThese, IsSound, Listens, StandAt, places}
 use Rattle.wplanner.specs.declared.fault.AskFault.TheVariants as queries
 use Rattle.wstore.specs.declared.request.Refusal.TheVariants as refusals
@@ -115,11 +116,11 @@ refuses_table session h bytes text fault e stands reads judged text_is = record 
   stands = stands_untold session.cluster h (Declare bytes) (RefusedTable fault) stands refl (record { delivers_none = λ n. refl; gets_none = λ n. refl; puts_none = λ k. refl; hears_none = λ n. refl });
 }
 
--- any command but a declaration may find no memory
-pub finds_no_memory : (session : Session) (h : List Step) (c : Command) → ¬ (IsDeclaration c) → Stands session h → Tells session h c no_memory
-finds_no_memory session h c other stands = record {
+-- a command that may find no memory
+pub finds_no_memory : (session : Session) (h : List Step) (c : Command) → MayLackMemory h c → Stands session h → Tells session h c no_memory
+finds_no_memory session h c may stands = record {
   reply = NoMemory;
-  answers = inr (other, refl);
+  answers = inr (may, refl);
   text_is = refl;
   stands = stands_untold session.cluster h c NoMemory stands refl (quiet c);
 }

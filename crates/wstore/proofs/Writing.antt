@@ -1,9 +1,9 @@
 -- Replies that were written, in full or in part.
-use Rattle.std.proofs.Common.{◌≡◌, ℕ, List, take, Option, ◌⊎◌, inl, sym, subst}
+use Rattle.std.proofs.Common.{◌≡◌, ℕ, true, List, take, Option, ◌⊎◌, inl, refl, sym, subst}
 use Rattle.std.specs.Io.KnownBytes.{Appends}
-use Rattle.wstore.specs.Commands.{Command, Declare, Take, Retire, Listing, Ask, Feed, Put, Get, IsDeclaration}
-use Rattle.wstore.specs.History.{Step}
-use Rattle.wstore.specs.Requests.{IsFeedOf, IsOrderAt}
+use Rattle.wstore.specs.Commands.{Command, Declare, Take, Retire, Listing, Ask, Feed, Put, Get}
+use Rattle.wstore.specs.History.{Step, MayLackMemory, is_put}
+use Rattle.wstore.specs.Requests.{IsFeedOf, IsOrderAt, KeepsBody}
 use Rattle.wstore.specs.Sessions.{Tells}
 use Rattle.wstore.specs.Steps.{Answered, AnsweredPart, AnsweredLines, Unanswered}
 use Rattle.wstore.specs.declared.request.Order.{Order}
@@ -37,18 +37,64 @@ fed_command n bytes (Ask m t) is = absurd is
 fed_command n bytes (Put m s) is = absurd is
 fed_command n bytes (Get s m) is = absurd is
 
--- what speaks to a node declares nothing
-pub no_declaration : (n : ℕ) (order : Order) (c : Command) → IsOrderAt n order c → ¬ (IsDeclaration c)
-no_declaration n (orders.Take name bytes) (Declare s) is = λ _. is
-no_declaration n (orders.Retire name) (Declare s) is = λ _. is
-no_declaration n orders.List (Declare s) is = λ _. is
-no_declaration n (orders.Ask text) (Declare s) is = λ _. is
-no_declaration n (orders.Put k) (Declare s) is = λ _. is
-no_declaration n (orders.Get k) (Declare s) is = λ _. is
-no_declaration n order (Take m o k b) is = λ x. x
-no_declaration n order (Retire m o k) is = λ x. x
-no_declaration n order (Listing m) is = λ x. x
-no_declaration n order (Ask m t) is = λ x. x
-no_declaration n order (Feed m p) is = λ x. x
-no_declaration n order (Put m s) is = λ x. x
-no_declaration n order (Get s m) is = λ x. x
+-- a body that is kept may find no memory
+pub kept_may_lack : (h : List Step) (c : Command) → KeepsBody c → MayLackMemory h c
+kept_may_lack h (Declare s) kept = kept
+kept_may_lack h (Take m o k b) kept = kept
+kept_may_lack h (Retire m o k) kept = absurd kept
+kept_may_lack h (Listing m) kept = tt
+kept_may_lack h (Ask m t) kept = kept
+kept_may_lack h (Feed m p) kept = tt
+kept_may_lack h (Put m s) kept = tt
+kept_may_lack h (Get s m) kept = absurd kept
+
+-- so may what a node is told, asked, puts or gets, where the slot that it gets was put
+pub order_may_lack : (n : ℕ) (order : Order) (h : List Step) (c : Command) → IsOrderAt n order c → ((k : ℕ) → order ≡ orders.Get k → is_put h k ≡ true) → MayLackMemory h c
+order_may_lack n (orders.Take name kept) h (Take m o k b) is put = ((name, is.1), is.3)
+order_may_lack n (orders.Take name kept) h (Declare s) is put = is
+order_may_lack n (orders.Take name kept) h (Retire m o k) is put = absurd is
+order_may_lack n (orders.Take name kept) h (Listing m) is put = tt
+order_may_lack n (orders.Take name kept) h (Ask m t) is put = absurd is
+order_may_lack n (orders.Take name kept) h (Feed m p) is put = tt
+order_may_lack n (orders.Take name kept) h (Put m s) is put = tt
+order_may_lack n (orders.Take name kept) h (Get s m) is put = absurd is
+order_may_lack n (orders.Retire name) h (Take m o k b) is put = absurd is
+order_may_lack n (orders.Retire name) h (Declare s) is put = is
+order_may_lack n (orders.Retire name) h (Retire m o k) is put = (name, is.1)
+order_may_lack n (orders.Retire name) h (Listing m) is put = tt
+order_may_lack n (orders.Retire name) h (Ask m t) is put = absurd is
+order_may_lack n (orders.Retire name) h (Feed m p) is put = tt
+order_may_lack n (orders.Retire name) h (Put m s) is put = tt
+order_may_lack n (orders.Retire name) h (Get s m) is put = absurd is
+order_may_lack n orders.List h (Take m o k b) is put = absurd is
+order_may_lack n orders.List h (Declare s) is put = is
+order_may_lack n orders.List h (Retire m o k) is put = absurd is
+order_may_lack n orders.List h (Listing m) is put = tt
+order_may_lack n orders.List h (Ask m t) is put = absurd is
+order_may_lack n orders.List h (Feed m p) is put = tt
+order_may_lack n orders.List h (Put m s) is put = tt
+order_may_lack n orders.List h (Get s m) is put = absurd is
+order_may_lack n (orders.Ask kept) h (Take m o k b) is put = absurd is
+order_may_lack n (orders.Ask kept) h (Declare s) is put = is
+order_may_lack n (orders.Ask kept) h (Retire m o k) is put = absurd is
+order_may_lack n (orders.Ask kept) h (Listing m) is put = tt
+order_may_lack n (orders.Ask kept) h (Ask m t) is put = is.2
+order_may_lack n (orders.Ask kept) h (Feed m p) is put = tt
+order_may_lack n (orders.Ask kept) h (Put m s) is put = tt
+order_may_lack n (orders.Ask kept) h (Get s m) is put = absurd is
+order_may_lack n (orders.Put k) h (Take m o j b) is put = absurd is
+order_may_lack n (orders.Put k) h (Declare s) is put = is
+order_may_lack n (orders.Put k) h (Retire m o j) is put = absurd is
+order_may_lack n (orders.Put k) h (Listing m) is put = tt
+order_may_lack n (orders.Put k) h (Ask m t) is put = absurd is
+order_may_lack n (orders.Put k) h (Feed m p) is put = tt
+order_may_lack n (orders.Put k) h (Put m s) is put = tt
+order_may_lack n (orders.Put k) h (Get s m) is put = absurd is
+order_may_lack n (orders.Get k) h (Take m o j b) is put = absurd is
+order_may_lack n (orders.Get k) h (Declare s) is put = is
+order_may_lack n (orders.Get k) h (Retire m o j) is put = absurd is
+order_may_lack n (orders.Get k) h (Listing m) is put = tt
+order_may_lack n (orders.Get k) h (Ask m t) is put = absurd is
+order_may_lack n (orders.Get k) h (Feed m p) is put = tt
+order_may_lack n (orders.Get k) h (Put m s) is put = tt
+order_may_lack n (orders.Get k) h (Get s m) is put = subst (λ j. is_put h j ≡ true) (sym is.0) (put k refl)

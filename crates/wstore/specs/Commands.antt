@@ -134,12 +134,13 @@ pub record IsMalformed (declared : Bool) (bytes : List ℕ) : Type 0 where
   pub more : bytes ≢ []
   pub none : (c : Command) (rest : List ℕ) → IsCommand declared c → bytes ≢ spell c ++ rest
 
-abbrev pub IsDeclaration : Command → Type 0
-IsDeclaration (Declare bytes) = Unit {0}
-IsDeclaration (Take node origin number bytes) = ⊥
-IsDeclaration (Retire node origin number) = ⊥
-IsDeclaration (Listing node) = ⊥
-IsDeclaration (Ask node text) = ⊥
-IsDeclaration (Feed node piece) = ⊥
-IsDeclaration (Put node slot) = ⊥
-IsDeclaration (Get slot node) = ⊥
+-- a declaration within its limit
+abbrev pub IsShortDeclaration : Command → Type 0
+IsShortDeclaration (Declare bytes) = length bytes ≤ 65536
+IsShortDeclaration (Take node origin number bytes) = ⊥
+IsShortDeclaration (Retire node origin number) = ⊥
+IsShortDeclaration (Listing node) = ⊥
+IsShortDeclaration (Ask node text) = ⊥
+IsShortDeclaration (Feed node piece) = ⊥
+IsShortDeclaration (Put node slot) = ⊥
+IsShortDeclaration (Get slot node) = ⊥

@@ -7,7 +7,8 @@ use Rattle.wstore.specs.Commands.{Feed}
 use Rattle.wstore.specs.Replies as history
 use Rattle.wstore.specs.History.{Step, Answers}
 use Rattle.wstore.specs.Standing.{Places, StandAt}
-use Rattle.wstore.specs.Replies.{text_of, Line, line_text, fed_text, taken_text, retired_text, segment_text, no_memory}
+use Rattle.wstore.specs.Replies.{text_of, Line, line_text, fed_text}
+use Rattle.wreplies.specs.Spelling.{taken_text, retired_text, segment_text, no_memory}
 use Rattle.wstore.specs.Nodes.{NodeState, Tells, TellsAll}
 use Rattle.wstore.specs.declared.node.Reply.{Reply}
 use Rattle.wstore.specs.declared.node.Reply.TheVariants as replies

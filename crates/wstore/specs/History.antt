@@ -1,5 +1,5 @@
 -- What nodes are told by a history of commands and replies, item by item, and the replies that it allows. A history has its newest step first.
-use Rattle.std.specs.Prelude.{◌≡◌, ◌≢◌, ℕ, Bool, false, true, List, [], ◌∷◌, ◌++◌, map, ◌==◌, ◌⊎◌, if◌then◌else◌, Option, None, Some, is_some, Result, Ok, Err, IsOk, ⊤, ◌||◌}
+use Rattle.std.specs.Prelude.{◌≡◌, ◌≢◌, ℕ, ◌≤◌, Bool, false, true, List, [], ◌∷◌, ◌++◌, length, map, ◌==◌, ◌⊎◌, if◌then◌else◌, Option, None, Some, is_some, Result, Ok, Err, IsOk, ⊤, ◌||◌}
 use Rattle.std.specs.List.{flat_map, AllByRecursion}
 use Rattle.std.specs.FinMap.{get, entries}
 use Rattle.wvalues.specs.Names.{NameParts}
@@ -20,7 +20,7 @@ use Rattle.wexchange.specs.Judging.{Judges}
 use Rattle.wexchange.specs.Messages.{IsMessage, IsOpen, IsBad, Splits, message_text}
 use Rattle.wexchange.specs.declared.fault.FileFault.{FileFault}
 use Rattle.wexchange.specs.declared.fault.FileFault.TheVariants as files
-use Rattle.wstore.specs.Commands.{Command, Declare, Take, Retire, Listing, Ask, Feed, Put, Get, IsDeclaration}
+use Rattle.wstore.specs.Commands.{Command, Declare, Take, Retire, Listing, Ask, Feed, Put, Get}
 use Rattle.wstore.specs.Replies.{Reply, Line, TookLine, WasLine, RefusedLine, SpentLine, line_item, line_items, Fed, Declared, RefusedTable, Took, Was, RefusedName, RefusedSegment, Names, Answered, RefusedQuery, Done, RefusedFile, NoMemory}
 use Rattle.wask.specs.Asking.{IsAnswer}
 use Rattle.wplanner.specs.declared.fault.AskFault.{AskFault}
@@ -233,6 +233,21 @@ AnswersUnder (Some d) h (Feed n piece) r = PieceAnswers (is_bad h n) d h n piece
 AnswersUnder (Some d) h (Put n slot) r = r ≡ Done
 AnswersUnder (Some d) h (Get slot n) r = FileAnswers d (slot_file d h slot) r
 
--- the reply that the history allows; any command but a declaration may find no memory
+-- the words are a name
+abbrev pub AreName : List ℕ → List ℕ → Type 0
+AreName origin number = (name : NameParts) × ReadsName origin number (Ok name)
+
+-- the commands that may find no memory; any other is answered without it: a declaration, a name that is none, a body over its limit, and a slot that was not put
+abbrev pub MayLackMemory : List Step → Command → Type 0
+MayLackMemory h (Declare bytes) = ⊥
+MayLackMemory h (Take n origin number bytes) = AreName origin number × (length bytes ≤ 67108864)
+MayLackMemory h (Retire n origin number) = AreName origin number
+MayLackMemory h (Listing n) = ⊤
+MayLackMemory h (Ask n text) = length text ≤ 65536
+MayLackMemory h (Feed n piece) = ⊤
+MayLackMemory h (Put n slot) = ⊤
+MayLackMemory h (Get slot n) = is_put h slot ≡ true
+
+-- the reply that the history allows
 abbrev pub Answers : List Step → Command → Reply → Type 0
-Answers h c r = AnswersUnder (declaration h) h c r ⊎ (¬ (IsDeclaration c) × (r ≡ NoMemory))
+Answers h c r = AnswersUnder (declaration h) h c r ⊎ (MayLackMemory h c × (r ≡ NoMemory))

@@ -1,12 +1,15 @@
 -- What histories tell: what a node knows and a slot holds, item by item, and the laws of it.
-use Rattle.std.specs.Prelude.{◌≡◌, ◌≢◌, ◌↔◌, ℕ, true, List, [], ◌∷◌, Option, None, Some, ◌⊎◌}
-use Rattle.std.specs.List.{IsAmong}
+use Rattle.std.specs.Prelude.{◌≡◌, ◌≢◌, ◌↔◌, ⊤, ℕ, true, List, [], ◌∷◌, ◌++◌, map, Option, None, Some, ◌⊎◌}
+use Rattle.std.specs.List.{IsAmong, AllByRecursion}
 use Rattle.wsegment.specs.Declaration.{Declaration}
 use Rattle.wset.specs.Views.{join}
 use Rattle.wset.specs.Items.{Item, view_of}
-use Rattle.wstore.specs.Commands.{Listing, Ask, Put, Get}
-use Rattle.wstore.specs.Replies.{Reply, Done, NoMemory}
-use Rattle.wstore.specs.History.{Step, Answers, declaration, delivers, gets, puts, known, held, is_put, slot_file}
+use Rattle.wsegment.specs.Spelling.{IsDeclaration}
+use Rattle.wexchange.specs.Files.{IsView}
+use Rattle.wstore.specs.Commands.{Command, Listing, Ask, Put, Get, IsMalformed}
+use Rattle.wstore.specs.Replies.{Line, SpentLine, Reply, Fed, Done, NoMemory}
+use Rattle.wstore.specs.History.{Step, Answers, declaration, is_declared, delivers, gets, puts, known, held, is_put, slot_file}
+use Rattle.wstore.specs.Runs.{Ran, asked}
 
 -- it is so at another place, if at any
 abbrev pub Drawn : Option ℕ → (ℕ → Type 0) → Type 0
@@ -61,3 +64,32 @@ SameAnswers = (g h : List Step) (m n : ℕ) (d : Declaration) (text : List ℕ) 
 abbrev pub SameLists : Type 0
 SameLists = (g h : List Step) (m n : ℕ) (d : Declaration) (r s : Reply) → KnowTheSame g h m n → declaration g ≡ Some d → declaration h ≡ Some d →
     Answers g (Listing m) r → Answers h (Listing n) s → r ≢ NoMemory → s ≢ NoMemory → r ≡ s
+
+-- a message that was not spent for want of memory
+abbrev pub IsHandled : Line → Type 0
+IsHandled (SpentLine item) = ⊥
+IsHandled line = ⊤
+
+-- a reply that no want of memory has part in
+abbrev pub HasMemory : Reply → Type 0
+HasMemory NoMemory = ⊥
+HasMemory (Fed lines bad) = AllByRecursion IsHandled lines
+HasMemory r = ⊤
+
+-- a slot that is got, if it was put, holds the file of a view of the table, as it does after any run of fewer than 2^32 names
+abbrev pub HoldsFile : List Step → Command → Type 0
+HoldsFile h (Get slot n) = (d : Declaration) → declaration h ≡ Some d → is_put h slot ≡ true → IsDeclaration d × IsView d (view_of (held h slot))
+HoldsFile h c = ⊤
+
+-- a command has one reply that no want of memory has part in
+abbrev pub OneReply : Type 0
+OneReply = (h : List Step) (c : Command) (r s : Reply) → HoldsFile h c → Answers h c r → Answers h c s → HasMemory r → HasMemory s → r ≡ s
+
+-- a run ends here: nothing is left, or what is left begins with no command
+abbrev pub EndsRun : List Step → List ℕ → Type 0
+EndsRun h rest = (rest ≡ []) ⊎ IsMalformed (is_declared h) rest
+
+-- an input has one reading as commands and a rest, whatever they are answered
+abbrev pub OneReading : Type 0
+OneReading = (s t : List Step) (g h : List Step) (rest more : List ℕ) → Ran [] s g → Ran [] t h → EndsRun g rest → EndsRun h more →
+    asked s ++ rest ≡ asked t ++ more → (map (λ x. x.command) s ≡ map (λ x. x.command) t) × (rest ≡ more)

@@ -7,7 +7,6 @@ pub mod Feeding
 pub mod History
 pub mod Laws
 pub mod Runs
-pub mod Texts
 pub mod Standing
 pub mod Sessions
 pub mod Steps

@@ -1,10 +1,11 @@
 -- What a request of the code stands for, and what was read where it was: old was left before it and new after it.
-use Rattle.std.specs.Prelude.{◌≡◌, ◌≢◌, ℕ, ◌<◌, Bool, List, ◌++◌, length, Option, IfSome, Ok, Err}
+use Rattle.std.specs.Prelude.{◌≡◌, ◌≢◌, ⊤, ℕ, ◌<◌, ◌≤◌, Bool, List, ◌++◌, length, Option, IfSome, Ok, Err}
 use Rattle.std.specs.Io.KnownBytes.{Keeps, Consumes, IsAtEnd}
 use Rattle.wvalues.specs.Names.{NameParts}
 use Rattle.wvalues.specs.NameReading.{ReadsName}
-use Rattle.wstore.specs.Commands.{Form, Command, Declare, Take, Retire, Listing, Ask, Feed, Put, Get, IsAllowed, IsCommand, IsDeclaration, IsMalformed, form_of, behind, spell}
+use Rattle.wstore.specs.Commands.{Form, Command, Declare, Take, Retire, Listing, Ask, Feed, Put, Get, IsAllowed, IsCommand, IsShortDeclaration, IsMalformed, form_of, behind, spell}
 use Rattle.wstore.specs.Headers.{IsHeaderOf}
+use Rattle.wstore.specs.History.{AreName}
 use Rattle.wstore.specs.declared.header.Header.{Header}
 use Rattle.wstore.specs.declared.request.Command as code
 use Rattle.wstore.specs.declared.request.Command.TheVariants as commands
@@ -24,12 +25,12 @@ IsRefusedAs refusals.LongSegment (Take node origin number bytes) = (name : NameP
 IsRefusedAs refusals.LongQuery (Ask node text) = 65536 < length text
 IsRefusedAs _ _ = ⊥
 
--- a node is told, asked, put or gets this
+-- a node is told, asked, put or gets this; its body is within its limit
 abbrev pub IsOrderAt : ℕ → Order → Command → Type 0
-IsOrderAt n (orders.Take name kept) (Take node origin number bytes) = (node ≡ n) × ReadsName origin number (Ok name) × (bytes ≡ kept.items)
+IsOrderAt n (orders.Take name kept) (Take node origin number bytes) = (node ≡ n) × ReadsName origin number (Ok name) × (bytes ≡ kept.items) × (length bytes ≤ 67108864)
 IsOrderAt n (orders.Retire name) (Retire node origin number) = (node ≡ n) × ReadsName origin number (Ok name)
 IsOrderAt n orders.List (Listing node) = node ≡ n
-IsOrderAt n (orders.Ask kept) (Ask node text) = (node ≡ n) × (text ≡ kept.items)
+IsOrderAt n (orders.Ask kept) (Ask node text) = (node ≡ n) × (text ≡ kept.items) × (length text ≤ 65536)
 IsOrderAt n (orders.Put k) (Put node slot) = (node ≡ n) × (slot ≡ k)
 IsOrderAt n (orders.Get k) (Get slot node) = (slot ≡ k) × (node ≡ n)
 IsOrderAt _ _ _ = ⊥
@@ -41,7 +42,7 @@ IsFeedOf n bytes c = ⊥
 
 -- the code's command is this one
 abbrev pub IsCommandOf : code.Command → Command → Type 0
-IsCommandOf (commands.Declare kept) (Declare bytes) = bytes ≡ kept.items
+IsCommandOf (commands.Declare kept) (Declare bytes) = (bytes ≡ kept.items) × (length bytes ≤ 65536)
 IsCommandOf (commands.Refused refusal) c = IsRefusedAs refusal c
 IsCommandOf (commands.At n order) c = IsOrderAt n order c
 IsCommandOf (commands.Feed n kept) c = IsFeedOf n kept.items c
@@ -55,11 +56,22 @@ IsBadBehind header declared xs = (c : Command) (rest : List ℕ) → IsHeaderOf 
 abbrev pub Behind : Header → Bool → (Command → Type 0) → Option (List ℕ) → Option (List ℕ) → Type 0
 Behind header declared P old new = (f : Form) → IsHeaderOf header f → (c : Command) × (form_of c ≡ f) × P c × IsAllowed declared c × Consumes old new (behind c)
 
+-- the body of the command, which is no declaration, is kept: it is within its limit, and the words of its name are one
+abbrev pub KeepsBody : Command → Type 0
+KeepsBody (Declare bytes) = ⊥
+KeepsBody (Take node origin number bytes) = AreName origin number × (length bytes ≤ 67108864)
+KeepsBody (Retire node origin number) = ⊥
+KeepsBody (Listing node) = ⊥
+KeepsBody (Ask node text) = length text ≤ 65536
+KeepsBody (Feed node piece) = ⊤
+KeepsBody (Put node slot) = ⊥
+KeepsBody (Get slot node) = ⊥
+
 -- what was read behind a header
 abbrev pub BehindReads : Request → Header → Bool → Option (List ℕ) → Option (List ℕ) → Type 0
 BehindReads (requests.Whole command) header declared old new = Behind header declared (IsCommandOf command) old new
-BehindReads requests.NoMemory header declared old new = Behind header declared (λ c. ¬ (IsDeclaration c)) old new
-BehindReads requests.NoRoom header declared old new = Behind header declared IsDeclaration old new
+BehindReads requests.NoMemory header declared old new = Behind header declared KeepsBody old new
+BehindReads requests.NoRoom header declared old new = Behind header declared IsShortDeclaration old new
 BehindReads requests.Closed header declared old new = ⊥
 BehindReads requests.Malformed header declared old new = IfSome old (λ xs. IsBadBehind header declared xs)
 
@@ -70,8 +82,8 @@ ReadsCommand declared P old new = (c : Command) × P c × IsCommand declared c �
 -- what was read next
 abbrev pub RequestReads : Request → Bool → Option (List ℕ) → Option (List ℕ) → Type 0
 RequestReads (requests.Whole command) declared old new = ReadsCommand declared (IsCommandOf command) old new
-RequestReads requests.NoMemory declared old new = ReadsCommand declared (λ c. ¬ (IsDeclaration c)) old new
-RequestReads requests.NoRoom declared old new = ReadsCommand declared IsDeclaration old new
+RequestReads requests.NoMemory declared old new = ReadsCommand declared KeepsBody old new
+RequestReads requests.NoRoom declared old new = ReadsCommand declared IsShortDeclaration old new
 RequestReads requests.Closed declared old new = Keeps old new × IsAtEnd new
 RequestReads requests.Malformed declared old new = IfSome old (λ xs. IsMalformed declared xs)
 

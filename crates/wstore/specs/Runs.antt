@@ -1,5 +1,5 @@
 -- A whole run: the replies that an input has.
-use Rattle.std.specs.Prelude.{◌≡◌, ℕ, List, [], ◌∷◌, ◌++◌, take, Some, ◌⊎◌}
+use Rattle.std.specs.Prelude.{◌≡◌, ℕ, ◌≤◌, List, [], ◌∷◌, ◌++◌, length, take, Some, ◌⊎◌}
 use Rattle.std.specs.List.{flat_map}
 use Rattle.wsegment.specs.Declaration.{Declaration}
 use Rattle.wstore.specs.Commands.{Command, Declare, Feed, IsCommand, IsMalformed, spell}
@@ -47,14 +47,15 @@ pub data Begins (h : List Step) (rest : List ℕ) : List ℕ → Type 0 where
   lines : (d : Declaration) (node : ℕ) (piece more : List ℕ) (told : List Line) (n : ℕ) → IsCommand (is_declared h) (Feed node piece) → rest ≡ spell (Feed node piece) ++ more → declaration h ≡ Some d → FeedBegins d h node piece told → Begins h rest (take n (flat_map line_text told))
   last : (n : ℕ) → IsMalformed (is_declared h) rest → Begins h rest (take n bad_script)
 
--- the rest begins with a declaration, which may stand there
+-- the rest begins with a declaration within its limit, which may stand there
 pub record IsDeclaring (h : List Step) (rest : List ℕ) : Type 0 where
   pub bytes : List ℕ
+  pub fits : length bytes ≤ 65536
   pub more : List ℕ
   pub command : IsCommand (is_declared h) (Declare bytes)
   pub rest_is : rest ≡ spell (Declare bytes) ++ more
 
--- what was written behind the replies, by the fault that ended the run: nothing, or for a write fault a front of what comes next. Want of memory comes at a declaration
+-- what was written behind the replies, by the fault that ended the run: nothing, or for a write fault a front of what comes next. Want of memory comes at a declaration within its limit
 abbrev pub Stops : RunFault → List Step → List ℕ → List ℕ → Type 0
 Stops Read h rest part = part ≡ []
 Stops Write h rest part = Begins h rest part

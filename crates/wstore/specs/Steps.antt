@@ -5,7 +5,7 @@ use Rattle.std.specs.Io.KnownBytes.{Keeps, Appends, Consumes, IsAtEnd}
 use Rattle.wvalues.specs.Counts.{Counts}
 use Rattle.wlines.specs.Pending.{IsSound, IsSoundWriter, ReadFailed}
 use Rattle.wsegment.specs.Declaration.{Declaration}
-use Rattle.wstore.specs.Commands.{Command, Feed, IsCommand, IsDeclaration, IsMalformed, spell}
+use Rattle.wstore.specs.Commands.{Command, Feed, IsCommand, IsShortDeclaration, IsMalformed, spell}
 use Rattle.wstore.specs.Replies.{Reply, Line, line_text, text_of, bad_script}
 use Rattle.wstore.specs.History.{Step, Answers, FeedBegins, declaration, is_declared}
 use Rattle.wstore.specs.Runs.{Stops}
@@ -58,11 +58,11 @@ pub record AnsweredLines (h : List Step) (c : Command) (held new_held : Option (
 abbrev pub FedPart : List Step → ℕ → List ℕ → Option (List ℕ) → Option (List ℕ) → Type 0
 FedPart h n piece held new_held = AnsweredPart h (Feed n piece) held new_held ⊎ AnsweredLines h (Feed n piece) held new_held
 
--- a command was not answered in full: the writer failed, or a declaration found no memory
+-- a command was not answered in full: the writer failed, or a declaration within its limit found no memory
 abbrev pub Unanswered : RunFault → List Step → Command → Option (List ℕ) → Option (List ℕ) → Type 0
 Unanswered Read h c held new_held = ⊥
 Unanswered Write h c held new_held = AnsweredPart h c held new_held ⊎ AnsweredLines h c held new_held
-Unanswered NoMemory h c held new_held = IsDeclaration c × Appends held new_held []
+Unanswered NoMemory h c held new_held = IsShortDeclaration c × Appends held new_held []
 
 -- one step
 pub record StepsOn (session : Session) (h : List Step) (left new_left held new_held : Option (List ℕ)) : Type 0 where

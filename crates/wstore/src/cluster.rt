@@ -1,25 +1,23 @@
 //! The nodes of a script, under one declaration.
-ghost use Rattle.std.specs.Prelude.{◌≡◌, ℕ, List, [], Ok, replicate, IfOk, IfErr, OnOk, OnErr, vec_len};
+ghost use Rattle.std.specs.Prelude.{◌≡◌, ◌≤◌, ℕ, List, [], Ok, true, length, replicate, IfOk, IfErr, OnOk, OnErr, vec_len};
 ghost use Rattle.wlines.specs.Pending.{IsSoundWriter};
 ghost use Rattle.std.specs.FinMap as map;
 ghost use Rattle.wsegment.specs.Declaration.{Declaration};
 ghost use Rattle.wvalues.specs.NameReading.{ReadsName};
 ghost use Rattle.wstore.specs.Commands.{Command as Spelled, Take, Retire as Retiring, Listing, Ask, Put, Get, node_count, slot_count};
-ghost use Rattle.wstore.specs.History.{Step, declaration};
+ghost use Rattle.wstore.specs.History.{Step, declaration, is_put};
 ghost use Rattle.wstore.specs.Nodes.{fresh_node};
 
 use crate::feeding::tell_messages;
 use crate::node::Node;
 use crate::numbers::{NODES, NodeNumber, SLOTS, SlotNumber};
-use crate::replies::{
-    Text, answer, names, refused_file, refused_query, refused_segment, retired, taken,
-};
 use crate::request::Order;
 use crate::runs::{RunFault, send};
 use crate::slot::Slot;
 use std::alloc::{AllocError, Global};
 use std::io::Write;
 use wexchange::PushFault;
+use wreplies::{Text, answer, names, refused_file, refused_query, refused_segment, retired, taken};
 use wsegment::Schema;
 use wvalues::{Counted, Name};
 
@@ -58,7 +56,7 @@ fn empty_slots(alloc: Global) -> Result<Vec<Slot>, AllocError>
 
 impl Cluster {
     ghost use Rattle.wstore.specs.Standing.{StandAt, AnswersAs, places};
-    ghost use Rattle.wstore.specs.Texts.{bytes_of};
+    ghost use Rattle.wreplies.specs.Texts.{bytes_of};
     ghost use Rattle.wstore.specs.Requests.{IsOrderAt};
     ghost use Rattle.wstore.specs.Feeding.{FedAs};
     ghost use Rattle.wstore.specs.Steps.{FedPart};
@@ -84,7 +82,7 @@ impl Cluster {
         name: Name,
         bytes: &[u8],
     ) -> Result<Text, AllocError>
-        ensures answers { IfOk result (λ text. (d : Declaration) (h : List Step) (origin number : List ℕ) → ReadsName origin number (Ok name) → StandAt d (places self.old.nodes.items self.old.slots.items) h → AnswersAs d (places self.new.nodes.items self.new.slots.items) h (Take node origin number bytes.now) (bytes_of text)) }
+        ensures answers { IfOk result (λ text. (d : Declaration) (h : List Step) (origin number : List ℕ) → length bytes.now ≤ 67108864 → ReadsName origin number (Ok name) → StandAt d (places self.old.nodes.items self.old.slots.items) h → AnswersAs d (places self.new.nodes.items self.new.slots.items) h (Take node origin number bytes.now) (bytes_of text)) }
         ensures err { OnErr result (self.new.nodes.items ≡ self.old.nodes.items) }
         ensures err_slots { OnErr result (self.new.slots.items ≡ self.old.slots.items) }
     {
@@ -121,7 +119,7 @@ impl Cluster {
 
     /// Asks a node.
     pub(crate) fn ask(&self, node: NodeNumber, text: &[u8]) -> Result<Text, AllocError>
-        ensures { IfOk result (λ reply. (d : Declaration) (h : List Step) → StandAt d (places self.now.nodes.items self.now.slots.items) h → AnswersAs d (places self.now.nodes.items self.now.slots.items) h (Ask node text.now) (bytes_of reply)) }
+        ensures { IfOk result (λ reply. (d : Declaration) (h : List Step) → length text.now ≤ 65536 → StandAt d (places self.now.nodes.items self.now.slots.items) h → AnswersAs d (places self.now.nodes.items self.now.slots.items) h (Ask node text.now) (bytes_of reply)) }
     {
         let place = node.place();
         match self.nodes[place].ask(text) {
@@ -149,11 +147,13 @@ impl Cluster {
         Ok(Text::Fixed(b"ok\n"))
     }
 
-    /// Joins what the file of a slot tells into a node, or refuses the slot's bytes.
+    /// Joins what the file of a slot tells into a node, or refuses the slot's bytes. A slot that was not put needs no
+    /// memory.
     pub(crate) fn get(&mut self, slot: SlotNumber, node: NodeNumber) -> Result<Text, AllocError>
         ensures answers { IfOk result (λ text. (d : Declaration) (h : List Step) → StandAt d (places self.old.nodes.items self.old.slots.items) h → AnswersAs d (places self.new.nodes.items self.new.slots.items) h (Get slot node) (bytes_of text)) }
         ensures err { OnErr result (self.new.nodes.items ≡ self.old.nodes.items) }
         ensures err_slots { OnErr result (self.new.slots.items ≡ self.old.slots.items) }
+        ensures lacks { OnErr result ((d : Declaration) (h : List Step) → StandAt d (places self.old.nodes.items self.old.slots.items) h → is_put h slot ≡ true) }
     {
         let from = slot.place();
         let to = node.place();
@@ -195,6 +195,7 @@ impl Cluster {
         ensures answers { IfOk result (λ text. (d : Declaration) (h : List Step) (c : Spelled) → IsOrderAt node order.now c → StandAt d (places self.old.nodes.items self.old.slots.items) h → AnswersAs d (places self.new.nodes.items self.new.slots.items) h c (bytes_of text)) }
         ensures err { OnErr result (self.new.nodes.items ≡ self.old.nodes.items) }
         ensures err_slots { OnErr result (self.new.slots.items ≡ self.old.slots.items) }
+        ensures lacks { OnErr result ((slot : ℕ) (d : Declaration) (h : List Step) → order.now ≡ Order.Get slot → StandAt d (places self.old.nodes.items self.old.slots.items) h → is_put h slot ≡ true) }
     {
         match order {
             Order::Take(name, bytes) => {

@@ -2,16 +2,16 @@
 ghost use Rattle.std.specs.Prelude.{◌≡◌, ◌++◌, ℕ, [], ◌∷◌, take, decimal, false, IfErr, OnOk, OnErr};
 ghost use Rattle.std.specs.Io.KnownBytes.{Appends};
 ghost use Rattle.wlines.specs.Pending.{IsSoundWriter};
-ghost use Rattle.wstore.specs.Texts.{bytes_of};
+ghost use Rattle.wreplies.specs.Texts.{bytes_of};
 ghost use Rattle.wstore.specs.Replies.{fed_text};
 ghost use Rattle.wstore.specs.Feeding.{IsTextOf, SendsAll, SendsPart};
 
 use crate::node::{Node, Reply};
-use crate::replies::{Text, refused_segment, retired, taken};
 use crate::runs::{RunFault, send};
 use itoa::Buffer;
 use std::alloc::Global;
 use std::io::Write;
+use wreplies::{Text, refused_segment, retired, taken};
 use wvalues::Counted;
 
 // What a message was told, as it is spelled. A refusal that finds no memory is told as a message that found none.

@@ -1,5 +1,5 @@
 //! The laws of histories. The functions do nothing when run: each is the proof of its contract.
-ghost use Rattle.wstore.specs.Laws.{ListsAreExact, SameAnswers, SameFiles, SameLists, SameViews, SlotsJoin};
+ghost use Rattle.wstore.specs.Laws.{ListsAreExact, OneReading, OneReply, SameAnswers, SameFiles, SameLists, SameViews, SlotsJoin};
 
 /// What a node knows and a slot holds, as lists, is what is known and held item by item.
 pub fn exact_lists()
@@ -18,4 +18,15 @@ pub fn same_knowledge()
     ensures files { SameFiles }
     ensures answers { SameAnswers }
     ensures lists { SameLists }
+{}
+
+/// An input has one reading: whatever its commands are answered, they are the same, and so is what is left behind them.
+pub fn one_reading()
+    ensures { OneReading }
+{}
+
+/// A command has one reply that no want of memory has part in: neither the reply nor a message of a piece found none. A
+/// slot that is got holds the file of a view, as after each run of fewer than 2^32 names.
+pub fn one_reply()
+    ensures { OneReply }
 {}

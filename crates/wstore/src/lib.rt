@@ -20,7 +20,6 @@ pub mod laws;
 mod node;
 mod numbers;
 mod reading;
-mod replies;
 mod request;
 mod runs;
 mod session;

@@ -16,7 +16,7 @@ ghost use Rattle.wask.specs.Asking.{IsAnswer};
 use std::alloc::{AllocError, Global};
 use std::marker::Model;
 use wask::{AskFault, ask};
-use wexchange::{BadStream, FileFault, Inbox, Message, PushFault, read, write};
+use wexchange::{BadStream, FileFault, Inbox, Message, PushFault, read_beside, write};
 use wsegment::{Schema, SegmentFault};
 use wset::{Listed, Retired, SegmentSet, TakeError, Taken};
 use wvalues::{Counted, Name};
@@ -120,14 +120,14 @@ impl Node {
         }
     }
 
-    /// Learns all that an exchange file tells. Where the bytes are no such file of the node's table, or memory runs
-    /// out, the node is as it was.
+    /// Learns all that an exchange file tells. A segment that the node has live with these bytes is compared, and not
+    /// read again. Where the bytes are no such file of the node's table, or memory runs out, the node is as it was.
     pub fn get(&mut self, bytes: &[u8]) -> Result<(), FileFault>
         ensures ok { OnOk result (LearnsFile self.old bytes.now self.new) }
         ensures refused { IfErr result (λ fault. IsFault self.old.schema bytes.now fault) }
         ensures err { OnErr result (self.new ≡ self.old) }
     {
-        match read(self.alloc, self.set.schema(), bytes) {
+        match read_beside(self.alloc, &self.set, bytes) {
             Ok(set) => match self.set.join(&set) {
                 Ok(()) => Ok(()),
                 // The file is of the node's table, so that a join fails for want of memory alone.

@@ -40,9 +40,9 @@ pub(crate) enum Command {
 #[derive(Drop)]
 pub(crate) enum Request {
     Whole(Command),
-    /// A command, not a declaration, whose body found no memory and was dropped.
+    /// A command, not a declaration, whose body is within its limit, found no memory and was dropped.
     NoMemory,
-    /// A declaration that found no memory and was dropped.
+    /// A declaration within its limit that found no memory and was dropped.
     NoRoom,
     /// The end of the input.
     Closed,

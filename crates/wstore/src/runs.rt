@@ -1,5 +1,5 @@
 //! Runs a script.
-ghost use Rattle.std.specs.Prelude.{false, ◌≡◌, ℕ, ◌<◌, take, List, Some, None, IfOk, IfErr, OnOk, OnErr, IfSome, IsNone, is_some, true};
+ghost use Rattle.std.specs.Prelude.{false, ◌≡◌, ℕ, ◌<◌, ◌≤◌, length, take, List, Some, None, IfOk, IfErr, OnOk, OnErr, IfSome, IsNone, is_some, true};
 ghost use Rattle.std.specs.Io.KnownBytes.{Appends};
 ghost use Rattle.wlines.specs.Pending.{left, budget, IsNew, IsSound, IsSoundWriter};
 ghost use Rattle.wstore.specs.Commands.{Command as Spelled, Declare, IsAllowed};
@@ -37,7 +37,7 @@ pub enum RunFault {
     /// The writer failed.
     #[error("write fault")]
     Write,
-    /// A growth was refused before anything was read, or at a declaration.
+    /// A growth was refused before anything was read, or at a declaration within its limit.
     #[error("no memory")]
     NoMemory,
 }
@@ -57,7 +57,7 @@ pub(crate) fn send<W: Write>(output: &mut Counted<W>, reply: &[u8]) -> Result<()
     }
 }
 
-/// Declares the table, and writes the reply.
+/// Declares the table, and writes the reply. A declaration over its limit is refused as it is read, without memory.
 fn declare<W: Write>(
     output: &mut Counted<W>,
     session: &mut Session,
@@ -66,7 +66,7 @@ fn declare<W: Write>(
     requires { IsSoundWriter output.old }
     ensures ok { OnOk result ((h : List Step) → is_declared h ≡ false → Stands session.old h → Answered session.new h (Declare bytes.now) (W.contents output.old.inner) (W.contents output.new.inner)) }
     ensures sound { OnOk result (IsSoundWriter output.new) }
-    ensures part { IfErr result (λ fault. (h : List Step) → is_declared h ≡ false → Stands session.old h → Unanswered fault h (Declare bytes.now) (W.contents output.old.inner) (W.contents output.new.inner)) }
+    ensures part { IfErr result (λ fault. (h : List Step) → length bytes.now ≤ 65536 → is_declared h ≡ false → Stands session.old h → Unanswered fault h (Declare bytes.now) (W.contents output.old.inner) (W.contents output.new.inner)) }
     ensures cause { IfErr result (λ e. HasWriteCause e output.new) }
 {
     let Ok(text) = session.declare(bytes) else {

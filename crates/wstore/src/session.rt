@@ -3,20 +3,20 @@ ghost use Rattle.std.specs.Prelude.{[], ◌≡◌, ◌<◌, ℕ, List, ◌∷◌
 ghost use Rattle.wsegment.specs.Declaration.{Declaration};
 ghost use Rattle.wstore.specs.Commands.{Command as Spelled, Declare, Feed, IsAllowed};
 ghost use Rattle.wstore.specs.Requests.{IsOrderAt, IsRefusedAs};
-ghost use Rattle.wstore.specs.History.{Step, is_declared};
-ghost use Rattle.wstore.specs.Texts.{bytes_of};
+ghost use Rattle.wstore.specs.History.{Step, MayLackMemory, is_declared};
+ghost use Rattle.wreplies.specs.Texts.{bytes_of};
 ghost use Rattle.wlines.specs.Pending.{IsSoundWriter};
 ghost use Rattle.wstore.specs.Sessions.{Stands, Tells};
 ghost use Rattle.wstore.specs.Steps.{Answered, FedPart};
 
 use crate::cluster::Cluster;
 use crate::numbers::NodeNumber;
-use crate::replies::{Text, refused_name, refused_table};
 use crate::request::{Order, Refusal};
 use crate::runs::RunFault;
 use std::alloc::{AllocError, Global};
 use std::io::Write;
-use wsegment::Schema;
+use wreplies::{Text, refused_name, refused_table};
+use wsegment::{Schema, SchemaFault};
 use wvalues::Counted;
 
 /// The nodes of a script, once its table is declared.
@@ -56,10 +56,8 @@ impl Session {
                 self.cluster = Some(cluster);
                 Ok(Text::Fixed(b"ok\n"))
             }
-            Err(fault) => match refused_table(fault) {
-                Some(text) => Ok(Text::Fixed(text)),
-                None => Err(AllocError),
-            },
+            Err(SchemaFault::NoMemory) => Err(AllocError),
+            Err(fault) => Ok(Text::Fixed(refused_table(fault))),
         }
     }
 }
@@ -70,6 +68,7 @@ impl Session {
         requires { is_some self.old.cluster ≡ true }
         ensures tells { IfOk result (λ text. (h : List Step) (c : Spelled) → IsOrderAt node order.now c → Stands self.old h → Tells self.new h c (bytes_of text)) }
         ensures err { OnErr result ((h : List Step) → Stands self.old h → Stands self.new h) }
+        ensures lacks { OnErr result ((h : List Step) (c : Spelled) → IsOrderAt node order.now c → Stands self.old h → MayLackMemory h c) }
     {
         let Some(cluster) = &mut self.cluster else {
             unreachable!()
@@ -99,7 +98,7 @@ impl Session {
         cluster.feed(output, node, piece)
     }
 
-    /// The reply of a node, which may be that it finds no memory.
+    /// The reply of a node, which may be that it finds no memory, where the command needs some.
     pub(crate) fn reply(&mut self, node: NodeNumber, order: &Order) -> Text
         requires { is_some self.old.cluster ≡ true }
         ensures { (h : List Step) (c : Spelled) → IsOrderAt node order.now c → Stands self.old h → Tells self.new h c (bytes_of result) }

@@ -1,48 +1,128 @@
-//! The program: runs a script from standard input, and writes its replies to standard output.
+//! The program. Its words choose a subcommand on files, or a script from standard input.
 //!
-//! It takes no words. It ends with status 0 where the script ended, 2 at a bad script or a word, and 3 at a
-//! fault, whose name it writes to standard error.
+//! It ends with status 0 where all was done, 1 where a subcommand was refused, 2 at a bad script and at words that are
+//! not understood, and 3 at a fault, whose name it writes to standard error.
 #![tactic(auto)]
 
-use std::env::{self, Env};
-use std::io;
+ghost use Rattle.std.specs.Prelude.{◌≡◌, ◌≢◌};
+ghost use Rattle.std.specs.Process.{exit_status};
+ghost use Rattle.wcommand.specs.declared.choice.Choice.TheVariants.{Session};
+ghost use Rattle.wstore_program.specs.Statuses.{HasFileStatus, HasWordsStatus, script_status};
+
+mod acting;
+mod fault;
+mod files;
+
+use acting::perform;
+use fault::Fault;
+use std::env;
+use std::fs::File;
+use std::io::{self, ErrorKind, Write};
 use std::process::ExitCode;
-use wstore::{End, run};
+use std::rt::Files;
+use wcommand::{Choice, Paths, WordsFault, choose};
+use wstore::{End, RunFault, run};
 use wvalues::Counted;
 
-/// The status of a bad script, and of words that the program does not take.
-const REFUSED: u8 = 2;
+/// The status of a bad script, and of words that are not understood.
+const MISUNDERSTOOD: u8 = 2;
 
 /// The status of a fault.
 const FAILED: u8 = 3;
 
-/// Whether a word stands behind the program's name.
-fn has_words(rt: &(impl Env + Alloc)) -> io::Result<bool> {
-    let mut words = env::args(rt)?;
-    let _program = words.next();
-    Ok(words.next().is_some())
+// The status of a fault, whose name is written to standard error.
+fn failed(rt: &impl Eprint, fault: Fault) -> ExitCode
+    ensures { exit_status result ≡ 3 }
+{
+    let _ = eprintln!(rt; "{fault}");
+    ExitCode::from(FAILED)
+}
+
+// The status of a script's end.
+fn ended(rt: &impl Eprint, end: Result<End, RunFault>) -> ExitCode
+    ensures { exit_status result ≡ script_status end }
+{
+    match end {
+        Ok(End::Done) => ExitCode::SUCCESS,
+        Ok(End::Bad) => ExitCode::from(MISUNDERSTOOD),
+        Err(RunFault::Read) => failed(rt, Fault::Read),
+        Err(RunFault::Write) => failed(rt, Fault::Write),
+        Err(RunFault::NoMemory) => failed(rt, Fault::NoMemory),
+    }
+}
+
+// Runs a script from standard input.
+fn run_session(rt: &HostRuntime) -> ExitCode {
+    let mut input = Counted::new(rt.stdin());
+    let mut output = Counted::new(rt.stdout());
+    ended(rt, run(rt.alloc(), &mut input, &mut output))
+}
+
+// Runs a subcommand on its files, and prints its reply.
+fn run_on_files<R: Files<File = File> + Print + Eprint + AllocGlobal>(
+    rt: &R,
+    choice: &Choice<'_>,
+    paths: Paths<'_>,
+) -> ExitCode
+    requires { choice.now ≢ Session }
+    ensures { HasFileStatus choice.now (exit_status result) }
+{
+    match perform(rt, choice, paths) {
+        Ok(acted) => match io::writer(rt).write_all(acted.output.as_slice()) {
+            Ok(()) => ExitCode::from(acted.status),
+            Err(_) => failed(rt, Fault::Write),
+        },
+        Err(fault) => failed(rt, fault),
+    }
+}
+
+// Prints why the words choose nothing, or what they ask for.
+fn tell(rt: &(impl Print + Eprint), fault: WordsFault) -> ExitCode
+    ensures { HasWordsStatus fault (exit_status result) }
+{
+    match fault {
+        WordsFault::Help(text) => match print!(rt; "{text}") {
+            Ok(()) => ExitCode::SUCCESS,
+            Err(_) => failed(rt, Fault::Write),
+        },
+        WordsFault::Refused(text) => {
+            let _ = eprint!(rt; "{text}");
+            ExitCode::from(MISUNDERSTOOD)
+        }
+        WordsFault::NoMemory => failed(rt, Fault::NoMemory),
+    }
+}
+
+// Does what the words choose.
+fn run_words(rt: &HostRuntime, words: &[&str]) -> ExitCode {
+    match choose(rt.alloc(), words) {
+        Ok(choice) => match choice.paths() {
+            Some(paths) => run_on_files(rt, &choice, paths),
+            None => run_session(rt),
+        },
+        Err(fault) => tell(rt, fault),
+    }
 }
 
 fn main(rt: HostRuntime) -> ExitCode {
-    match has_words(&rt) {
-        Ok(false) => {}
-        Ok(true) => {
-            let _ = eprintln!(rt; "usage: wstore < script");
-            return ExitCode::from(REFUSED);
+    let alloc = rt.alloc();
+    let words = match env::args(&rt) {
+        Ok(words) => words,
+        Err(error) if error.kind() == ErrorKind::InvalidData => {
+            let _ = eprintln!(rt; "error: a word is not UTF-8");
+            return ExitCode::from(MISUNDERSTOOD);
         }
-        Err(_) => {
-            let _ = eprintln!(rt; "no memory");
-            return ExitCode::from(FAILED);
-        }
-    }
-    let mut input = Counted::new(rt.stdin());
-    let mut output = Counted::new(rt.stdout());
-    match run(rt.alloc(), &mut input, &mut output) {
-        Ok(End::Done) => ExitCode::SUCCESS,
-        Ok(End::Bad) => ExitCode::from(REFUSED),
-        Err(fault) => {
-            let _ = eprintln!(rt; "{fault}");
-            ExitCode::from(FAILED)
-        }
-    }
+        Err(_) => return failed(&rt, Fault::NoMemory),
+    };
+    let Ok(words) = words.skip(1).collect::<Vec<String>>(alloc) else {
+        return failed(&rt, Fault::NoMemory);
+    };
+    let Ok(texts) = words
+        .iter()
+        .map(|word| word.as_str())
+        .collect::<Vec<&str>>(alloc)
+    else {
+        return failed(&rt, Fault::NoMemory);
+    };
+    run_words(&rt, texts.as_slice())
 }

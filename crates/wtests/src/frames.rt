@@ -7,6 +7,9 @@ use wvalues::{SortKey, Value, Whole};
 // Four rows in the order of their days.
 const DAYS: [Option<i64>; 4] = [Some(1), Some(2), Some(2), Some(4)];
 
+/// The greatest offset that a query may have.
+const GREATEST: u128 = 9_223_372_036_854_775_807;
+
 const ONE_PARTITION: [Option<i64>; 4] = [None; 4];
 
 const ASCENDING: SortKey = SortKey {
@@ -47,6 +50,11 @@ fn cells(alloc: Global, numbers: &[Option<i64>]) -> Result<Vec<Value>, AllocErro
     Ok(cells)
 }
 
+// What is lent of some values.
+fn lent<'a>(alloc: Global, values: &'a [Value]) -> Result<Vec<&'a Value>, AllocError> {
+    values.iter().collect(alloc)
+}
+
 // How many rows each frame has, for partitions by the first numbers and one key by the second.
 fn sizes(
     rt: &impl Abort,
@@ -56,15 +64,16 @@ fn sizes(
     key: SortKey,
     frame: Frame,
 ) -> Result<Vec<usize>, Fail> {
-    let value_cells = cells(alloc, values)?;
-    let key_cells = cells(alloc, numbers)?;
+    let partition_values = cells(alloc, values)?;
+    let value_cells = lent(alloc, &partition_values)?;
+    let key_values = cells(alloc, numbers)?;
+    let key_cells = lent(alloc, &key_values)?;
     let value_keys = [ASCENDING];
     let keys = [key];
     assert_eq!(rt; value_cells.len(), key_cells.len());
     let values = KeyRows::new(&value_cells, &value_keys, key_cells.len());
     let keys = KeyRows::new(&key_cells, &keys, key_cells.len());
     assert!(rt; are_in_order(&values, &keys));
-    assert!(rt; has_integer_key(&keys));
     let partitions = Partitions::build(alloc, &values, keys, frame)?;
     let mut sizes = Vec::new(alloc);
     for k in 0..partitions.count() {
@@ -77,61 +86,76 @@ fn sizes(
     Ok(sizes)
 }
 
+// Frames over these days in ascending order, and how many rows each has.
+const BY_DAY: [(
+    FrameMode,
+    FrameBound,
+    FrameBound,
+    FrameExclusion,
+    [usize; 4],
+); 8] = [
+    (
+        FrameMode::Range,
+        FrameBound::UnboundedPreceding,
+        FrameBound::CurrentRow,
+        FrameExclusion::NoOthers,
+        [1, 3, 3, 4],
+    ),
+    (
+        FrameMode::Range,
+        FrameBound::Preceding(1),
+        FrameBound::Following(1),
+        FrameExclusion::NoOthers,
+        [3, 3, 3, 1],
+    ),
+    (
+        FrameMode::Range,
+        FrameBound::Preceding(GREATEST),
+        FrameBound::Following(GREATEST),
+        FrameExclusion::NoOthers,
+        [4, 4, 4, 4],
+    ),
+    (
+        FrameMode::Groups,
+        FrameBound::Preceding(1),
+        FrameBound::CurrentRow,
+        FrameExclusion::Ties,
+        [1, 2, 2, 3],
+    ),
+    (
+        FrameMode::Rows,
+        FrameBound::Following(1),
+        FrameBound::Following(2),
+        FrameExclusion::Ties,
+        [2, 1, 1, 0],
+    ),
+    (
+        FrameMode::Rows,
+        FrameBound::Preceding(1),
+        FrameBound::Following(1),
+        FrameExclusion::CurrentRow,
+        [1, 2, 2, 1],
+    ),
+    (
+        FrameMode::Range,
+        FrameBound::UnboundedPreceding,
+        FrameBound::UnboundedFollowing,
+        FrameExclusion::Group,
+        [3, 2, 2, 3],
+    ),
+    (
+        FrameMode::Rows,
+        FrameBound::Preceding(7),
+        FrameBound::Preceding(8),
+        FrameExclusion::NoOthers,
+        [0, 0, 0, 0],
+    ),
+];
+
 #[test]
 fn frames_by_day(rt: HostRuntime) -> Result<(), Fail> {
-    use FrameBound::*;
-    let (ties, none) = (FrameExclusion::Ties, FrameExclusion::NoOthers);
-    let greatest = 9_223_372_036_854_775_807;
-    let cases = [
-        (
-            frame(FrameMode::Range, UnboundedPreceding, CurrentRow, none),
-            [1, 3, 3, 4],
-        ),
-        (
-            frame(FrameMode::Range, Preceding(1), Following(1), none),
-            [3, 3, 3, 1],
-        ),
-        (
-            frame(
-                FrameMode::Range,
-                Preceding(greatest),
-                Following(greatest),
-                none,
-            ),
-            [4, 4, 4, 4],
-        ),
-        (
-            frame(FrameMode::Groups, Preceding(1), CurrentRow, ties),
-            [1, 2, 2, 3],
-        ),
-        (
-            frame(FrameMode::Rows, Following(1), Following(2), ties),
-            [2, 1, 1, 0],
-        ),
-        (
-            frame(
-                FrameMode::Rows,
-                Preceding(1),
-                Following(1),
-                FrameExclusion::CurrentRow,
-            ),
-            [1, 2, 2, 1],
-        ),
-        (
-            frame(
-                FrameMode::Range,
-                UnboundedPreceding,
-                UnboundedFollowing,
-                FrameExclusion::Group,
-            ),
-            [3, 2, 2, 3],
-        ),
-        (
-            frame(FrameMode::Rows, Preceding(7), Preceding(8), none),
-            [0, 0, 0, 0],
-        ),
-    ];
-    for (frame, want) in cases {
+    for (mode, start, end, exclusion, want) in BY_DAY {
+        let frame = frame(mode, start, end, exclusion);
         let found = sizes(&rt, rt.alloc(), &ONE_PARTITION, &DAYS, ASCENDING, frame)?;
         assert_eq!(rt; found.as_slice(), want.as_slice(), "at {frame:?}");
     }
@@ -197,7 +221,8 @@ fn frames_in_partitions(rt: HostRuntime) -> Result<(), Fail> {
 #[test]
 fn places_among_all_rows(rt: HostRuntime) -> Result<(), Fail> {
     let alloc = rt.alloc();
-    let shops = cells(alloc, &[Some(1), Some(1), Some(2), Some(2)])?;
+    let shop_values = cells(alloc, &[Some(1), Some(1), Some(2), Some(2)])?;
+    let shops = lent(alloc, &shop_values)?;
     let shop = [ASCENDING];
     assert_eq!(rt; shops.len(), 4);
     let values = KeyRows::new(&shops, &shop, 4);

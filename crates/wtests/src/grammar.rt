@@ -17,55 +17,52 @@ fn is_refused(alloc: Global, text: &[u8]) -> bool {
 
 #[test]
 fn counts_rows(rt: HostRuntime) -> Result<(), Fail> {
-    let query = parsed(rt.alloc(), b"select COUNT ( * ) -- x\nfrom \"sales\" ;");
-    assert!(rt;
-        matches!(
-            &query,
-            Ok(Query {
-                source: Source::Table { alias: None, .. },
-                condition: None,
-                limit: None,
-                ..
-            })
-        )
-    );
+    let query = parsed(rt.alloc(), b"select COUNT ( * ) -- x\nfrom \"sales\" ;")?;
+    assert!(rt; matches!(query.source, Source::Table { alias: None, .. }));
+    assert!(rt; query.condition.is_none());
+    assert!(rt; query.limit.is_none());
+    Ok(())
+}
+
+#[test]
+fn refusals(rt: HostRuntime) {
     assert!(rt; is_refused(rt.alloc(), b""));
     assert!(rt; is_refused(rt.alloc(), b"SELECT --1 FROM sales"));
     assert!(rt; is_refused(rt.alloc(), b"SELECT a < b < c FROM sales"));
     assert!(rt; is_refused(rt.alloc(), b"SELECT day FROM sales;;"));
-    Ok(())
+}
+
+fn is_conjunction(condition: &Expression) -> bool {
+    matches!(
+        condition,
+        Expression::Chain {
+            kind: ChainKind::Conjunction,
+            ..
+        }
+    )
 }
 
 #[test]
 fn negates_the_comparison(rt: HostRuntime) -> Result<(), Fail> {
     let query = parsed(
         rt.alloc(),
-        b"SELECT count(*) FROM sales WHERE NOT day = 2 AND a BETWEEN 1 AND 2 LIMIT 5 OFFSET 3",
-    );
+        b"SELECT count(*) FROM sales WHERE NOT day = 2 AND a BETWEEN 1 AND 2",
+    )?;
     assert!(rt;
-        matches!(
-            &query,
-            Ok(Query {
-                condition: Some(Expression::Chain {
-                    kind: ChainKind::Conjunction,
-                    ..
-                }),
-                limit: Some(limit),
-                offset: Some(offset),
-                ..
-            }) if limit.get() == 5 && offset.get() == 3
-        )
+        query
+            .condition
+            .is_some_and(|condition| is_conjunction(&condition))
     );
-    let query = parsed(rt.alloc(), b"SELECT count(*) FROM sales WHERE NOT day = 2");
-    assert!(rt;
-        matches!(
-            &query,
-            Ok(Query {
-                condition: Some(Expression::Not(_)),
-                ..
-            })
-        )
-    );
+    let query = parsed(rt.alloc(), b"SELECT count(*) FROM sales WHERE NOT day = 2")?;
+    assert!(rt; matches!(query.condition, Some(Expression::Not(_))));
+    Ok(())
+}
+
+#[test]
+fn limit_and_offset(rt: HostRuntime) -> Result<(), Fail> {
+    let query = parsed(rt.alloc(), b"SELECT count(*) FROM sales LIMIT 5 OFFSET 3")?;
+    assert_eq!(rt; query.limit.map(|limit| limit.get()), Some(5));
+    assert_eq!(rt; query.offset.map(|offset| offset.get()), Some(3));
     Ok(())
 }
 

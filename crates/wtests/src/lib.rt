@@ -5,13 +5,19 @@
 #![tactic(auto)]
 
 #[cfg(test)]
+mod folds;
+#[cfg(test)]
 mod frames;
 #[cfg(test)]
 mod grammar;
 #[cfg(test)]
 mod lines;
 #[cfg(test)]
+mod nodes;
+#[cfg(test)]
 mod places;
+#[cfg(test)]
+mod rules;
 #[cfg(test)]
 mod segments;
 #[cfg(test)]
@@ -20,3 +26,5 @@ mod sets;
 mod tokens;
 #[cfg(test)]
 mod values;
+#[cfg(test)]
+mod windows;

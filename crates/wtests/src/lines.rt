@@ -4,6 +4,7 @@ ghost use Rattle.wlines.specs.Pending.{IsNew};
 
 use std::io;
 use std::io::{ErrorKind, Read, Write};
+use std::process::Abort;
 use std::test::Fail;
 use wlines::{
     Body, Line, LineEnd, Source, is_word, read_body, read_line, skip_body, split_word, write_reply,
@@ -107,30 +108,31 @@ fn a_failure_is_a_fault(rt: HostRuntime) -> Result<(), Fail> {
     Ok(())
 }
 
+// Reads a body of three bytes, which is there or not.
+fn is_body(rt: &(impl Abort + AllocGlobal), bytes: &[u8], is_there: bool) -> Result<(), Fail> {
+    let mut source = Source::new(rt.alloc())?;
+    match read_body(rt.alloc(), &mut source, &mut slow(bytes, false), 3)? {
+        Body::Whole(body) => {
+            assert!(rt; is_there);
+            assert_eq!(rt; body.as_slice(), b"a\nc".as_slice());
+        }
+        Body::Malformed => assert!(rt; !is_there),
+        Body::NoMemory => assert!(rt; false),
+    }
+    let mut other = Source::new(rt.alloc())?;
+    assert_eq!(rt;
+        skip_body(&mut other, &mut slow(bytes, false), 3)?,
+        is_there
+    );
+    Ok(())
+}
+
 #[test]
 fn bodies(rt: HostRuntime) -> Result<(), Fail> {
-    for (bytes, is_there) in [
-        (b"a\nc\n".as_slice(), true),
-        (b"a\nc", false),
-        (b"a\ncd\n", false),
-        (b"a\n", false),
-    ] {
-        let mut source = Source::new(rt.alloc())?;
-        match read_body(rt.alloc(), &mut source, &mut slow(bytes, false), 3)? {
-            Body::Whole(body) => {
-                assert!(rt; is_there);
-                assert_eq!(rt; body.as_slice(), b"a\nc".as_slice());
-            }
-            Body::Malformed => assert!(rt; !is_there),
-            Body::NoMemory => assert!(rt; false),
-        }
-        let mut other = Source::new(rt.alloc())?;
-        assert_eq!(rt;
-            skip_body(&mut other, &mut slow(bytes, false), 3)?,
-            is_there
-        );
-    }
-    Ok(())
+    is_body(&rt, b"a\nc\n", true)?;
+    is_body(&rt, b"a\nc", false)?;
+    is_body(&rt, b"a\ncd\n", false)?;
+    is_body(&rt, b"a\n", false)
 }
 
 #[test]

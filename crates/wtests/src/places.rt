@@ -1,10 +1,7 @@
 use std::alloc::{AllocError, Global};
 use std::process::Abort;
 use std::test::Fail;
-use wframe::{
-    Frame, FrameBound, FrameExclusion, FrameMode, KeyRows, Partitions, are_in_order,
-    has_integer_key,
-};
+use wframe::{Frame, FrameBound, FrameExclusion, FrameMode, KeyRows, Partitions, are_in_order};
 use wplaces::*;
 use wvalues::{SortKey, Value, Whole};
 
@@ -42,11 +39,16 @@ fn cells(alloc: Global, numbers: &[Option<i64>]) -> Result<Vec<Value>, AllocErro
     Ok(cells)
 }
 
+// What is lent of some values.
+fn lent<'a>(alloc: Global, values: &'a [Value]) -> Result<Vec<&'a Value>, AllocError> {
+    values.iter().collect(alloc)
+}
+
 // Rows of one partition, by one key.
 fn one_partition<'a>(
     rt: &impl Abort,
     alloc: Global,
-    cells: &'a [Value],
+    cells: &'a [&'a Value],
     keys: &'a [SortKey],
     frame: Frame,
 ) -> Result<Partitions<'a>, Fail> {
@@ -54,14 +56,14 @@ fn one_partition<'a>(
     let values = KeyRows::new(&[], &[], cells.len());
     let keys = KeyRows::new(cells, keys, cells.len());
     assert!(rt; are_in_order(&values, &keys));
-    assert!(rt; has_integer_key(&keys));
     Ok(Partitions::build(alloc, &values, keys, frame)?)
 }
 
 #[test]
 fn ranks_by_day(rt: HostRuntime) -> Result<(), Fail> {
     let alloc = rt.alloc();
-    let days = cells(alloc, &DAYS)?;
+    let days_values = cells(alloc, &DAYS)?;
+    let days = lent(alloc, &days_values)?;
     let partitions = one_partition(&rt, alloc, &days, &[ASCENDING], DEFAULT)?;
     assert_eq!(rt; partitions.count(), 1);
     let frames = partitions.partition(0);
@@ -84,7 +86,8 @@ fn ranks_by_day(rt: HostRuntime) -> Result<(), Fail> {
 #[test]
 fn ranks_by_amount(rt: HostRuntime) -> Result<(), Fail> {
     let alloc = rt.alloc();
-    let amounts = cells(alloc, &[None, Some(20), Some(10), Some(5)])?;
+    let amounts_values = cells(alloc, &[None, Some(20), Some(10), Some(5)])?;
+    let amounts = lent(alloc, &amounts_values)?;
     let partitions = one_partition(&rt, alloc, &amounts, &[DESCENDING], DEFAULT)?;
     assert_eq!(rt; partitions.count(), 1);
     let ranks = rank(alloc, &partitions.partition(0))?;
@@ -95,7 +98,8 @@ fn ranks_by_amount(rt: HostRuntime) -> Result<(), Fail> {
 #[test]
 fn tiles_of_five_rows(rt: HostRuntime) -> Result<(), Fail> {
     let alloc = rt.alloc();
-    let days = cells(alloc, &[Some(1), Some(2), Some(2), Some(3), Some(4)])?;
+    let days_values = cells(alloc, &[Some(1), Some(2), Some(2), Some(3), Some(4)])?;
+    let days = lent(alloc, &days_values)?;
     let partitions = one_partition(&rt, alloc, &days, &[ASCENDING], DEFAULT)?;
     assert_eq!(rt; partitions.count(), 1);
     let tiles = ntile(alloc, &partitions.partition(0), 3)?;
@@ -106,7 +110,8 @@ fn tiles_of_five_rows(rt: HostRuntime) -> Result<(), Fail> {
 #[test]
 fn places_by_day(rt: HostRuntime) -> Result<(), Fail> {
     let alloc = rt.alloc();
-    let days = cells(alloc, &DAYS)?;
+    let days_values = cells(alloc, &DAYS)?;
+    let days = lent(alloc, &days_values)?;
     let partitions = one_partition(&rt, alloc, &days, &[ASCENDING], DEFAULT)?;
     assert_eq!(rt; partitions.count(), 1);
     let frames = partitions.partition(0);
@@ -137,13 +142,15 @@ fn places_by_day(rt: HostRuntime) -> Result<(), Fail> {
 #[test]
 fn days_after_by_shop(rt: HostRuntime) -> Result<(), Fail> {
     let alloc = rt.alloc();
-    let shops = cells(alloc, &[Some(1), Some(1), Some(1), Some(2)])?;
-    let days = cells(alloc, &[Some(1), Some(2), Some(4), Some(2)])?;
+    let shops_values = cells(alloc, &[Some(1), Some(1), Some(1), Some(2)])?;
+    let shops = lent(alloc, &shops_values)?;
+    let days_values = cells(alloc, &[Some(1), Some(2), Some(4), Some(2)])?;
+    let days = lent(alloc, &days_values)?;
     assert_eq!(rt; shops.len(), 4);
     assert_eq!(rt; days.len(), 4);
-    let key = [ASCENDING];
-    let values = KeyRows::new(&shops, &key, 4);
-    let keys = KeyRows::new(&days, &key, 4);
+    let (shop, day) = ([ASCENDING], [ASCENDING]);
+    let values = KeyRows::new(&shops, &shop, 4);
+    let keys = KeyRows::new(&days, &day, 4);
     assert!(rt; are_in_order(&values, &keys));
     let partitions = Partitions::build(alloc, &values, keys, DEFAULT)?;
     assert_eq!(rt; partitions.count(), 2);
@@ -157,7 +164,8 @@ fn days_after_by_shop(rt: HostRuntime) -> Result<(), Fail> {
 #[test]
 fn next_day_in_frame(rt: HostRuntime) -> Result<(), Fail> {
     let alloc = rt.alloc();
-    let days = cells(alloc, &DAYS)?;
+    let days_values = cells(alloc, &DAYS)?;
+    let days = lent(alloc, &days_values)?;
     let frame = Frame {
         mode: FrameMode::Rows,
         start: FrameBound::CurrentRow,
@@ -178,7 +186,8 @@ fn next_day_in_frame(rt: HostRuntime) -> Result<(), Fail> {
 #[test]
 fn places_without_ties(rt: HostRuntime) -> Result<(), Fail> {
     let alloc = rt.alloc();
-    let days = cells(alloc, &DAYS)?;
+    let days_values = cells(alloc, &DAYS)?;
+    let days = lent(alloc, &days_values)?;
     let frame = Frame {
         mode: FrameMode::Rows,
         start: FrameBound::Following(1),

@@ -1,3 +1,4 @@
+use Rattle.std.proofs.Common.{refl}
 use Rattle.wframe.proofs.PieceFacts.{pieces_rows}
 use Rattle.wframe.proofs.exclusion.pieces.Goals as goal
 
@@ -14,3 +15,6 @@ returns-clause-rows c n h =
     (record { low = z.low; high = z.high; before = z.before; after = z.after; inside = z.inside })
     (record { low = w.low; high = w.high; before = w.before; after = w.after; inside = w.inside })
     h
+
+pub returns-clause-list : goal.returns-clause-list
+returns-clause-list c = rw (c.clip-a.ensures.nearest, c.clip-b.ensures.nearest, c.clip-c.ensures.nearest, c.clip-d.ensures.nearest) refl

@@ -63,35 +63,35 @@ decreases-sort_key l = 64 * l.depth + 57
 abbrev pub decreases-negation : goal.decreases-negation
 decreases-negation l = 64 * l.depth + 44
 
-abbrev pub decreases-tested_for_null : goal.decreases-tested_for_null
-decreases-tested_for_null l = 64 * l.depth + 43
+abbrev pub decreases-test : goal.decreases-test
+decreases-test l = 64 * l.depth + 43
 
-abbrev pub decreases-compares : goal.decreases-compares
-decreases-compares l = 64 * l.depth + 42
+abbrev pub decreases-comparison : goal.decreases-comparison
+decreases-comparison l = 64 * l.depth + 42
 
-abbrev pub decreases-compares_to : goal.decreases-compares_to
-decreases-compares_to l = 64 * l.depth + 41
+abbrev pub decreases-compared : goal.decreases-compared
+decreases-compared l = 64 * l.depth + 41
 
 abbrev pub decreases-range : goal.decreases-range
 decreases-range l = 64 * l.depth + 40
 
-abbrev pub decreases-tests : goal.decreases-tests
-decreases-tests l = 64 * l.depth + 39
+abbrev pub decreases-range_tested : goal.decreases-range_tested
+decreases-range_tested l = 64 * l.depth + 39
 
-abbrev pub decreases-tests_for : goal.decreases-tests_for
-decreases-tests_for l = 64 * l.depth + 38
+abbrev pub decreases-range_test : goal.decreases-range_test
+decreases-range_test l = 64 * l.depth + 38
 
 abbrev pub decreases-between : goal.decreases-between
 decreases-between l = 64 * l.depth + 37
 
-abbrev pub decreases-between_from : goal.decreases-between_from
-decreases-between_from l = 64 * l.depth + 36
+abbrev pub decreases-up_to : goal.decreases-up_to
+decreases-up_to l = 64 * l.depth + 36
 
 abbrev pub decreases-among : goal.decreases-among
 decreases-among l = 64 * l.depth + 37
 
-abbrev pub decreases-signed : goal.decreases-signed
-decreases-signed l = 64 * l.depth + 24
+abbrev pub decreases-sign : goal.decreases-sign
+decreases-sign l = 64 * l.depth + 24
 
 abbrev pub decreases-primary : goal.decreases-primary
 decreases-primary l = 64 * l.depth + 20

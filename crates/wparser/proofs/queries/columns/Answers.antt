@@ -5,13 +5,13 @@ use Rattle.wparser.proofs.Asks.{column_falls}
 use Rattle.wparser.proofs.queries.columns.Goals as goal
 
 pub returns-in-Err : goal.returns-in-Err
-returns-in-Err c = listing_refused c.in-Err.f (omega arith) c.columns.invariant c.in-Err.ensures
+returns-in-Err c = listing_refused c.in-Err.fault (omega arith) c.columns.invariant c.in-Err.ensures
 
 pub returns-in-None : goal.returns-in-None
-returns-in-None c = listing_got (omega arith) c.columns.invariant c.in-Ok.ensures c.in-None.ensures c.in_ok-push_column-in-Ok.ensures
+returns-in-None c = listing_got (omega arith) c.columns.invariant c.in-Ok.ensures c.in-None.ensures c.in_ok-push_column.ensures
 
 pub columns-smaller : goal.columns-smaller
 columns-smaller c = let a = column_falls.falls _ _ _ c.in-Ok.ensures.found in meanings_fall_on _ _ _ c.in-Some.ensures a
 
 pub columns-preserved : goal.columns-preserved
-columns-preserved c = listing_more (omega arith) c.columns.invariant c.in-Ok.ensures c.in-Some.ensures c.in_ok-push_column-in-Ok.ensures
+columns-preserved c = listing_more (omega arith) c.columns.invariant c.in-Ok.ensures c.in-Some.ensures c.in_ok-push_column.ensures

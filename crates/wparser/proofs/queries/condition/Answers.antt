@@ -6,7 +6,7 @@ pub returns-in_default : goal.returns-in_default
 returns-in_default c = perhaps_absent (never_then (after_never c.in_default.ensures))
 
 pub returns-in-Err : goal.returns-in-Err
-returns-in-Err c = perhaps_present (grips c.in-Some.ensures (omega arith)) (as_refused c.in-Err.f (after_got c.in-Some.ensures (answers_less c.requires c.in-Err.ensures)))
+returns-in-Err c = perhaps_present (grips c.in-Some.ensures (omega arith)) (as_refused c.in-Err.fault (after_got c.in-Some.ensures (answers_less c.requires c.in-Err.ensures)))
 
-pub returns-in-Ok : goal.returns-in-Ok
-returns-in-Ok c = perhaps_present (grips c.in-Some.ensures (omega arith)) (as_got (after_got c.in-Some.ensures (answers_less c.requires c.in-Ok.ensures)))
+pub returns : goal.returns
+returns c = perhaps_present (grips c.in-Some.ensures (omega arith)) (as_got (after_got c.in-Some.ensures (answers_less c.requires c.in-Ok.ensures)))

@@ -2,7 +2,7 @@ use Rattle.wparser.proofs.Steps.{any_leads, then_got, then_refused, after_got, a
 use Rattle.wparser.proofs.queries.entry_of.Goals as goal
 
 pub returns-in-Err : goal.returns-in-Err
-returns-in-Err c = then_refused c.in-Err.f (λ n. any_leads {k = 31}) c.in-Err.ensures
+returns-in-Err c = then_refused c.in-Err.fault (λ n. any_leads {k = 31}) c.in-Err.ensures
 
 pub returns-in_default : goal.returns-in_default
 returns-in_default c = then_got (λ n. any_leads) c.in-Ok.ensures (after_missing c.in_default.ensures)
@@ -11,7 +11,7 @@ pub returns-in_default-symbol : goal.returns-in_default-symbol
 returns-in_default-symbol c = then_got (λ n. any_leads) c.in-Ok.ensures (after_got c.in-Some.ensures (after_missing c.in_default-symbol.ensures))
 
 pub returns-in-Err-enclosed_window : goal.returns-in-Err-enclosed_window
-returns-in-Err-enclosed_window c = then_got (λ n. any_leads) c.in-Ok.ensures (after_got c.in-Some.ensures (after_got c.in-Some-symbol.ensures (as_refused c.in-Err-enclosed_window.f c.in-Err-enclosed_window.ensures)))
+returns-in-Err-enclosed_window c = then_got (λ n. any_leads) c.in-Ok.ensures (after_got c.in-Some.ensures (after_got c.in-Some-symbol.ensures (as_refused c.in-Err-enclosed_window.fault c.in-Err-enclosed_window.ensures)))
 
-pub returns-in-Ok-enclosed_window : goal.returns-in-Ok-enclosed_window
-returns-in-Ok-enclosed_window c = then_got (λ n. any_leads) c.in-Ok.ensures (after_got c.in-Some.ensures (after_got c.in-Some-symbol.ensures (as_got c.in-Ok-enclosed_window.ensures)))
+pub returns : goal.returns
+returns c = then_got (λ n. any_leads) c.in-Ok.ensures (after_got c.in-Some.ensures (after_got c.in-Some-symbol.ensures (as_got c.in-Ok-enclosed_window.ensures)))

@@ -5,13 +5,13 @@ use Rattle.wparser.proofs.Asks.{item_falls}
 use Rattle.wparser.proofs.queries.items.Goals as goal
 
 pub returns-in-Err : goal.returns-in-Err
-returns-in-Err c = listing_refused c.in-Err.f (omega arith) c.items.invariant c.in-Err.ensures
+returns-in-Err c = listing_refused c.in-Err.fault (omega arith) c.items.invariant c.in-Err.ensures
 
 pub returns-in-None : goal.returns-in-None
-returns-in-None c = listing_got (omega arith) c.items.invariant c.in-Ok.ensures c.in-None.ensures c.in_ok-push_item-in-Ok.ensures
+returns-in-None c = listing_got (omega arith) c.items.invariant c.in-Ok.ensures c.in-None.ensures c.in_ok-push_item.ensures
 
 pub items-smaller : goal.items-smaller
 items-smaller c = let a = (item_falls c.args.depth).falls _ _ _ c.in-Ok.ensures.found in meanings_fall_on _ _ _ c.in-Some.ensures a
 
 pub items-preserved : goal.items-preserved
-items-preserved c = listing_more (omega arith) c.items.invariant c.in-Ok.ensures c.in-Some.ensures c.in_ok-push_item-in-Ok.ensures
+items-preserved c = listing_more (omega arith) c.items.invariant c.in-Ok.ensures c.in-Some.ensures c.in_ok-push_item.ensures

@@ -5,10 +5,10 @@ use Rattle.wparser.proofs.Asks.{alias_as, alias_bare}
 use Rattle.wparser.proofs.queries.optional_alias.Goals as goal
 
 pub returns-in-Err : goal.returns-in-Err
-returns-in-Err c = perhaps_present (grips c.in-Some.ensures (omega arith)) (as_refused c.in-Err.f (alias_as c.in-Some.ensures (answers_less (omega arith) c.in-Err.ensures)))
+returns-in-Err c = perhaps_present (grips c.in-Some.ensures (omega arith)) (as_refused c.in-Err.fault (alias_as c.in-Some.ensures (answers_less (omega arith) c.in-Err.ensures)))
 
-pub returns-in-Ok : goal.returns-in-Ok
-returns-in-Ok c = perhaps_present (grips c.in-Some.ensures (omega arith)) (as_got (alias_as c.in-Some.ensures (answers_less (omega arith) c.in-Ok.ensures)))
+pub returns-in-Some : goal.returns-in-Some
+returns-in-Some c = perhaps_present (grips c.in-Some.ensures (omega arith)) (as_got (alias_as c.in-Some.ensures (answers_less (omega arith) c.in-Ok.ensures)))
 
 pub returns-in-None : goal.returns-in-None
 returns-in-None c = perhaps_absent (never_then (never_perhaps_then (after_never c.in_default.ensures) (λ b. c.in-None.ensures)))

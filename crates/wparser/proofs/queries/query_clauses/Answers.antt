@@ -5,10 +5,10 @@ use Rattle.wparser.proofs.Asks.{having_leads, grouping_leads}
 use Rattle.wparser.proofs.queries.query_clauses.Goals as goal
 
 pub returns-in-Err : goal.returns-in-Err
-returns-in-Err c = then_refused c.in-Err.f (λ x. grouping_leads c.args.depth (map view_item c.args.items.items) (view_source c.args.source)) c.in-Err.ensures
+returns-in-Err c = then_refused c.in-Err.fault (λ x. grouping_leads c.args.depth (map view_item c.args.items.items) (view_source c.args.source)) c.in-Err.ensures
 
 pub returns-in-Err-grouped : goal.returns-in-Err-grouped
-returns-in-Err-grouped c = then_got (λ x. grouping_leads c.args.depth (map view_item c.args.items.items) (view_source c.args.source)) c.in-Ok.ensures (then_refused c.in-Err-grouped.f (λ x. having_leads c.args.depth (map view_item c.args.items.items) (view_source c.args.source)) c.in-Err-grouped.ensures)
+returns-in-Err-grouped c = then_got (λ x. grouping_leads c.args.depth (map view_item c.args.items.items) (view_source c.args.source)) c.in-Ok.ensures (then_refused c.in-Err-grouped.fault (λ x. having_leads c.args.depth (map view_item c.args.items.items) (view_source c.args.source)) c.in-Err-grouped.ensures)
 
-pub returns-in-Ok-grouped : goal.returns-in-Ok-grouped
-returns-in-Ok-grouped c = then_got (λ x. grouping_leads c.args.depth (map view_item c.args.items.items) (view_source c.args.source)) c.in-Ok.ensures (then_got (λ x. having_leads c.args.depth (map view_item c.args.items.items) (view_source c.args.source)) c.in-Ok-grouped.ensures c.clauses_behind_groups.ensures)
+pub returns : goal.returns
+returns c = then_got (λ x. grouping_leads c.args.depth (map view_item c.args.items.items) (view_source c.args.source)) c.in-Ok.ensures (then_got (λ x. having_leads c.args.depth (map view_item c.args.items.items) (view_source c.args.source)) c.in-Ok-grouped.ensures c.clauses_behind_groups.ensures)

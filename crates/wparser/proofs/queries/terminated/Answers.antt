@@ -4,7 +4,7 @@ use Rattle.wparser.proofs.Asks.{semicolon_leads}
 use Rattle.wparser.proofs.queries.terminated.Goals as goal
 
 pub returns-in-Err : goal.returns-in-Err
-returns-in-Err c = then_refused c.in-Err.f (λ q. semicolon_leads) c.in-Err.ensures
+returns-in-Err c = then_refused c.in-Err.fault (λ q. semicolon_leads) c.in-Err.ensures
 
 pub returns-in-None : goal.returns-in-None
 returns-in-None c = then_got (λ q. semicolon_leads) c.in-Ok.ensures (then_got {j = 1} (λ b. done_leads (omega arith)) (perhaps_absent (after_never c.in-None.ensures)) done_got)

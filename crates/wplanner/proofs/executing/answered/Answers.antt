@@ -3,11 +3,11 @@ use Rattle.wplan.specs.Plans.{select_plan}
 use Rattle.wplan.specs.declared.resolved.Selection.{Selection}
 use Rattle.wrows.specs.Laid.{rows_in}
 use Rattle.wplanner.specs.Answers.{answer_of, width_of}
-use Rattle.wplanner.proofs.PlanFacts.{finished, goes_on, plain_at, stops, width_goes_on}
+use Rattle.wplanner.proofs.PlanFacts.{finished, goes_on, sound_at, stops, width_goes_on}
 use Rattle.wplanner.proofs.executing.answered.Goals as goal
 
-pub select_rows-requires : goal.select_rows-requires
-select_rows-requires c = plain_at c.args.selects.now c.selects.select-index c.select-item.result c.selects-test.true c.select-item.is c.requires
+pub select_cells-requires : goal.select_cells-requires
+select_cells-requires c = sound_at c.args.selects.now c.selects.select-index c.select-item.result c.selects-test.true c.select-item.is c.requires
 
 pub returns-in-Err-clause-rows : goal.returns-in-Err-clause-rows
 returns-in-Err-clause-rows c =

@@ -1,9 +1,6 @@
-use Rattle.std.proofs.Common.{◌≡◌, ◌++◌, map}
-use Rattle.std.specs.List.{flat_map}
-use Rattle.wvalues.specs.Meaning.{meaning}
-use Rattle.wsegment.specs.Rows.{cell}
-use Rattle.wframe.specs.Places.{places}
+use Rattle.std.proofs.Common.{◌≡◌, ◌++◌, take}
+use Rattle.wrows.specs.Laid.{rows_seen}
 use Rattle.wplanner.proofs.source.push_rows.Given as goal
 
 abbrev pub invariant-loop-row : goal.invariant-loop-row
-invariant-loop-row l = map meaning l.cells.items ≡ map meaning l.fn.cells.items ++ flat_map (λ row. map (cell l.segment.rows row) (places l.width)) (places l.row)
+invariant-loop-row l = rows_seen l.rows.items ≡ rows_seen l.fn.rows.items ++ take l.row l.segment.rows

@@ -1,7 +1,8 @@
 use Rattle.std.proofs.Common.{drop}
 use Rattle.std.specs.List.{AllByRecursion}
+use Rattle.wset.specs.Blocks.{flat}
 use Rattle.wset.specs.Merging.{IsKnownTo}
 use Rattle.wset.proofs.merge.teaches.Given as goal
 
 abbrev pub invariant-theirs : goal.invariant-theirs
-invariant-theirs l = AllByRecursion (IsKnownTo l.ours) (drop l.entry-index l.theirs) → AllByRecursion (IsKnownTo l.ours) l.theirs
+invariant-theirs l = AllByRecursion (IsKnownTo (flat l.ours)) (flat (drop l.block-index l.theirs)) → AllByRecursion (IsKnownTo (flat l.ours)) (flat l.theirs)

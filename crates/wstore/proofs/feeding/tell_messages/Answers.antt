@@ -1,5 +1,5 @@
 use Rattle.std.proofs.Common.{arith}
-use Rattle.wstore.specs.Texts.{bytes_of}
+use Rattle.wreplies.specs.Texts.{bytes_of}
 use Rattle.wstore.proofs.Handling.{on_ok_then, on_err_then, nothing_told, one_more, some_told, all_told, all_told_part, bad_told, bad_told_part, room, fewer}
 use Rattle.wstore.proofs.feeding.tell_messages.Goals as goal
 

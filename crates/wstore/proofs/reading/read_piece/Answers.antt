@@ -10,4 +10,4 @@ returns-in-Whole-clause-reads g c =
 pub returns-in-NoMemory-clause-reads : goal.returns-in-NoMemory-clause-reads
 returns-in-NoMemory-clause-reads g c =
     let t = rw c.in-NoMemory.is at c.in_ok-piece.ensures.reads in
-    piece_behind _ _ _ c.args.node c.args.len t.0 (λ d. d) t.1 t.2
+    piece_behind _ _ _ c.args.node c.args.len t.0 tt t.1 t.2

@@ -10,9 +10,9 @@ returns-then-len-gt-LONGEST_TEXT-clause-reads g c =
 pub returns-in-Whole-clause-reads : goal.returns-in-Whole-clause-reads
 returns-in-Whole-clause-reads g c =
     let read = rw c.in-Whole.is at c.in_ok-text.ensures.reads in
-    query_behind _ _ _ c.args.node c.args.len c.in-Whole.text.items (refl, refl) read.0 read.1
+    query_behind _ _ _ c.args.node c.args.len c.in-Whole.text.items (refl, refl, omega (arith, read.1, c.if-len-gt-LONGEST_TEXT.false)) read.0 read.1
 
 pub returns-in-NoMemory-clause-reads : goal.returns-in-NoMemory-clause-reads
 returns-in-NoMemory-clause-reads g c =
     let t = rw c.in-NoMemory.is at c.in_ok-text.ensures.reads in
-    query_behind _ _ _ c.args.node c.args.len t.0 (λ d. d) t.1 t.2
+    query_behind _ _ _ c.args.node c.args.len t.0 (omega (arith, t.2, c.if-len-gt-LONGEST_TEXT.false)) t.1 t.2

@@ -1,4 +1,4 @@
-use Rattle.wstore.specs.Texts.{bytes_of}
+use Rattle.wreplies.specs.Texts.{bytes_of}
 use Rattle.wstore.proofs.Writing.{answered, answered_part, unanswered}
 use Rattle.wstore.proofs.runs.speak.Goals as goal
 

@@ -1,9 +1,9 @@
 use Rattle.std.proofs.lemmas.Result.{err_from_is_err_and}
 use Rattle.wlines.specs.Pending.{left}
-use Rattle.wstore.specs.Replies.{no_memory}
+use Rattle.wreplies.specs.Spelling.{no_memory}
 use Rattle.wstore.proofs.Stepping.{may_stand, fails_at_last, fails_at_answer}
 use Rattle.wstore.proofs.Telling.{finds_no_memory}
-use Rattle.wstore.proofs.Writing.{answered, answered_part, unanswered}
+use Rattle.wstore.proofs.Writing.{answered, answered_part, unanswered, kept_may_lack}
 use Rattle.wstore.proofs.runs.step.Goals as goal
 
 pub returns-in_err-send-in-Malformed-clause-fails : goal.returns-in_err-send-in-Malformed-clause-fails
@@ -23,7 +23,7 @@ returns-in_err-send-in-NoMemory-clause-fails g c =
     let read = rw (c.in-NoMemory.is, c.is_declared.ensures.history h stands) at c.in-Ok.ensures.reads in
     fails_at_answer fault h (left g.R.Read.remaining c.args.source.now c.args.input.now) (left g.R.Read.remaining c.read_command.new.source c.read_command.new.input) _ _ read.0 read.2 read.3
     (unanswered fault h read.0 _ _ failed.fault
-    (answered_part c.args.session.now h read.0 no_memory _ _ (finds_no_memory c.args.session.now h read.0 read.1 stands) failed.front.0 failed.front.1)))
+    (answered_part c.args.session.now h read.0 no_memory _ _ (finds_no_memory c.args.session.now h read.0 (kept_may_lack h read.0 read.1) stands) failed.front.0 failed.front.1)))
 
 pub returns-in_ok-send-in-NoMemory-clause-tells : goal.returns-in_ok-send-in-NoMemory-clause-tells
 returns-in_ok-send-in-NoMemory-clause-tells g c = λ h stands.
@@ -32,7 +32,7 @@ returns-in_ok-send-in-NoMemory-clause-tells g c = λ h stands.
       command = read.0;
       is = read.2;
       consumes = read.3;
-      answered = answered c.args.session.now h read.0 no_memory _ _ (finds_no_memory c.args.session.now h read.0 read.1 stands) c.in_ok-send-in-NoMemory.ensures.ok;
+      answered = answered c.args.session.now h read.0 no_memory _ _ (finds_no_memory c.args.session.now h read.0 (kept_may_lack h read.0 read.1) stands) c.in_ok-send-in-NoMemory.ensures.ok;
     }
 
 pub answer_command-requires-clause-suits : goal.answer_command-requires-clause-suits

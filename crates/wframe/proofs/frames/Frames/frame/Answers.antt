@@ -1,4 +1,7 @@
-use Rattle.std.proofs.Common.{length, subst, ap, arith}
+use Rattle.std.proofs.Common.{[], ◌∷◌, length, subst, ap, ◌∙◌, arith}
+use Rattle.wframe.specs.declared.frame.Span.{Span}
+use Rattle.wframe.specs.declared.frame.FrameExclusion.{FrameExclusion}
+use Rattle.wframe.specs.Gaps.{peer_span, before_gap, within_gap, behind_gap}
 use Rattle.wframe.specs.FrameEnds.{HasFrames}
 use Rattle.wframe.specs.Frame.{frame_span}
 use Rattle.wframe.proofs.EndFacts.{IsFrameOf, frame_at, apart_wider}
@@ -18,3 +21,13 @@ returns-clause-rows c =
 
 pub returns-clause-within : goal.returns-clause-within
 returns-clause-within c = apart_wider c.span.result.from c.span.result.to 0 (length c.args.self.now.keys) c.without.result (omega arith) c.span.ensures.within c.without.ensures.apart
+
+pub returns-clause-list : goal.returns-clause-list
+returns-clause-list c =
+    let p = c.args.self.now in
+    let row = c.args.row in
+    let pieces = λ (x : FrameExclusion) (s peers : Span). before_gap x s row peers ∷ within_gap x s row peers ∷ behind_gap x s row peers ∷ [] in
+    c.without.ensures.list
+    ∙ ap (λ s. pieces c.self.inside.frame.exclusion s c.peers.result) c.span.ensures.span
+    ∙ ap (λ s. pieces c.self.inside.frame.exclusion (frame_span p row) s) c.peers.ensures.span
+    ∙ ap (λ q. pieces q.frame.exclusion (frame_span p row) (peer_span p row)) c.self.view_is

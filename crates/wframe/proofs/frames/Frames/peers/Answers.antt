@@ -1,9 +1,11 @@
 use Rattle.std.proofs.Common.{subst, length}
+use Rattle.wframe.specs.Peers.{is_before, is_upto}
+use Rattle.wframe.specs.Gaps.{peer_span}
 use Rattle.wvalues.specs.Order.{keys_cmp}
 use Rattle.wvalues.specs.OrderLaws.{keys_total}
 use Rattle.wframe.specs.FrameEnds.{HasFrames}
-use Rattle.wframe.proofs.EndFacts.{IsPeersOf, peers_read, smaller_count}
-use Rattle.wframe.proofs.FrameFacts.{peers_filter, peers_from, peers_to, in_peers}
+use Rattle.wframe.proofs.EndFacts.{IsPeersOf, peers_read, smaller_count, span_is}
+use Rattle.wframe.proofs.FrameFacts.{cut_count, peers_filter, peers_from, peers_to, in_peers}
 use Rattle.wframe.proofs.frames.Frames.peers.Goals as goal
 
 found : (c : goal.After-counted_from) → IsPeersOf c.args.self.now c.args.row c.counted_from.result
@@ -41,3 +43,11 @@ returns-clause-to c =
 
 pub returns-clause-within : goal.returns-clause-within
 returns-clause-within c = (found c).end.within
+
+pub returns-clause-span : goal.returns-clause-span
+returns-clause-span c =
+    let p = c.args.self.now in
+    let peers = peer_span p c.args.row in
+    span_is c.counted_from.result peers.from peers.to
+    (cut_count (length p.keys) (is_before (keys_cmp p.order) p.keys c.args.row) c.counted_from.result.from (found c).start)
+    (cut_count (length p.keys) (is_upto (keys_cmp p.order) p.keys c.args.row) c.counted_from.result.to (found c).end)

@@ -1,5 +1,5 @@
-use Rattle.std.proofs.Common.{◌<◌, sym, ap, ◌∙◌, length, map, arith}
-use Rattle.wvalues.specs.Meaning.{meaning}
+use Rattle.std.proofs.Common.{◌<◌, sym, ap, ◌∙◌, length, arith}
+use Rattle.wframe.specs.Cells.{meanings}
 use Rattle.wframe.proofs.CellFacts.{length-rows_of, row_at, row_within}
 use Rattle.wframe.proofs.key_rows.KeyRows.row.Goals as goal
 
@@ -13,4 +13,4 @@ pub returns-clause-list : goal.returns-clause-list
 returns-clause-list c =
     let r = c.args.self.now in
     let l : c.args.row < r.count = omega (arith, length-rows_of (length r.keys.now) r.count r.cells.now) in
-    ap (map meaning) c.row_slice.ensures.list ∙ sym (row_at (length r.keys.now) r.count r.cells.now c.args.row l)
+    ap meanings c.row_slice.ensures.list ∙ sym (row_at (length r.keys.now) r.count r.cells.now c.args.row l)

@@ -7,8 +7,8 @@ use Rattle.wset.proofs.set.SegmentSet.held.Goals as goal
 
 pub returns-clause-known : goal.returns-clause-known
 returns-clause-known c =
-    (rw c.deref.ensures.value at c.held_of.ensures.known) ∙ sym (get-view _ c.args.name.now c.self.invariant.rising) ∙ ap (λ s. get s.view c.args.name.now) c.self.view_is
+    (rw c.deref.ensures.value at c.held_in.ensures.known) ∙ sym (get-view _ c.args.name.now c.self.invariant.rising) ∙ ap (λ s. get s.view c.args.name.now) c.self.view_is
 
 pub returns-clause-read : goal.returns-clause-read
 returns-clause-read c =
-    subst (λ s. IfSome c.held_of.result (λ held. IsHeldBy s.schema held.now)) c.self.view_is (held_read c.self.inside.schema _ c.held_of.result (rw c.deref.ensures.value at c.held_of.ensures.read) c.self.invariant.read)
+    subst (λ s. IfSome c.held_in.result (λ held. IsHeldBy s.schema held.now)) c.self.view_is (held_read c.self.inside.schema _ c.held_in.result (rw c.deref.ensures.value at c.held_in.ensures.read) c.self.invariant.read)

@@ -1,27 +1,29 @@
 use Rattle.std.proofs.Common.{◌≡◌, ◌∙◌, sym, ap, subst, length, arith, rules}
 use Rattle.wset.specs.Views.{join}
-use Rattle.wset.specs.Entries.{AllHeldBy}
+use Rattle.wset.specs.Entries.{AllHeldBy, known_entries}
+use Rattle.wset.specs.Blocks.{flat}
 use Rattle.wset.proofs.Maps.{rising_join, stored_view, view_again, view_join}
 use Rattle.wset.proofs.Sets.{changed, same_view}
 use Rattle.wset.proofs.set.SegmentSet.join.Goals as goal
 
 pub invariant_of-self : goal.invariant_of-self
 invariant_of-self c =
-    let known = rw (c.deref-3.ensures.value, c.deref-4.ensures.value) at c.in-Ok.ensures.known in
+    let known = ap known_entries c.in-Ok-in_blocks.ensures ∙ (rw (c.deref-3.ensures.value, c.deref-4.ensures.value) at c.in-Ok.ensures.known) in
     let same : c.other.inside.schema ≡ c.self.inside.schema = sym (c.is_same.ensures.0 (search rules)) in
     record {
-      rising = rising_join c.self.inside.entries.items c.other.inside.entries.items c.in-Ok.entries.items c.self.invariant.rising c.other.invariant.rising known;
-      marked = rw c.deref-5.ensures.value at c.mark.ensures.places;
-      room = omega (arith, c.deref-5.ensures.len, ap length c.deref-5.ensures.value, c.in-Ok-with_capacity.ensures.capacity, c.mark.ensures.capacity);
-      read = c.in-Ok.ensures.read c.self.inside.schema (rw c.deref-3.ensures.value c.self.invariant.read) (rw c.deref-4.ensures.value (subst (λ d. AllHeldBy d c.other.inside.entries.items) same c.other.invariant.read));
+      rising = rising_join (flat c.self.inside.blocks.items) (flat c.other.inside.blocks.items) (flat c.in-Ok-in_blocks.blocks.items) c.self.invariant.rising c.other.invariant.rising known;
+      counted = omega (arith, ap length c.in-Ok-in_blocks.ensures, c.in-Ok.entries.ok.0);
+      few = omega (arith, c.in-Ok.entries.ok.0);
+      read = subst (AllHeldBy c.self.inside.schema) (sym c.in-Ok-in_blocks.ensures)
+          (c.in-Ok.ensures.read c.self.inside.schema (rw c.deref-3.ensures.value c.self.invariant.read) (rw c.deref-4.ensures.value (subst (λ d. AllHeldBy d (flat c.other.inside.blocks.items)) same c.other.invariant.read)));
     }
 
 pub returns-clause-ok : goal.returns-clause-ok
 returns-clause-ok c =
-    let known = rw (c.deref-3.ensures.value, c.deref-4.ensures.value) at c.in-Ok.ensures.known in
+    let known = ap known_entries c.in-Ok-in_blocks.ensures ∙ (rw (c.deref-3.ensures.value, c.deref-4.ensures.value) at c.in-Ok.ensures.known) in
     changed c.self.inside.schema _ _ c.args.self.now (λ v. join v c.args.other.now.view) c.self.view_is
-    (view_join c.self.inside.entries.items c.other.inside.entries.items c.in-Ok.entries.items c.self.invariant.rising c.other.invariant.rising known
-    ∙ ap (λ s. join (stored_view c.self.inside.entries.items) s.view) c.other.view_is)
+    (view_join (flat c.self.inside.blocks.items) (flat c.other.inside.blocks.items) (flat c.in-Ok-in_blocks.blocks.items) c.self.invariant.rising c.other.invariant.rising known
+    ∙ ap (λ s. join (stored_view (flat c.self.inside.blocks.items)) s.view) c.other.view_is)
 
 pub returns-then-not-teaches-clause-ok : goal.returns-then-not-teaches-clause-ok
 returns-then-not-teaches-clause-ok c =
@@ -30,6 +32,6 @@ returns-then-not-teaches-clause-ok c =
     let ours = ap (λ s. s.view) c.self.view_is in
     let theirs = ap (λ s. s.view) c.other.view_is in
     same_view c.args.self.now _ _ (sym ours
-    ∙ view_again c.self.inside.entries.items c.other.inside.entries.items c.self.invariant.rising c.other.invariant.rising known
-    ∙ ap (λ v. join v (stored_view c.other.inside.entries.items)) ours
+    ∙ view_again (flat c.self.inside.blocks.items) (flat c.other.inside.blocks.items) c.self.invariant.rising c.other.invariant.rising known
+    ∙ ap (λ v. join v (stored_view (flat c.other.inside.blocks.items))) ours
     ∙ ap (join c.args.self.now.view) theirs)

@@ -1,19 +1,21 @@
-use Rattle.std.proofs.Common.{sym, subst}
+use Rattle.std.proofs.Common.{◌∙◌, ap, length, sym, subst, arith}
 use Rattle.std.specs.FinMap.{insert}
+use Rattle.wset.specs.Blocks.{flat}
 use Rattle.wset.specs.Holding.{IsHeldBy, known_of}
+use Rattle.wset.proofs.LiveNames.{length-known_entries}
 use Rattle.wset.proofs.Maps.{rising_put, view_put}
 use Rattle.wset.proofs.Sets.{changed}
 use Rattle.wset.proofs.set.SegmentSet.put.Goals as goal
 
 pub invariant_of-self-2 : goal.invariant_of-self-2
 invariant_of-self-2 c = record {
-  rising = rising_put c.self.inside.entries.items c.put_entry.new.entries.items c.args.name (known_of c.args.held) c.self.invariant.rising c.in_ok-put_entry.ensures.ok;
-  marked = c.in_ok-put_entry.ensures.marked;
-  room = c.put_entry.ensures.room;
-  read = c.put_entry.ensures.read _ c.self.invariant.read (subst (λ s. IsHeldBy s.schema c.args.held) (sym c.self.view_is) c.requires);
+  rising = rising_put (flat c.self.inside.blocks.items) (flat c.put_in.new.blocks.items) c.args.name (known_of c.args.held) c.self.invariant.rising c.in_ok-put_in.ensures.ok;
+  counted = (rw c.deref.ensures.value at c.in_ok-count.ensures) (known_of c.args.held) ∙ ap length (sym c.in_ok-put_in.ensures.ok) ∙ length-known_entries (flat c.put_in.new.blocks.items);
+  few = omega arith;
+  read = c.put_in.ensures.read _ c.self.invariant.read (subst (λ s. IsHeldBy s.schema c.args.held) (sym c.self.view_is) c.requires);
 }
 
 pub returns-clause-ok : goal.returns-clause-ok
 returns-clause-ok c =
     changed c.self.inside.schema _ _ c.args.self.now (λ v. insert v c.args.name (known_of c.args.held)) c.self.view_is
-    (view_put c.self.inside.entries.items c.put_entry.new.entries.items c.args.name (known_of c.args.held) c.self.invariant.rising c.in_ok-put_entry.ensures.ok)
+    (view_put (flat c.self.inside.blocks.items) (flat c.put_in.new.blocks.items) c.args.name (known_of c.args.held) c.self.invariant.rising c.in_ok-put_in.ensures.ok)

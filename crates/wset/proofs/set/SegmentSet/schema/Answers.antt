@@ -1,3 +1,4 @@
+use Rattle.wset.specs.Blocks.{flat}
 use Rattle.std.proofs.Common.{refl, sym, subst, IsOk}
 use Rattle.std.specs.List.{All}
 use Rattle.wsegment.specs.Rows.{rows_of}
@@ -9,4 +10,4 @@ use Rattle.wset.proofs.set.SegmentSet.schema.Goals as goal
 pub returns-clause-read : goal.returns-clause-read
 returns-clause-read c =
     subst LivesAreRead c.self.view_is
-    (subst (All (λ e. IsOk (rows_of c.self.inside.schema e.1))) (sym (lives-view c.self.inside.entries.items _ c.self.invariant.rising refl)) (read_lives c.self.inside.schema c.self.inside.entries.items c.self.invariant.read))
+    (subst (All (λ e. IsOk (rows_of c.self.inside.schema e.1))) (sym (lives-view (flat c.self.inside.blocks.items) _ c.self.invariant.rising refl)) (read_lives c.self.inside.schema (flat c.self.inside.blocks.items) c.self.invariant.read))

@@ -16,4 +16,4 @@ returns-in_ok-text-in-Err-clause-answers c = λ d h stand.
     let kept : set nodes p c.get.new.self ≡ nodes = ap (set nodes p) (c.in-Err.ensures.err ∙ c.index_mut.ensures.value) ∙ set-get_or nodes p c.index_mut.result.now in
     rw kept
     (refused_file_at d (places nodes c.args.self.now.slots.items) h c.args.node p c.index_mut.result.now stand c.place-to.ensures.place c.place-to.ensures.in_range c.index_mut.ensures.value
-    c.args.slot c.place-from.result c.as_slice-file.result.now _ _ c.in-Err.fault c.place-from.ensures.place c.place-from.ensures.in_range (c.as_slice-file.ensures ∙ c.index.ensures) c.in-Err.ensures.refused c.in_ok-text-in-Err.ensures)
+    c.args.slot c.place-from.result c.as_slice-file.result.now _ _ c.in-Err.fault c.place-from.ensures.place c.place-from.ensures.in_range (c.as_slice-file.ensures ∙ c.index.ensures) c.in-Err.ensures.refused c.in_ok-text-in-Err.ensures.text)

@@ -1,5 +1,5 @@
 use Rattle.std.proofs.Common.{◌∙◌, ap}
-use Rattle.wstore.specs.Replies.{names_text}
+use Rattle.wreplies.specs.Spelling.{names_text}
 use Rattle.wstore.proofs.Answering.{listed_at}
 use Rattle.wstore.proofs.cluster.Cluster.list.Goals as goal
 

@@ -1,0 +1,32 @@
+-- Facts of what was done carry over to facts of the answer.
+use Rattle.std.proofs.Common.{◌≡◌, ◌≢◌, ◌⊎◌, ◌∙◌, ℕ, List, Option, Some, inl, inr, Result, Ok, Err, IfOk, Bor, ap, option_map, subst, sym}
+use Rattle.std.specs.FinMap.{empty}
+use Rattle.wsegment.specs.Declaration.{Declaration}
+use Rattle.wset.specs.Views.{View, join}
+use Rattle.wexchange.specs.Judging.{IsFileOf}
+use Rattle.wact.specs.declared.acted.Acted.{Acted}
+use Rattle.wact.specs.Outcomes.{IsStored}
+use Rattle.wact.specs.Acts.{Knows}
+
+-- what follows from a value holds of an answer that is there
+pub if_ok : {A E : Type 0} {P Q : A → Type 0} (r : Result A E) → ((v : A) → P v → Q v) → IfOk r P → IfOk r Q
+if_ok (Ok v) f p = f v p
+if_ok (Err e) f p = tt
+
+-- what holds but where memory ran out
+pub but_memory : {A : Type 0} {x none : A} {P : Type 0} → x ≢ none → (x ≡ none) ⊎ P → P
+but_memory other (inl e) = absurd (other e)
+but_memory other (inr p) = p
+
+-- the file of one view is that of an equal one
+pub stored_as : (d d' : Declaration) (v v' : View) (acted : Acted) (text : List ℕ) → d' ≡ d → v' ≡ v → IsStored d' v' acted text → IsStored d v acted text
+stored_as d d' v v' acted text same_d same_v stored = subst (λ w. IsStored d w acted text) same_v (subst (λ e. IsStored e v' acted text) same_d stored)
+
+-- what a node that knew nothing has got from the store's file
+pub knows_told : (d d' : Declaration) (store : Option (Bor (List ℕ))) (bytes : Bor (List ℕ)) (v v' w : View) → store ≡ Some bytes → d' ≡ d → v' ≡ empty → IsFileOf d' w bytes.now → v ≡ join v' w
+    → Knows d (option_map (λ b. b.now) store) v
+knows_told d d' store bytes v v' w there same none file is = subst (λ (s : Option (Bor (List ℕ))). Knows d (option_map (λ b. b.now) s) v) (sym there) (record {
+  told = w;
+  file = subst (λ e. IsFileOf e w bytes.now) same file;
+  is = is ∙ ap (λ x. join x w) none;
+})

@@ -1,0 +1,15 @@
+use Rattle.std.proofs.Common.{rules, Ok, Err}
+use Rattle.wvalues.specs.NameReading.{ReadsName}
+use Rattle.wact.specs.Acts.{NameRefused, Named}
+use Rattle.wact.proofs.Outcomes.{if_ok}
+use Rattle.wact.proofs.acting.take.Goals as goal
+
+pub returns-in-Ok : goal.returns-in-Ok
+returns-in-Ok c =
+    let reads : ReadsName c.args.origin.now c.args.number.now (Ok c.in-Ok.name) = search rules in
+    if_ok c.take_under.result (λ acted takes. Named c.in-Ok.name reads takes) c.take_under.ensures
+
+pub returns-in-Err : goal.returns-in-Err
+returns-in-Err c =
+    let reads : ReadsName c.args.origin.now c.args.number.now (Err c.in-Err.fault) = search rules in
+    NameRefused c.in-Err.fault reads c.bad_name.ensures

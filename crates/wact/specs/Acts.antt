@@ -1,0 +1,90 @@
+-- What each subcommand does.
+use Rattle.std.specs.Prelude.{◌≡◌, ◌≢◌, ℕ, List, Option, Some, None, Ok, Err, IsOk, codes, map}
+use Rattle.std.specs.FinMap.{empty, entries, get}
+use Rattle.wvalues.specs.Names.{NameParts}
+use Rattle.wvalues.specs.NameReading.{ReadsName}
+use Rattle.wvalues.specs.declared.name.NameFault.{NameFault}
+use Rattle.wsegment.specs.Declaration.{Declaration}
+use Rattle.wsegment.specs.Spelling.{ReadsDeclaration}
+use Rattle.wsegment.specs.Rows.{rows_of}
+use Rattle.wsegment.specs.declared.schema_fault.SchemaFault.{SchemaFault}
+use Rattle.wsegment.specs.declared.schema_fault.SchemaFault.TheVariants as tables
+use Rattle.wsegment.specs.declared.fault.SegmentFault.{SegmentFault}
+use Rattle.wset.specs.Items.{RetirementItem, SegmentItem, view_of_item}
+use Rattle.wset.specs.Listing.{listed}
+use Rattle.wset.specs.Views.{View, join}
+use Rattle.wset.specs.Words.{retired_word, taken_word}
+use Rattle.wexchange.specs.Judging.{IsFault, IsFileOf}
+use Rattle.wexchange.specs.declared.fault.FileFault.{FileFault}
+use Rattle.wexchange.specs.declared.fault.FileFault.TheVariants as files
+use Rattle.wask.specs.Asking.{IsAnswer}
+use Rattle.wreplies.specs.Spelling.{file_text, name_text, names_text, query_text, retired_text, segment_text, table_text, taken_text}
+use Rattle.wplanner.specs.declared.fault.AskFault.{AskFault}
+use Rattle.wplanner.specs.declared.fault.AskFault.TheVariants as queries
+use Rattle.wcommand.specs.declared.choice.Choice.{Choice}
+use Rattle.wcommand.specs.declared.choice.Choice.TheVariants as choices
+use Rattle.wact.specs.declared.acted.Acted.{Acted}
+use Rattle.wact.specs.Outcomes.{IsAnswered, IsRefused, IsStored}
+
+-- the words of a name are at fault, or they are those of a name with which this is done
+pub data OnName (origin number : List ℕ) (acted : Acted) (Does : NameParts → Type 0) : Type 0 where
+  NameRefused : (fault : NameFault) → ReadsName origin number (Err fault) → IsRefused acted (name_text fault) → OnName origin number acted Does
+  Named : (name : NameParts) → ReadsName origin number (Ok name) → Does name → OnName origin number acted Does
+
+-- a segment is taken, or its first fault is told
+pub data Takes (d : Declaration) (v : View) (csv : List ℕ) (acted : Acted) (name : NameParts) : Type 0 where
+  SegmentRefused : (fault : SegmentFault) → rows_of d csv ≡ Err fault → IsRefused acted (segment_text fault) → Takes d v csv acted name
+  Taken : IsOk (rows_of d csv) → IsStored d (join v (view_of_item (SegmentItem name csv))) acted (taken_text (taken_word (get v name) csv)) → Takes d v csv acted name
+
+-- a name is retired
+abbrev pub Retires : Declaration → View → Acted → NameParts → Type 0
+Retires d v acted name = IsStored d (join v (view_of_item (RetirementItem name))) acted (retired_text (retired_word (get v name)))
+
+-- another store is joined, or its first fault is told
+pub data Joins (d : Declaration) (v : View) (other : List ℕ) (acted : Acted) : Type 0 where
+  OtherRefused : (fault : FileFault) → fault ≢ files.NoMemory → IsFault d other fault → IsRefused acted (file_text fault) → Joins d v other acted
+  Joined : (w : View) → IsFileOf d w other → IsStored d (join v w) acted (codes "ok\n") → Joins d v other acted
+
+-- the names are listed
+abbrev pub Lists : Declaration → View → Acted → Type 0
+Lists d v acted = IsAnswered acted (names_text (map (listed d) (entries v)))
+
+-- a query is answered by the bytes of its answer alone, or its first fault is told
+pub data Asks (d : Declaration) (v : View) (query : List ℕ) (acted : Acted) : Type 0 where
+  QueryRefused : (fault : AskFault) → fault ≢ queries.NoMemory → IsAnswer d v query (Err fault) → IsRefused acted (query_text fault) → Asks d v query acted
+  Answered : (answer : List ℕ) → IsAnswer d v query (Ok answer) → IsAnswered acted answer → Asks d v query acted
+
+-- what a subcommand does where the store's view is this
+abbrev pub ActsOn : Declaration → View → Choice → List ℕ → Acted → Type 0
+ActsOn d v choices.Session other acted = ⊥
+ActsOn d v (choices.Take paths origin number csv) other acted = OnName origin.now number.now acted (Takes d v other acted)
+ActsOn d v (choices.Retire paths origin number) other acted = OnName origin.now number.now acted (Retires d v acted)
+ActsOn d v (choices.Join paths path) other acted = Joins d v other acted
+ActsOn d v (choices.List paths) other acted = Lists d v acted
+ActsOn d v (choices.Ask paths query) other acted = Asks d v query.now acted
+
+-- the bytes are the file of a view, which is joined into that of a store that knows nothing
+pub record Tells (d : Declaration) (bytes : List ℕ) (v : View) : Type 0 where
+  pub told : View
+  pub file : IsFileOf d told bytes
+  pub is : v ≡ join empty told
+
+-- the store's view is that of its file; a file that does not exist tells nothing
+abbrev pub Knows : Declaration → Option (List ℕ) → View → Type 0
+Knows d None v = v ≡ empty
+Knows d (Some bytes) v = Tells d bytes v
+
+-- what is wrong with the store's file
+abbrev pub HasFault : Declaration → Option (List ℕ) → FileFault → Type 0
+HasFault d None fault = ⊥
+HasFault d (Some bytes) fault = IsFault d bytes fault
+
+-- where the table is read, the store is judged first, then the subcommand
+pub data ActsBy (d : Declaration) (choice : Choice) (store : Option (List ℕ)) (other : List ℕ) (acted : Acted) : Type 0 where
+  StoreRefused : (fault : FileFault) → fault ≢ files.NoMemory → HasFault d store fault → IsRefused acted (file_text fault) → ActsBy d choice store other acted
+  Done : (v : View) → Knows d store v → ActsOn d v choice other acted → ActsBy d choice store other acted
+
+-- the table is judged before all
+pub data Acts (choice : Choice) (table : List ℕ) (store : Option (List ℕ)) (other : List ℕ) (acted : Acted) : Type 0 where
+  TableRefused : (fault : SchemaFault) → fault ≢ tables.NoMemory → ReadsDeclaration table (Err fault) → IsRefused acted (table_text fault) → Acts choice table store other acted
+  Declared : (d : Declaration) → ReadsDeclaration table (Ok d) → ActsBy d choice store other acted → Acts choice table store other acted

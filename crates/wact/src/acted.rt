@@ -1,0 +1,59 @@
+//! What a subcommand gives.
+ghost use Rattle.std.specs.Prelude.{◌≡◌, IfOk};
+ghost use Rattle.wreplies.specs.Texts.{bytes_of};
+ghost use Rattle.wact.specs.Outcomes.{IsAnswered, IsRefused, IsStored};
+
+use std::alloc::AllocError;
+use wreplies::Text;
+use wstore::Node;
+
+/// The status of what was done.
+const DONE: u8 = 0;
+
+/// The status of a refusal.
+const REFUSED: u8 = 1;
+
+/// What a subcommand gives.
+#[derive(Drop)]
+pub struct Acted {
+    /// What is printed to standard output.
+    pub output: Text,
+    /// The exit status: 0 where it was done, 1 where it was refused.
+    pub status: u8,
+    /// The bytes of the store from now on, where the subcommand may have changed it.
+    pub store: Option<Vec<u8>>,
+}
+
+/// A refusal.
+pub(crate) fn refused(output: Text) -> Acted
+    ensures { IsRefused result (bytes_of output) }
+{
+    Acted {
+        output,
+        status: REFUSED,
+        store: None,
+    }
+}
+
+/// What is told of a store that stays as it is.
+pub(crate) fn answered(output: Text) -> Acted
+    ensures { IsAnswered result (bytes_of output) }
+{
+    Acted {
+        output,
+        status: DONE,
+        store: None,
+    }
+}
+
+/// What is told, with the store that knows what the node does.
+pub(crate) fn stored(node: &Node, told: &'static [u8]) -> Result<Acted, AllocError>
+    ensures { IfOk result (λ acted. IsStored node.now.schema node.now.view acted told.now) }
+{
+    let store = node.put()?;
+    Ok(Acted {
+        output: Text::Fixed(told),
+        status: DONE,
+        store: Some(store),
+    })
+}

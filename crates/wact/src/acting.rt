@@ -1,0 +1,171 @@
+//! Subcommands on bytes.
+ghost use Rattle.std.specs.Prelude.{◌≡◌, ◌≢◌, IfErr, IfOk, option_map};
+ghost use Rattle.wcommand.specs.declared.choice.Choice.TheVariants.{Session};
+ghost use Rattle.wreplies.specs.Spelling.{name_text};
+ghost use Rattle.wact.specs.Outcomes.{IsRefused};
+ghost use Rattle.wact.specs.Acts.{Acts, ActsBy, ActsOn, Asks, HasFault, Joins, Knows, Lists, OnName, Retires, Takes};
+
+use crate::acted::{Acted, answered, refused, stored};
+use std::alloc::{AllocError, Global};
+use wcommand::Choice;
+use wexchange::FileFault;
+use wreplies::{
+    Text, names, refused_file, refused_name, refused_query, refused_segment, refused_table,
+    retired, taken,
+};
+use wsegment::{Schema, SchemaFault, SegmentFault};
+use wstore::{AskFault, Node};
+use wvalues::{Name, NameFault};
+
+// Takes a segment under a name.
+fn take_under(alloc: Global, node: &mut Node, name: Name, csv: &[u8]) -> Result<Acted, AllocError>
+    ensures { IfOk result (λ acted. Takes node.old.schema node.old.view csv.now acted name) }
+{
+    match node.take(name, csv) {
+        Ok(word) => stored(node, taken(word)),
+        Err(SegmentFault::NoMemory) => Err(AllocError),
+        Err(fault) => Ok(refused(refused_segment(alloc, fault)?)),
+    }
+}
+
+// Retires a name.
+fn retire_name(node: &mut Node, name: Name) -> Result<Acted, AllocError>
+    ensures { IfOk result (λ acted. Retires node.old.schema node.old.view acted name) }
+{
+    let word = node.retire(name)?;
+    stored(node, retired(word))
+}
+
+// The refusal of a name.
+fn bad_name(fault: NameFault) -> Acted
+    ensures { IsRefused result (name_text fault) }
+{
+    refused(Text::Fixed(refused_name(fault)))
+}
+
+fn take(
+    alloc: Global,
+    node: &mut Node,
+    origin: &str,
+    number: &str,
+    csv: &[u8],
+) -> Result<Acted, AllocError>
+    ensures { IfOk result (λ acted. OnName origin.now number.now acted (Takes node.old.schema node.old.view csv.now acted)) }
+{
+    match Name::read(origin.as_bytes(), number.as_bytes()) {
+        Ok(name) => take_under(alloc, node, name, csv),
+        Err(fault) => Ok(bad_name(fault)),
+    }
+}
+
+fn retire(alloc: Global, node: &mut Node, origin: &str, number: &str) -> Result<Acted, AllocError>
+    ensures { IfOk result (λ acted. OnName origin.now number.now acted (Retires node.old.schema node.old.view acted)) }
+{
+    match Name::read(origin.as_bytes(), number.as_bytes()) {
+        Ok(name) => retire_name(node, name),
+        Err(fault) => Ok(bad_name(fault)),
+    }
+}
+
+// Joins what another store's file tells.
+fn join(alloc: Global, node: &mut Node, other: &[u8]) -> Result<Acted, AllocError>
+    ensures { IfOk result (λ acted. Joins node.old.schema node.old.view other.now acted) }
+{
+    match node.get(other) {
+        Ok(()) => stored(node, b"ok\n"),
+        Err(FileFault::NoMemory) => Err(AllocError),
+        Err(fault) => Ok(refused(refused_file(alloc, fault)?)),
+    }
+}
+
+fn list(alloc: Global, node: &Node) -> Result<Acted, AllocError>
+    ensures { IfOk result (λ acted. Lists node.now.schema node.now.view acted) }
+{
+    let all = node.list()?;
+    let text = names(alloc, all.as_slice())?;
+    Ok(answered(text))
+}
+
+fn ask(alloc: Global, node: &Node, query: &str) -> Result<Acted, AllocError>
+    ensures { IfOk result (λ acted. Asks node.now.schema node.now.view query.now acted) }
+{
+    match node.ask(query.as_bytes()) {
+        Ok(answer) => Ok(answered(Text::Made(answer))),
+        Err(AskFault::NoMemory) => Err(AllocError),
+        Err(fault) => Ok(refused(refused_query(alloc, fault)?)),
+    }
+}
+
+// What a subcommand does on a node that knows the store.
+fn act_on(
+    alloc: Global,
+    choice: &Choice<'_>,
+    node: &mut Node,
+    other: &[u8],
+) -> Result<Acted, AllocError>
+    requires { choice.now ≢ Session }
+    ensures { IfOk result (λ acted. ActsOn node.old.schema node.old.view choice.now other.now acted) }
+{
+    match *choice {
+        Choice::Session => unreachable!(),
+        Choice::Take { origin, number, .. } => take(alloc, node, origin, number, other),
+        Choice::Retire { origin, number, .. } => retire(alloc, node, origin, number),
+        Choice::Join { .. } => join(alloc, node, other),
+        Choice::List { .. } => list(alloc, node),
+        Choice::Ask { query, .. } => ask(alloc, node, query),
+    }
+}
+
+// A node that knows what the store's file tells.
+fn node_of(alloc: Global, schema: Schema, store: Option<&[u8]>) -> Result<Node, FileFault>
+    ensures declared { IfOk result (λ node. node.schema ≡ schema) }
+    ensures known { IfOk result (λ node. Knows schema (option_map (λ bytes. bytes.now) store.entry) node.view) }
+    ensures refused { IfErr result (λ fault. HasFault schema (option_map (λ bytes. bytes.now) store.entry) fault) }
+{
+    let mut node = Node::new(alloc, schema);
+    match store {
+        None => Ok(node),
+        Some(bytes) => match node.get(bytes) {
+            Ok(()) => Ok(node),
+            Err(fault) => Err(fault),
+        },
+    }
+}
+
+// What a subcommand does where the table's declaration is read.
+fn act_by(
+    alloc: Global,
+    choice: &Choice<'_>,
+    schema: Schema,
+    store: Option<&[u8]>,
+    other: &[u8],
+) -> Result<Acted, AllocError>
+    requires { choice.now ≢ Session }
+    ensures { IfOk result (λ acted. ActsBy schema choice.now (option_map (λ bytes. bytes.now) store.entry) other.now acted) }
+{
+    match node_of(alloc, schema, store) {
+        Ok(mut node) => act_on(alloc, choice, &mut node, other),
+        Err(FileFault::NoMemory) => Err(AllocError),
+        Err(fault) => Ok(refused(refused_file(alloc, fault)?)),
+    }
+}
+
+/// What the subcommand of a choice gives on the bytes of the table's file, of the store's file if there is one, and
+/// of CSV or OTHER, which are empty where the subcommand has none. The table is judged first, then the store, then the
+/// subcommand. At `AllocError` nothing is judged.
+pub fn act(
+    alloc: Global,
+    choice: &Choice<'_>,
+    table: &[u8],
+    store: Option<&[u8]>,
+    other: &[u8],
+) -> Result<Acted, AllocError>
+    requires { choice.now ≢ Session }
+    ensures { IfOk result (λ acted. Acts choice.now table.now (option_map (λ bytes. bytes.now) store.entry) other.now acted) }
+{
+    match Schema::read(alloc, table) {
+        Ok(schema) => act_by(alloc, choice, schema, store, other),
+        Err(SchemaFault::NoMemory) => Err(AllocError),
+        Err(fault) => Ok(refused(Text::Fixed(refused_table(fault)))),
+    }
+}

@@ -1,0 +1,18 @@
+//! What a subcommand does, as a function of bytes.
+//!
+//! - Gives `act`, which is lent a choice of the command line and the bytes of its files, and answers what is printed,
+//!   the exit status, and the new store if there may be one.
+//! - Promises: the table is judged first, then the store, then the subcommand. It does to the store what a node that
+//!   knows the store is told, and prints the reply of a script's command, of a query the answer alone. A refusal has
+//!   status 1 and no new store.
+//! - Asks: a choice other than the session.
+//! - Leaves files and streams to the program, words to `wcommand`, and nodes to `wstore`.
+//!
+//! Read `specs/Outcomes.antt`, then `specs/Acts.antt`.
+#![tactic(auto)]
+
+mod acted;
+mod acting;
+
+pub use acted::Acted;
+pub use acting::act;

@@ -1,0 +1,4 @@
+pub mod FeedFacts
+pub mod FoldFacts
+pub mod LeastFacts
+pub mod FrameFacts

@@ -1,0 +1,3 @@
+pub mod Aggregating
+pub mod Feeding
+pub mod Framing

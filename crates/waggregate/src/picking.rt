@@ -1,0 +1,69 @@
+//! What the rows of a partition feed, in its order.
+ghost use Rattle.std.specs.Prelude.{◌≡◌, ◌<◌, ℕ, All, IfOk, length, map, option_map, slice_index_or, false};
+ghost use Rattle.std.specs.Option.{ForSome};
+ghost use Rattle.wvalues.specs.Meaning.{meaning};
+ghost use Rattle.wframe.specs.Cells.{meanings};
+ghost use Rattle.wslide.specs.Aggregates.{picked_values, picked_tests, tests};
+
+use std::alloc::{AllocError, Global};
+use wvalues::Value;
+
+// Whether a filter is true on some rows.
+fn tests_of(alloc: Global, tests: &[bool], rows: &[usize]) -> Result<Vec<bool>, AllocError>
+    requires { All (λ i. i < length tests.now) rows.now }
+    ensures value { IfOk result (λ picked. picked.items ≡ map (λ i. slice_index_or tests.now i false) rows.now) }
+    ensures len { IfOk result (λ picked. length picked.items ≡ length rows.now) }
+{
+    let mut picked = Vec::with_capacity(alloc, rows.len())?;
+    for row in rows {
+        picked.push(tests[*row])?;
+    }
+    Ok(picked)
+}
+
+/// Whether a filter is true on some rows, if there is one.
+pub(crate) fn filter_of(
+    alloc: Global,
+    filter: &Option<Vec<bool>>,
+    rows: &[usize],
+) -> Result<Option<Vec<bool>>, AllocError>
+    requires { ForSome filter.now (λ tests. All (λ i. i < length tests.items) rows.now) }
+    ensures value { IfOk result (λ picked. option_map (λ tests. tests.items) picked ≡ picked_tests (option_map (λ tests. tests.items) filter.now) rows.now) }
+    ensures len { IfOk result (λ picked. ForSome picked (λ tests. length tests.items ≡ length rows.now)) }
+{
+    match filter {
+        None => Ok(None),
+        Some(tests) => {
+            let picked = tests_of(alloc, tests, rows)?;
+            Ok(Some(picked))
+        }
+    }
+}
+
+/// The values of some rows.
+pub(crate) fn values_of<'a>(
+    alloc: Global,
+    values: &'a [Value],
+    rows: &[usize],
+) -> Result<Vec<&'a Value>, AllocError>
+    requires { All (λ i. i < length values.now) rows.now }
+    ensures value { IfOk result (λ picked. meanings picked.items ≡ picked_values (map meaning values.now) rows.now) }
+    ensures len { IfOk result (λ picked. length picked.items ≡ length rows.now) }
+{
+    let mut picked = Vec::with_capacity(alloc, rows.len())?;
+    for row in rows {
+        picked.push(&values[*row])?;
+    }
+    Ok(picked)
+}
+
+/// A filter, lent.
+pub(crate) fn lent(filter: &Option<Vec<bool>>) -> Option<&[bool]>
+    ensures value { tests result ≡ option_map (λ tests. tests.items) filter.now }
+    ensures len { (n : ℕ) → ForSome filter.now (λ tests. length tests.items ≡ n) → ForSome result (λ tests. length tests.now ≡ n) }
+{
+    match filter {
+        None => None,
+        Some(tests) => Some(tests.as_slice()),
+    }
+}

@@ -1,0 +1,409 @@
+-- What a call answers for the rows of each partition is what it answers for each row.
+use Rattle.std.proofs.Common.{◌≡◌, ◌≢◌, ℕ, zero, suc, set, ◌+◌, ◌-◌, ◌<◌, ◌≤◌, ◌==◌, ◌||◌, ◌++◌, nat_le, nat_lt, Bool, true, false, cond, List, [], ◌∷◌, length, map, filter, take, drop, get_or, Option, Some, None, Result, Ok, Err, Ordering, is_gt, refl, sym, ap, ◌∙◌, arith, length-take-le, length-drop, length-append, take_at, subst}
+use Rattle.std.specs.Prelude.{slice_range, unwrap_or}
+use Rattle.std.specs.List.{All, list_any}
+use Rattle.std.specs.Option.{is_none}
+use Rattle.std.proofs.lemmas.Bool.Decides.{nat_tests}
+use Rattle.std.proofs.lemmas.List.{length-map, map-append, take_all, get_or-map, map-set, get_or-set_same, get_or-set_other, get_or-take, get_or-append_right, take-take}
+use Rattle.std.proofs.lemmas.List.Elements.{All-get_or, All-from_recursion, All-same}
+use Rattle.wvalues.specs.declared.key.SortKey.{SortKey}
+use Rattle.wvalues.specs.declared.value.Value.{Value}
+use Rattle.wvalues.specs.Meaning.{Meaning, Null, meaning}
+use Rattle.wvalues.specs.Order.{keys_cmp}
+use Rattle.wframe.specs.declared.frame.Frame.{Frame}
+use Rattle.wframe.specs.declared.frame.Span.{Span}
+use Rattle.wframe.specs.KeyRows.{key_lists, sort_keys}
+use Rattle.wframe.specs.declared.key_rows.KeyRows.{KeyRows}
+use Rattle.wframe.specs.Peers.{key_at}
+use Rattle.wframe.specs.Places.{places_from, places, span_at, is_in_span, Tiles}
+use Rattle.wframe.specs.Partition.{Partition, Partitioned, partition_of}
+use Rattle.wframe.specs.Partitions.{IsPartition}
+use Rattle.wrows.specs.declared.fault.AnswerFault.{AnswerFault}
+use Rattle.wrows.specs.declared.fault.AnswerFault.TheVariants.{OutOfRange, TooManyRows, NoMemory}
+use Rattle.wrows.specs.Outcomes.{Gives, unless}
+use Rattle.wrows.specs.Columns.{in_range}
+use Rattle.wframe.specs.Sorting.{inserted, sorted}
+use Rattle.wcalls.specs.Windows.{Windowed, partition_rows, partition_at, place_at}
+use Rattle.wcalls.specs.Calls.{each_row}
+use Rattle.wcalls.specs.Arranged.{window_cmp, IsArranged, Answer, partition_answers, answer_on, answer_values, HasEachOnce}
+use Rattle.wrows.proofs.SortFacts as sorts
+use Rattle.wcalls.proofs.FilterFacts.{filter_sorted}
+use Rattle.wrows.proofs.RowFacts.{map-map, map-taken, map-dropped, length-places, places_below}
+use Rattle.wcalls.proofs.WindowFacts.{whole_total, at_places, all_places, span_rows}
+use Rattle.wcalls.proofs.PlaceFacts.{once_from, place_in_span}
+
+-- the place that some of the first spans reach
+abbrev pub reached : ℕ → List Span → ℕ → ℕ
+reached low ss zero = low
+reached low [] (suc k) = low
+reached low (s ∷ ss) (suc k) = reached s.to ss k
+
+pub reached_from : (low : ℕ) (ss : List Span) (high k : ℕ) → Tiles low ss high → k < length ss → (span_at ss k).from ≡ reached low ss k
+reached_from low [] high k t h = absurd (omega arith)
+reached_from low (s ∷ ss) high zero t h = t.0
+reached_from low (s ∷ ss) high (suc k) t h = reached_from s.to ss high k t.2 (omega arith)
+
+pub reached_more : (low : ℕ) (ss : List Span) (k : ℕ) → k < length ss → reached low ss (k + 1) ≡ (span_at ss k).to
+reached_more low [] k h = absurd (omega arith)
+reached_more low (s ∷ ss) zero h = refl
+reached_more low (s ∷ ss) (suc k) h =
+    let e : suc k + 1 ≡ suc (k + 1) = omega arith in
+    ap (reached low (s ∷ ss)) e ∙ reached_more s.to ss k (omega arith)
+
+pub reached_all : (low : ℕ) (ss : List Span) (high : ℕ) → Tiles low ss high → reached low ss (length ss) ≡ high
+reached_all low [] high t = t
+reached_all low (s ∷ ss) high t = reached_all s.to ss high t.2
+
+-- two functions that agree on two runs of places
+pub pointwise : {X : Type 0} (f g : ℕ → X) (a b n : ℕ) → ((j : ℕ) → j < n → f (a + j) ≡ g (b + j)) → map f (places_from a n) ≡ map g (places_from b n)
+pointwise f g a b zero h = refl
+pointwise f g a b (suc n) h =
+    let e : a ≡ a + 0 = omega arith in
+    let d : b + 0 ≡ b = omega arith in
+    ap (λ y. y ∷ map f (places_from (a + 1) n)) (ap f e ∙ h 0 (omega arith) ∙ ap g d)
+    ∙ ap (λ ys. g b ∷ ys) (pointwise f g (a + 1) (b + 1) n (λ j l. let k : a + 1 + j ≡ a + suc j = omega arith in let m : b + suc j ≡ b + 1 + j = omega arith in ap f k ∙ h (suc j) (omega arith) ∙ ap g m))
+
+in_span : (s : Span) (i : ℕ) → s.from ≤ i → i < s.to → is_in_span s i ≡ true
+in_span s i l h =
+    let a : nat_le s.from i ≡ true = grind (arith, nat_tests) in
+    let b : nat_lt i s.to ≡ true = grind (arith, nat_tests) in
+    rw (a, b) refl
+
+-- the pieces of a list
+pub slice_more : {X : Type 0} (xs : List X) (from to : ℕ) → from ≤ to → to ≤ length xs → take to xs ≡ take from xs ++ slice_range xs from to
+slice_more xs zero to l h = let e : to - 0 ≡ to = omega arith in sym (ap (λ n. take n xs) e)
+slice_more [] (suc from) to l h = absurd (omega arith)
+slice_more (x ∷ xs) (suc from) zero l h = absurd (omega arith)
+slice_more (x ∷ xs) (suc from) (suc to) l h =
+    let e : suc to - suc from ≡ to - from = omega arith in
+    ap (λ ys. x ∷ ys) (slice_more xs from to (omega arith) (omega arith) ∙ ap (λ n. take from xs ++ take n (drop from xs)) (sym e))
+
+any_append : {X : Type 0} (p : X → Bool) (xs ys : List X) → list_any p (xs ++ ys) ≡ (list_any p xs || list_any p ys)
+any_append p [] ys = refl
+any_append p (x ∷ xs) ys = go (p x) (any_append p xs ys)
+  where
+    go : (b : Bool) → list_any p (xs ++ ys) ≡ (list_any p xs || list_any p ys) → (b || list_any p (xs ++ ys)) ≡ ((b || list_any p xs) || list_any p ys)
+    go true e = refl
+    go false e = e
+
+or_none : (a b : Bool) → a ≡ false → b ≡ false → (a || b) ≡ false
+or_none true b h k = h
+or_none false b h k = k
+
+pub none_more : {X : Type 0} (p : X → Bool) (all before here : List X) → all ≡ before ++ here → list_any p before ≡ false → list_any p here ≡ false → list_any p all ≡ false
+none_more p all before here e h k = ap (list_any p) e ∙ any_append p before here ∙ or_none (list_any p before) (list_any p here) h k
+
+or_true : (a b c : Bool) → b ≡ true → (a || (b || c)) ≡ true
+or_true true b c h = refl
+or_true false true c h = refl
+or_true false false c h = absurd (cc)
+
+pub any_within : {X : Type 0} (p : X → Bool) (all before here after : List X) → all ≡ before ++ (here ++ after) → list_any p here ≡ true → list_any p all ≡ true
+any_within p all before here after e h =
+    ap (list_any p) e ∙ any_append p before (here ++ after) ∙ ap (λ b. (list_any p before || b)) (any_append p here after) ∙ or_true (list_any p before) (list_any p here) (list_any p after) h
+
+-- a list about a slice of it
+pub three_parts : {X : Type 0} (xs : List X) (from to : ℕ) → from ≤ to → to ≤ length xs → xs ≡ take from xs ++ (slice_range xs from to ++ drop to xs)
+three_parts xs zero to l h =
+    let e : to ≡ to - 0 = omega arith in
+    sym (Rattle.std.proofs.Common.take-append-drop to xs) ∙ ap (λ n. take n xs ++ drop to xs) e
+three_parts [] (suc from) to l h = absurd (omega arith)
+three_parts (x ∷ xs) (suc from) zero l h = absurd (omega arith)
+three_parts (x ∷ xs) (suc from) (suc to) l h =
+    let e : to - from ≡ suc to - suc from = omega arith in
+    ap (λ ys. x ∷ ys) (three_parts xs from to (omega arith) (omega arith) ∙ ap (λ n. take from xs ++ (take n (drop from xs) ++ drop to xs)) e)
+
+abbrev made : List SortKey → List (List Meaning) → Frame → Partition
+made o ks f = record { order = o; keys = ks; frame = f }
+
+module _ (w : Windowed) (rows : List ℕ) (all : Partitioned) (arranged : IsArranged w rows all) (answer : Answer) where
+  abbrev row : ℕ → ℕ
+  row j = get_or rows j 0
+
+  pub rows_long : length rows ≡ length w.values
+  rows_long = ap length arranged.sorted ∙ sorts.length_sorted (window_cmp w) (whole_total w) (places (length w.values)) ∙ length-places 0 (length w.values)
+
+  row_below : (i : ℕ) → i < length rows → row i < length w.values
+  row_below i h =
+      let n = length w.values in
+      let below : All (λ k. k < n) rows = All-same (λ k. k < n) rows (sorted (window_cmp w) (places n)) arranged.sorted (All-from_recursion (λ k. k < n) (sorted (window_cmp w) (places n)) (sorts.all_sorted (window_cmp w) (whole_total w) (λ k. k < n) (places n) (places_below 0 n n (omega arith)))) in
+      All-get_or (λ k. k < n) rows i 0 h below
+
+  slice_keys : (s : Span) → slice_range all.keys s.from s.to ≡ map (key_at w.keys) (slice_range rows s.from s.to)
+  slice_keys s =
+      ap (λ ks. take (s.to - s.from) (drop s.from ks)) arranged.keys
+      ∙ ap (take (s.to - s.from)) (sym (map-dropped (key_at w.keys) s.from rows))
+      ∙ sym (map-taken (key_at w.keys) (s.to - s.from) (drop s.from rows))
+
+  -- the answers for a partition's rows are those for the rows of its span
+  pub span_answers : (s : Span) → IsPartition (keys_cmp w.value_order) (map (key_at w.values) rows) s
+      → partition_answers answer (partition_of all s) (slice_range rows s.from s.to) ≡ map (answer_on w answer) (slice_range rows s.from s.to)
+  span_answers s part =
+      let n : ℕ = s.to - s.from in
+      let within : s.to ≤ length rows = omega (arith, part.within, length-map rows (key_at w.values)) in
+      let some = part.some in
+      let wide : length (slice_range rows s.from s.to) ≡ n = length-take-le n (drop s.from rows) (omega (arith, length-drop s.from rows, within)) in
+      let long : length (partition_of all s).keys ≡ n = ap length (slice_keys s) ∙ length-map (slice_range rows s.from s.to) (key_at w.keys) ∙ wide in
+      let fits : s.from + n ≤ length rows = omega (arith, within, some) in
+      ap (λ m. map (answer (partition_of all s) (slice_range rows s.from s.to)) (places m)) long
+      ∙ pointwise (answer (partition_of all s) (slice_range rows s.from s.to)) (λ i. answer_on w answer (row i)) 0 s.from n
+      (λ j l. at_one s part (s.from + j) j (omega arith) (omega arith) (omega (arith, within, l)))
+      ∙ sym (map-map (answer_on w answer) row (places_from s.from n))
+      ∙ ap (map (answer_on w answer)) (at_places 0 rows s.from n fits)
+    where
+      at_one : (s : Span) → IsPartition (keys_cmp w.value_order) (map (key_at w.values) rows) s → (i j : ℕ) → s.from + j ≡ i → i < s.to → i < length rows
+          → answer (partition_of all s) (slice_range rows s.from s.to) (0 + j) ≡ answer_on w answer (row i)
+      at_one s part i j e h l =
+          let within : s.to ≤ length rows = omega (arith, part.within, length-map rows (key_at w.values)) in
+          let same : slice_range rows s.from s.to ≡ partition_rows w (row i) = span_rows w rows s arranged.sorted part i (in_span s i (omega arith) h) l in
+          let place : place_at w (row i) ≡ i - s.from = place_in_span w rows s.from s.to i (omega arith) h within (row_below i l) same in
+          let at : 0 + j ≡ place_at w (row i) = omega (arith, place, e) in
+          let p : partition_of all s ≡ partition_at w (row i)
+          = ap (λ o. made o (slice_range all.keys s.from s.to) all.frame) arranged.order
+          ∙ ap (λ f. made w.order (slice_range all.keys s.from s.to) f) arranged.frame
+          ∙ ap (λ ks. made w.order ks w.frame) (slice_keys s ∙ ap (map (key_at w.keys)) same) in
+          ap (λ q. answer q (slice_range rows s.from s.to) (0 + j)) p
+          ∙ ap (λ rs. answer (partition_at w (row i)) rs (0 + j)) same
+          ∙ ap (answer (partition_at w (row i)) (partition_rows w (row i))) at
+
+  pub part_at : (k : ℕ) → k < length all.spans → IsPartition (keys_cmp w.value_order) (map (key_at w.values) rows) (span_at all.spans k)
+  part_at k h = All-get_or (IsPartition (keys_cmp w.value_order) (map (key_at w.values) rows)) all.spans k (record { from = 0; to = 0 }) h arranged.each
+
+  pub each_once : HasEachOnce (length w.values) rows
+  each_once i h =
+      ap (filter (λ k. k == i)) arranged.sorted
+      ∙ filter_sorted (window_cmp w) (whole_total w) (λ k. k == i) (places (length w.values))
+      ∙ ap (sorted (window_cmp w)) (once_from i 0 (length w.values) (omega arith) (omega arith))
+
+module _ (w : Windowed) (rows : List ℕ) (all : Partitioned) (arranged : IsArranged w rows all) (answer : Answer) where
+  abbrev of : ℕ → Option Meaning
+  of = answer_on w answer
+
+  -- the rows of the first partitions
+  abbrev front : ℕ → List ℕ
+  front k = take (reached 0 all.spans k) rows
+
+  abbrev here : ℕ → List ℕ
+  here k = slice_range rows (span_at all.spans k).from (span_at all.spans k).to
+
+  ends : (k : ℕ) → k < length all.spans → (span_at all.spans k).to ≤ length rows
+  ends k h = let part = part_at w rows all arranged answer k h in omega (arith, part.within, length-map rows (key_at w.values))
+
+  front_more : (k : ℕ) → k < length all.spans → front (k + 1) ≡ front k ++ here k
+  front_more k h =
+      let part = part_at w rows all arranged answer k h in
+      let some = part.some in
+      ap (λ n. take n rows) (reached_more 0 all.spans k h)
+      ∙ slice_more rows (span_at all.spans k).from (span_at all.spans k).to (omega (arith, some)) (ends k h)
+      ∙ ap (λ n. take n rows ++ here k) (reached_from 0 all.spans (length all.keys) k arranged.tiles h)
+
+  answers_more : (k : ℕ) → k < length all.spans → map of (front (k + 1)) ≡ map of (front k) ++ map of (here k)
+  answers_more k h = ap (map of) (front_more k h) ∙ map-append of (front k) (here k)
+
+  answers_here : (k : ℕ) → k < length all.spans → (s : Span) (p : Partition) → s ≡ span_at all.spans k → p ≡ partition_of all (span_at all.spans k) → partition_answers answer p (slice_range rows s.from s.to) ≡ map of (here k)
+  answers_here k h s p e f =
+      ap (λ q. partition_answers answer q (slice_range rows s.from s.to)) f
+      ∙ ap (λ t. partition_answers answer (partition_of all (span_at all.spans k)) (slice_range rows t.from t.to)) e
+      ∙ span_answers w rows all arranged answer (span_at all.spans k) (part_at w rows all arranged answer k h)
+
+  -- a partition more
+  pub step_values : (k : ℕ) → k < length all.spans → (s : Span) (p : Partition) → s ≡ span_at all.spans k → p ≡ partition_of all (span_at all.spans k) → (old new : List Meaning)
+      → old ≡ answer_values (map of (front k)) → new ≡ old ++ answer_values (partition_answers answer p (slice_range rows s.from s.to)) → new ≡ answer_values (map of (front (k + 1)))
+  step_values k h s p e f old new before more =
+      more ∙ ap (λ l. l ++ answer_values (partition_answers answer p (slice_range rows s.from s.to))) before
+      ∙ ap (λ l. answer_values (map of (front k)) ++ answer_values l) (answers_here k h s p e f)
+      ∙ sym (map-append (λ r. unwrap_or r Null) (map of (front k)) (map of (here k)))
+      ∙ ap answer_values (sym (answers_more k h))
+
+  pub step_none : (k : ℕ) → k < length all.spans → (s : Span) (p : Partition) → s ≡ span_at all.spans k → p ≡ partition_of all (span_at all.spans k)
+      → list_any is_none (map of (front k)) ≡ false → list_any is_none (partition_answers answer p (slice_range rows s.from s.to)) ≡ false → list_any is_none (map of (front (k + 1))) ≡ false
+  step_none k h s p e f before more =
+      none_more is_none (map of (front (k + 1))) (map of (front k)) (map of (here k)) (answers_more k h) before (ap (list_any is_none) (sym (answers_here k h s p e f)) ∙ more)
+
+  pub step_any : (k : ℕ) → k < length all.spans → (s : Span) (p : Partition) → s ≡ span_at all.spans k → p ≡ partition_of all (span_at all.spans k)
+      → list_any is_none (partition_answers answer p (slice_range rows s.from s.to)) ≡ true → list_any is_none (map of rows) ≡ true
+  step_any k h s p e f some_none =
+      let part = part_at w rows all arranged answer k h in
+      let some = part.some in
+      let from = (span_at all.spans k).from in
+      let to = (span_at all.spans k).to in
+      any_within is_none (map of rows) (map of (take from rows)) (map of (here k)) (map of (drop to rows))
+      (ap (map of) (three_parts rows from to (omega (arith, some)) (ends k h)) ∙ map-append of (take from rows) (here k ++ drop to rows) ∙ ap (λ l. map of (take from rows) ++ l) (map-append of (here k) (drop to rows)))
+      (ap (list_any is_none) (sym (answers_here k h s p e f)) ∙ some_none)
+
+  -- all partitions
+  pub all_answers : (k : ℕ) (told : List Meaning) → length all.spans ≤ k → k ≤ length all.spans → list_any is_none (map of (front k)) ≡ false → told ≡ answer_values (map of (front k)) → in_range (map of rows) ≡ Ok told
+  all_answers k told l m none so_far =
+      let e : k ≡ length all.spans = omega arith in
+      let long : reached 0 all.spans k ≡ length rows = ap (reached 0 all.spans) e ∙ reached_all 0 all.spans (length all.keys) arranged.tiles ∙ ap length arranged.keys ∙ length-map rows (key_at w.keys) in
+      let whole : front k ≡ rows = ap (λ n. take n rows) long ∙ take_all (length rows) rows (omega arith) in
+      in_range_ok (map of rows) told (ap (λ l. list_any is_none (map of l)) (sym whole) ∙ none) (so_far ∙ ap (λ l. answer_values (map of l)) whole)
+    where
+      pick : {A : Type 0} (b : Bool) (x y : A) → b ≡ false → y ≡ x → unless b OutOfRange x ≡ Ok y
+      pick true x y h e = absurd (cc)
+      pick false x y h e = ap Ok (sym e)
+
+      in_range_ok : (rs : List (Option Meaning)) (vs : List Meaning) → list_any is_none rs ≡ false → vs ≡ answer_values rs → in_range rs ≡ Ok vs
+      in_range_ok rs vs h e = pick (list_any is_none rs) (answer_values rs) vs h e
+
+-- how many answers there are after a partition more
+pub step_long : (all : Partitioned) (k : ℕ) (s : Span) (p : Partition) → Tiles 0 all.spans (length all.keys) → k < length all.spans → s ≡ span_at all.spans k → p ≡ partition_of all (span_at all.spans k) → s.from < s.to → s.to ≤ length all.keys
+    → (answer : Answer) (rows : List ℕ) (old new : List Meaning) → length old ≡ reached 0 all.spans k → new ≡ old ++ answer_values (partition_answers answer p rows) → length new ≡ reached 0 all.spans (k + 1)
+step_long all k s p tiles h e f some within answer rows old new before more =
+    let from : reached 0 all.spans k ≡ s.from = sym (reached_from 0 all.spans (length all.keys) k tiles h) ∙ ap (λ t. t.from) (sym e) in
+    let to : reached 0 all.spans (k + 1) ≡ s.to = reached_more 0 all.spans k h ∙ ap (λ t. t.to) (sym e) in
+    let cut : length (slice_range all.keys s.from s.to) ≡ s.to - s.from = length-take-le (s.to - s.from) (drop s.from all.keys) (omega (arith, length-drop s.from all.keys, within)) in
+    let wide : length p.keys ≡ s.to - s.from = ap (λ q. length q.keys) f ∙ ap (λ t. length (slice_range all.keys t.from t.to)) (sym e) ∙ cut in
+    let added : length (answer_values (partition_answers answer p rows)) ≡ length p.keys
+    = length-map (partition_answers answer p rows) (λ r. unwrap_or r Null) ∙ length-map (places (length p.keys)) (answer p rows) ∙ length-places 0 (length p.keys) in
+    let both : length new ≡ length old + length (answer_values (partition_answers answer p rows)) = ap length more ∙ length-append old (answer_values (partition_answers answer p rows)) in
+    omega (arith, both, added, wide, from, to, before, some)
+
+module _ {X : Type 0} (cmp : X → X → Ordering) (p : X → Bool) where
+  swapped : (a b c : Bool) → (a || (b || c)) ≡ (b || (a || c))
+  swapped true true c = refl
+  swapped true false c = refl
+  swapped false true c = refl
+  swapped false false c = refl
+
+  any_inserted : (x : X) (ys : List X) → list_any p (inserted cmp x ys) ≡ (p x || list_any p ys)
+  any_inserted x [] = refl
+  any_inserted x (y ∷ ys) =
+      elim (is_gt (cmp x y)) as (λ b. list_any p (cond b (y ∷ inserted cmp x ys) (x ∷ y ∷ ys)) ≡ (p x || (p y || list_any p ys))) [
+        | true ↦ ap (λ b. p y || b) (any_inserted x ys) ∙ swapped (p y) (p x) (list_any p ys)
+        | false ↦ refl
+      ]
+
+  pub any_sorted : (xs : List X) → list_any p (sorted cmp xs) ≡ list_any p xs
+  any_sorted [] = refl
+  any_sorted (x ∷ xs) = any_inserted x (sorted cmp xs) ∙ ap (λ b. p x || b) (any_sorted xs)
+
+any_mapped : {X Y : Type 0} (p : Y → Bool) (f : X → Y) (xs : List X) → list_any p (map f xs) ≡ list_any (λ x. p (f x)) xs
+any_mapped p f [] = refl
+any_mapped p f (x ∷ xs) = ap (λ b. p (f x) || b) (any_mapped p f xs)
+
+any_of_rows : (w : Windowed) (rows : List ℕ) (all : Partitioned) (of : ℕ → Option Meaning) → IsArranged w rows all → list_any is_none (map of rows) ≡ list_any is_none (each_row w of)
+any_of_rows w rows all of arranged =
+    any_mapped is_none of rows
+    ∙ ap (list_any (λ i. is_none (of i))) arranged.sorted
+    ∙ any_sorted (window_cmp w) (λ i. is_none (of i)) (places (length w.values))
+    ∙ sym (any_mapped is_none of (places (length w.values)))
+
+-- where a number stands in a list
+pub stands_at : (i : ℕ) (xs : List ℕ) → filter (λ k. k == i) xs ≡ i ∷ [] → (j : ℕ) × (j < length xs) × (get_or xs j 0 ≡ i)
+stands_at i [] e = absurd (cc)
+stands_at i (x ∷ xs) e = go (x == i) refl e (stands_at i xs)
+  where
+    go : (b : Bool) → (x == i) ≡ b → cond b (x ∷ filter (λ k. k == i) xs) (filter (λ k. k == i) xs) ≡ i ∷ [] → (filter (λ k. k == i) xs ≡ i ∷ [] → (j : ℕ) × (j < length xs) × (get_or xs j 0 ≡ i))
+        → (j : ℕ) × (j < suc (length xs)) × (get_or (x ∷ xs) j 0 ≡ i)
+    go true f e more = let same : x ≡ i = grind (arith, nat_tests) in (0, omega arith, same)
+    go false f e more = let r = more e in let h = r.1 in (suc (r.0), omega (arith, h), r.2)
+
+-- a column that has for each row of a list what is meant there has it for each number
+pub by_each : (of : ℕ → Meaning) (rows : List ℕ) (column : List Meaning) → HasEachOnce (length rows) rows → length column ≡ length rows
+    → ((j : ℕ) → j < length rows → get_or column (get_or rows j 0) Null ≡ of (get_or rows j 0)) → column ≡ map of (places (length rows))
+by_each of rows column once long each =
+    sym (all_places Null column)
+    ∙ ap (λ n. map (λ j. get_or column j Null) (places n)) long
+    ∙ pointwise (λ j. get_or column j Null) of 0 0 (length rows) (λ j l. let z : 0 + j ≡ j = omega arith in ap (λ k. get_or column k Null) z ∙ at j (omega arith) ∙ sym (ap of z))
+  where
+    at : (i : ℕ) → i < length rows → get_or column i Null ≡ of i
+    at i h = let r = stands_at i rows (once i h) in ap (λ k. get_or column k Null) (sym r.2) ∙ each r.0 r.1 ∙ ap of r.2
+
+-- one row more, from the end
+pub placed : (of : ℕ → Meaning) (rows : List ℕ) (told : List Value) (column new : List Value) (value d : Value) (k : ℕ) → map meaning told ≡ map of rows → k < length rows → k < length told → get_or rows k 0 < length column
+    → value ≡ get_or told k d → new ≡ set column (get_or rows k 0) value
+    → ((j : ℕ) → k + 1 ≤ j → j < length rows → get_or (map meaning column) (get_or rows j 0) Null ≡ of (get_or rows j 0))
+    → (j : ℕ) → k ≤ j → j < length rows → get_or (map meaning new) (get_or rows j 0) Null ≡ of (get_or rows j 0)
+placed of rows told column new value d k same h t room is written each j l m =
+    ap (λ c. get_or (map meaning c) (get_or rows j 0) Null) written
+    ∙ ap (λ c. get_or c (get_or rows j 0) Null) (map-set meaning column (get_or rows k 0) value)
+    ∙ go (get_or rows j 0 == get_or rows k 0) refl
+  where
+    valued : meaning value ≡ of (get_or rows k 0)
+    valued = ap meaning is ∙ sym (get_or-map meaning told k d Null t) ∙ ap (λ l. get_or l k Null) same ∙ get_or-map of rows k 0 Null h
+
+    wide : get_or rows k 0 < length (map meaning column)
+    wide = omega (arith, room, length-map column meaning)
+
+    go : (b : Bool) → (get_or rows j 0 == get_or rows k 0) ≡ b → get_or (set (map meaning column) (get_or rows k 0) (meaning value)) (get_or rows j 0) Null ≡ of (get_or rows j 0)
+    go true f =
+        let e : get_or rows j 0 ≡ get_or rows k 0 = grind (arith, nat_tests) in
+        ap (λ r. get_or (set (map meaning column) (get_or rows k 0) (meaning value)) r Null) e ∙ get_or-set_same (map meaning column) (get_or rows k 0) (meaning value) Null wide ∙ valued ∙ sym (ap of e)
+    go false f =
+        let n : get_or rows j 0 ≢ get_or rows k 0 = grind (arith, nat_tests) in
+        get_or-set_other (map meaning column) (get_or rows k 0) (get_or rows j 0) (meaning value) Null n ∙ later (j == k) refl
+      where
+        later : (b : Bool) → (j == k) ≡ b → get_or (map meaning column) (get_or rows j 0) Null ≡ of (get_or rows j 0)
+        later true g = let e : j ≡ k = grind (arith, nat_tests) in let n : get_or rows j 0 ≢ get_or rows k 0 = grind (arith, nat_tests) in absurd (n (ap (λ i. get_or rows i 0) e))
+        later false g = let n : j ≢ k = grind (arith, nat_tests) in each j (omega arith) m
+
+-- whether any is out of range does not depend on the order
+pub same_fault : {X Y : Type 0} (view : X → List Meaning) (other : Y → List Meaning) (fault : AnswerFault) (w : Windowed) (rows : List ℕ) (all : Partitioned) (of : ℕ → Option Meaning) → IsArranged w rows all
+    → Gives view (Err fault) (in_range (map of rows)) → Gives other (Err fault) (in_range (each_row w of))
+same_fault view other fault w rows all of arranged h = go fault (list_any is_none (map of rows)) (list_any is_none (each_row w of)) (any_of_rows w rows all of arranged) h
+  where
+    go : (fault : AnswerFault) (a b : Bool) → a ≡ b → Gives view (Err fault) (unless a OutOfRange (answer_values (map of rows))) → Gives other (Err fault) (unless b OutOfRange (answer_values (each_row w of)))
+    go OutOfRange true true e h = refl
+    go OutOfRange true false e h = absurd (cc)
+    go OutOfRange false b e h = absurd (cc)
+    go TooManyRows true b e h = absurd (cc)
+    go TooManyRows false b e h = absurd (cc)
+    go NoMemory a b e h = tt
+
+-- answers in a window's order, and by number
+pub same_answers : (w : Windowed) (rows : List ℕ) (all : Partitioned) (of : ℕ → Option Meaning) (told : List Meaning) → IsArranged w rows all → in_range (map of rows) ≡ Ok told → told ≡ map (λ i. unwrap_or (of i) Null) rows
+same_answers w rows all of told arranged h = go (list_any is_none (map of rows)) h
+  where
+    taken : List Meaning → Result (List Meaning) AnswerFault → List Meaning
+    taken d (Ok x) = x
+    taken d (Err e) = d
+
+    go : (b : Bool) → unless b OutOfRange (answer_values (map of rows)) ≡ Ok told → told ≡ map (λ i. unwrap_or (of i) Null) rows
+    go true e = absurd (cc)
+    go false e = sym (ap (taken []) e) ∙ map-map (λ r. unwrap_or r Null) of rows
+
+pub same_column : (w : Windowed) (rows : List ℕ) (all : Partitioned) (of : ℕ → Option Meaning) (told column : List Meaning) → IsArranged w rows all → in_range (map of rows) ≡ Ok told
+    → column ≡ map (λ i. unwrap_or (of i) Null) (places (length rows)) → in_range (each_row w of) ≡ Ok column
+same_column w rows all of told column arranged h e =
+    go (list_any is_none (map of rows)) (list_any is_none (each_row w of)) (any_of_rows w rows all of arranged) h
+  where
+    go : (a b : Bool) → a ≡ b → unless a OutOfRange (answer_values (map of rows)) ≡ Ok told → unless b OutOfRange (answer_values (each_row w of)) ≡ Ok column
+    go true b f h = absurd (cc)
+    go false true f h = absurd (cc)
+    go false false f h =
+        ap Ok (map-map (λ r. unwrap_or r Null) of (places (length w.values))
+        ∙ ap (λ n. map (λ i. unwrap_or (of i) Null) (places n)) (sym (rows_long w rows all arranged (λ p rs j. None)))
+        ∙ sym e)
+
+-- what is left of a list from which the last element was taken
+pub popped : {X : Type 0} (told before after : List X) (v : X) → before ≡ after ++ v ∷ [] → before ≡ take (length before) told → after ≡ take (length after) told
+popped told before after v e kept =
+    let long : length before ≡ length after + 1 = ap length e ∙ length-append after (v ∷ []) in
+    sym (take_at after (v ∷ []) (length after) refl) ∙ ap (take (length after)) (sym e ∙ kept) ∙ take-take (length after) (length before) told (omega (arith, long))
+
+pub last_is : {X : Type 0} (told before after : List X) (v : X) (k : ℕ) → before ≡ after ++ v ∷ [] → before ≡ take (length before) told → k ≡ length after → v ≡ get_or told k v
+last_is told before after v k e kept at =
+    let long : length before ≡ length after + 1 = ap length e ∙ length-append after (v ∷ []) in
+    let zero_is : 0 ≡ k - k = omega arith in
+    ap (λ n. get_or (v ∷ []) n v) zero_is
+    ∙ sym (get_or-append_right after (v ∷ []) k k v (sym at) (omega arith))
+    ∙ ap (λ l. get_or l k v) (sym e)
+    ∙ ap (λ l. get_or l k v) kept
+    ∙ get_or-take (length before) told k v (omega (arith, long, at))
+
+-- rows in the order of a window, as they are given to those who build partitions
+pub arranged_as : (w : Windowed) (rows given : List ℕ) (all : Partitioned) (values keys : KeyRows) → given ≡ rows → rows ≡ sorted (window_cmp w) (places (length w.values))
+    → key_lists values ≡ map (key_at w.values) rows → sort_keys values ≡ w.value_order → key_lists keys ≡ map (key_at w.keys) rows → sort_keys keys ≡ w.order
+    → all.order ≡ sort_keys keys → all.keys ≡ key_lists keys → all.frame ≡ w.frame → Tiles 0 all.spans (length all.keys) → All (IsPartition (keys_cmp (sort_keys values)) (key_lists values)) all.spans → IsArranged w given all
+arranged_as w rows given all values keys e is_sorted values_listed values_by keys_listed keys_by order listed frame tiles each =
+    let P : List SortKey → Type 0 = λ k. All (IsPartition (keys_cmp k) (map (key_at w.values) given)) all.spans in
+    let Q : List (List Meaning) → Type 0 = λ l. All (IsPartition (keys_cmp (sort_keys values)) l) all.spans in
+    record {
+      sorted = e ∙ is_sorted;
+      keys = listed ∙ keys_listed ∙ ap (map (key_at w.keys)) (sym e);
+      order = order ∙ keys_by;
+      frame = frame;
+      tiles = tiles;
+      each = subst P values_by (subst Q (values_listed ∙ ap (map (key_at w.values)) (sym e)) each);
+    }

@@ -1,0 +1,11 @@
+mod FilterFacts
+mod WindowFacts
+mod PlaceFacts
+mod ArrangedFacts
+mod CallFacts
+mod CutFacts
+mod Listed
+mod LentFacts
+mod ColumnFacts
+mod WindowedFacts
+mod BothOrders

@@ -1,0 +1,15 @@
+use Rattle.std.proofs.Common.{◌≡◌, ◌*◌, Ok, length, take}
+use Rattle.wrows.specs.Outcomes.{each}
+use Rattle.wrows.specs.LaidRows.{laid}
+use Rattle.wrows.specs.Laid.{rows_seen}
+use Rattle.wcalls.specs.Windows.{Windowed}
+use Rattle.wcalls.specs.Functions.{function_column}
+use Rattle.wcalls.specs.Lent.{functions_seen}
+use Rattle.wcalls.specs.Arranged.{IsArranged}
+use Rattle.wcalls.proofs.columns.every_column.Given as goal
+
+abbrev pub invariant-loop-function : goal.invariant-loop-function
+invariant-loop-function l = record {
+  long : length l.cells.items ≡ l.function-index * length l.rows;
+  so_far : (w : Windowed) → IsArranged w l.order l.partitions → each (function_column (rows_seen l.rows) w) (take l.function-index (functions_seen l.functions)) ≡ Ok (laid (length l.rows) l.function-index l.cells.items);
+}

@@ -1,0 +1,26 @@
+//! Calls with OVER.
+//!
+//! - Gives what the functions of a window answer for each row.
+//! - Promises: the answers stand by the rows' numbers, whatever the order of the window; among peers the rows stand by
+//!   number; partition values, keys and arguments that are out of range on any row refuse, as results out of range do.
+//! - Asks: fewer than 2^31 rows, one key where RANGE has an offset, at least one tile, a place from 1 on.
+//! - Leaves frames to `wframe`, places to `wplaces`, aggregates to `waggregate`.
+//!
+//! A window is sorted once, and its rows are lent in that order from where their values lie. Each function answers one
+//! partition after another there, and its answers are put by the rows' numbers.
+//!
+//! Read `specs/Frames.antt`, `specs/Windows.antt`, `specs/Calls.antt` and `specs/Functions.antt`, then
+//! `specs/Arranged.antt` and `specs/Ordered.antt`; `specs/Sound.antt` says what is asked.
+#![tactic(auto)]
+
+mod aggregated;
+mod calls;
+mod columns;
+mod functions;
+mod limits;
+mod numbered;
+mod parts;
+mod told;
+mod window;
+
+pub use columns::window_columns;

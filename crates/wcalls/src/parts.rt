@@ -1,0 +1,144 @@
+//! The parts of a window, each in a list of its own.
+ghost use Rattle.std.specs.Prelude.{◌≡◌, ◌*◌, IfOk, length, map};
+ghost use Rattle.wplan.specs.Formula.{formula};
+ghost use Rattle.wplan.specs.Plans.{key_plan, window_plan};
+ghost use Rattle.wrows.specs.Outcomes.{Gives};
+ghost use Rattle.wrows.specs.Columns.{lists_of};
+ghost use Rattle.wrows.specs.LaidRows.{laid};
+ghost use Rattle.wrows.specs.Laid.{formulas_seen, rows_seen};
+ghost use Rattle.wrows.specs.Sorting.{ascending};
+ghost use Rattle.wcalls.specs.Frames.{bound_of, exclusion_of, frame_of, mode_of};
+
+use std::alloc::{AllocError, Global};
+use wframe::{Frame, FrameBound, FrameExclusion, FrameMode};
+use wplan::{Expr, SettledFrame, SettledKey, SettledWindow};
+use wrows::{AnswerFault, lists};
+use wvalues::{SortKey, Value};
+
+/// The order of partition values.
+const ASCENDING: SortKey = SortKey {
+    col: 0,
+    desc: false,
+    nulls_first: false,
+};
+
+// Each of some expressions, lent.
+fn lent_values(alloc: Global, values: &[Expr]) -> Result<Vec<&Expr>, AllocError>
+    ensures values { IfOk result (λ lent. formulas_seen lent.items ≡ map formula values.now) }
+    ensures len { IfOk result (λ lent. length lent.items ≡ length values.now) }
+{
+    let mut lent = Vec::with_capacity(alloc, values.len())?;
+    for value in values {
+        lent.push(value)?;
+    }
+    Ok(lent)
+}
+
+/// How partition values are ordered.
+pub(crate) fn value_orders(alloc: Global, values: &[Expr]) -> Result<Vec<SortKey>, AllocError>
+    ensures orders { IfOk result (λ orders. orders.items ≡ ascending (map formula values.now)) }
+    ensures len { IfOk result (λ orders. length orders.items ≡ length values.now) }
+{
+    let mut orders = Vec::with_capacity(alloc, values.len())?;
+    for _ in values {
+        orders.push(ASCENDING)?;
+    }
+    Ok(orders)
+}
+
+// The values of keys.
+fn key_values(alloc: Global, keys: &[SettledKey]) -> Result<Vec<&Expr>, AllocError>
+    ensures values { IfOk result (λ values. formulas_seen values.items ≡ map (λ k. k.value) (map key_plan keys.now)) }
+    ensures len { IfOk result (λ values. length values.items ≡ length keys.now) }
+{
+    let mut values = Vec::with_capacity(alloc, keys.len())?;
+    for key in keys {
+        values.push(&key.value)?;
+    }
+    Ok(values)
+}
+
+/// How keys are ordered.
+pub(crate) fn key_orders(alloc: Global, keys: &[SettledKey]) -> Result<Vec<SortKey>, AllocError>
+    ensures orders { IfOk result (λ orders. orders.items ≡ map (λ k. k.order) (map key_plan keys.now)) }
+    ensures len { IfOk result (λ orders. length orders.items ≡ length keys.now) }
+{
+    let mut orders = Vec::with_capacity(alloc, keys.len())?;
+    for key in keys {
+        orders.push(key.order)?;
+    }
+    Ok(orders)
+}
+
+/// The partition values of each row, laid out one row after another.
+pub(crate) fn partition_cells(
+    alloc: Global,
+    window: &SettledWindow,
+    rows: &[&[Value]],
+) -> Result<Vec<Value>, AnswerFault>
+    ensures gives { Gives (λ cells. laid (length window.now.partition.items) (length rows.now) cells.items) result (lists_of (window_plan window.now).partition (rows_seen rows.now)) }
+    ensures laid { IfOk result (λ cells. length cells.items ≡ length rows.now * length window.now.partition.items) }
+{
+    let values = lent_values(alloc, &window.partition)?;
+    let cells = lists(alloc, &values, rows)?;
+    Ok(cells)
+}
+
+/// The keys of each row, laid out one row after another.
+pub(crate) fn key_cells(
+    alloc: Global,
+    window: &SettledWindow,
+    rows: &[&[Value]],
+) -> Result<Vec<Value>, AnswerFault>
+    ensures gives { Gives (λ cells. laid (length window.now.keys.items) (length rows.now) cells.items) result (lists_of (map (λ k. k.value) (window_plan window.now).keys) (rows_seen rows.now)) }
+    ensures laid { IfOk result (λ cells. length cells.items ≡ length rows.now * length window.now.keys.items) }
+{
+    let values = key_values(alloc, &window.keys)?;
+    let cells = lists(alloc, &values, rows)?;
+    Ok(cells)
+}
+
+fn mode_of(mode: wquery::FrameMode) -> FrameMode
+    ensures { result ≡ mode_of mode }
+{
+    match mode {
+        wquery::FrameMode::Rows => FrameMode::Rows,
+        wquery::FrameMode::Range => FrameMode::Range,
+        wquery::FrameMode::Groups => FrameMode::Groups,
+    }
+}
+
+fn bound_of(bound: wquery::FrameBound) -> FrameBound
+    ensures { result ≡ bound_of bound }
+{
+    match bound {
+        wquery::FrameBound::UnboundedPreceding => FrameBound::UnboundedPreceding,
+        wquery::FrameBound::Preceding(offset) => FrameBound::Preceding(offset.get()),
+        wquery::FrameBound::CurrentRow => FrameBound::CurrentRow,
+        wquery::FrameBound::Following(offset) => FrameBound::Following(offset.get()),
+        wquery::FrameBound::UnboundedFollowing => FrameBound::UnboundedFollowing,
+    }
+}
+
+fn exclusion_of(exclusion: wquery::FrameExclusion) -> FrameExclusion
+    ensures { result ≡ exclusion_of exclusion }
+{
+    match exclusion {
+        wquery::FrameExclusion::CurrentRow => FrameExclusion::CurrentRow,
+        wquery::FrameExclusion::Group => FrameExclusion::Group,
+        wquery::FrameExclusion::Ties => FrameExclusion::Ties,
+        wquery::FrameExclusion::NoOthers => FrameExclusion::NoOthers,
+    }
+}
+
+/// The frame of a window, as a partition has it.
+pub(crate) fn frame_of(frame: &SettledFrame) -> Frame
+    ensures { result ≡ frame_of frame.now }
+{
+    Frame {
+        mode: mode_of(frame.mode),
+        start: bound_of(frame.start),
+        end: bound_of(frame.end),
+        exclusion: exclusion_of(frame.exclusion),
+    }
+}

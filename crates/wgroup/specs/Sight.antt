@@ -1,0 +1,42 @@
+-- Rows by a test of whether two are the same, in the order of first sight, and rows of cells that are the same.
+use Rattle.std.specs.Prelude.{ℕ, zero, suc, ◌*◌, Bool, not, List, [], ◌∷◌, ◌++◌, map, filter, take, drop, slice_index_or}
+use Rattle.std.specs.List.{list_any}
+use Rattle.std.specs.Cmp.Lexicographic.{pointwise}
+use Rattle.wvalues.specs.declared.value.Value.{Value}
+use Rattle.wvalues.specs.Meaning.{Meaning, Null, meaning}
+use Rattle.wvalues.specs.Sameness.{same_meaning}
+use Rattle.wframe.specs.Places.{places}
+use Rattle.wrows.specs.Columns.{Row}
+
+-- the rows, of n, with which no earlier row is the same
+abbrev pub first_of : (ℕ → ℕ → Bool) → ℕ → List ℕ
+first_of same n = filter (λ i. not (list_any (same i) (places i))) (places n)
+
+-- the rows, of n, that are the same as this one
+abbrev pub members : (ℕ → ℕ → Bool) → ℕ → ℕ → List ℕ
+members same n i = filter (same i) (places n)
+
+-- a number more in one of some lists
+abbrev pub put_in : ℕ → ℕ → List (List ℕ) → List (List ℕ)
+put_in place number [] = []
+put_in zero number (xs ∷ xss) = (xs ++ number ∷ []) ∷ xss
+put_in (suc place) number (xs ∷ xss) = xs ∷ put_in place number xss
+
+-- a list of these, none where there is no such list
+abbrev pub list_at : List (List ℕ) → ℕ → List ℕ
+list_at lists g = slice_index_or lists g []
+
+-- the cells of a row of this width
+abbrev pub slice_at : ℕ → List Value → ℕ → List Value
+slice_at width cells row = take width (drop (row * width) cells)
+
+-- whether two lists of cells say the same, and two rows of cells
+abbrev pub same_cells : List Value → List Value → Bool
+same_cells = pointwise (λ a b. same_meaning (meaning a) (meaning b))
+
+abbrev pub same_row : ℕ → List Value → ℕ → ℕ → Bool
+same_row width cells i j = same_cells (slice_at width cells i) (slice_at width cells j)
+
+-- a row's values in some columns, null behind its end
+abbrev pub key_in : List ℕ → Row → List Meaning
+key_in columns row = map (λ c. slice_index_or row c Null) columns

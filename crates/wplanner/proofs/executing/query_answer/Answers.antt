@@ -1,0 +1,22 @@
+use Rattle.std.proofs.Common.{Ok, map, sym, ap, ◌∙◌}
+use Rattle.std.specs.Rc.{rc_str_bytes}
+use Rattle.std.proofs.lemmas.List.{length-map}
+use Rattle.wplan.specs.Plans.{select_plan}
+use Rattle.wrows.specs.Laid.{rows_in, rows_seen}
+use Rattle.wrows.proofs.RowFacts.{then_refused}
+use Rattle.wplanner.specs.Parts.{TableParts}
+use Rattle.wplanner.proofs.PlanFacts.{some_select, table_told, table_wide}
+use Rattle.wplanner.proofs.executing.query_answer.Goals as goal
+
+pub output_names-requires : goal.output_names-requires
+output_names-requires c = some_select c.args.selects.now c.requires
+
+pub new-requires : goal.new-requires
+new-requires c =
+    table_wide c.args.selects.now c.in-Ok.cells.width 0 (map rc_str_bytes c.in_ok-names.names.items) c.requires c.in_ok-names.ensures c.in-Ok.ensures.width ∙ length-map c.in_ok-names.names.items rc_str_bytes ∙ sym c.in_ok-names.names.ok.0
+
+pub returns-in-Err : goal.returns-in-Err
+returns-in-Err c = then_refused {Y = TableParts} rows_in (λ t. t) c.in-Err.fault _ _ c.in-Err.ensures.rows
+
+pub returns : goal.returns
+returns c = table_told (map select_plan c.args.selects.now) (rows_seen c.args.rows.now) (rows_in c.in-Ok.cells) _ c.in-Ok.ensures.rows c.in_ok-names.ensures ∙ ap Ok (sym c.new.ensures)

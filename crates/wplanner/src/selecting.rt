@@ -1,0 +1,120 @@
+//! What one SELECT answers.
+ghost use Rattle.std.specs.Prelude.{◌≡◌, ◌<◌, ◌^◌, true, IfOk, length};
+ghost use Rattle.wplan.specs.Plans.{grouping_plan, select_plan};
+ghost use Rattle.wrows.specs.Outcomes.{Gives};
+ghost use Rattle.wrows.specs.Columns.{beside};
+ghost use Rattle.wrows.specs.Laid.{rows_in, rows_seen};
+ghost use Rattle.wplanner.specs.Answers.{grouped_items, items_of, left_items, select_of};
+ghost use Rattle.wplanner.specs.Sound.{is_sound_select};
+
+use crate::parts::{item_values, key_orders, key_values};
+use crate::windows::{call_columns, window_answers};
+use std::alloc::Global;
+use wgroup::group_rows;
+use wplan::{Grouping, Selection};
+use wrows::{AnswerFault, Cells, joined_items, kept_rows, lent_rows, ordered_items};
+use wvalues::Value;
+
+// The items of some rows, in order and cut.
+fn items_of(alloc: Global, select: &Selection, rows: &[&[Value]]) -> Result<Cells, AnswerFault>
+    ensures rows { Gives rows_in result (items_of (select_plan select.now) (rows_seen rows.now)) }
+    ensures width { IfOk result (λ cells. cells.width ≡ length select.now.items.items) }
+{
+    let items = item_values(alloc, &select.items)?;
+    let keys = key_values(alloc, &select.keys)?;
+    let order = key_orders(alloc, &select.keys)?;
+    ordered_items(
+        alloc,
+        &items,
+        &keys,
+        &order,
+        select.offset,
+        select.limit,
+        rows,
+    )
+}
+
+// The items of rows that have the values of some columns behind their cells, in order and cut.
+fn items_beside(
+    alloc: Global,
+    select: &Selection,
+    rows: &[&[Value]],
+    columns: &[&[Value]],
+) -> Result<Cells, AnswerFault>
+    ensures rows { Gives rows_in result (items_of (select_plan select.now) (beside (rows_seen rows.now) (rows_seen columns.now))) }
+    ensures width { IfOk result (λ cells. cells.width ≡ length select.now.items.items) }
+{
+    let items = item_values(alloc, &select.items)?;
+    let keys = key_values(alloc, &select.keys)?;
+    let order = key_orders(alloc, &select.keys)?;
+    joined_items(
+        alloc,
+        &items,
+        &keys,
+        &order,
+        select.offset,
+        select.limit,
+        rows,
+        columns,
+    )
+}
+
+// The items of rows with what the calls answer behind their cells.
+fn called_items(alloc: Global, select: &Selection, rows: &[&[Value]]) -> Result<Cells, AnswerFault>
+    requires sound { is_sound_select (select_plan select.now) ≡ true }
+    requires few { length rows.now < 2 ^ 31 }
+    ensures rows { Gives rows_in result (left_items (select_plan select.now) (rows_seen rows.now)) }
+    ensures width { IfOk result (λ cells. cells.width ≡ length select.now.items.items) }
+{
+    let answers = window_answers(alloc, &select.windows, &select.calls, rows)?;
+    let columns = call_columns(alloc, &answers, &select.calls)?;
+    items_beside(alloc, select, rows, &columns)
+}
+
+// The items of the rows that are left, which are lent on where nothing calls for a window.
+fn left_items(alloc: Global, select: &Selection, rows: &[&[Value]]) -> Result<Cells, AnswerFault>
+    requires sound { is_sound_select (select_plan select.now) ≡ true }
+    requires few { length rows.now < 2 ^ 31 }
+    ensures rows { Gives rows_in result (left_items (select_plan select.now) (rows_seen rows.now)) }
+    ensures width { IfOk result (λ cells. cells.width ≡ length select.now.items.items) }
+{
+    if select.windows.is_empty() {
+        items_of(alloc, select, rows)
+    } else {
+        called_items(alloc, select, rows)
+    }
+}
+
+// The items of the rows of the groups.
+fn grouped_items(
+    alloc: Global,
+    select: &Selection,
+    grouping: &Grouping,
+    kept: &[&[Value]],
+) -> Result<Cells, AnswerFault>
+    requires sound { is_sound_select (select_plan select.now) ≡ true }
+    requires few { length kept.now < 2 ^ 31 }
+    ensures rows { Gives rows_in result (grouped_items (select_plan select.now) (grouping_plan grouping.now) (rows_seen kept.now)) }
+    ensures width { IfOk result (λ cells. cells.width ≡ length select.now.items.items) }
+{
+    let groups = group_rows(alloc, grouping, kept)?;
+    let left = lent_rows(alloc, &groups)?;
+    left_items(alloc, select, &left)
+}
+
+/// What one SELECT answers on some rows.
+pub(crate) fn select_rows(
+    alloc: Global,
+    select: &Selection,
+    rows: &[&[Value]],
+) -> Result<Cells, AnswerFault>
+    requires { is_sound_select (select_plan select.now) ≡ true }
+    ensures rows { Gives rows_in result (select_of (select_plan select.now) (rows_seen rows.now)) }
+    ensures width { IfOk result (λ cells. cells.width ≡ length select.now.items.items) }
+{
+    let kept = kept_rows(alloc, &select.condition, rows)?;
+    match &select.grouping {
+        None => left_items(alloc, select, &kept),
+        Some(grouping) => grouped_items(alloc, select, grouping, &kept),
+    }
+}

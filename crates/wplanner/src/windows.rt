@@ -1,0 +1,126 @@
+//! The columns of the calls with OVER.
+ghost use Rattle.std.specs.Prelude.{◌≡◌, ◌<◌, ◌^◌, [], true, IfOk, length, map, slice_index_or};
+ghost use Rattle.std.specs.List.{list_all};
+ghost use Rattle.wvalues.specs.Meaning.{meaning};
+ghost use Rattle.wplan.specs.Plans.{call_plan, window_plan};
+ghost use Rattle.wrows.specs.Outcomes.{Gives};
+ghost use Rattle.wrows.specs.Laid.{rows_in, rows_seen};
+ghost use Rattle.wcalls.specs.Functions.{window_columns};
+ghost use Rattle.wcalls.specs.Lent.{functions_seen};
+ghost use Rattle.wcalls.specs.Sound.{is_sound_function, is_sound_window};
+ghost use Rattle.wplanner.specs.ByWindow.{columns_from, columns_of_calls, functions_over};
+ghost use Rattle.wplanner.specs.Sound.{is_sound_call};
+
+use crate::table::cells_from;
+use std::alloc::{AllocError, Global};
+use wcalls::window_columns;
+use wplan::{CallOver, SettledWindow, WindowFunction};
+use wrows::{AnswerFault, Cells};
+use wvalues::Value;
+
+// The functions of the calls over the window of a number.
+fn functions_over(
+    alloc: Global,
+    calls: &[CallOver],
+    window: usize,
+) -> Result<Vec<&WindowFunction>, AllocError>
+    ensures { IfOk result (λ functions. functions_seen functions.items ≡ functions_over (map call_plan calls.now) window) }
+{
+    let mut functions = Vec::new(alloc);
+    for call in calls {
+        if call.window == window {
+            functions.push(&call.function)?;
+        }
+    }
+    Ok(functions)
+}
+
+// The columns of the functions over the window of a number.
+fn answers_over(
+    alloc: Global,
+    window: &SettledWindow,
+    number: usize,
+    calls: &[CallOver],
+    rows: &[&[Value]],
+) -> Result<Cells, AnswerFault>
+    requires few { length rows.now < 2 ^ 31 }
+    requires window { is_sound_window (window_plan window.now) ≡ true }
+    requires functions { list_all is_sound_function (functions_over (map call_plan calls.now) number) ≡ true }
+    ensures { Gives rows_in result (window_columns (window_plan window.now) (functions_over (map call_plan calls.now) number) (rows_seen rows.now)) }
+{
+    let functions = functions_over(alloc, calls, number)?;
+    window_columns(alloc, window, &functions, rows)
+}
+
+/// For each window the columns of the functions of its calls.
+pub(crate) fn window_answers(
+    alloc: Global,
+    windows: &[SettledWindow],
+    calls: &[CallOver],
+    rows: &[&[Value]],
+) -> Result<Vec<Cells>, AnswerFault>
+    requires few { length rows.now < 2 ^ 31 }
+    requires windows { list_all is_sound_window (map window_plan windows.now) ≡ true }
+    requires calls { list_all (is_sound_call (length windows.now)) (map call_plan calls.now) ≡ true }
+    ensures { Gives (λ answers. map rows_in answers.items) result (columns_from (rows_seen rows.now) (map call_plan calls.now) 0 (map window_plan windows.now)) }
+{
+    let mut answers = Vec::with_capacity(alloc, windows.len())?;
+    for (number, window) in windows.iter().enumerate() {
+        match answers_over(alloc, window, number, calls, rows) {
+            Err(fault) => return Err(fault),
+            Ok(columns) => answers.push(columns)?,
+        }
+    }
+    Ok(answers)
+}
+
+// How many calls are over the window of a number.
+fn count_over(calls: &[CallOver], window: usize) -> usize
+    ensures { result ≡ length (functions_over (map call_plan calls.now) window) }
+{
+    let mut count = 0;
+    for call in calls {
+        if call.window == window {
+            count += 1;
+        }
+    }
+    count
+}
+
+// The column of a number, empty where there is none.
+fn column_at(columns: &Cells, number: usize) -> &[Value]
+    ensures { map meaning result.now ≡ slice_index_or (rows_in columns.now) number [] }
+{
+    if number < columns.count {
+        cells_from(&columns.cells, number * columns.width, columns.width)
+    } else {
+        &[]
+    }
+}
+
+// The column of a number among those of a window, empty where there is none.
+fn column_over(answers: &[Cells], window: usize, number: usize) -> &[Value]
+    ensures { map meaning result.now ≡ slice_index_or (slice_index_or (map rows_in answers.now) window []) number [] }
+{
+    if window < answers.len() {
+        column_at(&answers[window], number)
+    } else {
+        &[]
+    }
+}
+
+/// The columns of the calls, in their order.
+pub(crate) fn call_columns<'a>(
+    alloc: Global,
+    answers: &'a [Cells],
+    calls: &[CallOver],
+) -> Result<Vec<&'a [Value]>, AllocError>
+    ensures { IfOk result (λ columns. rows_seen columns.items ≡ columns_of_calls (map rows_in answers.now) (map call_plan calls.now)) }
+{
+    let mut columns = Vec::with_capacity(alloc, calls.len())?;
+    for (number, call) in calls.iter().enumerate() {
+        let earlier = count_over(&calls[..number], call.window);
+        columns.push(column_over(answers, call.window, earlier))?;
+    }
+    Ok(columns)
+}

@@ -1,0 +1,16 @@
+use Rattle.std.proofs.Common.{◌≤◌, ◌<◌, ◌-◌, suc, length, take, drop}
+use Rattle.wset.specs.Lending.{AreBelow}
+use Rattle.wset.specs.Entries.{known_entries}
+use Rattle.wset.specs.Blocks.{AreBehind, flat}
+use Rattle.wset.proofs.blocks.home.Given as goal
+
+abbrev pub invariant-search : goal.invariant-search
+invariant-search l = record {
+  order : l.low ≤ l.high;
+  in_range : l.high < length l.blocks;
+  before : AreBelow l.name (known_entries (flat (take l.low l.blocks)));
+  behind : AreBehind l.name (known_entries (flat (drop (suc l.high) l.blocks)));
+}
+
+abbrev pub decreases-search : goal.decreases-search
+decreases-search l = l.high - l.low

@@ -1,0 +1,18 @@
+use Rattle.std.proofs.Common.{sym, subst}
+use Rattle.wset.specs.Entries.{IsRising, AllHeldBy}
+use Rattle.wset.specs.Holding.{known_of}
+use Rattle.wset.proofs.BlockFacts.{held_set, put_home, rising_at}
+use Rattle.wset.proofs.blocks.put_home.Goals as goal
+
+pub put-requires : goal.put-requires
+put-requires c =
+    subst IsRising (sym c.index_mut-block.ensures.value) (rising_at c.args.blocks.now.items c.args.k c.index_mut-block.result.now c.requires.home.in_range c.requires.rising)
+
+pub returns-clause-ok : goal.returns-clause-ok
+returns-clause-ok c =
+    put_home c.args.blocks.now.items c.args.name (known_of c.args.held) c.args.k c.index_mut-block.result.now c.put.new.self c.requires.home (rw c.index_mut-block.ensures.value at c.in_ok-put.ensures.ok)
+
+pub returns-clause-read : goal.returns-clause-read
+returns-clause-read c d all held =
+    held_set d c.args.blocks.now.items c.args.k c.index_mut-block.result.now c.put.new.self c.requires.home.in_range all
+    (λ before. c.put.ensures.read d (subst (AllHeldBy d) (sym c.index_mut-block.ensures.value) before) held)

@@ -1,0 +1,360 @@
+//! Entries in blocks of a bounded size, so that an insert moves few of them.
+ghost use Rattle.std.specs.Prelude.{◌≡◌, ◌^◌, ◌<◌, ◌≤◌, ◌++◌, List, true, false, length, map, option_map, slice_get, Some, IfSome, IfOk, OnOk, OnErr};
+ghost use Rattle.std.specs.List.{filter_map, sum_by};
+ghost use Rattle.std.specs.Option.{option_copied};
+ghost use Rattle.std.specs.FinMap.{find, put};
+ghost use Rattle.wsegment.specs.Declaration.{Declaration};
+ghost use Rattle.wvalues.specs.Names.{name_cmp};
+ghost use Rattle.wset.specs.Views.{Known as TheKnown, live_of};
+ghost use Rattle.wset.specs.Holding.{IsHeldBy, known_of, row_count_of};
+ghost use Rattle.wset.specs.Lending.{AreBelow, IsLentBy, told_of};
+ghost use Rattle.wset.specs.Sets.{IsReadBy};
+ghost use Rattle.wset.specs.Entries.{AllHeldBy, IsRising, known_entries, listing_of};
+ghost use Rattle.wset.specs.Blocks.{AreBehind, IsHome, flat};
+ghost use Rattle.wset.specs.declared.entries.Entry.{Entry as HeldEntry};
+
+use crate::entries::{
+    Entry, held_of, list_entries, live_entry, mark, put_entry, rows_of_all, share_entries,
+};
+use crate::held::Held;
+use crate::known::Known;
+use crate::words::Listed;
+use std::alloc::{AllocError, Global};
+use std::marker::Model;
+use wsegment::Segment;
+use wvalues::Name;
+
+/// The most entries of a block, but for one that a join made.
+const LONGEST: usize = 512;
+
+/// One entry or more in the order of their names, and the places of the live ones among them. In a
+/// contract it is its entries.
+#[derive(Drop)]
+pub(crate) struct Block {
+    entries: Vec<Entry>,
+    live: Vec<usize>,
+}
+
+impl Model for Block {
+    ghost use Rattle.std.specs.Prelude.{List};
+    ghost use Rattle.wset.specs.declared.entries.Entry.{Entry};
+
+    ghost Value = { List Entry };
+
+    ghost use Rattle.wset.specs.Marking.{IsMarked};
+
+    ghost view = { λ b. b.entries.items };
+
+    ghost invariant = { IsMarked };
+}
+
+impl Block {
+    /// A block of these entries.
+    pub(crate) fn new(alloc: Global, entries: Vec<Entry>) -> Result<Block, AllocError>
+        requires { 0 < length entries.items }
+        ensures { IfOk result (λ block. block ≡ entries.items) }
+    {
+        let mut live = Vec::with_capacity(alloc, entries.len())?;
+        mark(&mut live, &entries, 0);
+        Ok(Block { entries, live })
+    }
+
+    /// A block of the same entries.
+    fn copy(alloc: Global, entries: &[Entry]) -> Result<Block, AllocError>
+        requires { 0 < length entries.now }
+        ensures { IfOk result (λ block. block ≡ entries.now) }
+    {
+        let mut shared = Vec::new(alloc);
+        share_entries(&mut shared, entries)?;
+        Block::new(alloc, shared)
+    }
+
+    /// Its entries.
+    pub(crate) fn entries(&self) -> &[Entry]
+        ensures same { result.now ≡ self.now }
+        ensures filled { 0 < length result.now }
+    {
+        self.entries.as_slice()
+    }
+
+    /// How many of them are live.
+    fn live_count(&self) -> usize
+        ensures { result ≡ length (filter_map live_of (known_entries self.now)) }
+    {
+        self.live.as_slice().len()
+    }
+
+    /// The i-th live name, and its segment.
+    fn live_at(&self, i: usize) -> (Name, &Segment)
+        requires { i < length (filter_map live_of (known_entries self.now)) }
+        ensures known { slice_get (filter_map live_of (known_entries self.now)) i
+            ≡ Some (result.0, result.1.now.bytes) }
+        ensures read { (d : Declaration) → AllHeldBy d self.now → IsReadBy d result.1.now }
+    {
+        live_entry(&self.entries, &self.live, i)
+    }
+
+    /// Puts what is held of a name, in the place of what was. Where it finds no memory nothing is changed.
+    fn put(&mut self, name: Name, held: Held) -> Result<(), AllocError>
+        requires { IsRising self.old }
+        ensures ok { OnOk result
+            (known_entries self.new ≡ put name_cmp name (known_of held) (known_entries self.old)) }
+        ensures read { (d : Declaration)
+            → AllHeldBy d self.old → IsHeldBy d held → AllHeldBy d self.new }
+        ensures err { OnErr result (self.new ≡ self.old) }
+    {
+        put_entry(&mut self.entries, &mut self.live, name, held)?;
+        Ok(())
+    }
+
+    /// The same entries in two blocks.
+    fn halves(&self, alloc: Global) -> Result<(Block, Block), AllocError>
+        requires { 1 < length self.now }
+        ensures { IfOk result (λ halves. halves.0 ++ halves.1 ≡ self.now) }
+    {
+        let half = self.entries.len() / 2;
+        let (front, back) = self.entries.as_slice().split_at(half);
+        let front = Block::copy(alloc, front)?;
+        let back = Block::copy(alloc, back)?;
+        Ok((front, back))
+    }
+
+    /// Whether its last name stands before the name.
+    fn ends_before(&self, name: &Name) -> bool
+        ensures before { result ≡ true → (before : List HeldEntry) → IsRising (before ++ self.now)
+            → AreBelow name.now (known_entries (before ++ self.now)) }
+        ensures behind { result ≡ false → (after : List HeldEntry) → IsRising (self.now ++ after)
+            → AreBehind name.now (known_entries after) }
+    {
+        let end = self.entries.len() - 1;
+        let last = &self.entries[end];
+        last.name.cmp(name).is_lt()
+    }
+}
+
+/// The block where a name is, if it is not unknown, or else goes.
+fn home(blocks: &[Block], name: &Name) -> usize
+    requires some { 0 < length blocks.now }
+    requires rising { IsRising (flat blocks.now) }
+    ensures { IsHome blocks.now name.now result }
+{
+    let mut low = 0;
+    let mut high = blocks.len() - 1;
+    'search: while low < high {
+        let middle = low + (high - low) / 2;
+        if blocks[middle].ends_before(name) {
+            low = middle + 1;
+        } else {
+            high = middle;
+        }
+    }
+    low
+}
+
+/// What is held of a name, if it is not unknown.
+pub(crate) fn held_in<'a>(blocks: &'a [Block], name: &Name) -> Option<&'a Held>
+    requires { IsRising (flat blocks.now) }
+    ensures known { option_map known_of (option_copied result)
+        ≡ find name_cmp name.now (known_entries (flat blocks.now)) }
+    ensures read { IfSome result
+        (λ held. (d : Declaration) → AllHeldBy d (flat blocks.now) → IsHeldBy d held.now) }
+{
+    if blocks.is_empty() {
+        return None;
+    }
+    let k = home(blocks, name);
+    held_of(blocks[k].entries(), name)
+}
+
+/// Cuts a long block in two, if there is memory for it.
+fn split(alloc: Global, blocks: &mut Vec<Block>, k: usize)
+    requires { k < length blocks.old.items }
+    ensures { flat blocks.new.items ≡ flat blocks.old.items }
+{
+    if blocks[k].entries().len() <= LONGEST {
+        return;
+    }
+    let Ok((front, back)) = blocks[k].halves(alloc) else {
+        return;
+    };
+    if blocks.insert(k + 1, back).is_ok() {
+        blocks[k] = front;
+    }
+}
+
+/// Makes the first block.
+fn begin(alloc: Global, blocks: &mut Vec<Block>, name: Name, held: Held) -> Result<(), AllocError>
+    requires { length blocks.old.items ≡ 0 }
+    ensures ok { OnOk result
+        (known_entries (flat blocks.new.items)
+        ≡ put name_cmp name (known_of held) (known_entries (flat blocks.old.items))) }
+    ensures read { (d : Declaration)
+        → AllHeldBy d (flat blocks.old.items) → IsHeldBy d held → AllHeldBy d (flat blocks.new.items) }
+    ensures err { OnErr result (flat blocks.new.items ≡ flat blocks.old.items) }
+{
+    let mut entries = Vec::new(alloc);
+    entries.push(Entry { name, held })?;
+    let block = Block::new(alloc, entries)?;
+    blocks.push(block)?;
+    Ok(())
+}
+
+/// Puts what is held of a name into its home.
+fn put_home(blocks: &mut Vec<Block>, k: usize, name: Name, held: Held) -> Result<(), AllocError>
+    requires rising { IsRising (flat blocks.old.items) }
+    requires home { IsHome blocks.old.items name k }
+    ensures ok { OnOk result
+        (known_entries (flat blocks.new.items)
+        ≡ put name_cmp name (known_of held) (known_entries (flat blocks.old.items))) }
+    ensures read { (d : Declaration)
+        → AllHeldBy d (flat blocks.old.items) → IsHeldBy d held → AllHeldBy d (flat blocks.new.items) }
+    ensures err { OnErr result (flat blocks.new.items ≡ flat blocks.old.items) }
+    ensures kept { length blocks.new.items ≡ length blocks.old.items }
+{
+    let block = &mut blocks[k];
+    block.put(name, held)?;
+    Ok(())
+}
+
+/// Puts what is held of a name, in the place of what was. Where it finds no memory no entry is changed.
+pub(crate) fn put_in(
+    alloc: Global,
+    blocks: &mut Vec<Block>,
+    name: Name,
+    held: Held,
+) -> Result<(), AllocError>
+    requires { IsRising (flat blocks.old.items) }
+    ensures ok { OnOk result
+        (known_entries (flat blocks.new.items)
+        ≡ put name_cmp name (known_of held) (known_entries (flat blocks.old.items))) }
+    ensures read { (d : Declaration)
+        → AllHeldBy d (flat blocks.old.items) → IsHeldBy d held → AllHeldBy d (flat blocks.new.items) }
+    ensures err { OnErr result (flat blocks.new.items ≡ flat blocks.old.items) }
+{
+    if blocks.is_empty() {
+        return begin(alloc, blocks, name, held);
+    }
+    let k = home(blocks, &name);
+    put_home(blocks, k, name, held)?;
+    split(alloc, blocks, k);
+    Ok(())
+}
+
+/// The i-th entry.
+pub(crate) fn entry_in(blocks: &[Block], i: usize) -> &Entry
+    requires { i < length (flat blocks.now) }
+    ensures { slice_get (flat blocks.now) i ≡ Some result.now }
+{
+    let mut left = i;
+    'walk: for block in blocks {
+        let entries = block.entries();
+        if left < entries.len() {
+            return &entries[left];
+        }
+        left -= entries.len();
+    }
+    unreachable!()
+}
+
+/// The i-th live name, and its segment.
+pub(crate) fn live_in(blocks: &[Block], i: usize) -> (Name, &Segment)
+    requires { i < length (filter_map live_of (known_entries (flat blocks.now))) }
+    ensures known { slice_get (filter_map live_of (known_entries (flat blocks.now))) i
+        ≡ Some (result.0, result.1.now.bytes) }
+    ensures read { (d : Declaration) → AllHeldBy d (flat blocks.now) → IsReadBy d result.1.now }
+{
+    let mut left = i;
+    'walk: for block in blocks {
+        let live = block.live_count();
+        if left < live {
+            return block.live_at(left);
+        }
+        left -= live;
+    }
+    unreachable!()
+}
+
+/// The name of the i-th entry, and what is known of it.
+pub(crate) fn name_in(blocks: &[Block], i: usize) -> (Name, Known<'_>)
+    requires { i < length (flat blocks.now) }
+    ensures known { slice_get (known_entries (flat blocks.now)) i ≡ Some (result.0, told_of result.1) }
+    ensures read { (d : Declaration) → AllHeldBy d (flat blocks.now) → IsLentBy d result.1 }
+{
+    let entry = entry_in(blocks, i);
+    (entry.name, entry.held.lent())
+}
+
+/// The number of entries when something is put of a name, where so many there are now.
+pub(crate) fn count_after(blocks: &[Block], count: usize, name: &Name) -> Result<usize, AllocError>
+    requires rising { IsRising (flat blocks.now) }
+    requires count { count ≡ length (flat blocks.now) }
+    ensures { IfOk result
+        (λ after. (k : TheKnown) → after ≡ length (put name_cmp name.now k (known_entries (flat blocks.now)))) }
+{
+    if held_in(blocks, name).is_some() {
+        return Ok(count);
+    }
+    if count == usize::MAX {
+        return Err(AllocError);
+    }
+    Ok(count + 1)
+}
+
+/// The number of live names, of which there are fewer than 2^64.
+pub(crate) fn live_count_in(blocks: &[Block]) -> usize
+    requires { length (flat blocks.now) < 2 ^ 64 }
+    ensures { result ≡ length (filter_map live_of (known_entries (flat blocks.now))) }
+{
+    let mut count = 0;
+    'walk: for block in blocks {
+        count += block.live_count();
+    }
+    count
+}
+
+/// The same entries, in one list.
+pub(crate) fn shared(alloc: Global, blocks: &[Block]) -> Result<Vec<Entry>, AllocError>
+    ensures { IfOk result (λ all. all.items ≡ flat blocks.now) }
+{
+    let mut all = Vec::new(alloc);
+    'walk: for block in blocks {
+        share_entries(&mut all, block.entries())?;
+    }
+    Ok(all)
+}
+
+/// These entries in blocks.
+pub(crate) fn in_blocks(alloc: Global, entries: Vec<Entry>) -> Result<Vec<Block>, AllocError>
+    ensures { IfOk result (λ blocks. flat blocks.items ≡ entries.items) }
+{
+    let mut blocks = Vec::new(alloc);
+    if entries.is_empty() {
+        return Ok(blocks);
+    }
+    let block = Block::new(alloc, entries)?;
+    blocks.push(block)?;
+    Ok(blocks)
+}
+
+/// Each entry's name, status and number of rows.
+pub(crate) fn listing(alloc: Global, blocks: &[Block]) -> Result<Vec<Listed>, AllocError>
+    ensures { IfOk result (λ all. all.items ≡ map listing_of (flat blocks.now)) }
+{
+    let mut all = Vec::new(alloc);
+    'walk: for block in blocks {
+        list_entries(&mut all, block.entries())?;
+    }
+    Ok(all)
+}
+
+/// The number of rows of all live segments. Fewer than 2^64 entries have fewer than 2^64 rows each.
+pub(crate) fn rows_in(blocks: &[Block]) -> u128
+    requires { length (flat blocks.now) < 2 ^ 64 }
+    ensures { result ≡ sum_by (λ entry. row_count_of entry.held) (flat blocks.now) }
+{
+    let mut total = 0u128;
+    'walk: for block in blocks {
+        total += rows_of_all(block.entries());
+    }
+    total
+}

@@ -1,0 +1,58 @@
+use Rattle.std.proofs.Common.{◌≡◌, ℕ, ◌+◌, ◌++◌, ◌∷◌, [], map, length, sym, ap, ◌∙◌, arith, subst, append_assoc}
+use Rattle.std.specs.Prelude.{All}
+use Rattle.std.proofs.lemmas.List.{map-append}
+use Rattle.std.proofs.lemmas.List.Elements.{All-same, All-push}
+use Rattle.wframe.specs.Places.{places, IsRisen}
+use Rattle.wframe.specs.Frame.{frame_rows}
+use Rattle.wslide.specs.Laws.{total, rows_fold}
+use Rattle.wslide.proofs.Spans.{places_next}
+use Rattle.wslide.proofs.sliding.push_sliding_folds.Goals as goal
+
+pub advance-requires-clause-rises : goal.advance-requires-clause-rises
+advance-requires-clause-rises g c =
+    let held = c.loop-row.held in
+    let span = c.span-span.result in
+    subst (λ n. IsRisen n held span) c.requires.rows (c.loop-row.invariant.rises span c.span-span.ensures.risen)
+
+pub loop-row-preserved : goal.loop-row-preserved
+loop-row-preserved g c =
+    let f = c.args.fold.now in
+    let p = c.args.frames.now in
+    let at = g.F.Fold.part_at f in
+    let neutral = g.F.Fold.neutral f in
+    let joined = g.F.Fold.joined f in
+    let inv = c.loop-row.invariant in
+    let row = c.loop-row.row in
+    let span = c.span-span.result in
+    let rises = inv.rises span c.span-span.ensures.risen in
+    let fold_of = λ (r : ℕ). rows_fold neutral joined at (frame_rows p r) in
+    let part = c.held_fold.result in
+    let value = (c.held_fold.ensures.value ∙ ap (λ rows. total neutral joined (map at rows)) (c.span-span.ensures.rows c.requires.single)) in
+    let more = ap (map fold_of) (places_next row) ∙ map-append fold_of (places row) (row ∷ []) ∙ ap (λ x. map fold_of (places row) ++ x ∷ []) (sym value) in
+    record {
+      filled = c.advance.ensures.filled;
+      holds = c.advance.ensures.holds;
+      capacity = c.advance.ensures.capacity ∙ inv.capacity;
+      ordered = c.span-span.ensures.ordered;
+      within = omega (arith, c.span-span.ensures.within, c.count-rows.ensures.count);
+      rises = λ s h. subst (λ low. IsRisen (length p.keys) low s) (sym c.span-span.ensures.span) (h row (omega arith));
+      folds =
+          c.in_ok-push.ensures.items
+          ∙ ap (λ ps. ps ++ part ∷ []) inv.folds
+          ∙ append_assoc c.args.folds.now.items (map fold_of (places row)) (part ∷ [])
+          ∙ ap (λ ps. c.args.folds.now.items ++ ps) (sym more);
+      parts = All-same (g.F.Fold.is_part f) (map fold_of (places (row + 1))) (map fold_of (places row) ++ part ∷ []) more (All-push (g.F.Fold.is_part f) (map fold_of (places row)) part inv.parts c.held_fold.ensures.part);
+      not_less = omega arith;
+      joins = omega arith;
+    }
+
+pub returns-clause-parts : goal.returns-clause-parts
+returns-clause-parts g c =
+    let f = c.args.fold.now in
+    let p = c.args.frames.now in
+    let at = g.F.Fold.part_at f in
+    let neutral = g.F.Fold.neutral f in
+    let joined = g.F.Fold.joined f in
+    let fold_of = λ (r : ℕ). rows_fold neutral joined at (frame_rows p r) in
+    let all : c.loop-row.row ≡ length p.keys = omega (arith, c.count-rows.ensures.count) in
+    subst (λ n. All (g.F.Fold.is_part f) (map fold_of (places n))) all c.loop-row.invariant.parts

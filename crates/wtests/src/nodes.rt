@@ -1,0 +1,272 @@
+use std::alloc::Global;
+use std::io::{self, Read, Write};
+use std::process::Abort;
+use std::test::*;
+use wsegment::Schema;
+use wset::{Retired, Status, Taken};
+use wstore::{End, Node, RunFault, run};
+use wvalues::{Counted, Name};
+
+const TABLE: &[u8] = b"table sales\nday integer\nshop text\namount integer\n";
+
+const FOUR_ROWS: &[u8] = b"day,shop,amount\n1,a,10\n2,a,20\n2,b,5\n4,a,\n";
+
+const COUNT: &[u8] = b"SELECT count(*) FROM sales";
+
+// A segment is taken, listed, counted, retired and counted again.
+const SCRIPT: &[u8] = b"T 49\ntable sales\nday integer\nshop text\namount integer\n\n\
+    S 1 east 1 41\nday,shop,amount\n1,a,10\n2,a,20\n2,b,5\n4,a,\n\n\
+    L 1\n\
+    Q 1 26\nSELECT count(*) FROM sales\n\
+    R 1 east 1\n\
+    Q 1 26\nSELECT count(*) FROM sales\n";
+
+const REPLIES: &[u8] = b"ok\n\
+    taken\n\
+    list 1\neast 1 live 4\n\
+    answer 8\ncount\n4\n\
+    retired\n\
+    answer 8\ncount\n0\n";
+
+// Where the commands of the script end, and where their replies do.
+const ENDS: [(usize, usize); 6] = [
+    (55, 3),
+    (111, 9),
+    (115, 30),
+    (149, 47),
+    (160, 55),
+    (194, 72),
+];
+
+const DISPUTE: &[u8] = b"T 49\ntable sales\nday integer\nshop text\namount integer\n\n\
+    S 1 east 1 41\nday,shop,amount\n1,a,10\n2,a,20\n2,b,5\n4,a,\n\n\
+    S 1 east 1 42\nday,shop,amount\n1,a,10\n2,a,20\n2,b,5\n4,a,1\n\n\
+    L 1\n\
+    Q 1 26\nSELECT count(*) FROM sales\n\
+    S 1 east 1 41\nday,shop,amount\n1,a,10\n2,a,20\n2,b,5\n4,a,\n\n";
+
+const DISPUTE_REPLIES: &[u8] = b"ok\n\
+    taken\n\
+    disputed\n\
+    list 1\neast 1 disputed\n\
+    answer 8\ncount\n0\n\
+    ignored\n";
+
+const SHORT_LENGTH: &[u8] = b"T 49\ntable sales\nday integer\nshop text\namount integer\n\n\
+    Q 1 20\nSELECT day FROM sales\n";
+
+// Gives at most `most` bytes a call, and fails at the call that is numbered `failing`, from 0.
+#[derive(Drop)]
+struct FaultyReader<'a> {
+    left: &'a [u8],
+    most: usize,
+    calls: usize,
+    failing: usize,
+    kind: io::ErrorKind,
+}
+
+impl<'a> Read for FaultyReader<'a> {
+    fn read(&mut self, buf: &mut [u8]) -> io::Result<usize> {
+        let call = self.calls;
+        self.calls = call.saturating_add(1);
+        if call == self.failing {
+            return Err(io::Error::from(self.kind));
+        }
+        let n = buf.len().min(self.left.len()).min(self.most);
+        buf[..n].copy_from_slice(&self.left[..n]);
+        self.left = &self.left[n..];
+        Ok(n)
+    }
+}
+
+// How a call of a writer fails.
+#[derive(Clone, Copy)]
+enum Failure {
+    Fault(io::ErrorKind),
+    TakesNothing,
+}
+
+// Takes at most `most` bytes a call, and fails at the call that is numbered `failing`, from 0.
+#[derive(Drop)]
+struct FaultyWriter {
+    taken: Vec<u8>,
+    most: usize,
+    calls: usize,
+    failing: usize,
+    failure: Failure,
+}
+
+impl Write for FaultyWriter {
+    fn write(&mut self, buf: &[u8]) -> io::Result<usize> {
+        let call = self.calls;
+        self.calls = call.saturating_add(1);
+        if call == self.failing {
+            return match self.failure {
+                Failure::Fault(kind) => Err(io::Error::from(kind)),
+                Failure::TakesNothing => Ok(0),
+            };
+        }
+        let n = buf.len().min(self.most);
+        self.taken.extend_from_slice(&buf[..n])?;
+        Ok(n)
+    }
+
+    fn flush(&mut self) -> io::Result<()> {
+        Ok(())
+    }
+}
+
+fn reader_of_script(most: usize, failing: usize) -> FaultyReader<'static> {
+    FaultyReader {
+        left: SCRIPT,
+        most,
+        calls: 0,
+        failing,
+        kind: io::ErrorKind::BrokenPipe,
+    }
+}
+
+fn writer_to_memory(alloc: Global, most: usize, failing: usize) -> FaultyWriter {
+    FaultyWriter {
+        taken: Vec::new(alloc),
+        most,
+        calls: 0,
+        failing,
+        failure: Failure::Fault(io::ErrorKind::BrokenPipe),
+    }
+}
+
+#[test]
+fn scripts_have_their_replies(rt: HostRuntime) {
+    let rows: [(&[u8], End, &[u8]); 3] = [
+        (SCRIPT, End::Done, REPLIES),
+        (DISPUTE, End::Done, DISPUTE_REPLIES),
+        (SHORT_LENGTH, End::Bad, b"ok\nbad script\n"),
+    ];
+    for (script, end, replies) in rows {
+        let mut input = Counted::new(script);
+        let mut output = Counted::new(Vec::new(rt.alloc()));
+        assert_eq!(rt; run(rt.alloc(), &mut input, &mut output), Ok(end));
+        assert_eq!(rt; output.into_inner().as_slice(), replies);
+    }
+}
+
+#[test]
+fn one_byte_a_call(rt: HostRuntime) {
+    let mut input = Counted::new(reader_of_script(1, usize::MAX));
+    let mut output = Counted::new(writer_to_memory(rt.alloc(), 1, usize::MAX));
+    assert_eq!(rt; run(rt.alloc(), &mut input, &mut output), Ok(End::Done));
+    assert_eq!(rt; input.reads(), 195);
+    assert_eq!(rt; output.into_inner().taken.as_slice(), REPLIES);
+}
+
+// The replies to the commands that stand whole in the first `read` bytes of the script.
+fn replies_to(read: usize) -> &'static [u8] {
+    let mut end = 0;
+    for (command, reply) in ENDS {
+        if command <= read {
+            end = reply;
+        }
+    }
+    REPLIES.get(..end).unwrap_or(REPLIES)
+}
+
+// Fails each of this many reads in turn.
+fn compare_with_failing_reads(rt: &impl Abort, alloc: Global, most: usize, calls: usize) {
+    for k in 0..calls {
+        let mut input = Counted::new(reader_of_script(most, k));
+        let mut output = Counted::new(Vec::new(alloc));
+        let end = run(alloc, &mut input, &mut output);
+        assert_eq!(rt; end, Err(RunFault::Read), "at call {k}");
+        assert_eq!(rt; input.into_inner().calls, k.saturating_add(1));
+        let written = output.into_inner();
+        assert_eq!(rt; written.as_slice(), replies_to(k.saturating_mul(most)));
+    }
+}
+
+#[test]
+fn a_reader_that_fails(rt: HostRuntime) {
+    compare_with_failing_reads(&rt, rt.alloc(), 1, 195);
+    compare_with_failing_reads(&rt, rt.alloc(), usize::MAX, 2);
+}
+
+#[test]
+fn a_writer_that_fails(rt: HostRuntime) {
+    for k in 0..REPLIES.len() {
+        let mut input = Counted::new(SCRIPT);
+        let mut output = Counted::new(writer_to_memory(rt.alloc(), 1, k));
+        let end = run(rt.alloc(), &mut input, &mut output);
+        assert_eq!(rt; end, Err(RunFault::Write), "at call {k}");
+        let output = output.into_inner();
+        assert_eq!(rt; output.calls, k.saturating_add(1));
+        assert_eq!(rt; output.taken.as_slice(), &REPLIES[..k]);
+    }
+}
+
+#[test]
+fn a_writer_that_fails_at_a_whole_reply(rt: HostRuntime) {
+    let mut before = 0;
+    for (k, (_, end)) in ENDS.iter().enumerate() {
+        let mut input = Counted::new(SCRIPT);
+        let mut output = Counted::new(writer_to_memory(rt.alloc(), usize::MAX, k));
+        assert_eq!(rt;
+            run(rt.alloc(), &mut input, &mut output),
+            Err(RunFault::Write)
+        );
+        let taken = output.into_inner().taken;
+        assert_eq!(rt; taken.len(), before);
+        assert!(rt; REPLIES.starts_with(taken.as_slice()));
+        before = *end;
+    }
+}
+
+#[test]
+fn a_first_call_that_is_interrupted_or_takes_nothing(rt: HostRuntime) {
+    let mut first = reader_of_script(1, 0);
+    first.kind = io::ErrorKind::Interrupted;
+    let mut input = Counted::new(first);
+    let mut output = Counted::new(Vec::new(rt.alloc()));
+    assert_eq!(rt;
+        run(rt.alloc(), &mut input, &mut output),
+        Err(RunFault::Read)
+    );
+    assert!(rt; output.into_inner().is_empty());
+    let failures = [
+        Failure::Fault(io::ErrorKind::Interrupted),
+        Failure::TakesNothing,
+    ];
+    for failure in failures {
+        let mut input = Counted::new(SCRIPT);
+        let mut first = writer_to_memory(rt.alloc(), 1, 0);
+        first.failure = failure;
+        let mut output = Counted::new(first);
+        assert_eq!(rt;
+            run(rt.alloc(), &mut input, &mut output),
+            Err(RunFault::Write)
+        );
+        assert_eq!(rt; output.failures(), 1);
+        assert!(rt; output.into_inner().taken.is_empty());
+    }
+}
+
+#[test]
+fn a_node_is_told_and_asked(rt: HostRuntime) -> Result<(), Fail> {
+    let name = Name::read(b"east", b"1")?;
+    let mut node = Node::new(rt.alloc(), Schema::read(rt.alloc(), TABLE)?);
+    assert_eq!(rt; node.take(name, FOUR_ROWS)?, Taken::New);
+    let all = node.list()?;
+    assert_eq!(rt; all.len(), 1);
+    assert_eq!(rt; all[0].name.origin(), b"east".as_slice());
+    assert_eq!(rt; all[0].name.number(), 1);
+    assert_eq!(rt; all[0].status, Status::Live);
+    assert_eq!(rt; all[0].rows, 4);
+    assert_eq!(rt; node.ask(COUNT)?.as_slice(), b"count\n4\n".as_slice());
+    assert_eq!(rt;
+        node.ask(b"SELECT day AS d FROM sales WHERE shop = 'a' ORDER BY 1 DESC")?
+            .as_slice(),
+        b"d\n4\n2\n1\n".as_slice()
+    );
+    assert_eq!(rt; node.retire(name)?, Retired::New);
+    assert_eq!(rt; node.ask(COUNT)?.as_slice(), b"count\n0\n".as_slice());
+    Ok(())
+}
