@@ -1,12 +1,12 @@
 -- Folds of some rows and one row more, and what is made of sums and of results.
 use Rattle.std.proofs.Common.{◌≡◌, ℕ, ℤ, ◌+◌, ◌<◌, ◌||◌, true, false, cond, List, [], ◌∷◌, ◌++◌, length, map, filter, take, get_or, Option, Some, None, Result, Ok, Err, subst, refl, sym, ap, ◌∙◌}
-use Rattle.std.specs.Prelude.{All, OnOk, unwrap_or}
+use Rattle.std.specs.Prelude.{All, OnOk}
 use Rattle.std.specs.List.{AllByRecursion, fold, list_any}
 use Rattle.std.specs.Option.{is_none}
 use Rattle.std.proofs.lemmas.List.{map-append, take_more}
 use Rattle.std.proofs.lemmas.List.Sums.{fold-append}
 use Rattle.std.proofs.lemmas.List.Elements.{All-push, All-same, recursion_from_All}
-use Rattle.wvalues.specs.Meaning.{Meaning, Null, meaning}
+use Rattle.wvalues.specs.Meaning.{Meaning, meaning}
 use Rattle.wvalues.specs.declared.value.Value.{Value}
 use Rattle.wslide.specs.Aggregates.{is_value, sum_of, sum_or_none}
 use Rattle.wslide.specs.Laws.{rows_fold}
@@ -36,25 +36,9 @@ sum_as_answer feed (row ∷ rows) z =
       | false ↦ sum_as_answer feed rows z
     ]
 
-pub same_on : {X : Type 0} (f g : ℕ → X) (xs : List ℕ) → ((x : ℕ) → f x ≡ g x) → map f xs ≡ map g xs
-same_on f g [] h = refl
-same_on f g (x ∷ xs) h = ap (λ y. y ∷ map f xs) (h x) ∙ ap (λ l. g x ∷ l) (same_on f g xs h)
-
 pub mapped_alike : {X Y : Type 0} (f : X → Y) (near : ℕ → X) (far : ℕ → Y) (xs : List ℕ) → ((x : ℕ) → f (near x) ≡ far x) → map f (map near xs) ≡ map far xs
 mapped_alike f near far [] h = refl
 mapped_alike f near far (x ∷ xs) h = ap (λ y. y ∷ map f (map near xs)) (h x) ∙ ap (λ l. far x ∷ l) (mapped_alike f near far xs h)
-
--- values of results that are never out of range
-pub told_alike : {X : Type 0} (value : X → Meaning) (near : ℕ → X) (far : ℕ → Meaning) (xs : List ℕ) → ((x : ℕ) → value (near x) ≡ far x) → map value (map near xs) ≡ map (λ r. unwrap_or r Null) (map (λ x. Some (far x)) xs)
-told_alike value near far [] h = refl
-told_alike value near far (x ∷ xs) h = ap (λ y. y ∷ map value (map near xs)) (h x) ∙ ap (λ l. far x ∷ l) (told_alike value near far xs h)
-
-never_none : (f : ℕ → Meaning) (xs : List ℕ) → list_any is_none (map (λ x. Some (f x)) xs) ≡ false
-never_none f [] = refl
-never_none f (x ∷ xs) = never_none f xs
-
-pub never_refused : (f : ℕ → Meaning) (xs : List ℕ) → unless (list_any is_none (map (λ x. Some (f x)) xs)) OutOfRange (tt {0}) ≡ Ok (tt {0})
-never_refused f xs = ap (λ b. unless b OutOfRange (tt {0})) (never_none f xs)
 
 fed_alike : (near far : ℕ → Meaning) (f : ℕ → ℕ) (n : ℕ) (xs : List ℕ) → ((x : ℕ) → x < n → near x ≡ far (f x)) → AllByRecursion (λ x. x < n) xs → map near xs ≡ map far (map f xs)
 fed_alike near far f n [] same all = refl
@@ -79,7 +63,7 @@ refused_alike r xs ys e h = subst (λ l. Gives {X = Unit {0}} {Y = Unit {0}} (λ
 pub added_alike : (r : Result (Unit {0}) AnswerFault) (xs ys : List (Option Meaning)) (before after : List Meaning) → xs ≡ ys → OnOk r (after ≡ before ++ values_or_null xs) → OnOk r (after ≡ before ++ values_or_null ys)
 added_alike r xs ys before after e h = subst (λ l. OnOk r (after ≡ before ++ values_or_null l)) e h
 
--- a sum that is out of range refuses all
+-- a part that is out of range refuses all
 fault_is_none : (r : Option Meaning) → told_or_out_of_range r ≡ Err OutOfRange → is_none r ≡ true
 fault_is_none None h = refl
 fault_is_none (Some m) h = absurd (cc)
@@ -88,14 +72,14 @@ not_too_many : (r : Option Meaning) → told_or_out_of_range r ≡ Err TooManyRo
 not_too_many None h = cc
 not_too_many (Some m) h = cc
 
-pub refused_sum : (fault : AnswerFault) (sums : List (Option ℤ)) (i : ℕ) (d : Option ℤ) → i < length sums → Gives meaning (Err fault) (told_or_out_of_range (sum_answer (get_or sums i d)))
-    → Gives {X = Unit {0}} {Y = Unit {0}} (λ u. u) (Err fault) (unless (list_any is_none (map sum_answer sums)) OutOfRange (tt {0}))
-refused_sum OutOfRange sums i d h e =
-    let at : is_none (sum_answer (get_or sums i d)) ≡ true = fault_is_none (sum_answer (get_or sums i d)) e in
-    let some : list_any is_none (map sum_answer sums) ≡ true = any-map is_none sum_answer sums ∙ list_any_at (λ s. is_none (sum_answer s)) sums i d h at in
+pub refused_part : {P : Type 0} (told : P → Option Meaning) (fault : AnswerFault) (parts : List P) (i : ℕ) (d : P) → i < length parts → Gives meaning (Err fault) (told_or_out_of_range (told (get_or parts i d)))
+    → Gives {X = Unit {0}} {Y = Unit {0}} (λ u. u) (Err fault) (unless (list_any is_none (map told parts)) OutOfRange (tt {0}))
+refused_part told OutOfRange parts i d h e =
+    let at : is_none (told (get_or parts i d)) ≡ true = fault_is_none (told (get_or parts i d)) e in
+    let some : list_any is_none (map told parts) ≡ true = any-map is_none told parts ∙ list_any_at (λ s. is_none (told s)) parts i d h at in
     rw some refl
-refused_sum TooManyRows sums i d h e = absurd (not_too_many (sum_answer (get_or sums i d)) e)
-refused_sum NoMemory sums i d h e = tt
+refused_part told TooManyRows parts i d h e = absurd (not_too_many (told (get_or parts i d)) e)
+refused_part told NoMemory parts i d h e = tt
 
 pub sum_given : (r : Result Value AnswerFault) (sum : Option ℤ) (feed : ℕ → Meaning) (rows : List ℕ) → sum ≡ sum_or_none feed rows → Gives meaning r (told_or_out_of_range (sum_answer sum))
     → Gives meaning r (told_or_out_of_range (sum_or_null (filter is_value (map feed rows)) (sum_of feed rows)))

@@ -2,3 +2,5 @@ pub mod FeedFacts
 pub mod FoldFacts
 pub mod LeastFacts
 pub mod FrameFacts
+pub mod WindowFacts
+pub mod PickedFacts

@@ -1,25 +1,32 @@
--- Aggregates over the frames of a partition, of which the rows are told by number.
-use Rattle.std.specs.Prelude.{ℕ, List, map, length, Option, Some, None, Result, Ok, Err, slice_index_or, unwrap_or}
+-- Aggregates over frames, of which the rows are told by number.
+use Rattle.std.specs.Prelude.{◌≡◌, ℕ, Bool, List, map, length, Option, Some, None, Result, Ok, Err, slice_index_or, slice_range, unwrap_or}
+use Rattle.std.specs.List.{flat_map}
 use Rattle.wvalues.specs.Meaning.{Meaning, Null}
-use Rattle.wframe.specs.Partition.{Partition}
+use Rattle.wframe.specs.Partition.{Partition, Partitioned, partition_of}
 use Rattle.wframe.specs.Places.{places}
 use Rattle.wframe.specs.Frame.{frame_rows}
+use Rattle.wslide.specs.Aggregates.{picked_values, picked_tests}
 use Rattle.wplan.specs.declared.resolved.AggregateFunction.{AggregateFunction}
 use Rattle.wrows.specs.declared.fault.AnswerFault.{AnswerFault}
 use Rattle.wrows.specs.declared.fault.AnswerFault.TheVariants.{OutOfRange}
 use Rattle.waggregate.specs.Aggregating.{Feed, aggregate_of}
 
+-- what the rows of these numbers feed, in that order
+pub record IsPicked (feed : Feed) (rows : List ℕ) (values : List Meaning) (filter : Option (List Bool)) : Type 0 where
+  pub picked : values ≡ picked_values feed.values rows
+  pub tested : filter ≡ picked_tests feed.filter rows
+
 -- the rows, by number, of the frame of a place of a partition
 abbrev pub frame_numbers : Partition → List ℕ → ℕ → List ℕ
 frame_numbers p rows place = map (λ j. slice_index_or rows j 0) (frame_rows p place)
 
--- what is made of the places of each row's frame, in the partition's order
-abbrev pub of_frames : {X : Type 0} → Partition → (List ℕ → X) → List X
-of_frames p f = map (λ place. f (frame_rows p place)) (places (length p.keys))
-
--- the aggregate of each row's frame, in the partition's order; none where it is out of range
+-- the aggregate of each row's frame in a partition, in its order; none where it is out of range
 abbrev pub frame_answers : AggregateFunction → Feed → Partition → List ℕ → List (Option Meaning)
 frame_answers function feed p rows = map (λ place. aggregate_of function feed (frame_numbers p rows place)) (places (length p.keys))
+
+-- the same, one partition after another
+abbrev pub window_answers : AggregateFunction → Feed → Partitioned → List ℕ → List (Option Meaning)
+window_answers function feed all rows = flat_map (λ s. frame_answers function feed (partition_of all s) (slice_range rows s.from s.to)) all.spans
 
 -- the values that results have
 abbrev pub values_or_null : List (Option Meaning) → List Meaning

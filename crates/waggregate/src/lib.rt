@@ -1,7 +1,7 @@
 //! Aggregates of rows.
 //!
 //! - Gives what an aggregate is fed by each row, its result over some of the rows, and over the frame of each row of a
-//!   partition.
+//!   window.
 //! - Promises: nothing is skipped, so an argument or filter that is out of range on any row refuses, as a result that
 //!   is out of range does; a sum is tested against the range once it is whole.
 //! - Asks: fewer than 2^31 rows.

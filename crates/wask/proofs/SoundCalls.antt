@@ -14,8 +14,8 @@ use Rattle.wnames.specs.Calls.{counts_some, is_nonzero, is_zeroth, passes_at}
 use Rattle.wwindows.specs.Windows.{is_over_unknown, reach_is}
 use Rattle.wcalls.specs.Sound.{is_sound_function}
 use Rattle.wplanner.specs.Sound.{is_sound_call}
-use Rattle.wresolve.specs.declared.calls.CallKind.TheVariants.{Windowed}
-use Rattle.wresolve.specs.Calls.{is_call_of}
+use Rattle.wdistinct.specs.declared.calls.CallKind.TheVariants.{Windowed}
+use Rattle.wdistinct.specs.Calls.{is_call_of}
 use Rattle.wresolve.specs.Resolving.{Layout}
 use Rattle.wresolve.specs.Selecting.{call_function, calls_made, function_made, has_own_window, number_or, own_window, own_windows, place_over, tree_at, window_place}
 use Rattle.wask.proofs.Nodes.{is_kept}

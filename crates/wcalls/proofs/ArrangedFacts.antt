@@ -1,11 +1,12 @@
 -- What a call answers for the rows of each partition is what it answers for each row.
-use Rattle.std.proofs.Common.{◌≡◌, ◌≢◌, ℕ, zero, suc, set, ◌+◌, ◌-◌, ◌<◌, ◌≤◌, ◌==◌, ◌||◌, ◌++◌, nat_le, nat_lt, Bool, true, false, cond, List, [], ◌∷◌, length, map, filter, take, drop, get_or, Option, Some, None, Result, Ok, Err, Ordering, is_gt, refl, sym, ap, ◌∙◌, arith, length-take-le, length-drop, length-append, take_at, subst}
-use Rattle.std.specs.Prelude.{slice_range, unwrap_or}
-use Rattle.std.specs.List.{All, list_any}
+use Rattle.std.proofs.Common.{◌≡◌, ◌≢◌, ℕ, zero, suc, set, ◌+◌, ◌-◌, ◌<◌, ◌≤◌, ◌==◌, ◌||◌, ◌++◌, nat_le, nat_lt, Bool, true, false, cond, List, [], ◌∷◌, length, map, filter, take, drop, get_or, Option, None, Result, Ok, Err, Ordering, is_gt, refl, sym, ap, ◌∙◌, arith, length-take-le, length-drop, length-append, take_at, take-append-drop, subst}
+use Rattle.std.specs.Prelude.{min, slice_range, unwrap_or}
+use Rattle.std.specs.List.{All, AllByRecursion, flat_map, list_any}
 use Rattle.std.specs.Option.{is_none}
 use Rattle.std.proofs.lemmas.Bool.Decides.{nat_tests}
-use Rattle.std.proofs.lemmas.List.{length-map, map-append, take_all, get_or-map, map-set, get_or-set_same, get_or-set_other, get_or-take, get_or-append_right, take-take}
-use Rattle.std.proofs.lemmas.List.Elements.{All-get_or, All-from_recursion, All-same}
+use Rattle.std.proofs.lemmas.List.{length-map, map-append, get_or-map, map-set, get_or-set_same, get_or-set_other, get_or-take, get_or-append_right, take-take, length-take, drop-drop}
+use Rattle.std.proofs.Math.ListN.{drop_of_length-le}
+use Rattle.std.proofs.lemmas.List.Elements.{All-get_or, All-from_recursion, All-same, recursion_from_All}
 use Rattle.wvalues.specs.declared.key.SortKey.{SortKey}
 use Rattle.wvalues.specs.declared.value.Value.{Value}
 use Rattle.wvalues.specs.Meaning.{Meaning, Null, meaning}
@@ -25,34 +26,12 @@ use Rattle.wrows.specs.Columns.{in_range}
 use Rattle.wframe.specs.Sorting.{inserted, sorted}
 use Rattle.wcalls.specs.Windows.{Windowed, partition_rows, partition_at, place_at}
 use Rattle.wcalls.specs.Calls.{each_row}
-use Rattle.wcalls.specs.Arranged.{window_cmp, IsArranged, Answer, partition_answers, answer_on, answer_values, HasEachOnce}
+use Rattle.wcalls.specs.Arranged.{window_cmp, IsArranged, Answer, partition_answers, window_answers, answer_on, answer_values, HasEachOnce}
 use Rattle.wrows.proofs.SortFacts as sorts
 use Rattle.wcalls.proofs.FilterFacts.{filter_sorted}
 use Rattle.wrows.proofs.RowFacts.{map-map, map-taken, map-dropped, length-places, places_below}
 use Rattle.wcalls.proofs.WindowFacts.{whole_total, at_places, all_places, span_rows}
 use Rattle.wcalls.proofs.PlaceFacts.{once_from, place_in_span}
-
--- the place that some of the first spans reach
-abbrev pub reached : ℕ → List Span → ℕ → ℕ
-reached low ss zero = low
-reached low [] (suc k) = low
-reached low (s ∷ ss) (suc k) = reached s.to ss k
-
-pub reached_from : (low : ℕ) (ss : List Span) (high k : ℕ) → Tiles low ss high → k < length ss → (span_at ss k).from ≡ reached low ss k
-reached_from low [] high k t h = absurd (omega arith)
-reached_from low (s ∷ ss) high zero t h = t.0
-reached_from low (s ∷ ss) high (suc k) t h = reached_from s.to ss high k t.2 (omega arith)
-
-pub reached_more : (low : ℕ) (ss : List Span) (k : ℕ) → k < length ss → reached low ss (k + 1) ≡ (span_at ss k).to
-reached_more low [] k h = absurd (omega arith)
-reached_more low (s ∷ ss) zero h = refl
-reached_more low (s ∷ ss) (suc k) h =
-    let e : suc k + 1 ≡ suc (k + 1) = omega arith in
-    ap (reached low (s ∷ ss)) e ∙ reached_more s.to ss k (omega arith)
-
-pub reached_all : (low : ℕ) (ss : List Span) (high : ℕ) → Tiles low ss high → reached low ss (length ss) ≡ high
-reached_all low [] high t = t
-reached_all low (s ∷ ss) high t = reached_all s.to ss high t.2
 
 -- two functions that agree on two runs of places
 pub pointwise : {X : Type 0} (f g : ℕ → X) (a b n : ℕ) → ((j : ℕ) → j < n → f (a + j) ≡ g (b + j)) → map f (places_from a n) ≡ map g (places_from b n)
@@ -69,49 +48,21 @@ in_span s i l h =
     let b : nat_lt i s.to ≡ true = grind (arith, nat_tests) in
     rw (a, b) refl
 
--- the pieces of a list
-pub slice_more : {X : Type 0} (xs : List X) (from to : ℕ) → from ≤ to → to ≤ length xs → take to xs ≡ take from xs ++ slice_range xs from to
-slice_more xs zero to l h = let e : to - 0 ≡ to = omega arith in sym (ap (λ n. take n xs) e)
-slice_more [] (suc from) to l h = absurd (omega arith)
-slice_more (x ∷ xs) (suc from) zero l h = absurd (omega arith)
-slice_more (x ∷ xs) (suc from) (suc to) l h =
-    let e : suc to - suc from ≡ to - from = omega arith in
-    ap (λ ys. x ∷ ys) (slice_more xs from to (omega arith) (omega arith) ∙ ap (λ n. take from xs ++ take n (drop from xs)) (sym e))
+-- a slice, and what comes behind it
+slice_on : {X : Type 0} (xs : List X) (from to : ℕ) → from ≤ to → slice_range xs from to ++ drop to xs ≡ drop from xs
+slice_on xs from to h =
+    let e : to ≡ from + (to - from) = omega arith in
+    ap (λ n. slice_range xs from to ++ drop n xs) e
+    ∙ ap (λ l. slice_range xs from to ++ l) (sym (drop-drop (to - from) from xs))
+    ∙ take-append-drop (to - from) (drop from xs)
 
-any_append : {X : Type 0} (p : X → Bool) (xs ys : List X) → list_any p (xs ++ ys) ≡ (list_any p xs || list_any p ys)
+pub any_append : {X : Type 0} (p : X → Bool) (xs ys : List X) → list_any p (xs ++ ys) ≡ (list_any p xs || list_any p ys)
 any_append p [] ys = refl
 any_append p (x ∷ xs) ys = go (p x) (any_append p xs ys)
   where
     go : (b : Bool) → list_any p (xs ++ ys) ≡ (list_any p xs || list_any p ys) → (b || list_any p (xs ++ ys)) ≡ ((b || list_any p xs) || list_any p ys)
     go true e = refl
     go false e = e
-
-or_none : (a b : Bool) → a ≡ false → b ≡ false → (a || b) ≡ false
-or_none true b h k = h
-or_none false b h k = k
-
-pub none_more : {X : Type 0} (p : X → Bool) (all before here : List X) → all ≡ before ++ here → list_any p before ≡ false → list_any p here ≡ false → list_any p all ≡ false
-none_more p all before here e h k = ap (list_any p) e ∙ any_append p before here ∙ or_none (list_any p before) (list_any p here) h k
-
-or_true : (a b c : Bool) → b ≡ true → (a || (b || c)) ≡ true
-or_true true b c h = refl
-or_true false true c h = refl
-or_true false false c h = absurd (cc)
-
-pub any_within : {X : Type 0} (p : X → Bool) (all before here after : List X) → all ≡ before ++ (here ++ after) → list_any p here ≡ true → list_any p all ≡ true
-any_within p all before here after e h =
-    ap (list_any p) e ∙ any_append p before (here ++ after) ∙ ap (λ b. (list_any p before || b)) (any_append p here after) ∙ or_true (list_any p before) (list_any p here) (list_any p after) h
-
--- a list about a slice of it
-pub three_parts : {X : Type 0} (xs : List X) (from to : ℕ) → from ≤ to → to ≤ length xs → xs ≡ take from xs ++ (slice_range xs from to ++ drop to xs)
-three_parts xs zero to l h =
-    let e : to ≡ to - 0 = omega arith in
-    sym (Rattle.std.proofs.Common.take-append-drop to xs) ∙ ap (λ n. take n xs ++ drop to xs) e
-three_parts [] (suc from) to l h = absurd (omega arith)
-three_parts (x ∷ xs) (suc from) zero l h = absurd (omega arith)
-three_parts (x ∷ xs) (suc from) (suc to) l h =
-    let e : to - from ≡ suc to - suc from = omega arith in
-    ap (λ ys. x ∷ ys) (three_parts xs from to (omega arith) (omega arith) ∙ ap (λ n. take from xs ++ (take n (drop from xs) ++ drop to xs)) e)
 
 abbrev made : List SortKey → List (List Meaning) → Frame → Partition
 made o ks f = record { order = o; keys = ks; frame = f }
@@ -176,88 +127,55 @@ module _ (w : Windowed) (rows : List ℕ) (all : Partitioned) (arranged : IsArra
       ∙ ap (sorted (window_cmp w)) (once_from i 0 (length w.values) (omega arith) (omega arith))
 
 module _ (w : Windowed) (rows : List ℕ) (all : Partitioned) (arranged : IsArranged w rows all) (answer : Answer) where
-  abbrev of : ℕ → Option Meaning
-  of = answer_on w answer
+  abbrev part_is : Span → Type 0
+  part_is = IsPartition (keys_cmp w.value_order) (map (key_at w.values) rows)
 
-  -- the rows of the first partitions
-  abbrev front : ℕ → List ℕ
-  front k = take (reached 0 all.spans k) rows
+  abbrev answers_in : Span → List (Option Meaning)
+  answers_in s = partition_answers answer (partition_of all s) (slice_range rows s.from s.to)
 
-  abbrev here : ℕ → List ℕ
-  here k = slice_range rows (span_at all.spans k).from (span_at all.spans k).to
+  from_on : (low : ℕ) (ss : List Span) → Tiles low ss (length rows) → AllByRecursion part_is ss → flat_map answers_in ss ≡ map (answer_on w answer) (drop low rows)
+  from_on low [] tiles each = sym (ap (map (answer_on w answer)) (drop_of_length-le rows (omega (arith, tiles))))
+  from_on low (s ∷ ss) tiles each =
+      let first : s.from ≡ low = tiles.0 in
+      let some : s.from < s.to = tiles.1 in
+      ap (λ l. l ++ flat_map answers_in ss) (span_answers w rows all arranged answer s each.0)
+      ∙ ap (λ l. map (answer_on w answer) (slice_range rows s.from s.to) ++ l) (from_on s.to ss tiles.2 each.1)
+      ∙ sym (map-append (answer_on w answer) (slice_range rows s.from s.to) (drop s.to rows))
+      ∙ ap (map (answer_on w answer)) (slice_on rows s.from s.to (omega arith) ∙ ap (λ n. drop n rows) first)
 
-  ends : (k : ℕ) → k < length all.spans → (span_at all.spans k).to ≤ length rows
-  ends k h = let part = part_at w rows all arranged answer k h in omega (arith, part.within, length-map rows (key_at w.values))
+  -- the answers of one partition after another are those for each row
+  pub window_is : window_answers answer all rows ≡ map (answer_on w answer) rows
+  window_is =
+      let long : length all.keys ≡ length rows = ap length arranged.keys ∙ length-map rows (key_at w.keys) in
+      from_on 0 all.spans (subst (Tiles 0 all.spans) long arranged.tiles) (recursion_from_All part_is all.spans arranged.each)
 
-  front_more : (k : ℕ) → k < length all.spans → front (k + 1) ≡ front k ++ here k
-  front_more k h =
-      let part = part_at w rows all arranged answer k h in
-      let some = part.some in
-      ap (λ n. take n rows) (reached_more 0 all.spans k h)
-      ∙ slice_more rows (span_at all.spans k).from (span_at all.spans k).to (omega (arith, some)) (ends k h)
-      ∙ ap (λ n. take n rows ++ here k) (reached_from 0 all.spans (length all.keys) k arranged.tiles h)
+-- a slice of each of two lists of one length
+pub sliced_alike : {X Y : Type 0} (xs : List X) (ys : List Y) (from to : ℕ) → length xs ≡ length ys → length (slice_range xs from to) ≡ length (slice_range ys from to)
+sliced_alike xs ys from to e =
+    let same : length (drop from xs) ≡ length (drop from ys) = omega (arith, length-drop from xs, length-drop from ys) in
+    length-take (to - from) (drop from xs) ∙ ap (min (to - from)) same ∙ sym (length-take (to - from) (drop from ys))
 
-  answers_more : (k : ℕ) → k < length all.spans → map of (front (k + 1)) ≡ map of (front k) ++ map of (here k)
-  answers_more k h = ap (map of) (front_more k h) ∙ map-append of (front k) (here k)
+-- a slice has no more elements than its list
+pub slice_few : {X : Type 0} (xs : List X) (from to : ℕ) → length (slice_range xs from to) ≤ length xs
+slice_few xs from to = omega (arith, length-take (to - from) (drop from xs), length-drop from xs)
 
-  answers_here : (k : ℕ) → k < length all.spans → (s : Span) (p : Partition) → s ≡ span_at all.spans k → p ≡ partition_of all (span_at all.spans k) → partition_answers answer p (slice_range rows s.from s.to) ≡ map of (here k)
-  answers_here k h s p e f =
-      ap (λ q. partition_answers answer q (slice_range rows s.from s.to)) f
-      ∙ ap (λ t. partition_answers answer (partition_of all (span_at all.spans k)) (slice_range rows t.from t.to)) e
-      ∙ span_answers w rows all arranged answer (span_at all.spans k) (part_at w rows all arranged answer k h)
+-- how many answers there are
+pub answers_long : (answer : Answer) (all : Partitioned) (rows : List ℕ) (low : ℕ) (ss : List Span) (high : ℕ) → Tiles low ss high → high ≤ length all.keys → low + length (flat_map (λ s. partition_answers answer (partition_of all s) (slice_range rows s.from s.to)) ss) ≡ high
+answers_long answer all rows low [] high tiles h = omega (arith, tiles)
+answers_long answer all rows low (s ∷ ss) high tiles h =
+    let here = partition_answers answer (partition_of all s) (slice_range rows s.from s.to) in
+    let others = flat_map (λ s. partition_answers answer (partition_of all s) (slice_range rows s.from s.to)) ss in
+    let first : s.from ≡ low = tiles.0 in
+    let some : s.from < s.to = tiles.1 in
+    let more : s.to + length others ≡ high = answers_long answer all rows s.to ss high tiles.2 h in
+    let cut : length (slice_range all.keys s.from s.to) ≡ s.to - s.from = length-take-le (s.to - s.from) (drop s.from all.keys) (omega (arith, length-drop s.from all.keys)) in
+    let wide : length here ≡ s.to - s.from = length-map (places (length (partition_of all s).keys)) (answer (partition_of all s) (slice_range rows s.from s.to)) ∙ length-places 0 (length (partition_of all s).keys) ∙ cut in
+    omega (arith, length-append here others)
 
-  -- a partition more
-  pub step_values : (k : ℕ) → k < length all.spans → (s : Span) (p : Partition) → s ≡ span_at all.spans k → p ≡ partition_of all (span_at all.spans k) → (old new : List Meaning)
-      → old ≡ answer_values (map of (front k)) → new ≡ old ++ answer_values (partition_answers answer p (slice_range rows s.from s.to)) → new ≡ answer_values (map of (front (k + 1)))
-  step_values k h s p e f old new before more =
-      more ∙ ap (λ l. l ++ answer_values (partition_answers answer p (slice_range rows s.from s.to))) before
-      ∙ ap (λ l. answer_values (map of (front k)) ++ answer_values l) (answers_here k h s p e f)
-      ∙ sym (map-append (λ r. unwrap_or r Null) (map of (front k)) (map of (here k)))
-      ∙ ap answer_values (sym (answers_more k h))
-
-  pub step_none : (k : ℕ) → k < length all.spans → (s : Span) (p : Partition) → s ≡ span_at all.spans k → p ≡ partition_of all (span_at all.spans k)
-      → list_any is_none (map of (front k)) ≡ false → list_any is_none (partition_answers answer p (slice_range rows s.from s.to)) ≡ false → list_any is_none (map of (front (k + 1))) ≡ false
-  step_none k h s p e f before more =
-      none_more is_none (map of (front (k + 1))) (map of (front k)) (map of (here k)) (answers_more k h) before (ap (list_any is_none) (sym (answers_here k h s p e f)) ∙ more)
-
-  pub step_any : (k : ℕ) → k < length all.spans → (s : Span) (p : Partition) → s ≡ span_at all.spans k → p ≡ partition_of all (span_at all.spans k)
-      → list_any is_none (partition_answers answer p (slice_range rows s.from s.to)) ≡ true → list_any is_none (map of rows) ≡ true
-  step_any k h s p e f some_none =
-      let part = part_at w rows all arranged answer k h in
-      let some = part.some in
-      let from = (span_at all.spans k).from in
-      let to = (span_at all.spans k).to in
-      any_within is_none (map of rows) (map of (take from rows)) (map of (here k)) (map of (drop to rows))
-      (ap (map of) (three_parts rows from to (omega (arith, some)) (ends k h)) ∙ map-append of (take from rows) (here k ++ drop to rows) ∙ ap (λ l. map of (take from rows) ++ l) (map-append of (here k) (drop to rows)))
-      (ap (list_any is_none) (sym (answers_here k h s p e f)) ∙ some_none)
-
-  -- all partitions
-  pub all_answers : (k : ℕ) (told : List Meaning) → length all.spans ≤ k → k ≤ length all.spans → list_any is_none (map of (front k)) ≡ false → told ≡ answer_values (map of (front k)) → in_range (map of rows) ≡ Ok told
-  all_answers k told l m none so_far =
-      let e : k ≡ length all.spans = omega arith in
-      let long : reached 0 all.spans k ≡ length rows = ap (reached 0 all.spans) e ∙ reached_all 0 all.spans (length all.keys) arranged.tiles ∙ ap length arranged.keys ∙ length-map rows (key_at w.keys) in
-      let whole : front k ≡ rows = ap (λ n. take n rows) long ∙ take_all (length rows) rows (omega arith) in
-      in_range_ok (map of rows) told (ap (λ l. list_any is_none (map of l)) (sym whole) ∙ none) (so_far ∙ ap (λ l. answer_values (map of l)) whole)
-    where
-      pick : {A : Type 0} (b : Bool) (x y : A) → b ≡ false → y ≡ x → unless b OutOfRange x ≡ Ok y
-      pick true x y h e = absurd (cc)
-      pick false x y h e = ap Ok (sym e)
-
-      in_range_ok : (rs : List (Option Meaning)) (vs : List Meaning) → list_any is_none rs ≡ false → vs ≡ answer_values rs → in_range rs ≡ Ok vs
-      in_range_ok rs vs h e = pick (list_any is_none rs) (answer_values rs) vs h e
-
--- how many answers there are after a partition more
-pub step_long : (all : Partitioned) (k : ℕ) (s : Span) (p : Partition) → Tiles 0 all.spans (length all.keys) → k < length all.spans → s ≡ span_at all.spans k → p ≡ partition_of all (span_at all.spans k) → s.from < s.to → s.to ≤ length all.keys
-    → (answer : Answer) (rows : List ℕ) (old new : List Meaning) → length old ≡ reached 0 all.spans k → new ≡ old ++ answer_values (partition_answers answer p rows) → length new ≡ reached 0 all.spans (k + 1)
-step_long all k s p tiles h e f some within answer rows old new before more =
-    let from : reached 0 all.spans k ≡ s.from = sym (reached_from 0 all.spans (length all.keys) k tiles h) ∙ ap (λ t. t.from) (sym e) in
-    let to : reached 0 all.spans (k + 1) ≡ s.to = reached_more 0 all.spans k h ∙ ap (λ t. t.to) (sym e) in
-    let cut : length (slice_range all.keys s.from s.to) ≡ s.to - s.from = length-take-le (s.to - s.from) (drop s.from all.keys) (omega (arith, length-drop s.from all.keys, within)) in
-    let wide : length p.keys ≡ s.to - s.from = ap (λ q. length q.keys) f ∙ ap (λ t. length (slice_range all.keys t.from t.to)) (sym e) ∙ cut in
-    let added : length (answer_values (partition_answers answer p rows)) ≡ length p.keys
-    = length-map (partition_answers answer p rows) (λ r. unwrap_or r Null) ∙ length-map (places (length p.keys)) (answer p rows) ∙ length-places 0 (length p.keys) in
-    let both : length new ≡ length old + length (answer_values (partition_answers answer p rows)) = ap length more ∙ length-append old (answer_values (partition_answers answer p rows)) in
-    omega (arith, both, added, wide, from, to, before, some)
+-- answers in a window's order, where none is out of range
+pub all_answers : (answers : List (Option Meaning)) (told : List Meaning) (b : Bool) → list_any is_none answers ≡ b → unless b OutOfRange (tt {0}) ≡ Ok (tt {0}) → told ≡ answer_values answers → in_range answers ≡ Ok told
+all_answers answers told true e h same = absurd (cc)
+all_answers answers told false e h same = ap (λ b. unless b OutOfRange (answer_values answers)) e ∙ ap Ok (sym same)
 
 module _ {X : Type 0} (cmp : X → X → Ordering) (p : X → Bool) where
   swapped : (a b c : Bool) → (a || (b || c)) ≡ (b || (a || c))

@@ -1,5 +1,5 @@
 -- Answers that are never out of range, and faults.
-use Rattle.std.proofs.Common.{◌≡◌, ℕ, Bool, true, false, List, [], ◌∷◌, ◌++◌, length, map, Option, Some, Result, Ok, Err, refl, sym, ap, ◌∙◌}
+use Rattle.std.proofs.Common.{◌≡◌, ℕ, Bool, true, false, List, [], ◌∷◌, length, map, Option, Some, Result, Ok, Err, refl, sym, ap, ◌∙◌}
 use Rattle.std.specs.List.{list_any}
 use Rattle.std.specs.Option.{is_none}
 use Rattle.wvalues.specs.Meaning.{Meaning}
@@ -13,7 +13,7 @@ use Rattle.wrows.specs.Columns.{Row, column_of, in_range}
 use Rattle.wcalls.specs.Windows.{Windowed, partition_at, partition_rows, place_at}
 use Rattle.wcalls.specs.Calls.{values_told}
 use Rattle.wcalls.specs.Arranged.{answered, answer_values, told_value}
-use Rattle.wrows.proofs.RowFacts.{map-map, then_ok}
+use Rattle.wrows.proofs.RowFacts.{then_ok}
 
 pub none_missing : {X : Type 0} (f : X → Meaning) (xs : List X) → list_any is_none (map (λ x. Some (f x)) xs) ≡ false
 none_missing f [] = refl
@@ -27,17 +27,9 @@ pick : {A : Type 0} (b : Bool) (x y : A) → b ≡ false → x ≡ y → unless 
 pick true x y h e = absurd (cc)
 pick false x y h e = ap Ok e
 
-pub never_refused : {X : Type 0} (f : X → Meaning) (xs : List X) → unless (list_any is_none (map (λ x. Some (f x)) xs)) OutOfRange (tt {0}) ≡ Ok (tt {0})
-never_refused f xs = pick (list_any is_none (map (λ x. Some (f x)) xs)) (tt {0}) (tt {0}) (none_missing f xs) refl
-
 -- a column that is never out of range
 pub always_in_range : {X : Type 0} (f : X → Meaning) (xs : List X) → in_range (map (λ x. Some (f x)) xs) ≡ Ok (map f xs)
 always_in_range f xs = pick (list_any is_none (map (λ x. Some (f x)) xs)) (answer_values (map (λ x. Some (f x)) xs)) (map f xs) (none_missing f xs) (all_there f xs)
-
--- what was appended, of what was found
-pub appended : {X : Type 0} (h : X → Meaning) (found given : List X) (at : ℕ → X) (places : List ℕ) (old new : List Meaning) → found ≡ map at places → given ≡ found → new ≡ old ++ map h given → new ≡ old ++ answer_values (map (λ i. Some (h (at i))) places)
-appended h found given at places old new e same more =
-    more ∙ ap (λ l. old ++ map h l) (same ∙ e) ∙ ap (λ l. old ++ l) (map-map h at places ∙ sym (all_there (λ i. h (at i)) places))
 
 -- a fault, where what is meant is told in another way
 pub refused_as : {X Z Y : Type 0} (view : X → Y) (other : Z → Y) (fault : AnswerFault) (x y : Result Y AnswerFault) → y ≡ x → Gives view (Err fault) x → Gives other (Err fault) y

@@ -8,4 +8,5 @@ mod Listed
 mod LentFacts
 mod ColumnFacts
 mod WindowedFacts
-mod BothOrders
+mod PartitionFacts
+mod OrderFacts

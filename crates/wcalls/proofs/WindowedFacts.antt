@@ -1,54 +1,115 @@
--- The window that a plan says, of what its partition values and keys come to.
-use Rattle.std.proofs.Common.{◌≡◌, ℕ, List, length, map, Result, Ok, Err, sym, ap, ◌∙◌}
+-- The window that a plan says, and rows in its order, of what its partition values and keys come to.
+use Rattle.std.proofs.Common.{◌≡◌, ℕ, Bool, true, false, List, length, map, Result, Ok, Err, refl, sym, ap, ◌∙◌}
+use Rattle.std.proofs.lemmas.List.{length-map}
 use Rattle.wvalues.specs.declared.key.SortKey.{SortKey}
 use Rattle.wvalues.specs.declared.value.Value.{Value}
 use Rattle.wvalues.specs.Meaning.{Meaning}
 use Rattle.wframe.specs.declared.frame.Frame.{Frame}
-use Rattle.wplan.specs.Plans.{WindowPlan, FunctionPlan}
+use Rattle.wplan.specs.Formula.{Formula}
+use Rattle.wplan.specs.Plans.{KeyPlan, WindowPlan}
 use Rattle.wrows.specs.declared.fault.AnswerFault.{AnswerFault}
-use Rattle.wrows.specs.Outcomes.{Gives, each, ◌>>=◌}
-use Rattle.wrows.specs.Columns.{Row, lists_of}
+use Rattle.wrows.specs.declared.fault.AnswerFault.TheVariants.{OutOfRange}
+use Rattle.wrows.specs.Outcomes.{unless, ◌>>=◌}
+use Rattle.wrows.specs.Columns.{Row, lists_of, value_on}
 use Rattle.wrows.specs.LaidRows.{laid}
 use Rattle.wrows.specs.Sorting.{ascending}
-use Rattle.wrows.proofs.RowFacts.{then_ok, then_refused}
+use Rattle.wrows.proofs.RowFacts.{length-places, then_ok}
+use Rattle.wrows.proofs.SortFacts.{length_sorted}
 use Rattle.wcalls.specs.Frames as frames
 use Rattle.wcalls.specs.Windows.{Windowed, windowed}
-use Rattle.wcalls.specs.Functions.{function_column, window_columns}
-use Rattle.wcalls.specs.Arranged.{window_of}
-use Rattle.wcalls.proofs.CallFacts.{refused_as}
+use Rattle.wframe.specs.Places.{places}
+use Rattle.wcalls.specs.Ordered.{Ordered, in_order, ordered_by, ordered_rows}
+use Rattle.wcalls.proofs.WindowFacts.{whole_cmp, whole_total}
 
 abbrev pub made : List (List Meaning) → List SortKey → List (List Meaning) → List SortKey → Frame → Windowed
 made values value_order keys order frame = record { values = values; value_order = value_order; keys = keys; order = order; frame = frame }
 
-pub same_window : (v a : List (List Meaning)) (vo ao : List SortKey) (k b : List (List Meaning)) (ko bo : List SortKey) (f g : Frame) → v ≡ a → vo ≡ ao → k ≡ b → ko ≡ bo → f ≡ g → made v vo k ko f ≡ made a ao b bo g
-same_window v a vo ao k b ko bo f g p q r s t =
-    ap (λ x. made x vo k ko f) p ∙ ap (λ x. made a x k ko f) q ∙ ap (λ x. made a ao x ko f) r ∙ ap (λ x. made a ao b x f) s ∙ ap (made a ao b bo) t
+same_order : (v a : List (List Meaning)) (vo ao : List SortKey) (k b : List (List Meaning)) (ko bo : List SortKey) → v ≡ a → vo ≡ ao → k ≡ b → ko ≡ bo → ordered_by v vo k ko ≡ ordered_by a ao b bo
+same_order v a vo ao k b ko bo p q r s =
+    ap (λ x. ordered_by x vo k ko) p ∙ ap (λ x. ordered_by a x k ko) q ∙ ap (λ x. ordered_by a ao x ko) r ∙ ap (ordered_by a ao b) s
 
-module _ (rows : List Row) (plan : WindowPlan) (fs : List FunctionPlan) where
+lists_long : (ts : List Formula) (rows : List Row) (lists : List (List Meaning)) → lists_of ts rows ≡ Ok lists → length lists ≡ length rows
+lists_long ts rows lists e = go _ e
+  where
+    told : List (List Meaning)
+    told = map (λ row. map (λ t. value_on t row) ts) rows
+
+    go : (b : Bool) → unless b OutOfRange told ≡ Ok lists → length lists ≡ length rows
+    go true h = absurd (cc)
+    go false h = let same : told ≡ lists = cc in sym (ap length same) ∙ length-map rows (λ row. map (λ t. value_on t row) ts)
+
+-- the frame plays no part in the order
+pub shared_order : (rows : List Row) (a b : WindowPlan) → a.partition ≡ b.partition → a.keys ≡ b.keys → ordered_rows rows a ≡ ordered_rows rows b
+shared_order rows a b p k =
+    apart a
+    ∙ ap (λ (ts : List Formula). told ts (ascending ts) a.keys) p
+    ∙ ap (told b.partition (ascending b.partition)) k
+    ∙ sym (apart b)
+  where
+    told : List Formula → List SortKey → List KeyPlan → Result Ordered AnswerFault
+    told ts by keys = lists_of ts rows >>= λ V. lists_of (map (λ k. k.value) keys) rows >>= λ K. Ok (ordered_by V by K (map (λ k. k.order) keys))
+
+    apart : (w : WindowPlan) → ordered_rows rows w ≡ told w.partition (ascending w.partition) w.keys
+    apart w = go (lists_of w.partition rows) (lists_of (map (λ k. k.value) w.keys) rows)
+      where
+        go : (values keys : Result (List (List Meaning)) AnswerFault)
+            → ((values >>= λ V. keys >>= λ K. Ok (made V (ascending w.partition) K (map (λ k. k.order) w.keys) (frames.frame_of w.frame))) >>= λ x. Ok (in_order x)) ≡ (values >>= λ V. keys >>= λ K. Ok (ordered_by V (ascending w.partition) K (map (λ k. k.order) w.keys)))
+        go (Ok V) (Ok K) = refl
+        go (Ok V) (Err x) = refl
+        go (Err x) keys = refl
+
+-- the window that an order is of
+pub record Opened (rows : List Row) (plan : WindowPlan) (order : Ordered) : Type 0 where
+  pub window : Windowed
+  pub is : windowed rows plan ≡ Ok window
+  pub order_is : order ≡ in_order window
+  pub frame : window.frame ≡ frames.frame_of plan.frame
+  pub keys : length window.order ≡ length plan.keys
+  pub long : length window.values ≡ length rows
+
+module _ (rows : List Row) (plan : WindowPlan) where
   abbrev of_keys : List (List Meaning) → List (List Meaning) → Windowed
   of_keys V K = made V (ascending plan.partition) K (map (λ k. k.order) plan.keys) (frames.frame_of plan.frame)
 
   abbrev rest : List (List Meaning) → Result Windowed AnswerFault
   rest V = lists_of (map (λ k. k.value) plan.keys) rows >>= λ K. Ok (of_keys V K)
 
-  pub values_refused : {X Y : Type 0} (inner : X → List Row) (view : Y → List (List Meaning)) (fault : AnswerFault) → Gives inner (Err fault) (lists_of plan.partition rows) → Gives view (Err fault) (window_columns plan fs rows)
-  values_refused inner view fault h =
-      let same : Windowed → Windowed = λ w. w in
-      then_refused same view fault (windowed rows plan) (λ w. each (function_column rows w) fs) (then_refused inner same fault (lists_of plan.partition rows) rest h)
+  windowed_is : (V K : List (List Meaning)) → lists_of plan.partition rows ≡ Ok V → lists_of (map (λ k. k.value) plan.keys) rows ≡ Ok K → windowed rows plan ≡ Ok (of_keys V K)
+  windowed_is V K e f = then_ok V (lists_of plan.partition rows) rest e ∙ then_ok K (lists_of (map (λ k. k.value) plan.keys) rows) (λ K. Ok (of_keys V K)) f
 
-  pub keys_refused : {X Y : Type 0} (inner : X → List Row) (view : Y → List (List Meaning)) (fault : AnswerFault) (V : List (List Meaning)) → lists_of plan.partition rows ≡ Ok V → Gives inner (Err fault) (lists_of (map (λ k. k.value) plan.keys) rows) → Gives view (Err fault) (window_columns plan fs rows)
-  keys_refused inner view fault V e h =
-      let same : Windowed → Windowed = λ w. w in
-      then_refused same view fault (windowed rows plan) (λ w. each (function_column rows w) fs)
-      (refused_as same same fault (rest V) (windowed rows plan) (then_ok V (lists_of plan.partition rows) rest e) (then_refused inner same fault (lists_of (map (λ k. k.value) plan.keys) rows) (λ K. Ok (of_keys V K)) h))
+  pub opened : (order : Ordered) → ordered_rows rows plan ≡ Ok order → Opened rows plan order
+  opened order h = go (lists_of plan.partition rows) (lists_of (map (λ k. k.value) plan.keys) rows) refl refl
+    where
+      go : (values keys : Result (List (List Meaning)) AnswerFault) → lists_of plan.partition rows ≡ values → lists_of (map (λ k. k.value) plan.keys) rows ≡ keys → Opened rows plan order
+      go (Ok V) (Ok K) e f =
+          let is : windowed rows plan ≡ Ok (of_keys V K) = windowed_is V K e f in
+          let told : ordered_rows rows plan ≡ Ok (in_order (of_keys V K)) = then_ok (of_keys V K) (windowed rows plan) (λ w. Ok (in_order w)) is in
+          record {
+            window = of_keys V K;
+            is = is;
+            order_is = cc;
+            frame = refl;
+            keys = length-map plan.keys (λ k. k.order);
+            long = lists_long plan.partition rows V e;
+          }
+      go (Ok V) (Err x) e f =
+          let none : ordered_rows rows plan ≡ Err x = ap (λ r. r >>= λ w. Ok (in_order w)) (then_ok V (lists_of plan.partition rows) rest e ∙ ap (λ r. r >>= λ K. Ok (of_keys V K)) f) in
+          absurd (cc)
+      go (Err x) keys e f =
+          let none : ordered_rows rows plan ≡ Err x = ap (λ r. (r >>= rest) >>= λ w. Ok (in_order w)) e in
+          absurd (cc)
 
-  pub columns_are : (n wv wk : ℕ) (values keys : List Value) (vo ko : List SortKey) (frame : Frame) → lists_of plan.partition rows ≡ Ok (laid wv n values) → lists_of (map (λ k. k.value) plan.keys) rows ≡ Ok (laid wk n keys)
-      → wv ≡ length vo → wk ≡ length ko → vo ≡ ascending plan.partition → ko ≡ map (λ k. k.order) plan.keys → frame ≡ frames.frame_of plan.frame
-      → window_columns plan fs rows ≡ each (function_column rows (window_of values vo keys ko n frame)) fs
-  columns_are n wv wk values keys vo ko frame ev ek lv lk ev_order ek_order ef =
-      let V = laid wv n values in
-      let K = laid wk n keys in
-      let W : Windowed = of_keys V K in
-      then_ok W (windowed rows plan) (λ w. each (function_column rows w) fs) (then_ok V (lists_of plan.partition rows) rest ev ∙ then_ok K (lists_of (map (λ k. k.value) plan.keys) rows) (λ K. Ok (of_keys V K)) ek)
-      ∙ ap (λ w. each (function_column rows w) fs) (same_window V (laid (length vo) n values) (ascending plan.partition) vo K (laid (length ko) n keys) (map (λ k. k.order) plan.keys) ko (frames.frame_of plan.frame) frame
-      (ap (λ w. laid w n values) lv) (sym ev_order) (ap (λ w. laid w n keys) lk) (sym ek_order) (sym ef))
+  -- as many rows as were ordered
+  pub rows_long : (order : Ordered) → Opened rows plan order → length order.rows ≡ length rows
+  rows_long order p =
+      let w : Windowed = p.window in
+      ap (λ (o : Ordered). length o.rows) p.order_is
+      ∙ length_sorted (whole_cmp w) (whole_total w) (places (length w.values)) ∙ length-places 0 (length w.values) ∙ p.long
+
+  pub order_told : (n wv wk : ℕ) (values keys : List Value) (vo ko : List SortKey) → lists_of plan.partition rows ≡ Ok (laid wv n values) → lists_of (map (λ k. k.value) plan.keys) rows ≡ Ok (laid wk n keys)
+      → wv ≡ length vo → wk ≡ length ko → vo ≡ ascending plan.partition → ko ≡ map (λ k. k.order) plan.keys
+      → ordered_rows rows plan ≡ Ok (ordered_by (laid (length vo) n values) vo (laid (length ko) n keys) ko)
+  order_told n wv wk values keys vo ko ev ek lv lk ev_order ek_order =
+      then_ok (of_keys (laid wv n values) (laid wk n keys)) (windowed rows plan) (λ w. Ok (in_order w)) (windowed_is (laid wv n values) (laid wk n keys) ev ek)
+      ∙ ap Ok (same_order (laid wv n values) (laid (length vo) n values) (ascending plan.partition) vo (laid wk n keys) (laid (length ko) n keys) (map (λ k. k.order) plan.keys) ko
+      (ap (λ w. laid w n values) lv) (sym ev_order) (ap (λ w. laid w n keys) lk) (sym ek_order))

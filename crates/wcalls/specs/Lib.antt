@@ -6,3 +6,4 @@ pub mod Sound
 pub mod Lent
 pub mod Arranged
 pub mod Ordered
+pub mod OrderKept

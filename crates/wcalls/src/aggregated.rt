@@ -7,7 +7,7 @@ ghost use Rattle.waggregate.specs.Framing.{frame_numbers};
 use crate::calls::Call;
 use std::alloc::Global;
 use waggregate::{Feed, push_frame_aggregates};
-use wframe::Frames;
+use wframe::Partitions;
 use wplan::AggregateFunction;
 use wrows::AnswerFault;
 use wvalues::Value;
@@ -27,10 +27,10 @@ impl<'a> Call for AggregateOver<'a> {
     fn push_answers(
         &self,
         alloc: Global,
-        frames: &Frames,
         rows: &[usize],
+        partitions: &Partitions,
         told: &mut Vec<Value>,
     ) -> Result<(), AnswerFault> {
-        push_frame_aggregates(alloc, self.function, self.feed, rows, frames, told)
+        push_frame_aggregates(alloc, self.function, self.feed, rows, partitions, told)
     }
 }

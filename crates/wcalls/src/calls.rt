@@ -3,19 +3,19 @@ ghost use Rattle.std.specs.Prelude.{◌≡◌, ◌<◌, ◌^◌, ◌++◌, ℕ, 
 ghost use Rattle.std.specs.List.{list_any};
 ghost use Rattle.std.specs.Option.{is_none};
 ghost use Rattle.wvalues.specs.Meaning.{Meaning, meaning};
-ghost use Rattle.wframe.specs.Places.{places};
+ghost use Rattle.wframe.specs.Places.{places, Tiles};
 ghost use Rattle.wrows.specs.declared.fault.AnswerFault.TheVariants.{OutOfRange};
 ghost use Rattle.wrows.specs.Outcomes.{Gives, unless};
 ghost use Rattle.wrows.specs.Columns.{in_range};
 ghost use Rattle.wcalls.specs.Windows.{Windowed};
-ghost use Rattle.wcalls.specs.Arranged.{IsArranged, Answer, partition_answers, answer_on, answer_values, answered, HasEachOnce};
+ghost use Rattle.wcalls.specs.Arranged.{IsArranged, Answer, window_answers, answer_on, answer_values, answered, HasEachOnce};
 
 use std::alloc::{AllocError, Global};
-use wframe::{Frames, Partitions};
+use wframe::Partitions;
 use wrows::AnswerFault;
 use wvalues::Value;
 
-/// What a call with OVER answers for the rows of a partition.
+/// What a call with OVER answers for the rows of a window.
 pub trait Call {
     /// Its answer for the row at a place of a partition.
     ghost answer: { Self → Answer };
@@ -23,19 +23,26 @@ pub trait Call {
     /// How many rows it is over.
     ghost count: { Self → ℕ };
 
-    /// Appends its answers for the rows of a partition, in their order.
+    /// Appends its answers for all rows of a window, one partition after another.
     fn push_answers(
         &self,
         alloc: Global,
-        frames: &Frames,
         rows: &[usize],
+        partitions: &Partitions,
         told: &mut Vec<Value>,
     ) -> Result<(), AnswerFault>
-        requires len { length rows.now ≡ length frames.now.keys }
+        requires len { length rows.now ≡ length partitions.now.keys }
         requires below { All (λ i. i < count self.now) rows.now }
         requires few { length rows.now < 2 ^ 31 }
-        ensures gives { Gives (λ u. u) result (unless (list_any is_none (partition_answers (answer self.now) frames.now rows.now)) OutOfRange tt) }
-        ensures added { OnOk result (map meaning told.new.items ≡ map meaning told.old.items ++ answer_values (partition_answers (answer self.now) frames.now rows.now)) };
+        ensures gives { Gives (λ u. u) result (unless (list_any is_none (window_answers (answer self.now) partitions.now rows.now)) OutOfRange tt) }
+        ensures added { OnOk result (map meaning told.new.items ≡ map meaning told.old.items ++ answer_values (window_answers (answer self.now) partitions.now rows.now)) };
+}
+
+// Partitions leave no row out.
+fn see_tiles(partitions: &Partitions)
+    ensures { Tiles 0 partitions.now.spans (length partitions.now.keys) }
+{
+    let _ = partitions.count();
 }
 
 /// A call's answers for all rows of a window, in its order.
@@ -51,12 +58,9 @@ pub fn answers_in_order<C: Call>(
     ensures gives { (w : Windowed) → IsArranged w rows.now partitions.now → Gives (λ told. map meaning told.items) result (in_range (map (answer_on w (C.answer call.now)) rows.now)) }
     ensures len { IfOk result (λ told. length told.items ≡ length rows.now) }
 {
+    see_tiles(partitions);
     let mut told = Vec::with_capacity(alloc, rows.len())?;
-    for number in 0..partitions.count() {
-        let span = partitions.span(number);
-        let frames = partitions.partition(number);
-        call.push_answers(alloc, &frames, &rows[span.from..span.to], &mut told)?;
-    }
+    call.push_answers(alloc, rows, partitions, &mut told)?;
     Ok(told)
 }
 

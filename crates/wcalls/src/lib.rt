@@ -6,11 +6,11 @@
 //! - Asks: fewer than 2^31 rows, one key where RANGE has an offset, at least one tile, a place from 1 on.
 //! - Leaves frames to `wframe`, places to `wplaces`, aggregates to `waggregate`.
 //!
-//! A window is sorted once, and its rows are lent in that order from where their values lie. Each function answers one
-//! partition after another there, and its answers are put by the rows' numbers.
+//! Rows are put into the order of a window once, which serves each window of the same partition values and keys. Each
+//! function answers one partition after another there, and its answers are put by the rows' numbers.
 //!
 //! Read `specs/Frames.antt`, `specs/Windows.antt`, `specs/Calls.antt` and `specs/Functions.antt`, then
-//! `specs/Arranged.antt` and `specs/Ordered.antt`; `specs/Sound.antt` says what is asked.
+//! `specs/Ordered.antt` and `specs/Arranged.antt`; `specs/Sound.antt` says what is asked.
 #![tactic(auto)]
 
 mod aggregated;
@@ -24,3 +24,4 @@ mod told;
 mod window;
 
 pub use columns::window_columns;
+pub use window::{WindowOrder, share_order};

@@ -9,7 +9,7 @@ ghost use Rattle.wplaces.specs.Tile.{tile_of};
 use crate::calls::Call;
 use crate::limits::cut;
 use std::alloc::{AllocError, Global};
-use wframe::Frames;
+use wframe::{Frames, Partitions};
 use wplaces::{dense_rank, ntile, rank, row_number};
 use wrows::AnswerFault;
 use wvalues::{Value, Whole};
@@ -60,12 +60,15 @@ impl<N: Counts> Call for Counted<N> {
     fn push_answers(
         &self,
         alloc: Global,
-        frames: &Frames,
         _rows: &[usize],
+        partitions: &Partitions,
         told: &mut Vec<Value>,
     ) -> Result<(), AnswerFault> {
-        let counts = self.counts.counts(alloc, frames)?;
-        push_counts(told, &counts)?;
+        for number in 0..partitions.count() {
+            let frames = partitions.partition(number);
+            let counts = self.counts.counts(alloc, &frames)?;
+            push_counts(told, &counts)?;
+        }
         Ok(())
     }
 }

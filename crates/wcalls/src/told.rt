@@ -10,7 +10,7 @@ ghost use Rattle.wcalls.specs.Arranged.{told_value};
 use crate::calls::Call;
 use crate::limits::cut;
 use std::alloc::{AllocError, Global};
-use wframe::Frames;
+use wframe::{Frames, Partitions};
 use wplaces::{first_value, lag, last_value, lead, nth_value};
 use wrows::AnswerFault;
 use wvalues::Value;
@@ -92,12 +92,17 @@ impl<'a, P: RowPlaces> Call for Told<'a, P> {
     fn push_answers(
         &self,
         alloc: Global,
-        frames: &Frames,
         rows: &[usize],
+        partitions: &Partitions,
         told: &mut Vec<Value>,
     ) -> Result<(), AnswerFault> {
-        let places = self.places.places_told(alloc, frames)?;
-        push_told(told, self.values, rows, self.default, &places)?;
+        for number in 0..partitions.count() {
+            let span = partitions.span(number);
+            let frames = partitions.partition(number);
+            let places = self.places.places_told(alloc, &frames)?;
+            let own = &rows[span.from..span.to];
+            push_told(told, self.values, own, self.default, &places)?;
+        }
         Ok(())
     }
 }

@@ -1,20 +1,186 @@
 //! Rows in the order of a window.
-ghost use Rattle.std.specs.Prelude.{◌≡◌, ◌*◌, ◌<◌, ◌++◌, All, IfOk, OnOk, length, map};
+ghost use Rattle.std.specs.Prelude.{◌≡◌, ◌*◌, ◌<◌, true, List, All, IfOk, IsTrue, length, map};
 ghost use Rattle.wframe.specs.Cells.{rows_of};
 ghost use Rattle.wframe.specs.KeyRows.{key_lists, sort_keys};
+ghost use Rattle.wframe.specs.Offsets.{has_range_offset};
 ghost use Rattle.wframe.specs.Peers.{key_at};
-ghost use Rattle.wframe.specs.Places.{places};
-ghost use Rattle.wframe.specs.Sorting.{sorted};
+ghost use Rattle.wplan.specs.Plans.{window_plan};
+ghost use Rattle.wrows.specs.Columns.{Row};
 ghost use Rattle.wrows.specs.LaidRows.{laid};
-ghost use Rattle.wcalls.specs.Ordered.{rows_cmp};
+ghost use Rattle.wrows.specs.Laid.{rows_seen};
+ghost use Rattle.wrows.specs.Outcomes.{Gives};
+ghost use Rattle.wcalls.specs.Arranged.{IsArranged};
+ghost use Rattle.wcalls.specs.Ordered.{in_order, numbers_in_order, ordered_by, ordered_rows};
+ghost use Rattle.wcalls.specs.Windows.{Windowed};
 
+use crate::parts::{key_cells, key_orders, partition_cells, value_orders};
 use std::alloc::{AllocError, Global};
-use wframe::KeyRows;
-use wrows::{resorted_numbers, sorted_numbers};
-use wvalues::Value;
+use std::marker::Model;
+use wframe::{Frame, KeyRows, Partitions};
+use wplan::{SettledWindow, same_order};
+use wrows::{AnswerFault, gathered, resorted_numbers, sorted_numbers};
+use wvalues::{SortKey, Value};
 
-/// Each of some values, lent.
-pub(crate) fn lent_cells(alloc: Global, cells: &[Value]) -> Result<Vec<&Value>, AllocError>
+/// Rows by the partition values of a window, by its keys and then by number, with the partition values and the keys of
+/// each. The window's frame plays no part, so it serves each window of the same partition values and keys.
+#[derive(Drop)]
+pub struct WindowOrder {
+    rows: Vec<usize>,
+    // Those of one row after another, in their order.
+    values: Vec<Value>,
+    value_order: Vec<SortKey>,
+    keys: Vec<Value>,
+    key_order: Vec<SortKey>,
+}
+
+impl Model for WindowOrder {
+    ghost use Rattle.wcalls.specs.Ordered.{Ordered};
+
+    ghost Value = { Ordered };
+
+    ghost use Rattle.wcalls.specs.OrderKept.{IsKept, order_of};
+
+    ghost view = { order_of };
+
+    ghost invariant = { IsKept };
+}
+
+impl WindowOrder {
+    /// Orders rows as a window does. All its partition values and keys are evaluated on every row, and `OutOfRange` where
+    /// one is so on any; the rows are sorted once.
+    pub fn new(
+        alloc: Global,
+        window: &SettledWindow,
+        rows: &[&[Value]],
+    ) -> Result<WindowOrder, AnswerFault>
+        ensures { Gives (λ order. order) result (ordered_rows (rows_seen rows.now) (window_plan window.now)) }
+    {
+        let values = partition_cells(alloc, window, rows)?;
+        let keys = key_cells(alloc, window, rows)?;
+        let value_order = value_orders(alloc, &window.partition)?;
+        let key_order = key_orders(alloc, &window.keys)?;
+        let order = ordered_cells(alloc, values, value_order, keys, key_order, rows.len())?;
+        Ok(order)
+    }
+
+    /// The numbers of the rows, in order.
+    pub(crate) fn rows(&self) -> &[usize]
+        ensures rows { result.now ≡ self.now.rows }
+        ensures below { All (λ i. i < length self.now.rows) self.now.rows }
+    {
+        &self.rows
+    }
+
+    /// How keys are ordered.
+    pub(crate) fn key_order(&self) -> &[SortKey]
+        ensures { result.now ≡ self.now.order }
+    {
+        &self.key_order
+    }
+
+    /// The keys of the rows in order, lent from where they lie.
+    pub(crate) fn lent_keys(&self, alloc: Global) -> Result<Vec<&Value>, AllocError>
+        ensures rows { IfOk result (λ cells. rows_of (length self.now.order) (length self.now.rows) cells.items ≡ self.now.keys) }
+        ensures laid { IfOk result (λ cells. length cells.items ≡ length self.now.rows * length self.now.order) }
+    {
+        let cells = lent_cells(alloc, &self.keys)?;
+        Ok(cells)
+    }
+
+    /// The partitions of the rows with their frames, where the keys of the rows are lent in order.
+    pub(crate) fn partitions<'a>(
+        &self,
+        alloc: Global,
+        keys: KeyRows<'a>,
+        frame: Frame,
+    ) -> Result<Partitions<'a>, AllocError>
+        requires keys { key_lists keys ≡ self.now.keys }
+        requires order { sort_keys keys ≡ self.now.order }
+        requires count { length (key_lists keys) ≡ length self.now.rows }
+        requires offset { IsTrue (has_range_offset frame) → length self.now.order ≡ 1 }
+        ensures arranged { IfOk result (λ all. (w : Windowed) → self.now ≡ in_order w → frame ≡ w.frame → IsArranged w self.now.rows all) }
+        ensures len { IfOk result (λ all. length self.now.rows ≡ length all.keys) }
+    {
+        let cells = lent_cells(alloc, &self.values)?;
+        let values = KeyRows::new(&cells, &self.value_order, self.rows.len());
+        let partitions = Partitions::build(alloc, &values, keys, frame)?;
+        Ok(partitions)
+    }
+}
+
+/// Whether two windows order rows alike, whatever their frames: their partition values and their keys are the same, as
+/// they are written.
+#[tactic(auto, using(crate::proofs::WindowedFacts::shared_order))]
+pub fn share_order(a: &SettledWindow, b: &SettledWindow) -> bool
+    ensures { (rows : List Row) → result ≡ true → ordered_rows rows (window_plan a.now) ≡ ordered_rows rows (window_plan b.now) }
+{
+    same_order(a, b)
+}
+
+// Rows in order, where the partition values and the keys of each are cells.
+fn ordered_cells(
+    alloc: Global,
+    values: Vec<Value>,
+    value_order: Vec<SortKey>,
+    keys: Vec<Value>,
+    key_order: Vec<SortKey>,
+    count: usize,
+) -> Result<WindowOrder, AllocError>
+    requires values { length values.items ≡ count * length value_order.items }
+    requires keys { length keys.items ≡ count * length key_order.items }
+    ensures { IfOk result (λ order. order ≡ ordered_by (laid (length value_order.items) count values.items) value_order.items (laid (length key_order.items) count keys.items) key_order.items) }
+{
+    let rows = ordered_numbers(alloc, &values, &value_order, &keys, &key_order, count)?;
+    let sorted_values = moved(alloc, values, value_order.len(), count, &rows)?;
+    let sorted_keys = moved(alloc, keys, key_order.len(), count, &rows)?;
+    Ok(WindowOrder {
+        rows,
+        values: sorted_values,
+        value_order,
+        keys: sorted_keys,
+        key_order,
+    })
+}
+
+// The numbers of rows by partition values, then by keys, then by number. The keys are sorted by first, and then the
+// partition values, which leaves rows of one partition as they stand.
+fn ordered_numbers(
+    alloc: Global,
+    values: &[Value],
+    value_order: &[SortKey],
+    keys: &[Value],
+    key_order: &[SortKey],
+    count: usize,
+) -> Result<Vec<usize>, AllocError>
+    requires values { length values.now ≡ count * length value_order.now }
+    requires keys { length keys.now ≡ count * length key_order.now }
+    ensures order { IfOk result (λ rows. rows.items ≡ numbers_in_order (laid (length value_order.now) count values.now) value_order.now (laid (length key_order.now) count keys.now) key_order.now) }
+    ensures below { IfOk result (λ rows. All (λ i. i < count) rows.items) }
+    ensures len { IfOk result (λ rows. length rows.items ≡ count) }
+{
+    let by_key = sorted_numbers(alloc, keys, key_order, count)?;
+    let rows = resorted_numbers(alloc, values, value_order, count, &by_key)?;
+    Ok(rows)
+}
+
+// Cells of rows by number, in another order of the rows.
+fn moved(
+    alloc: Global,
+    cells: Vec<Value>,
+    width: usize,
+    count: usize,
+    rows: &[usize],
+) -> Result<Vec<Value>, AllocError>
+    requires laid { length cells.items ≡ count * width }
+    requires rows { All (λ i. i < count) rows.now }
+    ensures rows { IfOk result (λ moved. laid width (length rows.now) moved.items ≡ map (key_at (laid width count cells.items)) rows.now) }
+    ensures laid { IfOk result (λ moved. length moved.items ≡ length rows.now * width) }
+{
+    gathered(alloc, &cells, width, count, rows)
+}
+
+// Each of some values, lent.
+fn lent_cells(alloc: Global, cells: &[Value]) -> Result<Vec<&Value>, AllocError>
     ensures cells { IfOk result (λ lent. map (λ cell. cell.now) lent.items ≡ cells.now) }
     ensures len { IfOk result (λ lent. length lent.items ≡ length cells.now) }
 {
@@ -23,47 +189,4 @@ pub(crate) fn lent_cells(alloc: Global, cells: &[Value]) -> Result<Vec<&Value>, 
         lent.push(cell)?;
     }
     Ok(lent)
-}
-
-/// The numbers of rows by partition values, then by keys, then by number, of cells and of the rows that lend them. The
-/// keys are sorted by first, and then the partition values, which leaves rows of one partition as they stand.
-pub(crate) fn cell_numbers(
-    alloc: Global,
-    values: &[Value],
-    keys: &[Value],
-    by_values: &KeyRows,
-    by_keys: &KeyRows,
-) -> Result<Vec<usize>, AllocError>
-    requires count { length (key_lists by_keys.now) ≡ length (key_lists by_values.now) }
-    requires values { length values.now ≡ length (key_lists by_values.now) * length (sort_keys by_values.now) }
-    requires keys { length keys.now ≡ length (key_lists by_values.now) * length (sort_keys by_keys.now) }
-    requires value_lists { key_lists by_values.now ≡ laid (length (sort_keys by_values.now)) (length (key_lists by_values.now)) values.now }
-    requires key_lists { key_lists by_keys.now ≡ laid (length (sort_keys by_keys.now)) (length (key_lists by_values.now)) keys.now }
-    ensures order { IfOk result (λ rows. rows.items ≡ sorted (rows_cmp by_values.now by_keys.now) (places (length (key_lists by_values.now)))) }
-    ensures below { IfOk result (λ rows. All (λ i. i < length (key_lists by_values.now)) rows.items) }
-    ensures len { IfOk result (λ rows. length rows.items ≡ length (key_lists by_values.now)) }
-{
-    let value_order = by_values.keys();
-    let key_order = by_keys.keys();
-    let count = by_values.count();
-    let by_key = sorted_numbers(alloc, keys, key_order, count)?;
-    let rows = resorted_numbers(alloc, values, value_order, count, &by_key)?;
-    Ok(rows)
-}
-
-/// The values of the rows of these numbers, in their order, lent from where they lie.
-pub(crate) fn gathered<'a>(
-    alloc: Global,
-    rows: &KeyRows<'a>,
-    numbers: &[usize],
-) -> Result<Vec<&'a Value>, AllocError>
-    requires { All (λ i. i < length (key_lists rows.now)) numbers.now }
-    ensures rows { IfOk result (λ cells. rows_of (length (sort_keys rows.now)) (length numbers.now) cells.items ≡ map (key_at (key_lists rows.now)) numbers.now) }
-    ensures laid { IfOk result (λ cells. length cells.items ≡ length numbers.now * length (sort_keys rows.now)) }
-{
-    let mut cells = Vec::new(alloc);
-    for number in numbers {
-        cells.extend_from_slice(rows.row(*number))?;
-    }
-    Ok(cells)
 }

@@ -1,12 +1,14 @@
--- The file of a view is judged to be that view.
-use Rattle.std.proofs.Common.{◌≡◌, ◌≢◌, ℕ, Bool, true, false, ◌&&◌, T, List, [], ◌∷◌, ◌++◌, length, None, Some, Ok, Err, IsOk, inl, inr, refl, sym, ap, ◌∙◌, subst, arith, append_assoc, append-nil, length-append}
+-- Bytes are judged in one way: reading stops at one place, and there for one reason.
+use Rattle.std.proofs.Common.{◌≡◌, ◌≢◌, ◌≤◌, ℕ, Bool, true, false, ◌&&◌, T, List, [], ◌∷◌, ◌++◌, length, None, Some, Result, Ok, Err, IsOk, inl, inr, refl, sym, ap, ◌∙◌, subst, arith, append_assoc, append-nil, length-append}
 use Rattle.std.specs.List.{flat_map, AllByRecursion}
 use Rattle.std.specs.Ordering.{is_lt}
 use Rattle.std.specs.declared.cmp.Ordering.{Ordering}
 use Rattle.std.specs.declared.cmp.Ordering.TheVariants.{Less, Equal, Greater}
 use Rattle.std.specs.FinMap.Entries.{below_all}
-use Rattle.std.specs.FinMap.{entries, is_sorted, entries_sorted}
+use Rattle.std.specs.FinMap.{entries, is_sorted, entries_sorted, same_entries_map}
+use Rattle.wvalues.specs.Meaning.{Meaning}
 use Rattle.wvalues.specs.Names.{NameParts, name_cmp}
+use Rattle.wlines.specs.Words.{Lacks}
 use Rattle.wlines.proofs.Cuts.{cut_once, no_cut}
 use Rattle.wsegment.specs.Declaration.{Declaration, declaration_text}
 use Rattle.wsegment.specs.Spelling.{IsDeclaration}
@@ -14,10 +16,11 @@ use Rattle.wsegment.specs.Rows.{rows_of}
 use Rattle.wsegment.specs.declared.fault.SegmentFault.{SegmentFault}
 use Rattle.wset.specs.Views.{Known, Live, Disputed, Retired, View}
 use Rattle.wset.specs.Lending.{AreBelow, IsAbove}
-use Rattle.wexchange.specs.Forms.{IsForm, IsNumber, line_of}
-use Rattle.wexchange.specs.Files.{head, table_text, record_text, end_text, begun, file_of, IsRecord, AreRecords, IsView}
-use Rattle.wexchange.specs.Judging.{Place, AtTable, Behind, GoesOn, MayStand, record_name, body_length, HasOtherHead, HasBadLine, HasUnfedBody, IsCutHead, HasCutLine, HasCutBody, HasLowName, HasOtherCount, HasOtherTable, HasBadSegment, HasMore, IsFault}
-use Rattle.wexchange.specs.Laws.{OwnJudgement}
+use Rattle.wexchange.specs.Cuts.{IsUnfed}
+use Rattle.wexchange.specs.Forms.{IsForm, line_of}
+use Rattle.wexchange.specs.Files.{head, table_text, record_text, end_text, begun, file_of, IsRecord, IsView}
+use Rattle.wexchange.specs.Judging.{Place, AtTable, Behind, GoesOn, MayStand, Follows, record_name, body_length, Stands, HasOtherHead, IsCutHead, HasLowName, Judges}
+use Rattle.wexchange.specs.Laws.{OneJudgement, OwnJudgement}
 use Rattle.wexchange.specs.declared.form.Form.{Form}
 use Rattle.wexchange.specs.declared.form.Form.TheVariants as forms
 use Rattle.wexchange.specs.declared.fault.FileFault.{FileFault}
@@ -25,162 +28,207 @@ use Rattle.wexchange.specs.declared.fault.FileFault.TheVariants as faults
 use Rattle.wexchange.proofs.Words.{line_lacks}
 use Rattle.wexchange.proofs.Streams.{same_behind}
 use Rattle.wexchange.proofs.FirstMessage.{same_front, cut}
-use Rattle.wexchange.proofs.OneView.{record_form, record_rest, record_is_form, record_first, one_record, no_end, one_view}
+use Rattle.wexchange.proofs.OneView.{record_form, record_rest, record_is_form, record_first, one_record}
 
--- ---- what stands behind the records of a view in the file of another
+abbrev Outcome : Type 0
+Outcome = Result View FileFault
 
--- the line that comes next, and what stands behind it
-abbrev next_form : List (NameParts × Known) → ℕ → Form
-next_form [] n = forms.End n
-next_form (e ∷ es) n = record_form e
+-- ---- bodies
 
-abbrev next_rest : List (NameParts × Known) → ℕ → List ℕ
-next_rest [] n = []
-next_rest (e ∷ es) n = record_rest e (flat_map record_text es ++ end_text n)
+-- a body of this length is short, or lacks its line feed, or is whole and has this outcome
+data BodyStop (len : ℕ) (after : List ℕ) (Has : List ℕ → Outcome → Type 0) (r : Outcome) : Type 0 where
+  short : length after ≤ len → r ≡ Err faults.Truncated → BodyStop len after Has r
+  unfed : IsUnfed len after → r ≡ Err faults.OtherFormat → BodyStop len after Has r
+  whole : (body more : List ℕ) → after ≡ body ++ (10 ∷ more) → length body ≡ len → Has body r → BodyStop len after Has r
 
-next_first : (es : List (NameParts × Known)) (n : ℕ) → flat_map record_text es ++ end_text n ≡ line_of (next_form es n) ++ (10 ∷ next_rest es n)
-next_first [] n = refl
-next_first (e ∷ es) n = append_assoc (record_text e) (flat_map record_text es) (end_text n) ∙ record_first e (flat_map record_text es ++ end_text n)
+short_unfed : (len : ℕ) (after : List ℕ) → length after ≤ len → IsUnfed len after → ⊥
+short_unfed len after h u = omega (arith, ap length u.bytes_are, length-append u.body (u.byte ∷ u.more), u.length_is)
 
-next_is_form : (d : Declaration) (es : List (NameParts × Known)) (n : ℕ) → AllByRecursion (IsRecord d) es → IsNumber n → IsForm (next_form es n)
-next_is_form d [] n h k = k
-next_is_form d (e ∷ es) n h k = record_is_form d e h.0
+short_whole : (len : ℕ) (after body more : List ℕ) → length after ≤ len → after ≡ body ++ (10 ∷ more) → length body ≡ len → ⊥
+short_whole len after body more h e size = omega (arith, ap length e, length-append body (10 ∷ more))
 
-next_may : (w : View) (es : List (NameParts × Known)) (n : ℕ) → MayStand (Behind w) (next_form es n)
-next_may w [] n = tt
-next_may w ((m, Live bytes) ∷ es) n = tt
-next_may w ((m, Disputed) ∷ es) n = tt
-next_may w ((m, Retired) ∷ es) n = tt
+unfed_whole : (len : ℕ) (after body more : List ℕ) → IsUnfed len after → after ≡ body ++ (10 ∷ more) → length body ≡ len → ⊥
+unfed_whole len after body more u e size = u.other (same_behind u.body body u.byte 10 u.more more (u.length_is ∙ sym size) (sym u.bytes_are ∙ e))
 
--- the records behind those of a view, and the end
-record Tail (es ws : List (NameParts × Known)) (n : ℕ) (rest : List ℕ) : Type 0 where
-  left : List (NameParts × Known)
-  whole : es ≡ ws ++ left
-  rest_is : rest ≡ flat_map record_text left ++ end_text n
+one_body : (len : ℕ) (after : List ℕ) (Has : List ℕ → Outcome → Type 0) (r s : Outcome) → ((body : List ℕ) (r s : Outcome) → Has body r → Has body s → r ≡ s) → BodyStop len after Has r → BodyStop len after Has s → r ≡ s
+one_body len after Has r s one (short h e) (short k f) = e ∙ sym f
+one_body len after Has r s one (short h e) (unfed u f) = absurd (short_unfed len after h u)
+one_body len after Has r s one (short h e) (whole b more is size x) = absurd (short_whole len after b more h is size)
+one_body len after Has r s one (unfed u e) (short k f) = absurd (short_unfed len after k u)
+one_body len after Has r s one (unfed u e) (unfed w f) = e ∙ sym f
+one_body len after Has r s one (unfed u e) (whole b more is size x) = absurd (unfed_whole len after b more u is size)
+one_body len after Has r s one (whole a more is size x) (short k f) = absurd (short_whole len after a more k is size)
+one_body len after Has r s one (whole a more is size x) (unfed w f) = absurd (unfed_whole len after a more w is size)
+one_body len after Has r s one (whole a more is size x) (whole b rest also same y) =
+    let cut_off = same_front a b (10 ∷ more) (10 ∷ rest) (size ∙ sym same) (sym is ∙ also) in
+    one b r s (subst (λ l. Has l r) cut_off.0 x) y
 
-tail_of : (d : Declaration) (ws es : List (NameParts × Known)) (n : ℕ) (rest : List ℕ) → AllByRecursion (IsRecord d) ws → AllByRecursion (IsRecord d) es → flat_map record_text ws ++ rest ≡ flat_map record_text es ++ end_text n → Tail es ws n rest
-tail_of d [] es n rest h k e = record { left = es; whole = refl; rest_is = e }
-tail_of d (w ∷ ws) [] n rest h k e = absurd (no_end w n (flat_map record_text ws ++ rest) (sym (append_assoc (record_text w) (flat_map record_text ws) rest) ∙ e))
-tail_of d (w ∷ ws) (x ∷ es) n rest h k e =
-    let one = one_record d w x (flat_map record_text ws ++ rest) (flat_map record_text es ++ end_text n) h.0 k.0
-    (sym (append_assoc (record_text w) (flat_map record_text ws) rest) ∙ e ∙ append_assoc (record_text x) (flat_map record_text es) (end_text n)) in
-    let t = tail_of d ws es n rest h.1 k.1 one.1 in
-    record { left = t.left; whole = ap (λ y. y ∷ es) (sym one.0) ∙ ap (λ l. w ∷ l) t.whole; rest_is = t.rest_is }
+-- where it is whole, it has this outcome
+whole_body : (len : ℕ) (after body more : List ℕ) (Has : List ℕ → Outcome → Type 0) (r : Outcome) → after ≡ body ++ (10 ∷ more) → length body ≡ len → BodyStop len after Has r → Has body r
+whole_body len after body more Has r is size (short h e) = absurd (short_whole len after body more h is size)
+whole_body len after body more Has r is size (unfed u e) = absurd (unfed_whole len after body more u is size)
+whole_body len after body more Has r is size (whole b rest also same x) = subst (λ l. Has l r) (same_front b body (10 ∷ rest) (10 ∷ more) (same ∙ sym size) (sym also ∙ is)).0 x
 
-abbrev tail_in : View → View → List ℕ → Type 0
-tail_in v w rest = Tail (entries v) (entries w) (length (entries v)) rest
+-- ---- lines
 
-behind_tail : (d : Declaration) (v w : View) (rest : List ℕ) → AreRecords d v → GoesOn d (Behind w) (file_of d v) rest → tail_in v w rest
-behind_tail d v w rest h g =
-    let front = head ++ table_text d in
-    let cut_off = same_front front front _ _ refl (sym (append_assoc front (flat_map record_text (entries v)) (end_text (length (entries v)))) ∙ g.bytes_are ∙ append_assoc front (flat_map record_text (entries w)) rest) in
-    tail_of d (entries w) (entries v) (length (entries v)) rest g.good h (sym cut_off.1)
+-- the declaration is another one
+abbrev IsOtherTable : Declaration → List ℕ → Outcome → Type 0
+IsOtherTable d table r = (table ≢ declaration_text d) × (r ≡ Err faults.OtherSchema)
 
--- what stands behind the table
-abbrev behind_table : View → List ℕ
-behind_table v = flat_map record_text (entries v) ++ end_text (length (entries v))
+one_table : (d : Declaration) (table : List ℕ) (r s : Outcome) → IsOtherTable d table r → IsOtherTable d table s → r ≡ s
+one_table d table r s x y = x.1 ∙ sym y.1
+
+-- the content is no segment
+record IsRefused (d : Declaration) (content : List ℕ) (r : Outcome) : Type 0 where
+  fault : SegmentFault
+  refused : rows_of d content ≡ Err fault
+  is : r ≡ Err (faults.Segment fault)
+
+abbrev refusal : SegmentFault → Result (List (List Meaning)) SegmentFault
+refusal fault = Err fault
+
+same_fault : (f g : SegmentFault) → refusal f ≡ refusal g → f ≡ g
+same_fault f g e = cc
+
+one_refusal : (d : Declaration) (content : List ℕ) (r s : Outcome) → IsRefused d content r → IsRefused d content s → r ≡ s
+one_refusal d content r s x y = x.is ∙ ap (λ f. Err (faults.Segment f)) (same_fault x.fault y.fault (sym x.refused ∙ y.refused)) ∙ sym y.is
+
+-- the name is not greater than those before it, or it is, and what stands behind it has an outcome
+data NameStop (v : View) (name : NameParts) (Has : Outcome → Type 0) (r : Outcome) : Type 0 where
+  low : ¬ (IsAbove v name) → r ≡ Err faults.NotRising → NameStop v name Has r
+  above : IsAbove v name → Has r → NameStop v name Has r
+
+one_name : (v : View) (name : NameParts) (Has : Outcome → Type 0) (r s : Outcome) → (Has r → Has s → r ≡ s) → NameStop v name Has r → NameStop v name Has s → r ≡ s
+one_name v name Has r s one (low h e) (low k f) = e ∙ sym f
+one_name v name Has r s one (low h e) (above k y) = absurd (h k)
+one_name v name Has r s one (above h x) (low k f) = absurd (k h)
+one_name v name Has r s one (above h x) (above k y) = one x y
+
+-- the count is another one, or the file is followed by more, or whole
+data EndStop (v : View) (count : ℕ) (after : List ℕ) (r : Outcome) : Type 0 where
+  other_count : count ≢ length (entries v) → r ≡ Err faults.OtherCount → EndStop v count after r
+  trailing : (byte : ℕ) (more : List ℕ) → count ≡ length (entries v) → after ≡ byte ∷ more → r ≡ Err faults.Trailing → EndStop v count after r
+  file : count ≡ length (entries v) → after ≡ [] → r ≡ Ok v → EndStop v count after r
+
+no_byte : (byte : ℕ) (more : List ℕ) → byte ∷ more ≡ [] → ⊥
+no_byte byte more e = cc
+
+one_end : (v : View) (count : ℕ) (after : List ℕ) (r s : Outcome) → EndStop v count after r → EndStop v count after s → r ≡ s
+one_end v count after r s (other_count h e) (other_count k f) = e ∙ sym f
+one_end v count after r s (other_count h e) (trailing b more k i f) = absurd (h k)
+one_end v count after r s (other_count h e) (file k i f) = absurd (h k)
+one_end v count after r s (trailing b more h i e) (other_count k f) = absurd (k h)
+one_end v count after r s (trailing b more h i e) (trailing c rest k j f) = e ∙ sym f
+one_end v count after r s (trailing b more h i e) (file k j f) = absurd (no_byte b more (sym i ∙ j))
+one_end v count after r s (file h i e) (other_count k f) = absurd (k h)
+one_end v count after r s (file h i e) (trailing c rest k j f) = absurd (no_byte c rest (sym j ∙ i))
+one_end v count after r s (file h i e) (file k j f) = e ∙ sym f
+
+-- this line stands at this place, and reading stops there or behind it
+abbrev FormStop : Declaration → Place → Form → List ℕ → Outcome → Type 0
+FormStop d AtTable (forms.Table len) after r = BodyStop len after (IsOtherTable d) r
+FormStop d AtTable f after r = ⊥
+FormStop d (Behind v) (forms.Table len) after r = ⊥
+FormStop d (Behind v) (forms.Content name len) after r = NameStop v name (BodyStop len after (IsRefused d)) r
+FormStop d (Behind v) (forms.Dispute name) after r = NameStop v name (λ r. ⊥) r
+FormStop d (Behind v) (forms.Retirement name) after r = NameStop v name (λ r. ⊥) r
+FormStop d (Behind v) (forms.End count) after r = EndStop v count after r
+
+one_form_stop : (d : Declaration) (p : Place) (f : Form) (after : List ℕ) (r s : Outcome) → FormStop d p f after r → FormStop d p f after s → r ≡ s
+one_form_stop d AtTable (forms.Table len) after r s x y = one_body len after (IsOtherTable d) r s (one_table d) x y
+one_form_stop d AtTable (forms.Content name len) after r s x y = absurd x
+one_form_stop d AtTable (forms.Dispute name) after r s x y = absurd x
+one_form_stop d AtTable (forms.Retirement name) after r s x y = absurd x
+one_form_stop d AtTable (forms.End count) after r s x y = absurd x
+one_form_stop d (Behind v) (forms.Table len) after r s x y = absurd x
+one_form_stop d (Behind v) (forms.Content name len) after r s x y = one_name v name (BodyStop len after (IsRefused d)) r s (one_body len after (IsRefused d) r s (one_refusal d)) x y
+one_form_stop d (Behind v) (forms.Dispute name) after r s x y = one_name v name (λ r. ⊥) r s (λ a b. absurd a) x y
+one_form_stop d (Behind v) (forms.Retirement name) after r s x y = one_name v name (λ r. ⊥) r s (λ a b. absurd a) x y
+one_form_stop d (Behind v) (forms.End count) after r s x y = one_end v count after r s x y
+
+-- what stands at a place has no line feed, or a line that may not stand there, or one at which reading stops
+data Stop (d : Declaration) (p : Place) (rest : List ℕ) (r : Outcome) : Type 0 where
+  cut_line : Lacks 10 rest → r ≡ Err faults.Truncated → Stop d p rest r
+  bad_line : (line after : List ℕ) → Lacks 10 line → rest ≡ line ++ (10 ∷ after) → ((f : Form) → IsForm f → MayStand p f → line ≢ line_of f) → r ≡ Err faults.OtherFormat → Stop d p rest r
+  at_form : (f : Form) (after : List ℕ) → IsForm f → MayStand p f → rest ≡ line_of f ++ (10 ∷ after) → FormStop d p f after r → Stop d p rest r
+
+-- a line that may stand there does
+no_bad_line : (p : Place) (f : Form) (line after more : List ℕ) → IsForm f → MayStand p f → Lacks 10 line → line ++ (10 ∷ after) ≡ line_of f ++ (10 ∷ more) → ((f : Form) → IsForm f → MayStand p f → line ≢ line_of f) → ⊥
+no_bad_line p f line after more form may lacks e none = none f form may (cut_once 10 line (line_of f) after more lacks (line_lacks f form) e).0
+
+one_stop : (d : Declaration) (p : Place) (rest : List ℕ) (r s : Outcome) → Stop d p rest r → Stop d p rest s → r ≡ s
+one_stop d p rest r s (cut_line h e) (cut_line k f) = e ∙ sym f
+one_stop d p rest r s (cut_line h e) (bad_line m after l i none f) = absurd (no_cut 10 rest m after h i)
+one_stop d p rest r s (cut_line h e) (at_form g after form may i y) = absurd (no_cut 10 rest (line_of g) after h i)
+one_stop d p rest r s (bad_line m after l i none e) (cut_line k f) = absurd (no_cut 10 rest m after k i)
+one_stop d p rest r s (bad_line m after l i none e) (bad_line n more j k never f) = e ∙ sym f
+one_stop d p rest r s (bad_line m after l i none e) (at_form g more form may j y) = absurd (no_bad_line p g m after more form may l (sym i ∙ j) none)
+one_stop d p rest r s (at_form f after form may i x) (cut_line k e) = absurd (no_cut 10 rest (line_of f) after k i)
+one_stop d p rest r s (at_form f after form may i x) (bad_line m more l j none e) = absurd (no_bad_line p f m more after form may l (sym j ∙ i) none)
+one_stop d p rest r s (at_form f after form may i x) (at_form g more also can j y) =
+    let same = cut f g after more form also (sym i ∙ j) in
+    one_form_stop d p g more r s (subst (λ l. FormStop d p g l r) same.1 (subst (λ h. FormStop d p h after r) same.0 x)) y
+
+-- ---- what is good goes on
+
+-- the line that stands there is good, and so is what belongs to it
+record Good (d : Declaration) (p : Place) (rest : List ℕ) : Type 0 where
+  form : Form
+  after : List ℕ
+  is_form : IsForm form
+  may : MayStand p form
+  rest_is : rest ≡ line_of form ++ (10 ∷ after)
+  none : (r : Outcome) → FormStop d p form after r → ⊥
+
+no_stop : (d : Declaration) (p : Place) (rest : List ℕ) (r : Outcome) → Good d p rest → Stop d p rest r → ⊥
+no_stop d p rest r good (cut_line h e) = no_cut 10 rest (line_of good.form) good.after h good.rest_is
+no_stop d p rest r good (bad_line m after l i none e) = no_bad_line p good.form m after good.after good.is_form good.may l (sym i ∙ good.rest_is) none
+no_stop d p rest r good (at_form f after form may i x) =
+    let same = cut f good.form after good.after form good.is_form (sym i ∙ good.rest_is) in
+    good.none r (subst (λ l. FormStop d p good.form l r) same.1 (subst (λ h. FormStop d p h after r) same.0 x))
 
 table_first : (d : Declaration) (more : List ℕ) → table_text d ++ more ≡ line_of (forms.Table (length (declaration_text d))) ++ (10 ∷ (declaration_text d ++ (10 ∷ more)))
 table_first d more =
     append_assoc (line_of (forms.Table (length (declaration_text d)))) (10 ∷ (declaration_text d ++ 10 ∷ [])) more
     ∙ ap (λ l. line_of (forms.Table (length (declaration_text d))) ++ (10 ∷ l)) (append_assoc (declaration_text d) (10 ∷ []) more)
 
-whole_file : (d : Declaration) (v : View) → file_of d v ≡ head ++ (table_text d ++ behind_table v)
-whole_file d v = append_assoc (head ++ table_text d) (flat_map record_text (entries v)) (end_text (length (entries v))) ∙ append_assoc head (table_text d) (behind_table v)
-
-at_table : (d : Declaration) (v : View) (rest : List ℕ) → GoesOn d AtTable (file_of d v) rest → rest ≡ line_of (forms.Table (length (declaration_text d))) ++ (10 ∷ (declaration_text d ++ (10 ∷ behind_table v)))
-at_table d v rest g = sym (same_front head head _ _ refl (sym (whole_file d v) ∙ g.bytes_are)).1 ∙ table_first d (behind_table v)
-
--- ---- what stands next, wherever the file is good
-
-record Next (p : Place) (rest : List ℕ) : Type 0 where
-  form : Form
-  after : List ℕ
-  is_form : IsForm form
-  may : MayStand p form
-  rest_is : rest ≡ line_of form ++ (10 ∷ after)
-  body : (len : ℕ) → body_length form ≡ Some len → (bytes : List ℕ) × (more : List ℕ) × (after ≡ bytes ++ (10 ∷ more)) × (length bytes ≡ len)
-
-no_length : (len : ℕ) → None ≡ Some len → ⊥
-no_length len e = cc
-
-one_length : (m n : ℕ) → Some m ≡ Some n → m ≡ n
-one_length m n e = cc
-
-bodies : (es : List (NameParts × Known)) (n len : ℕ) → body_length (next_form es n) ≡ Some len → (bytes : List ℕ) × (more : List ℕ) × (next_rest es n ≡ bytes ++ (10 ∷ more)) × (length bytes ≡ len)
-bodies [] n len e = absurd (no_length len e)
-bodies ((m, Live bytes) ∷ es) n len e = (bytes, flat_map record_text es ++ end_text n, refl, one_length (length bytes) len e)
-bodies ((m, Disputed) ∷ es) n len e = absurd (no_length len e)
-bodies ((m, Retired) ∷ es) n len e = absurd (no_length len e)
-
-all_right : (d : Declaration) (xs ys : List (NameParts × Known)) → AllByRecursion (IsRecord d) (xs ++ ys) → AllByRecursion (IsRecord d) ys
-all_right d [] ys h = h
-all_right d (x ∷ xs) ys h = all_right d xs ys h.1
-
-left_records : (d : Declaration) (v w : View) (rest : List ℕ) → AreRecords d v → (t : tail_in v w rest) → AllByRecursion (IsRecord d) t.left
-left_records d v w rest h t = all_right d (entries w) t.left (subst (AllByRecursion (IsRecord d)) t.whole h)
-
-next_of : (d : Declaration) (v : View) (p : Place) (rest : List ℕ) → IsDeclaration d → IsView d v → GoesOn d p (file_of d v) rest → Next p rest
-next_of d v AtTable rest declared is g = record {
-  form = forms.Table (length (declaration_text d));
-  after = declaration_text d ++ (10 ∷ behind_table v);
-  is_form = record { fits = omega (arith, declared.spelled.short) };
-  may = tt;
-  rest_is = at_table d v rest g;
-  body = λ len e. (declaration_text d, behind_table v, refl, one_length (length (declaration_text d)) len e);
-}
-next_of d v (Behind w) rest declared is g =
-    let t = behind_tail d v w rest is.records g in
+good_table : (d : Declaration) (rest more : List ℕ) → IsDeclaration d → rest ≡ table_text d ++ more → Good d AtTable rest
+good_table d rest more declared e =
+    let text = declaration_text d in
     record {
-      form = next_form t.left (length (entries v));
-      after = next_rest t.left (length (entries v));
-      is_form = next_is_form d t.left (length (entries v)) (left_records d v w rest is.records t) is.count;
-      may = next_may w t.left (length (entries v));
-      rest_is = t.rest_is ∙ next_first t.left (length (entries v));
-      body = bodies t.left (length (entries v));
+      form = forms.Table (length text);
+      after = text ++ (10 ∷ more);
+      is_form = record { fits = omega (arith, declared.spelled.short) };
+      may = tt;
+      rest_is = e ∙ table_first d more;
+      none = λ r x. (whole_body (length text) (text ++ (10 ∷ more)) text more (IsOtherTable d) r refl refl x).0 refl;
     }
 
--- the line that a fault names is the one that stands there
-next_cut : (p : Place) (rest : List ℕ) (f : Form) (after : List ℕ) → (x : Next p rest) → IsForm f → rest ≡ line_of f ++ (10 ∷ after) → (f ≡ x.form) × (after ≡ x.after)
-next_cut p rest f after x h e = cut f x.form after x.after h x.is_form (sym e ∙ x.rest_is)
+not_refused : (d : Declaration) (content : List ℕ) (r : Outcome) → IsOk (rows_of d content) → IsRefused d content r → ⊥
+not_refused d content r ok x = let wrong : false ≡ true = rw x.refused at ok in cc
 
--- ---- no fault
+record_may : (v : View) (e : NameParts × Known) → MayStand (Behind v) (record_form e)
+record_may v (n, Live bytes) = tt
+record_may v (n, Disputed) = tt
+record_may v (n, Retired) = tt
 
-no_other_head : (d : Declaration) (v : View) → HasOtherHead (file_of d v) → ⊥
-no_other_head d v h = h.not_begun (table_text d ++ behind_table v) (whole_file d v)
+record_none : (d : Declaration) (v : View) (e : NameParts × Known) (more : List ℕ) (r : Outcome) → IsRecord d e → IsAbove v e.0 → FormStop d (Behind v) (record_form e) (record_rest e more) r → ⊥
+record_none d v (n, Live bytes) more r is up (low h e) = h up
+record_none d v (n, Live bytes) more r is up (above h x) = not_refused d bytes r is.1 (whole_body (length bytes) (bytes ++ (10 ∷ more)) bytes more (IsRefused d) r refl refl x)
+record_none d v (n, Disputed) more r is up (low h e) = h up
+record_none d v (n, Disputed) more r is up (above h x) = x
+record_none d v (n, Retired) more r is up (low h e) = h up
+record_none d v (n, Retired) more r is up (above h x) = x
 
-no_bad_line : (d : Declaration) (v : View) → IsDeclaration d → IsView d v → HasBadLine d (file_of d v) → ⊥
-no_bad_line d v declared is h =
-    let x = next_of d v h.place (h.line ++ (10 ∷ h.after)) declared is h.goes_on in
-    h.none x.form x.is_form x.may (cut_once 10 h.line (line_of x.form) h.after x.after h.lacks (line_lacks x.form x.is_form) x.rest_is).0
-
-no_unfed_body : (d : Declaration) (v : View) → IsDeclaration d → IsView d v → HasUnfedBody d (file_of d v) → ⊥
-no_unfed_body d v declared is h =
-    let rest = line_of h.form ++ (10 ∷ h.after) in
-    let x = next_of d v h.place rest declared is h.stands.goes_on in
-    let same = next_cut h.place rest h.form h.after x h.stands.form refl in
-    let b = x.body h.len (ap body_length (sym same.0) ∙ h.length_is) in
-    h.unfed.other (same_behind h.unfed.body b.0 h.unfed.byte 10 h.unfed.more b.1 (h.unfed.length_is ∙ sym b.3) (sym h.unfed.bytes_are ∙ same.1 ∙ b.2))
-
-no_cut_head : (d : Declaration) (v : View) → IsCutHead (file_of d v) → ⊥
-no_cut_head d v h = h.some (nothing h.more (omega (arith, ap length h.head_is, length-append (file_of d v) h.more, ap length (whole_file d v), length-append head (table_text d ++ behind_table v))))
-  where
-    nothing : (xs : List ℕ) → length xs ≡ 0 → xs ≡ []
-    nothing [] e = refl
-    nothing (x ∷ xs) e = absurd (omega arith)
-
-no_cut_line : (d : Declaration) (v : View) → IsDeclaration d → IsView d v → HasCutLine d (file_of d v) → ⊥
-no_cut_line d v declared is h =
-    let x = next_of d v h.place h.rest declared is h.goes_on in
-    no_cut 10 h.rest (line_of x.form) x.after h.lacks x.rest_is
-
-no_cut_body : (d : Declaration) (v : View) → IsDeclaration d → IsView d v → HasCutBody d (file_of d v) → ⊥
-no_cut_body d v declared is h =
-    let rest = line_of h.form ++ (10 ∷ h.after) in
-    let x = next_of d v h.place rest declared is h.stands.goes_on in
-    let same = next_cut h.place rest h.form h.after x h.stands.form refl in
-    let b = x.body h.len (ap body_length (sym same.0) ∙ h.length_is) in
-    omega (arith, ap length (same.1 ∙ b.2), length-append b.0 (10 ∷ b.1), b.3, h.short)
+good_record : (d : Declaration) (v : View) (e : NameParts × Known) (rest more : List ℕ) → IsRecord d e → IsAbove v e.0 → rest ≡ record_text e ++ more → Good d (Behind v) rest
+good_record d v e rest more is up i = record {
+  form = record_form e;
+  after = record_rest e more;
+  is_form = record_is_form d e is;
+  may = record_may v e;
+  rest_is = i ∙ record_first e more;
+  none = λ r x. record_none d v e more r is up x;
+}
 
 -- ---- names
 
@@ -205,123 +253,192 @@ all_below : (ws : List (NameParts × Known)) (e : NameParts × Known) (es : List
 all_below [] e es h = tt
 all_below (w ∷ ws) e es h = (below_next w.0 ws e es (first _ _ h), all_below ws e es (second _ _ h))
 
+-- ---- two places of one file
+
+-- both lists of records are one, or one of them goes on
+data Meets (es fs : List (NameParts × Known)) (rest more : List ℕ) : Type 0 where
+  same : es ≡ fs → rest ≡ more → Meets es fs rest more
+  first_goes_on : (x : NameParts × Known) (left : List (NameParts × Known)) (further : List ℕ) → fs ≡ es ++ (x ∷ left) → rest ≡ record_text x ++ further → Meets es fs rest more
+  second_goes_on : (x : NameParts × Known) (left : List (NameParts × Known)) (further : List ℕ) → es ≡ fs ++ (x ∷ left) → more ≡ record_text x ++ further → Meets es fs rest more
+
+meets_behind : (x f : NameParts × Known) (es fs : List (NameParts × Known)) (rest more : List ℕ) → x ≡ f → Meets es fs rest more → Meets (x ∷ es) (f ∷ fs) rest more
+meets_behind x f es fs rest more one (same e i) = same (λ t. one t ∷ e t) i
+meets_behind x f es fs rest more one (first_goes_on y left further e i) = first_goes_on y left further (λ t. sym one t ∷ e t) i
+meets_behind x f es fs rest more one (second_goes_on y left further e i) = second_goes_on y left further (λ t. one t ∷ e t) i
+
+meets : (d : Declaration) (es fs : List (NameParts × Known)) (rest more : List ℕ) → AllByRecursion (IsRecord d) es → AllByRecursion (IsRecord d) fs → flat_map record_text es ++ rest ≡ flat_map record_text fs ++ more → Meets es fs rest more
+meets d [] [] rest more h k e = same refl e
+meets d [] (f ∷ fs) rest more h k e = first_goes_on f fs (flat_map record_text fs ++ more) refl (e ∙ append_assoc (record_text f) (flat_map record_text fs) more)
+meets d (x ∷ es) [] rest more h k e = second_goes_on x es (flat_map record_text es ++ rest) refl (sym e ∙ append_assoc (record_text x) (flat_map record_text es) rest)
+meets d (x ∷ es) (f ∷ fs) rest more h k e =
+    let one = one_record d x f (flat_map record_text es ++ rest) (flat_map record_text fs ++ more) h.0 k.0
+    (sym (append_assoc (record_text x) (flat_map record_text es) rest) ∙ e ∙ append_assoc (record_text f) (flat_map record_text fs) more) in
+    meets_behind x f es fs rest more one.0 (meets d es fs rest more h.1 k.1 one.1)
+
+all_right : (d : Declaration) (xs ys : List (NameParts × Known)) → AllByRecursion (IsRecord d) (xs ++ ys) → AllByRecursion (IsRecord d) ys
+all_right d [] ys h = h
+all_right d (x ∷ xs) ys h = all_right d xs ys h.1
+
+-- behind a part of a view's records the next one is good
+good_next : (d : Declaration) (v w : View) (x : NameParts × Known) (left : List (NameParts × Known)) (rest further : List ℕ) → AllByRecursion (IsRecord d) (entries w) → entries w ≡ entries v ++ (x ∷ left) → rest ≡ record_text x ++ further → Good d (Behind v) rest
+good_next d v w x left rest further h e i =
+    let is = all_right d (entries v) (x ∷ left) (subst (AllByRecursion (IsRecord d)) e h) in
+    let sorted = subst (λ l. T (is_sorted name_cmp l)) e (entries_sorted w) in
+    good_record d v x rest further is.0 (all_below (entries v) x left sorted) i
+
+-- two places are one, or what stands at one of them is good
+data Order (d : Declaration) (p q : Place) (rest more : List ℕ) : Type 0 where
+  one : p ≡ q → rest ≡ more → Order d p q rest more
+  before : Good d p rest → Order d p q rest more
+  behind : Good d q more → Order d p q rest more
+
+behind_table : (d : Declaration) (v : View) (rest : List ℕ) → begun d (entries v) ++ rest ≡ head ++ (table_text d ++ (flat_map record_text (entries v) ++ rest))
+behind_table d v rest = append_assoc (head ++ table_text d) (flat_map record_text (entries v)) rest ∙ append_assoc head (table_text d) (flat_map record_text (entries v) ++ rest)
+
+after_head : (xs ys : List ℕ) → head ++ xs ≡ head ++ ys → xs ≡ ys
+after_head xs ys e = (same_front head head xs ys refl e).1
+
+after_table : (d : Declaration) (xs ys : List ℕ) → table_text d ++ xs ≡ table_text d ++ ys → xs ≡ ys
+after_table d xs ys e = (same_front (table_text d) (table_text d) xs ys refl e).1
+
+order : (d : Declaration) (p q : Place) (bytes rest more : List ℕ) → IsDeclaration d → GoesOn d p bytes rest → GoesOn d q bytes more → Order d p q rest more
+order d AtTable AtTable bytes rest more declared g h = one refl (after_head rest more (sym g.bytes_are ∙ h.bytes_are))
+order d AtTable (Behind w) bytes rest more declared g h =
+    before (good_table d rest (flat_map record_text (entries w) ++ more) declared (after_head _ _ (sym g.bytes_are ∙ h.bytes_are ∙ behind_table d w more)))
+order d (Behind v) AtTable bytes rest more declared g h =
+    behind (good_table d more (flat_map record_text (entries v) ++ rest) declared (after_head _ _ (sym h.bytes_are ∙ g.bytes_are ∙ behind_table d v rest)))
+order d (Behind v) (Behind w) bytes rest more declared g h =
+    let records = after_table d _ _ (after_head _ _ (sym (behind_table d v rest) ∙ sym g.bytes_are ∙ h.bytes_are ∙ behind_table d w more)) in
+    of (meets d (entries v) (entries w) rest more g.good h.good records)
+  where
+    of : Meets (entries v) (entries w) rest more → Order d (Behind v) (Behind w) rest more
+    of (same e i) = one (ap (λ x. Behind x) (same_entries_map v w e)) i
+    of (first_goes_on x left further e i) = before (good_next d v w x left rest further h.good e i)
+    of (second_goes_on x left further e i) = behind (good_next d w v x left more further g.good e i)
+
+-- ---- where a judgement stops
+
+data Stops (d : Declaration) (bytes : List ℕ) (r : Outcome) : Type 0 where
+  other_head : HasOtherHead bytes → r ≡ Err faults.OtherFormat → Stops d bytes r
+  cut_head : IsCutHead bytes → r ≡ Err faults.Truncated → Stops d bytes r
+  at_place : (p : Place) (rest : List ℕ) → GoesOn d p bytes rest → Stop d p rest r → Stops d bytes r
+
+begins : (d : Declaration) (p : Place) (bytes rest : List ℕ) → GoesOn d p bytes rest → (more : List ℕ) × (bytes ≡ head ++ more)
+begins d AtTable bytes rest g = (rest, g.bytes_are)
+begins d (Behind v) bytes rest g = (table_text d ++ (flat_map record_text (entries v) ++ rest), g.bytes_are ∙ behind_table d v rest)
+
+no_other_head : (d : Declaration) (p : Place) (bytes rest : List ℕ) → HasOtherHead bytes → GoesOn d p bytes rest → ⊥
+no_other_head d p bytes rest h g = let b = begins d p bytes rest g in h.not_begun b.0 b.1
+
+nothing : (xs : List ℕ) → length xs ≡ 0 → xs ≡ []
+nothing [] e = refl
+nothing (x ∷ xs) e = absurd (omega arith)
+
+no_cut_head : (d : Declaration) (p : Place) (bytes rest : List ℕ) → IsCutHead bytes → GoesOn d p bytes rest → ⊥
+no_cut_head d p bytes rest h g =
+    let b = begins d p bytes rest g in
+    h.some (nothing h.more (omega (arith, ap length h.head_is, length-append bytes h.more, ap length b.1, length-append head b.0)))
+
+one_place : (d : Declaration) (bytes : List ℕ) (r s : Outcome) → IsDeclaration d → Stops d bytes r → Stops d bytes s → r ≡ s
+one_place d bytes r s declared (other_head h e) (other_head k f) = e ∙ sym f
+one_place d bytes r s declared (other_head h e) (cut_head k f) = absurd (h.no_beginning k.more k.head_is)
+one_place d bytes r s declared (other_head h e) (at_place q more g y) = absurd (no_other_head d q bytes more h g)
+one_place d bytes r s declared (cut_head h e) (other_head k f) = absurd (k.no_beginning h.more h.head_is)
+one_place d bytes r s declared (cut_head h e) (cut_head k f) = e ∙ sym f
+one_place d bytes r s declared (cut_head h e) (at_place q more g y) = absurd (no_cut_head d q bytes more h g)
+one_place d bytes r s declared (at_place p rest g x) (other_head k f) = absurd (no_other_head d p bytes rest k g)
+one_place d bytes r s declared (at_place p rest g x) (cut_head k f) = absurd (no_cut_head d p bytes rest k g)
+one_place d bytes r s declared (at_place p rest g x) (at_place q more h y) = of (order d p q bytes rest more declared g h)
+  where
+    of : Order d p q rest more → r ≡ s
+    of (one e i) = one_stop d q more r s (subst (λ l. Stop d q l r) i (subst (λ o. Stop d o rest r) e x)) y
+    of (before good) = absurd (no_stop d p rest r good x)
+    of (behind good) = absurd (no_stop d q more s good y)
+
+-- ---- each judgement stops so
+
+may_stand : (p : Place) (f : Form) → Follows p f → MayStand p f
+may_stand AtTable (forms.Table len) h = tt
+may_stand AtTable (forms.Content name len) h = absurd h
+may_stand AtTable (forms.Dispute name) h = absurd h
+may_stand AtTable (forms.Retirement name) h = absurd h
+may_stand AtTable (forms.End count) h = absurd h
+may_stand (Behind v) (forms.Table len) h = absurd h
+may_stand (Behind v) (forms.Content name len) h = tt
+may_stand (Behind v) (forms.Dispute name) h = tt
+may_stand (Behind v) (forms.Retirement name) h = tt
+may_stand (Behind v) (forms.End count) h = tt
+
+no_length : (len : ℕ) → None ≡ Some len → ⊥
+no_length len e = cc
+
+one_length : (m n : ℕ) → Some m ≡ Some n → n ≡ m
+one_length m n e = cc
+
+body_stop : (d : Declaration) (p : Place) (f : Form) (after : List ℕ) (len : ℕ) (r : Outcome) → Follows p f → body_length f ≡ Some len → ((Has : List ℕ → Outcome → Type 0) → BodyStop len after Has r) → FormStop d p f after r
+body_stop d AtTable (forms.Table n) after len r h e stop = subst (λ k. BodyStop k after (IsOtherTable d) r) (one_length n len e) (stop (IsOtherTable d))
+body_stop d AtTable (forms.Content name n) after len r h e stop = absurd h
+body_stop d AtTable (forms.Dispute name) after len r h e stop = absurd h
+body_stop d AtTable (forms.Retirement name) after len r h e stop = absurd h
+body_stop d AtTable (forms.End count) after len r h e stop = absurd h
+body_stop d (Behind v) (forms.Table n) after len r h e stop = absurd h
+body_stop d (Behind v) (forms.Content name n) after len r h e stop = above h (subst (λ k. BodyStop k after (IsRefused d) r) (one_length n len e) (stop (IsRefused d)))
+body_stop d (Behind v) (forms.Dispute name) after len r h e stop = absurd (no_length len e)
+body_stop d (Behind v) (forms.Retirement name) after len r h e stop = absurd (no_length len e)
+body_stop d (Behind v) (forms.End count) after len r h e stop = absurd (no_length len e)
+
+at_body : (d : Declaration) (p : Place) (f : Form) (bytes after : List ℕ) (len : ℕ) (r : Outcome) → Stands d p f bytes after → body_length f ≡ Some len → ((Has : List ℕ → Outcome → Type 0) → BodyStop len after Has r) → Stops d bytes r
+at_body d p f bytes after len r s e stop = at_place p (line_of f ++ (10 ∷ after)) s.goes_on (at_form f after s.form (may_stand p f s.follows) refl (body_stop d p f after len r s.follows e stop))
+
 no_name : (n : NameParts) → None ≡ Some n → ⊥
 no_name n e = cc
 
-one_name : (m n : NameParts) → Some m ≡ Some n → m ≡ n
-one_name m n e = cc
+one_some : (m n : NameParts) → Some m ≡ Some n → n ≡ m
+one_some m n e = cc
 
-next_above : (v w : View) (left : List (NameParts × Known)) (n : ℕ) (name : NameParts) → entries v ≡ entries w ++ left → record_name (next_form left n) ≡ Some name → IsAbove w name
-next_above v w [] n name whole e = absurd (no_name name e)
-next_above v w (x ∷ left) n name whole e = subst (λ m. AreBelow m (entries w)) (named x e) (all_below (entries w) x left (subst (λ l. T (is_sorted name_cmp l)) whole (entries_sorted v)))
-  where
-    named : (x : NameParts × Known) → record_name (record_form x) ≡ Some name → x.0 ≡ name
-    named (m, Live bytes) e = one_name m name e
-    named (m, Disputed) e = one_name m name e
-    named (m, Retired) e = one_name m name e
+low_stop : (d : Declaration) (bytes : List ℕ) (f : Form) (h : HasLowName d bytes) → f ≡ h.form → Stop d (Behind h.view) (line_of h.form ++ (10 ∷ h.after)) (Err faults.NotRising)
+low_stop d bytes (forms.Table len) h e = absurd (no_name h.name (ap record_name e ∙ h.name_is))
+low_stop d bytes (forms.End count) h e = absurd (no_name h.name (ap record_name e ∙ h.name_is))
+low_stop d bytes (forms.Content name len) h e = at_form (forms.Content name len) h.after (subst IsForm (sym e) h.is_form) tt (ap (λ f. line_of f ++ (10 ∷ h.after)) (sym e)) (low (subst (λ n. ¬ (IsAbove h.view n)) (one_some name h.name (ap record_name e ∙ h.name_is)) h.low) refl)
+low_stop d bytes (forms.Dispute name) h e = at_form (forms.Dispute name) h.after (subst IsForm (sym e) h.is_form) tt (ap (λ f. line_of f ++ (10 ∷ h.after)) (sym e)) (low (subst (λ n. ¬ (IsAbove h.view n)) (one_some name h.name (ap record_name e ∙ h.name_is)) h.low) refl)
+low_stop d bytes (forms.Retirement name) h e = at_form (forms.Retirement name) h.after (subst IsForm (sym e) h.is_form) tt (ap (λ f. line_of f ++ (10 ∷ h.after)) (sym e)) (low (subst (λ n. ¬ (IsAbove h.view n)) (one_some name h.name (ap record_name e ∙ h.name_is)) h.low) refl)
 
-module _ (d : Declaration) (v : View) (declared : IsDeclaration d) (is : IsView d v) where
-  n : ℕ
-  n = length (entries v)
+-- behind the records of a view stands the line of their count
+end_stop : (d : Declaration) (v : View) (bytes after : List ℕ) (r : Outcome) → IsView d v → bytes ≡ file_of d v ++ after → EndStop v (length (entries v)) after r → Stops d bytes r
+end_stop d v bytes after r is e stop =
+    let count = length (entries v) in
+    at_place (Behind v) (line_of (forms.End count) ++ (10 ∷ after))
+    (record {
+      good = is.records;
+      bytes_are = e ∙ append_assoc (begun d (entries v)) (end_text count) after ∙ ap (λ l. begun d (entries v) ++ l) (append_assoc (line_of (forms.End count)) (10 ∷ []) after);
+    })
+    (at_form (forms.End count) after is.count tt refl stop)
 
-  -- the line that a fault names behind the records of a view
-  line_is : (w : View) (f : Form) (after : List ℕ) → IsForm f → GoesOn d (Behind w) (file_of d v) (line_of f ++ (10 ∷ after)) → (t : tail_in v w (line_of f ++ (10 ∷ after))) × (f ≡ next_form t.left (length (entries v))) × (after ≡ next_rest t.left (length (entries v)))
-  line_is w f after h g =
-      let t = behind_tail d v w (line_of f ++ (10 ∷ after)) is.records g in
-      let same = cut f (next_form t.left (length (entries v))) after (next_rest t.left (length (entries v))) h (next_is_form d t.left (length (entries v)) (left_records d v w (line_of f ++ (10 ∷ after)) is.records t) is.count) (t.rest_is ∙ next_first t.left (length (entries v))) in
-      (t, same.0, same.1)
+stops : (d : Declaration) (bytes : List ℕ) (r : Outcome) → Judges d bytes r → r ≢ Err faults.NoMemory → Stops d bytes r
+stops d bytes (Ok v) j some = end_stop d v bytes [] (Ok v) j.is_view (j.bytes_are ∙ sym (append-nil (file_of d v))) (file refl refl refl)
+stops d bytes (Err faults.OtherFormat) (inl h) some = other_head h refl
+stops d bytes (Err faults.OtherFormat) (inr (inl h)) some = at_place h.place (h.line ++ (10 ∷ h.after)) h.goes_on (bad_line h.line h.after h.lacks refl h.none refl)
+stops d bytes (Err faults.OtherFormat) (inr (inr h)) some = at_body d h.place h.form bytes h.after h.len (Err faults.OtherFormat) h.stands h.length_is (λ Has. unfed h.unfed refl)
+stops d bytes (Err faults.Truncated) (inl h) some = cut_head h refl
+stops d bytes (Err faults.Truncated) (inr (inl h)) some = at_place h.place h.rest h.goes_on (cut_line h.lacks refl)
+stops d bytes (Err faults.Truncated) (inr (inr h)) some = at_body d h.place h.form bytes h.after h.len (Err faults.Truncated) h.stands h.length_is (λ Has. short h.short refl)
+stops d bytes (Err faults.NotRising) h some = at_place (Behind h.view) (line_of h.form ++ (10 ∷ h.after)) h.goes_on (low_stop d bytes h.form h refl)
+stops d bytes (Err faults.OtherCount) h some = at_place (Behind h.view) (line_of (forms.End h.count) ++ (10 ∷ h.after)) h.stands.goes_on (at_form (forms.End h.count) h.after h.stands.form tt refl (other_count h.other refl))
+stops d bytes (Err faults.OtherSchema) h some =
+    at_place AtTable _ h.stands.goes_on (at_form (forms.Table (length h.table)) (h.table ++ (10 ∷ h.after)) h.stands.form tt refl (whole h.table h.after refl refl (h.other, refl)))
+stops d bytes (Err (faults.Segment fault)) h some =
+    at_place (Behind h.view) _ h.stands.goes_on (at_form (forms.Content h.name (length h.content)) (h.content ++ (10 ∷ h.after)) h.stands.form tt refl (above h.stands.follows (whole h.content h.after refl refl (record { fault = fault; refused = h.refused; is = refl }))))
+stops d bytes (Err faults.Trailing) h some = end_stop d h.view bytes (h.byte ∷ h.more) (Err faults.Trailing) h.is_view h.bytes_are (trailing h.byte h.more refl refl refl)
+stops d bytes (Err faults.NoMemory) h some = absurd (some refl)
 
-  no_low_name : HasLowName d (file_of d v) → ⊥
-  no_low_name h =
-      let l = line_is h.view h.form h.after h.is_form h.goes_on in
-      h.low (next_above v h.view l.0.left (length (entries v)) h.name l.0.whole (ap record_name (sym l.1) ∙ h.name_is))
+-- ---- the laws
 
-  no_other_count : HasOtherCount d (file_of d v) → ⊥
-  no_other_count h =
-      let l = line_is h.view (forms.End h.count) h.after h.stands.form h.stands.goes_on in
-      h.other (counted l.0.left l.0.whole l.1)
-    where
-      same_count : (a b : ℕ) → forms.End a ≡ forms.End b → a ≡ b
-      same_count a b e = cc
+pub one_judgement : OneJudgement
+one_judgement d bytes a b declared j k some also = one_place d bytes a b declared (stops d bytes a j some) (stops d bytes b k also)
 
-      no_record : (x : NameParts × Known) (count : ℕ) → forms.End count ≡ record_form x → ⊥
-      no_record (m, Live bytes) count e = cc
-      no_record (m, Disputed) count e = cc
-      no_record (m, Retired) count e = cc
-
-      counted : (left : List (NameParts × Known)) → entries v ≡ entries h.view ++ left → forms.End h.count ≡ next_form left (length (entries v)) → h.count ≡ length (entries h.view)
-      counted [] whole e = same_count h.count (length (entries v)) e ∙ ap length (whole ∙ append-nil (entries h.view))
-      counted (x ∷ left) whole e = absurd (no_record x h.count e)
-
-  no_other_table : HasOtherTable d (file_of d v) → ⊥
-  no_other_table h =
-      let number : IsNumber (length (declaration_text d)) = record { fits = omega (arith, declared.spelled.short) } in
-      let same = cut (forms.Table (length h.table)) (forms.Table (length (declaration_text d))) (h.table ++ (10 ∷ h.after)) (declaration_text d ++ (10 ∷ behind_table v)) h.stands.form number (at_table d v _ h.stands.goes_on) in
-      h.other (same_front h.table (declaration_text d) (10 ∷ h.after) (10 ∷ behind_table v) (same_length (length h.table) (length (declaration_text d)) same.0) same.1).0
-    where
-      same_length : (a b : ℕ) → forms.Table a ≡ forms.Table b → a ≡ b
-      same_length a b e = cc
-
-  no_bad_segment : (fault : SegmentFault) → HasBadSegment d (file_of d v) fault → ⊥
-  no_bad_segment fault h =
-      let l = line_is h.view (forms.Content h.name (length h.content)) (h.content ++ (10 ∷ h.after)) h.stands.form h.stands.goes_on in
-      refused l.0.left (left_records d v h.view _ is.records l.0) l.1 l.2
-    where
-      not_ok : IsOk (rows_of d h.content) → ⊥
-      not_ok ok = let wrong : false ≡ true = rw h.refused at ok in cc
-
-      same_length : (a b : NameParts) (x y : ℕ) → forms.Content a x ≡ forms.Content b y → x ≡ y
-      same_length a b x y e = cc
-
-      other_end : (a : NameParts) (x count : ℕ) → forms.Content a x ≡ forms.End count → ⊥
-      other_end a x count e = cc
-
-      other_dispute : (a b : NameParts) (x : ℕ) → forms.Content a x ≡ forms.Dispute b → ⊥
-      other_dispute a b x e = cc
-
-      other_retirement : (a b : NameParts) (x : ℕ) → forms.Content a x ≡ forms.Retirement b → ⊥
-      other_retirement a b x e = cc
-
-      refused : (left : List (NameParts × Known)) → AllByRecursion (IsRecord d) left → forms.Content h.name (length h.content) ≡ next_form left (length (entries v)) → h.content ++ (10 ∷ h.after) ≡ next_rest left (length (entries v)) → ⊥
-      refused [] all e r = other_end h.name (length h.content) (length (entries v)) e
-      refused ((m, Live bytes) ∷ left) all e r =
-          let same = same_front h.content bytes (10 ∷ h.after) (10 ∷ (flat_map record_text left ++ end_text (length (entries v)))) (same_length h.name m (length h.content) (length bytes) e) r in
-          not_ok (subst (λ b. IsOk (rows_of d b)) (sym same.0) all.0.1)
-      refused ((m, Disputed) ∷ left) all e r = other_dispute h.name m (length h.content) e
-      refused ((m, Retired) ∷ left) all e r = other_retirement h.name m (length h.content) e
-
-  no_more : HasMore d (file_of d v) → ⊥
-  no_more h =
-      let count = length (entries h.view) in
-      let g : GoesOn d (Behind h.view) (file_of d v) (line_of (forms.End count) ++ (10 ∷ (h.byte ∷ h.more))) = record {
-        good = h.is_view.records;
-        bytes_are = h.bytes_are ∙ append_assoc (begun d (entries h.view)) (end_text count) (h.byte ∷ h.more) ∙ ap (λ l. begun d (entries h.view) ++ l) (append_assoc (line_of (forms.End count)) (10 ∷ []) (h.byte ∷ h.more));
-      } in
-      let l = line_is h.view (forms.End count) (h.byte ∷ h.more) h.is_view.count g in
-      trailing l.0.left l.1 l.2
-    where
-      no_record : (x : NameParts × Known) (count : ℕ) → forms.End count ≡ record_form x → ⊥
-      no_record (m, Live bytes) count e = cc
-      no_record (m, Disputed) count e = cc
-      no_record (m, Retired) count e = cc
-
-      no_byte : (b : ℕ) (bs : List ℕ) → b ∷ bs ≡ [] → ⊥
-      no_byte b bs e = cc
-
-      trailing : (left : List (NameParts × Known)) → forms.End (length (entries h.view)) ≡ next_form left (length (entries v)) → h.byte ∷ h.more ≡ next_rest left (length (entries v)) → ⊥
-      trailing [] e r = no_byte h.byte h.more r
-      trailing (x ∷ left) e r = no_record x (length (entries h.view)) e
-
-  no_fault : (fault : FileFault) → fault ≢ faults.NoMemory → IsFault d (file_of d v) fault → ⊥
-  no_fault faults.OtherFormat some h = elim h [ inl a ↦ no_other_head d v a | inr b ↦ elim b [ inl l ↦ no_bad_line d v declared is l | inr u ↦ no_unfed_body d v declared is u ] ]
-  no_fault faults.Truncated some h = elim h [ inl a ↦ no_cut_head d v a | inr b ↦ elim b [ inl l ↦ no_cut_line d v declared is l | inr u ↦ no_cut_body d v declared is u ] ]
-  no_fault faults.NotRising some h = no_low_name h
-  no_fault faults.OtherCount some h = no_other_count h
-  no_fault faults.OtherSchema some h = no_other_table h
-  no_fault (faults.Segment fault) some h = no_bad_segment fault h
-  no_fault faults.Trailing some h = no_more h
-  no_fault faults.NoMemory some h = some refl
-
+-- the file of a view is judged to be that view
 pub own_judgement : OwnJudgement
-own_judgement d v (Ok w) declared is j some = ap (λ x. Ok x) (sym (one_view d v w is.records j.is_view.records j.bytes_are))
-own_judgement d v (Err fault) declared is j some = absurd (no_fault d v declared is fault (λ e. some (ap (λ f. Err f) e)) j)
+own_judgement d v judged declared is j some = one_judgement d (file_of d v) judged (Ok v) declared j (record { is_view = is; bytes_are = refl }) some (λ e. never v e)
+  where
+    never : (v : View) → Ok v ≡ Err faults.NoMemory → ⊥
+    never v e = cc

@@ -15,6 +15,10 @@ abbrev pub FirstMessage : Type 0
 FirstMessage = (i : Item) (s : List ℕ) (items : List Item) (rest : List ℕ) → IsMessage i →
     Splits (message_text i ++ s) items rest ↔ ((others : List Item) × (items ≡ i ∷ others) × Splits s others rest)
 
+-- bytes are judged in one way, unless memory runs out
+abbrev pub OneJudgement : Type 0
+OneJudgement = (d : Declaration) (bytes : List ℕ) (a b : Result View FileFault) → IsDeclaration d → Judges d bytes a → Judges d bytes b → a ≢ Err faults.NoMemory → b ≢ Err faults.NoMemory → a ≡ b
+
 -- the file of a view is judged to be that view, unless memory runs out
 abbrev pub OwnJudgement : Type 0
 OwnJudgement = (d : Declaration) (v : View) (judged : Result View FileFault) → IsDeclaration d → IsView d v → Judges d (file_of d v) judged → judged ≢ Err faults.NoMemory → judged ≡ Ok v

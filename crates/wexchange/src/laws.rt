@@ -1,5 +1,5 @@
 //! The laws of files and streams. The functions do nothing when run: each is the proof of its contract.
-ghost use Rattle.wexchange.specs.Laws.{FilesAlone, FirstMessage, OneView, OwnJudgement};
+ghost use Rattle.wexchange.specs.Laws.{FilesAlone, FirstMessage, OneJudgement, OneView, OwnJudgement};
 
 /// The messages of a stream do not depend on how it is cut: those of a message's text and a stream behind it are that
 /// message, and then those of the stream.
@@ -12,8 +12,11 @@ pub fn one_view()
     ensures { OneView }
 {}
 
-/// The file of a view is judged to be that view, and bytes are judged to be a view only where they are its file.
+/// Bytes are judged in one way, whatever they are: they are the file of one view, or have one first fault. The file of
+/// a view is judged to be that view, and bytes are judged to be a view only where they are its file. Memory may run out
+/// beside all this.
 pub fn one_judgement()
+    ensures one { OneJudgement }
     ensures own { OwnJudgement }
     ensures alone { FilesAlone }
 {}

@@ -14,21 +14,24 @@ pub enum Aggregate {
     Greatest,
 }
 
-/// One partition that is to be made, and the frames that are to be folded.
+/// Partitions that are to be made, and the frames that are to be folded.
 ///
-/// It is spelled by seven words: ROWS PEERS MODE START END EXCLUSION AGGREGATE. MODE is `rows`, `range` or `groups`;
+/// It is spelled by eight words: ROWS PARTITION PEERS MODE START END EXCLUSION AGGREGATE. MODE is `rows`, `range` or `groups`;
 /// START and END are `unbounded-preceding`, `N-preceding`, `current-row`, `N-following` or `unbounded-following`;
 /// EXCLUSION is `current-row`, `group`, `ties` or `no-others`; AGGREGATE is `count`, `sum`, `min` or `max`.
 #[derive(Clone, Copy, Debug)]
 pub struct Case {
     /// How many rows there are: from 1 to 2^31 - 1.
     pub rows: u32,
+    /// How many rows a partition has, of which the last may have fewer: at least 1.
+    pub partition: u32,
     /// How many rows a group of peers has, of which the last may have fewer: at least 1.
     pub peers: u32,
     pub frame: Frame,
     pub aggregate: Aggregate,
     ghost some: { 0 < rows },
     ghost few: { rows < 2 ^ 31 },
+    ghost parted: { 0 < partition },
     ghost grouped: { 0 < peers },
 }
 
@@ -37,19 +40,21 @@ pub struct Case {
 pub enum CaseFault {
     #[error("the first word, ROWS, is a number from 1 to 2147483647")]
     Rows,
-    #[error("the second word, PEERS, is a number from 1 to 4294967295")]
+    #[error("the second word, PARTITION, is a number from 1 to 4294967295")]
+    Partition,
+    #[error("the third word, PEERS, is a number from 1 to 4294967295")]
     Peers,
-    #[error("the third word, MODE, is rows, range or groups")]
+    #[error("the fourth word, MODE, is rows, range or groups")]
     Mode,
-    #[error("the fourth word, START, is a bound, as unbounded-preceding, 10-preceding or current-row")]
+    #[error("the fifth word, START, is a bound, as unbounded-preceding, 10-preceding or current-row")]
     Start,
-    #[error("the fifth word, END, is a bound, as current-row, 10-following or unbounded-following")]
+    #[error("the sixth word, END, is a bound, as current-row, 10-following or unbounded-following")]
     End,
-    #[error("the sixth word, EXCLUSION, is current-row, group, ties or no-others")]
+    #[error("the seventh word, EXCLUSION, is current-row, group, ties or no-others")]
     Exclusion,
-    #[error("the seventh word, AGGREGATE, is count, sum, min or max")]
+    #[error("the eighth word, AGGREGATE, is count, sum, min or max")]
     Aggregate,
-    #[error("an eighth word stands behind the case")]
+    #[error("a ninth word stands behind the case")]
     Behind,
 }
 
@@ -135,6 +140,10 @@ impl Case {
         if rows >= ROWS_LIMIT {
             return Err(CaseFault::Rows);
         }
+        let partition = words
+            .next()
+            .and_then(positive_word)
+            .ok_or(CaseFault::Partition)?;
         let peers = words
             .next()
             .and_then(positive_word)
@@ -149,6 +158,7 @@ impl Case {
         }
         Ok(Case {
             rows,
+            partition,
             peers,
             frame,
             aggregate,
@@ -164,23 +174,27 @@ mod tests {
     fn tells_the_first_bad_word(rt: HostRuntime) {
         for (line, fault) in [
             ("", CaseFault::Rows),
-            ("0 1 rows", CaseFault::Rows),
-            ("2147483648 1 rows", CaseFault::Rows),
-            ("8 0 rows", CaseFault::Peers),
-            ("8 2 row 1-preceding", CaseFault::Mode),
-            ("8 2 rows preceding", CaseFault::Start),
+            ("0 1 1 rows", CaseFault::Rows),
+            ("2147483648 1 1 rows", CaseFault::Rows),
+            ("8 0 2 rows", CaseFault::Partition),
+            ("8 8 0 rows", CaseFault::Peers),
+            ("8 8 2 row 1-preceding", CaseFault::Mode),
+            ("8 8 2 rows preceding", CaseFault::Start),
             (
-                "8 2 rows 340282366920938463463374607431768211456-preceding",
+                "8 8 2 rows 340282366920938463463374607431768211456-preceding",
                 CaseFault::Start,
             ),
-            ("8 2 rows current-row 1-next", CaseFault::End),
-            ("8 2 rows current-row current-row tie", CaseFault::Exclusion),
+            ("8 8 2 rows current-row 1-next", CaseFault::End),
             (
-                "8 2 rows current-row current-row ties avg",
+                "8 8 2 rows current-row current-row tie",
+                CaseFault::Exclusion,
+            ),
+            (
+                "8 8 2 rows current-row current-row ties avg",
                 CaseFault::Aggregate,
             ),
             (
-                "8 2 rows current-row current-row ties sum x",
+                "8 8 2 rows current-row current-row ties sum x",
                 CaseFault::Behind,
             ),
         ] {

@@ -4,7 +4,8 @@ ghost use Rattle.std.specs.Prelude.{◌≡◌, ◌<◌, length, IfOk};
 use std::alloc::{AllocError, Global};
 use wvalues::{Value, Whole};
 
-/// The keys of so many rows, in order: each `peers` rows have one key, which is the number of their group.
+/// The keys of so many rows, in order: each `peers` rows have one key, which is the number of their group. So are partition
+/// values told, of the rows of a partition.
 pub fn keys(alloc: Global, rows: u32, peers: u32) -> Result<Vec<Value>, AllocError>
     requires { 0 < peers }
     ensures { IfOk result (λ keys. length keys.items ≡ rows) }

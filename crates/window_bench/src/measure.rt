@@ -1,6 +1,6 @@
-//! Builds the frames of a partition, folds them, and asks the clock what each took.
+//! Builds the frames of partitions, folds them, and asks the clock what each took.
 ghost use Rattle.std.specs.Prelude.{◌≡◌, ◌≤◌, ◌<◌, ◌+◌, ◌^◌, length, IfOk};
-ghost use Rattle.wslide.specs.Frames.{most};
+ghost use Rattle.wslide.specs.Frames.{most_by_queues};
 
 use crate::case::{Aggregate, Case};
 use crate::columns::{keys, lent, numbers};
@@ -8,17 +8,18 @@ use crate::failure::Failure;
 use std::alloc::{AllocError, Global};
 use std::rt::Clock;
 use std::time::{Duration, Instant};
-use wframe::{Frames, KeyRows, Partitions, are_in_order};
-use wslide::{Count, Greatest, Least, Meter, Sum, frame_folds, most_is_small};
+use wframe::{KeyRows, Partitions, are_in_order};
+use wslide::{Count, Fold, Greatest, Least, Meter, Sum, push_window_folds};
 use wvalues::{SortKey, Value};
 
+/// The order of partition values, and of keys.
 const BY_KEY: SortKey = SortKey {
     col: 0,
     desc: false,
     nulls_first: false,
 };
 
-/// What the folds of a partition's frames came to.
+/// What the folds of frames came to.
 #[derive(Debug, Drop)]
 pub struct Outcome {
     /// How many rows were folded, each with its frame.
@@ -47,61 +48,80 @@ fn sum_at(numbers: &[&Value], rows: &[Option<usize>]) -> i128 {
     numbers.fold(0, i128::wrapping_add)
 }
 
+// The fold of each row's frame.
+fn folds<F: Fold>(
+    alloc: Global,
+    fold: &F,
+    rows: usize,
+    partitions: &Partitions,
+    meter: &mut F::Meter,
+) -> Result<Vec<F::Part>, AllocError>
+    requires rows { length partitions.now.keys ≡ F.rows fold.now }
+    requires few { F.rows fold.now < 2 ^ 31 }
+    requires fresh { F.count meter.old ≡ 0 }
+    ensures { F.count meter.new ≤ most_by_queues partitions.now.frame.exclusion (F.rows fold.now) }
+{
+    let mut folds = Vec::with_capacity(alloc, rows)?;
+    push_window_folds(alloc, &mut folds, fold, partitions, meter)?;
+    Ok(folds)
+}
+
 // The sum of what an aggregate comes to over each frame.
 fn sum_of_folds(
     alloc: Global,
-    frames: &Frames,
+    partitions: &Partitions,
     aggregate: Aggregate,
     values: &[&Value],
     meter: &mut Meter,
 ) -> Result<i128, AllocError>
-    requires values { length frames.now.keys ≡ length values.now }
+    requires values { length partitions.now.keys ≡ length values.now }
     requires few { length values.now < 2 ^ 31 }
     requires fresh { meter.old ≡ 0 }
-    ensures joins { meter.new ≤ most frames.now.frame.exclusion (length values.now) }
+    ensures joins { meter.new ≤ most_by_queues partitions.now.frame.exclusion (length values.now) }
 {
-    most_is_small();
     let filter = None;
+    let rows = values.len();
     match aggregate {
         Aggregate::Count => {
-            let counts = frame_folds(alloc, &Count { values, filter }, frames, meter)?;
+            let counts = folds(alloc, &Count { values, filter }, rows, partitions, meter)?;
             let numbers = counts.iter().map(|count| *count as i128);
             Ok(numbers.fold(0, i128::wrapping_add))
         }
         Aggregate::Sum => {
-            let sums = frame_folds(alloc, &Sum { values, filter }, frames, meter)?;
+            let sums = folds(alloc, &Sum { values, filter }, rows, partitions, meter)?;
             let numbers = sums.iter().map(|sum| sum.unwrap_or(0));
             Ok(numbers.fold(0, i128::wrapping_add))
         }
         Aggregate::Least => {
-            let places = frame_folds(alloc, &Least { values, filter }, frames, meter)?;
+            let places = folds(alloc, &Least { values, filter }, rows, partitions, meter)?;
             Ok(sum_at(values, &places))
         }
         Aggregate::Greatest => {
-            let places = frame_folds(alloc, &Greatest { values, filter }, frames, meter)?;
+            let places = folds(alloc, &Greatest { values, filter }, rows, partitions, meter)?;
             Ok(sum_at(values, &places))
         }
     }
 }
 
-// Folds the frames of a partition whose building took so long.
+// Folds the frames of so many rows whose building took so long.
 fn folded(
     rt: &(impl Clock + AllocGlobal),
-    frames: &Frames,
+    partitions: &Partitions,
+    rows: usize,
     aggregate: Aggregate,
     building: Duration,
 ) -> Result<Outcome, Failure>
-    requires few { length frames.now.keys < 2 ^ 31 }
-    ensures rows { IfOk result (λ outcome. outcome.rows ≡ length frames.now.keys) }
-    ensures joins { IfOk result (λ outcome. outcome.joins ≤ most frames.now.frame.exclusion outcome.rows) }
+    requires rows { length partitions.now.keys ≡ rows }
+    requires few { rows < 2 ^ 31 }
+    ensures rows { IfOk result (λ outcome. outcome.rows ≡ rows) }
+    ensures joins { IfOk result (λ outcome. outcome.joins ≤ most_by_queues partitions.now.frame.exclusion outcome.rows) }
 {
     let alloc = rt.alloc();
-    let rows = frames.count();
     let made = numbers(alloc, rows)?;
     let values = lent(alloc, &made)?;
     let mut meter = Meter::new();
     let start = Instant::now(rt)?;
-    let sum = sum_of_folds(alloc, frames, aggregate, &values, &mut meter)?;
+    let sum = sum_of_folds(alloc, partitions, aggregate, &values, &mut meter)?;
     let folding = start.elapsed(rt)?;
     Ok(Outcome {
         rows,
@@ -116,14 +136,17 @@ fn folded(
 ///
 /// The times leave out making the rows and testing their order. The error is want of memory, or a clock that fails.
 pub fn measured(rt: &(impl Clock + AllocGlobal), case: &Case) -> Result<Outcome, Failure>
-    ensures rows { IfOk result (λ outcome. outcome.rows ≤ case.now.rows) }
-    ensures joins { IfOk result (λ outcome. outcome.joins ≤ most case.now.frame.exclusion outcome.rows) }
+    ensures rows { IfOk result (λ outcome. outcome.rows ≡ case.now.rows) }
+    ensures joins { IfOk result (λ outcome. outcome.joins ≤ most_by_queues case.now.frame.exclusion outcome.rows) }
 {
     let alloc = rt.alloc();
+    let partition_values = keys(alloc, case.rows, case.partition)?;
+    let value_cells = lent(alloc, &partition_values)?;
     let made = keys(alloc, case.rows, case.peers)?;
     let cells = lent(alloc, &made)?;
+    let by_value = [BY_KEY];
     let by_key = [BY_KEY];
-    let values = KeyRows::new(&[], &[], cells.len());
+    let values = KeyRows::new(&value_cells, &by_value, cells.len());
     let keys = KeyRows::new(&cells, &by_key, cells.len());
     if !are_in_order(&values, &keys) {
         return Err(Failure::Order);
@@ -131,5 +154,5 @@ pub fn measured(rt: &(impl Clock + AllocGlobal), case: &Case) -> Result<Outcome,
     let start = Instant::now(rt)?;
     let partitions = Partitions::build(alloc, &values, keys, case.frame)?;
     let building = start.elapsed(rt)?;
-    folded(rt, &partitions.partition(0), case.aggregate, building)
+    folded(rt, &partitions, cells.len(), case.aggregate, building)
 }

@@ -1,13 +1,16 @@
 -- How deep a walk over what is read goes.
-use Rattle.std.proofs.Common.{◌≡◌, Bool, true, false, ℕ, zero, suc, ◌+◌, ◌*◌, ◌≤◌, max, List, refl, ◌∙◌, arith, if◌then◌else◌}
+use Rattle.std.proofs.Common.{◌≡◌, Bool, true, false, ℕ, zero, suc, ◌+◌, ◌*◌, ◌≤◌, max, List, [], Option, refl, ◌∙◌, arith, if◌then◌else◌}
 use Rattle.std.proofs.Math.Nat.{le-max_left, le-max_right, max-le}
 use Rattle.wquery.specs.declared.expression.ChainKind.{ChainKind}
 use Rattle.wquery.specs.declared.expression.ChainKind.TheVariants.{Disjunction, Conjunction, Sum, Product}
 use Rattle.wquery.specs.declared.expression.Operator.{Operator}
+use Rattle.wlexer.specs.declared.keyword.Keyword.{Keyword}
+use Rattle.wquery.specs.QueryTree.{QueryTree, SourceTree, ItemTree, EntryTree}
 use Rattle.wquery.specs.Tree.{Tree, Given, Filter, Reach, KeyTree, WindowTree, Joined, Further, NoLinks, trees, keys, own_window, same_kind, is_chain, lengthened, joined}
 use Rattle.wparser.specs.Notation.{Tokens, Row, Listed, last, next, GoesOn, over, further, Chain, chain}
-use Rattle.wparser.specs.Grammar.{key, window, window_inside, reaching, arguments, filtered, call, named, primary, signing, range_test, ranging, comparing, testing, negating, Rank, Chains, Negations, Signs, signs_over, negations_over, operands_over, row_over, deeper, conditions}
-use Rattle.wparser.specs.Depth.{height, trees_height, links_height, given_height, filter_height, reach_height, keys_height}
+use Rattle.wparser.specs.Grammar.{key, window, window_inside, reaching, arguments, filtered, call, named, primary, signing, range_test, ranging, comparing, testing, negating, Rank, Chains, Negations, Signs, signs_over, negations_over, operands_over, row_over, deeper, conditions, order}
+use Rattle.wparser.specs.Queries.{item, source, clause, column, grouping, entry, windows, clauses, query_over, deeper_queries, Spells}
+use Rattle.wparser.specs.Depth.{height, trees_height, links_height, given_height, filter_height, reach_height, keys_height, most, item_height, optional_height, entry_height, query_height, source_height}
 use Rattle.wparser.proofs.Lefts.{Upholds, after_left, then_left, done_left, perhaps_left, either_left, room_left, any_left, as_left, closed_left}
 
 -- heights within a bound
@@ -204,3 +207,84 @@ deeper_high (suc n) rank = more (omega arith) (row_high n (8 * n) (deeper n) (de
 
 pub bounded_height : (n : ℕ) (t : Tree) (ts rest : Tokens) → conditions n t ts rest → height t ≤ 8 * (n + 1)
 bounded_height n t ts rest p = let le = (row_high n (8 * n) (deeper n) (deeper_high n) (Chains Disjunction)).upholds t ts rest p in omega arith
+
+-- whole queries
+abbrev IsItemAtMost : ℕ → ItemTree → Type 0
+IsItemAtMost k i = item_height i ≤ k
+
+abbrev IsOptionalAtMost : ℕ → Option Tree → Type 0
+IsOptionalAtMost k t = optional_height t ≤ k
+
+abbrev IsEntryAtMost : ℕ → EntryTree → Type 0
+IsEntryAtMost k e = entry_height e ≤ k
+
+abbrev IsQueryAtMost : ℕ → QueryTree → Type 0
+IsQueryAtMost k q = query_height q ≤ k
+
+abbrev IsSourceAtMost : ℕ → SourceTree → Type 0
+IsSourceAtMost k s = source_height s ≤ k
+
+most_high' : {X : Type 0} (of : X → ℕ) {k : ℕ} {P : Row X} → Upholds (λ (x : X). of x ≤ k) P → (y : List X) (ts rest : Tokens) → Listed P y ts rest → most of y ≤ k
+most_high' of u y ts rest (last {x = x} p) = max-le (u.upholds x ts rest p) nothing
+most_high' of u y ts rest (next {x = x} {xs = xs} {us = us} p l) = max-le (u.upholds x ts _ p) (most_high' of u xs us rest l)
+
+most_high : {X : Type 0} (of : X → ℕ) {k : ℕ} {P : Row X} → Upholds (λ (x : X). of x ≤ k) P → Upholds (λ (l : List X). most of l ≤ k) (Listed P)
+most_high of u = record { upholds = most_high' of u }
+
+conditions_high : (n : ℕ) → Upholds (AtMost (8 * n + 8)) (conditions n)
+conditions_high n = row_high n (8 * n) (deeper n) (deeper_high n) (Chains Disjunction)
+
+item_high : (n : ℕ) → Upholds (IsItemAtMost (8 * n + 8)) (item n)
+item_high n = either_left (after_left (done_left nothing)) (then_left (AtMost (8 * n + 8)) (conditions_high n) (λ e a. as_left (λ (x : Option (List ℕ)). Unit {0}) any_left (λ x i. a)))
+
+clause_high : (k : Keyword) (n : ℕ) → Upholds (IsOptionalAtMost (8 * n + 8)) (clause k n)
+clause_high k n = perhaps_left nothing (as_left (AtMost (8 * n + 8)) (after_left (conditions_high n)) (λ e a. a))
+
+column_high : {k : ℕ} → 1 ≤ k → Upholds (AtMost k) column
+column_high le = then_left (λ (x : List ℕ). Unit {0}) any_left (λ x i. perhaps_left le (after_left (as_left (λ (y : List ℕ). Unit {0}) any_left (λ y j. le))))
+
+grouping_high : (n : ℕ) → Upholds (λ (l : List Tree). most height l ≤ 8 * n + 8) grouping
+grouping_high n = perhaps_left nothing (after_left (after_left (most_high height (column_high (omega arith)))))
+
+entry_high : (n : ℕ) → Upholds (IsEntryAtMost (8 * n + 8)) (entry n)
+entry_high n =
+    then_left (λ (x : List ℕ). Unit {0}) any_left (λ x i. after_left (after_left
+    (as_left (IsWindowAtMost (8 * n)) (inside_high (deeper_high n (Chains Disjunction))) (λ w a. no_less (omega arith) a))))
+
+windows_high : (n : ℕ) → Upholds (λ (l : List EntryTree). most entry_height l ≤ 8 * n + 8) (windows n)
+windows_high n = perhaps_left nothing (after_left (most_high entry_height (entry_high n)))
+
+order_high : (n : ℕ) → Upholds (AreKeysAtMost (8 * n + 8)) (order (conditions n))
+order_high n = perhaps_left nothing (after_left (after_left (keys_high (key_high (conditions_high n)))))
+
+clauses_high : (n : ℕ) (items : List ItemTree) (s : SourceTree) → most item_height items ≤ 8 * n + 8 → source_height s ≤ 8 * n + 8 → Upholds (IsQueryAtMost (8 * n + 9)) (clauses n items s)
+clauses_high n items s a b =
+    then_left (IsOptionalAtMost (8 * n + 8)) (clause_high _ n) (λ c i. then_left (λ (l : List Tree). most height l ≤ 8 * n + 8) (grouping_high n) (λ g j.
+    then_left (IsOptionalAtMost (8 * n + 8)) (clause_high _ n) (λ h k. then_left (λ (l : List EntryTree). most entry_height l ≤ 8 * n + 8) (windows_high n) (λ w l.
+    then_left (AreKeysAtMost (8 * n + 8)) (order_high n) (λ o m. then_left (λ (x : Option ℕ × Option ℕ). Unit {0}) any_left (λ x p.
+    done_left (one_more (omega arith) (max-le (max-le a (max-le i (max-le j (max-le k (max-le l m))))) b))))))))
+
+source_high : {k : ℕ} {U : Row QueryTree} → Upholds (IsQueryAtMost k) U → Upholds (IsSourceAtMost k) (source U)
+source_high {k = k} u =
+    either_left (then_left (λ (x : List ℕ). Unit {0}) any_left (λ x i. as_left (λ (y : Option (List ℕ)). Unit {0}) any_left (λ y j. nothing)))
+    (after_left (then_left (IsQueryAtMost k) (closed_left u) (λ q a. as_left (λ (x : List ℕ). Unit {0}) any_left (λ x i. a))))
+
+query_high : (n : ℕ) {U : Row QueryTree} → Upholds (IsQueryAtMost (8 * n + 8)) U → Upholds (IsQueryAtMost (8 * n + 9)) (query_over n U)
+query_high n u =
+    after_left (then_left (λ (l : List ItemTree). most item_height l ≤ 8 * n + 8) (most_high item_height (item_high n)) (λ items a.
+    after_left (then_left (IsSourceAtMost (8 * n + 8)) (source_high u) (λ s b. clauses_high n items s a b))))
+
+no_query : {k : ℕ} {P : Row QueryTree} → ((y : QueryTree) (ts rest : Tokens) → P y ts rest → ⊥) → Upholds (IsQueryAtMost k) P
+no_query g = record { upholds = λ y ts rest p. absurd (g y ts rest p) }
+
+wider : {k j : ℕ} {P : Row QueryTree} → k ≤ j → Upholds (IsQueryAtMost k) P → Upholds (IsQueryAtMost j) P
+wider le u = record { upholds = λ y ts rest p. no_less le (u.upholds y ts rest p) }
+
+deeper_queries_high : (n : ℕ) → Upholds (IsQueryAtMost (8 * n + 1)) (deeper_queries n)
+unfolding deeper_queries
+deeper_queries_high zero = no_query (λ y ts rest p. p)
+deeper_queries_high (suc n) = wider (omega arith) (query_high n (wider (omega arith) (deeper_queries_high n)))
+
+pub bounded_query_height : (q : QueryTree) (ts : Tokens) → Spells q ts → query_height q ≤ 8 * 65 + 1
+bounded_query_height q ts p =
+    (then_left (IsQueryAtMost 521) (query_high 64 (wider (omega arith) (deeper_queries_high 64))) (λ x a. then_left (λ (b : Bool). Unit {0}) any_left (λ b i. done_left a))).upholds q ts [] p

@@ -7,13 +7,13 @@ use Rattle.wlexer.specs.Token.{TokenMeaning, KeywordToken, SymbolToken}
 use Rattle.wquery.specs.declared.expression.ChainKind.{ChainKind}
 use Rattle.wquery.specs.declared.expression.ChainKind.TheVariants.{Disjunction, Conjunction, Sum, Product}
 use Rattle.wquery.specs.declared.expression.Operator.{Operator}
-use Rattle.wquery.specs.Tree.{Tree, KeyTree, WindowTree, Joined, Further, NoLinks, trees, keys, same_kind, is_chain, lengthened, joined}
-use Rattle.wquery.specs.Lefts.{chain_kind, IsLeft, AreLeft, AreGivenLeft, IsFilterLeft, IsReachLeft, AreKeysLeft, IsWindowLeft, IsOptionalLeft, AreItemsLeft, AreEntriesLeft, AreClausesLeft, IsQueryLeft, IsSourceLeft}
+use Rattle.wquery.specs.Tree.{Tree, KeyTree, Joined, Further, NoLinks, trees, keys, same_kind, is_chain, lengthened, joined}
+use Rattle.wquery.specs.Lefts.{chain_kind, IsLeft, AreLeft, AreGivenLeft, IsFilterLeft, IsReachLeft, AreKeysLeft, IsWindowLeft, IsOptionalLeft, AreItemsLeft, AreEntriesLeft, IsQueryLeft, IsSourceLeft}
 use Rattle.wparser.specs.Words.{operator_of}
 use Rattle.wparser.specs.Notation.{Tokens, Row, After, after, Then, before, Done, done, Perhaps, absent, present, Either, first, second, Room, room, Listed, last, next, GoesOn, over, further, Chain, chain, As}
 use Rattle.wquery.specs.QueryTree.{QueryTree, SourceTree, ItemTree, EntryTree, AllColumns, Computed}
-use Rattle.wparser.specs.Queries.{item, computed_item, alias, source, derived, clause, grouping, entry, windows, limits, clauses, query_over, deeper_queries, queries, Spells}
-use Rattle.wparser.specs.Grammar.{inner, order, Closed, key, window, window_inside, reaching, arguments, filtered, call, named, primary, signing, range_test, ranging, comparing, testing, Rank, Chains, Negations, Signs, signs_over, negations_over, operands_over, row_over, deeper, conditions}
+use Rattle.wparser.specs.Queries.{item, source, clause, entry, clauses, query_over, deeper_queries, Spells}
+use Rattle.wparser.specs.Grammar.{order, Closed, key, window, window_inside, reaching, arguments, filtered, call, named, primary, signing, range_test, ranging, comparing, testing, Rank, Chains, Negations, Signs, signs_over, negations_over, operands_over, row_over, deeper, conditions}
 
 pub record Upholds {X : Type 0} (B : X → Type 0) (P : Row X) : Type 0 where
   pub upholds : (x : X) (ts rest : Tokens) → P x ts rest → B x
@@ -222,7 +222,7 @@ item_left' n = (either_left {B = λ (i : ItemTree). AreItemsLeft (i ∷ [])} (af
 
 items_more : (y : ItemTree) (ys : List ItemTree) → AreItemsLeft (y ∷ []) → AreItemsLeft ys → AreItemsLeft (y ∷ ys)
 items_more AllColumns ys a b = b
-items_more (Computed t alias) ys a b = (a.0, b)
+items_more (Computed t _) ys a b = (a.0, b)
 
 items_left : (n : ℕ) (y : List ItemTree) (ts rest : Tokens) → Listed (item n) y ts rest → AreItemsLeft y
 items_left n y ts rest (last {x = x} p) = item_left' n x ts rest p

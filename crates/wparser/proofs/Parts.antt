@@ -16,7 +16,7 @@ use Rattle.wparser.specs.Grammar.{Closed, perhaps_not, perhaps_frame, frame, par
 use Rattle.wparser.specs.Finding.{Outcome, Got, Refused, Answers, IsNoTest, meanings}
 use Rattle.wparser.proofs.Steps.{Leads, answers_less, grips, missing, other_token, not_said, one_parts, never_either, never_then, never_listed, any_leads, one_then_leads, one_leads, then_leads, perhaps_leads, after_leads, either_leads, done_leads, as_leads, then_got, after_got, after_never, as_got, one_got, never_perhaps_then, perhaps_absent, either_first, either_second, done_got, either_same, room_agrees, closed_got}
 use Rattle.wparser.proofs.Rows.{comparison_grip}
-use Rattle.wparser.proofs.Fits.{inner_begins, begins_not, symbol_start}
+use Rattle.wparser.proofs.Fits.{Falls, inner_begins, begins_not, symbol_start}
 
 -- tokens by what they say
 name_token : (token : TokenMeaning) {x : List ℕ} → name_of token ≡ Some x → token ≡ NameToken x
@@ -183,6 +183,9 @@ primary_name_copied {n = n} {C = C} {us = us} {o = o} p e a = primary_name p (su
 
 pub meanings_fall_on : {token : TokenMeaning} (ts us vs : List Token) → meanings us ≡ token ∷ meanings vs → length (meanings us) < length (meanings ts) → length vs < length ts
 meanings_fall_on ts us vs e lt = omega (arith, length-map ts meaning_of, length-map us meaning_of, length-map vs meaning_of, ap length e)
+
+pub takes_tokens : {X : Type 0} {P : Row X} {x : X} (ts us : List Token) → Falls P → P x (meanings ts) (meanings us) → length us < length ts
+takes_tokens {x = x} ts us f p = let lt = f.falls x (meanings ts) (meanings us) p in omega (arith, length-map ts meaning_of, length-map us meaning_of)
 
 pub window_along : {p p' : List Tree} {o o' : List KeyTree} → p ≡ p' → o ≡ o' → window_of None p o None ≡ window_of None p' o' None
 window_along {p' = p'} {o = o} e f = ap (λ (x : List Tree). window_of None x o None) e ∙ ap (λ (x : List KeyTree). window_of None p' x None) f

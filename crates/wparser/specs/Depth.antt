@@ -1,6 +1,7 @@
--- How deep a walk over an expression goes: a chain counts once, however many operands it has.
-use Rattle.std.specs.Prelude.{ℕ, suc, max}
-use Rattle.wquery.specs.Tree.{Tree, Trees, Links, Given, Filter, Reach, Keys, NullWord, Numeral, Quoted, Field, Invoked, Negated, Signed, Joined, Compared, NullTest, Within, Among, NoTrees, MoreTrees, NoLinks, Further, Everything, These, Unfiltered, FilteredBy, ItsGroup, ThatWindow, OwnWindow, NoKeys, MoreKeys}
+-- How deep a walk over an expression or a whole query goes: a chain counts once, however many operands it has.
+use Rattle.std.specs.Prelude.{ℕ, suc, max, List, [], ◌∷◌, Option, Some, None}
+use Rattle.wquery.specs.QueryTree.{QueryTree, SourceTree, ItemTree, EntryTree, Clauses, Selected, FromTable, FromQuery, AllColumns, Computed}
+use Rattle.wquery.specs.Tree.{Tree, Trees, Links, Given, Filter, Reach, Keys, NullWord, Numeral, Quoted, Field, Invoked, Negated, Signed, Joined, Compared, NullTest, Within, Among, NoTrees, MoreTrees, NoLinks, Further, Everything, These, Unfiltered, FilteredBy, ItsGroup, ThatWindow, OwnWindow, NoKeys, MoreKeys, keys, own_window}
 
 abbrev mutual
   -- the most expressions that lie one in another, the outermost and the innermost counted
@@ -42,3 +43,33 @@ abbrev mutual
   pub keys_height : Keys → ℕ
   keys_height NoKeys = 0
   keys_height (MoreKeys t descending nulls keys) = max (height t) (keys_height keys)
+
+-- the most of what the elements of a list come to
+abbrev pub most : {X : Type 0} → (X → ℕ) → List X → ℕ
+most of [] = 0
+most of (x ∷ xs) = max (of x) (most of xs)
+
+abbrev pub item_height : ItemTree → ℕ
+item_height AllColumns = 0
+item_height (Computed t alias) = height t
+
+abbrev pub optional_height : Option Tree → ℕ
+optional_height None = 0
+optional_height (Some t) = height t
+
+abbrev pub entry_height : EntryTree → ℕ
+entry_height e = reach_height (own_window e.window)
+
+abbrev pub clauses_height : Clauses → ℕ
+clauses_height c =
+    max (most item_height c.items) (max (optional_height c.condition) (max (most height c.grouping) (max (optional_height c.having)
+    (max (most entry_height c.windows) (keys_height (keys c.order))))))
+
+abbrev mutual
+  -- the most queries and expressions that lie one in another, derived tables among them
+  pub query_height : QueryTree → ℕ
+  query_height (Selected clauses source) = suc (max (clauses_height clauses) (source_height source))
+
+  pub source_height : SourceTree → ℕ
+  source_height (FromTable name alias) = 0
+  source_height (FromQuery query alias) = query_height query

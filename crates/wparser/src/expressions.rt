@@ -63,7 +63,7 @@ fn goes_on(
     let mut tree = first;
     let mut rest = tokens;
     'chain: while let Some((operator, after)) = operator(kind, rest) {
-        let (next, left) = got!(operand(alloc, kind, depth, after));
+        let (next, left) = got!(operand(alloc, kind, depth, after), tree);
         tree = build::join(alloc, kind, tree, operator, next)?;
         rest = left;
     }
@@ -109,6 +109,7 @@ fn null_test(
     };
     let (negated, after) = negated(after);
     let Some(rest) = keyword(after, Keyword::Null) else {
+        drop(e);
         return Err(ParseFault::Syntax);
     };
     let e = build::null_test(alloc, negated, e)?;
@@ -139,7 +140,7 @@ fn compared(
     let Some((comparison, after)) = comparison_operator(tokens) else {
         return Ok((left, tokens));
     };
-    let (right, rest) = got!(range(alloc, depth, after));
+    let (right, rest) = got!(range(alloc, depth, after), left);
     let e = build::compared(alloc, comparison, left, right)?;
     Ok((e, rest))
 }
@@ -192,7 +193,10 @@ fn range_test(
         return between(alloc, depth, negated, e, after);
     }
     match keyword(tokens, Keyword::In) {
-        None => Err(ParseFault::Syntax),
+        None => {
+            drop(e);
+            Err(ParseFault::Syntax)
+        }
         Some(after) => among(alloc, depth, negated, e, after),
     }
 }
@@ -209,9 +213,10 @@ fn among(
     ensures { Answers (among_row (deeper depth (Chains Sum)) (view e) negated) 24 (meanings tokens.now) (outcome (λ x. view x.0) (λ x. x.1.now) result) }
 {
     let Some(after) = symbol(tokens, Symbol::OpenParenthesis) else {
+        drop(e);
         return Err(ParseFault::Syntax);
     };
-    let (list, rest) = got!(closed_list(alloc, ChainKind::Sum, depth, after));
+    let (list, rest) = got!(closed_list(alloc, ChainKind::Sum, depth, after), e);
     let e = build::among(alloc, negated, e, list)?;
     Ok((e, rest))
 }
@@ -227,7 +232,7 @@ fn between(
 ) -> Result<(Expression, &[Token]), ParseFault>
     ensures { Answers (within_row (sums depth) (view e) negated) 24 (meanings tokens.now) (outcome (λ x. view x.0) (λ x. x.1.now) result) }
 {
-    let (low, rest) = got!(chain(alloc, ChainKind::Sum, depth, tokens));
+    let (low, rest) = got!(chain(alloc, ChainKind::Sum, depth, tokens), e);
     up_to(alloc, depth, negated, e, low, rest)
 }
 
@@ -244,9 +249,11 @@ fn up_to(
     ensures { Answers (up_to (sums depth) (view e) negated (view low)) 24 (meanings tokens.now) (outcome (λ x. view x.0) (λ x. x.1.now) result) }
 {
     let Some(after) = keyword(tokens, Keyword::And) else {
+        drop(e);
+        drop(low);
         return Err(ParseFault::Syntax);
     };
-    let (high, rest) = got!(chain(alloc, ChainKind::Sum, depth, after));
+    let (high, rest) = got!(chain(alloc, ChainKind::Sum, depth, after), e, low);
     let e = build::within(alloc, negated, e, low, high)?;
     Ok((e, rest))
 }
@@ -307,7 +314,10 @@ fn enclosed(
     }
     let (e, rest) = got!(chain(alloc, ChainKind::Disjunction, depth - 1, tokens));
     match symbol(rest, Symbol::CloseParenthesis) {
-        None => Err(ParseFault::Syntax),
+        None => {
+            drop(e);
+            Err(ParseFault::Syntax)
+        }
         Some(rest) => Ok((e, rest)),
     }
 }
@@ -334,7 +344,10 @@ fn qualified(qualifier: RcStr, tokens: &[Token]) -> Result<(Expression, &[Token]
     ensures { Answers (qualified_by (rc_str_bytes qualifier)) 31 (meanings tokens.now) (outcome (λ x. view x.0) (λ x. x.1.now) result) }
 {
     match name(tokens) {
-        None => Err(ParseFault::Syntax),
+        None => {
+            drop(qualifier);
+            Err(ParseFault::Syntax)
+        }
         Some((column, rest)) => {
             let column = column.clone()?;
             Ok((build::column(Some(qualifier), column), rest))
@@ -351,9 +364,9 @@ fn calls(
 ) -> Result<(Expression, &[Token]), ParseFault>
     ensures { Answers (call depth (inner depth) (rc_str_bytes function)) 28 (meanings tokens.now) (outcome (λ x. view x.0) (λ x. x.1.now) result) }
 {
-    let (arguments, rest) = got!(given(alloc, depth, tokens));
-    let (filter, rest) = got!(filter(alloc, depth, rest));
-    let (over, rest) = got!(over(alloc, depth, rest));
+    let (arguments, rest) = got!(given(alloc, depth, tokens), function);
+    let (filter, rest) = got!(filter(alloc, depth, rest), function, arguments);
+    let (over, rest) = got!(over(alloc, depth, rest), function, arguments, filter);
     let e = build::call(alloc, function, arguments, filter, over)?;
     Ok((e, rest))
 }
@@ -399,7 +412,10 @@ fn closed_list(
     }
     let (list, rest) = got!(list(alloc, kind, depth - 1, tokens));
     match symbol(rest, Symbol::CloseParenthesis) {
-        None => Err(ParseFault::Syntax),
+        None => {
+            drop(list);
+            Err(ParseFault::Syntax)
+        }
         Some(rest) => Ok((list, rest)),
     }
 }
@@ -416,7 +432,7 @@ fn list(
     let mut items = Vec::new(alloc);
     let mut left = tokens;
     'list: loop {
-        let (item, rest) = got!(chain(alloc, kind, depth, left));
+        let (item, rest) = got!(chain(alloc, kind, depth, left), items);
         build::push(&mut items, item)?;
         match symbol(rest, Symbol::Comma) {
             None => return Ok((items, rest)),
@@ -484,7 +500,10 @@ pub fn enclosed_window(
     }
     let (window, rest) = got!(window_parts(alloc, depth - 1, tokens));
     match symbol(rest, Symbol::CloseParenthesis) {
-        None => Err(ParseFault::Syntax),
+        None => {
+            drop(window);
+            Err(ParseFault::Syntax)
+        }
         Some(rest) => Ok((window, rest)),
     }
 }
@@ -498,9 +517,12 @@ fn window_parts(
     ensures { Answers (window (conditions depth)) 3 (meanings tokens.now) (outcome (λ x. view_window x.0) (λ x. x.1.now) result) }
 {
     let (copied, rest) = got!(optional_name(tokens));
-    let (partition, rest) = got!(partitioned(alloc, depth, rest));
-    let (order, rest) = got!(ordered(alloc, depth, rest));
+    let (partition, rest) = got!(partitioned(alloc, depth, rest), copied);
+    let (order, rest) = got!(ordered(alloc, depth, rest), copied, partition);
     let Some((frame, rest)) = optional_frame(rest) else {
+        drop(copied);
+        drop(partition);
+        drop(order);
         return Err(ParseFault::Syntax);
     };
     Ok((build::window(copied, partition, order, frame), rest))
@@ -548,7 +570,7 @@ fn keys(alloc: Global, depth: u32, tokens: &[Token]) -> Result<(Vec<Key>, &[Toke
     let mut items = Vec::new(alloc);
     let mut left = tokens;
     'keys: loop {
-        let (item, rest) = got!(sort_key(alloc, depth, left));
+        let (item, rest) = got!(sort_key(alloc, depth, left), items);
         build::push_key(&mut items, item)?;
         match symbol(rest, Symbol::Comma) {
             None => return Ok((items, rest)),
@@ -564,6 +586,7 @@ fn sort_key(alloc: Global, depth: u32, tokens: &[Token]) -> Result<(Key, &[Token
     let (e, rest) = got!(chain(alloc, ChainKind::Disjunction, depth, tokens));
     let (descending, rest) = descending(rest);
     let Some((nulls, rest)) = placed_nulls(rest) else {
+        drop(e);
         return Err(ParseFault::Syntax);
     };
     Ok((build::key(e, descending, nulls), rest))

@@ -10,13 +10,17 @@
 //! Read `specs/Notation.antt`, `specs/Grammar.antt` and `specs/Queries.antt`, then `specs/Finding.antt`.
 #![tactic(auto)]
 
-/// What was read and what follows it; a fault is handed on. It stands for `?`, which no proof covers yet where a
-/// value that owns memory stands beside a reference.
+/// What was read and what follows it; a fault is handed on, and what is held is let go before. It stands for `?`, which
+/// no proof covers yet where a value that owns memory stands beside a reference. To let go by a call keeps a function's
+/// proof small, however much its values hold.
 macro_rules! got {
-    ($outcome:expr) => {
+    ($outcome:expr $(, $held:ident)*) => {
         match $outcome {
             Ok(read) => read,
-            Err(fault) => return Err(fault),
+            Err(fault) => {
+                $(drop($held);)*
+                return Err(fault);
+            }
         }
     };
 }
@@ -25,6 +29,7 @@ mod expressions;
 mod fault;
 mod frames;
 mod law;
+mod lists;
 mod queries;
 mod tokens;
 

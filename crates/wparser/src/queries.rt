@@ -2,10 +2,10 @@
 
 ghost use Rattle.std.specs.Prelude.{◌≡◌, ◌≤◌, List, map, Some, None, IfOk};
 ghost use Rattle.std.specs.Rc.{rc_str_bytes};
-ghost use Rattle.wquery.specs.Tree.{view, view_column, view_keys, view_optional, name_bytes};
-ghost use Rattle.wquery.specs.QueryTree.{QueryTree, view_query, view_source, view_item, view_entry, query_of};
+ghost use Rattle.wquery.specs.Tree.{Tree, view, view_column, view_keys, view_optional, name_bytes};
+ghost use Rattle.wquery.specs.QueryTree.{QueryTree, ItemTree, EntryTree, view_query, view_source, view_item, view_entry, query_of};
 ghost use Rattle.wparser.specs.Words.{name_of};
-ghost use Rattle.wparser.specs.Notation.{Listed, One};
+ghost use Rattle.wparser.specs.Notation.{One};
 ghost use Rattle.wparser.specs.Queries.{alias_name, alias, item, derived, source, clause, column, grouping, entry, windows, count, limit_row, offset_row, limits, behind_groups, behind_windows, clauses, queries, deeper_queries, texts, Spells};
 ghost use Rattle.wparser.specs.Grips.{keyword_grip};
 ghost use Rattle.wparser.specs.declared.fault.ParseFault.TheVariants.{Syntax};
@@ -13,6 +13,7 @@ ghost use Rattle.wparser.specs.Finding.{meanings, outcome, settled, Answers};
 
 use crate::expressions::{chain, enclosed_window, ordered};
 use crate::fault::ParseFault;
+use crate::lists::{Element, elements};
 use crate::tokens::{keyword, name, number, symbol};
 use std::alloc::Global;
 use std::rc::RcStr;
@@ -56,29 +57,20 @@ fn optional_alias(tokens: &[Token]) -> Result<(Option<RcStr>, &[Token]), ParseFa
     }
 }
 
-fn item_of(alloc: Global, depth: u32, tokens: &[Token]) -> Result<(Item, &[Token]), ParseFault>
-    ensures { Answers (item depth) 14 (meanings tokens.now) (outcome (λ x. view_item x.0) (λ x. x.1.now) result) }
-{
-    if let Some(rest) = symbol(tokens, Symbol::Asterisk) {
-        return Ok((Item::All, rest));
-    }
-    let (expression, rest) = got!(chain(alloc, ChainKind::Disjunction, depth, tokens));
-    let (alias, rest) = got!(optional_alias(rest));
-    Ok((Item::Value { expression, alias }, rest))
-}
+impl Element for Item {
+    ghost tree = { ItemTree };
 
-fn items(alloc: Global, depth: u32, tokens: &[Token]) -> Result<(Vec<Item>, &[Token]), ParseFault>
-    ensures { Answers (Listed (item depth)) 12 (meanings tokens.now) (outcome (λ x. map view_item x.0.items) (λ x. x.1.now) result) }
-{
-    let mut items = Vec::new(alloc);
-    let mut left = tokens;
-    'items: loop {
-        let (item, rest) = got!(item_of(alloc, depth, left));
-        build::push_item(&mut items, item)?;
-        match symbol(rest, Symbol::Comma) {
-            None => return Ok((items, rest)),
-            Some(after) => left = after,
+    ghost said = { view_item };
+
+    ghost spelling = { item };
+
+    fn read(alloc: Global, depth: u32, tokens: &[Token]) -> Result<(Item, &[Token]), ParseFault> {
+        if let Some(rest) = symbol(tokens, Symbol::Asterisk) {
+            return Ok((Item::All, rest));
         }
+        let (expression, rest) = got!(chain(alloc, ChainKind::Disjunction, depth, tokens));
+        let (alias, rest) = got!(optional_alias(rest), expression);
+        Ok((Item::Value { expression, alias }, rest))
     }
 }
 
@@ -99,31 +91,26 @@ fn condition(
     Ok((Some(e), rest))
 }
 
-fn column_of(tokens: &[Token]) -> Result<(Column, &[Token]), ParseFault>
-    ensures { Answers column 14 (meanings tokens.now) (outcome (λ x. view_column x.0) (λ x. x.1.now) result) }
-{
-    let (name, rest) = got!(copied_name(tokens));
-    let Some(after) = symbol(rest, Symbol::Dot) else {
-        let qualifier = None;
-        return Ok((Column { qualifier, name }, rest));
-    };
-    let qualifier = Some(name);
-    let (name, rest) = got!(copied_name(after));
-    Ok((Column { qualifier, name }, rest))
-}
+impl Element for Column {
+    ghost tree = { Tree };
 
-fn columns(alloc: Global, tokens: &[Token]) -> Result<(Vec<Column>, &[Token]), ParseFault>
-    ensures { Answers (Listed column) 12 (meanings tokens.now) (outcome (λ x. map view_column x.0.items) (λ x. x.1.now) result) }
-{
-    let mut columns = Vec::new(alloc);
-    let mut left = tokens;
-    'columns: loop {
-        let (column, rest) = got!(column_of(left));
-        build::push_column(&mut columns, column)?;
-        match symbol(rest, Symbol::Comma) {
-            None => return Ok((columns, rest)),
-            Some(after) => left = after,
-        }
+    ghost said = { view_column };
+
+    ghost spelling = { λ _. column };
+
+    fn read(
+        _alloc: Global,
+        _depth: u32,
+        tokens: &[Token],
+    ) -> Result<(Column, &[Token]), ParseFault> {
+        let (name, rest) = got!(copied_name(tokens));
+        let Some(after) = symbol(rest, Symbol::Dot) else {
+            let qualifier = None;
+            return Ok((Column { qualifier, name }, rest));
+        };
+        let qualifier = Some(name);
+        let (name, rest) = got!(copied_name(after), qualifier);
+        Ok((Column { qualifier, name }, rest))
     }
 }
 
@@ -135,44 +122,33 @@ fn grouped(alloc: Global, tokens: &[Token]) -> Result<(Vec<Column>, &[Token]), P
     };
     match keyword(after, Keyword::By) {
         None => Err(ParseFault::Syntax),
-        Some(after) => columns(alloc, after),
+        Some(after) => elements(alloc, 0, after),
     }
 }
 
-fn entry_of(
-    alloc: Global,
-    depth: u32,
-    tokens: &[Token],
-) -> Result<(WindowEntry, &[Token]), ParseFault>
-    ensures { Answers (entry depth) 31 (meanings tokens.now) (outcome (λ x. view_entry x.0) (λ x. x.1.now) result) }
-{
-    let (name, rest) = got!(copied_name(tokens));
-    let Some(after) = keyword(rest, Keyword::As) else {
-        return Err(ParseFault::Syntax);
-    };
-    let Some(after) = symbol(after, Symbol::OpenParenthesis) else {
-        return Err(ParseFault::Syntax);
-    };
-    let (window, rest) = got!(enclosed_window(alloc, depth, after));
-    Ok((WindowEntry { name, window }, rest))
-}
+impl Element for WindowEntry {
+    ghost tree = { EntryTree };
 
-fn entries(
-    alloc: Global,
-    depth: u32,
-    tokens: &[Token],
-) -> Result<(Vec<WindowEntry>, &[Token]), ParseFault>
-    ensures { Answers (Listed (entry depth)) 12 (meanings tokens.now) (outcome (λ x. map view_entry x.0.items) (λ x. x.1.now) result) }
-{
-    let mut entries = Vec::new(alloc);
-    let mut left = tokens;
-    'entries: loop {
-        let (entry, rest) = got!(entry_of(alloc, depth, left));
-        build::push_entry(&mut entries, entry)?;
-        match symbol(rest, Symbol::Comma) {
-            None => return Ok((entries, rest)),
-            Some(after) => left = after,
-        }
+    ghost said = { view_entry };
+
+    ghost spelling = { entry };
+
+    fn read(
+        alloc: Global,
+        depth: u32,
+        tokens: &[Token],
+    ) -> Result<(WindowEntry, &[Token]), ParseFault> {
+        let (name, rest) = got!(copied_name(tokens));
+        let Some(after) = keyword(rest, Keyword::As) else {
+            drop(name);
+            return Err(ParseFault::Syntax);
+        };
+        let Some(after) = symbol(after, Symbol::OpenParenthesis) else {
+            drop(name);
+            return Err(ParseFault::Syntax);
+        };
+        let (window, rest) = got!(enclosed_window(alloc, depth, after), name);
+        Ok((WindowEntry { name, window }, rest))
     }
 }
 
@@ -185,7 +161,7 @@ fn window_clause(
 {
     match keyword(tokens, Keyword::Window) {
         None => Ok((Vec::new(alloc), tokens)),
-        Some(after) => entries(alloc, depth, after),
+        Some(after) => elements(alloc, depth, after),
     }
 }
 
@@ -259,8 +235,12 @@ fn query_clauses(
 ) -> Result<(Query, &[Token]), ParseFault>
     ensures { Answers (clauses depth (map view_item items.items) (view_source source)) 4 (meanings tokens.now) (outcome (λ x. view_query x.0) (λ x. x.1.now) result) }
 {
-    let (condition, rest) = got!(condition(alloc, depth, Keyword::Where, tokens));
-    let (grouping, rest) = got!(grouped(alloc, rest));
+    let (condition, rest) = got!(
+        condition(alloc, depth, Keyword::Where, tokens),
+        items,
+        source
+    );
+    let (grouping, rest) = got!(grouped(alloc, rest), items, source, condition);
     let front = Front {
         items,
         source,
@@ -278,8 +258,8 @@ fn clauses_behind_groups(
 ) -> Result<(Query, &[Token]), ParseFault>
     ensures { Answers (behind_groups depth (map view_item front.items.items) (view_source front.source) (view_optional front.condition) (map view_column front.grouping.items)) 4 (meanings tokens.now) (outcome (λ x. view_query x.0) (λ x. x.1.now) result) }
 {
-    let (having, rest) = got!(condition(alloc, depth, Keyword::Having, tokens));
-    let (windows, rest) = got!(window_clause(alloc, depth, rest));
+    let (having, rest) = got!(condition(alloc, depth, Keyword::Having, tokens), front);
+    let (windows, rest) = got!(window_clause(alloc, depth, rest), front, having);
     clauses_behind_windows(alloc, depth, front, having, windows, rest)
 }
 
@@ -293,8 +273,12 @@ fn clauses_behind_windows(
 ) -> Result<(Query, &[Token]), ParseFault>
     ensures { Answers (behind_windows depth (map view_item front.items.items) (view_source front.source) (view_optional front.condition) (map view_column front.grouping.items) (view_optional having) (map view_entry windows.items)) 4 (meanings tokens.now) (outcome (λ x. view_query x.0) (λ x. x.1.now) result) }
 {
-    let (order, rest) = got!(ordered(alloc, depth, tokens));
+    let (order, rest) = got!(ordered(alloc, depth, tokens), front, having, windows);
     let Some((limits, rest)) = limited(rest) else {
+        drop(front);
+        drop(having);
+        drop(windows);
+        drop(order);
         return Err(ParseFault::Syntax);
     };
     let Front {
@@ -322,11 +306,12 @@ pub fn query(alloc: Global, depth: u32, tokens: &[Token]) -> Result<(Query, &[To
     let Some(after) = keyword(tokens, Keyword::Select) else {
         return Err(ParseFault::Syntax);
     };
-    let (items, rest) = got!(items(alloc, depth, after));
+    let (items, rest) = got!(elements(alloc, depth, after));
     let Some(after) = keyword(rest, Keyword::From) else {
+        drop(items);
         return Err(ParseFault::Syntax);
     };
-    let (source, rest) = got!(source_of(alloc, depth, after));
+    let (source, rest) = got!(source_of(alloc, depth, after), items);
     query_clauses(alloc, depth, items, source, rest)
 }
 
@@ -336,7 +321,7 @@ fn source_of(alloc: Global, depth: u32, tokens: &[Token]) -> Result<(Source, &[T
 {
     if let Some((table, rest)) = name(tokens) {
         let table = table.clone()?;
-        let (alias, rest) = got!(optional_alias(rest));
+        let (alias, rest) = got!(optional_alias(rest), table);
         return Ok((build::table(table, alias), rest));
     }
     match symbol(tokens, Symbol::OpenParenthesis) {
@@ -354,9 +339,10 @@ fn derived_of(alloc: Global, depth: u32, tokens: &[Token]) -> Result<(Source, &[
     }
     let (query, rest) = got!(query(alloc, depth - 1, tokens));
     let Some(after) = symbol(rest, Symbol::CloseParenthesis) else {
+        drop(query);
         return Err(ParseFault::Syntax);
     };
-    let (alias, rest) = got!(required_alias(after));
+    let (alias, rest) = got!(required_alias(after), query);
     let source = build::derived(alloc, query, alias)?;
     Ok((source, rest))
 }
@@ -385,6 +371,9 @@ pub fn parse(alloc: Global, tokens: &[Token]) -> Result<Query, ParseFault>
     let (query, rest) = got!(terminated(alloc, tokens));
     match rest {
         [] => Ok(query),
-        _ => Err(ParseFault::Syntax),
+        _ => {
+            drop(query);
+            Err(ParseFault::Syntax)
+        }
     }
 }

@@ -14,6 +14,7 @@ mod evaluating;
 mod expr;
 mod operating;
 mod resolved;
+mod sameness;
 
 pub use cell::{Cell, EvalFault};
 pub use evaluating::eval;
@@ -22,3 +23,4 @@ pub use resolved::{
     Aggregate, AggregateFunction, CallOver, Grouping, Output, Resolved, Selection, SettledFrame,
     SettledKey, SettledWindow, WindowFunction,
 };
+pub use sameness::same_order;

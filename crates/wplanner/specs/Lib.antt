@@ -3,6 +3,7 @@ pub mod Sound
 pub mod ByWindow
 pub mod Parts
 pub mod Kept
+pub mod KeptOrders
 pub mod Printing
 pub mod Asking
 pub mod Tables

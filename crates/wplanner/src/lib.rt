@@ -13,6 +13,7 @@
 mod executing;
 mod fault;
 mod field;
+mod orders;
 mod parts;
 mod printing;
 mod selecting;

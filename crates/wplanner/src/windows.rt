@@ -9,8 +9,10 @@ ghost use Rattle.wcalls.specs.Functions.{window_columns};
 ghost use Rattle.wcalls.specs.Lent.{functions_seen};
 ghost use Rattle.wcalls.specs.Sound.{is_sound_function, is_sound_window};
 ghost use Rattle.wplanner.specs.ByWindow.{columns_from, columns_of_calls, functions_over};
+ghost use Rattle.wplanner.specs.KeptOrders.{AreOrdersOf};
 ghost use Rattle.wplanner.specs.Sound.{is_sound_call};
 
+use crate::orders::{KeptOrder, keep_shared, order_of};
 use crate::table::cells_from;
 use std::alloc::{AllocError, Global};
 use wcalls::window_columns;
@@ -35,24 +37,31 @@ fn functions_over(
     Ok(functions)
 }
 
-// The columns of the functions over the window of a number.
-fn answers_over(
+// The columns of the functions over the window of a number. Its order is kept for the later windows that share it.
+fn answers_over<'a>(
     alloc: Global,
-    window: &SettledWindow,
+    window: &'a SettledWindow,
     number: usize,
+    later: &[SettledWindow],
     calls: &[CallOver],
     rows: &[&[Value]],
+    kept: &mut Vec<KeptOrder<'a>>,
 ) -> Result<Cells, AnswerFault>
     requires few { length rows.now < 2 ^ 31 }
     requires window { is_sound_window (window_plan window.now) ≡ true }
     requires functions { list_all is_sound_function (functions_over (map call_plan calls.now) number) ≡ true }
-    ensures { Gives rows_in result (window_columns (window_plan window.now) (functions_over (map call_plan calls.now) number) (rows_seen rows.now)) }
+    requires kept { AreOrdersOf (rows_seen rows.now) kept.old.items }
+    ensures columns { Gives rows_in result (window_columns (window_plan window.now) (functions_over (map call_plan calls.now) number) (rows_seen rows.now)) }
+    ensures kept { AreOrdersOf (rows_seen rows.now) kept.new.items }
 {
     let functions = functions_over(alloc, calls, number)?;
-    window_columns(alloc, window, &functions, rows)
+    let order = order_of(alloc, window, rows, kept)?;
+    let columns = window_columns(alloc, window, &order, &functions, rows)?;
+    keep_shared(kept, window, order, later)?;
+    Ok(columns)
 }
 
-/// For each window the columns of the functions of its calls.
+/// For each window the columns of the functions of its calls. Windows that order rows alike share one order.
 pub(crate) fn window_answers(
     alloc: Global,
     windows: &[SettledWindow],
@@ -65,8 +74,10 @@ pub(crate) fn window_answers(
     ensures { Gives (λ answers. map rows_in answers.items) result (columns_from (rows_seen rows.now) (map call_plan calls.now) 0 (map window_plan windows.now)) }
 {
     let mut answers = Vec::with_capacity(alloc, windows.len())?;
+    let mut kept = Vec::new(alloc);
     for (number, window) in windows.iter().enumerate() {
-        match answers_over(alloc, window, number, calls, rows) {
+        let later = &windows[number + 1..];
+        match answers_over(alloc, window, number, later, calls, rows, &mut kept) {
             Err(fault) => return Err(fault),
             Ok(columns) => answers.push(columns)?,
         }

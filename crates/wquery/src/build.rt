@@ -136,17 +136,27 @@ pub fn signed(alloc: Global, minus: bool, e: Expression) -> Result<Expression, A
     })
 }
 
-/// Two expressions in memory of their own.
-fn boxed(
-    alloc: Global,
-    left: Expression,
-    right: Expression,
-) -> Result<(Box<Expression>, Box<Expression>), AllocError>
+/// Two values in memory of their own.
+fn boxed<T: Drop>(alloc: Global, left: T, right: T) -> Result<(Box<T>, Box<T>), AllocError>
     ensures { IfOk result (λ x. (x.0.value ≡ left) × (x.1.value ≡ right)) }
 {
     let left = Box::new(alloc, left)?;
     let right = Box::new(alloc, right)?;
     Ok((left, right))
+}
+
+/// Three values in memory of their own.
+fn boxed_three<T: Drop>(
+    alloc: Global,
+    first: T,
+    second: T,
+    third: T,
+) -> Result<(Box<T>, Box<T>, Box<T>), AllocError>
+    ensures { IfOk result (λ x. (x.0.value ≡ first) × (x.1.value ≡ second) × (x.2.value ≡ third)) }
+{
+    let (first, second) = boxed(alloc, first, second)?;
+    let third = Box::new(alloc, third)?;
+    Ok((first, second, third))
 }
 
 #[tactic(auto, unfolding(crate::specs::Tree::view))]
@@ -186,8 +196,7 @@ pub fn within(
 ) -> Result<Expression, AllocError>
     ensures { IfOk result (λ x. view x ≡ Within negated (view e) (view low) (view high)) }
 {
-    let operand = Box::new(alloc, e)?;
-    let (low, high) = boxed(alloc, low, high)?;
+    let (operand, low, high) = boxed_three(alloc, e, low, high)?;
     Ok(Expression::Between {
         negated,
         operand,
@@ -254,8 +263,13 @@ pub fn join(
 {
     if is_chain_of(&first, kind) {
         let mut chain = first;
-        lengthen(&mut chain, operator, operand)?;
-        return Ok(chain);
+        return match lengthen(&mut chain, operator, operand) {
+            Ok(()) => Ok(chain),
+            Err(fault) => {
+                drop(chain);
+                Err(fault)
+            }
+        };
     }
     start_chain(alloc, kind, first, operator, operand)
 }
@@ -285,7 +299,10 @@ fn lengthen(
             push_link(links, operator, operand)?;
             Ok(())
         }
-        _ => Ok(()),
+        _ => {
+            drop(operand);
+            Ok(())
+        }
     }
 }
 
@@ -357,25 +374,4 @@ pub fn query(items: Vec<Item>, source: Source, clauses: Clauses) -> Query
         limit,
         offset,
     }
-}
-
-pub fn push_item(items: &mut Vec<Item>, item: Item) -> Result<(), AllocError>
-    ensures { IfOk result (λ _. map view_item items.new.items ≡ map view_item items.old.items ++ (view_item item ∷ [])) }
-{
-    items.push(item)?;
-    Ok(())
-}
-
-pub fn push_column(columns: &mut Vec<Column>, column: Column) -> Result<(), AllocError>
-    ensures { IfOk result (λ _. map view_column columns.new.items ≡ map view_column columns.old.items ++ (view_column column ∷ [])) }
-{
-    columns.push(column)?;
-    Ok(())
-}
-
-pub fn push_entry(entries: &mut Vec<WindowEntry>, entry: WindowEntry) -> Result<(), AllocError>
-    ensures { IfOk result (λ _. map view_entry entries.new.items ≡ map view_entry entries.old.items ++ (view_entry entry ∷ [])) }
-{
-    entries.push(entry)?;
-    Ok(())
 }

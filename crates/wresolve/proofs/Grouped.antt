@@ -15,8 +15,8 @@ use Rattle.wscope.specs.Types.{Titled}
 use Rattle.wnames.specs.Calls.{is_aggregate_of}
 use Rattle.wnames.specs.Places
 use Rattle.wnames.specs.Places.{is_group_call}
-use Rattle.wresolve.specs.declared.calls.CallKind.TheVariants.{Grouped}
-use Rattle.wresolve.specs.Calls.{group_calls, is_aggregate_function, is_call_of, node_or, nodes_below, nodes_given, nodes_in, nodes_in_entries, nodes_in_filter, nodes_in_items, nodes_in_keys, nodes_in_links, nodes_in_option, nodes_in_order, nodes_in_reach, nodes_in_trees, with_new}
+use Rattle.wdistinct.specs.declared.calls.CallKind.TheVariants.{Grouped}
+use Rattle.wdistinct.specs.Calls.{group_calls, is_aggregate_function, is_call_of, node_or, nodes_below, nodes_given, nodes_in, nodes_in_entries, nodes_in_filter, nodes_in_items, nodes_in_keys, nodes_in_links, nodes_in_option, nodes_in_order, nodes_in_reach, nodes_in_trees, with_new}
 use Rattle.wresolve.specs.Laws.{GroupedAlike}
 use Rattle.wresolve.specs.Selecting.{has_some, is_grouped}
 

@@ -1,6 +1,4 @@
 mod Views
-mod Collected
-mod NodeFacts
 mod Placed
 mod FunctionFacts
 mod Made

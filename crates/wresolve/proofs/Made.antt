@@ -16,7 +16,9 @@ use Rattle.wquery.specs.Tree.{Tree, Given, Reach, KeyTree, Branch, WindowTree, L
 use Rattle.wplan.specs.declared.expr.Expr.{Expr}
 use Rattle.wplan.specs.declared.expr.Further.{Further}
 use Rattle.wplan.specs.Formula.{Formula, Operand, chained, formula, formulas, operand_of, At, Among, MoreFormulas}
-use Rattle.wresolve.specs.Resolving.{Layout, resolved, resolved_links, resolved_trees, branch_made, width, place_of_same}
+use Rattle.wresolve.specs.Resolving.{Layout, resolved, resolved_links, resolved_trees, branch_made, width}
+use Rattle.wresolve.specs.Selecting.{trees_made}
+use Rattle.wdistinct.specs.Places.{place_of_same}
 use Rattle.wsame.proofs.Views.{view_call_is, view_of_chain, view_of_call, view_of_in}
 use Rattle.wresolve.proofs.Views.{link_is, operand_is}
 
@@ -59,3 +61,7 @@ pub in_made : (l : Layout) (e d : Expression) (n : Bool) (first : Box Expression
 in_made l e d n first xs ys x made (Ok y) is at slice fx fm h =
     h ∙ ap (λ (fs : List Formula). Among n (formula x) (formulas fs)) fm ∙ ap (λ (f : Formula). Among n f (formulas (map (resolved l) (views ys)))) (fx ∙ ap (λ (z : Expression). resolved l (view z)) at) ∙ ap (λ (zs : List Expression). Among n (resolved l (view first.value)) (formulas (map (resolved l) (views zs)))) slice ∙ ap (Among n (resolved l (view first.value))) (made_list l (views xs.items)) ∙ sym (ap (λ (z : Expression). resolved l (view z)) is ∙ ap (resolved l) (view_of_in n first xs))
 in_made l e d n first xs ys x made (Err f) is at slice fx fm h = tt
+
+pub trees_made_map : (l : Layout) (ts : List Tree) → trees_made l (trees ts) ≡ map (resolved l) ts
+trees_made_map l [] = refl
+trees_made_map l (t ∷ ts) = ap (λ (fs : List Formula). resolved l t ∷ fs) (trees_made_map l ts)

@@ -24,7 +24,7 @@ use Rattle.wplan.specs.declared.expr.Further.{Further}
 use Rattle.wplan.specs.declared.expr.Expr.TheFolds.{fold_out-Further}
 use Rattle.wplan.specs.Formula.{Formula, Operand, formula, operand_of, expr_step, further_step}
 use Rattle.wscope.specs.Scope.{clauses_of}
-use Rattle.wresolve.specs.Clauses.{clauses_in}
+use Rattle.wdistinct.specs.Clauses.{clauses_in}
 use Rattle.wquery.specs.Tree.{Tree, Field, view_key, view_window, view_keys, name_bytes, Invoked, Given, Reach, KeyTree, Branch, WindowTree, Links, NoLinks, Joined, Among as Contained, trees, views, linked, view, view_link, view_call, view_arguments, view_over, view_optional, view_optional_over, filter_of, reach_of, arguments_step, expression_step, over_step, call_step, key_step, link_step, window_step}
 
 pub view_of_column : (c : Column) → view (queries.Column c) ≡ Field (name_bytes c.qualifier) (rc_str_bytes c.name)

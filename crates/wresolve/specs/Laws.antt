@@ -3,7 +3,7 @@ use Rattle.std.specs.Prelude.{◌≡◌, List}
 use Rattle.wquery.specs.QueryTree.{Clauses}
 use Rattle.wscope.specs.Types.{Titled}
 use Rattle.wnames.specs.Places
-use Rattle.wresolve.specs.Calls.{group_calls}
+use Rattle.wdistinct.specs.Calls.{group_calls}
 use Rattle.wresolve.specs.Selecting.{is_grouped}
 
 -- a query that is grouped by its list of aggregates without OVER is one that the rule on columns outside GROUP BY means

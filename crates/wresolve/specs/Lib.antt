@@ -1,5 +1,3 @@
-pub mod Calls
-pub mod Clauses
 pub mod Resolving
 pub mod Selecting
 pub mod Shown

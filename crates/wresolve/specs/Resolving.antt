@@ -1,14 +1,14 @@
 -- An expression over the columns of a source, as one over a row. (SQL, `<value expression>` and `<column reference>`.)
-use Rattle.std.specs.Prelude.{ℕ, pos, zero, suc, List, ◌+◌, ◌==◌, map, Option, Some, None, length, if◌then◌else◌, nat_lt, ◌^◌, [], ◌∷◌}
+use Rattle.std.specs.Prelude.{ℕ, pos, zero, suc, List, ◌+◌, ◌==◌, map, Option, Some, None, length, if◌then◌else◌, nat_lt, ◌^◌, [], ◌∷◌, ◌++◌}
 use Rattle.std.specs.Borrow.{Bor}
 use Rattle.wquery.specs.Tree.{Tree, NullWord, Numeral, Quoted, Field, Invoked, Negated, Signed, Joined, Compared, NullTest, Within, Among, Branch, Links, NoLinks, Further, Trees, NoTrees, MoreTrees}
 use Rattle.wvalues.specs.Meaning.{Meaning, Null, Int, Text}
-use Rattle.wsame.specs.Sameness.{is_same}
 use Rattle.wscope.specs.Types.{Titled, place_named}
 use Rattle.wscope.specs.Sources.{all_titled}
 use Rattle.wplan.specs.Formula as row
+use Rattle.wresolve.specs.declared.layout.RowCalls.{RowCalls}
 use Rattle.wresolve.specs.declared.layout.RowLayout.{RowLayout}
-use Rattle.wresolve.specs.Calls.{call_trees}
+use Rattle.wdistinct.specs.Places.{calls_in, place_of_same}
 
 -- How a row is laid out: the source's columns; the places of those that the row has, where it is a group's row; and the
 -- calls whose answers stand behind these cells
@@ -41,11 +41,6 @@ width_in columns (Some places) = length places
 -- how many cells stand before the answers of calls
 abbrev pub width : Layout → ℕ
 width l = width_in l.columns l.grouping
-
--- the place of the first equal expression, or the length
-abbrev pub place_of_same : List Tree → Tree → ℕ
-place_of_same [] t = zero
-place_of_same (u ∷ us) t = if is_same u t then zero else suc (place_of_same us t)
 
 -- numbers of queries are below 2^95
 abbrev pub literal : ℕ → Meaning
@@ -89,5 +84,8 @@ abbrev pub places_of : Option (Bor (List ℕ)) → Option (List ℕ)
 places_of None = None
 places_of (Some places) = Some places.now
 
+abbrev pub row_calls : RowCalls → List Tree
+row_calls c = calls_in c.grouped ++ calls_in c.windowed
+
 abbrev pub layout_of : RowLayout → Layout
-layout_of l = record { columns = all_titled l.columns.now; grouping = places_of l.grouping; calls = call_trees l.calls.now }
+layout_of l = record { columns = all_titled l.columns.now; grouping = places_of l.grouping; calls = row_calls l.calls.now }

@@ -28,7 +28,7 @@ use Rattle.wplan.specs.declared.resolved.AggregateFunction.TheVariants as aggreg
 use Rattle.wplan.specs.declared.resolved.SettledFrame.{SettledFrame}
 use Rattle.wplan.specs.Formula.{Formula, At}
 use Rattle.wplan.specs.Plans.{AggregatePlan, GroupingPlan, KeyPlan, WindowPlan, FunctionPlan, RowNumber, Rank, DenseRank, Tile, Lag, Lead, FirstValue, LastValue, NthValue, Aggregated, CallPlan, OutputPlan, SelectPlan}
-use Rattle.wresolve.specs.Calls.{group_calls, window_calls}
+use Rattle.wdistinct.specs.Calls.{group_calls, window_calls}
 use Rattle.wresolve.specs.Resolving.{Layout, source_row, cell_of, resolved, resolved_option, literal}
 
 -- calls

@@ -1,22 +1,30 @@
 //! How a row is laid out.
 
-ghost use Rattle.std.specs.Prelude.{◌≡◌, ◌<◌, ◌^◌, length};
+ghost use Rattle.std.specs.Prelude.{◌≡◌, ◌<◌, ◌≤◌, ◌^◌, [], length};
 ghost use Rattle.wquery.specs.Tree.{view_call};
-ghost use Rattle.wresolve.specs.Resolving.{cell_of, place_among, place_of_same, width};
-ghost use Rattle.wresolve.specs.Resolving.{layout_of};
-ghost use Rattle.wresolve.specs.Calls.{call_trees};
+ghost use Rattle.wresolve.specs.Resolving.{cell_of, place_among, width};
+ghost use Rattle.wresolve.specs.Resolving.{layout_of, row_calls};
+ghost use Rattle.wdistinct.specs.Places.{place_of_same};
 
+use std::alloc::Global;
+use wdistinct::CallSet;
 use wquery::Call;
-use wsame::same_call;
 use wscope::SourceColumn;
+
+/// The calls whose answers stand behind the cells of a row: aggregates without OVER, then calls with OVER.
+#[derive(Drop)]
+pub struct RowCalls<'a> {
+    pub grouped: CallSet<'a>,
+    pub windowed: CallSet<'a>,
+}
 
 /// The source's columns; the places of those that the row has, where it is a group's row; and the calls whose answers
 /// stand behind these cells.
 #[derive(Drop)]
-pub struct RowLayout<'a> {
+pub struct RowLayout<'a, 'b, 'c> {
     pub columns: &'a [SourceColumn],
     pub grouping: Option<&'a [usize]>,
-    pub calls: &'a [&'a Call],
+    pub calls: &'b RowCalls<'c>,
 }
 
 fn place_in(places: &[usize], place: usize) -> usize
@@ -32,21 +40,6 @@ fn place_in(places: &[usize], place: usize) -> usize
     at
 }
 
-/// The place of the first equal call, or their number.
-pub fn place_of_call(calls: &[&Call], call: &Call) -> usize
-    ensures place { result ≡ place_of_same (call_trees calls.now) (view_call call.now) }
-    ensures small { result < 2 ^ 63 }
-{
-    let mut at = 0;
-    'calls: for c in calls {
-        if same_call(c, call) {
-            return at;
-        }
-        at += 1;
-    }
-    at
-}
-
 fn length_of(places: &[usize]) -> usize
     ensures length { result ≡ length places.now }
     ensures small { result < 2 ^ 63 }
@@ -54,7 +47,7 @@ fn length_of(places: &[usize]) -> usize
     places.len()
 }
 
-impl<'a> RowLayout<'a> {
+impl<'a, 'b, 'c> RowLayout<'a, 'b, 'c> {
     /// The cell of a column of the source.
     pub fn cell(&self, place: usize) -> usize
         ensures { result ≡ cell_of (layout_of self.now) place }
@@ -74,5 +67,29 @@ impl<'a> RowLayout<'a> {
             None => self.columns.len(),
             Some(places) => length_of(places),
         }
+    }
+}
+
+impl<'a> RowCalls<'a> {
+    /// No calls.
+    pub fn none(alloc: Global) -> RowCalls<'a>
+        ensures { row_calls result ≡ [] }
+    {
+        RowCalls {
+            grouped: CallSet::new(alloc),
+            windowed: CallSet::new(alloc),
+        }
+    }
+
+    /// The place of the call that is equal to this one, or the number of calls.
+    pub fn place(&self, call: &Call) -> usize
+        ensures place { result ≡ place_of_same (row_calls self.now) (view_call call.now) }
+        ensures small { result ≤ 2 ^ 63 }
+    {
+        let place = self.grouped.place(call);
+        if place < self.grouped.len() {
+            return place;
+        }
+        place + self.windowed.place(call)
     }
 }

@@ -4,7 +4,7 @@ ghost use Rattle.std.specs.Prelude.{◌≡◌, ◌++◌, ◌∷◌, [], IfOk, On
 ghost use Rattle.wquery.specs.QueryTree.{view_query, view_source};
 ghost use Rattle.wplan.specs.Plans.{plans, select_plan};
 ghost use Rattle.wscope.specs.Sources.{all_titled, origin_of, answer_columns, answered};
-ghost use Rattle.wresolve.specs.Clauses.{clauses_in};
+ghost use Rattle.wdistinct.specs.Clauses.{clauses_in};
 ghost use Rattle.wresolve.specs.Selecting.{resolved_query, resolved_source, select_made};
 
 use crate::selecting::build_select;

@@ -3,11 +3,12 @@
 ghost use Rattle.std.specs.Prelude.{◌≡◌, ◌+◌, IfOk, map};
 ghost use Rattle.wquery.specs.Tree.{view, view_call, view_link, views};
 ghost use Rattle.wplan.specs.Formula.{formula, operand_of, At};
-ghost use Rattle.wresolve.specs.Resolving.{resolved, branch_made, cell_of, place_of_same, width};
+ghost use Rattle.wresolve.specs.Resolving.{resolved, branch_made, cell_of, width};
+ghost use Rattle.wdistinct.specs.Places.{place_of_same};
 ghost use Rattle.wresolve.specs.Resolving.{layout_of};
 ghost use Rattle.wscope.specs.Types.{place_named as place_of_name};
 
-use crate::layout::{RowLayout, place_of_call};
+use crate::layout::RowLayout;
 use crate::making::{among, chain, compared, not, null_test, number, signed, within};
 use std::alloc::{AllocError, Global};
 use wplan::{Expr, Further};
@@ -26,7 +27,7 @@ fn field(layout: &RowLayout, name: &str) -> Expr
 fn answer(layout: &RowLayout, call: &Call) -> Expr
     ensures { formula result ≡ At (width (layout_of layout.now) + place_of_same (layout_of layout.now).calls (view_call call.now)) }
 {
-    Expr::Place(layout.width() + place_of_call(layout.calls, call))
+    Expr::Place(layout.width() + layout.calls.place(call))
 }
 
 /// The expression over a row.

@@ -4,23 +4,24 @@ ghost use Rattle.std.specs.Prelude.{◌≡◌, ◌++◌, ◌∷◌, [], ◌||◌
 ghost use Rattle.std.specs.Rc.{rc_str_bytes};
 ghost use Rattle.wquery.specs.Tree.{view_key, view_column, view_optional};
 ghost use Rattle.wplan.specs.Formula.{formula};
-ghost use Rattle.wplan.specs.Plans.{aggregate_plan, grouping_plan, optional_grouping, output_plan, key_plan, select_plan, window_plan, call_plan};
-ghost use Rattle.wscope.specs.Sources.{all_titled};
-ghost use Rattle.wscope.specs.Windows.{named_windows};
-ghost use Rattle.wresolve.specs.Calls.{call_trees};
-ghost use Rattle.wresolve.specs.Clauses.{clauses_in};
-ghost use Rattle.wresolve.specs.Resolving.{layout_of, places_of, source_row, resolved_option};
+ghost use Rattle.wplan.specs.Plans.{aggregate_plan, grouping_plan, optional_formula, optional_grouping, output_plan, key_plan, select_plan, window_plan, call_plan};
+ghost use Rattle.wscope.specs.Sources.{all_titled, written_out as items_written};
+ghost use Rattle.wscope.specs.Windows.{named_windows, settle_all as settled_entries};
+ghost use Rattle.wdistinct.specs.Calls.{call_trees};
+ghost use Rattle.wdistinct.specs.Clauses.{clauses_in};
+ghost use Rattle.wdistinct.specs.Places.{calls_in};
+ghost use Rattle.wresolve.specs.Resolving.{layout_of, row_calls, places_of, source_row, resolved_option};
 ghost use Rattle.wresolve.specs.Shown.{shown_of, shown_item, shown_items};
 ghost use Rattle.wresolve.specs.Selecting.{aggregate_made, column_place, output_made, order_made, shown_formula, grouping_over, windows_made, calls_made, has_some, is_grouped as is_grouped_query, select_over, select_with, select_made};
 
-use crate::calls::{group_calls, window_calls};
 use crate::functions::{build_aggregate, build_option};
-use crate::layout::RowLayout;
+use crate::layout::{RowCalls, RowLayout};
 use crate::resolving::build;
 use crate::shown::{ShownOutput, ShownValue, key_value, written_out};
 use crate::windows::{build_calls, build_entries, push_own_windows, sort_key};
 use std::alloc::{AllocError, Global};
 use std::rc::RcStr;
+use wdistinct::{group_calls, window_calls};
 use wplan::{Aggregate, CallOver, Expr, Grouping, Output, Selection, SettledKey, SettledWindow};
 use wquery::{Call, Column, Key, Query};
 use wscope::{FullEntry, SourceColumn, place_named, settle_all};
@@ -121,25 +122,6 @@ fn build_order(
     Ok(made)
 }
 
-// The calls whose answers stand behind the cells of the row of items and keys: aggregates without OVER, then calls with
-// OVER.
-fn all_calls<'a>(
-    alloc: Global,
-    grouped: &[&'a Call],
-    windowed: &[&'a Call],
-) -> Result<Vec<&'a Call>, AllocError>
-    ensures { IfOk result (λ calls. call_trees calls.items ≡ call_trees grouped.now ++ call_trees windowed.now) }
-{
-    let mut calls = Vec::with_capacity(alloc, grouped.len())?;
-    'grouped: for call in grouped {
-        calls.push(*call)?;
-    }
-    'windowed: for call in windowed {
-        calls.push(*call)?;
-    }
-    Ok(calls)
-}
-
 fn is_grouped(query: &Query, grouped: &[&Call]) -> bool
     ensures { result ≡ (has_some (map view_column query.now.grouping.items) || (is_some (view_optional query.now.having) || has_some (call_trees grouped.now))) }
 {
@@ -152,12 +134,12 @@ fn places_if(is_grouped: bool, places: &[usize]) -> Option<&[usize]>
     if is_grouped { Some(places) } else { None }
 }
 
-fn row_layout<'a>(
+fn row_layout<'a, 'b, 'c>(
     columns: &'a [SourceColumn],
     grouping: Option<&'a [usize]>,
-    calls: &'a [&'a Call],
-) -> RowLayout<'a>
-    ensures { layout_of result ≡ record { columns = all_titled columns.now; grouping = places_of grouping.entry; calls = call_trees calls.now } }
+    calls: &'b RowCalls<'c>,
+) -> RowLayout<'a, 'b, 'c>
+    ensures { layout_of result ≡ record { columns = all_titled columns.now; grouping = places_of grouping.entry; calls = row_calls calls.now } }
 {
     RowLayout {
         columns,
@@ -166,10 +148,14 @@ fn row_layout<'a>(
     }
 }
 
-fn source_layout(columns: &[SourceColumn]) -> RowLayout<'_>
+fn source_layout<'a, 'b, 'c>(
+    columns: &'a [SourceColumn],
+    none: &'b RowCalls<'c>,
+) -> RowLayout<'a, 'b, 'c>
+    requires { row_calls none.now ≡ [] }
     ensures { layout_of result ≡ source_row (all_titled columns.now) }
 {
-    row_layout(columns, None, &[])
+    row_layout(columns, None, none)
 }
 
 fn build_grouping(
@@ -182,7 +168,8 @@ fn build_grouping(
 ) -> Result<Grouping, AllocError>
     ensures { IfOk result (λ g. grouping_plan g ≡ record { columns = places.now; aggregates = map (aggregate_made (source_row (all_titled columns.now))) (call_trees grouped.now); having = resolved_option (layout_of layout.now) (view_optional query.now.having) }) }
 {
-    let source = source_layout(columns);
+    let none = RowCalls::none(alloc);
+    let source = source_layout(columns, &none);
     let aggregates = build_aggregates(alloc, &source, grouped)?;
     let having = build_option(alloc, layout, &query.having)?;
     let columns = places.to_vec(alloc)?;
@@ -235,25 +222,66 @@ fn build_window_calls(
     build_calls(alloc, layout, entries, entries.len(), windowed)
 }
 
-fn build_selection<'a>(
+// The condition of a SELECT, over a row of its source.
+fn build_condition(
     alloc: Global,
-    columns: &'a [SourceColumn],
-    grouped: &'a [&'a Call],
-    windowed: &'a [&'a Call],
-    layout: &RowLayout<'a>,
-    query: &'a Query,
-) -> Result<Selection, AllocError>
-    ensures { IfOk result (λ s. select_plan s ≡ select_over (all_titled columns.now) (call_trees grouped.now) (call_trees windowed.now) (layout_of layout.now) (clauses_in query.now)) }
+    columns: &[SourceColumn],
+    query: &Query,
+) -> Result<Option<Expr>, AllocError>
+    ensures { IfOk result (λ made. optional_formula made ≡ resolved_option (source_row (all_titled columns.now)) (clauses_in query.now).condition) }
 {
-    let source = source_layout(columns);
+    let none = RowCalls::none(alloc);
+    let source = source_layout(columns, &none);
     let condition = build_option(alloc, &source, &query.condition)?;
-    let grouping = build_optional_grouping(alloc, columns, grouped, layout, query)?;
+    Ok(condition)
+}
+
+// The windows of a SELECT, and the calls over them.
+fn build_called(
+    alloc: Global,
+    layout: &RowLayout,
+    windowed: &[&Call],
+    query: &Query,
+) -> Result<(Vec<SettledWindow>, Vec<CallOver>), AllocError>
+    ensures windows { IfOk result (λ made. map window_plan made.0.items ≡ windows_made (layout_of layout.now) (settled_entries [] (clauses_in query.now).windows) (call_trees windowed.now)) }
+    ensures calls { IfOk result (λ made. map call_plan made.1.items ≡ calls_made (layout_of layout.now) (settled_entries [] (clauses_in query.now).windows) (length (settled_entries [] (clauses_in query.now).windows)) (call_trees windowed.now)) }
+{
     let entries = settle_all(alloc, query.windows.as_slice())?;
     let windows = build_windows(alloc, layout, entries.as_slice(), windowed)?;
     let calls = build_window_calls(alloc, layout, entries.as_slice(), windowed)?;
+    Ok((windows, calls))
+}
+
+// The items of a SELECT, and the keys of its order.
+fn build_items(
+    alloc: Global,
+    columns: &[SourceColumn],
+    layout: &RowLayout,
+    query: &Query,
+) -> Result<(Vec<Output>, Vec<SettledKey>), AllocError>
+    ensures items { IfOk result (λ made. map output_plan made.0.items ≡ map (output_made (layout_of layout.now)) (items_written (all_titled columns.now) (clauses_in query.now).items)) }
+    ensures keys { IfOk result (λ made. map key_plan made.1.items ≡ map (order_made (layout_of layout.now) (items_written (all_titled columns.now) (clauses_in query.now).items)) (clauses_in query.now).order) }
+{
     let shown = written_out(alloc, columns, query.items.as_slice())?;
     let items = build_outputs(alloc, layout, shown.as_slice())?;
     let keys = build_order(alloc, layout, shown.as_slice(), query.order.as_slice())?;
+    Ok((items, keys))
+}
+
+fn build_selection(
+    alloc: Global,
+    columns: &[SourceColumn],
+    grouped: &[&Call],
+    windowed: &[&Call],
+    layout: &RowLayout,
+    query: &Query,
+) -> Result<Selection, AllocError>
+    ensures { IfOk result (λ s. select_plan s ≡ select_over (all_titled columns.now) (call_trees grouped.now) (call_trees windowed.now) (layout_of layout.now) (clauses_in query.now)) }
+{
+    let condition = build_condition(alloc, columns, query)?;
+    let grouping = build_optional_grouping(alloc, columns, grouped, layout, query)?;
+    let (windows, calls) = build_called(alloc, layout, windowed, query)?;
+    let (items, keys) = build_items(alloc, columns, layout, query)?;
     Ok(Selection {
         condition,
         grouping,
@@ -288,40 +316,37 @@ fn limit_of(query: &Query) -> Option<u128>
 fn build_over<'a>(
     alloc: Global,
     columns: &'a [SourceColumn],
-    grouped: &'a [&'a Call],
-    windowed: &'a [&'a Call],
+    calls: &RowCalls,
     places: &'a [usize],
-    calls: &'a [&'a Call],
     query: &'a Query,
 ) -> Result<Selection, AllocError>
-    ensures { IfOk result (λ s. select_plan s ≡ select_over (all_titled columns.now) (call_trees grouped.now) (call_trees windowed.now) (record { columns = all_titled columns.now; grouping = if is_grouped_query (clauses_in query.now) (call_trees grouped.now) then Some places.now else None; calls = call_trees calls.now }) (clauses_in query.now)) }
+    ensures { IfOk result (λ s. select_plan s ≡ select_over (all_titled columns.now) (calls_in calls.now.grouped) (calls_in calls.now.windowed) (record { columns = all_titled columns.now; grouping = if is_grouped_query (clauses_in query.now) (calls_in calls.now.grouped) then Some places.now else None; calls = row_calls calls.now }) (clauses_in query.now)) }
 {
-    let grouping = places_if(is_grouped(query, grouped), places);
+    let grouped = calls.grouped.listed(alloc)?;
+    let windowed = calls.windowed.listed(alloc)?;
+    let grouping = places_if(is_grouped(query, grouped.as_slice()), places);
     let layout = row_layout(columns, grouping, calls);
-    let selection = build_selection(alloc, columns, grouped, windowed, &layout, query)?;
+    let selection = build_selection(
+        alloc,
+        columns,
+        grouped.as_slice(),
+        windowed.as_slice(),
+        &layout,
+        query,
+    )?;
     Ok(selection)
 }
 
 fn build_with<'a>(
     alloc: Global,
     columns: &'a [SourceColumn],
-    grouped: &'a [&'a Call],
-    windowed: &'a [&'a Call],
+    calls: &RowCalls,
     query: &'a Query,
 ) -> Result<Selection, AllocError>
-    ensures { IfOk result (λ s. select_plan s ≡ select_with (all_titled columns.now) (clauses_in query.now) (call_trees grouped.now) (call_trees windowed.now)) }
+    ensures { IfOk result (λ s. select_plan s ≡ select_with (all_titled columns.now) (clauses_in query.now) (calls_in calls.now.grouped) (calls_in calls.now.windowed)) }
 {
-    let calls = all_calls(alloc, grouped, windowed)?;
     let places = group_columns(alloc, columns, query.grouping.as_slice())?;
-    let selection = build_over(
-        alloc,
-        columns,
-        grouped,
-        windowed,
-        places.as_slice(),
-        calls.as_slice(),
-        query,
-    )?;
+    let selection = build_over(alloc, columns, calls, places.as_slice(), query)?;
     Ok(selection)
 }
 
@@ -333,14 +358,10 @@ pub fn build_select<'a>(
 ) -> Result<Selection, AllocError>
     ensures { IfOk result (λ s. select_plan s ≡ select_made (all_titled columns.now) (clauses_in query.now)) }
 {
-    let grouped = group_calls(alloc, query)?;
-    let windowed = window_calls(alloc, query)?;
-    let selection = build_with(
-        alloc,
-        columns,
-        grouped.as_slice(),
-        windowed.as_slice(),
-        query,
-    )?;
+    let calls = RowCalls {
+        grouped: group_calls(alloc, query)?,
+        windowed: window_calls(alloc, query)?,
+    };
+    let selection = build_with(alloc, columns, &calls, query)?;
     Ok(selection)
 }

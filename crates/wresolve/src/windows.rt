@@ -5,7 +5,7 @@ ghost use Rattle.wquery.specs.Tree.{view_over, view_optional_over, reach_of, vie
 ghost use Rattle.wplan.specs.Formula.{formula};
 ghost use Rattle.wplan.specs.Plans.{key_plan, window_plan, call_plan};
 ghost use Rattle.wscope.specs.Windows.{named_windows, settled_window};
-ghost use Rattle.wresolve.specs.Calls.{call_trees};
+ghost use Rattle.wdistinct.specs.Calls.{call_trees};
 ghost use Rattle.wresolve.specs.Resolving.{layout_of, resolved};
 ghost use Rattle.wresolve.specs.Selecting.{nulls_first as stand_first, sort_key as sort_key_of, key_made, trees_made, keys_made, frame_made, or_no_others, window_made, entries_made, own_window, window_of_reach, place_of_reach, is_own_window as is_with_own, own_windows as windows_of_calls, window_place as place_of_window, place_over as place_of_call, has_own_window as is_with_window, calls_made, call_function as function_of_call};
 
@@ -68,7 +68,7 @@ fn build_keys(
     Ok(made)
 }
 
-#[tactic(auto, using(crate::proofs::Collected::trees_made_map))]
+#[tactic(auto, using(crate::proofs::Made::trees_made_map))]
 fn build_partition(
     alloc: Global,
     layout: &RowLayout,

@@ -8,3 +8,4 @@ mod KeyFacts
 mod RankFacts
 mod PlaceFacts
 mod SeenFacts
+mod AllFacts

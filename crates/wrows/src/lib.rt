@@ -26,7 +26,7 @@ mod rows;
 mod told;
 mod values;
 
-pub use cells::Cells;
+pub use cells::{Cells, gathered};
 pub use fault::AnswerFault;
 pub use lent::lent_rows;
 pub use order::{resorted_numbers, sorted_numbers};

@@ -1,5 +1,5 @@
 //! The items of rows, in order and cut.
-ghost use Rattle.std.specs.Prelude.{◌≡◌, ◌≤◌, ◌+◌, ◌-◌, ◌*◌, IfOk, length, min};
+ghost use Rattle.std.specs.Prelude.{◌≡◌, ◌≤◌, ◌+◌, ◌-◌, ◌*◌, true, None, IfOk, length, min};
 ghost use Rattle.wrows.specs.Outcomes.{Gives};
 ghost use Rattle.wrows.specs.Laid.{formulas_seen, rows_in, rows_seen};
 ghost use Rattle.wrows.specs.Columns.{beside};
@@ -71,6 +71,21 @@ fn in_order(
     })
 }
 
+// Whether rows are asked for as they stand: by no key, and all of them.
+fn asks_for_all(order: &[SortKey], offset: u128, limit: Option<u128>) -> bool
+    ensures keys { result ≡ true → length order.now ≡ 0 }
+    ensures offset { result ≡ true → offset ≡ 0 }
+    ensures limit { result ≡ true → limit ≡ None }
+{
+    if !order.is_empty() {
+        return false;
+    }
+    if offset != 0 {
+        return false;
+    }
+    limit.is_none()
+}
+
 /// The items on all rows, in the order of the keys and then by number, without the first `offset` and of the others
 /// the first `limit`. All items and keys are evaluated on every row, whatever is left out.
 pub fn ordered_items(
@@ -91,6 +106,9 @@ pub fn ordered_items(
         width: items.len(),
         count: rows.len(),
     };
+    if asks_for_all(order, offset, limit) {
+        return Ok(told);
+    }
     let key_cells = lists(alloc, keys, rows)?;
     let cells = in_order(alloc, &told, &key_cells, order, offset, limit)?;
     Ok(cells)
@@ -116,6 +134,9 @@ pub fn joined_items(
         width: items.len(),
         count: rows.len(),
     };
+    if asks_for_all(order, offset, limit) {
+        return Ok(told);
+    }
     let key_cells = joined_lists(alloc, keys, rows, columns)?;
     let cells = in_order(alloc, &told, &key_cells, order, offset, limit)?;
     Ok(cells)

@@ -1,6 +1,6 @@
 //! When two expressions of a query are one.
 //!
-//! - Gives the comparison of expressions and of calls, and the bounds of a frame as they are compared.
+//! - Gives the comparison of expressions and of calls, and the bounds and marks of their parts as they are compared.
 //! - Promises: two expressions are answered to be one just where they are by `is_same`, which looks through spellings
 //!   that mean one thing: ASC and nothing, EXCLUDE NO OTHERS and nothing, a frame's end left out and CURRENT ROW, a
 //!   column with its qualifier and without.
@@ -14,4 +14,7 @@ mod bounds;
 mod sameness;
 
 pub use bounds::{bound_place, frame_end};
-pub use sameness::{same, same_call};
+pub use sameness::{
+    bound_offset, comparison_number, exclusion_number, mode_number, nulls_number, operator_number,
+    same, same_call,
+};

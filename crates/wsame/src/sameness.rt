@@ -25,7 +25,8 @@ fn same_kind(a: ChainKind, b: ChainKind) -> bool
     }
 }
 
-fn operator_number(operator: Operator) -> u8
+/// The number of an operator among the operators.
+pub fn operator_number(operator: Operator) -> u8
     ensures { result ≡ number_of_operator operator }
 {
     match operator {
@@ -37,7 +38,8 @@ fn operator_number(operator: Operator) -> u8
     }
 }
 
-fn comparison_number(comparison: Comparison) -> u8
+/// The number of a comparison among the comparisons.
+pub fn comparison_number(comparison: Comparison) -> u8
     ensures { result ≡ number_of_comparison comparison }
 {
     match comparison {
@@ -50,7 +52,8 @@ fn comparison_number(comparison: Comparison) -> u8
     }
 }
 
-fn nulls_number(nulls: Option<NullOrder>) -> u8
+/// The number of a place of nulls. One that is stated is not that of none.
+pub fn nulls_number(nulls: Option<NullOrder>) -> u8
     ensures { result ≡ number_of_nulls nulls }
 {
     match nulls {
@@ -60,7 +63,8 @@ fn nulls_number(nulls: Option<NullOrder>) -> u8
     }
 }
 
-fn mode_number(mode: FrameMode) -> u8
+/// The number of what a frame counts.
+pub fn mode_number(mode: FrameMode) -> u8
     ensures { result ≡ number_of_mode mode }
 {
     match mode {
@@ -70,7 +74,8 @@ fn mode_number(mode: FrameMode) -> u8
     }
 }
 
-fn exclusion_number(exclusion: Option<FrameExclusion>) -> u8
+/// The number of an exclusion. EXCLUDE NO OTHERS is as nothing.
+pub fn exclusion_number(exclusion: Option<FrameExclusion>) -> u8
     ensures { result ≡ number_of_exclusion exclusion }
 {
     match exclusion {
@@ -82,7 +87,8 @@ fn exclusion_number(exclusion: Option<FrameExclusion>) -> u8
     }
 }
 
-fn bound_offset(bound: &FrameBound) -> u128
+/// The offset of a bound, 0 where it has none.
+pub fn bound_offset(bound: &FrameBound) -> u128
     ensures { result ≡ offset_in bound.now }
 {
     match bound {

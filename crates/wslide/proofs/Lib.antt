@@ -10,3 +10,4 @@ pub mod Spans
 pub mod Picked
 pub mod Around
 pub mod InRange
+pub mod Windows

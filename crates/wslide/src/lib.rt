@@ -24,6 +24,7 @@ mod ranges;
 mod sliding;
 mod sum;
 mod tree;
+mod window;
 
 pub use count::{Count, CountRows};
 pub use fold::Fold;
@@ -40,3 +41,4 @@ pub use queue::FoldQueue;
 pub use ranges::see_ranges;
 pub use sum::Sum;
 pub use tree::FoldTree;
+pub use window::push_window_folds;

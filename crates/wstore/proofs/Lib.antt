@@ -14,3 +14,4 @@ pub mod WholeRuns
 pub mod Histories
 pub mod OneReading
 pub mod OneReply
+pub mod OneRun

@@ -18,18 +18,17 @@ use Rattle.wsegment.proofs.SpellingFacts.{spells-one}
 use Rattle.wset.specs.Views.{View, join}
 use Rattle.wset.specs.Items.{Item, SegmentItem, RetirementItem, view_of}
 use Rattle.wset.specs.Words.{taken_word, retired_word}
-use Rattle.wexchange.specs.Files.{IsView}
 use Rattle.wexchange.specs.Judging.{Place, AtTable, Behind, GoesOn, Judges}
 use Rattle.wexchange.specs.Messages.{Splits, message_text}
 use Rattle.wexchange.specs.declared.fault.FileFault.{FileFault}
 use Rattle.wexchange.specs.declared.fault.FileFault.TheVariants as files
 use Rattle.wexchange.proofs.FirstMessage.{first_of_none, one_message}
-use Rattle.wexchange.proofs.OneJudgement.{own_judgement}
+use Rattle.wexchange.proofs.OneJudgement.{one_judgement}
 use Rattle.wask.proofs.OneAnswer.{one_answer}
 use Rattle.wstore.specs.Commands.{Command, Declare, Take, Retire, Listing, Ask, Feed, Put, Get}
 use Rattle.wstore.specs.Replies.{Line, TookLine, WasLine, RefusedLine, SpentLine, line_item, line_items, Reply, Declared, RefusedTable, Took, Was, RefusedName, RefusedSegment, Names, Answered, RefusedQuery, Fed, Done, RefusedFile, NoMemory}
 use Rattle.wstore.specs.History.{Step, Answers, AnswersUnder, PieceAnswers, LineAnswers, LinesAnswer, IsRest, declaration, known, held, is_put, is_bad, stream, handled, file_if, take_reply, retire_reply, query_reply, file_reply}
-use Rattle.wstore.specs.Laws.{IsHandled, HasMemory, HoldsFile, OneReply}
+use Rattle.wstore.specs.Laws.{IsHandled, HasMemory, IsOfTable, OneReply}
 use Rattle.wstore.proofs.OneReading.{IsTold, with_table, with_fault, told_of, no_fault}
 use Rattle.wstore.proofs.Soundness.{no_file}
 
@@ -171,13 +170,13 @@ one_rest true false rest h k = absurd (h.closed k)
 one_rest false true rest h k = absurd (k.closed h)
 one_rest false false rest h k = refl
 
-record IsFed (before : Bool) (d : Declaration) (h : List Step) (n : ℕ) (piece : List ℕ) (r : Reply) : Type 0 where
-  lines : List Line
-  bad : Bool
-  is : r ≡ Fed lines bad
-  answers : PieceAnswers before d h n piece (Fed lines bad)
+pub record IsFed (before : Bool) (d : Declaration) (h : List Step) (n : ℕ) (piece : List ℕ) (r : Reply) : Type 0 where
+  pub lines : List Line
+  pub bad : Bool
+  pub is : r ≡ Fed lines bad
+  pub answers : PieceAnswers before d h n piece (Fed lines bad)
 
-fed_of : (before : Bool) (d : Declaration) (h : List Step) (n : ℕ) (piece : List ℕ) (r : Reply) → PieceAnswers before d h n piece r → IsFed before d h n piece r
+pub fed_of : (before : Bool) (d : Declaration) (h : List Step) (n : ℕ) (piece : List ℕ) (r : Reply) → PieceAnswers before d h n piece r → IsFed before d h n piece r
 fed_of before d h n piece (Fed lines bad) a = record { lines = lines; bad = bad; is = refl; answers = a }
 fed_of true d h n piece (Declared e) a = absurd a
 fed_of true d h n piece (RefusedTable fault) a = absurd a
@@ -236,41 +235,39 @@ empty_judged d (Err (files.Segment fault)) j some = absurd (nothing_good d (Behi
 empty_judged d (Err files.Trailing) j some = absurd (no_bytes 87 _ j.bytes_are)
 empty_judged d (Err files.NoMemory) j some = absurd (some refl)
 
-slot_judged : (d : Declaration) (b : Bool) (items : List Item) → (b ≡ true → IsDeclaration d × IsView d (view_of items)) → (r s : Result View FileFault) → Judges d (file_if b d items) r → Judges d (file_if b d items) s → r ≢ Err files.NoMemory → s ≢ Err files.NoMemory → r ≡ s
-slot_judged d true items good r s j k some also =
-    let g = good refl in
-    own_judgement d (view_of items) r g.0 g.1 j some ∙ sym (own_judgement d (view_of items) s g.0 g.1 k also)
-slot_judged d false items good r s j k some also = empty_judged d r j some ∙ sym (empty_judged d s k also)
+slot_judged : (d : Declaration) (b : Bool) (items : List Item) → (b ≡ true → IsDeclaration d) → (r s : Result View FileFault) → Judges d (file_if b d items) r → Judges d (file_if b d items) s → r ≢ Err files.NoMemory → s ≢ Err files.NoMemory → r ≡ s
+slot_judged d true items declared r s j k some also = one_judgement d (file_if true d items) r s (declared refl) j k some also
+slot_judged d false items declared r s j k some also = empty_judged d r j some ∙ sym (empty_judged d s k also)
 
 -- ---- all commands
 
 told : (h : List Step) (c : Command) (r : Reply) → HasMemory r → Answers h c r → AnswersUnder (declaration h) h c r
 told h c r some a = elim a [ inl x ↦ x | inr x ↦ absurd (subst HasMemory x.1 some) ]
 
-one_under : (o : Option Declaration) (h : List Step) (c : Command) (r s : Reply) → ((d : Declaration) → o ≡ Some d → declaration h ≡ Some d) → HoldsFile h c → AnswersUnder o h c r → AnswersUnder o h c s → HasMemory r → HasMemory s → r ≡ s
-one_under None h (Declare bytes) r s is file a b some also = one_table bytes r s (told_of bytes r a) (told_of bytes s b)
-one_under None h (Take n o m bytes) r s is file a b some also = absurd a
-one_under None h (Retire n o m) r s is file a b some also = absurd a
-one_under None h (Listing n) r s is file a b some also = absurd a
-one_under None h (Ask n text) r s is file a b some also = absurd a
-one_under None h (Feed n piece) r s is file a b some also = absurd a
-one_under None h (Put n k) r s is file a b some also = absurd a
-one_under None h (Get k n) r s is file a b some also = absurd a
-one_under (Some d) h (Declare bytes) r s is file a b some also = absurd a
-one_under (Some d) h (Take n o m bytes) r s is file a b some also = a.2 ∙ ap (λ x. take_reply x d (view_of (known h n)) bytes) (one_name o m a.0 b.0 a.1 b.1) ∙ sym b.2
-one_under (Some d) h (Retire n o m) r s is file a b some also = a.2 ∙ ap (λ x. retire_reply x (view_of (known h n))) (one_name o m a.0 b.0 a.1 b.1) ∙ sym b.2
-one_under (Some d) h (Listing n) r s is file a b some also = a ∙ sym b
-one_under (Some d) h (Ask n text) r s is file a b some also = a.2 ∙ ap query_reply (one_answer d (view_of (known h n)) text a.0 b.0 a.1 b.1) ∙ sym b.2
-one_under (Some d) h (Feed n piece) r s is file a b some also =
+one_under : (o : Option Declaration) (h : List Step) (c : Command) (r s : Reply) → ((d : Declaration) → o ≡ Some d → declaration h ≡ Some d) → IsOfTable h c → AnswersUnder o h c r → AnswersUnder o h c s → HasMemory r → HasMemory s → r ≡ s
+one_under None h (Declare bytes) r s is of a b some also = one_table bytes r s (told_of bytes r a) (told_of bytes s b)
+one_under None h (Take n o m bytes) r s is of a b some also = absurd a
+one_under None h (Retire n o m) r s is of a b some also = absurd a
+one_under None h (Listing n) r s is of a b some also = absurd a
+one_under None h (Ask n text) r s is of a b some also = absurd a
+one_under None h (Feed n piece) r s is of a b some also = absurd a
+one_under None h (Put n k) r s is of a b some also = absurd a
+one_under None h (Get k n) r s is of a b some also = absurd a
+one_under (Some d) h (Declare bytes) r s is of a b some also = absurd a
+one_under (Some d) h (Take n o m bytes) r s is of a b some also = a.2 ∙ ap (λ x. take_reply x d (view_of (known h n)) bytes) (one_name o m a.0 b.0 a.1 b.1) ∙ sym b.2
+one_under (Some d) h (Retire n o m) r s is of a b some also = a.2 ∙ ap (λ x. retire_reply x (view_of (known h n))) (one_name o m a.0 b.0 a.1 b.1) ∙ sym b.2
+one_under (Some d) h (Listing n) r s is of a b some also = a ∙ sym b
+one_under (Some d) h (Ask n text) r s is of a b some also = a.2 ∙ ap query_reply (one_answer d (view_of (known h n)) text a.0 b.0 a.1 b.1) ∙ sym b.2
+one_under (Some d) h (Feed n piece) r s is of a b some also =
     let x = fed_of (is_bad h n) d h n piece r a in
     let y = fed_of (is_bad h n) d h n piece s b in
     let one = one_fed (is_bad h n) d h n piece x.lines y.lines x.bad y.bad x.answers y.answers (fed_memory r x.lines x.bad x.is some) (fed_memory s y.lines y.bad y.is also) in
     x.is ∙ (λ i. Fed (one.0 i) (one.1 i)) ∙ sym y.is
-one_under (Some d) h (Put n k) r s is file a b some also = a ∙ sym b
-one_under (Some d) h (Get k n) r s is file a b some also =
+one_under (Some d) h (Put n k) r s is of a b some also = a ∙ sym b
+one_under (Some d) h (Get k n) r s is of a b some also =
     a.reply_is
-    ∙ ap file_reply (slot_judged d (is_put h k) (held h k) (file d (is d refl)) a.judged b.judged a.judges b.judges a.is_judged b.is_judged)
+    ∙ ap file_reply (slot_judged d (is_put h k) (held h k) (of d (is d refl)) a.judged b.judged a.judges b.judges a.is_judged b.is_judged)
     ∙ sym b.reply_is
 
 pub one_reply : OneReply
-one_reply h c r s file a b some also = one_under (declaration h) h c r s (λ d e. e) file (told h c r some a) (told h c s also b) some also
+one_reply h c r s of a b some also = one_under (declaration h) h c r s (λ d e. e) of (told h c r some a) (told h c s also b) some also

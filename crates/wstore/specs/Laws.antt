@@ -5,7 +5,6 @@ use Rattle.wsegment.specs.Declaration.{Declaration}
 use Rattle.wset.specs.Views.{join}
 use Rattle.wset.specs.Items.{Item, view_of}
 use Rattle.wsegment.specs.Spelling.{IsDeclaration}
-use Rattle.wexchange.specs.Files.{IsView}
 use Rattle.wstore.specs.Commands.{Command, Listing, Ask, Put, Get, IsMalformed}
 use Rattle.wstore.specs.Replies.{Line, SpentLine, Reply, Fed, Done, NoMemory}
 use Rattle.wstore.specs.History.{Step, Answers, declaration, is_declared, delivers, gets, puts, known, held, is_put, slot_file}
@@ -76,14 +75,14 @@ HasMemory NoMemory = ⊥
 HasMemory (Fed lines bad) = AllByRecursion IsHandled lines
 HasMemory r = ⊤
 
--- a slot that is got, if it was put, holds the file of a view of the table, as it does after any run of fewer than 2^32 names
-abbrev pub HoldsFile : List Step → Command → Type 0
-HoldsFile h (Get slot n) = (d : Declaration) → declaration h ≡ Some d → is_put h slot ≡ true → IsDeclaration d × IsView d (view_of (held h slot))
-HoldsFile h c = ⊤
+-- a slot that is got, if it was put, is of a table that was declared, as in each run
+abbrev pub IsOfTable : List Step → Command → Type 0
+IsOfTable h (Get slot n) = (d : Declaration) → declaration h ≡ Some d → is_put h slot ≡ true → IsDeclaration d
+IsOfTable h c = ⊤
 
 -- a command has one reply that no want of memory has part in
 abbrev pub OneReply : Type 0
-OneReply = (h : List Step) (c : Command) (r s : Reply) → HoldsFile h c → Answers h c r → Answers h c s → HasMemory r → HasMemory s → r ≡ s
+OneReply = (h : List Step) (c : Command) (r s : Reply) → IsOfTable h c → Answers h c r → Answers h c s → HasMemory r → HasMemory s → r ≡ s
 
 -- a run ends here: nothing is left, or what is left begins with no command
 abbrev pub EndsRun : List Step → List ℕ → Type 0
@@ -93,3 +92,8 @@ EndsRun h rest = (rest ≡ []) ⊎ IsMalformed (is_declared h) rest
 abbrev pub OneReading : Type 0
 OneReading = (s t : List Step) (g h : List Step) (rest more : List ℕ) → Ran [] s g → Ran [] t h → EndsRun g rest → EndsRun h more →
     asked s ++ rest ≡ asked t ++ more → (map (λ x. x.command) s ≡ map (λ x. x.command) t) × (rest ≡ more)
+
+-- an input has one run in which no want of memory has part: its commands, their replies, and what is left behind them
+abbrev pub OneRun : Type 0
+OneRun = (s t : List Step) (g h : List Step) (rest more : List ℕ) → Ran [] s g → Ran [] t h → EndsRun g rest → EndsRun h more →
+    asked s ++ rest ≡ asked t ++ more → AllByRecursion (λ x. HasMemory x.reply) s → AllByRecursion (λ x. HasMemory x.reply) t → (s ≡ t) × (rest ≡ more)

@@ -89,16 +89,15 @@ pub(crate) fn tell_messages<W: Write>(
     let _most = node.pending();
     let mut count: usize = 0;
     'messages: loop {
-        match node.next_reply() {
-            Ok(Some(reply)) => {
-                let text = reply_text(alloc, reply);
-                if let Err(fault) = send(output, text.as_slice()) {
-                    return Err(fault);
-                }
-                count += 1;
-            }
+        let reply = match node.next_reply() {
+            Ok(Some(reply)) => reply,
             Ok(None) => return send_fed(output, count),
             Err(_) => return send(output, b"refused B1\n"),
+        };
+        let text = reply_text(alloc, reply);
+        if let Err(fault) = send(output, text.as_slice()) {
+            return Err(fault);
         }
+        count += 1;
     }
 }

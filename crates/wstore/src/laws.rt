@@ -1,5 +1,5 @@
 //! The laws of histories. The functions do nothing when run: each is the proof of its contract.
-ghost use Rattle.wstore.specs.Laws.{ListsAreExact, OneReading, OneReply, SameAnswers, SameFiles, SameLists, SameViews, SlotsJoin};
+ghost use Rattle.wstore.specs.Laws.{ListsAreExact, OneReading, OneReply, OneRun, SameAnswers, SameFiles, SameLists, SameViews, SlotsJoin};
 
 /// What a node knows and a slot holds, as lists, is what is known and held item by item.
 pub fn exact_lists()
@@ -26,7 +26,13 @@ pub fn one_reading()
 {}
 
 /// A command has one reply that no want of memory has part in: neither the reply nor a message of a piece found none. A
-/// slot that is got holds the file of a view, as after each run of fewer than 2^32 names.
+/// slot that was put and is got is of a table that is a declaration, as in each run.
 pub fn one_reply()
     ensures { OneReply }
+{}
+
+/// An input has one run in which no want of memory has part: the same commands, the same reply to each, and the same
+/// rest. So what is written for it is one text, but for memory.
+pub fn one_run()
+    ensures { OneRun }
 {}

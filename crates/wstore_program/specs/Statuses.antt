@@ -1,5 +1,7 @@
--- The status with which the program ends.
-use Rattle.std.specs.Prelude.{◌≡◌, ◌⊎◌, ℕ, Result, Ok, Err}
+-- The status with which the program ends, and what it has written to standard output then.
+use Rattle.std.specs.Prelude.{◌≡◌, ℕ, List, Option, Result, Ok, Err, string_bytes}
+use Rattle.std.specs.Io.KnownBytes.{Appends, Keeps}
+use Rattle.wreplies.specs.Texts.{bytes_of}
 use Rattle.wcommand.specs.declared.choice.Choice.{Choice}
 use Rattle.wcommand.specs.declared.fault.WordsFault.{WordsFault}
 use Rattle.wcommand.specs.declared.fault.WordsFault.TheVariants as words
@@ -7,7 +9,9 @@ use Rattle.wact.specs.declared.acted.Acted.{Acted}
 use Rattle.wstore.specs.declared.runs.End.{End}
 use Rattle.wstore.specs.declared.runs.End.TheVariants as ends
 use Rattle.wstore.specs.declared.runs.RunFault.{RunFault}
+use Rattle.wstore_program.specs.Calls.{CallCounts, HasCause, IsSound}
 use Rattle.wstore_program.specs.Performing.{IsPerformed}
+use Rattle.wstore_program.specs.declared.fault.Fault.{Fault}
 
 -- of a script
 abbrev pub script_status : Result End RunFault → ℕ
@@ -15,13 +19,20 @@ script_status (Ok ends.Done) = 0
 script_status (Ok ends.Bad) = 2
 script_status (Err fault) = 3
 
--- of words that choose nothing; help that is not written is a fault
-abbrev pub HasWordsStatus : WordsFault → ℕ → Type 0
-HasWordsStatus (words.Help text) status = (status ≡ 0) ⊎ (status ≡ 3)
-HasWordsStatus (words.Refused text) status = status ≡ 2
-HasWordsStatus words.NoMemory status = status ≡ 3
+-- a text that is printed: whole, or a fault has its cause
+pub data IsPrinted (text : List ℕ) (calls : CallCounts) (old new : Option (List ℕ)) (status : ℕ) : Type 0 where
+  Whole : Appends old new text → status ≡ 0 → IsPrinted text calls old new status
+  Unwritten : (fault : Fault) → HasCause fault calls → status ≡ 3 → IsPrinted text calls old new status
 
--- of a subcommand on files: a fault, or that of what it gives
-pub data HasFileStatus (choice : Choice) (status : ℕ) : Type 0 where
-  Failed : status ≡ 3 → HasFileStatus choice status
-  Told : (acted : Acted) → IsPerformed choice acted → status ≡ acted.status → HasFileStatus choice status
+-- of words that choose nothing
+abbrev pub HasWordsStatus : WordsFault → CallCounts → Option (List ℕ) → Option (List ℕ) → ℕ → Type 0
+HasWordsStatus (words.Help text) calls old new status = IsPrinted (string_bytes text) calls old new status
+HasWordsStatus (words.Refused text) calls old new status = Keeps old new × (status ≡ 2)
+HasWordsStatus words.NoMemory calls old new status = Keeps old new × (status ≡ 3)
+
+-- of a subcommand on files: a fault with its cause, of which nothing is printed; what the subcommand gives, printed, with its
+-- status; or the fault of printing it
+pub data HasFileStatus (choice : Choice) (calls : CallCounts) (old new : Option (List ℕ)) (status : ℕ) : Type 0 where
+  Failed : (fault : Fault) → HasCause fault calls → Keeps old new → status ≡ 3 → HasFileStatus choice calls old new status
+  Told : (acted : Acted) → IsPerformed choice acted → IsSound calls → Appends old new (bytes_of acted.output) → status ≡ acted.status → HasFileStatus choice calls old new status
+  Unprinted : (acted : Acted) (fault : Fault) → IsPerformed choice acted → HasCause fault calls → status ≡ 3 → HasFileStatus choice calls old new status

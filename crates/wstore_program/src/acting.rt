@@ -1,12 +1,14 @@
 //! A subcommand on its files.
-ghost use Rattle.std.specs.Prelude.{◌≡◌, ◌≢◌, [], IfOk, None, option_map};
+ghost use Rattle.std.specs.Prelude.{◌≡◌, ◌≢◌, [], IfOk, IfErr, OnOk, None, option_map};
 ghost use Rattle.wcommand.specs.Inputs.{input_of};
 ghost use Rattle.wcommand.specs.declared.choice.Choice.TheVariants.{Session};
 ghost use Rattle.wact.specs.Acts.{Acts};
 ghost use Rattle.wstore_program.specs.Performing.{IsPerformed};
+ghost use Rattle.wstore_program.specs.Calls.{HasCause, IsSound};
 
 use crate::fault::Fault;
 use crate::files::{Place, read_if_there, read_whole};
+use crate::system::System;
 use std::alloc::{AllocError, Global};
 use std::fs::File;
 use std::rt::Files;
@@ -34,21 +36,26 @@ fn acted(
 
 // The bytes of CSV or OTHER, of which there are none where the subcommand has no such file.
 fn read_input<R: Files<File = File> + AllocGlobal>(
-    rt: &R,
+    alloc: Global,
+    system: &mut System<'_, R>,
     choice: &Choice<'_>,
 ) -> Result<Vec<u8>, Fault>
-    ensures { IfOk result (λ bytes. input_of choice.now ≡ None → bytes.items ≡ []) }
+    requires { IsSound system.old }
+    ensures none { IfOk result (λ bytes. input_of choice.now ≡ None → bytes.items ≡ []) }
+    ensures sound { OnOk result (IsSound system.new) }
+    ensures cause { IfErr result (λ fault. HasCause fault system.new) }
 {
     match choice.input() {
-        Some(path) => read_whole(rt.alloc(), rt, path),
-        None => Ok(Vec::new(rt.alloc())),
+        Some(path) => read_whole(alloc, system, path),
+        None => Ok(Vec::new(alloc)),
     }
 }
 
 // Puts the new store in its place, if the subcommand gives one. What another program has put there since the store was
 // read is not lost: the subcommand is then done again, on what stands there now.
 fn settle<R: Files<File = File> + AllocGlobal>(
-    rt: &R,
+    alloc: Global,
+    system: &mut System<'_, R>,
     choice: &Choice<'_>,
     path: &str,
     table: &[u8],
@@ -57,42 +64,49 @@ fn settle<R: Files<File = File> + AllocGlobal>(
 ) -> Result<Acted, Fault>
     requires choice { choice.now ≢ Session }
     requires input { input_of choice.now ≡ None → other.now ≡ [] }
-    ensures { IfOk result (λ acted. IsPerformed choice.now acted) }
+    requires sound { IsSound system.old }
+    ensures performed { IfOk result (λ acted. IsPerformed choice.now acted) }
+    ensures sound { OnOk result (IsSound system.new) }
+    ensures cause { IfErr result (λ fault. HasCause fault system.new) }
 {
-    let alloc = rt.alloc();
     let first = acted(alloc, choice, table, store, other)?;
     if first.store.is_none() {
         return Ok(first);
     }
-    let place = Place::find(rt, path)?;
-    let now = place.read(rt)?;
+    let place = Place::find(alloc, system, path)?;
+    let now = place.read(alloc, system)?;
     let last = if now == *store {
         first
     } else {
         acted(alloc, choice, table, &now, other)?
     };
     if let Some(bytes) = &last.store {
-        place.replace(rt, bytes.as_slice())?;
+        place.replace(alloc, system, bytes.as_slice())?;
     }
     Ok(last)
 }
 
 /// Reads the files of a subcommand, the table, the store, then CSV or OTHER, and replaces the store where it may have
-/// changed. A reply is that of the subcommand on bytes that were read.
+/// changed. A reply is that of the subcommand on bytes that were read. A fault comes only where a call failed or memory
+/// is wanting, and nothing else has failed then.
 pub fn perform<R: Files<File = File> + AllocGlobal>(
-    rt: &R,
+    alloc: Global,
+    system: &mut System<'_, R>,
     choice: &Choice<'_>,
     paths: Paths<'_>,
 ) -> Result<Acted, Fault>
-    requires { choice.now ≢ Session }
-    ensures { IfOk result (λ acted. IsPerformed choice.now acted) }
+    requires choice { choice.now ≢ Session }
+    requires sound { IsSound system.old }
+    ensures performed { IfOk result (λ acted. IsPerformed choice.now acted) }
+    ensures sound { OnOk result (IsSound system.new) }
+    ensures cause { IfErr result (λ fault. HasCause fault system.new) }
 {
-    let alloc = rt.alloc();
-    let table = read_whole(alloc, rt, paths.table)?;
-    let store = read_if_there(alloc, rt, paths.store)?;
-    let other = read_input(rt, choice)?;
+    let table = read_whole(alloc, system, paths.table)?;
+    let store = read_if_there(alloc, system, paths.store)?;
+    let other = read_input(alloc, system, choice)?;
     settle(
-        rt,
+        alloc,
+        system,
         choice,
         paths.store,
         table.as_slice(),

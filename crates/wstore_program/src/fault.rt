@@ -1,4 +1,6 @@
 //! Why the program does not end as it was told.
+ghost use Rattle.std.specs.Prelude.{◌≡◌};
+ghost use Rattle.wstore_program.specs.declared.fault.Fault.TheVariants.{NoMemory};
 
 use std::alloc::AllocError;
 use thiserror::Error;
@@ -18,6 +20,8 @@ pub enum Fault {
 }
 
 impl From<AllocError> for Fault {
+    ghost from_gives = { λ _ fault. fault ≡ NoMemory };
+
     fn from(_e: AllocError) -> Fault {
         Fault::NoMemory
     }

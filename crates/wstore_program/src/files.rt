@@ -1,43 +1,36 @@
 //! Files, read and replaced whole.
-ghost use Rattle.std.specs.Prelude.{◌≡◌, ◌≢◌, IfOk};
-ghost use Rattle.std.specs.IoError.{error_kind};
-ghost use Rattle.wstore_program.specs.declared.fault.Fault.TheVariants.{NoMemory};
+ghost use Rattle.std.specs.Prelude.{◌≡◌, IfOk, IfErr, OnOk};
 ghost use Rattle.std.specs.Io.KnownBytes.{Consumes, IsAtEnd};
+ghost use Rattle.wstore_program.specs.Calls.{HasCause, IsSound};
 
 use crate::fault::Fault;
+use crate::system::System;
 use std::alloc::Global;
-use std::fs::{self, File, Metadata, OpenFile, Permissions};
-use std::io::{self, ErrorKind, Read, Write};
+use std::fs::{File, Permissions};
+use std::io::Read;
 use std::rt::Files;
-
-/// How often a file is read at most.
-const MOST_READS: u64 = 1 << 40;
 
 /// The bytes that are read at once.
 const BLOCK: usize = 65_536;
 
-// Want of memory where that is the error, and else this fault.
-fn fault_of(error: &io::Error, fault: Fault) -> Fault
-    ensures memory { error_kind error.now ≡ ErrorKind.OutOfMemory → result ≡ NoMemory }
-    ensures other { error_kind error.now ≢ ErrorKind.OutOfMemory → result ≡ fault }
-{
-    match error.kind() {
-        ErrorKind::OutOfMemory => Fault::NoMemory,
-        _ => fault,
-    }
-}
-
 // All that the reader has left.
-fn read_rest<R: Read>(alloc: Global, reader: &mut R) -> Result<Vec<u8>, Fault>
-    ensures { IfOk result (λ bytes. Consumes (R.remaining reader.old) (R.remaining reader.new) bytes.items × IsAtEnd (R.remaining reader.new)) }
+fn read_rest<R, T: Read>(
+    alloc: Global,
+    system: &mut System<'_, R>,
+    reader: &mut T,
+) -> Result<Vec<u8>, Fault>
+    requires { IsSound system.old }
+    ensures bytes { IfOk result (λ bytes. Consumes (T.remaining reader.old) (T.remaining reader.new) bytes.items × IsAtEnd (T.remaining reader.new)) }
+    ensures sound { OnOk result (IsSound system.new) }
+    ensures cause { IfErr result (λ fault. HasCause fault system.new) }
 {
     let mut bytes = Vec::new(alloc);
     let mut block = [0u8; BLOCK];
-    'reads: for _ in 0..MOST_READS {
-        let count = match reader.read(&mut block) {
-            Ok(count) => count,
-            Err(error) if error.kind() == ErrorKind::Interrupted => continue,
-            Err(_) => return Err(Fault::Read),
+    'reads: loop {
+        let count = match system.read(reader, &mut block) {
+            Ok(Some(count)) => count,
+            Ok(None) => continue,
+            Err(fault) => return Err(fault),
         };
         if count == 0 {
             return Ok(bytes);
@@ -46,34 +39,38 @@ fn read_rest<R: Read>(alloc: Global, reader: &mut R) -> Result<Vec<u8>, Fault>
             return Err(Fault::NoMemory);
         }
     }
-    Err(Fault::Read)
 }
 
 /// The bytes of a file, or `None` where there is none.
-pub fn read_if_there<R: Files>(
+pub fn read_if_there<R: Files<File = File> + AllocGlobal>(
     alloc: Global,
-    files: &R,
+    system: &mut System<'_, R>,
     path: &str,
 ) -> Result<Option<Vec<u8>>, Fault>
-where
-    R::File: Drop,
+    requires { IsSound system.old }
+    ensures sound { OnOk result (IsSound system.new) }
+    ensures cause { IfErr result (λ fault. HasCause fault system.new) }
 {
-    match File::open(files, path) {
-        Ok(mut file) => Ok(Some(read_rest(alloc, &mut file)?)),
-        Err(error) if error.kind() == ErrorKind::NotFound => Ok(None),
-        Err(error) => Err(fault_of(&error, Fault::Read)),
-    }
+    let Some(mut file) = system.open_if_there(path)? else {
+        return Ok(None);
+    };
+    let bytes = read_rest(alloc, system, &mut file)?;
+    Ok(Some(bytes))
 }
 
 /// The bytes of a file that has to be there.
-pub fn read_whole<R: Files>(alloc: Global, files: &R, path: &str) -> Result<Vec<u8>, Fault>
-where
-    R::File: Drop,
+pub fn read_whole<R: Files<File = File> + AllocGlobal>(
+    alloc: Global,
+    system: &mut System<'_, R>,
+    path: &str,
+) -> Result<Vec<u8>, Fault>
+    requires { IsSound system.old }
+    ensures sound { OnOk result (IsSound system.new) }
+    ensures cause { IfErr result (λ fault. HasCause fault system.new) }
 {
-    match read_if_there(alloc, files, path)? {
-        Some(bytes) => Ok(bytes),
-        None => Err(Fault::Read),
-    }
+    let mut file = system.open(path)?;
+    let bytes = read_rest(alloc, system, &mut file)?;
+    Ok(bytes)
 }
 
 /// A file that may be replaced: a plain one that may be written, found behind the links to it, or none yet. While this
@@ -86,46 +83,6 @@ pub struct Place {
     is_locked: bool,
 }
 
-// The path of a new file. A link to nothing is no place for one.
-fn new_target<R: Files + AllocGlobal>(
-    rt: &R,
-    path: &str,
-) -> Result<(String, Option<Permissions>), Fault> {
-    if fs::symlink_metadata(rt, path).is_ok() {
-        return Err(Fault::Write);
-    }
-    Ok((String::from_str(rt.alloc(), path)?, None))
-}
-
-// The path of the plain file that a path leads to, with its permissions. Devices, pipes, folders, and files without
-// leave to write are not replaced.
-fn old_target<R: Files + AllocGlobal>(
-    rt: &R,
-    path: &str,
-    metadata: &Metadata,
-) -> Result<(String, Option<Permissions>), Fault> {
-    let permissions = metadata.permissions();
-    if !metadata.is_file() || permissions.readonly() {
-        return Err(Fault::Write);
-    }
-    match fs::canonicalize(rt, path) {
-        Ok(real) => Ok((real.into_string(), Some(permissions))),
-        Err(error) => Err(fault_of(&error, Fault::Write)),
-    }
-}
-
-// The path of the file that is replaced, with the permissions of an old one.
-fn target<R: Files + AllocGlobal>(
-    rt: &R,
-    path: &str,
-) -> Result<(String, Option<Permissions>), Fault> {
-    match fs::metadata(rt, path) {
-        Ok(metadata) => old_target(rt, path, &metadata),
-        Err(error) if error.kind() == ErrorKind::NotFound => new_target(rt, path),
-        Err(error) => Err(fault_of(&error, Fault::Write)),
-    }
-}
-
 // The folder that a path stands in.
 fn folder_of(path: &str) -> &str {
     match path.rsplit_once('/') {
@@ -135,29 +92,57 @@ fn folder_of(path: &str) -> &str {
     }
 }
 
+// The path of the file that is replaced.
+fn target<R: Files<File = File> + AllocGlobal>(
+    alloc: Global,
+    system: &mut System<'_, R>,
+    path: &str,
+    is_there: bool,
+) -> Result<String, Fault>
+    requires { IsSound system.old }
+    ensures sound { OnOk result (IsSound system.new) }
+    ensures cause { IfErr result (λ fault. HasCause fault system.new) }
+{
+    if is_there {
+        return system.real_path(path);
+    }
+    let path = String::from_str(alloc, path)?;
+    Ok(path)
+}
+
 // The bytes, in a new file, on the disk.
-fn write_new<R: Files>(
-    files: &R,
+fn write_new<R: Files<File = File> + AllocGlobal>(
+    system: &mut System<'_, R>,
     path: &str,
     bytes: &[u8],
     permissions: &Option<Permissions>,
-) -> io::Result<()>
-where
-    R::File: Drop,
+) -> Result<(), Fault>
+    requires { IsSound system.old }
+    ensures sound { OnOk result (IsSound system.new) }
+    ensures cause { IfErr result (λ fault. HasCause fault system.new) }
 {
-    let mut file = File::create_new(files, path)?;
+    let mut file = system.create_new(path)?;
     if let Some(permissions) = permissions {
-        file.set_permissions(permissions.clone()?)?;
+        system.permit(&file, permissions)?;
     }
-    file.write_all(bytes)?;
-    file.sync_all()
+    system.write(&mut file, bytes)?;
+    system.sync(&file)
 }
 
 impl Place {
     /// Where the file of a path stands.
-    pub fn find<R: Files<File = File> + AllocGlobal>(rt: &R, path: &str) -> Result<Place, Fault> {
-        let (path, permissions) = target(rt, path)?;
-        let folder = File::open(rt, folder_of(path.as_str())).ok();
+    pub fn find<R: Files<File = File> + AllocGlobal>(
+        alloc: Global,
+        system: &mut System<'_, R>,
+        path: &str,
+    ) -> Result<Place, Fault>
+        requires { IsSound system.old }
+        ensures sound { OnOk result (IsSound system.new) }
+        ensures cause { IfErr result (λ fault. HasCause fault system.new) }
+    {
+        let permissions = system.replaceable(path)?;
+        let path = target(alloc, system, path, permissions.is_some())?;
+        let folder = system.folder(folder_of(path.as_str()));
         let is_locked = match &folder {
             Some(folder) => folder.lock().is_ok(),
             None => false,
@@ -173,28 +158,30 @@ impl Place {
     /// The bytes of the file as it stands now.
     pub fn read<R: Files<File = File> + AllocGlobal>(
         &self,
-        rt: &R,
-    ) -> Result<Option<Vec<u8>>, Fault> {
-        read_if_there(rt.alloc(), rt, self.path.as_str())
+        alloc: Global,
+        system: &mut System<'_, R>,
+    ) -> Result<Option<Vec<u8>>, Fault>
+        requires { IsSound system.old }
+        ensures sound { OnOk result (IsSound system.new) }
+        ensures cause { IfErr result (λ fault. HasCause fault system.new) }
+    {
+        read_if_there(alloc, system, self.path.as_str())
     }
 
     // The bytes in a new file beside the old one, and then in its place.
-    fn put<R: Files<File = File>>(&self, rt: &R, beside: &str, bytes: &[u8]) -> io::Result<()> {
-        if self.is_locked {
-            // what a program that did not end well left
-            let _ = fs::remove_file(rt, beside);
-        }
-        let moved = match write_new(rt, beside, bytes, &self.permissions) {
-            Ok(()) => fs::rename(rt, beside, self.path.as_str()),
-            Err(error) => Err(error),
-        };
-        if let Err(error) = moved {
-            let _ = fs::remove_file(rt, beside);
-            return Err(error);
-        }
-        match &self.folder {
-            Some(folder) => folder.sync_all(),
-            None => Ok(()),
+    fn put<R: Files<File = File> + AllocGlobal>(
+        &self,
+        system: &mut System<'_, R>,
+        beside: &str,
+        bytes: &[u8],
+    ) -> Result<(), Fault>
+        requires { IsSound system.old }
+        ensures sound { OnOk result (IsSound system.new) }
+        ensures cause { IfErr result (λ fault. HasCause fault system.new) }
+    {
+        match write_new(system, beside, bytes, &self.permissions) {
+            Ok(()) => system.rename(beside, self.path.as_str()),
+            Err(fault) => Err(fault),
         }
     }
 
@@ -203,14 +190,27 @@ impl Place {
     /// it has the new bytes.
     pub fn replace<R: Files<File = File> + AllocGlobal>(
         &self,
-        rt: &R,
+        alloc: Global,
+        system: &mut System<'_, R>,
         bytes: &[u8],
-    ) -> Result<(), Fault> {
+    ) -> Result<(), Fault>
+        requires { IsSound system.old }
+        ensures sound { OnOk result (IsSound system.new) }
+        ensures cause { IfErr result (λ fault. HasCause fault system.new) }
+    {
         let path = self.path.as_str();
-        let beside = format!(in rt.alloc(); "{path}.new")?;
-        match self.put(rt, beside.as_str(), bytes) {
-            Ok(()) => Ok(()),
-            Err(error) => Err(fault_of(&error, Fault::Write)),
+        let beside = format!(in alloc; "{path}.new")?;
+        if self.is_locked {
+            // what a program that did not end well left
+            system.remove(beside.as_str());
+        }
+        if let Err(fault) = self.put(system, beside.as_str(), bytes) {
+            system.remove(beside.as_str());
+            return Err(fault);
+        }
+        match &self.folder {
+            Some(folder) => system.sync(folder),
+            None => Ok(()),
         }
     }
 }

@@ -7,19 +7,22 @@
 ghost use Rattle.std.specs.Prelude.{◌≡◌, ◌≢◌};
 ghost use Rattle.std.specs.Process.{exit_status};
 ghost use Rattle.wcommand.specs.declared.choice.Choice.TheVariants.{Session};
+ghost use Rattle.wstore_program.specs.Calls.{IsSound};
 ghost use Rattle.wstore_program.specs.Statuses.{HasFileStatus, HasWordsStatus, script_status};
 
 mod acting;
 mod fault;
 mod files;
+mod system;
 
 use acting::perform;
 use fault::Fault;
 use std::env;
 use std::fs::File;
-use std::io::{self, ErrorKind, Write};
+use std::io::{ErrorKind, Write};
 use std::process::ExitCode;
 use std::rt::Files;
+use system::System;
 use wcommand::{Choice, Paths, WordsFault, choose};
 use wstore::{End, RunFault, run};
 use wvalues::Counted;
@@ -59,31 +62,40 @@ fn run_session(rt: &HostRuntime) -> ExitCode {
 }
 
 // Runs a subcommand on its files, and prints its reply.
-fn run_on_files<R: Files<File = File> + Print + Eprint + AllocGlobal>(
+fn run_on_files<R: Files<File = File> + Eprint + AllocGlobal, W: Write>(
     rt: &R,
+    system: &mut System<'_, R>,
+    output: &mut W,
     choice: &Choice<'_>,
     paths: Paths<'_>,
 ) -> ExitCode
-    requires { choice.now ≢ Session }
-    ensures { HasFileStatus choice.now (exit_status result) }
+    requires choice { choice.now ≢ Session }
+    requires sound { IsSound system.old }
+    ensures { HasFileStatus choice.now system.new (W.contents output.old) (W.contents output.new) (exit_status result) }
 {
-    match perform(rt, choice, paths) {
-        Ok(acted) => match io::writer(rt).write_all(acted.output.as_slice()) {
+    match perform(rt.alloc(), system, choice, paths) {
+        Ok(acted) => match system.write(output, acted.output.as_slice()) {
             Ok(()) => ExitCode::from(acted.status),
-            Err(_) => failed(rt, Fault::Write),
+            Err(fault) => failed(rt, fault),
         },
         Err(fault) => failed(rt, fault),
     }
 }
 
 // Prints why the words choose nothing, or what they ask for.
-fn tell(rt: &(impl Print + Eprint), fault: WordsFault) -> ExitCode
-    ensures { HasWordsStatus fault (exit_status result) }
+fn tell<R, W: Write>(
+    rt: &impl Eprint,
+    system: &mut System<'_, R>,
+    output: &mut W,
+    fault: WordsFault,
+) -> ExitCode
+    requires { IsSound system.old }
+    ensures { HasWordsStatus fault system.new (W.contents output.old) (W.contents output.new) (exit_status result) }
 {
     match fault {
-        WordsFault::Help(text) => match print!(rt; "{text}") {
+        WordsFault::Help(text) => match system.write(output, text.as_bytes()) {
             Ok(()) => ExitCode::SUCCESS,
-            Err(_) => failed(rt, Fault::Write),
+            Err(fault) => failed(rt, fault),
         },
         WordsFault::Refused(text) => {
             let _ = eprint!(rt; "{text}");
@@ -95,12 +107,14 @@ fn tell(rt: &(impl Print + Eprint), fault: WordsFault) -> ExitCode
 
 // Does what the words choose.
 fn run_words(rt: &HostRuntime, words: &[&str]) -> ExitCode {
+    let mut system = System::new(rt);
+    let mut output = rt.stdout();
     match choose(rt.alloc(), words) {
         Ok(choice) => match choice.paths() {
-            Some(paths) => run_on_files(rt, &choice, paths),
+            Some(paths) => run_on_files(rt, &mut system, &mut output, &choice, paths),
             None => run_session(rt),
         },
-        Err(fault) => tell(rt, fault),
+        Err(fault) => tell(rt, &mut system, &mut output, fault),
     }
 }
 

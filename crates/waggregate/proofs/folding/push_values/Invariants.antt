@@ -1,8 +1,14 @@
-use Rattle.std.proofs.Common.{◌≡◌, ◌++◌, map, take}
-use Rattle.wvalues.specs.Meaning.{meaning}
-use Rattle.wframe.specs.Cells.{meanings}
-use Rattle.waggregate.specs.Aggregating.{value_or_null}
+use Rattle.std.proofs.Common.{◌≡◌, ◌++◌, false, map, take}
+use Rattle.std.specs.Prelude.{unwrap_or}
+use Rattle.std.specs.List.{list_any}
+use Rattle.std.specs.Option.{is_none}
+use Rattle.wvalues.specs.Meaning.{Null, meaning}
 use Rattle.waggregate.proofs.folding.push_values.Given as goal
 
-abbrev pub invariant-loop-place : goal.invariant-loop-place
-invariant-loop-place l = map meaning l.told.items ≡ map meaning l.fn.told.items ++ map (value_or_null (meanings l.values)) (take l.place-index l.places)
+abbrev pub invariant-loop-part : goal.invariant-loop-part
+invariant-loop-part g l =
+    let told = g.F.ToldFold.told l.fold in
+    record {
+      in_range : list_any (λ part. is_none (told part)) (take l.part-index l.parts) ≡ false;
+      so_far : map meaning l.told.items ≡ map meaning l.fn.told.items ++ map (λ part. unwrap_or (told part) Null) (take l.part-index l.parts);
+    }

@@ -1,29 +1,33 @@
-use Rattle.std.proofs.Common.{length, map, Ok, sym, ap, ◌∙◌, subst}
-use Rattle.wplan.specs.Formula.{formula}
+use Rattle.std.proofs.Common.{◌<◌, ◌^◌, List, Result, length, sym, ap, ◌∙◌, subst}
+use Rattle.wvalues.specs.Meaning.{Meaning}
 use Rattle.wplan.specs.Plans.{window_plan}
-use Rattle.wrows.specs.Outcomes.{Gives}
-use Rattle.wrows.specs.LaidRows.{laid}
+use Rattle.wrows.specs.declared.fault.AnswerFault.{AnswerFault}
+use Rattle.wrows.specs.Outcomes.{Gives, each}
 use Rattle.wrows.specs.Laid.{rows_in, rows_seen}
-use Rattle.wrows.specs.Sorting.{ascending}
+use Rattle.wrows.proofs.RowFacts.{then_ok}
+use Rattle.wcalls.specs.Arranged.{IsArranged}
+use Rattle.wcalls.specs.Functions.{function_column}
 use Rattle.wcalls.specs.Lent.{functions_seen}
-use Rattle.wcalls.proofs.WindowedFacts.{columns_are}
+use Rattle.wcalls.specs.Windows.{windowed}
+use Rattle.wcalls.proofs.WindowedFacts.{opened, rows_long}
 use Rattle.wcalls.proofs.columns.window_columns.Goals as goal
+
+pub every_column-requires-clause-rows : goal.every_column-requires-clause-rows
+every_column-requires-clause-rows c =
+    let rows = rows_seen c.args.rows.now in
+    let plan = window_plan c.args.window.now in
+    ap length c.rows-2.ensures.rows ∙ rows_long rows plan c.args.order.now (opened rows plan c.args.order.now c.requires.order) ∙ Rattle.std.proofs.lemmas.List.length-map c.args.rows.now Rattle.wrows.specs.Laid.row_seen
+
+pub every_column-requires-clause-few : goal.every_column-requires-clause-few
+every_column-requires-clause-few c = subst (λ n. n < 2 ^ 31) (sym (every_column-requires-clause-rows c)) c.requires.few
 
 pub returns-clause-columns : goal.returns-clause-columns
 returns-clause-columns c =
-    let plan = window_plan c.args.window.now in
     let rows = rows_seen c.args.rows.now in
+    let plan = window_plan c.args.window.now in
     let fs = functions_seen c.args.functions.now in
-    let n = length c.args.rows.now in
-    let wv = length c.args.window.now.partition.items in
-    let wk = length c.args.window.now.keys.items in
-    let P : _ → Type 0 = λ meant. Gives rows_in c.columns_of_cells.result meant in
-    subst P (sym (columns_are rows plan fs n wv wk c.deref-3.result.now c.deref-5.result.now c.deref-4.result.now c.deref-6.result.now c.frame_of-frame.result
-    (c.in_ok-values.ensures.gives ∙ ap (λ v. Ok (laid wv n v)) (sym c.deref-3.ensures.value))
-    (c.in_ok-keys.ensures.gives ∙ ap (λ v. Ok (laid wk n v)) (sym c.deref-5.ensures.value))
-    (sym (ap length c.deref-4.ensures.value ∙ c.in_ok-value_order.ensures.len ∙ ap length c.deref.ensures.value))
-    (sym (ap length c.deref-6.ensures.value ∙ c.in_ok-order.ensures.len ∙ ap length c.deref-2.ensures.value))
-    (c.deref-4.ensures.value ∙ c.in_ok-value_order.ensures.orders ∙ ap (λ v. ascending (map formula v)) c.deref.ensures.value)
-    (c.deref-6.ensures.value ∙ c.in_ok-order.ensures.orders ∙ ap (λ v. map (λ k. k.order) (map Rattle.wplan.specs.Plans.key_plan v)) c.deref-2.ensures.value)
-    c.frame_of-frame.ensures))
-    c.columns_of_cells.ensures.columns
+    let p = opened rows plan c.args.order.now c.requires.order in
+    let P : Result (List (List Meaning)) AnswerFault → Type 0 = λ meant. Gives rows_in c.every_column.result meant in
+    let arranged : IsArranged p.window c.rows-2.result.now c.in_ok-partitions.partitions
+    = subst (λ order. IsArranged p.window order c.in_ok-partitions.partitions) (sym c.rows-2.ensures.rows) (c.in_ok-partitions.ensures.arranged p.window p.order_is (c.frame_of.ensures ∙ sym p.frame)) in
+    subst P (sym (then_ok p.window (windowed rows plan) (λ w. each (function_column rows w) fs) p.is)) (c.every_column.ensures.columns p.window arranged)

@@ -10,4 +10,4 @@ pub returns-in-None : goal.returns-in-None
 returns-in-None c = perhaps_present (grips c.in-Some.ensures (omega arith)) (after_got c.in-Some.ensures (after_missing c.in-None.ensures))
 
 pub returns-in-Some-keyword : goal.returns-in-Some-keyword
-returns-in-Some-keyword c = perhaps_present (grips c.in-Some.ensures (omega arith)) (after_got c.in-Some.ensures (after_got c.in-Some-keyword.ensures (answers_less (omega arith) c.columns.ensures)))
+returns-in-Some-keyword c = perhaps_present (grips c.in-Some.ensures (omega arith)) (after_got c.in-Some.ensures (after_got c.in-Some-keyword.ensures (answers_less (omega arith) c.elements.ensures)))

@@ -8,6 +8,6 @@ pub returns : goal.returns
 returns c =
     if_ok_to (λ (x : Expression). view x ≡ Joined c.args.kind (view c.args.first) (Further NoLinks c.args.operator (view c.args.operand))) (λ (x : Expression). view x ≡ joined c.args.kind (view c.args.first) c.args.operator (view c.args.operand)) (λ x h. h ∙ joined_other c.args.kind (view c.args.first) c.args.operator (view c.args.operand) (sym c.is_chain_of.ensures ∙ c.if-is_chain_of.false)) _ c.start_chain.ensures
 
-pub returns-then-is_chain_of : goal.returns-then-is_chain_of
-returns-then-is_chain_of c =
-    c.in_ok-lengthen.ensures ∙ joined_chain c.args.kind (view c.args.first) c.args.operator (view c.args.operand) (sym c.is_chain_of.ensures ∙ c.if-is_chain_of.true)
+pub returns-in-Ok : goal.returns-in-Ok
+returns-in-Ok c =
+    c.in-Ok.ensures ∙ joined_chain c.args.kind (view c.args.first) c.args.operator (view c.args.operand) (sym c.is_chain_of.ensures ∙ c.if-is_chain_of.true)

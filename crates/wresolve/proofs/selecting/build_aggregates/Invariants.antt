@@ -1,6 +1,6 @@
 use Rattle.std.proofs.Common.{◌≡◌, ◌++◌, drop, map}
 use Rattle.wplan.specs.Plans.{aggregate_plan}
-use Rattle.wresolve.specs.Calls.{call_trees}
+use Rattle.wdistinct.specs.Calls.{call_trees}
 use Rattle.wresolve.specs.Resolving.{layout_of}
 use Rattle.wresolve.specs.Selecting.{aggregate_made}
 use Rattle.wresolve.proofs.selecting.build_aggregates.Given as goal

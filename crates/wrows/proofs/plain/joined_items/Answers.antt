@@ -1,6 +1,10 @@
 use Rattle.std.proofs.Common.{length, Ok, sym, ap, ◌∙◌}
 use Rattle.wrows.specs.LaidRows.{laid}
+use Rattle.wrows.specs.Laid.{formula_seen, formulas_seen, rows_seen}
+use Rattle.wrows.specs.Columns.{beside}
 use Rattle.wrows.specs.Plain.{cut, ordered}
+use Rattle.std.proofs.lemmas.List.{length-map}
+use Rattle.wrows.proofs.AllFacts.{as_they_stand}
 use Rattle.wrows.proofs.RowFacts.{then_ok}
 use Rattle.wrows.proofs.plain.joined_items.Goals as goal
 
@@ -15,3 +19,10 @@ returns-clause-rows c =
     ∙ ap (λ w. Ok (cut c.args.offset c.args.limit (ordered order (laid w n c.in_ok-key_cells.key_cells.items) told))) c.requires
     ∙ ap (λ xs. Ok (cut c.args.offset c.args.limit (ordered order (laid (length order) n xs) told))) (sym c.deref.ensures.value)
     ∙ ap Ok (sym c.in_ok-cells.ensures.rows)
+
+pub returns-then-asks_for_all-clause-rows : goal.returns-then-asks_for_all-clause-rows
+returns-then-asks_for_all-clause-rows c =
+    let told = laid (length c.args.items.now) (length c.args.rows.now) c.in_ok-joined_lists.field-0.items in
+    as_they_stand (formulas_seen c.args.items.now) (formulas_seen c.args.keys.now) c.args.order.now c.args.offset c.args.limit (beside (rows_seen c.args.rows.now) (rows_seen c.args.columns.now)) told
+    (length-map c.args.keys.now formula_seen ∙ c.requires) (c.asks_for_all.ensures.keys c.if-asks_for_all.true) (c.asks_for_all.ensures.offset c.if-asks_for_all.true) (c.asks_for_all.ensures.limit c.if-asks_for_all.true)
+    c.in_ok-joined_lists.ensures.gives

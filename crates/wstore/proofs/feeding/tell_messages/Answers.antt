@@ -50,8 +50,8 @@ returns-in-Err-send-clause-part g c =
 
 pub returns-in-Err-clause-ok : goal.returns-in-Err-clause-ok
 returns-in-Err-clause-ok g c =
-    on_ok_then c.send-in-Err.result _ _ (λ k. bad_told c.args.node.now c.messages.node c.next_reply.new.self _ _ _ c.messages.count c.messages.invariant.so_far c.requires.good c.in-Err.ensures k) c.send-in-Err.ensures.ok
+    on_ok_then c.send.result _ _ (λ k. bad_told c.args.node.now c.messages.node c.next_reply.new.self _ _ _ c.messages.count c.messages.invariant.so_far c.requires.good c.in-Err.ensures k) c.send.ensures.ok
 
 pub returns-in-Err-clause-part : goal.returns-in-Err-clause-part
 returns-in-Err-clause-part g c =
-    on_err_then c.send-in-Err.result _ _ (λ w. bad_told_part c.args.node.now c.messages.node c.next_reply.new.self _ _ _ c.messages.count c.messages.invariant.so_far c.requires.good c.in-Err.ensures w) c.send-in-Err.ensures.front
+    on_err_then c.send.result _ _ (λ w. bad_told_part c.args.node.now c.messages.node c.next_reply.new.self _ _ _ c.messages.count c.messages.invariant.so_far c.requires.good c.in-Err.ensures w) c.send.ensures.front

@@ -1,7 +1,13 @@
+use Rattle.std.proofs.Common.{◌-◌}
 use Rattle.std.specs.Io.KnownBytes.{Consumes}
+use Rattle.wstore_program.specs.Calls.{IsSound, most_reads}
 use Rattle.wstore_program.proofs.files.read_rest.Given as goal
 
 abbrev pub invariant-reads : goal.invariant-reads
 invariant-reads g l = record {
-  taken : Consumes (g.R.Read.remaining l.initial.reader) (g.R.Read.remaining l.reader) l.bytes.items;
+  taken : Consumes (g.T.Read.remaining l.initial.reader) (g.T.Read.remaining l.reader) l.bytes.items;
+  sound : IsSound l.system;
 }
+
+abbrev pub decreases-reads : goal.decreases-reads
+decreases-reads g l = most_reads - l.system.reads

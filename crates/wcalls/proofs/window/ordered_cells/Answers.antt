@@ -1,0 +1,48 @@
+use Rattle.std.proofs.Common.{◌≡◌, ◌<◌, ℕ, List, length, map, refl, sym, ◌∙◌, subst}
+use Rattle.std.specs.List.{All}
+use Rattle.wvalues.specs.Meaning.{Meaning}
+use Rattle.wframe.specs.Peers.{key_at}
+use Rattle.wrows.specs.LaidRows.{laid}
+use Rattle.wcalls.specs.Ordered.{numbers_in_order}
+use Rattle.wcalls.proofs.OrderFacts.{keys_stand, ordered_as, values_stand}
+use Rattle.wcalls.proofs.window.ordered_cells.Goals as goal
+
+pub invariant_of-result : goal.invariant_of-result
+invariant_of-result c =
+    let n = c.args.count in
+    let vo = c.args.value_order.items in
+    let ko = c.args.key_order.items in
+    let V : List (List Meaning) = laid (length vo) n c.args.values.items in
+    let K : List (List Meaning) = laid (length ko) n c.args.keys.items in
+    let rows : List ℕ = c.in_ok-rows.rows.items in
+    let SV : List (List Meaning) = laid (length vo) (length rows) c.in_ok-sorted_values.sorted_values.items in
+    let SK : List (List Meaning) = laid (length ko) (length rows) c.in_ok-sorted_keys.sorted_keys.items in
+    let is_sorted : rows ≡ numbers_in_order V vo K ko = rw (c.deref.ensures.value, c.deref-2.ensures.value, c.deref-3.ensures.value, c.deref-4.ensures.value) at c.in_ok-rows.ensures.order in
+    let values_wide : c.len.result ≡ length vo = c.len.ensures ∙ c.args.value_order.ok.0 in
+    let keys_wide : c.len-2.result ≡ length ko = c.len-2.ensures ∙ c.args.key_order.ok.0 in
+    let values_are : SV ≡ map (key_at V) rows = rw (values_wide, c.deref-5.ensures.value) at c.in_ok-sorted_values.ensures.rows in
+    let keys_are : SK ≡ map (key_at K) rows = rw (keys_wide, c.deref-6.ensures.value) at c.in_ok-sorted_keys.ensures.rows in
+    record {
+      below = subst (λ k. All (λ i. i < k) rows) (sym c.in_ok-rows.ensures.len) c.in_ok-rows.ensures.below;
+      whole_values = rw (values_wide, c.deref-5.ensures.value) at c.in_ok-sorted_values.ensures.laid;
+      whole_keys = rw (keys_wide, c.deref-6.ensures.value) at c.in_ok-sorted_keys.ensures.laid;
+      by_values = values_stand V vo K ko rows is_sorted SV SK values_are keys_are;
+      by_keys = keys_stand V vo K ko rows is_sorted SV SK values_are keys_are;
+    }
+
+pub returns : goal.returns
+returns c =
+    let n = c.args.count in
+    let vo = c.args.value_order.items in
+    let ko = c.args.key_order.items in
+    let V : List (List Meaning) = laid (length vo) n c.args.values.items in
+    let K : List (List Meaning) = laid (length ko) n c.args.keys.items in
+    let rows : List ℕ = c.in_ok-rows.rows.items in
+    let SV : List (List Meaning) = laid (length vo) (length rows) c.in_ok-sorted_values.sorted_values.items in
+    let SK : List (List Meaning) = laid (length ko) (length rows) c.in_ok-sorted_keys.sorted_keys.items in
+    let is_sorted : rows ≡ numbers_in_order V vo K ko = rw (c.deref.ensures.value, c.deref-2.ensures.value, c.deref-3.ensures.value, c.deref-4.ensures.value) at c.in_ok-rows.ensures.order in
+    let values_wide : c.len.result ≡ length vo = c.len.ensures ∙ c.args.value_order.ok.0 in
+    let keys_wide : c.len-2.result ≡ length ko = c.len-2.ensures ∙ c.args.key_order.ok.0 in
+    let values_are : SV ≡ map (key_at V) rows = rw (values_wide, c.deref-5.ensures.value) at c.in_ok-sorted_values.ensures.rows in
+    let keys_are : SK ≡ map (key_at K) rows = rw (keys_wide, c.deref-6.ensures.value) at c.in_ok-sorted_keys.ensures.rows in
+    ordered_as V vo K ko rows is_sorted SV SK values_are keys_are _ refl

@@ -1,0 +1,24 @@
+-- How rows in the order of a window are kept: the cells of one row after another.
+use Rattle.std.specs.Prelude.{◌≡◌, ◌*◌, ◌<◌, All, length}
+use Rattle.wvalues.specs.Order.{keys_cmp}
+use Rattle.wframe.specs.Peers.{AreOrdered, AreOrderedWithin}
+use Rattle.wrows.specs.LaidRows.{laid}
+use Rattle.wcalls.specs.Ordered.{Ordered}
+use Rattle.wcalls.specs.declared.window.WindowOrder.TheInside.{Inside}
+
+abbrev pub order_of : Inside → Ordered
+order_of o = record {
+  rows = o.rows.items;
+  values = laid (length o.value_order.items) (length o.rows.items) o.values.items;
+  value_order = o.value_order.items;
+  keys = laid (length o.key_order.items) (length o.rows.items) o.keys.items;
+  order = o.key_order.items;
+}
+
+-- the cells are whole rows, each row has a number below their count, and the rows stand by partition values and then by keys
+pub record IsKept (o : Inside) : Type 0 where
+  pub below : All (λ i. i < length o.rows.items) o.rows.items
+  pub whole_values : length o.values.items ≡ length o.rows.items * length o.value_order.items
+  pub whole_keys : length o.keys.items ≡ length o.rows.items * length o.key_order.items
+  pub by_values : AreOrdered (keys_cmp o.value_order.items) (order_of o).values
+  pub by_keys : AreOrderedWithin (keys_cmp o.value_order.items) (order_of o).values (keys_cmp o.key_order.items) (order_of o).keys

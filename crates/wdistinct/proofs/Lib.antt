@@ -1,0 +1,4 @@
+mod Collected
+mod NodeFacts
+mod Sketched
+mod Among

@@ -1,0 +1,122 @@
+-- The calls of a SELECT that are computed apart from its expressions, each once: aggregates without OVER, and calls with
+-- OVER. (SQL, `<set function specification>` and `<window function>`.)
+use Rattle.std.specs.Prelude.{ℕ, Bool, true, false, ◌&&◌, not, List, [], ◌∷◌, ◌++◌, if◌then◌else◌, Option, Some, None, map}
+use Rattle.std.specs.List.{list_any}
+use Rattle.std.specs.Borrow.{Bor}
+use Rattle.wquery.specs.declared.expression.Call.{Call}
+use Rattle.wquery.specs.Tree.{Tree, NullWord, Numeral, Quoted, Field, Invoked, Negated, Signed, Joined, Compared, NullTest, Within, Among, Trees, NoTrees, MoreTrees, Links, NoLinks, Further, Given, Everything, These, Filter, Unfiltered, FilteredBy, Reach, ItsGroup, ThatWindow, OwnWindow, Keys, NoKeys, MoreKeys, KeyTree, Branch, own_window, view_call}
+use Rattle.wquery.specs.QueryTree.{Clauses, ItemTree, AllColumns, Computed, EntryTree}
+use Rattle.wscope.specs.declared.function.Function.{Function}
+use Rattle.wscope.specs.Functions.{function_of, is_aggregate}
+use Rattle.wsame.specs.Sameness.{is_same}
+use Rattle.wdistinct.specs.declared.calls.CallKind.{CallKind}
+use Rattle.wdistinct.specs.declared.calls.CallKind.TheVariants.{Grouped, Windowed}
+
+-- with OVER
+abbrev pub has_over : Reach → Bool
+has_over ItsGroup = false
+has_over (ThatWindow name) = true
+has_over (OwnWindow copied partition order frame) = true
+
+abbrev pub is_aggregate_function : Option Function → Bool
+is_aggregate_function None = false
+is_aggregate_function (Some f) = is_aggregate f
+
+-- of aggregates without OVER, or of calls with OVER
+abbrev pub is_kind : CallKind → List ℕ → Reach → Bool
+is_kind Grouped name reach = not (has_over reach) && is_aggregate_function (function_of name)
+is_kind Windowed name reach = has_over reach
+
+abbrev pub is_call_of : CallKind → Tree → Bool
+is_call_of kind (Invoked name given filter reach) = is_kind kind name reach
+is_call_of kind _ = false
+
+-- the node where it is looked for, else what stands below it
+abbrev pub node_or : Bool → Tree → List Tree → List Tree
+node_or true t below = t ∷ []
+node_or false t below = below
+
+-- The nodes that are looked for, from the first to the last. Below one that is found none is looked for
+abbrev mutual
+  pub nodes_below : (Tree → Bool) → Tree → List Tree
+  nodes_below holds NullWord = []
+  nodes_below holds (Numeral n) = []
+  nodes_below holds (Quoted text) = []
+  nodes_below holds (Field qualifier name) = []
+  nodes_below holds (Invoked name given filter reach) = nodes_given holds given ++ (nodes_in_filter holds filter ++ nodes_in_reach holds reach)
+  nodes_below holds (Negated t) = node_or (holds t) t (nodes_below holds t)
+  nodes_below holds (Signed minus t) = node_or (holds t) t (nodes_below holds t)
+  nodes_below holds (Joined kind t links) = node_or (holds t) t (nodes_below holds t) ++ nodes_in_links holds links
+  nodes_below holds (Compared comparison l r) = node_or (holds l) l (nodes_below holds l) ++ node_or (holds r) r (nodes_below holds r)
+  nodes_below holds (NullTest negated t) = node_or (holds t) t (nodes_below holds t)
+  nodes_below holds (Within negated t l h) =
+      node_or (holds t) t (nodes_below holds t) ++ (node_or (holds l) l (nodes_below holds l) ++ node_or (holds h) h (nodes_below holds h))
+  nodes_below holds (Among negated t list) = node_or (holds t) t (nodes_below holds t) ++ nodes_in_trees holds list
+
+  pub nodes_in_trees : (Tree → Bool) → Trees → List Tree
+  nodes_in_trees holds NoTrees = []
+  nodes_in_trees holds (MoreTrees t ts) = node_or (holds t) t (nodes_below holds t) ++ nodes_in_trees holds ts
+
+  pub nodes_in_links : (Tree → Bool) → Links → List Tree
+  nodes_in_links holds NoLinks = []
+  nodes_in_links holds (Further front operator t) = nodes_in_links holds front ++ node_or (holds t) t (nodes_below holds t)
+
+  pub nodes_given : (Tree → Bool) → Given → List Tree
+  nodes_given holds Everything = []
+  nodes_given holds (These ts) = nodes_in_trees holds ts
+
+  pub nodes_in_filter : (Tree → Bool) → Filter → List Tree
+  nodes_in_filter holds Unfiltered = []
+  nodes_in_filter holds (FilteredBy t) = node_or (holds t) t (nodes_below holds t)
+
+  pub nodes_in_reach : (Tree → Bool) → Reach → List Tree
+  nodes_in_reach holds ItsGroup = []
+  nodes_in_reach holds (ThatWindow name) = []
+  nodes_in_reach holds (OwnWindow copied partition order frame) = nodes_in_trees holds partition ++ nodes_in_keys holds order
+
+  pub nodes_in_keys : (Tree → Bool) → Keys → List Tree
+  nodes_in_keys holds NoKeys = []
+  nodes_in_keys holds (MoreKeys t descending nulls more) = node_or (holds t) t (nodes_below holds t) ++ nodes_in_keys holds more
+
+-- of an expression
+abbrev pub nodes_in : (Tree → Bool) → Tree → List Tree
+nodes_in holds t = node_or (holds t) t (nodes_below holds t)
+
+-- of the operands behind the first of a chain
+abbrev pub nodes_in_branches : (Tree → Bool) → List Branch → List Tree
+nodes_in_branches holds [] = []
+nodes_in_branches holds (b ∷ bs) = nodes_in holds b.operand ++ nodes_in_branches holds bs
+
+abbrev pub nodes_in_option : (Tree → Bool) → Option Tree → List Tree
+nodes_in_option holds None = []
+nodes_in_option holds (Some t) = nodes_in holds t
+
+abbrev pub nodes_in_items : (Tree → Bool) → List ItemTree → List Tree
+nodes_in_items holds [] = []
+nodes_in_items holds (AllColumns ∷ items) = nodes_in_items holds items
+nodes_in_items holds (Computed t alias ∷ items) = nodes_in holds t ++ nodes_in_items holds items
+
+abbrev pub nodes_in_entries : (Tree → Bool) → List EntryTree → List Tree
+nodes_in_entries holds [] = []
+nodes_in_entries holds (e ∷ es) = nodes_in_reach holds (own_window e.window) ++ nodes_in_entries holds es
+
+abbrev pub nodes_in_order : (Tree → Bool) → List KeyTree → List Tree
+nodes_in_order holds [] = []
+nodes_in_order holds (k ∷ ks) = nodes_in holds k.expression ++ nodes_in_order holds ks
+
+-- the expressions found so far with those of a list behind them that are equal to none before
+abbrev pub with_new : List Tree → List Tree → List Tree
+with_new found [] = found
+with_new found (t ∷ ts) = with_new (if list_any (λ (u : Tree). is_same u t) found then found else found ++ (t ∷ [])) ts
+
+-- the aggregates without OVER, each once: those of the SELECT list, of HAVING, of the WINDOW entries and of ORDER BY
+abbrev pub group_calls : Clauses → List Tree
+group_calls c = with_new [] (nodes_in_items (is_call_of Grouped) c.items ++ (nodes_in_option (is_call_of Grouped) c.having ++ (nodes_in_entries (is_call_of Grouped) c.windows ++ nodes_in_order (is_call_of Grouped) c.order)))
+
+-- the calls with OVER, each once: those of the SELECT list and of ORDER BY
+abbrev pub window_calls : Clauses → List Tree
+window_calls c = with_new [] (nodes_in_items (is_call_of Windowed) c.items ++ nodes_in_order (is_call_of Windowed) c.order)
+
+-- calls in memory
+abbrev pub call_trees : List (Bor Call) → List Tree
+call_trees cs = map (λ c. view_call c.now) cs

@@ -1,0 +1,6 @@
+pub mod Clauses
+pub mod Calls
+pub mod Sketch
+pub mod Places
+pub mod Same
+pub mod Alike

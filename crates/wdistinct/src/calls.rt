@@ -1,0 +1,414 @@
+//! The calls of a SELECT, each once.
+
+ghost use Rattle.std.specs.Prelude.{◌≡◌, ◌∷◌, ◌++◌, [], OnOk, IfOk, map, not};
+ghost use Rattle.wquery.specs.Tree.{Tree, view, view_over, view_window, view_call, view_key, view_link, view_arguments, view_optional, view_optional_over, filter_of, reach_of, trees, views, keys, view_keys, own_window, linked, NoLinks};
+ghost use Rattle.wquery.specs.QueryTree.{view_item, view_entry};
+ghost use Rattle.std.specs.Rc.{rc_str_bytes};
+ghost use Rattle.wscope.specs.Functions.{function_of as function_named};
+ghost use Rattle.wdistinct.specs.Clauses.{clauses_in};
+ghost use Rattle.wdistinct.specs.Calls.{nodes_below, group_calls as aggregates_of, window_calls as calls_over_windows, is_kind, is_call_of, is_aggregate_function as is_aggregate_of, has_over as has_reach, nodes_in, nodes_in_trees, nodes_in_links, nodes_in_branches, nodes_given, nodes_in_filter, nodes_in_reach, nodes_in_keys, nodes_in_option, nodes_in_items, nodes_in_entries, nodes_in_order, with_new, call_trees};
+ghost use Rattle.wdistinct.specs.Places.{calls_in};
+ghost use Rattle.wdistinct.specs.declared.calls.CallKind.TheVariants.{Grouped, Windowed};
+
+use crate::call_set::CallSet;
+use std::alloc::{AllocError, Global};
+use wquery::{Arguments, Call, Expression, Item, Key, Link, Over, Query, Window, WindowEntry};
+use wscope::function_of;
+
+/// The calls that are computed apart from the expressions that they stand in.
+#[derive(Clone, Copy, Drop)]
+pub enum CallKind {
+    /// Aggregates without OVER.
+    Grouped,
+    /// Calls with OVER.
+    Windowed,
+}
+
+fn is_aggregate(call: &Call) -> bool
+    ensures { result ≡ is_aggregate_of (function_named (rc_str_bytes call.now.name)) }
+{
+    match function_of(call.name.as_str()) {
+        None => false,
+        Some(function) => function.is_aggregate(),
+    }
+}
+
+#[tactic(auto, unfolding(wquery::specs::Tree::view_over, wquery::specs::Tree::view_window))]
+fn has_over(over: &Option<Over>) -> bool
+    ensures { result ≡ has_reach (reach_of (view_optional_over over.now)) }
+{
+    match over {
+        None => false,
+        Some(Over::Named(_)) => true,
+        Some(Over::Windowed(_)) => true,
+    }
+}
+
+fn is_of(kind: CallKind, call: &Call) -> bool
+    ensures { result ≡ is_kind kind (rc_str_bytes call.now.name) (reach_of (view_optional_over call.now.over)) }
+{
+    match kind {
+        CallKind::Grouped => !has_over(&call.over) && is_aggregate(call),
+        CallKind::Windowed => has_over(&call.over),
+    }
+}
+
+fn push_call<'a>(calls: &mut Vec<&'a Call>, call: &'a Call) -> Result<(), AllocError>
+    ensures { OnOk result (call_trees calls.new.items ≡ call_trees calls.old.items ++ view_call call.now ∷ []) }
+{
+    calls.push(call)?;
+    Ok(())
+}
+
+// The calls that are looked for, from the first to the last, behind those so far.
+#[cycle(collecting)]
+#[tactic(auto, unfolding(wquery::specs::Tree::view, wquery::specs::Tree::view_call, wquery::specs::Tree::view_link))]
+fn collect<'a>(
+    kind: CallKind,
+    calls: &mut Vec<&'a Call>,
+    e: &'a Expression,
+) -> Result<(), AllocError>
+    ensures { OnOk result (call_trees calls.new.items ≡ call_trees calls.old.items ++ nodes_in (is_call_of kind) (view e.now)) }
+{
+    match e {
+        Expression::Null => Ok(()),
+        Expression::Number(_) => Ok(()),
+        Expression::Text(_) => Ok(()),
+        Expression::Column(_) => Ok(()),
+        Expression::Call(call) => collect_call(kind, calls, call),
+        Expression::Not(operand) => collect(kind, calls, operand),
+        Expression::Sign { operand, .. } => collect(kind, calls, operand),
+        Expression::Chain { first, links, .. } => {
+            collect(kind, calls, first)?;
+            collect_links(kind, calls, links.as_slice())
+        }
+        Expression::Compare { left, right, .. } => {
+            collect(kind, calls, left)?;
+            collect(kind, calls, right)
+        }
+        Expression::IsNull { operand, .. } => collect(kind, calls, operand),
+        Expression::Between {
+            operand,
+            low,
+            high,
+            ..
+        } => {
+            collect(kind, calls, operand)?;
+            collect(kind, calls, low)?;
+            collect(kind, calls, high)
+        }
+        Expression::In { operand, list, .. } => {
+            collect(kind, calls, operand)?;
+            collect_listed(kind, calls, list.as_slice())
+        }
+    }
+}
+
+#[cycle(collecting)]
+fn collect_listed<'a>(
+    kind: CallKind,
+    calls: &mut Vec<&'a Call>,
+    list: &'a [Expression],
+) -> Result<(), AllocError>
+    ensures { OnOk result (call_trees calls.new.items ≡ call_trees calls.old.items ++ nodes_in_trees (is_call_of kind) (trees (views list.now))) }
+{
+    'list: for e in list {
+        collect(kind, calls, e)?;
+    }
+    Ok(())
+}
+
+#[cycle(collecting)]
+#[tactic(auto, unfolding(wquery::specs::Tree::view_link, wquery::specs::Tree::view))]
+fn collect_operand<'a>(
+    kind: CallKind,
+    calls: &mut Vec<&'a Call>,
+    link: &'a Link,
+) -> Result<(), AllocError>
+    ensures { OnOk result (call_trees calls.new.items ≡ call_trees calls.old.items ++ nodes_in (is_call_of kind) (view_link link.now).operand) }
+{
+    collect(kind, calls, &link.operand)
+}
+
+#[cycle(collecting)]
+fn collect_operands<'a>(
+    kind: CallKind,
+    calls: &mut Vec<&'a Call>,
+    links: &'a [Link],
+) -> Result<(), AllocError>
+    ensures { OnOk result (call_trees calls.new.items ≡ call_trees calls.old.items ++ nodes_in_branches (is_call_of kind) (map view_link links.now)) }
+{
+    'links: for link in links {
+        collect_operand(kind, calls, link)?;
+    }
+    Ok(())
+}
+
+#[cycle(collecting)]
+fn collect_links<'a>(
+    kind: CallKind,
+    calls: &mut Vec<&'a Call>,
+    links: &'a [Link],
+) -> Result<(), AllocError>
+    ensures { OnOk result (call_trees calls.new.items ≡ call_trees calls.old.items ++ nodes_in_links (is_call_of kind) (linked NoLinks (map view_link links.now))) }
+{
+    collect_operands(kind, calls, links)?;
+    Ok(())
+}
+
+#[cycle(collecting)]
+#[tactic(auto, unfolding(wquery::specs::Tree::view_key, wquery::specs::Tree::view))]
+fn collect_key<'a>(
+    kind: CallKind,
+    calls: &mut Vec<&'a Call>,
+    key: &'a Key,
+) -> Result<(), AllocError>
+    ensures { OnOk result (call_trees calls.new.items ≡ call_trees calls.old.items ++ nodes_in (is_call_of kind) (view_key key.now).expression) }
+{
+    collect(kind, calls, &key.expression)
+}
+
+#[cycle(collecting)]
+fn collect_keys<'a>(
+    kind: CallKind,
+    calls: &mut Vec<&'a Call>,
+    order: &'a [Key],
+) -> Result<(), AllocError>
+    ensures { OnOk result (call_trees calls.new.items ≡ call_trees calls.old.items ++ nodes_in_keys (is_call_of kind) (keys (view_keys order.now))) }
+{
+    'keys: for key in order {
+        collect_key(kind, calls, key)?;
+    }
+    Ok(())
+}
+
+#[cycle(collecting)]
+#[tactic(auto, unfolding(wquery::specs::Tree::view, wquery::specs::Tree::view_window))]
+fn collect_partition<'a>(
+    kind: CallKind,
+    calls: &mut Vec<&'a Call>,
+    window: &'a Window,
+) -> Result<(), AllocError>
+    ensures { OnOk result (call_trees calls.new.items ≡ call_trees calls.old.items ++ nodes_in_trees (is_call_of kind) (trees (view_window window.now).partition)) }
+{
+    collect_listed(kind, calls, window.partition.as_slice())?;
+    Ok(())
+}
+
+#[cycle(collecting)]
+#[tactic(auto, unfolding(wquery::specs::Tree::view_key, wquery::specs::Tree::view_window))]
+fn collect_window_order<'a>(
+    kind: CallKind,
+    calls: &mut Vec<&'a Call>,
+    window: &'a Window,
+) -> Result<(), AllocError>
+    ensures { OnOk result (call_trees calls.new.items ≡ call_trees calls.old.items ++ nodes_in_keys (is_call_of kind) (keys (view_window window.now).order)) }
+{
+    collect_keys(kind, calls, window.order.as_slice())?;
+    Ok(())
+}
+
+#[cycle(collecting)]
+fn collect_window<'a>(
+    kind: CallKind,
+    calls: &mut Vec<&'a Call>,
+    window: &'a Window,
+) -> Result<(), AllocError>
+    ensures { OnOk result (call_trees calls.new.items ≡ call_trees calls.old.items ++ nodes_in_reach (is_call_of kind) (own_window (view_window window.now))) }
+{
+    collect_partition(kind, calls, window)?;
+    collect_window_order(kind, calls, window)?;
+    Ok(())
+}
+
+#[cycle(collecting)]
+#[tactic(auto, unfolding(wquery::specs::Tree::view_arguments, wquery::specs::Tree::view))]
+fn collect_arguments<'a>(
+    kind: CallKind,
+    calls: &mut Vec<&'a Call>,
+    arguments: &'a Arguments,
+) -> Result<(), AllocError>
+    ensures { OnOk result (call_trees calls.new.items ≡ call_trees calls.old.items ++ nodes_given (is_call_of kind) (view_arguments arguments.now)) }
+{
+    match arguments {
+        Arguments::Star => Ok(()),
+        Arguments::Listed(list) => collect_listed(kind, calls, list.as_slice()),
+    }
+}
+
+#[cycle(collecting)]
+fn collect_filter<'a>(
+    kind: CallKind,
+    calls: &mut Vec<&'a Call>,
+    filter: &'a Option<Expression>,
+) -> Result<(), AllocError>
+    ensures { OnOk result (call_trees calls.new.items ≡ call_trees calls.old.items ++ nodes_in_filter (is_call_of kind) (filter_of (view_optional filter.now))) }
+{
+    match filter {
+        None => Ok(()),
+        Some(e) => collect(kind, calls, e),
+    }
+}
+
+#[cycle(collecting)]
+#[tactic(auto, unfolding(wquery::specs::Tree::view_over, wquery::specs::Tree::view_window))]
+fn collect_over<'a>(
+    kind: CallKind,
+    calls: &mut Vec<&'a Call>,
+    over: &'a Option<Over>,
+) -> Result<(), AllocError>
+    ensures { OnOk result (call_trees calls.new.items ≡ call_trees calls.old.items ++ nodes_in_reach (is_call_of kind) (reach_of (view_optional_over over.now))) }
+{
+    match over {
+        None => Ok(()),
+        Some(Over::Named(_)) => Ok(()),
+        Some(Over::Windowed(window)) => collect_window(kind, calls, window),
+    }
+}
+
+// Of the parts of a call.
+#[cycle(collecting)]
+fn collect_below<'a>(
+    kind: CallKind,
+    calls: &mut Vec<&'a Call>,
+    call: &'a Call,
+) -> Result<(), AllocError>
+    ensures { OnOk result (call_trees calls.new.items ≡ call_trees calls.old.items ++ (nodes_given (is_call_of kind) (view_arguments call.now.arguments) ++ (nodes_in_filter (is_call_of kind) (filter_of (view_optional call.now.filter)) ++ nodes_in_reach (is_call_of kind) (reach_of (view_optional_over call.now.over))))) }
+{
+    collect_arguments(kind, calls, &call.arguments)?;
+    collect_filter(kind, calls, &call.filter)?;
+    collect_over(kind, calls, &call.over)?;
+    Ok(())
+}
+
+#[cycle(collecting)]
+fn collect_call<'a>(
+    kind: CallKind,
+    calls: &mut Vec<&'a Call>,
+    call: &'a Call,
+) -> Result<(), AllocError>
+    ensures { OnOk result (call_trees calls.new.items ≡ call_trees calls.old.items ++ nodes_in (is_call_of kind) (view_call call.now)) }
+{
+    if is_of(kind, call) {
+        push_call(calls, call)?;
+        return Ok(());
+    }
+    collect_below(kind, calls, call)?;
+    Ok(())
+}
+
+fn collect_option<'a>(
+    kind: CallKind,
+    calls: &mut Vec<&'a Call>,
+    e: &'a Option<Expression>,
+) -> Result<(), AllocError>
+    ensures { OnOk result (call_trees calls.new.items ≡ call_trees calls.old.items ++ nodes_in_option (is_call_of kind) (view_optional e.now)) }
+{
+    match e {
+        None => Ok(()),
+        Some(e) => collect(kind, calls, e),
+    }
+}
+
+fn collect_item<'a>(
+    kind: CallKind,
+    calls: &mut Vec<&'a Call>,
+    item: &'a Item,
+) -> Result<(), AllocError>
+    ensures { OnOk result (call_trees calls.new.items ≡ call_trees calls.old.items ++ nodes_in_items (is_call_of kind) (view_item item.now ∷ [])) }
+{
+    match item {
+        Item::All => Ok(()),
+        Item::Value { expression, .. } => {
+            collect(kind, calls, expression)?;
+            Ok(())
+        }
+    }
+}
+
+fn collect_items<'a>(
+    kind: CallKind,
+    calls: &mut Vec<&'a Call>,
+    items: &'a [Item],
+) -> Result<(), AllocError>
+    ensures { OnOk result (call_trees calls.new.items ≡ call_trees calls.old.items ++ nodes_in_items (is_call_of kind) (map view_item items.now)) }
+{
+    'items: for item in items {
+        collect_item(kind, calls, item)?;
+    }
+    Ok(())
+}
+
+fn collect_entries<'a>(
+    kind: CallKind,
+    calls: &mut Vec<&'a Call>,
+    entries: &'a [WindowEntry],
+) -> Result<(), AllocError>
+    ensures { OnOk result (call_trees calls.new.items ≡ call_trees calls.old.items ++ nodes_in_entries (is_call_of kind) (map view_entry entries.now)) }
+{
+    'entries: for entry in entries {
+        collect_window(kind, calls, &entry.window)?;
+    }
+    Ok(())
+}
+
+fn collect_order<'a>(
+    kind: CallKind,
+    calls: &mut Vec<&'a Call>,
+    order: &'a [Key],
+) -> Result<(), AllocError>
+    ensures { OnOk result (call_trees calls.new.items ≡ call_trees calls.old.items ++ nodes_in_order (is_call_of kind) (view_keys order.now)) }
+{
+    'keys: for key in order {
+        collect_key(kind, calls, key)?;
+    }
+    Ok(())
+}
+
+fn distinct<'a>(alloc: Global, calls: &[&'a Call]) -> Result<CallSet<'a>, AllocError>
+    ensures { IfOk result (λ made. calls_in made ≡ with_new [] (call_trees calls.now)) }
+{
+    let mut made = CallSet::new(alloc);
+    'calls: for call in calls {
+        made.add(*call)?;
+    }
+    Ok(made)
+}
+
+fn all_group_calls<'a>(alloc: Global, query: &'a Query) -> Result<Vec<&'a Call>, AllocError>
+    ensures { IfOk result (λ calls. call_trees calls.items ≡ nodes_in_items (is_call_of Grouped) (clauses_in query.now).items ++ (nodes_in_option (is_call_of Grouped) (clauses_in query.now).having ++ (nodes_in_entries (is_call_of Grouped) (clauses_in query.now).windows ++ nodes_in_order (is_call_of Grouped) (clauses_in query.now).order))) }
+{
+    let mut calls = Vec::new(alloc);
+    collect_items(CallKind::Grouped, &mut calls, query.items.as_slice())?;
+    collect_option(CallKind::Grouped, &mut calls, &query.having)?;
+    collect_entries(CallKind::Grouped, &mut calls, query.windows.as_slice())?;
+    collect_order(CallKind::Grouped, &mut calls, query.order.as_slice())?;
+    Ok(calls)
+}
+
+fn all_window_calls<'a>(alloc: Global, query: &'a Query) -> Result<Vec<&'a Call>, AllocError>
+    ensures { IfOk result (λ calls. call_trees calls.items ≡ nodes_in_items (is_call_of Windowed) (clauses_in query.now).items ++ nodes_in_order (is_call_of Windowed) (clauses_in query.now).order) }
+{
+    let mut calls = Vec::new(alloc);
+    collect_items(CallKind::Windowed, &mut calls, query.items.as_slice())?;
+    collect_order(CallKind::Windowed, &mut calls, query.order.as_slice())?;
+    Ok(calls)
+}
+
+/// The aggregates without OVER, each once: those of the SELECT list, of HAVING, of the WINDOW entries and of ORDER BY.
+pub fn group_calls<'a>(alloc: Global, query: &'a Query) -> Result<CallSet<'a>, AllocError>
+    ensures { IfOk result (λ calls. calls_in calls ≡ aggregates_of (clauses_in query.now)) }
+{
+    let all = all_group_calls(alloc, query)?;
+    let calls = distinct(alloc, all.as_slice())?;
+    Ok(calls)
+}
+
+/// The calls with OVER, each once: those of the SELECT list and of ORDER BY.
+pub fn window_calls<'a>(alloc: Global, query: &'a Query) -> Result<CallSet<'a>, AllocError>
+    ensures { IfOk result (λ calls. calls_in calls ≡ calls_over_windows (clauses_in query.now)) }
+{
+    let all = all_window_calls(alloc, query)?;
+    let calls = distinct(alloc, all.as_slice())?;
+    Ok(calls)
+}

@@ -1,0 +1,68 @@
+//! Calls that are added to a set, and found in it.
+
+ghost use Rattle.std.specs.Prelude.{◌≡◌, ◌≤◌, ◌^◌, ◌∷◌, [], length, OnOk, IfOk};
+ghost use Rattle.wquery.specs.Tree.{view_call};
+ghost use Rattle.wdistinct.specs.Calls.{call_trees, with_new};
+ghost use Rattle.wdistinct.specs.Places.{calls_in, place_of_same};
+
+use crate::call_key::CallKey;
+use crate::call_set::CallSet;
+use indexmap::IndexSet;
+use std::alloc::{AllocError, Global};
+use wquery::Call;
+
+/// The most calls of a set: more than any memory holds, and few enough that two places and a width are a number.
+const MOST_CALLS: usize = 1 << 62;
+
+impl<'a> CallSet<'a> {
+    /// No calls.
+    pub fn new(alloc: Global) -> CallSet<'a>
+        ensures { calls_in result ≡ [] }
+    {
+        CallSet {
+            keys: IndexSet::new(alloc),
+        }
+    }
+
+    /// Adds a call, where none so far is equal to it.
+    pub fn add(&mut self, call: &'a Call) -> Result<(), AllocError>
+        ensures { OnOk result (calls_in self.new ≡ with_new (calls_in self.old) (view_call call.now ∷ [])) }
+    {
+        if self.keys.len() >= MOST_CALLS {
+            return Err(AllocError);
+        }
+        self.keys.insert(CallKey { call })?;
+        Ok(())
+    }
+
+    /// The number of calls.
+    #[tactic(auto, unfolding(crate::specs::Places::calls_in))]
+    pub fn len(&self) -> usize
+        ensures { result ≡ length (calls_in self.now) }
+    {
+        self.keys.len()
+    }
+
+    /// The place of the call that is equal to this one, or the number of calls.
+    pub fn place(&self, call: &Call) -> usize
+        ensures place { result ≡ place_of_same (calls_in self.now) (view_call call.now) }
+        ensures few { result ≤ 2 ^ 62 }
+    {
+        match self.keys.get_index_of(&CallKey { call }) {
+            Some(place) => place,
+            None => self.keys.len(),
+        }
+    }
+
+    /// The calls in their order.
+    #[tactic(auto, unfolding(crate::specs::Places::calls_in))]
+    pub fn listed(&self, alloc: Global) -> Result<Vec<&'a Call>, AllocError>
+        ensures { IfOk result (λ calls. call_trees calls.items ≡ calls_in self.now) }
+    {
+        let mut calls = Vec::with_capacity(alloc, self.keys.len())?;
+        'keys: for key in self.keys.as_slice() {
+            calls.push(key.call)?;
+        }
+        Ok(calls)
+    }
+}

@@ -1,0 +1,20 @@
+//! The calls of a SELECT that are computed apart from its expressions, each once.
+//!
+//! - Gives `group_calls`, the aggregates without OVER, `window_calls`, the calls with OVER, and the set that holds them.
+//! - Promises: a set lists its calls in the order of first sight, and tells the place of each call that is equal to one of
+//!   them. Adding a call, or finding its place, takes time in proportion to the call and not to the number of calls,
+//!   but for calls whose hashes are made to meet.
+//! - Asks nothing. A walk goes as deep as the nesting alone.
+//! - Leaves to `wsame` when two calls are equal, to `wscope` which functions are aggregates, to `wresolve` what calls stand for.
+//!
+//! Read `specs/Clauses.antt`, `specs/Calls.antt`, `specs/Places.antt`; `specs/Sketch.antt` says what a call is hashed by.
+#![tactic(auto)]
+
+mod call_key;
+mod call_set;
+mod calls;
+mod finding;
+mod sketch;
+
+pub use call_set::CallSet;
+pub use calls::{group_calls, window_calls};

@@ -1,0 +1,96 @@
+//! Orders of rows that several windows share.
+ghost use Rattle.std.specs.Prelude.{◌≡◌, ◌<◌, Ok, IfSome, List, length, slice_index_or};
+ghost use Rattle.wplan.specs.Plans.{window_plan};
+ghost use Rattle.wrows.specs.Columns.{Row};
+ghost use Rattle.wrows.specs.Laid.{rows_seen};
+ghost use Rattle.wrows.specs.Outcomes.{Gives};
+ghost use Rattle.wcalls.specs.Ordered.{ordered_rows};
+ghost use Rattle.wplanner.specs.KeptOrders.{AreOrdersOf};
+
+use std::alloc::{AllocError, Global};
+use wcalls::{WindowOrder, share_order};
+use wplan::SettledWindow;
+use wrows::AnswerFault;
+use wvalues::Value;
+
+/// The rows in the order of a window.
+#[derive(Drop)]
+pub(crate) struct KeptOrder<'a> {
+    pub window: &'a SettledWindow,
+    pub order: WindowOrder,
+}
+
+// The place of an order that is also that of a window.
+fn place_shared(kept: &[KeptOrder], window: &SettledWindow) -> Option<usize>
+    ensures place { IfSome result (λ place. place < length kept.now) }
+    ensures order { (rows : List Row) → AreOrdersOf rows kept.now → IfSome result (λ place. (d : KeptOrder) → ordered_rows rows (window_plan window.now) ≡ Ok (slice_index_or kept.now place d).order) }
+{
+    for (place, shared) in kept.iter().enumerate() {
+        if share_order(shared.window, window) {
+            return Some(place);
+        }
+    }
+    None
+}
+
+// Takes out an order that is also that of a window, if there is one.
+fn take_shared(kept: &mut Vec<KeptOrder>, window: &SettledWindow) -> Option<WindowOrder>
+    ensures order { (rows : List Row) → AreOrdersOf rows kept.old.items → IfSome result (λ order. ordered_rows rows (window_plan window.now) ≡ Ok order) }
+    ensures others { (rows : List Row) → AreOrdersOf rows kept.old.items → AreOrdersOf rows kept.new.items }
+{
+    match place_shared(kept.as_slice(), window) {
+        None => None,
+        Some(place) => {
+            let KeptOrder { order, .. } = kept.remove(place);
+            Some(order)
+        }
+    }
+}
+
+/// The rows in the order of a window: a kept order that it shares, which is taken out, else a new one.
+pub(crate) fn order_of(
+    alloc: Global,
+    window: &SettledWindow,
+    rows: &[&[Value]],
+    kept: &mut Vec<KeptOrder>,
+) -> Result<WindowOrder, AnswerFault>
+    requires { AreOrdersOf (rows_seen rows.now) kept.old.items }
+    ensures order { Gives (λ order. order) result (ordered_rows (rows_seen rows.now) (window_plan window.now)) }
+    ensures others { AreOrdersOf (rows_seen rows.now) kept.new.items }
+{
+    match take_shared(kept, window) {
+        Some(order) => Ok(order),
+        None => WindowOrder::new(alloc, window, rows),
+    }
+}
+
+// The place of a window that shares the order of another one.
+fn place_sharing(windows: &[SettledWindow], window: &SettledWindow) -> Option<usize>
+    ensures place { IfSome result (λ place. place < length windows.now) }
+    ensures order { (rows : List Row) → IfSome result (λ place. (d : SettledWindow) → ordered_rows rows (window_plan window.now) ≡ ordered_rows rows (window_plan (slice_index_or windows.now place d))) }
+{
+    for (place, other) in windows.iter().enumerate() {
+        if share_order(window, other) {
+            return Some(place);
+        }
+    }
+    None
+}
+
+/// Keeps the order of a window's rows, where one of the later windows shares it.
+pub(crate) fn keep_shared<'a>(
+    kept: &mut Vec<KeptOrder<'a>>,
+    window: &'a SettledWindow,
+    order: WindowOrder,
+    later: &[SettledWindow],
+) -> Result<(), AllocError>
+    ensures { (rows : List Row) → ordered_rows rows (window_plan window.entry.now) ≡ Ok order → AreOrdersOf rows kept.old.items → AreOrdersOf rows kept.new.items }
+{
+    match place_sharing(later, window) {
+        None => Ok(()),
+        Some(_) => {
+            kept.push(KeptOrder { window, order })?;
+            Ok(())
+        }
+    }
+}

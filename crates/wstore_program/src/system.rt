@@ -1,0 +1,273 @@
+//! The calls that the program makes on files and streams, with a count of those that failed.
+ghost use Rattle.std.specs.Prelude.{◌≡◌, ◌≢◌, ◌+◌, ◌≤◌, ◌↔◌, length, IfOk, IfErr, IfSome, IsNone, IsTrue, OnOk};
+ghost use Rattle.std.specs.IoError.{error_kind};
+ghost use Rattle.std.specs.Fs.{IsReadonly};
+ghost use Rattle.std.specs.Io.KnownBytes.{Appends};
+ghost use Rattle.wstore_program.specs.declared.fault.Fault.TheVariants.{NoMemory};
+ghost use Rattle.wstore_program.specs.Calls.{GivesBytes, HasCause, IsSound};
+
+use crate::fault::Fault;
+use std::fs::{self, File, Metadata, OpenFile, Permissions};
+use std::io::{self, ErrorKind, Read, Write};
+use std::marker::Model;
+use std::rt::Files;
+
+/// How often files are read at most.
+const MOST_READS: u64 = 1 << 40;
+
+/// The files of a system, with the number of reads and of the calls that failed. Nothing else can count a failure.
+#[derive(Drop)]
+pub struct System<'a, R> {
+    files: &'a R,
+    reads: u64,
+    failed_reads: u64,
+    failed_writes: u64,
+}
+
+impl<'a, R> Model for System<'a, R> {
+    ghost use Rattle.wstore_program.specs.Calls.{CallCounts};
+
+    ghost Value = { CallCounts };
+
+    ghost view = { λ s. record { reads = s.reads; failed_reads = s.failed_reads; failed_writes = s.failed_writes } };
+}
+
+// Whether a call found no memory.
+fn is_out_of_memory(error: &io::Error) -> bool
+    ensures { IsTrue result ↔ (error_kind error.now ≡ ErrorKind.OutOfMemory) }
+{
+    error.kind() == ErrorKind::OutOfMemory
+}
+
+impl<'a, R> System<'a, R> {
+    /// Nothing has been counted yet.
+    pub fn new(files: &'a R) -> Self
+        ensures { IsSound result }
+    {
+        System {
+            files,
+            reads: 0,
+            failed_reads: 0,
+            failed_writes: 0,
+        }
+    }
+
+    // The fault of a call that read.
+    fn read_failed(&mut self, error: &io::Error) -> Fault
+        requires { IsSound self.old }
+        ensures memory { error_kind error.now ≡ ErrorKind.OutOfMemory → result ≡ NoMemory }
+        ensures other { error_kind error.now ≢ ErrorKind.OutOfMemory → result ≡ Fault.Read }
+        ensures cause { HasCause result self.new }
+    {
+        if is_out_of_memory(error) {
+            return Fault::NoMemory;
+        }
+        self.failed_reads += 1;
+        Fault::Read
+    }
+
+    // The fault of a call that wrote.
+    fn write_failed(&mut self, error: &io::Error) -> Fault
+        requires { IsSound self.old }
+        ensures memory { error_kind error.now ≡ ErrorKind.OutOfMemory → result ≡ NoMemory }
+        ensures other { error_kind error.now ≢ ErrorKind.OutOfMemory → result ≡ Fault.Write }
+        ensures cause { HasCause result self.new }
+    {
+        if is_out_of_memory(error) {
+            return Fault::NoMemory;
+        }
+        self.misplaced()
+    }
+
+    // The fault of a path that leads to no place for a file, and of a call that wrote.
+    fn misplaced(&mut self) -> Fault
+        requires { IsSound self.old }
+        ensures fault { result ≡ Fault.Write }
+        ensures cause { HasCause result self.new }
+    {
+        self.failed_writes += 1;
+        Fault::Write
+    }
+
+    /// Reads once, or tells by `None` that the read was interrupted.
+    pub fn read<T: Read>(
+        &mut self,
+        reader: &mut T,
+        block: &mut [u8],
+    ) -> Result<Option<usize>, Fault>
+        requires { IsSound self.old }
+        ensures bound { IfOk result (λ count. IfSome count (λ n. n ≤ length block.new)) }
+        ensures bytes { IfOk result (λ count. GivesBytes (T.remaining reader.old) (T.remaining reader.new) block.new count) }
+        ensures reads { OnOk result (self.new.reads ≡ self.old.reads + 1) }
+        ensures sound { OnOk result (IsSound self.new) }
+        ensures cause { IfErr result (λ fault. HasCause fault self.new) }
+    {
+        if self.reads >= MOST_READS {
+            return Err(Fault::Read);
+        }
+        self.reads += 1;
+        match reader.read(block) {
+            Ok(count) => Ok(Some(count)),
+            Err(error) if error.kind() == ErrorKind::Interrupted => Ok(None),
+            Err(error) => Err(self.read_failed(&error)),
+        }
+    }
+
+    /// Writes these bytes, all of them.
+    pub fn write<W: Write>(&mut self, writer: &mut W, bytes: &[u8]) -> Result<(), Fault>
+        requires { IsSound self.old }
+        ensures bytes { OnOk result (Appends (W.contents writer.old) (W.contents writer.new) bytes.now) }
+        ensures sound { OnOk result (IsSound self.new) }
+        ensures cause { IfErr result (λ fault. HasCause fault self.new) }
+    {
+        match writer.write_all(bytes) {
+            Ok(()) => Ok(()),
+            Err(error) => Err(self.write_failed(&error)),
+        }
+    }
+}
+
+impl<R: Files<File = File> + AllocGlobal> System<'_, R> {
+    /// Opens a file that has to be there.
+    pub fn open(&mut self, path: &str) -> Result<File, Fault>
+        requires { IsSound self.old }
+        ensures sound { OnOk result (IsSound self.new) }
+        ensures cause { IfErr result (λ fault. HasCause fault self.new) }
+    {
+        match File::open(self.files, path) {
+            Ok(file) => Ok(file),
+            Err(error) => Err(self.read_failed(&error)),
+        }
+    }
+
+    /// Opens a file, if there is one.
+    pub fn open_if_there(&mut self, path: &str) -> Result<Option<File>, Fault>
+        requires { IsSound self.old }
+        ensures sound { OnOk result (IsSound self.new) }
+        ensures cause { IfErr result (λ fault. HasCause fault self.new) }
+    {
+        match File::open(self.files, path) {
+            Ok(file) => Ok(Some(file)),
+            Err(error) if error.kind() == ErrorKind::NotFound => Ok(None),
+            Err(error) => Err(self.read_failed(&error)),
+        }
+    }
+
+    // The permissions of a plain file with leave to write.
+    fn permissions(&mut self, metadata: &Metadata) -> Result<Permissions, Fault>
+        requires { IsSound self.old }
+        ensures writable { IfOk result (λ permissions. IsReadonly permissions → ⊥) }
+        ensures sound { OnOk result (IsSound self.new) }
+        ensures cause { IfErr result (λ fault. HasCause fault self.new) }
+    {
+        let permissions = metadata.permissions();
+        if !metadata.is_file() || permissions.readonly() {
+            return Err(self.misplaced());
+        }
+        Ok(permissions)
+    }
+
+    /// The permissions of the file that a path leads to, if there is one: a plain file with leave to write. Nothing else is
+    /// replaced: a device, a pipe, a folder, a file without leave to write, or a link to nothing is no place for a file.
+    pub fn replaceable(&mut self, path: &str) -> Result<Option<Permissions>, Fault>
+        requires { IsSound self.old }
+        ensures writable { IfOk result (λ found. IfSome found (λ permissions. IsReadonly permissions → ⊥)) }
+        ensures sound { OnOk result (IsSound self.new) }
+        ensures cause { IfErr result (λ fault. HasCause fault self.new) }
+    {
+        match fs::metadata(self.files, path) {
+            Ok(metadata) => {
+                let permissions = self.permissions(&metadata)?;
+                Ok(Some(permissions))
+            }
+            Err(error) if error.kind() == ErrorKind::NotFound => self.absent(path),
+            Err(error) => Err(self.write_failed(&error)),
+        }
+    }
+
+    // Nothing, where a path leads to nothing and is no link.
+    fn absent(&mut self, path: &str) -> Result<Option<Permissions>, Fault>
+        requires { IsSound self.old }
+        ensures none { IfOk result (λ found. IsNone found) }
+        ensures sound { OnOk result (IsSound self.new) }
+        ensures cause { IfErr result (λ fault. HasCause fault self.new) }
+    {
+        if fs::symlink_metadata(self.files, path).is_ok() {
+            return Err(self.misplaced());
+        }
+        Ok(None)
+    }
+
+    /// The path of a file behind all links.
+    pub fn real_path(&mut self, path: &str) -> Result<String, Fault>
+        requires { IsSound self.old }
+        ensures sound { OnOk result (IsSound self.new) }
+        ensures cause { IfErr result (λ fault. HasCause fault self.new) }
+    {
+        match fs::canonicalize(self.files, path) {
+            Ok(real) => Ok(real.into_string()),
+            Err(error) => Err(self.write_failed(&error)),
+        }
+    }
+
+    /// Makes a new file.
+    pub fn create_new(&mut self, path: &str) -> Result<File, Fault>
+        requires { IsSound self.old }
+        ensures sound { OnOk result (IsSound self.new) }
+        ensures cause { IfErr result (λ fault. HasCause fault self.new) }
+    {
+        match File::create_new(self.files, path) {
+            Ok(created) => Ok(created),
+            Err(error) => Err(self.write_failed(&error)),
+        }
+    }
+
+    /// Gives a file these permissions.
+    pub fn permit(&mut self, file: &File, permissions: &Permissions) -> Result<(), Fault>
+        requires { IsSound self.old }
+        ensures sound { OnOk result (IsSound self.new) }
+        ensures cause { IfErr result (λ fault. HasCause fault self.new) }
+    {
+        let Ok(permissions) = permissions.clone() else {
+            return Err(Fault::NoMemory);
+        };
+        match file.set_permissions(permissions) {
+            Ok(()) => Ok(()),
+            Err(error) => Err(self.write_failed(&error)),
+        }
+    }
+
+    /// Brings a file or a folder to the disk.
+    pub fn sync(&mut self, file: &File) -> Result<(), Fault>
+        requires { IsSound self.old }
+        ensures sound { OnOk result (IsSound self.new) }
+        ensures cause { IfErr result (λ fault. HasCause fault self.new) }
+    {
+        match file.sync_all() {
+            Ok(()) => Ok(()),
+            Err(error) => Err(self.write_failed(&error)),
+        }
+    }
+
+    /// Moves a file over another.
+    pub fn rename(&mut self, from: &str, to: &str) -> Result<(), Fault>
+        requires { IsSound self.old }
+        ensures sound { OnOk result (IsSound self.new) }
+        ensures cause { IfErr result (λ fault. HasCause fault self.new) }
+    {
+        match fs::rename(self.files, from, to) {
+            Ok(()) => Ok(()),
+            Err(error) => Err(self.write_failed(&error)),
+        }
+    }
+
+    /// Removes a file, if there is one that can be removed.
+    pub(crate) fn remove(&self, path: &str) {
+        let _ = fs::remove_file(self.files, path);
+    }
+
+    /// A folder, if it can be opened.
+    pub(crate) fn folder(&self, path: &str) -> Option<File> {
+        File::open(self.files, path).ok()
+    }
+}
