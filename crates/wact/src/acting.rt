@@ -2,7 +2,7 @@
 ghost use Rattle.std.specs.Prelude.{◌≡◌, ◌≢◌, IfErr, IfOk, option_map};
 ghost use Rattle.wcommand.specs.declared.choice.Choice.TheVariants.{Session};
 ghost use Rattle.wreplies.specs.Spelling.{name_text};
-ghost use Rattle.wact.specs.Outcomes.{IsRefused};
+ghost use Rattle.wact.specs.Outcomes.{IsAnswered, IsRefused};
 ghost use Rattle.wact.specs.Acts.{Acts, ActsBy, ActsOn, Asks, HasFault, Joins, Knows, Lists, OnName, Retires, Takes};
 
 use crate::acted::{Acted, answered, refused, stored};
@@ -86,11 +86,18 @@ fn list(alloc: Global, node: &Node) -> Result<Acted, AllocError>
     Ok(answered(text))
 }
 
+// What is told of a query that is answered.
+fn told(answer: Vec<u8>) -> Acted
+    ensures { IsAnswered result answer.items }
+{
+    answered(Text::Made(answer))
+}
+
 fn ask(alloc: Global, node: &Node, query: &str) -> Result<Acted, AllocError>
     ensures { IfOk result (λ acted. Asks node.now.schema node.now.view query.now acted) }
 {
     match node.ask(query.as_bytes()) {
-        Ok(answer) => Ok(answered(Text::Made(answer))),
+        Ok(answer) => Ok(told(answer)),
         Err(AskFault::NoMemory) => Err(AllocError),
         Err(fault) => Ok(refused(refused_query(alloc, fault)?)),
     }
@@ -153,6 +160,7 @@ fn act_by(
 /// What the subcommand of a choice gives on the bytes of the table's file, of the store's file if there is one, and
 /// of CSV or OTHER, which are empty where the subcommand has none. The table is judged first, then the store, then the
 /// subcommand. At `AllocError` nothing is judged.
+#[tactic(auto, using(crate::proofs::Outcomes::declared))]
 pub fn act(
     alloc: Global,
     choice: &Choice<'_>,

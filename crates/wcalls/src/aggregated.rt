@@ -13,16 +13,16 @@ use wrows::AnswerFault;
 use wvalues::Value;
 
 /// An aggregate over frames, with what it is fed by each row.
-#[derive(Clone, Copy)]
-pub struct AggregateOver<'a> {
+#[derive(Drop)]
+pub struct AggregateOver {
     pub function: AggregateFunction,
-    pub feed: &'a Feed,
+    pub feed: Feed,
 }
 
-impl<'a> Call for AggregateOver<'a> {
-    ghost answer = { λ call p rows place. aggregate_of call.function (feed_in call.feed.now) (frame_numbers p rows place) };
+impl Call for AggregateOver {
+    ghost answer = { λ call p rows place. aggregate_of call.function (feed_in call.feed) (frame_numbers p rows place) };
 
-    ghost count = { λ call. length call.feed.now.values.items };
+    ghost count = { λ call. length call.feed.values.items };
 
     fn push_answers(
         &self,
@@ -31,6 +31,6 @@ impl<'a> Call for AggregateOver<'a> {
         partitions: &Partitions,
         told: &mut Vec<Value>,
     ) -> Result<(), AnswerFault> {
-        push_frame_aggregates(alloc, self.function, self.feed, rows, partitions, told)
+        push_frame_aggregates(alloc, self.function, &self.feed, rows, partitions, told)
     }
 }

@@ -16,7 +16,7 @@ use wrows::AnswerFault;
 use wvalues::Value;
 
 /// What a call with OVER answers for the rows of a window.
-pub trait Call {
+pub trait Call: Drop {
     /// Its answer for the row at a place of a partition.
     ghost answer: { Self → Answer };
 
@@ -90,21 +90,23 @@ pub fn by_number(alloc: Global, rows: &[usize], told: Vec<Value>) -> Result<Vec<
     Ok(column)
 }
 
-/// A call's answers for all rows of a window, by the numbers of the rows.
+/// A call's answers for all rows of a window, by the numbers of the rows. What the call holds is let go before they are
+/// put by number.
 pub fn call_column<C: Call>(
     alloc: Global,
-    call: &C,
+    call: C,
     rows: &[usize],
     partitions: &Partitions,
 ) -> Result<Vec<Value>, AnswerFault>
     requires len { length rows.now ≡ length partitions.now.keys }
-    requires count { C.count call.now ≡ length rows.now }
+    requires count { C.count call ≡ length rows.now }
     requires below { All (λ i. i < length rows.now) rows.now }
     requires few { length rows.now < 2 ^ 31 }
-    ensures column { (w : Windowed) → IsArranged w rows.now partitions.now → Gives (λ column. map meaning column.items) result (answered w (C.answer call.now)) }
+    ensures column { (w : Windowed) → IsArranged w rows.now partitions.now → Gives (λ column. map meaning column.items) result (answered w (C.answer call)) }
     ensures len { IfOk result (λ column. length column.items ≡ length rows.now) }
 {
-    let told = answers_in_order(alloc, call, rows, partitions)?;
+    let told = answers_in_order(alloc, &call, rows, partitions)?;
+    drop(call);
     let column = by_number(alloc, rows, told)?;
     Ok(column)
 }

@@ -1,5 +1,5 @@
 //! The columns of a window's functions.
-ghost use Rattle.std.specs.Prelude.{◌≡◌, ◌<◌, ◌^◌, ◌++◌, true, All, IfOk, OnOk, Ok, length};
+ghost use Rattle.std.specs.Prelude.{◌≡◌, ◌<◌, ◌^◌, true, All, IfOk, Ok, length};
 ghost use Rattle.std.specs.List.{list_all};
 ghost use Rattle.wplan.specs.Plans.{window_plan};
 ghost use Rattle.wrows.specs.Outcomes.{Gives, each};
@@ -14,21 +14,11 @@ ghost use Rattle.wcalls.specs.Ordered.{ordered_rows};
 use crate::functions::function_column;
 use crate::parts::frame_of;
 use crate::window::WindowOrder;
-use std::alloc::{AllocError, Global};
+use std::alloc::Global;
 use wframe::{KeyRows, Partitions};
 use wplan::{SettledWindow, WindowFunction};
 use wrows::{AnswerFault, Cells};
 use wvalues::Value;
-
-// Appends a column.
-fn push_column(cells: &mut Vec<Value>, column: Vec<Value>) -> Result<(), AllocError>
-    ensures { OnOk result (cells.new.items ≡ cells.old.items ++ column.items) }
-{
-    for value in column {
-        cells.push(value)?;
-    }
-    Ok(())
-}
 
 // The columns of functions of a window, by number, where the rows stand in its order and in its partitions.
 fn every_column(
@@ -47,10 +37,11 @@ fn every_column(
     ensures width { IfOk result (λ cells. cells.width ≡ length rows.now) }
     ensures count { IfOk result (λ cells. cells.count ≡ length functions.now) }
 {
-    let mut cells = Vec::new(alloc);
+    // Room for all columns at once: a list that grows is held twice while it is moved.
+    let mut cells = Vec::with_capacity(alloc, rows.len().saturating_mul(functions.len()))?;
     for function in functions {
-        let column = function_column(alloc, function, rows, order, partitions)?;
-        push_column(&mut cells, column)?;
+        let mut column = function_column(alloc, function, rows, order, partitions)?;
+        cells.append(&mut column)?;
     }
     Ok(Cells {
         cells,

@@ -40,7 +40,7 @@ fn counted_column<N: Counts + Copy>(
         counts,
         count: order.len(),
     };
-    let column = call_column(alloc, &call, order, partitions)?;
+    let column = call_column(alloc, call, order, partitions)?;
     Ok(column)
 }
 
@@ -73,10 +73,10 @@ fn told_column<P: RowPlaces + Copy>(
     let values = value_column(alloc, expr, rows)?;
     let call = Told {
         places,
-        values: &values,
+        values,
         default,
     };
-    let told = call_column(alloc, &call, order, partitions)?;
+    let told = call_column(alloc, call, order, partitions)?;
     Ok(told)
 }
 
@@ -98,9 +98,9 @@ fn aggregated_column(
     let feed = feed_rows(alloc, aggregate, rows)?;
     let call = AggregateOver {
         function: aggregate.function,
-        feed: &feed,
+        feed,
     };
-    let told = call_column(alloc, &call, order, partitions)?;
+    let told = call_column(alloc, call, order, partitions)?;
     Ok(told)
 }
 

@@ -46,13 +46,13 @@ pub trait Counts {
 }
 
 /// A call that counts, over so many rows.
-#[derive(Clone, Copy)]
+#[derive(Drop)]
 pub struct Counted<N> {
     pub counts: N,
     pub count: usize,
 }
 
-impl<N: Counts> Call for Counted<N> {
+impl<N: Counts + Drop> Call for Counted<N> {
     ghost answer = { λ call p rows place. Some (Int (pos (N.count_at call.counts (length rows) p place))) };
 
     ghost count = { λ call. call.count };

@@ -77,17 +77,17 @@ pub trait RowPlaces {
 }
 
 /// A call that tells values, each row's by number.
-#[derive(Clone, Copy)]
+#[derive(Drop)]
 pub struct Told<'a, P> {
     pub places: P,
-    pub values: &'a [Value],
+    pub values: Vec<Value>,
     pub default: &'a Value,
 }
 
-impl<'a, P: RowPlaces> Call for Told<'a, P> {
-    ghost answer = { λ call p rows place. Some (told_value (map meaning call.values.now) rows (meaning call.default.now) (P.place_told call.places (length rows) p place)) };
+impl<'a, P: RowPlaces + Drop> Call for Told<'a, P> {
+    ghost answer = { λ call p rows place. Some (told_value (map meaning call.values.items) rows (meaning call.default.now) (P.place_told call.places (length rows) p place)) };
 
-    ghost count = { λ call. length call.values.now };
+    ghost count = { λ call. length call.values.items };
 
     fn push_answers(
         &self,
@@ -101,7 +101,7 @@ impl<'a, P: RowPlaces> Call for Told<'a, P> {
             let frames = partitions.partition(number);
             let places = self.places.places_told(alloc, &frames)?;
             let own = &rows[span.from..span.to];
-            push_told(told, self.values, own, self.default, &places)?;
+            push_told(told, &self.values, own, self.default, &places)?;
         }
         Ok(())
     }

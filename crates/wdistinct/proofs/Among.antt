@@ -1,5 +1,5 @@
 -- A call among the calls of a set.
-use Rattle.std.proofs.Common.{◌≡◌, ℕ, ◌+◌, Bool, true, false, not, cond, ◌||◌, ◌<◌, ◌≤◌, suc, subst, List, [], ◌∷◌, ◌++◌, length, map, Option, Some, None, refl, sym, ap, ◌∙◌, arith, true≢false}
+use Rattle.std.proofs.Common.{◌≡◌, ℕ, ◌+◌, Bool, true, false, not, cond, ◌||◌, ◌≤◌, suc, subst, List, [], ◌∷◌, ◌++◌, length, map, Option, Some, None, refl, sym, ap, ◌∙◌, arith}
 use Rattle.std.specs.Prelude.{if◌then◌else◌, nat_lt}
 use Rattle.std.specs.List.{list_any, position, position_or_len}
 use Rattle.std.proofs.lemmas.List.{map-append}
@@ -23,6 +23,10 @@ module _ {K : Type 0} (says : K → Tree) where
       by : (b : Bool) → map says (if b then ks else ks ++ (k ∷ [])) ≡ (if b then map says ks else map says ks ++ (says k ∷ []))
       by true = refl
       by false = map-append says ks (k ∷ [])
+
+  -- a call to which none is equal
+  pub absent : (ks : List K) (k : K) → list_any (λ x. is_same (says k) (says x)) ks ≡ false → list_any (λ (u : Tree). is_same u (says k)) (map says ks) ≡ false
+  absent ks k none = any_turned (says k) ks ∙ none
 
   turned : (b : Bool) (m n : ℕ) → m ≡ n → cond (not b) (1 + m) 0 ≡ (if b then 0 else suc n)
   turned true m n e = refl

@@ -1,11 +1,11 @@
 -- Calls that are collected in turn.
-use Rattle.std.proofs.Common.{◌≡◌, Bool, true, false, ℕ, List, [], ◌∷◌, ◌++◌, refl, ap, sym, ◌∙◌, map, append_assoc}
+use Rattle.std.proofs.Common.{◌≡◌, Bool, true, false, List, [], ◌∷◌, ◌++◌, ap, sym, ◌∙◌, append_assoc}
 use Rattle.std.proofs.lemmas.List.{append-nil}
 use Rattle.std.specs.Rc.{rc_str_bytes}
 use Rattle.wquery.specs.declared.expression.Call.{Call}
 use Rattle.wquery.specs.declared.expression.Window.{Window, out-Window}
 use Rattle.wquery.specs.declared.expression.Arguments.TheFolds.{fold_out-Window}
-use Rattle.wquery.specs.Tree.{Tree, Given, Reach, KeyTree, Branch, WindowTree, Links, NoLinks, Further, linked, trees, view, view_key, view_call, view_window, views, view_keys, view_arguments, view_optional, view_optional_over, filter_of, reach_of, arguments_step, expression_step, over_step, call_step, key_step, link_step, window_step}
+use Rattle.wquery.specs.Tree.{Tree, Given, Reach, KeyTree, Branch, WindowTree, Links, Further, linked, view, view_key, view_call, view_window, views, view_keys, view_arguments, view_optional, view_optional_over, filter_of, reach_of, arguments_step, expression_step, over_step, call_step, key_step, link_step, window_step}
 use Rattle.wsame.proofs.Views.{view_call_is}
 use Rattle.wdistinct.specs.declared.calls.CallKind.{CallKind}
 use Rattle.wdistinct.specs.Calls.{is_kind, is_call_of, node_or, nodes_in, nodes_below, nodes_in_links, nodes_in_branches, nodes_given, nodes_in_filter, nodes_in_reach}

@@ -1,7 +1,9 @@
 //! Calls that are added to a set, and found in it.
 
-ghost use Rattle.std.specs.Prelude.{◌≡◌, ◌≤◌, ◌^◌, ◌∷◌, [], length, OnOk, IfOk};
+ghost use Rattle.std.specs.Prelude.{◌≡◌, ◌≤◌, ◌^◌, ◌∷◌, [], length, false, IfOk, OnErr, OnOk};
+ghost use Rattle.std.specs.List.{list_any};
 ghost use Rattle.wquery.specs.Tree.{view_call};
+ghost use Rattle.wsame.specs.Sameness.{is_same};
 ghost use Rattle.wdistinct.specs.Calls.{call_trees, with_new};
 ghost use Rattle.wdistinct.specs.Places.{calls_in, place_of_same};
 
@@ -24,15 +26,21 @@ impl<'a> CallSet<'a> {
         }
     }
 
-    /// Adds a call, where none so far is equal to it.
+    /// Adds a call, where none so far is equal to it. Only such a call asks for memory; where memory runs out the set is
+    /// as it was.
     pub fn add(&mut self, call: &'a Call) -> Result<(), AllocError>
-        ensures { OnOk result (calls_in self.new ≡ with_new (calls_in self.old) (view_call call.now ∷ [])) }
+        ensures ok { OnOk result (calls_in self.new ≡ with_new (calls_in self.old) (view_call call.now ∷ [])) }
+        ensures err { OnErr result (calls_in self.new ≡ calls_in self.old) }
+        ensures other { OnErr result (list_any (λ u. is_same u (view_call call.now)) (calls_in self.old) ≡ false) }
     {
-        if self.keys.len() >= MOST_CALLS {
+        let key = CallKey { call };
+        if self.keys.len() >= MOST_CALLS && !self.keys.contains(&key) {
             return Err(AllocError);
         }
-        self.keys.insert(CallKey { call })?;
-        Ok(())
+        match self.keys.insert(key) {
+            Ok(_) => Ok(()),
+            Err(_) => Err(AllocError),
+        }
     }
 
     /// The number of calls.

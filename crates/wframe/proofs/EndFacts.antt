@@ -11,7 +11,7 @@ use Rattle.wframe.specs.Places.{places_from, AreApart}
 use Rattle.wframe.specs.Peers.{key_at, is_before, is_upto, smaller_keys}
 use Rattle.wframe.specs.Cuts.{CutsAt, HasCuts}
 use Rattle.wframe.specs.Partition.{Partition}
-use Rattle.wframe.specs.Frame.{is_before_start, is_after_end, frame_start, frame_end, frame_span}
+use Rattle.wframe.specs.Frame.{is_before_start, is_after_end, frame_start, frame_end, frame_extent}
 use Rattle.wframe.specs.FrameEnds.{HasFrames, Extends}
 use Rattle.wframe.proofs.CutFacts.{cuts_stay}
 use Rattle.wframe.proofs.FrameFacts.{cut_count}
@@ -106,7 +106,7 @@ peers_read p first row stored x r has h xf xt rf rt =
     }
 
 -- the cuts of a row's frame, at their counts
-pub frame_at : (p : Partition) (first row : ℕ) (stored : FrameEnds) → HasFrames p first stored → row < length p.keys → IsFrameOf p row (frame_span p row)
+pub frame_at : (p : Partition) (first row : ℕ) (stored : FrameEnds) → HasFrames p first stored → row < length p.keys → IsFrameOf p row (frame_extent p row)
 frame_at p first row stored has h =
     let s = get_or stored.starts.items (first + row) 0 in
     let e = get_or stored.ends.items (first + row) 0 in

@@ -15,7 +15,7 @@ use Rattle.wvalues.specs.Order.{keys_cmp}
 use Rattle.wframe.specs.declared.frame.FrameExclusion.{FrameExclusion}
 use Rattle.wframe.specs.declared.frame.FrameExclusion.TheVariants.{NoOthers}
 use Rattle.wframe.specs.Partition.{Partition}
-use Rattle.wframe.specs.Frame.{is_before_start, is_after_end, is_in_frame, is_excluded, is_kept, frame_rows, frame_start, frame_end, frame_span}
+use Rattle.wframe.specs.Frame.{is_before_start, is_after_end, is_in_extent, is_excluded, is_kept, frame_rows, frame_start, frame_end, frame_extent}
 use Rattle.wframe.specs.Places.{places_from, places, spans_places, is_in_span, IsRisen}
 use Rattle.wframe.specs.Peers.{key_at, are_peers, is_before, is_upto}
 use Rattle.wframe.specs.Cuts.{IsCut, CutsAt}
@@ -170,7 +170,7 @@ pub frame_filter : (p : Partition) (i s e : ℕ) (peers : Span) →
 frame_filter p i s e peers at to peer =
     agree (λ j. is_in_span (record { from = s; to = max s e }) j && not (is_excluded p.frame.exclusion i j (is_in_span peers j))) (is_kept p i) (length p.keys) (λ j h.
     ap (λ b. b && not (is_excluded p.frame.exclusion i j (is_in_span peers j))) (in_cuts (length p.keys) s e (is_before_start p.order p.keys p.frame.mode p.frame.start i) (is_after_end p.order p.keys p.frame.mode p.frame.end i) at to j h)
-    ∙ ap (λ b. is_in_frame p i j && not (is_excluded p.frame.exclusion i j b)) (peer j h))
+    ∙ ap (λ b. is_in_extent p i j && not (is_excluded p.frame.exclusion i j b)) (peer j h))
 
 -- where nothing is excluded, the frame's rows are its span
 excluded_none : (exclusion : FrameExclusion) (i j : ℕ) (b : Bool) → exclusion ≡ NoOthers → is_excluded exclusion i j b ≡ false
@@ -191,7 +191,7 @@ plain_rows p i s e at to none =
     sym (span_filter n s (max s e) l w)
     ∙ agree (is_in_span (record { from = s; to = max s e })) (is_kept p i) n (λ j h.
     in_cuts n s e (is_before_start p.order p.keys p.frame.mode p.frame.start i) (is_after_end p.order p.keys p.frame.mode p.frame.end i) at to j h
-    ∙ and_not_false (is_in_frame p i j) (is_excluded p.frame.exclusion i j (are_peers (keys_cmp p.order) p.keys i j)) (excluded_none p.frame.exclusion i j (are_peers (keys_cmp p.order) p.keys i j) none))
+    ∙ and_not_false (is_in_extent p i j) (is_excluded p.frame.exclusion i j (are_peers (keys_cmp p.order) p.keys i j)) (excluded_none p.frame.exclusion i j (are_peers (keys_cmp p.order) p.keys i j) none))
 
 filter_le : (p : ℕ → Bool) (xs : List ℕ) → length (filter p xs) ≤ length xs
 filter_le p [] = omega arith
@@ -206,10 +206,10 @@ slid s e t g n st eg tn gn = record { from = st; to = omega arith; ordered = ome
 -- what is left of a frame's span, as its rows
 pub frame_left : (p : Partition) (row : ℕ) (span peers : Span) (exclusion : FrameExclusion) (spans : List Span) →
     CutsAt (length p.keys) (is_before_start p.order p.keys p.frame.mode p.frame.start row) (frame_start p row) → CutsAt (length p.keys) (λ j. not (is_after_end p.order p.keys p.frame.mode p.frame.end row j)) (frame_end p row) →
-    span ≡ frame_span p row → exclusion ≡ p.frame.exclusion → ((j : ℕ) → j < length p.keys → is_in_span peers j ≡ are_peers (keys_cmp p.order) p.keys row j) →
+    span ≡ frame_extent p row → exclusion ≡ p.frame.exclusion → ((j : ℕ) → j < length p.keys → is_in_span peers j ≡ are_peers (keys_cmp p.order) p.keys row j) →
     spans_places spans ≡ filter (λ j. is_in_span span j && not (is_excluded exclusion row j (is_in_span peers j))) (places (length p.keys)) → spans_places spans ≡ frame_rows p row
 frame_left p row span peers exclusion spans at to is same peer r =
     r
     ∙ ap (λ s. filter (λ j. is_in_span s j && not (is_excluded exclusion row j (is_in_span peers j))) (places (length p.keys))) is
-    ∙ ap (λ x. filter (λ j. is_in_span (frame_span p row) j && not (is_excluded x row j (is_in_span peers j))) (places (length p.keys))) same
+    ∙ ap (λ x. filter (λ j. is_in_span (frame_extent p row) j && not (is_excluded x row j (is_in_span peers j))) (places (length p.keys))) same
     ∙ frame_filter p row (frame_start p row) (frame_end p row) peers at to peer

@@ -9,7 +9,7 @@ use Rattle.wframe.specs.declared.frame.Span.{Span}
 use Rattle.wframe.specs.Places.{IsRisen}
 use Rattle.wframe.specs.Peers.{AreOrdered, is_before, is_upto}
 use Rattle.wframe.specs.Partition.{Partition}
-use Rattle.wframe.specs.Frame.{frame_span}
+use Rattle.wframe.specs.Frame.{frame_extent}
 use Rattle.wframe.specs.Gaps.{peer_span, nearest, before_gap, within_gap, behind_gap, before_span, within_span, behind_span}
 use Rattle.wframe.proofs.ModeFacts.{mode_start_cut, mode_end_cut}
 use Rattle.wframe.proofs.FrameFacts.{count_rises}
@@ -53,11 +53,11 @@ module _ (n : ℕ) (s t : Span) (risen : IsRisen n s t) where
 
 pub before_slides : (p : Partition) (i k : ℕ) → AreOrdered (keys_cmp p.order) p.keys → i ≤ k → k < length p.keys → IsRisen (length p.keys) (before_span p i) (before_span p k)
 before_slides p i k ordered l h =
-    before_rises (length p.keys) (frame_span p i) (frame_span p k) (spans_rise p i k ordered l h) p.frame.exclusion i k (peer_span p i) (peer_span p k) l (peers_begin p i k ordered l h)
+    before_rises (length p.keys) (frame_extent p i) (frame_extent p k) (spans_rise p i k ordered l h) p.frame.exclusion i k (peer_span p i) (peer_span p k) l (peers_begin p i k ordered l h)
 
 pub behind_slides : (p : Partition) (i k : ℕ) → AreOrdered (keys_cmp p.order) p.keys → i ≤ k → k < length p.keys → IsRisen (length p.keys) (behind_span p i) (behind_span p k)
 behind_slides p i k ordered l h =
-    behind_rises (length p.keys) (frame_span p i) (frame_span p k) (spans_rise p i k ordered l h) p.frame.exclusion i k (peer_span p i) (peer_span p k) l (peers_end p i k ordered l h)
+    behind_rises (length p.keys) (frame_extent p i) (frame_extent p k) (spans_rise p i k ordered l h) p.frame.exclusion i k (peer_span p i) (peer_span p k) l (peers_end p i k ordered l h)
 
 -- at most one row is kept among the excluded ones
 few_at : (exclusion : FrameExclusion) (s peers : Span) (row : ℕ) → (within_gap exclusion s row peers).to ≤ (within_gap exclusion s row peers).from + 1
@@ -67,4 +67,4 @@ few_at Ties s peers row = omega arith
 few_at NoOthers s peers row = omega arith
 
 pub few_within : (p : Partition) (i : ℕ) → (within_span p i).to ≤ (within_span p i).from + 1
-few_within p i = few_at p.frame.exclusion (frame_span p i) (peer_span p i) i
+few_within p i = few_at p.frame.exclusion (frame_extent p i) (peer_span p i) i

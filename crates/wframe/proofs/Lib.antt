@@ -12,7 +12,6 @@ mod FrameFacts
 mod LawFacts
 mod PlaceFacts
 mod EndFacts
-mod ShiftFacts
 mod PartitionFacts
 mod StepFacts
 mod TieFacts

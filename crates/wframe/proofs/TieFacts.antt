@@ -19,7 +19,7 @@ use Rattle.wframe.specs.declared.frame.FrameExclusion.TheVariants as exclusion
 use Rattle.wframe.specs.Peers.{key_at, are_peers, distinct, group_number}
 use Rattle.wframe.specs.Bounds.{along, against, moved, starts_after, ends_before, key_starts_after, key_ends_before}
 use Rattle.wframe.specs.Partition.{Partition}
-use Rattle.wframe.specs.Frame.{is_before_start, is_after_end, is_in_frame, is_excluded, is_kept}
+use Rattle.wframe.specs.Frame.{is_before_start, is_after_end, is_in_extent, is_excluded, is_kept}
 use Rattle.wframe.specs.Ties.{takes_groups, leaves_groups, holds_groups}
 use Rattle.wframe.proofs.BoundFacts.{along_same, against_same, moved_same}
 
@@ -97,4 +97,4 @@ kept_alike p i k j l t h g =
     let x = and_second (takes_groups p.frame.mode) (leaves_groups p.frame.exclusion) t in
     ap (λ b. (not b && not (is_after_end p.order p.keys p.frame.mode p.frame.end i j)) && not (is_excluded p.frame.exclusion i j (are_peers (keys_cmp p.order) p.keys i j))) (starts_alike p.order p.keys i k j l h g p.frame.mode p.frame.start m)
     ∙ ap (λ b. (not (is_before_start p.order p.keys p.frame.mode p.frame.start k l) && not b) && not (is_excluded p.frame.exclusion i j (are_peers (keys_cmp p.order) p.keys i j))) (ends_alike p.order p.keys i k j l h g p.frame.mode p.frame.end m)
-    ∙ ap (λ b. is_in_frame p k l && not b) (excluded_alike p.order p.keys i k j l h g p.frame.exclusion x)
+    ∙ ap (λ b. is_in_extent p k l && not b) (excluded_alike p.order p.keys i k j l h g p.frame.exclusion x)

@@ -26,9 +26,9 @@ is_after_end ks keys Rows bound i j = ends_before bound i j
 is_after_end ks keys Range bound i j = key_ends_before ks bound (key_at keys i) (key_at keys j)
 is_after_end ks keys Groups bound i j = ends_before bound (group_number (keys_cmp ks) keys i) (group_number (keys_cmp ks) keys j)
 
--- whether row j is in row i's frame, before the exclusion
-abbrev pub is_in_frame : Partition → ℕ → ℕ → Bool
-is_in_frame p i j = not (is_before_start p.order p.keys p.frame.mode p.frame.start i j) && not (is_after_end p.order p.keys p.frame.mode p.frame.end i j)
+-- whether row j is in the extent of row i's frame: it lies neither before its start nor after its end
+abbrev pub is_in_extent : Partition → ℕ → ℕ → Bool
+is_in_extent p i j = not (is_before_start p.order p.keys p.frame.mode p.frame.start i j) && not (is_after_end p.order p.keys p.frame.mode p.frame.end i j)
 
 -- whether the exclusion takes row j, which may be a peer, out of row i's frame
 abbrev pub is_excluded : FrameExclusion → ℕ → ℕ → Bool → Bool
@@ -39,7 +39,7 @@ is_excluded NoOthers i j peer = false
 
 -- whether row j is in row i's frame
 abbrev pub is_kept : Partition → ℕ → ℕ → Bool
-is_kept p i j = is_in_frame p i j && not (is_excluded p.frame.exclusion i j (are_peers (keys_cmp p.order) p.keys i j))
+is_kept p i j = is_in_extent p i j && not (is_excluded p.frame.exclusion i j (are_peers (keys_cmp p.order) p.keys i j))
 
 -- the rows of a row's frame
 abbrev pub frame_rows : Partition → ℕ → List ℕ
@@ -53,6 +53,6 @@ frame_start p i = length (filter (is_before_start p.order p.keys p.frame.mode p.
 abbrev pub frame_end : Partition → ℕ → ℕ
 frame_end p i = length (filter (λ j. not (is_after_end p.order p.keys p.frame.mode p.frame.end i j)) (places (length p.keys)))
 
--- the span of a row's frame, before the exclusion
-abbrev pub frame_span : Partition → ℕ → Span
-frame_span p i = record { from = frame_start p i; to = max (frame_start p i) (frame_end p i) }
+-- the extent of a row's frame: the span from its start to its end, excluded rows too
+abbrev pub frame_extent : Partition → ℕ → Span
+frame_extent p i = record { from = frame_start p i; to = max (frame_start p i) (frame_end p i) }

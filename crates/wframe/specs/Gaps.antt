@@ -1,4 +1,4 @@
--- What an exclusion leaves of a frame: <window frame exclusion>. The excluded rows stand together; at most the row itself is kept among them.
+-- What an exclusion leaves of a frame's extent: <window frame exclusion>. The excluded rows stand together; at most the row itself is kept among them.
 use Rattle.std.specs.Prelude.{ℕ, ◌+◌, max, min, length, filter}
 use Rattle.wvalues.specs.Order.{keys_cmp}
 use Rattle.wframe.specs.declared.frame.FrameExclusion.{FrameExclusion}
@@ -7,7 +7,7 @@ use Rattle.wframe.specs.declared.frame.Span.{Span}
 use Rattle.wframe.specs.Places.{places}
 use Rattle.wframe.specs.Peers.{is_before, is_upto}
 use Rattle.wframe.specs.Partition.{Partition}
-use Rattle.wframe.specs.Frame.{frame_span}
+use Rattle.wframe.specs.Frame.{frame_extent}
 
 -- the span of a row's peers
 abbrev pub peer_span : Partition → ℕ → Span
@@ -40,10 +40,10 @@ behind_gap NoOthers s row peers = record { from = nearest s s.to; to = s.to }
 
 -- the three spans of a row's frame
 abbrev pub before_span : Partition → ℕ → Span
-before_span p i = before_gap p.frame.exclusion (frame_span p i) i (peer_span p i)
+before_span p i = before_gap p.frame.exclusion (frame_extent p i) i (peer_span p i)
 
 abbrev pub within_span : Partition → ℕ → Span
-within_span p i = within_gap p.frame.exclusion (frame_span p i) i (peer_span p i)
+within_span p i = within_gap p.frame.exclusion (frame_extent p i) i (peer_span p i)
 
 abbrev pub behind_span : Partition → ℕ → Span
-behind_span p i = behind_gap p.frame.exclusion (frame_span p i) i (peer_span p i)
+behind_span p i = behind_gap p.frame.exclusion (frame_extent p i) i (peer_span p i)

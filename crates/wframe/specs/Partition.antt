@@ -1,11 +1,11 @@
 -- One window partition: its rows in the window's order, with the frame clause (<window clause>).
-use Rattle.std.specs.Prelude.{◌≡◌, ℕ, ◌+◌, ◌-◌, ◌<◌, true, List, length, map, filter, slice_range}
+use Rattle.std.specs.Prelude.{ℕ, List, length, filter, slice_range}
 use Rattle.wvalues.specs.declared.key.SortKey.{SortKey}
 use Rattle.wvalues.specs.Meaning.{Meaning}
 use Rattle.wvalues.specs.Order.{keys_cmp}
 use Rattle.wframe.specs.declared.frame.Frame.{Frame}
 use Rattle.wframe.specs.declared.frame.Span.{Span}
-use Rattle.wframe.specs.Places.{places, span_at, is_in_span}
+use Rattle.wframe.specs.Places.{places}
 use Rattle.wframe.specs.Peers.{are_peers}
 
 -- the window ordering, the key list of each row, in that order, and the frame clause
@@ -28,8 +28,3 @@ pub record Partitioned : Type 0 where
 -- the partition of a span
 abbrev pub partition_of : Partitioned → Span → Partition
 partition_of all s = record { order = all.order; keys = slice_range all.keys s.from s.to; frame = all.frame }
-
--- what a row has in the partition that it stands in, by places among all rows
-abbrev pub AreAmongAll : Partitioned → (Partition → ℕ → List ℕ) → ℕ → List ℕ → Type 0
-AreAmongAll all rows_of row places =
-    (k : ℕ) → k < length all.spans → is_in_span (span_at all.spans k) row ≡ true → places ≡ map (λ j. (span_at all.spans k).from + j) (rows_of (partition_of all (span_at all.spans k)) (row - (span_at all.spans k).from))

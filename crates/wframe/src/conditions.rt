@@ -8,13 +8,17 @@ use crate::order::compare_lists;
 use std::cmp::Ordering;
 
 // Whether a row may stand right before the next one.
-fn is_in_step(values: &KeyRows, keys: &KeyRows, row: usize, next: usize) -> bool
-    requires count { length (key_lists values.now) ≡ length (key_lists keys.now) }
+fn is_in_step(partition_values: &KeyRows, keys: &KeyRows, row: usize, next: usize) -> bool
+    requires count { length (key_lists partition_values.now) ≡ length (key_lists keys.now) }
     requires row { row + 1 < length (key_lists keys.now) }
     requires next { next ≡ row + 1 }
-    ensures { result ≡ is_step (keys_cmp (sort_keys values.now)) (key_lists values.now) (keys_cmp (sort_keys keys.now)) (key_lists keys.now) row }
+    ensures { result ≡ is_step (keys_cmp (sort_keys partition_values.now)) (key_lists partition_values.now) (keys_cmp (sort_keys keys.now)) (key_lists keys.now) row }
 {
-    match compare_lists(values.row(row), values.row(next), values.keys()) {
+    match compare_lists(
+        partition_values.row(row),
+        partition_values.row(next),
+        partition_values.keys(),
+    ) {
         Ordering::Less => true,
         Ordering::Equal => !compare_lists(keys.row(row), keys.row(next), keys.keys()).is_gt(),
         Ordering::Greater => false,
@@ -24,12 +28,12 @@ fn is_in_step(values: &KeyRows, keys: &KeyRows, row: usize, next: usize) -> bool
 /// Whether rows stand by their partition values, then by their keys, as [`crate::Partitions::build`] asks.
 ///
 /// It compares each row with the next one. A caller that has sorted the rows need not ask.
-pub fn are_in_order(values: &KeyRows, keys: &KeyRows) -> bool
-    requires { length (key_lists values.now) ≡ length (key_lists keys.now) }
-    ensures { IsTrue result ↔ (AreInOrder values.now × AreInOrderWithin values.now keys.now) }
+pub fn are_in_order(partition_values: &KeyRows, keys: &KeyRows) -> bool
+    requires { length (key_lists partition_values.now) ≡ length (key_lists keys.now) }
+    ensures { IsTrue result ↔ (AreInOrder partition_values.now × AreInOrderWithin partition_values.now keys.now) }
 {
     for next in 1..keys.count() {
-        if !is_in_step(values, keys, next - 1, next) {
+        if !is_in_step(partition_values, keys, next - 1, next) {
             return false;
         }
     }

@@ -1,9 +1,10 @@
-ghost use Rattle.std.specs.Prelude.{◌≡◌, ◌<◌, ◌≤◌, ◌+◌, ◌^◌, ℕ, Bool, true, nat_le, length, OnOk};
+ghost use Rattle.std.specs.Prelude.{◌≡◌, ◌<◌, ◌≤◌, ◌+◌, ◌^◌, ℕ, Bool, true, length, OnOk};
 ghost use Rattle.wframe.specs.Cuts.{IsCut, CutsAt, HasCuts, BeginsWith};
 
 use std::alloc::AllocError;
 
-/// A test of the places of a partition, for each of its rows.
+/// A test of the places of a partition, for each of its rows: for a row it passes the first places up to one, where an end of
+/// the row's frame lies.
 pub trait Cut {
     /// How many rows the partition has.
     ghost row_count: { Self → ℕ };
@@ -72,7 +73,8 @@ fn next_end<C: Cut>(cut: &C, rows: usize, row: usize, last: Reached) -> Reached
     }
 }
 
-/// Adds, for each row, where the places that pass end, counted on from `first`.
+/// Adds, for each row, where the places that pass end, counted on from `first`. [`crate::Partitions::build`] finds the frames
+/// of RANGE and GROUPS by it.
 ///
 /// The end moves along with the rows and never back: of rows that the test cannot tell apart one is tested once, and once
 /// more where it is an end.
@@ -99,48 +101,4 @@ pub fn push_cuts<C: Cut>(
         ends.push(first + reached.end)?;
     }
     Ok(())
-}
-
-#[cfg(test)]
-mod tests {
-    use super::*;
-    use std::cell::Cell;
-    use std::test::Fail;
-
-    /// Passes the places up to the third one after a row, and counts how often it is asked.
-    #[derive(Drop)]
-    struct Counted {
-        rows: usize,
-        calls: Cell<u64>,
-    }
-
-    impl Cut for Counted {
-        ghost row_count = { λ counted. counted.rows };
-
-        ghost passes = { λ _ row place. nat_le place (row + 3) };
-
-        fn is_passed(&self, row: usize, place: usize) -> bool {
-            self.calls.set(self.calls.get().wrapping_add(1));
-            place <= row || place - row <= 3
-        }
-
-        fn end_of_equals(&self, row: usize) -> usize {
-            row + 1
-        }
-    }
-
-    #[test]
-    fn the_end_moves_along(rt: HostRuntime) -> Result<(), Fail> {
-        let counted = Counted {
-            rows: 1000,
-            calls: Cell::new(0),
-        };
-        let mut ends = Vec::new(rt.alloc());
-        push_cuts(&mut ends, &counted, 1000, 0)?;
-        assert_eq!(rt; ends.len(), 1000);
-        assert_eq!(rt; ends.first(), Some(&4));
-        assert_eq!(rt; ends.last(), Some(&1000));
-        assert!(rt; counted.calls.get() <= 2000);
-        Ok(())
-    }
 }

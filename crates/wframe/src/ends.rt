@@ -61,8 +61,8 @@ impl FrameEnds {
         push_ends(&mut self.ends, &peers, groups, frame.mode, frame.end)
     }
 
-    /// The span of a row's frame, before the exclusion.
-    pub fn frame(&self, row: usize) -> Span
+    /// The extent of a row's frame: what lies from its start to its end, excluded rows too.
+    pub fn extent(&self, row: usize) -> Span
         requires starts { row < length self.now.starts.items }
         requires ends { row < length self.now.ends.items }
         ensures from { result.from ≡ slice_index self.now.starts.items row }

@@ -52,7 +52,7 @@ fn pieces(span: Span, a: usize, b: usize, c: usize, d: usize) -> [Span; 3]
     ]
 }
 
-/// A row's frame without what the exclusion takes out.
+/// A row's frame: its extent without what the exclusion takes out.
 pub fn without(span: Span, exclusion: FrameExclusion, row: usize, peers: Span) -> [Span; 3]
     requires span { span.from ≤ span.to }
     requires from { peers.from ≤ row }

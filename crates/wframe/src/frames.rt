@@ -3,7 +3,7 @@ ghost use Rattle.wvalues.specs.Order.{keys_cmp};
 ghost use Rattle.wframe.specs.Peers.{AreOrdered, are_peers, smaller_keys};
 ghost use Rattle.wframe.specs.Places.{span_places, spans_places, is_in_span, AreApart, IsPlain, IsRisen};
 ghost use Rattle.wframe.specs.Partition.{Partition, peer_rows};
-ghost use Rattle.wframe.specs.Frame.{frame_rows, frame_start, frame_span};
+ghost use Rattle.wframe.specs.Frame.{frame_rows, frame_start, frame_extent};
 ghost use Rattle.wframe.specs.Gaps.{peer_span, before_span, within_span, behind_span};
 
 use crate::ends::FrameEnds;
@@ -104,28 +104,29 @@ impl<'a> Frames<'a> {
         counted_from(self.ends.peers(first + row), first)
     }
 
-    /// The frame of a row before the exclusion takes rows out. Where it takes out none, this is the frame.
-    pub fn span(&self, row: usize) -> Span
+    /// The extent of a row's frame: what lies from its start to its end, excluded rows too. Where none is excluded, it is
+    /// the frame.
+    pub fn extent(&self, row: usize) -> Span
         requires { row < length self.now.keys }
-        ensures span { result ≡ frame_span self.now row }
+        ensures span { result ≡ frame_extent self.now row }
         ensures ordered { result.from ≤ result.to }
         ensures within { result.to ≤ length self.now.keys }
-        ensures risen { (before : ℕ) → before ≤ row → IsRisen (length self.now.keys) (frame_span self.now before) result }
+        ensures risen { (before : ℕ) → before ≤ row → IsRisen (length self.now.keys) (frame_extent self.now before) result }
         ensures rows { self.now.frame.exclusion ≡ FrameExclusion.NoOthers → span_places result ≡ frame_rows self.now row }
     {
         let first = self.span.from;
-        counted_from(self.ends.frame(first + row), first)
+        counted_from(self.ends.extent(first + row), first)
     }
 
     /// The frame of a row: three spans in order, apart from one another, of which some may be empty.
     pub fn frame(&self, row: usize) -> [Span; 3]
         requires { row < length self.now.keys }
         ensures rows { spans_places result ≡ frame_rows self.now row }
-        ensures apart { AreApart (frame_start self.now row) result (frame_span self.now row).to }
+        ensures apart { AreApart (frame_start self.now row) result (frame_extent self.now row).to }
         ensures within { AreApart 0 result (length self.now.keys) }
-        ensures plain { self.now.frame.exclusion ≡ FrameExclusion.NoOthers → IsPlain (frame_span self.now row) result }
+        ensures plain { self.now.frame.exclusion ≡ FrameExclusion.NoOthers → IsPlain (frame_extent self.now row) result }
         ensures list { result ≡ before_span self.now row ∷ within_span self.now row ∷ behind_span self.now row ∷ [] }
     {
-        without(self.span(row), self.frame.exclusion, row, self.peers(row))
+        without(self.extent(row), self.frame.exclusion, row, self.peers(row))
     }
 }

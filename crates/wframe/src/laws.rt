@@ -12,7 +12,7 @@ ghost use Rattle.wframe.specs.Peers.{AreOrdered, AreOrderedWithin, key_at, are_p
 ghost use Rattle.wframe.specs.declared.frame.Span.{Span};
 ghost use Rattle.wframe.specs.Places.{IsRisen, Tiles, span_at};
 ghost use Rattle.wframe.specs.Partition.{Partition};
-ghost use Rattle.wframe.specs.Frame.{frame_start, frame_end, frame_span, frame_rows, is_kept};
+ghost use Rattle.wframe.specs.Frame.{frame_start, frame_end, frame_extent, frame_rows, is_kept};
 ghost use Rattle.wframe.specs.Ties.{holds_groups};
 ghost use Rattle.wframe.specs.Sorting.{sorted, first_or};
 ghost use Rattle.wframe.specs.Gaps.{before_span, within_span, behind_span};
@@ -23,9 +23,9 @@ pub fn starts_and_ends_rise()
     ensures ends { (p : Partition) (i k : ℕ) → AreOrdered (keys_cmp p.order) p.keys → i ≤ k → k < length p.keys → frame_end p i ≤ frame_end p k }
 {}
 
-/// The span of a frame is a span of the partition's rows, and neither end lies before that of an earlier row's.
+/// The extent of a frame is a span of the partition's rows, and neither end lies before that of an earlier row's.
 pub fn frames_slide()
-    ensures { (p : Partition) (i k : ℕ) → AreOrdered (keys_cmp p.order) p.keys → i ≤ k → k < length p.keys → IsRisen (length p.keys) (frame_span p i) (frame_span p k) }
+    ensures { (p : Partition) (i k : ℕ) → AreOrdered (keys_cmp p.order) p.keys → i ≤ k → k < length p.keys → IsRisen (length p.keys) (frame_extent p i) (frame_extent p k) }
 {}
 
 /// What an exclusion leaves of a frame before the excluded rows slides along with the rows, and so does what it leaves

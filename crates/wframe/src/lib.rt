@@ -25,6 +25,7 @@ mod partitions;
 mod peers;
 
 pub use conditions::are_in_order;
+pub use cuts::{Cut, push_cuts};
 pub use frame::{Frame, FrameBound, FrameExclusion, FrameMode, Span};
 pub use frames::Frames;
 pub use key_rows::KeyRows;

@@ -5,12 +5,10 @@ ghost use Rattle.wframe.specs.Bounds.{is_offset};
 ghost use Rattle.wframe.specs.Offsets.{is_range, has_range_offset};
 ghost use Rattle.wframe.specs.Partitions.{IsPartition};
 ghost use Rattle.wframe.specs.FrameEnds.{HasAllFrames};
-ghost use Rattle.wframe.specs.Places.{Tiles, span_at, span_places, spans_places, AreApart};
-ghost use Rattle.wframe.specs.Partition.{Partitioned, AreAmongAll, partition_of, peer_rows};
-ghost use Rattle.wframe.specs.Frame.{frame_rows};
+ghost use Rattle.wframe.specs.Places.{Tiles, span_at};
+ghost use Rattle.wframe.specs.Partition.{Partitioned, partition_of};
 
 use crate::ends::FrameEnds;
-use crate::exclusion::without;
 use crate::frame::{Frame, Span};
 use crate::frames::Frames;
 use crate::key_rows::KeyRows;
@@ -19,16 +17,16 @@ use std::alloc::{AllocError, Global};
 use std::marker::Model;
 
 // The spans of rows that agree on all partition values.
-fn partition_spans(alloc: Global, values: &KeyRows) -> Result<Vec<Span>, AllocError>
-    requires { AreInOrder values.now }
-    ensures tiles { IfOk result (λ spans. Tiles 0 spans.items (length (key_lists values.now))) }
-    ensures each { IfOk result (λ spans. All (IsPartition (keys_cmp (sort_keys values.now)) (key_lists values.now)) spans.items) }
+fn partition_spans(alloc: Global, partition_values: &KeyRows) -> Result<Vec<Span>, AllocError>
+    requires { AreInOrder partition_values.now }
+    ensures tiles { IfOk result (λ spans. Tiles 0 spans.items (length (key_lists partition_values.now))) }
+    ensures each { IfOk result (λ spans. All (IsPartition (keys_cmp (sort_keys partition_values.now)) (key_lists partition_values.now)) spans.items) }
 {
-    let count = values.count();
+    let count = partition_values.count();
     let mut spans = Vec::new(alloc);
     let mut from = 0;
     while from < count {
-        let to = agreeing_end(values, from);
+        let to = agreeing_end(partition_values, from);
         spans.push(Span { from, to })?;
         from = to;
     }
@@ -38,17 +36,17 @@ fn partition_spans(alloc: Global, values: &KeyRows) -> Result<Vec<Span>, AllocEr
 // The frames and peers of the rows of each span.
 fn all_ends(
     alloc: Global,
-    values: &KeyRows,
+    partition_values: &KeyRows,
     keys: &KeyRows,
     frame: Frame,
     spans: &[Span],
 ) -> Result<FrameEnds, AllocError>
-    requires count { length (key_lists values.now) ≡ length (key_lists keys.now) }
-    requires ordered { AreInOrderWithin values.now keys.now }
+    requires count { length (key_lists partition_values.now) ≡ length (key_lists keys.now) }
+    requires ordered { AreInOrderWithin partition_values.now keys.now }
     requires start { IsTrue (is_range frame.mode && is_offset frame.start) → length (sort_keys keys.now) ≡ 1 }
     requires end { IsTrue (is_range frame.mode && is_offset frame.end) → length (sort_keys keys.now) ≡ 1 }
-    requires tiles { Tiles 0 spans.now (length (key_lists values.now)) }
-    requires spans { All (IsPartition (keys_cmp (sort_keys values.now)) (key_lists values.now)) spans.now }
+    requires tiles { Tiles 0 spans.now (length (key_lists partition_values.now)) }
+    requires spans { All (IsPartition (keys_cmp (sort_keys partition_values.now)) (key_lists partition_values.now)) spans.now }
     ensures { IfOk result (HasAllFrames (record { order = sort_keys keys.now; keys = key_lists keys.now; frame = frame; spans = spans.now })) }
 {
     let mut ends = FrameEnds::with_capacity(alloc, keys.count())?;
@@ -84,7 +82,7 @@ impl<'a> Model for Partitions<'a> {
 impl<'a> Partitions<'a> {
     /// Finds the partitions, the peers and the frames of rows that stand by their partition values, then by their keys.
     ///
-    /// `values` has the partition values of each row, and `keys` its window keys; [`crate::are_in_order`] tests their
+    /// `partition_values` has those of each row, and `keys` its window keys; [`crate::are_in_order`] tests their
     /// order. An offset in RANGE asks for one key; it moves integers, and leaves a text or a null where it is. Which of
     /// several peers comes first is the caller's choice, and places are told by it. The work grows with the rows
     /// alone, whatever the offsets.
@@ -92,22 +90,22 @@ impl<'a> Partitions<'a> {
     /// It answers `AllocError` where memory was refused.
     pub fn build(
         alloc: Global,
-        values: &KeyRows,
+        partition_values: &KeyRows,
         keys: KeyRows<'a>,
         frame: Frame,
     ) -> Result<Partitions<'a>, AllocError>
-        requires count { length (key_lists values.now) ≡ length (key_lists keys) }
-        requires by_values { AreInOrder values.now }
-        requires by_keys { AreInOrderWithin values.now keys }
+        requires count { length (key_lists partition_values.now) ≡ length (key_lists keys) }
+        requires by_values { AreInOrder partition_values.now }
+        requires by_keys { AreInOrderWithin partition_values.now keys }
         requires offset_key { IsTrue (has_range_offset frame) → length (sort_keys keys) ≡ 1 }
         ensures order { IfOk result (λ all. all.order ≡ sort_keys keys.entry) }
         ensures keys { IfOk result (λ all. all.keys ≡ key_lists keys.entry) }
         ensures frame { IfOk result (λ all. all.frame ≡ frame) }
         ensures tiles { IfOk result (λ all. Tiles 0 all.spans (length all.keys)) }
-        ensures each { IfOk result (λ all. All (IsPartition (keys_cmp (sort_keys values.now)) (key_lists values.now)) all.spans) }
+        ensures each { IfOk result (λ all. All (IsPartition (keys_cmp (sort_keys partition_values.now)) (key_lists partition_values.now)) all.spans) }
     {
-        let spans = partition_spans(alloc, values)?;
-        let ends = all_ends(alloc, values, &keys, frame, &spans)?;
+        let spans = partition_spans(alloc, partition_values)?;
+        let ends = all_ends(alloc, partition_values, &keys, frame, &spans)?;
         Ok(Partitions {
             keys,
             frame,
@@ -141,27 +139,5 @@ impl<'a> Partitions<'a> {
     {
         let span = self.span(partition);
         Frames::new(self.keys.part(span), self.frame, span, &self.ends)
-    }
-
-    /// The peers of a row. Here rows are named by their places among all rows.
-    pub fn peers(&self, row: usize) -> Span
-        requires { row < length self.now.keys }
-        ensures rows { AreAmongAll self.now peer_rows row (span_places result) }
-        ensures from { result.from ≤ row }
-        ensures to { row < result.to }
-        ensures within { result.to ≤ length self.now.keys }
-    {
-        self.ends.peers(row)
-    }
-
-    /// The frame of a row: three spans in order, apart from one another, of which some may be empty.
-    /// Here rows are named by their places among all rows.
-    pub fn frame(&self, row: usize) -> [Span; 3]
-        requires { row < length self.now.keys }
-        ensures rows { AreAmongAll self.now frame_rows row (spans_places result) }
-        ensures apart { AreApart 0 result (length self.now.keys) }
-    {
-        let span = self.ends.frame(row);
-        without(span, self.frame.exclusion, row, self.ends.peers(row))
     }
 }

@@ -47,7 +47,7 @@ pub(crate) fn key_cells(
     ensures keys { IfOk result (λ cells. laid (length columns.now) (length rows.now) cells.items ≡ map (key_in columns.now) (rows_seen rows.now)) }
     ensures laid { IfOk result (λ cells. length cells.items ≡ length rows.now * length columns.now) }
 {
-    let mut cells = Vec::new(alloc);
+    let mut cells = Vec::with_capacity(alloc, rows.len().saturating_mul(columns.len()))?;
     for row in rows {
         push_key(columns, row, &mut cells)?;
     }

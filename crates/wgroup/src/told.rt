@@ -72,7 +72,7 @@ fn held_cells(alloc: Global, condition: &Option<Expr>, cells: &Cells) -> Result<
     ensures width { IfOk result (λ held. held.width ≡ cells.now.width) }
 {
     let rows = lent_rows(alloc, cells)?;
-    let kept = kept_rows(alloc, condition, &rows)?;
+    let kept = kept_rows(alloc, condition, rows)?;
     let held = copied(alloc, &kept)?;
     Ok(Cells {
         cells: held,

@@ -1,18 +1,19 @@
 -- What the outcomes of parts make of a row's outcome, for each form of the notation.
-use Rattle.std.proofs.Common.{◌≡◌, ℕ, ◌<◌, ◌≤◌, List, [], ◌∷◌, ◌++◌, append_assoc, Option, Some, None, refl, sym, ap, subst, ◌∙◌, arith}
+use Rattle.std.proofs.Common.{◌≡◌, ℕ, ◌<◌, ◌≤◌, List, [], ◌∷◌, ◌++◌, append_assoc, Option, Some, None, Result, Ok, Err, IfOk, refl, sym, ap, subst, ◌∙◌, arith}
 use Rattle.wlexer.specs.Token.{TokenMeaning, KeywordToken, NameToken, NumberToken, TextToken, SymbolToken}
 use Rattle.wlexer.specs.declared.keyword.Keyword.{Keyword}
 use Rattle.wlexer.specs.declared.keyword.Keyword.TheVariants as keywords
 use Rattle.wlexer.specs.declared.token.Symbol.{Symbol}
 use Rattle.wlexer.specs.declared.token.Symbol.TheVariants as symbols
-use Rattle.wlexer.specs.declared.token.Token.{Token}
+use Rattle.wquery.specs.declared.expression.Expression.{Expression}
+use Rattle.wquery.specs.Tree.{Tree, view}
 use Rattle.wparser.specs.declared.fault.ParseFault.{ParseFault}
 use Rattle.wparser.specs.declared.fault.ParseFault.TheVariants.{NoMemory, Syntax}
 use Rattle.wparser.specs.Words.{CommaSign, CloseSign}
 use Rattle.wparser.specs.Notation.{Tokens, Row, One, one, After, after, Then, before, Done, done, Perhaps, absent, present, Either, first, second, Room, room, Listed, last, next, As, Never}
 use Rattle.wparser.specs.Grammar.{Closed}
 use Rattle.wparser.specs.Grips.{grip, keyword_grip, symbol_grip, Stops}
-use Rattle.wparser.specs.Finding.{Outcome, Got, Refused, Short, failed, settled, IsRead, Agrees, Answers}
+use Rattle.wparser.specs.Finding.{Outcome, Got, Refused, Short, failed, made, IsRead, Agrees, Answers}
 
 pub stops_more : {j k : ℕ} → j ≤ k → (rest : Tokens) → Stops j rest → Stops k rest
 stops_more le [] h = tt
@@ -40,10 +41,6 @@ never NoMemory g = record { found = tt; only = λ y rest p h. tt }
 pub missing : {X : Type 0} {P : Row X} {k : ℕ} {ts : Tokens} → Never P ts → Answers P k ts Refused
 missing g = record { found = tt; only = λ y rest p h. g y rest p }
 
--- a `?` gives up
-pub given_up : {A X : Type 0} (value : A → X) (left : A → List Token) {P : Row X} {k : ℕ} {ts : Tokens} {r : Option A} → r ≡ None → Answers P k ts Refused → Answers P k ts (settled value left r)
-given_up {A} {X} value left {P} {k} {ts} {r} e a = subst (λ (o : Option A). Answers P k ts (settled value left o)) (sym e) a
-
 pub short : {X : Type 0} {P : Row X} {k : ℕ} {ts : Tokens} (f : ParseFault) → f ≡ NoMemory → Answers P k ts (failed f)
 short {X} {P} {k} {ts} f e = subst (λ (x : ParseFault). Answers P k ts (failed x)) (sym e) (record { found = tt; only = λ y rest p h. tt })
 
@@ -52,6 +49,11 @@ along {X} {P} {k} {ts} {us} {o} e a = subst (λ (x : Tokens). Answers P k x o) (
 
 pub got_along : {X : Type 0} {P : Row X} {k : ℕ} {ts rest rest' : Tokens} {x x' : X} → x' ≡ x → rest' ≡ rest → Answers P k ts (Got x rest) → Answers P k ts (Got x' rest')
 got_along {X} {P} {k} {ts} {rest} {rest'} {x} {x'} e q a = subst (λ (y : X). Answers P k ts (Got y rest')) (sym e) (subst (λ (y : Tokens). Answers P k ts (Got x y)) (sym q) a)
+
+-- what a builder has made is what was read
+pub made_along : {E : Type 0} {P : Row Tree} {k : ℕ} {ts rest : Tokens} {t : Tree} {o : Outcome Tree} (built : Result Expression E) → o ≡ made built rest → IfOk built (λ x. view x ≡ t) → Answers P k ts (Got t rest) → Answers P k ts o
+made_along {P = P} {k = k} {ts = ts} (Ok e) q h a = subst (λ (o : Outcome Tree). Answers P k ts o) (sym q) (got_along h refl a)
+made_along {P = P} {k = k} {ts = ts} (Err f) q h a = subst (λ (o : Outcome Tree). Answers P k ts o) (sym q) (record { found = tt; only = λ y rest p h. tt })
 
 -- a fault says the same of a row of other values
 pub failed_agrees : {X Y : Type 0} (f : ParseFault) (x : X) (y : Y) (r s : Tokens) → Agrees {X = X} (failed f) x r → Agrees {X = Y} (failed f) y s
@@ -94,6 +96,10 @@ after_never g x rest p = let e = after_parts p in g e.0 e.1
 
 pub after_missing : {X : Type 0} {P : Row X} {k : ℕ} {token : TokenMeaning} {ts : Tokens} → ((us : Tokens) → ts ≡ token ∷ us → ⊥) → Answers (After token P) k ts Refused
 after_missing g = missing (after_never g)
+
+-- two tokens
+pub pair_never : {X : Type 0} {P : Row X} {one other : TokenMeaning} {ts : Tokens} → ((us : Tokens) → ts ≡ one ∷ other ∷ us → ⊥) → Never (After one (After other P)) ts
+pair_never g x rest (after (after p)) = g _ refl
 
 -- one token
 same_some : {X : Type 0} {x y : X} → ◌≡◌ {A = Option X} (Some x) (Some y) → x ≡ y

@@ -3,6 +3,8 @@ use Rattle.std.specs.Prelude.{◌≡◌, ◌≢◌, ℕ, List, ◌∷◌, Option
 use Rattle.wlexer.specs.Token.{TokenMeaning, KeywordToken, meaning_of}
 use Rattle.wlexer.specs.declared.keyword.Keyword.TheVariants as keywords
 use Rattle.wlexer.specs.declared.token.Token.{Token}
+use Rattle.wquery.specs.declared.expression.Expression.{Expression}
+use Rattle.wquery.specs.Tree.{Tree, view}
 use Rattle.wparser.specs.declared.fault.ParseFault.{ParseFault}
 use Rattle.wparser.specs.declared.fault.ParseFault.TheVariants.{NoMemory, Syntax}
 use Rattle.wparser.specs.Notation.{Tokens, Row}
@@ -30,6 +32,11 @@ outcome value left (Err f) = failed f
 abbrev pub settled : {A X : Type 0} → (A → X) → (A → List Token) → Option A → Outcome X
 settled value left (Some x) = Got (value x) (meanings (left x))
 settled value left None = Refused
+
+-- what a builder has made, unless memory ran out
+abbrev pub made : {E : Type 0} → Result Expression E → Tokens → Outcome Tree
+made (Ok e) rest = Got (view e) rest
+made (Err f) rest = Short
 
 -- what was got is what the row reads
 abbrev pub IsRead : {X : Type 0} → Row X → Tokens → Outcome X → Type 0

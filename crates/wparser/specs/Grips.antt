@@ -72,3 +72,64 @@ operand_class Disjunction = 21
 operand_class Conjunction = 22
 operand_class Sum = 27
 operand_class Product = 28
+
+-- Which tokens may follow the other rows: those whose grip is less.
+abbrev pub any_class : ℕ
+any_class = 31
+
+abbrev pub filter_class : ℕ
+filter_class = 29
+
+abbrev pub sign_class : ℕ
+sign_class = 28
+
+abbrev pub not_class : ℕ
+not_class = 25
+
+abbrev pub range_class : ℕ
+range_class = 24
+
+abbrev pub comparison_class : ℕ
+comparison_class = 23
+
+abbrev pub negation_class : ℕ
+negation_class = 22
+
+abbrev pub condition_class : ℕ
+condition_class = 20
+
+abbrev pub direction_class : ℕ
+direction_class = 16
+
+abbrev pub nulls_class : ℕ
+nulls_class = 15
+
+abbrev pub name_class : ℕ
+name_class = 14
+
+abbrev pub element_class : ℕ
+element_class = 14
+
+abbrev pub list_class : ℕ
+list_class = 12
+
+abbrev pub grouping_class : ℕ
+grouping_class = 8
+
+abbrev pub windows_class : ℕ
+windows_class = 6
+
+abbrev pub partition_class : ℕ
+partition_class = 6
+
+abbrev pub order_class : ℕ
+order_class = 5
+
+abbrev pub limits_class : ℕ
+limits_class = 4
+
+abbrev pub frame_class : ℕ
+frame_class = 3
+
+abbrev pub text_class : ℕ
+text_class = 1

@@ -6,18 +6,31 @@ ghost use Rattle.wquery.specs.declared.expression.ChainKind.TheVariants.{Disjunc
 ghost use Rattle.wquery.specs.Tree.{view, views, view_arguments, view_over, view_key, view_keys, view_window, view_optional, view_optional_over, filter_of, reach_of};
 ghost use Rattle.wparser.specs.Notation.{GoesOn, Listed};
 ghost use Rattle.wparser.specs.Grammar.{Closed, Chains, deeper, inner, operands, chains, conditions, sums, ranges, comparisons, negations, signs, testing, null_tested, compared, range_tested, range_test, among_row, within_row, up_to, primary, named, qualified_by, everything_closed, call, arguments, filtered, reaching, window_inside, window, partition, order, key};
-ghost use Rattle.wparser.specs.Grips.{Stops, kind_class, operand_class};
-ghost use Rattle.wparser.specs.Finding.{meanings, outcome, settled, Answers, IsNoTest};
+ghost use Rattle.wparser.specs.Grips.{any_class, filter_class, sign_class, range_class, comparison_class, negation_class, nulls_class, list_class, partition_class, order_class, frame_class, Stops, kind_class, operand_class};
+ghost use Rattle.wparser.specs.Finding.{meanings, outcome, made, settled, Answers, IsNoTest};
 
 use crate::fault::ParseFault;
 use crate::frames::{descending, negated, optional_frame, optional_name, placed_nulls};
 use crate::tokens::{
     comparison_operator, keyword, leading_sign, name, number, operator, symbol, text,
 };
-use std::alloc::Global;
+use std::alloc::{AllocError, Global};
 use std::rc::RcStr;
 use wlexer::{Keyword, Symbol, Token};
 use wquery::{Arguments, ChainKind, Expression, Key, Over, Window, build};
+
+/// What a builder has made, and what follows it.
+fn made(
+    built: Result<Expression, AllocError>,
+    rest: &[Token],
+) -> Result<(Expression, &[Token]), ParseFault>
+    ensures { outcome (λ x. view x.0) (λ x. x.1.now) result ≡ made built (meanings rest.now) }
+{
+    match built {
+        Ok(e) => Ok((e, rest)),
+        Err(_) => Err(ParseFault::NoMemory),
+    }
+}
 
 #[cycle(parser)]
 fn operand(
@@ -76,7 +89,7 @@ fn negation(
     depth: u32,
     tokens: &[Token],
 ) -> Result<(Expression, &[Token]), ParseFault>
-    ensures { Answers (negations depth) 22 (meanings tokens.now) (outcome (λ x. view x.0) (λ x. x.1.now) result) }
+    ensures { Answers (negations depth) negation_class (meanings tokens.now) (outcome (λ x. view x.0) (λ x. x.1.now) result) }
 {
     let Some(after) = keyword(tokens, Keyword::Not) else {
         return test(alloc, depth, tokens);
@@ -85,13 +98,12 @@ fn negation(
         return Err(ParseFault::Syntax);
     }
     let (e, rest) = got!(negation(alloc, depth - 1, after));
-    let e = build::not(alloc, e)?;
-    Ok((e, rest))
+    made(build::not(alloc, e), rest)
 }
 
 #[cycle(parser)]
 fn test(alloc: Global, depth: u32, tokens: &[Token]) -> Result<(Expression, &[Token]), ParseFault>
-    ensures { Answers (testing (comparisons depth)) 22 (meanings tokens.now) (outcome (λ x. view x.0) (λ x. x.1.now) result) }
+    ensures { Answers (testing (comparisons depth)) negation_class (meanings tokens.now) (outcome (λ x. view x.0) (λ x. x.1.now) result) }
 {
     let (e, rest) = got!(comparison(alloc, depth, tokens));
     null_test(alloc, e, rest)
@@ -102,7 +114,7 @@ fn null_test(
     e: Expression,
     tokens: &[Token],
 ) -> Result<(Expression, &[Token]), ParseFault>
-    ensures { Answers (null_tested (view e)) 22 (meanings tokens.now) (outcome (λ x. view x.0) (λ x. x.1.now) result) }
+    ensures { Answers (null_tested (view e)) negation_class (meanings tokens.now) (outcome (λ x. view x.0) (λ x. x.1.now) result) }
 {
     let Some(after) = keyword(tokens, Keyword::Is) else {
         return Ok((e, tokens));
@@ -112,8 +124,7 @@ fn null_test(
         drop(e);
         return Err(ParseFault::Syntax);
     };
-    let e = build::null_test(alloc, negated, e)?;
-    Ok((e, rest))
+    made(build::null_test(alloc, negated, e), rest)
 }
 
 #[cycle(parser)]
@@ -122,7 +133,7 @@ fn comparison(
     depth: u32,
     tokens: &[Token],
 ) -> Result<(Expression, &[Token]), ParseFault>
-    ensures { Answers (comparisons depth) 23 (meanings tokens.now) (outcome (λ x. view x.0) (λ x. x.1.now) result) }
+    ensures { Answers (comparisons depth) comparison_class (meanings tokens.now) (outcome (λ x. view x.0) (λ x. x.1.now) result) }
 {
     let (left, rest) = got!(range(alloc, depth, tokens));
     compared(alloc, depth, left, rest)
@@ -135,19 +146,18 @@ fn compared(
     left: Expression,
     tokens: &[Token],
 ) -> Result<(Expression, &[Token]), ParseFault>
-    ensures { Answers (compared (ranges depth) (view left)) 23 (meanings tokens.now) (outcome (λ x. view x.0) (λ x. x.1.now) result) }
+    ensures { Answers (compared (ranges depth) (view left)) comparison_class (meanings tokens.now) (outcome (λ x. view x.0) (λ x. x.1.now) result) }
 {
     let Some((comparison, after)) = comparison_operator(tokens) else {
         return Ok((left, tokens));
     };
     let (right, rest) = got!(range(alloc, depth, after), left);
-    let e = build::compared(alloc, comparison, left, right)?;
-    Ok((e, rest))
+    made(build::compared(alloc, comparison, left, right), rest)
 }
 
 #[cycle(parser)]
 fn range(alloc: Global, depth: u32, tokens: &[Token]) -> Result<(Expression, &[Token]), ParseFault>
-    ensures { Answers (ranges depth) 24 (meanings tokens.now) (outcome (λ x. view x.0) (λ x. x.1.now) result) }
+    ensures { Answers (ranges depth) range_class (meanings tokens.now) (outcome (λ x. view x.0) (λ x. x.1.now) result) }
 {
     let (e, rest) = got!(chain(alloc, ChainKind::Sum, depth, tokens));
     range_tested(alloc, depth, e, rest)
@@ -155,7 +165,7 @@ fn range(alloc: Global, depth: u32, tokens: &[Token]) -> Result<(Expression, &[T
 
 /// Whether BETWEEN or IN comes first, or NOT.
 fn range_test_follows(tokens: &[Token]) -> bool
-    ensures yes { result ≡ true → Stops 24 (meanings tokens.now) → ⊥ }
+    ensures yes { result ≡ true → Stops range_class (meanings tokens.now) → ⊥ }
     ensures other { result ≡ false → IsNoTest (meanings tokens.now) }
 {
     keyword(tokens, Keyword::Not).is_some()
@@ -170,7 +180,7 @@ fn range_tested(
     e: Expression,
     tokens: &[Token],
 ) -> Result<(Expression, &[Token]), ParseFault>
-    ensures { Answers (range_tested (sums depth) (deeper depth (Chains Sum)) (view e)) 24 (meanings tokens.now) (outcome (λ x. view x.0) (λ x. x.1.now) result) }
+    ensures { Answers (range_tested (sums depth) (deeper depth (Chains Sum)) (view e)) range_class (meanings tokens.now) (outcome (λ x. view x.0) (λ x. x.1.now) result) }
 {
     if range_test_follows(tokens) {
         let (negated, after) = negated(tokens);
@@ -187,7 +197,7 @@ fn range_test(
     e: Expression,
     tokens: &[Token],
 ) -> Result<(Expression, &[Token]), ParseFault>
-    ensures { Answers (range_test (sums depth) (deeper depth (Chains Sum)) (view e) negated) 24 (meanings tokens.now) (outcome (λ x. view x.0) (λ x. x.1.now) result) }
+    ensures { Answers (range_test (sums depth) (deeper depth (Chains Sum)) (view e) negated) range_class (meanings tokens.now) (outcome (λ x. view x.0) (λ x. x.1.now) result) }
 {
     if let Some(after) = keyword(tokens, Keyword::Between) {
         return between(alloc, depth, negated, e, after);
@@ -210,15 +220,14 @@ fn among(
     e: Expression,
     tokens: &[Token],
 ) -> Result<(Expression, &[Token]), ParseFault>
-    ensures { Answers (among_row (deeper depth (Chains Sum)) (view e) negated) 24 (meanings tokens.now) (outcome (λ x. view x.0) (λ x. x.1.now) result) }
+    ensures { Answers (among_row (deeper depth (Chains Sum)) (view e) negated) range_class (meanings tokens.now) (outcome (λ x. view x.0) (λ x. x.1.now) result) }
 {
     let Some(after) = symbol(tokens, Symbol::OpenParenthesis) else {
         drop(e);
         return Err(ParseFault::Syntax);
     };
     let (list, rest) = got!(closed_list(alloc, ChainKind::Sum, depth, after), e);
-    let e = build::among(alloc, negated, e, list)?;
-    Ok((e, rest))
+    made(build::among(alloc, negated, e, list), rest)
 }
 
 /// Two ends, behind BETWEEN.
@@ -230,7 +239,7 @@ fn between(
     e: Expression,
     tokens: &[Token],
 ) -> Result<(Expression, &[Token]), ParseFault>
-    ensures { Answers (within_row (sums depth) (view e) negated) 24 (meanings tokens.now) (outcome (λ x. view x.0) (λ x. x.1.now) result) }
+    ensures { Answers (within_row (sums depth) (view e) negated) range_class (meanings tokens.now) (outcome (λ x. view x.0) (λ x. x.1.now) result) }
 {
     let (low, rest) = got!(chain(alloc, ChainKind::Sum, depth, tokens), e);
     up_to(alloc, depth, negated, e, low, rest)
@@ -246,7 +255,7 @@ fn up_to(
     low: Expression,
     tokens: &[Token],
 ) -> Result<(Expression, &[Token]), ParseFault>
-    ensures { Answers (up_to (sums depth) (view e) negated (view low)) 24 (meanings tokens.now) (outcome (λ x. view x.0) (λ x. x.1.now) result) }
+    ensures { Answers (up_to (sums depth) (view e) negated (view low)) range_class (meanings tokens.now) (outcome (λ x. view x.0) (λ x. x.1.now) result) }
 {
     let Some(after) = keyword(tokens, Keyword::And) else {
         drop(e);
@@ -254,13 +263,12 @@ fn up_to(
         return Err(ParseFault::Syntax);
     };
     let (high, rest) = got!(chain(alloc, ChainKind::Sum, depth, after), e, low);
-    let e = build::within(alloc, negated, e, low, high)?;
-    Ok((e, rest))
+    made(build::within(alloc, negated, e, low, high), rest)
 }
 
 #[cycle(parser)]
 fn sign(alloc: Global, depth: u32, tokens: &[Token]) -> Result<(Expression, &[Token]), ParseFault>
-    ensures { Answers (signs depth) 28 (meanings tokens.now) (outcome (λ x. view x.0) (λ x. x.1.now) result) }
+    ensures { Answers (signs depth) sign_class (meanings tokens.now) (outcome (λ x. view x.0) (λ x. x.1.now) result) }
 {
     let Some((minus, after)) = leading_sign(tokens) else {
         return primary(alloc, depth, tokens);
@@ -269,8 +277,7 @@ fn sign(alloc: Global, depth: u32, tokens: &[Token]) -> Result<(Expression, &[To
         return Err(ParseFault::Syntax);
     }
     let (e, rest) = got!(sign(alloc, depth - 1, after));
-    let e = build::signed(alloc, minus, e)?;
-    Ok((e, rest))
+    made(build::signed(alloc, minus, e), rest)
 }
 
 #[cycle(parser)]
@@ -279,7 +286,7 @@ fn primary(
     depth: u32,
     tokens: &[Token],
 ) -> Result<(Expression, &[Token]), ParseFault>
-    ensures { Answers (primary depth (inner depth)) 28 (meanings tokens.now) (outcome (λ x. view x.0) (λ x. x.1.now) result) }
+    ensures { Answers (primary depth (inner depth)) sign_class (meanings tokens.now) (outcome (λ x. view x.0) (λ x. x.1.now) result) }
 {
     if let Some((n, rest)) = number(tokens) {
         return Ok((build::number(*n), rest));
@@ -307,7 +314,7 @@ fn enclosed(
     depth: u32,
     tokens: &[Token],
 ) -> Result<(Expression, &[Token]), ParseFault>
-    ensures { Answers (Closed (inner depth)) 31 (meanings tokens.now) (outcome (λ x. view x.0) (λ x. x.1.now) result) }
+    ensures { Answers (Closed (inner depth)) any_class (meanings tokens.now) (outcome (λ x. view x.0) (λ x. x.1.now) result) }
 {
     if depth == 0 {
         return Err(ParseFault::Syntax);
@@ -329,7 +336,7 @@ fn column_or_call(
     own: RcStr,
     tokens: &[Token],
 ) -> Result<(Expression, &[Token]), ParseFault>
-    ensures { Answers (named depth (inner depth) (rc_str_bytes own)) 28 (meanings tokens.now) (outcome (λ x. view x.0) (λ x. x.1.now) result) }
+    ensures { Answers (named depth (inner depth) (rc_str_bytes own)) sign_class (meanings tokens.now) (outcome (λ x. view x.0) (λ x. x.1.now) result) }
 {
     if let Some(after) = symbol(tokens, Symbol::Dot) {
         return qualified(own, after);
@@ -341,7 +348,7 @@ fn column_or_call(
 }
 
 fn qualified(qualifier: RcStr, tokens: &[Token]) -> Result<(Expression, &[Token]), ParseFault>
-    ensures { Answers (qualified_by (rc_str_bytes qualifier)) 31 (meanings tokens.now) (outcome (λ x. view x.0) (λ x. x.1.now) result) }
+    ensures { Answers (qualified_by (rc_str_bytes qualifier)) any_class (meanings tokens.now) (outcome (λ x. view x.0) (λ x. x.1.now) result) }
 {
     match name(tokens) {
         None => {
@@ -362,18 +369,17 @@ fn calls(
     function: RcStr,
     tokens: &[Token],
 ) -> Result<(Expression, &[Token]), ParseFault>
-    ensures { Answers (call depth (inner depth) (rc_str_bytes function)) 28 (meanings tokens.now) (outcome (λ x. view x.0) (λ x. x.1.now) result) }
+    ensures { Answers (call depth (inner depth) (rc_str_bytes function)) sign_class (meanings tokens.now) (outcome (λ x. view x.0) (λ x. x.1.now) result) }
 {
     let (arguments, rest) = got!(given(alloc, depth, tokens), function);
     let (filter, rest) = got!(filter(alloc, depth, rest), function, arguments);
     let (over, rest) = got!(over(alloc, depth, rest), function, arguments, filter);
-    let e = build::call(alloc, function, arguments, filter, over)?;
-    Ok((e, rest))
+    made(build::call(alloc, function, arguments, filter, over), rest)
 }
 
 #[cycle(parser)]
 fn given(alloc: Global, depth: u32, tokens: &[Token]) -> Result<(Arguments, &[Token]), ParseFault>
-    ensures { Answers (arguments depth (inner depth)) 31 (meanings tokens.now) (outcome (λ x. view_arguments x.0) (λ x. x.1.now) result) }
+    ensures { Answers (arguments depth (inner depth)) any_class (meanings tokens.now) (outcome (λ x. view_arguments x.0) (λ x. x.1.now) result) }
 {
     if let Some(rest) = symbol(tokens, Symbol::CloseParenthesis) {
         return Ok((build::listed(Vec::new(alloc)), rest));
@@ -389,13 +395,15 @@ fn given(alloc: Global, depth: u32, tokens: &[Token]) -> Result<(Arguments, &[To
 }
 
 fn everything(depth: u32, tokens: &[Token]) -> Option<(Arguments, &[Token])>
-    ensures { Answers (everything_closed depth) 31 (meanings tokens.now) (settled (λ x. view_arguments x.0) (λ x. x.1.now) result) }
+    ensures { Answers (everything_closed depth) any_class (meanings tokens.now) (settled (λ x. view_arguments x.0) (λ x. x.1.now) result) }
 {
     if depth == 0 {
         return None;
     }
-    let rest = symbol(tokens, Symbol::CloseParenthesis)?;
-    Some((build::star(), rest))
+    match symbol(tokens, Symbol::CloseParenthesis) {
+        None => None,
+        Some(rest) => Some((build::star(), rest)),
+    }
 }
 
 #[cycle(parser)]
@@ -405,7 +413,7 @@ fn closed_list(
     depth: u32,
     tokens: &[Token],
 ) -> Result<(Vec<Expression>, &[Token]), ParseFault>
-    ensures { Answers (Closed (Listed (deeper depth (Chains kind)))) 31 (meanings tokens.now) (outcome (λ x. views x.0.items) (λ x. x.1.now) result) }
+    ensures { Answers (Closed (Listed (deeper depth (Chains kind)))) any_class (meanings tokens.now) (outcome (λ x. views x.0.items) (λ x. x.1.now) result) }
 {
     if depth == 0 {
         return Err(ParseFault::Syntax);
@@ -427,7 +435,7 @@ fn list(
     depth: u32,
     tokens: &[Token],
 ) -> Result<(Vec<Expression>, &[Token]), ParseFault>
-    ensures { Answers (Listed (chains depth kind)) 12 (meanings tokens.now) (outcome (λ x. views x.0.items) (λ x. x.1.now) result) }
+    ensures { Answers (Listed (chains depth kind)) list_class (meanings tokens.now) (outcome (λ x. views x.0.items) (λ x. x.1.now) result) }
 {
     let mut items = Vec::new(alloc);
     let mut left = tokens;
@@ -447,7 +455,7 @@ fn filter(
     depth: u32,
     tokens: &[Token],
 ) -> Result<(Option<Expression>, &[Token]), ParseFault>
-    ensures { Answers (filtered (inner depth)) 29 (meanings tokens.now) (outcome (λ x. filter_of (view_optional x.0)) (λ x. x.1.now) result) }
+    ensures { Answers (filtered (inner depth)) filter_class (meanings tokens.now) (outcome (λ x. filter_of (view_optional x.0)) (λ x. x.1.now) result) }
 {
     let Some(after) = keyword(tokens, Keyword::Filter) else {
         return Ok((None, tokens));
@@ -464,7 +472,7 @@ fn filter(
 
 #[cycle(parser)]
 fn over(alloc: Global, depth: u32, tokens: &[Token]) -> Result<(Option<Over>, &[Token]), ParseFault>
-    ensures { Answers (reaching depth (inner depth)) 28 (meanings tokens.now) (outcome (λ x. reach_of (view_optional_over x.0)) (λ x. x.1.now) result) }
+    ensures { Answers (reaching depth (inner depth)) sign_class (meanings tokens.now) (outcome (λ x. reach_of (view_optional_over x.0)) (λ x. x.1.now) result) }
 {
     let Some(after) = keyword(tokens, Keyword::Over) else {
         return Ok((None, tokens));
@@ -487,7 +495,7 @@ pub fn enclosed_window(
     depth: u32,
     tokens: &[Token],
 ) -> Result<(Window, &[Token]), ParseFault>
-    ensures { Answers (window_inside depth (inner depth)) 31 (meanings tokens.now) (outcome (λ x. view_window x.0) (λ x. x.1.now) result) }
+    ensures { Answers (window_inside depth (inner depth)) any_class (meanings tokens.now) (outcome (λ x. view_window x.0) (λ x. x.1.now) result) }
 {
     if let Some(rest) = symbol(tokens, Symbol::CloseParenthesis) {
         return Ok((
@@ -514,7 +522,7 @@ fn window_parts(
     depth: u32,
     tokens: &[Token],
 ) -> Result<(Window, &[Token]), ParseFault>
-    ensures { Answers (window (conditions depth)) 3 (meanings tokens.now) (outcome (λ x. view_window x.0) (λ x. x.1.now) result) }
+    ensures { Answers (window (conditions depth)) frame_class (meanings tokens.now) (outcome (λ x. view_window x.0) (λ x. x.1.now) result) }
 {
     let (copied, rest) = got!(optional_name(tokens));
     let (partition, rest) = got!(partitioned(alloc, depth, rest), copied);
@@ -534,7 +542,7 @@ fn partitioned(
     depth: u32,
     tokens: &[Token],
 ) -> Result<(Vec<Expression>, &[Token]), ParseFault>
-    ensures { Answers (partition (conditions depth)) 6 (meanings tokens.now) (outcome (λ x. views x.0.items) (λ x. x.1.now) result) }
+    ensures { Answers (partition (conditions depth)) partition_class (meanings tokens.now) (outcome (λ x. views x.0.items) (λ x. x.1.now) result) }
 {
     let Some(after) = keyword(tokens, Keyword::Partition) else {
         return Ok((Vec::new(alloc), tokens));
@@ -552,7 +560,7 @@ pub fn ordered(
     depth: u32,
     tokens: &[Token],
 ) -> Result<(Vec<Key>, &[Token]), ParseFault>
-    ensures { Answers (order (conditions depth)) 5 (meanings tokens.now) (outcome (λ x. view_keys x.0.items) (λ x. x.1.now) result) }
+    ensures { Answers (order (conditions depth)) order_class (meanings tokens.now) (outcome (λ x. view_keys x.0.items) (λ x. x.1.now) result) }
 {
     let Some(after) = keyword(tokens, Keyword::Order) else {
         return Ok((Vec::new(alloc), tokens));
@@ -565,7 +573,7 @@ pub fn ordered(
 
 #[cycle(parser)]
 fn keys(alloc: Global, depth: u32, tokens: &[Token]) -> Result<(Vec<Key>, &[Token]), ParseFault>
-    ensures { Answers (Listed (key (conditions depth))) 12 (meanings tokens.now) (outcome (λ x. view_keys x.0.items) (λ x. x.1.now) result) }
+    ensures { Answers (Listed (key (conditions depth))) list_class (meanings tokens.now) (outcome (λ x. view_keys x.0.items) (λ x. x.1.now) result) }
 {
     let mut items = Vec::new(alloc);
     let mut left = tokens;
@@ -581,7 +589,7 @@ fn keys(alloc: Global, depth: u32, tokens: &[Token]) -> Result<(Vec<Key>, &[Toke
 
 #[cycle(parser)]
 fn sort_key(alloc: Global, depth: u32, tokens: &[Token]) -> Result<(Key, &[Token]), ParseFault>
-    ensures { Answers (key (conditions depth)) 15 (meanings tokens.now) (outcome (λ x. view_key x.0) (λ x. x.1.now) result) }
+    ensures { Answers (key (conditions depth)) nulls_class (meanings tokens.now) (outcome (λ x. view_key x.0) (λ x. x.1.now) result) }
 {
     let (e, rest) = got!(chain(alloc, ChainKind::Disjunction, depth, tokens));
     let (descending, rest) = descending(rest);

@@ -5,17 +5,18 @@ ghost use Rattle.wquery.specs.Tree.{name_bytes};
 ghost use Rattle.wparser.specs.Words.{direction_of};
 ghost use Rattle.wparser.specs.Notation.{One, Perhaps};
 ghost use Rattle.wparser.specs.Grammar.{perhaps_not, perhaps_name, perhaps_frame, nulls_placed, frame, extent, two_bounds, other_bound, bound, toward, exclusion, excluding};
+ghost use Rattle.wparser.specs.Grips.{any_class, not_class, direction_class, nulls_class, name_class, frame_class};
 ghost use Rattle.wparser.specs.Finding.{meanings, outcome, settled, Got, Answers};
 
 use crate::fault::ParseFault;
-use crate::tokens::{direction, keyword, mode, name, null_order, number};
+use crate::tokens::{direction, keyword, keyword_pair, mode, name, null_order, number};
 use std::rc::RcStr;
 use wlexer::{Keyword, Token};
 use wquery::{Frame, FrameBound, FrameExclusion, NullOrder};
 
 /// Whether NOT comes first, and what follows.
 pub fn negated(tokens: &[Token]) -> (bool, &[Token])
-    ensures { Answers perhaps_not 25 (meanings tokens.now) (Got (result.0) (meanings result.1.now)) }
+    ensures { Answers perhaps_not not_class (meanings tokens.now) (Got (result.0) (meanings result.1.now)) }
 {
     match keyword(tokens, Keyword::Not) {
         None => (false, tokens),
@@ -25,7 +26,7 @@ pub fn negated(tokens: &[Token]) -> (bool, &[Token])
 
 /// A name, if one comes first.
 pub fn optional_name(tokens: &[Token]) -> Result<(Option<RcStr>, &[Token]), ParseFault>
-    ensures { Answers perhaps_name 14 (meanings tokens.now) (outcome (λ x. name_bytes x.0) (λ x. x.1.now) result) }
+    ensures { Answers perhaps_name name_class (meanings tokens.now) (outcome (λ x. name_bytes x.0) (λ x. x.1.now) result) }
 {
     match name(tokens) {
         None => Ok((None, tokens)),
@@ -38,7 +39,7 @@ pub fn optional_name(tokens: &[Token]) -> Result<(Option<RcStr>, &[Token]), Pars
 
 /// Whether DESC comes first; ASC and nothing are the same.
 pub fn descending(tokens: &[Token]) -> (bool, &[Token])
-    ensures { Answers (Perhaps false (One direction_of)) 16 (meanings tokens.now) (Got (result.0) (meanings result.1.now)) }
+    ensures { Answers (Perhaps false (One direction_of)) direction_class (meanings tokens.now) (Got (result.0) (meanings result.1.now)) }
 {
     match direction(tokens) {
         None => (false, tokens),
@@ -48,18 +49,20 @@ pub fn descending(tokens: &[Token]) -> (bool, &[Token])
 
 /// The place of nulls, if NULLS comes first. It refuses NULLS alone.
 pub fn placed_nulls(tokens: &[Token]) -> Option<(Option<NullOrder>, &[Token])>
-    ensures { Answers nulls_placed 15 (meanings tokens.now) (settled (λ x. x.0) (λ x. x.1.now) result) }
+    ensures { Answers nulls_placed nulls_class (meanings tokens.now) (settled (λ x. x.0) (λ x. x.1.now) result) }
 {
     let Some(after) = keyword(tokens, Keyword::Nulls) else {
         return Some((None, tokens));
     };
-    let (nulls, rest) = null_order(after)?;
-    Some((Some(nulls), rest))
+    match null_order(after) {
+        None => None,
+        Some((nulls, rest)) => Some((Some(nulls), rest)),
+    }
 }
 
 /// A frame clause, if a mode comes first. It refuses what only begins as one.
 pub fn optional_frame(tokens: &[Token]) -> Option<(Option<Frame>, &[Token])>
-    ensures { Answers perhaps_frame 3 (meanings tokens.now) (settled (λ x. x.0) (λ x. x.1.now) result) }
+    ensures { Answers perhaps_frame frame_class (meanings tokens.now) (settled (λ x. x.0) (λ x. x.1.now) result) }
 {
     let Some(_) = mode(tokens) else {
         return Some((None, tokens));
@@ -71,13 +74,17 @@ pub fn optional_frame(tokens: &[Token]) -> Option<(Option<Frame>, &[Token])>
 }
 
 fn frame_clause(tokens: &[Token]) -> Option<(Frame, &[Token])>
-    ensures { Answers frame 3 (meanings tokens.now) (settled (λ x. x.0) (λ x. x.1.now) result) }
+    ensures { Answers frame frame_class (meanings tokens.now) (settled (λ x. x.0) (λ x. x.1.now) result) }
 {
-    let (mode, rest) = mode(tokens)?;
+    let Some((mode, rest)) = mode(tokens) else {
+        return None;
+    };
     let Some((ends, rest)) = ends(rest) else {
         return None;
     };
-    let (exclusion, rest) = optional_exclusion(rest)?;
+    let Some((exclusion, rest)) = optional_exclusion(rest) else {
+        return None;
+    };
     let frame = Frame {
         mode,
         start: ends.0,
@@ -88,7 +95,7 @@ fn frame_clause(tokens: &[Token]) -> Option<(Frame, &[Token])>
 }
 
 fn ends(tokens: &[Token]) -> Option<((FrameBound, Option<FrameBound>), &[Token])>
-    ensures { Answers extent 31 (meanings tokens.now) (settled (λ x. x.0) (λ x. x.1.now) result) }
+    ensures { Answers extent any_class (meanings tokens.now) (settled (λ x. x.0) (λ x. x.1.now) result) }
 {
     if let Some(after) = keyword(tokens, Keyword::Between) {
         return both_ends(after);
@@ -100,7 +107,7 @@ fn ends(tokens: &[Token]) -> Option<((FrameBound, Option<FrameBound>), &[Token])
 }
 
 fn both_ends(tokens: &[Token]) -> Option<((FrameBound, Option<FrameBound>), &[Token])>
-    ensures { Answers two_bounds 31 (meanings tokens.now) (settled (λ x. x.0) (λ x. x.1.now) result) }
+    ensures { Answers two_bounds any_class (meanings tokens.now) (settled (λ x. x.0) (λ x. x.1.now) result) }
 {
     match frame_bound(tokens) {
         None => None,
@@ -112,9 +119,11 @@ fn far_end(
     start: FrameBound,
     tokens: &[Token],
 ) -> Option<((FrameBound, Option<FrameBound>), &[Token])>
-    ensures { Answers (other_bound start) 31 (meanings tokens.now) (settled (λ x. x.0) (λ x. x.1.now) result) }
+    ensures { Answers (other_bound start) any_class (meanings tokens.now) (settled (λ x. x.0) (λ x. x.1.now) result) }
 {
-    let after = keyword(tokens, Keyword::And)?;
+    let Some(after) = keyword(tokens, Keyword::And) else {
+        return None;
+    };
     match frame_bound(after) {
         None => None,
         Some((end, rest)) => Some(((start, Some(end)), rest)),
@@ -122,7 +131,7 @@ fn far_end(
 }
 
 fn frame_bound(tokens: &[Token]) -> Option<(FrameBound, &[Token])>
-    ensures { Answers bound 31 (meanings tokens.now) (settled (λ x. x.0) (λ x. x.1.now) result) }
+    ensures { Answers bound any_class (meanings tokens.now) (settled (λ x. x.0) (λ x. x.1.now) result) }
 {
     if let Some(after) = keyword(tokens, Keyword::Unbounded) {
         return bound_toward(
@@ -131,8 +140,7 @@ fn frame_bound(tokens: &[Token]) -> Option<(FrameBound, &[Token])>
             FrameBound::UnboundedFollowing,
         );
     }
-    if let Some(after) = keyword(tokens, Keyword::Current) {
-        let rest = keyword(after, Keyword::Row)?;
+    if let Some(rest) = keyword_pair(tokens, Keyword::Current, Keyword::Row) {
         return Some((FrameBound::CurrentRow, rest));
     }
     match number(tokens) {
@@ -148,30 +156,33 @@ fn bound_toward(
     back: FrameBound,
     ahead: FrameBound,
 ) -> Option<(FrameBound, &[Token])>
-    ensures { Answers (toward back ahead) 31 (meanings tokens.now) (settled (λ x. x.0) (λ x. x.1.now) result) }
+    ensures { Answers (toward back ahead) any_class (meanings tokens.now) (settled (λ x. x.0) (λ x. x.1.now) result) }
 {
     if let Some(rest) = keyword(tokens, Keyword::Preceding) {
         return Some((back, rest));
     }
-    let rest = keyword(tokens, Keyword::Following)?;
-    Some((ahead, rest))
+    match keyword(tokens, Keyword::Following) {
+        None => None,
+        Some(rest) => Some((ahead, rest)),
+    }
 }
 
 fn optional_exclusion(tokens: &[Token]) -> Option<(Option<FrameExclusion>, &[Token])>
-    ensures { Answers excluding 3 (meanings tokens.now) (settled (λ x. x.0) (λ x. x.1.now) result) }
+    ensures { Answers excluding frame_class (meanings tokens.now) (settled (λ x. x.0) (λ x. x.1.now) result) }
 {
     let Some(after) = keyword(tokens, Keyword::Exclude) else {
         return Some((None, tokens));
     };
-    let (exclusion, rest) = excluded(after)?;
-    Some((Some(exclusion), rest))
+    match excluded(after) {
+        None => None,
+        Some((exclusion, rest)) => Some((Some(exclusion), rest)),
+    }
 }
 
 fn excluded(tokens: &[Token]) -> Option<(FrameExclusion, &[Token])>
-    ensures { Answers exclusion 31 (meanings tokens.now) (settled (λ x. x.0) (λ x. x.1.now) result) }
+    ensures { Answers exclusion any_class (meanings tokens.now) (settled (λ x. x.0) (λ x. x.1.now) result) }
 {
-    if let Some(after) = keyword(tokens, Keyword::Current) {
-        let rest = keyword(after, Keyword::Row)?;
+    if let Some(rest) = keyword_pair(tokens, Keyword::Current, Keyword::Row) {
         return Some((FrameExclusion::CurrentRow, rest));
     }
     if let Some(rest) = keyword(tokens, Keyword::Group) {
@@ -180,7 +191,8 @@ fn excluded(tokens: &[Token]) -> Option<(FrameExclusion, &[Token])>
     if let Some(rest) = keyword(tokens, Keyword::Ties) {
         return Some((FrameExclusion::Ties, rest));
     }
-    let after = keyword(tokens, Keyword::No)?;
-    let rest = keyword(after, Keyword::Others)?;
-    Some((FrameExclusion::NoOthers, rest))
+    match keyword_pair(tokens, Keyword::No, Keyword::Others) {
+        None => None,
+        Some(rest) => Some((FrameExclusion::NoOthers, rest)),
+    }
 }

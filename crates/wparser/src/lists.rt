@@ -2,6 +2,7 @@
 
 ghost use Rattle.std.specs.Prelude.{ℕ, ◌<◌, length, map, IfOk};
 ghost use Rattle.wparser.specs.Notation.{Row, Listed};
+ghost use Rattle.wparser.specs.Grips.{element_class, list_class};
 ghost use Rattle.wparser.specs.Finding.{meanings, outcome, Answers};
 
 use crate::fault::ParseFault;
@@ -22,7 +23,7 @@ pub trait Element: Drop {
 
     /// The element that comes first, and what follows it.
     fn read(alloc: Global, depth: u32, tokens: &[Token]) -> Result<(Self, &[Token]), ParseFault>
-        ensures spelled { Answers (spelling depth) 14 (meanings tokens.now) (outcome (λ x. said x.0) (λ x. x.1.now) result) }
+        ensures spelled { Answers (spelling depth) element_class (meanings tokens.now) (outcome (λ x. said x.0) (λ x. x.1.now) result) }
         ensures shorter { IfOk result (λ x. length x.1.now < length tokens.now) };
 }
 
@@ -32,7 +33,7 @@ pub fn elements<E: Element>(
     depth: u32,
     tokens: &[Token],
 ) -> Result<(Vec<E>, &[Token]), ParseFault>
-    ensures { Answers (Listed (E.spelling depth)) 12 (meanings tokens.now) (outcome (λ x. map E.said x.0.items) (λ x. x.1.now) result) }
+    ensures { Answers (Listed (E.spelling depth)) list_class (meanings tokens.now) (outcome (λ x. map E.said x.0.items) (λ x. x.1.now) result) }
 {
     let mut elements = Vec::new(alloc);
     let mut left = tokens;

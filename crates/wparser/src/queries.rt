@@ -7,7 +7,7 @@ ghost use Rattle.wquery.specs.QueryTree.{QueryTree, ItemTree, EntryTree, view_qu
 ghost use Rattle.wparser.specs.Words.{name_of};
 ghost use Rattle.wparser.specs.Notation.{One};
 ghost use Rattle.wparser.specs.Queries.{alias_name, alias, item, derived, source, clause, column, grouping, entry, windows, count, limit_row, offset_row, limits, behind_groups, behind_windows, clauses, queries, deeper_queries, texts, Spells};
-ghost use Rattle.wparser.specs.Grips.{keyword_grip};
+ghost use Rattle.wparser.specs.Grips.{any_class, condition_class, name_class, element_class, grouping_class, windows_class, limits_class, text_class, keyword_grip};
 ghost use Rattle.wparser.specs.declared.fault.ParseFault.TheVariants.{Syntax};
 ghost use Rattle.wparser.specs.Finding.{meanings, outcome, settled, Answers};
 
@@ -22,7 +22,7 @@ use wquery::build::{self, Clauses};
 use wquery::{ChainKind, Column, Expression, Item, Query, Source, WindowEntry};
 
 fn copied_name(tokens: &[Token]) -> Result<(RcStr, &[Token]), ParseFault>
-    ensures { Answers (One name_of) 31 (meanings tokens.now) (outcome (λ x. rc_str_bytes x.0) (λ x. x.1.now) result) }
+    ensures { Answers (One name_of) any_class (meanings tokens.now) (outcome (λ x. rc_str_bytes x.0) (λ x. x.1.now) result) }
 {
     let Some((name, rest)) = name(tokens) else {
         return Err(ParseFault::Syntax);
@@ -33,7 +33,7 @@ fn copied_name(tokens: &[Token]) -> Result<(RcStr, &[Token]), ParseFault>
 
 /// A name, with or without AS before it.
 fn required_alias(tokens: &[Token]) -> Result<(RcStr, &[Token]), ParseFault>
-    ensures { Answers alias_name 31 (meanings tokens.now) (outcome (λ x. rc_str_bytes x.0) (λ x. x.1.now) result) }
+    ensures { Answers alias_name any_class (meanings tokens.now) (outcome (λ x. rc_str_bytes x.0) (λ x. x.1.now) result) }
 {
     match keyword(tokens, Keyword::As) {
         None => copied_name(tokens),
@@ -42,7 +42,7 @@ fn required_alias(tokens: &[Token]) -> Result<(RcStr, &[Token]), ParseFault>
 }
 
 fn optional_alias(tokens: &[Token]) -> Result<(Option<RcStr>, &[Token]), ParseFault>
-    ensures { Answers alias 14 (meanings tokens.now) (outcome (λ x. name_bytes x.0) (λ x. x.1.now) result) }
+    ensures { Answers alias name_class (meanings tokens.now) (outcome (λ x. name_bytes x.0) (λ x. x.1.now) result) }
 {
     if let Some(after) = keyword(tokens, Keyword::As) {
         let (name, rest) = got!(copied_name(after));
@@ -81,7 +81,7 @@ fn condition(
     word: Keyword,
     tokens: &[Token],
 ) -> Result<(Option<Expression>, &[Token]), ParseFault>
-    requires { keyword_grip word ≤ 20 }
+    requires { keyword_grip word ≤ condition_class }
     ensures { Answers (clause word depth) (keyword_grip word) (meanings tokens.now) (outcome (λ x. view_optional x.0) (λ x. x.1.now) result) }
 {
     let Some(after) = keyword(tokens, word) else {
@@ -115,7 +115,7 @@ impl Element for Column {
 }
 
 fn grouped(alloc: Global, tokens: &[Token]) -> Result<(Vec<Column>, &[Token]), ParseFault>
-    ensures { Answers grouping 8 (meanings tokens.now) (outcome (λ x. map view_column x.0.items) (λ x. x.1.now) result) }
+    ensures { Answers grouping grouping_class (meanings tokens.now) (outcome (λ x. map view_column x.0.items) (λ x. x.1.now) result) }
 {
     let Some(after) = keyword(tokens, Keyword::Group) else {
         return Ok((Vec::new(alloc), tokens));
@@ -157,7 +157,7 @@ fn window_clause(
     depth: u32,
     tokens: &[Token],
 ) -> Result<(Vec<WindowEntry>, &[Token]), ParseFault>
-    ensures { Answers (windows depth) 6 (meanings tokens.now) (outcome (λ x. map view_entry x.0.items) (λ x. x.1.now) result) }
+    ensures { Answers (windows depth) windows_class (meanings tokens.now) (outcome (λ x. map view_entry x.0.items) (λ x. x.1.now) result) }
 {
     match keyword(tokens, Keyword::Window) {
         None => Ok((Vec::new(alloc), tokens)),
@@ -180,7 +180,7 @@ fn counted(word: Keyword, tokens: &[Token]) -> Option<(Option<Number>, &[Token])
 
 /// A number, and then what OFFSET says, behind LIMIT.
 fn limit_first(tokens: &[Token]) -> Option<((Option<Number>, Option<Number>), &[Token])>
-    ensures { Answers limit_row 4 (meanings tokens.now) (settled (λ x. x.0) (λ x. x.1.now) result) }
+    ensures { Answers limit_row limits_class (meanings tokens.now) (settled (λ x. x.0) (λ x. x.1.now) result) }
 {
     let Some((limit, rest)) = number(tokens) else {
         return None;
@@ -193,7 +193,7 @@ fn limit_first(tokens: &[Token]) -> Option<((Option<Number>, Option<Number>), &[
 
 /// A number, and then what LIMIT says, behind OFFSET.
 fn offset_first(tokens: &[Token]) -> Option<((Option<Number>, Option<Number>), &[Token])>
-    ensures { Answers offset_row 4 (meanings tokens.now) (settled (λ x. x.0) (λ x. x.1.now) result) }
+    ensures { Answers offset_row limits_class (meanings tokens.now) (settled (λ x. x.0) (λ x. x.1.now) result) }
 {
     let Some((offset, rest)) = number(tokens) else {
         return None;
@@ -206,7 +206,7 @@ fn offset_first(tokens: &[Token]) -> Option<((Option<Number>, Option<Number>), &
 
 /// What LIMIT and OFFSET say, in either order. It refuses either word alone.
 fn limited(tokens: &[Token]) -> Option<((Option<Number>, Option<Number>), &[Token])>
-    ensures { Answers limits 4 (meanings tokens.now) (settled (λ x. x.0) (λ x. x.1.now) result) }
+    ensures { Answers limits limits_class (meanings tokens.now) (settled (λ x. x.0) (λ x. x.1.now) result) }
 {
     if let Some(after) = keyword(tokens, Keyword::Limit) {
         return limit_first(after);
@@ -233,7 +233,7 @@ fn query_clauses(
     source: Source,
     tokens: &[Token],
 ) -> Result<(Query, &[Token]), ParseFault>
-    ensures { Answers (clauses depth (map view_item items.items) (view_source source)) 4 (meanings tokens.now) (outcome (λ x. view_query x.0) (λ x. x.1.now) result) }
+    ensures { Answers (clauses depth (map view_item items.items) (view_source source)) limits_class (meanings tokens.now) (outcome (λ x. view_query x.0) (λ x. x.1.now) result) }
 {
     let (condition, rest) = got!(
         condition(alloc, depth, Keyword::Where, tokens),
@@ -256,7 +256,7 @@ fn clauses_behind_groups(
     front: Front,
     tokens: &[Token],
 ) -> Result<(Query, &[Token]), ParseFault>
-    ensures { Answers (behind_groups depth (map view_item front.items.items) (view_source front.source) (view_optional front.condition) (map view_column front.grouping.items)) 4 (meanings tokens.now) (outcome (λ x. view_query x.0) (λ x. x.1.now) result) }
+    ensures { Answers (behind_groups depth (map view_item front.items.items) (view_source front.source) (view_optional front.condition) (map view_column front.grouping.items)) limits_class (meanings tokens.now) (outcome (λ x. view_query x.0) (λ x. x.1.now) result) }
 {
     let (having, rest) = got!(condition(alloc, depth, Keyword::Having, tokens), front);
     let (windows, rest) = got!(window_clause(alloc, depth, rest), front, having);
@@ -271,7 +271,7 @@ fn clauses_behind_windows(
     windows: Vec<WindowEntry>,
     tokens: &[Token],
 ) -> Result<(Query, &[Token]), ParseFault>
-    ensures { Answers (behind_windows depth (map view_item front.items.items) (view_source front.source) (view_optional front.condition) (map view_column front.grouping.items) (view_optional having) (map view_entry windows.items)) 4 (meanings tokens.now) (outcome (λ x. view_query x.0) (λ x. x.1.now) result) }
+    ensures { Answers (behind_windows depth (map view_item front.items.items) (view_source front.source) (view_optional front.condition) (map view_column front.grouping.items) (view_optional having) (map view_entry windows.items)) limits_class (meanings tokens.now) (outcome (λ x. view_query x.0) (λ x. x.1.now) result) }
 {
     let (order, rest) = got!(ordered(alloc, depth, tokens), front, having, windows);
     let Some((limits, rest)) = limited(rest) else {
@@ -301,7 +301,7 @@ fn clauses_behind_windows(
 /// A query.
 #[cycle(queries)]
 pub fn query(alloc: Global, depth: u32, tokens: &[Token]) -> Result<(Query, &[Token]), ParseFault>
-    ensures { Answers (queries depth) 4 (meanings tokens.now) (outcome (λ x. view_query x.0) (λ x. x.1.now) result) }
+    ensures { Answers (queries depth) limits_class (meanings tokens.now) (outcome (λ x. view_query x.0) (λ x. x.1.now) result) }
 {
     let Some(after) = keyword(tokens, Keyword::Select) else {
         return Err(ParseFault::Syntax);
@@ -317,7 +317,7 @@ pub fn query(alloc: Global, depth: u32, tokens: &[Token]) -> Result<(Query, &[To
 
 #[cycle(queries)]
 fn source_of(alloc: Global, depth: u32, tokens: &[Token]) -> Result<(Source, &[Token]), ParseFault>
-    ensures { Answers (source (deeper_queries depth)) 14 (meanings tokens.now) (outcome (λ x. view_source x.0) (λ x. x.1.now) result) }
+    ensures { Answers (source (deeper_queries depth)) element_class (meanings tokens.now) (outcome (λ x. view_source x.0) (λ x. x.1.now) result) }
 {
     if let Some((table, rest)) = name(tokens) {
         let table = table.clone()?;
@@ -332,7 +332,7 @@ fn source_of(alloc: Global, depth: u32, tokens: &[Token]) -> Result<(Source, &[T
 
 #[cycle(queries)]
 fn derived_of(alloc: Global, depth: u32, tokens: &[Token]) -> Result<(Source, &[Token]), ParseFault>
-    ensures { Answers (derived (deeper_queries depth)) 31 (meanings tokens.now) (outcome (λ x. view_source x.0) (λ x. x.1.now) result) }
+    ensures { Answers (derived (deeper_queries depth)) any_class (meanings tokens.now) (outcome (λ x. view_source x.0) (λ x. x.1.now) result) }
 {
     if depth == 0 {
         return Err(ParseFault::Syntax);
@@ -349,7 +349,7 @@ fn derived_of(alloc: Global, depth: u32, tokens: &[Token]) -> Result<(Source, &[
 
 /// A query and the semicolon behind it, if there is one.
 fn terminated(alloc: Global, tokens: &[Token]) -> Result<(Query, &[Token]), ParseFault>
-    ensures { Answers texts 1 (meanings tokens.now) (outcome (λ x. view_query x.0) (λ x. x.1.now) result) }
+    ensures { Answers texts text_class (meanings tokens.now) (outcome (λ x. view_query x.0) (λ x. x.1.now) result) }
 {
     let (query, rest) = got!(query(alloc, 64, tokens));
     match symbol(rest, Symbol::Semicolon) {

@@ -35,6 +35,16 @@ pub fn keyword(tokens: &[Token], wanted: Keyword) -> Option<&[Token]>
     }
 }
 
+/// What follows these two keywords, where they come first.
+pub fn keyword_pair(tokens: &[Token], one: Keyword, other: Keyword) -> Option<&[Token]>
+    ensures { MatchOption result ((ts : Tokens) → meanings tokens.now ≢ KeywordToken one ∷ KeywordToken other ∷ ts) (λ x. meanings tokens.now ≡ KeywordToken one ∷ KeywordToken other ∷ meanings x.now) }
+{
+    match keyword(tokens, one) {
+        None => None,
+        Some(after) => keyword(after, other),
+    }
+}
+
 fn is_keyword(lexeme: &Lexeme, wanted: Keyword) -> bool
     ensures same { result ≡ true → lexeme_meaning lexeme.now ≡ KeywordToken wanted }
     ensures other { result ≡ false → lexeme_meaning lexeme.now ≢ KeywordToken wanted }

@@ -1,2 +1,3 @@
 mod Running
 mod Alike
+mod LeafFacts

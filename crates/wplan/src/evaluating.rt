@@ -10,6 +10,7 @@ ghost use Rattle.wplan.specs.Cells.{outcome, Gives, GivesTruth};
 
 use crate::cell::{Cell, EvalFault};
 use crate::expr::{Expr, Further};
+use crate::leaves::compared_in_place;
 use crate::operating::{
     applied, between_truth, cells_compared, null_truth, signed_cell, turned_truth,
 };
@@ -69,6 +70,9 @@ pub fn eval(e: &Expr, row: &[Value]) -> Result<Cell, EvalFault>
             left,
             right,
         } => {
+            if let Some(truth) = compared_in_place(*comparison, left, right, row) {
+                return Ok(Cell::Truth(truth));
+            }
             let x = eval(left, row)?;
             let y = eval(right, row)?;
             Ok(Cell::Truth(cells_compared(*comparison, &x, &y)))

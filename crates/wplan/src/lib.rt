@@ -12,6 +12,7 @@
 mod cell;
 mod evaluating;
 mod expr;
+mod leaves;
 mod operating;
 mod resolved;
 mod sameness;

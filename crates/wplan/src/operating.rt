@@ -60,7 +60,8 @@ pub(crate) fn applied(operator: Operator, x: &Cell, y: &Cell) -> Result<Cell, Ev
     }
 }
 
-fn order(x: &Value, y: &Value) -> Option<Ordering>
+/// How two values stand, where they stand in an order.
+pub(crate) fn order(x: &Value, y: &Value) -> Option<Ordering>
     ensures { result ≡ order_of (meaning x.now) (meaning y.now) }
 {
     match (x, y) {
@@ -83,7 +84,8 @@ fn is_met(comparison: Comparison, order: Ordering) -> bool
     }
 }
 
-fn judge(comparison: Comparison, order: Option<Ordering>) -> Truth
+/// What a comparison says of an order.
+pub(crate) fn judge(comparison: Comparison, order: Option<Ordering>) -> Truth
     ensures { result ≡ judged comparison order }
 {
     match order {

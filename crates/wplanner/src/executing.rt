@@ -28,7 +28,7 @@ fn select_cells(alloc: Global, select: &Selection, source: &Cells) -> Result<Cel
     ensures width { IfOk result (λ cells. cells.width ≡ length select.now.items.items) }
 {
     let rows = lent_rows(alloc, source)?;
-    select_rows(alloc, select, &rows)
+    select_rows(alloc, select, rows)
 }
 
 // What the SELECTs answer, each over the rows of the one before.
@@ -58,9 +58,13 @@ fn output_names(alloc: Global, selects: &[Selection]) -> Result<Vec<RcStr>, Allo
 }
 
 // What the SELECTs answer, of which the first is over these rows.
-fn query_rows(alloc: Global, selects: &[Selection], rows: &[&[Value]]) -> Result<Cells, AnswerFault>
+fn query_rows(
+    alloc: Global,
+    selects: &[Selection],
+    rows: Vec<&[Value]>,
+) -> Result<Cells, AnswerFault>
     requires { is_sound_query (map select_plan selects.now) ≡ true }
-    ensures rows { Gives rows_in result (answer_of (map select_plan selects.now) (rows_seen rows.now)) }
+    ensures rows { Gives rows_in result (answer_of (map select_plan selects.now) (rows_seen rows.entry.items)) }
     ensures width { IfOk result (λ cells. cells.width ≡ width_of (map select_plan selects.now) 0) }
 {
     match select_rows(alloc, &selects[0], rows) {
@@ -73,10 +77,10 @@ fn query_rows(alloc: Global, selects: &[Selection], rows: &[&[Value]]) -> Result
 fn query_answer(
     alloc: Global,
     selects: &[Selection],
-    rows: &[&[Value]],
+    rows: Vec<&[Value]>,
 ) -> Result<Table, AnswerFault>
     requires { is_sound_query (map select_plan selects.now) ≡ true }
-    ensures { Gives (λ table. table) result (table_answer (map select_plan selects.now) (rows_seen rows.now)) }
+    ensures { Gives (λ table. table) result (table_answer (map select_plan selects.now) (rows_seen rows.entry.items)) }
 {
     let cells = match query_rows(alloc, selects, rows) {
         Err(fault) => return Err(fault),
@@ -100,7 +104,7 @@ pub fn execute(alloc: Global, set: &SegmentSet, query: &Resolved) -> Result<Tabl
 {
     let selects = query.selections.as_slice();
     let source = table_rows(alloc, set)?;
-    match query_answer(alloc, selects, &source) {
+    match query_answer(alloc, selects, source) {
         Err(fault) => Err(AskFault::from(fault)),
         Ok(table) => Ok(table),
     }

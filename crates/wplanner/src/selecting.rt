@@ -102,14 +102,14 @@ fn grouped_items(
     left_items(alloc, select, &left)
 }
 
-/// What one SELECT answers on some rows.
+/// What one SELECT answers on some rows, whose list it lets go where WHERE keeps others.
 pub(crate) fn select_rows(
     alloc: Global,
     select: &Selection,
-    rows: &[&[Value]],
+    rows: Vec<&[Value]>,
 ) -> Result<Cells, AnswerFault>
     requires { is_sound_select (select_plan select.now) ≡ true }
-    ensures rows { Gives rows_in result (select_of (select_plan select.now) (rows_seen rows.now)) }
+    ensures rows { Gives rows_in result (select_of (select_plan select.now) (rows_seen rows.entry.items)) }
     ensures width { IfOk result (λ cells. cells.width ≡ length select.now.items.items) }
 {
     let kept = kept_rows(alloc, &select.condition, rows)?;

@@ -262,16 +262,27 @@ pub fn join(
     ensures { IfOk result (λ x. view x ≡ joined kind (view first) operator (view operand)) }
 {
     if is_chain_of(&first, kind) {
-        let mut chain = first;
-        return match lengthen(&mut chain, operator, operand) {
-            Ok(()) => Ok(chain),
-            Err(fault) => {
-                drop(chain);
-                Err(fault)
-            }
-        };
+        return longer(first, operator, operand);
     }
     start_chain(alloc, kind, first, operator, operand)
+}
+
+/// The chain with one more operand; what is no chain as it is.
+fn longer(
+    first: Expression,
+    operator: Operator,
+    operand: Expression,
+) -> Result<Expression, AllocError>
+    ensures { IfOk result (λ x. view x ≡ lengthened (view first) operator (view operand)) }
+{
+    let mut chain = first;
+    match lengthen(&mut chain, operator, operand) {
+        Ok(()) => Ok(chain),
+        Err(fault) => {
+            drop(chain);
+            Err(fault)
+        }
+    }
 }
 
 fn push_link(

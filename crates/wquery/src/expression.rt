@@ -35,7 +35,7 @@ pub enum Comparison {
 }
 
 /// Where nulls stand in an order.
-#[derive(Clone, Copy, PartialEq, Eq, Drop)]
+#[derive(Clone, Copy, Drop)]
 pub enum NullOrder {
     First,
     Last,

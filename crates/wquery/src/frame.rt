@@ -30,7 +30,7 @@ pub enum FrameExclusion {
 }
 
 /// A frame clause. An end or an exclusion that was not written is `None`.
-#[derive(Clone, Copy, PartialEq, Eq, Drop)]
+#[derive(Clone, Copy, Drop)]
 pub struct Frame {
     pub mode: FrameMode,
     pub start: FrameBound,

@@ -11,12 +11,9 @@ use Rattle.wplan.specs.Formula.{Formula}
 use Rattle.wrows.specs.declared.fault.AnswerFault.TheVariants.{OutOfRange}
 use Rattle.wrows.specs.Columns.{Row, beside, is_out_of_range, lists_of, value_at, value_on}
 use Rattle.wrows.specs.LaidRows.{laid}
+use Rattle.wrows.specs.Picked.{row_beside}
 use Rattle.wrows.specs.Laid.{row_seen, rows_seen}
 use Rattle.wrows.proofs.RowFacts.{all_of_each, any_of_all, laid_length, laid_rows, length-places, map-map, told_all}
-
--- the row of a number, with what the columns have for it
-abbrev pub row_beside : List Row → List (List Meaning) → ℕ → Row
-row_beside rows columns i = key_at rows i ++ map (λ column. value_at column i) columns
 
 -- the place of a number is the number
 place_from : (a n i d : ℕ) → i < n → a + i ≡ get_or (places_from a n) i d
@@ -35,7 +32,7 @@ filled_is rows columns i row cells h e told =
     ∙ ap (λ l. l ++ map (λ column. value_at (map meaning column.now) i) columns) (ap row_seen e ∙ sym (get_or-map row_seen rows i row [] h))
     ∙ ap (λ l. key_at (rows_seen rows) i ++ l) (sym (map-map (λ column. value_at column i) row_seen columns))
 
-numbers_all : (rows columns : List (Bor (List Value))) → map (row_beside (rows_seen rows) (rows_seen columns)) (places (length rows)) ≡ beside (rows_seen rows) (rows_seen columns)
+pub numbers_all : (rows columns : List (Bor (List Value))) → map (row_beside (rows_seen rows) (rows_seen columns)) (places (length rows)) ≡ beside (rows_seen rows) (rows_seen columns)
 numbers_all rows columns = ap (λ n. map (row_beside (rows_seen rows) (rows_seen columns)) (places n)) (sym (length-map rows row_seen))
 
 -- what holds on one row holds on some

@@ -9,3 +9,5 @@ mod RankFacts
 mod PlaceFacts
 mod SeenFacts
 mod AllFacts
+mod PickFacts
+mod SelectFacts

@@ -247,7 +247,7 @@ same_at [] i d e h = absurd (omega arith)
 same_at (x ∷ xs) zero d e h = refl
 same_at (x ∷ xs) (suc i) d e h = same_at xs i d e (omega arith)
 
-map-cut : {X Y : Type 0} (f : X → Y) (offset : ℕ) (limit : Option ℕ) (xs : List X) → map f (cut offset limit xs) ≡ cut offset limit (map f xs)
+pub map-cut : {X Y : Type 0} (f : X → Y) (offset : ℕ) (limit : Option ℕ) (xs : List X) → map f (cut offset limit xs) ≡ cut offset limit (map f xs)
 map-cut f offset None xs = map-dropped f offset xs
 map-cut f offset (Some limit) xs = map-taken f limit (drop offset xs) ∙ ap (take limit) (map-dropped f offset xs)
 

@@ -8,3 +8,4 @@ pub mod Codes
 pub mod CodedRows
 pub mod Told
 pub mod Ranks
+pub mod Picked

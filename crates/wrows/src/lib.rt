@@ -4,13 +4,14 @@
 //!   keys, and the items of rows in that order, cut by OFFSET and LIMIT, also of rows with columns behind their cells.
 //! - Promises: nothing is skipped, so a number that is out of range on any row refuses; ties are settled by number.
 //!   Rows are sorted by codes of 32 bits, a key at a time and the last one first: distances of numbers that lie close
-//!   enough, and else ranks among the distinct values.
+//!   enough, and else ranks among the distinct values. Where few rows are asked for, these alone are found. Items that
+//!   are all plain columns are read behind the sort, of the rows that are asked for.
 //! - Asks: an order for each key.
 //! - Leaves expressions to `wplan`, and groups, windows and whole queries to `wplanner`.
 //!
 //! Read `specs/Outcomes.antt`, `specs/Columns.antt`, `specs/Sorting.antt` and `specs/Plain.antt`, then
-//! `specs/LaidRows.antt` and `specs/Laid.antt`; `specs/Codes.antt`, `specs/CodedRows.antt`, `specs/Told.antt` and
-//! `specs/Ranks.antt` say what is sorted.
+//! `specs/LaidRows.antt`, `specs/Laid.antt` and `specs/Picked.antt`; `specs/Codes.antt`, `specs/CodedRows.antt`,
+//! `specs/Told.antt` and `specs/Ranks.antt` say what is sorted.
 #![tactic(auto)]
 
 mod cells;
@@ -19,10 +20,13 @@ mod codes;
 mod fault;
 mod joined;
 mod lent;
+mod listing;
 mod order;
+mod places;
 mod plain;
 mod ranks;
 mod rows;
+mod selected;
 mod told;
 mod values;
 

@@ -1,16 +1,17 @@
 //! The items of rows, in order and cut.
-ghost use Rattle.std.specs.Prelude.{◌≡◌, ◌≤◌, ◌+◌, ◌-◌, ◌*◌, true, None, IfOk, length, min};
+ghost use Rattle.std.specs.Prelude.{◌≡◌, ◌≤◌, ◌<◌, ◌+◌, ◌-◌, true, All, None, IfOk, length, map, min};
+ghost use Rattle.wplan.specs.Formula.{At};
 ghost use Rattle.wrows.specs.Outcomes.{Gives};
 ghost use Rattle.wrows.specs.Laid.{formulas_seen, rows_in, rows_seen};
 ghost use Rattle.wrows.specs.Columns.{beside};
-ghost use Rattle.wrows.specs.LaidRows.{laid};
-ghost use Rattle.wrows.specs.Plain.{at_most_limit, cut, ordered, ordered_of};
+ghost use Rattle.wrows.specs.Plain.{at_most_limit, cut, ordered_of};
+ghost use Rattle.wrows.specs.Picked.{asked_of};
 
 use crate::cells::{Cells, gathered};
 use crate::fault::AnswerFault;
-use crate::joined::joined_lists;
-use crate::order::sorted_numbers;
-use crate::rows::lists;
+use crate::listing::{evaluated_lists, picked_lists, told_lists};
+use crate::places::{picked_rows, places_of};
+use crate::selected::first_numbers;
 use std::alloc::{AllocError, Global};
 use wplan::Expr;
 use wvalues::{SortKey, Value};
@@ -47,28 +48,39 @@ fn asked_for(offset: u128, limit: Option<u128>, count: usize) -> (usize, usize)
     (from, limited(limit, count - from))
 }
 
-// Rows in the order of their keys and then by number, cut. `key_cells` has the keys of each row.
-fn in_order(
+// The numbers that are asked for.
+fn cut_numbers(
     alloc: Global,
-    rows: &Cells,
-    key_cells: &[Value],
+    numbers: &[usize],
+    offset: u128,
+    limit: Option<u128>,
+) -> Result<Vec<usize>, AllocError>
+    ensures { IfOk result (λ taken. taken.items ≡ cut offset limit numbers.now) }
+{
+    let (from, count) = asked_for(offset, limit, numbers.len());
+    let taken = Vec::from_slice(alloc, &numbers[from..from + count])?;
+    Ok(taken)
+}
+
+// The numbers of the rows that are asked for, by their keys and then by number.
+fn asked_numbers(
+    alloc: Global,
+    keys: &[&Expr],
     order: &[SortKey],
     offset: u128,
     limit: Option<u128>,
-) -> Result<Cells, AllocError>
-    requires { length key_cells.now ≡ rows.now.count * length order.now }
-    ensures width { IfOk result (λ cells. cells.width ≡ rows.now.width) }
-    ensures rows { IfOk result (λ cells. rows_in cells ≡ cut offset limit (ordered order.now (laid (length order.now) rows.now.count key_cells.now) (rows_in rows.now))) }
+    rows: &[&[Value]],
+    columns: &[&[Value]],
+) -> Result<Vec<usize>, AnswerFault>
+    requires { length keys.now ≡ length order.now }
+    ensures gives { Gives (λ numbers. numbers.items) result (asked_of (formulas_seen keys.now) order.now offset limit (beside (rows_seen rows.now) (rows_seen columns.now))) }
+    ensures below { IfOk result (λ numbers. All (λ i. i < length rows.now) numbers.items) }
 {
-    let numbers = sorted_numbers(alloc, key_cells, order, rows.count)?;
-    let (from, count) = asked_for(offset, limit, rows.count);
-    let taken = &numbers[from..from + count];
-    let cells = gathered(alloc, &rows.cells, rows.width, rows.count, taken)?;
-    Ok(Cells {
-        cells,
-        width: rows.width,
-        count,
-    })
+    let key_cells = told_lists(alloc, keys, rows, columns)?;
+    let (from, count) = asked_for(offset, limit, rows.len());
+    let first = first_numbers(alloc, &key_cells, order, rows.len(), from + count)?;
+    let numbers = cut_numbers(alloc, &first, offset, limit)?;
+    Ok(numbers)
 }
 
 // Whether rows are asked for as they stand: by no key, and all of them.
@@ -86,36 +98,8 @@ fn asks_for_all(order: &[SortKey], offset: u128, limit: Option<u128>) -> bool
     limit.is_none()
 }
 
-/// The items on all rows, in the order of the keys and then by number, without the first `offset` and of the others
-/// the first `limit`. All items and keys are evaluated on every row, whatever is left out.
-pub fn ordered_items(
-    alloc: Global,
-    items: &[&Expr],
-    keys: &[&Expr],
-    order: &[SortKey],
-    offset: u128,
-    limit: Option<u128>,
-    rows: &[&[Value]],
-) -> Result<Cells, AnswerFault>
-    requires { length keys.now ≡ length order.now }
-    ensures width { IfOk result (λ cells. cells.width ≡ length items.now) }
-    ensures rows { Gives rows_in result (ordered_of (formulas_seen items.now) (formulas_seen keys.now) order.now offset limit (rows_seen rows.now)) }
-{
-    let told = Cells {
-        cells: lists(alloc, items, rows)?,
-        width: items.len(),
-        count: rows.len(),
-    };
-    if asks_for_all(order, offset, limit) {
-        return Ok(told);
-    }
-    let key_cells = lists(alloc, keys, rows)?;
-    let cells = in_order(alloc, &told, &key_cells, order, offset, limit)?;
-    Ok(cells)
-}
-
-/// The same of rows that have the values of some columns behind their cells. One such row lies in memory at a time.
-pub fn joined_items(
+// Items that are evaluated on every row, of the rows that are asked for.
+fn evaluated_items(
     alloc: Global,
     items: &[&Expr],
     keys: &[&Expr],
@@ -130,14 +114,92 @@ pub fn joined_items(
     ensures rows { Gives rows_in result (ordered_of (formulas_seen items.now) (formulas_seen keys.now) order.now offset limit (beside (rows_seen rows.now) (rows_seen columns.now))) }
 {
     let told = Cells {
-        cells: joined_lists(alloc, items, rows, columns)?,
+        cells: evaluated_lists(alloc, items, rows, columns)?,
         width: items.len(),
         count: rows.len(),
     };
     if asks_for_all(order, offset, limit) {
         return Ok(told);
     }
-    let key_cells = joined_lists(alloc, keys, rows, columns)?;
-    let cells = in_order(alloc, &told, &key_cells, order, offset, limit)?;
-    Ok(cells)
+    let numbers = asked_numbers(alloc, keys, order, offset, limit, rows, columns)?;
+    let cells = gathered(alloc, &told.cells, told.width, told.count, &numbers)?;
+    Ok(Cells {
+        cells,
+        width: told.width,
+        count: numbers.len(),
+    })
+}
+
+// Items that are plain columns, read of the rows that are asked for alone: none of them can be out of range.
+fn plain_items(
+    alloc: Global,
+    places: &[usize],
+    keys: &[&Expr],
+    order: &[SortKey],
+    offset: u128,
+    limit: Option<u128>,
+    rows: &[&[Value]],
+    columns: &[&[Value]],
+) -> Result<Cells, AnswerFault>
+    requires { length keys.now ≡ length order.now }
+    ensures width { IfOk result (λ cells. cells.width ≡ length places.now) }
+    ensures rows { Gives rows_in result (ordered_of (map At places.now) (formulas_seen keys.now) order.now offset limit (beside (rows_seen rows.now) (rows_seen columns.now))) }
+{
+    if asks_for_all(order, offset, limit) {
+        return Ok(Cells {
+            cells: picked_lists(alloc, places, rows, columns)?,
+            width: places.len(),
+            count: rows.len(),
+        });
+    }
+    let numbers = asked_numbers(alloc, keys, order, offset, limit, rows, columns)?;
+    let null = Value::Null;
+    let cells = picked_rows(alloc, rows, columns, &null, places, &numbers)?;
+    Ok(Cells {
+        cells,
+        width: places.len(),
+        count: numbers.len(),
+    })
+}
+
+/// The items on all rows with the values of some columns behind their cells, in the order of the keys and then by
+/// number, without the first `offset` and of the others the first `limit`. All items and keys are evaluated on every
+/// row, whatever is left out; where all items are plain columns, which cannot be out of range, they are read of the
+/// rows that are asked for alone. One row with what stands behind its cells lies in memory at a time.
+pub fn joined_items(
+    alloc: Global,
+    items: &[&Expr],
+    keys: &[&Expr],
+    order: &[SortKey],
+    offset: u128,
+    limit: Option<u128>,
+    rows: &[&[Value]],
+    columns: &[&[Value]],
+) -> Result<Cells, AnswerFault>
+    requires { length keys.now ≡ length order.now }
+    ensures width { IfOk result (λ cells. cells.width ≡ length items.now) }
+    ensures rows { Gives rows_in result (ordered_of (formulas_seen items.now) (formulas_seen keys.now) order.now offset limit (beside (rows_seen rows.now) (rows_seen columns.now))) }
+{
+    let plain = places_of(alloc, items)?;
+    match plain {
+        Some(places) => plain_items(alloc, &places, keys, order, offset, limit, rows, columns),
+        None => evaluated_items(alloc, items, keys, order, offset, limit, rows, columns),
+    }
+}
+
+/// The same of rows that have nothing behind their cells.
+pub fn ordered_items(
+    alloc: Global,
+    items: &[&Expr],
+    keys: &[&Expr],
+    order: &[SortKey],
+    offset: u128,
+    limit: Option<u128>,
+    rows: &[&[Value]],
+) -> Result<Cells, AnswerFault>
+    requires { length keys.now ≡ length order.now }
+    ensures width { IfOk result (λ cells. cells.width ≡ length items.now) }
+    ensures rows { Gives rows_in result (ordered_of (formulas_seen items.now) (formulas_seen keys.now) order.now offset limit (rows_seen rows.now)) }
+{
+    joined_items(alloc, items, keys, order, offset, limit, rows, &[])
 }

@@ -41,27 +41,25 @@ fn rows_where<'a>(
 fn rows_held<'a>(
     alloc: Global,
     condition: &Option<Expr>,
-    rows: &[&'a [Value]],
+    rows: Vec<&'a [Value]>,
 ) -> Result<Vec<&'a [Value]>, AnswerFault>
-    ensures { Gives (λ held. rows_seen held.items) result (held_rows (optional_formula condition.now) (rows_seen rows.now)) }
+    ensures { Gives (λ held. rows_seen held.items) result (held_rows (optional_formula condition.now) (rows_seen rows.entry.items)) }
 {
     match condition {
-        None => {
-            let all = Vec::from_slice(alloc, rows)?;
-            Ok(all)
-        }
-        Some(condition) => rows_where(alloc, condition, rows),
+        None => Ok(rows),
+        Some(condition) => rows_where(alloc, condition, &rows),
     }
 }
 
-/// The rows on which a condition is true, all where there is none, in their order. The condition is evaluated on every
-/// row, and `OutOfRange` where it is so on any; more than 2,147,483,647 kept rows are `TooManyRows`.
+/// The rows on which a condition is true, in their order. Where there is none these are all, and the list is handed on.
+/// The condition is evaluated on every row, and `OutOfRange` where it is so on any; more than 2,147,483,647 kept rows are
+/// `TooManyRows`.
 pub fn kept_rows<'a>(
     alloc: Global,
     condition: &Option<Expr>,
-    rows: &[&'a [Value]],
+    rows: Vec<&'a [Value]>,
 ) -> Result<Vec<&'a [Value]>, AnswerFault>
-    ensures { Gives (λ kept. rows_seen kept.items) result (kept_of (optional_formula condition.now) (rows_seen rows.now)) }
+    ensures { Gives (λ kept. rows_seen kept.items) result (kept_of (optional_formula condition.now) (rows_seen rows.entry.items)) }
 {
     let held = rows_held(alloc, condition, rows)?;
     if held.len() > MOST_ROWS {

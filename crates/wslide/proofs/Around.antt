@@ -1,18 +1,15 @@
 -- The fold of what two queues hold, and of some rows between.
 use Rattle.std.proofs.Common.{◌≡◌, ℕ, List, [], ◌∷◌, ◌++◌, map, sym, ap, ◌∙◌}
-use Rattle.std.specs.Prelude.{All, reverse, slice_index_or}
+use Rattle.std.specs.Prelude.{All, slice_index_or}
 use Rattle.std.specs.List.{fold}
 use Rattle.std.proofs.lemmas.List.{append-nil, map-append}
 use Rattle.std.proofs.lemmas.List.Sums.{fold-append}
-use Rattle.std.proofs.lemmas.List.Elements.{recursion_from_All, All-append}
+use Rattle.std.proofs.lemmas.List.Elements.{recursion_from_All}
 use Rattle.wframe.specs.declared.frame.Span.{Span}
 use Rattle.wframe.specs.Places.{span_places}
-use Rattle.wslide.specs.declared.queue.FoldQueue.{FoldQueue}
 use Rattle.wslide.specs.Laws.{FoldLaws, total}
-use Rattle.wslide.specs.Queue.{parts, IsFilledBy}
 use Rattle.wslide.specs.Rows.{span_parts, spans_parts}
 use Rattle.wslide.proofs.Totals.{fold_from}
-use Rattle.wslide.proofs.Stacks.{All-reversed}
 
 -- no row
 abbrev pub none : Span
@@ -21,10 +18,6 @@ none = record { from = 0; to = 0 }
 -- three spans one by one
 pub three_spans : (spans : List Span) (a b c : Span) → spans ≡ a ∷ b ∷ c ∷ [] → slice_index_or spans 0 none ∷ slice_index_or spans 1 none ∷ slice_index_or spans 2 none ∷ [] ≡ spans
 three_spans spans a b c e = ap (λ (ss : List Span). slice_index_or ss 0 none ∷ slice_index_or ss 1 none ∷ slice_index_or ss 2 none ∷ []) e ∙ sym e
-
--- what a queue holds are parts
-pub filled_parts : {P : Type 0} (is_part : P → Type 0) (neutral : P) (joined : P → P → P) (q : FoldQueue P) → IsFilledBy is_part neutral joined q → All is_part (parts q)
-filled_parts is_part neutral joined q filled = All-append is_part (reverse q.front.items) q.back.items (All-reversed is_part q.front.items filled.front) filled.back
 
 three_parts : {P : Type 0} (part_at : ℕ → P) (a b c : Span) → spans_parts part_at (a ∷ b ∷ c ∷ []) ≡ span_parts part_at a ++ (span_parts part_at b ++ span_parts part_at c)
 three_parts part_at a b c =

@@ -3,6 +3,7 @@ pub mod Counting
 pub mod ExactSums
 pub mod LeastRows
 pub mod Stacks
+pub mod Queues
 pub mod Levels
 pub mod Heights
 pub mod Climbs

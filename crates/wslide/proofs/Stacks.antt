@@ -49,10 +49,31 @@ pub All-reversed : {P : Type 0} (is_part : P → Type 0) (xs : List P) → All i
 All-reversed is_part xs hs = All-reverse is_part xs (recursion_from_All is_part xs hs)
 
 -- a part that goes from the one stack to the other
-pub moved_more : {P : Type 0} (back front back' front' olds : List P) (part : P) → back ≡ back' ++ part ∷ [] → front' ≡ front ++ part ∷ [] → back ++ reverse front ≡ olds → back' ++ reverse front' ≡ olds
-moved_more back front back' front' olds part b f e =
-    ap (λ xs. back' ++ reverse xs) f ∙ ap (λ xs. back' ++ xs) (reverse-append front (part ∷ []))
-    ∙ sym (append_assoc back' (part ∷ []) (reverse front)) ∙ ap (λ xs. xs ++ reverse front) (sym b) ∙ e
+moved_more : {P : Type 0} (back back' moved olds : List P) (part : P) → back ≡ back' ++ part ∷ [] → back ++ reverse moved ≡ olds → back' ++ reverse (moved ++ part ∷ []) ≡ olds
+moved_more back back' moved olds part b e =
+    ap (λ xs. back' ++ xs) (reverse-append moved (part ∷ []))
+    ∙ sym (append_assoc back' (part ∷ []) (reverse moved)) ∙ ap (λ xs. xs ++ reverse moved) (sym b) ∙ e
+
+-- the older parts of a stack were moved to the folds of another one, the newest first
+pub record IsTurned {P : Type 0} (is_part : P → Type 0) (neutral : P) (joined : P → P → P) (olds back front : List P) (below : P) : Type 0 where
+  pub moved : List P
+  pub split : back ++ reverse moved ≡ olds
+  pub parts : All is_part moved
+  pub folds : front ≡ running joined neutral moved
+  pub gathers : below ≡ gathered joined neutral moved
+
+pub turned_more : {P : Type 0} (is_part : P → Type 0) (neutral : P) (joined : P → P → P) (olds back back' front front' : List P) (part below below' : P)
+    → back ≡ back' ++ part ∷ [] → front' ≡ front ++ below' ∷ [] → below' ≡ joined part below → is_part part
+    → IsTurned is_part neutral joined olds back front below → IsTurned is_part neutral joined olds back' front' below'
+turned_more is_part neutral joined olds back back' front front' part below below' b f j p t =
+    let fold : below' ≡ joined part (gathered joined neutral t.moved) = j ∙ ap (joined part) t.gathers in
+    record {
+      moved = t.moved ++ part ∷ [];
+      split = moved_more back back' t.moved olds part b t.split;
+      parts = All-push is_part t.moved part t.parts p;
+      folds = f ∙ ap (λ xs. xs ++ below' ∷ []) t.folds ∙ ap (λ x. running joined neutral t.moved ++ x ∷ []) fold ∙ sym (running-push joined neutral t.moved part);
+      gathers = fold ∙ sym (gathered-push joined neutral t.moved part);
+    }
 
 module _ {P : Type 0} {is_part : P → Type 0} {neutral : P} {joined : P → P → P} (laws : FoldLaws is_part neutral joined) where
   gathered_from : (below : P) (xs : List P) → is_part below → AllByRecursion is_part xs → gathered joined below xs ≡ joined (total neutral joined (reverse xs)) below

@@ -2,7 +2,7 @@ ghost use Rattle.std.specs.Prelude.{◌≡◌, ◌≤◌, ◌<◌, ◌+◌, ◌*
 ghost use Rattle.wframe.specs.Places.{IsRisen};
 ghost use Rattle.wslide.specs.Laws.{total};
 ghost use Rattle.wslide.specs.Frames.{folds_of_frames, most_by_two_queues};
-ghost use Rattle.wslide.specs.Queue.{parts, capacity, owed, IsFilledBy};
+ghost use Rattle.wslide.specs.Queue.{capacity, owed, IsFilledBy};
 ghost use Rattle.wslide.specs.Rows.{span_parts, spans_parts};
 
 use crate::fold::Fold;
@@ -28,22 +28,18 @@ fn advance_both<F: Fold>(
     held: Sides,
     next: Sides,
 )
-    requires before_filled { IsFilledBy (F.is_part fold.now) (F.neutral fold.now) (F.joined fold.now) before.old }
-    requires before_holds { parts before.old ≡ span_parts (F.part_at fold.now) held.before }
+    requires before_filled { IsFilledBy (F.is_part fold.now) (F.neutral fold.now) (F.joined fold.now) (span_parts (F.part_at fold.now) held.before) before.old }
     requires before_ordered { held.before.from ≤ held.before.to }
     requires before_rises { IsRisen (F.rows fold.now) held.before next.before }
     requires before_space { F.rows fold.now ≤ capacity before.old }
-    requires behind_filled { IsFilledBy (F.is_part fold.now) (F.neutral fold.now) (F.joined fold.now) behind.old }
-    requires behind_holds { parts behind.old ≡ span_parts (F.part_at fold.now) held.behind }
+    requires behind_filled { IsFilledBy (F.is_part fold.now) (F.neutral fold.now) (F.joined fold.now) (span_parts (F.part_at fold.now) held.behind) behind.old }
     requires behind_ordered { held.behind.from ≤ held.behind.to }
     requires behind_rises { IsRisen (F.rows fold.now) held.behind next.behind }
     requires behind_space { F.rows fold.now ≤ capacity behind.old }
     requires room { F.count meter.old + owed before.old + owed behind.old + 2 * (next.before.to - held.before.to) + 2 * (next.behind.to - held.behind.to) + F.rows fold.now < 2 ^ 64 }
-    ensures before_filled { IsFilledBy (F.is_part fold.now) (F.neutral fold.now) (F.joined fold.now) before.new }
-    ensures before_holds { parts before.new ≡ span_parts (F.part_at fold.now) next.before }
+    ensures before_filled { IsFilledBy (F.is_part fold.now) (F.neutral fold.now) (F.joined fold.now) (span_parts (F.part_at fold.now) next.before) before.new }
     ensures before_capacity { capacity before.new ≡ capacity before.old }
-    ensures behind_filled { IsFilledBy (F.is_part fold.now) (F.neutral fold.now) (F.joined fold.now) behind.new }
-    ensures behind_holds { parts behind.new ≡ span_parts (F.part_at fold.now) next.behind }
+    ensures behind_filled { IsFilledBy (F.is_part fold.now) (F.neutral fold.now) (F.joined fold.now) (span_parts (F.part_at fold.now) next.behind) behind.new }
     ensures behind_capacity { capacity behind.new ≡ capacity behind.old }
     ensures not_less { F.count meter.old ≤ F.count meter.new }
     ensures joins { F.count meter.new + owed before.new + owed behind.new ≤ F.count meter.old + owed before.old + owed behind.old + 2 * (next.before.to - held.before.to) + 2 * (next.behind.to - held.behind.to) }
@@ -61,10 +57,8 @@ fn fold_around<F: Fold>(
     held: Sides,
     within: Span,
 ) -> F::Part
-    requires before_filled { IsFilledBy (F.is_part fold.now) (F.neutral fold.now) (F.joined fold.now) before.now }
-    requires before_holds { parts before.now ≡ span_parts (F.part_at fold.now) held.before }
-    requires behind_filled { IsFilledBy (F.is_part fold.now) (F.neutral fold.now) (F.joined fold.now) behind.now }
-    requires behind_holds { parts behind.now ≡ span_parts (F.part_at fold.now) held.behind }
+    requires before_filled { IsFilledBy (F.is_part fold.now) (F.neutral fold.now) (F.joined fold.now) (span_parts (F.part_at fold.now) held.before) before.now }
+    requires behind_filled { IsFilledBy (F.is_part fold.now) (F.neutral fold.now) (F.joined fold.now) (span_parts (F.part_at fold.now) held.behind) behind.now }
     requires ordered { within.from ≤ within.to }
     requires small { within.to ≤ within.from + 1 }
     requires rows { within.to ≤ F.rows fold.now }

@@ -2,7 +2,7 @@ ghost use Rattle.std.specs.Prelude.{◌≡◌, ◌≤◌, ◌<◌, ◌+◌, ◌*
 ghost use Rattle.wframe.specs.Places.{IsRisen};
 ghost use Rattle.wslide.specs.Laws.{total};
 ghost use Rattle.wslide.specs.Frames.{folds_of_frames, most_by_queue};
-ghost use Rattle.wslide.specs.Queue.{parts, capacity, owed, IsFilledBy};
+ghost use Rattle.wslide.specs.Queue.{capacity, owed, IsFilledBy};
 ghost use Rattle.wslide.specs.Rows.{span_parts};
 
 use crate::fold::Fold;
@@ -18,14 +18,12 @@ pub(crate) fn advance<F: Fold>(
     held: Span,
     span: Span,
 )
-    requires filled { IsFilledBy (F.is_part fold.now) (F.neutral fold.now) (F.joined fold.now) queue.old }
-    requires holds { parts queue.old ≡ span_parts (F.part_at fold.now) held }
+    requires filled { IsFilledBy (F.is_part fold.now) (F.neutral fold.now) (F.joined fold.now) (span_parts (F.part_at fold.now) held) queue.old }
     requires ordered { held.from ≤ held.to }
     requires rises { IsRisen (F.rows fold.now) held span }
     requires space { F.rows fold.now ≤ capacity queue.old }
     requires room { F.count meter.old + owed queue.old + 2 * (span.to - held.to) + F.rows fold.now < 2 ^ 64 }
-    ensures filled { IsFilledBy (F.is_part fold.now) (F.neutral fold.now) (F.joined fold.now) queue.new }
-    ensures holds { parts queue.new ≡ span_parts (F.part_at fold.now) span }
+    ensures filled { IsFilledBy (F.is_part fold.now) (F.neutral fold.now) (F.joined fold.now) (span_parts (F.part_at fold.now) span) queue.new }
     ensures capacity { capacity queue.new ≡ capacity queue.old }
     ensures not_less { F.count meter.old ≤ F.count meter.new }
     ensures joins { F.count meter.new + owed queue.new ≤ F.count meter.old + owed queue.old + 2 * (span.to - held.to) }
@@ -45,8 +43,7 @@ fn held_fold<F: Fold>(
     meter: &mut F::Meter,
     held: Span,
 ) -> F::Part
-    requires filled { IsFilledBy (F.is_part fold.now) (F.neutral fold.now) (F.joined fold.now) queue.now }
-    requires holds { parts queue.now ≡ span_parts (F.part_at fold.now) held }
+    requires filled { IsFilledBy (F.is_part fold.now) (F.neutral fold.now) (F.joined fold.now) (span_parts (F.part_at fold.now) held) queue.now }
     requires ordered { held.from ≤ held.to }
     requires within { held.to ≤ F.rows fold.now }
     requires room { F.count meter.old + F.rows fold.now < 2 ^ 64 }
@@ -81,7 +78,7 @@ pub(crate) fn push_sliding_folds<F: Fold>(
     let rows = frames.count();
     let mut held = Span { from: 0, to: 0 };
     for row in 0..rows {
-        let span = frames.span(row);
+        let span = frames.extent(row);
         advance(queue, fold, meter, held, span);
         held = span;
         folds.push(held_fold(queue, fold, meter, held))?;

@@ -17,10 +17,11 @@ use Rattle.wstore.specs.Nodes.{NodeState, fresh_node}
 use Rattle.wstore.specs.Commands.{Command, Declare, Take, Retire, Listing, Ask, Feed, Put, Get, IsAllowed, node_count, slot_count}
 use Rattle.wstore.specs.Replies.{Reply, Declared, RefusedTable, RefusedName, RefusedSegment, RefusedQuery, NoMemory, text_of}
 use Rattle.wreplies.specs.Spelling.{table_text, name_text, segment_text, query_text, no_memory}
-use Rattle.wstore.specs.Requests.{IsRefusedAs}
+use Rattle.wstore.specs.Requests.{IsRefusedAs, refusal_text}
 use Rattle.wstore.specs.History.{Step, AnswersUnder, MayLackMemory, declaration, declared_by, is_declared, is_put, is_put_by, held, known, puts, replaced, file_if, heard, heard_items, heard_bad, entered, stream, handled, is_bad, segment_reply}
 use Rattle.wstore.specs.Standing.{KnowsThese, IsSound, Listens, StandAt, places}
 use Rattle.wplanner.specs.declared.fault.AskFault.TheVariants as queries
+use Rattle.wstore.specs.declared.request.Refusal.{Refusal}
 use Rattle.wstore.specs.declared.request.Refusal.TheVariants as refusals
 use Rattle.wstore.proofs.Soundness.{sound_nothing}
 use Rattle.wstore.proofs.Standing.{IsQuiet, stand_quiet, untold, or_none, listens_still}
@@ -211,3 +212,10 @@ long_query session h (Put n k) long allowed stands = absurd long
 long_query session h (Get k n) long allowed stands = absurd long
 long_query session h (Ask n text) long allowed stands =
     node_tells session h (Ask n text) (RefusedQuery queries.TooLong) (query_text queries.TooLong) allowed stands (λ d. (Err queries.TooLong, inl long, refl)) refl (record { delivers_none = λ n. refl; gets_none = λ n. refl; puts_none = λ k. refl; hears_none = λ n. refl }) refl
+
+-- a command that its form refuses
+pub refused : (reason : Refusal) (session : Session) (h : List Step) (c : Command) → IsRefusedAs reason c → IsAllowed (is_declared h) c → Stands session h → Tells session h c (refusal_text reason)
+refused refusals.LongDeclaration session h c is allowed stands = long_declaration session h c is allowed stands
+refused (refusals.BadName fault) session h c is allowed stands = bad_name session h c fault is allowed stands
+refused refusals.LongSegment session h c is allowed stands = long_segment session h c is allowed stands
+refused refusals.LongQuery session h c is allowed stands = long_query session h c is allowed stands

@@ -3,6 +3,10 @@ use Rattle.std.specs.Prelude.{◌≡◌, ◌≢◌, ⊤, ℕ, ◌<◌, ◌≤◌
 use Rattle.std.specs.Io.KnownBytes.{Keeps, Consumes, IsAtEnd}
 use Rattle.wvalues.specs.Names.{NameParts}
 use Rattle.wvalues.specs.NameReading.{ReadsName}
+use Rattle.wsegment.specs.declared.schema_fault.SchemaFault.TheVariants as tables
+use Rattle.wsegment.specs.declared.fault.SegmentFault.TheVariants as segments
+use Rattle.wplanner.specs.declared.fault.AskFault.TheVariants as queries
+use Rattle.wreplies.specs.Spelling.{name_text, query_text, segment_text, table_text}
 use Rattle.wstore.specs.Commands.{Form, Command, Declare, Take, Retire, Listing, Ask, Feed, Put, Get, IsAllowed, IsCommand, IsShortDeclaration, IsMalformed, form_of, behind, spell}
 use Rattle.wstore.specs.Headers.{IsHeaderOf}
 use Rattle.wstore.specs.History.{AreName}
@@ -24,6 +28,13 @@ IsRefusedAs (refusals.BadName fault) (Retire node origin number) = ReadsName ori
 IsRefusedAs refusals.LongSegment (Take node origin number bytes) = (name : NameParts) × ReadsName origin number (Ok name) × (67108864 < length bytes)
 IsRefusedAs refusals.LongQuery (Ask node text) = 65536 < length text
 IsRefusedAs _ _ = ⊥
+
+-- what is told of a command that its form refuses
+abbrev pub refusal_text : Refusal → List ℕ
+refusal_text refusals.LongDeclaration = table_text tables.Syntax
+refusal_text (refusals.BadName fault) = name_text fault
+refusal_text refusals.LongSegment = segment_text segments.TooLong
+refusal_text refusals.LongQuery = query_text queries.TooLong
 
 -- a node is told, asked, put or gets this; its body is within its limit
 abbrev pub IsOrderAt : ℕ → Order → Command → Type 0

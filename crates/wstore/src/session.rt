@@ -2,7 +2,7 @@
 ghost use Rattle.std.specs.Prelude.{[], ◌≡◌, ◌<◌, ℕ, List, ◌∷◌, IsTrue, ◌↔◌, IfOk, IfErr, OnOk, OnErr, is_some, false, true};
 ghost use Rattle.wsegment.specs.Declaration.{Declaration};
 ghost use Rattle.wstore.specs.Commands.{Command as Spelled, Declare, Feed, IsAllowed};
-ghost use Rattle.wstore.specs.Requests.{IsOrderAt, IsRefusedAs};
+ghost use Rattle.wstore.specs.Requests.{IsOrderAt, IsRefusedAs, refusal_text};
 ghost use Rattle.wstore.specs.History.{Step, MayLackMemory, is_declared};
 ghost use Rattle.wreplies.specs.Texts.{bytes_of};
 ghost use Rattle.wlines.specs.Pending.{IsSoundWriter};
@@ -110,14 +110,21 @@ impl Session {
     }
 }
 
-/// The refusal of a command whose form alone refuses it.
-pub(crate) fn refuse(refusal: Refusal) -> &'static [u8]
-    ensures { (session : Session) (h : List Step) (c : Spelled) → IsRefusedAs refusal c → IsAllowed (is_declared h) c → Stands session h → Tells session h c result.now }
+// What is told of a command whose form alone refuses it.
+fn refusal(reason: Refusal) -> &'static [u8]
+    ensures { result.now ≡ refusal_text reason }
 {
-    match refusal {
+    match reason {
         Refusal::LongDeclaration => b"refused T1\n",
         Refusal::BadName(fault) => refused_name(fault),
         Refusal::LongSegment => b"refused S1\n",
         Refusal::LongQuery => b"refused Q1\n",
     }
+}
+
+/// The refusal of a command whose form alone refuses it.
+pub(crate) fn refuse(reason: Refusal) -> &'static [u8]
+    ensures { (session : Session) (h : List Step) (c : Spelled) → IsRefusedAs reason c → IsAllowed (is_declared h) c → Stands session h → Tells session h c result.now }
+{
+    refusal(reason)
 }

@@ -19,20 +19,19 @@ script_status (Ok ends.Done) = 0
 script_status (Ok ends.Bad) = 2
 script_status (Err fault) = 3
 
--- a text that is printed: whole, or a fault has its cause
-pub data IsPrinted (text : List ℕ) (calls : CallCounts) (old new : Option (List ℕ)) (status : ℕ) : Type 0 where
-  Whole : Appends old new text → status ≡ 0 → IsPrinted text calls old new status
-  Unwritten : (fault : Fault) → HasCause fault calls → status ≡ 3 → IsPrinted text calls old new status
+-- a text that is printed: whole, with the status of what was done, or a fault has its cause
+pub data IsPrinted (text : List ℕ) (done : ℕ) (calls : CallCounts) (old new : Option (List ℕ)) (status : ℕ) : Type 0 where
+  Whole : IsSound calls → Appends old new text → status ≡ done → IsPrinted text done calls old new status
+  Unwritten : (fault : Fault) → HasCause fault calls → status ≡ 3 → IsPrinted text done calls old new status
 
 -- of words that choose nothing
 abbrev pub HasWordsStatus : WordsFault → CallCounts → Option (List ℕ) → Option (List ℕ) → ℕ → Type 0
-HasWordsStatus (words.Help text) calls old new status = IsPrinted (string_bytes text) calls old new status
+HasWordsStatus (words.Help text) calls old new status = IsPrinted (string_bytes text) 0 calls old new status
 HasWordsStatus (words.Refused text) calls old new status = Keeps old new × (status ≡ 2)
 HasWordsStatus words.NoMemory calls old new status = Keeps old new × (status ≡ 3)
 
--- of a subcommand on files: a fault with its cause, of which nothing is printed; what the subcommand gives, printed, with its
--- status; or the fault of printing it
+-- of a subcommand on files: a fault with its cause, of which nothing is printed; or what the subcommand gives, printed, with its
+-- status
 pub data HasFileStatus (choice : Choice) (calls : CallCounts) (old new : Option (List ℕ)) (status : ℕ) : Type 0 where
   Failed : (fault : Fault) → HasCause fault calls → Keeps old new → status ≡ 3 → HasFileStatus choice calls old new status
-  Told : (acted : Acted) → IsPerformed choice acted → IsSound calls → Appends old new (bytes_of acted.output) → status ≡ acted.status → HasFileStatus choice calls old new status
-  Unprinted : (acted : Acted) (fault : Fault) → IsPerformed choice acted → HasCause fault calls → status ≡ 3 → HasFileStatus choice calls old new status
+  Told : (acted : Acted) → IsPerformed choice acted → IsPrinted (bytes_of acted.output) acted.status calls old new status → HasFileStatus choice calls old new status

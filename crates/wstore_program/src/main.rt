@@ -8,7 +8,7 @@ ghost use Rattle.std.specs.Prelude.{◌≡◌, ◌≢◌};
 ghost use Rattle.std.specs.Process.{exit_status};
 ghost use Rattle.wcommand.specs.declared.choice.Choice.TheVariants.{Session};
 ghost use Rattle.wstore_program.specs.Calls.{IsSound};
-ghost use Rattle.wstore_program.specs.Statuses.{HasFileStatus, HasWordsStatus, script_status};
+ghost use Rattle.wstore_program.specs.Statuses.{HasFileStatus, HasWordsStatus, IsPrinted, script_status};
 
 mod acting;
 mod fault;
@@ -26,6 +26,9 @@ use system::System;
 use wcommand::{Choice, Paths, WordsFault, choose};
 use wstore::{End, RunFault, run};
 use wvalues::Counted;
+
+/// The status of what was done.
+const DONE: u8 = 0;
 
 /// The status of a bad script, and of words that are not understood.
 const MISUNDERSTOOD: u8 = 2;
@@ -61,6 +64,23 @@ fn run_session(rt: &HostRuntime) -> ExitCode {
     ended(rt, run(rt.alloc(), &mut input, &mut output))
 }
 
+// Prints a text, with the status of what was done.
+fn print<R, W: Write>(
+    rt: &impl Eprint,
+    system: &mut System<'_, R>,
+    output: &mut W,
+    text: &[u8],
+    done: u8,
+) -> ExitCode
+    requires { IsSound system.old }
+    ensures { IsPrinted text.now done system.new (W.contents output.old) (W.contents output.new) (exit_status result) }
+{
+    match system.write(output, text) {
+        Ok(()) => ExitCode::from(done),
+        Err(fault) => failed(rt, fault),
+    }
+}
+
 // Runs a subcommand on its files, and prints its reply.
 fn run_on_files<R: Files<File = File> + Eprint + AllocGlobal, W: Write>(
     rt: &R,
@@ -74,10 +94,7 @@ fn run_on_files<R: Files<File = File> + Eprint + AllocGlobal, W: Write>(
     ensures { HasFileStatus choice.now system.new (W.contents output.old) (W.contents output.new) (exit_status result) }
 {
     match perform(rt.alloc(), system, choice, paths) {
-        Ok(acted) => match system.write(output, acted.output.as_slice()) {
-            Ok(()) => ExitCode::from(acted.status),
-            Err(fault) => failed(rt, fault),
-        },
+        Ok(acted) => print(rt, system, output, acted.output.as_slice(), acted.status),
         Err(fault) => failed(rt, fault),
     }
 }
@@ -93,10 +110,7 @@ fn tell<R, W: Write>(
     ensures { HasWordsStatus fault system.new (W.contents output.old) (W.contents output.new) (exit_status result) }
 {
     match fault {
-        WordsFault::Help(text) => match system.write(output, text.as_bytes()) {
-            Ok(()) => ExitCode::SUCCESS,
-            Err(fault) => failed(rt, fault),
-        },
+        WordsFault::Help(text) => print(rt, system, output, text.as_bytes(), DONE),
         WordsFault::Refused(text) => {
             let _ = eprint!(rt; "{text}");
             ExitCode::from(MISUNDERSTOOD)

@@ -1,4 +1,7 @@
+ghost use Rattle.std.specs.Prelude.{◌+◌, nat_le};
+
 use std::alloc::{AllocError, Global};
+use std::cell::Cell;
 use std::process::Abort;
 use std::test::Fail;
 use wframe::*;
@@ -219,7 +222,7 @@ fn frames_in_partitions(rt: HostRuntime) -> Result<(), Fail> {
 
 // Two partitions of two rows each, without keys.
 #[test]
-fn places_among_all_rows(rt: HostRuntime) -> Result<(), Fail> {
+fn places_in_a_partition(rt: HostRuntime) -> Result<(), Fail> {
     let alloc = rt.alloc();
     let shop_values = cells(alloc, &[Some(1), Some(1), Some(2), Some(2)])?;
     let shops = lent(alloc, &shop_values)?;
@@ -238,13 +241,49 @@ fn places_among_all_rows(rt: HostRuntime) -> Result<(), Fail> {
     let partitions = Partitions::build(alloc, &values, keys, onward)?;
     assert_eq!(rt; partitions.count(), 2);
     assert_eq!(rt; partitions.span(1), Span { from: 2, to: 4 });
-    assert_eq!(rt; partitions.peers(3), Span { from: 2, to: 4 });
-    let [_, _, rest] = partitions.frame(2);
-    assert_eq!(rt; rest, Span { from: 3, to: 4 });
     let frames = partitions.partition(1);
     assert_eq!(rt; frames.exclusion(), FrameExclusion::CurrentRow);
     assert_eq!(rt; frames.count(), 2);
     assert_eq!(rt; frames.peers(1), Span { from: 0, to: 2 });
-    assert_eq!(rt; frames.span(1), Span { from: 1, to: 2 });
+    assert_eq!(rt; frames.extent(1), Span { from: 1, to: 2 });
+    let [_, _, rest] = frames.frame(0);
+    assert_eq!(rt; rest, Span { from: 1, to: 2 });
+    Ok(())
+}
+
+/// Passes the places up to the third one after a row, and counts how often it is asked.
+#[derive(Drop)]
+struct AskedCut {
+    rows: usize,
+    calls: Cell<u64>,
+}
+
+impl Cut for AskedCut {
+    ghost row_count = { λ cut. cut.rows };
+
+    ghost passes = { λ _ row place. nat_le place (row + 3) };
+
+    fn is_passed(&self, row: usize, place: usize) -> bool {
+        self.calls.set(self.calls.get().wrapping_add(1));
+        place <= row || place - row <= 3
+    }
+
+    fn end_of_equals(&self, row: usize) -> usize {
+        row + 1
+    }
+}
+
+#[test]
+fn the_end_of_a_frame_moves_along(rt: HostRuntime) -> Result<(), Fail> {
+    let cut = AskedCut {
+        rows: 1000,
+        calls: Cell::new(0),
+    };
+    let mut ends = Vec::new(rt.alloc());
+    push_cuts(&mut ends, &cut, 1000, 0)?;
+    assert_eq!(rt; ends.len(), 1000);
+    assert_eq!(rt; ends.first(), Some(&4));
+    assert_eq!(rt; ends.last(), Some(&1000));
+    assert!(rt; cut.calls.get() <= 2000);
     Ok(())
 }

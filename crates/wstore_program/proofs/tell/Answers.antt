@@ -1,6 +1,4 @@
-use Rattle.std.proofs.Common.{rules}
-use Rattle.wstore_program.specs.Statuses.{Unwritten}
 use Rattle.wstore_program.proofs.tell.Goals as goal
 
 pub returns-in-Help : goal.returns-in-Help
-returns-in-Help g c = rw c.in-Help.is (Unwritten c.in-Err.fault c.in-Err.ensures.cause (search rules))
+returns-in-Help g c = rw c.in-Help.is (rw c.as_bytes.ensures.value at c.print.ensures)

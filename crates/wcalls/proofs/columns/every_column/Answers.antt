@@ -32,15 +32,15 @@ loop-function-preserved c =
     let column = c.in_ok-column.column.items in
     let long : length column ≡ n = c.in_ok-column.ensures.len ∙ c.requires.rows in
     record {
-      long = longer i n (length cells) (length column) _ c.loop-function.invariant.long long (ap length c.in_ok-push_column.ensures ∙ length-append cells column);
+      long = longer i n (length cells) (length column) _ c.loop-function.invariant.long long (ap length c.in_ok-append.ensures.items ∙ length-append cells column);
       so_far = λ w arranged.
           each_more (function_column (rows_seen c.args.rows.now) w) (functions_seen fs) i (laid n i cells) (function_plan f.now) (map meaning column) h at (c.loop-function.invariant.so_far w arranged) (c.in_ok-column.ensures.column w arranged)
-          ∙ ap Ok (sym (ap (laid n (i + 1)) c.in_ok-push_column.ensures ∙ laid_more n i cells column c.loop-function.invariant.long long));
+          ∙ ap Ok (sym (ap (laid n (i + 1)) c.in_ok-append.ensures.items ∙ laid_more n i cells column c.loop-function.invariant.long long));
     }
 
 pub returns-in_err-column-clause-columns : goal.returns-in_err-column-clause-columns
 returns-in_err-column-clause-columns c w arranged =
-    let p = err_from_is_err_and c.from_residual.result c.from_residual.ensures.1 in
+    let p = err_from_is_err_and c.from_residual-in_err-column.result c.from_residual-in_err-column.ensures.1 in
     let fs = c.args.functions.now in
     let n = length c.args.rows.now in
     let i = c.loop-function.function-index in

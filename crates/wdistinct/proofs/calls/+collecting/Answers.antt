@@ -1,5 +1,5 @@
-use Rattle.std.proofs.Common.{◌≡◌, ◌++◌, List, [], ◌∷◌, map, ap, sym, ◌∙◌, append_assoc}
-use Rattle.wquery.specs.Tree.{Tree, view, views, view_keys, view_link, view_window, view_call, view_arguments, view_optional, view_optional_over, filter_of, reach_of, trees, keys, linked, NoLinks}
+use Rattle.std.proofs.Common.{◌≡◌, ◌++◌, List, map, ap, sym, ◌∙◌, append_assoc}
+use Rattle.wquery.specs.Tree.{Tree, view, views, view_keys, view_link, view_window, view_arguments, view_optional, view_optional_over, filter_of, reach_of, trees, keys, linked, NoLinks}
 use Rattle.wdistinct.specs.Calls.{call_trees, is_call_of, nodes_in, nodes_in_trees, nodes_in_links, nodes_in_keys, nodes_given, nodes_in_filter, nodes_in_reach}
 use Rattle.wdistinct.proofs.NodeFacts.{two_appended, chain_nodes, compare_nodes, between_nodes, in_nodes}
 use Rattle.wdistinct.proofs.Collected.{appended, call_found, call_passed, nodes_in_linked, partition_is, order_is}

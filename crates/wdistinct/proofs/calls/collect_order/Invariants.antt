@@ -1,4 +1,4 @@
-use Rattle.std.proofs.Common.{◌≡◌, ◌++◌, drop, map}
+use Rattle.std.proofs.Common.{◌≡◌, ◌++◌, drop}
 use Rattle.wquery.specs.Tree.{view_keys}
 use Rattle.wdistinct.specs.Calls.{call_trees, is_call_of, nodes_in_order}
 use Rattle.wdistinct.proofs.calls.collect_order.Given as goal

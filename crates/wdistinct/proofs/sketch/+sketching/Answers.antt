@@ -1,4 +1,4 @@
-use Rattle.std.proofs.Common.{◌≡◌, map, ap, sym, ◌∙◌}
+use Rattle.std.proofs.Common.{map, ap, sym, ◌∙◌}
 use Rattle.wquery.specs.Tree.{Tree, view, view_link, NoLinks}
 use Rattle.wquery.specs.declared.expression.Expression.{Expression}
 use Rattle.wsame.proofs.Views.{view_call_is, view_of_call, view_of_chain}

@@ -21,8 +21,8 @@ loop-span-init c = record {
 
 pub push_partition-requires-clause-ordered : goal.push_partition-requires-clause-ordered
 push_partition-requires-clause-ordered c =
-    let value_keys = sort_keys c.args.values.now in
-    let values = key_lists c.args.values.now in
+    let value_keys = sort_keys c.args.partition_values.now in
+    let values = key_lists c.args.partition_values.now in
     let ks = sort_keys c.args.keys.now in
     let keys = key_lists c.args.keys.now in
     let i = c.loop-span.span-index in

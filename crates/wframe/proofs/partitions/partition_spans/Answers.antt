@@ -12,8 +12,8 @@ use Rattle.wframe.proofs.partitions.partition_spans.Goals as goal
 
 pub loop-from-init : goal.loop-from-init
 loop-from-init c =
-    let ks = sort_keys c.args.values.now in
-    let keys = key_lists c.args.values.now in
+    let ks = sort_keys c.args.partition_values.now in
+    let keys = key_lists c.args.partition_values.now in
     record {
       within = omega arith;
       before = none_before (keys_total ks) keys c.requires;
@@ -23,8 +23,8 @@ loop-from-init c =
 
 pub loop-from-preserved : goal.loop-from-preserved
 loop-from-preserved c =
-    let ks = sort_keys c.args.values.now in
-    let keys = key_lists c.args.values.now in
+    let ks = sort_keys c.args.partition_values.now in
+    let keys = key_lists c.args.partition_values.now in
     let n = length keys in
     let from = c.loop-from.from in
     let to = c.agreeing_end-to.result in

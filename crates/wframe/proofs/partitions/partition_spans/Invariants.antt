@@ -10,8 +10,8 @@ use Rattle.wframe.proofs.partitions.partition_spans.Given as goal
 
 abbrev pub invariant-loop-from : goal.invariant-loop-from
 invariant-loop-from l =
-    let cmp = keys_cmp (sort_keys l.values) in
-    let keys = key_lists l.values in
+    let cmp = keys_cmp (sort_keys l.partition_values) in
+    let keys = key_lists l.partition_values in
     record {
       within : l.from ≤ length keys;
       before : l.from < length keys → CutsAt (length keys) (is_before cmp keys l.from) l.from;
@@ -20,4 +20,4 @@ invariant-loop-from l =
     }
 
 abbrev pub decreases-loop-from : goal.decreases-loop-from
-decreases-loop-from l = length (key_lists l.values) - l.from
+decreases-loop-from l = length (key_lists l.partition_values) - l.from

@@ -6,7 +6,7 @@ use Rattle.wquery.specs.Tree.{Tree, Quoted, These, ThatWindow, trees, view, view
 use Rattle.wparser.specs.Notation.{Row, Listed}
 use Rattle.wparser.specs.Grammar.{Chains, Negations, Signs, deeper, window}
 use Rattle.wparser.specs.Finding.{Got, failed, Answers, meanings}
-use Rattle.wparser.proofs.Steps.{answers_less, grips, missing, got_along, other_token, one_parts, never_either, never_then, never_listed, any_leads, after_leads, done_leads, then_got, then_refused, after_got, after_missing, after_never, as_got, as_refused, one_got, perhaps_absent, perhaps_present, either_first, either_second, done_got, room_answers, closed_refused, closed_missing, closed_got, listing_more, listing_got, listing_refused}
+use Rattle.wparser.proofs.Steps.{answers_less, grips, missing, got_along, made_along, other_token, one_parts, never_either, never_then, never_listed, any_leads, after_leads, done_leads, then_got, then_refused, after_got, after_missing, after_never, as_got, as_refused, one_got, perhaps_absent, perhaps_present, either_first, either_second, done_got, room_answers, closed_refused, closed_missing, closed_got, listing_more, listing_got, listing_refused}
 use Rattle.wparser.proofs.Rows.{chain_refused, chain_got, going_more, going_refused, going_over, comparison_grip}
 use Rattle.wparser.proofs.Fits.{tests_begin, begins_not, primary_no_sign, lower, nothing_below, operand_falls, chain_falls, key_falls}
 use Rattle.wparser.proofs.Parts.{one_grips, null_tested_leads, compared_leads, test_leads, tested_leads, no_test, call_leads, key_leads, key_leads_nulls, window_leads_parts, window_leads_order, window_leads_frame, primary_number, primary_text, primary_null, primary_name_copied, name_here, window_along, meanings_fall_on, primary_open, primary_none, window_empty, no_list, meanings_fall, kind_above}
@@ -40,7 +40,7 @@ pub negation-returns-in-Err : goal.negation-returns-in-Err
 negation-returns-in-Err t c = let lt : 0 < c.args.depth = omega arith in either_first (begins_not (tests_begin c.args.depth (deeper c.args.depth)) c.in-Some.ensures (omega arith)) (after_got c.in-Some.ensures (as_refused c.in-Err.fault (lower c.args.depth Negations (λ (R : Row Tree). Answers R 22 (meanings c.in-Some.after.now) (failed c.in-Err.fault)) lt c.in-Err.ensures)))
 
 pub negation-returns : goal.negation-returns
-negation-returns t c = let lt : 0 < c.args.depth = omega arith in got_along c.in_ok-e.ensures refl (either_first (begins_not (tests_begin c.args.depth (deeper c.args.depth)) c.in-Some.ensures (omega arith)) (after_got c.in-Some.ensures (as_got (lower c.args.depth Negations (λ (R : Row Tree). Answers R 22 (meanings c.in-Some.after.now) (Got (view c.in-Ok.read.0) (meanings c.in-Ok.read.1.now))) lt c.in-Ok.ensures))))
+negation-returns t c = let lt : 0 < c.args.depth = omega arith in made_along _ c.made.ensures c.not.ensures (either_first (begins_not (tests_begin c.args.depth (deeper c.args.depth)) c.in-Some.ensures (omega arith)) (after_got c.in-Some.ensures (as_got (lower c.args.depth Negations (λ (R : Row Tree). Answers R 22 (meanings c.in-Some.after.now) (Got (view c.in-Ok.read.0) (meanings c.in-Ok.read.1.now))) lt c.in-Ok.ensures))))
 
 pub test-returns-in-Err : goal.test-returns-in-Err
 test-returns-in-Err t c = then_refused c.in-Err.fault (λ e. null_tested_leads) c.in-Err.ensures
@@ -61,7 +61,7 @@ pub compared-returns-in-Err : goal.compared-returns-in-Err
 compared-returns-in-Err t c = perhaps_present (one_grips comparison_grip c.in-Some.ensures) (then_got {j = 31} (λ x. any_leads) (one_got c.in-Some.ensures) (as_refused c.in-Err.fault (answers_less (omega arith) c.in-Err.ensures)))
 
 pub compared-returns : goal.compared-returns
-compared-returns t c = got_along c.in_ok-e.ensures refl (perhaps_present (one_grips comparison_grip c.in-Some.ensures) (then_got {j = 31} (λ x. any_leads) (one_got c.in-Some.ensures) (as_got (answers_less (omega arith) c.in-Ok.ensures))))
+compared-returns t c = made_along _ c.made.ensures c.compared.ensures (perhaps_present (one_grips comparison_grip c.in-Some.ensures) (then_got {j = 31} (λ x. any_leads) (one_got c.in-Some.ensures) (as_got (answers_less (omega arith) c.in-Ok.ensures))))
 
 pub range-returns-in-Err : goal.range-returns-in-Err
 range-returns-in-Err t c = then_refused c.in-Err.fault (λ e. tested_leads) c.in-Err.ensures
@@ -91,7 +91,7 @@ pub among-returns-in-Err : goal.among-returns-in-Err
 among-returns-in-Err t c = after_got c.in-Some.ensures (as_refused c.in-Err.fault (answers_less (omega arith) c.in-Err.ensures))
 
 pub among-returns : goal.among-returns
-among-returns t c = got_along c.in_ok-e.ensures refl (after_got c.in-Some.ensures (as_got (answers_less (omega arith) c.in-Ok.ensures)))
+among-returns t c = made_along _ c.made.ensures c.among.ensures (after_got c.in-Some.ensures (as_got (answers_less (omega arith) c.in-Ok.ensures)))
 
 pub between-returns-in-Err : goal.between-returns-in-Err
 between-returns-in-Err t c = then_refused c.in-Err.fault (λ low. after_leads (omega arith)) c.in-Err.ensures
@@ -106,7 +106,7 @@ pub up_to-returns-in-Err : goal.up_to-returns-in-Err
 up_to-returns-in-Err t c = after_got c.in-Some.ensures (as_refused c.in-Err.fault (answers_less (omega arith) c.in-Err.ensures))
 
 pub up_to-returns : goal.up_to-returns
-up_to-returns t c = got_along c.in_ok-e.ensures refl (after_got c.in-Some.ensures (as_got (answers_less (omega arith) c.in-Ok.ensures)))
+up_to-returns t c = made_along _ c.made.ensures c.within.ensures (after_got c.in-Some.ensures (as_got (answers_less (omega arith) c.in-Ok.ensures)))
 
 pub sign-returns-in_default : goal.sign-returns-in_default
 sign-returns-in_default t c = either_second (never_then c.in_default.ensures) c.primary.ensures
@@ -118,7 +118,7 @@ pub sign-returns-in-Err : goal.sign-returns-in-Err
 sign-returns-in-Err t c = let lt : 0 < c.args.depth = omega arith in either_first (primary_no_sign c.in-Some.ensures) (then_got {j = 31} (λ m. any_leads) (one_got c.in-Some.ensures) (as_refused c.in-Err.fault (lower c.args.depth Signs (λ (R : Row Tree). Answers R 28 (meanings c.in-Some.after.now) (failed c.in-Err.fault)) lt c.in-Err.ensures)))
 
 pub sign-returns : goal.sign-returns
-sign-returns t c = let lt : 0 < c.args.depth = omega arith in got_along c.in_ok-e.ensures refl (either_first (primary_no_sign c.in-Some.ensures) (then_got {j = 31} (λ m. any_leads) (one_got c.in-Some.ensures) (as_got (lower c.args.depth Signs (λ (R : Row Tree). Answers R 28 (meanings c.in-Some.after.now) (Got (view c.in-Ok.read.0) (meanings c.in-Ok.read.1.now))) lt c.in-Ok.ensures))))
+sign-returns t c = let lt : 0 < c.args.depth = omega arith in made_along _ c.made.ensures c.signed.ensures (either_first (primary_no_sign c.in-Some.ensures) (then_got {j = 31} (λ m. any_leads) (one_got c.in-Some.ensures) (as_got (lower c.args.depth Signs (λ (R : Row Tree). Answers R 28 (meanings c.in-Some.after.now) (Got (view c.in-Ok.read.0) (meanings c.in-Ok.read.1.now))) lt c.in-Ok.ensures))))
 
 pub primary-returns-in-Some : goal.primary-returns-in-Some
 primary-returns-in-Some t c = got_along c.number-in-Some.ensures refl (primary_number c.in-Some.ensures)
@@ -169,7 +169,7 @@ pub calls-returns-in-Err-over : goal.calls-returns-in-Err-over
 calls-returns-in-Err-over t c = then_got (λ g. any_leads) c.in-Ok.ensures (then_got (λ f. call_leads) c.in-Ok-filter.ensures (then_refused c.in-Err-over.fault (λ r. done_leads (omega arith)) c.in-Err-over.ensures))
 
 pub calls-returns : goal.calls-returns
-calls-returns t c = got_along c.in_ok-e.ensures refl (then_got (λ g. any_leads) c.in-Ok.ensures (then_got (λ f. call_leads) c.in-Ok-filter.ensures (then_got (λ r. done_leads (omega arith)) c.in-Ok-over.ensures done_got)))
+calls-returns t c = made_along _ c.made.ensures c.call.ensures (then_got (λ g. any_leads) c.in-Ok.ensures (then_got (λ f. call_leads) c.in-Ok-filter.ensures (then_got (λ r. done_leads (omega arith)) c.in-Ok-over.ensures done_got)))
 
 pub given-returns-in-Some : goal.given-returns-in-Some
 given-returns-in-Some t c = got_along (c.listed.ensures ∙ ap (λ (v : List Expression). These (trees (views v))) c.new.ensures.items) refl (either_first (never_either (other_token c.in-Some.ensures (λ q. cc)) (no_list c.args.depth c.in-Some.ensures (omega arith))) (after_got c.in-Some.ensures done_got))

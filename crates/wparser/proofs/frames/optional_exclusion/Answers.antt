@@ -1,13 +1,13 @@
 use Rattle.std.proofs.Common.{arith}
 use Rattle.wparser.specs.declared.fault.ParseFault.TheVariants.{Syntax}
-use Rattle.wparser.proofs.Steps.{given_up, answers_less, grips, never_then, after_got, after_never, as_got, as_refused, perhaps_absent, perhaps_present}
+use Rattle.wparser.proofs.Steps.{answers_less, grips, never_then, after_got, after_never, as_got, as_refused, perhaps_absent, perhaps_present}
 use Rattle.wparser.proofs.frames.optional_exclusion.Goals as goal
 
 pub returns-in_default : goal.returns-in_default
 returns-in_default c = perhaps_absent (never_then (after_never c.in_default.ensures))
 
-pub returns-in_err-exclusion : goal.returns-in_err-exclusion
-returns-in_err-exclusion c = given_up _ _ c.from_residual.ensures (perhaps_present (grips c.in-Some.ensures (omega arith)) (as_refused Syntax (after_got c.in-Some.ensures (answers_less (omega arith) c.in_err-exclusion.ensures))))
+pub returns-in-None : goal.returns-in-None
+returns-in-None c = perhaps_present (grips c.in-Some.ensures (omega arith)) (as_refused Syntax (after_got c.in-Some.ensures (answers_less (omega arith) c.in-None.ensures)))
 
-pub returns : goal.returns
-returns c = perhaps_present (grips c.in-Some.ensures (omega arith)) (as_got (after_got c.in-Some.ensures (answers_less (omega arith) c.in_ok-exclusion.ensures)))
+pub returns-in-Some-excluded : goal.returns-in-Some-excluded
+returns-in-Some-excluded c = perhaps_present (grips c.in-Some.ensures (omega arith)) (as_got (after_got c.in-Some.ensures (answers_less (omega arith) c.in-Some-excluded.ensures)))

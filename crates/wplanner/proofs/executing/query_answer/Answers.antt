@@ -19,4 +19,4 @@ pub returns-in-Err : goal.returns-in-Err
 returns-in-Err c = then_refused {Y = TableParts} rows_in (λ t. t) c.in-Err.fault _ _ c.in-Err.ensures.rows
 
 pub returns : goal.returns
-returns c = table_told (map select_plan c.args.selects.now) (rows_seen c.args.rows.now) (rows_in c.in-Ok.cells) _ c.in-Ok.ensures.rows c.in_ok-names.ensures ∙ ap Ok (sym c.new.ensures)
+returns c = table_told (map select_plan c.args.selects.now) (rows_seen c.args.rows.items) (rows_in c.in-Ok.cells) _ c.in-Ok.ensures.rows c.in_ok-names.ensures ∙ ap Ok (sym c.new.ensures)

@@ -10,4 +10,4 @@ select_rows-requires c =
 
 pub returns-in-Err-clause-rows : goal.returns-in-Err-clause-rows
 returns-in-Err-clause-rows c =
-    stops rows_in c.args.selects.now 0 c.index-selects-0.result (rows_seen c.args.rows.now) _ c.in-Err.fault (some_select c.args.selects.now c.requires) c.index-selects-0.is refl c.in-Err.ensures.rows
+    stops rows_in c.args.selects.now 0 c.index-selects-0.result (rows_seen c.args.rows.items) _ c.in-Err.fault (some_select c.args.selects.now c.requires) c.index-selects-0.is refl c.in-Err.ensures.rows

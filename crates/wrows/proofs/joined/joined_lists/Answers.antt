@@ -6,10 +6,11 @@ use Rattle.wvalues.specs.declared.value.Value.{Value}
 use Rattle.wvalues.specs.Meaning.{meaning}
 use Rattle.wframe.specs.Places.{places}
 use Rattle.wrows.specs.LaidRows.{laid}
+use Rattle.wrows.specs.Picked.{row_beside}
 use Rattle.wrows.specs.Columns.{Row, is_out_of_range, value_on}
 use Rattle.wrows.specs.Laid.{formulas_seen, formula_seen, rows_seen}
 use Rattle.wrows.proofs.RowFacts.{any_next, flat_next, ok_is_false, refused, length-places}
-use Rattle.wrows.proofs.BesideFacts.{any_beside, beside_filled, beside_told, filled_is, place_is, row_beside}
+use Rattle.wrows.proofs.BesideFacts.{any_beside, beside_filled, beside_told, filled_is, place_is}
 use Rattle.wrows.proofs.joined.joined_lists.Goals as goal
 
 pub returns-in_err-push_values-clause-gives : goal.returns-in_err-push_values-clause-gives

@@ -4,7 +4,7 @@ use Rattle.wvalues.specs.Meaning.{meaning}
 use Rattle.wframe.specs.Places.{places}
 use Rattle.wrows.specs.Columns.{is_out_of_range, value_on}
 use Rattle.wrows.specs.Laid.{formulas_seen, rows_seen}
-use Rattle.wrows.proofs.BesideFacts.{row_beside}
+use Rattle.wrows.specs.Picked.{row_beside}
 use Rattle.wrows.proofs.joined.joined_lists.Given as goal
 
 abbrev pub invariant-loop-number : goal.invariant-loop-number

@@ -1,28 +1,15 @@
-use Rattle.std.proofs.Common.{length, Ok, sym, ap, ◌∙◌}
-use Rattle.wrows.specs.LaidRows.{laid}
-use Rattle.wrows.specs.Laid.{formula_seen, formulas_seen, rows_seen}
+use Rattle.std.proofs.Common.{◌≡◌, ℕ, List, Vec, Global, map, subst, sym, ap, ◌∙◌}
+use Rattle.wplan.specs.Formula.{At, Formula}
+use Rattle.wrows.specs.Outcomes.{Gives}
 use Rattle.wrows.specs.Columns.{beside}
-use Rattle.wrows.specs.Plain.{cut, ordered}
-use Rattle.std.proofs.lemmas.List.{length-map}
-use Rattle.wrows.proofs.AllFacts.{as_they_stand}
-use Rattle.wrows.proofs.RowFacts.{then_ok}
+use Rattle.wrows.specs.Laid.{formulas_seen, rows_in, rows_seen}
+use Rattle.wrows.specs.Plain.{ordered_of}
+use Rattle.wrows.proofs.PickFacts.{of_some}
 use Rattle.wrows.proofs.plain.joined_items.Goals as goal
 
-pub returns-clause-rows : goal.returns-clause-rows
-returns-clause-rows c =
-    let n = length c.args.rows.now in
-    let order = c.args.order.now in
-    let told = laid (length c.args.items.now) n c.in_ok-joined_lists.field-0.items in
-    let keys = laid (length c.args.keys.now) n c.in_ok-key_cells.key_cells.items in
-    then_ok told _ _ c.in_ok-joined_lists.ensures.gives
-    ∙ then_ok keys _ _ c.in_ok-key_cells.ensures.gives
-    ∙ ap (λ w. Ok (cut c.args.offset c.args.limit (ordered order (laid w n c.in_ok-key_cells.key_cells.items) told))) c.requires
-    ∙ ap (λ xs. Ok (cut c.args.offset c.args.limit (ordered order (laid (length order) n xs) told))) (sym c.deref.ensures.value)
-    ∙ ap Ok (sym c.in_ok-cells.ensures.rows)
-
-pub returns-then-asks_for_all-clause-rows : goal.returns-then-asks_for_all-clause-rows
-returns-then-asks_for_all-clause-rows c =
-    let told = laid (length c.args.items.now) (length c.args.rows.now) c.in_ok-joined_lists.field-0.items in
-    as_they_stand (formulas_seen c.args.items.now) (formulas_seen c.args.keys.now) c.args.order.now c.args.offset c.args.limit (beside (rows_seen c.args.rows.now) (rows_seen c.args.columns.now)) told
-    (length-map c.args.keys.now formula_seen ∙ c.requires) (c.asks_for_all.ensures.keys c.if-asks_for_all.true) (c.asks_for_all.ensures.offset c.if-asks_for_all.true) (c.asks_for_all.ensures.limit c.if-asks_for_all.true)
-    c.in_ok-joined_lists.ensures.gives
+pub returns-in-Some-clause-rows : goal.returns-in-Some-clause-rows
+returns-in-Some-clause-rows c =
+    let is : formulas_seen c.args.items.now ≡ map At c.deref.result.now
+    = of_some (λ (places : Vec ℕ Global). formulas_seen c.args.items.now ≡ map At places.items) c.in_ok-plain.plain c.in-Some.places c.in-Some.is c.in_ok-plain.ensures ∙ ap (map At) (sym c.deref.ensures.value) in
+    let P : List Formula → Type 0 = λ ts. Gives rows_in c.plain_items.result (ordered_of ts (formulas_seen c.args.keys.now) c.args.order.now c.args.offset c.args.limit (beside (rows_seen c.args.rows.now) (rows_seen c.args.columns.now))) in
+    subst P (sym is) c.plain_items.ensures.rows

@@ -35,13 +35,11 @@ loop-row-preserved g c =
     let more = ap (map fold_of) (places_next row) ∙ map-append fold_of (places row) (row ∷ []) ∙ ap (λ x. map fold_of (places row) ++ x ∷ []) (sym value) in
     record {
       before_filled = c.advance_both.ensures.before_filled;
-      before_holds = c.advance_both.ensures.before_holds;
       before_capacity = c.advance_both.ensures.before_capacity ∙ inv.before_capacity;
       before_ordered = before_to.ordered;
       before_within = omega (arith, before_to.within, c.count-rows.ensures.count);
       before_rises = λ k a b. subst (λ s. IsRisen n s (before_span p k)) (sym left) (c.gaps_slide.ensures.before p row k ordered (omega arith) b);
       behind_filled = c.advance_both.ensures.behind_filled;
-      behind_holds = c.advance_both.ensures.behind_holds;
       behind_capacity = c.advance_both.ensures.behind_capacity ∙ inv.behind_capacity;
       behind_ordered = behind_to.ordered;
       behind_within = omega (arith, behind_to.within, c.count-rows.ensures.count);

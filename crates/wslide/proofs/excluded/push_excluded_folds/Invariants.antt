@@ -4,7 +4,7 @@ use Rattle.wframe.specs.Places.{places, IsRisen}
 use Rattle.wframe.specs.Frame.{frame_rows}
 use Rattle.wframe.specs.Gaps.{before_span, behind_span}
 use Rattle.wslide.specs.Laws.{rows_fold}
-use Rattle.wslide.specs.Queue.{parts, capacity, owed, IsFilledBy}
+use Rattle.wslide.specs.Queue.{capacity, owed, IsFilledBy}
 use Rattle.wslide.specs.Rows.{span_parts}
 use Rattle.wslide.proofs.excluded.push_excluded_folds.Given as goal
 
@@ -13,14 +13,12 @@ invariant-loop-row g l =
     let f = l.fold in
     let p = l.frames in
     record {
-      before_filled : IsFilledBy (g.F.Fold.is_part f) (g.F.Fold.neutral f) (g.F.Fold.joined f) l.before;
-      before_holds : parts l.before ≡ span_parts (g.F.Fold.part_at f) l.held.before;
+      before_filled : IsFilledBy (g.F.Fold.is_part f) (g.F.Fold.neutral f) (g.F.Fold.joined f) (span_parts (g.F.Fold.part_at f) l.held.before) l.before;
       before_capacity : capacity l.before ≡ capacity l.fn.before;
       before_ordered : l.held.before.from ≤ l.held.before.to;
       before_within : l.held.before.to ≤ l.rows;
       before_rises : (k : ℕ) → l.row ≤ k → k < length p.keys → IsRisen (length p.keys) l.held.before (before_span p k);
-      behind_filled : IsFilledBy (g.F.Fold.is_part f) (g.F.Fold.neutral f) (g.F.Fold.joined f) l.behind;
-      behind_holds : parts l.behind ≡ span_parts (g.F.Fold.part_at f) l.held.behind;
+      behind_filled : IsFilledBy (g.F.Fold.is_part f) (g.F.Fold.neutral f) (g.F.Fold.joined f) (span_parts (g.F.Fold.part_at f) l.held.behind) l.behind;
       behind_capacity : capacity l.behind ≡ capacity l.fn.behind;
       behind_ordered : l.held.behind.from ≤ l.held.behind.to;
       behind_within : l.held.behind.to ≤ l.rows;

@@ -11,8 +11,8 @@ use Rattle.wslide.proofs.sliding.push_sliding_folds.Goals as goal
 pub advance-requires-clause-rises : goal.advance-requires-clause-rises
 advance-requires-clause-rises g c =
     let held = c.loop-row.held in
-    let span = c.span-span.result in
-    subst (λ n. IsRisen n held span) c.requires.rows (c.loop-row.invariant.rises span c.span-span.ensures.risen)
+    let span = c.extent-span.result in
+    subst (λ n. IsRisen n held span) c.requires.rows (c.loop-row.invariant.rises span c.extent-span.ensures.risen)
 
 pub loop-row-preserved : goal.loop-row-preserved
 loop-row-preserved g c =
@@ -23,19 +23,18 @@ loop-row-preserved g c =
     let joined = g.F.Fold.joined f in
     let inv = c.loop-row.invariant in
     let row = c.loop-row.row in
-    let span = c.span-span.result in
-    let rises = inv.rises span c.span-span.ensures.risen in
+    let span = c.extent-span.result in
+    let rises = inv.rises span c.extent-span.ensures.risen in
     let fold_of = λ (r : ℕ). rows_fold neutral joined at (frame_rows p r) in
     let part = c.held_fold.result in
-    let value = (c.held_fold.ensures.value ∙ ap (λ rows. total neutral joined (map at rows)) (c.span-span.ensures.rows c.requires.single)) in
+    let value = (c.held_fold.ensures.value ∙ ap (λ rows. total neutral joined (map at rows)) (c.extent-span.ensures.rows c.requires.single)) in
     let more = ap (map fold_of) (places_next row) ∙ map-append fold_of (places row) (row ∷ []) ∙ ap (λ x. map fold_of (places row) ++ x ∷ []) (sym value) in
     record {
       filled = c.advance.ensures.filled;
-      holds = c.advance.ensures.holds;
       capacity = c.advance.ensures.capacity ∙ inv.capacity;
-      ordered = c.span-span.ensures.ordered;
-      within = omega (arith, c.span-span.ensures.within, c.count-rows.ensures.count);
-      rises = λ s h. subst (λ low. IsRisen (length p.keys) low s) (sym c.span-span.ensures.span) (h row (omega arith));
+      ordered = c.extent-span.ensures.ordered;
+      within = omega (arith, c.extent-span.ensures.within, c.count-rows.ensures.count);
+      rises = λ s h. subst (λ low. IsRisen (length p.keys) low s) (sym c.extent-span.ensures.span) (h row (omega arith));
       folds =
           c.in_ok-push.ensures.items
           ∙ ap (λ ps. ps ++ part ∷ []) inv.folds

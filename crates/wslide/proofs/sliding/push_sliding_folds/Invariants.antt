@@ -2,9 +2,9 @@ use Rattle.std.proofs.Common.{◌≡◌, ℕ, ◌++◌, ◌+◌, ◌*◌, ◌≤
 use Rattle.std.specs.Prelude.{All}
 use Rattle.wframe.specs.declared.frame.Span.{Span}
 use Rattle.wframe.specs.Places.{places, IsRisen}
-use Rattle.wframe.specs.Frame.{frame_rows, frame_span}
+use Rattle.wframe.specs.Frame.{frame_rows, frame_extent}
 use Rattle.wslide.specs.Laws.{rows_fold}
-use Rattle.wslide.specs.Queue.{parts, capacity, owed, IsFilledBy}
+use Rattle.wslide.specs.Queue.{capacity, owed, IsFilledBy}
 use Rattle.wslide.specs.Rows.{span_parts}
 use Rattle.wslide.proofs.sliding.push_sliding_folds.Given as goal
 
@@ -13,12 +13,11 @@ invariant-loop-row g l =
     let f = l.fold in
     let p = l.frames in
     record {
-      filled : IsFilledBy (g.F.Fold.is_part f) (g.F.Fold.neutral f) (g.F.Fold.joined f) l.queue;
-      holds : parts l.queue ≡ span_parts (g.F.Fold.part_at f) l.held;
+      filled : IsFilledBy (g.F.Fold.is_part f) (g.F.Fold.neutral f) (g.F.Fold.joined f) (span_parts (g.F.Fold.part_at f) l.held) l.queue;
       capacity : capacity l.queue ≡ capacity l.fn.queue;
       ordered : l.held.from ≤ l.held.to;
       within : l.held.to ≤ l.rows;
-      rises : (s : Span) → ((before : ℕ) → before ≤ l.row → IsRisen (length p.keys) (frame_span p before) s) → IsRisen (length p.keys) l.held s;
+      rises : (s : Span) → ((before : ℕ) → before ≤ l.row → IsRisen (length p.keys) (frame_extent p before) s) → IsRisen (length p.keys) l.held s;
       folds : l.folds.items ≡ l.fn.folds.items ++ map (λ row. rows_fold (g.F.Fold.neutral f) (g.F.Fold.joined f) (g.F.Fold.part_at f) (frame_rows p row)) (places l.row);
       parts : All (g.F.Fold.is_part f) (map (λ row. rows_fold (g.F.Fold.neutral f) (g.F.Fold.joined f) (g.F.Fold.part_at f) (frame_rows p row)) (places l.row));
       not_less : g.F.Fold.count l.fn.meter ≤ g.F.Fold.count l.meter;

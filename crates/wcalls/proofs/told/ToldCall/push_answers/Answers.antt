@@ -21,7 +21,7 @@ places_told-requires g c =
 pub returns-clause-gives : goal.returns-clause-gives
 returns-clause-gives g c =
     let call = c.args.self.now in
-    never_out (λ p rs place. told_value (map meaning call.values.now) rs (meaning call.default.now) (g.P.RowPlaces.place_told call.places (length rs) p place)) c.args.partitions.now c.args.rows.now
+    never_out (λ p rs place. told_value (map meaning call.values.items) rs (meaning call.default.now) (g.P.RowPlaces.place_told call.places (length rs) p place)) c.args.partitions.now c.args.rows.now
 
 pub loop-number-preserved : goal.loop-number-preserved
 loop-number-preserved g c =
@@ -32,13 +32,14 @@ loop-number-preserved g c =
     let s = span_at all.spans k in
     let own = slice_range rows s.from s.to in
     let place_told = g.P.RowPlaces.place_told call.places in
-    let value : List ℕ → _ → Meaning = λ rs place. told_value (map meaning call.values.now) rs (meaning call.default.now) place in
+    let value : List ℕ → _ → Meaning = λ rs place. told_value (map meaning call.values.items) rs (meaning call.default.now) place in
     let told : Partition → List ℕ → ℕ → Meaning = λ p rs place. value rs (place_told (length rs) p place) in
     let below : k < length all.spans = omega (arith, c.loop-number-test.true, c.count-number-end.ensures.count) in
     let cut : slice_range rows c.span-span.result.from c.span-span.result.to ≡ own = ap (λ (t : Span). slice_range rows t.from t.to) c.span-span.ensures.span in
-    told_more told all rows k below (map meaning c.args.told.now.items) (map meaning c.loop-number.told.items) (map meaning c.push_told.new.told.items) (map (value (slice_range rows c.span-span.result.from c.span-span.result.to)) c.deref.result.now) c.loop-number.invariant c.in_ok-push_told.ensures
-    (ap (λ rs. map (value rs) c.deref.result.now) cut
-    ∙ ap (map (value own)) (c.deref.ensures.value ∙ c.in_ok-places.ensures ∙ ap (λ (p : Partition). map (place_told (length p.keys) p) (places (length p.keys))) c.partition-frames.ensures
+    told_more told all rows k below (map meaning c.args.told.now.items) (map meaning c.loop-number.told.items) (map meaning c.push_told.new.told.items) (map (λ place. told_value (map meaning c.deref.result.now) (slice_range rows c.span-span.result.from c.span-span.result.to) (meaning call.default.now) place) c.deref-in-loop-number.result.now) c.loop-number.invariant c.in_ok-push_told.ensures
+    (ap (λ vs. map (λ place. told_value (map meaning vs) (slice_range rows c.span-span.result.from c.span-span.result.to) (meaning call.default.now) place) c.deref-in-loop-number.result.now) c.deref.ensures.value
+    ∙ ap (λ rs. map (value rs) c.deref-in-loop-number.result.now) cut
+    ∙ ap (map (value own)) (c.deref-in-loop-number.ensures.value ∙ c.in_ok-places.ensures ∙ ap (λ (p : Partition). map (place_told (length p.keys) p) (places (length p.keys))) c.partition-frames.ensures
     ∙ ap (λ n. map (place_told n (partition_of all s)) (places (length (partition_of all s).keys))) (sliced_alike all.keys rows s.from s.to (sym c.requires.len)))
     ∙ map-map (value own) (place_told (length own) (partition_of all s)) (places (length (partition_of all s).keys)))
 
@@ -47,6 +48,6 @@ returns-clause-added g c =
     let call = c.args.self.now in
     let all = c.args.partitions.now in
     let rows = c.args.rows.now in
-    let told : Partition → List ℕ → ℕ → Meaning = λ p rs place. told_value (map meaning call.values.now) rs (meaning call.default.now) (g.P.RowPlaces.place_told call.places (length rs) p place) in
+    let told : Partition → List ℕ → ℕ → Meaning = λ p rs place. told_value (map meaning call.values.items) rs (meaning call.default.now) (g.P.RowPlaces.place_told call.places (length rs) p place) in
     let whole = take_all c.loop-number.number all.spans (omega (arith, c.loop-number-test.false, c.count-number-end.ensures.count)) in
     all_told told all rows (map meaning c.args.told.now.items) (map meaning c.loop-number.told.items) (c.loop-number.invariant ∙ ap (λ ss. map meaning c.args.told.now.items ++ flat_map (told_in told all rows) ss) whole)

@@ -1,5 +1,5 @@
-use Rattle.std.proofs.Common.{◌≡◌, ap, ◌∙◌, sym, map}
-use Rattle.wquery.specs.Tree.{Tree, view_call}
+use Rattle.std.proofs.Common.{◌∙◌}
+use Rattle.wquery.specs.Tree.{view_call}
 use Rattle.wdistinct.specs.declared.call_key.CallKey.{CallKey}
 use Rattle.wdistinct.specs.Places.{calls_in}
 use Rattle.wdistinct.proofs.Among.{place_found, none_found}

@@ -1,7 +1,6 @@
-use Rattle.std.proofs.Common.{◌++◌, ◌∷◌, [], sym, ap, ◌∙◌, arith, rules, Some}
+use Rattle.std.proofs.Common.{arith, rules, Some}
 use Rattle.std.proofs.lemmas.List.Elements.{All-same, All-push, All-pop}
-use Rattle.wslide.specs.Stacks.{gathered, running}
-use Rattle.wslide.proofs.Stacks.{moved_more, running-push, gathered-push}
+use Rattle.wslide.proofs.Stacks.{turned_more}
 use Rattle.wslide.proofs.queue.FoldQueue.turn.Goals as goal
 
 pub loop-part-preserved : goal.loop-part-preserved
@@ -13,22 +12,14 @@ loop-part-preserved g c =
     let part = c.in-Some.part in
     let was = c.loop-part in
     let inv = c.loop-part.invariant in
+    let below = c.join-below.result in
     let popped = All-pop is_part was.self.back.items c.pop.new.self.items (Some part) c.in-Some.ensures.items inv.back in
     record {
-      moved = moved_more was.self.back.items was.self.front.items c.pop.new.self.items c.push_reserved.new.self.items _ part c.in-Some.ensures.items c.push_reserved.ensures.items inv.moved;
-      front = All-same is_part _ _ c.push_reserved.ensures.items (All-push is_part _ part inv.front popped.1);
+      turned = turned_more is_part neutral joined c.args.self.now.back.items was.self.back.items c.pop.new.self.items was.self.front.items c.push_reserved.new.self.items part was.below below c.in-Some.ensures.items c.push_reserved.ensures.items c.join-below.ensures.value popped.1 inv.turned;
+      front = All-same is_part _ _ c.push_reserved.ensures.items (All-push is_part was.self.front.items below inv.front c.join-below.ensures.part);
       back = popped.0;
-      front_folds =
-          c.push_reserved-in-Some.ensures.items
-          ∙ ap (λ xs. xs ++ c.join-below.result ∷ []) inv.front_folds
-          ∙ ap (λ x. running joined neutral was.self.front.items ++ x ∷ []) (c.join-below.ensures.value ∙ ap (joined part) inv.below)
-          ∙ sym (running-push joined neutral was.self.front.items part)
-          ∙ ap (running joined neutral) (sym c.push_reserved.ensures.items);
-      below =
-          c.join-below.ensures.value ∙ ap (joined part) inv.below
-          ∙ sym (gathered-push joined neutral was.self.front.items part)
-          ∙ ap (gathered joined neutral) (sym c.push_reserved.ensures.items);
-      below_part = rw c.join-below.ensures.value ((g.met.F.Fold.laws f).closed part was.below popped.1 inv.below_part);
+      below_part = c.join-below.ensures.part;
       limit = search rules;
+      count = omega (arith, c.in-Some.ensures.cases, inv.count);
       joins = omega (arith, c.in-Some.ensures.cases, c.join-below.ensures.joins, inv.joins);
     }

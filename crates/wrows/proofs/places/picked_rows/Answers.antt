@@ -1,0 +1,28 @@
+use Rattle.std.proofs.Common.{length, take_all, sym, ap, ◌∙◌}
+use Rattle.std.specs.List.{flat_map}
+use Rattle.std.proofs.lemmas.List.{length-map}
+use Rattle.wvalues.specs.Meaning.{meaning}
+use Rattle.wrows.specs.Laid.{rows_seen}
+use Rattle.wrows.specs.Picked.{picked}
+use Rattle.wrows.proofs.PickFacts.{picked_wide}
+use Rattle.wrows.proofs.RowFacts.{laid_length, laid_rows}
+use Rattle.wrows.proofs.places.picked_rows.Goals as goal
+
+pub returns-clause-rows : goal.returns-clause-rows
+returns-clause-rows c =
+    let places = c.args.places.now in
+    let numbers = c.args.numbers.now in
+    let rows = rows_seen c.args.rows.now in
+    let columns = rows_seen c.args.columns.now in
+    laid_rows (length places) (picked places rows columns) numbers (picked_wide places rows columns numbers) c.loop-number.cells.items
+    (c.loop-number.invariant ∙ ap (flat_map (picked places rows columns)) (take_all c.loop-number.number-index numbers c.loop-number-test.false))
+
+pub returns-clause-laid : goal.returns-clause-laid
+returns-clause-laid c =
+    let places = c.args.places.now in
+    let numbers = c.args.numbers.now in
+    let rows = rows_seen c.args.rows.now in
+    let columns = rows_seen c.args.columns.now in
+    sym (length-map c.loop-number.cells.items meaning) ∙ ap length c.loop-number.invariant
+    ∙ ap (λ xs. length (flat_map (picked places rows columns) xs)) (take_all c.loop-number.number-index numbers c.loop-number-test.false)
+    ∙ laid_length (length places) (picked places rows columns) numbers (picked_wide places rows columns numbers)

@@ -1,0 +1,22 @@
+-- The rows that are asked for, by number, and values at places of rows that have columns behind their cells.
+use Rattle.std.specs.Prelude.{ℕ, ◌++◌, List, length, map, Option, Result, Ok}
+use Rattle.wvalues.specs.declared.key.SortKey.{SortKey}
+use Rattle.wvalues.specs.Meaning.{Meaning}
+use Rattle.wframe.specs.Peers.{key_at}
+use Rattle.wplan.specs.Formula.{Formula}
+use Rattle.wrows.specs.declared.fault.AnswerFault.{AnswerFault}
+use Rattle.wrows.specs.Outcomes.{◌>>=◌}
+use Rattle.wrows.specs.Columns.{Row, lists_of, value_at}
+use Rattle.wrows.specs.Plain.{cut, numbers_by}
+
+-- the row of a number, with what the columns have for it
+abbrev pub row_beside : List Row → List (List Meaning) → ℕ → Row
+row_beside rows columns i = key_at rows i ++ map (λ column. value_at column i) columns
+
+-- its values at some places
+abbrev pub picked : List ℕ → List Row → List (List Meaning) → ℕ → Row
+picked places rows columns i = map (value_at (row_beside rows columns i)) places
+
+-- the numbers of the rows that are asked for, in order. All keys are evaluated, on every row
+abbrev pub asked_of : List Formula → List SortKey → ℕ → Option ℕ → List Row → Result (List ℕ) AnswerFault
+asked_of keys order offset limit rows = lists_of keys rows >>= λ by. Ok (cut offset limit (numbers_by order by (length rows)))

@@ -1,0 +1,127 @@
+//! Values at places of rows, read where they lie.
+ghost use Rattle.std.specs.Prelude.{◌≡◌, ◌*◌, ◌++◌, IfOk, IfSome, OnOk, length, map};
+ghost use Rattle.wvalues.specs.Meaning.{meaning, Null};
+ghost use Rattle.wframe.specs.Peers.{key_at};
+ghost use Rattle.wplan.specs.Formula.{At, formula};
+ghost use Rattle.wrows.specs.Columns.{value_at};
+ghost use Rattle.wrows.specs.LaidRows.{laid};
+ghost use Rattle.wrows.specs.Laid.{formulas_seen, rows_seen};
+ghost use Rattle.wrows.specs.Picked.{picked, row_beside};
+
+use std::alloc::{AllocError, Global};
+use wplan::Expr;
+use wvalues::Value;
+
+// The place that an expression names, where it is a plain column.
+#[tactic(auto, unfolding(wplan::specs::Formula::formula))]
+fn place_of(expr: &Expr) -> Option<usize>
+    ensures { IfSome result (λ place. formula expr.now ≡ At place) }
+{
+    match expr {
+        Expr::Place(place) => Some(*place),
+        _ => None,
+    }
+}
+
+/// The places of expressions, where each is a plain column.
+pub(crate) fn places_of(alloc: Global, exprs: &[&Expr]) -> Result<Option<Vec<usize>>, AllocError>
+    ensures { IfOk result (λ found. IfSome found (λ places. formulas_seen exprs.now ≡ map At places.items)) }
+{
+    let mut places = Vec::with_capacity(alloc, exprs.len())?;
+    for expr in exprs {
+        let Some(place) = place_of(expr) else {
+            return Ok(None);
+        };
+        places.push(place)?;
+    }
+    Ok(Some(places))
+}
+
+// The cells of the row of a number, none where there is no such row.
+fn cells_at<'a>(rows: &[&'a [Value]], row: usize) -> &'a [Value]
+    ensures { map meaning result.now ≡ key_at (rows_seen rows.now) row }
+{
+    if row < rows.len() { rows[row] } else { &[] }
+}
+
+// What a column has for a row, null where that is nothing.
+fn value_or_null<'a>(column: &'a [Value], null: &'a Value, row: usize) -> &'a Value
+    requires { meaning null.now ≡ Null }
+    ensures { meaning result.now ≡ value_at (map meaning column.now) row }
+{
+    if row < column.len() {
+        &column[row]
+    } else {
+        null
+    }
+}
+
+// What the column of a number has for a row, null where that is nothing.
+fn answer_at<'a>(columns: &[&'a [Value]], null: &'a Value, row: usize, number: usize) -> &'a Value
+    requires { meaning null.now ≡ Null }
+    ensures { meaning result.now ≡ value_at (map (λ column. value_at column row) (rows_seen columns.now)) number }
+{
+    if number < columns.len() {
+        value_or_null(columns[number], null, row)
+    } else {
+        null
+    }
+}
+
+/// A row's value at a place: of its own cells, or behind them of what the columns have for it. It is null where there
+/// is none.
+pub(crate) fn value_beside<'a>(
+    rows: &[&'a [Value]],
+    columns: &[&'a [Value]],
+    null: &'a Value,
+    row: usize,
+    place: usize,
+) -> &'a Value
+    requires { meaning null.now ≡ Null }
+    ensures { meaning result.now ≡ value_at (row_beside (rows_seen rows.now) (rows_seen columns.now) row) place }
+{
+    let cells = cells_at(rows, row);
+    if place < cells.len() {
+        &cells[place]
+    } else {
+        answer_at(columns, null, row, place - cells.len())
+    }
+}
+
+// Appends a row's values at some places.
+fn push_picked(
+    rows: &[&[Value]],
+    columns: &[&[Value]],
+    null: &Value,
+    places: &[usize],
+    row: usize,
+    cells: &mut Vec<Value>,
+) -> Result<(), AllocError>
+    requires { meaning null.now ≡ Null }
+    ensures { OnOk result (map meaning cells.new.items ≡ map meaning cells.old.items ++ picked places.now (rows_seen rows.now) (rows_seen columns.now) row) }
+{
+    for place in places {
+        cells.push(value_beside(rows, columns, null, row, *place).duplicate()?)?;
+    }
+    Ok(())
+}
+
+/// The values at some places of the rows of these numbers, laid out one row after another. No other row is read.
+pub(crate) fn picked_rows(
+    alloc: Global,
+    rows: &[&[Value]],
+    columns: &[&[Value]],
+    null: &Value,
+    places: &[usize],
+    numbers: &[usize],
+) -> Result<Vec<Value>, AllocError>
+    requires { meaning null.now ≡ Null }
+    ensures rows { IfOk result (λ cells. laid (length places.now) (length numbers.now) cells.items ≡ map (picked places.now (rows_seen rows.now) (rows_seen columns.now)) numbers.now) }
+    ensures laid { IfOk result (λ cells. length cells.items ≡ length numbers.now * length places.now) }
+{
+    let mut cells = Vec::with_capacity(alloc, numbers.len().saturating_mul(places.len()))?;
+    for number in numbers {
+        push_picked(rows, columns, null, places, *number, &mut cells)?;
+    }
+    Ok(cells)
+}
