@@ -9,3 +9,4 @@ mod Maps
 mod Sets
 mod Tables
 mod BlockFacts
+mod Walks

@@ -1,12 +1,13 @@
 -- What a set lends of a name.
-use Rattle.std.specs.Prelude.{⊤, ◌≡◌, List}
+use Rattle.std.specs.Prelude.{⊤, ◌≡◌, List, map as list_map}
 use Rattle.std.specs.List.{AllByRecursion}
 use Rattle.std.specs.declared.cmp.Ordering.TheVariants.{Less}
 use Rattle.wsegment.specs.Declaration.{Declaration}
 use Rattle.std.specs.FinMap as map
 use Rattle.wvalues.specs.Names.{NameParts, name_cmp}
-use Rattle.wset.specs.Views.{Known, Live, Disputed, Retired, View}
-use Rattle.wset.specs.Sets.{IsReadBy}
+use Rattle.wsegment.specs.Rows.{Content}
+use Rattle.wset.specs.Views.{Known, Live, Disputed, Retired, View, lives}
+use Rattle.wset.specs.Sets.{DeclaredView, IsReadBy}
 use Rattle.wset.specs.declared.known.Known as lent
 use Rattle.wset.specs.declared.known.Known.TheVariants as lents
 
@@ -21,6 +22,11 @@ abbrev pub IsLentBy : Declaration → lent.Known → Type 0
 IsLentBy d (lents.Live segment) = IsReadBy d segment.now
 IsLentBy d lents.Disputed = ⊤
 IsLentBy d lents.Retired = ⊤
+
+-- these are the live names in their order, each with the segment that was read from its content
+pub record AreLivesOf (s : DeclaredView) (segments : List (NameParts × Content)) : Type 0 where
+  pub known : list_map (λ e. (e.0, e.1.bytes)) segments ≡ lives s.view
+  pub read : AllByRecursion (λ e. IsReadBy s.schema e.1) segments
 
 -- the view in which this name alone is known
 abbrev pub only_disputed : NameParts → View

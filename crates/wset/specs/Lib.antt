@@ -13,3 +13,4 @@ pub mod Marking
 pub mod Merging
 pub mod Storing
 pub mod Lending
+pub mod Walking

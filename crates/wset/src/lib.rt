@@ -21,8 +21,10 @@ mod known;
 pub mod laws;
 mod merge;
 mod set;
+mod walk;
 mod words;
 
 pub use known::Known;
 pub use set::SegmentSet;
+pub use walk::{Lives, Names};
 pub use words::{JoinError, Listed, Retired, Status, TakeError, Taken};

@@ -10,7 +10,7 @@ ghost use Rattle.wset.specs.Tables.{table_of};
 ghost use Rattle.wset.specs.Words.{retired_word, status_word, taken_word};
 ghost use Rattle.wset.specs.Listing.{listed};
 ghost use Rattle.wset.specs.Sets.{IsReadBy, LivesAreRead};
-ghost use Rattle.wset.specs.Lending.{IsLentBy, only_disputed, told_of};
+ghost use Rattle.wset.specs.Lending.{AreLivesOf, IsLentBy, only_disputed, told_of};
 ghost use Rattle.wset.specs.Holding.{IsHeldBy, known_of};
 
 use crate::blocks::{
@@ -21,6 +21,7 @@ use crate::held::Held;
 use crate::kept::Kept;
 use crate::known::Known;
 use crate::merge::{joined, teaches};
+use crate::walk::{Lives, Names};
 use crate::words::{JoinError, Listed, Retired, Status, TakeError, Taken};
 use std::alloc::{AllocError, Global};
 use std::marker::Model;
@@ -282,13 +283,20 @@ impl SegmentSet {
     }
 
     /// The i-th name from 0 that is not unknown, in the order of names, and what is known of it. It
-    /// takes no memory, and a step for each block before it.
+    /// takes no memory, and a step for each block before it; `names` walks all in one pass.
     pub fn name_at(&self, i: usize) -> (Name, Known<'_>)
         requires { i < length (map.entries self.now.view) }
         ensures known { slice_get (map.entries self.now.view) i ≡ Some (result.0, told_of result.1) }
         ensures read { IsLentBy self.now.schema result.1 }
     {
         name_in(&self.blocks, i)
+    }
+
+    /// Each name that is not unknown and what is known of it, in the order of names, in one pass.
+    pub fn names(&self) -> Names<'_>
+        ensures { result ≡ map.entries self.now.view }
+    {
+        Names::new(&self.blocks)
     }
 
     /// How many names are live.
@@ -299,13 +307,20 @@ impl SegmentSet {
     }
 
     /// The i-th live name from 0, in the order of names, and its segment, which was read by the set's
-    /// declaration. It takes a step for each block before it.
+    /// declaration. It takes a step for each block before it; `lives` walks all in one pass.
     pub fn live_at(&self, i: usize) -> (Name, &Segment)
         requires { i < length (lives self.now.view) }
         ensures known { slice_get (lives self.now.view) i ≡ Some (result.0, result.1.now.bytes) }
         ensures read { IsReadBy self.now.schema result.1.now }
     {
         live_in(&self.blocks, i)
+    }
+
+    /// Each live name and its segment, in the order of names, in one pass.
+    pub fn lives(&self) -> Lives<'_>
+        ensures { AreLivesOf self.now result }
+    {
+        Lives::new(&self.blocks)
     }
 
     /// The number of rows of the table: those of all live segments. It fits whatever the set holds,
