@@ -297,3 +297,21 @@ counted_after o es n k b known is h =
     length-put name_cmp names_total n k (known_entries es) h
     ∙ ap (λ c. cond c (length (known_entries es)) (length (known_entries es) + 1)) (ap is_some (sym known) ∙ some_same o ∙ is)
     ∙ ap (λ m. cond b m (m + 1)) (length-known_entries es)
+
+-- ---- the last name
+
+pub below_last : (es : List Entry) (i : ℕ) (d : Entry) (n : NameParts) → i < length es → AreBelow n (known_entries es) → name_cmp (get_or es i d).name n ≡ Less
+below_last [] i d n lt h = absurd (omega arith)
+below_last (e ∷ es) zero d n lt h = h.0
+below_last (e ∷ es) (suc i) d n lt h = below_last es i d n (omega arith) h.1
+
+pub below_end : (xs ys : List Entry) (n : NameParts) → AreBelow n (known_entries (xs ++ ys)) → AreBelow n (known_entries ys)
+below_end [] ys n h = h
+below_end (x ∷ xs) ys n h = below_end xs ys n h.1
+
+pub flat_last : (bs : List (List Entry)) (k : ℕ) (d : List Entry) → suc k ≡ length bs → flat bs ≡ flat (take k bs) ++ get_or bs k d
+flat_last [] k d e = absurd (omega arith)
+flat_last (b ∷ []) zero d e = append-nil b
+flat_last (b ∷ []) (suc k) d e = absurd (omega arith)
+flat_last (b ∷ c ∷ bs) zero d e = absurd (omega arith)
+flat_last (b ∷ c ∷ bs) (suc k) d e = ap (λ es. b ++ es) (flat_last (c ∷ bs) k d (omega arith)) ∙ sym (append_assoc b (flat (take k (c ∷ bs))) (get_or (c ∷ bs) k d))

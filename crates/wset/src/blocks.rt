@@ -1,5 +1,5 @@
 //! Entries in blocks of a bounded size, so that an insert moves few of them.
-ghost use Rattle.std.specs.Prelude.{◌≡◌, ◌^◌, ◌<◌, ◌≤◌, ◌++◌, List, true, false, length, map, option_map, slice_get, Some, IfSome, IfOk, OnOk, OnErr};
+ghost use Rattle.std.specs.Prelude.{◌≡◌, ◌↔◌, ◌^◌, ◌<◌, ◌≤◌, ◌++◌, IsTrue, List, true, false, length, map, option_map, slice_get, Some, IfSome, IfOk, OnOk, OnErr};
 ghost use Rattle.std.specs.List.{filter_map, sum_by};
 ghost use Rattle.std.specs.Option.{option_copied};
 ghost use Rattle.std.specs.FinMap.{find, put};
@@ -125,10 +125,11 @@ impl Block {
             → AreBelow name.now (known_entries (before ++ self.now)) }
         ensures behind { result ≡ false → (after : List HeldEntry) → IsRising (self.now ++ after)
             → AreBehind name.now (known_entries after) }
+        ensures all { AreBelow name.now (known_entries self.now) → IsTrue result }
     {
         let end = self.entries.len() - 1;
         let last = &self.entries[end];
-        last.name.cmp(name).is_lt()
+        last.is_below(name)
     }
 }
 
@@ -149,6 +150,18 @@ fn home(blocks: &[Block], name: &Name) -> usize
         }
     }
     low
+}
+
+/// Whether all names stand before the name.
+pub(crate) fn end_before(blocks: &[Block], name: &Name) -> bool
+    requires { IsRising (flat blocks.now) }
+    ensures { IsTrue result ↔ AreBelow name.now (known_entries (flat blocks.now)) }
+{
+    if blocks.is_empty() {
+        return true;
+    }
+    let last = blocks.len() - 1;
+    blocks[last].ends_before(name)
 }
 
 /// What is held of a name, if it is not unknown.

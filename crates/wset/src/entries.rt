@@ -2,6 +2,7 @@
 ghost use Rattle.std.specs.Prelude.{◌≡◌, ◌+◌, ◌*◌, ◌^◌, ◌<◌, ◌≤◌, ◌++◌, length, map, option_map, slice_get, take, Some, vec_capacity, IfSome, IfOk, IfErr, OnOk, OnErr};
 ghost use Rattle.std.specs.List.{filter_map, insert, sum_by};
 ghost use Rattle.std.specs.Option.{option_copied};
+ghost use Rattle.std.specs.Ordering.{is_lt};
 ghost use Rattle.std.specs.FinMap.{find, put};
 ghost use Rattle.wsegment.specs.Declaration.{Declaration};
 ghost use Rattle.wvalues.specs.Names.{name_cmp};
@@ -34,6 +35,13 @@ impl Entry {
             name: self.name,
             held,
         })
+    }
+
+    /// Whether it stands before the name.
+    pub(crate) fn is_below(&self, name: &Name) -> bool
+        ensures { result ≡ is_lt (name_cmp self.now.name name.now) }
+    {
+        self.name.cmp(name).is_lt()
     }
 
     /// What two sets know together of a name, of which these are the entries.

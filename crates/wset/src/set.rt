@@ -10,12 +10,12 @@ ghost use Rattle.wset.specs.Tables.{table_of};
 ghost use Rattle.wset.specs.Words.{retired_word, status_word, taken_word};
 ghost use Rattle.wset.specs.Listing.{listed};
 ghost use Rattle.wset.specs.Sets.{IsReadBy, LivesAreRead};
-ghost use Rattle.wset.specs.Lending.{AreLivesOf, IsLentBy, only_disputed, told_of};
+ghost use Rattle.wset.specs.Lending.{AreLivesOf, IsAbove, IsLentBy, only_disputed, told_of};
 ghost use Rattle.wset.specs.Holding.{IsHeldBy, known_of};
 
 use crate::blocks::{
-    Block, count_after, held_in, in_blocks, listing, live_count_in, live_in, name_in, put_in,
-    rows_in,
+    Block, count_after, end_before, held_in, in_blocks, listing, live_count_in, live_in, name_in,
+    put_in, rows_in,
 };
 use crate::held::Held;
 use crate::kept::Kept;
@@ -224,6 +224,13 @@ impl SegmentSet {
         }
     }
 
+    /// Whether the other set has the same declaration.
+    fn is_alike(&self, other: &SegmentSet) -> bool
+        ensures { IsTrue result ↔ (self.now.schema ≡ other.now.schema) }
+    {
+        self.schema.is_same(&other.schema)
+    }
+
     /// Learns all that the other set knows. Sets of different declarations are not joined; there, and
     /// where memory runs out, the set is as it was.
     ///
@@ -238,7 +245,7 @@ impl SegmentSet {
         ensures other { self.old.schema ≢ other.now.schema → result ≡ Err JoinError.OtherSchema }
         ensures err { OnErr result (self.new ≡ self.old) }
     {
-        if !self.schema.is_same(&other.schema) {
+        if !self.is_alike(other) {
             return Err(JoinError::OtherSchema);
         }
         if !teaches(&self.blocks, &other.blocks) {
@@ -297,6 +304,13 @@ impl SegmentSet {
         ensures { result ≡ map.entries self.now.view }
     {
         Names::new(&self.blocks)
+    }
+
+    /// Whether all names that are not unknown stand before the name. It takes constant time.
+    pub fn ends_before(&self, name: &Name) -> bool
+        ensures { IsTrue result ↔ IsAbove self.now.view name.now }
+    {
+        end_before(&self.blocks, name)
     }
 
     /// How many names are live.
