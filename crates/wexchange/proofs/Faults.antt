@@ -1,10 +1,7 @@
 -- The faults of a file, by what was read last.
-use Rattle.std.proofs.Common.{◌≡◌, ◌≢◌, ◌==◌, nat_eq, take, drop, take-append-drop, ℕ, ◌-◌, ◌<◌, ◌≤◌, ◌↔◌, Bool, true, false, List, [], ◌∷◌, ◌++◌, length, slice_get, Some, Err, IsOk, IsTrue, inl, inr, refl, sym, ap, ◌∙◌, subst, arith, append_assoc, append-nil, length-append}
+use Rattle.std.proofs.Common.{◌≡◌, ◌≢◌, ◌==◌, nat_eq, take, drop, take-append-drop, ℕ, ◌<◌, ◌≤◌, Bool, true, false, List, [], ◌∷◌, ◌++◌, length, Some, Err, IsOk, inl, inr, refl, sym, ap, ◌∙◌, subst, arith, append_assoc, append-nil, length-append}
 use Rattle.std.specs.List.{flat_map, starts_with, AllByRecursion}
-use Rattle.std.specs.Cmp.Lexicographic.{pointwise, bytes_decides}
-use Rattle.std.specs.Ordering.{is_lt}
-use Rattle.std.specs.declared.cmp.Ordering.{Ordering}
-use Rattle.std.specs.declared.cmp.Ordering.TheVariants.{Less, Equal, Greater}
+use Rattle.std.specs.Cmp.Lexicographic.{bytes_decides}
 use Rattle.std.specs.FinMap.{entries}
 use Rattle.std.specs.FinMap as FinMap
 use Rattle.wvalues.specs.Names.{NameParts, IsName, name_cmp}
@@ -16,7 +13,7 @@ use Rattle.wsegment.specs.declared.fault.SegmentFault.TheVariants as segments
 use Rattle.wset.specs.Views.{Known, Live, Disputed, Retired, View, join}
 use Rattle.wset.specs.Items.{SegmentItem, RetirementItem, view_of_item}
 use Rattle.wset.specs.Lending.{IsAbove, only_disputed}
-use Rattle.wset.proofs.Later.{take_later, retire_later, dispute_later, above_last, last_less}
+use Rattle.wset.proofs.Later.{take_later, retire_later, dispute_later}
 use Rattle.wexchange.specs.Forms.{IsForm, IsNumber, line_of}
 use Rattle.wexchange.specs.Cuts.{IsUnfed}
 use Rattle.wexchange.specs.Files.{head, begun, end_text, table_text, record_text, IsRecord, AreRecords}
@@ -202,17 +199,6 @@ less_left d v new rest more a = by a.entry a.rest_is
 
 -- ---- the last name
 
-is_less : (o : Ordering) → is_lt o ≡ true → o ≡ Less
-is_less Less e = refl
-is_less Equal e = cc
-is_less Greater e = cc
-
-pub above_decides : (v : View) (count : ℕ) (l n : NameParts) (k : Known) (b : Bool) → count ≡ length (entries v) → 0 < count → slice_get (entries v) (count - 1) ≡ Some (l, k) → b ≡ is_lt (name_cmp l n) → IsTrue b ↔ IsAbove v n
-above_decides v count l n k b is some last e = (
-  λ t. above_last v (count - 1) l n k (omega arith) last (is_less (name_cmp l n) (sym e ∙ t)),
-  λ a. e ∙ ap is_lt (last_less v (count - 1) l n k last a),
-)
-
 -- ---- the first line
 
 pub cut_head : (bytes : List ℕ) (a b : Bool) → a ≡ starts_with nat_eq bytes head → a ≡ false → b ≡ starts_with nat_eq head bytes → b ≡ true → IsCutHead bytes
@@ -234,16 +220,15 @@ some_left (x ∷ xs) b is left = omega arith
 
 -- ---- the declaration
 
-pub table_found : (d : Declaration) (len : ℕ) (table text after more : List ℕ) (b : Bool) → after ≡ table ++ (10 ∷ more) → length table ≡ len → text ≡ declaration_text d → b ≡ pointwise nat_eq table text → b ≡ true → line_of (forms.Table len) ++ (10 ∷ after) ≡ table_text d ++ more
-table_found d len table text after more b is size told e t =
-    let same : table ≡ declaration_text d = (bytes_decides table text).0 (sym e ∙ t) ∙ told in
+pub table_found : (d : Declaration) (len : ℕ) (table after more : List ℕ) → after ≡ table ++ (10 ∷ more) → length table ≡ len → table ≡ declaration_text d → line_of (forms.Table len) ++ (10 ∷ after) ≡ table_text d ++ more
+table_found d len table after more is size same =
     let number : len ≡ length (declaration_text d) = sym size ∙ ap length same in
     ap (λ k. line_of (forms.Table k) ++ (10 ∷ after)) number
     ∙ ap (λ l. line_of (forms.Table (length (declaration_text d))) ++ (10 ∷ l)) (is ∙ ap (λ l. l ++ (10 ∷ more)) same ∙ sym (append_assoc (declaration_text d) (10 ∷ []) more))
     ∙ sym (append_assoc (line_of (forms.Table (length (declaration_text d)))) (10 ∷ (declaration_text d ++ 10 ∷ [])) more)
 
-pub other_table : (d : Declaration) (len : ℕ) (table text after more bytes : List ℕ) (b : Bool) → after ≡ table ++ (10 ∷ more) → length table ≡ len → text ≡ declaration_text d → b ≡ pointwise nat_eq table text → b ≡ false → IsNumber len → GoesOn d AtTable bytes (line_of (forms.Table len) ++ (10 ∷ after)) → HasOtherTable d bytes
-other_table d len table text after more bytes b is size told e f number g = record {
+pub other_table : (d : Declaration) (len : ℕ) (table after more bytes : List ℕ) → after ≡ table ++ (10 ∷ more) → length table ≡ len → table ≢ declaration_text d → IsNumber len → GoesOn d AtTable bytes (line_of (forms.Table len) ++ (10 ∷ after)) → HasOtherTable d bytes
+other_table d len table after more bytes is size other number g = record {
   table = table;
   after = more;
   stands = record {
@@ -251,9 +236,7 @@ other_table d len table text after more bytes b is size told e f number g = reco
     follows = tt;
     goes_on = record { good = tt; bytes_are = g.bytes_are ∙ ap (λ k. head ++ (line_of (forms.Table k) ++ (10 ∷ after))) (sym size) ∙ ap (λ l. head ++ (line_of (forms.Table (length table)) ++ (10 ∷ l))) is };
   };
-  other = λ same.
-      let u : true ≡ false = sym ((bytes_decides table text).1 (same ∙ sym told)) ∙ sym e ∙ f in
-      cc;
+  other = other;
 }
 
 -- ---- what a good file goes on with, behind what was read

@@ -1,9 +1,9 @@
 //! Reads exchange files.
-ghost use Rattle.std.specs.Prelude.{◌≡◌, ◌<◌, ℕ, List, [], ◌∷◌, ◌++◌, IfOk, IfErr, OnOk, IsTrue, ◌↔◌, length};
+ghost use Rattle.std.specs.Prelude.{◌≡◌, ◌≢◌, ◌<◌, ℕ, List, [], ◌∷◌, ◌++◌, IfOk, IfErr, OnOk, length};
 ghost use Rattle.std.specs.FinMap as map;
 ghost use Rattle.wvalues.specs.Names.{IsName};
 ghost use Rattle.wsegment.specs.Declaration.{Declaration, declaration_text};
-ghost use Rattle.wset.specs.Lending.{IsAbove};
+ghost use Rattle.wexchange.specs.declared.fault.FileFault.TheVariants.{OtherSchema};
 ghost use Rattle.wexchange.specs.Forms.{IsForm, IsNumber, line_of};
 ghost use Rattle.wexchange.specs.Files.{head, begun, table_text, end_text, AreRecords};
 ghost use Rattle.wexchange.specs.Judging.{GoesOn, AtTable, Behind, IsFault, IsFileOf};
@@ -56,6 +56,17 @@ fn read_table_line(rest: &[u8]) -> Result<(u32, &[u8]), FileFault>
     }
 }
 
+// What stands behind a declaration, if it is that of the table.
+fn behind_same<'a>(schema: &Schema, table: &[u8], more: &'a [u8]) -> Result<&'a [u8], FileFault>
+    ensures found { IfOk result (λ rest. (table.now ≡ declaration_text schema.now) × (rest.now ≡ more.now)) }
+    ensures fault { IfErr result (λ fault. (fault ≡ OtherSchema) × (table.now ≢ declaration_text schema.now)) }
+{
+    if table == schema.text() {
+        return Ok(more);
+    }
+    Err(FileFault::OtherSchema)
+}
+
 // What stands behind the declaration of the table, whose line was read.
 fn table_behind<'a>(schema: &Schema, len: u32, after: &'a [u8]) -> Result<&'a [u8], FileFault>
     requires { IsNumber len }
@@ -63,13 +74,7 @@ fn table_behind<'a>(schema: &Schema, len: u32, after: &'a [u8]) -> Result<&'a [u
     ensures fault { IfErr result (λ fault. (bytes : List ℕ) → GoesOn schema.now AtTable bytes (line_of (Form.Table len) ++ (10 ∷ after.now)) → IsFault schema.now bytes fault) }
 {
     match cut_body(after, len) {
-        Body::Whole(table, more) => {
-            if table == schema.text() {
-                Ok(more)
-            } else {
-                Err(FileFault::OtherSchema)
-            }
-        }
+        Body::Whole(table, more) => behind_same(schema, table, more),
         Body::Short => Err(FileFault::Truncated),
         Body::Unfed => Err(FileFault::OtherFormat),
     }
@@ -84,18 +89,6 @@ fn read_table<'a>(schema: &Schema, rest: &'a [u8]) -> Result<&'a [u8], FileFault
         Ok((len, after)) => table_behind(schema, len, after),
         Err(fault) => Err(fault),
     }
-}
-
-// Whether a name is greater than all that a set knows.
-fn is_above(set: &SegmentSet, name: &Name) -> bool
-    ensures { IsTrue result ↔ IsAbove set.now.view name.now }
-{
-    let count = set.name_count();
-    if count == 0 {
-        return true;
-    }
-    let (last, _) = set.name_at(count - 1);
-    last.cmp(name).is_lt()
 }
 
 // The fault of a file with a content that is refused.
@@ -123,7 +116,7 @@ fn add_content<'a>(
     ensures schema { OnOk result (set.new.schema ≡ set.old.schema) }
     ensures fault { IfErr result (λ fault. Spoils set.old.schema set.old.view (line_of (Form.Content name len) ++ (10 ∷ after.now)) fault) }
 {
-    if !is_above(set, &name) {
+    if !set.ends_before(&name) {
         return Err(FileFault::NotRising);
     }
     match cut_body(after, len) {
@@ -143,7 +136,7 @@ fn add_dispute<'a>(set: &mut SegmentSet, name: Name, after: &'a [u8]) -> Result<
     ensures schema { OnOk result (set.new.schema ≡ set.old.schema) }
     ensures fault { IfErr result (λ fault. Spoils set.old.schema set.old.view (line_of (Form.Dispute name) ++ (10 ∷ after.now)) fault) }
 {
-    if !is_above(set, &name) {
+    if !set.ends_before(&name) {
         return Err(FileFault::NotRising);
     }
     match set.dispute(name) {
@@ -163,7 +156,7 @@ fn add_retirement<'a>(
     ensures schema { OnOk result (set.new.schema ≡ set.old.schema) }
     ensures fault { IfErr result (λ fault. Spoils set.old.schema set.old.view (line_of (Form.Retirement name) ++ (10 ∷ after.now)) fault) }
 {
-    if !is_above(set, &name) {
+    if !set.ends_before(&name) {
         return Err(FileFault::NotRising);
     }
     match set.retire(name) {
@@ -243,9 +236,7 @@ fn read_records(set: SegmentSet, known: &SegmentSet, rest: &[u8]) -> Result<Segm
     let mut rest = rest;
     'records: loop {
         match read_next(&mut set, known, rest) {
-            Ok(Next::Record(more)) => {
-                rest = more;
-            }
+            Ok(Next::Record(more)) => rest = more,
             Ok(Next::End(count, more)) => return ended(set, count, more),
             Err(fault) => return Err(fault),
         }

@@ -109,8 +109,7 @@ fn write_records<W: Write>(set: &SegmentSet, output: &mut Counted<W>) -> Result<
     ensures front { OnErr result (AppendsFront (W.contents output.old.inner) (W.contents output.new.inner) (flat_map record_text (map.entries set.now.view))) }
     ensures failed { OnErr result (output.new.failures ≡ 1) }
 {
-    'names: for i in 0..set.name_count() {
-        let (name, known) = set.name_at(i);
+    'names: for (name, known) in set.names() {
         if let Err(fault) = write_record(output, &name, known) {
             return Err(fault);
         }
