@@ -2,3 +2,5 @@ pub mod Formula
 pub mod Values
 pub mod Cells
 pub mod Plans
+pub mod Sameness
+pub mod Leaves

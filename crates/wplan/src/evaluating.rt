@@ -5,14 +5,14 @@ ghost use Rattle.std.specs.Rc.{rc_str_bytes};
 ghost use Rattle.wvalues.specs.Meaning.{meaning, Null, Text};
 ghost use Rattle.wvalues.specs.declared.truth.Truth.TheVariants.{No};
 ghost use Rattle.wplan.specs.Formula.{formula, formulas, operand_of};
-ghost use Rattle.wplan.specs.Values.{Outcome, value_of, value_along, is_among, value_in, Held, Judged, after, apply, turned, truth_of};
+ghost use Rattle.wplan.specs.Values.{Outcome, value_of, value_along, is_among, value_in, Held, Judged, after, apply, compared, turned, truth_of};
 ghost use Rattle.wplan.specs.Cells.{outcome, Gives, GivesTruth};
 
 use crate::cell::{Cell, EvalFault};
 use crate::expr::{Expr, Further};
 use crate::leaves::compared_in_place;
 use crate::operating::{
-    applied, between_truth, cells_compared, null_truth, signed_cell, turned_truth,
+    applied, between_truth, cells_compared, negated_cell, null_cell, signed_cell, turned_truth,
 };
 use std::rc::RcStr;
 use wquery::Comparison;
@@ -56,31 +56,18 @@ pub fn eval(e: &Expr, row: &[Value]) -> Result<Cell, EvalFault>
         Expr::Number(n) => Ok(Cell::Value(Value::Int(*n))),
         Expr::Text(text) => shared(text),
         Expr::Place(place) => at(row, *place),
-        Expr::Not(operand) => {
-            let x = eval(operand, row)?;
-            Ok(Cell::Truth(x.truth().not()))
-        }
-        Expr::Sign { minus, operand } => {
-            let x = eval(operand, row)?;
-            Ok(signed_cell(*minus, &x))
-        }
+        Expr::Not(operand) => Ok(negated_cell(&eval(operand, row)?)),
+        Expr::Sign { minus, operand } => Ok(signed_cell(*minus, &eval(operand, row)?)),
         Expr::Chain { first, links } => eval_chain(eval(first, row), links.as_slice(), row),
         Expr::Compare {
             comparison,
             left,
             right,
-        } => {
-            if let Some(truth) = compared_in_place(*comparison, left, right, row) {
-                return Ok(Cell::Truth(truth));
-            }
-            let x = eval(left, row)?;
-            let y = eval(right, row)?;
-            Ok(Cell::Truth(cells_compared(*comparison, &x, &y)))
-        }
-        Expr::IsNull { negated, operand } => {
-            let x = eval(operand, row)?;
-            Ok(Cell::Truth(turned_truth(*negated, null_truth(&x))))
-        }
+        } => match compared_in_place(*comparison, left, right, row) {
+            Some(truth) => Ok(Cell::Truth(truth)),
+            None => eval_compare(&eval(left, row)?, *comparison, right, row),
+        },
+        Expr::IsNull { negated, operand } => Ok(null_cell(*negated, &eval(operand, row)?)),
         Expr::Between {
             negated,
             operand,
@@ -96,11 +83,22 @@ pub fn eval(e: &Expr, row: &[Value]) -> Result<Cell, EvalFault>
             negated,
             operand,
             list,
-        } => {
-            let x = eval(operand, row)?;
-            eval_in(*negated, &x, list.as_slice(), row)
-        }
+        } => eval_in(*negated, &eval(operand, row)?, list.as_slice(), row),
     }
+}
+
+// How a value compares with that of an expression.
+#[cycle(eval)]
+fn eval_compare(
+    x: &Cell,
+    comparison: Comparison,
+    right: &Expr,
+    row: &[Value],
+) -> Result<Cell, EvalFault>
+    ensures { Gives result (after (value_of (map meaning row.now) (formula right.now)) (λ y. Judged (compared comparison (value_in (outcome x.now)) (value_in y)))) }
+{
+    let y = eval(right, row)?;
+    Ok(Cell::Truth(cells_compared(comparison, x, &y)))
 }
 
 // A chain of which the first operand gave this.
@@ -126,9 +124,7 @@ fn eval_links(first: Cell, links: &[Further], row: &[Value]) -> Result<Cell, Eva
     'links: for link in links {
         match eval_link(&so_far, link, row) {
             Err(f) => return Err(f),
-            Ok(next) => {
-                so_far = next;
-            }
+            Ok(next) => so_far = next,
         }
     }
     Ok(so_far)

@@ -1,8 +1,11 @@
 //! Comparisons of values that are looked at where they lie.
 
-ghost use Rattle.std.specs.Prelude.{◌≡◌, IfSome, get_or, map};
+ghost use Rattle.std.specs.Prelude.{◌≡◌, ◌&&◌, IfSome, get_or, length, map};
+ghost use Rattle.std.specs.Option.{is_some};
 ghost use Rattle.wvalues.specs.Meaning.{meaning, Null};
+ghost use Rattle.wplan.specs.declared.expr.Expr.{out-Expr};
 ghost use Rattle.wplan.specs.Formula.{formula, Compared};
+ghost use Rattle.wplan.specs.Leaves.{is_leaf, is_place_below};
 ghost use Rattle.wplan.specs.Values.{Held, Judged, order_of, value_in, value_of};
 
 use crate::expr::Expr;
@@ -25,6 +28,7 @@ fn order_with_place(x: &Value, row: &[Value], place: usize) -> Option<Ordering>
 // How a value stands to that of an expression, where this is a value by itself or one at a place.
 #[tactic(auto, unfolding(crate::specs::Formula::formula))]
 fn order_with_leaf(x: &Value, e: &Expr, row: &[Value]) -> Option<Option<Ordering>>
+    ensures found { is_some result ≡ is_leaf (out-Expr e.now) }
     ensures held { IfSome result (λ o. value_of (map meaning row.now) (formula e.now) ≡ Held (value_in (value_of (map meaning row.now) (formula e.now)))) }
     ensures order { IfSome result (λ o. o ≡ order_of (meaning x.now) (value_in (value_of (map meaning row.now) (formula e.now)))) }
 {
@@ -52,7 +56,8 @@ pub(crate) fn compared_in_place(
     right: &Expr,
     row: &[Value],
 ) -> Option<Truth>
-    ensures { IfSome result (λ t. value_of (map meaning row.now) (Compared comparison (formula left.now) (formula right.now)) ≡ Judged t) }
+    ensures found { is_some result ≡ (is_place_below (length row.now) (out-Expr left.now) && is_leaf (out-Expr right.now)) }
+    ensures truth { IfSome result (λ t. value_of (map meaning row.now) (Compared comparison (formula left.now) (formula right.now)) ≡ Judged t) }
 {
     let Expr::Place(place) = left else {
         return None;

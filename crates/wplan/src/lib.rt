@@ -6,7 +6,8 @@
 //! - Asks: nothing. A place that a row lacks is null, and a value of the wrong type is null or unknown.
 //! - Leaves: resolving to `wresolve`, the meaning of a whole query to `wplanner`.
 //!
-//! Read `specs/Formula.antt`, `specs/Values.antt` and `specs/Cells.antt`, then `specs/Plans.antt`.
+//! Read `specs/Formula.antt`, `specs/Values.antt` and `specs/Cells.antt`, then `specs/Plans.antt`, `specs/Sameness.antt`
+//! and `specs/Leaves.antt`.
 #![tactic(auto)]
 
 mod cell;

@@ -2,7 +2,8 @@
 
 ghost use Rattle.std.specs.Prelude.{◌≡◌, ◌+ℤ◌, ◌-ℤ◌, ◌*ℤ◌};
 ghost use Rattle.wvalues.specs.Meaning.{meaning};
-ghost use Rattle.wplan.specs.Values.{ranged, on_numbers, apply, order_of, meets, judged, compared, turned, is_null, between, signed, value_in, truth_of};
+ghost use Rattle.wvalues.specs.Truth.{opposite};
+ghost use Rattle.wplan.specs.Values.{Judged, ranged, on_numbers, apply, order_of, meets, judged, compared, turned, is_null, between, signed, value_in, truth_of};
 ghost use Rattle.wplan.specs.Cells.{outcome, Gives};
 
 use crate::cell::{Cell, EvalFault};
@@ -112,14 +113,28 @@ pub(crate) fn turned_truth(negated: bool, truth: Truth) -> Truth
     if negated { truth.not() } else { truth }
 }
 
-/// IS NULL.
-pub(crate) fn null_truth(x: &Cell) -> Truth
+// Whether it is null, as an unknown truth is.
+fn null_truth(x: &Cell) -> Truth
     ensures { result ≡ is_null (outcome x.now) }
 {
     match x {
         Cell::Value(Value::Null) | Cell::Truth(Truth::Unknown) => Truth::Yes,
         _ => Truth::No,
     }
+}
+
+/// IS NULL, or IS NOT NULL.
+pub(crate) fn null_cell(negated: bool, x: &Cell) -> Cell
+    ensures { outcome result ≡ Judged (turned negated (is_null (outcome x.now))) }
+{
+    Cell::Truth(turned_truth(negated, null_truth(x)))
+}
+
+/// NOT.
+pub(crate) fn negated_cell(x: &Cell) -> Cell
+    ensures { outcome result ≡ Judged (opposite (truth_of (outcome x.now))) }
+{
+    Cell::Truth(x.truth().not())
 }
 
 /// BETWEEN.

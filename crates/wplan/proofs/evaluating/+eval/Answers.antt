@@ -8,9 +8,9 @@ pub eval-returns-in-Chain : goal.eval-returns-in-Chain
 eval-returns-in-Chain t c =
     chain_gives (map meaning c.args.row.now) c.args.e.now c.deref-in-Chain.result.now c.in-Chain.first c.in-Chain.links c.as_slice.result.now c.eval_chain.result c.in-Chain.is c.deref-in-Chain.ensures c.as_slice.ensures.value (c.eval_chain.ensures _ c.eval-in-Chain.ensures)
 
-pub eval-returns-in_ok-x-in-In : goal.eval-returns-in_ok-x-in-In
-eval-returns-in_ok-x-in-In t c =
-    in_gives (map meaning c.args.row.now) c.args.e.now c.deref-in-In.result.now c.in-In.negated c.in-In.operand c.in-In.list c.as_slice-in-In.result.now c.in_ok-x-in-In.x c.eval_in.result c.in-In.is c.deref-in-In.ensures c.as_slice-in-In.ensures.value c.in_ok-x-in-In.ensures c.eval_in.ensures
+pub eval-returns-in_ok-eval-in-In : goal.eval-returns-in_ok-eval-in-In
+eval-returns-in_ok-eval-in-In t c =
+    in_gives (map meaning c.args.row.now) c.args.e.now c.deref-in-In.result.now c.in-In.negated c.in-In.operand c.in-In.list c.as_slice-in-In.result.now c.in_ok-eval-in-In.field-0 c.eval_in.result c.in-In.is c.deref-in-In.ensures c.as_slice-in-In.ensures.value c.in_ok-eval-in-In.ensures c.eval_in.ensures
 
 pub eval_chain-returns-in-Err : goal.eval_chain-returns-in-Err
 eval_chain-returns-in-Err t c = λ o h. first_err (map meaning c.args.row.now) c.in-Err.f (map operand_of c.args.links.now) o c.args.first c.in-Err.is h

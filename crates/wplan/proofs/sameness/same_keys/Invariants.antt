@@ -1,6 +1,12 @@
-use Rattle.std.proofs.Common.{◌≡◌, map, take}
+use Rattle.std.proofs.Common.{◌≡◌, map, take, drop}
+use Rattle.std.specs.Cmp.Lexicographic.{pointwise}
 use Rattle.wplan.specs.Plans.{key_plan}
+use Rattle.wplan.specs.Sameness.{is_same_key}
 use Rattle.wplan.proofs.sameness.same_keys.Given as goal
 
-abbrev pub invariant-loop-place : goal.invariant-loop-place
-invariant-loop-place l = map key_plan (take l.place l.a) ≡ map key_plan (take l.place l.b)
+abbrev pub invariant-keys : goal.invariant-keys
+invariant-keys l = record {
+  place : l.place ≡ l.key-index;
+  exact : pointwise is_same_key l.others l.keys ≡ pointwise is_same_key (drop l.key-index l.others) (drop l.key-index l.keys);
+  alike : map key_plan (take l.key-index l.others) ≡ map key_plan (take l.key-index l.keys);
+}
