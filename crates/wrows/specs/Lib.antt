@@ -9,3 +9,5 @@ pub mod CodedRows
 pub mod Told
 pub mod Ranks
 pub mod Picked
+pub mod PlainColumns
+pub mod Bases

@@ -1,12 +1,16 @@
 //! Values at places of rows, read where they lie.
 ghost use Rattle.std.specs.Prelude.{◌≡◌, ◌*◌, ◌++◌, IfOk, IfSome, OnOk, length, map};
+ghost use Rattle.std.specs.List.{list_all};
+ghost use Rattle.std.specs.Option.{is_some};
 ghost use Rattle.wvalues.specs.Meaning.{meaning, Null};
 ghost use Rattle.wframe.specs.Peers.{key_at};
+ghost use Rattle.wplan.specs.declared.expr.Expr.{out-Expr};
 ghost use Rattle.wplan.specs.Formula.{At, formula};
 ghost use Rattle.wrows.specs.Columns.{value_at};
 ghost use Rattle.wrows.specs.LaidRows.{laid};
 ghost use Rattle.wrows.specs.Laid.{formulas_seen, rows_seen};
 ghost use Rattle.wrows.specs.Picked.{picked, row_beside};
+ghost use Rattle.wrows.specs.PlainColumns.{is_plain, plain_place};
 
 use std::alloc::{AllocError, Global};
 use wplan::Expr;
@@ -15,7 +19,8 @@ use wvalues::Value;
 // The place that an expression names, where it is a plain column.
 #[tactic(auto, unfolding(wplan::specs::Formula::formula))]
 fn place_of(expr: &Expr) -> Option<usize>
-    ensures { IfSome result (λ place. formula expr.now ≡ At place) }
+    ensures found { result ≡ plain_place (out-Expr expr.now) }
+    ensures formula { IfSome result (λ place. formula expr.now ≡ At place) }
 {
     match expr {
         Expr::Place(place) => Some(*place),
@@ -25,7 +30,8 @@ fn place_of(expr: &Expr) -> Option<usize>
 
 /// The places of expressions, where each is a plain column.
 pub(crate) fn places_of(alloc: Global, exprs: &[&Expr]) -> Result<Option<Vec<usize>>, AllocError>
-    ensures { IfOk result (λ found. IfSome found (λ places. formulas_seen exprs.now ≡ map At places.items)) }
+    ensures found { IfOk result (λ found. is_some found ≡ list_all is_plain exprs.now) }
+    ensures places { IfOk result (λ found. IfSome found (λ places. formulas_seen exprs.now ≡ map At places.items)) }
 {
     let mut places = Vec::with_capacity(alloc, exprs.len())?;
     for expr in exprs {
