@@ -5,6 +5,7 @@ ghost use Rattle.wframe.specs.KeyRows.{key_lists, sort_keys};
 ghost use Rattle.wframe.specs.Offsets.{has_range_offset};
 ghost use Rattle.wframe.specs.Peers.{key_at};
 ghost use Rattle.wplan.specs.Plans.{window_plan};
+ghost use Rattle.wplan.specs.Sameness.{is_same_order};
 ghost use Rattle.wrows.specs.Columns.{Row};
 ghost use Rattle.wrows.specs.LaidRows.{laid};
 ghost use Rattle.wrows.specs.Laid.{rows_seen};
@@ -112,7 +113,8 @@ impl WindowOrder {
 /// they are written.
 #[tactic(auto, using(crate::proofs::WindowedFacts::shared_order))]
 pub fn share_order(a: &SettledWindow, b: &SettledWindow) -> bool
-    ensures { (rows : List Row) → result ≡ true → ordered_rows rows (window_plan a.now) ≡ ordered_rows rows (window_plan b.now) }
+    ensures exact { result ≡ is_same_order a.now b.now }
+    ensures order { (rows : List Row) → result ≡ true → ordered_rows rows (window_plan a.now) ≡ ordered_rows rows (window_plan b.now) }
 {
     same_order(a, b)
 }
