@@ -1,11 +1,11 @@
 -- What `choose` makes of a parse of the command set.
-use Rattle.std.proofs.Common.{◌≡◌, ◌∙◌, ◌≢◌, ◌⊎◌, ⊎_elim, inl, inr, Bool, true, false, refl, sym, ap, ap₂, subst, true≢false, List, [], Option, Some, None, option_map}
+use Rattle.std.proofs.Common.{◌≡◌, ◌∙◌, ◌⊎◌, ⊎_elim, inl, inr, Bool, true, false, refl, sym, ap, subst, true≢false, List, [], Option, Some, None, option_map}
 use Rattle.clap.specs.Words.{App, HasKind, HasMatchesOf, IsAmong, Row, Text, fault_of, is_simple, is_simple_and_free, kind_of, subcommand_of, subcommand_rows_of, takes}
 use Rattle.clap.specs.declared.error.ErrorKind.{ErrorKind}
 use Rattle.clap.specs.declared.error.ErrorKind.TheVariants as kinds
 use Rattle.clap.proofs.OnLiterals.{clap_on_literals}
 use Rattle.wcommand.specs.CommandSet.{command_set}
-use Rattle.wcommand.specs.Choices.{IsShown, IsTold}
+use Rattle.wcommand.specs.Choices.{IsTold}
 use Rattle.wcommand.specs.Required.{IsWhole}
 use Rattle.wcommand.specs.declared.fault.WordsFault.{WordsFault}
 use Rattle.wcommand.specs.declared.fault.WordsFault.TheVariants as faults

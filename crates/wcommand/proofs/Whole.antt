@@ -1,18 +1,18 @@
 -- Where nothing is wrong with the words, the subcommand that they name has all its options and positionals.
-use Rattle.std.proofs.Common.{◌≡◌, ◌∙◌, ◌&&◌, ◌||◌, ℕ, Bool, cond, true, false, not, refl, sym, ap, subst, List, [], ◌∷◌, map, fold, find, Option, Some, None, is_some, IsSomeAnd, true≢false, codes, bytes_eq, Decides}
+use Rattle.std.proofs.Common.{◌≡◌, ◌&&◌, ◌||◌, ℕ, Bool, cond, true, false, not, refl, sym, subst, List, [], ◌∷◌, fold, find, Option, Some, None, is_some, true≢false, codes, bytes_eq}
 use Rattle.std.specs.Prelude.{⊤}
-use Rattle.std.specs.List.{list_all, list_any}
+use Rattle.std.specs.List.{list_all}
 use Rattle.std.specs.Option.{option_map_or, option_map}
 use Rattle.std.proofs.lemmas.Slice.Eq.{bytes_eq-Decides}
 use Rattle.clap.specs.Lexer.{long_of, short_of}
-use Rattle.clap.specs.Walk.{Held, Names, Outcome, Row, Rule, Step, Text, Waiting, Walk, after_flag, after_step, answers_to, arg_by_id, arg_by_index, arg_by_long, bundle, done, idle, long_met, long_or_other, next, nothing_held, option, option_word, plain, plain_word, positional, refused, rows_after, short_or_plain, subcommand, subcommand_met, subcommand_or_other, to_positional, trailing, value, waits, walk, walk_from, walked, walked_from, word_met}
-use Rattle.clap.specs.Simple.{App, Shape, argument_words, built, entered, label_of, names_of, rows_at, subcommand_of}
-use Rattle.clap.specs.Kinds.{Kinds, or_else}
+use Rattle.clap.specs.Walk.{Held, Names, Outcome, Row, Rule, Step, Text, Waiting, Walk, after_flag, after_step, answers_to, arg_by_index, done, idle, long_or_other, next, nothing_held, option, plain, plain_word, positional, refused, rows_after, short_or_plain, subcommand, subcommand_met, subcommand_or_other, to_positional, trailing, value, waits, walk, walk_from, walked, walked_from, word_met}
+use Rattle.clap.specs.Simple.{Shape, argument_words, built, entered, label_of, names_of, rows_at, subcommand_of}
+use Rattle.clap.specs.Kinds.{or_else}
 use Rattle.clap.specs.Faults.{entered_fault, fault_of, level_fault, other_fault, step_fault, turn_fault, walk_fault, word_fault}
 use Rattle.clap.specs.declared.error.ErrorKind.TheVariants.{DisplayHelp, InvalidSubcommand}
 use Rattle.wcommand.specs.CommandSet.{command_set}
-use Rattle.wcommand.specs.Required.{IsWhole, have_values, required_names}
-use Rattle.wcommand.proofs.Filled.{cons_nil, found_passes, has_required, is_good, level_values, nil_both, none_some, some_is}
+use Rattle.wcommand.specs.Required.{IsWhole}
+use Rattle.wcommand.proofs.Filled.{cons_nil, has_required, is_good, level_values, nil_both, none_some, some_is}
 
 -- ---- a walk with nothing wrong stops at no `help`
 

@@ -1,6 +1,6 @@
 -- The command set of the program, as `clap`'s written meaning of a parse sees it ("Simple commands" of that crate's
 -- definitions). What building adds (`--help`, `--version`, `help`, a positional's place) is `clap`'s own.
-use Rattle.std.specs.Prelude.{true, false, List, [], ◌∷◌, ◌++◌, Some, codes}
+use Rattle.std.specs.Prelude.{true, false, List, [], ◌∷◌, Some, codes}
 use Rattle.clap.specs.Words.{App, Rule, Shape, Text, new_rule}
 use Rattle.clap.specs.Simple.{new_shape}
 

@@ -1,4 +1,4 @@
-use Rattle.std.proofs.Common.{rules, subst, sym}
+use Rattle.std.proofs.Common.{subst, sym}
 use Rattle.wcommand.specs.Required.{IsWhole}
 use Rattle.wcommand.proofs.Telling.{name_and_rows}
 use Rattle.wcommand.proofs.values.choice_of.Goals as goal
