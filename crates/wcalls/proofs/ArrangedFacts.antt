@@ -1,15 +1,14 @@
 -- What a call answers for the rows of each partition is what it answers for each row.
-use Rattle.std.proofs.Common.{◌≡◌, ◌≢◌, ℕ, zero, suc, set, ◌+◌, ◌-◌, ◌<◌, ◌≤◌, ◌==◌, ◌||◌, ◌++◌, nat_le, nat_lt, Bool, true, false, cond, List, [], ◌∷◌, length, map, filter, take, drop, get_or, Option, None, Result, Ok, Err, Ordering, is_gt, refl, sym, ap, ◌∙◌, arith, length-take-le, length-drop, length-append, take_at, take-append-drop, subst}
-use Rattle.std.specs.Prelude.{min, slice_range, unwrap_or}
+use Rattle.std.proofs.Common.{◌≡◌, ℕ, zero, suc, ◌+◌, ◌-◌, ◌<◌, ◌≤◌, ◌==◌, ◌||◌, ◌++◌, nat_le, nat_lt, Bool, true, false, cond, List, [], ◌∷◌, length, map, filter, take, drop, get_or, Option, Ok, Err, Ordering, is_gt, refl, sym, ap, ◌∙◌, arith, length-take-le, length-drop, length-append, take-append-drop, subst}
+use Rattle.std.specs.Prelude.{min, slice_range}
 use Rattle.std.specs.List.{All, AllByRecursion, flat_map, list_any}
 use Rattle.std.specs.Option.{is_none}
 use Rattle.std.proofs.lemmas.Bool.Decides.{nat_tests}
-use Rattle.std.proofs.lemmas.List.{length-map, map-append, get_or-map, map-set, get_or-set_same, get_or-set_other, get_or-take, get_or-append_right, take-take, length-take, drop-drop}
+use Rattle.std.proofs.lemmas.List.{length-map, map-append, length-take, drop-drop}
 use Rattle.std.proofs.Math.ListN.{drop_of_length-le}
 use Rattle.std.proofs.lemmas.List.Elements.{All-get_or, All-from_recursion, All-same, recursion_from_All}
 use Rattle.wvalues.specs.declared.key.SortKey.{SortKey}
-use Rattle.wvalues.specs.declared.value.Value.{Value}
-use Rattle.wvalues.specs.Meaning.{Meaning, Null, meaning}
+use Rattle.wvalues.specs.Meaning.{Meaning}
 use Rattle.wvalues.specs.Order.{keys_cmp}
 use Rattle.wframe.specs.declared.frame.Frame.{Frame}
 use Rattle.wframe.specs.declared.frame.Span.{Span}
@@ -20,17 +19,17 @@ use Rattle.wframe.specs.Places.{places_from, places, span_at, is_in_span, Tiles}
 use Rattle.wframe.specs.Partition.{Partition, Partitioned, partition_of}
 use Rattle.wframe.specs.Partitions.{IsPartition}
 use Rattle.wrows.specs.declared.fault.AnswerFault.{AnswerFault}
-use Rattle.wrows.specs.declared.fault.AnswerFault.TheVariants.{OutOfRange, TooManyRows, NoMemory}
+use Rattle.wrows.specs.declared.fault.AnswerFault.TheVariants.{OutOfRange}
 use Rattle.wrows.specs.Outcomes.{Gives, unless}
 use Rattle.wrows.specs.Columns.{in_range}
 use Rattle.wframe.specs.Sorting.{inserted, sorted}
 use Rattle.wcalls.specs.Windows.{Windowed, partition_rows, partition_at, place_at}
 use Rattle.wcalls.specs.Calls.{each_row}
-use Rattle.wcalls.specs.Arranged.{window_cmp, IsArranged, Answer, partition_answers, window_answers, answer_on, answer_values, HasEachOnce}
+use Rattle.wcalls.specs.Arranged.{window_cmp, IsArranged, Answer, partition_answers, window_answers, answer_on, answer_values, answered, HasEachOnce}
 use Rattle.wrows.proofs.SortFacts as sorts
 use Rattle.wcalls.proofs.FilterFacts.{filter_sorted}
-use Rattle.wrows.proofs.RowFacts.{map-map, map-taken, map-dropped, length-places, places_below}
-use Rattle.wcalls.proofs.WindowFacts.{whole_total, at_places, all_places, span_rows}
+use Rattle.wrows.proofs.RowFacts.{map-map, refused, map-taken, map-dropped, length-places, places_below}
+use Rattle.wcalls.proofs.WindowFacts.{whole_total, at_places, span_rows}
 use Rattle.wcalls.proofs.PlaceFacts.{once_from, place_in_span}
 
 -- two functions that agree on two runs of places
@@ -49,7 +48,7 @@ in_span s i l h =
     rw (a, b) refl
 
 -- a slice, and what comes behind it
-slice_on : {X : Type 0} (xs : List X) (from to : ℕ) → from ≤ to → slice_range xs from to ++ drop to xs ≡ drop from xs
+pub slice_on : {X : Type 0} (xs : List X) (from to : ℕ) → from ≤ to → slice_range xs from to ++ drop to xs ≡ drop from xs
 slice_on xs from to h =
     let e : to ≡ from + (to - from) = omega arith in
     ap (λ n. slice_range xs from to ++ drop n xs) e
@@ -200,115 +199,20 @@ any_mapped : {X Y : Type 0} (p : Y → Bool) (f : X → Y) (xs : List X) → lis
 any_mapped p f [] = refl
 any_mapped p f (x ∷ xs) = ap (λ b. p (f x) || b) (any_mapped p f xs)
 
-any_of_rows : (w : Windowed) (rows : List ℕ) (all : Partitioned) (of : ℕ → Option Meaning) → IsArranged w rows all → list_any is_none (map of rows) ≡ list_any is_none (each_row w of)
+pub any_of_rows : (w : Windowed) (rows : List ℕ) (all : Partitioned) (of : ℕ → Option Meaning) → IsArranged w rows all → list_any is_none (map of rows) ≡ list_any is_none (each_row w of)
 any_of_rows w rows all of arranged =
     any_mapped is_none of rows
     ∙ ap (list_any (λ i. is_none (of i))) arranged.sorted
     ∙ any_sorted (window_cmp w) (λ i. is_none (of i)) (places (length w.values))
     ∙ sym (any_mapped is_none of (places (length w.values)))
 
--- where a number stands in a list
-pub stands_at : (i : ℕ) (xs : List ℕ) → filter (λ k. k == i) xs ≡ i ∷ [] → (j : ℕ) × (j < length xs) × (get_or xs j 0 ≡ i)
-stands_at i [] e = absurd (cc)
-stands_at i (x ∷ xs) e = go (x == i) refl e (stands_at i xs)
-  where
-    go : (b : Bool) → (x == i) ≡ b → cond b (x ∷ filter (λ k. k == i) xs) (filter (λ k. k == i) xs) ≡ i ∷ [] → (filter (λ k. k == i) xs ≡ i ∷ [] → (j : ℕ) × (j < length xs) × (get_or xs j 0 ≡ i))
-        → (j : ℕ) × (j < suc (length xs)) × (get_or (x ∷ xs) j 0 ≡ i)
-    go true f e more = let same : x ≡ i = grind (arith, nat_tests) in (0, omega arith, same)
-    go false f e more = let r = more e in let h = r.1 in (suc (r.0), omega (arith, h), r.2)
-
--- a column that has for each row of a list what is meant there has it for each number
-pub by_each : (of : ℕ → Meaning) (rows : List ℕ) (column : List Meaning) → HasEachOnce (length rows) rows → length column ≡ length rows
-    → ((j : ℕ) → j < length rows → get_or column (get_or rows j 0) Null ≡ of (get_or rows j 0)) → column ≡ map of (places (length rows))
-by_each of rows column once long each =
-    sym (all_places Null column)
-    ∙ ap (λ n. map (λ j. get_or column j Null) (places n)) long
-    ∙ pointwise (λ j. get_or column j Null) of 0 0 (length rows) (λ j l. let z : 0 + j ≡ j = omega arith in ap (λ k. get_or column k Null) z ∙ at j (omega arith) ∙ sym (ap of z))
-  where
-    at : (i : ℕ) → i < length rows → get_or column i Null ≡ of i
-    at i h = let r = stands_at i rows (once i h) in ap (λ k. get_or column k Null) (sym r.2) ∙ each r.0 r.1 ∙ ap of r.2
-
--- one row more, from the end
-pub placed : (of : ℕ → Meaning) (rows : List ℕ) (told : List Value) (column new : List Value) (value d : Value) (k : ℕ) → map meaning told ≡ map of rows → k < length rows → k < length told → get_or rows k 0 < length column
-    → value ≡ get_or told k d → new ≡ set column (get_or rows k 0) value
-    → ((j : ℕ) → k + 1 ≤ j → j < length rows → get_or (map meaning column) (get_or rows j 0) Null ≡ of (get_or rows j 0))
-    → (j : ℕ) → k ≤ j → j < length rows → get_or (map meaning new) (get_or rows j 0) Null ≡ of (get_or rows j 0)
-placed of rows told column new value d k same h t room is written each j l m =
-    ap (λ c. get_or (map meaning c) (get_or rows j 0) Null) written
-    ∙ ap (λ c. get_or c (get_or rows j 0) Null) (map-set meaning column (get_or rows k 0) value)
-    ∙ go (get_or rows j 0 == get_or rows k 0) refl
-  where
-    valued : meaning value ≡ of (get_or rows k 0)
-    valued = ap meaning is ∙ sym (get_or-map meaning told k d Null t) ∙ ap (λ l. get_or l k Null) same ∙ get_or-map of rows k 0 Null h
-
-    wide : get_or rows k 0 < length (map meaning column)
-    wide = omega (arith, room, length-map column meaning)
-
-    go : (b : Bool) → (get_or rows j 0 == get_or rows k 0) ≡ b → get_or (set (map meaning column) (get_or rows k 0) (meaning value)) (get_or rows j 0) Null ≡ of (get_or rows j 0)
-    go true f =
-        let e : get_or rows j 0 ≡ get_or rows k 0 = grind (arith, nat_tests) in
-        ap (λ r. get_or (set (map meaning column) (get_or rows k 0) (meaning value)) r Null) e ∙ get_or-set_same (map meaning column) (get_or rows k 0) (meaning value) Null wide ∙ valued ∙ sym (ap of e)
-    go false f =
-        let n : get_or rows j 0 ≢ get_or rows k 0 = grind (arith, nat_tests) in
-        get_or-set_other (map meaning column) (get_or rows k 0) (get_or rows j 0) (meaning value) Null n ∙ later (j == k) refl
-      where
-        later : (b : Bool) → (j == k) ≡ b → get_or (map meaning column) (get_or rows j 0) Null ≡ of (get_or rows j 0)
-        later true g = let e : j ≡ k = grind (arith, nat_tests) in let n : get_or rows j 0 ≢ get_or rows k 0 = grind (arith, nat_tests) in absurd (n (ap (λ i. get_or rows i 0) e))
-        later false g = let n : j ≢ k = grind (arith, nat_tests) in each j (omega arith) m
-
 -- whether any is out of range does not depend on the order
-pub same_fault : {X Y : Type 0} (view : X → List Meaning) (other : Y → List Meaning) (fault : AnswerFault) (w : Windowed) (rows : List ℕ) (all : Partitioned) (of : ℕ → Option Meaning) → IsArranged w rows all
-    → Gives view (Err fault) (in_range (map of rows)) → Gives other (Err fault) (in_range (each_row w of))
-same_fault view other fault w rows all of arranged h = go fault (list_any is_none (map of rows)) (list_any is_none (each_row w of)) (any_of_rows w rows all of arranged) h
-  where
-    go : (fault : AnswerFault) (a b : Bool) → a ≡ b → Gives view (Err fault) (unless a OutOfRange (answer_values (map of rows))) → Gives other (Err fault) (unless b OutOfRange (answer_values (each_row w of)))
-    go OutOfRange true true e h = refl
-    go OutOfRange true false e h = absurd (cc)
-    go OutOfRange false b e h = absurd (cc)
-    go TooManyRows true b e h = absurd (cc)
-    go TooManyRows false b e h = absurd (cc)
-    go NoMemory a b e h = tt
-
--- answers in a window's order, and by number
-pub same_answers : (w : Windowed) (rows : List ℕ) (all : Partitioned) (of : ℕ → Option Meaning) (told : List Meaning) → IsArranged w rows all → in_range (map of rows) ≡ Ok told → told ≡ map (λ i. unwrap_or (of i) Null) rows
-same_answers w rows all of told arranged h = go (list_any is_none (map of rows)) h
-  where
-    taken : List Meaning → Result (List Meaning) AnswerFault → List Meaning
-    taken d (Ok x) = x
-    taken d (Err e) = d
-
-    go : (b : Bool) → unless b OutOfRange (answer_values (map of rows)) ≡ Ok told → told ≡ map (λ i. unwrap_or (of i) Null) rows
-    go true e = absurd (cc)
-    go false e = sym (ap (taken []) e) ∙ map-map (λ r. unwrap_or r Null) of rows
-
-pub same_column : (w : Windowed) (rows : List ℕ) (all : Partitioned) (of : ℕ → Option Meaning) (told column : List Meaning) → IsArranged w rows all → in_range (map of rows) ≡ Ok told
-    → column ≡ map (λ i. unwrap_or (of i) Null) (places (length rows)) → in_range (each_row w of) ≡ Ok column
-same_column w rows all of told column arranged h e =
-    go (list_any is_none (map of rows)) (list_any is_none (each_row w of)) (any_of_rows w rows all of arranged) h
-  where
-    go : (a b : Bool) → a ≡ b → unless a OutOfRange (answer_values (map of rows)) ≡ Ok told → unless b OutOfRange (answer_values (each_row w of)) ≡ Ok column
-    go true b f h = absurd (cc)
-    go false true f h = absurd (cc)
-    go false false f h =
-        ap Ok (map-map (λ r. unwrap_or r Null) of (places (length w.values))
-        ∙ ap (λ n. map (λ i. unwrap_or (of i) Null) (places n)) (sym (rows_long w rows all arranged (λ p rs j. None)))
-        ∙ sym e)
-
--- what is left of a list from which the last element was taken
-pub popped : {X : Type 0} (told before after : List X) (v : X) → before ≡ after ++ v ∷ [] → before ≡ take (length before) told → after ≡ take (length after) told
-popped told before after v e kept =
-    let long : length before ≡ length after + 1 = ap length e ∙ length-append after (v ∷ []) in
-    sym (take_at after (v ∷ []) (length after) refl) ∙ ap (take (length after)) (sym e ∙ kept) ∙ take-take (length after) (length before) told (omega (arith, long))
-
-pub last_is : {X : Type 0} (told before after : List X) (v : X) (k : ℕ) → before ≡ after ++ v ∷ [] → before ≡ take (length before) told → k ≡ length after → v ≡ get_or told k v
-last_is told before after v k e kept at =
-    let long : length before ≡ length after + 1 = ap length e ∙ length-append after (v ∷ []) in
-    let zero_is : 0 ≡ k - k = omega arith in
-    ap (λ n. get_or (v ∷ []) n v) zero_is
-    ∙ sym (get_or-append_right after (v ∷ []) k k v (sym at) (omega arith))
-    ∙ ap (λ l. get_or l k v) (sym e)
-    ∙ ap (λ l. get_or l k v) kept
-    ∙ get_or-take (length before) told k v (omega (arith, long, at))
+pub refused_answers : {X : Type 0} (view : X → List Meaning) (fault : AnswerFault) (w : Windowed) (rows : List ℕ) (all : Partitioned) → IsArranged w rows all → (answer : Answer)
+    → Gives {X = Unit {0}} (λ u. u) (Err fault) (unless (list_any is_none (window_answers answer all rows)) OutOfRange (tt {0})) → Gives view (Err fault) (answered w answer)
+refused_answers view fault w rows all arranged answer h =
+    let of = answer_on w answer in
+    refused view fault (list_any is_none (window_answers answer all rows)) (list_any is_none (each_row w of)) (answer_values (each_row w of)) h
+    (λ e. sym (any_of_rows w rows all of arranged) ∙ ap (list_any is_none) (sym (window_is w rows all arranged answer)) ∙ e)
 
 -- rows in the order of a window, as they are given to those who build partitions
 pub arranged_as : (w : Windowed) (rows given : List ℕ) (all : Partitioned) (values keys : KeyRows) → given ≡ rows → rows ≡ sorted (window_cmp w) (places (length w.values))

@@ -1,5 +1,5 @@
 -- Counts and offsets that no partition reaches all answer alike.
-use Rattle.std.proofs.Common.{◌≡◌, ℕ, zero, suc, ◌+◌, ◌-◌, ◌/◌, ◌%◌, ◌<◌, ◌≤◌, ◌^◌, nat_le, nat_lt, Bool, true, false, not, cond, List, [], ◌∷◌, ◌++◌, replicate, length, map, filter, None, refl, sym, ap, ◌∙◌, arith, inl, inr, ◌⊎◌}
+use Rattle.std.proofs.Common.{◌≡◌, ℕ, zero, suc, ◌+◌, ◌-◌, ◌/◌, ◌%◌, ◌<◌, ◌≤◌, ◌^◌, nat_le, nat_lt, Bool, true, false, not, cond, List, [], ◌∷◌, ◌++◌, replicate, length, filter, None, refl, sym, ap, ◌∙◌, arith, inl, inr, ◌⊎◌}
 use Rattle.std.proofs.Math.Nat.{div-eq_of_lt, mod-eq_of_lt}
 use Rattle.std.proofs.lemmas.Bool.{cases_lt}
 use Rattle.std.proofs.lemmas.Bool.Decides.{nat_tests}
@@ -10,7 +10,6 @@ use Rattle.wframe.specs.Frame.{frame_rows, is_kept}
 use Rattle.wplaces.specs.Tile.{pieces, tile_of}
 use Rattle.wplaces.specs.RowPlaces.{lag_place, lead_place, nth_place}
 use Rattle.wrows.proofs.RowFacts.{length-places}
-use Rattle.wcalls.proofs.ArrangedFacts.{pointwise}
 
 -- whether a row stands in pieces of one row each
 own_piece : (from k : ℕ) (sizes : List ℕ) (i : ℕ) → from ≤ i → i < from + k → position_or_len (λ piece. is_in_span piece i) (pieces from (replicate k 1 ++ sizes)) ≡ i - from
@@ -54,17 +53,14 @@ frame_shorter : (p : Partition) (i : ℕ) → length (frame_rows p i) ≤ length
 frame_shorter p i = omega (arith, filter_shorter (is_kept p i) (places (length p.keys)), length-places 0 (length p.keys))
 
 module _ (rows n m : ℕ) (few : rows < 2 ^ 31) (small : n < 2 ^ 31 → m ≡ n) (large : 2 ^ 31 ≤ n → m ≡ 2 ^ 31) where
-  tile_alike : (i : ℕ) → i < rows → tile_of rows m i ≡ tile_of rows n i
+  pub tile_alike : (i : ℕ) → i < rows → tile_of rows m i ≡ tile_of rows n i
   tile_alike i h = go (cases_lt n (2 ^ 31))
     where
       go : (n < 2 ^ 31) ⊎ (2 ^ 31 ≤ n) → tile_of rows m i ≡ tile_of rows n i
       go (inl l) = ap (λ k. tile_of rows k i) (small l)
       go (inr l) = let e : m ≡ 2 ^ 31 = large l in own_tile rows m i h (omega (arith, e, few)) ∙ sym (own_tile rows n i h (omega (arith, l, few)))
 
-  pub tiles_alike : map (tile_of rows m) (places rows) ≡ map (tile_of rows n) (places rows)
-  tiles_alike = pointwise (tile_of rows m) (tile_of rows n) 0 0 rows (λ j l. tile_alike (0 + j) (omega (arith, l)))
-
-  lag_alike : (i : ℕ) → i < rows → lag_place m i ≡ lag_place n i
+  pub lag_alike : (i : ℕ) → i < rows → lag_place m i ≡ lag_place n i
   lag_alike i h = go (cases_lt n (2 ^ 31))
     where
       go : (n < 2 ^ 31) ⊎ (2 ^ 31 ≤ n) → lag_place m i ≡ lag_place n i
@@ -77,10 +73,7 @@ module _ (rows n m : ℕ) (few : rows < 2 ^ 31) (small : n < 2 ^ 31 → m ≡ n)
           let b : nat_le n i ≡ false = grind (arith, nat_tests) in
           rw (a, b) refl
 
-  pub lags_alike : map (lag_place m) (places rows) ≡ map (lag_place n) (places rows)
-  lags_alike = pointwise (lag_place m) (lag_place n) 0 0 rows (λ j l. lag_alike (0 + j) (omega (arith, l)))
-
-  lead_alike : (i : ℕ) → lead_place rows m i ≡ lead_place rows n i
+  pub lead_alike : (i : ℕ) → lead_place rows m i ≡ lead_place rows n i
   lead_alike i = go (cases_lt n (2 ^ 31))
     where
       go : (n < 2 ^ 31) ⊎ (2 ^ 31 ≤ n) → lead_place rows m i ≡ lead_place rows n i
@@ -93,11 +86,8 @@ module _ (rows n m : ℕ) (few : rows < 2 ^ 31) (small : n < 2 ^ 31 → m ≡ n)
           let b : nat_lt (i + n) rows ≡ false = grind (arith, nat_tests) in
           rw (a, b) refl
 
-  pub leads_alike : map (lead_place rows m) (places rows) ≡ map (lead_place rows n) (places rows)
-  leads_alike = pointwise (lead_place rows m) (lead_place rows n) 0 0 rows (λ j l. lead_alike (0 + j))
-
 module _ (p : Partition) (n m : ℕ) (few : length p.keys < 2 ^ 31) (small : n < 2 ^ 31 → m ≡ n) (large : 2 ^ 31 ≤ n → m ≡ 2 ^ 31) where
-  nth_alike : (i : ℕ) → nth_place p m i ≡ nth_place p n i
+  pub nth_alike : (i : ℕ) → nth_place p m i ≡ nth_place p n i
   nth_alike i = go (cases_lt n (2 ^ 31))
     where
       go : (n < 2 ^ 31) ⊎ (2 ^ 31 ≤ n) → nth_place p m i ≡ nth_place p n i
@@ -106,6 +96,3 @@ module _ (p : Partition) (n m : ℕ) (few : length p.keys < 2 ^ 31) (small : n <
           let e : m ≡ 2 ^ 31 = large l in
           let short : length (frame_rows p i) ≤ length p.keys = frame_shorter p i in
           get_past (frame_rows p i) (m - 1) (omega (arith, e, few, short)) ∙ sym (get_past (frame_rows p i) (n - 1) (omega (arith, l, few, short)))
-
-  pub nths_alike : map (nth_place p m) (places (length p.keys)) ≡ map (nth_place p n) (places (length p.keys))
-  nths_alike = pointwise (nth_place p m) (nth_place p n) 0 0 (length p.keys) (λ j l. nth_alike (0 + j))

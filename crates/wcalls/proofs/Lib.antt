@@ -2,6 +2,7 @@ mod FilterFacts
 mod WindowFacts
 mod PlaceFacts
 mod ArrangedFacts
+mod PutFacts
 mod CallFacts
 mod CutFacts
 mod Listed

@@ -1,36 +1,64 @@
 //! Aggregates with OVER.
-ghost use Rattle.std.specs.Prelude.{length};
+ghost use Rattle.std.specs.Prelude.{◌≡◌, ◌<◌, ◌^◌, All, length, map};
+ghost use Rattle.wvalues.specs.Meaning.{meaning};
+ghost use Rattle.wplan.specs.Plans.{aggregate_plan, Aggregated};
+ghost use Rattle.wrows.specs.Outcomes.{Gives};
+ghost use Rattle.wrows.specs.Laid.{rows_seen};
 ghost use Rattle.waggregate.specs.Aggregating.{aggregate_of};
 ghost use Rattle.waggregate.specs.Feeding.{feed_in};
 ghost use Rattle.waggregate.specs.Framing.{frame_numbers};
+ghost use Rattle.wcalls.specs.Windows.{Windowed};
+ghost use Rattle.wcalls.specs.Functions.{function_column};
+ghost use Rattle.wcalls.specs.Arranged.{answered, IsArranged};
 
-use crate::calls::Call;
+use crate::calls::put_values;
 use std::alloc::Global;
-use waggregate::{Feed, push_frame_aggregates};
+use waggregate::{Feed, feed_rows, push_frame_aggregates};
 use wframe::Partitions;
-use wplan::AggregateFunction;
+use wplan::{Aggregate, AggregateFunction};
 use wrows::AnswerFault;
 use wvalues::Value;
 
-/// An aggregate over frames, with what it is fed by each row.
-#[derive(Drop)]
-pub struct AggregateOver {
-    pub function: AggregateFunction,
-    pub feed: Feed,
+// Puts an aggregate over the frame of each row, at the row's number, where `feed` has what each row feeds it.
+fn put_aggregates(
+    alloc: Global,
+    function: AggregateFunction,
+    feed: &Feed,
+    order: &[usize],
+    partitions: &Partitions,
+    column: &mut [Value],
+) -> Result<(), AnswerFault>
+    requires len { length order.now ≡ length partitions.now.keys }
+    requires fed { length feed.now.values.items ≡ length order.now }
+    requires below { All (λ i. i < length order.now) order.now }
+    requires room { length column.old ≡ length order.now }
+    requires few { length order.now < 2 ^ 31 }
+    ensures { (w : Windowed) → IsArranged w order.now partitions.now → Gives (λ _. map meaning column.new) result (answered w (λ p rows place. aggregate_of function (feed_in feed.now) (frame_numbers p rows place))) }
+{
+    // It says that the partitions leave no row out.
+    let _ = partitions.count();
+    let mut told = Vec::with_capacity(alloc, order.len())?;
+    push_frame_aggregates(alloc, function, feed, order, partitions, &mut told)?;
+    put_values(order, &told, column)?;
+    Ok(())
 }
 
-impl Call for AggregateOver {
-    ghost answer = { λ call p rows place. aggregate_of call.function (feed_in call.feed) (frame_numbers p rows place) };
-
-    ghost count = { λ call. length call.feed.values.items };
-
-    fn push_answers(
-        &self,
-        alloc: Global,
-        rows: &[usize],
-        partitions: &Partitions,
-        told: &mut Vec<Value>,
-    ) -> Result<(), AnswerFault> {
-        push_frame_aggregates(alloc, self.function, &self.feed, rows, partitions, told)
-    }
+/// Puts the column of an aggregate, by the numbers of the rows.
+pub(crate) fn aggregated_column(
+    alloc: Global,
+    aggregate: &Aggregate,
+    rows: &[&[Value]],
+    order: &[usize],
+    partitions: &Partitions,
+    column: &mut [Value],
+) -> Result<(), AnswerFault>
+    requires rows { length order.now ≡ length rows.now }
+    requires len { length order.now ≡ length partitions.now.keys }
+    requires below { All (λ i. i < length order.now) order.now }
+    requires room { length column.old ≡ length order.now }
+    requires few { length order.now < 2 ^ 31 }
+    ensures { (w : Windowed) → IsArranged w order.now partitions.now → Gives (λ _. map meaning column.new) result (function_column (rows_seen rows.now) w (Aggregated (aggregate_plan aggregate.now))) }
+{
+    let feed = feed_rows(alloc, aggregate, rows)?;
+    put_aggregates(alloc, aggregate.function, &feed, order, partitions, column)
 }

@@ -1,7 +1,8 @@
 //! The columns of a window's functions.
-ghost use Rattle.std.specs.Prelude.{◌≡◌, ◌<◌, ◌^◌, true, All, IfOk, Ok, length};
+ghost use Rattle.std.specs.Prelude.{◌≡◌, ◌+◌, ◌<◌, ◌^◌, true, All, IfOk, OnOk, Ok, length, map, take, drop};
 ghost use Rattle.std.specs.List.{list_all};
-ghost use Rattle.wplan.specs.Plans.{window_plan};
+ghost use Rattle.wvalues.specs.Meaning.{meaning};
+ghost use Rattle.wplan.specs.Plans.{function_plan, window_plan};
 ghost use Rattle.wrows.specs.Outcomes.{Gives, each};
 ghost use Rattle.wrows.specs.Laid.{rows_in, rows_seen};
 ghost use Rattle.wcalls.specs.Windows.{Windowed};
@@ -11,6 +12,7 @@ ghost use Rattle.wcalls.specs.Sound.{is_sound_function, is_sound_window};
 ghost use Rattle.wcalls.specs.Arranged.{IsArranged};
 ghost use Rattle.wcalls.specs.Ordered.{ordered_rows};
 
+use crate::calls::push_nulls;
 use crate::functions::function_column;
 use crate::parts::frame_of;
 use crate::window::WindowOrder;
@@ -19,6 +21,36 @@ use wframe::{KeyRows, Partitions};
 use wplan::{SettledWindow, WindowFunction};
 use wrows::{AnswerFault, Cells};
 use wvalues::Value;
+
+// Appends the column of a function of a window, by number, where the rows stand in its order and in its partitions.
+fn push_column(
+    alloc: Global,
+    function: &WindowFunction,
+    rows: &[&[Value]],
+    order: &[usize],
+    partitions: &Partitions,
+    cells: &mut Vec<Value>,
+) -> Result<(), AnswerFault>
+    requires sound { is_sound_function (function_plan function.now) ≡ true }
+    requires rows { length order.now ≡ length rows.now }
+    requires len { length order.now ≡ length partitions.now.keys }
+    requires below { All (λ i. i < length order.now) order.now }
+    requires few { length order.now < 2 ^ 31 }
+    ensures column { (w : Windowed) → IsArranged w order.now partitions.now → Gives (λ _. map meaning (drop (length cells.old.items) cells.new.items)) result (function_column (rows_seen rows.now) w (function_plan function.now)) }
+    ensures kept { OnOk result (take (length cells.old.items) cells.new.items ≡ cells.old.items) }
+    ensures len { OnOk result (length cells.new.items ≡ length cells.old.items + length rows.now) }
+{
+    let start = cells.len();
+    push_nulls(cells, rows.len())?;
+    function_column(
+        alloc,
+        function,
+        rows,
+        order,
+        partitions,
+        &mut cells[start..],
+    )
+}
 
 // The columns of functions of a window, by number, where the rows stand in its order and in its partitions.
 fn every_column(
@@ -40,8 +72,7 @@ fn every_column(
     // Room for all columns at once: a list that grows is held twice while it is moved.
     let mut cells = Vec::with_capacity(alloc, rows.len().saturating_mul(functions.len()))?;
     for function in functions {
-        let mut column = function_column(alloc, function, rows, order, partitions)?;
-        cells.append(&mut column)?;
+        push_column(alloc, function, rows, order, partitions, &mut cells)?;
     }
     Ok(Cells {
         cells,

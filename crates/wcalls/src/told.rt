@@ -1,18 +1,16 @@
 //! Calls with OVER that tell a value of another row: `lag`, `lead`, `first_value`, `last_value`, `nth_value`.
-ghost use Rattle.std.specs.Prelude.{◌≡◌, ◌≤◌, ◌<◌, ◌^◌, ◌++◌, ℕ, Option, Some, length, map, slice_index_or, IfOk, OnOk};
+ghost use Rattle.std.specs.Prelude.{◌≡◌, ◌≤◌, ◌<◌, ◌^◌, ℕ, Option, length, map, slice_index_or, IfOk};
 ghost use Rattle.wvalues.specs.Meaning.{meaning};
 ghost use Rattle.wframe.specs.Partition.{Partition};
-ghost use Rattle.wplaces.specs.EachRow.{each_row};
 ghost use Rattle.wplaces.specs.RowPlaces.{lag_place, lead_place, first_place, last_place, nth_place};
 ghost use Rattle.wrows.specs.Columns.{value_at};
 ghost use Rattle.wcalls.specs.Arranged.{told_value};
 
-use crate::calls::Call;
+use crate::calls::Tells;
 use crate::limits::cut;
-use std::alloc::{AllocError, Global};
-use wframe::{Frames, Partitions};
-use wplaces::{first_value, lag, last_value, lead, nth_value};
-use wrows::AnswerFault;
+use std::alloc::AllocError;
+use wframe::Frames;
+use wplaces::{first_value_at, lag_at, last_value_at, lead_at, nth_value_at};
 use wvalues::Value;
 
 // The row at a place, the first row where there is no such place.
@@ -49,31 +47,16 @@ fn told_value(
     }
 }
 
-// Appends the values that are told.
-fn push_told(
-    told: &mut Vec<Value>,
-    values: &[Value],
-    rows: &[usize],
-    default: &Value,
-    places: &[Option<usize>],
-) -> Result<(), AllocError>
-    ensures { OnOk result (map meaning told.new.items ≡ map meaning told.old.items ++ map (told_value (map meaning values.now) rows.now (meaning default.now)) places.now) }
-{
-    for place in places {
-        told.push(told_value(values, rows, default, *place)?)?;
-    }
-    Ok(())
-}
-
-/// For each row of a partition the place of a row there, or none.
+/// For a row of a partition the place of a row there, or none.
 pub trait RowPlaces {
     /// What is told for the row at a place of a partition of so many rows.
     ghost place_told: { Self → ℕ → Partition → ℕ → Option ℕ };
 
-    /// The places that are told for a partition's rows, in their order.
-    fn places_told(&self, alloc: Global, frames: &Frames) -> Result<Vec<Option<usize>>, AllocError>
-        requires { length frames.now.keys < 2 ^ 31 }
-        ensures { IfOk result (λ told. told.items ≡ each_row frames.now (place_told self.now (length frames.now.keys) frames.now)) };
+    /// The place that is told for the row at a place.
+    fn place_of(&self, frames: &Frames, place: usize) -> Option<usize>
+        requires few { length frames.now.keys < 2 ^ 31 }
+        requires place { place < length frames.now.keys }
+        ensures { result ≡ place_told self.now (length frames.now.keys) frames.now place };
 }
 
 /// A call that tells values, each row's by number.
@@ -84,24 +67,13 @@ pub struct Told<'a, P> {
     pub default: &'a Value,
 }
 
-impl<'a, P: RowPlaces + Drop> Call for Told<'a, P> {
-    ghost answer = { λ call p rows place. Some (told_value (map meaning call.values.items) rows (meaning call.default.now) (P.place_told call.places (length rows) p place)) };
+impl<'a, P: RowPlaces> Tells for Told<'a, P> {
+    ghost told = { λ call p rows place. told_value (map meaning call.values.items) rows (meaning call.default.now) (P.place_told call.places (length rows) p place) };
 
-    ghost count = { λ call. length call.values.items };
-
-    fn push_answers(
-        &self,
-        alloc: Global,
-        rows: &[usize],
-        partitions: &Partitions,
-        told: &mut Vec<Value>,
-    ) -> Result<(), AnswerFault> {
-        for number in 0..partitions.count() {
-            let span = partitions.span(number);
-            let frames = partitions.partition(number);
-            let places = self.places.places_told(alloc, &frames)?;
-            let own = &rows[span.from..span.to];
-            push_told(told, &self.values, own, self.default, &places)?;
+    fn put(&self, frames: &Frames, rows: &[usize], column: &mut [Value]) -> Result<(), AllocError> {
+        for place in 0..rows.len() {
+            let told = self.places.place_of(frames, place);
+            column[rows[place]] = told_value(&self.values, rows, self.default, told)?;
         }
         Ok(())
     }
@@ -116,14 +88,8 @@ pub struct Lag {
 impl RowPlaces for Lag {
     ghost place_told = { λ lag n p. lag_place lag.rows };
 
-    fn places_told(
-        &self,
-        alloc: Global,
-        frames: &Frames,
-    ) -> Result<Vec<Option<usize>>, AllocError> {
-        let rows = cut(self.rows);
-        let told = lag(alloc, frames, rows)?;
-        Ok(told)
+    fn place_of(&self, _frames: &Frames, place: usize) -> Option<usize> {
+        lag_at(place, cut(self.rows))
     }
 }
 
@@ -134,12 +100,8 @@ pub struct FirstValue;
 impl RowPlaces for FirstValue {
     ghost place_told = { λ _ n. first_place };
 
-    fn places_told(
-        &self,
-        alloc: Global,
-        frames: &Frames,
-    ) -> Result<Vec<Option<usize>>, AllocError> {
-        first_value(alloc, frames)
+    fn place_of(&self, frames: &Frames, place: usize) -> Option<usize> {
+        first_value_at(frames, place)
     }
 }
 
@@ -152,14 +114,8 @@ pub struct Lead {
 impl RowPlaces for Lead {
     ghost place_told = { λ lead n p. lead_place n lead.rows };
 
-    fn places_told(
-        &self,
-        alloc: Global,
-        frames: &Frames,
-    ) -> Result<Vec<Option<usize>>, AllocError> {
-        let rows = cut(self.rows);
-        let told = lead(alloc, frames, rows)?;
-        Ok(told)
+    fn place_of(&self, frames: &Frames, place: usize) -> Option<usize> {
+        lead_at(frames, place, cut(self.rows))
     }
 }
 
@@ -170,12 +126,8 @@ pub struct LastValue;
 impl RowPlaces for LastValue {
     ghost place_told = { λ _ n. last_place };
 
-    fn places_told(
-        &self,
-        alloc: Global,
-        frames: &Frames,
-    ) -> Result<Vec<Option<usize>>, AllocError> {
-        last_value(alloc, frames)
+    fn place_of(&self, frames: &Frames, place: usize) -> Option<usize> {
+        last_value_at(frames, place)
     }
 }
 
@@ -189,13 +141,7 @@ pub struct NthValue {
 impl RowPlaces for NthValue {
     ghost place_told = { λ nth n p. nth_place p nth.n };
 
-    fn places_told(
-        &self,
-        alloc: Global,
-        frames: &Frames,
-    ) -> Result<Vec<Option<usize>>, AllocError> {
-        let n = cut(self.n);
-        let told = nth_value(alloc, frames, n)?;
-        Ok(told)
+    fn place_of(&self, frames: &Frames, place: usize) -> Option<usize> {
+        nth_value_at(frames, place, cut(self.n))
     }
 }

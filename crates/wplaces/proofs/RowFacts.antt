@@ -1,6 +1,8 @@
 -- Columns of answers.
-use Rattle.std.proofs.Common.{◌≡◌, ℕ, zero, suc, ◌+◌, ◌-◌, ◌<◌, ◌≤◌, List, [], ◌∷◌, ◌++◌, length, map, nat_lt, Result, IfOk, true, false, refl, sym, ap, ◌∙◌, arith}
-use Rattle.std.specs.List.{range_with_len, filter}
+use Rattle.std.proofs.Common.{◌≡◌, ℕ, zero, suc, ◌+◌, ◌-◌, ◌<◌, ◌≤◌, List, [], ◌∷◌, ◌++◌, length, map, nat_lt, cond, Result, IfOk, true, false, refl, sym, ap, ◌∙◌, arith}
+use Rattle.std.specs.List.{range_with_len, filter, list_any}
+use Rattle.std.specs.Ordering.{is_eq}
+use Rattle.std.specs.declared.cmp.Ordering.{Ordering}
 use Rattle.std.specs.Fn.{Called, Mut}
 use Rattle.std.specs.Vec.{vec_items}
 use Rattle.std.specs.declared.vec.Vec.{Vec}
@@ -12,6 +14,7 @@ use Rattle.std.proofs.lemmas.Result.{IfOk-weaker}
 use Rattle.std.proofs.lemmas.Bool.Decides.{nat_tests}
 use Rattle.std.proofs.lemmas.Iterator.{maps, IsCollectResult, YieldsList-from_range, YieldsList-from_map, items_from_collect}
 use Rattle.wframe.specs.declared.frame.Span.{Span}
+use Rattle.wframe.specs.Peers.{distinct}
 use Rattle.wframe.specs.Places.{places_from, places, is_in_span}
 use Rattle.wframe.specs.Partition.{Partition}
 use Rattle.wplaces.specs.EachRow.{each_row}
@@ -46,6 +49,13 @@ column_more f a (suc n) j e =
 
 pub more_answers : {X : Type 0} (f : ℕ → X) (xs ys : List X) (n : ℕ) (x : X) → xs ≡ map f (places n) → ys ≡ xs ++ x ∷ [] → x ≡ f n → ys ≡ map f (places (n + 1))
 more_answers f xs ys n x told e same = e ∙ ap (λ zs. zs ++ x ∷ []) told ∙ ap (λ y. map f (places n) ++ y ∷ []) same ∙ sym (column_more f 0 n n (omega arith))
+
+-- one of each run of equals, of which there are no more than elements
+pub distinct_short : {K : Type 0} (cmp : K → K → Ordering) (xs : List K) → length (distinct cmp xs) ≤ length xs
+distinct_short cmp [] = omega arith
+distinct_short cmp (x ∷ xs) =
+    let more : length (distinct cmp xs) ≤ length xs = distinct_short cmp xs in
+    elim (list_any (λ y. is_eq (cmp x y)) xs) as (λ b. length (cond b (distinct cmp xs) (x ∷ distinct cmp xs)) ≤ suc (length xs)) [ true ↦ omega (arith, more) | false ↦ omega (arith, more) ]
 
 -- the row after a span's last place is not in it, and after another of its places it is
 pub past_last : (s : Span) (row : ℕ) → s.to ≡ row + 1 → is_in_span s (row + 1) ≡ false

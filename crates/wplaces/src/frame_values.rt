@@ -1,4 +1,4 @@
-ghost use Rattle.std.specs.Prelude.{◌≡◌, ◌≤◌, IfOk, Option, None};
+ghost use Rattle.std.specs.Prelude.{◌≡◌, ◌≤◌, ◌<◌, length, IfOk, Option, None};
 ghost use Rattle.std.specs.List.{slice_get, last_or};
 ghost use Rattle.wframe.specs.Places.{spans_places};
 ghost use Rattle.wplaces.specs.EachRow.{each_row};
@@ -35,12 +35,39 @@ fn last_place_in(spans: &[Span]) -> Option<usize>
     last
 }
 
+/// The place of the first row of a row's frame, or none where the frame is empty.
+pub fn first_value_at(frames: &Frames, row: usize) -> Option<usize>
+    requires { row < length frames.now.keys }
+    ensures { result ≡ first_place frames.now row }
+{
+    place_at(&frames.frame(row), 0)
+}
+
+/// The place of the last row of a row's frame, or none where the frame is empty.
+///
+/// It is the last one that the exclusion leaves, also where the row itself lies outside its frame.
+pub fn last_value_at(frames: &Frames, row: usize) -> Option<usize>
+    requires { row < length frames.now.keys }
+    ensures { result ≡ last_place frames.now row }
+{
+    last_place_in(&frames.frame(row))
+}
+
+/// The place of the n-th row of a row's frame, counted from 1, or none where the frame has fewer rows.
+pub fn nth_value_at(frames: &Frames, row: usize, n: u64) -> Option<usize>
+    requires n { 1 ≤ n }
+    requires row { row < length frames.now.keys }
+    ensures { result ≡ nth_place frames.now n row }
+{
+    place_at(&frames.frame(row), n as usize - 1)
+}
+
 /// The place of the first row of each row's frame, or none where the frame is empty.
 pub fn first_value(alloc: Global, frames: &Frames) -> Result<Vec<Option<usize>>, AllocError>
     ensures { IfOk result (λ found. found.items ≡ each_row frames.now (first_place frames.now)) }
 {
     (0..frames.count())
-        .map(|row| place_at(&frames.frame(row), 0))
+        .map(|row| first_value_at(frames, row))
         .collect(alloc)
 }
 
@@ -51,7 +78,7 @@ pub fn last_value(alloc: Global, frames: &Frames) -> Result<Vec<Option<usize>>, 
     ensures { IfOk result (λ found. found.items ≡ each_row frames.now (last_place frames.now)) }
 {
     (0..frames.count())
-        .map(|row| last_place_in(&frames.frame(row)))
+        .map(|row| last_value_at(frames, row))
         .collect(alloc)
 }
 
@@ -60,8 +87,7 @@ pub fn nth_value(alloc: Global, frames: &Frames, n: u64) -> Result<Vec<Option<us
     requires { 1 ≤ n }
     ensures { IfOk result (λ found. found.items ≡ each_row frames.now (nth_place frames.now n)) }
 {
-    let before = n as usize - 1;
     (0..frames.count())
-        .map(|row| place_at(&frames.frame(row), before))
+        .map(|row| nth_value_at(frames, row, n))
         .collect(alloc)
 }

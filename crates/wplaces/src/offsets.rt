@@ -5,18 +5,23 @@ ghost use Rattle.wplaces.specs.RowPlaces.{lag_place, lead_place};
 use std::alloc::{AllocError, Global};
 use wframe::Frames;
 
-// The place so many rows before a row.
-fn place_before(row: usize, rows: usize) -> Option<usize>
+/// The place of the row so many rows before a row, or none where the partition does not go back so far.
+///
+/// 0 rows before is the row itself.
+pub fn lag_at(row: usize, rows: u64) -> Option<usize>
     ensures { result ≡ lag_place rows row }
 {
-    row.checked_sub(rows)
+    row.checked_sub(rows as usize)
 }
 
-// The place so many rows after a row, where there are `count` rows.
-fn place_after(row: usize, rows: usize, count: usize) -> Option<usize>
-    ensures { result ≡ lead_place count rows row }
+/// The place of the row so many rows after a row, or none where the partition does not go on so far.
+///
+/// 0 rows after is the row itself.
+pub fn lead_at(frames: &Frames, row: usize, rows: u64) -> Option<usize>
+    ensures { result ≡ lead_place (length frames.now.keys) rows row }
 {
-    let place = row.checked_add(rows)?;
+    let count = frames.count();
+    let place = row.checked_add(rows as usize)?;
     (place < count).then_some(place)
 }
 
@@ -26,9 +31,8 @@ fn place_after(row: usize, rows: usize, count: usize) -> Option<usize>
 pub fn lag(alloc: Global, frames: &Frames, rows: u64) -> Result<Vec<Option<usize>>, AllocError>
     ensures { IfOk result (λ found. found.items ≡ each_row frames.now (lag_place rows)) }
 {
-    let rows = rows as usize;
     (0..frames.count())
-        .map(|row| place_before(row, rows))
+        .map(|row| lag_at(row, rows))
         .collect(alloc)
 }
 
@@ -38,9 +42,7 @@ pub fn lag(alloc: Global, frames: &Frames, rows: u64) -> Result<Vec<Option<usize
 pub fn lead(alloc: Global, frames: &Frames, rows: u64) -> Result<Vec<Option<usize>>, AllocError>
     ensures { IfOk result (λ found. found.items ≡ each_row frames.now (lead_place (length frames.now.keys) rows)) }
 {
-    let count = frames.count();
-    let rows = rows as usize;
-    (0..count)
-        .map(|row| place_after(row, rows, count))
+    (0..frames.count())
+        .map(|row| lead_at(frames, row, rows))
         .collect(alloc)
 }

@@ -21,6 +21,17 @@ fn tile_at(row: usize, count: usize, tiles: usize) -> usize
     }
 }
 
+/// The number, from 1, of the tile that has a row, where the partition is cut into so many tiles.
+///
+/// The first tiles have a row more where the rows cannot be shared evenly. With more tiles than rows the last are empty.
+pub fn ntile_at(frames: &Frames, row: usize, tiles: u64) -> usize
+    requires tiles { 1 ≤ tiles }
+    requires row { row < length frames.now.keys }
+    ensures { result ≡ tile_of (length frames.now.keys) tiles row }
+{
+    tile_at(row, frames.count(), tiles as usize)
+}
+
 /// The number, from 1, of the tile that has each row, where the partition is cut into so many tiles.
 ///
 /// The first tiles have a row more where the rows cannot be shared evenly. With more tiles than rows the last are empty.
@@ -28,9 +39,7 @@ pub fn ntile(alloc: Global, frames: &Frames, tiles: u64) -> Result<Vec<usize>, A
     requires { 1 ≤ tiles }
     ensures { IfOk result (λ numbers. numbers.items ≡ each_row frames.now (tile_of (length frames.now.keys) tiles)) }
 {
-    let count = frames.count();
-    let tiles = tiles as usize;
-    (0..count)
-        .map(|row| tile_at(row, count, tiles))
+    (0..frames.count())
+        .map(|row| ntile_at(frames, row, tiles))
         .collect(alloc)
 }

@@ -1,10 +1,9 @@
-use Rattle.std.proofs.Common.{ap, length, rules, tests}
+use Rattle.std.proofs.Common.{length, refl, rules, tests}
 use Rattle.wplaces.specs.RowPlaces.{lead_place}
 use Rattle.wplaces.proofs.RowFacts.{column}
 use Rattle.wplaces.proofs.offsets.lead.Goals as goal
 
 pub returns : goal.returns
 returns c =
-    column c.collect.result c.args.frames.now c.count-count.result (lead_place c.count-count.result c.args.rows) (lead_place (length c.args.frames.now.keys) c.args.rows)
-    c.collect.ensures.ran (cc) c.map.ensures.closure c.count-count.ensures.count
-    (λ x r q k. search (rules, tests)) (λ j h. ap (λ n. lead_place n c.args.rows j) c.count-count.ensures.count)
+    column c.collect.result c.args.frames.now c.count.result (lead_place (length c.args.frames.now.keys) c.args.rows) (lead_place (length c.args.frames.now.keys) c.args.rows) c.collect.ensures.ran (cc) c.map.ensures.closure c.count.ensures.count
+    (λ x r q k. search (rules, tests)) (λ j h. refl)

@@ -1,4 +1,4 @@
-use Rattle.std.proofs.Common.{◌≡◌, ◌+◌, ◌<◌, ◌≤◌, map}
+use Rattle.std.proofs.Common.{◌≡◌, ◌+◌, ℕ, map}
 use Rattle.wframe.specs.Places.{places}
 use Rattle.wplaces.specs.Ranks.{dense_rank_of}
 use Rattle.wplaces.proofs.ranks.dense_rank.Given as goal
@@ -6,6 +6,5 @@ use Rattle.wplaces.proofs.ranks.dense_rank.Given as goal
 abbrev pub invariant-loop-row : goal.invariant-loop-row
 invariant-loop-row l = record {
   told : l.ranks.items ≡ map (dense_rank_of l.frames) (places l.row);
-  next : l.row < l.count → l.rank ≡ dense_rank_of l.frames l.row;
-  small : l.rank ≤ l.row + 1;
+  before : (j : ℕ) → l.row ≡ j + 1 → l.rank ≡ dense_rank_of l.frames j;
 }
