@@ -12,15 +12,20 @@ use Rattle.wframe.specs.Peers.{key_at, is_before, is_upto, smaller_keys}
 use Rattle.wframe.specs.Cuts.{CutsAt, HasCuts}
 use Rattle.wframe.specs.Partition.{Partition}
 use Rattle.wframe.specs.Frame.{is_before_start, is_after_end, frame_start, frame_end, frame_extent}
-use Rattle.wframe.specs.FrameEnds.{HasFrames, Extends}
+use Rattle.wframe.specs.FrameEnds.{HasFrames, Extends, IsFrameOf}
+use Rattle.wframe.specs.Ties.{takes_groups}
+use Rattle.wframe.specs.Moves.{move_of, moved_number}
+use Rattle.wframe.specs.Bounds.{starts_after, ends_before}
+use Rattle.wframe.specs.declared.frame.FrameMode.TheVariants.{Rows}
+use Rattle.wframe.proofs.MoveFacts.{starts_at, ends_at}
 use Rattle.wframe.proofs.CutFacts.{cuts_stay}
 use Rattle.wframe.proofs.FrameFacts.{cut_count}
 
 pub frames_stay : (p : Partition) (first : ℕ) (old new : FrameEnds) → HasFrames p first old → Extends old new → HasFrames p first new
 frames_stay p first old new has more = record {
   ordered = has.ordered;
-  starts = cuts_stay first (length p.keys) (is_before_start p.order p.keys p.frame.mode p.frame.start) old.starts.items new.starts.items has.starts more.starts;
-  ends = cuts_stay first (length p.keys) (λ i j. not (is_after_end p.order p.keys p.frame.mode p.frame.end i j)) old.ends.items new.ends.items has.ends more.ends;
+  starts = λ g. cuts_stay first (length p.keys) (is_before_start p.order p.keys p.frame.mode p.frame.start) old.starts.items new.starts.items (has.starts g) more.starts;
+  ends = λ g. cuts_stay first (length p.keys) (λ i j. not (is_after_end p.order p.keys p.frame.mode p.frame.end i j)) old.ends.items new.ends.items (has.ends g) more.ends;
   peer_starts = cuts_stay first (length p.keys) (is_before (keys_cmp p.order) p.keys) old.peer_starts.items new.peer_starts.items has.peer_starts more.peer_starts;
   peer_ends = cuts_stay first (length p.keys) (is_upto (keys_cmp p.order) p.keys) old.peer_ends.items new.peer_ends.items has.peer_ends more.peer_ends;
 }
@@ -55,34 +60,44 @@ smaller_count cmp keys row c at =
 max_from : (first s e : ℕ) → first ≤ s → first ≤ e → max s e - first ≡ max (s - first) (e - first)
 max_from first s e h k = omega arith
 
--- what is read of a row's frame
-pub record IsFrameOf (p : Partition) (row : ℕ) (r : Span) : Type 0 where
-  pub from : r.from ≡ frame_start p row
-  pub to : r.to ≡ max (frame_start p row) (frame_end p row)
-  pub start : CutsAt (length p.keys) (is_before_start p.order p.keys p.frame.mode p.frame.start row) (frame_start p row)
-  pub end : CutsAt (length p.keys) (λ j. not (is_after_end p.order p.keys p.frame.mode p.frame.end row j)) (frame_end p row)
+-- a row's frame, by the places where it starts and ends
+frame_cut : (p : Partition) (row s e : ℕ) (r : Span) → CutsAt (length p.keys) (is_before_start p.order p.keys p.frame.mode p.frame.start row) s → CutsAt (length p.keys) (λ j. not (is_after_end p.order p.keys p.frame.mode p.frame.end row j)) e → r.from ≡ s → r.to ≡ max s e → IsFrameOf p row r
+frame_cut p row s e r at to from upto =
+    let n = length p.keys in
+    let before = is_before_start p.order p.keys p.frame.mode p.frame.start row in
+    let within = λ (j : ℕ). not (is_after_end p.order p.keys p.frame.mode p.frame.end row j) in
+    let start_is : s ≡ frame_start p row = cut_count n before s at in
+    let end_is : e ≡ frame_end p row = cut_count n within e to in
+    record {
+      from = from ∙ start_is;
+      to = upto ∙ ap (λ y. max y e) start_is ∙ ap (max (frame_start p row)) end_is;
+      start = subst (CutsAt n before) start_is at;
+      end = subst (CutsAt n within) end_is to;
+    }
 
-pub frame_read : (p : Partition) (first row : ℕ) (stored : FrameEnds) (x r : Span) → HasFrames p first stored → row < length p.keys →
+-- what is read of a row's frame
+pub frame_read : (p : Partition) (first row : ℕ) (stored : FrameEnds) (x r : Span) → HasFrames p first stored → takes_groups p.frame.mode ≡ true → row < length p.keys →
     x.from ≡ get_or stored.starts.items (first + row) 0 → x.to ≡ max (get_or stored.starts.items (first + row) 0) (get_or stored.ends.items (first + row) 0) →
     r.from ≡ x.from - first → r.to ≡ x.to - first → IsFrameOf p row r
-frame_read p first row stored x r has h xf xt rf rt =
+frame_read p first row stored x r has g h xf xt rf rt =
     let n = length p.keys in
     let before = is_before_start p.order p.keys p.frame.mode p.frame.start in
     let upto = λ (i j : ℕ). not (is_after_end p.order p.keys p.frame.mode p.frame.end i j) in
     let s = get_or stored.starts.items (first + row) 0 in
     let e = get_or stored.ends.items (first + row) 0 in
-    let at = cut_read first n row s (s - first) before stored.starts.items has.starts h refl refl in
-    let to = cut_read first n row e (e - first) upto stored.ends.items has.ends h refl refl in
-    let start_is : s - first ≡ frame_start p row = cut_count n (before row) (s - first) at in
-    let end_is : e - first ≡ frame_end p row = cut_count n (upto row) (e - first) to in
-    let sf = cut_above first n row s before stored.starts.items has.starts h refl in
-    let ef = cut_above first n row e upto stored.ends.items has.ends h refl in
-    record {
-      from = rf ∙ ap (λ y. y - first) xf ∙ start_is;
-      to = rt ∙ ap (λ y. y - first) xt ∙ max_from first s e sf ef ∙ ap (λ y. max y (e - first)) start_is ∙ ap (max (frame_start p row)) end_is;
-      start = subst (CutsAt n (before row)) start_is at;
-      end = subst (CutsAt n (upto row)) end_is to;
-    }
+    let at = cut_read first n row s (s - first) before stored.starts.items (has.starts g) h refl refl in
+    let to = cut_read first n row e (e - first) upto stored.ends.items (has.ends g) h refl refl in
+    let sf = cut_above first n row s before stored.starts.items (has.starts g) h refl in
+    let ef = cut_above first n row e upto stored.ends.items (has.ends g) h refl in
+    frame_cut p row (s - first) (e - first) r at to (rf ∙ ap (λ y. y - first) xf) (rt ∙ ap (λ y. y - first) xt ∙ max_from first s e sf ef)
+
+-- in ROWS the place of a row and the one behind it, moved
+pub frame_moved : (p : Partition) (row s e : ℕ) (r : Span) → p.frame.mode ≡ Rows → row < length p.keys → s ≡ moved_number (move_of p.frame.start (length p.keys)) (length p.keys) row → e ≡ moved_number (move_of p.frame.end (length p.keys)) (length p.keys) (row + 1) → r.from ≡ s → r.to ≡ max s e → IsFrameOf p row r
+frame_moved p row s e r mode h is upto from to =
+    let n = length p.keys in
+    let at = subst (λ m. CutsAt n (is_before_start p.order p.keys m p.frame.start row) s) (sym mode) (subst (CutsAt n (starts_after p.frame.start row)) (sym is) (starts_at p.frame.start n row h)) in
+    let end = subst (λ m. CutsAt n (λ j. not (is_after_end p.order p.keys m p.frame.end row j)) e) (sym mode) (subst (CutsAt n (λ j. not (ends_before p.frame.end row j))) (sym upto) (ends_at p.frame.end n row h)) in
+    frame_cut p row s e r at end from to
 
 pub span_is : (s : Span) (a b : ℕ) → s.from ≡ a → s.to ≡ b → s ≡ record { from = a; to = b }
 span_is s a b e f = ap (λ x. record { from = x; to = s.to }) e ∙ ap (λ y. record { from = a; to = y }) f
@@ -105,12 +120,5 @@ peers_read p first row stored x r has h xf xt rf rt =
       end = cut_read first (length p.keys) row x.to r.to (is_upto (keys_cmp p.order) p.keys) stored.peer_ends.items has.peer_ends h xt rt;
     }
 
--- the cuts of a row's frame, at their counts
-pub frame_at : (p : Partition) (first row : ℕ) (stored : FrameEnds) → HasFrames p first stored → row < length p.keys → IsFrameOf p row (frame_extent p row)
-frame_at p first row stored has h =
-    let s = get_or stored.starts.items (first + row) 0 in
-    let e = get_or stored.ends.items (first + row) 0 in
-    let x : Span = record { from = s; to = max s e } in
-    let r : Span = record { from = s - first; to = max s e - first } in
-    let f = frame_read p first row stored x r has h refl refl refl refl in
-    record { from = refl; to = refl; start = f.start; end = f.end }
+pub frame_is : (p : Partition) (row : ℕ) (r : Span) → IsFrameOf p row r → r ≡ frame_extent p row
+frame_is p row r found = span_is r (frame_start p row) (max (frame_start p row) (frame_end p row)) found.from found.to

@@ -1,16 +1,10 @@
 -- The bounds of numbers end at moved numbers.
-use Rattle.std.proofs.Common.{◌≡◌, ℕ, ◌+◌, ◌<◌, ◌≤◌, Bool, true, false, not, ltb, List, length, sym, subst, refl, arith, lt-ltb}
+use Rattle.std.proofs.Common.{◌≡◌, ℕ, ◌+◌, ◌<◌, ◌≤◌, Bool, true, false, not, ltb, refl, arith, lt-ltb}
 use Rattle.std.proofs.lemmas.Bool.Decides.{nat_tests}
 use Rattle.wframe.specs.declared.frame.FrameBound.{FrameBound}
 use Rattle.wframe.specs.declared.frame.FrameBound.TheVariants.{UnboundedPreceding, Preceding, CurrentRow, Following, UnboundedFollowing}
 use Rattle.wframe.specs.Bounds.{starts_after, ends_before}
-use Rattle.wvalues.specs.declared.key.SortKey.{SortKey}
-use Rattle.wvalues.specs.Meaning.{Meaning}
-use Rattle.wframe.specs.declared.frame.FrameMode.{FrameMode}
-use Rattle.wframe.specs.declared.frame.FrameMode.TheVariants.{Rows}
-use Rattle.wframe.specs.declared.moves.Move.{Move}
-use Rattle.wframe.specs.Frame.{is_before_start, is_after_end}
-use Rattle.wframe.specs.Cuts.{CutsAt, HasCuts}
+use Rattle.wframe.specs.Cuts.{CutsAt}
 use Rattle.wframe.specs.Moves.{move_of, moved_number}
 
 not_below : (a b : ℕ) → b ≤ a → ltb a b ≡ false
@@ -22,7 +16,7 @@ upto a b h = grind (arith, nat_tests)
 beyond : (a b : ℕ) → a < b → not (ltb a b) ≡ false
 beyond a b h = grind (arith, nat_tests)
 
-pub starts_at : (bound : FrameBound) (n i : ℕ) → i < n → CutsAt n (starts_after bound i) (moved_number (move_of bound n) n (i + 0))
+pub starts_at : (bound : FrameBound) (n i : ℕ) → i < n → CutsAt n (starts_after bound i) (moved_number (move_of bound n) n i)
 starts_at UnboundedPreceding n i h = record { within = omega arith; passed = λ j l. absurd (omega arith); others = λ j l k. refl }
 starts_at (Preceding d) n i h = record { within = omega arith; passed = λ j l. lt-ltb (j + d) i (omega arith); others = λ j l k. not_below (j + d) i (omega arith) }
 starts_at CurrentRow n i h = record { within = omega arith; passed = λ j l. lt-ltb j i (omega arith); others = λ j l k. not_below j i (omega arith) }
@@ -35,17 +29,3 @@ ends_at (Preceding d) n i h = record { within = omega arith; passed = λ j l. up
 ends_at CurrentRow n i h = record { within = omega arith; passed = λ j l. upto i j (omega arith); others = λ j l k. beyond i j (omega arith) }
 ends_at (Following d) n i h = record { within = omega arith; passed = λ j l. upto (i + d) j (omega arith); others = λ j l k. beyond (i + d) j (omega arith) }
 ends_at UnboundedFollowing n i h = record { within = omega arith; passed = λ j l. refl; others = λ j l k. absurd (omega arith) }
-
--- the starts and the ends of frames in ROWS, as they are pushed
-module _ (ks : List SortKey) (keys : List (List Meaning)) (mode : FrameMode) (bound : FrameBound) (n first : ℕ) (m : Move) (cuts : List ℕ) (rows : mode ≡ Rows) (count : n ≡ length keys) (is : m ≡ move_of bound n) where
-  pub row_starts : ((passes : ℕ → ℕ → Bool) → ((i : ℕ) → i < n → CutsAt n (passes i) (moved_number m n (i + 0))) → HasCuts first n passes cuts) → HasCuts first (length keys) (is_before_start ks keys mode bound) cuts
-  row_starts h =
-      subst (λ x. HasCuts first (length keys) (is_before_start ks keys x bound) cuts) (sym rows)
-      (subst (λ k. HasCuts first k (λ i j. starts_after bound i j) cuts) count
-      (h (λ i j. starts_after bound i j) (λ i l. subst (λ y. CutsAt n (starts_after bound i) (moved_number y n (i + 0))) (sym is) (starts_at bound n i l))))
-
-  pub row_ends : ((passes : ℕ → ℕ → Bool) → ((i : ℕ) → i < n → CutsAt n (passes i) (moved_number m n (i + 1))) → HasCuts first n passes cuts) → HasCuts first (length keys) (λ i j. not (is_after_end ks keys mode bound i j)) cuts
-  row_ends h =
-      subst (λ x. HasCuts first (length keys) (λ i j. not (is_after_end ks keys x bound i j)) cuts) (sym rows)
-      (subst (λ k. HasCuts first k (λ i j. not (ends_before bound i j)) cuts) count
-      (h (λ i j. not (ends_before bound i j)) (λ i l. subst (λ y. CutsAt n (λ j. not (ends_before bound i j)) (moved_number y n (i + 1))) (sym is) (ends_at bound n i l))))

@@ -33,8 +33,17 @@ lt_not Greater h = refl
 
 module _ {R : List Meaning → List Meaning → Ordering} (o : IsTotalOrder R) (keys : List (List Meaning)) (ordered : AreOrdered R keys) where
   -- rows up to a row that is no greater are not after its peers
-  pub first_upto : (first : ℕ) → first < length keys → (j : ℕ) → j < first → is_upto R keys first j ≡ true
+  pub first_upto : (first : ℕ) → first < length keys → (j : ℕ) → j < first + 1 → is_upto R keys first j ≡ true
   first_upto first h j l = lt_not (R (key_at keys first) (key_at keys j)) (sym (gt_is_lt o (key_at keys j) (key_at keys first)) ∙ ordered j first (omega arith) h)
+
+  -- a row that is not equal to an earlier one is after its peers
+  pub not_upto : (first place : ℕ) → first < place → place < length keys → is_eq (R (key_at keys first) (key_at keys place)) ≡ false → is_upto R keys first place ≡ false
+  not_upto first place l h other = by (R (key_at keys first) (key_at keys place)) (ordered first place (omega arith) h) other
+    where
+      by : (r : Ordering) → is_gt r ≡ false → is_eq r ≡ false → not (is_lt r) ≡ false
+      by Less g e = refl
+      by Equal g e = cc
+      by Greater g e = cc
 
   pub end_found : (first place : ℕ) → first < length keys → place < length keys → ((j : ℕ) → j < place → is_upto R keys first j ≡ true) → is_upto R keys first place ≡ false → CutsAt (length keys) (is_upto R keys first) place
   end_found first place hf hp before here = cut_found (length keys) (is_upto R keys) first place (end_cut o (length keys) (key_at keys) (key_at keys) ordered ordered) hf hp before here

@@ -1,11 +1,14 @@
 -- The places that are left of a span.
-use Rattle.std.proofs.Common.{◌≡◌, ℕ, ◌+◌, ◌<◌, ◌≤◌, Bool, true, false, List, [], ◌++◌, sym, ap, ◌∙◌, arith}
+use Rattle.std.proofs.Common.{◌≡◌, ℕ, ◌+◌, ◌<◌, ◌≤◌, Bool, true, false, List, [], ◌∷◌, ◌++◌, sym, ap, ◌∙◌, refl, arith}
 use Rattle.std.specs.Prelude.{filter, not, ◌&&◌, ◌||◌, ◌==◌, nat_le, nat_lt}
 use Rattle.std.proofs.lemmas.Bool.Decides.{nat_tests}
 use Rattle.std.proofs.lemmas.List.Elements.{filter_agree}
 use Rattle.wframe.specs.declared.frame.Span.{Span}
 use Rattle.wframe.specs.declared.frame.FrameExclusion.{FrameExclusion}
-use Rattle.wframe.specs.declared.frame.FrameExclusion.TheVariants.{Group, Ties}
+use Rattle.wframe.specs.declared.frame.FrameExclusion.TheVariants.{CurrentRow, Group, Ties, NoOthers}
+use Rattle.wframe.specs.declared.exclusion.Gap.{Gap}
+use Rattle.wframe.specs.Exclusion.{gap_of}
+use Rattle.wframe.specs.Gaps.{nearest, before_gap, within_gap, behind_gap}
 use Rattle.wframe.specs.Frame.{is_excluded}
 use Rattle.wframe.specs.Places.{places, spans_places, is_in_span}
 use Rattle.wframe.proofs.SpanFacts.{between, filter_spans}
@@ -82,20 +85,41 @@ pieces_rows f t a b c d a' b' c' d' n ft ab bc cd ca cb cc' cd' tn =
 ties_at : (f t a b row j : ℕ) → a ≤ row → row < b → is_left f t a row (row + 1) b j ≡ ((nat_le f j && nat_lt j t) && not ((nat_le a j && nat_lt j b) && not (j == row)))
 ties_at f t a b row j h k = grind (arith, nat_tests)
 
-pub ties_rows : (span peers : Span) (row n : ℕ) (exclusion : FrameExclusion) (spans : List Span) → peers.from ≤ row → row < peers.to → exclusion ≡ Ties →
-    spans_places spans ≡ filter (is_left span.from span.to peers.from row (row + 1) peers.to) (places n) →
-    spans_places spans ≡ filter (λ j. is_in_span span j && not (is_excluded exclusion row j (is_in_span peers j))) (places n)
-ties_rows span peers row n exclusion spans h k e r =
-    r ∙ filter_agree (is_left span.from span.to peers.from row (row + 1) peers.to) (λ j. is_in_span span j && not (is_excluded exclusion row j (is_in_span peers j)))
-    (λ j. ties_at span.from span.to peers.from peers.to row j h k ∙ ap (λ x. is_in_span span j && not (is_excluded x row j (is_in_span peers j))) (sym e)) (places n)
-
 -- without its peers, and without the row
 group_at : (f t a b row j : ℕ) → a ≤ row → row < b → is_left f t a b b b j ≡ ((nat_le f j && nat_lt j t) && not (nat_le a j && nat_lt j b))
 group_at f t a b row j h k = grind (arith, nat_tests)
 
-pub group_rows : (span peers : Span) (row n : ℕ) (exclusion : FrameExclusion) (spans : List Span) → peers.from ≤ row → row < peers.to → exclusion ≡ Group →
-    spans_places spans ≡ filter (is_left span.from span.to peers.from peers.to peers.to peers.to) (places n) →
+-- without the row
+row_at : (f t row j : ℕ) → is_left f t row (row + 1) (row + 1) (row + 1) j ≡ ((nat_le f j && nat_lt j t) && not (j == row))
+row_at f t row j = grind (arith, nat_tests)
+
+-- with all
+all_at : (f t j : ℕ) → is_left f t t t t t j ≡ ((nat_le f j && nat_lt j t) && true)
+all_at f t j = grind (arith, nat_tests)
+
+-- what lies in a span and not in its gap is what is not excluded
+gap_at : (exclusion : FrameExclusion) (span peers : Span) (row j : ℕ) → peers.from ≤ row → row < peers.to →
+    let g = gap_of exclusion span row peers in
+    is_left span.from span.to g.from g.kept_from g.kept_to g.to j ≡ (is_in_span span j && not (is_excluded exclusion row j (is_in_span peers j)))
+gap_at CurrentRow span peers row j h k = row_at span.from span.to row j
+gap_at Group span peers row j h k = group_at span.from span.to peers.from peers.to row j h k
+gap_at Ties span peers row j h k = ties_at span.from span.to peers.from peers.to row j h k
+gap_at NoOthers span peers row j h k = all_at span.from span.to j
+
+pub gap_rows : (exclusion : FrameExclusion) (span peers : Span) (row n : ℕ) (gap : Gap) (spans : List Span) → peers.from ≤ row → row < peers.to → gap ≡ gap_of exclusion span row peers →
+    spans_places spans ≡ filter (is_left span.from span.to gap.from gap.kept_from gap.kept_to gap.to) (places n) →
     spans_places spans ≡ filter (λ j. is_in_span span j && not (is_excluded exclusion row j (is_in_span peers j))) (places n)
-group_rows span peers row n exclusion spans h k e r =
-    r ∙ filter_agree (is_left span.from span.to peers.from peers.to peers.to peers.to) (λ j. is_in_span span j && not (is_excluded exclusion row j (is_in_span peers j)))
-    (λ j. group_at span.from span.to peers.from peers.to row j h k ∙ ap (λ x. is_in_span span j && not (is_excluded x row j (is_in_span peers j))) (sym e)) (places n)
+gap_rows exclusion span peers row n gap spans h k e r =
+    let left = λ (g : Gap). is_left span.from span.to g.from g.kept_from g.kept_to g.to in
+    r ∙ ap (λ g. filter (left g) (places n)) e
+    ∙ filter_agree (left (gap_of exclusion span row peers)) (λ j. is_in_span span j && not (is_excluded exclusion row j (is_in_span peers j))) (λ j. gap_at exclusion span peers row j h k) (places n)
+
+-- the spans around a gap and in it
+abbrev pub pieces_of : Span → Gap → List Span
+pieces_of s g = record { from = s.from; to = nearest s g.from } ∷ record { from = nearest s g.kept_from; to = nearest s g.kept_to } ∷ record { from = nearest s g.to; to = s.to } ∷ []
+
+pub gap_list_of : (exclusion : FrameExclusion) (span peers : Span) (row : ℕ) → pieces_of span (gap_of exclusion span row peers) ≡ before_gap exclusion span row peers ∷ within_gap exclusion span row peers ∷ behind_gap exclusion span row peers ∷ []
+gap_list_of CurrentRow span peers row = refl
+gap_list_of Group span peers row = refl
+gap_list_of Ties span peers row = refl
+gap_list_of NoOthers span peers row = refl

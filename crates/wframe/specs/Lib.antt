@@ -15,3 +15,4 @@ pub mod Numbered
 pub mod FrameEnds
 pub mod Sorting
 pub mod Gaps
+pub mod Exclusion

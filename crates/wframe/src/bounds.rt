@@ -10,7 +10,6 @@ ghost use Rattle.wframe.specs.Frame.{is_before_start as before_start, is_after_e
 
 use crate::cuts::{Cut, push_cuts};
 use crate::frame::{FrameBound, FrameMode};
-use crate::moves::{Move, push_moved};
 use crate::order::{is_after_end, is_before_start, key_is_after_end, key_is_before_start};
 use crate::peers::PeerEnds;
 use std::alloc::AllocError;
@@ -82,9 +81,7 @@ impl<'a> Cut for Ends<'a> {
 }
 
 /// Adds, for each row, how many rows lie before the start that a bound gives its frame, counted on from the first row's
-/// place.
-///
-/// In ROWS each start is the row's place, moved. In the other modes peers have one start, which is looked for once.
+/// place, in a mode that takes peers in together: they have one start, which is looked for once.
 pub fn push_starts(
     starts: &mut Vec<usize>,
     peers: &PeerEnds,
@@ -92,6 +89,7 @@ pub fn push_starts(
     mode: FrameMode,
     bound: FrameBound,
 ) -> Result<(), AllocError>
+    requires together { takes_groups mode ≡ true }
     requires numbered { IsTrue (is_groups mode) → AreNumbered (keys_cmp (sort_keys peers.now.rows)) (key_lists peers.now.rows) groups.now }
     requires one_key { IsTrue (is_range mode && is_offset bound) → length (sort_keys peers.now.rows) ≡ 1 }
     requires first { length starts.old.items ≡ peers.now.first }
@@ -101,27 +99,17 @@ pub fn push_starts(
     ensures long { OnOk result (length starts.new.items ≡ peers.now.first + length (key_lists peers.now.rows)) }
 {
     let count = peers.rows().count();
-    match mode {
-        FrameMode::Rows => {
-            push_moved(starts, Move::of(bound, count), 0, count, peers.first())?;
-            Ok(())
-        }
-        FrameMode::Range | FrameMode::Groups => {
-            let test = Starts {
-                peers: *peers,
-                groups,
-                mode,
-                bound,
-            };
-            push_cuts(starts, &test, count, peers.first())
-        }
-    }
+    let test = Starts {
+        peers: *peers,
+        groups,
+        mode,
+        bound,
+    };
+    push_cuts(starts, &test, count, peers.first())
 }
 
 /// Adds, for each row, how many rows do not lie after the end that a bound gives its frame, counted on from the first row's
-/// place.
-///
-/// In ROWS each end is the place behind the row, moved. In the other modes peers have one end, which is looked for once.
+/// place, in a mode that takes peers in together: they have one end, which is looked for once.
 pub fn push_ends(
     ends: &mut Vec<usize>,
     peers: &PeerEnds,
@@ -129,6 +117,7 @@ pub fn push_ends(
     mode: FrameMode,
     bound: FrameBound,
 ) -> Result<(), AllocError>
+    requires together { takes_groups mode ≡ true }
     requires numbered { IsTrue (is_groups mode) → AreNumbered (keys_cmp (sort_keys peers.now.rows)) (key_lists peers.now.rows) groups.now }
     requires one_key { IsTrue (is_range mode && is_offset bound) → length (sort_keys peers.now.rows) ≡ 1 }
     requires first { length ends.old.items ≡ peers.now.first }
@@ -138,19 +127,11 @@ pub fn push_ends(
     ensures long { OnOk result (length ends.new.items ≡ peers.now.first + length (key_lists peers.now.rows)) }
 {
     let count = peers.rows().count();
-    match mode {
-        FrameMode::Rows => {
-            push_moved(ends, Move::of(bound, count), 1, count, peers.first())?;
-            Ok(())
-        }
-        FrameMode::Range | FrameMode::Groups => {
-            let test = Ends {
-                peers: *peers,
-                groups,
-                mode,
-                bound,
-            };
-            push_cuts(ends, &test, count, peers.first())
-        }
-    }
+    let test = Ends {
+        peers: *peers,
+        groups,
+        mode,
+        bound,
+    };
+    push_cuts(ends, &test, count, peers.first())
 }

@@ -2,6 +2,7 @@ ghost use Rattle.std.specs.Prelude.{◌≡◌, ◌<◌, ◌≤◌, ℕ, ◌&&◌
 ghost use Rattle.wframe.specs.Places.{places, spans_places, is_in_span, AreApart, IsPlain};
 ghost use Rattle.wframe.specs.Frame.{is_excluded};
 ghost use Rattle.wframe.specs.Gaps.{nearest, before_gap, within_gap, behind_gap};
+ghost use Rattle.wframe.specs.Exclusion.{gap_of};
 
 use crate::frame::{FrameExclusion, Span};
 
@@ -52,6 +53,52 @@ fn pieces(span: Span, a: usize, b: usize, c: usize, d: usize) -> [Span; 3]
     ]
 }
 
+// Where the rows that an exclusion takes out begin and end. Those that are kept among them lie together too.
+#[derive(Clone, Copy)]
+struct Gap {
+    from: usize,
+    kept_from: usize,
+    kept_to: usize,
+    to: usize,
+}
+
+// What an exclusion takes out of a row's extent.
+fn gap_at(span: Span, exclusion: FrameExclusion, row: usize, peers: Span) -> Gap
+    requires from { peers.from ≤ row }
+    requires to { row < peers.to }
+    ensures gap { result ≡ gap_of exclusion span row peers }
+    ensures first { result.from ≤ result.kept_from }
+    ensures second { result.kept_from ≤ result.kept_to }
+    ensures third { result.kept_to ≤ result.to }
+{
+    match exclusion {
+        FrameExclusion::NoOthers => Gap {
+            from: span.to,
+            kept_from: span.to,
+            kept_to: span.to,
+            to: span.to,
+        },
+        FrameExclusion::CurrentRow => Gap {
+            from: row,
+            kept_from: row + 1,
+            kept_to: row + 1,
+            to: row + 1,
+        },
+        FrameExclusion::Group => Gap {
+            from: peers.from,
+            kept_from: peers.to,
+            kept_to: peers.to,
+            to: peers.to,
+        },
+        FrameExclusion::Ties => Gap {
+            from: peers.from,
+            kept_from: row,
+            kept_to: row + 1,
+            to: peers.to,
+        },
+    }
+}
+
 /// A row's frame: its extent without what the exclusion takes out.
 pub fn without(span: Span, exclusion: FrameExclusion, row: usize, peers: Span) -> [Span; 3]
     requires span { span.from ≤ span.to }
@@ -62,10 +109,6 @@ pub fn without(span: Span, exclusion: FrameExclusion, row: usize, peers: Span) -
     ensures plain { exclusion ≡ FrameExclusion.NoOthers → IsPlain span result }
     ensures list { result ≡ before_gap exclusion span row peers ∷ within_gap exclusion span row peers ∷ behind_gap exclusion span row peers ∷ [] }
 {
-    match exclusion {
-        FrameExclusion::NoOthers => pieces(span, span.to, span.to, span.to, span.to),
-        FrameExclusion::CurrentRow => pieces(span, row, row + 1, row + 1, row + 1),
-        FrameExclusion::Group => pieces(span, peers.from, peers.to, peers.to, peers.to),
-        FrameExclusion::Ties => pieces(span, peers.from, row, row + 1, peers.to),
-    }
+    let gap = gap_at(span, exclusion, row, peers);
+    pieces(span, gap.from, gap.kept_from, gap.kept_to, gap.to)
 }

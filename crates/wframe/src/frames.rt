@@ -1,15 +1,17 @@
-ghost use Rattle.std.specs.Prelude.{◌≡◌, ◌<◌, ◌≤◌, ◌+◌, ◌-◌, ℕ, [], ◌∷◌, length};
+ghost use Rattle.std.specs.Prelude.{◌≡◌, ◌<◌, ◌≤◌, ◌+◌, ◌-◌, ℕ, [], ◌∷◌, length, max};
 ghost use Rattle.wvalues.specs.Order.{keys_cmp};
 ghost use Rattle.wframe.specs.Peers.{AreOrdered, are_peers, smaller_keys};
 ghost use Rattle.wframe.specs.Places.{span_places, spans_places, is_in_span, AreApart, IsPlain, IsRisen};
 ghost use Rattle.wframe.specs.Partition.{Partition, peer_rows};
 ghost use Rattle.wframe.specs.Frame.{frame_rows, frame_start, frame_extent};
+ghost use Rattle.wframe.specs.Moves.{moved_number};
 ghost use Rattle.wframe.specs.Gaps.{peer_span, before_span, within_span, behind_span};
 
 use crate::ends::FrameEnds;
 use crate::exclusion::without;
-use crate::frame::{Frame, FrameExclusion, Span};
+use crate::frame::{Frame, FrameExclusion, FrameMode, Span};
 use crate::key_rows::KeyRows;
+use crate::moves::Move;
 use std::marker::Model;
 
 /// One partition with the peers and the frame of each of its rows, lent by [`crate::Partitions`].
@@ -20,11 +22,16 @@ pub struct Frames<'a> {
     rows: KeyRows<'a>,
     frame: Frame,
     span: Span,
+    // How far frames start and end from their rows, in ROWS.
+    start: Move,
+    end: Move,
+    // What is kept of each row.
     ends: &'a FrameEnds,
 }
 
 impl<'a> Model for Frames<'a> {
     ghost use Rattle.std.specs.Prelude.{◌≡◌, ◌+◌, length};
+    ghost use Rattle.wframe.specs.Moves.{move_of};
     ghost use Rattle.wframe.specs.Partition.{Partition};
     ghost use Rattle.wframe.specs.KeyRows.{key_lists, sort_keys};
     ghost use Rattle.wframe.specs.FrameEnds.{HasFrames};
@@ -33,7 +40,7 @@ impl<'a> Model for Frames<'a> {
 
     ghost view = { λ f. record { order = sort_keys f.rows; keys = key_lists f.rows; frame = f.frame } };
 
-    ghost invariant = { λ f. (f.span.to ≡ f.span.from + length (key_lists f.rows)) × HasFrames (record { order = sort_keys f.rows; keys = key_lists f.rows; frame = f.frame }) f.span.from f.ends.now };
+    ghost invariant = { λ f. (f.span.to ≡ f.span.from + length (key_lists f.rows)) × (f.start ≡ move_of f.frame.start (length (key_lists f.rows))) × (f.end ≡ move_of f.frame.end (length (key_lists f.rows))) × HasFrames (record { order = sort_keys f.rows; keys = key_lists f.rows; frame = f.frame }) f.span.from f.ends.now };
 }
 
 // A span counted from a place before it.
@@ -49,11 +56,27 @@ fn counted_from(span: Span, place: usize) -> Span
     }
 }
 
+// From a row's place, moved, up to the place behind it, moved, among so many rows.
+fn moved_span(start: Move, end: Move, row: usize, count: usize) -> Span
+    requires { row < count }
+    ensures from { result.from ≡ moved_number start count row }
+    ensures to { result.to ≡ max (moved_number start count row) (moved_number end count (row + 1)) }
+{
+    let from = start.moved(row, count);
+    Span {
+        from,
+        to: from.max(end.moved(row + 1, count)),
+    }
+}
+
 impl<'a> Frames<'a> {
     ghost use Rattle.wframe.specs.KeyRows.{key_lists, sort_keys};
-    ghost use Rattle.wframe.specs.FrameEnds.{HasFrames};
+    ghost use Rattle.wframe.specs.FrameEnds.{HasFrames, IsFrameOf};
+    ghost use Rattle.wframe.specs.Ties.{takes_groups};
+    ghost use Rattle.wframe.specs.declared.frame.FrameMode.{FrameMode};
+    ghost use Rattle.std.specs.Prelude.{true};
 
-    // The rows of a span, which have their ends there.
+    /// The rows of a span, of which the peers and the ends are kept there.
     pub(crate) fn new(
         rows: KeyRows<'a>,
         frame: Frame,
@@ -66,10 +89,13 @@ impl<'a> Frames<'a> {
         ensures keys { result.keys ≡ key_lists rows.entry }
         ensures frame { result.frame ≡ frame }
     {
+        let count = rows.count();
         Frames {
             rows,
             frame,
             span,
+            start: Move::of(frame.start, count),
+            end: Move::of(frame.end, count),
             ends,
         }
     }
@@ -104,6 +130,37 @@ impl<'a> Frames<'a> {
         counted_from(self.ends.peers(first + row), first)
     }
 
+    // The extent of a row's frame in ROWS: the row's place and the one behind it, moved.
+    fn moved_extent(&self, row: usize) -> Span
+        requires mode { self.now.frame.mode ≡ FrameMode.Rows }
+        requires row { row < length self.now.keys }
+        ensures { IsFrameOf self.now row result }
+    {
+        moved_span(self.start, self.end, row, self.rows.count())
+    }
+
+    // The extent of a row's frame in RANGE and GROUPS, as it is kept.
+    fn kept_extent(&self, row: usize) -> Span
+        requires mode { takes_groups self.now.frame.mode ≡ true }
+        requires row { row < length self.now.keys }
+        ensures { IsFrameOf self.now row result }
+    {
+        let first = self.span.from;
+        counted_from(self.ends.extent(first + row), first)
+    }
+
+    // The extent of a row's frame.
+    fn found_extent(&self, row: usize) -> Span
+        requires { row < length self.now.keys }
+        ensures frame { IsFrameOf self.now row result }
+        ensures ordered { AreOrdered (keys_cmp self.now.order) self.now.keys }
+    {
+        match self.frame.mode {
+            FrameMode::Rows => self.moved_extent(row),
+            FrameMode::Range | FrameMode::Groups => self.kept_extent(row),
+        }
+    }
+
     /// The extent of a row's frame: what lies from its start to its end, excluded rows too. Where none is excluded, it is
     /// the frame.
     pub fn extent(&self, row: usize) -> Span
@@ -114,8 +171,7 @@ impl<'a> Frames<'a> {
         ensures risen { (before : ℕ) → before ≤ row → IsRisen (length self.now.keys) (frame_extent self.now before) result }
         ensures rows { self.now.frame.exclusion ≡ FrameExclusion.NoOthers → span_places result ≡ frame_rows self.now row }
     {
-        let first = self.span.from;
-        counted_from(self.ends.extent(first + row), first)
+        self.found_extent(row)
     }
 
     /// The frame of a row: three spans in order, apart from one another, of which some may be empty.
@@ -127,6 +183,11 @@ impl<'a> Frames<'a> {
         ensures plain { self.now.frame.exclusion ≡ FrameExclusion.NoOthers → IsPlain (frame_extent self.now row) result }
         ensures list { result ≡ before_span self.now row ∷ within_span self.now row ∷ behind_span self.now row ∷ [] }
     {
-        without(self.extent(row), self.frame.exclusion, row, self.peers(row))
+        without(
+            self.found_extent(row),
+            self.frame.exclusion,
+            row,
+            self.peers(row),
+        )
     }
 }

@@ -7,7 +7,7 @@ ghost use Rattle.wframe.specs.Partitions.{IsGroup};
 
 use crate::frame::Span;
 use crate::key_rows::KeyRows;
-use crate::order::compare_lists;
+use crate::order::are_equal;
 use std::alloc::AllocError;
 
 /// Where the rows that agree with a row end, which is the first of them. Without keys all agree.
@@ -21,8 +21,9 @@ pub fn agreeing_end(rows: &KeyRows, first: usize) -> usize
     if rows.keys().is_empty() {
         return count;
     }
-    for place in first..count {
-        if compare_lists(rows.row(first), rows.row(place), rows.keys()).is_lt() {
+    let key = rows.row(first);
+    for place in first + 1..count {
+        if !are_equal(key, rows.row(place), rows.keys()) {
             return place;
         }
     }

@@ -13,7 +13,7 @@ found c =
     let first = c.self.inside.span.from in
     let stored = c.self.inside.ends.now in
     peers_read c.args.self.now first c.args.row stored c.peers.result c.counted_from.result
-    (subst (λ q. HasFrames q first stored) c.self.view_is c.self.invariant.1) c.requires
+    (subst (λ q. HasFrames q first stored) c.self.view_is c.self.invariant.3) c.requires
     c.peers.ensures.from c.peers.ensures.to c.counted_from.ensures.from c.counted_from.ensures.to
 
 pub returns-clause-peers : goal.returns-clause-peers
