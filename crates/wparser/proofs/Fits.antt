@@ -10,9 +10,9 @@ use Rattle.wquery.specs.declared.expression.ChainKind.{ChainKind}
 use Rattle.wquery.specs.declared.expression.ChainKind.TheVariants.{Disjunction, Conjunction, Sum, Product}
 use Rattle.wquery.specs.Tree.{Tree}
 use Rattle.wparser.specs.Words.{CommaSign, name_of, number_of, text_of, sign_of}
-use Rattle.wparser.specs.Notation.{Tokens, Row, One, one, After, after, Then, before, Done, done, Perhaps, absent, present, Either, first, second, Room, room, Listed, last, next, GoesOn, over, further, Chain, chain, As, Never}
+use Rattle.wparser.specs.Notation.{Tokens, Row, One, one, After, after, Then, before, Done, done, Perhaps, absent, present, Either, first, second, Room, room, Listed, last, next, GoesOn, ended, further, Chain, chaining, As, Never}
 use Rattle.wparser.proofs.Steps.{one_parts}
-use Rattle.wparser.specs.Grammar.{Closed, toward, bound, extent, exclusion, frame, key, window, window_inside, reach, arguments, filter, call, perhaps_not, primary, signing, ranging, comparing, testing, negating, Rank, Chains, Negations, Signs, signs_over, comparisons_over, negations_over, operands_over, row_over, deeper, operands}
+use Rattle.wparser.specs.Grammar.{Closed, toward, bound, extent, exclusion, frame, key, window, window_inside, over, arguments, filter, call, optional_not, primary, sign_row, range_row, comparison_row, test_row, negation_row, Rank, ChainRank, NegationRank, SignRank, sign_over, comparison_over, negation_over, operand_over, row_over, deeper, operand}
 
 -- with what an operand may begin: 1 NOT, 2 a sign, 3 anything else
 abbrev pub keyword_start : Keyword → ℕ
@@ -112,11 +112,11 @@ pub listed_falls : {X : Type 0} {P : Row X} → Falls P → Falls (Listed P)
 listed_falls f = record { falls = listed_falls' f }
 
 goes_keeps : {kind : ChainKind} {P : Row Tree} → Falls P → (t y : Tree) (ts rest : Tokens) → GoesOn kind P t y ts rest → length rest ≤ length ts
-goes_keeps f t y ts rest over = omega arith
+goes_keeps f t y ts rest ended = omega arith
 goes_keeps f t y ts rest (further {operand = o} {ts = us} {us = vs} e p g) = let a = f.falls o us vs p in let b = goes_keeps f _ y vs rest g in omega arith
 
 chain_falls' : {kind : ChainKind} {P : Row Tree} → Falls P → (y : Tree) (ts rest : Tokens) → Chain kind P y ts rest → length rest < length ts
-chain_falls' f y ts rest (chain {first = t} {us = us} p g) = let a = f.falls t ts us p in let b = goes_keeps f t y us rest g in omega arith
+chain_falls' f y ts rest (chaining {first = t} {us = us} p g) = let a = f.falls t ts us p in let b = goes_keeps f t y us rest g in omega arith
 
 pub chain_falls : {kind : ChainKind} {P : Row Tree} → Falls P → Falls (Chain kind P)
 chain_falls f = record { falls = chain_falls' f }
@@ -164,7 +164,7 @@ pub window_inside_falls : {n : ℕ} {C : Row Tree} → Falls C → Falls (window
 window_inside_falls f = either_falls (after_falls done_keeps) (room_falls (closed_falls (window_keeps f)))
 
 -- calls
-reach_falls : {n : ℕ} {C : Row Tree} → Falls C → Falls (reach n C)
+reach_falls : {n : ℕ} {C : Row Tree} → Falls C → Falls (over n C)
 reach_falls f = either_falls (as_falls one_falls) (after_falls (as_keeps (falls_keeps (window_inside_falls f))))
 
 arguments_falls : {n : ℕ} {C : Row Tree} → Falls C → Falls (arguments n C)
@@ -185,44 +185,44 @@ primary_falls f =
     (after_falls (falls_keeps (closed_falls (falls_keeps f)))))))
 
 -- the rows of expressions
-perhaps_not_keeps : Keeps perhaps_not
+perhaps_not_keeps : Keeps optional_not
 perhaps_not_keeps = perhaps_keeps (falls_keeps (after_falls done_keeps))
 
-signing_falls : {U P : Row Tree} → Falls U → Falls P → Falls (signing U P)
+signing_falls : {U P : Row Tree} → Falls U → Falls P → Falls (sign_row U P)
 signing_falls f g = either_falls (then_falls one_falls (λ m. as_keeps (falls_keeps f))) g
 
-ranging_falls : {A U : Row Tree} → Falls A → Falls U → Falls (ranging A U)
+ranging_falls : {A U : Row Tree} → Falls A → Falls U → Falls (range_row A U)
 ranging_falls f g =
     then_falls f (λ e. perhaps_keeps (then_keeps perhaps_not_keeps (λ n. falls_keeps (either_falls
     (after_falls (then_keeps (falls_keeps f) (λ low. falls_keeps (after_falls (as_keeps (falls_keeps f))))))
     (after_falls (falls_keeps (after_falls (as_keeps (falls_keeps (closed_falls (falls_keeps (listed_falls g))))))))))))
 
-comparing_falls : {R : Row Tree} → Falls R → Falls (comparing R)
+comparing_falls : {R : Row Tree} → Falls R → Falls (comparison_row R)
 comparing_falls f = then_falls f (λ l. perhaps_keeps (then_keeps (falls_keeps one_falls) (λ c. as_keeps (falls_keeps f))))
 
-testing_falls : {R : Row Tree} → Falls R → Falls (testing R)
+testing_falls : {R : Row Tree} → Falls R → Falls (test_row R)
 testing_falls f = then_falls f (λ e. perhaps_keeps (falls_keeps (after_falls (then_keeps perhaps_not_keeps (λ n. falls_keeps (after_falls done_keeps))))))
 
-negation_falls : {U T : Row Tree} → Falls U → Falls T → Falls (negating U T)
+negation_falls : {U T : Row Tree} → Falls U → Falls T → Falls (negation_row U T)
 negation_falls f g = either_falls (after_falls (as_keeps (falls_keeps f))) g
 
 module _ (n : ℕ) (U : Rank → Row Tree) (u : (rank : Rank) → Falls (U rank)) where
-  signs_fall : Falls (signs_over n U)
-  signs_fall = signing_falls (u Signs) (primary_falls (u (Chains Disjunction)))
+  signs_fall : Falls (sign_over n U)
+  signs_fall = signing_falls (u SignRank) (primary_falls (u (ChainRank Disjunction)))
 
-  negations_fall : Falls (negations_over n U)
-  negations_fall = negation_falls (u Negations) (testing_falls (comparing_falls (ranging_falls (chain_falls (chain_falls signs_fall)) (u (Chains Sum)))))
+  negations_fall : Falls (negation_over n U)
+  negations_fall = negation_falls (u NegationRank) (testing_falls (comparing_falls (ranging_falls (chain_falls (chain_falls signs_fall)) (u (ChainRank Sum)))))
 
-  operands_fall : (kind : ChainKind) → Falls (operands_over n U kind)
+  operands_fall : (kind : ChainKind) → Falls (operand_over n U kind)
   operands_fall Disjunction = chain_falls negations_fall
   operands_fall Conjunction = negations_fall
   operands_fall Sum = chain_falls signs_fall
   operands_fall Product = signs_fall
 
   row_falls : (rank : Rank) → Falls (row_over n U rank)
-  row_falls (Chains kind) = chain_falls (operands_fall kind)
-  row_falls Negations = negations_fall
-  row_falls Signs = signs_fall
+  row_falls (ChainRank kind) = chain_falls (operands_fall kind)
+  row_falls NegationRank = negations_fall
+  row_falls SignRank = signs_fall
 
 no_fall : {P : Row Tree} → ((y : Tree) (ts rest : Tokens) → P y ts rest → ⊥) → Falls P
 no_fall g = record { falls = λ y ts rest p. absurd (g y ts rest p) }
@@ -232,7 +232,7 @@ unfolding deeper
 deeper_falls zero rank = no_fall (λ y ts rest p. p)
 deeper_falls (suc n) rank = row_falls n (deeper n) (deeper_falls n) rank
 
-pub operand_falls : (n : ℕ) (kind : ChainKind) → Falls (operands n kind)
+pub operand_falls : (n : ℕ) (kind : ChainKind) → Falls (operand n kind)
 operand_falls n kind = operands_fall n (deeper n) (deeper_falls n) kind
 
 -- with what a row begins
@@ -262,7 +262,7 @@ either_begins : {X : Type 0} {b : ℕ} {P Q : Row X} → Begins b P → Begins b
 either_begins f g = record { begins = either_begins' f g }
 
 chain_begins' : {b : ℕ} {kind : ChainKind} {P : Row Tree} → Begins b P → (y : Tree) (ts rest : Tokens) → Chain kind P y ts rest → Starts b ts
-chain_begins' g y ts rest (chain {first = t} {us = us} p q) = g.begins t ts us p
+chain_begins' g y ts rest (chaining {first = t} {us = us} p q) = g.begins t ts us p
 
 chain_begins : {b : ℕ} {kind : ChainKind} {P : Row Tree} → Begins b P → Begins b (Chain kind P)
 chain_begins g = record { begins = chain_begins' g }
@@ -296,22 +296,22 @@ primary_begins =
     either_begins (then_begins (one_begins number_starts)) (either_begins (then_begins (one_begins text_starts)) (either_begins (after_begins (omega arith))
     (either_begins (then_begins (one_begins name_starts)) (after_begins (omega arith)))))
 
-signs_begin : (n : ℕ) (U : Rank → Row Tree) → Begins 2 (signs_over n U)
+signs_begin : (n : ℕ) (U : Rank → Row Tree) → Begins 2 (sign_over n U)
 signs_begin n U = either_begins (then_begins (one_begins sign_starts)) (begins_less (omega arith) primary_begins)
 
-pub tests_begin : (n : ℕ) (U : Rank → Row Tree) → Begins 2 (testing (comparisons_over n U))
+pub tests_begin : (n : ℕ) (U : Rank → Row Tree) → Begins 2 (test_row (comparison_over n U))
 tests_begin n U = then_begins (then_begins (then_begins (chain_begins (chain_begins (signs_begin n U)))))
 
-negations_begin : (n : ℕ) (U : Rank → Row Tree) → Begins 1 (negations_over n U)
+negations_begin : (n : ℕ) (U : Rank → Row Tree) → Begins 1 (negation_over n U)
 negations_begin n U = either_begins (after_begins (omega arith)) (begins_less (omega arith) (tests_begin n U))
 
-pub conditions_begin : (n : ℕ) (U : Rank → Row Tree) → Begins 1 (row_over n U (Chains Disjunction))
+pub conditions_begin : (n : ℕ) (U : Rank → Row Tree) → Begins 1 (row_over n U (ChainRank Disjunction))
 conditions_begin n U = chain_begins (chain_begins (negations_begin n U))
 
 no_begin : {P : Row Tree} {b : ℕ} → ((y : Tree) (ts rest : Tokens) → P y ts rest → ⊥) → Begins b P
 no_begin g = record { begins = λ y ts rest p. absurd (g y ts rest p) }
 
-pub inner_begins : (n : ℕ) → Begins 1 (deeper n (Chains Disjunction))
+pub inner_begins : (n : ℕ) → Begins 1 (deeper n (ChainRank Disjunction))
 unfolding deeper
 inner_begins zero = no_begin (λ y ts rest p. p)
 inner_begins (suc n) = conditions_begin n (deeper n)

@@ -7,9 +7,9 @@ use Rattle.wquery.specs.declared.expression.Operator.{Operator}
 use Rattle.wlexer.specs.declared.keyword.Keyword.{Keyword}
 use Rattle.wquery.specs.QueryTree.{QueryTree, SourceTree, ItemTree, EntryTree}
 use Rattle.wquery.specs.Tree.{Tree, Given, Filter, Reach, KeyTree, WindowTree, Joined, Further, NoLinks, trees, keys, own_window, same_kind, is_chain, lengthened, joined}
-use Rattle.wparser.specs.Notation.{Tokens, Row, Listed, last, next, GoesOn, over, further, Chain, chain}
-use Rattle.wparser.specs.Grammar.{key, window, window_inside, reaching, arguments, filtered, call, named, primary, signing, range_test, ranging, comparing, testing, negating, Rank, Chains, Negations, Signs, signs_over, negations_over, operands_over, row_over, deeper, conditions, order}
-use Rattle.wparser.specs.Queries.{item, source, clause, column, grouping, entry, windows, clauses, query_over, deeper_queries, Spells}
+use Rattle.wparser.specs.Notation.{Tokens, Row, Listed, last, next, GoesOn, ended, further, Chain, chaining}
+use Rattle.wparser.specs.Grammar.{key, window, window_inside, optional_over, arguments, optional_filter, call, column_or_call, primary, sign_row, range_test, range_row, comparison_row, test_row, negation_row, Rank, ChainRank, NegationRank, SignRank, sign_over, negation_over, operand_over, row_over, deeper, condition, order}
+use Rattle.wparser.specs.Queries.{item, source, clause, column, grouping, entry, windows, clauses, query_over, deeper_query, Spells}
 use Rattle.wparser.specs.Depth.{height, trees_height, links_height, given_height, filter_height, reach_height, keys_height, most, item_height, optional_height, entry_height, query_height, source_height}
 use Rattle.wparser.proofs.Lefts.{Upholds, after_left, then_left, done_left, perhaps_left, either_left, room_left, any_left, as_left, closed_left}
 
@@ -113,12 +113,12 @@ unfolding joined
 joined_high kind t operator o k a b = joined_cases kind t operator o k a b (is_chain kind t) refl
 
 goes_high : {kind : ChainKind} {k : ℕ} {P : Row Tree} → Upholds (AtMost k) P → (t y : Tree) (ts rest : Tokens) → Reached kind k t → GoesOn kind P t y ts rest → Reached kind k y
-goes_high u t y ts rest a over = a
+goes_high u t y ts rest a ended = a
 goes_high {kind = kind} {k = k} u t y ts rest a (further {token = token} {operator = operator} {operand = o} {ts = us} {us = vs} e p g) =
     goes_high u (joined kind t operator o) y vs rest (joined_high kind t operator o k a (u.upholds o us vs p)) g
 
 chain_high' : {kind : ChainKind} {k : ℕ} {P : Row Tree} → Upholds (AtMost k) P → (y : Tree) (ts rest : Tokens) → Chain kind P y ts rest → height y ≤ suc k
-chain_high' u y ts rest (chain {first = t} {us = us} p g) = reached_high (goes_high u t y us rest (operand (u.upholds t ts us p)) g)
+chain_high' u y ts rest (chaining {first = t} {us = us} p g) = reached_high (goes_high u t y us rest (operand (u.upholds t ts us p)) g)
 
 chain_high : {kind : ChainKind} {k j : ℕ} {P : Row Tree} → suc k ≤ j → Upholds (AtMost k) P → Upholds (AtMost j) (Chain kind P)
 chain_high le u = record { upholds = λ y ts rest p. no_less le (chain_high' u y ts rest p) }
@@ -136,19 +136,19 @@ window_high {k = k} u =
 inside_high : {n k : ℕ} {C : Row Tree} → Upholds (AtMost k) C → Upholds (IsWindowAtMost k) (window_inside n C)
 inside_high u = either_left (after_left (done_left (max-le nothing nothing))) (room_left (closed_left (window_high u)))
 
-reaching_high : {n k : ℕ} {C : Row Tree} → Upholds (AtMost k) C → Upholds (IsReachAtMost k) (reaching n C)
+reaching_high : {n k : ℕ} {C : Row Tree} → Upholds (AtMost k) C → Upholds (IsReachAtMost k) (optional_over n C)
 reaching_high {k = k} u = perhaps_left nothing (after_left (either_left (as_left (λ (x : List ℕ). Unit {0}) any_left (λ x i. nothing)) (after_left (as_left (IsWindowAtMost k) (inside_high u) (λ w a. a)))))
 
 arguments_high : {n k : ℕ} {C : Row Tree} → Upholds (AtMost k) C → Upholds (IsGivenAtMost k) (arguments n C)
 arguments_high {k = k} u = either_left (after_left (done_left nothing)) (either_left (after_left (room_left (after_left (done_left nothing)))) (as_left (AreAtMost k) (closed_left (list_high u)) (λ l a. a)))
 
-filtered_high : {k : ℕ} {C : Row Tree} → Upholds (AtMost k) C → Upholds (IsFilterAtMost k) (filtered C)
+filtered_high : {k : ℕ} {C : Row Tree} → Upholds (AtMost k) C → Upholds (IsFilterAtMost k) (optional_filter C)
 filtered_high {k = k} u = perhaps_left nothing (after_left (after_left (after_left (as_left (AtMost k) (closed_left u) (λ e a. a)))))
 
 call_high : {n k j : ℕ} {C : Row Tree} {name : List ℕ} → suc k ≤ j → Upholds (AtMost k) C → Upholds (AtMost j) (call n C name)
 call_high {k = k} le u = then_left (IsGivenAtMost k) (arguments_high u) (λ g a. then_left (IsFilterAtMost k) (filtered_high u) (λ f b. then_left (IsReachAtMost k) (reaching_high u) (λ r c. done_left (one_more le (max-le a (max-le b c))))))
 
-named_high : {n k j : ℕ} {C : Row Tree} {name : List ℕ} → suc k ≤ j → Upholds (AtMost k) C → Upholds (AtMost j) (named n C name)
+named_high : {n k j : ℕ} {C : Row Tree} {name : List ℕ} → suc k ≤ j → Upholds (AtMost k) C → Upholds (AtMost j) (column_or_call n C name)
 named_high le u = perhaps_left (leaf le) (either_left (after_left (as_left (λ (x : List ℕ). Unit {0}) any_left (λ x i. leaf le))) (after_left (call_high le u)))
 
 primary_high : {n k j : ℕ} {C : Row Tree} → suc k ≤ j → Upholds (AtMost k) C → Upholds (AtMost j) (primary n C)
@@ -156,7 +156,7 @@ primary_high le u =
     either_left (as_left (λ (x : ℕ). Unit {0}) any_left (λ x i. leaf le)) (either_left (as_left (λ (x : List ℕ). Unit {0}) any_left (λ x i. leaf le)) (either_left (after_left (done_left (leaf le)))
     (either_left (then_left (λ (x : List ℕ). Unit {0}) any_left (λ x i. named_high le u)) (after_left (closed_left (more (omega arith) u))))))
 
-signing_high : {k j : ℕ} {U P : Row Tree} → suc k ≤ j → Upholds (AtMost k) U → Upholds (AtMost j) P → Upholds (AtMost j) (signing U P)
+signing_high : {k j : ℕ} {U P : Row Tree} → suc k ≤ j → Upholds (AtMost k) U → Upholds (AtMost j) P → Upholds (AtMost j) (sign_row U P)
 signing_high {k = k} le u p = either_left (then_left (λ (m : Bool). Unit {0}) any_left (λ m i. as_left (AtMost k) u (λ e a. one_more le a))) p
 
 test_high : {i k j : ℕ} {A U : Row Tree} {e : Tree} {b : Bool} → suc k ≤ j → i ≤ k → height e ≤ k → Upholds (AtMost k) A → Upholds (AtMost i) U → Upholds (AtMost j) (range_test A U e b)
@@ -164,38 +164,38 @@ test_high {i = i} {k = k} le up h a u =
     either_left (after_left (then_left (AtMost k) a (λ low x. after_left (as_left (AtMost k) a (λ high y. one_more le (max-le h (max-le x y)))))))
     (after_left (after_left (as_left (AreAtMost i) (closed_left (list_high u)) (λ l x. one_more le (max-le h (no_less up x))))))
 
-ranging_high : {i k j : ℕ} {A U : Row Tree} → suc k ≤ j → i ≤ k → Upholds (AtMost k) A → Upholds (AtMost i) U → Upholds (AtMost j) (ranging A U)
+ranging_high : {i k j : ℕ} {A U : Row Tree} → suc k ≤ j → i ≤ k → Upholds (AtMost k) A → Upholds (AtMost i) U → Upholds (AtMost j) (range_row A U)
 ranging_high {k = k} le up a u = then_left (AtMost k) a (λ e h. perhaps_left (no_less (omega arith) h) (then_left (λ (b : Bool). Unit {0}) any_left (λ b i. test_high le up h a u)))
 
-comparing_high : {k j : ℕ} {R : Row Tree} → suc k ≤ j → Upholds (AtMost k) R → Upholds (AtMost j) (comparing R)
+comparing_high : {k j : ℕ} {R : Row Tree} → suc k ≤ j → Upholds (AtMost k) R → Upholds (AtMost j) (comparison_row R)
 comparing_high {k = k} le r = then_left (AtMost k) r (λ l h. perhaps_left (no_less (omega arith) h) (then_left (λ c. Unit {0}) any_left (λ c i. as_left (AtMost k) r (λ x g. one_more le (max-le h g)))))
 
-testing_high : {k j : ℕ} {R : Row Tree} → suc k ≤ j → Upholds (AtMost k) R → Upholds (AtMost j) (testing R)
+testing_high : {k j : ℕ} {R : Row Tree} → suc k ≤ j → Upholds (AtMost k) R → Upholds (AtMost j) (test_row R)
 testing_high {k = k} le r = then_left (AtMost k) r (λ e h. perhaps_left (no_less (omega arith) h) (after_left (then_left (λ (b : Bool). Unit {0}) any_left (λ b i. after_left (done_left (one_more le h))))))
 
-negating_high : {k j : ℕ} {U T : Row Tree} → suc k ≤ j → Upholds (AtMost k) U → Upholds (AtMost j) T → Upholds (AtMost j) (negating U T)
+negating_high : {k j : ℕ} {U T : Row Tree} → suc k ≤ j → Upholds (AtMost k) U → Upholds (AtMost j) T → Upholds (AtMost j) (negation_row U T)
 negating_high {k = k} le u t = either_left (after_left (as_left (AtMost k) u (λ e a. one_more le a))) t
 
 module _ (n k : ℕ) (U : Rank → Row Tree) (u : (rank : Rank) → Upholds (AtMost k) (U rank)) where
-  signs_high : Upholds (AtMost (k + 1)) (signs_over n U)
-  signs_high = signing_high (omega arith) (u Signs) (primary_high (omega arith) (u (Chains Disjunction)))
+  signs_high : Upholds (AtMost (k + 1)) (sign_over n U)
+  signs_high = signing_high (omega arith) (u SignRank) (primary_high (omega arith) (u (ChainRank Disjunction)))
 
-  sums_high : Upholds (AtMost (k + 3)) (Chain Sum (Chain Product (signs_over n U)))
+  sums_high : Upholds (AtMost (k + 3)) (Chain Sum (Chain Product (sign_over n U)))
   sums_high = chain_high {k = k + 2} (omega arith) (chain_high (omega arith) signs_high)
 
-  negations_high : Upholds (AtMost (k + 6)) (negations_over n U)
-  negations_high = negating_high (omega arith) (u Negations) (testing_high {k = k + 5} (omega arith) (comparing_high {k = k + 4} (omega arith) (ranging_high (omega arith) (omega arith) sums_high (u (Chains Sum)))))
+  negations_high : Upholds (AtMost (k + 6)) (negation_over n U)
+  negations_high = negating_high (omega arith) (u NegationRank) (testing_high {k = k + 5} (omega arith) (comparing_high {k = k + 4} (omega arith) (ranging_high (omega arith) (omega arith) sums_high (u (ChainRank Sum)))))
 
-  operands_high : (kind : ChainKind) → Upholds (AtMost (k + 7)) (operands_over n U kind)
+  operands_high : (kind : ChainKind) → Upholds (AtMost (k + 7)) (operand_over n U kind)
   operands_high Disjunction = chain_high (omega arith) negations_high
   operands_high Conjunction = more (omega arith) negations_high
   operands_high Sum = chain_high (omega arith) signs_high
   operands_high Product = more (omega arith) signs_high
 
   row_high : (rank : Rank) → Upholds (AtMost (k + 8)) (row_over n U rank)
-  row_high (Chains kind) = chain_high (omega arith) (operands_high kind)
-  row_high Negations = more (omega arith) negations_high
-  row_high Signs = more (omega arith) signs_high
+  row_high (ChainRank kind) = chain_high (omega arith) (operands_high kind)
+  row_high NegationRank = more (omega arith) negations_high
+  row_high SignRank = more (omega arith) signs_high
 
 none_high : {k : ℕ} {P : Row Tree} → ((y : Tree) (ts rest : Tokens) → P y ts rest → ⊥) → Upholds (AtMost k) P
 none_high g = record { upholds = λ y ts rest p. absurd (g y ts rest p) }
@@ -205,8 +205,8 @@ unfolding deeper
 deeper_high zero rank = none_high (λ y ts rest p. p)
 deeper_high (suc n) rank = more (omega arith) (row_high n (8 * n) (deeper n) (deeper_high n) rank)
 
-pub bounded_height : (n : ℕ) (t : Tree) (ts rest : Tokens) → conditions n t ts rest → height t ≤ 8 * (n + 1)
-bounded_height n t ts rest p = let le = (row_high n (8 * n) (deeper n) (deeper_high n) (Chains Disjunction)).upholds t ts rest p in omega arith
+pub bounded_height : (n : ℕ) (t : Tree) (ts rest : Tokens) → condition n t ts rest → height t ≤ 8 * (n + 1)
+bounded_height n t ts rest p = let le = (row_high n (8 * n) (deeper n) (deeper_high n) (ChainRank Disjunction)).upholds t ts rest p in omega arith
 
 -- whole queries
 abbrev IsItemAtMost : ℕ → ItemTree → Type 0
@@ -231,8 +231,8 @@ most_high' of u y ts rest (next {x = x} {xs = xs} {us = us} p l) = max-le (u.uph
 most_high : {X : Type 0} (of : X → ℕ) {k : ℕ} {P : Row X} → Upholds (λ (x : X). of x ≤ k) P → Upholds (λ (l : List X). most of l ≤ k) (Listed P)
 most_high of u = record { upholds = most_high' of u }
 
-conditions_high : (n : ℕ) → Upholds (AtMost (8 * n + 8)) (conditions n)
-conditions_high n = row_high n (8 * n) (deeper n) (deeper_high n) (Chains Disjunction)
+conditions_high : (n : ℕ) → Upholds (AtMost (8 * n + 8)) (condition n)
+conditions_high n = row_high n (8 * n) (deeper n) (deeper_high n) (ChainRank Disjunction)
 
 item_high : (n : ℕ) → Upholds (IsItemAtMost (8 * n + 8)) (item n)
 item_high n = either_left (after_left (done_left nothing)) (then_left (AtMost (8 * n + 8)) (conditions_high n) (λ e a. as_left (λ (x : Option (List ℕ)). Unit {0}) any_left (λ x i. a)))
@@ -249,12 +249,12 @@ grouping_high n = perhaps_left nothing (after_left (after_left (most_high height
 entry_high : (n : ℕ) → Upholds (IsEntryAtMost (8 * n + 8)) (entry n)
 entry_high n =
     then_left (λ (x : List ℕ). Unit {0}) any_left (λ x i. after_left (after_left
-    (as_left (IsWindowAtMost (8 * n)) (inside_high (deeper_high n (Chains Disjunction))) (λ w a. no_less (omega arith) a))))
+    (as_left (IsWindowAtMost (8 * n)) (inside_high (deeper_high n (ChainRank Disjunction))) (λ w a. no_less (omega arith) a))))
 
 windows_high : (n : ℕ) → Upholds (λ (l : List EntryTree). most entry_height l ≤ 8 * n + 8) (windows n)
 windows_high n = perhaps_left nothing (after_left (most_high entry_height (entry_high n)))
 
-order_high : (n : ℕ) → Upholds (AreKeysAtMost (8 * n + 8)) (order (conditions n))
+order_high : (n : ℕ) → Upholds (AreKeysAtMost (8 * n + 8)) (order (condition n))
 order_high n = perhaps_left nothing (after_left (after_left (keys_high (key_high (conditions_high n)))))
 
 clauses_high : (n : ℕ) (items : List ItemTree) (s : SourceTree) → most item_height items ≤ 8 * n + 8 → source_height s ≤ 8 * n + 8 → Upholds (IsQueryAtMost (8 * n + 9)) (clauses n items s)
@@ -280,8 +280,8 @@ no_query g = record { upholds = λ y ts rest p. absurd (g y ts rest p) }
 wider : {k j : ℕ} {P : Row QueryTree} → k ≤ j → Upholds (IsQueryAtMost k) P → Upholds (IsQueryAtMost j) P
 wider le u = record { upholds = λ y ts rest p. no_less le (u.upholds y ts rest p) }
 
-deeper_queries_high : (n : ℕ) → Upholds (IsQueryAtMost (8 * n + 1)) (deeper_queries n)
-unfolding deeper_queries
+deeper_queries_high : (n : ℕ) → Upholds (IsQueryAtMost (8 * n + 1)) (deeper_query n)
+unfolding deeper_query
 deeper_queries_high zero = no_query (λ y ts rest p. p)
 deeper_queries_high (suc n) = wider (omega arith) (query_high n (wider (omega arith) (deeper_queries_high n)))
 

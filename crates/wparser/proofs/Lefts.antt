@@ -10,10 +10,10 @@ use Rattle.wquery.specs.declared.expression.Operator.{Operator}
 use Rattle.wquery.specs.Tree.{Tree, KeyTree, Joined, Further, NoLinks, trees, keys, same_kind, is_chain, lengthened, joined}
 use Rattle.wquery.specs.Lefts.{chain_kind, IsLeft, AreLeft, AreGivenLeft, IsFilterLeft, IsReachLeft, AreKeysLeft, IsWindowLeft, IsOptionalLeft, AreItemsLeft, AreEntriesLeft, IsQueryLeft, IsSourceLeft}
 use Rattle.wparser.specs.Words.{operator_of}
-use Rattle.wparser.specs.Notation.{Tokens, Row, After, after, Then, before, Done, done, Perhaps, absent, present, Either, first, second, Room, room, Listed, last, next, GoesOn, over, further, Chain, chain, As}
+use Rattle.wparser.specs.Notation.{Tokens, Row, After, after, Then, before, Done, done, Perhaps, absent, present, Either, first, second, Room, room, Listed, last, next, GoesOn, ended, further, Chain, chaining, As}
 use Rattle.wquery.specs.QueryTree.{QueryTree, SourceTree, ItemTree, EntryTree, AllColumns, Computed}
-use Rattle.wparser.specs.Queries.{item, source, clause, entry, clauses, query_over, deeper_queries, Spells}
-use Rattle.wparser.specs.Grammar.{order, Closed, key, window, window_inside, reaching, arguments, filtered, call, named, primary, signing, range_test, ranging, comparing, testing, Rank, Chains, Negations, Signs, signs_over, negations_over, operands_over, row_over, deeper, conditions}
+use Rattle.wparser.specs.Queries.{item, source, clause, entry, clauses, query_over, deeper_query, Spells}
+use Rattle.wparser.specs.Grammar.{order, Closed, key, window, window_inside, optional_over, arguments, optional_filter, call, column_or_call, primary, sign_row, range_test, range_row, comparison_row, test_row, Rank, ChainRank, NegationRank, SignRank, sign_over, negation_over, operand_over, row_over, deeper, condition}
 
 pub record Upholds {X : Type 0} (B : X → Type 0) (P : Row X) : Type 0 where
   pub upholds : (x : X) (ts rest : Tokens) → P x ts rest → B x
@@ -112,12 +112,12 @@ unfolding joined
 joined_left kind t operator o q a b = joined_cases kind t operator o q a b (is_chain kind t) refl
 
 goes_left : {kind : ChainKind} {P : Row Tree} → Upholds IsLeft P → (t y : Tree) (ts rest : Tokens) → IsLeft t → GoesOn kind P t y ts rest → IsLeft y
-goes_left u t y ts rest a over = a
+goes_left u t y ts rest a ended = a
 goes_left {kind = kind} u t y ts rest a (further {token = token} {operator = operator} {operand = o} {ts = us} {us = vs} e p g) =
     goes_left u (joined kind t operator o) y vs rest (joined_left kind t operator o (operator_kind kind token operator e) a (u.upholds o us vs p)) g
 
 chain_left' : {kind : ChainKind} {P : Row Tree} → Upholds IsLeft P → (y : Tree) (ts rest : Tokens) → Chain kind P y ts rest → IsLeft y
-chain_left' u y ts rest (chain {first = t} {us = us} p g) = goes_left u t y us rest (u.upholds t ts us p) g
+chain_left' u y ts rest (chaining {first = t} {us = us} p g) = goes_left u t y us rest (u.upholds t ts us p) g
 
 chain_left : {kind : ChainKind} {P : Row Tree} → Upholds IsLeft P → Upholds IsLeft (Chain kind P)
 chain_left u = record { upholds = chain_left' u }
@@ -147,19 +147,19 @@ window_left u =
 inside_left : {n : ℕ} {C : Row Tree} → Upholds IsLeft C → Upholds IsWindowLeft (window_inside n C)
 inside_left u = either_left (after_left (done_left (tt, tt))) (room_left (closed_left (window_left u)))
 
-reaching_left : {n : ℕ} {C : Row Tree} → Upholds IsLeft C → Upholds IsReachLeft (reaching n C)
+reaching_left : {n : ℕ} {C : Row Tree} → Upholds IsLeft C → Upholds IsReachLeft (optional_over n C)
 reaching_left u = perhaps_left tt (after_left (either_left (as_left (λ (x : List ℕ). Unit {0}) any_left (λ x i. tt)) (after_left (as_left IsWindowLeft (inside_left u) (λ w a. a)))))
 
 arguments_left : {n : ℕ} {C : Row Tree} → Upholds IsLeft C → Upholds AreGivenLeft (arguments n C)
 arguments_left u = either_left (after_left (done_left tt)) (either_left (after_left (room_left (after_left (done_left tt)))) (as_left (λ (l : List Tree). AreLeft (trees l)) (closed_left (list_left u)) (λ l a. a)))
 
-filtered_left : {C : Row Tree} → Upholds IsLeft C → Upholds IsFilterLeft (filtered C)
+filtered_left : {C : Row Tree} → Upholds IsLeft C → Upholds IsFilterLeft (optional_filter C)
 filtered_left u = perhaps_left tt (after_left (after_left (after_left (as_left IsLeft (closed_left u) (λ e a. a)))))
 
 call_left : {n : ℕ} {C : Row Tree} {name : List ℕ} → Upholds IsLeft C → Upholds IsLeft (call n C name)
 call_left u = then_left AreGivenLeft (arguments_left u) (λ g a. then_left IsFilterLeft (filtered_left u) (λ f b. then_left IsReachLeft (reaching_left u) (λ r c. done_left (a, b, c))))
 
-named_left : {n : ℕ} {C : Row Tree} {name : List ℕ} → Upholds IsLeft C → Upholds IsLeft (named n C name)
+named_left : {n : ℕ} {C : Row Tree} {name : List ℕ} → Upholds IsLeft C → Upholds IsLeft (column_or_call n C name)
 named_left u = perhaps_left tt (either_left (after_left (as_left (λ (x : List ℕ). Unit {0}) any_left (λ x i. tt))) (after_left (call_left u)))
 
 primary_left : {n : ℕ} {C : Row Tree} → Upholds IsLeft C → Upholds IsLeft (primary n C)
@@ -167,7 +167,7 @@ primary_left u =
     either_left (as_left (λ (x : ℕ). Unit {0}) any_left (λ x i. tt)) (either_left (as_left (λ (x : List ℕ). Unit {0}) any_left (λ x i. tt)) (either_left (after_left (done_left tt))
     (either_left (then_left (λ (x : List ℕ). Unit {0}) any_left (λ x i. named_left u)) (after_left (closed_left u)))))
 
-signing_left : {U P : Row Tree} → Upholds IsLeft U → Upholds IsLeft P → Upholds IsLeft (signing U P)
+signing_left : {U P : Row Tree} → Upholds IsLeft U → Upholds IsLeft P → Upholds IsLeft (sign_row U P)
 signing_left u p = either_left (then_left (λ (m : Bool). Unit {0}) any_left (λ m i. as_left IsLeft u (λ e a. a))) p
 
 test_left : {A U : Row Tree} {e : Tree} {b : Bool} → IsLeft e → Upholds IsLeft A → Upholds IsLeft U → Upholds IsLeft (range_test A U e b)
@@ -175,32 +175,32 @@ test_left i a u =
     either_left (after_left (then_left IsLeft a (λ low x. after_left (as_left IsLeft a (λ high y. (i, x, y))))))
     (after_left (after_left (as_left (λ (l : List Tree). AreLeft (trees l)) (closed_left (list_left u)) (λ l x. (i, x)))))
 
-ranging_left : {A U : Row Tree} → Upholds IsLeft A → Upholds IsLeft U → Upholds IsLeft (ranging A U)
+ranging_left : {A U : Row Tree} → Upholds IsLeft A → Upholds IsLeft U → Upholds IsLeft (range_row A U)
 ranging_left a u = then_left IsLeft a (λ e i. perhaps_left i (then_left (λ (b : Bool). Unit {0}) any_left (λ b j. test_left i a u)))
 
-comparing_left : {R : Row Tree} → Upholds IsLeft R → Upholds IsLeft (comparing R)
+comparing_left : {R : Row Tree} → Upholds IsLeft R → Upholds IsLeft (comparison_row R)
 comparing_left r = then_left IsLeft r (λ l i. perhaps_left i (then_left (λ c. Unit {0}) any_left (λ c j. as_left IsLeft r (λ x k. (i, k)))))
 
-testing_left : {R : Row Tree} → Upholds IsLeft R → Upholds IsLeft (testing R)
+testing_left : {R : Row Tree} → Upholds IsLeft R → Upholds IsLeft (test_row R)
 testing_left r = then_left IsLeft r (λ e i. perhaps_left i (after_left (then_left (λ (b : Bool). Unit {0}) any_left (λ b j. after_left (done_left i)))))
 
 module _ (n : ℕ) (U : Rank → Row Tree) (u : (rank : Rank) → Upholds IsLeft (U rank)) where
-  signs_left : Upholds IsLeft (signs_over n U)
-  signs_left = signing_left (u Signs) (primary_left (u (Chains Disjunction)))
+  signs_left : Upholds IsLeft (sign_over n U)
+  signs_left = signing_left (u SignRank) (primary_left (u (ChainRank Disjunction)))
 
-  negations_left : Upholds IsLeft (negations_over n U)
-  negations_left = either_left (after_left (as_left IsLeft (u Negations) (λ e a. a))) (testing_left (comparing_left (ranging_left (chain_left (chain_left signs_left)) (u (Chains Sum)))))
+  negations_left : Upholds IsLeft (negation_over n U)
+  negations_left = either_left (after_left (as_left IsLeft (u NegationRank) (λ e a. a))) (testing_left (comparing_left (ranging_left (chain_left (chain_left signs_left)) (u (ChainRank Sum)))))
 
-  operands_left : (kind : ChainKind) → Upholds IsLeft (operands_over n U kind)
+  operands_left : (kind : ChainKind) → Upholds IsLeft (operand_over n U kind)
   operands_left Disjunction = chain_left negations_left
   operands_left Conjunction = negations_left
   operands_left Sum = chain_left signs_left
   operands_left Product = signs_left
 
   row_left : (rank : Rank) → Upholds IsLeft (row_over n U rank)
-  row_left (Chains kind) = chain_left (operands_left kind)
-  row_left Negations = negations_left
-  row_left Signs = signs_left
+  row_left (ChainRank kind) = chain_left (operands_left kind)
+  row_left NegationRank = negations_left
+  row_left SignRank = signs_left
 
 none_left : {P : Row Tree} → ((y : Tree) (ts rest : Tokens) → P y ts rest → ⊥) → Upholds IsLeft P
 none_left g = record { upholds = λ y ts rest p. absurd (g y ts rest p) }
@@ -210,12 +210,12 @@ unfolding deeper
 deeper_left zero rank = none_left (λ y ts rest p. p)
 deeper_left (suc n) rank = row_left n (deeper n) (deeper_left n) rank
 
-pub no_chain_first : (n : ℕ) (t : Tree) (ts rest : Tokens) → conditions n t ts rest → IsLeft t
-no_chain_first n t ts rest p = (row_left n (deeper n) (deeper_left n) (Chains Disjunction)).upholds t ts rest p
+pub no_chain_first : (n : ℕ) (t : Tree) (ts rest : Tokens) → condition n t ts rest → IsLeft t
+no_chain_first n t ts rest p = (row_left n (deeper n) (deeper_left n) (ChainRank Disjunction)).upholds t ts rest p
 
 -- whole queries
-conditions_left : (n : ℕ) → Upholds IsLeft (conditions n)
-conditions_left n = row_left n (deeper n) (deeper_left n) (Chains Disjunction)
+conditions_left : (n : ℕ) → Upholds IsLeft (condition n)
+conditions_left n = row_left n (deeper n) (deeper_left n) (ChainRank Disjunction)
 
 item_left' : (n : ℕ) (y : ItemTree) (ts rest : Tokens) → item n y ts rest → AreItemsLeft (y ∷ [])
 item_left' n = (either_left {B = λ (i : ItemTree). AreItemsLeft (i ∷ [])} (after_left (done_left tt)) (then_left IsLeft (conditions_left n) (λ e a. as_left (λ (x : Option (List ℕ)). Unit {0}) any_left (λ x i. (a, tt))))).upholds
@@ -232,13 +232,13 @@ clause_left : (k : Keyword) (n : ℕ) → Upholds IsOptionalLeft (clause k n)
 clause_left k n = perhaps_left tt (as_left IsLeft (after_left (conditions_left n)) (λ e a. a))
 
 entry_left : (n : ℕ) → Upholds (λ (e : EntryTree). IsWindowLeft e.window) (entry n)
-entry_left n = then_left (λ (x : List ℕ). Unit {0}) any_left (λ x i. after_left (after_left (as_left IsWindowLeft (inside_left (deeper_left n (Chains Disjunction))) (λ w a. a))))
+entry_left n = then_left (λ (x : List ℕ). Unit {0}) any_left (λ x i. after_left (after_left (as_left IsWindowLeft (inside_left (deeper_left n (ChainRank Disjunction))) (λ w a. a))))
 
 entries_left : (n : ℕ) (y : List EntryTree) (ts rest : Tokens) → Listed (entry n) y ts rest → AreEntriesLeft y
 entries_left n y ts rest (last {x = x} p) = ((entry_left n).upholds x ts rest p, tt)
 entries_left n y ts rest (next {x = x} {xs = xs} {us = us} p l) = ((entry_left n).upholds x ts _ p, entries_left n xs us rest l)
 
-order_left : (n : ℕ) → Upholds (λ (l : List KeyTree). AreKeysLeft (keys l)) (order (conditions n))
+order_left : (n : ℕ) → Upholds (λ (l : List KeyTree). AreKeysLeft (keys l)) (order (condition n))
 order_left n = perhaps_left tt (after_left (after_left (keys_left (key_left (conditions_left n)))))
 
 clauses_left : (n : ℕ) (items : List ItemTree) (s : SourceTree) → AreItemsLeft items → IsSourceLeft s → Upholds IsQueryLeft (clauses n items s)
@@ -259,8 +259,8 @@ query_left n u =
 no_query : {P : Row QueryTree} → ((y : QueryTree) (ts rest : Tokens) → P y ts rest → ⊥) → Upholds IsQueryLeft P
 no_query g = record { upholds = λ y ts rest p. absurd (g y ts rest p) }
 
-queries_deeper : (n : ℕ) → Upholds IsQueryLeft (deeper_queries n)
-unfolding deeper_queries
+queries_deeper : (n : ℕ) → Upholds IsQueryLeft (deeper_query n)
+unfolding deeper_query
 queries_deeper zero = no_query (λ y ts rest p. p)
 queries_deeper (suc n) = query_left n (queries_deeper n)
 

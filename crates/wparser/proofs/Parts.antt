@@ -1,6 +1,6 @@
 -- The outcomes of single rows.
-use Rattle.std.proofs.Common.{◌≡◌, Bool, false, ℕ, ◌<◌, ◌≤◌, List, ◌∷◌, length, Option, Some, None, refl, ap, subst, ◌∙◌, arith}
-use Rattle.std.proofs.lemmas.List.{length-map}
+use Rattle.std.proofs.Common.{◌≡◌, Bool, false, ℕ, ◌<◌, ◌≤◌, List, [], ◌∷◌, ◌++◌, length, map, Option, Some, None, refl, ap, subst, ◌∙◌, arith}
+use Rattle.std.proofs.lemmas.List.{length-map, map-append}
 use Rattle.wlexer.specs.Token.{TokenMeaning, KeywordToken, NameToken, NumberToken, TextToken, SymbolToken, meaning_of}
 use Rattle.wlexer.specs.declared.token.Token.{Token}
 use Rattle.wlexer.specs.declared.keyword.Keyword.TheVariants as keywords
@@ -12,7 +12,7 @@ use Rattle.wquery.specs.Tree.{Tree, KeyTree, Invoked, Given, Filter, NullWord, N
 use Rattle.wparser.specs.Words.{OpenSign, CloseSign, name_of, number_of, text_of, mode_of, direction_of}
 use Rattle.wparser.specs.Notation.{Tokens, Row, One, Then, Done, Perhaps, Listed, As, Never}
 use Rattle.wparser.specs.Grips.{grip, Stops, kind_class}
-use Rattle.wparser.specs.Grammar.{Closed, perhaps_not, perhaps_frame, frame, partition, order, nulls_placed, window, window_inside, reaching, named, primary, range_test, range_tested, compared, null_tested, inner}
+use Rattle.wparser.specs.Grammar.{Closed, optional_not, optional_frame, frame, partition, order, nulls_placed, window, window_inside, optional_over, column_or_call, primary, range_test, range_tested, compared, null_tested, inner}
 use Rattle.wparser.specs.Finding.{Outcome, Got, Refused, Answers, IsNoTest, meanings}
 use Rattle.wparser.proofs.Steps.{Leads, answers_less, grips, missing, other_token, not_said, one_parts, never_either, never_then, never_listed, any_leads, one_then_leads, one_leads, then_leads, perhaps_leads, after_leads, either_leads, done_leads, as_leads, then_got, after_got, after_never, as_got, one_got, never_perhaps_then, perhaps_absent, either_first, either_second, done_got, either_same, room_agrees, closed_got}
 use Rattle.wparser.proofs.Rows.{comparison_grip}
@@ -72,16 +72,16 @@ compared_leads = perhaps_leads (omega arith) (one_then_leads (λ token x e. let 
 pub test_leads : {A U : Row Tree} {e : Tree} {negated : Bool} → Leads (range_test A U e negated) 24 25
 test_leads = either_leads (after_leads (omega arith)) (after_leads (omega arith))
 
-pub perhaps_not_leads : {k : ℕ} → k ≤ 26 → Leads perhaps_not k 26
+pub perhaps_not_leads : {k : ℕ} → k ≤ 26 → Leads optional_not k 26
 perhaps_not_leads le = perhaps_leads le (after_leads (omega arith))
 
 pub tested_leads : {A U : Row Tree} {e : Tree} → Leads (range_tested A U e) 24 26
 tested_leads = perhaps_leads (omega arith) (then_leads (λ n. test_leads) (perhaps_not_leads (omega arith)))
 
-pub no_test : {A U : Row Tree} {e : Tree} {ts : Tokens} → IsNoTest ts → Never (Then perhaps_not (range_test A U e)) ts
+pub no_test : {A U : Row Tree} {e : Tree} {ts : Tokens} → IsNoTest ts → Never (Then optional_not (range_test A U e)) ts
 no_test g = never_perhaps_then (after_never (λ us. (g us).0)) (λ b. never_either (after_never (λ us. (g us).1)) (after_never (λ us. (g us).2)))
 
-pub reaching_leads : {n : ℕ} {C : Row Tree} → Leads (reaching n C) 28 29
+pub reaching_leads : {n : ℕ} {C : Row Tree} → Leads (optional_over n C) 28 29
 reaching_leads = perhaps_leads (omega arith) (after_leads (omega arith))
 
 pub nulls_leads : Leads nulls_placed 15 16
@@ -90,7 +90,7 @@ nulls_leads = perhaps_leads (omega arith) (as_leads (after_leads (omega arith)))
 pub descending_leads : Leads (Perhaps false (One direction_of)) 16 20
 descending_leads = perhaps_leads (omega arith) (one_leads (λ token x e. let q = direction_grip token x e in omega arith))
 
-pub frame_leads : Leads perhaps_frame 3 5
+pub frame_leads : Leads optional_frame 3 5
 frame_leads = perhaps_leads (omega arith) (as_leads (one_then_leads (λ token x e. let q = mode_grip token x e in omega arith)))
 
 pub order_leads : {C : Row Tree} → Leads (order C) 5 6
@@ -117,7 +117,7 @@ primary_null e =
     either_second (never_then (not_said e refl)) (either_second (never_then (not_said e refl)) (either_first (never_either (never_then (not_said e refl)) (other_token e (λ q. cc)))
     (after_got e done_got)))
 
-pub primary_name : {n : ℕ} {C : Row Tree} {x : List ℕ} {ts us : Tokens} {o : Outcome Tree} → One name_of x ts us → Answers (named n C x) 28 us o → Answers (primary n C) 28 ts o
+pub primary_name : {n : ℕ} {C : Row Tree} {x : List ℕ} {ts us : Tokens} {o : Outcome Tree} → One name_of x ts us → Answers (column_or_call n C x) 28 us o → Answers (primary n C) 28 ts o
 primary_name p a =
     let e = name_here p in
     either_second (never_then (not_said e refl)) (either_second (never_then (not_said e refl)) (either_second (other_token e (λ q. cc)) (either_first (other_token e (λ q. cc))
@@ -153,13 +153,13 @@ no_list n e lt = never_then (never_then (never_listed (begins_not (inner_begins 
 pub meanings_fall : {token : TokenMeaning} (ts us vs : List Token) → meanings ts ≡ token ∷ meanings us → length (meanings vs) < length (meanings us) → length vs < length ts
 meanings_fall ts us vs e lt = omega (arith, length-map ts meaning_of, length-map us meaning_of, length-map vs meaning_of, ap length e)
 
-pub window_leads_parts : {C : Row Tree} {copied : Option (List ℕ)} → Leads (Then (partition C) (λ p. Then (order C) (λ o. Then perhaps_frame (λ f. Done (window_of copied p o f))))) 3 14
+pub window_leads_parts : {C : Row Tree} {copied : Option (List ℕ)} → Leads (Then (partition C) (λ p. Then (order C) (λ o. Then optional_frame (λ f. Done (window_of copied p o f))))) 3 14
 window_leads_parts = then_leads (λ p. then_leads (λ o. then_leads (λ f. done_leads (omega arith)) frame_leads) order_leads) partition_leads
 
-pub window_leads_order : {C : Row Tree} {copied : Option (List ℕ)} {p : List Tree} → Leads (Then (order C) (λ o. Then perhaps_frame (λ f. Done (window_of copied p o f)))) 3 6
+pub window_leads_order : {C : Row Tree} {copied : Option (List ℕ)} {p : List Tree} → Leads (Then (order C) (λ o. Then optional_frame (λ f. Done (window_of copied p o f)))) 3 6
 window_leads_order = then_leads (λ o. then_leads (λ f. done_leads (omega arith)) frame_leads) order_leads
 
-pub window_leads_frame : {copied : Option (List ℕ)} {p : List Tree} {o : List KeyTree} → Leads (Then perhaps_frame (λ f. Done (window_of copied p o f))) 3 5
+pub window_leads_frame : {copied : Option (List ℕ)} {p : List Tree} {o : List KeyTree} → Leads (Then optional_frame (λ f. Done (window_of copied p o f))) 3 5
 window_leads_frame = then_leads (λ f. done_leads (omega arith)) frame_leads
 
 pub key_leads : {e : Tree} → Leads (Then (Perhaps false (One direction_of)) (λ d. Then nulls_placed (λ n. Done (key_of e d n)))) 15 20
@@ -168,7 +168,7 @@ key_leads = then_leads (λ d. then_leads (λ n. done_leads (omega arith)) nulls_
 pub key_leads_nulls : {e : Tree} {d : Bool} → Leads (Then nulls_placed (λ n. Done (key_of e d n))) 15 16
 key_leads_nulls = then_leads (λ n. done_leads (omega arith)) nulls_leads
 
-pub call_leads : {n : ℕ} {C : Row Tree} {name : List ℕ} {given : Given} {f : Filter} → Leads (Then (reaching n C) (λ r. Done (Invoked name given f r))) 28 29
+pub call_leads : {n : ℕ} {C : Row Tree} {name : List ℕ} {given : Given} {f : Filter} → Leads (Then (optional_over n C) (λ r. Done (Invoked name given f r))) 28 29
 call_leads = then_leads (λ r. done_leads (omega arith)) reaching_leads
 
 pub kind_above : (kind : ChainKind) → 12 < kind_class kind
@@ -178,8 +178,8 @@ kind_above Sum = omega arith
 kind_above Product = omega arith
 
 -- the same, by the bytes of a copy
-pub primary_name_copied : {n : ℕ} {C : Row Tree} {x x' : List ℕ} {ts us : Tokens} {o : Outcome Tree} → One name_of x ts us → x' ≡ x → Answers (named n C x') 28 us o → Answers (primary n C) 28 ts o
-primary_name_copied {n = n} {C = C} {us = us} {o = o} p e a = primary_name p (subst (λ (y : List ℕ). Answers (named n C y) 28 us o) e a)
+pub primary_name_copied : {n : ℕ} {C : Row Tree} {x x' : List ℕ} {ts us : Tokens} {o : Outcome Tree} → One name_of x ts us → x' ≡ x → Answers (column_or_call n C x') 28 us o → Answers (primary n C) 28 ts o
+primary_name_copied {n = n} {C = C} {us = us} {o = o} p e a = primary_name p (subst (λ (y : List ℕ). Answers (column_or_call n C y) 28 us o) e a)
 
 pub meanings_fall_on : {token : TokenMeaning} (ts us vs : List Token) → meanings us ≡ token ∷ meanings vs → length (meanings us) < length (meanings ts) → length vs < length ts
 meanings_fall_on ts us vs e lt = omega (arith, length-map ts meaning_of, length-map us meaning_of, length-map vs meaning_of, ap length e)
@@ -189,3 +189,7 @@ takes_tokens {x = x} ts us f p = let lt = f.falls x (meanings ts) (meanings us) 
 
 pub window_along : {p p' : List Tree} {o o' : List KeyTree} → p ≡ p' → o ≡ o' → window_of None p o None ≡ window_of None p' o' None
 window_along {p' = p'} {o = o} e f = ap (λ (x : List Tree). window_of None x o None) e ∙ ap (λ (x : List KeyTree). window_of None p' x None) f
+
+-- one more at the end
+pub one_more : {A X : Type 0} (f : A → X) (xs new : List A) (x : A) → new ≡ xs ++ (x ∷ []) → map f new ≡ map f xs ++ (f x ∷ [])
+one_more f xs new x e = ap (map f) e ∙ map-append f xs (x ∷ [])

@@ -10,7 +10,7 @@ use Rattle.wquery.specs.declared.expression.Operator.{Operator}
 use Rattle.wquery.specs.declared.expression.Comparison.{Comparison}
 use Rattle.wquery.specs.Tree.{Tree, joined}
 use Rattle.wparser.specs.Words.{operator_of, comparison_of}
-use Rattle.wparser.specs.Notation.{Tokens, Row, One, one, Then, before, GoesOn, over, further, Chain, chain, Never}
+use Rattle.wparser.specs.Notation.{Tokens, Row, One, one, Then, before, GoesOn, ended, further, Chain, chaining, Never}
 use Rattle.wparser.specs.Grips.{grip, Stops, kind_class, operand_class}
 use Rattle.wparser.specs.Finding.{Outcome, Got, Refused, Short, failed, IsRead, Agrees, Answers}
 use Rattle.wparser.proofs.Steps.{stops_more, Leads, through, never, along, then_got, then_refused, tails, moved, failed_agrees}
@@ -30,17 +30,17 @@ class_rises Sum = omega arith
 class_rises Product = omega arith
 
 goes_stops : {kind : ChainKind} {P : Row Tree} {first : Tree} (y : Tree) (ts rest : Tokens) → GoesOn kind P first y ts rest → Stops (kind_class kind) rest → Stops (operand_class kind) ts
-goes_stops {kind = kind} y ts rest over h = stops_more (omega (arith, class_rises kind)) rest h
+goes_stops {kind = kind} y ts rest ended h = stops_more (omega (arith, class_rises kind)) rest h
 goes_stops {kind = kind} y ts rest (further {token = token} {operator = operator} e p g) h = omega (arith, class_rises kind, operator_grip kind token operator e)
 
 pub goes_leads : {kind : ChainKind} {P : Row Tree} {first : Tree} → Leads (GoesOn kind P first) (kind_class kind) (operand_class kind)
 goes_leads = record { stops = goes_stops }
 
 to_chain : {kind : ChainKind} {P : Row Tree} (y : Tree) (ts rest : Tokens) → Then P (GoesOn kind P) y ts rest → Chain kind P y ts rest
-to_chain y ts rest (before p g) = chain p g
+to_chain y ts rest (before p g) = chaining p g
 
 of_chain : {kind : ChainKind} {P : Row Tree} (y : Tree) (ts rest : Tokens) → Chain kind P y ts rest → Then P (GoesOn kind P) y ts rest
-of_chain y ts rest (chain p g) = before p g
+of_chain y ts rest (chaining p g) = before p g
 
 chain_answers : {kind : ChainKind} {P : Row Tree} {k : ℕ} {ts : Tokens} {o : Outcome Tree} → Answers (Then P (GoesOn kind P)) k ts o → Answers (Chain kind P) k ts o
 chain_answers {ts = ts} a = through (λ x rest p. to_chain x ts rest p) (λ x rest p h. (of_chain x ts rest p, h)) a
@@ -53,11 +53,11 @@ chain_got a b = chain_answers (then_got (λ x. goes_leads) a b)
 
 -- a chain that ends
 over_only : {kind : ChainKind} {P : Row Tree} {first y : Tree} {ts rest : Tokens} → Never (One (operator_of kind)) ts → GoesOn kind P first y ts rest → (first ≡ y) × (ts ≡ rest)
-over_only g over = (refl, refl)
+over_only g ended = (refl, refl)
 over_only g (further e p q) = absurd (g _ _ (one e))
 
 pub goes_over : {kind : ChainKind} {P : Row Tree} {k : ℕ} {first : Tree} {ts : Tokens} → Never (One (operator_of kind)) ts → Answers (GoesOn kind P first) k ts (Got first ts)
-goes_over g = record { found = over; only = λ y rest p h. over_only g p }
+goes_over g = record { found = ended; only = λ y rest p h. over_only g p }
 
 -- a chain with one more operand
 heads : {a b : TokenMeaning} {xs ys : Tokens} → a ∷ xs ≡ b ∷ ys → a ≡ b
@@ -67,7 +67,7 @@ joined_along : (kind : ChainKind) (first : Tree) {token token' : TokenMeaning} {
 joined_along _ _ p q e f = cc
 
 further_only : {kind : ChainKind} {P : Row Tree} {token : TokenMeaning} {operator : Operator} {first operand : Tree} {us vs : Tokens} {o : Outcome Tree} → operator_of kind token ≡ Some operator → Answers P (operand_class kind) us (Got operand vs) → Answers (GoesOn kind P (joined kind first operator operand)) (kind_class kind) vs o → (ts : Tokens) → ts ≡ token ∷ us → (y : Tree) (rest : Tokens) → GoesOn kind P first y ts rest → Stops (kind_class kind) rest → Agrees o y rest
-further_only {kind = kind} {token = token} {operator = operator} {us = us} e a b ts q y rest over h =
+further_only {kind = kind} {token = token} {operator = operator} {us = us} e a b ts q y rest ended h =
     let g : Stops (kind_class kind) (token ∷ us) = subst (λ (z : Tokens). Stops (kind_class kind) z) q h in
     absurd (omega (arith, operator_grip kind token operator e))
 further_only {kind = kind} {P = P} {first = first} e a b ts q y rest (further {token = token'} {operand = operand'} {ts = us'} {us = vs'} e' p' g') h =
@@ -83,7 +83,7 @@ pub goes_further : {kind : ChainKind} {P : Row Tree} {token : TokenMeaning} {ope
 goes_further {kind = kind} {P = P} {token = token} {first = first} {us = us} {o = o} e a b = record { found = further_read kind P token first e a.found o b.found; only = further_only e a b (token ∷ us) refl }
 
 further_fails : {kind : ChainKind} {P : Row Tree} {token : TokenMeaning} {operator : Operator} {first : Tree} {us : Tokens} (f : ParseFault) → operator_of kind token ≡ Some operator → Answers P (operand_class kind) us (failed f) → (ts : Tokens) → ts ≡ token ∷ us → (y : Tree) (rest : Tokens) → GoesOn kind P first y ts rest → Stops (kind_class kind) rest → Agrees {X = Tree} (failed f) y rest
-further_fails {kind = kind} {token = token} {operator = operator} {us = us} f e a ts q y rest over h =
+further_fails {kind = kind} {token = token} {operator = operator} {us = us} f e a ts q y rest ended h =
     let g : Stops (kind_class kind) (token ∷ us) = subst (λ (z : Tokens). Stops (kind_class kind) z) q h in
     absurd (omega (arith, operator_grip kind token operator e))
 further_fails {P = P} f e a ts q y rest (further {operand = operand'} {ts = us'} {us = vs'} e' p' g') h =

@@ -11,10 +11,10 @@ use Rattle.wquery.specs.declared.frame.FrameMode.{FrameMode}
 use Rattle.wquery.specs.Tree.{Tree, WindowTree, joined, no_window}
 use Rattle.wquery.specs.QueryTree.{QueryTree, SourceTree, ItemTree}
 use Rattle.wparser.specs.Words.{CommaSign, CloseSign, name_of, mode_of, direction_of, comparison_of, operator_of}
-use Rattle.wparser.specs.Notation.{Tokens, Row, One, one, After, after, Then, before, Done, done, Perhaps, absent, present, Either, first, second, Room, room, Listed, last, next, GoesOn, over, further, Chain, chain, As, Never}
-use Rattle.wparser.specs.Grammar.{Closed, toward, bound, extent, exclusion, excluding, frame, key, partition, order, window, window_inside, reach, reaching, arguments, filtered, call, named, primary, range_test, perhaps_not, ranging, comparing, testing, signing, perhaps_frame, nulls_placed, Rank, Chains, Negations, Signs, signs_over, sums_over, comparisons_over, negations_over, operands_over, row_over, deeper, conditions}
+use Rattle.wparser.specs.Notation.{Tokens, Row, One, one, After, after, Then, before, Done, done, Perhaps, absent, present, Either, first, second, Room, room, Listed, last, next, GoesOn, ended, further, Chain, chaining, As, Never}
+use Rattle.wparser.specs.Grammar.{Closed, toward, bound, extent, exclusion, optional_exclusion, frame, key, partition, order, window, window_inside, over, optional_over, arguments, optional_filter, call, column_or_call, primary, range_test, optional_not, range_row, comparison_row, test_row, sign_row, optional_frame, nulls_placed, Rank, ChainRank, NegationRank, SignRank, sign_over, sum_over, comparison_over, negation_over, operand_over, row_over, deeper, condition}
 use Rattle.wparser.specs.Grips.{grip, Stops, kind_class, operand_class}
-use Rattle.wparser.specs.Queries.{alias_name, alias, item, source, clause, column, grouping, entry, windows, count, limits, clauses, query_over, deeper_queries, texts, Spells}
+use Rattle.wparser.specs.Queries.{required_alias, optional_alias, item, source, clause, column, grouping, entry, windows, count, limits, clauses, query_over, deeper_query, text, Spells}
 use Rattle.wparser.specs.Finding.{Got, Answers}
 use Rattle.wparser.proofs.Steps.{Leads, stops_more, answers_less, grips, other_token, not_said, never_either, never_listed, one_parts, then_got, perhaps_present, perhaps_absent, after_got, after_leads, either_first, either_second, done_got, done_leads, one_got, any_leads, never_then, room_answers, listed_last, listed_next}
 use Rattle.wparser.proofs.Rows.{goes_leads, goes_over, goes_further, chain_got, operator_grip, comparison_grip}
@@ -154,13 +154,13 @@ no_operator : (kind : ChainKind) {ts : Tokens} → Stops (kind_class kind) ts �
 no_operator kind h x rest p = let e = one_parts p in let q = operator_grip kind e.0 x e.2 in grips e.1 (omega arith) h
 
 goes_single : {kind : ChainKind} {P : Row Tree} → Single (operand_class kind) P → (t y : Tree) (ts rest : Tokens) → GoesOn kind P t y ts rest → Stops (kind_class kind) rest → Answers (GoesOn kind P t) (kind_class kind) ts (Got y rest)
-goes_single {kind = kind} u t y ts rest over h = goes_over (no_operator kind h)
+goes_single {kind = kind} u t y ts rest ended h = goes_over (no_operator kind h)
 goes_single {kind = kind} {P = P} u t y ts rest (further {operator = operator} {operand = o} {ts = us} {us = vs} e p g) h =
     let l : Leads (GoesOn kind P (joined kind t operator o)) (kind_class kind) (operand_class kind) = goes_leads in
     goes_further e (u.single o us vs p (l.stops y vs rest g h)) (goes_single u (joined kind t operator o) y vs rest g h)
 
 chain_single' : {kind : ChainKind} {P : Row Tree} → Single (operand_class kind) P → (y : Tree) (ts rest : Tokens) → Chain kind P y ts rest → Stops (kind_class kind) rest → Answers (Chain kind P) (kind_class kind) ts (Got y rest)
-chain_single' {kind = kind} {P = P} u y ts rest (chain {first = t} {us = us} p g) h =
+chain_single' {kind = kind} {P = P} u y ts rest (chaining {first = t} {us = us} p g) h =
     let l : Leads (GoesOn kind P t) (kind_class kind) (operand_class kind) = goes_leads in
     chain_got (u.single t ts us p (l.stops y us rest g h)) (goes_single u t y us rest g h)
 
@@ -190,7 +190,7 @@ exclusion_single =
     (either_single (after_apart (λ ts us e. never_either (other_token e (λ q. cc)) (other_token e (λ q. cc)))) (after_single done_single)
     (either_single (after_apart (λ ts us e. other_token e (λ q. cc))) (after_single done_single) (after_single (after_single done_single))))
 
-excluding_single : Single 3 excluding
+excluding_single : Single 3 optional_exclusion
 excluding_single = perhaps_single (then_grips (after_grips (omega arith))) (as_single (after_single exclusion_single))
 
 frame_single : Single 3 frame
@@ -210,7 +210,7 @@ direction_goes token x e = let q = direction_grip token x e in omega arith
 comparison_goes : (token : TokenMeaning) (x : Comparison) → comparison_of token ≡ Some x → 23 ≤ grip token
 comparison_goes token x e = let q = comparison_grip token x e in omega arith
 
-perhaps_frame_single : Single 3 perhaps_frame
+perhaps_frame_single : Single 3 optional_frame
 perhaps_frame_single = perhaps_single (then_grips (then_grips (one_grip mode_goes))) (as_single frame_single)
 
 -- keys and windows
@@ -247,10 +247,10 @@ window_inside_single : {n : ℕ} {C : Row Tree} → Single 20 C → Single 31 (w
 window_inside_single u = record { single = window_inside_single' u }
 
 -- calls
-reach_single : {n : ℕ} {C : Row Tree} → Single 20 C → Single 31 (reach n C)
+reach_single : {n : ℕ} {C : Row Tree} → Single 20 C → Single 31 (over n C)
 reach_single u = either_single (one_apart (λ z ts us p. other_token (name_here p) (λ q. cc))) (as_single one_single) (after_single (as_single (window_inside_single u)))
 
-reaching_single : {n : ℕ} {C : Row Tree} → Single 20 C → Single 28 (reaching n C)
+reaching_single : {n : ℕ} {C : Row Tree} → Single 20 C → Single 28 (optional_over n C)
 reaching_single u = perhaps_single (after_grips (omega arith)) (single_less (omega arith) (after_single (reach_single u)))
 
 no_such_list : {X : Type 0} {C : Row Tree} {f : List Tree → X} {s : Symbol} {ts us : Tokens} → Begins 1 C → ts ≡ SymbolToken s ∷ us → symbol_start s < 1 → Never (As f (Closed (Listed C))) ts
@@ -261,7 +261,7 @@ arguments_single b u =
     either_single (after_apart (λ ts us e. never_either (other_token e (λ q. cc)) (no_such_list b e (omega arith)))) (after_single done_single)
     (either_single (after_apart (λ ts us e. no_such_list b e (omega arith))) (after_single (room_single (after_single done_single))) (as_single (closed_single {j = 12} (omega arith) (listed_single (omega arith) u))))
 
-filtered_single : {C : Row Tree} → Single 20 C → Single 29 (filtered C)
+filtered_single : {C : Row Tree} → Single 20 C → Single 29 (optional_filter C)
 filtered_single u = perhaps_single (after_grips (omega arith)) (after_single (after_single (after_single (as_single (closed_single (omega arith) u)))))
 
 call_single : {n : ℕ} {C : Row Tree} {name : List ℕ} → Begins 1 C → Single 20 C → Single 28 (call n C name)
@@ -269,7 +269,7 @@ call_single b u =
     then_single {j = 31} (λ g. any_leads) (arguments_single b u) (λ g. then_single (λ f. call_leads) (filtered_single u) (λ f.
     then_single {j = 28} (λ r. done_leads (omega arith)) (reaching_single u) (λ r. done_single)))
 
-named_single : {n : ℕ} {C : Row Tree} {name : List ℕ} → Begins 1 C → Single 20 C → Single 28 (named n C name)
+named_single : {n : ℕ} {C : Row Tree} {name : List ℕ} → Begins 1 C → Single 20 C → Single 28 (column_or_call n C name)
 named_single b u =
     perhaps_single (either_grips (after_grips (omega arith)) (after_grips (omega arith)))
     (either_single (after_apart (λ ts us e. other_token e (λ q. cc))) (after_single (as_single one_single)) (after_single (call_single b u)))
@@ -283,10 +283,10 @@ primary_single b u =
     (after_single (closed_single (omega arith) u)))))
 
 -- the rows of expressions
-signing_single : {n : ℕ} {C U : Row Tree} → Single 28 U → Single 28 (primary n C) → Single 28 (signing U (primary n C))
+signing_single : {n : ℕ} {C U : Row Tree} → Single 28 U → Single 28 (primary n C) → Single 28 (sign_row U (primary n C))
 signing_single u p = either_single (one_apart (λ z ts us o. primary_no_sign o)) (then_single {j = 31} (λ m. any_leads) one_single (λ m. as_single u)) p
 
-perhaps_not_single : Single 25 perhaps_not
+perhaps_not_single : Single 25 optional_not
 perhaps_not_single = perhaps_single (after_grips (omega arith)) (after_single done_single)
 
 test_single : {A U : Row Tree} {e : Tree} {b : Bool} → Single 26 A → Single 26 U → Single 24 (range_test A U e b)
@@ -294,50 +294,50 @@ test_single a u =
     either_single (after_apart (λ ts us e. other_token e (λ q. cc))) (after_single (then_single (λ low. after_leads (omega arith)) a (λ low. after_single (as_single (single_less (omega arith) a)))))
     (after_single (after_single (as_single (closed_single {j = 12} (omega arith) (listed_single (omega arith) u)))))
 
-ranging_single : {A U : Row Tree} → Single 26 A → Single 26 U → Single 24 (ranging A U)
+ranging_single : {A U : Row Tree} → Single 26 A → Single 26 U → Single 24 (range_row A U)
 ranging_single a u =
     then_single (λ e. tested_leads) a (λ e. perhaps_single (perhaps_then_grips (after_grips (omega arith)) (λ b. either_grips (after_grips (omega arith)) (after_grips (omega arith))))
     (then_single (λ b. test_leads) perhaps_not_single (λ b. test_single a u)))
 
-comparing_single : {R : Row Tree} → Single 24 R → Single 23 (comparing R)
+comparing_single : {R : Row Tree} → Single 24 R → Single 23 (comparison_row R)
 comparing_single r =
     then_single (λ l. compared_leads) r (λ l. perhaps_single (then_grips (one_grip comparison_goes)) (then_single {j = 31} (λ c. any_leads) one_single (λ c. as_single (single_less (omega arith) r))))
 
-testing_single : {R : Row Tree} → Single 23 R → Single 22 (testing R)
+testing_single : {R : Row Tree} → Single 23 R → Single 22 (test_row R)
 testing_single r =
     then_single (λ e. null_tested_leads) r (λ e. perhaps_single (after_grips (omega arith)) (after_single (then_single (λ n. after_leads (omega arith)) perhaps_not_single (λ n. after_single done_single))))
 
 abbrev rank_class : Rank → ℕ
-rank_class (Chains kind) = kind_class kind
-rank_class Negations = 22
-rank_class Signs = 28
+rank_class (ChainRank kind) = kind_class kind
+rank_class NegationRank = 22
+rank_class SignRank = 28
 
-module _ (n : ℕ) (U : Rank → Row Tree) (u : (rank : Rank) → Single (rank_class rank) (U rank)) (b : Begins 1 (U (Chains Disjunction))) where
-  signs_single : Single 28 (signs_over n U)
-  signs_single = signing_single (u Signs) (primary_single b (u (Chains Disjunction)))
+module _ (n : ℕ) (U : Rank → Row Tree) (u : (rank : Rank) → Single (rank_class rank) (U rank)) (b : Begins 1 (U (ChainRank Disjunction))) where
+  signs_single : Single 28 (sign_over n U)
+  signs_single = signing_single (u SignRank) (primary_single b (u (ChainRank Disjunction)))
 
-  products_single : Single 27 (operands_over n U Sum)
+  products_single : Single 27 (operand_over n U Sum)
   products_single = chain_single {kind = Product} signs_single
 
-  sums_single : Single 26 (sums_over n U)
+  sums_single : Single 26 (sum_over n U)
   sums_single = chain_single {kind = Sum} products_single
 
-  tests_single : Single 22 (testing (comparisons_over n U))
-  tests_single = testing_single (comparing_single (ranging_single sums_single (u (Chains Sum))))
+  tests_single : Single 22 (test_row (comparison_over n U))
+  tests_single = testing_single (comparing_single (ranging_single sums_single (u (ChainRank Sum))))
 
-  negations_single : Single 22 (negations_over n U)
-  negations_single = either_single (after_apart (λ ts us e. begins_not (tests_begin n U) e (omega arith))) (after_single (as_single (u Negations))) tests_single
+  negations_single : Single 22 (negation_over n U)
+  negations_single = either_single (after_apart (λ ts us e. begins_not (tests_begin n U) e (omega arith))) (after_single (as_single (u NegationRank))) tests_single
 
-  operands_single : (kind : ChainKind) → Single (operand_class kind) (operands_over n U kind)
+  operands_single : (kind : ChainKind) → Single (operand_class kind) (operand_over n U kind)
   operands_single Disjunction = chain_single {kind = Conjunction} negations_single
   operands_single Conjunction = negations_single
   operands_single Sum = products_single
   operands_single Product = signs_single
 
   row_single : (rank : Rank) → Single (rank_class rank) (row_over n U rank)
-  row_single (Chains kind) = chain_single (operands_single kind)
-  row_single Negations = negations_single
-  row_single Signs = signs_single
+  row_single (ChainRank kind) = chain_single (operands_single kind)
+  row_single NegationRank = negations_single
+  row_single SignRank = signs_single
 
 nothing_single : {k : ℕ} {P : Row Tree} → ((y : Tree) (ts rest : Tokens) → P y ts rest → ⊥) → Single k P
 nothing_single g = record { single = λ y ts rest p h. absurd (g y ts rest p) }
@@ -347,14 +347,14 @@ unfolding deeper
 deeper_single zero rank = nothing_single (λ y ts rest p. p)
 deeper_single (suc n) rank = row_single n (deeper n) (deeper_single n) (inner_begins n) rank
 
-conditions_single : (n : ℕ) → Single 20 (conditions n)
-conditions_single n = row_single n (deeper n) (deeper_single n) (inner_begins n) (Chains Disjunction)
+conditions_single : (n : ℕ) → Single 20 (condition n)
+conditions_single n = row_single n (deeper n) (deeper_single n) (inner_begins n) (ChainRank Disjunction)
 
 -- whole queries
-alias_name_single : {k : ℕ} → Single k alias_name
+alias_name_single : {k : ℕ} → Single k required_alias
 alias_name_single = then_single (λ b. name_leads) (perhaps_single (after_grips (omega arith)) (after_single done_single)) (λ b. one_single)
 
-alias_single : Single 14 alias
+alias_single : Single 14 optional_alias
 alias_single = perhaps_single (then_grips (perhaps_then_grips (after_grips (omega arith)) (λ b. one_grip name_goes))) (as_single alias_name_single)
 
 item_single : (n : ℕ) → Single 14 (item n)
@@ -364,7 +364,7 @@ column_single : Single 14 column
 column_single = then_single {j = 31} (λ x. any_leads) one_single (λ x. perhaps_single (after_grips (omega arith)) (after_single (as_single one_single)))
 
 entry_single : (n : ℕ) → Single 31 (entry n)
-entry_single n = then_single {j = 31} (λ x. any_leads) one_single (λ x. after_single (after_single (as_single (window_inside_single (deeper_single n (Chains Disjunction))))))
+entry_single n = then_single {j = 31} (λ x. any_leads) one_single (λ x. after_single (after_single (as_single (window_inside_single (deeper_single n (ChainRank Disjunction))))))
 
 where_single : (n : ℕ) → Single 9 (clause keywords.Where n)
 where_single n = perhaps_single (then_grips (after_grips (omega arith))) (as_single (after_single (single_less (omega arith) (conditions_single n))))
@@ -408,12 +408,12 @@ query_single n u =
 no_query : {P : Row QueryTree} → ((y : QueryTree) (ts rest : Tokens) → P y ts rest → ⊥) → Single 4 P
 no_query g = record { single = λ y ts rest p h. absurd (g y ts rest p) }
 
-queries_single : (n : ℕ) → Single 4 (deeper_queries n)
-unfolding deeper_queries
+queries_single : (n : ℕ) → Single 4 (deeper_query n)
+unfolding deeper_query
 queries_single zero = no_query (λ y ts rest p. p)
 queries_single (suc n) = query_single n (queries_single n)
 
-texts_single : Single 1 texts
+texts_single : Single 1 text
 texts_single = then_single (λ q. semicolon_leads) (query_single 64 (queries_single 64)) (λ q. then_single {j = 1} (λ b. done_leads (omega arith)) (perhaps_single (after_grips (omega arith)) (after_single done_single)) (λ b. done_single))
 
 pub one_query : (p q : QueryTree) (ts : Tokens) → Spells p ts → Spells q ts → p ≡ q

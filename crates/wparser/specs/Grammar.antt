@@ -59,24 +59,26 @@ exclusion =
     (Word keywords.No (Word keywords.Others (Done exclusions.NoOthers)))))
 
 -- [EXCLUDE ..]
-abbrev pub excluding : Row (Option FrameExclusion)
-excluding = Perhaps None (As Some (Word keywords.Exclude exclusion))
+abbrev pub optional_exclusion : Row (Option FrameExclusion)
+optional_exclusion = Perhaps None (As Some (Word keywords.Exclude exclusion))
 
 -- frame = mode extent [EXCLUDE ..]
 abbrev pub frame : Row Frame
 frame =
-    Then (One mode_of) (λ mode. Then extent (λ ends. Then excluding (λ out.
+    Then (One mode_of) (λ mode. Then extent (λ ends. Then optional_exclusion (λ out.
     Done (record { mode = mode; start = ends.0; end = ends.1; exclusion = out }))))
 
 -- [NULLS FIRST | NULLS LAST]
 abbrev pub nulls_placed : Row (Option NullOrder)
 nulls_placed = Perhaps None (As Some (Word keywords.Nulls (One null_order_of)))
 
+-- [ASC | DESC]
+abbrev pub descending : Row Bool
+descending = Perhaps false (One direction_of)
+
 -- key = condition [ASC | DESC] [NULLS FIRST | NULLS LAST]
 abbrev pub key : Row Tree → Row KeyTree
-key Cond =
-    Then Cond (λ e. Then (Perhaps false (One direction_of)) (λ descending. Then nulls_placed (λ nulls.
-    Done (key_of e descending nulls))))
+key Cond = Then Cond (λ e. Then descending (λ descends. Then nulls_placed (λ nulls. Done (key_of e descends nulls))))
 
 -- [PARTITION BY condition {, condition}]
 abbrev pub partition : Row Tree → Row (List Tree)
@@ -87,17 +89,17 @@ abbrev pub order : Row Tree → Row (List KeyTree)
 order Cond = Perhaps [] (Word keywords.Order (Word keywords.By (Listed (key Cond))))
 
 -- [name]
-abbrev pub perhaps_name : Row (Option (List ℕ))
-perhaps_name = Perhaps None (As Some (One name_of))
+abbrev pub optional_name : Row (Option (List ℕ))
+optional_name = Perhaps None (As Some (One name_of))
 
 -- [frame]
-abbrev pub perhaps_frame : Row (Option Frame)
-perhaps_frame = Perhaps None (As Some frame)
+abbrev pub optional_frame : Row (Option Frame)
+optional_frame = Perhaps None (As Some frame)
 
 -- window = [name] [PARTITION BY ..] [ORDER BY ..] [frame]
 abbrev pub window : Row Tree → Row WindowTree
 window Cond =
-    Then perhaps_name (λ copied. Then (partition Cond) (λ parts. Then (order Cond) (λ keys. Then perhaps_frame (λ frame.
+    Then optional_name (λ copied. Then (partition Cond) (λ parts. Then (order Cond) (λ keys. Then optional_frame (λ frame.
     Done (window_of copied parts keys frame)))))
 
 -- window ), behind the opening parenthesis; only a pair that holds a token takes a level
@@ -105,8 +107,8 @@ abbrev pub window_inside : ℕ → Row Tree → Row WindowTree
 window_inside n Under = Either (After CloseSign (Done no_window)) (Room n (Closed (window Under)))
 
 -- over = name | ( window )
-abbrev pub reach : ℕ → Row Tree → Row Reach
-reach n Under = Either (As ThatWindow (One name_of)) (After OpenSign (As own_window (window_inside n Under)))
+abbrev pub over : ℕ → Row Tree → Row Reach
+over n Under = Either (As ThatWindow (One name_of)) (After OpenSign (As own_window (window_inside n Under)))
 
 -- ), behind the star of a call
 abbrev pub everything_closed : ℕ → Row Given
@@ -124,123 +126,123 @@ abbrev pub filter : Row Tree → Row Filter
 filter Under = After OpenSign (Word keywords.Where (As FilteredBy (Closed Under)))
 
 -- [FILTER ( WHERE condition )]
-abbrev pub filtered : Row Tree → Row Filter
-filtered Under = Perhaps Unfiltered (Word keywords.Filter (filter Under))
+abbrev pub optional_filter : Row Tree → Row Filter
+optional_filter Under = Perhaps Unfiltered (Word keywords.Filter (filter Under))
 
 -- [OVER over]
-abbrev pub reaching : ℕ → Row Tree → Row Reach
-reaching n Under = Perhaps ItsGroup (Word keywords.Over (reach n Under))
+abbrev pub optional_over : ℕ → Row Tree → Row Reach
+optional_over n Under = Perhaps ItsGroup (Word keywords.Over (over n Under))
 
 -- call = name ( .. ) [FILTER ..] [OVER ..], behind its first parenthesis
 abbrev pub call : ℕ → Row Tree → List ℕ → Row Tree
 call n Under name =
-    Then (arguments n Under) (λ given. Then (filtered Under) (λ filter. Then (reaching n Under) (λ reach.
-    Done (Invoked name given filter reach))))
+    Then (arguments n Under) (λ given. Then (optional_filter Under) (λ kept. Then (optional_over n Under) (λ reach.
+    Done (Invoked name given kept reach))))
 
 -- the name of a column, behind its qualifier and the dot
-abbrev pub qualified_by : List ℕ → Row Tree
-qualified_by qualifier = As (Field (Some qualifier)) (One name_of)
+abbrev pub qualified : List ℕ → Row Tree
+qualified qualifier = As (Field (Some qualifier)) (One name_of)
 
 -- column = name [. name], and a call, behind the name
-abbrev pub named : ℕ → Row Tree → List ℕ → Row Tree
-named n Under name =
+abbrev pub column_or_call : ℕ → Row Tree → List ℕ → Row Tree
+column_or_call n Under name =
     Perhaps (Field None name)
-    (Either (Sign symbols.Dot (qualified_by name)) (After OpenSign (call n Under name)))
+    (Either (Sign symbols.Dot (qualified name)) (After OpenSign (call n Under name)))
 
 -- primary = number | text literal | NULL | column | call | ( condition ); parentheses leave no mark
 abbrev pub primary : ℕ → Row Tree → Row Tree
 primary n Under =
     Either (As Numeral (One number_of)) (Either (As Quoted (One text_of)) (Either (Word keywords.Null (Done NullWord))
-    (Either (Then (One name_of) (named n Under)) (After OpenSign (Closed Under)))))
+    (Either (Then (One name_of) (column_or_call n Under)) (After OpenSign (Closed Under)))))
 
 -- sign = (+ | -) sign | primary
-abbrev pub signing : Row Tree → Row Tree → Row Tree
-signing Under Primary = Either (Then (One sign_of) (λ minus. As (Signed minus) Under)) Primary
+abbrev pub sign_row : Row Tree → Row Tree → Row Tree
+sign_row Under Primary = Either (Then (One sign_of) (λ minus. As (Signed minus) Under)) Primary
 
 -- AND sum, behind the lower end
 abbrev pub up_to : Row Tree → Tree → Bool → Tree → Row Tree
 up_to Adds e negated low = Word keywords.And (As (Within negated e low) Adds)
 
 -- sum AND sum, behind BETWEEN, whose AND is its own
-abbrev pub within_row : Row Tree → Tree → Bool → Row Tree
-within_row Adds e negated = Then Adds (up_to Adds e negated)
+abbrev pub between : Row Tree → Tree → Bool → Row Tree
+between Adds e negated = Then Adds (up_to Adds e negated)
 
 -- ( sum {, sum} ), behind IN
-abbrev pub among_row : Row Tree → Tree → Bool → Row Tree
-among_row Under e negated = After OpenSign (As (λ list. Among negated e (trees list)) (Closed (Listed Under)))
+abbrev pub among : Row Tree → Tree → Bool → Row Tree
+among Under e negated = After OpenSign (As (λ list. Among negated e (trees list)) (Closed (Listed Under)))
 
 -- BETWEEN sum AND sum | IN ( sum {, sum} ), behind an operand
 abbrev pub range_test : Row Tree → Row Tree → Tree → Bool → Row Tree
 range_test Adds Under e negated =
-    Either (Word keywords.Between (within_row Adds e negated))
-    (Word keywords.In (among_row Under e negated))
+    Either (Word keywords.Between (between Adds e negated))
+    (Word keywords.In (among Under e negated))
 
 -- [NOT]
-abbrev pub perhaps_not : Row Bool
-perhaps_not = Perhaps false (Word keywords.Not (Done true))
+abbrev pub optional_not : Row Bool
+optional_not = Perhaps false (Word keywords.Not (Done true))
 
 -- [[NOT] BETWEEN .. | [NOT] IN ..], behind an operand
 abbrev pub range_tested : Row Tree → Row Tree → Tree → Row Tree
-range_tested Adds Under e = Perhaps e (Then perhaps_not (range_test Adds Under e))
+range_tested Adds Under e = Perhaps e (Then optional_not (range_test Adds Under e))
 
 -- range = sum [[NOT] BETWEEN .. | [NOT] IN ..]
-abbrev pub ranging : Row Tree → Row Tree → Row Tree
-ranging Adds Under = Then Adds (range_tested Adds Under)
+abbrev pub range_row : Row Tree → Row Tree → Row Tree
+range_row Adds Under = Then Adds (range_tested Adds Under)
 
 -- [(= | <> | < | <= | > | >=) range], behind an operand
 abbrev pub compared : Row Tree → Tree → Row Tree
 compared Range l = Perhaps l (Then (One comparison_of) (λ comparison. As (Compared comparison l) Range))
 
 -- comparison = range [(= | <> | < | <= | > | >=) range]
-abbrev pub comparing : Row Tree → Row Tree
-comparing Range = Then Range (compared Range)
+abbrev pub comparison_row : Row Tree → Row Tree
+comparison_row Range = Then Range (compared Range)
 
 -- [IS [NOT] NULL], behind an operand
 abbrev pub null_tested : Tree → Row Tree
-null_tested e = Perhaps e (Word keywords.Is (Then perhaps_not (λ negated. Word keywords.Null (Done (NullTest negated e)))))
+null_tested e = Perhaps e (Word keywords.Is (Then optional_not (λ negated. Word keywords.Null (Done (NullTest negated e)))))
 
 -- test = comparison [IS [NOT] NULL]
-abbrev pub testing : Row Tree → Row Tree
-testing Comparison = Then Comparison null_tested
+abbrev pub test_row : Row Tree → Row Tree
+test_row Comparison = Then Comparison null_tested
 
 -- negation = NOT negation | test
-abbrev pub negating : Row Tree → Row Tree → Row Tree
-negating Under Test = Either (Word keywords.Not (As Negated Under)) Test
+abbrev pub negation_row : Row Tree → Row Tree → Row Tree
+negation_row Under Test = Either (Word keywords.Not (As Negated Under)) Test
 
 -- the rows that stand one level deeper somewhere
 pub data Rank : Type 0 where
-  Chains : ChainKind → Rank
-  Negations : Rank
-  Signs : Rank
+  ChainRank : ChainKind → Rank
+  NegationRank : Rank
+  SignRank : Rank
 
 -- The rows where `n` levels of nesting are left, over the rows with one level less.
-abbrev pub signs_over : ℕ → (Rank → Row Tree) → Row Tree
-signs_over n Under = signing (Under Signs) (primary n (Under (Chains Disjunction)))
+abbrev pub sign_over : ℕ → (Rank → Row Tree) → Row Tree
+sign_over n Under = sign_row (Under SignRank) (primary n (Under (ChainRank Disjunction)))
 
-abbrev pub sums_over : ℕ → (Rank → Row Tree) → Row Tree
-sums_over n Under = Chain Sum (Chain Product (signs_over n Under))
+abbrev pub sum_over : ℕ → (Rank → Row Tree) → Row Tree
+sum_over n Under = Chain Sum (Chain Product (sign_over n Under))
 
-abbrev pub ranges_over : ℕ → (Rank → Row Tree) → Row Tree
-ranges_over n Under = ranging (sums_over n Under) (Under (Chains Sum))
+abbrev pub range_over : ℕ → (Rank → Row Tree) → Row Tree
+range_over n Under = range_row (sum_over n Under) (Under (ChainRank Sum))
 
-abbrev pub comparisons_over : ℕ → (Rank → Row Tree) → Row Tree
-comparisons_over n Under = comparing (ranges_over n Under)
+abbrev pub comparison_over : ℕ → (Rank → Row Tree) → Row Tree
+comparison_over n Under = comparison_row (range_over n Under)
 
-abbrev pub negations_over : ℕ → (Rank → Row Tree) → Row Tree
-negations_over n Under = negating (Under Negations) (testing (comparisons_over n Under))
+abbrev pub negation_over : ℕ → (Rank → Row Tree) → Row Tree
+negation_over n Under = negation_row (Under NegationRank) (test_row (comparison_over n Under))
 
 -- condition = conjunction {OR conjunction}, conjunction = negation {AND negation},
 -- sum = product {(+ | -) product}, product = sign {* sign}
-abbrev pub operands_over : ℕ → (Rank → Row Tree) → ChainKind → Row Tree
-operands_over n Under Disjunction = Chain Conjunction (negations_over n Under)
-operands_over n Under Conjunction = negations_over n Under
-operands_over n Under Sum = Chain Product (signs_over n Under)
-operands_over n Under Product = signs_over n Under
+abbrev pub operand_over : ℕ → (Rank → Row Tree) → ChainKind → Row Tree
+operand_over n Under Disjunction = Chain Conjunction (negation_over n Under)
+operand_over n Under Conjunction = negation_over n Under
+operand_over n Under Sum = Chain Product (sign_over n Under)
+operand_over n Under Product = sign_over n Under
 
 abbrev pub row_over : ℕ → (Rank → Row Tree) → Rank → Row Tree
-row_over n Under (Chains kind) = Chain kind (operands_over n Under kind)
-row_over n Under Negations = negations_over n Under
-row_over n Under Signs = signs_over n Under
+row_over n Under (ChainRank kind) = Chain kind (operand_over n Under kind)
+row_over n Under NegationRank = negation_over n Under
+row_over n Under SignRank = sign_over n Under
 
 -- The rows one level deeper, where `n` levels are left; there are none below the last.
 unfoldable pub deeper : ℕ → Rank → Row Tree
@@ -248,30 +250,33 @@ deeper zero rank = λ tree ts rest. ⊥
 deeper (suc n) rank = row_over n (deeper n) rank
 
 -- the rows where `n` levels are left
-abbrev pub operands : ℕ → ChainKind → Row Tree
-operands n kind = operands_over n (deeper n) kind
+abbrev pub operand : ℕ → ChainKind → Row Tree
+operand n kind = operand_over n (deeper n) kind
 
-abbrev pub chains : ℕ → ChainKind → Row Tree
-chains n kind = Chain kind (operands n kind)
+abbrev pub chain : ℕ → ChainKind → Row Tree
+chain n kind = Chain kind (operand n kind)
 
-abbrev pub conditions : ℕ → Row Tree
-conditions n = chains n Disjunction
+abbrev pub condition : ℕ → Row Tree
+condition n = chain n Disjunction
 
-abbrev pub sums : ℕ → Row Tree
-sums n = chains n Sum
+abbrev pub sum : ℕ → Row Tree
+sum n = chain n Sum
 
-abbrev pub ranges : ℕ → Row Tree
-ranges n = ranges_over n (deeper n)
+abbrev pub range : ℕ → Row Tree
+range n = range_over n (deeper n)
 
-abbrev pub comparisons : ℕ → Row Tree
-comparisons n = comparisons_over n (deeper n)
+abbrev pub comparison : ℕ → Row Tree
+comparison n = comparison_over n (deeper n)
 
-abbrev pub negations : ℕ → Row Tree
-negations n = negations_over n (deeper n)
+abbrev pub test : ℕ → Row Tree
+test n = test_row (comparison n)
 
-abbrev pub signs : ℕ → Row Tree
-signs n = signs_over n (deeper n)
+abbrev pub negation : ℕ → Row Tree
+negation n = negation_over n (deeper n)
+
+abbrev pub sign : ℕ → Row Tree
+sign n = sign_over n (deeper n)
 
 -- conditions one level deeper
 abbrev pub inner : ℕ → Row Tree
-inner n = deeper n (Chains Disjunction)
+inner n = deeper n (ChainRank Disjunction)

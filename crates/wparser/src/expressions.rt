@@ -5,14 +5,17 @@ ghost use Rattle.std.specs.Rc.{rc_str_bytes};
 ghost use Rattle.wquery.specs.declared.expression.ChainKind.TheVariants.{Disjunction, Sum};
 ghost use Rattle.wquery.specs.Tree.{view, views, view_arguments, view_over, view_key, view_keys, view_window, view_optional, view_optional_over, filter_of, reach_of};
 ghost use Rattle.wparser.specs.Notation.{GoesOn, Listed};
-ghost use Rattle.wparser.specs.Grammar.{Closed, Chains, deeper, inner, operands, chains, conditions, sums, ranges, comparisons, negations, signs, testing, null_tested, compared, range_tested, range_test, among_row, within_row, up_to, primary, named, qualified_by, everything_closed, call, arguments, filtered, reaching, window_inside, window, partition, order, key};
+ghost use Rattle.wparser.specs.Grammar.{Closed, ChainRank, deeper, inner, operand, chain, condition, sum, range, comparison, negation, sign, test, null_tested, compared, range_tested, range_test, among, between, up_to, primary, column_or_call, qualified, everything_closed, call, arguments, optional_filter, optional_over, window_inside, window, partition, order, key};
 ghost use Rattle.wparser.specs.Grips.{any_class, filter_class, sign_class, range_class, comparison_class, negation_class, nulls_class, list_class, partition_class, order_class, frame_class, Stops, kind_class, operand_class};
 ghost use Rattle.wparser.specs.Finding.{meanings, outcome, made, settled, Answers, IsNoTest};
 
 use crate::fault::ParseFault;
-use crate::frames::{descending, negated, optional_frame, optional_name, placed_nulls};
+use crate::frames::{
+    copied_name, descending, nulls_placed, optional_frame, optional_name, optional_not,
+};
+use crate::lists::push;
 use crate::tokens::{
-    comparison_operator, keyword, leading_sign, name, number, operator, symbol, text,
+    behind_comma, comparison_operator, keyword, leading_sign, name, number, operator, symbol, text,
 };
 use std::alloc::{AllocError, Global};
 use std::rc::RcStr;
@@ -39,7 +42,7 @@ fn operand(
     depth: u32,
     tokens: &[Token],
 ) -> Result<(Expression, &[Token]), ParseFault>
-    ensures { Answers (operands depth kind) (operand_class kind) (meanings tokens.now) (outcome (λ x. view x.0) (λ x. x.1.now) result) }
+    ensures { Answers (operand depth kind) (operand_class kind) (meanings tokens.now) (outcome (λ x. view x.0) (λ x. x.1.now) result) }
 {
     match kind {
         ChainKind::Disjunction => chain(alloc, ChainKind::Conjunction, depth, tokens),
@@ -57,7 +60,7 @@ pub fn chain(
     depth: u32,
     tokens: &[Token],
 ) -> Result<(Expression, &[Token]), ParseFault>
-    ensures { Answers (chains depth kind) (kind_class kind) (meanings tokens.now) (outcome (λ x. view x.0) (λ x. x.1.now) result) }
+    ensures { Answers (chain depth kind) (kind_class kind) (meanings tokens.now) (outcome (λ x. view x.0) (λ x. x.1.now) result) }
 {
     let (first, rest) = got!(operand(alloc, kind, depth, tokens));
     goes_on(alloc, kind, depth, first, rest)
@@ -71,13 +74,16 @@ fn goes_on(
     first: Expression,
     tokens: &[Token],
 ) -> Result<(Expression, &[Token]), ParseFault>
-    ensures { Answers (GoesOn kind (operands depth kind) (view first)) (kind_class kind) (meanings tokens.now) (outcome (λ x. view x.0) (λ x. x.1.now) result) }
+    ensures { Answers (GoesOn kind (operand depth kind) (view first)) (kind_class kind) (meanings tokens.now) (outcome (λ x. view x.0) (λ x. x.1.now) result) }
 {
     let mut tree = first;
     let mut rest = tokens;
     'chain: while let Some((operator, after)) = operator(kind, rest) {
         let (next, left) = got!(operand(alloc, kind, depth, after), tree);
-        tree = build::join(alloc, kind, tree, operator, next)?;
+        match build::join(alloc, kind, tree, operator, next) {
+            Err(_) => return Err(ParseFault::NoMemory),
+            Ok(longer) => tree = longer,
+        }
         rest = left;
     }
     Ok((tree, rest))
@@ -89,7 +95,7 @@ fn negation(
     depth: u32,
     tokens: &[Token],
 ) -> Result<(Expression, &[Token]), ParseFault>
-    ensures { Answers (negations depth) negation_class (meanings tokens.now) (outcome (λ x. view x.0) (λ x. x.1.now) result) }
+    ensures { Answers (negation depth) negation_class (meanings tokens.now) (outcome (λ x. view x.0) (λ x. x.1.now) result) }
 {
     let Some(after) = keyword(tokens, Keyword::Not) else {
         return test(alloc, depth, tokens);
@@ -103,13 +109,13 @@ fn negation(
 
 #[cycle(parser)]
 fn test(alloc: Global, depth: u32, tokens: &[Token]) -> Result<(Expression, &[Token]), ParseFault>
-    ensures { Answers (testing (comparisons depth)) negation_class (meanings tokens.now) (outcome (λ x. view x.0) (λ x. x.1.now) result) }
+    ensures { Answers (test depth) negation_class (meanings tokens.now) (outcome (λ x. view x.0) (λ x. x.1.now) result) }
 {
     let (e, rest) = got!(comparison(alloc, depth, tokens));
-    null_test(alloc, e, rest)
+    null_tested(alloc, e, rest)
 }
 
-fn null_test(
+fn null_tested(
     alloc: Global,
     e: Expression,
     tokens: &[Token],
@@ -119,7 +125,7 @@ fn null_test(
     let Some(after) = keyword(tokens, Keyword::Is) else {
         return Ok((e, tokens));
     };
-    let (negated, after) = negated(after);
+    let (negated, after) = optional_not(after);
     let Some(rest) = keyword(after, Keyword::Null) else {
         drop(e);
         return Err(ParseFault::Syntax);
@@ -133,7 +139,7 @@ fn comparison(
     depth: u32,
     tokens: &[Token],
 ) -> Result<(Expression, &[Token]), ParseFault>
-    ensures { Answers (comparisons depth) comparison_class (meanings tokens.now) (outcome (λ x. view x.0) (λ x. x.1.now) result) }
+    ensures { Answers (comparison depth) comparison_class (meanings tokens.now) (outcome (λ x. view x.0) (λ x. x.1.now) result) }
 {
     let (left, rest) = got!(range(alloc, depth, tokens));
     compared(alloc, depth, left, rest)
@@ -146,7 +152,7 @@ fn compared(
     left: Expression,
     tokens: &[Token],
 ) -> Result<(Expression, &[Token]), ParseFault>
-    ensures { Answers (compared (ranges depth) (view left)) comparison_class (meanings tokens.now) (outcome (λ x. view x.0) (λ x. x.1.now) result) }
+    ensures { Answers (compared (range depth) (view left)) comparison_class (meanings tokens.now) (outcome (λ x. view x.0) (λ x. x.1.now) result) }
 {
     let Some((comparison, after)) = comparison_operator(tokens) else {
         return Ok((left, tokens));
@@ -157,7 +163,7 @@ fn compared(
 
 #[cycle(parser)]
 fn range(alloc: Global, depth: u32, tokens: &[Token]) -> Result<(Expression, &[Token]), ParseFault>
-    ensures { Answers (ranges depth) range_class (meanings tokens.now) (outcome (λ x. view x.0) (λ x. x.1.now) result) }
+    ensures { Answers (range depth) range_class (meanings tokens.now) (outcome (λ x. view x.0) (λ x. x.1.now) result) }
 {
     let (e, rest) = got!(chain(alloc, ChainKind::Sum, depth, tokens));
     range_tested(alloc, depth, e, rest)
@@ -180,10 +186,10 @@ fn range_tested(
     e: Expression,
     tokens: &[Token],
 ) -> Result<(Expression, &[Token]), ParseFault>
-    ensures { Answers (range_tested (sums depth) (deeper depth (Chains Sum)) (view e)) range_class (meanings tokens.now) (outcome (λ x. view x.0) (λ x. x.1.now) result) }
+    ensures { Answers (range_tested (sum depth) (deeper depth (ChainRank Sum)) (view e)) range_class (meanings tokens.now) (outcome (λ x. view x.0) (λ x. x.1.now) result) }
 {
     if range_test_follows(tokens) {
-        let (negated, after) = negated(tokens);
+        let (negated, after) = optional_not(tokens);
         return range_test(alloc, depth, negated, e, after);
     }
     Ok((e, tokens))
@@ -197,7 +203,7 @@ fn range_test(
     e: Expression,
     tokens: &[Token],
 ) -> Result<(Expression, &[Token]), ParseFault>
-    ensures { Answers (range_test (sums depth) (deeper depth (Chains Sum)) (view e) negated) range_class (meanings tokens.now) (outcome (λ x. view x.0) (λ x. x.1.now) result) }
+    ensures { Answers (range_test (sum depth) (deeper depth (ChainRank Sum)) (view e) negated) range_class (meanings tokens.now) (outcome (λ x. view x.0) (λ x. x.1.now) result) }
 {
     if let Some(after) = keyword(tokens, Keyword::Between) {
         return between(alloc, depth, negated, e, after);
@@ -220,7 +226,7 @@ fn among(
     e: Expression,
     tokens: &[Token],
 ) -> Result<(Expression, &[Token]), ParseFault>
-    ensures { Answers (among_row (deeper depth (Chains Sum)) (view e) negated) range_class (meanings tokens.now) (outcome (λ x. view x.0) (λ x. x.1.now) result) }
+    ensures { Answers (among (deeper depth (ChainRank Sum)) (view e) negated) range_class (meanings tokens.now) (outcome (λ x. view x.0) (λ x. x.1.now) result) }
 {
     let Some(after) = symbol(tokens, Symbol::OpenParenthesis) else {
         drop(e);
@@ -239,7 +245,7 @@ fn between(
     e: Expression,
     tokens: &[Token],
 ) -> Result<(Expression, &[Token]), ParseFault>
-    ensures { Answers (within_row (sums depth) (view e) negated) range_class (meanings tokens.now) (outcome (λ x. view x.0) (λ x. x.1.now) result) }
+    ensures { Answers (between (sum depth) (view e) negated) range_class (meanings tokens.now) (outcome (λ x. view x.0) (λ x. x.1.now) result) }
 {
     let (low, rest) = got!(chain(alloc, ChainKind::Sum, depth, tokens), e);
     up_to(alloc, depth, negated, e, low, rest)
@@ -255,7 +261,7 @@ fn up_to(
     low: Expression,
     tokens: &[Token],
 ) -> Result<(Expression, &[Token]), ParseFault>
-    ensures { Answers (up_to (sums depth) (view e) negated (view low)) range_class (meanings tokens.now) (outcome (λ x. view x.0) (λ x. x.1.now) result) }
+    ensures { Answers (up_to (sum depth) (view e) negated (view low)) range_class (meanings tokens.now) (outcome (λ x. view x.0) (λ x. x.1.now) result) }
 {
     let Some(after) = keyword(tokens, Keyword::And) else {
         drop(e);
@@ -268,7 +274,7 @@ fn up_to(
 
 #[cycle(parser)]
 fn sign(alloc: Global, depth: u32, tokens: &[Token]) -> Result<(Expression, &[Token]), ParseFault>
-    ensures { Answers (signs depth) sign_class (meanings tokens.now) (outcome (λ x. view x.0) (λ x. x.1.now) result) }
+    ensures { Answers (sign depth) sign_class (meanings tokens.now) (outcome (λ x. view x.0) (λ x. x.1.now) result) }
 {
     let Some((minus, after)) = leading_sign(tokens) else {
         return primary(alloc, depth, tokens);
@@ -289,31 +295,31 @@ fn primary(
     ensures { Answers (primary depth (inner depth)) sign_class (meanings tokens.now) (outcome (λ x. view x.0) (λ x. x.1.now) result) }
 {
     if let Some((n, rest)) = number(tokens) {
-        return Ok((build::number(*n), rest));
+        return Ok((Expression::Number(*n), rest));
     }
     if let Some((text, rest)) = text(tokens) {
-        let text = text.clone()?;
-        return Ok((build::text(text), rest));
+        return match text.clone() {
+            Err(_) => Err(ParseFault::NoMemory),
+            Ok(text) => Ok((Expression::Text(text), rest)),
+        };
     }
     if let Some(rest) = keyword(tokens, Keyword::Null) {
-        return Ok((build::null(), rest));
+        return Ok((Expression::Null, rest));
     }
     if let Some((name, rest)) = name(tokens) {
-        let name = name.clone()?;
-        return column_or_call(alloc, depth, name, rest);
+        return match name.clone() {
+            Err(_) => Err(ParseFault::NoMemory),
+            Ok(name) => column_or_call(alloc, depth, name, rest),
+        };
     }
     match symbol(tokens, Symbol::OpenParenthesis) {
         None => Err(ParseFault::Syntax),
-        Some(after) => enclosed(alloc, depth, after),
+        Some(after) => closed(alloc, depth, after),
     }
 }
 
 #[cycle(parser)]
-fn enclosed(
-    alloc: Global,
-    depth: u32,
-    tokens: &[Token],
-) -> Result<(Expression, &[Token]), ParseFault>
+fn closed(alloc: Global, depth: u32, tokens: &[Token]) -> Result<(Expression, &[Token]), ParseFault>
     ensures { Answers (Closed (inner depth)) any_class (meanings tokens.now) (outcome (λ x. view x.0) (λ x. x.1.now) result) }
 {
     if depth == 0 {
@@ -336,34 +342,26 @@ fn column_or_call(
     own: RcStr,
     tokens: &[Token],
 ) -> Result<(Expression, &[Token]), ParseFault>
-    ensures { Answers (named depth (inner depth) (rc_str_bytes own)) sign_class (meanings tokens.now) (outcome (λ x. view x.0) (λ x. x.1.now) result) }
+    ensures { Answers (column_or_call depth (inner depth) (rc_str_bytes own)) sign_class (meanings tokens.now) (outcome (λ x. view x.0) (λ x. x.1.now) result) }
 {
     if let Some(after) = symbol(tokens, Symbol::Dot) {
         return qualified(own, after);
     }
     match symbol(tokens, Symbol::OpenParenthesis) {
         None => Ok((build::column(None, own), tokens)),
-        Some(after) => calls(alloc, depth, own, after),
+        Some(after) => call(alloc, depth, own, after),
     }
 }
 
 fn qualified(qualifier: RcStr, tokens: &[Token]) -> Result<(Expression, &[Token]), ParseFault>
-    ensures { Answers (qualified_by (rc_str_bytes qualifier)) any_class (meanings tokens.now) (outcome (λ x. view x.0) (λ x. x.1.now) result) }
+    ensures { Answers (qualified (rc_str_bytes qualifier)) any_class (meanings tokens.now) (outcome (λ x. view x.0) (λ x. x.1.now) result) }
 {
-    match name(tokens) {
-        None => {
-            drop(qualifier);
-            Err(ParseFault::Syntax)
-        }
-        Some((column, rest)) => {
-            let column = column.clone()?;
-            Ok((build::column(Some(qualifier), column), rest))
-        }
-    }
+    let (column, rest) = got!(copied_name(tokens), qualifier);
+    Ok((build::column(Some(qualifier), column), rest))
 }
 
 #[cycle(parser)]
-fn calls(
+fn call(
     alloc: Global,
     depth: u32,
     function: RcStr,
@@ -371,21 +369,30 @@ fn calls(
 ) -> Result<(Expression, &[Token]), ParseFault>
     ensures { Answers (call depth (inner depth) (rc_str_bytes function)) sign_class (meanings tokens.now) (outcome (λ x. view x.0) (λ x. x.1.now) result) }
 {
-    let (arguments, rest) = got!(given(alloc, depth, tokens), function);
-    let (filter, rest) = got!(filter(alloc, depth, rest), function, arguments);
-    let (over, rest) = got!(over(alloc, depth, rest), function, arguments, filter);
+    let (arguments, rest) = got!(arguments(alloc, depth, tokens), function);
+    let (filter, rest) = got!(optional_filter(alloc, depth, rest), function, arguments);
+    let (over, rest) = got!(
+        optional_over(alloc, depth, rest),
+        function,
+        arguments,
+        filter
+    );
     made(build::call(alloc, function, arguments, filter, over), rest)
 }
 
 #[cycle(parser)]
-fn given(alloc: Global, depth: u32, tokens: &[Token]) -> Result<(Arguments, &[Token]), ParseFault>
+fn arguments(
+    alloc: Global,
+    depth: u32,
+    tokens: &[Token],
+) -> Result<(Arguments, &[Token]), ParseFault>
     ensures { Answers (arguments depth (inner depth)) any_class (meanings tokens.now) (outcome (λ x. view_arguments x.0) (λ x. x.1.now) result) }
 {
     if let Some(rest) = symbol(tokens, Symbol::CloseParenthesis) {
         return Ok((build::listed(Vec::new(alloc)), rest));
     }
     if let Some(after) = symbol(tokens, Symbol::Asterisk) {
-        return match everything(depth, after) {
+        return match everything_closed(depth, after) {
             None => Err(ParseFault::Syntax),
             Some((star, rest)) => Ok((star, rest)),
         };
@@ -394,7 +401,7 @@ fn given(alloc: Global, depth: u32, tokens: &[Token]) -> Result<(Arguments, &[To
     Ok((build::listed(list), rest))
 }
 
-fn everything(depth: u32, tokens: &[Token]) -> Option<(Arguments, &[Token])>
+fn everything_closed(depth: u32, tokens: &[Token]) -> Option<(Arguments, &[Token])>
     ensures { Answers (everything_closed depth) any_class (meanings tokens.now) (settled (λ x. view_arguments x.0) (λ x. x.1.now) result) }
 {
     if depth == 0 {
@@ -402,7 +409,7 @@ fn everything(depth: u32, tokens: &[Token]) -> Option<(Arguments, &[Token])>
     }
     match symbol(tokens, Symbol::CloseParenthesis) {
         None => None,
-        Some(rest) => Some((build::star(), rest)),
+        Some(rest) => Some((Arguments::Star, rest)),
     }
 }
 
@@ -413,7 +420,7 @@ fn closed_list(
     depth: u32,
     tokens: &[Token],
 ) -> Result<(Vec<Expression>, &[Token]), ParseFault>
-    ensures { Answers (Closed (Listed (deeper depth (Chains kind)))) any_class (meanings tokens.now) (outcome (λ x. views x.0.items) (λ x. x.1.now) result) }
+    ensures { Answers (Closed (Listed (deeper depth (ChainRank kind)))) any_class (meanings tokens.now) (outcome (λ x. views x.0.items) (λ x. x.1.now) result) }
 {
     if depth == 0 {
         return Err(ParseFault::Syntax);
@@ -435,14 +442,14 @@ fn list(
     depth: u32,
     tokens: &[Token],
 ) -> Result<(Vec<Expression>, &[Token]), ParseFault>
-    ensures { Answers (Listed (chains depth kind)) list_class (meanings tokens.now) (outcome (λ x. views x.0.items) (λ x. x.1.now) result) }
+    ensures { Answers (Listed (chain depth kind)) list_class (meanings tokens.now) (outcome (λ x. views x.0.items) (λ x. x.1.now) result) }
 {
     let mut items = Vec::new(alloc);
     let mut left = tokens;
     'list: loop {
         let (item, rest) = got!(chain(alloc, kind, depth, left), items);
-        build::push(&mut items, item)?;
-        match symbol(rest, Symbol::Comma) {
+        got!(push(&mut items, item), items);
+        match behind_comma(rest) {
             None => return Ok((items, rest)),
             Some(after) => left = after,
         }
@@ -450,12 +457,12 @@ fn list(
 }
 
 #[cycle(parser)]
-fn filter(
+fn optional_filter(
     alloc: Global,
     depth: u32,
     tokens: &[Token],
 ) -> Result<(Option<Expression>, &[Token]), ParseFault>
-    ensures { Answers (filtered (inner depth)) filter_class (meanings tokens.now) (outcome (λ x. filter_of (view_optional x.0)) (λ x. x.1.now) result) }
+    ensures { Answers (optional_filter (inner depth)) filter_class (meanings tokens.now) (outcome (λ x. filter_of (view_optional x.0)) (λ x. x.1.now) result) }
 {
     let Some(after) = keyword(tokens, Keyword::Filter) else {
         return Ok((None, tokens));
@@ -466,31 +473,32 @@ fn filter(
     let Some(after) = keyword(after, Keyword::Where) else {
         return Err(ParseFault::Syntax);
     };
-    let (e, rest) = got!(enclosed(alloc, depth, after));
+    let (e, rest) = got!(closed(alloc, depth, after));
     Ok((Some(e), rest))
 }
 
 #[cycle(parser)]
-fn over(alloc: Global, depth: u32, tokens: &[Token]) -> Result<(Option<Over>, &[Token]), ParseFault>
-    ensures { Answers (reaching depth (inner depth)) sign_class (meanings tokens.now) (outcome (λ x. reach_of (view_optional_over x.0)) (λ x. x.1.now) result) }
+fn optional_over(
+    alloc: Global,
+    depth: u32,
+    tokens: &[Token],
+) -> Result<(Option<Over>, &[Token]), ParseFault>
+    ensures { Answers (optional_over depth (inner depth)) sign_class (meanings tokens.now) (outcome (λ x. reach_of (view_optional_over x.0)) (λ x. x.1.now) result) }
 {
     let Some(after) = keyword(tokens, Keyword::Over) else {
         return Ok((None, tokens));
     };
-    if let Some((name, rest)) = name(after) {
-        let name = name.clone()?;
-        return Ok((Some(build::named_window(name)), rest));
+    if let Some(after) = symbol(after, Symbol::OpenParenthesis) {
+        let (window, rest) = got!(window_inside(alloc, depth, after));
+        return Ok((Some(Over::Windowed(window)), rest));
     }
-    let Some(after) = symbol(after, Symbol::OpenParenthesis) else {
-        return Err(ParseFault::Syntax);
-    };
-    let (window, rest) = got!(enclosed_window(alloc, depth, after));
-    Ok((Some(build::windowed(window)), rest))
+    let (name, rest) = got!(copied_name(after));
+    Ok((Some(Over::Named(name)), rest))
 }
 
 /// A window, behind its opening parenthesis.
 #[cycle(parser)]
-pub fn enclosed_window(
+pub fn window_inside(
     alloc: Global,
     depth: u32,
     tokens: &[Token],
@@ -506,7 +514,7 @@ pub fn enclosed_window(
     if depth == 0 {
         return Err(ParseFault::Syntax);
     }
-    let (window, rest) = got!(window_parts(alloc, depth - 1, tokens));
+    let (window, rest) = got!(window(alloc, depth - 1, tokens));
     match symbol(rest, Symbol::CloseParenthesis) {
         None => {
             drop(window);
@@ -517,16 +525,12 @@ pub fn enclosed_window(
 }
 
 #[cycle(parser)]
-fn window_parts(
-    alloc: Global,
-    depth: u32,
-    tokens: &[Token],
-) -> Result<(Window, &[Token]), ParseFault>
-    ensures { Answers (window (conditions depth)) frame_class (meanings tokens.now) (outcome (λ x. view_window x.0) (λ x. x.1.now) result) }
+fn window(alloc: Global, depth: u32, tokens: &[Token]) -> Result<(Window, &[Token]), ParseFault>
+    ensures { Answers (window (condition depth)) frame_class (meanings tokens.now) (outcome (λ x. view_window x.0) (λ x. x.1.now) result) }
 {
     let (copied, rest) = got!(optional_name(tokens));
-    let (partition, rest) = got!(partitioned(alloc, depth, rest), copied);
-    let (order, rest) = got!(ordered(alloc, depth, rest), copied, partition);
+    let (partition, rest) = got!(partition(alloc, depth, rest), copied);
+    let (order, rest) = got!(order(alloc, depth, rest), copied, partition);
     let Some((frame, rest)) = optional_frame(rest) else {
         drop(copied);
         drop(partition);
@@ -537,12 +541,12 @@ fn window_parts(
 }
 
 #[cycle(parser)]
-fn partitioned(
+fn partition(
     alloc: Global,
     depth: u32,
     tokens: &[Token],
 ) -> Result<(Vec<Expression>, &[Token]), ParseFault>
-    ensures { Answers (partition (conditions depth)) partition_class (meanings tokens.now) (outcome (λ x. views x.0.items) (λ x. x.1.now) result) }
+    ensures { Answers (partition (condition depth)) partition_class (meanings tokens.now) (outcome (λ x. views x.0.items) (λ x. x.1.now) result) }
 {
     let Some(after) = keyword(tokens, Keyword::Partition) else {
         return Ok((Vec::new(alloc), tokens));
@@ -555,12 +559,12 @@ fn partitioned(
 
 /// The keys behind ORDER BY, none where it is left out.
 #[cycle(parser)]
-pub fn ordered(
+pub fn order(
     alloc: Global,
     depth: u32,
     tokens: &[Token],
 ) -> Result<(Vec<Key>, &[Token]), ParseFault>
-    ensures { Answers (order (conditions depth)) order_class (meanings tokens.now) (outcome (λ x. view_keys x.0.items) (λ x. x.1.now) result) }
+    ensures { Answers (order (condition depth)) order_class (meanings tokens.now) (outcome (λ x. view_keys x.0.items) (λ x. x.1.now) result) }
 {
     let Some(after) = keyword(tokens, Keyword::Order) else {
         return Ok((Vec::new(alloc), tokens));
@@ -573,14 +577,14 @@ pub fn ordered(
 
 #[cycle(parser)]
 fn keys(alloc: Global, depth: u32, tokens: &[Token]) -> Result<(Vec<Key>, &[Token]), ParseFault>
-    ensures { Answers (Listed (key (conditions depth))) list_class (meanings tokens.now) (outcome (λ x. view_keys x.0.items) (λ x. x.1.now) result) }
+    ensures { Answers (Listed (key (condition depth))) list_class (meanings tokens.now) (outcome (λ x. view_keys x.0.items) (λ x. x.1.now) result) }
 {
     let mut items = Vec::new(alloc);
     let mut left = tokens;
     'keys: loop {
-        let (item, rest) = got!(sort_key(alloc, depth, left), items);
-        build::push_key(&mut items, item)?;
-        match symbol(rest, Symbol::Comma) {
+        let (item, rest) = got!(key(alloc, depth, left), items);
+        got!(push(&mut items, item), items);
+        match behind_comma(rest) {
             None => return Ok((items, rest)),
             Some(after) => left = after,
         }
@@ -588,12 +592,12 @@ fn keys(alloc: Global, depth: u32, tokens: &[Token]) -> Result<(Vec<Key>, &[Toke
 }
 
 #[cycle(parser)]
-fn sort_key(alloc: Global, depth: u32, tokens: &[Token]) -> Result<(Key, &[Token]), ParseFault>
-    ensures { Answers (key (conditions depth)) nulls_class (meanings tokens.now) (outcome (λ x. view_key x.0) (λ x. x.1.now) result) }
+fn key(alloc: Global, depth: u32, tokens: &[Token]) -> Result<(Key, &[Token]), ParseFault>
+    ensures { Answers (key (condition depth)) nulls_class (meanings tokens.now) (outcome (λ x. view_key x.0) (λ x. x.1.now) result) }
 {
     let (e, rest) = got!(chain(alloc, ChainKind::Disjunction, depth, tokens));
     let (descending, rest) = descending(rest);
-    let Some((nulls, rest)) = placed_nulls(rest) else {
+    let Some((nulls, rest)) = nulls_placed(rest) else {
         drop(e);
         return Err(ParseFault::Syntax);
     };

@@ -1,10 +1,10 @@
 //! Reads the parts of windows that hold no expressions. What asks for no memory refuses with `None`.
 
-ghost use Rattle.std.specs.Prelude.{◌≡◌, List, false, Some, None};
+ghost use Rattle.std.specs.Rc.{rc_str_bytes};
 ghost use Rattle.wquery.specs.Tree.{name_bytes};
-ghost use Rattle.wparser.specs.Words.{direction_of};
-ghost use Rattle.wparser.specs.Notation.{One, Perhaps};
-ghost use Rattle.wparser.specs.Grammar.{perhaps_not, perhaps_name, perhaps_frame, nulls_placed, frame, extent, two_bounds, other_bound, bound, toward, exclusion, excluding};
+ghost use Rattle.wparser.specs.Words.{name_of};
+ghost use Rattle.wparser.specs.Notation.{One};
+ghost use Rattle.wparser.specs.Grammar.{optional_not, optional_name, optional_frame, descending, nulls_placed, extent, two_bounds, bound, toward, exclusion, optional_exclusion};
 ghost use Rattle.wparser.specs.Grips.{any_class, not_class, direction_class, nulls_class, name_class, frame_class};
 ghost use Rattle.wparser.specs.Finding.{meanings, outcome, settled, Got, Answers};
 
@@ -15,8 +15,8 @@ use wlexer::{Keyword, Token};
 use wquery::{Frame, FrameBound, FrameExclusion, NullOrder};
 
 /// Whether NOT comes first, and what follows.
-pub fn negated(tokens: &[Token]) -> (bool, &[Token])
-    ensures { Answers perhaps_not not_class (meanings tokens.now) (Got (result.0) (meanings result.1.now)) }
+pub fn optional_not(tokens: &[Token]) -> (bool, &[Token])
+    ensures { Answers optional_not not_class (meanings tokens.now) (Got (result.0) (meanings result.1.now)) }
 {
     match keyword(tokens, Keyword::Not) {
         None => (false, tokens),
@@ -24,22 +24,35 @@ pub fn negated(tokens: &[Token]) -> (bool, &[Token])
     }
 }
 
+/// A name.
+pub fn copied_name(tokens: &[Token]) -> Result<(RcStr, &[Token]), ParseFault>
+    ensures { Answers (One name_of) any_class (meanings tokens.now) (outcome (λ x. rc_str_bytes x.0) (λ x. x.1.now) result) }
+{
+    match name(tokens) {
+        None => Err(ParseFault::Syntax),
+        Some((name, rest)) => match name.clone() {
+            Err(_) => Err(ParseFault::NoMemory),
+            Ok(name) => Ok((name, rest)),
+        },
+    }
+}
+
 /// A name, if one comes first.
 pub fn optional_name(tokens: &[Token]) -> Result<(Option<RcStr>, &[Token]), ParseFault>
-    ensures { Answers perhaps_name name_class (meanings tokens.now) (outcome (λ x. name_bytes x.0) (λ x. x.1.now) result) }
+    ensures { Answers optional_name name_class (meanings tokens.now) (outcome (λ x. name_bytes x.0) (λ x. x.1.now) result) }
 {
     match name(tokens) {
         None => Ok((None, tokens)),
-        Some((name, rest)) => {
-            let name = name.clone()?;
-            Ok((Some(name), rest))
-        }
+        Some((name, rest)) => match name.clone() {
+            Err(_) => Err(ParseFault::NoMemory),
+            Ok(name) => Ok((Some(name), rest)),
+        },
     }
 }
 
 /// Whether DESC comes first; ASC and nothing are the same.
 pub fn descending(tokens: &[Token]) -> (bool, &[Token])
-    ensures { Answers (Perhaps false (One direction_of)) direction_class (meanings tokens.now) (Got (result.0) (meanings result.1.now)) }
+    ensures { Answers descending direction_class (meanings tokens.now) (Got (result.0) (meanings result.1.now)) }
 {
     match direction(tokens) {
         None => (false, tokens),
@@ -48,7 +61,7 @@ pub fn descending(tokens: &[Token]) -> (bool, &[Token])
 }
 
 /// The place of nulls, if NULLS comes first. It refuses NULLS alone.
-pub fn placed_nulls(tokens: &[Token]) -> Option<(Option<NullOrder>, &[Token])>
+pub fn nulls_placed(tokens: &[Token]) -> Option<(Option<NullOrder>, &[Token])>
     ensures { Answers nulls_placed nulls_class (meanings tokens.now) (settled (λ x. x.0) (λ x. x.1.now) result) }
 {
     let Some(after) = keyword(tokens, Keyword::Nulls) else {
@@ -60,26 +73,14 @@ pub fn placed_nulls(tokens: &[Token]) -> Option<(Option<NullOrder>, &[Token])>
     }
 }
 
-/// A frame clause, if a mode comes first. It refuses what only begins as one.
+/// A frame, if a mode comes first. It refuses what only begins as one.
 pub fn optional_frame(tokens: &[Token]) -> Option<(Option<Frame>, &[Token])>
-    ensures { Answers perhaps_frame frame_class (meanings tokens.now) (settled (λ x. x.0) (λ x. x.1.now) result) }
-{
-    let Some(_) = mode(tokens) else {
-        return Some((None, tokens));
-    };
-    match frame_clause(tokens) {
-        None => None,
-        Some((frame, rest)) => Some((Some(frame), rest)),
-    }
-}
-
-fn frame_clause(tokens: &[Token]) -> Option<(Frame, &[Token])>
-    ensures { Answers frame frame_class (meanings tokens.now) (settled (λ x. x.0) (λ x. x.1.now) result) }
+    ensures { Answers optional_frame frame_class (meanings tokens.now) (settled (λ x. x.0) (λ x. x.1.now) result) }
 {
     let Some((mode, rest)) = mode(tokens) else {
-        return None;
+        return Some((None, tokens));
     };
-    let Some((ends, rest)) = ends(rest) else {
+    let Some((ends, rest)) = extent(rest) else {
         return None;
     };
     let Some((exclusion, rest)) = optional_exclusion(rest) else {
@@ -91,50 +92,41 @@ fn frame_clause(tokens: &[Token]) -> Option<(Frame, &[Token])>
         end: ends.1,
         exclusion,
     };
-    Some((frame, rest))
+    Some((Some(frame), rest))
 }
 
-fn ends(tokens: &[Token]) -> Option<((FrameBound, Option<FrameBound>), &[Token])>
+fn extent(tokens: &[Token]) -> Option<((FrameBound, Option<FrameBound>), &[Token])>
     ensures { Answers extent any_class (meanings tokens.now) (settled (λ x. x.0) (λ x. x.1.now) result) }
 {
     if let Some(after) = keyword(tokens, Keyword::Between) {
-        return both_ends(after);
+        return two_bounds(after);
     }
-    match frame_bound(tokens) {
+    match bound(tokens) {
         None => None,
         Some((start, rest)) => Some(((start, None), rest)),
     }
 }
 
-fn both_ends(tokens: &[Token]) -> Option<((FrameBound, Option<FrameBound>), &[Token])>
+fn two_bounds(tokens: &[Token]) -> Option<((FrameBound, Option<FrameBound>), &[Token])>
     ensures { Answers two_bounds any_class (meanings tokens.now) (settled (λ x. x.0) (λ x. x.1.now) result) }
 {
-    match frame_bound(tokens) {
-        None => None,
-        Some((start, rest)) => far_end(start, rest),
-    }
-}
-
-fn far_end(
-    start: FrameBound,
-    tokens: &[Token],
-) -> Option<((FrameBound, Option<FrameBound>), &[Token])>
-    ensures { Answers (other_bound start) any_class (meanings tokens.now) (settled (λ x. x.0) (λ x. x.1.now) result) }
-{
-    let Some(after) = keyword(tokens, Keyword::And) else {
+    let Some((start, rest)) = bound(tokens) else {
         return None;
     };
-    match frame_bound(after) {
+    let Some(after) = keyword(rest, Keyword::And) else {
+        return None;
+    };
+    match bound(after) {
         None => None,
         Some((end, rest)) => Some(((start, Some(end)), rest)),
     }
 }
 
-fn frame_bound(tokens: &[Token]) -> Option<(FrameBound, &[Token])>
+fn bound(tokens: &[Token]) -> Option<(FrameBound, &[Token])>
     ensures { Answers bound any_class (meanings tokens.now) (settled (λ x. x.0) (λ x. x.1.now) result) }
 {
     if let Some(after) = keyword(tokens, Keyword::Unbounded) {
-        return bound_toward(
+        return toward(
             after,
             FrameBound::UnboundedPreceding,
             FrameBound::UnboundedFollowing,
@@ -145,17 +137,11 @@ fn frame_bound(tokens: &[Token]) -> Option<(FrameBound, &[Token])>
     }
     match number(tokens) {
         None => None,
-        Some((n, after)) => {
-            bound_toward(after, FrameBound::Preceding(*n), FrameBound::Following(*n))
-        }
+        Some((n, after)) => { toward(after, FrameBound::Preceding(*n), FrameBound::Following(*n)) }
     }
 }
 
-fn bound_toward(
-    tokens: &[Token],
-    back: FrameBound,
-    ahead: FrameBound,
-) -> Option<(FrameBound, &[Token])>
+fn toward(tokens: &[Token], back: FrameBound, ahead: FrameBound) -> Option<(FrameBound, &[Token])>
     ensures { Answers (toward back ahead) any_class (meanings tokens.now) (settled (λ x. x.0) (λ x. x.1.now) result) }
 {
     if let Some(rest) = keyword(tokens, Keyword::Preceding) {
@@ -168,18 +154,18 @@ fn bound_toward(
 }
 
 fn optional_exclusion(tokens: &[Token]) -> Option<(Option<FrameExclusion>, &[Token])>
-    ensures { Answers excluding frame_class (meanings tokens.now) (settled (λ x. x.0) (λ x. x.1.now) result) }
+    ensures { Answers optional_exclusion frame_class (meanings tokens.now) (settled (λ x. x.0) (λ x. x.1.now) result) }
 {
     let Some(after) = keyword(tokens, Keyword::Exclude) else {
         return Some((None, tokens));
     };
-    match excluded(after) {
+    match exclusion(after) {
         None => None,
         Some((exclusion, rest)) => Some((Some(exclusion), rest)),
     }
 }
 
-fn excluded(tokens: &[Token]) -> Option<(FrameExclusion, &[Token])>
+fn exclusion(tokens: &[Token]) -> Option<(FrameExclusion, &[Token])>
     ensures { Answers exclusion any_class (meanings tokens.now) (settled (λ x. x.0) (λ x. x.1.now) result) }
 {
     if let Some(rest) = keyword_pair(tokens, Keyword::Current, Keyword::Row) {

@@ -3,7 +3,7 @@
 ghost use Rattle.std.specs.Prelude.{◌≡◌, ℕ, ◌≤◌, ◌+◌, ◌*◌};
 ghost use Rattle.wquery.specs.Tree.{Tree};
 ghost use Rattle.wparser.specs.Depth.{height, query_height};
-ghost use Rattle.wparser.specs.Grammar.{conditions};
+ghost use Rattle.wparser.specs.Grammar.{condition};
 ghost use Rattle.wquery.specs.Lefts.{IsLeft, IsQueryLeft};
 ghost use Rattle.wquery.specs.QueryTree.{QueryTree};
 ghost use Rattle.wparser.specs.Notation.{Tokens};
@@ -16,13 +16,13 @@ pub fn one_query()
 
 /// No chain that tokens spell has a chain of its own kind first, nor an operator of another kind, in any part of it.
 pub fn no_chain_first()
-    ensures conditions { (depth : ℕ) (t : Tree) (tokens rest : Tokens) → conditions depth t tokens rest → IsLeft t }
+    ensures conditions { (depth : ℕ) (t : Tree) (tokens rest : Tokens) → condition depth t tokens rest → IsLeft t }
     ensures queries { (q : QueryTree) (tokens : Tokens) → Spells q tokens → IsQueryLeft q }
 {}
 
 /// A walk over a condition goes at most eight deep for each level of nesting, however long its chains are, and a walk over
 /// a whole query, its derived tables with it, one deeper.
 pub fn bounded_height()
-    ensures conditions { (depth : ℕ) (t : Tree) (tokens rest : Tokens) → conditions depth t tokens rest → height t ≤ 8 * (depth + 1) }
+    ensures conditions { (depth : ℕ) (t : Tree) (tokens rest : Tokens) → condition depth t tokens rest → height t ≤ 8 * (depth + 1) }
     ensures queries { (q : QueryTree) (tokens : Tokens) → Spells q tokens → query_height q ≤ 8 * 65 + 1 }
 {}

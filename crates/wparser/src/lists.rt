@@ -1,14 +1,15 @@
 //! Reads lists, whose elements have commas between them.
 
-ghost use Rattle.std.specs.Prelude.{ℕ, ◌<◌, length, map, IfOk};
+ghost use Rattle.std.specs.Prelude.{◌≡◌, ℕ, ◌<◌, [], ◌∷◌, ◌++◌, length, map, IfOk, IfErr};
+ghost use Rattle.wparser.specs.declared.fault.ParseFault.TheVariants.{NoMemory};
 ghost use Rattle.wparser.specs.Notation.{Row, Listed};
 ghost use Rattle.wparser.specs.Grips.{element_class, list_class};
 ghost use Rattle.wparser.specs.Finding.{meanings, outcome, Answers};
 
 use crate::fault::ParseFault;
-use crate::tokens::symbol;
+use crate::tokens::behind_comma;
 use std::alloc::Global;
-use wlexer::{Symbol, Token};
+use wlexer::Token;
 
 /// What stands between the commas of a list.
 pub trait Element: Drop {
@@ -27,6 +28,15 @@ pub trait Element: Drop {
         ensures shorter { IfOk result (λ x. length x.1.now < length tokens.now) };
 }
 
+/// Adds an item to a list.
+pub fn push<T: Drop>(items: &mut Vec<T>, item: T) -> Result<(), ParseFault>
+    ensures added { IfOk result (λ _. items.new.items ≡ items.old.items ++ (item ∷ [])) }
+    ensures fault { IfErr result (λ e. e ≡ NoMemory) }
+{
+    items.push(item)?;
+    Ok(())
+}
+
 /// One element at least, with commas between them.
 pub fn elements<E: Element>(
     alloc: Global,
@@ -39,8 +49,8 @@ pub fn elements<E: Element>(
     let mut left = tokens;
     'elements: loop {
         let (element, rest) = got!(E::read(alloc, depth, left), elements);
-        elements.push(element)?;
-        match symbol(rest, Symbol::Comma) {
+        got!(push(&mut elements, element), elements);
+        match behind_comma(rest) {
             None => return Ok((elements, rest)),
             Some(after) => left = after,
         }

@@ -4,36 +4,25 @@ ghost use Rattle.std.specs.Prelude.{◌≡◌, ◌≤◌, List, map, Some, None,
 ghost use Rattle.std.specs.Rc.{rc_str_bytes};
 ghost use Rattle.wquery.specs.Tree.{Tree, view, view_column, view_keys, view_optional, name_bytes};
 ghost use Rattle.wquery.specs.QueryTree.{QueryTree, ItemTree, EntryTree, view_query, view_source, view_item, view_entry, query_of};
-ghost use Rattle.wparser.specs.Words.{name_of};
-ghost use Rattle.wparser.specs.Notation.{One};
-ghost use Rattle.wparser.specs.Queries.{alias_name, alias, item, derived, source, clause, column, grouping, entry, windows, count, limit_row, offset_row, limits, behind_groups, behind_windows, clauses, queries, deeper_queries, texts, Spells};
+ghost use Rattle.wparser.specs.Queries.{required_alias, optional_alias, item, derived, source, clause, column, grouping, entry, windows, count, limit_first, offset_first, limits, behind_groups, behind_windows, clauses, query, deeper_query, most_nesting, text, Spells};
 ghost use Rattle.wparser.specs.Grips.{any_class, condition_class, name_class, element_class, grouping_class, windows_class, limits_class, text_class, keyword_grip};
 ghost use Rattle.wparser.specs.declared.fault.ParseFault.TheVariants.{Syntax};
 ghost use Rattle.wparser.specs.Finding.{meanings, outcome, settled, Answers};
 
-use crate::expressions::{chain, enclosed_window, ordered};
+use crate::expressions::{chain, order, window_inside};
 use crate::fault::ParseFault;
+use crate::frames::{copied_name, optional_name};
 use crate::lists::{Element, elements};
-use crate::tokens::{keyword, name, number, symbol};
+use crate::tokens::{keyword, number, symbol};
 use std::alloc::Global;
 use std::rc::RcStr;
 use wlexer::{Keyword, Number, Symbol, Token};
 use wquery::build::{self, Clauses};
 use wquery::{ChainKind, Column, Expression, Item, Query, Source, WindowEntry};
 
-fn copied_name(tokens: &[Token]) -> Result<(RcStr, &[Token]), ParseFault>
-    ensures { Answers (One name_of) any_class (meanings tokens.now) (outcome (λ x. rc_str_bytes x.0) (λ x. x.1.now) result) }
-{
-    let Some((name, rest)) = name(tokens) else {
-        return Err(ParseFault::Syntax);
-    };
-    let name = name.clone()?;
-    Ok((name, rest))
-}
-
 /// A name, with or without AS before it.
 fn required_alias(tokens: &[Token]) -> Result<(RcStr, &[Token]), ParseFault>
-    ensures { Answers alias_name any_class (meanings tokens.now) (outcome (λ x. rc_str_bytes x.0) (λ x. x.1.now) result) }
+    ensures { Answers required_alias any_class (meanings tokens.now) (outcome (λ x. rc_str_bytes x.0) (λ x. x.1.now) result) }
 {
     match keyword(tokens, Keyword::As) {
         None => copied_name(tokens),
@@ -42,16 +31,12 @@ fn required_alias(tokens: &[Token]) -> Result<(RcStr, &[Token]), ParseFault>
 }
 
 fn optional_alias(tokens: &[Token]) -> Result<(Option<RcStr>, &[Token]), ParseFault>
-    ensures { Answers alias name_class (meanings tokens.now) (outcome (λ x. name_bytes x.0) (λ x. x.1.now) result) }
+    ensures { Answers optional_alias name_class (meanings tokens.now) (outcome (λ x. name_bytes x.0) (λ x. x.1.now) result) }
 {
-    if let Some(after) = keyword(tokens, Keyword::As) {
-        let (name, rest) = got!(copied_name(after));
-        return Ok((Some(name), rest));
-    }
-    match name(tokens) {
-        None => Ok((None, tokens)),
-        Some((name, rest)) => {
-            let name = name.clone()?;
+    match keyword(tokens, Keyword::As) {
+        None => optional_name(tokens),
+        Some(after) => {
+            let (name, rest) = got!(copied_name(after));
             Ok((Some(name), rest))
         }
     }
@@ -75,7 +60,7 @@ impl Element for Item {
 }
 
 /// The condition behind WHERE or HAVING, if that comes first.
-fn condition(
+fn clause(
     alloc: Global,
     depth: u32,
     word: Keyword,
@@ -114,7 +99,7 @@ impl Element for Column {
     }
 }
 
-fn grouped(alloc: Global, tokens: &[Token]) -> Result<(Vec<Column>, &[Token]), ParseFault>
+fn grouping(alloc: Global, tokens: &[Token]) -> Result<(Vec<Column>, &[Token]), ParseFault>
     ensures { Answers grouping grouping_class (meanings tokens.now) (outcome (λ x. map view_column x.0.items) (λ x. x.1.now) result) }
 {
     let Some(after) = keyword(tokens, Keyword::Group) else {
@@ -147,12 +132,12 @@ impl Element for WindowEntry {
             drop(name);
             return Err(ParseFault::Syntax);
         };
-        let (window, rest) = got!(enclosed_window(alloc, depth, after), name);
+        let (window, rest) = got!(window_inside(alloc, depth, after), name);
         Ok((WindowEntry { name, window }, rest))
     }
 }
 
-fn window_clause(
+fn windows(
     alloc: Global,
     depth: u32,
     tokens: &[Token],
@@ -166,7 +151,7 @@ fn window_clause(
 }
 
 /// The number behind LIMIT or OFFSET, if that comes first. It refuses the word alone.
-fn counted(word: Keyword, tokens: &[Token]) -> Option<(Option<Number>, &[Token])>
+fn count(word: Keyword, tokens: &[Token]) -> Option<(Option<Number>, &[Token])>
     ensures { Answers (count word) (keyword_grip word) (meanings tokens.now) (settled (λ x. x.0) (λ x. x.1.now) result) }
 {
     let Some(after) = keyword(tokens, word) else {
@@ -180,12 +165,12 @@ fn counted(word: Keyword, tokens: &[Token]) -> Option<(Option<Number>, &[Token])
 
 /// A number, and then what OFFSET says, behind LIMIT.
 fn limit_first(tokens: &[Token]) -> Option<((Option<Number>, Option<Number>), &[Token])>
-    ensures { Answers limit_row limits_class (meanings tokens.now) (settled (λ x. x.0) (λ x. x.1.now) result) }
+    ensures { Answers limit_first limits_class (meanings tokens.now) (settled (λ x. x.0) (λ x. x.1.now) result) }
 {
     let Some((limit, rest)) = number(tokens) else {
         return None;
     };
-    match counted(Keyword::Offset, rest) {
+    match count(Keyword::Offset, rest) {
         None => None,
         Some((offset, rest)) => Some(((Some(*limit), offset), rest)),
     }
@@ -193,19 +178,19 @@ fn limit_first(tokens: &[Token]) -> Option<((Option<Number>, Option<Number>), &[
 
 /// A number, and then what LIMIT says, behind OFFSET.
 fn offset_first(tokens: &[Token]) -> Option<((Option<Number>, Option<Number>), &[Token])>
-    ensures { Answers offset_row limits_class (meanings tokens.now) (settled (λ x. x.0) (λ x. x.1.now) result) }
+    ensures { Answers offset_first limits_class (meanings tokens.now) (settled (λ x. x.0) (λ x. x.1.now) result) }
 {
     let Some((offset, rest)) = number(tokens) else {
         return None;
     };
-    match counted(Keyword::Limit, rest) {
+    match count(Keyword::Limit, rest) {
         None => None,
         Some((limit, rest)) => Some(((limit, Some(*offset)), rest)),
     }
 }
 
 /// What LIMIT and OFFSET say, in either order. It refuses either word alone.
-fn limited(tokens: &[Token]) -> Option<((Option<Number>, Option<Number>), &[Token])>
+fn limits(tokens: &[Token]) -> Option<((Option<Number>, Option<Number>), &[Token])>
     ensures { Answers limits limits_class (meanings tokens.now) (settled (λ x. x.0) (λ x. x.1.now) result) }
 {
     if let Some(after) = keyword(tokens, Keyword::Limit) {
@@ -226,7 +211,7 @@ struct Front {
     grouping: Vec<Column>,
 }
 
-fn query_clauses(
+fn clauses(
     alloc: Global,
     depth: u32,
     items: Vec<Item>,
@@ -235,22 +220,18 @@ fn query_clauses(
 ) -> Result<(Query, &[Token]), ParseFault>
     ensures { Answers (clauses depth (map view_item items.items) (view_source source)) limits_class (meanings tokens.now) (outcome (λ x. view_query x.0) (λ x. x.1.now) result) }
 {
-    let (condition, rest) = got!(
-        condition(alloc, depth, Keyword::Where, tokens),
-        items,
-        source
-    );
-    let (grouping, rest) = got!(grouped(alloc, rest), items, source, condition);
+    let (condition, rest) = got!(clause(alloc, depth, Keyword::Where, tokens), items, source);
+    let (grouping, rest) = got!(grouping(alloc, rest), items, source, condition);
     let front = Front {
         items,
         source,
         condition,
         grouping,
     };
-    clauses_behind_groups(alloc, depth, front, rest)
+    behind_groups(alloc, depth, front, rest)
 }
 
-fn clauses_behind_groups(
+fn behind_groups(
     alloc: Global,
     depth: u32,
     front: Front,
@@ -258,12 +239,12 @@ fn clauses_behind_groups(
 ) -> Result<(Query, &[Token]), ParseFault>
     ensures { Answers (behind_groups depth (map view_item front.items.items) (view_source front.source) (view_optional front.condition) (map view_column front.grouping.items)) limits_class (meanings tokens.now) (outcome (λ x. view_query x.0) (λ x. x.1.now) result) }
 {
-    let (having, rest) = got!(condition(alloc, depth, Keyword::Having, tokens), front);
-    let (windows, rest) = got!(window_clause(alloc, depth, rest), front, having);
-    clauses_behind_windows(alloc, depth, front, having, windows, rest)
+    let (having, rest) = got!(clause(alloc, depth, Keyword::Having, tokens), front);
+    let (windows, rest) = got!(windows(alloc, depth, rest), front, having);
+    behind_windows(alloc, depth, front, having, windows, rest)
 }
 
-fn clauses_behind_windows(
+fn behind_windows(
     alloc: Global,
     depth: u32,
     front: Front,
@@ -273,8 +254,8 @@ fn clauses_behind_windows(
 ) -> Result<(Query, &[Token]), ParseFault>
     ensures { Answers (behind_windows depth (map view_item front.items.items) (view_source front.source) (view_optional front.condition) (map view_column front.grouping.items) (view_optional having) (map view_entry windows.items)) limits_class (meanings tokens.now) (outcome (λ x. view_query x.0) (λ x. x.1.now) result) }
 {
-    let (order, rest) = got!(ordered(alloc, depth, tokens), front, having, windows);
-    let Some((limits, rest)) = limited(rest) else {
+    let (order, rest) = got!(order(alloc, depth, tokens), front, having, windows);
+    let Some((limits, rest)) = limits(rest) else {
         drop(front);
         drop(having);
         drop(windows);
@@ -301,7 +282,7 @@ fn clauses_behind_windows(
 /// A query.
 #[cycle(queries)]
 pub fn query(alloc: Global, depth: u32, tokens: &[Token]) -> Result<(Query, &[Token]), ParseFault>
-    ensures { Answers (queries depth) limits_class (meanings tokens.now) (outcome (λ x. view_query x.0) (λ x. x.1.now) result) }
+    ensures { Answers (query depth) limits_class (meanings tokens.now) (outcome (λ x. view_query x.0) (λ x. x.1.now) result) }
 {
     let Some(after) = keyword(tokens, Keyword::Select) else {
         return Err(ParseFault::Syntax);
@@ -311,28 +292,25 @@ pub fn query(alloc: Global, depth: u32, tokens: &[Token]) -> Result<(Query, &[To
         drop(items);
         return Err(ParseFault::Syntax);
     };
-    let (source, rest) = got!(source_of(alloc, depth, after), items);
-    query_clauses(alloc, depth, items, source, rest)
+    let (source, rest) = got!(source(alloc, depth, after), items);
+    clauses(alloc, depth, items, source, rest)
 }
 
 #[cycle(queries)]
-fn source_of(alloc: Global, depth: u32, tokens: &[Token]) -> Result<(Source, &[Token]), ParseFault>
-    ensures { Answers (source (deeper_queries depth)) element_class (meanings tokens.now) (outcome (λ x. view_source x.0) (λ x. x.1.now) result) }
+fn source(alloc: Global, depth: u32, tokens: &[Token]) -> Result<(Source, &[Token]), ParseFault>
+    ensures { Answers (source (deeper_query depth)) element_class (meanings tokens.now) (outcome (λ x. view_source x.0) (λ x. x.1.now) result) }
 {
-    if let Some((table, rest)) = name(tokens) {
-        let table = table.clone()?;
-        let (alias, rest) = got!(optional_alias(rest), table);
-        return Ok((build::table(table, alias), rest));
+    if let Some(after) = symbol(tokens, Symbol::OpenParenthesis) {
+        return derived(alloc, depth, after);
     }
-    match symbol(tokens, Symbol::OpenParenthesis) {
-        None => Err(ParseFault::Syntax),
-        Some(after) => derived_of(alloc, depth, after),
-    }
+    let (table, rest) = got!(copied_name(tokens));
+    let (alias, rest) = got!(optional_alias(rest), table);
+    Ok((build::table(table, alias), rest))
 }
 
 #[cycle(queries)]
-fn derived_of(alloc: Global, depth: u32, tokens: &[Token]) -> Result<(Source, &[Token]), ParseFault>
-    ensures { Answers (derived (deeper_queries depth)) any_class (meanings tokens.now) (outcome (λ x. view_source x.0) (λ x. x.1.now) result) }
+fn derived(alloc: Global, depth: u32, tokens: &[Token]) -> Result<(Source, &[Token]), ParseFault>
+    ensures { Answers (derived (deeper_query depth)) any_class (meanings tokens.now) (outcome (λ x. view_source x.0) (λ x. x.1.now) result) }
 {
     if depth == 0 {
         return Err(ParseFault::Syntax);
@@ -347,11 +325,21 @@ fn derived_of(alloc: Global, depth: u32, tokens: &[Token]) -> Result<(Source, &[
     Ok((source, rest))
 }
 
-/// A query and the semicolon behind it, if there is one.
-fn terminated(alloc: Global, tokens: &[Token]) -> Result<(Query, &[Token]), ParseFault>
-    ensures { Answers texts text_class (meanings tokens.now) (outcome (λ x. view_query x.0) (λ x. x.1.now) result) }
+/// The levels of nesting that a query may have.
+const MOST_NESTING: u32 = 64;
+
+/// A query that may be nested as deep as any.
+fn whole_query(alloc: Global, tokens: &[Token]) -> Result<(Query, &[Token]), ParseFault>
+    ensures { Answers (query most_nesting) limits_class (meanings tokens.now) (outcome (λ x. view_query x.0) (λ x. x.1.now) result) }
 {
-    let (query, rest) = got!(query(alloc, 64, tokens));
+    query(alloc, MOST_NESTING, tokens)
+}
+
+/// A query and the semicolon behind it, if there is one.
+fn text(alloc: Global, tokens: &[Token]) -> Result<(Query, &[Token]), ParseFault>
+    ensures { Answers text text_class (meanings tokens.now) (outcome (λ x. view_query x.0) (λ x. x.1.now) result) }
+{
+    let (query, rest) = got!(whole_query(alloc, tokens));
     match symbol(rest, Symbol::Semicolon) {
         None => Ok((query, rest)),
         Some(rest) => Ok((query, rest)),
@@ -368,7 +356,7 @@ pub fn parse(alloc: Global, tokens: &[Token]) -> Result<Query, ParseFault>
     // Only what spells no query is refused.
     ensures refused { result ≡ Err Syntax → (query : QueryTree) → Spells query (meanings tokens.now) → ⊥ }
 {
-    let (query, rest) = got!(terminated(alloc, tokens));
+    let (query, rest) = got!(text(alloc, tokens));
     match rest {
         [] => Ok(query),
         _ => {

@@ -3,7 +3,7 @@
 ghost use Rattle.std.specs.Prelude.{◌≡◌, ◌≢◌, true, false, List, [], ◌∷◌, MatchOption};
 ghost use Rattle.std.specs.Rc.{rc_str_bytes};
 ghost use Rattle.wlexer.specs.Token.{lexeme_meaning, KeywordToken, SymbolToken};
-ghost use Rattle.wparser.specs.Words.{name_of, number_of, text_of, operator_of, comparison_of, sign_of, direction_of, null_order_of, mode_of};
+ghost use Rattle.wparser.specs.Words.{CommaSign, name_of, number_of, text_of, operator_of, comparison_of, sign_of, direction_of, null_order_of, mode_of};
 ghost use Rattle.wparser.specs.Notation.{Tokens, One, Never};
 ghost use Rattle.wparser.specs.Finding.{meanings};
 
@@ -67,6 +67,13 @@ pub fn symbol(tokens: &[Token], wanted: Symbol) -> Option<&[Token]>
     } else {
         None
     }
+}
+
+/// What follows a comma, where one comes first.
+pub fn behind_comma(tokens: &[Token]) -> Option<&[Token]>
+    ensures { MatchOption result ((ts : Tokens) → meanings tokens.now ≢ CommaSign ∷ ts) (λ x. meanings tokens.now ≡ CommaSign ∷ meanings x.now) }
+{
+    symbol(tokens, Symbol::Comma)
 }
 
 fn is_symbol(lexeme: &Lexeme, wanted: Symbol) -> bool

@@ -1,9 +1,8 @@
 //! Makes the parts of queries; each function says what its result says.
 
-ghost use Rattle.std.specs.Prelude.{◌≡◌, ◌++◌, [], ◌∷◌, Some, None, map, IfOk};
+ghost use Rattle.std.specs.Prelude.{◌≡◌, map, IfOk};
 ghost use Rattle.std.specs.Rc.{rc_str_bytes};
-ghost use Rattle.wquery.specs.declared.expression.Expression.TheVariants.{Chain};
-ghost use Rattle.wquery.specs.Tree.{view, views, view_arguments, view_over, view_key, view_keys, view_window, view_column, view_optional, view_optional_over, name_bytes, filter_of, reach_of, trees, own_window, is_chain, lengthened, joined, linked, view_link, Links, NullWord, Numeral, Quoted, Field, Invoked, Negated, Signed, Joined, Compared, NullTest, Within, Among, NoLinks, Further, Everything, These, ThatWindow};
+ghost use Rattle.wquery.specs.Tree.{view, views, view_arguments, view_key, view_keys, view_window, view_column, view_optional, view_optional_over, name_bytes, filter_of, reach_of, trees, is_chain, lengthened, joined, linked, view_link, Links, Field, Invoked, Negated, Signed, Joined, Compared, NullTest, Within, Among, NoLinks, Further, These};
 ghost use Rattle.wquery.specs.QueryTree.{view_query, view_source, view_item, view_entry, query_of, FromTable, FromQuery};
 
 use crate::expression::{
@@ -16,25 +15,18 @@ use std::alloc::{AllocError, Global};
 use std::rc::RcStr;
 use wlexer::Number;
 
-#[tactic(auto, unfolding(crate::specs::Tree::view))]
-pub fn null() -> Expression
-    ensures { view result ≡ NullWord }
-{
-    Expression::Null
-}
-
-#[tactic(auto, unfolding(crate::specs::Tree::view))]
-pub fn number(n: Number) -> Expression
-    ensures { view result ≡ Numeral n }
-{
-    Expression::Number(n)
-}
-
-#[tactic(auto, unfolding(crate::specs::Tree::view))]
-pub fn text(text: RcStr) -> Expression
-    ensures { view result ≡ Quoted (rc_str_bytes text) }
-{
-    Expression::Text(text)
+/// What was made; a fault is handed on, and what is held is let go before. It stands for `?`, which at the end of a
+/// scope lets go of each part of what is held, and so makes a long proof.
+macro_rules! made {
+    ($made:expr $(, $held:ident)*) => {
+        match $made {
+            Ok(made) => made,
+            Err(fault) => {
+                $(drop($held);)*
+                return Err(fault.into());
+            }
+        }
+    };
 }
 
 #[tactic(auto, unfolding(crate::specs::Tree::view))]
@@ -60,14 +52,8 @@ pub fn call(
         filter,
         over,
     };
-    Ok(Expression::Call(Box::new(alloc, call)?))
-}
-
-#[tactic(auto, unfolding(crate::specs::Tree::view_arguments))]
-pub fn star() -> Arguments
-    ensures { view_arguments result ≡ Everything }
-{
-    Arguments::Star
+    let call = made!(Box::new(alloc, call));
+    Ok(Expression::Call(call))
 }
 
 #[tactic(auto, unfolding(crate::specs::Tree::view_arguments, crate::specs::Tree::view))]
@@ -75,20 +61,6 @@ pub fn listed(list: Vec<Expression>) -> Arguments
     ensures { view_arguments result ≡ These (trees (views list.items)) }
 {
     Arguments::Listed(list)
-}
-
-#[tactic(auto, unfolding(crate::specs::Tree::view_over))]
-pub fn named_window(name: RcStr) -> Over
-    ensures { view_over result ≡ ThatWindow (rc_str_bytes name) }
-{
-    Over::Named(name)
-}
-
-#[tactic(auto, unfolding(crate::specs::Tree::view_over, crate::specs::Tree::view_window))]
-pub fn windowed(window: Window) -> Over
-    ensures { view_over result ≡ own_window (view_window window) }
-{
-    Over::Windowed(window)
 }
 
 #[tactic(auto, unfolding(crate::specs::Tree::view_window, crate::specs::Tree::view, crate::specs::Tree::view_key))]
@@ -123,40 +95,16 @@ pub fn key(expression: Expression, descending: bool, nulls: Option<NullOrder>) -
 pub fn not(alloc: Global, e: Expression) -> Result<Expression, AllocError>
     ensures { IfOk result (λ x. view x ≡ Negated (view e)) }
 {
-    Ok(Expression::Not(Box::new(alloc, e)?))
+    let operand = made!(Box::new(alloc, e));
+    Ok(Expression::Not(operand))
 }
 
 #[tactic(auto, unfolding(crate::specs::Tree::view))]
 pub fn signed(alloc: Global, minus: bool, e: Expression) -> Result<Expression, AllocError>
     ensures { IfOk result (λ x. view x ≡ Signed minus (view e)) }
 {
-    Ok(Expression::Sign {
-        minus,
-        operand: Box::new(alloc, e)?,
-    })
-}
-
-/// Two values in memory of their own.
-fn boxed<T: Drop>(alloc: Global, left: T, right: T) -> Result<(Box<T>, Box<T>), AllocError>
-    ensures { IfOk result (λ x. (x.0.value ≡ left) × (x.1.value ≡ right)) }
-{
-    let left = Box::new(alloc, left)?;
-    let right = Box::new(alloc, right)?;
-    Ok((left, right))
-}
-
-/// Three values in memory of their own.
-fn boxed_three<T: Drop>(
-    alloc: Global,
-    first: T,
-    second: T,
-    third: T,
-) -> Result<(Box<T>, Box<T>, Box<T>), AllocError>
-    ensures { IfOk result (λ x. (x.0.value ≡ first) × (x.1.value ≡ second) × (x.2.value ≡ third)) }
-{
-    let (first, second) = boxed(alloc, first, second)?;
-    let third = Box::new(alloc, third)?;
-    Ok((first, second, third))
+    let operand = made!(Box::new(alloc, e));
+    Ok(Expression::Sign { minus, operand })
 }
 
 #[tactic(auto, unfolding(crate::specs::Tree::view))]
@@ -168,7 +116,8 @@ pub fn compared(
 ) -> Result<Expression, AllocError>
     ensures { IfOk result (λ x. view x ≡ Compared comparison (view l) (view r)) }
 {
-    let (left, right) = boxed(alloc, l, r)?;
+    let left = made!(Box::new(alloc, l), r);
+    let right = made!(Box::new(alloc, r), left);
     Ok(Expression::Compare {
         comparison,
         left,
@@ -180,10 +129,8 @@ pub fn compared(
 pub fn null_test(alloc: Global, negated: bool, e: Expression) -> Result<Expression, AllocError>
     ensures { IfOk result (λ x. view x ≡ NullTest negated (view e)) }
 {
-    Ok(Expression::IsNull {
-        negated,
-        operand: Box::new(alloc, e)?,
-    })
+    let operand = made!(Box::new(alloc, e));
+    Ok(Expression::IsNull { negated, operand })
 }
 
 #[tactic(auto, unfolding(crate::specs::Tree::view))]
@@ -196,7 +143,9 @@ pub fn within(
 ) -> Result<Expression, AllocError>
     ensures { IfOk result (λ x. view x ≡ Within negated (view e) (view low) (view high)) }
 {
-    let (operand, low, high) = boxed_three(alloc, e, low, high)?;
+    let operand = made!(Box::new(alloc, e), low, high);
+    let low = made!(Box::new(alloc, low), operand, high);
+    let high = made!(Box::new(alloc, high), operand, low);
     Ok(Expression::Between {
         negated,
         operand,
@@ -214,9 +163,10 @@ pub fn among(
 ) -> Result<Expression, AllocError>
     ensures { IfOk result (λ x. view x ≡ Among negated (view e) (trees (views list.items))) }
 {
+    let operand = made!(Box::new(alloc, e), list);
     Ok(Expression::In {
         negated,
-        operand: Box::new(alloc, e)?,
+        operand,
         list,
     })
 }
@@ -242,13 +192,9 @@ fn start_chain(
     ensures { IfOk result (λ x. view x ≡ Joined kind (view first) (Further NoLinks operator (view operand))) }
 {
     let link = Link { operator, operand };
-    let mut links = Vec::new(alloc);
-    links.push(link)?;
-    Ok(Expression::Chain {
-        kind,
-        first: Box::new(alloc, first)?,
-        links,
-    })
+    let links = made!(Vec::from_array(alloc, [link]), first);
+    let first = made!(Box::new(alloc, first), links);
+    Ok(Expression::Chain { kind, first, links })
 }
 
 /// Joins an operand to a chain of this kind, or makes a chain of two.
@@ -262,27 +208,11 @@ pub fn join(
     ensures { IfOk result (λ x. view x ≡ joined kind (view first) operator (view operand)) }
 {
     if is_chain_of(&first, kind) {
-        return longer(first, operator, operand);
+        let mut chain = first;
+        made!(lengthen(&mut chain, operator, operand), chain);
+        return Ok(chain);
     }
     start_chain(alloc, kind, first, operator, operand)
-}
-
-/// The chain with one more operand; what is no chain as it is.
-fn longer(
-    first: Expression,
-    operator: Operator,
-    operand: Expression,
-) -> Result<Expression, AllocError>
-    ensures { IfOk result (λ x. view x ≡ lengthened (view first) operator (view operand)) }
-{
-    let mut chain = first;
-    match lengthen(&mut chain, operator, operand) {
-        Ok(()) => Ok(chain),
-        Err(fault) => {
-            drop(chain);
-            Err(fault)
-        }
-    }
 }
 
 fn push_link(
@@ -317,22 +247,6 @@ fn lengthen(
     }
 }
 
-/// Adds an expression to a list.
-pub fn push(items: &mut Vec<Expression>, item: Expression) -> Result<(), AllocError>
-    ensures { IfOk result (λ _. views items.new.items ≡ views items.old.items ++ (view item ∷ [])) }
-{
-    items.push(item)?;
-    Ok(())
-}
-
-/// Adds a key to a list.
-pub fn push_key(items: &mut Vec<Key>, item: Key) -> Result<(), AllocError>
-    ensures { IfOk result (λ _. view_keys items.new.items ≡ view_keys items.old.items ++ (view_key item ∷ [])) }
-{
-    items.push(item)?;
-    Ok(())
-}
-
 #[tactic(auto, unfolding(crate::specs::QueryTree::view_source))]
 pub fn table(name: RcStr, alias: Option<RcStr>) -> Source
     ensures { view_source result ≡ FromTable (rc_str_bytes name) (name_bytes alias) }
@@ -344,10 +258,8 @@ pub fn table(name: RcStr, alias: Option<RcStr>) -> Source
 pub fn derived(alloc: Global, query: Query, alias: RcStr) -> Result<Source, AllocError>
     ensures { IfOk result (λ x. view_source x ≡ FromQuery (view_query query) (rc_str_bytes alias)) }
 {
-    Ok(Source::Derived {
-        query: Box::new(alloc, query)?,
-        alias,
-    })
+    let query = made!(Box::new(alloc, query), alias);
+    Ok(Source::Derived { query, alias })
 }
 
 /// The clauses behind FROM.

@@ -2,14 +2,15 @@ use Rattle.std.proofs.Common.{◌<◌, List, refl, ap, ◌∙◌, arith}
 use Rattle.wparser.specs.declared.fault.ParseFault.TheVariants.{Syntax}
 use Rattle.wquery.specs.declared.expression.ChainKind.TheVariants.{Disjunction}
 use Rattle.wquery.specs.declared.expression.Expression.{Expression}
-use Rattle.wquery.specs.Tree.{Tree, Quoted, These, ThatWindow, trees, view, views, view_keys, view_window}
+use Rattle.wquery.specs.Tree.{Tree, Quoted, These, trees, view, views, view_key, view_keys, view_window}
+use Rattle.wquery.proofs.Says.{null_says, number_says, text_says, named_says, windowed_says}
 use Rattle.wparser.specs.Notation.{Row, Listed}
-use Rattle.wparser.specs.Grammar.{Chains, Negations, Signs, deeper, window}
+use Rattle.wparser.specs.Grammar.{ChainRank, NegationRank, SignRank, deeper, window}
 use Rattle.wparser.specs.Finding.{Got, failed, Answers, meanings}
-use Rattle.wparser.proofs.Steps.{answers_less, grips, missing, got_along, made_along, other_token, one_parts, never_either, never_then, never_listed, any_leads, after_leads, done_leads, then_got, then_refused, after_got, after_missing, after_never, as_got, as_refused, one_got, perhaps_absent, perhaps_present, either_first, either_second, done_got, room_answers, closed_refused, closed_missing, closed_got, listing_more, listing_got, listing_refused}
+use Rattle.wparser.proofs.Steps.{answers_less, short, grips, missing, not_said, got_along, made_along, other_token, one_parts, never_either, never_then, never_listed, any_leads, after_leads, done_leads, then_got, then_refused, after_got, after_missing, after_never, as_got, as_refused, one_got, perhaps_absent, perhaps_present, either_first, either_second, done_got, room_answers, closed_refused, closed_missing, closed_got, listing_more, listing_got, listing_refused}
 use Rattle.wparser.proofs.Rows.{chain_refused, chain_got, going_more, going_refused, going_over, comparison_grip}
 use Rattle.wparser.proofs.Fits.{tests_begin, begins_not, primary_no_sign, lower, nothing_below, operand_falls, chain_falls, key_falls}
-use Rattle.wparser.proofs.Parts.{one_grips, null_tested_leads, compared_leads, test_leads, tested_leads, no_test, call_leads, key_leads, key_leads_nulls, window_leads_parts, window_leads_order, window_leads_frame, primary_number, primary_text, primary_null, primary_name_copied, name_here, window_along, meanings_fall_on, primary_open, primary_none, window_empty, no_list, meanings_fall, kind_above}
+use Rattle.wparser.proofs.Parts.{one_more, one_grips, null_tested_leads, compared_leads, test_leads, tested_leads, no_test, call_leads, key_leads, key_leads_nulls, window_leads_parts, window_leads_order, window_leads_frame, primary_number, primary_text, primary_null, primary_name_copied, window_along, meanings_fall_on, primary_open, primary_none, window_empty, no_list, meanings_fall, kind_above}
 use Rattle.wparser.proofs.expressions.+parser.Goals as goal
 
 pub chain-returns-in-Err : goal.chain-returns-in-Err
@@ -25,7 +26,7 @@ pub goes_on-chain-smaller : goal.goes_on-chain-smaller
 goes_on-chain-smaller t c = let a = (operand_falls c.args.depth c.args.kind).falls _ _ _ c.in-Ok.ensures.found in let e = one_parts c.in-Some.ensures in meanings_fall _ _ _ e.1 a
 
 pub goes_on-chain-preserved : goal.goes_on-chain-preserved
-goes_on-chain-preserved t c = going_more c.chain.invariant c.in-Some.ensures c.in-Ok.ensures c.in_ok-tree.ensures
+goes_on-chain-preserved t c = going_more c.chain.invariant c.in-Some.ensures c.in-Ok.ensures c.in-Ok-join.ensures
 
 pub goes_on-returns : goal.goes_on-returns
 goes_on-returns t c = going_over c.chain.invariant c.in_default.ensures
@@ -34,19 +35,19 @@ pub negation-returns-in_default : goal.negation-returns-in_default
 negation-returns-in_default t c = either_second (after_never c.in_default.ensures) c.test.ensures
 
 pub negation-returns-then-depth-eq0 : goal.negation-returns-then-depth-eq0
-negation-returns-then-depth-eq0 t c = either_first (begins_not (tests_begin c.args.depth (deeper c.args.depth)) c.in-Some.ensures (omega arith)) (after_got c.in-Some.ensures (as_refused Syntax (missing (nothing_below c.args.depth Negations _ c.if-depth-eq0.true))))
+negation-returns-then-depth-eq0 t c = either_first (begins_not (tests_begin c.args.depth (deeper c.args.depth)) c.in-Some.ensures (omega arith)) (after_got c.in-Some.ensures (as_refused Syntax (missing (nothing_below c.args.depth NegationRank _ c.if-depth-eq0.true))))
 
 pub negation-returns-in-Err : goal.negation-returns-in-Err
-negation-returns-in-Err t c = let lt : 0 < c.args.depth = omega arith in either_first (begins_not (tests_begin c.args.depth (deeper c.args.depth)) c.in-Some.ensures (omega arith)) (after_got c.in-Some.ensures (as_refused c.in-Err.fault (lower c.args.depth Negations (λ (R : Row Tree). Answers R 22 (meanings c.in-Some.after.now) (failed c.in-Err.fault)) lt c.in-Err.ensures)))
+negation-returns-in-Err t c = let lt : 0 < c.args.depth = omega arith in either_first (begins_not (tests_begin c.args.depth (deeper c.args.depth)) c.in-Some.ensures (omega arith)) (after_got c.in-Some.ensures (as_refused c.in-Err.fault (lower c.args.depth NegationRank (λ (R : Row Tree). Answers R 22 (meanings c.in-Some.after.now) (failed c.in-Err.fault)) lt c.in-Err.ensures)))
 
 pub negation-returns : goal.negation-returns
-negation-returns t c = let lt : 0 < c.args.depth = omega arith in made_along _ c.made.ensures c.not.ensures (either_first (begins_not (tests_begin c.args.depth (deeper c.args.depth)) c.in-Some.ensures (omega arith)) (after_got c.in-Some.ensures (as_got (lower c.args.depth Negations (λ (R : Row Tree). Answers R 22 (meanings c.in-Some.after.now) (Got (view c.in-Ok.read.0) (meanings c.in-Ok.read.1.now))) lt c.in-Ok.ensures))))
+negation-returns t c = let lt : 0 < c.args.depth = omega arith in made_along _ c.made.ensures c.not.ensures (either_first (begins_not (tests_begin c.args.depth (deeper c.args.depth)) c.in-Some.ensures (omega arith)) (after_got c.in-Some.ensures (as_got (lower c.args.depth NegationRank (λ (R : Row Tree). Answers R 22 (meanings c.in-Some.after.now) (Got (view c.in-Ok.read.0) (meanings c.in-Ok.read.1.now))) lt c.in-Ok.ensures))))
 
 pub test-returns-in-Err : goal.test-returns-in-Err
 test-returns-in-Err t c = then_refused c.in-Err.fault (λ e. null_tested_leads) c.in-Err.ensures
 
 pub test-returns : goal.test-returns
-test-returns t c = then_got (λ e. null_tested_leads) c.in-Ok.ensures c.null_test.ensures
+test-returns t c = then_got (λ e. null_tested_leads) c.in-Ok.ensures c.null_tested.ensures
 
 pub comparison-returns-in-Err : goal.comparison-returns-in-Err
 comparison-returns-in-Err t c = then_refused c.in-Err.fault (λ l. compared_leads) c.in-Err.ensures
@@ -70,7 +71,7 @@ pub range-returns : goal.range-returns
 range-returns t c = then_got (λ e. tested_leads) c.in-Ok.ensures c.range_tested.ensures
 
 pub range_tested-returns-then-range_test_follows : goal.range_tested-returns-then-range_test_follows
-range_tested-returns-then-range_test_follows t c = perhaps_present (c.range_test_follows.ensures.yes c.if-range_test_follows.true) (then_got (λ n. test_leads) c.negated-negated.ensures c.range_test.ensures)
+range_tested-returns-then-range_test_follows t c = perhaps_present (c.range_test_follows.ensures.yes c.if-range_test_follows.true) (then_got (λ n. test_leads) c.optional_not-negated.ensures c.range_test.ensures)
 
 pub range_tested-returns : goal.range_tested-returns
 range_tested-returns t c = perhaps_absent (no_test (c.range_test_follows.ensures.other c.if-range_test_follows.false))
@@ -112,43 +113,37 @@ pub sign-returns-in_default : goal.sign-returns-in_default
 sign-returns-in_default t c = either_second (never_then c.in_default.ensures) c.primary.ensures
 
 pub sign-returns-then-depth-eq0 : goal.sign-returns-then-depth-eq0
-sign-returns-then-depth-eq0 t c = either_first (primary_no_sign c.in-Some.ensures) (then_got {j = 31} (λ m. any_leads) (one_got c.in-Some.ensures) (as_refused Syntax (missing (nothing_below c.args.depth Signs _ c.if-depth-eq0.true))))
+sign-returns-then-depth-eq0 t c = either_first (primary_no_sign c.in-Some.ensures) (then_got {j = 31} (λ m. any_leads) (one_got c.in-Some.ensures) (as_refused Syntax (missing (nothing_below c.args.depth SignRank _ c.if-depth-eq0.true))))
 
 pub sign-returns-in-Err : goal.sign-returns-in-Err
-sign-returns-in-Err t c = let lt : 0 < c.args.depth = omega arith in either_first (primary_no_sign c.in-Some.ensures) (then_got {j = 31} (λ m. any_leads) (one_got c.in-Some.ensures) (as_refused c.in-Err.fault (lower c.args.depth Signs (λ (R : Row Tree). Answers R 28 (meanings c.in-Some.after.now) (failed c.in-Err.fault)) lt c.in-Err.ensures)))
+sign-returns-in-Err t c = let lt : 0 < c.args.depth = omega arith in either_first (primary_no_sign c.in-Some.ensures) (then_got {j = 31} (λ m. any_leads) (one_got c.in-Some.ensures) (as_refused c.in-Err.fault (lower c.args.depth SignRank (λ (R : Row Tree). Answers R 28 (meanings c.in-Some.after.now) (failed c.in-Err.fault)) lt c.in-Err.ensures)))
 
 pub sign-returns : goal.sign-returns
-sign-returns t c = let lt : 0 < c.args.depth = omega arith in made_along _ c.made.ensures c.signed.ensures (either_first (primary_no_sign c.in-Some.ensures) (then_got {j = 31} (λ m. any_leads) (one_got c.in-Some.ensures) (as_got (lower c.args.depth Signs (λ (R : Row Tree). Answers R 28 (meanings c.in-Some.after.now) (Got (view c.in-Ok.read.0) (meanings c.in-Ok.read.1.now))) lt c.in-Ok.ensures))))
+sign-returns t c = let lt : 0 < c.args.depth = omega arith in made_along _ c.made.ensures c.signed.ensures (either_first (primary_no_sign c.in-Some.ensures) (then_got {j = 31} (λ m. any_leads) (one_got c.in-Some.ensures) (as_got (lower c.args.depth SignRank (λ (R : Row Tree). Answers R 28 (meanings c.in-Some.after.now) (Got (view c.in-Ok.read.0) (meanings c.in-Ok.read.1.now))) lt c.in-Ok.ensures))))
 
 pub primary-returns-in-Some : goal.primary-returns-in-Some
-primary-returns-in-Some t c = got_along c.number-in-Some.ensures refl (primary_number c.in-Some.ensures)
-
-pub primary-returns-in-Some-text : goal.primary-returns-in-Some-text
-primary-returns-in-Some-text t c = got_along (c.text-in-Some-text.ensures ∙ ap Quoted c.in_ok-text.ensures.cases) refl (primary_text c.in-Some-text.ensures)
+primary-returns-in-Some t c = got_along (number_says _) refl (primary_number c.in-Some.ensures)
 
 pub primary-returns-in-Some-keyword : goal.primary-returns-in-Some-keyword
-primary-returns-in-Some-keyword t c = got_along c.null.ensures refl (primary_null c.in-Some-keyword.ensures)
-
-pub primary-returns-in-Some-name : goal.primary-returns-in-Some-name
-primary-returns-in-Some-name t c = primary_name_copied c.in-Some-name.ensures c.in_ok-name.ensures.cases c.column_or_call.ensures
+primary-returns-in-Some-keyword t c = got_along null_says refl (primary_null c.in-Some-keyword.ensures)
 
 pub primary-returns-in-None : goal.primary-returns-in-None
 primary-returns-in-None t c = primary_none c.in_default.ensures c.in_default-text.ensures c.in_default-keyword.ensures c.in_default-name.ensures c.in-None.ensures
 
 pub primary-returns-in-Some-symbol : goal.primary-returns-in-Some-symbol
-primary-returns-in-Some-symbol t c = primary_open c.in-Some-symbol.ensures c.enclosed.ensures
+primary-returns-in-Some-symbol t c = primary_open c.in-Some-symbol.ensures c.closed.ensures
 
-pub enclosed-returns-then-depth-eq0 : goal.enclosed-returns-then-depth-eq0
-enclosed-returns-then-depth-eq0 t c = missing (never_then (nothing_below c.args.depth (Chains Disjunction) _ c.if-depth-eq0.true))
+pub closed-returns-then-depth-eq0 : goal.closed-returns-then-depth-eq0
+closed-returns-then-depth-eq0 t c = missing (never_then (nothing_below c.args.depth (ChainRank Disjunction) _ c.if-depth-eq0.true))
 
-pub enclosed-returns-in-Err : goal.enclosed-returns-in-Err
-enclosed-returns-in-Err t c = let lt : 0 < c.args.depth = omega arith in closed_refused c.in-Err.fault (omega arith) (lower c.args.depth (Chains Disjunction) (λ (R : Row Tree). Answers R 20 (meanings c.args.tokens.now) (failed c.in-Err.fault)) lt c.in-Err.ensures)
+pub closed-returns-in-Err : goal.closed-returns-in-Err
+closed-returns-in-Err t c = let lt : 0 < c.args.depth = omega arith in closed_refused c.in-Err.fault (omega arith) (lower c.args.depth (ChainRank Disjunction) (λ (R : Row Tree). Answers R 20 (meanings c.args.tokens.now) (failed c.in-Err.fault)) lt c.in-Err.ensures)
 
-pub enclosed-returns-in-None : goal.enclosed-returns-in-None
-enclosed-returns-in-None t c = let lt : 0 < c.args.depth = omega arith in closed_missing (omega arith) (lower c.args.depth (Chains Disjunction) (λ (R : Row Tree). Answers R 20 (meanings c.args.tokens.now) (Got (view c.in-Ok.read.0) (meanings c.in-Ok.read.1.now))) lt c.in-Ok.ensures) c.in-None.ensures
+pub closed-returns-in-None : goal.closed-returns-in-None
+closed-returns-in-None t c = let lt : 0 < c.args.depth = omega arith in closed_missing (omega arith) (lower c.args.depth (ChainRank Disjunction) (λ (R : Row Tree). Answers R 20 (meanings c.args.tokens.now) (Got (view c.in-Ok.read.0) (meanings c.in-Ok.read.1.now))) lt c.in-Ok.ensures) c.in-None.ensures
 
-pub enclosed-returns-in-Some : goal.enclosed-returns-in-Some
-enclosed-returns-in-Some t c = let lt : 0 < c.args.depth = omega arith in closed_got (omega arith) (lower c.args.depth (Chains Disjunction) (λ (R : Row Tree). Answers R 20 (meanings c.args.tokens.now) (Got (view c.in-Ok.read.0) (meanings c.in-Ok.read.1.now))) lt c.in-Ok.ensures) c.in-Some.ensures
+pub closed-returns-in-Some : goal.closed-returns-in-Some
+closed-returns-in-Some t c = let lt : 0 < c.args.depth = omega arith in closed_got (omega arith) (lower c.args.depth (ChainRank Disjunction) (λ (R : Row Tree). Answers R 20 (meanings c.args.tokens.now) (Got (view c.in-Ok.read.0) (meanings c.in-Ok.read.1.now))) lt c.in-Ok.ensures) c.in-Some.ensures
 
 pub column_or_call-returns-in-Some : goal.column_or_call-returns-in-Some
 column_or_call-returns-in-Some t c = perhaps_present (grips c.in-Some.ensures (omega arith)) (either_first (other_token c.in-Some.ensures (λ q. cc)) (after_got c.in-Some.ensures (answers_less (omega arith) c.qualified.ensures)))
@@ -157,151 +152,163 @@ pub column_or_call-returns-in-None : goal.column_or_call-returns-in-None
 column_or_call-returns-in-None t c = got_along c.column.ensures refl (perhaps_absent (never_either (after_never c.in_default.ensures) (after_never c.in-None.ensures)))
 
 pub column_or_call-returns-in-Some-symbol : goal.column_or_call-returns-in-Some-symbol
-column_or_call-returns-in-Some-symbol t c = perhaps_present (grips c.in-Some-symbol.ensures (omega arith)) (either_second (after_never c.in_default.ensures) (after_got c.in-Some-symbol.ensures c.calls.ensures))
+column_or_call-returns-in-Some-symbol t c = perhaps_present (grips c.in-Some-symbol.ensures (omega arith)) (either_second (after_never c.in_default.ensures) (after_got c.in-Some-symbol.ensures c.call.ensures))
 
-pub calls-returns-in-Err : goal.calls-returns-in-Err
-calls-returns-in-Err t c = then_refused c.in-Err.fault (λ g. any_leads {k = 28}) c.in-Err.ensures
+pub call-returns-in-Err : goal.call-returns-in-Err
+call-returns-in-Err t c = then_refused c.in-Err.fault (λ g. any_leads {k = 28}) c.in-Err.ensures
 
-pub calls-returns-in-Err-filter : goal.calls-returns-in-Err-filter
-calls-returns-in-Err-filter t c = then_got (λ g. any_leads) c.in-Ok.ensures (then_refused c.in-Err-filter.fault (λ f. call_leads) c.in-Err-filter.ensures)
+pub call-returns-in-Err-optional_filter : goal.call-returns-in-Err-optional_filter
+call-returns-in-Err-optional_filter t c = then_got (λ g. any_leads) c.in-Ok.ensures (then_refused c.in-Err-optional_filter.fault (λ f. call_leads) c.in-Err-optional_filter.ensures)
 
-pub calls-returns-in-Err-over : goal.calls-returns-in-Err-over
-calls-returns-in-Err-over t c = then_got (λ g. any_leads) c.in-Ok.ensures (then_got (λ f. call_leads) c.in-Ok-filter.ensures (then_refused c.in-Err-over.fault (λ r. done_leads (omega arith)) c.in-Err-over.ensures))
+pub call-returns-in-Err-optional_over : goal.call-returns-in-Err-optional_over
+call-returns-in-Err-optional_over t c = then_got (λ g. any_leads) c.in-Ok.ensures (then_got (λ f. call_leads) c.in-Ok-optional_filter.ensures (then_refused c.in-Err-optional_over.fault (λ r. done_leads (omega arith)) c.in-Err-optional_over.ensures))
 
-pub calls-returns : goal.calls-returns
-calls-returns t c = made_along _ c.made.ensures c.call.ensures (then_got (λ g. any_leads) c.in-Ok.ensures (then_got (λ f. call_leads) c.in-Ok-filter.ensures (then_got (λ r. done_leads (omega arith)) c.in-Ok-over.ensures done_got)))
+pub call-returns : goal.call-returns
+call-returns t c = made_along _ c.made.ensures c.call.ensures (then_got (λ g. any_leads) c.in-Ok.ensures (then_got (λ f. call_leads) c.in-Ok-optional_filter.ensures (then_got (λ r. done_leads (omega arith)) c.in-Ok-optional_over.ensures done_got)))
 
-pub given-returns-in-Some : goal.given-returns-in-Some
-given-returns-in-Some t c = got_along (c.listed.ensures ∙ ap (λ (v : List Expression). These (trees (views v))) c.new.ensures.items) refl (either_first (never_either (other_token c.in-Some.ensures (λ q. cc)) (no_list c.args.depth c.in-Some.ensures (omega arith))) (after_got c.in-Some.ensures done_got))
+pub arguments-returns-in-Some : goal.arguments-returns-in-Some
+arguments-returns-in-Some t c = got_along (c.listed.ensures ∙ ap (λ (v : List Expression). These (trees (views v))) c.new.ensures.items) refl (either_first (never_either (other_token c.in-Some.ensures (λ q. cc)) (no_list c.args.depth c.in-Some.ensures (omega arith))) (after_got c.in-Some.ensures done_got))
 
-pub given-returns-in-None : goal.given-returns-in-None
-given-returns-in-None t c = either_second (after_never c.in_default.ensures) (either_first (no_list c.args.depth c.in-Some-symbol.ensures (omega arith)) (after_got c.in-Some-symbol.ensures c.in-None.ensures))
+pub arguments-returns-in-None : goal.arguments-returns-in-None
+arguments-returns-in-None t c = either_second (after_never c.in_default.ensures) (either_first (no_list c.args.depth c.in-Some-symbol.ensures (omega arith)) (after_got c.in-Some-symbol.ensures c.in-None.ensures))
 
-pub given-returns-in-Some-everything : goal.given-returns-in-Some-everything
-given-returns-in-Some-everything t c = either_second (after_never c.in_default.ensures) (either_first (no_list c.args.depth c.in-Some-symbol.ensures (omega arith)) (after_got c.in-Some-symbol.ensures c.in-Some-everything.ensures))
+pub arguments-returns-in-Some-everything_closed : goal.arguments-returns-in-Some-everything_closed
+arguments-returns-in-Some-everything_closed t c = either_second (after_never c.in_default.ensures) (either_first (no_list c.args.depth c.in-Some-symbol.ensures (omega arith)) (after_got c.in-Some-symbol.ensures c.in-Some-everything_closed.ensures))
 
-pub given-returns-in-Err : goal.given-returns-in-Err
-given-returns-in-Err t c = either_second (after_never c.in_default.ensures) (either_second (after_never c.in_default-symbol.ensures) (as_refused c.in-Err.fault c.in-Err.ensures))
+pub arguments-returns-in-Err : goal.arguments-returns-in-Err
+arguments-returns-in-Err t c = either_second (after_never c.in_default.ensures) (either_second (after_never c.in_default-symbol.ensures) (as_refused c.in-Err.fault c.in-Err.ensures))
 
-pub given-returns : goal.given-returns
-given-returns t c = got_along c.listed-2.ensures refl (either_second (after_never c.in_default.ensures) (either_second (after_never c.in_default-symbol.ensures) (as_got c.in-Ok.ensures)))
+pub arguments-returns : goal.arguments-returns
+arguments-returns t c = got_along c.listed-2.ensures refl (either_second (after_never c.in_default.ensures) (either_second (after_never c.in_default-symbol.ensures) (as_got c.in-Ok.ensures)))
 
 pub closed_list-returns-then-depth-eq0 : goal.closed_list-returns-then-depth-eq0
-closed_list-returns-then-depth-eq0 t c = missing (never_then (never_listed (nothing_below c.args.depth (Chains c.args.kind) _ c.if-depth-eq0.true)))
+closed_list-returns-then-depth-eq0 t c = missing (never_then (never_listed (nothing_below c.args.depth (ChainRank c.args.kind) _ c.if-depth-eq0.true)))
 
 pub closed_list-returns-in-Err : goal.closed_list-returns-in-Err
-closed_list-returns-in-Err t c = let lt : 0 < c.args.depth = omega arith in closed_refused c.in-Err.fault (omega arith) (lower c.args.depth (Chains c.args.kind) (λ (R : Row Tree). Answers (Listed R) 12 (meanings c.args.tokens.now) (failed c.in-Err.fault)) lt c.in-Err.ensures)
+closed_list-returns-in-Err t c = let lt : 0 < c.args.depth = omega arith in closed_refused c.in-Err.fault (omega arith) (lower c.args.depth (ChainRank c.args.kind) (λ (R : Row Tree). Answers (Listed R) 12 (meanings c.args.tokens.now) (failed c.in-Err.fault)) lt c.in-Err.ensures)
 
 pub closed_list-returns-in-None : goal.closed_list-returns-in-None
-closed_list-returns-in-None t c = let lt : 0 < c.args.depth = omega arith in closed_missing (omega arith) (lower c.args.depth (Chains c.args.kind) (λ (R : Row Tree). Answers (Listed R) 12 (meanings c.args.tokens.now) (Got (views c.in-Ok.read.0.items) (meanings c.in-Ok.read.1.now))) lt c.in-Ok.ensures) c.in-None.ensures
+closed_list-returns-in-None t c = let lt : 0 < c.args.depth = omega arith in closed_missing (omega arith) (lower c.args.depth (ChainRank c.args.kind) (λ (R : Row Tree). Answers (Listed R) 12 (meanings c.args.tokens.now) (Got (views c.in-Ok.read.0.items) (meanings c.in-Ok.read.1.now))) lt c.in-Ok.ensures) c.in-None.ensures
 
 pub closed_list-returns-in-Some : goal.closed_list-returns-in-Some
-closed_list-returns-in-Some t c = let lt : 0 < c.args.depth = omega arith in closed_got (omega arith) (lower c.args.depth (Chains c.args.kind) (λ (R : Row Tree). Answers (Listed R) 12 (meanings c.args.tokens.now) (Got (views c.in-Ok.read.0.items) (meanings c.in-Ok.read.1.now))) lt c.in-Ok.ensures) c.in-Some.ensures
+closed_list-returns-in-Some t c = let lt : 0 < c.args.depth = omega arith in closed_got (omega arith) (lower c.args.depth (ChainRank c.args.kind) (λ (R : Row Tree). Answers (Listed R) 12 (meanings c.args.tokens.now) (Got (views c.in-Ok.read.0.items) (meanings c.in-Ok.read.1.now))) lt c.in-Ok.ensures) c.in-Some.ensures
 
 pub list-returns-in-Err : goal.list-returns-in-Err
 list-returns-in-Err t c = listing_refused c.in-Err.fault (kind_above c.args.kind) c.list.invariant c.in-Err.ensures
 
 pub list-returns-in-None : goal.list-returns-in-None
-list-returns-in-None t c = listing_got (kind_above c.args.kind) c.list.invariant c.in-Ok.ensures c.in-None.ensures c.in_ok-push.ensures
+list-returns-in-None t c = listing_got (kind_above c.args.kind) c.list.invariant c.in-Ok.ensures c.in-None.ensures (one_more view _ _ _ c.in-Ok-push.ensures.added)
 
 pub list-list-smaller : goal.list-list-smaller
 list-list-smaller t c = let a = (chain_falls (operand_falls c.args.depth c.args.kind)).falls _ _ _ c.in-Ok.ensures.found in meanings_fall_on _ _ _ c.in-Some.ensures a
 
 pub list-list-preserved : goal.list-list-preserved
-list-list-preserved t c = listing_more (kind_above c.args.kind) c.list.invariant c.in-Ok.ensures c.in-Some.ensures c.in_ok-push.ensures
+list-list-preserved t c = listing_more (kind_above c.args.kind) c.list.invariant c.in-Ok.ensures c.in-Some.ensures (one_more view _ _ _ c.in-Ok-push.ensures.added)
 
-pub filter-returns-in_default : goal.filter-returns-in_default
-filter-returns-in_default t c = perhaps_absent (after_never c.in_default.ensures)
+pub optional_filter-returns-in_default : goal.optional_filter-returns-in_default
+optional_filter-returns-in_default t c = perhaps_absent (after_never c.in_default.ensures)
 
-pub filter-returns-in_default-symbol : goal.filter-returns-in_default-symbol
-filter-returns-in_default-symbol t c = perhaps_present (grips c.in-Some.ensures (omega arith)) (after_got c.in-Some.ensures (after_missing c.in_default-symbol.ensures))
+pub optional_filter-returns-in_default-symbol : goal.optional_filter-returns-in_default-symbol
+optional_filter-returns-in_default-symbol t c = perhaps_present (grips c.in-Some.ensures (omega arith)) (after_got c.in-Some.ensures (after_missing c.in_default-symbol.ensures))
 
-pub filter-returns-in_default-keyword : goal.filter-returns-in_default-keyword
-filter-returns-in_default-keyword t c = perhaps_present (grips c.in-Some.ensures (omega arith)) (after_got c.in-Some.ensures (after_got c.in-Some-symbol.ensures (after_missing c.in_default-keyword.ensures)))
+pub optional_filter-returns-in_default-keyword : goal.optional_filter-returns-in_default-keyword
+optional_filter-returns-in_default-keyword t c = perhaps_present (grips c.in-Some.ensures (omega arith)) (after_got c.in-Some.ensures (after_got c.in-Some-symbol.ensures (after_missing c.in_default-keyword.ensures)))
 
-pub filter-returns-in-Err : goal.filter-returns-in-Err
-filter-returns-in-Err t c = perhaps_present (grips c.in-Some.ensures (omega arith)) (after_got c.in-Some.ensures (after_got c.in-Some-symbol.ensures (after_got c.in-Some-keyword.ensures (as_refused c.in-Err.fault (answers_less (omega arith) c.in-Err.ensures)))))
+pub optional_filter-returns-in-Err : goal.optional_filter-returns-in-Err
+optional_filter-returns-in-Err t c = perhaps_present (grips c.in-Some.ensures (omega arith)) (after_got c.in-Some.ensures (after_got c.in-Some-symbol.ensures (after_got c.in-Some-keyword.ensures (as_refused c.in-Err.fault (answers_less (omega arith) c.in-Err.ensures)))))
 
-pub filter-returns : goal.filter-returns
-filter-returns t c = perhaps_present (grips c.in-Some.ensures (omega arith)) (after_got c.in-Some.ensures (after_got c.in-Some-symbol.ensures (after_got c.in-Some-keyword.ensures (as_got (answers_less (omega arith) c.in-Ok.ensures)))))
+pub optional_filter-returns : goal.optional_filter-returns
+optional_filter-returns t c = perhaps_present (grips c.in-Some.ensures (omega arith)) (after_got c.in-Some.ensures (after_got c.in-Some-symbol.ensures (after_got c.in-Some-keyword.ensures (as_got (answers_less (omega arith) c.in-Ok.ensures)))))
 
-pub over-returns-in_default : goal.over-returns-in_default
-over-returns-in_default t c = perhaps_absent (after_never c.in_default.ensures)
+pub optional_over-returns-in_default : goal.optional_over-returns-in_default
+optional_over-returns-in_default t c = perhaps_absent (after_never c.in_default.ensures)
 
-pub over-returns-in-Some-name : goal.over-returns-in-Some-name
-over-returns-in-Some-name t c = got_along (c.named_window.ensures ∙ ap ThatWindow c.in_ok-name.ensures.cases) refl (perhaps_present (grips c.in-Some.ensures (omega arith)) (after_got c.in-Some.ensures (either_first (other_token (name_here c.in-Some-name.ensures) (λ q. cc)) (as_got (one_got c.in-Some-name.ensures)))))
+pub optional_over-returns-in-Err : goal.optional_over-returns-in-Err
+optional_over-returns-in-Err t c = perhaps_present (grips c.in-Some.ensures (omega arith)) (after_got c.in-Some.ensures (either_second (never_then (not_said c.in-Some-symbol.ensures refl)) (after_got c.in-Some-symbol.ensures (as_refused c.in-Err.fault (answers_less (omega arith) c.in-Err.ensures)))))
 
-pub over-returns-in_default-symbol : goal.over-returns-in_default-symbol
-over-returns-in_default-symbol t c = perhaps_present (grips c.in-Some.ensures (omega arith)) (after_got c.in-Some.ensures (either_second (never_then c.in_default-name.ensures) (after_missing c.in_default-symbol.ensures)))
+pub optional_over-returns-in-Some-symbol : goal.optional_over-returns-in-Some-symbol
+optional_over-returns-in-Some-symbol t c = got_along (windowed_says _) refl (perhaps_present (grips c.in-Some.ensures (omega arith)) (after_got c.in-Some.ensures (either_second (never_then (not_said c.in-Some-symbol.ensures refl)) (after_got c.in-Some-symbol.ensures (as_got (answers_less (omega arith) c.in-Ok.ensures))))))
 
-pub over-returns-in-Err : goal.over-returns-in-Err
-over-returns-in-Err t c = perhaps_present (grips c.in-Some.ensures (omega arith)) (after_got c.in-Some.ensures (either_second (never_then c.in_default-name.ensures) (after_got c.in-Some-symbol.ensures (as_refused c.in-Err.fault (answers_less (omega arith) c.in-Err.ensures)))))
+pub optional_over-returns-in-Err-copied_name : goal.optional_over-returns-in-Err-copied_name
+optional_over-returns-in-Err-copied_name t c = perhaps_present (grips c.in-Some.ensures (omega arith)) (after_got c.in-Some.ensures (either_first (after_never c.in_default-symbol.ensures) (as_refused c.in-Err-copied_name.fault (answers_less (omega arith) c.in-Err-copied_name.ensures))))
 
-pub over-returns : goal.over-returns
-over-returns t c = got_along c.windowed.ensures refl (perhaps_present (grips c.in-Some.ensures (omega arith)) (after_got c.in-Some.ensures (either_second (never_then c.in_default-name.ensures) (after_got c.in-Some-symbol.ensures (as_got (answers_less (omega arith) c.in-Ok.ensures))))))
+pub optional_over-returns : goal.optional_over-returns
+optional_over-returns t c = got_along (named_says _) refl (perhaps_present (grips c.in-Some.ensures (omega arith)) (after_got c.in-Some.ensures (either_first (after_never c.in_default-symbol.ensures) (as_got (answers_less (omega arith) c.in-Ok-copied_name.ensures)))))
 
-pub enclosed_window-returns-in-Some : goal.enclosed_window-returns-in-Some
-enclosed_window-returns-in-Some t c = got_along (c.window.ensures ∙ window_along (ap views c.new.ensures.items) (ap view_keys c.new-in-Some.ensures.items)) refl (window_empty c.in-Some.ensures)
+pub window_inside-returns-in-Some : goal.window_inside-returns-in-Some
+window_inside-returns-in-Some t c = got_along (c.window.ensures ∙ window_along (ap views c.new.ensures.items) (ap view_keys c.new-in-Some.ensures.items)) refl (window_empty c.in-Some.ensures)
 
-pub enclosed_window-returns-in-Err : goal.enclosed_window-returns-in-Err
-enclosed_window-returns-in-Err t c = let lt : 0 < c.args.depth = omega arith in either_second (after_never c.in_default.ensures) (room_answers lt (closed_refused c.in-Err.fault (omega arith) (lower c.args.depth (Chains Disjunction) (λ (R : Row Tree). Answers (window R) 3 (meanings c.args.tokens.now) (failed c.in-Err.fault)) lt c.in-Err.ensures)))
+pub window_inside-returns-in-Err : goal.window_inside-returns-in-Err
+window_inside-returns-in-Err t c = let lt : 0 < c.args.depth = omega arith in either_second (after_never c.in_default.ensures) (room_answers lt (closed_refused c.in-Err.fault (omega arith) (lower c.args.depth (ChainRank Disjunction) (λ (R : Row Tree). Answers (window R) 3 (meanings c.args.tokens.now) (failed c.in-Err.fault)) lt c.in-Err.ensures)))
 
-pub enclosed_window-returns-in-None : goal.enclosed_window-returns-in-None
-enclosed_window-returns-in-None t c = let lt : 0 < c.args.depth = omega arith in either_second (after_never c.in_default.ensures) (room_answers lt (closed_missing (omega arith) (lower c.args.depth (Chains Disjunction) (λ (R : Row Tree). Answers (window R) 3 (meanings c.args.tokens.now) (Got (view_window c.in-Ok.read.0) (meanings c.in-Ok.read.1.now))) lt c.in-Ok.ensures) c.in-None.ensures))
+pub window_inside-returns-in-None : goal.window_inside-returns-in-None
+window_inside-returns-in-None t c = let lt : 0 < c.args.depth = omega arith in either_second (after_never c.in_default.ensures) (room_answers lt (closed_missing (omega arith) (lower c.args.depth (ChainRank Disjunction) (λ (R : Row Tree). Answers (window R) 3 (meanings c.args.tokens.now) (Got (view_window c.in-Ok.read.0) (meanings c.in-Ok.read.1.now))) lt c.in-Ok.ensures) c.in-None.ensures))
 
-pub enclosed_window-returns-in-Some-symbol : goal.enclosed_window-returns-in-Some-symbol
-enclosed_window-returns-in-Some-symbol t c = let lt : 0 < c.args.depth = omega arith in either_second (after_never c.in_default.ensures) (room_answers lt (closed_got (omega arith) (lower c.args.depth (Chains Disjunction) (λ (R : Row Tree). Answers (window R) 3 (meanings c.args.tokens.now) (Got (view_window c.in-Ok.read.0) (meanings c.in-Ok.read.1.now))) lt c.in-Ok.ensures) c.in-Some-symbol.ensures))
+pub window_inside-returns-in-Some-symbol : goal.window_inside-returns-in-Some-symbol
+window_inside-returns-in-Some-symbol t c = let lt : 0 < c.args.depth = omega arith in either_second (after_never c.in_default.ensures) (room_answers lt (closed_got (omega arith) (lower c.args.depth (ChainRank Disjunction) (λ (R : Row Tree). Answers (window R) 3 (meanings c.args.tokens.now) (Got (view_window c.in-Ok.read.0) (meanings c.in-Ok.read.1.now))) lt c.in-Ok.ensures) c.in-Some-symbol.ensures))
 
-pub window_parts-returns-in-Err : goal.window_parts-returns-in-Err
-window_parts-returns-in-Err t c = then_refused c.in-Err.fault (λ x. window_leads_parts) c.in-Err.ensures
+pub window-returns-in-Err : goal.window-returns-in-Err
+window-returns-in-Err t c = then_refused c.in-Err.fault (λ x. window_leads_parts) c.in-Err.ensures
 
-pub window_parts-returns-in-Err-partitioned : goal.window_parts-returns-in-Err-partitioned
-window_parts-returns-in-Err-partitioned t c = then_got (λ x. window_leads_parts) c.in-Ok.ensures (then_refused c.in-Err-partitioned.fault (λ x. window_leads_order) c.in-Err-partitioned.ensures)
+pub window-returns-in-Err-partition : goal.window-returns-in-Err-partition
+window-returns-in-Err-partition t c = then_got (λ x. window_leads_parts) c.in-Ok.ensures (then_refused c.in-Err-partition.fault (λ x. window_leads_order) c.in-Err-partition.ensures)
 
-pub window_parts-returns-in-Err-ordered : goal.window_parts-returns-in-Err-ordered
-window_parts-returns-in-Err-ordered t c = then_got (λ x. window_leads_parts) c.in-Ok.ensures (then_got (λ x. window_leads_order) c.in-Ok-partitioned.ensures (then_refused c.in-Err-ordered.fault (λ x. window_leads_frame) c.in-Err-ordered.ensures))
+pub window-returns-in-Err-order : goal.window-returns-in-Err-order
+window-returns-in-Err-order t c = then_got (λ x. window_leads_parts) c.in-Ok.ensures (then_got (λ x. window_leads_order) c.in-Ok-partition.ensures (then_refused c.in-Err-order.fault (λ x. window_leads_frame) c.in-Err-order.ensures))
 
-pub window_parts-returns-in_default : goal.window_parts-returns-in_default
-window_parts-returns-in_default t c = then_got (λ x. window_leads_parts) c.in-Ok.ensures (then_got (λ x. window_leads_order) c.in-Ok-partitioned.ensures (then_got (λ x. window_leads_frame) c.in-Ok-ordered.ensures (then_refused Syntax (λ x. done_leads (omega arith)) c.in_default.ensures)))
+pub window-returns-in_default : goal.window-returns-in_default
+window-returns-in_default t c = then_got (λ x. window_leads_parts) c.in-Ok.ensures (then_got (λ x. window_leads_order) c.in-Ok-partition.ensures (then_got (λ x. window_leads_frame) c.in-Ok-order.ensures (then_refused Syntax (λ x. done_leads (omega arith)) c.in_default.ensures)))
 
-pub window_parts-returns : goal.window_parts-returns
-window_parts-returns t c = got_along c.window.ensures refl (then_got (λ x. window_leads_parts) c.in-Ok.ensures (then_got (λ x. window_leads_order) c.in-Ok-partitioned.ensures (then_got (λ x. window_leads_frame) c.in-Ok-ordered.ensures (then_got (λ x. done_leads (omega arith)) c.in-Some.ensures done_got))))
+pub window-returns : goal.window-returns
+window-returns t c = got_along c.window.ensures refl (then_got (λ x. window_leads_parts) c.in-Ok.ensures (then_got (λ x. window_leads_order) c.in-Ok-partition.ensures (then_got (λ x. window_leads_frame) c.in-Ok-order.ensures (then_got (λ x. done_leads (omega arith)) c.in-Some.ensures done_got))))
 
-pub partitioned-returns-in_default : goal.partitioned-returns-in_default
-partitioned-returns-in_default t c = got_along (ap views c.new.ensures.items) refl (perhaps_absent (after_never c.in_default.ensures))
+pub partition-returns-in_default : goal.partition-returns-in_default
+partition-returns-in_default t c = got_along (ap views c.new.ensures.items) refl (perhaps_absent (after_never c.in_default.ensures))
 
-pub partitioned-returns-in-None : goal.partitioned-returns-in-None
-partitioned-returns-in-None t c = perhaps_present (grips c.in-Some.ensures (omega arith)) (after_got c.in-Some.ensures (after_missing c.in-None.ensures))
+pub partition-returns-in-None : goal.partition-returns-in-None
+partition-returns-in-None t c = perhaps_present (grips c.in-Some.ensures (omega arith)) (after_got c.in-Some.ensures (after_missing c.in-None.ensures))
 
-pub partitioned-returns-in-Some-keyword : goal.partitioned-returns-in-Some-keyword
-partitioned-returns-in-Some-keyword t c = perhaps_present (grips c.in-Some.ensures (omega arith)) (after_got c.in-Some.ensures (after_got c.in-Some-keyword.ensures (answers_less (omega arith) c.list.ensures)))
+pub partition-returns-in-Some-keyword : goal.partition-returns-in-Some-keyword
+partition-returns-in-Some-keyword t c = perhaps_present (grips c.in-Some.ensures (omega arith)) (after_got c.in-Some.ensures (after_got c.in-Some-keyword.ensures (answers_less (omega arith) c.list.ensures)))
 
-pub ordered-returns-in_default : goal.ordered-returns-in_default
-ordered-returns-in_default t c = got_along (ap view_keys c.new.ensures.items) refl (perhaps_absent (after_never c.in_default.ensures))
+pub order-returns-in_default : goal.order-returns-in_default
+order-returns-in_default t c = got_along (ap view_keys c.new.ensures.items) refl (perhaps_absent (after_never c.in_default.ensures))
 
-pub ordered-returns-in-None : goal.ordered-returns-in-None
-ordered-returns-in-None t c = perhaps_present (grips c.in-Some.ensures (omega arith)) (after_got c.in-Some.ensures (after_missing c.in-None.ensures))
+pub order-returns-in-None : goal.order-returns-in-None
+order-returns-in-None t c = perhaps_present (grips c.in-Some.ensures (omega arith)) (after_got c.in-Some.ensures (after_missing c.in-None.ensures))
 
-pub ordered-returns-in-Some-keyword : goal.ordered-returns-in-Some-keyword
-ordered-returns-in-Some-keyword t c = perhaps_present (grips c.in-Some.ensures (omega arith)) (after_got c.in-Some.ensures (after_got c.in-Some-keyword.ensures (answers_less (omega arith) c.keys.ensures)))
+pub order-returns-in-Some-keyword : goal.order-returns-in-Some-keyword
+order-returns-in-Some-keyword t c = perhaps_present (grips c.in-Some.ensures (omega arith)) (after_got c.in-Some.ensures (after_got c.in-Some-keyword.ensures (answers_less (omega arith) c.keys.ensures)))
 
 pub keys-returns-in-Err : goal.keys-returns-in-Err
 keys-returns-in-Err t c = listing_refused c.in-Err.fault (omega arith) c.keys.invariant c.in-Err.ensures
 
 pub keys-returns-in-None : goal.keys-returns-in-None
-keys-returns-in-None t c = listing_got (omega arith) c.keys.invariant c.in-Ok.ensures c.in-None.ensures c.in_ok-push_key.ensures
+keys-returns-in-None t c = listing_got (omega arith) c.keys.invariant c.in-Ok.ensures c.in-None.ensures (one_more view_key _ _ _ c.in-Ok-push.ensures.added)
 
 pub keys-keys-smaller : goal.keys-keys-smaller
 keys-keys-smaller t c = let a = (key_falls (chain_falls (operand_falls c.args.depth Disjunction))).falls _ _ _ c.in-Ok.ensures.found in meanings_fall_on _ _ _ c.in-Some.ensures a
 
 pub keys-keys-preserved : goal.keys-keys-preserved
-keys-keys-preserved t c = listing_more (omega arith) c.keys.invariant c.in-Ok.ensures c.in-Some.ensures c.in_ok-push_key.ensures
+keys-keys-preserved t c = listing_more (omega arith) c.keys.invariant c.in-Ok.ensures c.in-Some.ensures (one_more view_key _ _ _ c.in-Ok-push.ensures.added)
 
-pub sort_key-returns-in-Err : goal.sort_key-returns-in-Err
-sort_key-returns-in-Err t c = then_refused c.in-Err.fault (λ e. key_leads) c.in-Err.ensures
+pub key-returns-in-Err : goal.key-returns-in-Err
+key-returns-in-Err t c = then_refused c.in-Err.fault (λ e. key_leads) c.in-Err.ensures
 
-pub sort_key-returns-in_default : goal.sort_key-returns-in_default
-sort_key-returns-in_default t c = then_got (λ e. key_leads) c.in-Ok.ensures (then_got (λ d. key_leads_nulls) c.descending-descending.ensures (then_refused Syntax (λ n. done_leads (omega arith)) c.in_default.ensures))
+pub key-returns-in_default : goal.key-returns-in_default
+key-returns-in_default t c = then_got (λ e. key_leads) c.in-Ok.ensures (then_got (λ d. key_leads_nulls) c.descending-descending.ensures (then_refused Syntax (λ n. done_leads (omega arith)) c.in_default.ensures))
 
-pub sort_key-returns : goal.sort_key-returns
-sort_key-returns t c = got_along c.key.ensures refl (then_got (λ e. key_leads) c.in-Ok.ensures (then_got (λ d. key_leads_nulls) c.descending-descending.ensures (then_got (λ n. done_leads (omega arith)) c.in-Some.ensures done_got)))
+pub key-returns : goal.key-returns
+key-returns t c = got_along c.key.ensures refl (then_got (λ e. key_leads) c.in-Ok.ensures (then_got (λ d. key_leads_nulls) c.descending-descending.ensures (then_got (λ n. done_leads (omega arith)) c.in-Some.ensures done_got)))
+
+pub list-returns-in-Err-push : goal.list-returns-in-Err-push
+list-returns-in-Err-push t c = short c.in-Err-push.fault c.in-Err-push.ensures.fault
+
+pub keys-returns-in-Err-push : goal.keys-returns-in-Err-push
+keys-returns-in-Err-push t c = short c.in-Err-push.fault c.in-Err-push.ensures.fault
+
+pub primary-returns-in-Ok : goal.primary-returns-in-Ok
+primary-returns-in-Ok t c = got_along (text_says _ ∙ ap Quoted c.in-Ok.ensures.cases) refl (primary_text c.in-Some-text.ensures)
+
+pub primary-returns-in-Ok-clone : goal.primary-returns-in-Ok-clone
+primary-returns-in-Ok-clone t c = primary_name_copied c.in-Some-name.ensures c.in-Ok-clone.ensures.cases c.column_or_call.ensures

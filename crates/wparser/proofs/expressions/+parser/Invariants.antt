@@ -2,7 +2,7 @@ use Rattle.std.proofs.Common.{ℕ, ◌+◌, ◌-◌, ◌*◌, length}
 use Rattle.wquery.specs.declared.expression.ChainKind.{ChainKind}
 use Rattle.wquery.specs.declared.expression.ChainKind.TheVariants.{Disjunction, Conjunction, Sum, Product}
 use Rattle.wquery.specs.Tree.{view, views, view_keys}
-use Rattle.wparser.specs.Grammar.{operands, chains, conditions, key}
+use Rattle.wparser.specs.Grammar.{operand, chain, condition, key}
 use Rattle.wparser.specs.Finding.{meanings}
 use Rattle.wparser.proofs.Steps.{Listing}
 use Rattle.wparser.proofs.Rows.{Going}
@@ -28,37 +28,37 @@ abbrev pub decreases-operand : goal.decreases-operand
 decreases-operand l = 64 * l.depth + (height l.kind - 2)
 
 abbrev pub invariant-goes_on-chain : goal.invariant-goes_on-chain
-invariant-goes_on-chain l = Going l.kind (operands l.depth l.kind) (meanings l.tokens) (view l.fn.first) (meanings l.rest) (view l.tree)
+invariant-goes_on-chain l = Going l.kind (operand l.depth l.kind) (meanings l.tokens) (view l.fn.first) (meanings l.rest) (view l.tree)
 
 abbrev pub decreases-goes_on-chain : goal.decreases-goes_on-chain
 decreases-goes_on-chain l = length l.rest
 
 abbrev pub invariant-list-list : goal.invariant-list-list
-invariant-list-list l = Listing (chains l.depth l.kind) (meanings l.tokens) (views l.items.items) (meanings l.left)
+invariant-list-list l = Listing (chain l.depth l.kind) (meanings l.tokens) (views l.items.items) (meanings l.left)
 
 abbrev pub decreases-list-list : goal.decreases-list-list
 decreases-list-list l = length l.left
 
 abbrev pub invariant-keys-keys : goal.invariant-keys-keys
-invariant-keys-keys l = Listing (key (conditions l.depth)) (meanings l.tokens) (view_keys l.items.items) (meanings l.left)
+invariant-keys-keys l = Listing (key (condition l.depth)) (meanings l.tokens) (view_keys l.items.items) (meanings l.left)
 
 abbrev pub decreases-keys-keys : goal.decreases-keys-keys
 decreases-keys-keys l = length l.left
 
-abbrev pub decreases-window_parts : goal.decreases-window_parts
-decreases-window_parts l = 64 * l.depth + 60
+abbrev pub decreases-window : goal.decreases-window
+decreases-window l = 64 * l.depth + 60
 
-abbrev pub decreases-partitioned : goal.decreases-partitioned
-decreases-partitioned l = 64 * l.depth + 59
+abbrev pub decreases-partition : goal.decreases-partition
+decreases-partition l = 64 * l.depth + 59
 
-abbrev pub decreases-ordered : goal.decreases-ordered
-decreases-ordered l = 64 * l.depth + 59
+abbrev pub decreases-order : goal.decreases-order
+decreases-order l = 64 * l.depth + 59
 
 abbrev pub decreases-keys : goal.decreases-keys
 decreases-keys l = 64 * l.depth + 58
 
-abbrev pub decreases-sort_key : goal.decreases-sort_key
-decreases-sort_key l = 64 * l.depth + 57
+abbrev pub decreases-key : goal.decreases-key
+decreases-key l = 64 * l.depth + 57
 
 abbrev pub decreases-negation : goal.decreases-negation
 decreases-negation l = 64 * l.depth + 44
@@ -99,23 +99,23 @@ decreases-primary l = 64 * l.depth + 20
 abbrev pub decreases-column_or_call : goal.decreases-column_or_call
 decreases-column_or_call l = 64 * l.depth + 19
 
-abbrev pub decreases-calls : goal.decreases-calls
-decreases-calls l = 64 * l.depth + 18
+abbrev pub decreases-call : goal.decreases-call
+decreases-call l = 64 * l.depth + 18
 
-abbrev pub decreases-given : goal.decreases-given
-decreases-given l = 64 * l.depth + 17
+abbrev pub decreases-arguments : goal.decreases-arguments
+decreases-arguments l = 64 * l.depth + 17
 
-abbrev pub decreases-filter : goal.decreases-filter
-decreases-filter l = 64 * l.depth + 17
+abbrev pub decreases-optional_filter : goal.decreases-optional_filter
+decreases-optional_filter l = 64 * l.depth + 17
 
-abbrev pub decreases-over : goal.decreases-over
-decreases-over l = 64 * l.depth + 17
+abbrev pub decreases-optional_over : goal.decreases-optional_over
+decreases-optional_over l = 64 * l.depth + 17
 
-abbrev pub decreases-enclosed_window : goal.decreases-enclosed_window
-decreases-enclosed_window l = 64 * l.depth + 16
+abbrev pub decreases-window_inside : goal.decreases-window_inside
+decreases-window_inside l = 64 * l.depth + 16
 
 abbrev pub decreases-closed_list : goal.decreases-closed_list
 decreases-closed_list l = 64 * l.depth + 16
 
-abbrev pub decreases-enclosed : goal.decreases-enclosed
-decreases-enclosed l = 64 * l.depth + 15
+abbrev pub decreases-closed : goal.decreases-closed
+decreases-closed l = 64 * l.depth + 15

@@ -1,8 +1,9 @@
-use Rattle.std.proofs.Common.{Some, refl, ap, ◌∙◌}
-use Rattle.std.specs.Rc.{rc_str_bytes}
-use Rattle.wquery.specs.Tree.{Field}
-use Rattle.wparser.proofs.Steps.{got_along, as_got, one_got}
+use Rattle.std.proofs.Common.{refl}
+use Rattle.wparser.proofs.Steps.{got_along, as_got, as_refused}
 use Rattle.wparser.proofs.expressions.qualified.Goals as goal
 
-pub returns-in_ok-column-in-Some : goal.returns-in_ok-column-in-Some
-returns-in_ok-column-in-Some c = got_along (c.column.ensures ∙ ap (Field (Some (rc_str_bytes c.args.qualifier))) c.in_ok-column-in-Some.ensures.cases) refl (as_got (one_got c.in-Some.ensures))
+pub returns-in-Err : goal.returns-in-Err
+returns-in-Err c = as_refused c.in-Err.fault c.in-Err.ensures
+
+pub returns : goal.returns
+returns c = got_along c.column.ensures refl (as_got c.in-Ok.ensures)

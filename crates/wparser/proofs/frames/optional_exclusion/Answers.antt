@@ -9,5 +9,5 @@ returns-in_default c = perhaps_absent (never_then (after_never c.in_default.ensu
 pub returns-in-None : goal.returns-in-None
 returns-in-None c = perhaps_present (grips c.in-Some.ensures (omega arith)) (as_refused Syntax (after_got c.in-Some.ensures (answers_less (omega arith) c.in-None.ensures)))
 
-pub returns-in-Some-excluded : goal.returns-in-Some-excluded
-returns-in-Some-excluded c = perhaps_present (grips c.in-Some.ensures (omega arith)) (as_got (after_got c.in-Some.ensures (answers_less (omega arith) c.in-Some-excluded.ensures)))
+pub returns-in-Some-exclusion : goal.returns-in-Some-exclusion
+returns-in-Some-exclusion c = perhaps_present (grips c.in-Some.ensures (omega arith)) (as_got (after_got c.in-Some.ensures (answers_less (omega arith) c.in-Some-exclusion.ensures)))

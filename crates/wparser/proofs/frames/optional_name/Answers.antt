@@ -6,5 +6,5 @@ use Rattle.wparser.proofs.frames.optional_name.Goals as goal
 pub returns-in-None : goal.returns-in-None
 returns-in-None c = perhaps_absent (never_then c.in-None.ensures)
 
-pub returns-in_ok-name-in-Some : goal.returns-in_ok-name-in-Some
-returns-in_ok-name-in-Some c = got_along (ap Some c.in_ok-name-in-Some.ensures.cases) refl (perhaps_present (one_grips name_grip c.in-Some.ensures) (as_got (one_got c.in-Some.ensures)))
+pub returns-in-Ok : goal.returns-in-Ok
+returns-in-Ok c = got_along (ap Some c.in-Ok.ensures.cases) refl (perhaps_present (one_grips name_grip c.in-Some.ensures) (as_got (one_got c.in-Some.ensures)))

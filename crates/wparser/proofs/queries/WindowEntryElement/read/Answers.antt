@@ -13,11 +13,11 @@ returns-in_default-clause-spelled c = then_got (λ n. any_leads) c.in-Ok.ensures
 pub returns-in_default-symbol-clause-spelled : goal.returns-in_default-symbol-clause-spelled
 returns-in_default-symbol-clause-spelled c = then_got (λ n. any_leads) c.in-Ok.ensures (after_got c.in-Some.ensures (after_missing c.in_default-symbol.ensures))
 
-pub returns-in-Err-enclosed_window-clause-spelled : goal.returns-in-Err-enclosed_window-clause-spelled
-returns-in-Err-enclosed_window-clause-spelled c = then_got (λ n. any_leads) c.in-Ok.ensures (after_got c.in-Some.ensures (after_got c.in-Some-symbol.ensures (as_refused c.in-Err-enclosed_window.fault (answers_less (omega arith) c.in-Err-enclosed_window.ensures))))
+pub returns-in-Err-window_inside-clause-spelled : goal.returns-in-Err-window_inside-clause-spelled
+returns-in-Err-window_inside-clause-spelled c = then_got (λ n. any_leads) c.in-Ok.ensures (after_got c.in-Some.ensures (after_got c.in-Some-symbol.ensures (as_refused c.in-Err-window_inside.fault (answers_less (omega arith) c.in-Err-window_inside.ensures))))
 
 pub returns-clause-spelled : goal.returns-clause-spelled
-returns-clause-spelled c = then_got (λ n. any_leads) c.in-Ok.ensures (after_got c.in-Some.ensures (after_got c.in-Some-symbol.ensures (as_got (answers_less (omega arith) c.in-Ok-enclosed_window.ensures))))
+returns-clause-spelled c = then_got (λ n. any_leads) c.in-Ok.ensures (after_got c.in-Some.ensures (after_got c.in-Some-symbol.ensures (as_got (answers_less (omega arith) c.in-Ok-window_inside.ensures))))
 
 pub returns-clause-shorter : goal.returns-clause-shorter
 returns-clause-shorter c = takes_tokens _ _ (entry_falls c.args.depth) (returns-clause-spelled c).found

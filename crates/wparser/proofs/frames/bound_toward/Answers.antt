@@ -1,8 +1,0 @@
-use Rattle.wparser.proofs.Steps.{other_token, after_got, after_never, either_first, either_second, done_got}
-use Rattle.wparser.proofs.frames.bound_toward.Goals as goal
-
-pub returns-in-Some : goal.returns-in-Some
-returns-in-Some c = either_first (other_token c.in-Some.ensures (λ q. cc)) (after_got c.in-Some.ensures done_got)
-
-pub returns-in-Some-keyword : goal.returns-in-Some-keyword
-returns-in-Some-keyword c = either_second (after_never c.in_default.ensures) (after_got c.in-Some-keyword.ensures done_got)
