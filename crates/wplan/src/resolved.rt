@@ -42,7 +42,7 @@ pub struct SettledKey {
 
 /// A frame clause with its defaults written out. An offset counts rows in ROWS, units of the key in RANGE, and peer
 /// groups in GROUPS.
-#[derive(Clone, Copy, PartialEq, Eq)]
+#[derive(Clone, Copy)]
 pub struct SettledFrame {
     pub mode: FrameMode,
     pub start: FrameBound,

@@ -15,7 +15,7 @@ pub enum ChainKind {
 }
 
 /// What stands between two operands of a chain.
-#[derive(Clone, Copy, Drop)]
+#[derive(Clone, Copy, PartialEq, Eq, Drop)]
 pub enum Operator {
     Or,
     And,
@@ -24,7 +24,7 @@ pub enum Operator {
     Times,
 }
 
-#[derive(Clone, Copy, Drop)]
+#[derive(Clone, Copy, PartialEq, Eq, Drop)]
 pub enum Comparison {
     Equal,
     NotEqual,
