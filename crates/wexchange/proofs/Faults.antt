@@ -1,5 +1,5 @@
 -- The faults of a file, by what was read last.
-use Rattle.std.proofs.Common.{◌≡◌, ◌≢◌, ◌==◌, nat_eq, take, drop, take-append-drop, ℕ, ◌<◌, ◌≤◌, Bool, true, false, List, [], ◌∷◌, ◌++◌, length, Some, Err, IsOk, inl, inr, refl, sym, ap, ◌∙◌, subst, arith, append_assoc, append-nil, length-append}
+use Rattle.std.proofs.Common.{◌≡◌, ◌≢◌, nat_eq, take, drop, take-append-drop, ℕ, ◌<◌, ◌≤◌, Bool, true, false, List, [], ◌∷◌, ◌++◌, length, Some, Err, IsOk, inl, inr, refl, sym, ap, ◌∙◌, subst, arith, append_assoc, append-nil, length-append}
 use Rattle.std.specs.List.{flat_map, starts_with, AllByRecursion}
 use Rattle.std.specs.Cmp.Lexicographic.{bytes_decides}
 use Rattle.std.specs.FinMap.{entries}
@@ -213,10 +213,6 @@ cut_head bytes a b first other second same_front =
           cc;
       head_is = whole;
     }
-
-pub some_left : (after : List ℕ) (b : Bool) → b ≡ (length after == 0) → b ≡ false → 0 < length after
-some_left [] b is left = let u : true ≡ false = sym is ∙ left in cc
-some_left (x ∷ xs) b is left = omega arith
 
 -- ---- the declaration
 

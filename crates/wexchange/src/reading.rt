@@ -1,9 +1,10 @@
 //! Reads exchange files.
-ghost use Rattle.std.specs.Prelude.{◌≡◌, ◌≢◌, ◌<◌, ℕ, List, [], ◌∷◌, ◌++◌, IfOk, IfErr, OnOk, length};
+ghost use Rattle.std.specs.Prelude.{◌≡◌, ◌≢◌, ◌<◌, ℕ, List, [], ◌∷◌, ◌++◌, IfOk, IfErr, OnOk, length, nat_eq};
+ghost use Rattle.std.specs.List.{starts_with};
 ghost use Rattle.std.specs.FinMap as map;
 ghost use Rattle.wvalues.specs.Names.{IsName};
 ghost use Rattle.wsegment.specs.Declaration.{Declaration, declaration_text};
-ghost use Rattle.wexchange.specs.declared.fault.FileFault.TheVariants.{OtherSchema};
+ghost use Rattle.wexchange.specs.declared.fault.FileFault.TheVariants.{OtherSchema, Trailing};
 ghost use Rattle.wexchange.specs.Forms.{IsForm, IsNumber, line_of};
 ghost use Rattle.wexchange.specs.Files.{head, begun, table_text, end_text, AreRecords};
 ghost use Rattle.wexchange.specs.Judging.{GoesOn, AtTable, Behind, IsFault, IsFileOf};
@@ -28,6 +29,13 @@ enum Next<'a> {
     End(u32, &'a [u8]),
 }
 
+// Whether the bytes are a front of the first line.
+fn is_cut_head(bytes: &[u8]) -> bool
+    ensures { result ≡ starts_with nat_eq head bytes.now }
+{
+    HEAD.starts_with(bytes)
+}
+
 // What stands behind the first line.
 fn read_head(bytes: &[u8]) -> Result<&[u8], FileFault>
     ensures found { IfOk result (λ rest. bytes.now ≡ head ++ rest.now) }
@@ -36,7 +44,7 @@ fn read_head(bytes: &[u8]) -> Result<&[u8], FileFault>
     if bytes.starts_with(HEAD) {
         return Ok(&bytes[HEAD.len()..]);
     }
-    if HEAD.starts_with(bytes) {
+    if is_cut_head(bytes) {
         return Err(FileFault::Truncated);
     }
     Err(FileFault::OtherFormat)
@@ -207,6 +215,17 @@ fn read_next<'a>(
     read_form_of(set, known, form, after)
 }
 
+// Judges what stands behind the line of the end: nothing.
+fn judge_rest(after: &[u8]) -> Result<(), FileFault>
+    ensures end { OnOk result (after.now ≡ []) }
+    ensures fault { IfErr result (λ fault. (fault ≡ Trailing) × (0 < length after.now)) }
+{
+    if after.is_empty() {
+        return Ok(());
+    }
+    Err(FileFault::Trailing)
+}
+
 // Judges what stands behind the records: their count, and then nothing.
 fn ended(set: SegmentSet, count: u32, after: &[u8]) -> Result<SegmentSet, FileFault>
     requires number { IsNumber count }
@@ -218,10 +237,10 @@ fn ended(set: SegmentSet, count: u32, after: &[u8]) -> Result<SegmentSet, FileFa
     if set.name_count() != count as usize {
         return Err(FileFault::OtherCount);
     }
-    if !after.is_empty() {
-        return Err(FileFault::Trailing);
+    match judge_rest(after) {
+        Ok(()) => Ok(set),
+        Err(fault) => Err(fault),
     }
-    Ok(set)
 }
 
 // Reads the records and the end into a set.
