@@ -1,11 +1,14 @@
 //! Orders of rows that several windows share.
-ghost use Rattle.std.specs.Prelude.{◌≡◌, ◌<◌, Ok, IfSome, List, length, slice_index_or};
+ghost use Rattle.std.specs.Prelude.{◌≡◌, ◌<◌, Ok, IfSome, List, OnOk, length, slice_index_or};
+ghost use Rattle.std.specs.List.{list_any};
+ghost use Rattle.std.specs.Option.{is_some};
 ghost use Rattle.wplan.specs.Plans.{window_plan};
+ghost use Rattle.wplan.specs.Sameness.{is_same_order};
 ghost use Rattle.wrows.specs.Columns.{Row};
 ghost use Rattle.wrows.specs.Laid.{rows_seen};
 ghost use Rattle.wrows.specs.Outcomes.{Gives};
 ghost use Rattle.wcalls.specs.Ordered.{ordered_rows};
-ghost use Rattle.wplanner.specs.KeptOrders.{AreOrdersOf};
+ghost use Rattle.wplanner.specs.KeptOrders.{AreOrdersOf, serves, with_shared};
 
 use std::alloc::{AllocError, Global};
 use wcalls::{WindowOrder, share_order};
@@ -22,6 +25,7 @@ pub(crate) struct KeptOrder<'a> {
 
 // The place of an order that is also that of a window.
 fn place_shared(kept: &[KeptOrder], window: &SettledWindow) -> Option<usize>
+    ensures found { is_some result ≡ list_any (serves window.now) kept.now }
     ensures place { IfSome result (λ place. place < length kept.now) }
     ensures order { (rows : List Row) → AreOrdersOf rows kept.now → IfSome result (λ place. (d : KeptOrder) → ordered_rows rows (window_plan window.now) ≡ Ok (slice_index_or kept.now place d).order) }
 {
@@ -35,6 +39,7 @@ fn place_shared(kept: &[KeptOrder], window: &SettledWindow) -> Option<usize>
 
 // Takes out an order that is also that of a window, if there is one.
 fn take_shared(kept: &mut Vec<KeptOrder>, window: &SettledWindow) -> Option<WindowOrder>
+    ensures found { is_some result ≡ list_any (serves window.now) kept.old.items }
     ensures order { (rows : List Row) → AreOrdersOf rows kept.old.items → IfSome result (λ order. ordered_rows rows (window_plan window.now) ≡ Ok order) }
     ensures others { (rows : List Row) → AreOrdersOf rows kept.old.items → AreOrdersOf rows kept.new.items }
 {
@@ -66,6 +71,7 @@ pub(crate) fn order_of(
 
 // The place of a window that shares the order of another one.
 fn place_sharing(windows: &[SettledWindow], window: &SettledWindow) -> Option<usize>
+    ensures found { is_some result ≡ list_any (is_same_order window.now) windows.now }
     ensures place { IfSome result (λ place. place < length windows.now) }
     ensures order { (rows : List Row) → IfSome result (λ place. (d : SettledWindow) → ordered_rows rows (window_plan window.now) ≡ ordered_rows rows (window_plan (slice_index_or windows.now place d))) }
 {
@@ -84,7 +90,8 @@ pub(crate) fn keep_shared<'a>(
     order: WindowOrder,
     later: &[SettledWindow],
 ) -> Result<(), AllocError>
-    ensures { (rows : List Row) → ordered_rows rows (window_plan window.entry.now) ≡ Ok order → AreOrdersOf rows kept.old.items → AreOrdersOf rows kept.new.items }
+    ensures kept { OnOk result (kept.new.items ≡ with_shared later.now (record { window = window.entry; order = order }) kept.old.items) }
+    ensures orders { (rows : List Row) → ordered_rows rows (window_plan window.entry.now) ≡ Ok order → AreOrdersOf rows kept.old.items → AreOrdersOf rows kept.new.items }
 {
     match place_sharing(later, window) {
         None => Ok(()),
