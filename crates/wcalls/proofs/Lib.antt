@@ -4,6 +4,7 @@ mod PlaceFacts
 mod ArrangedFacts
 mod PutFacts
 mod CallFacts
+mod PlainFacts
 mod CutFacts
 mod Listed
 mod LentFacts

@@ -4,6 +4,7 @@ pub mod Calls
 pub mod Functions
 pub mod Sound
 pub mod Lent
+pub mod Seen
 pub mod Put
 pub mod Arranged
 pub mod Ordered

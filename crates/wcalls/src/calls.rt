@@ -1,5 +1,5 @@
 //! The column of a call with OVER, put by the numbers of the rows.
-ghost use Rattle.std.specs.Prelude.{◌≡◌, ◌+◌, ◌<◌, ◌^◌, ℕ, List, All, length, map, take, OnOk};
+ghost use Rattle.std.specs.Prelude.{◌≡◌, ◌+◌, ◌<◌, ◌^◌, ℕ, List, All, length, map, set, slice_index_or, take, OnOk};
 ghost use Rattle.wvalues.specs.Meaning.{Meaning, meaning};
 ghost use Rattle.wframe.specs.Partition.{Partition};
 ghost use Rattle.wframe.specs.Places.{places};
@@ -23,6 +23,15 @@ pub(crate) fn push_nulls(cells: &mut Vec<Value>, count: usize) -> Result<(), All
     Ok(())
 }
 
+/// Puts a value at the number of the row at a place.
+pub(crate) fn put_at(column: &mut [Value], rows: &[usize], place: usize, value: Value)
+    requires place { place < length rows.now }
+    requires row { slice_index_or rows.now place 0 < length column.old }
+    ensures { column.new ≡ set column.old (slice_index_or rows.now place 0) value }
+{
+    column[rows[place]] = value;
+}
+
 /// Puts values, each at the number of its row.
 pub(crate) fn put_values(
     rows: &[usize],
@@ -34,7 +43,8 @@ pub(crate) fn put_values(
     ensures { OnOk result (map meaning column.new ≡ put_all (map meaning column.old) rows.now (map meaning values.now)) }
 {
     for place in 0..rows.len() {
-        column[rows[place]] = values[place].duplicate()?;
+        let value = values[place].duplicate()?;
+        put_at(column, rows, place, value);
     }
     Ok(())
 }

@@ -1,10 +1,9 @@
 //! The column of one function of a window.
-ghost use Rattle.std.specs.Prelude.{◌≡◌, ◌≤◌, ◌<◌, ◌^◌, true, All, IfOk, length, map};
+ghost use Rattle.std.specs.Prelude.{◌≡◌, ◌≤◌, ◌<◌, ◌^◌, true, All, length, map};
 ghost use Rattle.wvalues.specs.Meaning.{meaning, Null};
 ghost use Rattle.wplan.specs.Formula.{formula};
 ghost use Rattle.wplan.specs.Plans.{function_plan};
 ghost use Rattle.wrows.specs.Outcomes.{Gives};
-ghost use Rattle.wrows.specs.Columns.{column_of};
 ghost use Rattle.wrows.specs.Laid.{rows_seen};
 ghost use Rattle.wcalls.specs.Windows.{Windowed, partition_at, partition_rows, place_at};
 ghost use Rattle.wcalls.specs.Calls.{numbers, values_told};
@@ -16,10 +15,11 @@ use crate::aggregated::aggregated_column;
 use crate::calls::put_told;
 use crate::numbered::{Counted, Counts, DenseRank, Rank, RowNumber, Tile};
 use crate::told::{FirstValue, Lag, LastValue, Lead, NthValue, RowPlaces, Told};
+use crate::values::column_values;
 use std::alloc::Global;
 use wframe::Partitions;
 use wplan::{Expr, WindowFunction};
-use wrows::{AnswerFault, lists};
+use wrows::AnswerFault;
 use wvalues::Value;
 
 // Puts the column of a function that counts.
@@ -40,15 +40,6 @@ fn counted_column<N: Counts + Copy>(
     Ok(())
 }
 
-// An expression's value on each row, by number.
-fn value_column(alloc: Global, expr: &Expr, rows: &[&[Value]]) -> Result<Vec<Value>, AnswerFault>
-    ensures values { Gives (λ column. map meaning column.items) result (column_of (formula expr.now) (rows_seen rows.now)) }
-    ensures len { IfOk result (λ column. length column.items ≡ length rows.now) }
-{
-    let column = lists(alloc, &[expr], rows)?;
-    Ok(column)
-}
-
 // Puts the column of a function that tells values.
 fn told_column<P: RowPlaces + Copy>(
     alloc: Global,
@@ -67,7 +58,7 @@ fn told_column<P: RowPlaces + Copy>(
     requires few { length order.now < 2 ^ 31 }
     ensures { (w : Windowed) → IsArranged w order.now partitions.now → Gives (λ _. map meaning column.new) result (values_told w (formula expr.now) (rows_seen rows.now) (meaning default.now) (λ i. P.place_told places (length (partition_rows w i)) (partition_at w i) (place_at w i))) }
 {
-    let values = value_column(alloc, expr, rows)?;
+    let values = column_values(alloc, expr, rows)?;
     let call = Told {
         places,
         values,

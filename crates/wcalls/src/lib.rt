@@ -21,6 +21,7 @@ mod limits;
 mod numbered;
 mod parts;
 mod told;
+mod values;
 mod window;
 
 pub use columns::window_columns;

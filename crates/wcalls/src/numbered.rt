@@ -5,7 +5,7 @@ ghost use Rattle.wframe.specs.Partition.{Partition};
 ghost use Rattle.wplaces.specs.Ranks.{row_number_of, rank_of, dense_rank_of};
 ghost use Rattle.wplaces.specs.Tile.{tile_of};
 
-use crate::calls::Tells;
+use crate::calls::{Tells, put_at};
 use crate::limits::cut;
 use std::alloc::AllocError;
 use wframe::Frames;
@@ -48,7 +48,7 @@ impl<N: Counts> Tells for Counted<N> {
         let mut count = 0;
         for place in 0..rows.len() {
             count = self.counts.next_count(frames, place, count);
-            column[rows[place]] = count_value(count);
+            put_at(column, rows, place, count_value(count));
         }
         Ok(())
     }

@@ -1,13 +1,14 @@
 //! Calls with OVER that tell a value of another row: `lag`, `lead`, `first_value`, `last_value`, `nth_value`.
-ghost use Rattle.std.specs.Prelude.{◌≡◌, ◌≤◌, ◌<◌, ◌^◌, ℕ, Option, length, map, slice_index_or, IfOk};
+ghost use Rattle.std.specs.Prelude.{◌≡◌, ◌≤◌, ◌<◌, ◌^◌, ℕ, Option, length, slice_index_or, IfOk};
 ghost use Rattle.wvalues.specs.Meaning.{meaning};
 ghost use Rattle.wframe.specs.Partition.{Partition};
 ghost use Rattle.wplaces.specs.RowPlaces.{lag_place, lead_place, first_place, last_place, nth_place};
-ghost use Rattle.wrows.specs.Columns.{value_at};
 ghost use Rattle.wcalls.specs.Arranged.{told_value};
+ghost use Rattle.wcalls.specs.Seen.{values_seen};
 
-use crate::calls::Tells;
+use crate::calls::{Tells, put_at};
 use crate::limits::cut;
+use crate::values::{ColumnValues, value_of_row};
 use std::alloc::AllocError;
 use wframe::Frames;
 use wplaces::{first_value_at, lag_at, last_value_at, lead_at, nth_value_at};
@@ -20,26 +21,14 @@ fn row_told(rows: &[usize], place: usize) -> usize
     if place < rows.len() { rows[place] } else { 0 }
 }
 
-// The value of a row, null where there is no such row.
-fn value_of_row(values: &[Value], row: usize) -> Result<Value, AllocError>
-    ensures { IfOk result (λ value. meaning value ≡ value_at (map meaning values.now) row) }
-{
-    if row < values.len() {
-        let copy = values[row].duplicate()?;
-        Ok(copy)
-    } else {
-        Ok(Value::Null)
-    }
-}
-
 // The value that is told for a row.
 fn told_value(
-    values: &[Value],
+    values: &ColumnValues,
     rows: &[usize],
     default: &Value,
     place: Option<usize>,
 ) -> Result<Value, AllocError>
-    ensures { IfOk result (λ value. meaning value ≡ told_value (map meaning values.now) rows.now (meaning default.now) place) }
+    ensures { IfOk result (λ value. meaning value ≡ told_value (values_seen values.now) rows.now (meaning default.now) place) }
 {
     match place {
         Some(place) => value_of_row(values, row_told(rows, place)),
@@ -63,17 +52,18 @@ pub trait RowPlaces {
 #[derive(Drop)]
 pub struct Told<'a, P> {
     pub places: P,
-    pub values: Vec<Value>,
+    pub values: ColumnValues<'a>,
     pub default: &'a Value,
 }
 
 impl<'a, P: RowPlaces> Tells for Told<'a, P> {
-    ghost told = { λ call p rows place. told_value (map meaning call.values.items) rows (meaning call.default.now) (P.place_told call.places (length rows) p place) };
+    ghost told = { λ call p rows place. told_value (values_seen call.values) rows (meaning call.default.now) (P.place_told call.places (length rows) p place) };
 
     fn put(&self, frames: &Frames, rows: &[usize], column: &mut [Value]) -> Result<(), AllocError> {
         for place in 0..rows.len() {
             let told = self.places.place_of(frames, place);
-            column[rows[place]] = told_value(&self.values, rows, self.default, told)?;
+            let value = told_value(&self.values, rows, self.default, told)?;
+            put_at(column, rows, place, value);
         }
         Ok(())
     }

@@ -2,3 +2,4 @@ pub mod RowFacts
 pub mod SpanPlaces
 pub mod TileFacts
 pub mod RankFacts
+pub mod DenseFacts

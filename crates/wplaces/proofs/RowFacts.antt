@@ -1,8 +1,6 @@
 -- Columns of answers.
-use Rattle.std.proofs.Common.{◌≡◌, ℕ, zero, suc, ◌+◌, ◌-◌, ◌<◌, ◌≤◌, List, [], ◌∷◌, ◌++◌, length, map, nat_lt, cond, Result, IfOk, true, false, refl, sym, ap, ◌∙◌, arith}
-use Rattle.std.specs.List.{range_with_len, filter, list_any}
-use Rattle.std.specs.Ordering.{is_eq}
-use Rattle.std.specs.declared.cmp.Ordering.{Ordering}
+use Rattle.std.proofs.Common.{◌≡◌, ℕ, zero, suc, ◌+◌, ◌-◌, ◌<◌, ◌≤◌, List, [], ◌∷◌, ◌++◌, length, map, nat_lt, Result, IfOk, refl, sym, ap, ◌∙◌, arith}
+use Rattle.std.specs.List.{range_with_len, filter}
 use Rattle.std.specs.Fn.{Called, Mut}
 use Rattle.std.specs.Vec.{vec_items}
 use Rattle.std.specs.declared.vec.Vec.{Vec}
@@ -13,9 +11,7 @@ use Rattle.std.proofs.iter.Yields.{nat_range_steps}
 use Rattle.std.proofs.lemmas.Result.{IfOk-weaker}
 use Rattle.std.proofs.lemmas.Bool.Decides.{nat_tests}
 use Rattle.std.proofs.lemmas.Iterator.{maps, IsCollectResult, YieldsList-from_range, YieldsList-from_map, items_from_collect}
-use Rattle.wframe.specs.declared.frame.Span.{Span}
-use Rattle.wframe.specs.Peers.{distinct}
-use Rattle.wframe.specs.Places.{places_from, places, is_in_span}
+use Rattle.wframe.specs.Places.{places_from, places}
 use Rattle.wframe.specs.Partition.{Partition}
 use Rattle.wplaces.specs.EachRow.{each_row}
 
@@ -40,6 +36,9 @@ pub length_before : (a n i : ℕ) → i ≤ a + n → length (filter (λ j. nat_
 length_before a zero i h = omega arith
 length_before a (suc n) i h = let e : length (filter (λ j. nat_lt j i) (places_from (a + 1) n)) ≡ i - (a + 1) = length_before (a + 1) n i (omega arith) in grind (arith, nat_tests)
 
+pub number_is : (n i : ℕ) → i < n → i + 1 ≡ 1 + length (filter (λ j. nat_lt j i) (places n))
+number_is n i h = omega (arith, length_before 0 n i (omega arith))
+
 -- one row more
 pub column_more : {X : Type 0} (f : ℕ → X) (a n j : ℕ) → a + n ≡ j → map f (places_from a (n + 1)) ≡ map f (places_from a n) ++ f j ∷ []
 column_more f a zero j e = ap (λ k. f k ∷ []) (omega arith)
@@ -49,17 +48,3 @@ column_more f a (suc n) j e =
 
 pub more_answers : {X : Type 0} (f : ℕ → X) (xs ys : List X) (n : ℕ) (x : X) → xs ≡ map f (places n) → ys ≡ xs ++ x ∷ [] → x ≡ f n → ys ≡ map f (places (n + 1))
 more_answers f xs ys n x told e same = e ∙ ap (λ zs. zs ++ x ∷ []) told ∙ ap (λ y. map f (places n) ++ y ∷ []) same ∙ sym (column_more f 0 n n (omega arith))
-
--- one of each run of equals, of which there are no more than elements
-pub distinct_short : {K : Type 0} (cmp : K → K → Ordering) (xs : List K) → length (distinct cmp xs) ≤ length xs
-distinct_short cmp [] = omega arith
-distinct_short cmp (x ∷ xs) =
-    let more : length (distinct cmp xs) ≤ length xs = distinct_short cmp xs in
-    elim (list_any (λ y. is_eq (cmp x y)) xs) as (λ b. length (cond b (distinct cmp xs) (x ∷ distinct cmp xs)) ≤ suc (length xs)) [ true ↦ omega (arith, more) | false ↦ omega (arith, more) ]
-
--- the row after a span's last place is not in it, and after another of its places it is
-pub past_last : (s : Span) (row : ℕ) → s.to ≡ row + 1 → is_in_span s (row + 1) ≡ false
-past_last s row e = grind (arith, nat_tests)
-
-pub before_last : (s : Span) (row : ℕ) → s.from ≤ row → row < s.to → (s.to ≡ row + 1 → ⊥) → is_in_span s (row + 1) ≡ true
-before_last s row l h e = grind (arith, nat_tests)

@@ -6,6 +6,7 @@ use std::alloc::{AllocError, Global};
 use wframe::{Frames, group_numbers_step};
 
 /// The number of a row in its partition, from 1.
+#[tactic(auto, using(crate::proofs::RowFacts::number_is))]
 pub fn row_number_at(frames: &Frames, row: usize) -> usize
     requires { row < length frames.now.keys }
     ensures { result ≡ row_number_of frames.now row }
@@ -25,6 +26,7 @@ pub fn rank_at(frames: &Frames, row: usize) -> usize
 
 /// The rank of a row, without gaps, where `before` is that of the row before it. It is the number of its group of
 /// peers, from 1. The first row has none before it, and `before` is not looked at.
+#[tactic(auto, using(crate::proofs::DenseFacts::dense_first, crate::proofs::DenseFacts::dense_same, crate::proofs::DenseFacts::dense_next))]
 pub fn next_dense_rank(frames: &Frames, row: usize, before: usize) -> usize
     requires row { row < length frames.now.keys }
     requires before { (j : ℕ) → row ≡ j + 1 → before ≡ dense_rank_of frames.now j }

@@ -6,6 +6,7 @@ use std::alloc::{AllocError, Global};
 use wframe::Frames;
 
 // The number of the tile that has a row, of so many rows cut into so many tiles.
+#[tactic(auto, using(crate::proofs::TileFacts::tile_among_larger, crate::proofs::TileFacts::tile_among_others))]
 fn tile_at(row: usize, count: usize, tiles: usize) -> usize
     requires tiles { 1 ≤ tiles }
     requires row { row < count }

@@ -1,10 +1,10 @@
-use Rattle.std.proofs.Common.{map}
 use Rattle.wvalues.specs.Meaning.{meaning}
 use Rattle.wplan.specs.Formula.{formula}
 use Rattle.wrows.specs.Laid.{rows_seen}
+use Rattle.wcalls.specs.Seen.{values_seen}
 use Rattle.wcalls.proofs.CallFacts.{told_is}
 use Rattle.wcalls.proofs.functions.told_column.Goals as goal
 
 pub returns : goal.returns
 returns g c w arranged =
-    told_is w (formula c.args.expr.now) (rows_seen c.args.rows.now) (meaning c.args.default.now) (g.P.RowPlaces.place_told c.args.places) (map meaning c.in_ok-values.values.items) _ c.in_ok-values.ensures.values (c.in_ok-put_told.ensures w arranged)
+    told_is w (formula c.args.expr.now) (rows_seen c.args.rows.now) (meaning c.args.default.now) (g.P.RowPlaces.place_told c.args.places) (values_seen c.in_ok-values.values) _ c.in_ok-values.ensures (c.in_ok-put_told.ensures w arranged)

@@ -1,4 +1,4 @@
-use Rattle.std.proofs.Common.{◌≡◌, ◌+◌, ℕ, sym, ap, ◌∙◌, arith}
+use Rattle.std.proofs.Common.{◌≡◌, ap, ◌∙◌, arith}
 use Rattle.wplaces.specs.Ranks.{dense_rank_of}
 use Rattle.wplaces.proofs.RowFacts.{more_answers}
 use Rattle.wplaces.proofs.ranks.dense_rank.Goals as goal

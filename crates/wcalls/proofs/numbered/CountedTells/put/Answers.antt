@@ -1,4 +1,4 @@
-use Rattle.std.proofs.Common.{◌≡◌, ◌<◌, ℕ, get_or, length, map, pos, refl, sym, ap, ◌∙◌, arith}
+use Rattle.std.proofs.Common.{◌≡◌, ◌<◌, ℕ, get_or, length, map, pos, sym, ap, ◌∙◌, arith}
 use Rattle.std.proofs.lemmas.List.{length-map, length-set}
 use Rattle.wvalues.specs.Meaning.{Meaning, Int}
 use Rattle.wframe.specs.Places.{places}
@@ -16,8 +16,8 @@ loop-place-preserved g c =
     let here : k < length rows = omega arith in
     let is : c.next_count-count.result ≡ count_at k = c.next_count-count.ensures ∙ ap (λ n. g.N.Counts.count_at c.args.self.now.counts n frames k) (sym c.requires.len) in
     record {
-      long = length-set c.loop-place.column (get_or rows k 0) c.count_value.result ∙ c.loop-place.invariant.long;
-      put = put_next rows (map told (places (length rows))) k c.loop-place.column _ c.count_value.result _ here (omega (arith, here, length-map (places (length rows)) told, length-places 0 (length rows))) refl
+      long = ap length c.put_at.ensures ∙ length-set c.loop-place.column (get_or rows k 0) c.count_value.result ∙ c.loop-place.invariant.long;
+      put = put_next rows (map told (places (length rows))) k c.loop-place.column c.put_at.new.column c.count_value.result _ here (omega (arith, here, length-map (places (length rows)) told, length-places 0 (length rows))) c.put_at.ensures
           (c.count_value.ensures ∙ ap (λ n. Int (pos n)) is ∙ told_at told (length rows) k here) c.loop-place.invariant.put;
       before = λ j e. let at : k ≡ j = omega (arith, e) in is ∙ ap count_at at;
     }

@@ -1,0 +1,93 @@
+//! The values of an expression on rows: those of a plain column are read where they lie.
+ghost use Rattle.std.specs.Prelude.{◌≡◌, IfOk, IfSome, length, map};
+ghost use Rattle.wvalues.specs.Meaning.{meaning};
+ghost use Rattle.wplan.specs.Formula.{At, formula};
+ghost use Rattle.wrows.specs.Outcomes.{Gives};
+ghost use Rattle.wrows.specs.Columns.{column_of, value_at, value_on};
+ghost use Rattle.wrows.specs.Laid.{rows_seen};
+ghost use Rattle.wcalls.specs.Seen.{values_seen};
+
+use std::alloc::{AllocError, Global};
+use wplan::Expr;
+use wrows::{AnswerFault, lists};
+use wvalues::Value;
+
+/// The values of an expression on rows, by number.
+#[derive(Drop)]
+pub enum ColumnValues<'a> {
+    /// What it was evaluated to on each row.
+    Evaluated(Vec<Value>),
+    /// A plain column: the values at a place of the rows.
+    Plain {
+        rows: &'a [&'a [Value]],
+        place: usize,
+    },
+}
+
+// An expression's value on each row, by number.
+fn value_column(alloc: Global, expr: &Expr, rows: &[&[Value]]) -> Result<Vec<Value>, AnswerFault>
+    ensures values { Gives (λ column. map meaning column.items) result (column_of (formula expr.now) (rows_seen rows.now)) }
+    ensures len { IfOk result (λ column. length column.items ≡ length rows.now) }
+{
+    let column = lists(alloc, &[expr], rows)?;
+    Ok(column)
+}
+
+// The place that an expression names, where it is a plain column.
+#[tactic(auto, unfolding(wplan::specs::Formula::formula))]
+fn place_of(expr: &Expr) -> Option<usize>
+    ensures { IfSome result (λ place. formula expr.now ≡ At place) }
+{
+    match expr {
+        Expr::Place(place) => Some(*place),
+        _ => None,
+    }
+}
+
+/// An expression's values on rows. Those of a plain column are not copied.
+pub(crate) fn column_values<'a>(
+    alloc: Global,
+    expr: &Expr,
+    rows: &'a [&'a [Value]],
+) -> Result<ColumnValues<'a>, AnswerFault>
+    ensures { Gives values_seen result (column_of (formula expr.now) (rows_seen rows.now)) }
+{
+    if let Some(place) = place_of(expr) {
+        return Ok(ColumnValues::Plain { rows, place });
+    }
+    let values = value_column(alloc, expr, rows)?;
+    Ok(ColumnValues::Evaluated(values))
+}
+
+// The value of a row, null where there is no such row.
+fn value_at(values: &[Value], row: usize) -> Result<Value, AllocError>
+    ensures { IfOk result (λ value. meaning value ≡ value_at (map meaning values.now) row) }
+{
+    if row < values.len() {
+        let copy = values[row].duplicate()?;
+        Ok(copy)
+    } else {
+        Ok(Value::Null)
+    }
+}
+
+// The value at a place of a row, null where there is no such row or place.
+fn value_in_row(rows: &[&[Value]], place: usize, row: usize) -> Result<Value, AllocError>
+    ensures { IfOk result (λ value. meaning value ≡ value_at (map (value_on (At place)) (rows_seen rows.now)) row) }
+{
+    if row < rows.len() {
+        value_at(rows[row], place)
+    } else {
+        Ok(Value::Null)
+    }
+}
+
+/// The value of a row, null where there is no such row.
+pub(crate) fn value_of_row(values: &ColumnValues, row: usize) -> Result<Value, AllocError>
+    ensures { IfOk result (λ value. meaning value ≡ value_at (values_seen values.now) row) }
+{
+    match values {
+        ColumnValues::Evaluated(values) => value_at(values, row),
+        ColumnValues::Plain { rows, place } => value_in_row(rows, *place, row),
+    }
+}
