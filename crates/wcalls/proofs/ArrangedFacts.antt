@@ -25,7 +25,8 @@ use Rattle.wrows.specs.Columns.{in_range}
 use Rattle.wframe.specs.Sorting.{inserted, sorted}
 use Rattle.wcalls.specs.Windows.{Windowed, partition_rows, partition_at, place_at}
 use Rattle.wcalls.specs.Calls.{each_row}
-use Rattle.wcalls.specs.Arranged.{window_cmp, IsArranged, Answer, partition_answers, window_answers, answer_on, answer_values, answered, HasEachOnce}
+use Rattle.wcalls.specs.Arranged.{window_cmp, IsArranged, Answer, answer_on, answered}
+use Rattle.wcalls.proofs.Answering.{partition_answers, window_answers, answer_values, HasEachOnce}
 use Rattle.wrows.proofs.SortFacts as sorts
 use Rattle.wcalls.proofs.FilterFacts.{filter_sorted}
 use Rattle.wrows.proofs.RowFacts.{map-map, refused, map-taken, map-dropped, length-places, places_below}

@@ -7,7 +7,8 @@ use Rattle.wrows.specs.Columns.{Row, column_of}
 use Rattle.wrows.proofs.RowFacts.{then_ok}
 use Rattle.wcalls.specs.Windows.{Windowed, partition_at, partition_rows, place_at}
 use Rattle.wcalls.specs.Calls.{each_row, values_told}
-use Rattle.wcalls.specs.Arranged.{answer_values, told_value}
+use Rattle.wcalls.specs.Arranged.{told_value}
+use Rattle.wcalls.proofs.Answering.{answer_values}
 
 pub all_there : {X : Type 0} (f : X → Meaning) (xs : List X) → answer_values (map (λ x. Some (f x)) xs) ≡ map f xs
 all_there f [] = refl

@@ -1,6 +1,7 @@
 mod FilterFacts
 mod WindowFacts
 mod PlaceFacts
+mod Answering
 mod ArrangedFacts
 mod PutFacts
 mod CallFacts

@@ -14,7 +14,8 @@ use Rattle.wrows.specs.Outcomes.{unless}
 use Rattle.wrows.proofs.RowFacts.{map-map, length-places}
 use Rattle.wcalls.specs.Windows.{Windowed, partition_at, partition_rows, place_at}
 use Rattle.wcalls.specs.Calls.{each_row}
-use Rattle.wcalls.specs.Arranged.{IsArranged, Answer, answer_on, answer_values, answered, window_answers, HasEachOnce}
+use Rattle.wcalls.specs.Arranged.{IsArranged, Answer, answer_on, answered}
+use Rattle.wcalls.proofs.Answering.{answer_values, window_answers, HasEachOnce}
 use Rattle.wcalls.specs.Put.{put_all}
 use Rattle.wcalls.proofs.ArrangedFacts.{all_answers, any_of_rows, each_once, rows_long, slice_on, sliced_alike, window_is}
 use Rattle.wcalls.proofs.CallFacts.{all_there}

@@ -7,7 +7,7 @@ use Rattle.wvalues.specs.declared.value.Value.{Value}
 use Rattle.wvalues.specs.Meaning.{Meaning, Null, meaning}
 use Rattle.wframe.specs.Places.{places_from, places}
 use Rattle.wrows.proofs.RowFacts.{length-places}
-use Rattle.wcalls.specs.Arranged.{HasEachOnce}
+use Rattle.wcalls.proofs.Answering.{HasEachOnce}
 use Rattle.wcalls.specs.Put.{put_all}
 use Rattle.wcalls.proofs.ArrangedFacts.{pointwise}
 use Rattle.wcalls.proofs.WindowFacts.{all_places}

@@ -1,13 +1,12 @@
 -- Rows in the order of a window, and what a call answers for them there.
-use Rattle.std.specs.Prelude.{◌≡◌, ℕ, ◌<◌, List, map, filter, length, ◌==◌, ◌∷◌, [], Option, Result, unwrap_or, option_map, slice_index_or, slice_range, All}
-use Rattle.std.specs.List.{flat_map}
+use Rattle.std.specs.Prelude.{◌≡◌, ℕ, List, map, length, Option, Result, unwrap_or, option_map, slice_index_or, All}
 use Rattle.std.specs.Ordering.{on, then_cmp}
 use Rattle.std.specs.declared.cmp.Ordering.{Ordering}
-use Rattle.wvalues.specs.Meaning.{Meaning, Null}
+use Rattle.wvalues.specs.Meaning.{Meaning}
 use Rattle.wvalues.specs.Order.{keys_cmp}
 use Rattle.wframe.specs.Peers.{key_at}
 use Rattle.wframe.specs.Places.{places, Tiles}
-use Rattle.wframe.specs.Partition.{Partition, Partitioned, partition_of}
+use Rattle.wframe.specs.Partition.{Partition, Partitioned}
 use Rattle.wframe.specs.Partitions.{IsPartition}
 use Rattle.wrows.specs.declared.fault.AnswerFault.{AnswerFault}
 use Rattle.wrows.specs.Columns.{in_range, value_at}
@@ -32,29 +31,13 @@ pub record IsArranged (w : Windowed) (rows : List ℕ) (all : Partitioned) : Typ
 abbrev pub Answer : Type 0
 Answer = Partition → List ℕ → ℕ → Option Meaning
 
--- its answers for the rows of a partition, in their order
-abbrev pub partition_answers : Answer → Partition → List ℕ → List (Option Meaning)
-partition_answers answer p rows = map (answer p rows) (places (length p.keys))
-
--- its answers for all rows of a window, one partition after another
-abbrev pub window_answers : Answer → Partitioned → List ℕ → List (Option Meaning)
-window_answers answer all rows = flat_map (λ s. partition_answers answer (partition_of all s) (slice_range rows s.from s.to)) all.spans
-
 -- its answer for the row of a number
 abbrev pub answer_on : Windowed → Answer → ℕ → Option Meaning
 answer_on w answer i = answer (partition_at w i) (partition_rows w i) (place_at w i)
 
--- the values that answers have
-abbrev pub answer_values : List (Option Meaning) → List Meaning
-answer_values = map (λ r. unwrap_or r Null)
-
 -- its answers for all rows, by number
 abbrev pub answered : Windowed → Answer → Result (List Meaning) AnswerFault
 answered w answer = in_range (each_row w (answer_on w answer))
-
--- each number below n stands in a list once
-abbrev pub HasEachOnce : ℕ → List ℕ → Type 0
-HasEachOnce n rows = (i : ℕ) → i < n → filter (λ k. k == i) rows ≡ i ∷ []
 
 -- the value of the row at a place of a partition, or a default
 abbrev pub told_value : List Meaning → List ℕ → Meaning → Option ℕ → Meaning

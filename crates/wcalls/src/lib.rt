@@ -7,10 +7,13 @@
 //! - Leaves frames to `wframe`, places to `wplaces`, aggregates to `waggregate`.
 //!
 //! Rows are put into the order of a window once, which serves each window of the same partition values and keys. Each
-//! function answers one partition after another there, and its answers are put by the rows' numbers.
+//! function answers one partition after another there, and each answer is put at its row's number in the window's
+//! columns. Where no aggregate is asked for, that makes no list, whatever the number of partitions, but one of the
+//! values of an argument that is more than a plain column.
 //!
 //! Read `specs/Frames.antt`, `specs/Windows.antt`, `specs/Calls.antt` and `specs/Functions.antt`, then
-//! `specs/Ordered.antt` and `specs/Arranged.antt`; `specs/Sound.antt` says what is asked.
+//! `specs/Ordered.antt`, `specs/Arranged.antt`, `specs/Put.antt` and `specs/Seen.antt`; `specs/Sound.antt` says what is
+//! asked.
 #![tactic(auto)]
 
 mod aggregated;

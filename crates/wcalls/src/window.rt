@@ -1,17 +1,21 @@
 //! Rows in the order of a window.
 ghost use Rattle.std.specs.Prelude.{◌≡◌, ◌*◌, ◌<◌, true, List, All, IfOk, IsTrue, length, map};
+ghost use Rattle.std.specs.Ordering.{on};
+ghost use Rattle.wvalues.specs.Order.{keys_cmp};
 ghost use Rattle.wframe.specs.Cells.{rows_of};
 ghost use Rattle.wframe.specs.KeyRows.{key_lists, sort_keys};
 ghost use Rattle.wframe.specs.Offsets.{has_range_offset};
 ghost use Rattle.wframe.specs.Peers.{key_at};
+ghost use Rattle.wframe.specs.Sorting.{sorted};
 ghost use Rattle.wplan.specs.Plans.{window_plan};
 ghost use Rattle.wplan.specs.Sameness.{is_same_order};
 ghost use Rattle.wrows.specs.Columns.{Row};
 ghost use Rattle.wrows.specs.LaidRows.{laid};
 ghost use Rattle.wrows.specs.Laid.{rows_seen};
 ghost use Rattle.wrows.specs.Outcomes.{Gives};
+ghost use Rattle.wrows.specs.Plain.{numbers_by};
 ghost use Rattle.wcalls.specs.Arranged.{IsArranged};
-ghost use Rattle.wcalls.specs.Ordered.{in_order, numbers_in_order, ordered_by, ordered_rows};
+ghost use Rattle.wcalls.specs.Ordered.{in_order, ordered_by, ordered_rows};
 ghost use Rattle.wcalls.specs.Windows.{Windowed};
 
 use crate::parts::{key_cells, key_orders, partition_cells, value_orders};
@@ -156,7 +160,7 @@ fn ordered_numbers(
 ) -> Result<Vec<usize>, AllocError>
     requires values { length values.now ≡ count * length value_order.now }
     requires keys { length keys.now ≡ count * length key_order.now }
-    ensures order { IfOk result (λ rows. rows.items ≡ numbers_in_order (laid (length value_order.now) count values.now) value_order.now (laid (length key_order.now) count keys.now) key_order.now) }
+    ensures order { IfOk result (λ rows. rows.items ≡ sorted (on (key_at (laid (length value_order.now) count values.now)) (keys_cmp value_order.now)) (numbers_by key_order.now (laid (length key_order.now) count keys.now) count)) }
     ensures below { IfOk result (λ rows. All (λ i. i < count) rows.items) }
     ensures len { IfOk result (λ rows. length rows.items ≡ count) }
 {

@@ -6,7 +6,8 @@ use Rattle.wvalues.specs.Meaning.{Meaning, Null, meaning}
 use Rattle.waggregate.specs.Aggregating.{aggregate_of}
 use Rattle.waggregate.specs.Feeding.{feed_in}
 use Rattle.waggregate.specs.Framing.{frame_numbers}
-use Rattle.wcalls.specs.Arranged.{Answer, answer_values, window_answers}
+use Rattle.wcalls.specs.Arranged.{Answer}
+use Rattle.wcalls.proofs.Answering.{answer_values, window_answers}
 use Rattle.wcalls.proofs.ArrangedFacts.{answers_long, refused_answers}
 use Rattle.wcalls.proofs.PartitionFacts.{answers_put}
 use Rattle.wcalls.proofs.aggregated.put_aggregates.Goals as goal

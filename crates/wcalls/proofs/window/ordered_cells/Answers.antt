@@ -1,10 +1,15 @@
 use Rattle.std.proofs.Common.{◌≡◌, ◌<◌, ℕ, List, length, map, refl, sym, ◌∙◌, subst}
 use Rattle.std.specs.List.{All}
+use Rattle.std.specs.Ordering.{on}
 use Rattle.wvalues.specs.Meaning.{Meaning}
+use Rattle.wvalues.specs.Order.{keys_cmp}
 use Rattle.wframe.specs.Peers.{key_at}
+use Rattle.wframe.specs.Sorting.{sorted}
 use Rattle.wrows.specs.LaidRows.{laid}
+use Rattle.wrows.specs.Plain.{numbers_by}
+use Rattle.wrows.proofs.RowFacts.{length-laid}
 use Rattle.wcalls.specs.Ordered.{numbers_in_order}
-use Rattle.wcalls.proofs.OrderFacts.{keys_stand, ordered_as, values_stand}
+use Rattle.wcalls.proofs.OrderFacts.{by_both, keys_stand, ordered_as, values_stand}
 use Rattle.wcalls.proofs.window.ordered_cells.Goals as goal
 
 pub invariant_of-result : goal.invariant_of-result
@@ -17,7 +22,8 @@ invariant_of-result c =
     let rows : List ℕ = c.in_ok-rows.rows.items in
     let SV : List (List Meaning) = laid (length vo) (length rows) c.in_ok-sorted_values.sorted_values.items in
     let SK : List (List Meaning) = laid (length ko) (length rows) c.in_ok-sorted_keys.sorted_keys.items in
-    let is_sorted : rows ≡ numbers_in_order V vo K ko = rw (c.deref.ensures.value, c.deref-2.ensures.value, c.deref-3.ensures.value, c.deref-4.ensures.value) at c.in_ok-rows.ensures.order in
+    let told : rows ≡ sorted (on (key_at V) (keys_cmp vo)) (numbers_by ko K n) = rw (c.deref.ensures.value, c.deref-2.ensures.value, c.deref-3.ensures.value, c.deref-4.ensures.value) at c.in_ok-rows.ensures.order in
+    let is_sorted : rows ≡ numbers_in_order V vo K ko = by_both V vo K ko rows n (numbers_by ko K n) (sym (length-laid (length vo) n c.args.values.items)) refl told in
     let values_wide : c.len.result ≡ length vo = c.len.ensures ∙ c.args.value_order.ok.0 in
     let keys_wide : c.len-2.result ≡ length ko = c.len-2.ensures ∙ c.args.key_order.ok.0 in
     let values_are : SV ≡ map (key_at V) rows = rw (values_wide, c.deref-5.ensures.value) at c.in_ok-sorted_values.ensures.rows in
@@ -40,7 +46,8 @@ returns c =
     let rows : List ℕ = c.in_ok-rows.rows.items in
     let SV : List (List Meaning) = laid (length vo) (length rows) c.in_ok-sorted_values.sorted_values.items in
     let SK : List (List Meaning) = laid (length ko) (length rows) c.in_ok-sorted_keys.sorted_keys.items in
-    let is_sorted : rows ≡ numbers_in_order V vo K ko = rw (c.deref.ensures.value, c.deref-2.ensures.value, c.deref-3.ensures.value, c.deref-4.ensures.value) at c.in_ok-rows.ensures.order in
+    let told : rows ≡ sorted (on (key_at V) (keys_cmp vo)) (numbers_by ko K n) = rw (c.deref.ensures.value, c.deref-2.ensures.value, c.deref-3.ensures.value, c.deref-4.ensures.value) at c.in_ok-rows.ensures.order in
+    let is_sorted : rows ≡ numbers_in_order V vo K ko = by_both V vo K ko rows n (numbers_by ko K n) (sym (length-laid (length vo) n c.args.values.items)) refl told in
     let values_wide : c.len.result ≡ length vo = c.len.ensures ∙ c.args.value_order.ok.0 in
     let keys_wide : c.len-2.result ≡ length ko = c.len-2.ensures ∙ c.args.key_order.ok.0 in
     let values_are : SV ≡ map (key_at V) rows = rw (values_wide, c.deref-5.ensures.value) at c.in_ok-sorted_values.ensures.rows in
