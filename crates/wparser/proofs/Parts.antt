@@ -1,20 +1,21 @@
 -- The outcomes of single rows.
-use Rattle.std.proofs.Common.{◌≡◌, Bool, false, ℕ, ◌<◌, ◌≤◌, List, [], ◌∷◌, ◌++◌, length, map, Option, Some, None, refl, ap, subst, ◌∙◌, arith}
+use Rattle.std.proofs.Common.{◌≡◌, Bool, true, false, ℕ, ◌<◌, ◌≤◌, List, [], ◌∷◌, ◌++◌, length, map, Option, Some, None, refl, sym, ap, subst, ◌∙◌, arith}
 use Rattle.std.proofs.lemmas.List.{length-map, map-append}
 use Rattle.wlexer.specs.Token.{TokenMeaning, KeywordToken, NameToken, NumberToken, TextToken, SymbolToken, meaning_of}
 use Rattle.wlexer.specs.declared.token.Token.{Token}
 use Rattle.wlexer.specs.declared.keyword.Keyword.TheVariants as keywords
 use Rattle.wlexer.specs.declared.token.Symbol.{Symbol}
+use Rattle.wlexer.specs.declared.token.Symbol.TheVariants as symbols
 use Rattle.wquery.specs.declared.expression.ChainKind.{ChainKind}
 use Rattle.wquery.specs.declared.expression.ChainKind.TheVariants.{Disjunction, Conjunction, Sum, Product}
 use Rattle.wquery.specs.declared.frame.FrameMode.{FrameMode}
 use Rattle.wquery.specs.Tree.{Tree, KeyTree, Invoked, Given, Filter, NullWord, Numeral, Quoted, no_window, window_of, key_of}
 use Rattle.wparser.specs.Words.{OpenSign, CloseSign, name_of, number_of, text_of, mode_of, direction_of}
-use Rattle.wparser.specs.Notation.{Tokens, Row, One, Then, Done, Perhaps, Listed, As, Never}
+use Rattle.wparser.specs.Notation.{Tokens, Row, One, After, Then, Done, Perhaps, Listed, As, Never}
 use Rattle.wparser.specs.Grips.{grip, Stops, kind_class}
 use Rattle.wparser.specs.Grammar.{Closed, optional_not, optional_frame, frame, partition, order, nulls_placed, window, window_inside, optional_over, column_or_call, primary, range_test, range_tested, compared, null_tested, inner}
-use Rattle.wparser.specs.Finding.{Outcome, Got, Refused, Answers, IsNoTest, meanings}
-use Rattle.wparser.proofs.Steps.{Leads, answers_less, grips, missing, other_token, not_said, one_parts, never_either, never_then, never_listed, any_leads, one_then_leads, one_leads, then_leads, perhaps_leads, after_leads, either_leads, done_leads, as_leads, then_got, after_got, after_never, as_got, one_got, never_perhaps_then, perhaps_absent, either_first, either_second, done_got, either_same, room_agrees, closed_got}
+use Rattle.wparser.specs.Finding.{Outcome, Got, Refused, Answers, IsNoTest, IsWithout, meanings}
+use Rattle.wparser.proofs.Steps.{Leads, answers_less, got_along, grips, missing, perhaps_present, other_token, not_said, one_parts, never_either, never_then, never_listed, any_leads, one_then_leads, one_leads, then_leads, perhaps_leads, after_leads, either_leads, done_leads, as_leads, then_got, after_got, after_never, as_got, one_got, never_perhaps_then, perhaps_absent, either_first, either_second, done_got, either_same, room_agrees, closed_got}
 use Rattle.wparser.proofs.Rows.{comparison_grip}
 use Rattle.wparser.proofs.Fits.{Falls, inner_begins, begins_not, symbol_start}
 
@@ -193,3 +194,12 @@ window_along {p' = p'} {o = o} e f = ap (λ (x : List Tree). window_of None x o 
 -- one more at the end
 pub one_more : {A X : Type 0} (f : A → X) (xs new : List A) (x : A) → new ≡ xs ++ (x ∷ []) → map f new ≡ map f xs ++ (f x ∷ [])
 one_more f xs new x e = ap (map f) e ∙ map-append f xs (x ∷ [])
+
+-- an optional token, by whether it came
+pub not_answers : {ts rest : Tokens} (here : Bool) → (here ≡ true → ts ≡ KeywordToken keywords.Not ∷ rest) → (here ≡ false → IsWithout (KeywordToken keywords.Not) ts rest) → Answers optional_not 25 ts (Got here rest)
+not_answers true f g = perhaps_present (grips (f refl) (omega arith)) (after_got (f refl) done_got)
+not_answers false f g = let w = g refl in got_along refl (sym w.1) (perhaps_absent (after_never w.0))
+
+pub semicolon_answers : {ts rest : Tokens} (here : Bool) → (here ≡ true → ts ≡ SymbolToken symbols.Semicolon ∷ rest) → (here ≡ false → IsWithout (SymbolToken symbols.Semicolon) ts rest) → Answers (Perhaps false (After (SymbolToken symbols.Semicolon) (Done true))) 1 ts (Got here rest)
+semicolon_answers true f g = perhaps_present (λ h. grips (f refl) (omega arith) h) (after_got (f refl) done_got)
+semicolon_answers false f g = let w = g refl in got_along refl (sym w.1) (perhaps_absent (after_never w.0))

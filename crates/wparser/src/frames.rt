@@ -1,22 +1,26 @@
 //! Reads the parts of windows that hold no expressions. What asks for no memory refuses with `None`.
 
+ghost use Rattle.std.specs.Prelude.{◌≡◌, true, false, ◌∷◌};
 ghost use Rattle.std.specs.Rc.{rc_str_bytes};
+ghost use Rattle.wlexer.specs.Token.{KeywordToken};
+ghost use Rattle.wlexer.specs.declared.keyword.Keyword.TheVariants.{Not};
 ghost use Rattle.wquery.specs.Tree.{name_bytes};
 ghost use Rattle.wparser.specs.Words.{name_of};
 ghost use Rattle.wparser.specs.Notation.{One};
-ghost use Rattle.wparser.specs.Grammar.{optional_not, optional_name, optional_frame, descending, nulls_placed, extent, two_bounds, bound, toward, exclusion, optional_exclusion};
-ghost use Rattle.wparser.specs.Grips.{any_class, not_class, direction_class, nulls_class, name_class, frame_class};
-ghost use Rattle.wparser.specs.Finding.{meanings, outcome, settled, Got, Answers};
+ghost use Rattle.wparser.specs.Grammar.{optional_name, optional_frame, descending, nulls_placed, extent, two_bounds, bound, toward, exclusion, optional_exclusion};
+ghost use Rattle.wparser.specs.Grips.{any_class, direction_class, nulls_class, name_class, frame_class};
+ghost use Rattle.wparser.specs.Finding.{meanings, outcome, settled, Got, Answers, IsWithout};
 
 use crate::fault::ParseFault;
 use crate::tokens::{direction, keyword, keyword_pair, mode, name, null_order, number};
 use std::rc::RcStr;
 use wlexer::{Keyword, Token};
-use wquery::{Frame, FrameBound, FrameExclusion, NullOrder};
+use wquery::{Frame, FrameBound, FrameExclusion, NullOrder, build};
 
 /// Whether NOT comes first, and what follows.
 pub fn optional_not(tokens: &[Token]) -> (bool, &[Token])
-    ensures { Answers optional_not not_class (meanings tokens.now) (Got (result.0) (meanings result.1.now)) }
+    ensures here { result.0 ≡ true → meanings tokens.now ≡ KeywordToken Not ∷ meanings result.1.now }
+    ensures absent { result.0 ≡ false → IsWithout (KeywordToken Not) (meanings tokens.now) (meanings result.1.now) }
 {
     match keyword(tokens, Keyword::Not) {
         None => (false, tokens),
@@ -118,7 +122,7 @@ fn two_bounds(tokens: &[Token]) -> Option<((FrameBound, Option<FrameBound>), &[T
     };
     match bound(after) {
         None => None,
-        Some((end, rest)) => Some(((start, Some(end)), rest)),
+        Some((end, rest)) => Some((build::ends(start, end), rest)),
     }
 }
 

@@ -1,13 +1,15 @@
 //! Reads whole queries; `depth` levels of nesting are left.
 
-ghost use Rattle.std.specs.Prelude.{◌≡◌, ◌≤◌, List, map, Some, None, IfOk};
+ghost use Rattle.std.specs.Prelude.{◌≡◌, ◌≤◌, true, false, List, ◌∷◌, map, Some, None, IfOk};
+ghost use Rattle.wlexer.specs.Token.{SymbolToken};
+ghost use Rattle.wlexer.specs.declared.token.Symbol.TheVariants.{Semicolon};
 ghost use Rattle.std.specs.Rc.{rc_str_bytes};
 ghost use Rattle.wquery.specs.Tree.{Tree, view, view_column, view_keys, view_optional, name_bytes};
 ghost use Rattle.wquery.specs.QueryTree.{QueryTree, ItemTree, EntryTree, view_query, view_source, view_item, view_entry, query_of};
 ghost use Rattle.wparser.specs.Queries.{required_alias, optional_alias, item, derived, source, clause, column, grouping, entry, windows, count, limit_first, offset_first, limits, behind_groups, behind_windows, clauses, query, deeper_query, most_nesting, text, Spells};
 ghost use Rattle.wparser.specs.Grips.{any_class, condition_class, name_class, element_class, grouping_class, windows_class, limits_class, text_class, keyword_grip};
 ghost use Rattle.wparser.specs.declared.fault.ParseFault.TheVariants.{Syntax};
-ghost use Rattle.wparser.specs.Finding.{meanings, outcome, settled, Answers};
+ghost use Rattle.wparser.specs.Finding.{meanings, outcome, settled, Answers, IsWithout};
 
 use crate::expressions::{chain, order, window_inside};
 use crate::fault::ParseFault;
@@ -55,7 +57,7 @@ impl Element for Item {
         }
         let (expression, rest) = got!(chain(alloc, ChainKind::Disjunction, depth, tokens));
         let (alias, rest) = got!(optional_alias(rest), expression);
-        Ok((Item::Value { expression, alias }, rest))
+        Ok((build::item(expression, alias), rest))
     }
 }
 
@@ -335,15 +337,23 @@ fn whole_query(alloc: Global, tokens: &[Token]) -> Result<(Query, &[Token]), Par
     query(alloc, MOST_NESTING, tokens)
 }
 
+/// Whether a semicolon comes first, and what follows.
+fn optional_semicolon(tokens: &[Token]) -> (bool, &[Token])
+    ensures here { result.0 ≡ true → meanings tokens.now ≡ SymbolToken Semicolon ∷ meanings result.1.now }
+    ensures absent { result.0 ≡ false → IsWithout (SymbolToken Semicolon) (meanings tokens.now) (meanings result.1.now) }
+{
+    match symbol(tokens, Symbol::Semicolon) {
+        None => (false, tokens),
+        Some(rest) => (true, rest),
+    }
+}
+
 /// A query and the semicolon behind it, if there is one.
 fn text(alloc: Global, tokens: &[Token]) -> Result<(Query, &[Token]), ParseFault>
     ensures { Answers text text_class (meanings tokens.now) (outcome (λ x. view_query x.0) (λ x. x.1.now) result) }
 {
     let (query, rest) = got!(whole_query(alloc, tokens));
-    match symbol(rest, Symbol::Semicolon) {
-        None => Ok((query, rest)),
-        Some(rest) => Ok((query, rest)),
-    }
+    Ok((query, optional_semicolon(rest).1))
 }
 
 /// The one query that the tokens spell.

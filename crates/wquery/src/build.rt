@@ -1,15 +1,15 @@
 //! Makes the parts of queries; each function says what its result says.
 
-ghost use Rattle.std.specs.Prelude.{◌≡◌, map, IfOk};
+ghost use Rattle.std.specs.Prelude.{◌≡◌, Some, map, IfOk};
 ghost use Rattle.std.specs.Rc.{rc_str_bytes};
 ghost use Rattle.wquery.specs.Tree.{view, views, view_arguments, view_key, view_keys, view_window, view_column, view_optional, view_optional_over, name_bytes, filter_of, reach_of, trees, is_chain, lengthened, joined, linked, view_link, Links, Field, Invoked, Negated, Signed, Joined, Compared, NullTest, Within, Among, NoLinks, Further, These};
-ghost use Rattle.wquery.specs.QueryTree.{view_query, view_source, view_item, view_entry, query_of, FromTable, FromQuery};
+ghost use Rattle.wquery.specs.QueryTree.{view_query, view_source, view_item, view_entry, query_of, Computed, FromTable, FromQuery};
 
 use crate::expression::{
     Arguments, Call, ChainKind, Column, Comparison, Expression, Key, Link, NullOrder, Operator,
     Over, Window,
 };
-use crate::frame::Frame;
+use crate::frame::{Frame, FrameBound};
 use crate::query::{Item, Query, Source, WindowEntry};
 use std::alloc::{AllocError, Global};
 use std::rc::RcStr;
@@ -245,6 +245,19 @@ fn lengthen(
             Ok(())
         }
     }
+}
+
+/// The ends of a frame between two bounds.
+pub fn ends(start: FrameBound, end: FrameBound) -> (FrameBound, Option<FrameBound>)
+    ensures { result ≡ (start, Some end) }
+{
+    (start, Some(end))
+}
+
+pub fn item(expression: Expression, alias: Option<RcStr>) -> Item
+    ensures { view_item result ≡ Computed (view expression) (name_bytes alias) }
+{
+    Item::Value { expression, alias }
 }
 
 #[tactic(auto, unfolding(crate::specs::QueryTree::view_source))]

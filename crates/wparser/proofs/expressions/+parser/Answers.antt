@@ -10,7 +10,7 @@ use Rattle.wparser.specs.Finding.{Got, failed, Answers, meanings}
 use Rattle.wparser.proofs.Steps.{answers_less, short, grips, missing, not_said, got_along, made_along, other_token, one_parts, never_either, never_then, never_listed, any_leads, after_leads, done_leads, then_got, then_refused, after_got, after_missing, after_never, as_got, as_refused, one_got, perhaps_absent, perhaps_present, either_first, either_second, done_got, room_answers, closed_refused, closed_missing, closed_got, listing_more, listing_got, listing_refused}
 use Rattle.wparser.proofs.Rows.{chain_refused, chain_got, going_more, going_refused, going_over, comparison_grip}
 use Rattle.wparser.proofs.Fits.{tests_begin, begins_not, primary_no_sign, lower, nothing_below, operand_falls, chain_falls, key_falls}
-use Rattle.wparser.proofs.Parts.{one_more, one_grips, null_tested_leads, compared_leads, test_leads, tested_leads, no_test, call_leads, key_leads, key_leads_nulls, window_leads_parts, window_leads_order, window_leads_frame, primary_number, primary_text, primary_null, primary_name_copied, window_along, meanings_fall_on, primary_open, primary_none, window_empty, no_list, meanings_fall, kind_above}
+use Rattle.wparser.proofs.Parts.{not_answers, one_more, one_grips, null_tested_leads, compared_leads, test_leads, tested_leads, no_test, call_leads, key_leads, key_leads_nulls, window_leads_parts, window_leads_order, window_leads_frame, primary_number, primary_text, primary_null, primary_name_copied, window_along, meanings_fall_on, primary_open, primary_none, window_empty, no_list, meanings_fall, kind_above}
 use Rattle.wparser.proofs.expressions.+parser.Goals as goal
 
 pub chain-returns-in-Err : goal.chain-returns-in-Err
@@ -71,7 +71,7 @@ pub range-returns : goal.range-returns
 range-returns t c = then_got (λ e. tested_leads) c.in-Ok.ensures c.range_tested.ensures
 
 pub range_tested-returns-then-range_test_follows : goal.range_tested-returns-then-range_test_follows
-range_tested-returns-then-range_test_follows t c = perhaps_present (c.range_test_follows.ensures.yes c.if-range_test_follows.true) (then_got (λ n. test_leads) c.optional_not-negated.ensures c.range_test.ensures)
+range_tested-returns-then-range_test_follows t c = perhaps_present (c.range_test_follows.ensures.yes c.if-range_test_follows.true) (then_got (λ n. test_leads) (not_answers _ c.optional_not-negated.ensures.here c.optional_not-negated.ensures.absent) c.range_test.ensures)
 
 pub range_tested-returns : goal.range_tested-returns
 range_tested-returns t c = perhaps_absent (no_test (c.range_test_follows.ensures.other c.if-range_test_follows.false))
