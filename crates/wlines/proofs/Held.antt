@@ -1,8 +1,8 @@
 -- Lemmas on what a source holds.
-use Rattle.std.proofs.Common.{◌≡◌, ◌≢◌, ℕ, suc, ◌+◌, ◌-◌, ◌<◌, ◌≤◌, List, [], ◌∷◌, ◌++◌, length, take, drop, get_or, Option, None, Some, refl, sym, ap, ◌∙◌, subst, arith, add-one, drop-cons, length-take, length-drop, append_assoc, take-append-drop}
+use Rattle.std.proofs.Common.{◌≡◌, ℕ, suc, ◌+◌, ◌-◌, ◌<◌, ◌≤◌, List, [], ◌∷◌, ◌++◌, length, take, drop, get_or, Option, None, Some, refl, sym, ap, ◌∙◌, subst, arith, add-one, drop-cons, length-take, length-drop, append_assoc, take-append-drop}
 use Rattle.std.proofs.lemmas.List.{drop-take, drop-drop}
 use Rattle.std.proofs.KnownBytes.{Consumes-trans}
-use Rattle.std.specs.Io.KnownBytes.{Keeps, Consumes, IsAtEnd, prepend_known}
+use Rattle.std.specs.Io.KnownBytes.{Keeps, Consumes, prepend_known}
 
 -- a byte that is held first is the next to come
 pub first_held : (a b : Option (List ℕ)) (x : ℕ) (old new : List ℕ) → Keeps a (prepend_known old b) → old ≡ x ∷ new → Consumes a (prepend_known new b) (x ∷ [])

@@ -1,9 +1,11 @@
 -- What was read, and that it begins with no line or no body.
-use Rattle.std.proofs.Common.{Bool, true, false, ◌≡◌, ◌≢◌, ℕ, zero, suc, ◌+◌, ◌<◌, ◌≤◌, List, [], ◌∷◌, ◌++◌, length, Option, None, Some, IfSome, refl, sym, ap, ◌∙◌, subst, arith, append_assoc, length-append}
+use Rattle.std.proofs.Common.{Bool, true, false, ◌≡◌, ◌≢◌, ℕ, ◌<◌, ◌≤◌, List, [], ◌∷◌, ◌++◌, length, Option, None, Some, IfSome, refl, sym, ap, ◌∙◌, subst, arith, length-append}
 use Rattle.std.specs.Io.KnownBytes.{Keeps, Consumes, IsAtEnd}
 use Rattle.std.proofs.KnownBytes.{Consumes-whole, Consumes-kept, Consumes-trans}
 use Rattle.wlines.specs.Words.{Lacks}
-use Rattle.wlines.specs.Reads.{HasNoLine, HasNoBody, SkipReads, FeedReads}
+use Rattle.wlines.specs.declared.line.LineEnd.{LineEnd}
+use Rattle.wlines.specs.declared.line.LineEnd.TheVariants as ends
+use Rattle.wlines.specs.Reads.{LineReads, HasNoLine, HasNoBody, SkipReads, FeedReads}
 use Rattle.wlines.proofs.Cuts.{no_cut}
 
 -- what holds of the bytes that were read, whatever is left, holds of all that there was
@@ -12,10 +14,20 @@ front_of None b bs P k h = tt
 front_of (Some xs) None bs P k h = absurd k
 front_of (Some xs) (Some ys) bs P k h = subst P (sym k) (h ys)
 
-pub closed_line : (a b c : Option (List ℕ)) (line : List ℕ) → Consumes a b line → Keeps b c → IsAtEnd c → Lacks 10 line → line ≢ [] → IfSome a (λ xs. (xs ≢ []) × HasNoLine xs)
+kept_none : (a b : Option (List ℕ)) → Consumes a b [] → Keeps a b
+kept_none None b k = k
+kept_none (Some xs) None k = k
+kept_none (Some xs) (Some ys) k = sym k
+
+closed_line : (a b c : Option (List ℕ)) (line : List ℕ) → Consumes a b line → Keeps b c → IsAtEnd c → Lacks 10 line → line ≢ [] → IfSome a (λ xs. (xs ≢ []) × HasNoLine xs)
 closed_line a b c line k kept end lacks ne =
     Consumes-whole a c line (λ xs. (xs ≢ []) × HasNoLine xs) (Consumes-kept a b c line k kept) end
     (ne, λ l r lk sh e. no_cut 10 line l r lacks e)
+
+pub ended_line : (end : LineEnd) (a b c : Option (List ℕ)) (line : List ℕ) → Consumes a b line → Keeps b c → IsAtEnd c → Lacks 10 line → end ≢ ends.Whole → (end ≡ ends.Closed → line ≡ []) → (end ≡ ends.Malformed → line ≢ []) → LineReads end a c line
+ended_line ends.Whole a b c line k kept end lacks unfed closed malformed = absurd (unfed refl)
+ended_line ends.Closed a b c line k kept end lacks unfed closed malformed = (kept_none a c (Consumes-kept a b c [] (subst (Consumes a b) (closed refl) k) kept), end)
+ended_line ends.Malformed a b c line k kept end lacks unfed closed malformed = closed_line a b c line k kept end lacks (malformed refl)
 
 -- a longer front has no such byte
 no_early_cut : (c : ℕ) (p more l r : List ℕ) → Lacks c p → length l < length p → p ++ more ≡ l ++ (c ∷ r) → ⊥

@@ -11,6 +11,18 @@ use std::alloc::Global;
 use std::io::Read;
 use wvalues::Counted;
 
+// How a line ended where the input has no further byte.
+fn end_without_feed(line: &Line) -> LineEnd
+    ensures unfed { result ≢ LineEnd.Whole }
+    ensures closed { result ≡ LineEnd.Closed → line.now ≡ [] }
+    ensures malformed { result ≡ LineEnd.Malformed → line.now ≢ [] }
+{
+    if line.is_empty() {
+        return LineEnd::Closed;
+    }
+    LineEnd::Malformed
+}
+
 /// Reads a line of at most 200 bytes, or finds that there is none.
 pub fn read_line<R: Read>(
     source: &mut Source,
@@ -27,11 +39,7 @@ pub fn read_line<R: Read>(
     'bytes: loop {
         let next = source.next(input)?;
         let Some(byte) = next else {
-            return Ok(if line.is_empty() {
-                LineEnd::Closed
-            } else {
-                LineEnd::Malformed
-            });
+            return Ok(end_without_feed(line));
         };
         if byte == b'\n' {
             return Ok(LineEnd::Whole);

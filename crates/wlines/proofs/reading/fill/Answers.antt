@@ -1,4 +1,4 @@
-use Rattle.std.proofs.Common.{◌≡◌, ◌+◌, ◌++◌, ◌≤◌, take, drop, length, refl, ap, ◌∙◌, sym, subst, arith, length-append, length-take, length-drop}
+use Rattle.std.proofs.Common.{◌≡◌, ◌+◌, take, length, refl, ap, sym, subst, arith, length-append, length-take, length-drop}
 use Rattle.std.specs.Io.KnownBytes.{Consumes}
 use Rattle.wlines.specs.Pending.{left}
 use Rattle.wlines.proofs.Held.{piece_taken}

@@ -1,6 +1,5 @@
 use Rattle.std.proofs.Common.{rules}
 use Rattle.wlines.specs.Pending.{left}
-use Rattle.wlines.specs.Reads.{FeedReads}
 use Rattle.wlines.proofs.Lines.{unfed_body}
 use Rattle.wlines.proofs.reading.read_into.Goals as goal
 

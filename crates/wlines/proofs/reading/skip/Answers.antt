@@ -1,4 +1,4 @@
-use Rattle.std.proofs.Common.{◌≡◌, ◌+◌, ◌++◌, ◌≤◌, take, drop, length, refl, ap, ◌∙◌, sym, arith, length-append, length-take, length-drop}
+use Rattle.std.proofs.Common.{◌≡◌, ◌+◌, ◌++◌, ◌≤◌, take, length, refl, ap, arith, length-append, length-take, length-drop}
 use Rattle.wlines.specs.Pending.{left}
 use Rattle.wlines.proofs.Held.{piece_taken}
 use Rattle.wlines.proofs.reading.skip.Goals as goal

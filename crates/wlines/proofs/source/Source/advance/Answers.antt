@@ -1,4 +1,4 @@
-use Rattle.std.proofs.Common.{◌∙◌, ap, sym, subst, drop, length, ◌≤◌, arith}
+use Rattle.std.proofs.Common.{◌∙◌, ap, drop, length, ◌≤◌, arith}
 use Rattle.wlines.proofs.Held.{window_drop}
 use Rattle.wlines.proofs.source.Source.advance.Goals as goal
 
