@@ -73,8 +73,14 @@ same_from_front xs ys = same_linked NoLinks NoLinks xs ys refl
 pub same_calls : (a b : Call) → is_same (view_call a) (view_call b) ≡ (bytes_eq (rc_str_bytes a.name) (rc_str_bytes b.name) && (are_same_given (view_arguments a.arguments) (view_arguments b.arguments) && (is_same_filter (filter_of (view_optional a.filter)) (filter_of (view_optional b.filter)) && is_same_reach (reach_of (view_optional_over a.over)) (reach_of (view_optional_over b.over)))))
 same_calls a b = ap (λ (t : Tree). is_same t (view_call b)) (view_call_is a) ∙ ap (is_same (Invoked (rc_str_bytes a.name) (view_arguments a.arguments) (filter_of (view_optional a.filter)) (reach_of (view_optional_over a.over)))) (view_call_is b)
 
-pub same_call_views : (a b : Expression) (x y : Box Call Global) → a ≡ queries.Call x → b ≡ queries.Call y → is_same (view a) (view b) ≡ is_same (view_call x.value) (view_call y.value)
-same_call_views a b x y ea eb = ap (λ (e : Expression). is_same (view e) (view b)) ea ∙ ap (λ (e : Expression). is_same (view (queries.Call x)) (view e)) eb ∙ ap (λ (t : Tree). is_same t (view (queries.Call y))) (view_of_call x) ∙ ap (is_same (view_call x.value)) (view_of_call y)
+abbrev told : Call → Tree
+told c = Invoked (rc_str_bytes c.name) (view_arguments c.arguments) (filter_of (view_optional c.filter)) (reach_of (view_optional_over c.over))
+
+pub call_view : (e : Expression) (d : Call) (x : Box Call Global) → e ≡ queries.Call x → d ≡ x.value → view e ≡ told d
+call_view e d x is at = ap view is ∙ view_of_call x ∙ ap view_call (sym at) ∙ view_call_is d
+
+pub call_same : (e : Expression) (x : Box Call Global) (d call : Call) (r : Bool) → e ≡ queries.Call x → d ≡ x.value → r ≡ is_same (view_call d) (view_call call) → r ≡ is_same (view e) (told call)
+call_same e x d call r is at same = same ∙ ap (is_same (view_call d)) (view_call_is call) ∙ ap (λ (t : Tree). is_same t (told call)) (ap view_call at ∙ sym (ap view is ∙ view_of_call x))
 
 view_of_listed : (v : Vec Expression Global) → view_arguments (given.Listed v) ≡ These (trees (views v.items))
 unfolding view_arguments view
@@ -82,12 +88,6 @@ view_of_listed v = ap (fold-Arguments Given Tree Reach Tree KeyTree Branch Windo
 
 pub same_listed_views : (a b : Arguments) (x y : Vec Expression Global) → a ≡ given.Listed x → b ≡ given.Listed y → are_same_given (view_arguments a) (view_arguments b) ≡ are_same (trees (views x.items)) (trees (views y.items))
 same_listed_views a b x y ea eb = ap (λ (e : Arguments). are_same_given (view_arguments e) (view_arguments b)) ea ∙ ap (λ (e : Arguments). are_same_given (view_arguments (given.Listed x)) (view_arguments e)) eb ∙ ap (λ (t : Given). are_same_given t (view_arguments (given.Listed y))) (view_of_listed x) ∙ ap (are_same_given (These (trees (views x.items)))) (view_of_listed y)
-
-pub same_chain_views : (a b : Expression) (k l : ChainKind) (x y : Box Expression Global) (xs ys : Vec Link Global) → a ≡ queries.Chain k x xs → b ≡ queries.Chain l y ys → is_same (view a) (view b) ≡ (same_kind k l && (is_same (view x.value) (view y.value) && are_same_links (linked NoLinks (map view_link xs.items)) (linked NoLinks (map view_link ys.items))))
-same_chain_views a b k l x y xs ys ea eb = ap (λ (e : Expression). is_same (view e) (view b)) ea ∙ ap (λ (e : Expression). is_same (view (queries.Chain k x xs)) (view e)) eb ∙ ap (λ (t : Tree). is_same t (view (queries.Chain l y ys))) (view_of_chain k x xs) ∙ ap (is_same (Joined k (view x.value) (linked NoLinks (map view_link xs.items)))) (view_of_chain l y ys)
-
-pub same_in_views : (a b : Expression) (k l : Bool) (x y : Box Expression Global) (xs ys : Vec Expression Global) → a ≡ queries.In k x xs → b ≡ queries.In l y ys → is_same (view a) (view b) ≡ (same_bool k l && (is_same (view x.value) (view y.value) && are_same (trees (views xs.items)) (trees (views ys.items))))
-same_in_views a b k l x y xs ys ea eb = ap (λ (e : Expression). is_same (view e) (view b)) ea ∙ ap (λ (e : Expression). is_same (view (queries.In k x xs)) (view e)) eb ∙ ap (λ (t : Tree). is_same t (view (queries.In l y ys))) (view_of_in k x xs) ∙ ap (is_same (Among k (view x.value) (trees (views xs.items)))) (view_of_in l y ys)
 
 -- lists that do not end at once
 
@@ -115,15 +115,26 @@ shorter_order (x ∷ xs) ys h k = absurd (omega arith)
 pub keys_end : (xs ys : List Key) (i : ℕ) → length xs ≤ i → i < length ys → are_same_keys (keys (view_keys (drop i xs))) (keys (view_keys (drop i ys))) ≡ false
 keys_end xs ys i h k = shorter_order (drop i xs) (drop i ys) (simp length-drop (omega arith)) (simp length-drop (omega arith))
 
-pub chain_same : (a b : Expression) (k l : ChainKind) (x y : Box Expression Global) (xs ys : Vec Link Global) (kr sr lr : Bool) (d e : Expression) (us vs : List Link) → a ≡ queries.Chain k x xs → b ≡ queries.Chain l y ys → kr ≡ same_kind k l → kr ≡ true → d ≡ x.value → e ≡ y.value → sr ≡ is_same (view d) (view e) → sr ≡ true → us ≡ xs.items → vs ≡ ys.items → lr ≡ are_same_links (linked NoLinks (map view_link us)) (linked NoLinks (map view_link vs)) → lr ≡ is_same (view a) (view b)
-chain_same a b k l x y xs ys kr sr lr d e us vs ea eb ek hk ed ee es hs eu ev el =
-    el ∙ ap (λ (zs : List Link). are_same_links (linked NoLinks (map view_link zs)) (linked NoLinks (map view_link vs))) eu ∙ ap (λ (zs : List Link). are_same_links (linked NoLinks (map view_link xs.items)) (linked NoLinks (map view_link zs))) ev
-    ∙ sym (same_chain_views a b k l x y xs ys ea eb ∙ and_second _ _ (sym ek ∙ hk) ∙ and_second _ _ (sym (es ∙ ap (λ (z : Expression). is_same (view z) (view e)) ed ∙ ap (λ (z : Expression). is_same (view x.value) (view z)) ee) ∙ hs))
+both : (a b c : Bool) → a ≡ true → b ≡ c → b ≡ (a && c)
+both a b c e f = rw e f
 
-pub in_same : (a b : Expression) (k l : Bool) (x y : Box Expression Global) (xs ys : Vec Expression Global) (kr sr lr : Bool) (d e : Expression) (us vs : List Expression) → a ≡ queries.In k x xs → b ≡ queries.In l y ys → kr ≡ same_bool k l → kr ≡ true → d ≡ x.value → e ≡ y.value → sr ≡ is_same (view d) (view e) → sr ≡ true → us ≡ xs.items → vs ≡ ys.items → lr ≡ are_same (trees (views us)) (trees (views vs)) → lr ≡ is_same (view a) (view b)
-in_same a b k l x y xs ys kr sr lr d e us vs ea eb ek hk ed ee es hs eu ev el =
-    el ∙ ap (λ (zs : List Expression). are_same (trees (views zs)) (trees (views vs))) eu ∙ ap (λ (zs : List Expression). are_same (trees (views xs.items)) (trees (views zs))) ev
-    ∙ sym (same_in_views a b k l x y xs ys ea eb ∙ and_second _ _ (sym ek ∙ hk) ∙ and_second _ _ (sym (es ∙ ap (λ (z : Expression). is_same (view z) (view e)) ed ∙ ap (λ (z : Expression). is_same (view x.value) (view z)) ee) ∙ hs))
+pub chain_view : (e d : Expression) (k : ChainKind) (x : Box Expression Global) (xs : Vec Link Global) (us : List Link) → e ≡ queries.Chain k x xs → d ≡ x.value → us ≡ xs.items → view e ≡ Joined k (view d) (linked NoLinks (map view_link us))
+chain_view e d k x xs us is at slice =
+    ap view is ∙ view_of_chain k x xs ∙ ap (λ (z : Expression). Joined k (view z) (linked NoLinks (map view_link xs.items))) (sym at) ∙ ap (λ (zs : List Link). Joined k (view d) (linked NoLinks (map view_link zs))) (sym slice)
+
+pub list_view : (e d : Expression) (k : Bool) (x : Box Expression Global) (xs : Vec Expression Global) (us : List Expression) → e ≡ queries.In k x xs → d ≡ x.value → us ≡ xs.items → view e ≡ Among k (view d) (trees (views us))
+list_view e d k x xs us is at slice =
+    ap view is ∙ view_of_in k x xs ∙ ap (λ (z : Expression). Among k (view z) (trees (views xs.items))) (sym at) ∙ ap (λ (zs : List Expression). Among k (view d) (trees (views zs))) (sym slice)
+
+pub chain_same : (e first d : Expression) (k l : ChainKind) (x : Box Expression Global) (xs : Vec Link Global) (us vs : List Link) (kr sr lr : Bool) → e ≡ queries.Chain k x xs → d ≡ x.value → us ≡ xs.items → kr ≡ same_kind k l → kr ≡ true → sr ≡ is_same (view d) (view first) → sr ≡ true → lr ≡ are_same_links (linked NoLinks (map view_link us)) (linked NoLinks (map view_link vs)) → lr ≡ is_same (view e) (Joined l (view first) (linked NoLinks (map view_link vs)))
+chain_same e first d k l x xs us vs kr sr lr is at slice ek hk es hs el =
+    both (same_kind k l) lr _ (sym ek ∙ hk) (both (is_same (view d) (view first)) lr _ (sym es ∙ hs) el)
+    ∙ sym (ap (λ (t : Tree). is_same t (Joined l (view first) (linked NoLinks (map view_link vs)))) (chain_view e d k x xs us is at slice))
+
+pub list_same : (e operand d : Expression) (k l : Bool) (x : Box Expression Global) (xs : Vec Expression Global) (us vs : List Expression) (kr sr lr : Bool) → e ≡ queries.In k x xs → d ≡ x.value → us ≡ xs.items → kr ≡ same_bool k l → kr ≡ true → sr ≡ is_same (view d) (view operand) → sr ≡ true → lr ≡ are_same (trees (views us)) (trees (views vs)) → lr ≡ is_same (view e) (Among l (view operand) (trees (views vs)))
+list_same e operand d k l x xs us vs kr sr lr is at slice ek hk es hs el =
+    both (same_bool k l) lr _ (sym ek ∙ hk) (both (is_same (view d) (view operand)) lr _ (sym es ∙ hs) el)
+    ∙ sym (ap (λ (t : Tree). is_same t (Among l (view operand) (trees (views vs)))) (list_view e d k x xs us is at slice))
 
 -- windows
 

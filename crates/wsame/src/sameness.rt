@@ -3,13 +3,13 @@
 ghost use Rattle.std.specs.Prelude.{◌≡◌, map, Some, nat_eq};
 ghost use Rattle.std.specs.Rc.{rc_str_bytes};
 ghost use Rattle.std.specs.Str.{bytes_eq};
-ghost use Rattle.wquery.specs.Tree.{view, view_over, view_window, view_call, view_key, view_link, view_arguments, view_optional, view_optional_over, filter_of, reach_of, trees, views, keys, view_keys, own_window, linked, name_bytes, NoLinks, same_kind as is_same_kind};
+ghost use Rattle.wquery.specs.Tree.{view, view_over, view_window, view_call, view_key, view_link, view_arguments, view_optional, view_optional_over, filter_of, reach_of, trees, views, keys, view_keys, own_window, linked, name_bytes, NullWord, Numeral, Quoted, Field, Invoked, Negated, Signed, Joined, Compared, NullTest, Within, Among, NoLinks, same_kind as is_same_kind};
 ghost use Rattle.wsame.specs.Sameness.{is_same, is_same_branch, is_same_key, are_same, are_same_links, are_same_given, is_same_filter, is_same_reach, are_same_keys, same_bool, same_frame as is_same_frame, same_bound as is_same_bound, same_copied as is_same_copied, operator_number as number_of_operator, comparison_number as number_of_comparison, nulls_number as number_of_nulls, mode_number as number_of_mode, exclusion_number as number_of_exclusion, offset_in};
 
 use crate::bounds::{bound_place, frame_end};
 use std::rc::RcStr;
 use wquery::{
-    Arguments, Call, ChainKind, Comparison, Expression, Frame, FrameBound, FrameExclusion,
+    Arguments, Call, ChainKind, Column, Comparison, Expression, Frame, FrameBound, FrameExclusion,
     FrameMode, Key, Link, NullOrder, Operator, Over, Window,
 };
 
@@ -161,105 +161,202 @@ fn same_name(a: &RcStr, b: &RcStr) -> bool
     a.as_str() == b.as_str()
 }
 
-/// Whether two expressions are equal. A column is the same where its name is.
+#[tactic(auto, unfolding(wquery::specs::Tree::view))]
+fn is_null_word(e: &Expression) -> bool
+    ensures { result ≡ is_same (view e.now) NullWord }
+{
+    match e {
+        Expression::Null => true,
+        _ => false,
+    }
+}
+
+#[tactic(auto, unfolding(wquery::specs::Tree::view))]
+fn is_number(e: &Expression, number: u128) -> bool
+    ensures { result ≡ is_same (view e.now) (Numeral number) }
+{
+    match e {
+        Expression::Number(n) => n.get() == number,
+        _ => false,
+    }
+}
+
+#[tactic(auto, unfolding(wquery::specs::Tree::view))]
+fn is_text(e: &Expression, text: &RcStr) -> bool
+    ensures { result ≡ is_same (view e.now) (Quoted (rc_str_bytes text.now)) }
+{
+    match e {
+        Expression::Text(other) => other.as_str() == text.as_str(),
+        _ => false,
+    }
+}
+
+#[tactic(auto, unfolding(wquery::specs::Tree::view))]
+fn is_column(e: &Expression, column: &Column) -> bool
+    ensures { result ≡ is_same (view e.now) (Field (name_bytes column.now.qualifier) (rc_str_bytes column.now.name)) }
+{
+    match e {
+        Expression::Column(other) => other.name.as_str() == column.name.as_str(),
+        _ => false,
+    }
+}
+
 #[cycle(sameness)]
 #[tactic(auto, unfolding(wquery::specs::Tree::view))]
+fn is_call(e: &Expression, call: &Call) -> bool
+    ensures { result ≡ is_same (view e.now) (Invoked (rc_str_bytes call.now.name) (view_arguments call.now.arguments) (filter_of (view_optional call.now.filter)) (reach_of (view_optional_over call.now.over))) }
+{
+    match e {
+        Expression::Call(other) => same_call(other, call),
+        _ => false,
+    }
+}
+
+#[cycle(sameness)]
+#[tactic(auto, unfolding(wquery::specs::Tree::view))]
+fn is_negation(e: &Expression, operand: &Expression) -> bool
+    ensures { result ≡ is_same (view e.now) (Negated (view operand.now)) }
+{
+    match e {
+        Expression::Not(x) => same(x, operand),
+        _ => false,
+    }
+}
+
+#[cycle(sameness)]
+#[tactic(auto, unfolding(wquery::specs::Tree::view))]
+fn is_sign(e: &Expression, minus: bool, operand: &Expression) -> bool
+    ensures { result ≡ is_same (view e.now) (Signed minus (view operand.now)) }
+{
+    match e {
+        Expression::Sign {
+            minus: other,
+            operand: x,
+        } => same_flag(*other, minus) && same(x, operand),
+        _ => false,
+    }
+}
+
+#[cycle(sameness)]
+#[tactic(auto, unfolding(wquery::specs::Tree::view))]
+fn is_chain(e: &Expression, kind: ChainKind, first: &Expression, links: &[Link]) -> bool
+    ensures { result ≡ is_same (view e.now) (Joined kind (view first.now) (linked NoLinks (map view_link links.now))) }
+{
+    match e {
+        Expression::Chain {
+            kind: other,
+            first: x,
+            links: others,
+        } => { same_kind(*other, kind) && (same(x, first) && same_links(others.as_slice(), links)) }
+        _ => false,
+    }
+}
+
+#[cycle(sameness)]
+#[tactic(auto, unfolding(wquery::specs::Tree::view))]
+fn is_comparison(
+    e: &Expression,
+    comparison: Comparison,
+    left: &Expression,
+    right: &Expression,
+) -> bool
+    ensures { result ≡ is_same (view e.now) (Compared comparison (view left.now) (view right.now)) }
+{
+    match e {
+        Expression::Compare {
+            comparison: other,
+            left: x,
+            right: y,
+        } => same_comparison(*other, comparison) && (same(x, left) && same(y, right)),
+        _ => false,
+    }
+}
+
+#[cycle(sameness)]
+#[tactic(auto, unfolding(wquery::specs::Tree::view))]
+fn is_null_test(e: &Expression, negated: bool, operand: &Expression) -> bool
+    ensures { result ≡ is_same (view e.now) (NullTest negated (view operand.now)) }
+{
+    match e {
+        Expression::IsNull {
+            negated: other,
+            operand: x,
+        } => same_flag(*other, negated) && same(x, operand),
+        _ => false,
+    }
+}
+
+#[cycle(sameness)]
+#[tactic(auto, unfolding(wquery::specs::Tree::view))]
+fn is_range_test(
+    e: &Expression,
+    negated: bool,
+    operand: &Expression,
+    low: &Expression,
+    high: &Expression,
+) -> bool
+    ensures { result ≡ is_same (view e.now) (Within negated (view operand.now) (view low.now) (view high.now)) }
+{
+    match e {
+        Expression::Between {
+            negated: other,
+            operand: x,
+            low: y,
+            high: z,
+        } => { same_flag(*other, negated) && (same(x, operand) && (same(y, low) && same(z, high))) }
+        _ => false,
+    }
+}
+
+#[cycle(sameness)]
+#[tactic(auto, unfolding(wquery::specs::Tree::view))]
+fn is_list_test(e: &Expression, negated: bool, operand: &Expression, list: &[Expression]) -> bool
+    ensures { result ≡ is_same (view e.now) (Among negated (view operand.now) (trees (views list.now))) }
+{
+    match e {
+        Expression::In {
+            negated: other,
+            operand: x,
+            list: others,
+        } => {
+            same_flag(*other, negated) && (same(x, operand) && same_listed(others.as_slice(), list))
+        }
+        _ => false,
+    }
+}
+
+/// Whether two expressions are equal. A column is the same where its name is.
+#[cycle(sameness)]
+#[tactic(auto, unfolding(wquery::specs::Tree::view, wquery::specs::Tree::view_call))]
 pub fn same(a: &Expression, b: &Expression) -> bool
     ensures { result ≡ is_same (view a.now) (view b.now) }
 {
-    match a {
-        Expression::Null => match b {
-            Expression::Null => true,
-            _ => false,
-        },
-        Expression::Number(n) => match b {
-            Expression::Number(m) => n.get() == m.get(),
-            _ => false,
-        },
-        Expression::Text(x) => match b {
-            Expression::Text(y) => x.as_str() == y.as_str(),
-            _ => false,
-        },
-        Expression::Column(x) => match b {
-            Expression::Column(y) => x.name.as_str() == y.name.as_str(),
-            _ => false,
-        },
-        Expression::Call(x) => match b {
-            Expression::Call(y) => same_call(x, y),
-            _ => false,
-        },
-        Expression::Not(x) => match b {
-            Expression::Not(y) => same(x, y),
-            _ => false,
-        },
-        Expression::Sign { minus, operand } => match b {
-            Expression::Sign {
-                minus: other,
-                operand: x,
-            } => same_flag(*minus, *other) && same(operand, x),
-            _ => false,
-        },
-        Expression::Chain { kind, first, links } => match b {
-            Expression::Chain {
-                kind: other,
-                first: x,
-                links: others,
-            } => {
-                same_kind(*kind, *other)
-                    && (same(first, x) && same_links(links.as_slice(), others.as_slice()))
-            }
-            _ => false,
-        },
+    match b {
+        Expression::Null => is_null_word(a),
+        Expression::Number(n) => is_number(a, n.get()),
+        Expression::Text(text) => is_text(a, text),
+        Expression::Column(column) => is_column(a, column),
+        Expression::Call(call) => is_call(a, call),
+        Expression::Not(operand) => is_negation(a, operand),
+        Expression::Sign { minus, operand } => is_sign(a, *minus, operand),
+        Expression::Chain { kind, first, links } => is_chain(a, *kind, first, links.as_slice()),
         Expression::Compare {
             comparison,
             left,
             right,
-        } => match b {
-            Expression::Compare {
-                comparison: other,
-                left: x,
-                right: y,
-            } => { same_comparison(*comparison, *other) && (same(left, x) && same(right, y)) }
-            _ => false,
-        },
-        Expression::IsNull { negated, operand } => match b {
-            Expression::IsNull {
-                negated: other,
-                operand: x,
-            } => same_flag(*negated, *other) && same(operand, x),
-            _ => false,
-        },
+        } => is_comparison(a, *comparison, left, right),
+        Expression::IsNull { negated, operand } => is_null_test(a, *negated, operand),
         Expression::Between {
             negated,
             operand,
             low,
             high,
-        } => match b {
-            Expression::Between {
-                negated: other,
-                operand: x,
-                low: y,
-                high: z,
-            } => {
-                same_flag(*negated, *other) && (same(operand, x) && (same(low, y) && same(high, z)))
-            }
-            _ => false,
-        },
+        } => is_range_test(a, *negated, operand, low, high),
         Expression::In {
             negated,
             operand,
             list,
-        } => match b {
-            Expression::In {
-                negated: other,
-                operand: x,
-                list: others,
-            } => {
-                same_flag(*negated, *other)
-                    && (same(operand, x) && same_listed(list.as_slice(), others.as_slice()))
-            }
-            _ => false,
-        },
+        } => is_list_test(a, *negated, operand, list.as_slice()),
     }
 }
 
@@ -283,7 +380,7 @@ fn same_listed(a: &[Expression], b: &[Expression]) -> bool
     true
 }
 
-// The last operand is the outermost, so the lists are compared from their ends.
+// The last operand is the outermost of the tree, and both lists are gone through from the first.
 #[cycle(sameness)]
 fn same_links(a: &[Link], b: &[Link]) -> bool
     ensures { result ≡ are_same_links (linked NoLinks (map view_link a.now)) (linked NoLinks (map view_link b.now)) }

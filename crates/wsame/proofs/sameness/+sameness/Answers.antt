@@ -1,6 +1,6 @@
 use Rattle.std.proofs.Common.{◌≡◌, ◌<◌, length, subst, map, refl, ◌∙◌, sym, ap}
-use Rattle.wsame.proofs.Equal.{and_first, and_second, same_calls, same_call_views, same_listed_views, same_from_front, listed_ends, links_end, keys_end, chain_same, in_same, partition_is, order_is}
-use Rattle.wquery.specs.Tree.{trees, views, keys, view_keys, view_window, view_call, view_link}
+use Rattle.wsame.proofs.Equal.{and_first, and_second, same_calls, call_same, call_view, same_listed_views, same_from_front, listed_ends, links_end, keys_end, chain_same, chain_view, list_same, list_view, partition_is, order_is}
+use Rattle.wquery.specs.Tree.{trees, view, views, keys, view_keys, view_window, view_call, view_link}
 use Rattle.wsame.specs.Sameness.{is_same, are_same, are_same_keys}
 use Rattle.wsame.proofs.sameness.+sameness.Goals as goal
 
@@ -22,10 +22,6 @@ same_call-returns-then-not-same_filter t c =
 
 pub same_links-links-init : goal.same_links-links-init
 same_links-links-init t c = (refl, same_from_front (map view_link c.args.a.now) (map view_link c.args.b.now))
-
-pub same-returns-in-Call-b : goal.same-returns-in-Call-b
-same-returns-in-Call-b t c =
-    c.same_call.ensures ∙ ap (λ x. is_same (view_call x) (view_call c.deref-in-Call-b.result.now)) c.deref.ensures ∙ ap (λ y. is_same (view_call c.in-Call.x.value) (view_call y)) c.deref-in-Call-b.ensures ∙ sym (same_call_views c.args.a.now c.args.b.now c.in-Call.x c.in-Call-b.y c.in-Call.is c.in-Call-b.is)
 
 pub same_arguments-returns-in-Listed-b-2 : goal.same_arguments-returns-in-Listed-b-2
 same_arguments-returns-in-Listed-b-2 t c =
@@ -55,13 +51,28 @@ pub same_keys-returns-then-place-b-2 : goal.same_keys-returns-then-place-b-2
 same_keys-returns-then-place-b-2 t c =
     sym (c.keys.invariant.1 ∙ keys_end c.args.a.now c.args.b.now c.keys.x-index c.keys-test.false (subst (λ n. n < length c.args.b.now) c.keys.invariant.0 c.if-place-b-2.true))
 
-pub same-returns-then-same : goal.same-returns-then-same
-same-returns-then-same t c =
-    chain_same c.args.a.now c.args.b.now c.in-Chain.kind c.in-Chain-b.other c.in-Chain.first c.in-Chain-b.x c.in-Chain.links c.in-Chain-b.others c.same_kind.result c.same-then-same_kind.result c.same_links.result c.deref-then-same_kind.result.now c.deref-then-same_kind-2.result.now c.as_slice.result.now c.as_slice-then-same.result.now c.in-Chain.is c.in-Chain-b.is c.same_kind.ensures c.if-same_kind.true c.deref-then-same_kind.ensures c.deref-then-same_kind-2.ensures c.same-then-same_kind.ensures c.if-same.true c.as_slice.ensures.value c.as_slice-then-same.ensures.value c.same_links.ensures
+pub is_call-returns-in-Call : goal.is_call-returns-in-Call
+is_call-returns-in-Call t c =
+    call_same c.args.e.now c.in-Call.other _ c.args.call.now _ c.in-Call.is c.deref.ensures c.same_call.ensures
 
-pub same-returns-then-same-5 : goal.same-returns-then-same-5
-same-returns-then-same-5 t c =
-    in_same c.args.a.now c.args.b.now c.in-In.negated c.in-In-b.other c.in-In.operand c.in-In-b.x c.in-In.list c.in-In-b.others c.same_flag-in-In-b.result c.same-then-same_flag-4.result c.same_listed.result c.deref-then-same_flag-4.result.now c.deref-then-same_flag-4-2.result.now c.as_slice-then-same-5.result.now c.as_slice-then-same-5-2.result.now c.in-In.is c.in-In-b.is c.same_flag-in-In-b.ensures c.if-same_flag-4.true c.deref-then-same_flag-4.ensures c.deref-then-same_flag-4-2.ensures c.same-then-same_flag-4.ensures c.if-same-5.true c.as_slice-then-same-5.ensures.value c.as_slice-then-same-5-2.ensures.value c.same_listed.ensures
+pub same-returns-in-Call : goal.same-returns-in-Call
+same-returns-in-Call t c = c.is_call.ensures ∙ ap (is_same (view c.args.a.now)) (sym (call_view c.args.b.now _ c.in-Call.call c.in-Call.is c.deref.ensures))
+
+pub is_chain-returns-then-same : goal.is_chain-returns-then-same
+is_chain-returns-then-same t c =
+    chain_same _ c.args.first.now _ _ c.args.kind c.in-Chain.x c.in-Chain.others _ c.args.links.now _ _ _ c.in-Chain.is c.deref.ensures c.as_slice.ensures.value c.same_kind.ensures c.if-same_kind.true c.same.ensures c.if-same.true c.same_links.ensures
+
+pub same-returns-in-Chain : goal.same-returns-in-Chain
+same-returns-in-Chain t c =
+    c.is_chain.ensures ∙ ap (is_same (view c.args.a.now)) (sym (chain_view c.args.b.now _ _ c.in-Chain.first c.in-Chain.links _ c.in-Chain.is c.deref-in-Chain.ensures c.as_slice.ensures.value))
+
+pub same-returns-in-In : goal.same-returns-in-In
+same-returns-in-In t c =
+    c.is_list_test.ensures ∙ ap (is_same (view c.args.a.now)) (sym (list_view c.args.b.now _ _ c.in-In.operand c.in-In.list _ c.in-In.is c.deref-in-In.ensures c.as_slice-in-In.ensures.value))
+
+pub is_list_test-returns-then-same : goal.is_list_test-returns-then-same
+is_list_test-returns-then-same t c =
+    list_same _ c.args.operand.now _ _ c.args.negated c.in-In.x c.in-In.others _ c.args.list.now _ _ _ c.in-In.is c.deref.ensures c.as_slice.ensures.value c.same_flag.ensures c.if-same_flag.true c.same.ensures c.if-same.true c.same_listed.ensures
 
 pub same_partition_as-returns : goal.same_partition_as-returns
 same_partition_as-returns t c =
