@@ -4,3 +4,4 @@ pub mod Sketch
 pub mod Places
 pub mod Same
 pub mod Alike
+pub mod Heads

@@ -3,6 +3,7 @@
 ghost use Rattle.std.specs.Prelude.{◌≡◌, map};
 ghost use Rattle.std.specs.Rc.{rc_str_bytes};
 ghost use Rattle.wquery.specs.Tree.{view, view_over, view_window, view_call, view_key, view_link, view_arguments, view_optional, view_optional_over, filter_of, reach_of, trees, views, keys, view_keys, own_window, linked, name_bytes, NoLinks};
+ghost use Rattle.wdistinct.specs.Heads.{headed, with_parts};
 ghost use Rattle.wdistinct.specs.Sketch.{marked, flagged, counted, named, bounded, framed, copied, sketched, sketched_trees, sketched_links, sketched_branch, sketched_branches, sketched_given, sketched_filter, sketched_reach, sketched_key, sketched_keys, sketch_of};
 
 use std::hash::{DefaultHasher, Hash, Hasher};
@@ -75,78 +76,101 @@ fn copy(state: &mut DefaultHasher, copy: &Option<RcStr>)
     }
 }
 
-#[cycle(sketching)]
+fn mark_count(state: &mut DefaultHasher, kind: u8, number: u128)
+    ensures { state.new ≡ counted number (marked kind state.old) }
+{
+    mark(state, kind);
+    count(state, number);
+}
+
+fn mark_flag(state: &mut DefaultHasher, kind: u8, yes: bool)
+    ensures { state.new ≡ flagged yes (marked kind state.old) }
+{
+    mark(state, kind);
+    flag(state, yes);
+}
+
+fn mark_name(state: &mut DefaultHasher, kind: u8, text: &str)
+    ensures { state.new ≡ named text.now (marked kind state.old) }
+{
+    mark(state, kind);
+    name(state, text);
+}
+
+fn mark_number(state: &mut DefaultHasher, kind: u8, number: u8)
+    ensures { state.new ≡ marked number (marked kind state.old) }
+{
+    mark(state, kind);
+    mark(state, number);
+}
+
+// What an expression says beside its parts.
 #[tactic(auto, unfolding(wquery::specs::Tree::view))]
-fn sketch_node(state: &mut DefaultHasher, e: &Expression)
-    ensures { state.new ≡ sketched (view e.now) state.old }
+fn sketch_head(state: &mut DefaultHasher, e: &Expression)
+    ensures { state.new ≡ headed (view e.now) state.old }
 {
     match e {
         Expression::Null => mark(state, 0),
-        Expression::Number(n) => {
-            mark(state, 1);
-            count(state, n.get());
+        Expression::Number(n) => mark_count(state, 1, n.get()),
+        Expression::Text(text) => mark_name(state, 2, text.as_str()),
+        Expression::Column(column) => mark_name(state, 3, column.name.as_str()),
+        Expression::Call(_) => {}
+        Expression::Not(_) => mark(state, 5),
+        Expression::Sign { minus, .. } => mark_flag(state, 6, *minus),
+        Expression::Chain { .. } => mark(state, 7),
+        Expression::Compare { comparison, .. } => {
+            mark_number(state, 8, comparison_number(*comparison));
         }
-        Expression::Text(text) => {
-            mark(state, 2);
-            name(state, text.as_str());
-        }
-        Expression::Column(column) => {
-            mark(state, 3);
-            name(state, column.name.as_str());
-        }
+        Expression::IsNull { negated, .. } => mark_flag(state, 9, *negated),
+        Expression::Between { negated, .. } => mark_flag(state, 10, *negated),
+        Expression::In { negated, .. } => mark_flag(state, 11, *negated),
+    }
+}
+
+// The parts of an expression, behind what it says beside them.
+#[cycle(sketching)]
+#[tactic(auto, unfolding(wquery::specs::Tree::view))]
+fn sketch_parts(state: &mut DefaultHasher, e: &Expression)
+    ensures { state.new ≡ with_parts (view e.now) state.old }
+{
+    match e {
+        Expression::Null | Expression::Number(_) | Expression::Text(_) | Expression::Column(_) => {}
         Expression::Call(call) => sketch_call(state, call),
-        Expression::Not(operand) => {
-            mark(state, 5);
-            sketch_node(state, operand);
-        }
-        Expression::Sign { minus, operand } => {
-            mark(state, 6);
-            flag(state, *minus);
-            sketch_node(state, operand);
-        }
+        Expression::Not(operand) => sketch_node(state, operand),
+        Expression::Sign { operand, .. } => sketch_node(state, operand),
         Expression::Chain { first, links, .. } => {
-            mark(state, 7);
             sketch_node(state, first);
             sketch_links(state, links.as_slice());
         }
-        Expression::Compare {
-            comparison,
-            left,
-            right,
-        } => {
-            mark(state, 8);
-            mark(state, comparison_number(*comparison));
+        Expression::Compare { left, right, .. } => {
             sketch_node(state, left);
             sketch_node(state, right);
         }
-        Expression::IsNull { negated, operand } => {
-            mark(state, 9);
-            flag(state, *negated);
-            sketch_node(state, operand);
-        }
+        Expression::IsNull { operand, .. } => sketch_node(state, operand),
         Expression::Between {
-            negated,
             operand,
             low,
             high,
+            ..
         } => {
-            mark(state, 10);
-            flag(state, *negated);
             sketch_node(state, operand);
             sketch_node(state, low);
             sketch_node(state, high);
         }
-        Expression::In {
-            negated,
-            operand,
-            list,
-        } => {
-            mark(state, 11);
-            flag(state, *negated);
+        Expression::In { operand, list, .. } => {
             sketch_node(state, operand);
             sketch_listed(state, list.as_slice());
         }
     }
+}
+
+#[cycle(sketching)]
+#[tactic(auto, using(crate::proofs::Sketched::headed_parts))]
+fn sketch_node(state: &mut DefaultHasher, e: &Expression)
+    ensures { state.new ≡ sketched (view e.now) state.old }
+{
+    sketch_head(state, e);
+    sketch_parts(state, e);
 }
 
 #[cycle(sketching)]
