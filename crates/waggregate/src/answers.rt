@@ -6,6 +6,7 @@ ghost use Rattle.waggregate.specs.Aggregating.{sum_answer};
 ghost use Rattle.waggregate.specs.Framing.{told_or_out_of_range};
 
 use wrows::AnswerFault;
+use wslide::PartialSum;
 use wvalues::{Value, Whole};
 
 /// A count as a value.
@@ -19,10 +20,10 @@ pub(crate) fn count_value(count: u64) -> Value
 }
 
 /// A sum as a value: null where no value was added, `OutOfRange` where it is so.
-pub(crate) fn sum_value(sum: Option<i128>) -> Result<Value, AnswerFault>
+pub(crate) fn sum_value(sum: PartialSum) -> Result<Value, AnswerFault>
     ensures { Gives meaning result (told_or_out_of_range (sum_answer sum)) }
 {
-    match sum {
+    match sum.get() {
         None => Ok(Value::Null),
         Some(sum) => match Whole::new(sum) {
             Some(whole) => Ok(Value::Int(whole)),

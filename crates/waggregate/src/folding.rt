@@ -21,8 +21,8 @@ use wframe::{Partitions, frames_are_rows, stable_sorts_agree};
 use wplan::AggregateFunction;
 use wrows::AnswerFault;
 use wslide::{
-    Count, CountRows, Fold, Greatest, Least, Meter, Sum, counts_are_exact, picked_rows_feed_alike,
-    places_are_least, push_window_folds, see_ranges, sums_are_exact,
+    Count, CountRows, Fold, Greatest, Least, Meter, PartialSum, Sum, counts_are_exact,
+    picked_rows_feed_alike, places_are_least, push_window_folds, see_ranges, sums_are_exact,
 };
 use wvalues::Value;
 
@@ -70,7 +70,7 @@ impl<'a> ToldFold for Count<'a> {
 impl<'a> ToldFold for Sum<'a> {
     ghost told = { λ _ sum. sum_answer sum };
 
-    fn value(&self, part: Option<i128>) -> Result<Value, AnswerFault> {
+    fn value(&self, part: PartialSum) -> Result<Value, AnswerFault> {
         sum_value(part)
     }
 }

@@ -1,6 +1,5 @@
 //! Aggregates of some rows.
-ghost use Rattle.std.specs.Prelude.{◌≡◌, ◌<◌, ◌^◌, ◌+ℤ◌, All, IfSome, None, Ok, length, map, not, option_map, slice_index_or};
-ghost use Rattle.std.specs.Int.{int_wrap, w128};
+ghost use Rattle.std.specs.Prelude.{◌≡◌, ◌<◌, ◌^◌, All, IfSome, None, Ok, length, map, not, option_map, slice_index_or};
 ghost use Rattle.std.specs.Option.{ForSome};
 ghost use Rattle.wvalues.specs.Meaning.{Null, meaning};
 ghost use Rattle.wvalues.specs.Order.{key_cmp};
@@ -8,7 +7,7 @@ ghost use Rattle.wframe.specs.Sorting.{sorted};
 ghost use Rattle.wslide.specs.Aggregates.{IsInRange, by_value, by_value_descending, count_of, count_of_rows, fed, is_value, passes, sum_of, sum_or_none};
 ghost use Rattle.wslide.specs.Laws.{rows_fold};
 ghost use Rattle.wslide.specs.Leasts.{IsPlace, leasts_joined, place_at};
-ghost use Rattle.wslide.specs.Sums.{IsSum, sum_part, sums_joined};
+ghost use Rattle.wslide.specs.Sums.{IsSum, sum_part};
 ghost use Rattle.wrows.specs.Outcomes.{Gives};
 ghost use Rattle.waggregate.specs.Feeding.{feed_in};
 ghost use Rattle.waggregate.specs.Framing.{told_or_out_of_range};
@@ -19,8 +18,8 @@ use crate::feed::Feed;
 use wframe::stable_sorts_agree;
 use wplan::AggregateFunction;
 use wrows::AnswerFault;
-use wslide::{places_are_least, sums_are_exact};
-use wvalues::{SortKey, Value, compare};
+use wslide::{PartialSum, places_are_least, sums_are_exact};
+use wvalues::{SortKey, Value, Whole, compare};
 
 /// Numbers by size, texts by bytes.
 const BY_VALUE: SortKey = SortKey {
@@ -59,16 +58,16 @@ fn is_null(values: &[Value], row: usize) -> bool
 }
 
 // What the value of a row adds to a sum.
-fn number_at(values: &[Value], row: usize) -> Option<i128>
+fn number_at(values: &[Value], row: usize) -> PartialSum
     requires { row < length values.now }
     ensures value { result ≡ sum_part (slice_index_or (map meaning values.now) row Null) }
     ensures part { IsSum result }
     ensures in_range { IsInRange (slice_index_or (map meaning values.now) row Null) }
 {
     match &values[row] {
-        Value::Int(number) => Some(number.get()),
-        Value::Text(_) => Some(0),
-        Value::Null => None,
+        Value::Int(number) => PartialSum::of(*number),
+        Value::Text(_) => PartialSum::of(Whole::from(0)),
+        Value::Null => PartialSum::none(),
     }
 }
 
@@ -84,7 +83,7 @@ fn feeds_value(feed: &Feed, row: usize) -> bool
 }
 
 // What a row adds to a sum.
-fn number_fed(feed: &Feed, row: usize) -> Option<i128>
+fn number_fed(feed: &Feed, row: usize) -> PartialSum
     requires { row < length feed.now.values.items }
     ensures value { result ≡ sum_part (fed (feed_in feed.now).values (feed_in feed.now).filter row) }
     ensures part { IsSum result }
@@ -93,7 +92,7 @@ fn number_fed(feed: &Feed, row: usize) -> Option<i128>
     if passes(&feed.filter, row) {
         return number_at(&feed.values, row);
     }
-    None
+    PartialSum::none()
 }
 
 // The row, if it feeds a value.
@@ -136,35 +135,17 @@ fn values_fed(feed: &Feed, rows: &[usize]) -> u64
     count
 }
 
-// A sum that wraps.
-fn wrapped(left: i128, right: i128) -> i128
-    ensures { result ≡ int_wrap w128 (left +ℤ right) }
-{
-    left.wrapping_add(right)
-}
-
-// Two parts of a sum, which wraps.
-fn added(left: Option<i128>, right: Option<i128>) -> Option<i128>
-    ensures { result ≡ sums_joined left right }
-{
-    match (left, right) {
-        (Some(a), Some(b)) => Some(wrapped(a, b)),
-        (Some(_), None) => left,
-        (None, _) => right,
-    }
-}
-
 // The sum of what some rows feed, none where no value is fed. Fewer than 2^31 numbers below 2^95 do not wrap.
-fn sum_fed(feed: &Feed, rows: &[usize]) -> Option<i128>
+fn sum_fed(feed: &Feed, rows: &[usize]) -> PartialSum
     requires below { All (λ i. i < length feed.now.values.items) rows.now }
     requires few { length rows.now < 2 ^ 31 }
     ensures { result ≡ sum_or_none (fed (feed_in feed.now).values (feed_in feed.now).filter) rows.now }
 {
     // A law, which does nothing.
     sums_are_exact();
-    let mut sum = None;
+    let mut sum = PartialSum::none();
     for row in rows {
-        sum = added(sum, number_fed(feed, *row));
+        sum = sum.joined(number_fed(feed, *row));
     }
     sum
 }

@@ -89,7 +89,7 @@ fn sum_of_folds(
         }
         Aggregate::Sum => {
             let sums = folds(alloc, &Sum { values, filter }, rows, partitions, meter)?;
-            let numbers = sums.iter().map(|sum| sum.unwrap_or(0));
+            let numbers = sums.iter().map(|sum| sum.get().unwrap_or(0));
             Ok(numbers.fold(0, i128::wrapping_add))
         }
         Aggregate::Least => {

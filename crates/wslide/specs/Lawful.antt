@@ -1,18 +1,17 @@
 -- The joins of the four folds obey the laws of a fold.
-use Rattle.std.specs.Prelude.{◌≡◌, ℕ, ℤ, ◌+ℤ◌, ◌<◌, List, Bool, true, false, Option, Some, None, length, if◌then◌else◌, refl}
-use Rattle.std.specs.Int.{int_wrap, w128}
+use Rattle.std.specs.Prelude.{◌≡◌, ℕ, ℤ, pos, negsuc, neg_ℤ, ◌+ℤ◌, ◌-ℤ◌, ◌*ℤ◌, ◌<◌, ◌^◌, int_lt, List, Bool, true, false, Option, Some, None, length, if◌then◌else◌, refl}
 use Rattle.std.specs.Ordering.{is_lt, is_gt, ordering_reverse}
 use Rattle.std.specs.Cmp.{IsTotalOrder, upto, alike_right}
 use Rattle.std.specs.declared.cmp.Ordering.{Ordering}
 use Rattle.std.specs.declared.cmp.Ordering.TheVariants.{Less, Equal, Greater}
 use Rattle.std.proofs.Common.{arith, sym, ap, ◌∙◌}
-use Rattle.std.proofs.lemmas.Int.{ints, SFits-int_wrap, int_wrap-add_left, int_wrap-add_right}
+use Rattle.std.proofs.lemmas.Int.{ints}
 use Rattle.wvalues.specs.Meaning.{Meaning}
 use Rattle.wvalues.specs.OrderLaws.{key_total}
 use Rattle.wslide.specs.Aggregates.{by_value, by_value_descending}
 use Rattle.wslide.specs.Laws.{FoldLaws}
 use Rattle.wslide.specs.Counts.{IsCount, counts_joined}
-use Rattle.wslide.specs.Sums.{IsSum, sums_joined}
+use Rattle.wslide.specs.Sums.{IsShort, IsSum, wrapped, sums_joined}
 use Rattle.wslide.specs.Leasts.{IsPlace, value_at, is_less_right, leasts_joined}
 
 pub count_laws : FoldLaws IsCount 0 counts_joined
@@ -24,19 +23,36 @@ count_laws = record {
   assoc = λ x y z hx hy hz. omega arith;
 }
 
-add_assoc : (x y z : ℤ) → (x +ℤ y) +ℤ z ≡ x +ℤ (y +ℤ z)
-add_assoc x y z = omega (arith, ints)
+-- to wrap moves a number by 2^127, or not
+wrapped_by : (z : ℤ) → (k : ℤ) × (wrapped z ≡ z +ℤ k *ℤ pos (2 ^ 127))
+wrapped_by z = by (int_lt z (neg_ℤ (pos (2 ^ 126)))) (int_lt z (pos (2 ^ 126)))
+  where
+    by : (b c : Bool) → (k : ℤ) × ((if b then z +ℤ pos (2 ^ 127) else (if c then z else z -ℤ pos (2 ^ 127))) ≡ z +ℤ k *ℤ pos (2 ^ 127))
+    by true c = (pos 1, omega (arith, ints))
+    by false true = (pos 0, omega (arith, ints))
+    by false false = (negsuc 0, omega (arith, ints))
 
-sum_assoc : (x y z : Option ℤ) → sums_joined (sums_joined x y) z ≡ sums_joined x (sums_joined y z)
-sum_assoc None y z = refl
-sum_assoc (Some x) None z = refl
-sum_assoc (Some x) (Some y) None = refl
-sum_assoc (Some x) (Some y) (Some z) = ap Some (int_wrap-add_left w128 (x +ℤ y) z ∙ ap (int_wrap w128) (add_assoc x y z) ∙ sym (int_wrap-add_right w128 x (y +ℤ z)))
+wrapped_short : (x y : ℤ) → IsShort x → IsShort y → IsShort (wrapped (x +ℤ y))
+wrapped_short x y hx hy = grind (arith, ints)
+
+wrapped_assoc : (x y z : ℤ) → IsShort x → IsShort y → IsShort z → wrapped (wrapped (x +ℤ y) +ℤ z) ≡ wrapped (x +ℤ wrapped (y +ℤ z))
+wrapped_assoc x y z hx hy hz =
+    let left = wrapped_short x y hx hy in
+    let right = wrapped_short y z hy hz in
+    let both = wrapped_short (wrapped (x +ℤ y)) z left hz in
+    let other = wrapped_short x (wrapped (y +ℤ z)) hx right in
+    omega (arith, ints, (wrapped_by (x +ℤ y)).1, (wrapped_by (y +ℤ z)).1, (wrapped_by (wrapped (x +ℤ y) +ℤ z)).1, (wrapped_by (x +ℤ wrapped (y +ℤ z))).1, both, other)
+
+sum_assoc : (x y z : Option ℤ) → IsSum x → IsSum y → IsSum z → sums_joined (sums_joined x y) z ≡ sums_joined x (sums_joined y z)
+sum_assoc None y z hx hy hz = refl
+sum_assoc (Some x) None z hx hy hz = refl
+sum_assoc (Some x) (Some y) None hx hy hz = refl
+sum_assoc (Some x) (Some y) (Some z) hx hy hz = ap Some (wrapped_assoc x y z hx hy hz)
 
 sum_closed : (x y : Option ℤ) → IsSum x → IsSum y → IsSum (sums_joined x y)
 sum_closed None y hx hy = hy
 sum_closed (Some x) None hx hy = hx
-sum_closed (Some x) (Some y) hx hy = SFits-int_wrap w128 (x +ℤ y)
+sum_closed (Some x) (Some y) hx hy = wrapped_short x y hx hy
 
 sum_right : (x : Option ℤ) → sums_joined x None ≡ x
 sum_right None = refl
@@ -48,7 +64,7 @@ sum_laws = record {
   closed = sum_closed;
   left_neutral = λ x hx. refl;
   right_neutral = λ x hx. sum_right x;
-  assoc = λ x y z hx hy hz. sum_assoc x y z;
+  assoc = sum_assoc;
 }
 
 chosen : (values : List Meaning) (i j : ℕ) (b : Bool) → i < length values → j < length values → IsPlace values (if b then Some j else Some i)

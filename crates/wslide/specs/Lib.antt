@@ -4,6 +4,7 @@ pub mod Height
 pub mod Aggregates
 pub mod Counts
 pub mod Sums
+pub mod PartialSums
 pub mod Leasts
 pub mod Lawful
 pub mod Rows

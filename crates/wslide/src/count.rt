@@ -6,6 +6,7 @@ ghost use Rattle.wslide.specs.Aggregates.{is_value, tests};
 ghost use Rattle.wslide.specs.Counts.{IsCount, counts_joined, count_at};
 ghost use Rattle.wslide.specs.Lawful.{count_laws};
 
+use crate::filter::passes;
 use crate::fold::Fold;
 use crate::meter::Meter;
 use wvalues::Value;
@@ -72,10 +73,7 @@ impl<'a> Fold for CountRows<'a> {
     }
 
     fn of(&self, row: usize) -> u64 {
-        match self.filter {
-            None => 1,
-            Some(filter) => { if filter[row] { 1 } else { 0 } }
-        }
+        if passes(self.filter, row) { 1 } else { 0 }
     }
 
     fn join(&self, meter: &mut Meter, left: u64, right: u64) -> u64 {
@@ -122,15 +120,10 @@ impl<'a> Fold for Count<'a> {
     }
 
     fn of(&self, row: usize) -> u64 {
-        match self.filter {
-            None => value_count(self.values, row),
-            Some(filter) => {
-                if filter[row] {
-                    value_count(self.values, row)
-                } else {
-                    0
-                }
-            }
+        if passes(self.filter, row) {
+            value_count(self.values, row)
+        } else {
+            0
         }
     }
 

@@ -5,6 +5,7 @@ ghost use Rattle.wslide.specs.Aggregates.{by_value, tests};
 ghost use Rattle.wslide.specs.Leasts.{IsPlace, leasts_joined, place_at};
 ghost use Rattle.wslide.specs.Lawful.{least_laws, by_value_total};
 
+use crate::filter::passes;
 use crate::fold::Fold;
 use crate::meter::Meter;
 use crate::places::{first_place, value_place};
@@ -57,15 +58,10 @@ impl<'a> Fold for Least<'a> {
     }
 
     fn of(&self, row: usize) -> Option<usize> {
-        match self.filter {
-            None => value_place(self.values, row),
-            Some(filter) => {
-                if filter[row] {
-                    value_place(self.values, row)
-                } else {
-                    None
-                }
-            }
+        if passes(self.filter, row) {
+            value_place(self.values, row)
+        } else {
+            None
         }
     }
 

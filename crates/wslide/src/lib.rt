@@ -11,12 +11,14 @@
 
 mod count;
 mod excluded;
+mod filter;
 mod fold;
 mod frames;
 mod greatest;
 mod laws;
 mod least;
 mod meter;
+mod partial_sum;
 mod places;
 mod plain;
 mod queue;
@@ -36,6 +38,7 @@ pub use laws::{
 };
 pub use least::Least;
 pub use meter::Meter;
+pub use partial_sum::PartialSum;
 pub use plain::plain_folds;
 pub use queue::FoldQueue;
 pub use ranges::see_ranges;

@@ -1,5 +1,4 @@
-ghost use Rattle.std.specs.Prelude.{◌≡◌, ◌<◌, ◌+ℤ◌, None, FitsSigned, length, slice_index_or};
-ghost use Rattle.std.specs.Int.{int_wrap, w128};
+ghost use Rattle.std.specs.Prelude.{◌≡◌, ◌<◌, None, length, slice_index_or};
 ghost use Rattle.std.specs.Option.{ForSome};
 ghost use Rattle.wvalues.specs.Meaning.{Null};
 ghost use Rattle.wframe.specs.Cells.{meanings};
@@ -7,14 +6,15 @@ ghost use Rattle.wslide.specs.Aggregates.{fed, tests};
 ghost use Rattle.wslide.specs.Sums.{IsSum, sums_joined, sum_part};
 ghost use Rattle.wslide.specs.Lawful.{sum_laws};
 
+use crate::filter::passes;
 use crate::fold::Fold;
 use crate::meter::Meter;
-use wvalues::Value;
+use crate::partial_sum::PartialSum;
+use wvalues::{Value, Whole};
 
 /// Adds up the numbers of the rows whose filter is true, without nulls.
 ///
-/// A part is a sum of 128 bits that wraps, or `None` where no row feeds a number. Fewer than 2^31 numbers below 2^95
-/// stay below 2^126, so it is their sum over the unbounded whole numbers.
+/// A part is their sum, or none where no row feeds a number. Of fewer than 2^31 rows it is exact.
 #[derive(Clone, Copy, Debug)]
 pub struct Sum<'a> {
     /// The column's values in the partition's order.
@@ -25,29 +25,21 @@ pub struct Sum<'a> {
 }
 
 // What the value of a row adds.
-fn number_at(values: &[&Value], row: usize) -> Option<i128>
+fn number_at(values: &[&Value], row: usize) -> PartialSum
     requires { row < length values.now }
     ensures value { result ≡ sum_part (slice_index_or (meanings values.now) row Null) }
     ensures part { IsSum result }
 {
     let value = values[row];
     match value {
-        Value::Int(number) => Some(number.get()),
-        Value::Text(_) => Some(0),
-        Value::Null => None,
+        Value::Int(number) => PartialSum::of(*number),
+        Value::Text(_) => PartialSum::of(Whole::from(0)),
+        Value::Null => PartialSum::none(),
     }
 }
 
-// A sum that wraps.
-fn added(left: i128, right: i128) -> i128
-    ensures value { result ≡ int_wrap w128 (left +ℤ right) }
-    ensures fits { FitsSigned w128 result }
-{
-    left.wrapping_add(right)
-}
-
 impl<'a> Fold for Sum<'a> {
-    type Part = Option<i128>;
+    type Part = PartialSum;
 
     type Meter = Meter;
 
@@ -69,29 +61,20 @@ impl<'a> Fold for Sum<'a> {
         meter.joins()
     }
 
-    fn unit(&self) -> Option<i128> {
-        None
+    fn unit(&self) -> PartialSum {
+        PartialSum::none()
     }
 
-    fn of(&self, row: usize) -> Option<i128> {
-        match self.filter {
-            None => number_at(self.values, row),
-            Some(filter) => {
-                if filter[row] {
-                    number_at(self.values, row)
-                } else {
-                    None
-                }
-            }
+    fn of(&self, row: usize) -> PartialSum {
+        if passes(self.filter, row) {
+            number_at(self.values, row)
+        } else {
+            PartialSum::none()
         }
     }
 
-    fn join(&self, meter: &mut Meter, left: Option<i128>, right: Option<i128>) -> Option<i128> {
+    fn join(&self, meter: &mut Meter, left: PartialSum, right: PartialSum) -> PartialSum {
         meter.tick();
-        match (left, right) {
-            (Some(a), Some(b)) => Some(added(a, b)),
-            (Some(_), None) => left,
-            (None, _) => right,
-        }
+        left.joined(right)
     }
 }
