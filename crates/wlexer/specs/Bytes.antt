@@ -6,6 +6,10 @@ use Rattle.wlexer.specs.declared.bytes.Stretch.TheVariants as stretches
 use Rattle.wlexer.specs.declared.bytes.TokenKind.{TokenKind}
 use Rattle.wlexer.specs.declared.bytes.TokenKind.TheVariants as kinds
 
+-- the bytes of ASCII are below this
+abbrev pub ascii_limit : ℕ
+ascii_limit = 128
+
 -- `"`
 abbrev pub double_quote : ℕ
 double_quote = 34

@@ -4,6 +4,7 @@ use Rattle.wlexer.specs.declared.fault.LexFault.{LexFault}
 use Rattle.wlexer.specs.declared.fault.LexFault.TheVariants as faults
 use Rattle.wlexer.specs.declared.fault.Miss.{Miss}
 use Rattle.wlexer.specs.declared.fault.Miss.TheVariants as misses
+use Rattle.wlexer.specs.Bytes.{ascii_limit}
 use Rattle.wlexer.specs.Lexing.{HasFaultAt}
 use Rattle.wlexer.specs.Spelling.{Quoted}
 
@@ -19,7 +20,7 @@ Misses misses.NoMemory P = Unit {0}
 -- no ASCII byte stands at the front
 abbrev pub BeginsBeyondAscii : List ℕ → Type 0
 BeginsBeyondAscii [] = Unit {0}
-BeginsBeyondAscii (b ∷ rest) = 128 ≤ b
+BeginsBeyondAscii (b ∷ rest) = ascii_limit ≤ b
 
 -- a fault that reading the tokens can meet
 abbrev pub IsLexicalFault : List ℕ → LexFault → Type 0

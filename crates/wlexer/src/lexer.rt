@@ -56,19 +56,13 @@ fn lex_text(alloc: Global, text: &str) -> Result<Vec<Token>, LexFault>
         if here.is_empty() {
             return Ok(tokens);
         }
+        let from = text.len() - here.len();
         match token(alloc, here) {
             Err(Miss::NoMemory) => return Err(LexFault::NoMemory),
-            Err(Miss::Nothing) => {
-                return Err(LexFault::At {
-                    place: text.len() - here.len(),
-                });
-            }
+            Err(Miss::Nothing) => return Err(LexFault::At { place: from }),
             Ok((lexeme, after)) => {
-                tokens.push(Token {
-                    lexeme,
-                    from: text.len() - here.len(),
-                    to: text.len() - after.len(),
-                })?;
+                let to = text.len() - after.len();
+                tokens.push(Token { lexeme, from, to })?;
                 left = after;
             }
         }

@@ -3,7 +3,7 @@
 ghost use Rattle.std.specs.Prelude.{◌≡◌, ◌<◌, ◌≤◌, ◌∷◌, length, IfOk, IfErr, IfSome, IfNone, MatchBool, MatchOption};
 ghost use Rattle.std.specs.List.{prefix_len};
 ghost use Rattle.std.specs.String.{string_bytes};
-ghost use Rattle.wlexer.specs.Bytes.{continues, spoils_number};
+ghost use Rattle.wlexer.specs.Bytes.{ascii_limit, continues, spoils_number};
 ghost use Rattle.wlexer.specs.Reading.{BeginsBeyondAscii, IsOpen, Misses};
 ghost use Rattle.wlexer.specs.Spelling.{front, behind, StopsBefore, Quoted};
 
@@ -13,7 +13,7 @@ use std::alloc::Global;
 
 /// The first byte, where it is ASCII, and what follows it.
 pub fn first_ascii(text: &str) -> Option<(u8, &str)>
-    ensures { MatchOption result (BeginsBeyondAscii text.now) (λ x. (text.now ≡ x.0 ∷ x.1.now) × (x.0 < 128)) }
+    ensures { MatchOption result (BeginsBeyondAscii text.now) (λ x. (text.now ≡ x.0 ∷ x.1.now) × (x.0 < ascii_limit)) }
 {
     let first = *text.as_bytes().first()?;
     if !first.is_ascii() {
@@ -51,7 +51,7 @@ pub fn ends_number(text: &str) -> bool
 
 /// What stands in quotes, behind the first one, and what follows the last. A quote inside is written twice.
 pub fn unquoted(alloc: Global, quote: char, text: &str) -> Result<(String, &str), Miss>
-    requires { quote < 128 }
+    requires { quote < ascii_limit }
     ensures found { IfOk result (λ x. Quoted quote text.now (string_bytes x.0) x.1.now) }
     ensures none { IfErr result (λ e. Misses e (IsOpen quote text.now)) }
 {

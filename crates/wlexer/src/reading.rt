@@ -1,10 +1,10 @@
 //! Reads one token from the front of a text.
 
-ghost use Rattle.std.specs.Prelude.{◌≡◌, ℕ, ◌<◌, ◌≤◌, ◌^◌, List, ◌∷◌, Some, IfOk, IfErr, MatchOption};
+ghost use Rattle.std.specs.Prelude.{◌≡◌, ℕ, ◌<◌, ◌≤◌, List, ◌∷◌, Some, IfOk, IfErr, MatchOption};
 ghost use Rattle.wlexer.specs.declared.bytes.TokenKind.TheVariants as kinds;
 ghost use Rattle.wlexer.specs.Bytes.{apostrophe, double_quote, kind_of};
 ghost use Rattle.wlexer.specs.Reading.{Misses};
-ghost use Rattle.wlexer.specs.Spelling.{IsStuck, number_of, Spelled};
+ghost use Rattle.wlexer.specs.Spelling.{IsStuck, number_limit, number_of, Spelled};
 ghost use Rattle.wlexer.specs.Symbols.{symbol_of_two, IsNoPair};
 ghost use Rattle.wlexer.specs.Token.{lexeme_meaning};
 
@@ -64,7 +64,7 @@ fn quoted_text(alloc: Global, text: &str) -> Result<(Lexeme, &str), Miss>
 
 /// The number that digits spell, where it is small enough.
 fn number_of(digits: &[u8]) -> Option<Number>
-    ensures { MatchOption result (2 ^ 95 ≤ number_of digits.now) (λ n. (n ≡ number_of digits.now) × (n < 2 ^ 95)) }
+    ensures { MatchOption result (number_limit ≤ number_of digits.now) (λ n. (n ≡ number_of digits.now) × (n < number_limit)) }
 {
     let mut number: u128 = 0;
     'digits: for digit in digits {

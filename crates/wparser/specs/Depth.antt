@@ -3,6 +3,10 @@ use Rattle.std.specs.Prelude.{ℕ, suc, max, List, [], ◌∷◌, Option, Some, 
 use Rattle.wquery.specs.QueryTree.{QueryTree, SourceTree, ItemTree, EntryTree, Clauses, Selected, FromTable, FromQuery, AllColumns, Computed}
 use Rattle.wquery.specs.Tree.{Tree, Trees, Links, Given, Filter, Reach, Keys, NullWord, Numeral, Quoted, Field, Invoked, Negated, Signed, Joined, Compared, NullTest, Within, Among, NoTrees, MoreTrees, NoLinks, Further, Everything, These, Unfiltered, FilteredBy, ItsGroup, ThatWindow, OwnWindow, NoKeys, MoreKeys, keys, own_window}
 
+-- the most that a level of nesting adds to a height
+abbrev pub level_height : ℕ
+level_height = 8
+
 abbrev mutual
   -- the most expressions that lie one in another, the outermost and the innermost counted
   pub height : Tree → ℕ

@@ -2,12 +2,12 @@
 
 ghost use Rattle.std.specs.Prelude.{◌≡◌, ℕ, ◌≤◌, ◌+◌, ◌*◌};
 ghost use Rattle.wquery.specs.Tree.{Tree};
-ghost use Rattle.wparser.specs.Depth.{height, query_height};
+ghost use Rattle.wparser.specs.Depth.{height, level_height, query_height};
 ghost use Rattle.wparser.specs.Grammar.{condition};
 ghost use Rattle.wquery.specs.Lefts.{IsLeft, IsQueryLeft};
 ghost use Rattle.wquery.specs.QueryTree.{QueryTree};
 ghost use Rattle.wparser.specs.Notation.{Tokens};
-ghost use Rattle.wparser.specs.Queries.{Spells};
+ghost use Rattle.wparser.specs.Queries.{Spells, most_nesting};
 
 /// No list of tokens spells two queries.
 pub fn one_query()
@@ -23,6 +23,6 @@ pub fn no_chain_first()
 /// A walk over a condition goes at most eight deep for each level of nesting, however long its chains are, and a walk over
 /// a whole query, its derived tables with it, one deeper.
 pub fn bounded_height()
-    ensures conditions { (depth : ℕ) (t : Tree) (tokens rest : Tokens) → condition depth t tokens rest → height t ≤ 8 * (depth + 1) }
-    ensures queries { (q : QueryTree) (tokens : Tokens) → Spells q tokens → query_height q ≤ 8 * 65 + 1 }
+    ensures conditions { (depth : ℕ) (t : Tree) (tokens rest : Tokens) → condition depth t tokens rest → height t ≤ level_height * (depth + 1) }
+    ensures queries { (q : QueryTree) (tokens : Tokens) → Spells q tokens → query_height q ≤ level_height * (most_nesting + 1) + 1 }
 {}

@@ -8,8 +8,8 @@ pub returns-then-is_empty-clause-found : goal.returns-then-is_empty-clause-found
 returns-then-is_empty-clause-found c =
     all_tokens c.args.text.now c.tokens.left.now c.behind_separators-here.result.now c.tokens.tokens.items c.tokens.invariant.so_far c.behind_separators-here.ensures (eqb-true _ 0 (sym c.if-is_empty.ensures))
 
-pub overflow_sub-result : goal.overflow_sub-result
-overflow_sub-result c =
+pub overflow_sub-from : goal.overflow_sub-from
+overflow_sub-from c =
     let shorter = separates_shorter c.behind_separators-here.ensures in
     omega arith
 
@@ -26,13 +26,8 @@ returns-in-Err-Nothing-clause-fault c =
       stuck = rw c.in-Err-Nothing.field-0-is at c.in-Err-Nothing.ensures.none;
     }
 
-pub overflow_sub-text : goal.overflow_sub-text
-overflow_sub-text c =
-    let shorter = separates_shorter c.behind_separators-here.ensures in
-    omega arith
-
-pub overflow_sub-text-in-Ok : goal.overflow_sub-text-in-Ok
-overflow_sub-text-in-Ok c =
+pub overflow_sub-to : goal.overflow_sub-to
+overflow_sub-to c =
     let shorter = separates_shorter c.behind_separators-here.ensures in
     let less = spelled_shorter c.in-Ok.ensures.found in
     omega arith
