@@ -16,3 +16,4 @@ pub mod JudgementFacts
 pub mod OnLiterals
 pub mod TableFacts
 pub mod Worked
+mod TextFacts

@@ -1,7 +1,7 @@
 //! A cell, read by what its column holds.
 ghost use Rattle.std.specs.Prelude.{◌≡◌};
 ghost use Rattle.wvalues.specs.Meaning.{meaning};
-ghost use Rattle.wsegment.specs.Cells.{cell_of};
+ghost use Rattle.wsegment.specs.Cells.{cell_of, number_cell, typed};
 ghost use Rattle.wsegment.specs.Integer.{integer_of};
 ghost use Rattle.wsegment.specs.Outcome.{Gives};
 
@@ -13,10 +13,37 @@ use std::str;
 use wvalues::{Value, Whole};
 
 // The 64-bit number that a text spells.
+#[tactic(auto, using(crate::proofs::IntegerFacts::parsed))]
 fn integer(text: &str) -> Option<i64>
     ensures { result ≡ integer_of text.now }
 {
     text.parse::<i64>().ok()
+}
+
+// What a text says in a column of numbers.
+fn number(row: u32, text: &str) -> Result<Value, SegmentFault>
+    ensures { Gives meaning result (number_cell row (integer_of text.now)) }
+{
+    match integer(text) {
+        Some(number) => Ok(Value::Int(Whole::from(number))),
+        None => Err(SegmentFault::NotInteger { row }),
+    }
+}
+
+// What a text that is not empty says, by what its column holds.
+fn typed(
+    alloc: Global,
+    row: u32,
+    kind: Kind,
+    text: &str,
+    texts: &mut Texts,
+) -> Result<Value, SegmentFault>
+    ensures { Gives meaning result (typed row kind text.now) }
+{
+    match kind {
+        Kind::Text => Ok(Value::Text(texts.shared(alloc, text)?)),
+        Kind::Integer => number(row, text),
+    }
 }
 
 /// What a field of a row holds. A text that was read lately is shared.
@@ -36,11 +63,5 @@ pub(crate) fn cell(
     if text.is_empty() {
         return Ok(Value::Null);
     }
-    match kind {
-        Kind::Text => Ok(Value::Text(texts.shared(alloc, text)?)),
-        Kind::Integer => match integer(text) {
-            Some(number) => Ok(Value::Int(Whole::from(number))),
-            None => Err(SegmentFault::NotInteger { row }),
-        },
-    }
+    typed(alloc, row, kind, text, texts)
 }

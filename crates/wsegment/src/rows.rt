@@ -1,5 +1,5 @@
 //! The rows below a header, laid out one after another.
-ghost use Rattle.std.specs.Prelude.{◌≡◌, ◌*◌, ◌+◌, ◌<◌, All, Ok, OnOk, IfOk, IfErr, length, map, take, drop};
+ghost use Rattle.std.specs.Prelude.{◌≡◌, ◌≢◌, true, false, ◌*◌, ◌+◌, ◌<◌, All, Ok, OnOk, IfOk, IfErr, length, map, take, drop};
 ghost use Rattle.csv.specs.Records.{fields_of};
 ghost use Rattle.wvalues.specs.Meaning.{meaning};
 ghost use Rattle.wsegment.specs.Cells.{row_of, rows_from};
@@ -68,6 +68,14 @@ fn lay_row(fields: &[usize], found: &[Value], cells: &mut Vec<Value>) -> Result<
     Ok(())
 }
 
+// Whether a segment has as many rows as it may.
+fn is_full(count: u32) -> bool
+    ensures full { result ≡ true → count ≡ 1000000 }
+    ensures room { result ≡ false → count ≢ 1000000 }
+{
+    count == MAX_ROWS
+}
+
 /// Every row that is left, of which each column's cell stands at its field, or the first fault. One record is filled
 /// over and over.
 pub(crate) fn read_rows(
@@ -88,7 +96,7 @@ pub(crate) fn read_rows(
     let mut row = ByteRecord::new(alloc);
     let mut count = 0;
     while take_record(reader, &mut row)? {
-        if count == MAX_ROWS {
+        if is_full(count) {
             return Err(SegmentFault::TooManyRows);
         }
         count += 1;

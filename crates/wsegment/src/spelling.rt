@@ -1,5 +1,5 @@
 //! The spelling of a declaration, read piece by piece.
-ghost use Rattle.std.specs.Prelude.{◌≡◌, ◌++◌, ℕ, List, true, IfNone, IfOk, IfSome, MatchOption, codes, drop, take};
+ghost use Rattle.std.specs.Prelude.{◌≡◌, ◌<◌, ◌≤◌, ◌++◌, ℕ, List, length, true, false, IfNone, IfOk, IfSome, MatchOption, codes, drop, take};
 ghost use Rattle.std.specs.List.{AllByRecursion, flat_map, list_all, list_any, prefix_len};
 ghost use Rattle.std.specs.Str.{bytes_eq};
 ghost use Rattle.std.specs.String.{string_bytes};
@@ -28,13 +28,20 @@ fn are_name_bytes(bytes: &[u8]) -> bool
     bytes.iter().all(|byte| name_byte(*byte))
 }
 
+fn is_too_long(bytes: &[u8]) -> bool
+    ensures long { result ≡ true → 63 < length bytes.now }
+    ensures short { result ≡ false → length bytes.now ≤ 63 }
+{
+    bytes.len() > LONGEST_NAME
+}
+
 fn is_name_text(bytes: &[u8]) -> bool
     ensures { result ≡ is_name bytes.now }
 {
     if bytes.is_empty() {
         return false;
     }
-    if bytes.len() > LONGEST_NAME {
+    if is_too_long(bytes) {
         return false;
     }
     if bytes[0].is_ascii_digit() {

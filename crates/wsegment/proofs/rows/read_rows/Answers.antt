@@ -1,4 +1,4 @@
-use Rattle.std.proofs.Common.{◌≡◌, ◌∙◌, ◌≢◌, ◌+◌, ◌<◌, ◌≤◌, ◌++◌, ◌∷◌, [], inr, add-one, ap, length, map, drop, arith}
+use Rattle.std.proofs.Common.{◌≡◌, ◌≢◌, ◌+◌, ◌<◌, ◌≤◌, ◌++◌, ◌∷◌, [], inr, add-one, length, map, drop, arith}
 use Rattle.std.proofs.lemmas.Result.{err_from_is_err_and}
 use Rattle.csv.specs.Records.{fields_of}
 use Rattle.wvalues.specs.Meaning.{meaning}
@@ -10,13 +10,13 @@ use Rattle.wsegment.proofs.LaidFacts.{laid-more, rows-filled}
 use Rattle.wsegment.proofs.RowFacts.{rows-end, rows-go, rows-many, rows-stop}
 use Rattle.wsegment.proofs.rows.read_rows.Goals as goal
 
-pub returns-then-count-eq-MAX_ROWS-clause-gives : goal.returns-then-count-eq-MAX_ROWS-clause-gives
-returns-then-count-eq-MAX_ROWS-clause-gives c =
+pub returns-then-is_full-clause-gives : goal.returns-then-is_full-clause-gives
+returns-then-is_full-clause-gives c =
     let ks = kinds_of (map (λ c. c.now) c.args.header.now) in
     let fields = c.args.fields.now in
     let n = c.loop-row.count in
     let took = rw c.if-branch.true at c.in_ok-take_record.ensures in
-    let many : 1000000 < n + 1 = omega (arith, c.if-count-eq-MAX_ROWS.true) in
+    let many : 1000000 < n + 1 = omega (arith, c.is_full.ensures.full c.if-is_full.true) in
     inr (rows-many ks fields (n + 1) (records_left c.loop-row.reader) (records_left c.take_record.new.reader) (fields_of c.take_record.new.row) (laid (length fields) n c.loop-row.cells.items)
     (in_order_of fields (rows_from ks 1 (records_left c.args.reader.now))) many took.1 c.loop-row.invariant.so_far)
 
@@ -27,7 +27,7 @@ returns-in_err-push_row-clause-gives c =
     let fields = c.args.fields.now in
     let n = c.loop-row.count in
     let took = rw c.if-branch.true at c.in_ok-take_record.ensures in
-    let other : n ≢ 1000000 = c.if-count-eq-MAX_ROWS.false in
+    let other : n ≢ 1000000 = c.is_full.ensures.room c.if-is_full.false in
     let few : n + 1 ≤ 1000000 = omega (arith, c.loop-row.invariant.few, other) in
     rw (p.1, p.2) (rows-stop c.in_err-push_row.field-0.0 ks fields (n + 1) (records_left c.loop-row.reader) (records_left c.take_record.new.reader) (fields_of c.take_record.new.row)
     (laid (length fields) n c.loop-row.cells.items) (in_order_of fields (rows_from ks 1 (records_left c.args.reader.now))) few took.1 c.in_err-push_row.ensures.fault c.loop-row.invariant.so_far)
@@ -42,7 +42,7 @@ loop-row-preserved c =
     let new = c.lay_row.new.cells.items in
     let found = c.push_row.new.cells.items in
     let took = rw c.if-branch.true at c.in_ok-take_record.ensures in
-    let other : n ≢ 1000000 = c.if-count-eq-MAX_ROWS.false in
+    let other : n ≢ 1000000 = c.is_full.ensures.room c.if-is_full.false in
     let few : n + 1 ≤ 1000000 = omega (arith, c.loop-row.invariant.few, other) in
     let more : laid width (n + 1) new ≡ laid width n old ++ map meaning (drop (length old) new) ∷ [] = rw (add-one n) (laid-more width n old new c.loop-row.invariant.full c.in_ok-lay_row.ensures.before c.in_ok-lay_row.ensures.added) in
     record {
