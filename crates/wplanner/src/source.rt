@@ -27,8 +27,7 @@ pub(crate) fn table_rows(alloc: Global, set: &SegmentSet) -> Result<Vec<&[Value]
     ensures err { IfErr result (λ fault. fault ≡ NoMemory) }
 {
     let mut rows = Vec::new(alloc);
-    for i in 0..set.live_count() {
-        let (_, segment) = set.live_at(i);
+    'segments: for (_, segment) in set.lives() {
         push_rows(&mut rows, segment)?;
     }
     Ok(rows)
