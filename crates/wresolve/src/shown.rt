@@ -1,14 +1,15 @@
 //! The SELECT list with `*` written out.
 
 ghost use Rattle.std.specs.Prelude.{◌≡◌, ◌++◌, ◌∷◌, [], IfOk, OnOk, map, ◌-◌};
-ghost use Rattle.wquery.specs.Tree.{view};
-ghost use Rattle.wquery.specs.QueryTree.{view_item};
+ghost use Rattle.wquery.specs.Tree.{name_bytes, view};
+ghost use Rattle.wquery.specs.QueryTree.{Computed, view_item};
 ghost use Rattle.wscope.specs.Sources.{Spelled, all_titled, columns_from, written_out as all_shown};
 ghost use Rattle.wresolve.specs.Shown.{shown_of, shown_item, shown_items};
 ghost use Rattle.wresolve.specs.Selecting.{item_at, called_or as item_called, key_shown};
 
 use std::alloc::{AllocError, Global};
-use wquery::{Column, Expression, Item};
+use std::rc::RcStr;
+use wquery::{Expression, Item};
 use wscope::{DataType, SourceColumn, output_name, type_of};
 
 /// What an item or a key stands for.
@@ -58,6 +59,22 @@ fn push_columns<'a>(
     Ok(())
 }
 
+fn push_value<'a>(
+    shown: &mut Vec<ShownOutput<'a>>,
+    columns: &'a [SourceColumn],
+    expression: &'a Expression,
+    alias: &'a Option<RcStr>,
+) -> Result<(), AllocError>
+    ensures { OnOk result (shown_items shown.new.items ≡ shown_items shown.old.items ++ all_shown (all_titled columns.now) (Computed (view expression.now) (name_bytes alias.now) ∷ [])) }
+{
+    shown.push(ShownOutput {
+        name: output_name(expression, alias),
+        data_type: type_of(columns, expression),
+        value: ShownValue::Expression(expression),
+    })?;
+    Ok(())
+}
+
 fn push_item<'a>(
     shown: &mut Vec<ShownOutput<'a>>,
     columns: &'a [SourceColumn],
@@ -67,14 +84,7 @@ fn push_item<'a>(
 {
     match item {
         Item::All => push_columns(shown, columns),
-        Item::Value { expression, alias } => {
-            shown.push(ShownOutput {
-                name: output_name(expression, alias),
-                data_type: type_of(columns, expression),
-                value: ShownValue::Expression(expression),
-            })?;
-            Ok(())
-        }
+        Item::Value { expression, alias } => push_value(shown, columns, expression, alias),
     }
 }
 
@@ -133,12 +143,10 @@ pub fn key_value<'a>(shown: &[ShownOutput<'a>], key: &'a Expression) -> ShownVal
 {
     match key {
         Expression::Number(n) => numbered(shown, n.get()),
-        Expression::Column(
-            Column {
-                qualifier: None,
-                name,
-            },
-        ) => called_or(shown, name.as_str(), key),
+        Expression::Column(column) => match &column.qualifier {
+            None => called_or(shown, column.name.as_str(), key),
+            Some(_) => ShownValue::Expression(key),
+        },
         _ => ShownValue::Expression(key),
     }
 }
