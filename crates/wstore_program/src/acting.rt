@@ -69,7 +69,7 @@ fn settle<R: Files<File = File> + AllocGlobal>(
     ensures sound { OnOk result (IsSound system.new) }
     ensures cause { IfErr result (λ fault. HasCause fault system.new) }
 {
-    let first = acted(alloc, choice, table, store, other)?;
+    let first = system.grown(acted(alloc, choice, table, store, other))?;
     if first.store.is_none() {
         return Ok(first);
     }
@@ -78,7 +78,7 @@ fn settle<R: Files<File = File> + AllocGlobal>(
     let last = if now == *store {
         first
     } else {
-        acted(alloc, choice, table, &now, other)?
+        system.grown(acted(alloc, choice, table, &now, other))?
     };
     if let Some(bytes) = &last.store {
         place.replace(alloc, system, bytes.as_slice())?;
@@ -87,8 +87,8 @@ fn settle<R: Files<File = File> + AllocGlobal>(
 }
 
 /// Reads the files of a subcommand, the table, the store, then CSV or OTHER, and replaces the store where it may have
-/// changed. A reply is that of the subcommand on bytes that were read. A fault comes only where a call failed or memory
-/// is wanting, and nothing else has failed then.
+/// changed. A reply is that of the subcommand on bytes that were read. A fault comes only where a call failed or a growth
+/// was refused, and nothing else has failed then.
 pub fn perform<R: Files<File = File> + AllocGlobal>(
     alloc: Global,
     system: &mut System<'_, R>,

@@ -1,8 +1,4 @@
 //! Why the program does not end as it was told.
-ghost use Rattle.std.specs.Prelude.{◌≡◌};
-ghost use Rattle.wstore_program.specs.declared.fault.Fault.TheVariants.{NoMemory};
-
-use std::alloc::AllocError;
 use thiserror::Error;
 
 /// Why the program does not end as it was told. What is printed for it is its name.
@@ -17,12 +13,4 @@ pub enum Fault {
     /// A growth was refused.
     #[error("no memory")]
     NoMemory,
-}
-
-impl From<AllocError> for Fault {
-    ghost from_gives = { λ _ fault. fault ≡ NoMemory };
-
-    fn from(_e: AllocError) -> Fault {
-        Fault::NoMemory
-    }
 }

@@ -35,8 +35,8 @@ fn read_rest<R, T: Read>(
         if count == 0 {
             return Ok(bytes);
         }
-        if bytes.extend_from_slice(&block[..count]).is_err() {
-            return Err(Fault::NoMemory);
+        if let Err(fault) = system.grown(bytes.extend_from_slice(&block[..count])) {
+            return Err(fault);
         }
     }
 }
@@ -106,8 +106,7 @@ fn target<R: Files<File = File> + AllocGlobal>(
     if is_there {
         return system.real_path(path);
     }
-    let path = String::from_str(alloc, path)?;
-    Ok(path)
+    system.grown(String::from_str(alloc, path))
 }
 
 // The bytes, in a new file, on the disk.
@@ -142,7 +141,7 @@ impl Place {
     {
         let permissions = system.replaceable(path)?;
         let path = target(alloc, system, path, permissions.is_some())?;
-        let folder = system.folder(folder_of(path.as_str()));
+        let folder = system.folder(folder_of(path.as_str()))?;
         let is_locked = match &folder {
             Some(folder) => folder.lock().is_ok(),
             None => false,
@@ -199,7 +198,7 @@ impl Place {
         ensures cause { IfErr result (λ fault. HasCause fault system.new) }
     {
         let path = self.path.as_str();
-        let beside = format!(in alloc; "{path}.new")?;
+        let beside = system.grown(format!(in alloc; "{path}.new"))?;
         if self.is_locked {
             // what a program that did not end well left
             system.remove(beside.as_str());

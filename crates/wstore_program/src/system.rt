@@ -1,5 +1,5 @@
-//! The calls that the program makes on files and streams, with a count of those that failed.
-ghost use Rattle.std.specs.Prelude.{◌≡◌, ◌≢◌, ◌+◌, ◌≤◌, ◌↔◌, length, IfOk, IfErr, IfSome, IsNone, IsTrue, OnOk};
+//! The calls that the program makes on files and streams, with a count of those that failed and of refused growths.
+ghost use Rattle.std.specs.Prelude.{◌≡◌, ◌≢◌, ◌+◌, ◌≤◌, ◌↔◌, length, Ok, Err, IfOk, IfErr, IfSome, IsNone, IsTrue, OnOk, OnErr};
 ghost use Rattle.std.specs.IoError.{error_kind};
 ghost use Rattle.std.specs.Fs.{IsReadonly};
 ghost use Rattle.std.specs.Io.KnownBytes.{Appends};
@@ -7,6 +7,7 @@ ghost use Rattle.wstore_program.specs.declared.fault.Fault.TheVariants.{NoMemory
 ghost use Rattle.wstore_program.specs.Calls.{GivesBytes, HasCause, IsSound};
 
 use crate::fault::Fault;
+use std::alloc::AllocError;
 use std::fs::{self, File, Metadata, OpenFile, Permissions};
 use std::io::{self, ErrorKind, Read, Write};
 use std::marker::Model;
@@ -15,13 +16,15 @@ use std::rt::Files;
 /// How often files are read at most.
 const MOST_READS: u64 = 1 << 40;
 
-/// The files of a system, with the number of reads and of the calls that failed. Nothing else can count a failure.
+/// The files of a system, with the number of reads, of the calls that failed and of the growths that were refused.
+/// Nothing else can count a failure.
 #[derive(Drop)]
 pub struct System<'a, R> {
     files: &'a R,
     reads: u64,
     failed_reads: u64,
     failed_writes: u64,
+    refused_growths: u64,
 }
 
 impl<'a, R> Model for System<'a, R> {
@@ -29,7 +32,7 @@ impl<'a, R> Model for System<'a, R> {
 
     ghost Value = { CallCounts };
 
-    ghost view = { λ s. record { reads = s.reads; failed_reads = s.failed_reads; failed_writes = s.failed_writes } };
+    ghost view = { λ s. record { reads = s.reads; failed_reads = s.failed_reads; failed_writes = s.failed_writes; refused_growths = s.refused_growths } };
 }
 
 // Whether a call found no memory.
@@ -49,6 +52,32 @@ impl<'a, R> System<'a, R> {
             reads: 0,
             failed_reads: 0,
             failed_writes: 0,
+            refused_growths: 0,
+        }
+    }
+
+    // The fault of a growth that was refused.
+    fn refused(&mut self) -> Fault
+        requires { IsSound self.old }
+        ensures fault { result ≡ NoMemory }
+        ensures cause { HasCause result self.new }
+    {
+        self.refused_growths += 1;
+        Fault::NoMemory
+    }
+
+    /// What a growth of memory made. `NoMemory` where it was refused, and nowhere else.
+    pub fn grown<T>(&mut self, made: Result<T, AllocError>) -> Result<T, Fault>
+        requires { IsSound self.old }
+        ensures made { IfOk made (λ value. result ≡ Ok value) }
+        ensures refused { OnErr made (result ≡ Err NoMemory) }
+        ensures same { OnOk result (self.new ≡ self.old) }
+        ensures sound { OnOk result (IsSound self.new) }
+        ensures cause { IfErr result (λ fault. HasCause fault self.new) }
+    {
+        match made {
+            Ok(value) => Ok(value),
+            Err(_) => Err(self.refused()),
         }
     }
 
@@ -60,7 +89,7 @@ impl<'a, R> System<'a, R> {
         ensures cause { HasCause result self.new }
     {
         if is_out_of_memory(error) {
-            return Fault::NoMemory;
+            return self.refused();
         }
         self.failed_reads += 1;
         Fault::Read
@@ -74,7 +103,7 @@ impl<'a, R> System<'a, R> {
         ensures cause { HasCause result self.new }
     {
         if is_out_of_memory(error) {
-            return Fault::NoMemory;
+            return self.refused();
         }
         self.misplaced()
     }
@@ -192,10 +221,11 @@ impl<R: Files<File = File> + AllocGlobal> System<'_, R> {
         ensures sound { OnOk result (IsSound self.new) }
         ensures cause { IfErr result (λ fault. HasCause fault self.new) }
     {
-        if fs::symlink_metadata(self.files, path).is_ok() {
-            return Err(self.misplaced());
+        match fs::symlink_metadata(self.files, path) {
+            Ok(_) => Err(self.misplaced()),
+            Err(error) if error.kind() == ErrorKind::NotFound => Ok(None),
+            Err(error) => Err(self.write_failed(&error)),
         }
-        Ok(None)
     }
 
     /// The path of a file behind all links.
@@ -228,9 +258,7 @@ impl<R: Files<File = File> + AllocGlobal> System<'_, R> {
         ensures sound { OnOk result (IsSound self.new) }
         ensures cause { IfErr result (λ fault. HasCause fault self.new) }
     {
-        let Ok(permissions) = permissions.clone() else {
-            return Err(Fault::NoMemory);
-        };
+        let permissions = self.grown(permissions.clone())?;
         match file.set_permissions(permissions) {
             Ok(()) => Ok(()),
             Err(error) => Err(self.write_failed(&error)),
@@ -261,13 +289,24 @@ impl<R: Files<File = File> + AllocGlobal> System<'_, R> {
         }
     }
 
-    /// Removes a file, if there is one that can be removed.
-    pub(crate) fn remove(&self, path: &str) {
+    /// Removes a file, if there is one that can be removed. One that cannot is no failure.
+    pub(crate) fn remove(&mut self, path: &str)
+        ensures { self.new ≡ self.old }
+    {
         let _ = fs::remove_file(self.files, path);
     }
 
-    /// A folder, if it can be opened.
-    pub(crate) fn folder(&self, path: &str) -> Option<File> {
-        File::open(self.files, path).ok()
+    /// A folder, if it can be opened. One that cannot is no failure, but for want of memory.
+    pub(crate) fn folder(&mut self, path: &str) -> Result<Option<File>, Fault>
+        requires { IsSound self.old }
+        ensures memory { IfErr result (λ fault. fault ≡ NoMemory) }
+        ensures sound { OnOk result (IsSound self.new) }
+        ensures cause { IfErr result (λ fault. HasCause fault self.new) }
+    {
+        match File::open(self.files, path) {
+            Ok(folder) => Ok(Some(folder)),
+            Err(error) if is_out_of_memory(&error) => Err(self.refused()),
+            Err(_) => Ok(None),
+        }
     }
 }
