@@ -57,15 +57,13 @@ fn first_column<'a>(columns: &[SourceColumn], name: &str) -> Option<Output<'a>>
 fn output_called<'a>(item: &'a Item, name: &str, star: Option<Output<'a>>) -> Option<Output<'a>>
     ensures { (cs : List Titled) → optional_shown star.entry ≡ first_called name.now (columns_from 0 cs) → optional_shown result ≡ first_called name.now (written_out cs (view_item item.now ∷ [])) }
 {
-    match item {
-        Item::All => star,
-        Item::Value { expression, alias } => {
-            if output_name(expression, alias) == name {
-                Some(Output::Spelled(expression))
-            } else {
-                None
-            }
-        }
+    let Item::Value { expression, alias } = item else {
+        return star;
+    };
+    if output_name(expression, alias) == name {
+        Some(Output::Spelled(expression))
+    } else {
+        None
     }
 }
 
@@ -105,15 +103,13 @@ fn is_item_unlike(
 ) -> bool
     ensures { is_star_unlike ≡ list_any (is_unlike (all_titled columns.now) name.now (Some (shown first.entry))) (columns_from 0 (all_titled columns.now)) → result ≡ list_any (is_unlike (all_titled columns.now) name.now (Some (shown first.entry))) (written_out (all_titled columns.now) (view_item item.now ∷ [])) }
 {
-    match item {
-        Item::All => is_star_unlike,
-        Item::Value { expression, alias } => {
-            if output_name(expression, alias) != name {
-                return false;
-            }
-            !same_output(columns, first, Output::Spelled(expression))
-        }
+    let Item::Value { expression, alias } = item else {
+        return is_star_unlike;
+    };
+    if output_name(expression, alias) != name {
+        return false;
     }
+    !same_output(columns, first, Output::Spelled(expression))
 }
 
 fn any_unlike(columns: &[SourceColumn], items: &[Item], name: &str, first: Output) -> bool

@@ -170,15 +170,13 @@ impl NodeTest for BadFilter {
 
     #[tactic(auto, unfolding(wquery::specs::Tree::view, wquery::specs::Tree::view_call))]
     fn look(&self, node: &Expression) -> Look {
-        match node {
-            Expression::Call(call) => {
-                if call.filter.is_none() {
-                    return Look::Below;
-                }
-                found_if(!is_aggregate_name(call.name.as_str()))
-            }
-            _ => Look::Below,
+        let Expression::Call(call) = node else {
+            return Look::Below;
+        };
+        if call.filter.is_none() {
+            return Look::Below;
         }
+        found_if(!is_aggregate_name(call.name.as_str()))
     }
 }
 

@@ -177,15 +177,11 @@ impl<'a> NodeTest for Ungrouped<'a> {
 
     #[tactic(auto, unfolding(wquery::specs::Tree::view))]
     fn look(&self, node: &Expression) -> Look {
+        if is_group_call(node) {
+            return Look::Closed;
+        }
         match node {
             Expression::Column(column) => look_at_column(self.grouping, column.name.as_str()),
-            Expression::Call(_) => {
-                if is_group_call(node) {
-                    Look::Closed
-                } else {
-                    Look::Below
-                }
-            }
             _ => Look::Below,
         }
     }

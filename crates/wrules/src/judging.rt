@@ -220,15 +220,13 @@ fn judge_source(alloc: Global, schema: &Schema, source: &Source) -> Result<Judge
 fn is_deeper(query: &Query, most: u8) -> bool
     ensures { result ≡ nat_lt most (depth (view_query query.now)) }
 {
-    match &query.source {
-        Source::Table { .. } => false,
-        Source::Derived { query: inner, .. } => {
-            if most == 0 {
-                return true;
-            }
-            is_deeper(inner, most - 1)
-        }
+    let Source::Derived { query: inner, .. } = &query.source else {
+        return false;
+    };
+    if most == 0 {
+        return true;
     }
+    is_deeper(inner, most - 1)
 }
 
 /// The least rule that a query over the declared table breaks. Its derived table is judged first, and over 8 derived

@@ -54,20 +54,19 @@ fn own_frame<'a>(frame: &'a Option<Frame>) -> Option<&'a Frame>
 pub fn settle<'a>(earlier: &[FullEntry<'a>], window: &'a Window) -> FullWindow<'a>
     ensures { settled_window result ≡ settle_tree (named_windows earlier.now) (view_window window.now) }
 {
-    match &window.copied {
-        None => FullWindow {
+    let frame = own_frame(&window.frame);
+    let Some(name) = &window.copied else {
+        return FullWindow {
             partition: window.partition.as_slice(),
             order: window.order.as_slice(),
-            frame: own_frame(&window.frame),
-        },
-        Some(name) => {
-            let copied = window_or_none(earlier, name.as_str());
-            FullWindow {
-                partition: copied.partition,
-                order: own_keys_or(window.order.as_slice(), copied.order),
-                frame: own_frame(&window.frame),
-            }
-        }
+            frame,
+        };
+    };
+    let copied = window_or_none(earlier, name.as_str());
+    FullWindow {
+        partition: copied.partition,
+        order: own_keys_or(window.order.as_slice(), copied.order),
+        frame,
     }
 }
 
