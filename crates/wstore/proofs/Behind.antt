@@ -1,12 +1,13 @@
 -- From lines and bodies to commands.
-use Rattle.std.proofs.Common.{◌≡◌, ℕ, Bool, true, false, List, [], ◌∷◌, ◌++◌, length, Option, None, Some, IfSome, Result, refl, sym, ap, ◌∙◌, append_assoc}
+use Rattle.std.proofs.Common.{◌≡◌, ◌≢◌, ℕ, Bool, true, false, List, [], ◌∷◌, ◌++◌, length, Option, None, Some, IfSome, Result, refl, sym, ap, ◌∙◌, append_assoc}
 use Rattle.std.specs.Io.KnownBytes.{Consumes}
 use Rattle.wvalues.specs.Names.{NameParts}
 use Rattle.wvalues.specs.NameReading.{ReadsName}
 use Rattle.wvalues.specs.declared.name.NameFault.{NameFault}
 use Rattle.wlines.specs.Reads.{HasNoBody}
 use Rattle.wstore.specs.Commands.{DeclareForm, TakeForm, RetireForm, ListForm, AskForm, FeedForm, PutForm, GetForm, Command, Declare, Take, Retire, Listing, Ask, Feed, Put, Get}
-use Rattle.wstore.specs.Requests.{IsBadBehind, Behind}
+use Rattle.wstore.specs.Requests.{IsBadBehind, Behind, follows_declaration}
+use Rattle.wstore.specs.declared.header.Header.{Header}
 use Rattle.wstore.specs.declared.header.Header.TheVariants as headers
 
 -- ---- a body that is not there
@@ -66,6 +67,74 @@ no_segment node name len d old h = some_weaker old (λ xs. HasNoBody len xs) (λ
 
 pub no_query : (node len : ℕ) (d : Bool) (old : Option (List ℕ)) → IfSome old (λ xs. HasNoBody len xs) → IfSome old (λ xs. IsBadBehind (headers.Ask node len) d xs)
 no_query node len d old h = some_weaker old (λ xs. HasNoBody len xs) (λ xs. IsBadBehind (headers.Ask node len) d xs) h (λ xs. ask_bad node len d xs)
+
+-- ---- a header in the wrong place
+
+pub no_order : (h : Header) (d : Bool) (xs : List ℕ) → follows_declaration h ≢ d → IsBadBehind h d xs
+no_order (headers.Declare len) d xs ne (Declare s) rest h a e = ne (sym a)
+no_order (headers.Declare len) d xs ne (Take n o m b) rest h a e = h
+no_order (headers.Declare len) d xs ne (Retire n o m) rest h a e = h
+no_order (headers.Declare len) d xs ne (Listing n) rest h a e = h
+no_order (headers.Declare len) d xs ne (Ask n t) rest h a e = h
+no_order (headers.Declare len) d xs ne (Feed n p) rest h a e = h
+no_order (headers.Declare len) d xs ne (Put n k) rest h a e = h
+no_order (headers.Declare len) d xs ne (Get k n) rest h a e = h
+no_order (headers.Take node name len) d xs ne (Declare s) rest h a e = h
+no_order (headers.Take node name len) d xs ne (Take n o m b) rest h a e = ne (sym a)
+no_order (headers.Take node name len) d xs ne (Retire n o m) rest h a e = h
+no_order (headers.Take node name len) d xs ne (Listing n) rest h a e = h
+no_order (headers.Take node name len) d xs ne (Ask n t) rest h a e = h
+no_order (headers.Take node name len) d xs ne (Feed n p) rest h a e = h
+no_order (headers.Take node name len) d xs ne (Put n k) rest h a e = h
+no_order (headers.Take node name len) d xs ne (Get k n) rest h a e = h
+no_order (headers.Retire node name) d xs ne (Declare s) rest h a e = h
+no_order (headers.Retire node name) d xs ne (Take n o m b) rest h a e = h
+no_order (headers.Retire node name) d xs ne (Retire n o m) rest h a e = ne (sym a)
+no_order (headers.Retire node name) d xs ne (Listing n) rest h a e = h
+no_order (headers.Retire node name) d xs ne (Ask n t) rest h a e = h
+no_order (headers.Retire node name) d xs ne (Feed n p) rest h a e = h
+no_order (headers.Retire node name) d xs ne (Put n k) rest h a e = h
+no_order (headers.Retire node name) d xs ne (Get k n) rest h a e = h
+no_order (headers.List node) d xs ne (Declare s) rest h a e = h
+no_order (headers.List node) d xs ne (Take n o m b) rest h a e = h
+no_order (headers.List node) d xs ne (Retire n o m) rest h a e = h
+no_order (headers.List node) d xs ne (Listing n) rest h a e = ne (sym a)
+no_order (headers.List node) d xs ne (Ask n t) rest h a e = h
+no_order (headers.List node) d xs ne (Feed n p) rest h a e = h
+no_order (headers.List node) d xs ne (Put n k) rest h a e = h
+no_order (headers.List node) d xs ne (Get k n) rest h a e = h
+no_order (headers.Ask node len) d xs ne (Declare s) rest h a e = h
+no_order (headers.Ask node len) d xs ne (Take n o m b) rest h a e = h
+no_order (headers.Ask node len) d xs ne (Retire n o m) rest h a e = h
+no_order (headers.Ask node len) d xs ne (Listing n) rest h a e = h
+no_order (headers.Ask node len) d xs ne (Ask n t) rest h a e = ne (sym a)
+no_order (headers.Ask node len) d xs ne (Feed n p) rest h a e = h
+no_order (headers.Ask node len) d xs ne (Put n k) rest h a e = h
+no_order (headers.Ask node len) d xs ne (Get k n) rest h a e = h
+no_order (headers.Feed node len) d xs ne (Declare s) rest h a e = h
+no_order (headers.Feed node len) d xs ne (Take n o m b) rest h a e = h
+no_order (headers.Feed node len) d xs ne (Retire n o m) rest h a e = h
+no_order (headers.Feed node len) d xs ne (Listing n) rest h a e = h
+no_order (headers.Feed node len) d xs ne (Ask n t) rest h a e = h
+no_order (headers.Feed node len) d xs ne (Feed n p) rest h a e = ne (sym a)
+no_order (headers.Feed node len) d xs ne (Put n k) rest h a e = h
+no_order (headers.Feed node len) d xs ne (Get k n) rest h a e = h
+no_order (headers.Put node slot) d xs ne (Declare s) rest h a e = h
+no_order (headers.Put node slot) d xs ne (Take n o m b) rest h a e = h
+no_order (headers.Put node slot) d xs ne (Retire n o m) rest h a e = h
+no_order (headers.Put node slot) d xs ne (Listing n) rest h a e = h
+no_order (headers.Put node slot) d xs ne (Ask n t) rest h a e = h
+no_order (headers.Put node slot) d xs ne (Feed n p) rest h a e = h
+no_order (headers.Put node slot) d xs ne (Put n k) rest h a e = ne (sym a)
+no_order (headers.Put node slot) d xs ne (Get k n) rest h a e = h
+no_order (headers.Get slot node) d xs ne (Declare s) rest h a e = h
+no_order (headers.Get slot node) d xs ne (Take n o m b) rest h a e = h
+no_order (headers.Get slot node) d xs ne (Retire n o m) rest h a e = h
+no_order (headers.Get slot node) d xs ne (Listing n) rest h a e = h
+no_order (headers.Get slot node) d xs ne (Ask n t) rest h a e = h
+no_order (headers.Get slot node) d xs ne (Feed n p) rest h a e = h
+no_order (headers.Get slot node) d xs ne (Put n k) rest h a e = h
+no_order (headers.Get slot node) d xs ne (Get k n) rest h a e = ne (sym a)
 
 -- ---- a body that is there
 

@@ -1,5 +1,6 @@
 pub mod Words
 pub mod Behind
+pub mod Bodies
 pub mod Spelling
 pub mod Learning
 pub mod Soundness

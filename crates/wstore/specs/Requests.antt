@@ -1,8 +1,9 @@
 -- What a request of the code stands for, and what was read where it was: old was left before it and new after it.
-use Rattle.std.specs.Prelude.{◌≡◌, ◌≢◌, ⊤, ℕ, ◌<◌, ◌≤◌, Bool, List, ◌++◌, length, Option, IfSome, Ok, Err}
+use Rattle.std.specs.Prelude.{◌≡◌, ◌≢◌, ⊤, ℕ, ◌<◌, ◌≤◌, nat_le, Bool, true, false, List, [], ◌∷◌, ◌++◌, length, Option, Some, None, IfSome, Ok, Err}
 use Rattle.std.specs.Io.KnownBytes.{Keeps, Consumes, IsAtEnd}
 use Rattle.wvalues.specs.Names.{NameParts}
 use Rattle.wvalues.specs.NameReading.{ReadsName}
+use Rattle.wlines.specs.Reads.{HasNoBody}
 use Rattle.wsegment.specs.declared.schema_fault.SchemaFault.TheVariants as tables
 use Rattle.wsegment.specs.declared.fault.SegmentFault.TheVariants as segments
 use Rattle.wplanner.specs.declared.fault.AskFault.TheVariants as queries
@@ -11,8 +12,11 @@ use Rattle.wstore.specs.Commands.{Form, Command, Declare, Take, Retire, Listing,
 use Rattle.wstore.specs.Headers.{IsHeaderOf}
 use Rattle.wstore.specs.History.{AreName}
 use Rattle.wstore.specs.declared.header.Header.{Header}
+use Rattle.wstore.specs.declared.header.Header.TheVariants as headers
 use Rattle.wstore.specs.declared.request.Command as code
 use Rattle.wstore.specs.declared.request.Command.TheVariants as commands
+use Rattle.wstore.specs.declared.request.Found.{Found}
+use Rattle.wstore.specs.declared.request.Found.TheVariants as bodies
 use Rattle.wstore.specs.declared.request.Order.{Order}
 use Rattle.wstore.specs.declared.request.Order.TheVariants as orders
 use Rattle.wstore.specs.declared.request.Refusal.{Refusal}
@@ -58,6 +62,44 @@ IsCommandOf (commands.Refused refusal) c = IsRefusedAs refusal c
 IsCommandOf (commands.At n order) c = IsOrderAt n order c
 IsCommandOf (commands.Feed n kept) c = IsFeedOf n kept.items c
 IsCommandOf _ _ = ⊥
+
+-- the table is declared before it
+abbrev pub follows_declaration : Header → Bool
+follows_declaration (headers.Declare len) = false
+follows_declaration _ = true
+
+-- the length of the body behind a header
+abbrev pub body_length : Header → Option ℕ
+body_length (headers.Declare len) = Some len
+body_length (headers.Take node name len) = Some len
+body_length (headers.Ask node len) = Some len
+body_length (headers.Feed node len) = Some len
+body_length _ = None
+
+-- the body is kept: it is within its limit, and the words of its name are one
+abbrev pub keeps_body : Header → Bool
+keeps_body (headers.Declare len) = nat_le len 65536
+keeps_body (headers.Take node (Ok name) len) = nat_le len 67108864
+keeps_body (headers.Ask node len) = nat_le len 65536
+keeps_body (headers.Feed node len) = true
+keeps_body _ = false
+
+-- a body of the header's length was consumed, one that is kept or one that is not
+abbrev pub HasBody : Header → Bool → List ℕ → Option (List ℕ) → Option (List ℕ) → Type 0
+HasBody header kept bytes old new = (body_length header ≡ Some (length bytes)) × (keeps_body header ≡ kept) × Consumes old new (bytes ++ 10 ∷ [])
+
+-- such a body was consumed, and nothing of it is left
+pub record PassesBody (header : Header) (kept : Bool) (old new : Option (List ℕ)) : Type 0 where
+  pub bytes : List ℕ
+  pub passed : HasBody header kept bytes old new
+
+-- what was found behind a header: its body, or no body where it has none; or there is no such body
+abbrev pub FoundBehind : Header → Option Found → Option (List ℕ) → Option (List ℕ) → Type 0
+FoundBehind header (Some bodies.Nothing) old new = (body_length header ≡ None) × Consumes old new []
+FoundBehind header (Some (bodies.Kept kept)) old new = HasBody header true kept.items old new
+FoundBehind header (Some bodies.Dropped) old new = PassesBody header false old new
+FoundBehind header (Some bodies.NoMemory) old new = PassesBody header true old new
+FoundBehind header None old new = (n : ℕ) × (body_length header ≡ Some n) × IfSome old (λ xs. HasNoBody n xs)
 
 -- the bytes are not what stands behind this header, for any command
 abbrev pub IsBadBehind : Header → Bool → List ℕ → Type 0

@@ -4,6 +4,7 @@ ghost use Rattle.wlines.specs.Words.{Lacks, IsWord};
 ghost use Rattle.wvalues.specs.NameReading.{ReadsName};
 ghost use Rattle.wstore.specs.Commands.{Form, DeclareForm, TakeForm, RetireForm, ListForm, AskForm, FeedForm, PutForm, GetForm, IsForm, IsNode, IsSlot, IsLength, IsPieceLength, line_of, take_words, retire_words, pair_words};
 ghost use Rattle.wstore.specs.Headers.{IsHeaderOf};
+ghost use Rattle.wstore.specs.Requests.{body_length as length_of_body, follows_declaration as is_behind_declaration, keeps_body as is_body_kept};
 
 use crate::numbers::{NodeNumber, SlotNumber};
 use wlines::{is_word, split_word};
@@ -25,6 +26,50 @@ pub(crate) enum Header {
 
 /// The most bytes of a piece.
 const LONGEST_PIECE: u32 = 67_108_864;
+
+/// The most bytes of a declaration, and of a query's text.
+const LONGEST_TEXT: u32 = 65_536;
+
+/// The most bytes of a segment.
+const LONGEST_SEGMENT: u32 = 67_108_864;
+
+impl Header {
+    /// Whether the table is declared before it.
+    pub(crate) fn follows_declaration(&self) -> bool
+        ensures { result ≡ is_behind_declaration self.now }
+    {
+        match *self {
+            Header::Declare(_) => false,
+            _ => true,
+        }
+    }
+
+    /// The length of the body behind the line.
+    pub(crate) fn body_length(&self) -> Option<u32>
+        ensures { result ≡ length_of_body self.now }
+    {
+        match *self {
+            Header::Declare(len) => Some(len),
+            Header::Take(_, _, len) => Some(len),
+            Header::Ask(_, len) => Some(len),
+            Header::Feed(_, len) => Some(len),
+            _ => None,
+        }
+    }
+
+    /// Whether the body is kept: it is within its limit, and the words of its name spell one.
+    pub(crate) fn keeps_body(&self) -> bool
+        ensures { result ≡ is_body_kept self.now }
+    {
+        match *self {
+            Header::Declare(len) => len <= LONGEST_TEXT,
+            Header::Take(_, Ok(_), len) => len <= LONGEST_SEGMENT,
+            Header::Ask(_, len) => len <= LONGEST_TEXT,
+            Header::Feed(_, _) => true,
+            _ => false,
+        }
+    }
+}
 
 // The node that a word names.
 fn node_word(word: &[u8]) -> Option<NodeNumber>

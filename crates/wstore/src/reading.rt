@@ -1,169 +1,122 @@
 //! Reads commands.
-ghost use Rattle.std.specs.Prelude.{ℕ, List, Option, ◌≡◌, ◌<◌, ◌≤◌, true, false, IfOk, OnOk, OnErr};
-ghost use Rattle.wvalues.specs.NameReading.{ReadsName};
+ghost use Rattle.std.specs.Prelude.{ℕ, List, Option, Some, Ok, Err, [], ◌<◌, ◌≤◌, true, false, IfOk, OnOk, OnErr, OnSome};
+ghost use Rattle.std.specs.Io.KnownBytes.{Consumes};
 ghost use Rattle.wlines.specs.Pending.{left, budget, IsSound, ReadFailed};
-ghost use Rattle.wstore.specs.Requests.{BehindReads, RequestReads, GoesOn};
+ghost use Rattle.wstore.specs.Requests.{BehindReads, FoundBehind, GoesOn, RequestReads, follows_declaration};
 
 use crate::header::{Header, read_header};
 use crate::numbers::NodeNumber;
-use crate::request::{Command, Order, Refusal, Request};
+use crate::request::{Command, Found, Order, Refusal, Request};
 use std::alloc::Global;
 use std::io::Read;
 use wlines::{Body, Line, LineEnd, ReadFault, Source, read_body, read_line, skip_body};
 use wvalues::{Counted, Name, NameFault};
 
-/// The most bytes of a declaration, and of a query's text.
-const LONGEST_TEXT: u32 = 65_536;
-
-/// The most bytes of a segment.
-const LONGEST_SEGMENT: u32 = 67_108_864;
-
-// Reads the body of a declaration.
-fn read_declaration<R: Read>(
+// Reads the body behind a header line: nothing is found where no such body stands there.
+fn read_found<R: Read>(
     alloc: Global,
     source: &mut Source,
     input: &mut Counted<R>,
-    len: u32,
-) -> Result<Request, ReadFault>
+    header: &Header,
+) -> Result<Option<Found>, ReadFault>
     requires { IsSound input.old }
     ensures sound { OnOk result (IsSound input.new) }
-    ensures reads { IfOk result (λ request. BehindReads request (Header.Declare len) false (left R.remaining source.old input.old) (left R.remaining source.new input.new)) }
-    ensures falls { IfOk result (λ request. GoesOn request → budget source.new input.new ≤ budget source.old input.old) }
+    ensures reads { IfOk result (λ found. FoundBehind header.now found (left R.remaining source.old input.old) (left R.remaining source.new input.new)) }
+    ensures falls { IfOk result (λ found. OnSome found (budget source.new input.new ≤ budget source.old input.old)) }
     ensures fault { OnErr result (ReadFailed input.new) }
 {
-    if len > LONGEST_TEXT {
+    let Some(len) = header.body_length() else {
+        return Ok(Some(Found::Nothing));
+    };
+    if !header.keeps_body() {
         if !skip_body(source, input, len as usize)? {
-            return Ok(Request::Malformed);
+            return Ok(None);
         }
-        return Ok(Request::Whole(Command::Refused(Refusal::LongDeclaration)));
+        return Ok(Some(Found::Dropped));
     }
     match read_body(alloc, source, input, len as usize)? {
-        Body::Whole(bytes) => Ok(Request::Whole(Command::Declare(bytes))),
-        Body::NoMemory => Ok(Request::NoRoom),
-        Body::Malformed => Ok(Request::Malformed),
+        Body::Whole(bytes) => Ok(Some(Found::Kept(bytes))),
+        Body::NoMemory => Ok(Some(Found::NoMemory)),
+        Body::Malformed => Ok(None),
     }
 }
 
-// Reads the body of a segment whose name was read.
-fn read_segment<R: Read>(
-    alloc: Global,
-    source: &mut Source,
-    input: &mut Counted<R>,
-    node: NodeNumber,
-    name: Name,
-    len: u32,
-) -> Result<Request, ReadFault>
-    requires { IsSound input.old }
-    ensures sound { OnOk result (IsSound input.new) }
-    ensures reads { IfOk result (λ request. BehindReads request (Header.Take node (Ok name) len) true (left R.remaining source.old input.old) (left R.remaining source.new input.new)) }
-    ensures falls { IfOk result (λ request. GoesOn request → budget source.new input.new ≤ budget source.old input.old) }
-    ensures fault { OnErr result (ReadFailed input.new) }
+// A declaration.
+#[tactic(auto, using(crate::proofs::Bodies::declaration_kept, crate::proofs::Bodies::declaration_dropped, crate::proofs::Bodies::declaration_lacking))]
+fn declaration_request(found: Found) -> Request
+    ensures { (len : ℕ) (old new : Option (List ℕ)) → FoundBehind (Header.Declare len) (Some found) old new → BehindReads result (Header.Declare len) false old new }
 {
-    if len > LONGEST_SEGMENT {
-        if !skip_body(source, input, len as usize)? {
-            return Ok(Request::Malformed);
-        }
-        return Ok(Request::Whole(Command::Refused(Refusal::LongSegment)));
-    }
-    match read_body(alloc, source, input, len as usize)? {
-        Body::Whole(bytes) => Ok(Request::Whole(Command::At(node, Order::Take(name, bytes)))),
-        Body::NoMemory => Ok(Request::NoMemory),
-        Body::Malformed => Ok(Request::Malformed),
+    match found {
+        Found::Kept(bytes) => Request::Whole(Command::Declare(bytes)),
+        Found::Dropped => Request::Whole(Command::Refused(Refusal::LongDeclaration)),
+        Found::NoMemory => Request::NoRoom,
+        Found::Nothing => Request::Malformed,
     }
 }
 
-// Drops the body of a segment whose words spell no name.
-fn drop_segment<R: Read>(
-    source: &mut Source,
-    input: &mut Counted<R>,
-    node: NodeNumber,
-    fault: NameFault,
-    len: u32,
-) -> Result<Request, ReadFault>
-    requires { IsSound input.old }
-    ensures sound { OnOk result (IsSound input.new) }
-    ensures reads { IfOk result (λ request. BehindReads request (Header.Take node (Err fault) len) true (left R.remaining source.old input.old) (left R.remaining source.new input.new)) }
-    ensures falls { IfOk result (λ request. GoesOn request → budget source.new input.new ≤ budget source.old input.old) }
-    ensures fault { OnErr result (ReadFailed input.new) }
+// A segment whose name was read.
+#[tactic(auto, using(crate::proofs::Bodies::segment_kept, crate::proofs::Bodies::segment_dropped, crate::proofs::Bodies::segment_lacking))]
+fn segment_request(node: NodeNumber, name: Name, found: Found) -> Request
+    ensures { (len : ℕ) (old new : Option (List ℕ)) → FoundBehind (Header.Take node (Ok name) len) (Some found) old new → BehindReads result (Header.Take node (Ok name) len) true old new }
 {
-    if !skip_body(source, input, len as usize)? {
-        return Ok(Request::Malformed);
+    match found {
+        Found::Kept(bytes) => Request::Whole(Command::At(node, Order::Take(name, bytes))),
+        Found::Dropped => Request::Whole(Command::Refused(Refusal::LongSegment)),
+        Found::NoMemory => Request::NoMemory,
+        Found::Nothing => Request::Malformed,
     }
-    Ok(Request::Whole(Command::Refused(Refusal::BadName(fault))))
 }
 
-// Reads the text of a query.
-fn read_query<R: Read>(
-    alloc: Global,
-    source: &mut Source,
-    input: &mut Counted<R>,
-    node: NodeNumber,
-    len: u32,
-) -> Result<Request, ReadFault>
-    requires { IsSound input.old }
-    ensures sound { OnOk result (IsSound input.new) }
-    ensures reads { IfOk result (λ request. BehindReads request (Header.Ask node len) true (left R.remaining source.old input.old) (left R.remaining source.new input.new)) }
-    ensures falls { IfOk result (λ request. GoesOn request → budget source.new input.new ≤ budget source.old input.old) }
-    ensures fault { OnErr result (ReadFailed input.new) }
+// A segment whose words spell no name.
+#[tactic(auto, using(crate::proofs::Bodies::nameless_dropped))]
+fn nameless_request(node: NodeNumber, fault: NameFault, found: Found) -> Request
+    ensures { (len : ℕ) (old new : Option (List ℕ)) → FoundBehind (Header.Take node (Err fault) len) (Some found) old new → BehindReads result (Header.Take node (Err fault) len) true old new }
 {
-    if len > LONGEST_TEXT {
-        if !skip_body(source, input, len as usize)? {
-            return Ok(Request::Malformed);
-        }
-        return Ok(Request::Whole(Command::Refused(Refusal::LongQuery)));
-    }
-    match read_body(alloc, source, input, len as usize)? {
-        Body::Whole(text) => Ok(Request::Whole(Command::At(node, Order::Ask(text)))),
-        Body::NoMemory => Ok(Request::NoMemory),
-        Body::Malformed => Ok(Request::Malformed),
+    match found {
+        Found::Dropped => Request::Whole(Command::Refused(Refusal::BadName(fault))),
+        _ => Request::Malformed,
     }
 }
 
-// Reads a piece of a delivery stream.
-fn read_piece<R: Read>(
-    alloc: Global,
-    source: &mut Source,
-    input: &mut Counted<R>,
-    node: NodeNumber,
-    len: u32,
-) -> Result<Request, ReadFault>
-    requires { IsSound input.old }
-    ensures sound { OnOk result (IsSound input.new) }
-    ensures reads { IfOk result (λ request. BehindReads request (Header.Feed node len) true (left R.remaining source.old input.old) (left R.remaining source.new input.new)) }
-    ensures falls { IfOk result (λ request. GoesOn request → budget source.new input.new ≤ budget source.old input.old) }
-    ensures fault { OnErr result (ReadFailed input.new) }
-{
-    match read_body(alloc, source, input, len as usize)? {
-        Body::Whole(piece) => Ok(Request::Whole(Command::Feed(node, piece))),
-        Body::NoMemory => Ok(Request::NoMemory),
-        Body::Malformed => Ok(Request::Malformed),
-    }
-}
-
-// Reads the body of a segment, or drops it where its words spell no name.
-fn read_take<R: Read>(
-    alloc: Global,
-    source: &mut Source,
-    input: &mut Counted<R>,
-    node: NodeNumber,
-    name: Result<Name, NameFault>,
-    len: u32,
-) -> Result<Request, ReadFault>
-    requires { IsSound input.old }
-    ensures sound { OnOk result (IsSound input.new) }
-    ensures reads { IfOk result (λ request. BehindReads request (Header.Take node name len) true (left R.remaining source.old input.old) (left R.remaining source.new input.new)) }
-    ensures falls { IfOk result (λ request. GoesOn request → budget source.new input.new ≤ budget source.old input.old) }
-    ensures fault { OnErr result (ReadFailed input.new) }
+// A segment.
+fn take_request(node: NodeNumber, name: Result<Name, NameFault>, found: Found) -> Request
+    ensures { (len : ℕ) (old new : Option (List ℕ)) → FoundBehind (Header.Take node name len) (Some found) old new → BehindReads result (Header.Take node name len) true old new }
 {
     match name {
-        Ok(name) => read_segment(alloc, source, input, node, name, len),
-        Err(fault) => drop_segment(source, input, node, fault, len),
+        Ok(name) => segment_request(node, name, found),
+        Err(fault) => nameless_request(node, fault, found),
+    }
+}
+
+// The text of a query.
+#[tactic(auto, using(crate::proofs::Bodies::query_kept, crate::proofs::Bodies::query_dropped, crate::proofs::Bodies::query_lacking))]
+fn query_request(node: NodeNumber, found: Found) -> Request
+    ensures { (len : ℕ) (old new : Option (List ℕ)) → FoundBehind (Header.Ask node len) (Some found) old new → BehindReads result (Header.Ask node len) true old new }
+{
+    match found {
+        Found::Kept(text) => Request::Whole(Command::At(node, Order::Ask(text))),
+        Found::Dropped => Request::Whole(Command::Refused(Refusal::LongQuery)),
+        Found::NoMemory => Request::NoMemory,
+        Found::Nothing => Request::Malformed,
+    }
+}
+
+// A piece of a delivery stream.
+#[tactic(auto, using(crate::proofs::Bodies::piece_kept, crate::proofs::Bodies::piece_lacking))]
+fn piece_request(node: NodeNumber, found: Found) -> Request
+    ensures { (len : ℕ) (old new : Option (List ℕ)) → FoundBehind (Header.Feed node len) (Some found) old new → BehindReads result (Header.Feed node len) true old new }
+{
+    match found {
+        Found::Kept(piece) => Request::Whole(Command::Feed(node, piece)),
+        Found::NoMemory => Request::NoMemory,
+        _ => Request::Malformed,
     }
 }
 
 // The retirement of a name, or why its words spell none.
+#[tactic(auto, using(crate::proofs::Bodies::retirement_found, crate::proofs::Bodies::nameless_found))]
 fn retire_request(node: NodeNumber, name: Result<Name, NameFault>) -> Request
-    ensures { (bytes : Option (List ℕ)) → BehindReads result (Header.Retire node name) true bytes bytes }
+    ensures { (old new : Option (List ℕ)) → Consumes old new [] → BehindReads result (Header.Retire node name) true old new }
 {
     match name {
         Ok(name) => Request::Whole(Command::At(node, Order::Retire(name))),
@@ -171,52 +124,26 @@ fn retire_request(node: NodeNumber, name: Result<Name, NameFault>) -> Request
     }
 }
 
-// Reads what stands behind a header line, where the table was declared.
+// The command of a header line and of what was found behind it.
+#[tactic(auto, using(crate::proofs::Bodies::listing_found, crate::proofs::Bodies::put_found, crate::proofs::Bodies::get_found, crate::proofs::Bodies::bare))]
+fn request_of(header: Header, found: Found) -> Request
+    ensures { (old new : Option (List ℕ)) → FoundBehind header (Some found) old new → BehindReads result header (follows_declaration header) old new }
+{
+    match header {
+        Header::Declare(_) => declaration_request(found),
+        Header::Take(node, name, _) => take_request(node, name, found),
+        Header::Retire(node, name) => retire_request(node, name),
+        Header::List(node) => Request::Whole(Command::At(node, Order::List)),
+        Header::Ask(node, _) => query_request(node, found),
+        Header::Feed(node, _) => piece_request(node, found),
+        Header::Put(node, slot) => Request::Whole(Command::At(node, Order::Put(slot))),
+        Header::Get(slot, node) => Request::Whole(Command::At(node, Order::Get(slot))),
+    }
+}
+
+// Reads what stands behind a header line, the table being declared or not.
+#[tactic(auto, using(crate::proofs::Bodies::out_of_order, crate::proofs::Bodies::nothing_found))]
 fn read_behind<R: Read>(
-    alloc: Global,
-    source: &mut Source,
-    input: &mut Counted<R>,
-    header: Header,
-) -> Result<Request, ReadFault>
-    requires { IsSound input.old }
-    ensures sound { OnOk result (IsSound input.new) }
-    ensures reads { IfOk result (λ request. BehindReads request header true (left R.remaining source.old input.old) (left R.remaining source.new input.new)) }
-    ensures falls { IfOk result (λ request. GoesOn request → budget source.new input.new ≤ budget source.old input.old) }
-    ensures fault { OnErr result (ReadFailed input.new) }
-{
-    match header {
-        Header::Declare(_) => Ok(Request::Malformed),
-        Header::Take(node, name, len) => read_take(alloc, source, input, node, name, len),
-        Header::Retire(node, name) => Ok(retire_request(node, name)),
-        Header::List(node) => Ok(Request::Whole(Command::At(node, Order::List))),
-        Header::Ask(node, len) => read_query(alloc, source, input, node, len),
-        Header::Feed(node, len) => read_piece(alloc, source, input, node, len),
-        Header::Put(node, slot) => Ok(Request::Whole(Command::At(node, Order::Put(slot)))),
-        Header::Get(slot, node) => Ok(Request::Whole(Command::At(node, Order::Get(slot)))),
-    }
-}
-
-// Reads what stands behind a header line, where no table was declared.
-fn read_first<R: Read>(
-    alloc: Global,
-    source: &mut Source,
-    input: &mut Counted<R>,
-    header: Header,
-) -> Result<Request, ReadFault>
-    requires { IsSound input.old }
-    ensures sound { OnOk result (IsSound input.new) }
-    ensures reads { IfOk result (λ request. BehindReads request header false (left R.remaining source.old input.old) (left R.remaining source.new input.new)) }
-    ensures falls { IfOk result (λ request. GoesOn request → budget source.new input.new ≤ budget source.old input.old) }
-    ensures fault { OnErr result (ReadFailed input.new) }
-{
-    match header {
-        Header::Declare(len) => read_declaration(alloc, source, input, len),
-        _ => Ok(Request::Malformed),
-    }
-}
-
-// Reads what stands behind a header line.
-fn read_rest<R: Read>(
     alloc: Global,
     source: &mut Source,
     input: &mut Counted<R>,
@@ -229,11 +156,13 @@ fn read_rest<R: Read>(
     ensures falls { IfOk result (λ request. GoesOn request → budget source.new input.new ≤ budget source.old input.old) }
     ensures fault { OnErr result (ReadFailed input.new) }
 {
-    if declared {
-        read_behind(alloc, source, input, header)
-    } else {
-        read_first(alloc, source, input, header)
+    if header.follows_declaration() != declared {
+        return Ok(Request::Malformed);
     }
+    let Some(found) = read_found(alloc, source, input, &header)? else {
+        return Ok(Request::Malformed);
+    };
+    Ok(request_of(header, found))
 }
 
 /// Reads the command that stands next, the table being declared or not.
@@ -259,6 +188,6 @@ pub(crate) fn read_command<R: Read>(
     let Some(header) = read_header(line.as_slice()) else {
         return Ok(Request::Malformed);
     };
-    let request = read_rest(alloc, source, input, declared, header)?;
+    let request = read_behind(alloc, source, input, declared, header)?;
     Ok(request)
 }

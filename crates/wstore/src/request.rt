@@ -36,6 +36,19 @@ pub(crate) enum Command {
     Feed(NodeNumber, Vec<u8>),
 }
 
+/// What was found behind a header line.
+#[derive(Drop)]
+pub(crate) enum Found {
+    /// The form has no body.
+    Nothing,
+    /// A body, which is kept.
+    Kept(Vec<u8>),
+    /// A body over its limit, or under words that spell no name.
+    Dropped,
+    /// A body that is to be kept, found no memory and was dropped.
+    NoMemory,
+}
+
 /// What stands next in a script.
 #[derive(Drop)]
 pub(crate) enum Request {
