@@ -1,11 +1,11 @@
 -- From what was found behind a header line to commands.
-use Rattle.std.proofs.Common.{◌≡◌, ◌≢◌, ℕ, ◌<◌, ◌≤◌, nat_le, Bool, true, false, List, [], ◌∷◌, ◌++◌, length, Option, None, Some, IfSome, Result, Ok, Err, Vec, Global, refl, subst, sym, ◌∙◌}
+use Rattle.std.proofs.Common.{◌≡◌, ◌≢◌, ℕ, ◌<◌, ◌≤◌, nat_le, Bool, true, false, List, [], Option, None, Some, IfSome, Ok, Err, Vec, Global, refl, subst, sym, ◌∙◌}
 use Rattle.std.proofs.lemmas.Bool.{leb-true, leb-false}
 use Rattle.std.specs.Io.KnownBytes.{Consumes}
 use Rattle.wvalues.specs.Names.{NameParts}
 use Rattle.wvalues.specs.declared.name.NameFault.{NameFault}
 use Rattle.wlines.specs.Reads.{HasNoBody}
-use Rattle.wstore.specs.Commands.{Command, Declare, Take, Retire, Listing, Ask, Feed, Put, Get, IsShortDeclaration}
+use Rattle.wstore.specs.Commands.{IsShortDeclaration}
 use Rattle.wstore.specs.Requests.{BehindReads, FoundBehind, IsBadBehind, IsCommandOf, KeepsBody, body_length, follows_declaration}
 use Rattle.wstore.specs.declared.header.Header.{Header}
 use Rattle.wstore.specs.declared.header.Header.TheVariants as headers
