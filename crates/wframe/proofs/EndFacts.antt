@@ -13,7 +13,8 @@ use Rattle.wframe.specs.Cuts.{CutsAt, HasCuts}
 use Rattle.wframe.specs.Partition.{Partition}
 use Rattle.wframe.specs.Frame.{is_before_start, is_after_end, frame_start, frame_end, frame_extent}
 use Rattle.wframe.specs.FrameEnds.{HasFrames, Extends, IsFrameOf}
-use Rattle.wframe.specs.Ties.{takes_groups}
+use Rattle.wframe.specs.Offsets.{moves_groups}
+use Rattle.wframe.specs.Partitions.{IsGroup}
 use Rattle.wframe.specs.Moves.{move_of, moved_number}
 use Rattle.wframe.specs.Bounds.{starts_after, ends_before}
 use Rattle.wframe.specs.declared.frame.FrameMode.TheVariants.{Rows}
@@ -61,7 +62,7 @@ max_from : (first s e : ℕ) → first ≤ s → first ≤ e → max s e - first
 max_from first s e h k = omega arith
 
 -- a row's frame, by the places where it starts and ends
-frame_cut : (p : Partition) (row s e : ℕ) (r : Span) → CutsAt (length p.keys) (is_before_start p.order p.keys p.frame.mode p.frame.start row) s → CutsAt (length p.keys) (λ j. not (is_after_end p.order p.keys p.frame.mode p.frame.end row j)) e → r.from ≡ s → r.to ≡ max s e → IsFrameOf p row r
+pub frame_cut : (p : Partition) (row s e : ℕ) (r : Span) → CutsAt (length p.keys) (is_before_start p.order p.keys p.frame.mode p.frame.start row) s → CutsAt (length p.keys) (λ j. not (is_after_end p.order p.keys p.frame.mode p.frame.end row j)) e → r.from ≡ s → r.to ≡ max s e → IsFrameOf p row r
 frame_cut p row s e r at to from upto =
     let n = length p.keys in
     let before = is_before_start p.order p.keys p.frame.mode p.frame.start row in
@@ -76,7 +77,7 @@ frame_cut p row s e r at to from upto =
     }
 
 -- what is read of a row's frame
-pub frame_read : (p : Partition) (first row : ℕ) (stored : FrameEnds) (x r : Span) → HasFrames p first stored → takes_groups p.frame.mode ≡ true → row < length p.keys →
+pub frame_read : (p : Partition) (first row : ℕ) (stored : FrameEnds) (x r : Span) → HasFrames p first stored → moves_groups p.frame ≡ true → row < length p.keys →
     x.from ≡ get_or stored.starts.items (first + row) 0 → x.to ≡ max (get_or stored.starts.items (first + row) 0) (get_or stored.ends.items (first + row) 0) →
     r.from ≡ x.from - first → r.to ≡ x.to - first → IsFrameOf p row r
 frame_read p first row stored x r has g h xf xt rf rt =
@@ -107,13 +108,9 @@ apart_wider low high low' high' [] l h a = omega (arith, a)
 apart_wider low high low' high' (s ∷ ss) l h a = (omega (arith, a.0), a.1, apart_wider s.to high s.to high' ss (omega arith) h a.2)
 
 -- what is read of a row's peers
-pub record IsPeersOf (p : Partition) (row : ℕ) (r : Span) : Type 0 where
-  pub start : CutsAt (length p.keys) (is_before (keys_cmp p.order) p.keys row) r.from
-  pub end : CutsAt (length p.keys) (is_upto (keys_cmp p.order) p.keys row) r.to
-
 pub peers_read : (p : Partition) (first row : ℕ) (stored : FrameEnds) (x r : Span) → HasFrames p first stored → row < length p.keys →
     x.from ≡ get_or stored.peer_starts.items (first + row) 0 → x.to ≡ get_or stored.peer_ends.items (first + row) 0 →
-    r.from ≡ x.from - first → r.to ≡ x.to - first → IsPeersOf p row r
+    r.from ≡ x.from - first → r.to ≡ x.to - first → IsGroup (keys_cmp p.order) p.keys row r
 peers_read p first row stored x r has h xf xt rf rt =
     record {
       start = cut_read first (length p.keys) row x.from r.from (is_before (keys_cmp p.order) p.keys) stored.peer_starts.items has.peer_starts h xf rf;

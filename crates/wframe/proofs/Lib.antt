@@ -22,4 +22,5 @@ mod ValueFacts
 mod RowFacts
 mod GapFacts
 mod GroupSteps
+mod PeerFacts
 mod ReachFacts

@@ -27,7 +27,7 @@ above_or Greater h = refl
 not_gt_not_lt : (r s : Ordering) → is_gt r ≡ is_lt s → is_gt r ≡ false → is_lt s ≡ false
 not_gt_not_lt r s e h = sym e ∙ h
 
-eq_equal : (r : Ordering) → is_eq r ≡ true → r ≡ Equal
+pub eq_equal : (r : Ordering) → is_eq r ≡ true → r ≡ Equal
 eq_equal Less h = cc
 eq_equal Equal h = refl
 eq_equal Greater h = cc

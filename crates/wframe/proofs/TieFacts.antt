@@ -63,7 +63,7 @@ module _ (ks : List SortKey) (a b c d : List Meaning) (h : keys_cmp ks a b ≡ E
   end_alike UnboundedFollowing = refl
 
 module _ (ks : List SortKey) (keys : List (List Meaning)) where
-  number_alike : (i k : ℕ) → are_peers (keys_cmp ks) keys i k ≡ true → group_number (keys_cmp ks) keys i ≡ group_number (keys_cmp ks) keys k
+  pub number_alike : (i k : ℕ) → are_peers (keys_cmp ks) keys i k ≡ true → group_number (keys_cmp ks) keys i ≡ group_number (keys_cmp ks) keys k
   number_alike i k h =
       ap (λ xs. length (distinct (keys_cmp ks) xs)) (filter_agree (λ key. is_lt (keys_cmp ks key (key_at keys i))) (λ key. is_lt (keys_cmp ks key (key_at keys k)))
       (λ key. ap is_lt (alike_right (keys_total ks) (key_at keys i) (key_at keys k) key (equal_from (keys_cmp ks (key_at keys i) (key_at keys k)) h))) keys)

@@ -3,19 +3,19 @@ use Rattle.std.specs.Prelude.{◌≡◌, ℕ, ◌<◌, true, not, max, length}
 use Rattle.wvalues.specs.Order.{keys_cmp}
 use Rattle.wframe.specs.declared.ends.FrameEnds.{FrameEnds}
 use Rattle.wframe.specs.Peers.{AreOrdered, is_before, is_upto}
-use Rattle.wframe.specs.declared.frame.FrameMode.{FrameMode}
+use Rattle.wframe.specs.declared.frame.Frame.{Frame}
 use Rattle.wframe.specs.declared.frame.Span.{Span}
-use Rattle.wframe.specs.Ties.{takes_groups}
+use Rattle.wframe.specs.Offsets.{moves_groups}
 use Rattle.wframe.specs.Cuts.{CutsAt, HasCuts, BeginsWith}
 use Rattle.wframe.specs.Places.{span_at, Tiles}
 use Rattle.wframe.specs.Partition.{Partition, Partitioned, partition_of}
 use Rattle.wframe.specs.Frame.{is_before_start, is_after_end, frame_start, frame_end}
 
--- from `first` on, the peers of a partition, and the frames where the mode takes peers in together
+-- from `first` on, the peers of a partition, and the frames where these move keys or group numbers
 pub record HasFrames (p : Partition) (first : ℕ) (stored : FrameEnds) : Type 0 where
   pub ordered : AreOrdered (keys_cmp p.order) p.keys
-  pub starts : takes_groups p.frame.mode ≡ true → HasCuts first (length p.keys) (is_before_start p.order p.keys p.frame.mode p.frame.start) stored.starts.items
-  pub ends : takes_groups p.frame.mode ≡ true → HasCuts first (length p.keys) (λ i j. not (is_after_end p.order p.keys p.frame.mode p.frame.end i j)) stored.ends.items
+  pub starts : moves_groups p.frame ≡ true → HasCuts first (length p.keys) (is_before_start p.order p.keys p.frame.mode p.frame.start) stored.starts.items
+  pub ends : moves_groups p.frame ≡ true → HasCuts first (length p.keys) (λ i j. not (is_after_end p.order p.keys p.frame.mode p.frame.end i j)) stored.ends.items
   pub peer_starts : HasCuts first (length p.keys) (is_before (keys_cmp p.order) p.keys) stored.peer_starts.items
   pub peer_ends : HasCuts first (length p.keys) (is_upto (keys_cmp p.order) p.keys) stored.peer_ends.items
 
@@ -26,17 +26,17 @@ pub record Extends (old new : FrameEnds) : Type 0 where
   pub peer_starts : BeginsWith old.peer_starts.items new.peer_starts.items
   pub peer_ends : BeginsWith old.peer_ends.items new.peer_ends.items
 
--- each list has n places, that of starts and that of ends where the mode takes peers in together
-pub record AreLong (mode : FrameMode) (n : ℕ) (stored : FrameEnds) : Type 0 where
-  pub starts : takes_groups mode ≡ true → length stored.starts.items ≡ n
-  pub ends : takes_groups mode ≡ true → length stored.ends.items ≡ n
+-- each list has n places, that of starts and that of ends where the frame moves keys or group numbers
+pub record AreLong (frame : Frame) (n : ℕ) (stored : FrameEnds) : Type 0 where
+  pub starts : moves_groups frame ≡ true → length stored.starts.items ≡ n
+  pub ends : moves_groups frame ≡ true → length stored.ends.items ≡ n
   pub peer_starts : length stored.peer_starts.items ≡ n
   pub peer_ends : length stored.peer_ends.items ≡ n
 
 -- the frames and peers of each partition
 pub record HasAllFrames (all : Partitioned) (stored : FrameEnds) : Type 0 where
   pub tiles : Tiles 0 all.spans (length all.keys)
-  pub long : AreLong all.frame.mode (length all.keys) stored
+  pub long : AreLong all.frame (length all.keys) stored
   pub each : (k : ℕ) → k < length all.spans → HasFrames (partition_of all (span_at all.spans k)) (span_at all.spans k).from stored
 
 -- a row's frame goes from its start to its end

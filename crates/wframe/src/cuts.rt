@@ -74,7 +74,7 @@ fn next_end<C: Cut>(cut: &C, rows: usize, row: usize, last: Reached) -> Reached
 }
 
 /// Adds, for each row, where the places that pass end, counted on from `first`. [`crate::Partitions::build`] finds the frames
-/// of RANGE and GROUPS by it.
+/// of RANGE and GROUPS with an offset by it.
 ///
 /// The end moves along with the rows and never back: of rows that the test cannot tell apart one is tested once, and once
 /// more where it is an end.

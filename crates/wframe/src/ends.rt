@@ -4,11 +4,12 @@ use crate::bounds::{push_ends, push_starts};
 use crate::frame::{Frame, FrameMode, Span};
 use crate::groups::number_groups;
 use crate::key_rows::KeyRows;
+use crate::moves::moves_groups;
 use crate::peers::{PeerEnds, push_peers};
 use std::alloc::{AllocError, Global};
 
-/// Where peers begin and end, and in RANGE and GROUPS where frames do, for the rows of one partition after another, by
-/// places among all rows.
+/// Where peers begin and end, and in RANGE and GROUPS with an offset where frames do, for the rows of one partition after
+/// another, by places among all rows.
 #[derive(Drop)]
 pub struct FrameEnds {
     starts: Vec<usize>,
@@ -20,26 +21,18 @@ pub struct FrameEnds {
 impl FrameEnds {
     ghost use Rattle.wframe.specs.KeyRows.{key_lists, sort_keys, AreInOrder};
     ghost use Rattle.wframe.specs.Bounds.{is_offset};
-    ghost use Rattle.wframe.specs.Offsets.{is_range};
+    ghost use Rattle.wframe.specs.Offsets.{is_range, moves_groups};
     ghost use Rattle.wframe.specs.FrameEnds.{HasFrames, Extends, AreLong};
-    ghost use Rattle.wframe.specs.Ties.{takes_groups};
     ghost use Rattle.wframe.specs.Cuts.{HasCuts, BeginsWith};
     ghost use Rattle.wframe.specs.Peers.{is_upto};
     ghost use Rattle.wframe.specs.Frame.{is_before_start, is_after_end};
     ghost use Rattle.wvalues.specs.Order.{keys_cmp};
 
-    /// Room for what is kept of so many rows in a mode, and none yet.
-    pub fn with_capacity(
-        alloc: Global,
-        mode: FrameMode,
-        rows: usize,
-    ) -> Result<FrameEnds, AllocError>
-        ensures { IfOk result (AreLong mode 0) }
+    /// Room for what is kept of so many rows with these frames, and none yet.
+    pub fn with_capacity(alloc: Global, frame: Frame, rows: usize) -> Result<FrameEnds, AllocError>
+        ensures { IfOk result (AreLong frame 0) }
     {
-        let bounded = match mode {
-            FrameMode::Rows => 0,
-            FrameMode::Range | FrameMode::Groups => rows,
-        };
+        let bounded = if moves_groups(frame) { rows } else { 0 };
         Ok(FrameEnds {
             starts: Vec::with_capacity(alloc, bounded)?,
             ends: Vec::with_capacity(alloc, bounded)?,
@@ -56,7 +49,7 @@ impl FrameEnds {
         frame: Frame,
         first: usize,
     ) -> Result<(), AllocError>
-        requires together { takes_groups frame.mode ≡ true }
+        requires moves { moves_groups frame ≡ true }
         requires ordered { AreInOrder rows.now }
         requires start { IsTrue (is_range frame.mode && is_offset frame.start) → length (sort_keys rows.now) ≡ 1 }
         requires end { IsTrue (is_range frame.mode && is_offset frame.end) → length (sort_keys rows.now) ≡ 1 }
@@ -92,17 +85,17 @@ impl FrameEnds {
         requires ordered { AreInOrder rows.now }
         requires start { IsTrue (is_range frame.mode && is_offset frame.start) → length (sort_keys rows.now) ≡ 1 }
         requires end { IsTrue (is_range frame.mode && is_offset frame.end) → length (sort_keys rows.now) ≡ 1 }
-        requires first { AreLong frame.mode first self.old }
+        requires first { AreLong frame first self.old }
         requires room { first + length (key_lists rows.now) < 2 ^ 64 }
         ensures frames { OnOk result (HasFrames (record { order = sort_keys rows.now; keys = key_lists rows.now; frame = frame }) first self.new) }
         ensures extends { OnOk result (Extends self.old self.new) }
-        ensures long { OnOk result (AreLong frame.mode (first + length (key_lists rows.now)) self.new) }
+        ensures long { OnOk result (AreLong frame (first + length (key_lists rows.now)) self.new) }
     {
         push_peers(&mut self.peer_starts, &mut self.peer_ends, rows, first)?;
-        match frame.mode {
-            FrameMode::Rows => Ok(()),
-            FrameMode::Range | FrameMode::Groups => self.push_bounds(groups, rows, frame, first),
+        if moves_groups(frame) {
+            return self.push_bounds(groups, rows, frame, first);
         }
+        Ok(())
     }
 
     /// The extent of a row's frame: what lies from its start to its end, excluded rows too.

@@ -11,7 +11,7 @@ use crate::ends::FrameEnds;
 use crate::exclusion::without;
 use crate::frame::{Frame, FrameExclusion, FrameMode, Span};
 use crate::key_rows::KeyRows;
-use crate::moves::Move;
+use crate::moves::{Move, moves_groups};
 use std::marker::Model;
 
 /// One partition with the peers and the frame of each of its rows, lent by [`crate::Partitions`].
@@ -22,7 +22,7 @@ pub struct Frames<'a> {
     rows: KeyRows<'a>,
     frame: Frame,
     span: Span,
-    // How far frames start and end from their rows, in ROWS.
+    // How far frames start and end from their rows, in ROWS, and from their rows' peers, where neither bound has an offset.
     start: Move,
     end: Move,
     // What is kept of each row.
@@ -56,25 +56,26 @@ fn counted_from(span: Span, place: usize) -> Span
     }
 }
 
-// From a row's place, moved, up to the place behind it, moved, among so many rows.
-fn moved_span(start: Move, end: Move, row: usize, count: usize) -> Span
-    requires { row < count }
-    ensures from { result.from ≡ moved_number start count row }
-    ensures to { result.to ≡ max (moved_number start count row) (moved_number end count (row + 1)) }
+// From the start of a span, moved, up to its end, moved, among so many rows.
+fn moved_span(start: Move, end: Move, span: Span, count: usize) -> Span
+    ensures from { result.from ≡ moved_number start count span.from }
+    ensures to { result.to ≡ max (moved_number start count span.from) (moved_number end count span.to) }
 {
-    let from = start.moved(row, count);
+    let from = start.moved(span.from, count);
     Span {
         from,
-        to: from.max(end.moved(row + 1, count)),
+        to: from.max(end.moved(span.to, count)),
     }
 }
 
 impl<'a> Frames<'a> {
     ghost use Rattle.wframe.specs.KeyRows.{key_lists, sort_keys};
     ghost use Rattle.wframe.specs.FrameEnds.{HasFrames, IsFrameOf};
+    ghost use Rattle.wframe.specs.Offsets.{moves_groups as has_moved_groups};
+    ghost use Rattle.wframe.specs.Partitions.{IsGroup};
     ghost use Rattle.wframe.specs.Ties.{takes_groups};
     ghost use Rattle.wframe.specs.declared.frame.FrameMode.{FrameMode};
-    ghost use Rattle.std.specs.Prelude.{true};
+    ghost use Rattle.std.specs.Prelude.{true, false};
 
     /// The rows of a span, of which the peers and the ends are kept there.
     pub(crate) fn new(
@@ -115,6 +116,15 @@ impl<'a> Frames<'a> {
         self.frame.exclusion
     }
 
+    // The peers of a row, by where they begin and where they end.
+    fn found_peers(&self, row: usize) -> Span
+        requires { row < length self.now.keys }
+        ensures { IsGroup (keys_cmp self.now.order) self.now.keys row result }
+    {
+        let first = self.span.from;
+        counted_from(self.ends.peers(first + row), first)
+    }
+
     /// The peers of a row, which are never none.
     pub fn peers(&self, row: usize) -> Span
         requires { row < length self.now.keys }
@@ -126,8 +136,7 @@ impl<'a> Frames<'a> {
         ensures to { row < result.to }
         ensures within { result.to ≤ length self.now.keys }
     {
-        let first = self.span.from;
-        counted_from(self.ends.peers(first + row), first)
+        self.found_peers(row)
     }
 
     // The extent of a row's frame in ROWS: the row's place and the one behind it, moved.
@@ -136,12 +145,29 @@ impl<'a> Frames<'a> {
         requires row { row < length self.now.keys }
         ensures { IsFrameOf self.now row result }
     {
-        moved_span(self.start, self.end, row, self.rows.count())
+        let count = self.rows.count();
+        let alone = Span {
+            from: row,
+            to: row + 1,
+        };
+        moved_span(self.start, self.end, alone, count)
     }
 
-    // The extent of a row's frame in RANGE and GROUPS, as it is kept.
-    fn kept_extent(&self, row: usize) -> Span
+    // The extent of a row's frame in RANGE and GROUPS without an offset: an end is where the row's peers end, or where the
+    // partition does.
+    fn peer_extent(&self, row: usize) -> Span
         requires mode { takes_groups self.now.frame.mode ≡ true }
+        requires moves { has_moved_groups self.now.frame ≡ false }
+        requires row { row < length self.now.keys }
+        ensures { IsFrameOf self.now row result }
+    {
+        let peers = self.found_peers(row);
+        moved_span(self.start, self.end, peers, self.rows.count())
+    }
+
+    // The extent of a row's frame in RANGE and GROUPS with an offset, as it is kept.
+    fn kept_extent(&self, row: usize) -> Span
+        requires moves { has_moved_groups self.now.frame ≡ true }
         requires row { row < length self.now.keys }
         ensures { IsFrameOf self.now row result }
     {
@@ -155,9 +181,12 @@ impl<'a> Frames<'a> {
         ensures frame { IsFrameOf self.now row result }
         ensures ordered { AreOrdered (keys_cmp self.now.order) self.now.keys }
     {
+        if moves_groups(self.frame) {
+            return self.kept_extent(row);
+        }
         match self.frame.mode {
             FrameMode::Rows => self.moved_extent(row),
-            FrameMode::Range | FrameMode::Groups => self.kept_extent(row),
+            FrameMode::Range | FrameMode::Groups => self.peer_extent(row),
         }
     }
 

@@ -1,7 +1,9 @@
 ghost use Rattle.std.specs.Prelude.{◌≡◌, min};
+ghost use Rattle.wframe.specs.Bounds.{is_offset as has_offset};
 ghost use Rattle.wframe.specs.Moves.{move_of, moved_number};
+ghost use Rattle.wframe.specs.Offsets.{moves_groups as has_moved_groups};
 
-use crate::frame::FrameBound;
+use crate::frame::{Frame, FrameBound, FrameMode};
 
 /// How far a bound lies below or above a number, among so many numbers.
 #[derive(Clone, Copy)]
@@ -42,5 +44,23 @@ impl Move {
     {
         let raised = number.saturating_add(self.up).min(count);
         raised.saturating_sub(self.down)
+    }
+}
+
+// Whether a bound has an offset.
+fn is_offset(bound: FrameBound) -> bool
+    ensures { result ≡ has_offset bound }
+{
+    matches!(bound, FrameBound::Preceding(_) | FrameBound::Following(_))
+}
+
+/// Whether a frame moves keys or group numbers. One that does not ends where the row's peers do, at the first row or at the
+/// last one; in ROWS the row's place is moved.
+pub fn moves_groups(frame: Frame) -> bool
+    ensures { result ≡ has_moved_groups frame }
+{
+    match frame.mode {
+        FrameMode::Rows => false,
+        FrameMode::Range | FrameMode::Groups => is_offset(frame.start) || is_offset(frame.end),
     }
 }

@@ -49,7 +49,7 @@ fn all_ends(
     requires spans { All (IsPartition (keys_cmp (sort_keys partition_values.now)) (key_lists partition_values.now)) spans.now }
     ensures { IfOk result (HasAllFrames (record { order = sort_keys keys.now; keys = key_lists keys.now; frame = frame; spans = spans.now })) }
 {
-    let mut ends = FrameEnds::with_capacity(alloc, frame.mode, keys.count())?;
+    let mut ends = FrameEnds::with_capacity(alloc, frame, keys.count())?;
     let mut groups = Vec::new(alloc);
     for span in spans {
         let part = keys.part(*span);

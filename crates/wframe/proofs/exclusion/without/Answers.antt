@@ -1,4 +1,4 @@
-use Rattle.std.proofs.Common.{◌≡◌, ◌≤◌, ◌∙◌, ap, arith}
+use Rattle.std.proofs.Common.{◌∙◌, ap, arith}
 use Rattle.wframe.proofs.PieceFacts.{gap_rows, gap_list_of, pieces_of}
 use Rattle.wframe.specs.Exclusion.{gap_of}
 use Rattle.wframe.proofs.exclusion.without.Goals as goal

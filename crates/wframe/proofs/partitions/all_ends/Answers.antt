@@ -15,7 +15,7 @@ use Rattle.wframe.proofs.partitions.all_ends.Goals as goal
 
 pub loop-span-init : goal.loop-span-init
 loop-span-init c = record {
-  long = subst (λ m. AreLong c.args.frame.mode m c.in_ok-ends.ends) (sym (start_first 0 (length (key_lists c.args.keys.now)) c.args.spans.now (subst (Tiles 0 c.args.spans.now) c.requires.count c.requires.tiles))) c.in_ok-ends.ensures;
+  long = subst (λ m. AreLong c.args.frame m c.in_ok-ends.ends) (sym (start_first 0 (length (key_lists c.args.keys.now)) c.args.spans.now (subst (Tiles 0 c.args.spans.now) c.requires.count c.requires.tiles))) c.in_ok-ends.ensures;
   each = λ k h. absurd (omega arith);
 }
 
@@ -32,7 +32,7 @@ push_partition-requires-clause-ordered c =
 
 pub push_partition-requires-clause-first : goal.push_partition-requires-clause-first
 push_partition-requires-clause-first c =
-    subst (λ m. AreLong c.args.frame.mode m c.loop-span.ends) (start_at (length (key_lists c.args.keys.now)) c.args.spans.now c.loop-span.span-index c.loop-span-test.true) c.loop-span.invariant.long
+    subst (λ m. AreLong c.args.frame m c.loop-span.ends) (start_at (length (key_lists c.args.keys.now)) c.args.spans.now c.loop-span.span-index c.loop-span-test.true) c.loop-span.invariant.long
 
 pub loop-span-preserved : goal.loop-span-preserved
 loop-span-preserved c =
@@ -52,7 +52,7 @@ loop-span-preserved c =
     let size : length (key_lists part) ≡ s.to - s.from = ap length c.part-part.ensures.lists ∙ length-slice keys s.from s.to within in
     let end : s.from + length (key_lists part) ≡ start_of n spans (i + 1) = (let e : s.from + length (key_lists part) ≡ s.to = omega (arith, size, some) in e ∙ sym (start_next 0 n spans i tiles h)) in
     record {
-      long = subst (λ m. AreLong c.args.frame.mode m new) end c.in_ok-push_partition.ensures.long;
+      long = subst (λ m. AreLong c.args.frame m new) end c.in_ok-push_partition.ensures.long;
       each = below_more (λ k. HasFrames (partition_of all (span_at spans k)) (span_at spans k).from new) i
           (λ k g. frames_stay (partition_of all (span_at spans k)) (span_at spans k).from c.loop-span.ends new (c.loop-span.invariant.each k g) c.in_ok-push_partition.ensures.extends)
           (subst (λ order. HasFrames (record { order = order; keys = slice_range keys s.from s.to; frame = c.args.frame }) s.from new) c.part-part.ensures.keys
@@ -67,6 +67,6 @@ returns c =
     let e : i ≡ length spans = omega arith in
     record {
       tiles = subst (Tiles 0 spans) c.requires.count c.requires.tiles;
-      long = subst (λ m. AreLong c.args.frame.mode m c.loop-span.ends) (ap (start_of n spans) e ∙ start_last n spans) c.loop-span.invariant.long;
+      long = subst (λ m. AreLong c.args.frame m c.loop-span.ends) (ap (start_of n spans) e ∙ start_last n spans) c.loop-span.invariant.long;
       each = λ k h. c.loop-span.invariant.each k (omega arith);
     }

@@ -10,6 +10,6 @@ abbrev pub invariant-loop-span : goal.invariant-loop-span
 invariant-loop-span l =
     let all : Partitioned = record { order = sort_keys l.keys; keys = key_lists l.keys; frame = l.frame; spans = l.spans } in
     record {
-      long : AreLong l.frame.mode (start_of (length (key_lists l.keys)) l.spans l.span-index) l.ends;
+      long : AreLong l.frame (start_of (length (key_lists l.keys)) l.spans l.span-index) l.ends;
       each : (k : ℕ) → k < l.span-index → HasFrames (partition_of all (span_at l.spans k)) (span_at l.spans k).from l.ends;
     }
