@@ -54,19 +54,11 @@ pub fn push_frame_folds<F: Fold>(
     ensures joins { F.count meter.new ≤ F.count meter.old + most frames.now.frame.exclusion (F.rows fold.now) }
     ensures few { F.count meter.new ≤ F.count meter.old + most_by_two_queues (F.rows fold.now) }
 {
+    let FrameQueues { before, behind } = queues;
     match frames.exclusion() {
-        FrameExclusion::NoOthers => {
-            push_sliding_folds(&mut queues.before, folds, fold, frames, meter)
-        }
+        FrameExclusion::NoOthers => push_sliding_folds(before, folds, fold, frames, meter),
         FrameExclusion::CurrentRow | FrameExclusion::Group | FrameExclusion::Ties => {
-            push_excluded_folds(
-                &mut queues.before,
-                &mut queues.behind,
-                folds,
-                fold,
-                frames,
-                meter,
-            )
+            push_excluded_folds(before, behind, folds, fold, frames, meter)
         }
     }
 }

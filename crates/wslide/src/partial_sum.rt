@@ -1,6 +1,6 @@
-ghost use Rattle.std.specs.Prelude.{◌≡◌, ◌+ℤ◌, None, Some};
+ghost use Rattle.std.specs.Prelude.{◌≡◌, None, Some};
 ghost use Rattle.wvalues.specs.Whole.{IsWhole};
-ghost use Rattle.wslide.specs.Sums.{IsSum, IsShort, sums_joined, wrapped};
+ghost use Rattle.wslide.specs.Sums.{IsSum, IsShort, sums_joined};
 
 use std::alloc::AllocError;
 use std::marker::Model;
@@ -12,7 +12,7 @@ use wvalues::Whole;
 /// numbers.
 #[derive(Debug)]
 pub struct PartialSum {
-    // The sum, or the limit where there is none.
+    // One more than twice the sum; 0 where there is none.
     number: i128,
 }
 
@@ -44,32 +44,12 @@ impl Clone for PartialSum {
 
 impl Copy for PartialSum {}
 
-/// The first number that is too large for a sum.
-const LIMIT: i128 = 1 << 126;
-
-// The sum of two sums, which wraps.
-fn added(left: i128, right: i128) -> i128
-    requires left { IsShort left }
-    requires right { IsShort right }
-    ensures value { result ≡ wrapped (left +ℤ right) }
-    ensures short { IsShort result }
-{
-    let sum = left + right;
-    if sum < -LIMIT {
-        sum + LIMIT + LIMIT
-    } else if sum < LIMIT {
-        sum
-    } else {
-        sum - LIMIT - LIMIT
-    }
-}
-
 impl PartialSum {
     /// The sum of no number.
     pub fn none() -> PartialSum
         ensures { result ≡ None }
     {
-        PartialSum { number: LIMIT }
+        PartialSum { number: 0 }
     }
 
     // The sum that is this number.
@@ -77,7 +57,9 @@ impl PartialSum {
         requires { IsShort number }
         ensures { result ≡ Some number }
     {
-        PartialSum { number }
+        PartialSum {
+            number: number + number + 1,
+        }
     }
 
     /// The sum of one number.
@@ -94,10 +76,10 @@ impl PartialSum {
         ensures value { result ≡ self }
         ensures short { IsSum result }
     {
-        if self.number < LIMIT {
-            Some(self.number)
-        } else {
+        if self.number == 0 {
             None
+        } else {
+            Some(self.number >> 1)
         }
     }
 
@@ -106,10 +88,15 @@ impl PartialSum {
         ensures value { result ≡ sums_joined self other }
         ensures part { IsSum result }
     {
-        match (self.get(), other.get()) {
-            (Some(a), Some(b)) => PartialSum::short(added(a, b)),
-            (Some(_), None) => self,
-            (None, _) => other,
+        if self.number == 0 {
+            other
+        } else if other.number == 0 {
+            self
+        } else {
+            // One more than twice a sum wraps at 128 bits where the sum wraps at 127.
+            PartialSum {
+                number: self.number.wrapping_add(other.number).wrapping_sub(1),
+            }
         }
     }
 }
