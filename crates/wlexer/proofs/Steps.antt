@@ -27,19 +27,19 @@ spelled_along {rest = rest} {token = token} e x = subst (λ (z : List ℕ). Spel
 pub keyword_found : {text word rest : List ℕ} {k : Keyword} (b : ℕ) (ts : List ℕ) → text ≡ b ∷ ts → kind_of b ≡ kinds.Word → word ≡ front stretches.Word text → rest ≡ behind stretches.Word text → keyword_of word ≡ Some k → Spelled text (KeywordToken k) rest
 keyword_found {k = k} b ts e h w r s = spelled_along e (subst (λ (z : List ℕ). Spelled (b ∷ ts) (KeywordToken k) z) (sym (r ∙ ap (behind stretches.Word) e)) (keyword_word h (ap keyword_of (sym (w ∙ ap (front stretches.Word) e)) ∙ s)))
 
-name_at : (b : ℕ) (ts word rest name : List ℕ) → kind_of b ≡ kinds.Word → word ≡ front stretches.Word (b ∷ ts) → rest ≡ behind stretches.Word (b ∷ ts) → keyword_of word ≡ None → length word ≤ 63 → name ≡ map to_ascii_lowercase word → Spelled (b ∷ ts) (NameToken name) rest
-name_at b ts word rest name h w r s l n =
-    subst (λ (z : List ℕ). Spelled (b ∷ ts) (NameToken name) z) (sym r)
-    (subst (λ (z : List ℕ). Spelled (b ∷ ts) (NameToken z) (behind stretches.Word (b ∷ ts))) (sym (n ∙ ap (map to_ascii_lowercase) w))
+name_at : (b : ℕ) (ts word rest : List ℕ) (token : TokenMeaning) → kind_of b ≡ kinds.Word → word ≡ front stretches.Word (b ∷ ts) → rest ≡ behind stretches.Word (b ∷ ts) → keyword_of word ≡ None → length word ≤ 63 → token ≡ NameToken (map to_ascii_lowercase word) → Spelled (b ∷ ts) token rest
+name_at b ts word rest token h w r s l n =
+    subst (λ (z : List ℕ). Spelled (b ∷ ts) token z) (sym r)
+    (subst (λ (z : TokenMeaning). Spelled (b ∷ ts) z (behind stretches.Word (b ∷ ts))) (sym (n ∙ ap (λ (z : List ℕ). NameToken (map to_ascii_lowercase z)) w))
     (name_word h (ap keyword_of (sym w) ∙ s) (subst (λ (z : List ℕ). length z ≤ 63) w l)))
 
 -- a name
-pub name_found : {text word rest name : List ℕ} (b : ℕ) (ts : List ℕ) → text ≡ b ∷ ts → kind_of b ≡ kinds.Word → word ≡ front stretches.Word text → rest ≡ behind stretches.Word text → keyword_of word ≡ None → length word ≤ 63 → name ≡ map to_ascii_lowercase word → Spelled text (NameToken name) rest
-name_found {word = word} {rest = rest} {name = name} b ts e h w r s l n = spelled_along e (name_at b ts word rest name h (w ∙ ap (front stretches.Word) e) (r ∙ ap (behind stretches.Word) e) s l n)
+pub name_found : {text word rest : List ℕ} {token : TokenMeaning} (b : ℕ) (ts : List ℕ) → text ≡ b ∷ ts → kind_of b ≡ kinds.Word → word ≡ front stretches.Word text → rest ≡ behind stretches.Word text → keyword_of word ≡ None → length word ≤ 63 → token ≡ NameToken (map to_ascii_lowercase word) → Spelled text token rest
+name_found {word = word} {rest = rest} {token = token} b ts e h w r s l n = spelled_along e (name_at b ts word rest token h (w ∙ ap (front stretches.Word) e) (r ∙ ap (behind stretches.Word) e) s l n)
 
 -- a name in quotes, and why there is none
-pub quoted_name_found : {text body rest name : List ℕ} → Quoted double_quote text body rest → 1 ≤ length body → length body ≤ 63 → name ≡ body → Spelled (double_quote ∷ text) (NameToken name) rest
-quoted_name_found {text = text} {rest = rest} q some short e = subst (λ (z : List ℕ). Spelled (double_quote ∷ text) (NameToken z) rest) (sym e) (quoted_name refl q some short)
+pub quoted_name_found : {text body rest : List ℕ} {token : TokenMeaning} → Quoted double_quote text body rest → 1 ≤ length body → length body ≤ 63 → token ≡ NameToken body → Spelled (double_quote ∷ text) token rest
+quoted_name_found {text = text} {rest = rest} q some short e = subst (λ (z : TokenMeaning). Spelled (double_quote ∷ text) z rest) (sym e) (quoted_name refl q some short)
 
 pub empty_name : {text body rest : List ℕ} → Quoted double_quote text body rest → length body ≡ 0 → IsStuck (double_quote ∷ text)
 empty_name q none token after x = let p = quoted_name_parts refl x in let e = ap length (quoted_same q p.quoted).0 in let l = p.some in omega arith

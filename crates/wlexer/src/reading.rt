@@ -1,12 +1,14 @@
 //! Reads one token from the front of a text.
 
-ghost use Rattle.std.specs.Prelude.{◌≡◌, ℕ, ◌<◌, ◌≤◌, List, ◌∷◌, Some, IfOk, IfErr, MatchOption};
+ghost use Rattle.std.specs.Prelude.{◌≡◌, ℕ, ◌<◌, ◌≤◌, List, ◌∷◌, Some, map, IfOk, IfErr, MatchBool, MatchOption};
+ghost use Rattle.std.specs.Char.{to_ascii_lowercase};
+ghost use Rattle.std.specs.String.{string_bytes};
 ghost use Rattle.wlexer.specs.declared.bytes.TokenKind.TheVariants as kinds;
 ghost use Rattle.wlexer.specs.Bytes.{apostrophe, double_quote, kind_of};
 ghost use Rattle.wlexer.specs.Reading.{Misses};
-ghost use Rattle.wlexer.specs.Spelling.{IsStuck, number_limit, number_of, Spelled};
+ghost use Rattle.wlexer.specs.Spelling.{IsStuck, longest_name, number_limit, number_of, Spelled};
 ghost use Rattle.wlexer.specs.Symbols.{symbol_of_two, IsNoPair};
-ghost use Rattle.wlexer.specs.Token.{lexeme_meaning};
+ghost use Rattle.wlexer.specs.Token.{lexeme_meaning, NameToken};
 
 use crate::bytes::{Stretch, TokenKind, kind_of};
 use crate::fault::Miss;
@@ -15,11 +17,34 @@ use crate::number::{NUMBER_LIMIT, Number};
 use crate::pieces::{ends_number, first_ascii, split_stretch, unquoted};
 use crate::symbol::{symbol_of_one, symbol_of_two};
 use crate::token::{Lexeme, Symbol};
-use std::alloc::Global;
+use std::alloc::{AllocError, Global};
 use std::rc::RcStr;
 
 /// The most bytes of a name.
 const LONGEST_NAME: usize = 63;
+
+// Whether a name has so many bytes that it is none.
+fn is_too_long(len: usize) -> bool
+    ensures { MatchBool result (longest_name < len) (len ≤ longest_name) }
+{
+    len > LONGEST_NAME
+}
+
+// The name of a word, in lower case.
+fn folded(alloc: Global, word: &str) -> Result<Lexeme, AllocError>
+    ensures { IfOk result (λ x. lexeme_meaning x ≡ NameToken (map to_ascii_lowercase word.now)) }
+{
+    let name = RcStr::from_string(word.to_ascii_lowercase(alloc)?)?;
+    Ok(Lexeme::Name(name))
+}
+
+// The name of a body in quotes, as it stands.
+fn unfolded(body: String) -> Result<Lexeme, AllocError>
+    ensures { IfOk result (λ x. lexeme_meaning x ≡ NameToken (string_bytes body)) }
+{
+    let name = RcStr::from_string(body)?;
+    Ok(Lexeme::Name(name))
+}
 
 /// A keyword, or a name in lower case.
 fn word(alloc: Global, text: &str) -> Result<(Lexeme, &str), Miss>
@@ -31,12 +56,11 @@ fn word(alloc: Global, text: &str) -> Result<(Lexeme, &str), Miss>
     if let Some(keyword) = keyword_of(word) {
         return Ok((Lexeme::Keyword(keyword), rest));
     }
-    if word.len() > LONGEST_NAME {
+    if is_too_long(word.len()) {
         return Err(Miss::Nothing);
     }
-    let folded = word.to_ascii_lowercase(alloc)?;
-    let name = RcStr::from_string(folded)?;
-    Ok((Lexeme::Name(name), rest))
+    let name = folded(alloc, word)?;
+    Ok((name, rest))
 }
 
 /// A name in quotes, behind the first quote.
@@ -45,11 +69,11 @@ fn quoted_name(alloc: Global, text: &str) -> Result<(Lexeme, &str), Miss>
     ensures none { IfErr result (λ e. Misses e (IsStuck (double_quote ∷ text.now))) }
 {
     let (body, rest) = unquoted(alloc, '"', text)?;
-    if body.is_empty() || body.len() > LONGEST_NAME {
+    if body.is_empty() || is_too_long(body.len()) {
         return Err(Miss::Nothing);
     }
-    let name = RcStr::from_string(body)?;
-    Ok((Lexeme::Name(name), rest))
+    let name = unfolded(body)?;
+    Ok((name, rest))
 }
 
 /// A text in quotes, behind the first quote.

@@ -6,11 +6,11 @@ pub returns-in-Some-clause-found : goal.returns-in-Some-clause-found
 returns-in-Some-clause-found c =
     keyword_found c.requires.0 c.requires.1 c.requires.2 c.requires.3 c.split_stretch.ensures.front c.split_stretch.ensures.behind (sym c.keyword_of.ensures ∙ c.in-Some.is)
 
-pub returns-then-word-gt-LONGEST_NAME-clause-none :
-    goal.returns-then-word-gt-LONGEST_NAME-clause-none
-returns-then-word-gt-LONGEST_NAME-clause-none c =
-    long_word c.requires.0 c.requires.1 c.requires.2 c.requires.3 c.split_stretch.ensures.front (sym c.keyword_of.ensures ∙ c.in_default.is) c.if-word-gt-LONGEST_NAME.true
+pub returns-then-is_too_long-clause-none :
+    goal.returns-then-is_too_long-clause-none
+returns-then-is_too_long-clause-none c =
+    long_word c.requires.0 c.requires.1 c.requires.2 c.requires.3 c.split_stretch.ensures.front (sym c.keyword_of.ensures ∙ c.in_default.is) c.if-is_too_long.ensures
 
 pub returns-clause-found : goal.returns-clause-found
 returns-clause-found c =
-    name_found c.requires.0 c.requires.1 c.requires.2 c.requires.3 c.split_stretch.ensures.front c.split_stretch.ensures.behind (sym c.keyword_of.ensures ∙ c.in_default.is) c.if-word-gt-LONGEST_NAME.false (c.in_ok-name.ensures.ok ∙ c.in_ok-folded.ensures.ok)
+    name_found c.requires.0 c.requires.1 c.requires.2 c.requires.3 c.split_stretch.ensures.front c.split_stretch.ensures.behind (sym c.keyword_of.ensures ∙ c.in_default.is) c.if-is_too_long.ensures c.in_ok-name.ensures
