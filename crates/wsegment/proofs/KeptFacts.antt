@@ -3,13 +3,16 @@ use Rattle.std.proofs.Common.{◌≡◌, ◌∙◌, ◌<◌, ℕ, List, [], ap, 
 use Rattle.std.proofs.lemmas.List.{get_or-map}
 use Rattle.wvalues.specs.Meaning.{Meaning, Null, meaning}
 use Rattle.wvalues.specs.declared.value.Value.{Value}
-use Rattle.wsegment.specs.Rows.{cell}
+use Rattle.wsegment.specs.Rows.{Content, cell}
 use Rattle.wsegment.specs.Kept.{content_of}
 use Rattle.wsegment.specs.declared.segment.Segment.TheInside.{Inside}
 use Rattle.wsegment.proofs.LaidFacts.{length-laid}
 
 pub rows-count : (a : Inside) → length (content_of a).rows ≡ a.rows.count
 rows-count a = length-laid a.rows.width a.rows.count a.rows.cells.items
+
+pub rows_counted : (a : Inside) (content : Content) → content_of a ≡ content → a.rows.count ≡ length content.rows
+rows_counted a content e = sym (rows-count a) ∙ ap (λ (c : Content). length c.rows) e
 
 -- a value by its place in a row
 pub row-value : (values : List Value) (rows : List (List Meaning)) (row col : ℕ) (v : Value) → v ≡ get_or values col v → col < length values → map meaning values ≡ get_or rows row [] → meaning v ≡ cell rows row col

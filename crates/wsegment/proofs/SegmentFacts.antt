@@ -1,5 +1,5 @@
 -- The rows of a segment, by what was found out about its bytes.
-use Rattle.std.proofs.Common.{◌≡◌, ◌∙◌, ◌<◌, ◌≤◌, ◌⊎◌, inl, inr, true, false, ℕ, List, [], ◌∷◌, length, map, Result, Some, Ok, Err, refl, ap}
+use Rattle.std.proofs.Common.{◌≡◌, ◌∙◌, ◌<◌, ◌≤◌, ◌⊎◌, inl, inr, true, false, ℕ, List, [], ◌∷◌, length, map, Result, Some, Ok, Err, refl, sym, ap}
 use Rattle.std.proofs.lemmas.Bool.{le-ltb, lt-ltb}
 use Rattle.csv.specs.Reading.{default_config, records, strip_bom}
 use Rattle.wvalues.specs.Meaning.{Meaning}
@@ -21,9 +21,14 @@ rows-short : (d : Declaration) (bytes : List ℕ) → length bytes ≤ 67108864 
 unfolding rows_of
 rows-short d bytes short = rw (le-ltb 67108864 (length bytes) short) refl
 
-pub rows-none : (d : Declaration) (bytes : List ℕ) → length bytes ≤ 67108864 → records default_config (strip_bom bytes) ≡ [] → rows_of d bytes ≡ Err faults.NoHeader
+rows-none : (d : Declaration) (bytes : List ℕ) → length bytes ≤ 67108864 → records default_config (strip_bom bytes) ≡ [] → rows_of d bytes ≡ Err faults.NoHeader
 unfolding rows_of_records
 rows-none d bytes short e = rows-short d bytes short ∙ rw e refl
+
+pub stop-first : (fault : SegmentFault) (d : Declaration) (bytes : List ℕ) → length bytes ≤ 67108864 → (left : List (List (List ℕ))) → left ≡ records default_config (strip_bom bytes)
+    → (fault ≡ faults.NoMemory) ⊎ ((fault ≡ faults.NoHeader) × (left ≡ [])) → Fails fault (rows_of d bytes)
+stop-first fault d bytes short left all (inl memory) = inl memory
+stop-first fault d bytes short left all (inr none) = inr (rw none.0 (rows-none d bytes short (sym all ∙ none.1)))
 
 -- bytes with a header, and the records below it
 pub record IsHeaded (d : Declaration) (bytes : List ℕ) (header : List (List ℕ)) (below : List (List (List ℕ))) : Type 0 where

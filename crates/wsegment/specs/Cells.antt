@@ -34,6 +34,10 @@ cells_of row (k ∷ ks) (f ∷ fs) = cell_of row k f >>= λ x. cells_of row ks f
 unfoldable pub row_of : ℕ → List Kind → List (List ℕ) → Result (List Meaning) SegmentFault
 row_of row ks fields = if length fields == length ks then cells_of row ks fields else Err (faults.RowLength row)
 
+-- the row behind so many, as far as there may be one more
+abbrev pub row_behind : ℕ → List Kind → List (List ℕ) → Result (List Meaning) SegmentFault
+row_behind count ks fields = if count == 1000000 then Err faults.TooManyRows else row_of (count + 1) ks fields
+
 -- the rows from this number on, up to the millionth
 unfoldable pub rows_from : List Kind → ℕ → List (List (List ℕ)) → Result (List (List Meaning)) SegmentFault
 rows_from ks row [] = Ok []

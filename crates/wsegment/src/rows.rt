@@ -1,8 +1,8 @@
 //! The rows below a header, laid out one after another.
-ghost use Rattle.std.specs.Prelude.{◌≡◌, ◌≢◌, true, false, ◌*◌, ◌+◌, ◌<◌, All, Ok, OnOk, IfOk, IfErr, length, map, take, drop};
+ghost use Rattle.std.specs.Prelude.{◌≡◌, ◌==◌, ◌*◌, ◌+◌, ◌<◌, ◌≤◌, All, Ok, OnOk, IfOk, IfErr, length, map, take, drop};
 ghost use Rattle.csv.specs.Records.{fields_of};
 ghost use Rattle.wvalues.specs.Meaning.{meaning};
-ghost use Rattle.wsegment.specs.Cells.{row_of, rows_from};
+ghost use Rattle.wsegment.specs.Cells.{row_behind, row_of, rows_from};
 ghost use Rattle.wsegment.specs.Header.{all_now, kinds_of};
 ghost use Rattle.wsegment.specs.Kept.{cells_at, in_order_of, rows_kept};
 ghost use Rattle.wsegment.specs.Outcome.{Fails, Gives};
@@ -70,10 +70,43 @@ fn lay_row(fields: &[usize], found: &[Value], cells: &mut Vec<Value>) -> Result<
 
 // Whether a segment has as many rows as it may.
 fn is_full(count: u32) -> bool
-    ensures full { result ≡ true → count ≡ 1000000 }
-    ensures room { result ≡ false → count ≢ 1000000 }
+    ensures { result ≡ count == 1000000 }
 {
     count == MAX_ROWS
+}
+
+// Reads the cells of the row behind so many, or finds its first fault: that it is one too many, or its own.
+fn read_row(
+    alloc: Global,
+    count: u32,
+    header: &[&Column],
+    row: &ByteRecord,
+    texts: &mut Texts,
+    cells: &mut Vec<Value>,
+) -> Result<(), SegmentFault>
+    requires { count ≤ 1000000 }
+    ensures added { OnOk result (length cells.new.items ≡ length header.now) }
+    ensures row { OnOk result (row_behind count (kinds_of (all_now header.now)) (fields_of row.now) ≡ Ok (map meaning cells.new.items)) }
+    ensures fault { IfErr result (λ fault. Fails fault (row_behind count (kinds_of (all_now header.now)) (fields_of row.now))) }
+{
+    if is_full(count) {
+        return Err(SegmentFault::TooManyRows);
+    }
+    cells.clear();
+    push_row(alloc, count + 1, header, row, texts, cells)
+}
+
+// So many rows of this width.
+fn rows_laid(cells: Vec<Value>, width: usize, count: u32) -> Rows
+    ensures cells { result.cells.items ≡ cells.items }
+    ensures width { result.width ≡ width }
+    ensures count { result.count ≡ count }
+{
+    Rows {
+        cells,
+        width,
+        count: count as usize,
+    }
 }
 
 /// Every row that is left, of which each column's cell stands at its field, or the first fault. One record is filled
@@ -96,17 +129,9 @@ pub(crate) fn read_rows(
     let mut row = ByteRecord::new(alloc);
     let mut count = 0;
     while take_record(reader, &mut row)? {
-        if is_full(count) {
-            return Err(SegmentFault::TooManyRows);
-        }
-        count += 1;
-        found.clear();
-        push_row(alloc, count, header, &row, &mut texts, &mut found)?;
+        read_row(alloc, count, header, &row, &mut texts, &mut found)?;
         lay_row(fields, &found, &mut cells)?;
+        count += 1;
     }
-    Ok(Rows {
-        cells,
-        width: fields.len(),
-        count: count as usize,
-    })
+    Ok(rows_laid(cells, fields.len(), count))
 }

@@ -6,10 +6,9 @@ ghost use Rattle.wsegment.specs.Rows.{cell, rows_of};
 
 use crate::fault::SegmentFault;
 use crate::header::{column_fields, header_columns};
-use crate::records::{reader_of, take_record};
+use crate::records::{reader_of, take_header};
 use crate::rows::{Rows, read_rows};
 use crate::schema::Schema;
-use csv::ByteRecord;
 use std::alloc::Global;
 use std::marker::Model;
 use wvalues::Value;
@@ -59,12 +58,9 @@ impl Segment {
             return Err(SegmentFault::TooLong);
         }
         let mut reader = reader_of(alloc, bytes)?;
-        let mut header = ByteRecord::new(alloc);
-        if !take_record(&mut reader, &mut header)? {
-            return Err(SegmentFault::NoHeader);
-        }
+        let first = take_header(alloc, &mut reader)?;
         let columns = schema.columns();
-        let header = header_columns(alloc, columns, &header)?;
+        let header = header_columns(alloc, columns, &first)?;
         let fields = column_fields(alloc, columns, &header)?;
         let rows = read_rows(alloc, &mut reader, &header, &fields)?;
         let bytes = Vec::from_slice(alloc, bytes)?;
@@ -72,6 +68,7 @@ impl Segment {
     }
 
     /// How many rows it has.
+    #[tactic(auto, using(crate::proofs::KeptFacts::rows_counted))]
     pub fn rows(&self) -> usize
         ensures { result ≡ length self.now.rows }
     {
