@@ -1,5 +1,5 @@
 -- A call among the calls of a set.
-use Rattle.std.proofs.Common.{◌≡◌, ℕ, ◌+◌, Bool, true, false, not, cond, ◌||◌, ◌≤◌, suc, subst, List, [], ◌∷◌, ◌++◌, length, map, Option, Some, None, refl, sym, ap, ◌∙◌, arith}
+use Rattle.std.proofs.Common.{◌≡◌, ℕ, ◌+◌, Bool, true, false, not, cond, ◌||◌, ◌≤◌, suc, subst, List, [], ◌∷◌, ◌++◌, length, map, Option, Some, None, Result, Ok, Err, OnErr, refl, sym, ap, ◌∙◌, arith}
 use Rattle.std.specs.Prelude.{if◌then◌else◌, nat_lt}
 use Rattle.std.specs.List.{list_any, position, position_or_len}
 use Rattle.std.proofs.lemmas.List.{map-append}
@@ -10,6 +10,11 @@ use Rattle.wsame.specs.Sameness.{is_same}
 use Rattle.wdistinct.specs.Calls.{with_new}
 use Rattle.wdistinct.specs.Places.{place_of_same}
 use Rattle.wdistinct.specs.Same.{same_equiv}
+
+-- what follows holds of an error
+pub on_err : {T E P Q : Type 0} (r : Result T E) → (P → Q) → OnErr r P → OnErr r Q
+on_err (Ok v) f h = tt
+on_err (Err e) f h = f h
 
 module _ {K : Type 0} (says : K → Tree) where
   any_turned : (t : Tree) (ks : List K) → list_any (λ (u : Tree). is_same u t) (map says ks) ≡ list_any (λ k. is_same t (says k)) ks

@@ -5,7 +5,7 @@ ghost use Rattle.std.specs.List.{list_any};
 ghost use Rattle.wquery.specs.Tree.{view_call};
 ghost use Rattle.wsame.specs.Sameness.{is_same};
 ghost use Rattle.wdistinct.specs.Calls.{call_trees, with_new};
-ghost use Rattle.wdistinct.specs.Places.{calls_in, place_of_same};
+ghost use Rattle.wdistinct.specs.Places.{calls_in, has_call_of, place_of_same, with_key};
 
 use crate::call_key::CallKey;
 use crate::call_set::CallSet;
@@ -15,6 +15,23 @@ use wquery::Call;
 
 /// The most calls of a set: more than any memory holds, and few enough that two places and a width are a number.
 const MOST_CALLS: usize = 1 << 62;
+
+// Keeps a key behind the others, where none of them is equal to it.
+fn keep<'a>(keys: &mut IndexSet<CallKey<'a>>, key: CallKey<'a>) -> Result<(), AllocError>
+    requires { length keys.old.keys ≤ 2 ^ 62 }
+    ensures ok { OnOk result (keys.new.keys ≡ with_key keys.old.keys key.entry) }
+    ensures err { OnErr result (keys.new.keys ≡ keys.old.keys) }
+    ensures other { OnErr result (list_any (has_call_of key.entry) keys.old.keys ≡ false) }
+    ensures few { length keys.new.keys ≤ 2 ^ 62 }
+{
+    if keys.len() >= MOST_CALLS && !keys.contains(&key) {
+        return Err(AllocError);
+    }
+    match keys.insert(key) {
+        Ok(_) => Ok(()),
+        Err(_) => Err(AllocError),
+    }
+}
 
 impl<'a> CallSet<'a> {
     /// No calls.
@@ -33,14 +50,7 @@ impl<'a> CallSet<'a> {
         ensures err { OnErr result (calls_in self.new ≡ calls_in self.old) }
         ensures other { OnErr result (list_any (λ u. is_same u (view_call call.now)) (calls_in self.old) ≡ false) }
     {
-        let key = CallKey { call };
-        if self.keys.len() >= MOST_CALLS && !self.keys.contains(&key) {
-            return Err(AllocError);
-        }
-        match self.keys.insert(key) {
-            Ok(_) => Ok(()),
-            Err(_) => Err(AllocError),
-        }
+        keep(&mut self.keys, CallKey { call })
     }
 
     /// The number of calls.
