@@ -57,10 +57,10 @@ made_list : (l : Layout) (ts : List Tree) → formulas (map (resolved l) ts) ≡
 made_list l [] = refl
 made_list l (t ∷ ts) = ap (MoreFormulas (resolved l t)) (made_list l ts)
 
-pub in_made : (l : Layout) (e d : Expression) (n : Bool) (first : Box Expression Global) (xs : Vec Expression Global) (ys : List Expression) (x : Expr) (made : List Expr) (r : Result Expr AllocError) → e ≡ queries.In n first xs → d ≡ first.value → ys ≡ xs.items → formula x ≡ resolved l (view d) → map formula made ≡ map (resolved l) (views ys) → IfOk r (λ y. formula y ≡ Among n (formula x) (formulas (map formula made))) → IfOk r (λ y. formula y ≡ resolved l (view e))
-in_made l e d n first xs ys x made (Ok y) is at slice fx fm h =
-    h ∙ ap (λ (fs : List Formula). Among n (formula x) (formulas fs)) fm ∙ ap (λ (f : Formula). Among n f (formulas (map (resolved l) (views ys)))) (fx ∙ ap (λ (z : Expression). resolved l (view z)) at) ∙ ap (λ (zs : List Expression). Among n (resolved l (view first.value)) (formulas (map (resolved l) (views zs)))) slice ∙ ap (Among n (resolved l (view first.value))) (made_list l (views xs.items)) ∙ sym (ap (λ (z : Expression). resolved l (view z)) is ∙ ap (resolved l) (view_of_in n first xs))
-in_made l e d n first xs ys x made (Err f) is at slice fx fm h = tt
+pub in_made : (l : Layout) (e d : Expression) (n : Bool) (first : Box Expression Global) (xs : Vec Expression Global) (ys : List Expression) (x : Expr) (r : Result Expr AllocError) → e ≡ queries.In n first xs → d ≡ first.value → ys ≡ xs.items → formula x ≡ resolved l (view d) → IfOk r (λ y. formula y ≡ Among n (formula x) (formulas (map (resolved l) (views ys)))) → IfOk r (λ y. formula y ≡ resolved l (view e))
+in_made l e d n first xs ys x (Ok y) is at slice fx h =
+    h ∙ ap (λ (f : Formula). Among n f (formulas (map (resolved l) (views ys)))) (fx ∙ ap (λ (z : Expression). resolved l (view z)) at) ∙ ap (λ (zs : List Expression). Among n (resolved l (view first.value)) (formulas (map (resolved l) (views zs)))) slice ∙ ap (Among n (resolved l (view first.value))) (made_list l (views xs.items)) ∙ sym (ap (λ (z : Expression). resolved l (view z)) is ∙ ap (resolved l) (view_of_in n first xs))
+in_made l e d n first xs ys x (Err f) is at slice fx h = tt
 
 pub trees_made_map : (l : Layout) (ts : List Tree) → trees_made l (trees ts) ≡ map (resolved l) ts
 trees_made_map l [] = refl

@@ -32,7 +32,7 @@ pub fn not(alloc: Global, e: Expr) -> Result<Expr, AllocError>
 }
 
 #[tactic(auto, unfolding(wplan::specs::Formula::formula))]
-pub fn signed(alloc: Global, minus: bool, e: Expr) -> Result<Expr, AllocError>
+pub fn sign(alloc: Global, minus: bool, e: Expr) -> Result<Expr, AllocError>
     ensures { IfOk result (λ x. formula x ≡ Signed minus (formula e)) }
 {
     Ok(Expr::Sign {

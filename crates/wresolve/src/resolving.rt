@@ -2,14 +2,14 @@
 
 ghost use Rattle.std.specs.Prelude.{◌≡◌, ◌+◌, IfOk, map};
 ghost use Rattle.wquery.specs.Tree.{view, view_call, view_link, views};
-ghost use Rattle.wplan.specs.Formula.{formula, operand_of, At};
+ghost use Rattle.wplan.specs.Formula.{formula, formulas, operand_of, Among, At};
 ghost use Rattle.wresolve.specs.Resolving.{resolved, branch_made, cell_of, width};
 ghost use Rattle.wdistinct.specs.Places.{place_of_same};
 ghost use Rattle.wresolve.specs.Resolving.{layout_of};
 ghost use Rattle.wscope.specs.Types.{place_named as place_of_name};
 
 use crate::layout::RowLayout;
-use crate::making::{among, chain, compared, not, null_test, number, signed, within};
+use crate::making::{among, chain, compared, not, null_test, number, sign, within};
 use std::alloc::{AllocError, Global};
 use wplan::{Expr, Further};
 use wquery::{Call, Expression, Link};
@@ -41,14 +41,8 @@ pub fn build(alloc: Global, layout: &RowLayout, e: &Expression) -> Result<Expr, 
         Expression::Number(n) => Ok(number(n.get())),
         Expression::Text(text) => Ok(Expr::Text(text.clone()?)),
         Expression::Column(column) => Ok(field(layout, column.name.as_str())),
-        Expression::Not(operand) => {
-            let x = build(alloc, layout, operand)?;
-            not(alloc, x)
-        }
-        Expression::Sign { minus, operand } => {
-            let x = build(alloc, layout, operand)?;
-            signed(alloc, *minus, x)
-        }
+        Expression::Not(operand) => not(alloc, build(alloc, layout, operand)?),
+        Expression::Sign { minus, operand } => sign(alloc, *minus, build(alloc, layout, operand)?),
         Expression::Chain { first, links, .. } => {
             let x = build(alloc, layout, first)?;
             let further = build_links(alloc, layout, links.as_slice())?;
@@ -60,12 +54,10 @@ pub fn build(alloc: Global, layout: &RowLayout, e: &Expression) -> Result<Expr, 
             right,
         } => {
             let x = build(alloc, layout, left)?;
-            let y = build(alloc, layout, right)?;
-            compared(alloc, *comparison, x, y)
+            compared(alloc, *comparison, x, build(alloc, layout, right)?)
         }
         Expression::IsNull { negated, operand } => {
-            let x = build(alloc, layout, operand)?;
-            null_test(alloc, *negated, x)
+            null_test(alloc, *negated, build(alloc, layout, operand)?)
         }
         Expression::Between {
             negated,
@@ -75,20 +67,30 @@ pub fn build(alloc: Global, layout: &RowLayout, e: &Expression) -> Result<Expr, 
         } => {
             let x = build(alloc, layout, operand)?;
             let y = build(alloc, layout, low)?;
-            let z = build(alloc, layout, high)?;
-            within(alloc, *negated, x, y, z)
+            within(alloc, *negated, x, y, build(alloc, layout, high)?)
         }
         Expression::In {
             negated,
-            operand,
+            operand: item,
             list,
-        } => {
-            let x = build(alloc, layout, operand)?;
-            let made = build_listed(alloc, layout, list.as_slice())?;
-            among(alloc, *negated, x, made)
-        }
+        } => build_list_test(alloc, layout, *negated, list, build(alloc, layout, item)?),
         Expression::Call(call) => Ok(answer(layout, call)),
     }
+}
+
+// IN a list, of which the operand is made.
+#[cycle(resolving)]
+fn build_list_test(
+    alloc: Global,
+    layout: &RowLayout,
+    negated: bool,
+    list: &[Expression],
+    operand: Expr,
+) -> Result<Expr, AllocError>
+    ensures { IfOk result (λ x. formula x ≡ Among negated (formula operand) (formulas (map (resolved (layout_of layout.now)) (views list.now)))) }
+{
+    let made = build_listed(alloc, layout, list)?;
+    among(alloc, negated, operand, made)
 }
 
 #[cycle(resolving)]

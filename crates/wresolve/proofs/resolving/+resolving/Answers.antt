@@ -10,9 +10,9 @@ pub build_links-links-preserved : goal.build_links-links-preserved
 build_links-links-preserved t c =
     links_step (layout_of c.args.layout.now) c.links.made.items c.push.new.self.items _ c.args.links.now c.links.link-index c.link-item.result c.in_ok-operand.operand c.links-test.true c.link-item.is c.in_ok-operand.ensures c.in_ok-push.ensures.items c.links.invariant
 
-pub build-returns-in_ok-made-in-In : goal.build-returns-in_ok-made-in-In
-build-returns-in_ok-made-in-In t c =
-    in_made (layout_of c.args.layout.now) c.args.e.now c.deref-in-In.result.now c.in-In.negated c.in-In.operand c.in-In.list c.as_slice-in-In.result.now c.in_ok-x-in-In.x c.in_ok-made-in-In.made.items c.among.result c.in-In.is c.deref-in-In.ensures c.as_slice-in-In.ensures.value c.in_ok-x-in-In.ensures c.in_ok-made-in-In.ensures c.among.ensures
+pub build-returns-in_ok-build-in-In : goal.build-returns-in_ok-build-in-In
+build-returns-in_ok-build-in-In t c =
+    in_made (layout_of c.args.layout.now) c.args.e.now c.deref-in-In-2.result.now c.in-In.negated c.in-In.item c.in-In.list c.deref-in-In.result.now c.in_ok-build-in-In.field-0 c.build_list_test.result c.in-In.is c.deref-in-In-2.ensures c.deref-in-In.ensures.value c.in_ok-build-in-In.ensures c.build_list_test.ensures
 
 pub build-returns-in-Call : goal.build-returns-in-Call
 build-returns-in-Call t c =
