@@ -1,10 +1,12 @@
 //! The values of an expression on rows: those of a plain column are read where they lie.
 ghost use Rattle.std.specs.Prelude.{◌≡◌, IfOk, IfSome, length, map};
 ghost use Rattle.wvalues.specs.Meaning.{meaning};
+ghost use Rattle.wplan.specs.declared.expr.Expr.{out-Expr};
 ghost use Rattle.wplan.specs.Formula.{At, formula};
 ghost use Rattle.wrows.specs.Outcomes.{Gives};
 ghost use Rattle.wrows.specs.Columns.{column_of, value_at, value_on};
 ghost use Rattle.wrows.specs.Laid.{rows_seen};
+ghost use Rattle.wrows.specs.PlainColumns.{plain_place};
 ghost use Rattle.wcalls.specs.Seen.{values_seen};
 
 use std::alloc::{AllocError, Global};
@@ -36,7 +38,8 @@ fn value_column(alloc: Global, expr: &Expr, rows: &[&[Value]]) -> Result<Vec<Val
 // The place that an expression names, where it is a plain column.
 #[tactic(auto, unfolding(wplan::specs::Formula::formula))]
 fn place_of(expr: &Expr) -> Option<usize>
-    ensures { IfSome result (λ place. formula expr.now ≡ At place) }
+    ensures found { result ≡ plain_place (out-Expr expr.now) }
+    ensures formula { IfSome result (λ place. formula expr.now ≡ At place) }
 {
     match expr {
         Expr::Place(place) => Some(*place),
