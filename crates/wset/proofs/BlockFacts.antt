@@ -1,8 +1,7 @@
 -- What blocks of entries hold together.
-use Rattle.std.proofs.Common.{option_map, is_some, IfSome, ◌≡◌, ◌∙◌, ◌+◌, ◌-◌, ◌<◌, ◌≤◌, ◌++◌, Bool, true, false, cond, T, ℕ, zero, suc, List, [], ◌∷◌, length, get_or, set, take, drop, slice_get, Option, None, Some, refl, sym, ap, subst, arith, append_assoc, length-append, is_eq}
+use Rattle.std.proofs.Common.{option_map, is_some, IfSome, ◌≡◌, ◌∙◌, ◌+◌, ◌<◌, ◌++◌, Bool, true, false, cond, T, ℕ, zero, suc, List, [], ◌∷◌, length, get_or, set, take, drop, Option, None, Some, refl, sym, ap, subst, arith, append_assoc, is_eq}
 use Rattle.std.proofs.lemmas.List.{append-nil, map-append}
-use Rattle.std.proofs.lemmas.List.Elements.{filter_map-append}
-use Rattle.std.specs.List.{filter_map, insert}
+use Rattle.std.specs.List.{insert}
 use Rattle.std.specs.Ordering.{is_lt}
 use Rattle.std.specs.declared.cmp.Ordering.{Ordering}
 use Rattle.std.specs.declared.cmp.Ordering.TheVariants.{Less, Equal, Greater}
@@ -11,7 +10,7 @@ use Rattle.std.specs.FinMap.Entries.{length-put, below_all}
 use Rattle.std.specs.FinMap.{find, put}
 use Rattle.wvalues.specs.Names.{NameParts, name_cmp, names_total}
 use Rattle.wsegment.specs.Declaration.{Declaration}
-use Rattle.wset.specs.Views.{Known, live_of}
+use Rattle.wset.specs.Views.{Known}
 use Rattle.wset.specs.Lending.{AreBelow}
 use Rattle.wset.specs.Holding.{IsHeldBy, known_of}
 use Rattle.wset.specs.Entries.{AllHeldBy, IsRising, known_entry, known_entries}
@@ -19,7 +18,7 @@ use Rattle.wset.specs.Blocks.{AreBehind, IsHome, flat}
 use Rattle.wset.specs.declared.entries.Entry.{Entry}
 use Rattle.wset.specs.declared.held.Held.{Held}
 use Rattle.std.specs.Borrow.{Bor}
-use Rattle.wset.proofs.LiveNames.{live_count, few_places, length-known_entries}
+use Rattle.wset.proofs.EntryFacts.{length-known_entries}
 use Rattle.wset.proofs.Finding.{below_at, both, first, second, less, put_here, turned}
 
 -- ---- the parts of the whole
@@ -227,64 +226,10 @@ put_home bs n held k d c h is =
     ∙ ap (put name_cmp n held) (sym (known_append xs (b ++ ys)))
     ∙ ap (λ es. put name_cmp n held (known_entries es)) (sym (flat_at bs k d h.in_range))
 
--- ---- the i-th of a part
-
-pub get_front : {A : Type 0} (xs ys : List A) (i : ℕ) → i < length xs → slice_get (xs ++ ys) i ≡ slice_get xs i
-get_front [] ys i lt = absurd (omega arith)
-get_front (x ∷ xs) ys zero lt = refl
-get_front (x ∷ xs) ys (suc i) lt = get_front xs ys i (omega arith)
-
-pub get_back : {A : Type 0} (xs ys : List A) (i : ℕ) → length xs ≤ i → slice_get (xs ++ ys) i ≡ slice_get ys (i - length xs)
-get_back [] ys i le = let e : i ≡ i - 0 = omega arith in ap (slice_get ys) e
-get_back (x ∷ xs) ys zero le = absurd (omega arith)
-get_back (x ∷ xs) ys (suc i) le = let e : i - length xs ≡ suc i - suc (length xs) = omega arith in get_back xs ys i (omega arith) ∙ ap (slice_get ys) e
-
-get_some : {A : Type 0} (xs : List A) (i : ℕ) (d : A) → i < length xs → slice_get xs i ≡ Some (get_or xs i d)
-get_some [] i d lt = absurd (omega arith)
-get_some (x ∷ xs) zero d lt = refl
-get_some (x ∷ xs) (suc i) d lt = get_some xs i d (omega arith)
-
-pub here : {A : Type 0} (xs ys zs : List A) (i : ℕ) (x : A) → zs ≡ xs ++ ys → i < length xs → x ≡ get_or xs i x → slice_get zs i ≡ Some x
-here xs ys zs i x whole lt is = ap (λ l. slice_get l i) whole ∙ get_front xs ys i lt ∙ get_some xs i x lt ∙ ap Some (sym is)
-
-pub further : {A : Type 0} (xs ys zs : List A) (i : ℕ) → zs ≡ xs ++ ys → length xs ≤ i → slice_get zs i ≡ slice_get ys (i - length xs)
-further xs ys zs i whole le = ap (λ l. slice_get l i) whole ∙ get_back xs ys i le
-
-pub fewer : {A : Type 0} (xs ys zs : List A) (i : ℕ) → zs ≡ xs ++ ys → length xs ≤ i → i < length zs → i - length xs < length ys
-fewer xs ys zs i whole le lt = omega (arith, lt, le, ap length whole, length-append xs ys)
-
--- the live ones of parts
-pub live_append : (xs ys : List Entry) → filter_map live_of (known_entries (xs ++ ys)) ≡ filter_map live_of (known_entries xs) ++ filter_map live_of (known_entries ys)
-live_append xs ys = ap (filter_map live_of) (known_append xs ys) ∙ filter_map-append live_of (known_entries xs) (known_entries ys)
-
-pub live_few : (es : List Entry) → length (filter_map live_of (known_entries es)) ≤ length es
-live_few es = omega (arith, live_count 0 (known_entries es), few_places 0 (known_entries es), length-known_entries es)
-
 -- what is held of a name was read by the declaration, also where more is read
 pub read_more : (o : Option (Bor Held)) (es fs : List Entry) → ((d : Declaration) → AllHeldBy d fs → AllHeldBy d es) → IfSome o (λ held. (d : Declaration) → AllHeldBy d es → IsHeldBy d held.now) → IfSome o (λ held. (d : Declaration) → AllHeldBy d fs → IsHeldBy d held.now)
 read_more None es fs more h = tt
 read_more (Some held) es fs more h = λ d all. h d (more d all)
-
--- ---- an entry of all
-
-none_is : {A : Type 0} {B : Type 0} (x : A) → None ≡ Some x → B
-none_is x e = absurd (by e)
-  where
-    by : {A : Type 0} {x : A} → None ≡ Some x → ⊥
-    by e = cc
-
-same_of : {A : Type 0} {x y : A} → Some x ≡ Some y → x ≡ y
-same_of e = cc
-
-pub known_get : (es : List Entry) (i : ℕ) (e : Entry) → slice_get es i ≡ Some e → slice_get (known_entries es) i ≡ Some (known_entry e)
-known_get [] i e is = none_is e is
-known_get (x ∷ es) zero e is = ap (λ y. Some (known_entry y)) (same_of is)
-known_get (x ∷ es) (suc i) e is = known_get es i e is
-
-pub held_get : (d : Declaration) (es : List Entry) (i : ℕ) (e : Entry) → slice_get es i ≡ Some e → AllHeldBy d es → IsHeldBy d e.held
-held_get d [] i e is all = none_is e is
-held_get d (x ∷ es) zero e is all = subst (λ (y : Entry). IsHeldBy d y.held) (same_of is) all.0
-held_get d (x ∷ es) (suc i) e is all = held_get d es i e is all.1
 
 -- ---- the number of entries
 

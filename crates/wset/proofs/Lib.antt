@@ -4,9 +4,10 @@ pub mod Later
 mod Finding
 mod Merging
 mod Singles
-mod LiveNames
+mod EntryFacts
 mod Maps
 mod Sets
 mod Tables
 mod BlockFacts
 mod Walks
+mod KeptSets

@@ -8,7 +8,7 @@ use Rattle.wset.specs.declared.entries.Entry.{Entry}
 use Rattle.wset.specs.Entries.{known_entries, IsRising}
 use Rattle.wset.specs.Merging.{IsKnownTo, join_lists}
 use Rattle.std.specs.List.{AllByRecursion, filter_map}
-use Rattle.wset.proofs.LiveNames.{length-known_entries}
+use Rattle.wset.proofs.EntryFacts.{length-known_entries}
 use Rattle.wset.proofs.Joining.{same_view, get-join}
 use Rattle.wset.proofs.Merging.{entries-join, told_again}
 

@@ -1,5 +1,5 @@
 -- Joining what one item tells.
-use Rattle.std.proofs.Common.{◌≡◌, ℕ, Bool, true, false, cond, List, [], ◌∷◌, Option, None, Some, refl, sym, ap, ◌∙◌, true≢false}
+use Rattle.std.proofs.Common.{◌≡◌, ℕ, Bool, true, false, cond, List, [], ◌∷◌, Option, None, Some, refl, sym, ap, ◌∙◌, ◌⊎◌, inl, inr, true≢false}
 use Rattle.std.specs.Ordering.{eq_by_cmp}
 use Rattle.std.specs.FinMap.{get, insert, empty, get-insert, get-empty}
 use Rattle.wvalues.specs.Names.{NameParts, name_cmp, names_total}
@@ -80,17 +80,25 @@ retire_other v n = ap (insert v n) (sym (by (get v n))) ∙ put_joins v _ n Reti
 disputed_single : (n : NameParts) → IsSingle (insert empty n Disputed) n Disputed
 disputed_single n q = get-insert names_total empty n Disputed q ∙ ap (cond (eq_by_cmp name_cmp q n) (Some Disputed)) (get-empty name_cmp q)
 
-pub dispute_same : (v : View) (n : NameParts) → get v n ≡ Some Disputed → v ≡ join v (insert empty n Disputed)
-dispute_same v n e = kept_joins v _ n Disputed Disputed (disputed_single n) e refl
-
-pub dispute_retired : (v : View) (n : NameParts) → get v n ≡ Some Retired → v ≡ join v (insert empty n Disputed)
-dispute_retired v n e = kept_joins v _ n Retired Disputed (disputed_single n) e refl
-
-pub dispute_live : (v : View) (n : NameParts) (a : List ℕ) → get v n ≡ Some (Live a) → insert v n Disputed ≡ join v (insert empty n Disputed)
-dispute_live v n a e = ap (insert v n) (sym (ap (λ o. join_with o Disputed) e)) ∙ put_joins v _ n Disputed (disputed_single n)
-
 pub dispute_new : (v : View) (n : NameParts) → get v n ≡ None → insert v n Disputed ≡ join v (insert empty n Disputed)
 dispute_new v n e = ap (insert v n) (sym (ap (λ o. join_with o Disputed) e)) ∙ put_joins v _ n Disputed (disputed_single n)
+
+-- it is disputed or retired
+abbrev IsSettled : Option Known → Type 0
+IsSettled o = (o ≡ Some Disputed) ⊎ (o ≡ Some Retired)
+
+pub dispute_settled : (v : View) (n : NameParts) → IsSettled (get v n) → v ≡ join v (insert empty n Disputed)
+dispute_settled v n (inl e) = kept_joins v _ n Disputed Disputed (disputed_single n) e refl
+dispute_settled v n (inr e) = kept_joins v _ n Retired Disputed (disputed_single n) e refl
+
+pub dispute_other : (v : View) (n : NameParts) (b : Bool) → (IsSettled (get v n) → b ≡ true) → b ≡ false → insert v n Disputed ≡ join v (insert empty n Disputed)
+dispute_other v n b settled other = ap (insert v n) (sym (by (get v n) (λ s. true≢false (sym (settled s) ∙ other)))) ∙ put_joins v _ n Disputed (disputed_single n)
+  where
+    by : (o : Option Known) → (IsSettled o → ⊥) → join_with o Disputed ≡ Disputed
+    by None h = refl
+    by (Some (Live a)) h = refl
+    by (Some Disputed) h = refl
+    by (Some Retired) h = absurd (h (inr refl))
 
 -- a content that is not the known one
 pub other_content : (v : View) (n : NameParts) (a b : List ℕ) (r : Bool) → (r ≡ true → get v n ≡ Some (Live b)) × (get v n ≡ Some (Live b) → r ≡ true) → r ≡ false → get v n ≡ Some (Live a) → same_bytes a b ≡ false

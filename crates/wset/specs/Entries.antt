@@ -1,11 +1,11 @@
 -- Entries in the order of their names.
-use Rattle.std.specs.Prelude.{◌≡◌, ◌+◌, zero, suc, ℕ, List, [], ◌∷◌, map, T, if◌then◌else◌}
+use Rattle.std.specs.Prelude.{◌≡◌, zero, suc, ℕ, List, [], ◌∷◌, map, T}
 use Rattle.std.specs.List.{AllByRecursion}
 use Rattle.std.specs.FinMap.{is_sorted}
 use Rattle.std.specs.declared.cmp.Ordering.TheVariants.{Less, Equal, Greater}
 use Rattle.wvalues.specs.Names.{NameParts, name_cmp}
 use Rattle.wsegment.specs.Declaration.{Declaration}
-use Rattle.wset.specs.Views.{Known, is_live}
+use Rattle.wset.specs.Views.{Known}
 use Rattle.wset.specs.Words.{status_of_known}
 use Rattle.wset.specs.Holding.{IsHeldBy, known_of, row_count_of}
 use Rattle.wset.specs.declared.entries.Entry.{Entry}
@@ -46,8 +46,3 @@ IsGap [] n zero = Unit {0}
 IsGap [] n (suc i) = ⊥
 IsGap (e ∷ es) n zero = name_cmp n e.name ≡ Less
 IsGap (e ∷ es) n (suc i) = (name_cmp n e.name ≡ Greater) × IsGap es n i
-
--- the places of the live names, where the first entry stands at place k
-abbrev pub places : ℕ → List (NameParts × Known) → List ℕ
-places k [] = []
-places k (e ∷ es) = if is_live e.1 then k ∷ places (k + 1) es else places (k + 1) es

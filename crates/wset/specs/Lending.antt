@@ -1,8 +1,7 @@
 -- What a set lends of a name.
-use Rattle.std.specs.Prelude.{⊤, ◌≡◌, List, map as list_map}
+use Rattle.std.specs.Prelude.{◌≡◌, List, map as list_map}
 use Rattle.std.specs.List.{AllByRecursion}
 use Rattle.std.specs.declared.cmp.Ordering.TheVariants.{Less}
-use Rattle.wsegment.specs.Declaration.{Declaration}
 use Rattle.std.specs.FinMap as map
 use Rattle.wvalues.specs.Names.{NameParts, name_cmp}
 use Rattle.wsegment.specs.Rows.{Content}
@@ -16,12 +15,6 @@ abbrev pub told_of : lent.Known → Known
 told_of (lents.Live segment) = Live segment.now.bytes
 told_of lents.Disputed = Disputed
 told_of lents.Retired = Retired
-
--- a segment that is lent was read by the declaration
-abbrev pub IsLentBy : Declaration → lent.Known → Type 0
-IsLentBy d (lents.Live segment) = IsReadBy d segment.now
-IsLentBy d lents.Disputed = ⊤
-IsLentBy d lents.Retired = ⊤
 
 -- these are the live names in their order, each with the segment that was read from its content
 pub record AreLivesOf (s : DeclaredView) (segments : List (NameParts × Content)) : Type 0 where

@@ -9,7 +9,6 @@ pub mod Codes
 pub mod Holding
 pub mod Entries
 pub mod Blocks
-pub mod Marking
 pub mod Merging
 pub mod Storing
 pub mod Lending

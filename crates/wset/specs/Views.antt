@@ -1,5 +1,5 @@
 -- What is known of each name, and what two who know it know together.
-use Rattle.std.specs.Prelude.{ℕ, Bool, true, false, List, ◌++◌, Option, None, Some, nat_eq, option_map, if◌then◌else◌}
+use Rattle.std.specs.Prelude.{ℕ, Bool, List, ◌++◌, Option, None, Some, nat_eq, option_map, if◌then◌else◌}
 use Rattle.std.specs.List.{filter_map}
 use Rattle.std.specs.Ordering.{is_eq}
 use Rattle.std.specs.Cmp.Lexicographic.{pointwise}
@@ -47,12 +47,6 @@ join_told (Some j) (Some k) = Some (join_known j k)
 -- what two views tell together, name by name
 abbrev pub join : View → View → View
 join v w = view_telling (λ n. join_told (get v n) (get w n)) (keys v ++ keys w)
-
--- it has the one content that is known
-abbrev pub is_live : Known → Bool
-is_live (Live bytes) = true
-is_live Disputed = false
-is_live Retired = false
 
 -- a live name with its content
 abbrev pub live_of : (NameParts × Known) → Option (NameParts × List ℕ)

@@ -1,62 +1,50 @@
 //! Entries in blocks of a bounded size, so that an insert moves few of them.
-ghost use Rattle.std.specs.Prelude.{◌≡◌, ◌↔◌, ◌^◌, ◌<◌, ◌≤◌, ◌++◌, IsTrue, List, true, false, length, map, option_map, slice_get, Some, IfSome, IfOk, OnOk, OnErr};
-ghost use Rattle.std.specs.List.{filter_map, sum_by};
+ghost use Rattle.std.specs.Prelude.{◌≡◌, ◌↔◌, ◌<◌, ◌≤◌, ◌++◌, IsTrue, List, true, false, length, map, option_map, IfSome, IfOk, OnOk, OnErr};
 ghost use Rattle.std.specs.Option.{option_copied};
 ghost use Rattle.std.specs.FinMap.{find, put};
 ghost use Rattle.wsegment.specs.Declaration.{Declaration};
 ghost use Rattle.wvalues.specs.Names.{name_cmp};
-ghost use Rattle.wset.specs.Views.{Known as TheKnown, live_of};
-ghost use Rattle.wset.specs.Holding.{IsHeldBy, known_of, row_count_of};
-ghost use Rattle.wset.specs.Lending.{AreBelow, IsLentBy, told_of};
-ghost use Rattle.wset.specs.Sets.{IsReadBy};
+ghost use Rattle.wset.specs.Views.{Known as TheKnown};
+ghost use Rattle.wset.specs.Holding.{IsHeldBy, known_of};
+ghost use Rattle.wset.specs.Lending.{AreBelow};
 ghost use Rattle.wset.specs.Entries.{AllHeldBy, IsRising, known_entries, listing_of};
 ghost use Rattle.wset.specs.Blocks.{AreBehind, IsHome, flat};
 ghost use Rattle.wset.specs.declared.entries.Entry.{Entry as HeldEntry};
 
-use crate::entries::{
-    Entry, held_of, list_entries, live_entry, mark, put_entry, rows_of_all, share_entries,
-};
+use crate::entries::{Entry, held_of, list_entries, put_entry, share_entries};
 use crate::held::Held;
-use crate::known::Known;
 use crate::words::Listed;
 use std::alloc::{AllocError, Global};
 use std::marker::Model;
-use wsegment::Segment;
 use wvalues::Name;
 
 /// The most entries of a block, but for one that a join made.
 const LONGEST: usize = 512;
 
-/// One entry or more in the order of their names, and the places of the live ones among them. In a
-/// contract it is its entries.
+/// One entry or more in the order of their names. In a contract it is its entries.
 #[derive(Drop)]
 pub(crate) struct Block {
     entries: Vec<Entry>,
-    live: Vec<usize>,
 }
 
 impl Model for Block {
-    ghost use Rattle.std.specs.Prelude.{List};
+    ghost use Rattle.std.specs.Prelude.{List, ◌<◌, length};
     ghost use Rattle.wset.specs.declared.entries.Entry.{Entry};
 
     ghost Value = { List Entry };
 
-    ghost use Rattle.wset.specs.Marking.{IsMarked};
-
     ghost view = { λ b. b.entries.items };
 
-    ghost invariant = { IsMarked };
+    ghost invariant = { λ b. 0 < length b.entries.items };
 }
 
 impl Block {
     /// A block of these entries.
-    pub(crate) fn new(alloc: Global, entries: Vec<Entry>) -> Result<Block, AllocError>
+    pub(crate) fn new(entries: Vec<Entry>) -> Block
         requires { 0 < length entries.items }
-        ensures { IfOk result (λ block. block ≡ entries.items) }
+        ensures { result ≡ entries.items }
     {
-        let mut live = Vec::with_capacity(alloc, entries.len())?;
-        mark(&mut live, &entries, 0);
-        Ok(Block { entries, live })
+        Block { entries }
     }
 
     /// A block of the same entries.
@@ -66,7 +54,7 @@ impl Block {
     {
         let mut shared = Vec::new(alloc);
         share_entries(&mut shared, entries)?;
-        Block::new(alloc, shared)
+        Ok(Block::new(shared))
     }
 
     /// Its entries.
@@ -75,23 +63,6 @@ impl Block {
         ensures filled { 0 < length result.now }
     {
         self.entries.as_slice()
-    }
-
-    /// How many of them are live.
-    fn live_count(&self) -> usize
-        ensures { result ≡ length (filter_map live_of (known_entries self.now)) }
-    {
-        self.live.as_slice().len()
-    }
-
-    /// The i-th live name, and its segment.
-    fn live_at(&self, i: usize) -> (Name, &Segment)
-        requires { i < length (filter_map live_of (known_entries self.now)) }
-        ensures known { slice_get (filter_map live_of (known_entries self.now)) i
-            ≡ Some (result.0, result.1.now.bytes) }
-        ensures read { (d : Declaration) → AllHeldBy d self.now → IsReadBy d result.1.now }
-    {
-        live_entry(&self.entries, &self.live, i)
     }
 
     /// Puts what is held of a name, in the place of what was. Where it finds no memory nothing is changed.
@@ -103,7 +74,7 @@ impl Block {
             → AllHeldBy d self.old → IsHeldBy d held → AllHeldBy d self.new }
         ensures err { OnErr result (self.new ≡ self.old) }
     {
-        put_entry(&mut self.entries, &mut self.live, name, held)?;
+        put_entry(&mut self.entries, name, held)?;
         Ok(())
     }
 
@@ -207,8 +178,7 @@ fn begin(alloc: Global, blocks: &mut Vec<Block>, name: Name, held: Held) -> Resu
 {
     let mut entries = Vec::new(alloc);
     entries.push(Entry { name, held })?;
-    let block = Block::new(alloc, entries)?;
-    blocks.push(block)?;
+    blocks.push(Block::new(entries))?;
     Ok(())
 }
 
@@ -253,50 +223,6 @@ pub(crate) fn put_in(
     Ok(())
 }
 
-/// The i-th entry.
-pub(crate) fn entry_in(blocks: &[Block], i: usize) -> &Entry
-    requires { i < length (flat blocks.now) }
-    ensures { slice_get (flat blocks.now) i ≡ Some result.now }
-{
-    let mut left = i;
-    'walk: for block in blocks {
-        let entries = block.entries();
-        if left < entries.len() {
-            return &entries[left];
-        }
-        left -= entries.len();
-    }
-    unreachable!()
-}
-
-/// The i-th live name, and its segment.
-pub(crate) fn live_in(blocks: &[Block], i: usize) -> (Name, &Segment)
-    requires { i < length (filter_map live_of (known_entries (flat blocks.now))) }
-    ensures known { slice_get (filter_map live_of (known_entries (flat blocks.now))) i
-        ≡ Some (result.0, result.1.now.bytes) }
-    ensures read { (d : Declaration) → AllHeldBy d (flat blocks.now) → IsReadBy d result.1.now }
-{
-    let mut left = i;
-    'walk: for block in blocks {
-        let live = block.live_count();
-        if left < live {
-            return block.live_at(left);
-        }
-        left -= live;
-    }
-    unreachable!()
-}
-
-/// The name of the i-th entry, and what is known of it.
-pub(crate) fn name_in(blocks: &[Block], i: usize) -> (Name, Known<'_>)
-    requires { i < length (flat blocks.now) }
-    ensures known { slice_get (known_entries (flat blocks.now)) i ≡ Some (result.0, told_of result.1) }
-    ensures read { (d : Declaration) → AllHeldBy d (flat blocks.now) → IsLentBy d result.1 }
-{
-    let entry = entry_in(blocks, i);
-    (entry.name, entry.held.lent())
-}
-
 /// The number of entries when something is put of a name, where so many there are now.
 pub(crate) fn count_after(blocks: &[Block], count: usize, name: &Name) -> Result<usize, AllocError>
     requires rising { IsRising (flat blocks.now) }
@@ -311,18 +237,6 @@ pub(crate) fn count_after(blocks: &[Block], count: usize, name: &Name) -> Result
         return Err(AllocError);
     }
     Ok(count + 1)
-}
-
-/// The number of live names, of which there are fewer than 2^64.
-pub(crate) fn live_count_in(blocks: &[Block]) -> usize
-    requires { length (flat blocks.now) < 2 ^ 64 }
-    ensures { result ≡ length (filter_map live_of (known_entries (flat blocks.now))) }
-{
-    let mut count = 0;
-    'walk: for block in blocks {
-        count += block.live_count();
-    }
-    count
 }
 
 /// The same entries, in one list.
@@ -344,8 +258,7 @@ pub(crate) fn in_blocks(alloc: Global, entries: Vec<Entry>) -> Result<Vec<Block>
     if entries.is_empty() {
         return Ok(blocks);
     }
-    let block = Block::new(alloc, entries)?;
-    blocks.push(block)?;
+    blocks.push(Block::new(entries))?;
     Ok(blocks)
 }
 
@@ -358,16 +271,4 @@ pub(crate) fn listing(alloc: Global, blocks: &[Block]) -> Result<Vec<Listed>, Al
         list_entries(&mut all, block.entries())?;
     }
     Ok(all)
-}
-
-/// The number of rows of all live segments. Fewer than 2^64 entries have fewer than 2^64 rows each.
-pub(crate) fn rows_in(blocks: &[Block]) -> u128
-    requires { length (flat blocks.now) < 2 ^ 64 }
-    ensures { result ≡ sum_by (λ entry. row_count_of entry.held) (flat blocks.now) }
-{
-    let mut total = 0u128;
-    'walk: for block in blocks {
-        total += rows_of_all(block.entries());
-    }
-    total
 }

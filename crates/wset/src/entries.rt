@@ -1,20 +1,18 @@
-//! Entries in the order of their names, and the places of the live ones among them.
-ghost use Rattle.std.specs.Prelude.{◌≡◌, ◌+◌, ◌*◌, ◌^◌, ◌<◌, ◌≤◌, ◌++◌, length, map, option_map, slice_get, take, Some, vec_capacity, IfSome, IfOk, IfErr, OnOk, OnErr};
-ghost use Rattle.std.specs.List.{filter_map, insert, sum_by};
+//! Entries in the order of their names.
+ghost use Rattle.std.specs.Prelude.{◌≡◌, ◌<◌, ◌≤◌, ◌++◌, length, map, option_map, IfSome, IfOk, IfErr, OnOk, OnErr};
+ghost use Rattle.std.specs.List.{insert};
 ghost use Rattle.std.specs.Option.{option_copied};
 ghost use Rattle.std.specs.Ordering.{is_lt};
 ghost use Rattle.std.specs.FinMap.{find, put};
 ghost use Rattle.wsegment.specs.Declaration.{Declaration};
 ghost use Rattle.wvalues.specs.Names.{name_cmp};
-ghost use Rattle.wset.specs.Views.{join_known, live_of};
+ghost use Rattle.wset.specs.Views.{join_known};
 ghost use Rattle.wset.specs.Holding.{IsHeldBy, known_of, row_count_of};
-ghost use Rattle.wset.specs.Sets.{IsReadBy};
-ghost use Rattle.wset.specs.Entries.{AllHeldBy, IsGap, IsPlace, IsRising, known_entries, known_entry, listing_of, places};
+ghost use Rattle.wset.specs.Entries.{AllHeldBy, IsGap, IsPlace, IsRising, known_entries, known_entry, listing_of};
 
 use crate::held::Held;
 use crate::words::Listed;
 use std::alloc::AllocError;
-use wsegment::Segment;
 use wvalues::Name;
 
 /// A name that is not unknown, and what is held of it. It is small: an insert moves those behind it in
@@ -95,98 +93,26 @@ pub(crate) fn held_of<'a>(entries: &'a [Entry], name: &Name) -> Option<&'a Held>
     }
 }
 
-/// Writes down the places of the live names from a place on, behind those of the live names before it.
-pub(crate) fn mark(live: &mut Vec<usize>, entries: &[Entry], from: usize)
-    requires from { from ≤ length entries.now }
-    requires before { live.old.items ≡ places 0 (known_entries (take from entries.now)) }
-    requires room { length entries.now ≤ vec_capacity live.old }
-    ensures places { live.new.items ≡ places 0 (known_entries entries.now) }
-    ensures capacity { vec_capacity live.new ≡ vec_capacity live.old }
-{
-    'entries: for at in from..entries.len() {
-        if entries[at].held.is_live() {
-            live.push_reserved(at);
-        }
-    }
-}
-
-/// Inserts an entry at the place where its name goes. Where it finds no memory nothing is changed.
-fn insert_entry(
-    entries: &mut Vec<Entry>,
-    live: &mut Vec<usize>,
-    i: usize,
-    entry: Entry,
-) -> Result<(), AllocError>
-    requires place { i ≤ length entries.old.items }
-    requires marked { live.old.items ≡ places 0 (known_entries entries.old.items) }
-    requires room { length entries.old.items ≤ vec_capacity live.old }
-    ensures ok { OnOk result (entries.new.items ≡ insert entries.old.items i entry) }
-    ensures marked { OnOk result (live.new.items ≡ places 0 (known_entries entries.new.items)) }
-    ensures room { length entries.new.items ≤ vec_capacity live.new }
-    ensures err { OnErr result
-        ((entries.new.items ≡ entries.old.items) × (live.new.items ≡ live.old.items)) }
-{
-    let room = entries.len().saturating_sub(live.len()).saturating_add(1);
-    live.reserve(room)?;
-    let is_last = i == entries.len();
-    entries.insert(i, entry)?;
-    if is_last {
-        mark(live, entries, i);
-        return Ok(());
-    }
-    live.clear();
-    mark(live, entries, 0);
-    Ok(())
-}
-
 /// Puts what is held of a name, in the place of what was. Where it finds no memory nothing is changed.
-pub(crate) fn put_entry(
-    entries: &mut Vec<Entry>,
-    live: &mut Vec<usize>,
-    name: Name,
-    held: Held,
-) -> Result<(), AllocError>
-    requires rising { IsRising entries.old.items }
-    requires marked { live.old.items ≡ places 0 (known_entries entries.old.items) }
-    requires room { length entries.old.items ≤ vec_capacity live.old }
+pub(crate) fn put_entry(entries: &mut Vec<Entry>, name: Name, held: Held) -> Result<(), AllocError>
+    requires { IsRising entries.old.items }
     ensures ok { OnOk result
         (known_entries entries.new.items
         ≡ put name_cmp name (known_of held) (known_entries entries.old.items)) }
-    ensures marked { OnOk result (live.new.items ≡ places 0 (known_entries entries.new.items)) }
-    ensures room { length entries.new.items ≤ vec_capacity live.new }
     ensures read { (d : Declaration)
         → AllHeldBy d entries.old.items → IsHeldBy d held → AllHeldBy d entries.new.items }
-    ensures err { OnErr result
-        ((entries.new.items ≡ entries.old.items) × (live.new.items ≡ live.old.items)) }
+    ensures err { OnErr result (entries.new.items ≡ entries.old.items) }
 {
     match place(entries, &name) {
         Ok(i) => {
             let entry = &mut entries[i];
             entry.held = held;
-            live.clear();
-            mark(live, entries, 0);
             Ok(())
         }
         Err(i) => {
-            insert_entry(entries, live, i, Entry { name, held })?;
+            entries.insert(i, Entry { name, held })?;
             Ok(())
         }
-    }
-}
-
-/// The i-th live name, and its segment.
-pub(crate) fn live_entry<'a>(entries: &'a [Entry], live: &[usize], i: usize) -> (Name, &'a Segment)
-    requires marked { live.now ≡ places 0 (known_entries entries.now) }
-    requires below { i < length live.now }
-    ensures known { slice_get (filter_map live_of (known_entries entries.now)) i
-        ≡ Some (result.0, result.1.now.bytes) }
-    ensures read { (d : Declaration) → AllHeldBy d entries.now → IsReadBy d result.1.now }
-{
-    let at = live[i];
-    let entry = &entries[at];
-    match &entry.held {
-        Held::Live(kept) => (entry.name, kept.segment()),
-        Held::Disputed | Held::Retired => unreachable!(),
     }
 }
 
@@ -202,16 +128,4 @@ pub(crate) fn list_entries(all: &mut Vec<Listed>, entries: &[Entry]) -> Result<(
         })?;
     }
     Ok(())
-}
-
-/// The number of rows of all live segments.
-pub(crate) fn rows_of_all(entries: &[Entry]) -> u128
-    ensures sum { result ≡ sum_by (λ entry. row_count_of entry.held) entries.now }
-    ensures few { result ≤ length entries.now * 2 ^ 64 }
-{
-    let mut total = 0u128;
-    'entries: for entry in entries {
-        total += entry.held.rows() as u128;
-    }
-    total
 }

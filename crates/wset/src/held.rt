@@ -1,10 +1,10 @@
 //! What a set holds of a name.
 ghost use Rattle.std.specs.Prelude.{◌≡◌, false, IfOk};
-ghost use Rattle.wset.specs.Views.{Live, is_live, join_known};
+ghost use Rattle.wset.specs.Views.{Live, join_known};
 ghost use Rattle.wset.specs.Sets.{IsReadBy};
 ghost use Rattle.wset.specs.Words.{status_of_known};
 ghost use Rattle.wsegment.specs.Declaration.{Declaration};
-ghost use Rattle.wset.specs.Lending.{IsLentBy, told_of};
+ghost use Rattle.wset.specs.Lending.{told_of};
 ghost use Rattle.wset.specs.Holding.{IsHeldBy, known_of, row_count_of};
 
 use crate::kept::Kept;
@@ -74,13 +74,6 @@ impl Held {
         }
     }
 
-    /// Whether a segment is held.
-    pub(crate) fn is_live(&self) -> bool
-        ensures { result ≡ is_live (known_of self.now) }
-    {
-        matches!(self, Held::Live(_))
-    }
-
     /// The number of rows of the segment, and none where there is no segment.
     pub(crate) fn rows(&self) -> usize
         ensures { result ≡ row_count_of self.now }
@@ -93,8 +86,7 @@ impl Held {
 
     /// What is known of a name of which this is held.
     pub(crate) fn lent(&self) -> Known<'_>
-        ensures known { told_of result ≡ known_of self.now }
-        ensures read { (d : Declaration) → IsHeldBy d self.now → IsLentBy d result }
+        ensures { told_of result ≡ known_of self.now }
     {
         match self {
             Held::Live(kept) => Known::Live(kept.segment()),

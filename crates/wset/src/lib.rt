@@ -5,7 +5,7 @@
 //! - Promises: a set is a view, a finite map from names to what is known of them. Each call tells the
 //!   whole view after it, at an error the one before. `take`, `retire`, `dispute` and `join` are joins
 //!   of views, and joining is associative, commutative and idempotent (`laws`).
-//! - Asks: nothing but that a place given to `name_at` or `live_at` is one of a name.
+//! - Asks: of `take_beside` alone, that both sets have one declaration.
 //! - Leaves reading to `wsegment`, files and streams to `wexchange`.
 //!
 //! Read `specs/Views.antt`, `specs/Items.antt`, `specs/Laws.antt`, `specs/Tables.antt`, then

@@ -1,25 +1,20 @@
 //! A set of segments and retirements under one declaration.
-ghost use Rattle.std.specs.Prelude.{◌≡◌, ◌≢◌, ◌↔◌, ◌<◌, IsTrue, IfSome, is_some, length, map as list_map, option_map, slice_get, Some, Err, IsOk, IfOk, IfErr, OnOk, OnErr};
+ghost use Rattle.std.specs.Prelude.{◌≡◌, ◌≢◌, ◌↔◌, ◌⊎◌, ◌<◌, IsTrue, IfSome, is_some, length, map as list_map, option_map, Some, Ok, Err, IsOk, IfOk, IfErr, OnOk, OnErr};
 ghost use Rattle.std.specs.FinMap as map;
 ghost use Rattle.std.specs.Option.{option_copied};
 ghost use Rattle.wsegment.specs.Outcome.{Fails};
 ghost use Rattle.wsegment.specs.Rows.{rows_of};
-ghost use Rattle.wset.specs.Views.{Live, join, lives};
+ghost use Rattle.wset.specs.Views.{Live, Disputed, Retired as Gone, join};
 ghost use Rattle.wset.specs.Items.{SegmentItem, RetirementItem, view_of_item};
-ghost use Rattle.wset.specs.Tables.{table_of};
 ghost use Rattle.wset.specs.Words.{retired_word, status_word, taken_word};
 ghost use Rattle.wset.specs.Listing.{listed};
 ghost use Rattle.wset.specs.Sets.{IsReadBy, LivesAreRead};
-ghost use Rattle.wset.specs.Lending.{AreLivesOf, IsAbove, IsLentBy, only_disputed, told_of};
+ghost use Rattle.wset.specs.Lending.{AreLivesOf, IsAbove, only_disputed};
 ghost use Rattle.wset.specs.Holding.{IsHeldBy, known_of};
 
-use crate::blocks::{
-    Block, count_after, end_before, held_in, in_blocks, listing, live_count_in, live_in, name_in,
-    put_in, rows_in,
-};
+use crate::blocks::{Block, count_after, end_before, held_in, in_blocks, listing, put_in};
 use crate::held::Held;
 use crate::kept::Kept;
-use crate::known::Known;
 use crate::merge::{joined, teaches};
 use crate::walk::{Lives, Names};
 use crate::words::{JoinError, Listed, Retired, Status, TakeError, Taken};
@@ -31,10 +26,9 @@ use wvalues::Name;
 /// What is known of each name, and the declaration by which all its segments were read.
 ///
 /// In a contract it is the declaration and the view. It keeps an entry for each name that is not
-/// unknown, in the order of names and in blocks of at most 512, each beside the places of its live ones;
-/// only a join makes a longer block, which is cut in two as its names are put. A segment's bytes and
-/// cells are shared by all sets that know it, so a set that is new and then joins another is a cheap copy
-/// of it.
+/// unknown, in the order of names and in blocks of at most 512; only a join makes a longer block, which is
+/// cut in two as its names are put. A segment's bytes and cells are shared by all sets that know it, so a
+/// set that is new and then joins another is a cheap copy of it.
 #[derive(Drop)]
 pub struct SegmentSet {
     alloc: Global,
@@ -151,8 +145,8 @@ impl SegmentSet {
     }
 
     /// Takes a segment: these bytes under this name. The bytes are read first, whatever is known of the
-    /// name, unless it is live with these bytes, which were read before; where they are refused, or memory
-    /// runs out, the set is as it was.
+    /// name, unless it is live with these bytes, which were read before: that takes no memory. Where they
+    /// are refused, or memory runs out, the set is as it was.
     pub fn take(&mut self, name: Name, bytes: &[u8]) -> Result<Taken, TakeError>
         ensures word { IfOk result (λ word. word ≡ taken_word (map.get self.old.view name) bytes.now) }
         ensures ok { let item = view_of_item (SegmentItem name bytes.now) in
@@ -160,6 +154,7 @@ impl SegmentSet {
         ensures read { OnOk result (IsOk (rows_of self.old.schema bytes.now)) }
         ensures refused { IfErr result (λ fault. Fails fault (rows_of self.old.schema bytes.now)) }
         ensures err { OnErr result (self.new ≡ self.old) }
+        ensures same { map.get self.old.view name ≡ Some (Live bytes.now) → result ≡ Ok Taken.Same }
     {
         if self.known_segment(&name, bytes).is_some() {
             return Ok(Taken::Same);
@@ -195,12 +190,13 @@ impl SegmentSet {
         Ok(taken)
     }
 
-    /// Retires a name. Where memory runs out the set is as it was.
+    /// Retires a name. A name that is retired takes no memory; where memory runs out the set is as it was.
     pub fn retire(&mut self, name: Name) -> Result<Retired, AllocError>
         ensures word { IfOk result (λ word. word ≡ retired_word (map.get self.old.view name)) }
         ensures ok { let item = view_of_item (RetirementItem name) in
             OnOk result (self.new ≡ record self.old { view = join self.old.view item }) }
         ensures err { OnErr result (self.new ≡ self.old) }
+        ensures same { map.get self.old.view name ≡ Some Gone → result ≡ Ok Retired.Same }
     {
         if let Some(Held::Retired) = self.held(&name) {
             return Ok(Retired::Same);
@@ -209,19 +205,31 @@ impl SegmentSet {
         Ok(Retired::New)
     }
 
+    /// Whether a dispute of the name tells nothing new: it is disputed or retired.
+    fn is_settled(&self, name: &Name) -> bool
+        ensures { IsTrue result ↔ (map.get self.now.view name.now ≡ Some Disputed) ⊎ (map.get self.now.view name.now ≡ Some Gone) }
+    {
+        match self.held(name) {
+            None => false,
+            Some(Held::Live(_)) => false,
+            Some(Held::Disputed) => true,
+            Some(Held::Retired) => true,
+        }
+    }
+
     /// Makes a name disputed, unless it is retired: two different contents of it are known, though
-    /// neither is at hand. Where memory runs out the set is as it was.
+    /// neither is at hand. A name that is disputed or retired takes no memory; where memory runs out the set
+    /// is as it was.
     pub fn dispute(&mut self, name: Name) -> Result<(), AllocError>
         ensures ok { OnOk result
             (self.new ≡ record self.old { view = join self.old.view (only_disputed name) }) }
         ensures err { OnErr result (self.new ≡ self.old) }
+        ensures same { (map.get self.old.view name ≡ Some Disputed) ⊎ (map.get self.old.view name ≡ Some Gone) → IsOk result }
     {
-        match self.held(&name) {
-            None => self.put(name, Held::Disputed),
-            Some(Held::Live(_)) => self.put(name, Held::Disputed),
-            Some(Held::Disputed) => Ok(()),
-            Some(Held::Retired) => Ok(()),
+        if self.is_settled(&name) {
+            return Ok(());
         }
+        self.put(name, Held::Disputed)
     }
 
     /// Whether the other set has the same declaration.
@@ -254,12 +262,12 @@ impl SegmentSet {
         let Ok(entries) = joined(self.alloc, &self.blocks, &other.blocks) else {
             return Err(JoinError::NoMemory);
         };
-        let count = entries.len();
+        let names = entries.len();
         let Ok(blocks) = in_blocks(self.alloc, entries) else {
             return Err(JoinError::NoMemory);
         };
         self.blocks = blocks;
-        self.count = count;
+        self.count = names;
         Ok(())
     }
 
@@ -274,6 +282,7 @@ impl SegmentSet {
     }
 
     /// Each name that is not unknown, in the order of names.
+    #[tactic(auto, using(crate::proofs::KeptSets::names_listed))]
     pub fn list(&self) -> Result<Vec<Listed>, AllocError>
         ensures { IfOk result
             (λ all. all.items ≡ list_map (listed self.now.schema) (map.entries self.now.view)) }
@@ -283,23 +292,15 @@ impl SegmentSet {
     }
 
     /// How many names are not unknown.
+    #[tactic(auto, using(crate::proofs::KeptSets::names_counted))]
     pub fn name_count(&self) -> usize
         ensures { result ≡ length (map.entries self.now.view) }
     {
         self.count
     }
 
-    /// The i-th name from 0 that is not unknown, in the order of names, and what is known of it. It
-    /// takes no memory, and a step for each block before it; `names` walks all in one pass.
-    pub fn name_at(&self, i: usize) -> (Name, Known<'_>)
-        requires { i < length (map.entries self.now.view) }
-        ensures known { slice_get (map.entries self.now.view) i ≡ Some (result.0, told_of result.1) }
-        ensures read { IsLentBy self.now.schema result.1 }
-    {
-        name_in(&self.blocks, i)
-    }
-
     /// Each name that is not unknown and what is known of it, in the order of names, in one pass.
+    #[tactic(auto, using(crate::proofs::KeptSets::names_told))]
     pub fn names(&self) -> Names<'_>
         ensures { result ≡ map.entries self.now.view }
     {
@@ -313,35 +314,11 @@ impl SegmentSet {
         end_before(&self.blocks, name)
     }
 
-    /// How many names are live.
-    pub fn live_count(&self) -> usize
-        ensures { result ≡ length (lives self.now.view) }
-    {
-        live_count_in(&self.blocks)
-    }
-
-    /// The i-th live name from 0, in the order of names, and its segment, which was read by the set's
-    /// declaration. It takes a step for each block before it; `lives` walks all in one pass.
-    pub fn live_at(&self, i: usize) -> (Name, &Segment)
-        requires { i < length (lives self.now.view) }
-        ensures known { slice_get (lives self.now.view) i ≡ Some (result.0, result.1.now.bytes) }
-        ensures read { IsReadBy self.now.schema result.1.now }
-    {
-        live_in(&self.blocks, i)
-    }
-
     /// Each live name and its segment, in the order of names, in one pass.
+    #[tactic(auto, using(crate::proofs::KeptSets::lives_known, crate::proofs::KeptSets::lives_read))]
     pub fn lives(&self) -> Lives<'_>
         ensures { AreLivesOf self.now result }
     {
         Lives::new(&self.blocks)
-    }
-
-    /// The number of rows of the table: those of all live segments. It fits whatever the set holds,
-    /// since there are fewer than 2^64 names, and fewer than 2^64 rows in each segment.
-    pub fn row_count(&self) -> u128
-        ensures { result ≡ length (table_of self.now.schema self.now.view) }
-    {
-        rows_in(&self.blocks)
     }
 }

@@ -41,7 +41,7 @@ fn other_bytes_are_disputed(rt: HostRuntime) -> Result<(), Fail> {
     assert_eq!(rt; set.take(east()?, OTHER_ROWS)?, Taken::New);
     assert_eq!(rt; set.take(east()?, FOUR_ROWS)?, Taken::Disputed);
     assert_eq!(rt; set.take(east()?, OTHER_ROWS)?, Taken::Ignored);
-    assert_eq!(rt; set.live_count(), 0);
+    assert_eq!(rt; set.lives().count(), 0);
     let all = set.list()?;
     assert_eq!(rt; all.len(), 1);
     assert_eq!(rt; all[0].status, Status::Disputed);
@@ -64,7 +64,7 @@ fn a_refused_segment_is_not_taken(rt: HostRuntime) -> Result<(), Fail> {
     let mut set = sales(rt.alloc())?;
     assert_eq!(rt; set.take(east()?, b""), Err(SegmentFault::NoHeader));
     assert_eq!(rt; set.status(east()?), Status::Unknown);
-    assert_eq!(rt; set.row_count(), 0);
+    assert_eq!(rt; set.lives().count(), 0);
     Ok(())
 }
 
@@ -77,13 +77,16 @@ fn both_ways_of_joining_agree(rt: HostRuntime) -> Result<(), Fail> {
     assert_eq!(rt; two.retire(Name::read(b"north", b"7")?)?, Retired::New);
     one.join(&two)?;
     two.join(&one)?;
-    assert_eq!(rt; one.row_count(), 8);
-    assert_eq!(rt; two.row_count(), 8);
-    assert_eq!(rt; one.live_count(), 2);
-    let (name, segment) = one.live_at(1);
+    assert_eq!(rt; two.lives().count(), 2);
+    assert_eq!(rt; two.list()?.len(), 3);
+    let mut lives = one.lives();
+    let (name, segment) = lives.next().ok_or(Fail)?;
+    assert_eq!(rt; name.origin(), b"east".as_slice());
+    assert_eq!(rt; segment.rows(), 4);
+    let (name, segment) = lives.next().ok_or(Fail)?;
     assert_eq!(rt; name.origin(), b"west".as_slice());
     assert_eq!(rt; segment.bytes(), OTHER_ROWS);
-    assert_eq!(rt; two.list()?.len(), 3);
+    assert!(rt; lives.next().is_none());
     Ok(())
 }
 

@@ -7,11 +7,7 @@ use Rattle.wset.proofs.blocks.Block.put.Goals as goal
 pub invariant_of-self-2 : goal.invariant_of-self-2
 invariant_of-self-2 c =
     let sized = put_sized c.self.inside.entries.items c.put_entry.new.entries.items c.args.name (known_of c.args.held) (subst IsRising (sym c.self.view_is) c.requires) c.in_ok-put_entry.ensures.ok in
-    record {
-      filled = omega (arith, c.self.invariant.filled, sized.0);
-      marked = c.in_ok-put_entry.ensures.marked;
-      room = c.put_entry.ensures.room;
-    }
+    omega (arith, c.self.invariant, sized.0)
 
 pub returns-clause-read : goal.returns-clause-read
 returns-clause-read c d all held = c.put_entry.ensures.read d (subst (AllHeldBy d) (sym c.self.view_is) all) held

@@ -2,7 +2,7 @@ use Rattle.std.proofs.Common.{◌∙◌, ap, length, sym, subst, arith}
 use Rattle.std.specs.FinMap.{insert}
 use Rattle.wset.specs.Blocks.{flat}
 use Rattle.wset.specs.Holding.{IsHeldBy, known_of}
-use Rattle.wset.proofs.LiveNames.{length-known_entries}
+use Rattle.wset.proofs.EntryFacts.{length-known_entries}
 use Rattle.wset.proofs.Maps.{rising_put, view_put}
 use Rattle.wset.proofs.Sets.{changed}
 use Rattle.wset.proofs.set.SegmentSet.put.Goals as goal

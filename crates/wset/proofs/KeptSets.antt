@@ -1,0 +1,33 @@
+-- What the entries of a set tell of the view that it stands for.
+use Rattle.std.proofs.Common.{◌≡◌, ◌∙◌, sym, ap, subst, length, map}
+use Rattle.std.specs.FinMap.{entries}
+use Rattle.std.specs.List.{AllByRecursion}
+use Rattle.wset.specs.Views.{lives}
+use Rattle.wset.specs.Sets.{DeclaredView, IsReadBy}
+use Rattle.wset.specs.Blocks.{flat}
+use Rattle.wset.specs.Entries.{known_entries, listing_of}
+use Rattle.wset.specs.Listing.{listed}
+use Rattle.wset.specs.Storing.{declared_view, IsOrderly}
+use Rattle.wset.specs.Walking.{contents}
+use Rattle.wset.specs.declared.set.SegmentSet.TheInside.{Inside}
+use Rattle.wset.proofs.EntryFacts.{length-known_entries}
+use Rattle.wset.proofs.Maps.{entries-is, lives-view}
+use Rattle.wset.proofs.Tables.{listed_entries}
+use Rattle.wset.proofs.Walks.{content_bytes, contents_read}
+
+pub names_told : (a : Inside) (s : DeclaredView) → IsOrderly a → declared_view a ≡ s → known_entries (flat a.blocks.items) ≡ entries s.view
+names_told a s h is = sym (entries-is (flat a.blocks.items) s.view h.rising (ap (λ x. x.view) is))
+
+pub names_counted : (a : Inside) (s : DeclaredView) → IsOrderly a → declared_view a ≡ s → a.count ≡ length (entries s.view)
+names_counted a s h is = h.counted ∙ sym (length-known_entries (flat a.blocks.items)) ∙ ap length (names_told a s h is)
+
+pub names_listed : (a : Inside) (s : DeclaredView) → IsOrderly a → declared_view a ≡ s → map listing_of (flat a.blocks.items) ≡ map (listed s.schema) (entries s.view)
+names_listed a s h is =
+    listed_entries a.schema (flat a.blocks.items) h.read ∙ ap (map (listed a.schema)) (names_told a s h is)
+    ∙ ap (λ x. map (listed x.schema) (entries s.view)) is
+
+pub lives_known : (a : Inside) (s : DeclaredView) → IsOrderly a → declared_view a ≡ s → map (λ e. (e.0, e.1.bytes)) (contents (flat a.blocks.items)) ≡ lives s.view
+lives_known a s h is = content_bytes (flat a.blocks.items) ∙ sym (lives-view (flat a.blocks.items) s.view h.rising (ap (λ x. x.view) is))
+
+pub lives_read : (a : Inside) (s : DeclaredView) → IsOrderly a → declared_view a ≡ s → AllByRecursion (λ e. IsReadBy s.schema e.1) (contents (flat a.blocks.items))
+lives_read a s h is = subst (λ x. AllByRecursion (λ e. IsReadBy x.schema e.1) (contents (flat a.blocks.items))) is (contents_read a.schema (flat a.blocks.items) h.read)
