@@ -161,202 +161,88 @@ fn same_name(a: &RcStr, b: &RcStr) -> bool
     a.as_str() == b.as_str()
 }
 
-#[tactic(auto, unfolding(wquery::specs::Tree::view))]
-fn is_null_word(e: &Expression) -> bool
-    ensures { result ≡ is_same (view e.now) NullWord }
-{
-    match e {
-        Expression::Null => true,
-        _ => false,
-    }
-}
-
-#[tactic(auto, unfolding(wquery::specs::Tree::view))]
-fn is_number(e: &Expression, number: u128) -> bool
-    ensures { result ≡ is_same (view e.now) (Numeral number) }
-{
-    match e {
-        Expression::Number(n) => n.get() == number,
-        _ => false,
-    }
-}
-
-#[tactic(auto, unfolding(wquery::specs::Tree::view))]
-fn is_text(e: &Expression, text: &RcStr) -> bool
-    ensures { result ≡ is_same (view e.now) (Quoted (rc_str_bytes text.now)) }
-{
-    match e {
-        Expression::Text(other) => other.as_str() == text.as_str(),
-        _ => false,
-    }
-}
-
-#[tactic(auto, unfolding(wquery::specs::Tree::view))]
-fn is_column(e: &Expression, column: &Column) -> bool
-    ensures { result ≡ is_same (view e.now) (Field (name_bytes column.now.qualifier) (rc_str_bytes column.now.name)) }
-{
-    match e {
-        Expression::Column(other) => other.name.as_str() == column.name.as_str(),
-        _ => false,
-    }
-}
-
-#[cycle(sameness)]
-#[tactic(auto, unfolding(wquery::specs::Tree::view))]
-fn is_call(e: &Expression, call: &Call) -> bool
-    ensures { result ≡ is_same (view e.now) (Invoked (rc_str_bytes call.now.name) (view_arguments call.now.arguments) (filter_of (view_optional call.now.filter)) (reach_of (view_optional_over call.now.over))) }
-{
-    match e {
-        Expression::Call(other) => same_call(other, call),
-        _ => false,
-    }
-}
-
-#[cycle(sameness)]
-#[tactic(auto, unfolding(wquery::specs::Tree::view))]
-fn is_negation(e: &Expression, operand: &Expression) -> bool
-    ensures { result ≡ is_same (view e.now) (Negated (view operand.now)) }
-{
-    match e {
-        Expression::Not(x) => same(x, operand),
-        _ => false,
-    }
-}
-
-#[cycle(sameness)]
-#[tactic(auto, unfolding(wquery::specs::Tree::view))]
-fn is_sign(e: &Expression, minus: bool, operand: &Expression) -> bool
-    ensures { result ≡ is_same (view e.now) (Signed minus (view operand.now)) }
-{
-    match e {
-        Expression::Sign {
-            minus: other,
-            operand: x,
-        } => same_flag(*other, minus) && same(x, operand),
-        _ => false,
-    }
-}
-
-#[cycle(sameness)]
-#[tactic(auto, unfolding(wquery::specs::Tree::view))]
-fn is_chain(e: &Expression, kind: ChainKind, first: &Expression, links: &[Link]) -> bool
-    ensures { result ≡ is_same (view e.now) (Joined kind (view first.now) (linked NoLinks (map view_link links.now))) }
-{
-    match e {
-        Expression::Chain {
-            kind: other,
-            first: x,
-            links: others,
-        } => { same_kind(*other, kind) && (same(x, first) && same_links(others.as_slice(), links)) }
-        _ => false,
-    }
-}
-
-#[cycle(sameness)]
-#[tactic(auto, unfolding(wquery::specs::Tree::view))]
-fn is_comparison(
-    e: &Expression,
-    comparison: Comparison,
-    left: &Expression,
-    right: &Expression,
-) -> bool
-    ensures { result ≡ is_same (view e.now) (Compared comparison (view left.now) (view right.now)) }
-{
-    match e {
-        Expression::Compare {
-            comparison: other,
-            left: x,
-            right: y,
-        } => same_comparison(*other, comparison) && (same(x, left) && same(y, right)),
-        _ => false,
-    }
-}
-
-#[cycle(sameness)]
-#[tactic(auto, unfolding(wquery::specs::Tree::view))]
-fn is_null_test(e: &Expression, negated: bool, operand: &Expression) -> bool
-    ensures { result ≡ is_same (view e.now) (NullTest negated (view operand.now)) }
-{
-    match e {
-        Expression::IsNull {
-            negated: other,
-            operand: x,
-        } => same_flag(*other, negated) && same(x, operand),
-        _ => false,
-    }
-}
-
-#[cycle(sameness)]
-#[tactic(auto, unfolding(wquery::specs::Tree::view))]
-fn is_range_test(
-    e: &Expression,
-    negated: bool,
-    operand: &Expression,
-    low: &Expression,
-    high: &Expression,
-) -> bool
-    ensures { result ≡ is_same (view e.now) (Within negated (view operand.now) (view low.now) (view high.now)) }
-{
-    match e {
-        Expression::Between {
-            negated: other,
-            operand: x,
-            low: y,
-            high: z,
-        } => { same_flag(*other, negated) && (same(x, operand) && (same(y, low) && same(z, high))) }
-        _ => false,
-    }
-}
-
-#[cycle(sameness)]
-#[tactic(auto, unfolding(wquery::specs::Tree::view))]
-fn is_list_test(e: &Expression, negated: bool, operand: &Expression, list: &[Expression]) -> bool
-    ensures { result ≡ is_same (view e.now) (Among negated (view operand.now) (trees (views list.now))) }
-{
-    match e {
-        Expression::In {
-            negated: other,
-            operand: x,
-            list: others,
-        } => {
-            same_flag(*other, negated) && (same(x, operand) && same_listed(others.as_slice(), list))
-        }
-        _ => false,
-    }
-}
-
 /// Whether two expressions are equal. A column is the same where its name is.
 #[cycle(sameness)]
 #[tactic(auto, unfolding(wquery::specs::Tree::view, wquery::specs::Tree::view_call))]
 pub fn same(a: &Expression, b: &Expression) -> bool
     ensures { result ≡ is_same (view a.now) (view b.now) }
 {
-    match b {
-        Expression::Null => is_null_word(a),
-        Expression::Number(n) => is_number(a, n.get()),
-        Expression::Text(text) => is_text(a, text),
-        Expression::Column(column) => is_column(a, column),
-        Expression::Call(call) => is_call(a, call),
-        Expression::Not(operand) => is_negation(a, operand),
-        Expression::Sign { minus, operand } => is_sign(a, *minus, operand),
-        Expression::Chain { kind, first, links } => is_chain(a, *kind, first, links.as_slice()),
-        Expression::Compare {
-            comparison,
-            left,
-            right,
-        } => is_comparison(a, *comparison, left, right),
-        Expression::IsNull { negated, operand } => is_null_test(a, *negated, operand),
-        Expression::Between {
-            negated,
-            operand,
-            low,
-            high,
-        } => is_range_test(a, *negated, operand, low, high),
-        Expression::In {
-            negated,
-            operand,
-            list,
-        } => is_list_test(a, *negated, operand, list.as_slice()),
+    match (a, b) {
+        (Expression::Null, Expression::Null) => true,
+        (Expression::Number(n), Expression::Number(m)) => n.get() == m.get(),
+        (Expression::Text(text), Expression::Text(other)) => text.as_str() == other.as_str(),
+        (Expression::Column(column), Expression::Column(other)) => {
+            column.name.as_str() == other.name.as_str()
+        }
+        (Expression::Call(call), Expression::Call(other)) => same_call(call, other),
+        (Expression::Not(operand), Expression::Not(x)) => same(operand, x),
+        (
+            Expression::Sign { minus, operand },
+            Expression::Sign {
+                minus: sign,
+                operand: x,
+            },
+        ) => same_flag(*minus, *sign) && same(operand, x),
+        (
+            Expression::Chain { kind, first, links },
+            Expression::Chain {
+                kind: sign,
+                first: x,
+                links: others,
+            },
+        ) => {
+            same_kind(*kind, *sign)
+                && (same(first, x) && same_links(links.as_slice(), others.as_slice()))
+        },
+        (
+            Expression::Compare {
+                comparison,
+                left,
+                right,
+            },
+            Expression::Compare {
+                comparison: sign,
+                left: x,
+                right: y,
+            },
+        ) => same_comparison(*comparison, *sign) && (same(left, x) && same(right, y)),
+        (
+            Expression::IsNull { negated, operand },
+            Expression::IsNull {
+                negated: sign,
+                operand: x,
+            },
+        ) => same_flag(*negated, *sign) && same(operand, x),
+        (
+            Expression::Between {
+                negated,
+                operand,
+                low,
+                high,
+            },
+            Expression::Between {
+                negated: sign,
+                operand: x,
+                low: y,
+                high: z,
+            },
+        ) => same_flag(*negated, *sign) && (same(operand, x) && (same(low, y) && same(high, z))),
+        (
+            Expression::In {
+                negated,
+                operand,
+                list,
+            },
+            Expression::In {
+                negated: sign,
+                operand: x,
+                list: others,
+            },
+        ) => {
+            same_flag(*negated, *sign)
+                && (same(operand, x) && same_listed(list.as_slice(), others.as_slice()))
+        }
+        _ => false,
     }
 }
 

@@ -51,29 +51,6 @@ pub same_keys-returns-then-place-b-2 : goal.same_keys-returns-then-place-b-2
 same_keys-returns-then-place-b-2 t c =
     sym (c.keys.invariant.1 ∙ keys_end c.args.a.now c.args.b.now c.keys.x-index c.keys-test.false (subst (λ n. n < length c.args.b.now) c.keys.invariant.0 c.if-place-b-2.true))
 
-pub is_call-returns-in-Call : goal.is_call-returns-in-Call
-is_call-returns-in-Call t c =
-    call_same c.args.e.now c.in-Call.other _ c.args.call.now _ c.in-Call.is c.deref.ensures c.same_call.ensures
-
-pub same-returns-in-Call : goal.same-returns-in-Call
-same-returns-in-Call t c = c.is_call.ensures ∙ ap (is_same (view c.args.a.now)) (sym (call_view c.args.b.now _ c.in-Call.call c.in-Call.is c.deref.ensures))
-
-pub is_chain-returns-then-same : goal.is_chain-returns-then-same
-is_chain-returns-then-same t c =
-    chain_same _ c.args.first.now _ _ c.args.kind c.in-Chain.x c.in-Chain.others _ c.args.links.now _ _ _ c.in-Chain.is c.deref.ensures c.as_slice.ensures.value c.same_kind.ensures c.if-same_kind.true c.same.ensures c.if-same.true c.same_links.ensures
-
-pub same-returns-in-Chain : goal.same-returns-in-Chain
-same-returns-in-Chain t c =
-    c.is_chain.ensures ∙ ap (is_same (view c.args.a.now)) (sym (chain_view c.args.b.now _ _ c.in-Chain.first c.in-Chain.links _ c.in-Chain.is c.deref-in-Chain.ensures c.as_slice.ensures.value))
-
-pub same-returns-in-In : goal.same-returns-in-In
-same-returns-in-In t c =
-    c.is_list_test.ensures ∙ ap (is_same (view c.args.a.now)) (sym (list_view c.args.b.now _ _ c.in-In.operand c.in-In.list _ c.in-In.is c.deref-in-In.ensures c.as_slice-in-In.ensures.value))
-
-pub is_list_test-returns-then-same : goal.is_list_test-returns-then-same
-is_list_test-returns-then-same t c =
-    list_same _ c.args.operand.now _ _ c.args.negated c.in-In.x c.in-In.others _ c.args.list.now _ _ _ c.in-In.is c.deref.ensures c.as_slice.ensures.value c.same_flag.ensures c.if-same_flag.true c.same.ensures c.if-same.true c.same_listed.ensures
-
 pub same_partition_as-returns : goal.same_partition_as-returns
 same_partition_as-returns t c =
     let k : views c.as_slice.result.now ≡ (view_window c.args.a.now).partition = ap views c.as_slice.ensures.value ∙ sym (partition_is c.args.a.now) in
@@ -93,3 +70,13 @@ pub same_orders-returns : goal.same_orders-returns
 same_orders-returns t c =
     let k : view_keys c.as_slice.result.now ≡ (view_window c.args.b.now).order = ap view_keys c.as_slice.ensures.value ∙ sym (order_is c.args.b.now) in
     c.same_order_as.ensures ∙ ap (λ ks. are_same_keys (keys (view_window c.args.a.now).order) (keys ks)) k
+
+pub same-returns-then-same : goal.same-returns-then-same
+same-returns-then-same t c =
+    chain_same _ c.deref-then-same_kind-2.result.now _ _ c.in-Chain-Chain.sign _ _ _ c.as_slice-then-same.result.now _ _ _ c.in-Chain-Chain.is-0 c.deref-then-same_kind.ensures c.as_slice.ensures.value c.same_kind.ensures c.if-same_kind.true c.same-then-same_kind.ensures c.if-same.true c.same_links.ensures
+    ∙ ap (is_same (view c.args.a.now)) (sym (chain_view _ _ _ _ _ _ c.in-Chain-Chain.is-1 c.deref-then-same_kind-2.ensures c.as_slice-then-same.ensures.value))
+
+pub same-returns-then-same-5 : goal.same-returns-then-same-5
+same-returns-then-same-5 t c =
+    list_same _ c.deref-then-same_flag-4-2.result.now _ _ c.in-In-In.sign _ _ _ c.as_slice-then-same-5-2.result.now _ _ _ c.in-In-In.is-0 c.deref-then-same_flag-4.ensures c.as_slice-then-same-5.ensures.value c.same_flag-in-In-In.ensures c.if-same_flag-4.true c.same-then-same_flag-4.ensures c.if-same-5.true c.same_listed.ensures
+    ∙ ap (is_same (view c.args.a.now)) (sym (list_view _ _ _ _ _ _ c.in-In-In.is-1 c.deref-then-same_flag-4-2.ensures c.as_slice-then-same-5-2.ensures.value))
