@@ -1,5 +1,5 @@
 -- What calls, chains and lists of a query say, part by part.
-use Rattle.std.proofs.Common.{◌≡◌, Bool, ℕ, List, ap, sym, ◌∙◌, map, Option, Some, None}
+use Rattle.std.proofs.Common.{◌≡◌, Bool, ap, sym, ◌∙◌, map, Option, Some, None}
 use Rattle.std.specs.Rc.{rc_str_bytes}
 use Rattle.std.specs.declared.rc.RcStr.{RcStr}
 use Rattle.std.specs.declared.alloc.Global.{Global}
@@ -14,7 +14,7 @@ use Rattle.wquery.specs.declared.expression.Expression.{Expression}
 use Rattle.wquery.specs.declared.expression.Expression.TheVariants as queries
 use Rattle.wquery.specs.declared.expression.Arguments.TheOpen as layer
 use Rattle.wquery.specs.declared.expression.Arguments.TheFolds.{fold-Expression, fold-roll-Expression, fold_out-Call}
-use Rattle.wquery.specs.Tree.{Tree, Invoked, Given, Reach, KeyTree, Branch, WindowTree, Links, NoLinks, Joined, Among as Contained, trees, views, linked, view, view_link, view_call, view_arguments, view_over, view_optional, view_optional_over, filter_of, reach_of, arguments_step, expression_step, over_step, call_step, key_step, link_step, window_step}
+use Rattle.wquery.specs.Tree.{Tree, Invoked, Given, Reach, KeyTree, Branch, WindowTree, NoLinks, Joined, Among as Contained, trees, views, linked, view, view_link, view_call, view_arguments, view_over, view_optional, view_optional_over, filter_of, reach_of, arguments_step, expression_step, over_step, call_step, key_step, link_step, window_step}
 
 abbrev call_parts : RcStr Global → Arguments → Option Expression → Option Over → Type 0
 call_parts n a f o = view_call (record { name = n; arguments = a; filter = f; over = o }) ≡ Invoked (rc_str_bytes n) (view_arguments a) (filter_of (view_optional f)) (reach_of (view_optional_over o))

@@ -1,6 +1,6 @@
 use Rattle.std.proofs.Common.{◌≡◌, ◌<◌, length, subst, map, refl, ◌∙◌, sym, ap}
-use Rattle.wsame.proofs.Equal.{and_first, and_second, same_calls, call_same, call_view, same_listed_views, same_from_front, listed_ends, links_end, keys_end, chain_same, chain_view, list_same, list_view, partition_is, order_is}
-use Rattle.wquery.specs.Tree.{trees, view, views, keys, view_keys, view_window, view_call, view_link}
+use Rattle.wsame.proofs.Equal.{and_first, and_second, same_calls, same_listed_views, same_from_front, listed_ends, links_end, keys_end, chain_same, chain_view, list_same, list_view, partition_is, order_is}
+use Rattle.wquery.specs.Tree.{trees, view, views, keys, view_keys, view_window, view_link}
 use Rattle.wsame.specs.Sameness.{is_same, are_same, are_same_keys}
 use Rattle.wsame.proofs.sameness.+sameness.Goals as goal
 
