@@ -1,5 +1,6 @@
 -- Equality of expressions, by the parts of each.
-use Rattle.std.proofs.Common.{◌≡◌, ℕ, suc, ◌+◌, ◌<◌, ◌≤◌, Bool, true, false, ◌&&◌, List, [], ◌∷◌, refl, ◌∙◌, ap, sym, map, drop, length, arith, length-drop}
+use Rattle.std.proofs.Common.{◌≡◌, ℕ, suc, ◌+◌, ◌-◌, leb, ◌≤◌, Bool, true, false, ◌&&◌, List, [], ◌∷◌, refl, ◌∙◌, ap, sym, map, drop, length, arith, length-drop}
+use Rattle.std.proofs.lemmas.Bool.{le-leb, lt-leb}
 use Rattle.std.specs.Rc.{rc_str_bytes}
 use Rattle.std.specs.Str.{bytes_eq}
 use Rattle.std.specs.declared.alloc.Global.{Global}
@@ -9,15 +10,14 @@ use Rattle.wquery.specs.declared.expression.Arguments.{Arguments}
 use Rattle.wquery.specs.declared.expression.Arguments.TheVariants as given
 use Rattle.wquery.specs.declared.expression.Call.{Call}
 use Rattle.wquery.specs.declared.expression.ChainKind.{ChainKind}
-use Rattle.wquery.specs.declared.expression.Key.{Key}
 use Rattle.wquery.specs.declared.expression.Link.{Link}
 use Rattle.wquery.specs.declared.expression.Window.{Window, out-Window}
 use Rattle.wquery.specs.declared.expression.Expression.{Expression}
 use Rattle.wquery.specs.declared.expression.Expression.TheVariants as queries
 use Rattle.wquery.specs.declared.expression.Arguments.TheOpen as layer
 use Rattle.wquery.specs.declared.expression.Arguments.TheFolds.{fold-Arguments, fold-roll-Arguments, fold_out-Window}
-use Rattle.wquery.specs.Tree.{Tree, Invoked, Joined, Among, view_window, view_key, view_link, view_keys, keys, same_kind, Given, These, Reach, KeyTree, Branch, WindowTree, Links, NoLinks, Further, linked, trees, views, view, view_call, view_arguments, view_optional, view_optional_over, filter_of, reach_of, arguments_step, expression_step, over_step, call_step, key_step, link_step, window_step}
-use Rattle.wsame.specs.Sameness.{is_same, are_same, are_same_links, are_same_given, is_same_filter, is_same_reach, is_same_branch, are_same_keys, same_bool}
+use Rattle.wquery.specs.Tree.{Tree, Invoked, Joined, Among, view_window, view_key, view_link, view_keys, same_kind, Given, These, Reach, KeyTree, Branch, WindowTree, Links, NoLinks, Further, linked, trees, views, view, view_call, view_arguments, view_optional, view_optional_over, filter_of, reach_of, arguments_step, expression_step, over_step, call_step, key_step, link_step, window_step}
+use Rattle.wsame.specs.Sameness.{is_same, are_same, are_same_links, are_same_given, is_same_filter, is_same_reach, is_same_branch, same_bool}
 use Rattle.wsame.proofs.Views.{view_call_is, view_of_call, view_of_chain, view_of_in}
 
 pub and_second : (a b : Bool) → a ≡ true → (a && b) ≡ b
@@ -89,31 +89,16 @@ view_of_listed v = ap (fold-Arguments Given Tree Reach Tree KeyTree Branch Windo
 pub same_listed_views : (a b : Arguments) (x y : Vec Expression Global) → a ≡ given.Listed x → b ≡ given.Listed y → are_same_given (view_arguments a) (view_arguments b) ≡ are_same (trees (views x.items)) (trees (views y.items))
 same_listed_views a b x y ea eb = ap (λ (e : Arguments). are_same_given (view_arguments e) (view_arguments b)) ea ∙ ap (λ (e : Arguments). are_same_given (view_arguments (given.Listed x)) (view_arguments e)) eb ∙ ap (λ (t : Given). are_same_given t (view_arguments (given.Listed y))) (view_of_listed x) ∙ ap (are_same_given (These (trees (views x.items)))) (view_of_listed y)
 
--- lists that do not end at once
+-- lists that end
 
-shorter : (xs ys : List Expression) → length xs ≡ 0 → 0 < length ys → are_same (trees (views xs)) (trees (views ys)) ≡ false
-shorter [] [] h k = absurd (omega arith)
-shorter [] (y ∷ ys) h k = refl
-shorter (x ∷ xs) ys h k = absurd (omega arith)
+ended : {A : Type 0} (same : List A → List A → Bool) → same [] [] ≡ true → ((y : A) (ys : List A) → same [] (y ∷ ys) ≡ false) → (us vs : List A) (n p : ℕ) → length us ≡ 0 → length vs ≡ n - p → leb n p ≡ same us vs
+ended same none more [] [] n p h k = le-leb n p (omega arith) ∙ sym none
+ended same none more [] (v ∷ vs) n p h k = lt-leb n p (omega arith) ∙ sym (more v vs)
+ended same none more (u ∷ us) vs n p h k = absurd (omega arith)
 
-pub listed_ends : (xs ys : List Expression) (i : ℕ) → length xs ≤ i → i < length ys → are_same (trees (views (drop i xs))) (trees (views (drop i ys))) ≡ false
-listed_ends xs ys i h k = shorter (drop i xs) (drop i ys) (simp length-drop (omega arith)) (simp length-drop (omega arith))
-
-shorter_chain : (xs ys : List Link) → length xs ≡ 0 → 0 < length ys → same_branches (map view_link xs) (map view_link ys) ≡ false
-shorter_chain [] [] h k = absurd (omega arith)
-shorter_chain [] (y ∷ ys) h k = refl
-shorter_chain (x ∷ xs) ys h k = absurd (omega arith)
-
-pub links_end : (xs ys : List Link) (i : ℕ) → length xs ≤ i → i < length ys → same_branches (map view_link (drop i xs)) (map view_link (drop i ys)) ≡ false
-links_end xs ys i h k = shorter_chain (drop i xs) (drop i ys) (simp length-drop (omega arith)) (simp length-drop (omega arith))
-
-shorter_order : (xs ys : List Key) → length xs ≡ 0 → 0 < length ys → are_same_keys (keys (view_keys xs)) (keys (view_keys ys)) ≡ false
-shorter_order [] [] h k = absurd (omega arith)
-shorter_order [] (y ∷ ys) h k = refl
-shorter_order (x ∷ xs) ys h k = absurd (omega arith)
-
-pub keys_end : (xs ys : List Key) (i : ℕ) → length xs ≤ i → i < length ys → are_same_keys (keys (view_keys (drop i xs))) (keys (view_keys (drop i ys))) ≡ false
-keys_end xs ys i h k = shorter_order (drop i xs) (drop i ys) (simp length-drop (omega arith)) (simp length-drop (omega arith))
+-- the first list has ended: they are the same where the second one has, too
+pub ends : {A : Type 0} (same : List A → List A → Bool) → same [] [] ≡ true → ((y : A) (ys : List A) → same [] (y ∷ ys) ≡ false) → (xs ys : List A) (i p : ℕ) → length xs ≤ i → p ≡ i → leb (length ys) p ≡ same (drop i xs) (drop i ys)
+ends same none more xs ys i p h e = ended same none more (drop i xs) (drop i ys) (length ys) p (simp length-drop (omega arith)) (simp length-drop (rw e refl))
 
 both : (a b c : Bool) → a ≡ true → b ≡ c → b ≡ (a && c)
 both a b c e f = rw e f

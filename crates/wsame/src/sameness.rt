@@ -122,24 +122,20 @@ fn same_frames(a: &Frame, b: &Frame) -> bool
 fn same_frame(a: &Option<Frame>, b: &Option<Frame>) -> bool
     ensures { result ≡ is_same_frame a.now b.now }
 {
-    match a {
-        None => b.is_none(),
-        Some(f) => match b {
-            None => false,
-            Some(g) => same_frames(f, g),
-        },
+    match (a, b) {
+        (None, None) => true,
+        (Some(f), Some(g)) => same_frames(f, g),
+        _ => false,
     }
 }
 
 fn same_copied(a: &Option<RcStr>, b: &Option<RcStr>) -> bool
     ensures { result ≡ is_same_copied (name_bytes a.now) (name_bytes b.now) }
 {
-    match a {
-        None => b.is_none(),
-        Some(x) => match b {
-            None => false,
-            Some(y) => x.as_str() == y.as_str(),
-        },
+    match (a, b) {
+        (None, None) => true,
+        (Some(x), Some(y)) => x.as_str() == y.as_str(),
+        _ => false,
     }
 }
 
@@ -252,18 +248,12 @@ fn same_listed(a: &[Expression], b: &[Expression]) -> bool
 {
     let mut place = 0;
     'list: for x in a {
-        if place >= b.len() {
-            return false;
-        }
-        if !same(x, &b[place]) {
+        if place >= b.len() || !same(x, &b[place]) {
             return false;
         }
         place += 1;
     }
-    if place < b.len() {
-        return false;
-    }
-    true
+    place >= b.len()
 }
 
 // The last operand is the outermost of the tree, and both lists are gone through from the first.
@@ -273,18 +263,12 @@ fn same_links(a: &[Link], b: &[Link]) -> bool
 {
     let mut place = 0;
     'links: for x in a {
-        if place >= b.len() {
-            return false;
-        }
-        if !same_link(x, &b[place]) {
+        if place >= b.len() || !same_link(x, &b[place]) {
             return false;
         }
         place += 1;
     }
-    if place < b.len() {
-        return false;
-    }
-    true
+    place >= b.len()
 }
 
 #[cycle(sameness)]
@@ -301,18 +285,12 @@ fn same_keys(a: &[Key], b: &[Key]) -> bool
 {
     let mut place = 0;
     'keys: for x in a {
-        if place >= b.len() {
-            return false;
-        }
-        if !same_key(x, &b[place]) {
+        if place >= b.len() || !same_key(x, &b[place]) {
             return false;
         }
         place += 1;
     }
-    if place < b.len() {
-        return false;
-    }
-    true
+    place >= b.len()
 }
 
 #[cycle(sameness)]
@@ -392,15 +370,10 @@ fn same_window_frames(a: &Window, b: &Window) -> bool
 fn same_arguments(a: &Arguments, b: &Arguments) -> bool
     ensures { result ≡ are_same_given (view_arguments a.now) (view_arguments b.now) }
 {
-    match a {
-        Arguments::Star => match b {
-            Arguments::Star => true,
-            Arguments::Listed(_) => false,
-        },
-        Arguments::Listed(x) => match b {
-            Arguments::Star => false,
-            Arguments::Listed(y) => same_listed(x.as_slice(), y.as_slice()),
-        },
+    match (a, b) {
+        (Arguments::Star, Arguments::Star) => true,
+        (Arguments::Listed(x), Arguments::Listed(y)) => same_listed(x.as_slice(), y.as_slice()),
+        _ => false,
     }
 }
 
@@ -408,12 +381,10 @@ fn same_arguments(a: &Arguments, b: &Arguments) -> bool
 fn same_filter(a: &Option<Expression>, b: &Option<Expression>) -> bool
     ensures { result ≡ is_same_filter (filter_of (view_optional a.now)) (filter_of (view_optional b.now)) }
 {
-    match a {
-        None => b.is_none(),
-        Some(x) => match b {
-            None => false,
-            Some(y) => same(x, y),
-        },
+    match (a, b) {
+        (None, None) => true,
+        (Some(x), Some(y)) => same(x, y),
+        _ => false,
     }
 }
 
@@ -422,15 +393,10 @@ fn same_filter(a: &Option<Expression>, b: &Option<Expression>) -> bool
 fn same_over(a: &Over, b: &Over) -> bool
     ensures { result ≡ is_same_reach (view_over a.now) (view_over b.now) }
 {
-    match a {
-        Over::Named(x) => match b {
-            Over::Named(y) => x.as_str() == y.as_str(),
-            Over::Windowed(_) => false,
-        },
-        Over::Windowed(x) => match b {
-            Over::Named(_) => false,
-            Over::Windowed(y) => same_window(x, y),
-        },
+    match (a, b) {
+        (Over::Named(x), Over::Named(y)) => x.as_str() == y.as_str(),
+        (Over::Windowed(x), Over::Windowed(y)) => same_window(x, y),
+        _ => false,
     }
 }
 
@@ -439,12 +405,10 @@ fn same_over(a: &Over, b: &Over) -> bool
 fn same_reach(a: &Option<Over>, b: &Option<Over>) -> bool
     ensures { result ≡ is_same_reach (reach_of (view_optional_over a.now)) (reach_of (view_optional_over b.now)) }
 {
-    match a {
-        None => b.is_none(),
-        Some(x) => match b {
-            None => false,
-            Some(y) => same_over(x, y),
-        },
+    match (a, b) {
+        (None, None) => true,
+        (Some(x), Some(y)) => same_over(x, y),
+        _ => false,
     }
 }
 

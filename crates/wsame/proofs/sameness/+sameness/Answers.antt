@@ -1,5 +1,5 @@
-use Rattle.std.proofs.Common.{◌≡◌, ◌<◌, length, subst, map, refl, ◌∙◌, sym, ap}
-use Rattle.wsame.proofs.Equal.{and_first, and_second, same_calls, same_listed_views, same_from_front, listed_ends, links_end, keys_end, chain_same, chain_view, list_same, list_view, partition_is, order_is}
+use Rattle.std.proofs.Common.{◌≡◌, map, refl, ◌∙◌, sym, ap}
+use Rattle.wsame.proofs.Equal.{and_first, and_second, same_branches, same_calls, same_listed_views, same_from_front, ends, chain_same, chain_view, list_same, list_view, partition_is, order_is}
 use Rattle.wquery.specs.Tree.{trees, view, views, keys, view_keys, view_window, view_link}
 use Rattle.wsame.specs.Sameness.{is_same, are_same, are_same_keys}
 use Rattle.wsame.proofs.sameness.+sameness.Goals as goal
@@ -23,10 +23,6 @@ same_call-returns-then-not-same_filter t c =
 pub same_links-links-init : goal.same_links-links-init
 same_links-links-init t c = (refl, same_from_front (map view_link c.args.a.now) (map view_link c.args.b.now))
 
-pub same_arguments-returns-in-Listed-b-2 : goal.same_arguments-returns-in-Listed-b-2
-same_arguments-returns-in-Listed-b-2 t c =
-    c.same_listed.ensures ∙ ap (λ x. are_same (trees (views x)) (trees (views c.as_slice-in-Listed-b-2.result.now))) c.as_slice.ensures.value ∙ ap (λ y. are_same (trees (views c.in-Listed.x.items)) (trees (views y))) c.as_slice-in-Listed-b-2.ensures.value ∙ sym (same_listed_views c.args.a.now c.args.b.now c.in-Listed.x c.in-Listed-b-2.y c.in-Listed.is c.in-Listed-b-2.is)
-
 pub same_window-returns : goal.same_window-returns
 same_window-returns t c =
     c.same_window_frames.ensures ∙ sym (and_second _ _ (sym c.same_copies.ensures ∙ c.if-not-same_copies.false) ∙ and_second _ _ (sym c.same_partitions.ensures ∙ c.if-not-same_partitions.false) ∙ and_second _ _ (sym c.same_orders.ensures ∙ c.if-not-same_orders.false))
@@ -38,18 +34,6 @@ same_window-returns-then-not-same_partitions t c =
 pub same_window-returns-then-not-same_orders : goal.same_window-returns-then-not-same_orders
 same_window-returns-then-not-same_orders t c =
     sym (and_second _ _ (sym c.same_copies.ensures ∙ c.if-not-same_copies.false) ∙ and_second _ _ (sym c.same_partitions.ensures ∙ c.if-not-same_partitions.false) ∙ and_first _ _ (sym c.same_orders.ensures ∙ c.if-not-same_orders.true))
-
-pub same_listed-returns-then-place-b-2 : goal.same_listed-returns-then-place-b-2
-same_listed-returns-then-place-b-2 t c =
-    sym (c.list.invariant.1 ∙ listed_ends c.args.a.now c.args.b.now c.list.x-index c.list-test.false (subst (λ n. n < length c.args.b.now) c.list.invariant.0 c.if-place-b-2.true))
-
-pub same_links-returns-then-place-b-2 : goal.same_links-returns-then-place-b-2
-same_links-returns-then-place-b-2 t c =
-    sym (c.links.invariant.1 ∙ links_end c.args.a.now c.args.b.now c.links.x-index c.links-test.false (subst (λ n. n < length c.args.b.now) c.links.invariant.0 c.if-place-b-2.true))
-
-pub same_keys-returns-then-place-b-2 : goal.same_keys-returns-then-place-b-2
-same_keys-returns-then-place-b-2 t c =
-    sym (c.keys.invariant.1 ∙ keys_end c.args.a.now c.args.b.now c.keys.x-index c.keys-test.false (subst (λ n. n < length c.args.b.now) c.keys.invariant.0 c.if-place-b-2.true))
 
 pub same_partition_as-returns : goal.same_partition_as-returns
 same_partition_as-returns t c =
@@ -80,3 +64,19 @@ pub same-returns-then-same-5 : goal.same-returns-then-same-5
 same-returns-then-same-5 t c =
     list_same _ c.deref-then-same_flag-4-2.result.now _ _ c.in-In-In.sign _ _ _ c.as_slice-then-same-5-2.result.now _ _ _ c.in-In-In.is-0 c.deref-then-same_flag-4.ensures c.as_slice-then-same-5.ensures.value c.same_flag-in-In-In.ensures c.if-same_flag-4.true c.same-then-same_flag-4.ensures c.if-same-5.true c.same_listed.ensures
     ∙ ap (is_same (view c.args.a.now)) (sym (list_view _ _ _ _ _ _ c.in-In-In.is-1 c.deref-then-same_flag-4-2.ensures c.as_slice-then-same-5-2.ensures.value))
+
+pub same_arguments-returns-in-Listed-Listed : goal.same_arguments-returns-in-Listed-Listed
+same_arguments-returns-in-Listed-Listed t c =
+    c.same_listed.ensures ∙ ap (λ x. are_same (trees (views x)) (trees (views c.as_slice-in-Listed-Listed.result.now))) c.as_slice.ensures.value ∙ ap (λ y. are_same (trees (views c.in-Listed-Listed.x.items)) (trees (views y))) c.as_slice-in-Listed-Listed.ensures.value ∙ sym (same_listed_views c.args.a.now c.args.b.now c.in-Listed-Listed.x c.in-Listed-Listed.y c.in-Listed-Listed.is-0 c.in-Listed-Listed.is-1)
+
+pub same_listed-returns : goal.same_listed-returns
+same_listed-returns t c =
+    ends (λ xs ys. are_same (trees (views xs)) (trees (views ys))) refl (λ y ys. refl) c.args.a.now c.args.b.now c.list.x-index c.list.place c.list-test.false c.list.invariant.0 ∙ sym c.list.invariant.1
+
+pub same_links-returns : goal.same_links-returns
+same_links-returns t c =
+    ends (λ xs ys. same_branches (map view_link xs) (map view_link ys)) refl (λ y ys. refl) c.args.a.now c.args.b.now c.links.x-index c.links.place c.links-test.false c.links.invariant.0 ∙ sym c.links.invariant.1
+
+pub same_keys-returns : goal.same_keys-returns
+same_keys-returns t c =
+    ends (λ xs ys. are_same_keys (keys (view_keys xs)) (keys (view_keys ys))) refl (λ y ys. refl) c.args.a.now c.args.b.now c.keys.x-index c.keys.place c.keys-test.false c.keys.invariant.0 ∙ sym c.keys.invariant.1
