@@ -1,6 +1,6 @@
 -- A call among the calls of a set.
 use Rattle.std.proofs.Common.{◌≡◌, ℕ, ◌+◌, Bool, true, false, not, cond, ◌||◌, ◌≤◌, suc, subst, List, [], ◌∷◌, ◌++◌, length, map, Option, Some, None, Result, Ok, Err, OnErr, refl, sym, ap, ◌∙◌, arith}
-use Rattle.std.specs.Prelude.{if◌then◌else◌, nat_lt}
+use Rattle.std.specs.Prelude.{if◌then◌else◌, nat_lt, unwrap_or}
 use Rattle.std.specs.List.{list_any, position, position_or_len}
 use Rattle.std.proofs.lemmas.List.{map-append}
 use Rattle.std.proofs.lemmas.Option.{cond_some}
@@ -41,7 +41,7 @@ module _ {K : Type 0} (says : K → Tree) where
   placed t [] = refl
   placed t (k ∷ ks) = turned (is_same t (says k)) _ _ (placed t ks) ∙ ap (λ b. if b then 0 else suc (place_of_same (map says ks) t)) (same_equiv.symm t (says k))
 
-  within : (t : Tree) (ks : List K) → place_of_same (map says ks) t ≤ length ks
+  pub within : (t : Tree) (ks : List K) → place_of_same (map says ks) t ≤ length ks
   within t [] = omega arith
   within t (k ∷ ks) = by (is_same (says k) t) (within t ks)
     where
@@ -50,12 +50,12 @@ module _ {K : Type 0} (says : K → Tree) where
       by false h = omega arith
 
   -- the place that was found
-  pub place_found : (t : Tree) (ks : List K) (o : Option ℕ) (i : ℕ) → o ≡ position (λ k. is_same t (says k)) ks → o ≡ Some i → i ≡ place_of_same (map says ks) t
+  place_found : (t : Tree) (ks : List K) (o : Option ℕ) (i : ℕ) → o ≡ position (λ k. is_same t (says k)) ks → o ≡ Some i → i ≡ place_of_same (map says ks) t
   place_found t ks o i is some =
       sym (cond_some (nat_lt (position_or_len (λ k. is_same t (says k)) ks) (length ks)) (position_or_len (λ k. is_same t (says k)) ks) i (sym is ∙ some)).1 ∙ placed t ks
 
   -- where none was found, the length
-  pub none_found : (t : Tree) (ks : List K) (o : Option ℕ) → o ≡ position (λ k. is_same t (says k)) ks → o ≡ None → length ks ≡ place_of_same (map says ks) t
+  none_found : (t : Tree) (ks : List K) (o : Option ℕ) → o ≡ position (λ k. is_same t (says k)) ks → o ≡ None → length ks ≡ place_of_same (map says ks) t
   none_found t ks o is none = by (nat_lt (position_or_len (λ k. is_same t (says k)) ks) (length ks)) refl (sym is ∙ none) ∙ placed t ks
     where
       by : (b : Bool) → nat_lt (position_or_len (λ k. is_same t (says k)) ks) (length ks) ≡ b → cond b (Some (position_or_len (λ k. is_same t (says k)) ks)) None ≡ None → length ks ≡ position_or_len (λ k. is_same t (says k)) ks
@@ -63,3 +63,8 @@ module _ {K : Type 0} (says : K → Tree) where
       by false e h =
           let below : position_or_len (λ k. is_same t (says k)) ks ≤ length ks = subst (λ n. n ≤ length ks) (sym (placed t ks)) (within t ks) in
           grind (arith, nat_tests)
+
+  -- the place that was found, or the length
+  pub place_or_length : (t : Tree) (ks : List K) (o : Option ℕ) (n : ℕ) → o ≡ position (λ k. is_same t (says k)) ks → n ≡ length ks → unwrap_or o n ≡ place_of_same (map says ks) t
+  place_or_length t ks None n is count = count ∙ none_found t ks None is refl
+  place_or_length t ks (Some i) n is count = place_found t ks (Some i) i is refl

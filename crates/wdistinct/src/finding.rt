@@ -1,6 +1,6 @@
 //! Calls that are added to a set, and found in it.
 
-ghost use Rattle.std.specs.Prelude.{◌≡◌, ◌≤◌, ◌^◌, ◌∷◌, [], length, false, IfOk, OnErr, OnOk};
+ghost use Rattle.std.specs.Prelude.{◌≡◌, ◌≤◌, ◌^◌, ◌∷◌, [], length, false, unwrap_or, IfOk, OnErr, OnOk};
 ghost use Rattle.std.specs.List.{list_any};
 ghost use Rattle.wquery.specs.Tree.{view_call};
 ghost use Rattle.wsame.specs.Sameness.{is_same};
@@ -30,6 +30,16 @@ fn keep<'a>(keys: &mut IndexSet<CallKey<'a>>, key: CallKey<'a>) -> Result<(), Al
     match keys.insert(key) {
         Ok(_) => Ok(()),
         Err(_) => Err(AllocError),
+    }
+}
+
+// The place that was found, or else the number of calls.
+fn place_or(found: Option<usize>, count: usize) -> usize
+    ensures { result ≡ unwrap_or found count }
+{
+    match found {
+        Some(place) => place,
+        None => count,
     }
 }
 
@@ -66,10 +76,7 @@ impl<'a> CallSet<'a> {
         ensures place { result ≡ place_of_same (calls_in self.now) (view_call call.now) }
         ensures few { result ≤ 2 ^ 62 }
     {
-        match self.keys.get_index_of(&CallKey { call }) {
-            Some(place) => place,
-            None => self.keys.len(),
-        }
+        place_or(self.keys.get_index_of(&CallKey { call }), self.keys.len())
     }
 
     /// The calls in their order.
