@@ -21,7 +21,6 @@ pub use ambiguity::names_ambiguously;
 pub use calls::{calls_wrongly, counts_none, filters_wrongly};
 pub use names::{names_unknown_column, names_unknown_table};
 pub use places::{
-    GroupCall, WindowCall, is_group_call, is_grouped, misplaces_aggregates, misplaces_window_calls,
-    names_ungrouped_column,
+    is_grouped, misplaces_aggregates, misplaces_window_calls, names_ungrouped_column,
 };
 pub use typing::has_wrong_types;

@@ -19,7 +19,7 @@ use wscope::{
 
 /// A call with OVER.
 #[derive(Drop)]
-pub struct WindowCall;
+struct WindowCall;
 
 impl NodeTest for WindowCall {
     ghost sees = { λ _. finds is_call_over };
@@ -35,7 +35,7 @@ impl NodeTest for WindowCall {
 
 /// Whether it is an aggregate without OVER.
 #[tactic(auto, unfolding(wquery::specs::Tree::view, wquery::specs::Tree::view_call, wquery::specs::Tree::view_over))]
-pub fn is_group_call(node: &Expression) -> bool
+fn is_group_call(node: &Expression) -> bool
     ensures { result ≡ is_call_of_group (view node.now) }
 {
     let Expression::Call(call) = node else {
@@ -49,7 +49,7 @@ pub fn is_group_call(node: &Expression) -> bool
 
 /// An aggregate without OVER.
 #[derive(Drop)]
-pub struct GroupCall;
+struct GroupCall;
 
 impl NodeTest for GroupCall {
     ghost sees = { λ _. finds is_call_of_group };

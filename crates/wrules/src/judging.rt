@@ -125,7 +125,7 @@ fn windows_rule(
 
 /// The least rule that a query over these columns breaks, its derived table aside, by the declared table's name and the
 /// source's alias.
-pub fn broken_rule(
+fn broken_rule(
     alloc: Global,
     table: &str,
     alias: &str,

@@ -13,5 +13,5 @@
 mod judging;
 mod rule;
 
-pub use judging::{broken_rule, first_broken_rule};
+pub use judging::first_broken_rule;
 pub use rule::Rule;

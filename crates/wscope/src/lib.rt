@@ -29,13 +29,11 @@ pub use finding::found_if;
 pub use full_window::{FullEntry, FullWindow};
 pub use function::Function;
 pub use look::Look;
-pub use names::{has_column, names_item, output_name, own_name, place_named};
+pub use names::{has_column, output_name, place_named};
 pub use naming::function_of;
 pub use outputs::{declared_columns, known, output_columns};
-pub use scoping::{
-    any_anywhere, any_in_entries, any_in_items, any_in_option, any_in_order, any_shown, is_output,
-};
-pub use seeking::{NodeTest, any_below, any_in_window, any_node};
+pub use scoping::{any_anywhere, any_in_entries, any_in_option, any_shown, is_output};
+pub use seeking::{NodeTest, any_below};
 pub use settling::{find_window, settle, settle_all};
 pub use source::SourceColumn;
 pub use typing::type_of;

@@ -41,7 +41,7 @@ pub fn place_named(columns: &[SourceColumn], name: &str) -> usize
 
 /// The name of an expression without alias: the column's, else the function's, else `?column?`.
 #[tactic(auto, unfolding(wquery::specs::Tree::view, wquery::specs::Tree::view_call))]
-pub fn own_name(expression: &Expression) -> &str
+fn own_name(expression: &Expression) -> &str
     ensures { result.now ≡ name_of_own (view expression.now) }
 {
     match expression {
@@ -71,7 +71,7 @@ fn item_is_called(item: &Item, name: &str, is_column: bool) -> bool
 }
 
 /// Whether some item has this output name, where `*` has the names of all columns.
-pub fn names_item(columns: &[SourceColumn], items: &[Item], name: &str) -> bool
+pub(crate) fn names_item(columns: &[SourceColumn], items: &[Item], name: &str) -> bool
     ensures { result ≡ list_any (item_has_name (all_titled columns.now) name.now) (map view_item items.now) }
 {
     let is_column = has_column(columns, name);

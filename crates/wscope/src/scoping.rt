@@ -13,7 +13,7 @@ use crate::source::SourceColumn;
 use wquery::{Expression, Item, Key, Query, WindowEntry};
 
 /// Whether some node of the items is found.
-pub fn any_in_items<T: NodeTest>(test: &T, items: &[Item]) -> bool
+fn any_in_items<T: NodeTest>(test: &T, items: &[Item]) -> bool
     ensures { result ≡ some_item (T.sees test.now) (map view_item items.now) }
 {
     'items: for item in items {
@@ -81,7 +81,7 @@ fn any_in_key<T: NodeTest>(test: &T, columns: &[SourceColumn], items: &[Item], k
 }
 
 /// Whether some node of the query's ORDER BY is found, keys that stand for items left out.
-pub fn any_in_order<T: NodeTest>(
+fn any_in_order<T: NodeTest>(
     test: &T,
     columns: &[SourceColumn],
     items: &[Item],

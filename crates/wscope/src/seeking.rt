@@ -20,7 +20,7 @@ pub trait NodeTest {
 
 /// Whether some node of the expression is found.
 #[cycle(seeking)]
-pub fn any_node<T: NodeTest>(test: &T, e: &Expression) -> bool
+pub(crate) fn any_node<T: NodeTest>(test: &T, e: &Expression) -> bool
     ensures { result ≡ some_node (T.sees test.now) (view e.now) }
 {
     match test.look(e) {
@@ -63,7 +63,7 @@ pub fn any_below<T: NodeTest>(test: &T, e: &Expression) -> bool
 
 /// Whether some node of the expressions is found.
 #[cycle(seeking)]
-pub fn any_listed<T: NodeTest>(test: &T, list: &[Expression]) -> bool
+fn any_listed<T: NodeTest>(test: &T, list: &[Expression]) -> bool
     ensures { result ≡ some_tree (T.sees test.now) (trees (views list.now)) }
 {
     'list: for e in list {
@@ -103,7 +103,7 @@ fn any_in_keys<T: NodeTest>(test: &T, order: &[Key]) -> bool
 /// Whether some node of a window is found.
 #[cycle(seeking)]
 #[tactic(auto, unfolding(wquery::specs::Tree::view_window, wquery::specs::Tree::view, wquery::specs::Tree::view_key))]
-pub fn any_in_window<T: NodeTest>(test: &T, window: &Window) -> bool
+pub(crate) fn any_in_window<T: NodeTest>(test: &T, window: &Window) -> bool
     ensures { result ≡ some_reach (T.sees test.now) (own_window (view_window window.now)) }
 {
     any_listed(test, window.partition.as_slice()) || any_in_keys(test, window.order.as_slice())
@@ -145,7 +145,7 @@ fn any_in_over<T: NodeTest>(test: &T, over: &Option<Over>) -> bool
 /// Whether some node below a call is found.
 #[cycle(seeking)]
 #[tactic(auto, unfolding(wquery::specs::Tree::view_call, wquery::specs::Tree::view_arguments, wquery::specs::Tree::view, wquery::specs::Tree::view_over))]
-pub fn any_in_call<T: NodeTest>(test: &T, call: &Call) -> bool
+fn any_in_call<T: NodeTest>(test: &T, call: &Call) -> bool
     ensures { result ≡ some_below (T.sees test.now) (view_call call.now) }
 {
     if any_in_arguments(test, &call.arguments) {
