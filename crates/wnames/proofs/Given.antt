@@ -1,5 +1,5 @@
 -- What a call is given, by its places.
-use Rattle.std.proofs.Common.{◌≡◌, ℕ, zero, suc, ◌<◌, ◌≤◌, Bool, true, not, List, [], ◌∷◌, length, get_or, refl, ap, sym, ◌∙◌, arith, Option}
+use Rattle.std.proofs.Common.{◌≡◌, ℕ, zero, suc, ◌<◌, ◌≤◌, Bool, true, not, List, [], ◌∷◌, length, get_or, refl, ap, sym, arith, Option}
 use Rattle.std.specs.Rc.{rc_str_bytes}
 use Rattle.wquery.specs.declared.expression.Call.{Call}
 use Rattle.wquery.specs.declared.expression.Expression.{Expression}
@@ -7,7 +7,7 @@ use Rattle.wquery.specs.Tree.{Tree, view, views, trees, view_call, view_argument
 use Rattle.wsame.proofs.Views.{view_call_is}
 use Rattle.wscope.specs.declared.function.Function.{Function}
 use Rattle.wscope.specs.Finding.{count_trees}
-use Rattle.wscope.specs.Functions.{function_of, takes}
+use Rattle.wscope.specs.Functions.{function_of}
 use Rattle.wnames.specs.Calls.{passes_at, is_well_given, is_bad_call, counts_some, is_zeroth}
 
 pub passes_end : (holds : Tree → Bool) (xs : List Expression) (n : ℕ) → length xs ≤ n → passes_at n holds (trees (views xs)) ≡ true

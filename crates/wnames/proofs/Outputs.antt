@@ -1,5 +1,5 @@
 -- Items written out, one after the other.
-use Rattle.std.proofs.Common.{◌≡◌, ℕ, Bool, true, false, ◌||◌, List, [], ◌∷◌, ◌++◌, refl, ap, sym, ◌∙◌, append_assoc, if◌then◌else◌, Option, Some, None, drop, map, length, ◌<◌, get_or, ◌+◌, suc, add-one, is_some}
+use Rattle.std.proofs.Common.{◌≡◌, ℕ, Bool, true, false, ◌||◌, List, [], ◌∷◌, ◌++◌, refl, ap, sym, ◌∙◌, if◌then◌else◌, Option, Some, None, drop, map, length, ◌<◌, get_or, ◌+◌, suc, add-one, is_some}
 use Rattle.std.proofs.Math.Seq.{drop-cons}
 use Rattle.std.proofs.lemmas.List.{append-nil}
 use Rattle.std.specs.List.{list_any}

@@ -1,10 +1,10 @@
 -- The rules on names: Q10, Q11 and Q12. (SQL, `<table reference>` and `<column reference>`; PostgreSQL, SELECT, ORDER BY
 -- Clause.)
-use Rattle.std.specs.Prelude.{ℕ, suc, Bool, true, false, ◌||◌, ◌&&◌, ◌==◌, not, nat_lt, List, [], ◌∷◌, Option, Some, None, if◌then◌else◌}
+use Rattle.std.specs.Prelude.{ℕ, suc, Bool, false, ◌||◌, ◌&&◌, ◌==◌, not, nat_lt, List, [], ◌∷◌, Option, Some, None, if◌then◌else◌}
 use Rattle.std.specs.List.{list_any}
 use Rattle.std.specs.Str.{bytes_eq}
 use Rattle.wquery.specs.Tree.{Tree, Field, KeyTree}
-use Rattle.wquery.specs.QueryTree.{Clauses, ItemTree, QueryTree, Selected, SourceTree, FromTable, FromQuery}
+use Rattle.wquery.specs.QueryTree.{Clauses, QueryTree, Selected, SourceTree, FromTable, FromQuery}
 use Rattle.wsame.specs.Sameness.{is_same}
 use Rattle.wscope.specs.Types.{Titled, place_named}
 use Rattle.wscope.specs.Scope.{some_anywhere, has_name}

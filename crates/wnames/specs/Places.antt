@@ -1,9 +1,9 @@
 -- The rules on where calls and columns may stand: Q15, Q16 and Q17. (SQL, `<window function>`, `<set function
 -- specification>` and `<group by clause>`.)
-use Rattle.std.specs.Prelude.{ℕ, Bool, true, false, ◌||◌, ◌&&◌, not, List, [], ◌∷◌, Option, Some, None, is_some, if◌then◌else◌}
+use Rattle.std.specs.Prelude.{ℕ, Bool, true, false, ◌||◌, ◌&&◌, not, List, [], ◌∷◌, is_some, if◌then◌else◌}
 use Rattle.std.specs.List.{list_any}
 use Rattle.std.specs.Str.{bytes_eq}
-use Rattle.wquery.specs.Tree.{Tree, Field, Invoked, Given, Filter, Reach, ItsGroup}
+use Rattle.wquery.specs.Tree.{Tree, Field, Invoked, Reach, ItsGroup}
 use Rattle.wquery.specs.QueryTree.{Clauses, ItemTree, AllColumns, Computed}
 use Rattle.wscope.specs.declared.look.Look.{Look}
 use Rattle.wscope.specs.declared.look.Look.TheVariants.{Found, Closed, Below}

@@ -1,9 +1,9 @@
 -- The rule on types: Q14. (SQL, the type rules of `<value expression>`, `<predicate>` and `<search condition>`.)
-use Rattle.std.specs.Prelude.{ℕ, zero, suc, Bool, true, false, ◌||◌, ◌&&◌, not, List, [], ◌∷◌, Option, Some, None}
+use Rattle.std.specs.Prelude.{Bool, true, false, ◌||◌, ◌&&◌, not, List, [], ◌∷◌, Option, Some, None}
 use Rattle.std.specs.List.{list_any}
 use Rattle.wquery.specs.declared.expression.ChainKind.{ChainKind}
 use Rattle.wquery.specs.declared.expression.ChainKind.TheVariants.{Disjunction, Conjunction, Sum, Product}
-use Rattle.wquery.specs.Tree.{Tree, Invoked, Negated, Signed, Joined, Compared, Within, Among, Trees, NoTrees, MoreTrees, Links, NoLinks, Further, Given, Everything, These, Filter, Unfiltered, FilteredBy, Reach, ItsGroup, ThatWindow, OwnWindow, Keys, NoKeys, MoreKeys, KeyTree, WindowTree, own_window}
+use Rattle.wquery.specs.Tree.{Tree, Invoked, Negated, Signed, Joined, Compared, Within, Among, Trees, NoTrees, MoreTrees, Links, NoLinks, Further, Given, Everything, These, Filter, Unfiltered, FilteredBy, Reach, ItsGroup, ThatWindow, OwnWindow, Keys, NoKeys, MoreKeys, KeyTree, own_window}
 use Rattle.wquery.specs.QueryTree.{Clauses, ItemTree, AllColumns, Computed, EntryTree}
 use Rattle.wscope.specs.declared.function.Function.{Function}
 use Rattle.wscope.specs.declared.function.Function.TheVariants as functions

@@ -1,5 +1,5 @@
 -- A query, judged over the columns of its source.
-use Rattle.std.proofs.Common.{◌≡◌, ℕ, List, Option, Some, None, refl, ap, sym, ◌∙◌}
+use Rattle.std.proofs.Common.{◌≡◌, ℕ, List, Option, None, ap, sym, ◌∙◌}
 use Rattle.wsegment.specs.Declaration.{Declaration}
 use Rattle.wquery.specs.declared.query.Query.{Query, out-Query}
 use Rattle.wquery.specs.declared.query.Source.TheFolds.{fold_out-Query}

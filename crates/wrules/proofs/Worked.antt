@@ -1,5 +1,5 @@
 -- Queries that are accepted, or refused with their rule, by computation.
-use Rattle.std.proofs.Common.{◌≡◌, ℕ, zero, suc, Bool, true, false, List, [], ◌∷◌, Option, Some, None, refl, codes}
+use Rattle.std.proofs.Common.{◌≡◌, ℕ, zero, suc, true, false, List, [], ◌∷◌, Option, Some, None, refl, codes}
 use Rattle.wsegment.specs.Declaration.{Declaration}
 use Rattle.wsegment.specs.declared.kind.Kind.TheVariants as kinds
 use Rattle.wquery.specs.declared.expression.Operator.TheVariants.{Plus}
@@ -9,7 +9,7 @@ use Rattle.wquery.specs.declared.frame.Frame.{Frame}
 use Rattle.wquery.specs.declared.frame.FrameMode.TheVariants as modes
 use Rattle.wquery.specs.declared.frame.FrameBound.{FrameBound}
 use Rattle.wquery.specs.declared.frame.FrameBound.TheVariants as bounds
-use Rattle.wquery.specs.Tree.{Tree, NullWord, Numeral, Quoted, Field, Invoked, Signed, Joined, NoLinks, Further, Compared, Everything, These, trees, keys, Unfiltered, FilteredBy, Reach, ItsGroup, ThatWindow, OwnWindow, NoKeys, MoreKeys, NoTrees, KeyTree}
+use Rattle.wquery.specs.Tree.{Tree, NullWord, Numeral, Quoted, Field, Invoked, Signed, Joined, NoLinks, Further, Compared, Everything, These, trees, Unfiltered, FilteredBy, Reach, ItsGroup, ThatWindow, OwnWindow, NoKeys, MoreKeys, NoTrees, KeyTree}
 use Rattle.wquery.specs.QueryTree.{Clauses, ItemTree, Computed, AllColumns, QueryTree, Selected, FromTable, FromQuery, EntryTree}
 use Rattle.wrules.specs.declared.rule.Rule.TheVariants.{UnknownTable, UnknownColumn, AmbiguousName, WrongCall, WrongType, MisplacedWindowCall, MisplacedAggregate, UngroupedColumn, WrongFilter, UnknownWindow, RepeatedWindow, WrongCopy, WrongBounds, UnorderedGroups, WrongRangeKey, ZeroCount, WrongPlace, OverLimit}
 use Rattle.wrules.specs.declared.rule.Rule.{Rule}

@@ -1,5 +1,5 @@
 -- The columns that `*` brings into an answer, and the keys of a window that has its own.
-use Rattle.std.proofs.Common.{◌≡◌, ℕ, suc, ◌==◌, Bool, true, false, List, [], ◌∷◌, ◌++◌, refl, ap, ◌∙◌, map, length}
+use Rattle.std.proofs.Common.{◌≡◌, ℕ, suc, ◌==◌, false, List, [], ◌∷◌, refl, ap, ◌∙◌, map, length}
 use Rattle.std.proofs.lemmas.List.{append-nil}
 use Rattle.wquery.specs.declared.query.Item.{Item}
 use Rattle.wquery.specs.declared.query.Item.TheVariants as items

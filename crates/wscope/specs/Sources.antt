@@ -1,6 +1,6 @@
 -- The columns of a source: those of the declared table, or those of a derived table's answer. (SQL, `<table reference>`
 -- and `<query specification>`, the column names and types of its result.)
-use Rattle.std.specs.Prelude.{ℕ, suc, List, [], ◌∷◌, ◌++◌, map, Option, unwrap_or}
+use Rattle.std.specs.Prelude.{ℕ, suc, List, [], ◌∷◌, ◌++◌, map, unwrap_or}
 use Rattle.std.specs.Rc.{rc_str_bytes}
 use Rattle.wsegment.specs.Declaration.{Declaration, Described}
 use Rattle.wsegment.specs.declared.kind.Kind.{Kind}

@@ -1,5 +1,5 @@
 -- Lists of a window, counted, and the windows before a place.
-use Rattle.std.proofs.Common.{◌≡◌, ℕ, zero, suc, ◌<◌, ◌≤◌, ◌==◌, Bool, true, false, not, List, [], ◌∷◌, length, refl, ap, sym, arith, take, map}
+use Rattle.std.proofs.Common.{◌≡◌, suc, ◌==◌, false, not, List, [], ◌∷◌, length, refl, ap}
 use Rattle.std.proofs.Math.Dec.{eqb-suc-zero}
 use Rattle.wquery.specs.declared.expression.Expression.{Expression}
 use Rattle.wquery.specs.declared.expression.Key.{Key}

@@ -1,7 +1,7 @@
 use Rattle.std.proofs.Common.{◌≡◌, drop, map, Some}
 use Rattle.std.specs.List.{list_any}
 use Rattle.wquery.specs.QueryTree.{view_item}
-use Rattle.wscope.specs.Sources.{all_titled, written_out, columns_from}
+use Rattle.wscope.specs.Sources.{all_titled, written_out}
 use Rattle.wnames.specs.Names.{is_unlike}
 use Rattle.wnames.specs.Outputs.{shown}
 use Rattle.wnames.proofs.ambiguity.any_unlike.Given as goal

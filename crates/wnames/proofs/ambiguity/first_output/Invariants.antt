@@ -1,8 +1,7 @@
 use Rattle.std.proofs.Common.{◌≡◌, drop, map}
 use Rattle.wquery.specs.QueryTree.{view_item}
-use Rattle.wscope.specs.Sources.{all_titled, written_out, columns_from}
+use Rattle.wscope.specs.Sources.{all_titled, written_out}
 use Rattle.wnames.specs.Names.{first_called}
-use Rattle.wnames.specs.Outputs.{optional_shown}
 use Rattle.wnames.proofs.ambiguity.first_output.Given as goal
 
 abbrev pub invariant-items : goal.invariant-items

@@ -1,4 +1,4 @@
-use Rattle.std.proofs.Common.{◌≡◌, drop, map}
+use Rattle.std.proofs.Common.{◌≡◌, drop}
 use Rattle.wquery.specs.Tree.{keys, view_keys}
 use Rattle.wscope.specs.Sources.{all_titled}
 use Rattle.wnames.specs.Typing.{all_keys, is_value}

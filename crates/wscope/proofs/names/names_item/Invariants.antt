@@ -1,7 +1,7 @@
 use Rattle.std.proofs.Common.{◌≡◌, drop, map}
 use Rattle.std.specs.List.{list_any}
 use Rattle.wquery.specs.QueryTree.{view_item}
-use Rattle.wscope.specs.Scope.{has_name, item_has_name}
+use Rattle.wscope.specs.Scope.{item_has_name}
 use Rattle.wscope.specs.Sources.{all_titled}
 use Rattle.wscope.proofs.names.names_item.Given as goal
 
