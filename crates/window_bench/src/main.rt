@@ -10,10 +10,12 @@ mod case;
 mod columns;
 mod failure;
 mod measure;
+mod words;
 
 use case::Case;
 use failure::Failure;
 use measure::{Outcome, measured};
+use std::alloc::Global;
 use std::env::{self, Env};
 use std::io;
 use std::process::ExitCode;
@@ -58,14 +60,17 @@ fn print_outcome(rt: &impl Print, shown: Shown, outcome: &Outcome) -> io::Result
     println!(rt; "")
 }
 
+// The case that a line spells; lines are counted from 1.
+fn read_case(alloc: Global, line: usize, text: &str) -> Result<Case, Failure> {
+    let words: Vec<&str> = text.split_whitespace().collect(alloc)?;
+    Case::read(&words).map_err(|fault| Failure::Line { line, fault })
+}
+
 fn run(rt: &(impl Input + Print + Env + Clock + AllocGlobal)) -> Result<(), Failure> {
     let shown = read_words(rt)?;
     for (i, line) in rt.lines(rt.alloc()).enumerate() {
         let line = line?;
-        let case = match Case::read(line.as_str()) {
-            Ok(case) => case,
-            Err(fault) => return Err(Failure::Line { line: i + 1, fault }),
-        };
+        let case = read_case(rt.alloc(), i + 1, line.as_str())?;
         print_outcome(rt, shown, &measured(rt, &case)?)?;
     }
     Ok(())
