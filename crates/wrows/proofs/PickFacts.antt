@@ -67,9 +67,6 @@ all_told ps rows columns numbers cells e told =
     ∙ ap Ok (sym told)
     ∙ ap (λ n. Ok (laid (length ps) n cells)) (ap length e ∙ length-places 0 (length rows))
 
-pub all_long : (w n : ℕ) (numbers : List ℕ) (cells : List Value) → numbers ≡ places n → length cells ≡ length numbers * w → length cells ≡ n * w
-all_long w n numbers cells e long = long ∙ ap (λ k. k * w) (ap length e ∙ length-places 0 n)
-
 -- expressions that are plain columns
 pub plain_told : (exprs : List (Bor Expr)) (ps : List ℕ) (rows : List Row) (n : ℕ) (cells : List Value) → formulas_seen exprs ≡ map At ps → lists_of (map At ps) rows ≡ Ok (laid (length ps) n cells) → lists_of (formulas_seen exprs) rows ≡ Ok (laid (length exprs) n cells)
 plain_told exprs ps rows n cells e told =

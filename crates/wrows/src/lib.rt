@@ -35,4 +35,5 @@ pub use fault::AnswerFault;
 pub use lent::lent_rows;
 pub use order::{resorted_numbers, sorted_numbers};
 pub use plain::{joined_items, ordered_items};
-pub use rows::{kept_rows, lists};
+pub use rows::{kept_rows, lists, not_too_many};
+pub use values::holds;

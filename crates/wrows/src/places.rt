@@ -1,12 +1,12 @@
 //! Values at places of rows, read where they lie.
-ghost use Rattle.std.specs.Prelude.{◌≡◌, ◌*◌, ◌++◌, IfOk, IfSome, OnOk, length, map};
+ghost use Rattle.std.specs.Prelude.{◌≡◌, ◌*◌, ◌++◌, IfOk, IfSome, Ok, OnOk, length, map};
 ghost use Rattle.std.specs.List.{list_all};
 ghost use Rattle.std.specs.Option.{is_some};
 ghost use Rattle.wvalues.specs.Meaning.{meaning, Null};
 ghost use Rattle.wframe.specs.Peers.{key_at};
 ghost use Rattle.wplan.specs.declared.expr.Expr.{out-Expr};
 ghost use Rattle.wplan.specs.Formula.{At, formula};
-ghost use Rattle.wrows.specs.Columns.{value_at};
+ghost use Rattle.wrows.specs.Columns.{beside, lists_of, value_at};
 ghost use Rattle.wrows.specs.LaidRows.{laid};
 ghost use Rattle.wrows.specs.Laid.{formulas_seen, rows_seen};
 ghost use Rattle.wrows.specs.Picked.{picked, row_beside};
@@ -128,6 +128,25 @@ pub(crate) fn picked_rows(
     let mut cells = Vec::with_capacity(alloc, numbers.len().saturating_mul(places.len()))?;
     for number in numbers {
         push_picked(rows, columns, null, places, *number, &mut cells)?;
+    }
+    Ok(cells)
+}
+
+/// The values at some places of each row, with what the columns have for it behind its cells.
+pub(crate) fn picked_lists(
+    alloc: Global,
+    places: &[usize],
+    rows: &[&[Value]],
+    columns: &[&[Value]],
+    null: &Value,
+) -> Result<Vec<Value>, AllocError>
+    requires { meaning null.now ≡ Null }
+    ensures gives { IfOk result (λ cells. lists_of (map At places.now) (beside (rows_seen rows.now) (rows_seen columns.now)) ≡ Ok (laid (length places.now) (length rows.now) cells.items)) }
+    ensures laid { IfOk result (λ cells. length cells.items ≡ length rows.now * length places.now) }
+{
+    let mut cells = Vec::with_capacity(alloc, rows.len().saturating_mul(places.len()))?;
+    for row in 0..rows.len() {
+        push_picked(rows, columns, null, places, row, &mut cells)?;
     }
     Ok(cells)
 }

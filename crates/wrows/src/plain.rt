@@ -9,8 +9,8 @@ ghost use Rattle.wrows.specs.Picked.{asked_of};
 
 use crate::cells::{Cells, gathered};
 use crate::fault::AnswerFault;
-use crate::listing::{evaluated_lists, picked_lists, told_lists};
-use crate::places::{picked_rows, places_of};
+use crate::listing::{evaluated_lists, told_lists};
+use crate::places::{picked_lists, picked_rows, places_of};
 use crate::selected::first_numbers;
 use std::alloc::{AllocError, Global};
 use wplan::Expr;
@@ -145,15 +145,15 @@ fn plain_items(
     ensures width { IfOk result (λ cells. cells.width ≡ length places.now) }
     ensures rows { Gives rows_in result (ordered_of (map At places.now) (formulas_seen keys.now) order.now offset limit (beside (rows_seen rows.now) (rows_seen columns.now))) }
 {
+    let null = Value::Null;
     if asks_for_all(order, offset, limit) {
         return Ok(Cells {
-            cells: picked_lists(alloc, places, rows, columns)?,
+            cells: picked_lists(alloc, places, rows, columns, &null)?,
             width: places.len(),
             count: rows.len(),
         });
     }
     let numbers = asked_numbers(alloc, keys, order, offset, limit, rows, columns)?;
-    let null = Value::Null;
     let cells = picked_rows(alloc, rows, columns, &null, places, &numbers)?;
     Ok(Cells {
         cells,

@@ -6,7 +6,7 @@ ghost use Rattle.wplan.specs.Formula.{formula};
 ghost use Rattle.wplan.specs.Plans.{optional_formula};
 ghost use Rattle.wrows.specs.declared.fault.AnswerFault.TheVariants.{OutOfRange};
 ghost use Rattle.wrows.specs.Outcomes.{Gives, unless};
-ghost use Rattle.wrows.specs.Columns.{is_out_of_range, value_on, held_rows, lists_of};
+ghost use Rattle.wrows.specs.Columns.{is_out_of_range, value_on, held_rows, lists_of, not_too_many};
 ghost use Rattle.wrows.specs.LaidRows.{laid};
 ghost use Rattle.wrows.specs.Laid.{formulas_seen, rows_seen};
 ghost use Rattle.wrows.specs.Plain.{kept_of};
@@ -51,6 +51,16 @@ fn rows_held<'a>(
     }
 }
 
+/// The rows, `TooManyRows` where they are more than 2,147,483,647.
+pub fn not_too_many<'a>(rows: Vec<&'a [Value]>) -> Result<Vec<&'a [Value]>, AnswerFault>
+    ensures { Gives (λ kept. rows_seen kept.items) result (not_too_many (rows_seen rows.entry.items)) }
+{
+    if rows.len() > MOST_ROWS {
+        return Err(AnswerFault::TooManyRows);
+    }
+    Ok(rows)
+}
+
 /// The rows on which a condition is true, in their order. Where there is none these are all, and the list is handed on.
 /// The condition is evaluated on every row, and `OutOfRange` where it is so on any; more than 2,147,483,647 kept rows are
 /// `TooManyRows`.
@@ -62,10 +72,7 @@ pub fn kept_rows<'a>(
     ensures { Gives (λ kept. rows_seen kept.items) result (kept_of (optional_formula condition.now) (rows_seen rows.entry.items)) }
 {
     let held = rows_held(alloc, condition, rows)?;
-    if held.len() > MOST_ROWS {
-        return Err(AnswerFault::TooManyRows);
-    }
-    Ok(held)
+    not_too_many(held)
 }
 
 /// Appends the values of several expressions on a row.

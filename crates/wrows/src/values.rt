@@ -17,8 +17,8 @@ fn is_yes(truth: Truth) -> bool
     matches!(truth, Truth::Yes)
 }
 
-/// Whether a condition is true on a row.
-pub(crate) fn holds(condition: &Expr, row: &[Value]) -> Result<bool, AnswerFault>
+/// Whether a condition is true on a row, `OutOfRange` where a part of it is so there.
+pub fn holds(condition: &Expr, row: &[Value]) -> Result<bool, AnswerFault>
     ensures { Gives (λ b. b) result (unless (is_out_of_range (formula condition.now) (map meaning row.now)) OutOfRange (holds_on (formula condition.now) (map meaning row.now))) }
 {
     match eval(condition, row) {
