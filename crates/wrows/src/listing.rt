@@ -8,7 +8,7 @@ ghost use Rattle.wrows.specs.Laid.{formulas_seen, rows_seen};
 use crate::fault::AnswerFault;
 use crate::joined::joined_lists;
 use crate::places::{picked_lists, places_of};
-use crate::rows::lists;
+use crate::rows::row_lists;
 use std::alloc::Global;
 use wplan::Expr;
 use wvalues::Value;
@@ -24,7 +24,7 @@ pub(crate) fn evaluated_lists(
     ensures laid { IfOk result (λ cells. length cells.items ≡ length rows.now * length exprs.now) }
 {
     if columns.is_empty() {
-        lists(alloc, exprs, rows)
+        row_lists(alloc, exprs, rows)
     } else {
         joined_lists(alloc, exprs, rows, columns)
     }
@@ -48,4 +48,14 @@ pub(crate) fn told_lists(
     let null = Value::Null;
     let cells = picked_lists(alloc, &places, rows, columns, &null)?;
     Ok(cells)
+}
+
+/// The values of several expressions on each row, laid out one row after another. Each is evaluated on every row, and
+/// `OutOfRange` where one is so on any; where all are plain columns, which cannot be out of range, they are read where
+/// they lie.
+pub fn lists(alloc: Global, exprs: &[&Expr], rows: &[&[Value]]) -> Result<Vec<Value>, AnswerFault>
+    ensures gives { Gives (λ cells. laid (length exprs.now) (length rows.now) cells.items) result (lists_of (formulas_seen exprs.now) (rows_seen rows.now)) }
+    ensures laid { IfOk result (λ cells. length cells.items ≡ length rows.now * length exprs.now) }
+{
+    told_lists(alloc, exprs, rows, &[])
 }

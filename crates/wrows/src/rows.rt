@@ -90,13 +90,16 @@ pub(crate) fn push_values(
     Ok(())
 }
 
-/// The values of several expressions on each row, laid out one row after another. Each is evaluated on every row, and
-/// `OutOfRange` where one is so on any.
-pub fn lists(alloc: Global, exprs: &[&Expr], rows: &[&[Value]]) -> Result<Vec<Value>, AnswerFault>
+/// The values of several expressions, evaluated on each row, laid out one row after another.
+pub(crate) fn row_lists(
+    alloc: Global,
+    exprs: &[&Expr],
+    rows: &[&[Value]],
+) -> Result<Vec<Value>, AnswerFault>
     ensures gives { Gives (λ cells. laid (length exprs.now) (length rows.now) cells.items) result (lists_of (formulas_seen exprs.now) (rows_seen rows.now)) }
     ensures laid { IfOk result (λ cells. length cells.items ≡ length rows.now * length exprs.now) }
 {
-    let mut cells = Vec::new(alloc);
+    let mut cells = Vec::with_capacity(alloc, rows.len().saturating_mul(exprs.len()))?;
     for row in rows {
         push_values(exprs, row, &mut cells)?;
     }

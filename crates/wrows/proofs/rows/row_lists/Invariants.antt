@@ -3,7 +3,7 @@ use Rattle.std.specs.List.{list_any, flat_map}
 use Rattle.wvalues.specs.Meaning.{meaning}
 use Rattle.wrows.specs.Columns.{is_out_of_range, value_on}
 use Rattle.wrows.specs.Laid.{formulas_seen, row_seen}
-use Rattle.wrows.proofs.rows.lists.Given as goal
+use Rattle.wrows.proofs.rows.row_lists.Given as goal
 
 abbrev pub invariant-loop-row : goal.invariant-loop-row
 invariant-loop-row l = record {

@@ -9,11 +9,11 @@ use Rattle.wrows.specs.declared.fault.AnswerFault.TheVariants.{OutOfRange}
 use Rattle.wrows.specs.Columns.{Row, is_out_of_range, value_on}
 use Rattle.wrows.specs.Laid.{formulas_seen, formula_seen, row_seen}
 use Rattle.wrows.proofs.RowFacts.{any_next, flat_next, ok_is_false, refused, any_of_all, told_all, laid_rows, laid_length, all_of_each}
-use Rattle.wrows.proofs.rows.lists.Goals as goal
+use Rattle.wrows.proofs.rows.row_lists.Goals as goal
 
 pub returns-in_err-push_values-clause-gives : goal.returns-in_err-push_values-clause-gives
 returns-in_err-push_values-clause-gives c =
-    let p = err_from_is_err_and c.from_residual.result c.from_residual.ensures.1 in
+    let p = err_from_is_err_and c.from_residual-in_err-push_values.result c.from_residual-in_err-push_values.ensures.1 in
     let ts = formulas_seen c.args.exprs.now in
     let view : Vec Value Global → List Row = λ cells. laid (length c.args.exprs.now) (length c.args.rows.now) cells.items in
     rw (p.1, p.2) (refused view c.in_err-push_values.field-0.0 _ _ _ c.in_err-push_values.ensures.gives
