@@ -165,7 +165,7 @@ fn ordered_numbers(
     ensures len { IfOk result (λ rows. length rows.items ≡ count) }
 {
     let by_key = sorted_numbers(alloc, keys, key_order, count)?;
-    let rows = resorted_numbers(alloc, values, value_order, count, &by_key)?;
+    let rows = resorted_numbers(alloc, values, value_order, count, by_key)?;
     Ok(rows)
 }
 

@@ -1,6 +1,7 @@
 mod Lines
 mod TextLines
 mod Rows
+mod HeldFacts
 mod SourceFacts
 mod PlanFacts
 pub mod CallFacts

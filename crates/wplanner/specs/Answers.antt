@@ -44,6 +44,10 @@ left_items s left = do
 abbrev pub grouped_items : SelectPlan → GroupingPlan → List Row → Result (List Row) AnswerFault
 grouped_items s g kept = group_rows g kept >>= left_items s
 
+-- the items of kept rows, or of their groups
+abbrev pub kept_items : SelectPlan → List Row → Result (List Row) AnswerFault
+kept_items s kept = left_rows s.grouping kept >>= left_items s
+
 -- the rows that a SELECT answers on numbered rows, or the first fault
 abbrev pub select_of : SelectPlan → List Row → Result (List Row) AnswerFault
 select_of s rows = do

@@ -4,22 +4,20 @@ ghost use Rattle.std.specs.List.{list_all};
 ghost use Rattle.std.specs.Rc.{rc_str_bytes};
 ghost use Rattle.wplan.specs.Plans.{plans, select_plan};
 ghost use Rattle.wrows.specs.Outcomes.{Gives};
-ghost use Rattle.wrows.specs.Laid.{rows_in, rows_seen};
+ghost use Rattle.wrows.specs.Laid.{rows_in};
 ghost use Rattle.wplanner.specs.Answers.{answer_of, names_of, select_of, table_answer, width_of};
 ghost use Rattle.wplanner.specs.Sound.{is_sound_query, is_sound_select};
 ghost use Rattle.wplanner.specs.Tables.{rows_of_set, Tells};
 
 use crate::fault::AskFault;
 use crate::parts::item_names;
-use crate::selecting::select_rows;
-use crate::source::table_rows;
+use crate::selecting::{select_rows, select_table_rows};
 use crate::table::Table;
 use std::alloc::{AllocError, Global};
 use std::rc::RcStr;
 use wplan::{Resolved, Selection};
 use wrows::{AnswerFault, Cells, lent_rows};
 use wset::SegmentSet;
-use wvalues::Value;
 
 // What one SELECT answers on the rows of the one before.
 fn select_cells(alloc: Global, select: &Selection, source: &Cells) -> Result<Cells, AnswerFault>
@@ -57,32 +55,28 @@ fn output_names(alloc: Global, selects: &[Selection]) -> Result<Vec<RcStr>, Allo
     Ok(names)
 }
 
-// What the SELECTs answer, of which the first is over these rows.
-fn query_rows(
-    alloc: Global,
-    selects: &[Selection],
-    rows: Vec<&[Value]>,
-) -> Result<Cells, AnswerFault>
+// What the SELECTs answer, of which the first is over the rows of the table.
+fn query_rows(alloc: Global, selects: &[Selection], set: &SegmentSet) -> Result<Cells, AnswerFault>
     requires { is_sound_query (map select_plan selects.now) ≡ true }
-    ensures rows { Gives rows_in result (answer_of (map select_plan selects.now) (rows_seen rows.entry.items)) }
+    ensures rows { Gives rows_in result (answer_of (map select_plan selects.now) (rows_of_set set.now)) }
     ensures width { IfOk result (λ cells. cells.width ≡ width_of (map select_plan selects.now) 0) }
 {
-    match select_rows(alloc, &selects[0], rows) {
+    match select_table_rows(alloc, &selects[0], set) {
         Err(fault) => Err(fault),
         Ok(cells) => answered(alloc, &selects[1..], cells),
     }
 }
 
-// The answer of a query on the rows of a table.
+// The answer of a query on the rows of the table.
 fn query_answer(
     alloc: Global,
     selects: &[Selection],
-    rows: Vec<&[Value]>,
+    set: &SegmentSet,
 ) -> Result<Table, AnswerFault>
     requires { is_sound_query (map select_plan selects.now) ≡ true }
-    ensures { Gives (λ table. table) result (table_answer (map select_plan selects.now) (rows_seen rows.entry.items)) }
+    ensures { Gives (λ table. table) result (table_answer (map select_plan selects.now) (rows_of_set set.now)) }
 {
-    let cells = match query_rows(alloc, selects, rows) {
+    let cells = match query_rows(alloc, selects, set) {
         Err(fault) => return Err(fault),
         Ok(cells) => cells,
     };
@@ -103,8 +97,7 @@ pub fn execute(alloc: Global, set: &SegmentSet, query: &Resolved) -> Result<Tabl
     ensures answered { Tells result (table_answer (plans query.now) (rows_of_set set.now)) }
 {
     let selects = query.selections.as_slice();
-    let source = table_rows(alloc, set)?;
-    match query_answer(alloc, selects, source) {
+    match query_answer(alloc, selects, set) {
         Err(fault) => Err(AskFault::from(fault)),
         Ok(table) => Ok(table),
     }

@@ -4,15 +4,18 @@ ghost use Rattle.wplan.specs.Plans.{grouping_plan, select_plan};
 ghost use Rattle.wrows.specs.Outcomes.{Gives};
 ghost use Rattle.wrows.specs.Columns.{beside};
 ghost use Rattle.wrows.specs.Laid.{rows_in, rows_seen};
-ghost use Rattle.wplanner.specs.Answers.{grouped_items, items_of, left_items, select_of};
+ghost use Rattle.wplanner.specs.Answers.{grouped_items, items_of, kept_items, left_items, select_of};
 ghost use Rattle.wplanner.specs.Sound.{is_sound_select};
+ghost use Rattle.wplanner.specs.Tables.{rows_of_set};
 
 use crate::parts::{item_values, key_orders, key_values};
+use crate::source::kept_table_rows;
 use crate::windows::{call_columns, window_answers};
 use std::alloc::Global;
 use wgroup::group_rows;
 use wplan::{Grouping, Selection};
 use wrows::{AnswerFault, Cells, joined_items, kept_rows, lent_rows, ordered_items};
+use wset::SegmentSet;
 use wvalues::Value;
 
 // The items of some rows, in order and cut.
@@ -102,6 +105,23 @@ fn grouped_items(
     left_items(alloc, select, &left)
 }
 
+/// The items of the rows that WHERE keeps, or of their groups.
+pub(crate) fn kept_items(
+    alloc: Global,
+    select: &Selection,
+    kept: &[&[Value]],
+) -> Result<Cells, AnswerFault>
+    requires sound { is_sound_select (select_plan select.now) ≡ true }
+    requires few { length kept.now < 2 ^ 31 }
+    ensures rows { Gives rows_in result (kept_items (select_plan select.now) (rows_seen kept.now)) }
+    ensures width { IfOk result (λ cells. cells.width ≡ length select.now.items.items) }
+{
+    match &select.grouping {
+        None => left_items(alloc, select, kept),
+        Some(grouping) => grouped_items(alloc, select, grouping, kept),
+    }
+}
+
 /// What one SELECT answers on some rows, whose list it lets go where WHERE keeps others.
 pub(crate) fn select_rows(
     alloc: Global,
@@ -113,8 +133,19 @@ pub(crate) fn select_rows(
     ensures width { IfOk result (λ cells. cells.width ≡ length select.now.items.items) }
 {
     let kept = kept_rows(alloc, &select.condition, rows)?;
-    match &select.grouping {
-        None => left_items(alloc, select, &kept),
-        Some(grouping) => grouped_items(alloc, select, grouping, &kept),
-    }
+    kept_items(alloc, select, &kept)
+}
+
+/// What one SELECT answers on the rows of the set's live segments.
+pub(crate) fn select_table_rows(
+    alloc: Global,
+    select: &Selection,
+    set: &SegmentSet,
+) -> Result<Cells, AnswerFault>
+    requires { is_sound_select (select_plan select.now) ≡ true }
+    ensures rows { Gives rows_in result (select_of (select_plan select.now) (rows_of_set set.now)) }
+    ensures width { IfOk result (λ cells. cells.width ≡ length select.now.items.items) }
+{
+    let kept = kept_table_rows(alloc, &select.condition, set)?;
+    kept_items(alloc, select, &kept)
 }

@@ -1,11 +1,19 @@
 //! The table's rows, as the live segments of a set have them.
-ghost use Rattle.std.specs.Prelude.{◌≡◌, ◌++◌, IfErr, IfOk, OnOk};
+ghost use Rattle.std.specs.Prelude.{◌≡◌, ◌∷◌, ◌++◌, [], if◌then◌else◌, IfOk, OnOk, Some, filter, map};
+ghost use Rattle.std.specs.List.{list_any};
+ghost use Rattle.wvalues.specs.Meaning.{meaning};
+ghost use Rattle.wplan.specs.Formula.{formula};
+ghost use Rattle.wplan.specs.Plans.{optional_formula};
+ghost use Rattle.wrows.specs.declared.fault.AnswerFault.TheVariants.{OutOfRange};
+ghost use Rattle.wrows.specs.Columns.{held_rows, holds_on, is_out_of_range};
 ghost use Rattle.wrows.specs.Laid.{rows_seen};
-ghost use Rattle.wplanner.specs.declared.fault.AskFault.TheVariants.{NoMemory};
+ghost use Rattle.wrows.specs.Outcomes.{Gives, unless};
+ghost use Rattle.wrows.specs.Plain.{kept_of};
 ghost use Rattle.wplanner.specs.Tables.{rows_of_set};
 
-use crate::fault::AskFault;
 use std::alloc::{AllocError, Global};
+use wplan::Expr;
+use wrows::{AnswerFault, holds, not_too_many};
 use wsegment::Segment;
 use wset::SegmentSet;
 use wvalues::Value;
@@ -20,15 +28,88 @@ fn push_rows<'a>(rows: &mut Vec<&'a [Value]>, segment: &'a Segment) -> Result<()
     Ok(())
 }
 
-/// The rows of all live segments, by name and then by place. They stay where they lie. The one fault is that memory is
-/// refused.
-pub(crate) fn table_rows(alloc: Global, set: &SegmentSet) -> Result<Vec<&[Value]>, AskFault>
-    ensures rows { IfOk result (λ rows. rows_seen rows.items ≡ rows_of_set set.now) }
-    ensures err { IfErr result (λ fault. fault ≡ NoMemory) }
+// The rows of all live segments, by name and then by place. They stay where they lie.
+fn table_rows(alloc: Global, set: &SegmentSet) -> Result<Vec<&[Value]>, AllocError>
+    ensures { IfOk result (λ rows. rows_seen rows.items ≡ rows_of_set set.now) }
 {
     let mut rows = Vec::new(alloc);
     'segments: for (_, segment) in set.lives() {
         push_rows(&mut rows, segment)?;
     }
     Ok(rows)
+}
+
+// Appends a row, if a condition is true on it.
+fn push_where<'a>(
+    held: &mut Vec<&'a [Value]>,
+    condition: &Expr,
+    row: &'a [Value],
+) -> Result<(), AnswerFault>
+    ensures gives { Gives (λ u. u) result (unless (is_out_of_range (formula condition.now) (map meaning row.entry.now)) OutOfRange tt) }
+    ensures added { OnOk result (rows_seen held.new.items ≡ (if holds_on (formula condition.now) (map meaning row.entry.now) then rows_seen held.old.items ++ map meaning row.entry.now ∷ [] else rows_seen held.old.items)) }
+{
+    if holds(condition, row)? {
+        held.push(row)?;
+    }
+    Ok(())
+}
+
+// Appends the rows of a segment on which a condition is true. They stay where they lie.
+fn push_rows_where<'a>(
+    held: &mut Vec<&'a [Value]>,
+    condition: &Expr,
+    segment: &'a Segment,
+) -> Result<(), AnswerFault>
+    ensures gives { Gives (λ u. u) result (unless (list_any (is_out_of_range (formula condition.now)) segment.now.rows) OutOfRange tt) }
+    ensures added { OnOk result (rows_seen held.new.items ≡ rows_seen held.old.items ++ filter (holds_on (formula condition.now)) segment.now.rows) }
+{
+    for row in 0..segment.rows() {
+        push_where(held, condition, segment.row(row))?;
+    }
+    Ok(())
+}
+
+// The rows of all live segments on which a condition is true, in their order. No list of the others is made.
+fn rows_where<'a>(
+    alloc: Global,
+    condition: &Expr,
+    set: &'a SegmentSet,
+) -> Result<Vec<&'a [Value]>, AnswerFault>
+    ensures { Gives (λ held. rows_seen held.items) result (held_rows (Some (formula condition.now)) (rows_of_set set.now)) }
+{
+    let mut held = Vec::new(alloc);
+    'segments: for (_, segment) in set.lives() {
+        push_rows_where(&mut held, condition, segment)?;
+    }
+    Ok(held)
+}
+
+// The rows of all live segments on which a condition is true: all, where there is none.
+fn rows_held<'a>(
+    alloc: Global,
+    condition: &Option<Expr>,
+    set: &'a SegmentSet,
+) -> Result<Vec<&'a [Value]>, AnswerFault>
+    ensures { Gives (λ held. rows_seen held.items) result (held_rows (optional_formula condition.now) (rows_of_set set.now)) }
+{
+    match condition {
+        None => {
+            let rows = table_rows(alloc, set)?;
+            Ok(rows)
+        }
+        Some(condition) => rows_where(alloc, condition, set),
+    }
+}
+
+/// The rows of all live segments that a condition keeps, by name and then by place. They stay where they lie. The
+/// condition is evaluated on every row.
+pub(crate) fn kept_table_rows<'a>(
+    alloc: Global,
+    condition: &Option<Expr>,
+    set: &'a SegmentSet,
+) -> Result<Vec<&'a [Value]>, AnswerFault>
+    ensures { Gives (λ kept. rows_seen kept.items) result (kept_of (optional_formula condition.now) (rows_of_set set.now)) }
+{
+    let held = rows_held(alloc, condition, set)?;
+    not_too_many(held)
 }

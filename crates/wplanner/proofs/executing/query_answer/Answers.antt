@@ -2,9 +2,10 @@ use Rattle.std.proofs.Common.{Ok, map, sym, ap, ◌∙◌}
 use Rattle.std.specs.Rc.{rc_str_bytes}
 use Rattle.std.proofs.lemmas.List.{length-map}
 use Rattle.wplan.specs.Plans.{select_plan}
-use Rattle.wrows.specs.Laid.{rows_in, rows_seen}
+use Rattle.wrows.specs.Laid.{rows_in}
 use Rattle.wrows.proofs.RowFacts.{then_refused}
 use Rattle.wplanner.specs.Parts.{TableParts}
+use Rattle.wplanner.specs.Tables.{rows_of_set}
 use Rattle.wplanner.proofs.PlanFacts.{some_select, table_told, table_wide}
 use Rattle.wplanner.proofs.executing.query_answer.Goals as goal
 
@@ -19,4 +20,4 @@ pub returns-in-Err : goal.returns-in-Err
 returns-in-Err c = then_refused {Y = TableParts} rows_in (λ t. t) c.in-Err.fault _ _ c.in-Err.ensures.rows
 
 pub returns : goal.returns
-returns c = table_told (map select_plan c.args.selects.now) (rows_seen c.args.rows.items) (rows_in c.in-Ok.cells) _ c.in-Ok.ensures.rows c.in_ok-names.ensures ∙ ap Ok (sym c.new.ensures)
+returns c = table_told (map select_plan c.args.selects.now) (rows_of_set c.args.set.now) (rows_in c.in-Ok.cells) _ c.in-Ok.ensures.rows c.in_ok-names.ensures ∙ ap Ok (sym c.new.ensures)

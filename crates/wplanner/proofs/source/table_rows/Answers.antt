@@ -13,6 +13,6 @@ pub segments-preserved : goal.segments-preserved
 segments-preserved c =
     more_rows (rows_seen c.segments.rows.items) (rows_seen c.push_rows.new.rows.items) (rows_of_set c.args.set.now) _ _ _ c.in-Some.ensures.steps c.segments.invariant c.in_ok-push_rows.ensures
 
-pub returns-clause-rows : goal.returns-clause-rows
-returns-clause-rows c =
+pub returns : goal.returns
+returns c =
     sym (append-nil (rows_seen c.segments.rows.items)) ∙ ap (λ l. rows_seen c.segments.rows.items ++ flat_map (λ e. e.1.rows) l) (sym c.in-None.ensures.steps.0) ∙ c.segments.invariant
