@@ -19,22 +19,14 @@ pub fn compare(a: &Value, b: &Value, key: &SortKey) -> Ordering
 {
     match (a, b) {
         (Value::Null, Value::Null) => Ordering::Equal,
-        (Value::Null, _) => {
-            if key.nulls_first {
-                Ordering::Less
-            } else {
-                Ordering::Greater
-            }
-        }
-        (_, Value::Null) => {
-            if key.nulls_first {
-                Ordering::Greater
-            } else {
-                Ordering::Less
-            }
-        }
-        (Value::Int(x), Value::Int(y)) => { if key.desc { y.cmp(x) } else { x.cmp(y) } }
-        (Value::Text(x), Value::Text(y)) => { if key.desc { y.cmp(x) } else { x.cmp(y) } }
+        (Value::Null, _) if key.nulls_first => Ordering::Less,
+        (Value::Null, _) => Ordering::Greater,
+        (_, Value::Null) if key.nulls_first => Ordering::Greater,
+        (_, Value::Null) => Ordering::Less,
+        (Value::Int(x), Value::Int(y)) if key.desc => y.cmp(x),
+        (Value::Int(x), Value::Int(y)) => x.cmp(y),
+        (Value::Text(x), Value::Text(y)) if key.desc => y.cmp(x),
+        (Value::Text(x), Value::Text(y)) => x.cmp(y),
         (Value::Int(_), Value::Text(_)) => Ordering::Less,
         (Value::Text(_), Value::Int(_)) => Ordering::Greater,
     }
