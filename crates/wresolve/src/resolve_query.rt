@@ -38,15 +38,9 @@ impl From<AllocError> for ResolveFault {
 pub fn resolve(alloc: Global, schema: &Schema, query: &Query) -> Result<Resolved, ResolveFault>
     ensures { Resolves schema.now (view_query query.now) result }
 {
-    let broken = match first_broken_rule(alloc, schema, query) {
-        Err(_) => return Err(ResolveFault::NoMemory),
-        Ok(broken) => broken,
-    };
-    if let Some(rule) = broken {
+    if let Some(rule) = first_broken_rule(alloc, schema, query)? {
         return Err(ResolveFault::Broken(rule));
     }
-    match resolved(alloc, schema, query) {
-        Err(_) => Err(ResolveFault::NoMemory),
-        Ok(resolved) => Ok(resolved),
-    }
+    let resolved = resolved(alloc, schema, query)?;
+    Ok(resolved)
 }
