@@ -8,7 +8,7 @@ use Rattle.std.proofs.lemmas.Cmp.{alike_right}
 use Rattle.std.proofs.lemmas.Bool.{cases_lt}
 use Rattle.std.proofs.lemmas.List.{get_or_push, get_or_append_left, length_push}
 use borrow.Author.Count.{below_more}
-use Rattle.wframe.specs.Cuts.{IsCut, CutsAt, CutsFrom, HasCuts, BeginsWith}
+use Rattle.wframe.specs.Cuts.{IsCut, CutsAt, CutsFrom, BeginsWith}
 
 pub lt_is_less : (o : Ordering) → is_lt o ≡ true → o ≡ Less
 lt_is_less Less h = refl
@@ -130,10 +130,3 @@ pub cut_from : (first n : ℕ) (test : ℕ → Bool) (c : ℕ) → CutsAt n test
 cut_from first n test c at =
     let e : c ≡ first + c - first = omega arith in
     record { from = omega arith; at = subst (CutsAt n test) e at }
-
--- cuts stay in a longer list
-pub cuts_stay : (first n : ℕ) (passes : ℕ → ℕ → Bool) (old new : List ℕ) → HasCuts first n passes old → BeginsWith old new → HasCuts first n passes new
-cuts_stay first n passes old new has b = record {
-  each = λ i h. let l : first + i < length old = omega (arith, has.long) in subst (CutsFrom first n (passes i)) (sym (b.same (first + i) l)) (has.each i h);
-  long = omega (arith, has.long, b.long);
-}

@@ -9,7 +9,8 @@ use Rattle.wframe.specs.declared.ends.FrameEnds.{FrameEnds}
 use Rattle.wframe.specs.declared.frame.Span.{Span}
 use Rattle.wframe.specs.Places.{places_from, AreApart}
 use Rattle.wframe.specs.Peers.{key_at, is_before, is_upto, smaller_keys}
-use Rattle.wframe.specs.Cuts.{CutsAt, HasCuts}
+use Rattle.wframe.specs.Cuts.{CutsAt, HasNumberedCuts}
+use Rattle.wframe.specs.PeerGroups.{begins_of}
 use Rattle.wframe.specs.Partition.{Partition}
 use Rattle.wframe.specs.Frame.{is_before_start, is_after_end, frame_start, frame_end, frame_extent}
 use Rattle.wframe.specs.FrameEnds.{HasFrames, Extends, IsFrameOf}
@@ -19,24 +20,24 @@ use Rattle.wframe.specs.Moves.{move_of, moved_number}
 use Rattle.wframe.specs.Bounds.{starts_after, ends_before}
 use Rattle.wframe.specs.declared.frame.FrameMode.TheVariants.{Rows}
 use Rattle.wframe.proofs.MoveFacts.{starts_at, ends_at}
-use Rattle.wframe.proofs.CutFacts.{cuts_stay}
+use Rattle.wframe.proofs.NumberedFacts.{numbered_stay, begins_stay}
 use Rattle.wframe.proofs.FrameFacts.{cut_count}
 
 pub frames_stay : (p : Partition) (first : ℕ) (old new : FrameEnds) → HasFrames p first old → Extends old new → HasFrames p first new
 frames_stay p first old new has more = record {
   ordered = has.ordered;
-  starts = λ g. cuts_stay first (length p.keys) (is_before_start p.order p.keys p.frame.mode p.frame.start) old.starts.items new.starts.items (has.starts g) more.starts;
-  ends = λ g. cuts_stay first (length p.keys) (λ i j. not (is_after_end p.order p.keys p.frame.mode p.frame.end i j)) old.ends.items new.ends.items (has.ends g) more.ends;
-  peer_starts = cuts_stay first (length p.keys) (is_before (keys_cmp p.order) p.keys) old.peer_starts.items new.peer_starts.items has.peer_starts more.peer_starts;
-  peer_ends = cuts_stay first (length p.keys) (is_upto (keys_cmp p.order) p.keys) old.peer_ends.items new.peer_ends.items has.peer_ends more.peer_ends;
+  starts = λ g. numbered_stay first (length p.keys) (is_before_start p.order p.keys p.frame.mode p.frame.start) old.numbers.items new.numbers.items old.starts.items new.starts.items (has.starts g) more.numbers more.starts;
+  ends = λ g. numbered_stay first (length p.keys) (λ i j. not (is_after_end p.order p.keys p.frame.mode p.frame.end i j)) old.numbers.items new.numbers.items old.ends.items new.ends.items (has.ends g) more.numbers more.ends;
+  peer_starts = numbered_stay first (length p.keys) (is_before (keys_cmp p.order) p.keys) old.numbers.items new.numbers.items (begins_of old.peer_ends.items) (begins_of new.peer_ends.items) has.peer_starts more.numbers (begins_stay old.peer_ends.items new.peer_ends.items more.peer_ends);
+  peer_ends = numbered_stay first (length p.keys) (is_upto (keys_cmp p.order) p.keys) old.numbers.items new.numbers.items old.peer_ends.items new.peer_ends.items has.peer_ends more.numbers more.peer_ends;
 }
 
 -- what is read for a row, counted from the first
-pub cut_read : (first n row x r : ℕ) (passes : ℕ → ℕ → Bool) (cuts : List ℕ) → HasCuts first n passes cuts → row < n → x ≡ get_or cuts (first + row) 0 → r ≡ x - first → CutsAt n (passes row) r
-cut_read first n row x r passes cuts has h e d = subst (CutsAt n (passes row)) (sym (d ∙ ap (λ y. y - first) e)) (has.each row h).at
+pub cut_read : (first n row x r : ℕ) (passes : ℕ → ℕ → Bool) (ns cuts : List ℕ) → HasNumberedCuts first n passes ns cuts → row < n → x ≡ get_or cuts (get_or ns (first + row) 0) 0 → r ≡ x - first → CutsAt n (passes row) r
+cut_read first n row x r passes ns cuts has h e d = subst (CutsAt n (passes row)) (sym (d ∙ ap (λ y. y - first) e)) (has.each row h).at
 
-pub cut_above : (first n row x : ℕ) (passes : ℕ → ℕ → Bool) (cuts : List ℕ) → HasCuts first n passes cuts → row < n → x ≡ get_or cuts (first + row) 0 → first ≤ x
-cut_above first n row x passes cuts has h e = let f = (has.each row h).from in omega (arith, e, f)
+pub cut_above : (first n row x : ℕ) (passes : ℕ → ℕ → Bool) (ns cuts : List ℕ) → HasNumberedCuts first n passes ns cuts → row < n → x ≡ get_or cuts (get_or ns (first + row) 0) 0 → first ≤ x
+cut_above first n row x passes ns cuts has h e = let f = (has.each row h).from in omega (arith, e, f)
 
 cond_long : {X Y : Type 0} (b c : Bool) (x : X) (y : Y) (xs : List X) (ys : List Y) → b ≡ c → length xs ≡ length ys → length (cond b (x ∷ xs) xs) ≡ length (cond c (y ∷ ys) ys)
 cond_long true true x y xs ys e h = ap (λ n. suc n) h
@@ -78,18 +79,20 @@ frame_cut p row s e r at to from upto =
 
 -- what is read of a row's frame
 pub frame_read : (p : Partition) (first row : ℕ) (stored : FrameEnds) (x r : Span) → HasFrames p first stored → moves_groups p.frame ≡ true → row < length p.keys →
-    x.from ≡ get_or stored.starts.items (first + row) 0 → x.to ≡ max (get_or stored.starts.items (first + row) 0) (get_or stored.ends.items (first + row) 0) →
+    x.from ≡ get_or stored.starts.items (get_or stored.numbers.items (first + row) 0) 0 →
+    x.to ≡ max (get_or stored.starts.items (get_or stored.numbers.items (first + row) 0) 0) (get_or stored.ends.items (get_or stored.numbers.items (first + row) 0) 0) →
     r.from ≡ x.from - first → r.to ≡ x.to - first → IsFrameOf p row r
 frame_read p first row stored x r has g h xf xt rf rt =
     let n = length p.keys in
+    let ns = stored.numbers.items in
     let before = is_before_start p.order p.keys p.frame.mode p.frame.start in
     let upto = λ (i j : ℕ). not (is_after_end p.order p.keys p.frame.mode p.frame.end i j) in
-    let s = get_or stored.starts.items (first + row) 0 in
-    let e = get_or stored.ends.items (first + row) 0 in
-    let at = cut_read first n row s (s - first) before stored.starts.items (has.starts g) h refl refl in
-    let to = cut_read first n row e (e - first) upto stored.ends.items (has.ends g) h refl refl in
-    let sf = cut_above first n row s before stored.starts.items (has.starts g) h refl in
-    let ef = cut_above first n row e upto stored.ends.items (has.ends g) h refl in
+    let s = get_or stored.starts.items (get_or ns (first + row) 0) 0 in
+    let e = get_or stored.ends.items (get_or ns (first + row) 0) 0 in
+    let at = cut_read first n row s (s - first) before ns stored.starts.items (has.starts g) h refl refl in
+    let to = cut_read first n row e (e - first) upto ns stored.ends.items (has.ends g) h refl refl in
+    let sf = cut_above first n row s before ns stored.starts.items (has.starts g) h refl in
+    let ef = cut_above first n row e upto ns stored.ends.items (has.ends g) h refl in
     frame_cut p row (s - first) (e - first) r at to (rf ∙ ap (λ y. y - first) xf) (rt ∙ ap (λ y. y - first) xt ∙ max_from first s e sf ef)
 
 -- in ROWS the place of a row and the one behind it, moved
@@ -109,12 +112,12 @@ apart_wider low high low' high' (s ∷ ss) l h a = (omega (arith, a.0), a.1, apa
 
 -- what is read of a row's peers
 pub peers_read : (p : Partition) (first row : ℕ) (stored : FrameEnds) (x r : Span) → HasFrames p first stored → row < length p.keys →
-    x.from ≡ get_or stored.peer_starts.items (first + row) 0 → x.to ≡ get_or stored.peer_ends.items (first + row) 0 →
+    x.from ≡ get_or (begins_of stored.peer_ends.items) (get_or stored.numbers.items (first + row) 0) 0 → x.to ≡ get_or stored.peer_ends.items (get_or stored.numbers.items (first + row) 0) 0 →
     r.from ≡ x.from - first → r.to ≡ x.to - first → IsGroup (keys_cmp p.order) p.keys row r
 peers_read p first row stored x r has h xf xt rf rt =
     record {
-      start = cut_read first (length p.keys) row x.from r.from (is_before (keys_cmp p.order) p.keys) stored.peer_starts.items has.peer_starts h xf rf;
-      end = cut_read first (length p.keys) row x.to r.to (is_upto (keys_cmp p.order) p.keys) stored.peer_ends.items has.peer_ends h xt rt;
+      start = cut_read first (length p.keys) row x.from r.from (is_before (keys_cmp p.order) p.keys) stored.numbers.items (begins_of stored.peer_ends.items) has.peer_starts h xf rf;
+      end = cut_read first (length p.keys) row x.to r.to (is_upto (keys_cmp p.order) p.keys) stored.numbers.items stored.peer_ends.items has.peer_ends h xt rt;
     }
 
 pub frame_is : (p : Partition) (row : ℕ) (r : Span) → IsFrameOf p row r → r ≡ frame_extent p row

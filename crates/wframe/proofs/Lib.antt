@@ -17,10 +17,11 @@ mod StepFacts
 mod TieFacts
 mod SplitFacts
 mod Worked
-mod SortFacts
+pub mod SortFacts
 mod ValueFacts
 mod RowFacts
 mod GapFacts
 mod GroupSteps
+mod NumberedFacts
 mod PeerFacts
 mod ReachFacts

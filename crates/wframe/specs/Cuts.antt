@@ -26,3 +26,9 @@ pub record HasCuts (first n : ℕ) (passes : ℕ → ℕ → Bool) (cuts : List 
 pub record BeginsWith (old new : List ℕ) : Type 0 where
   pub same : (i : ℕ) → i < length old → slice_index new i ≡ slice_index old i
   pub long : length old ≤ length new
+
+-- lists that have, from `first` on, a number for each of n rows, and at each number the end of the places that pass
+pub record HasNumberedCuts (first n : ℕ) (passes : ℕ → ℕ → Bool) (numbers cuts : List ℕ) : Type 0 where
+  pub each : (i : ℕ) → i < n → CutsFrom first n (passes i) (slice_index cuts (slice_index numbers (first + i)))
+  pub known : (i : ℕ) → i < n → slice_index numbers (first + i) < length cuts
+  pub long : first + n ≤ length numbers

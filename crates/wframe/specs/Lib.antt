@@ -11,6 +11,7 @@ pub mod Partitions
 pub mod Cells
 pub mod KeyRows
 pub mod Cuts
+pub mod PeerGroups
 pub mod Numbered
 pub mod FrameEnds
 pub mod Sorting

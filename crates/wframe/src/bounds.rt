@@ -5,11 +5,12 @@ ghost use Rattle.wframe.specs.Bounds.{is_offset};
 ghost use Rattle.wframe.specs.Offsets.{is_range, is_groups};
 ghost use Rattle.wframe.specs.Ties.{takes_groups};
 ghost use Rattle.wframe.specs.Numbered.{AreNumbered};
-ghost use Rattle.wframe.specs.Cuts.{HasCuts, BeginsWith};
+ghost use Rattle.wframe.specs.Cuts.{HasNumberedCuts, BeginsWith};
 ghost use Rattle.wframe.specs.Frame.{is_before_start as before_start, is_after_end as after_end};
 
-use crate::cuts::{Cut, push_cuts};
+use crate::cuts::Cut;
 use crate::frame::{FrameBound, FrameMode};
+use crate::group_cuts::push_group_cuts;
 use crate::order::{is_after_end, is_before_start, key_is_after_end, key_is_before_start};
 use crate::peers::PeerEnds;
 use std::alloc::AllocError;
@@ -80,8 +81,8 @@ impl<'a> Cut for Ends<'a> {
     }
 }
 
-/// Adds, for each row, how many rows lie before the start that a bound gives its frame, counted on from the first row's
-/// place, in a mode that takes peers in together: they have one start, which is looked for once.
+/// Adds, for each group of peers, how many rows lie before the start that a bound gives their frames, counted on from the first
+/// row's place, in a mode that takes peers in together: they have one start.
 pub fn push_starts(
     starts: &mut Vec<usize>,
     peers: &PeerEnds,
@@ -92,24 +93,23 @@ pub fn push_starts(
     requires together { takes_groups mode ≡ true }
     requires numbered { IsTrue (is_groups mode) → AreNumbered (keys_cmp (sort_keys peers.now.rows)) (key_lists peers.now.rows) groups.now }
     requires one_key { IsTrue (is_range mode && is_offset bound) → length (sort_keys peers.now.rows) ≡ 1 }
-    requires first { length starts.old.items ≡ peers.now.first }
+    requires first { length starts.old.items ≡ peers.now.first_group }
     requires room { peers.now.first + length (key_lists peers.now.rows) < 2 ^ 64 }
-    ensures cuts { OnOk result (HasCuts peers.now.first (length (key_lists peers.now.rows)) (before_start (sort_keys peers.now.rows) (key_lists peers.now.rows) mode bound) starts.new.items) }
+    ensures cuts { OnOk result (HasNumberedCuts peers.now.first (length (key_lists peers.now.rows)) (before_start (sort_keys peers.now.rows) (key_lists peers.now.rows) mode bound) peers.now.numbers.now starts.new.items) }
     ensures stays { OnOk result (BeginsWith starts.old.items starts.new.items) }
-    ensures long { OnOk result (length starts.new.items ≡ peers.now.first + length (key_lists peers.now.rows)) }
+    ensures long { OnOk result (length starts.new.items ≡ length peers.now.ends.now) }
 {
-    let count = peers.rows().count();
     let test = Starts {
         peers: *peers,
         groups,
         mode,
         bound,
     };
-    push_cuts(starts, &test, count, peers.first())
+    push_group_cuts(starts, &test, peers)
 }
 
-/// Adds, for each row, how many rows do not lie after the end that a bound gives its frame, counted on from the first row's
-/// place, in a mode that takes peers in together: they have one end, which is looked for once.
+/// Adds, for each group of peers, how many rows do not lie after the end that a bound gives their frames, counted on from the
+/// first row's place, in a mode that takes peers in together: they have one end.
 pub fn push_ends(
     ends: &mut Vec<usize>,
     peers: &PeerEnds,
@@ -120,18 +120,17 @@ pub fn push_ends(
     requires together { takes_groups mode ≡ true }
     requires numbered { IsTrue (is_groups mode) → AreNumbered (keys_cmp (sort_keys peers.now.rows)) (key_lists peers.now.rows) groups.now }
     requires one_key { IsTrue (is_range mode && is_offset bound) → length (sort_keys peers.now.rows) ≡ 1 }
-    requires first { length ends.old.items ≡ peers.now.first }
+    requires first { length ends.old.items ≡ peers.now.first_group }
     requires room { peers.now.first + length (key_lists peers.now.rows) < 2 ^ 64 }
-    ensures cuts { OnOk result (HasCuts peers.now.first (length (key_lists peers.now.rows)) (λ i j. not (after_end (sort_keys peers.now.rows) (key_lists peers.now.rows) mode bound i j)) ends.new.items) }
+    ensures cuts { OnOk result (HasNumberedCuts peers.now.first (length (key_lists peers.now.rows)) (λ i j. not (after_end (sort_keys peers.now.rows) (key_lists peers.now.rows) mode bound i j)) peers.now.numbers.now ends.new.items) }
     ensures stays { OnOk result (BeginsWith ends.old.items ends.new.items) }
-    ensures long { OnOk result (length ends.new.items ≡ peers.now.first + length (key_lists peers.now.rows)) }
+    ensures long { OnOk result (length ends.new.items ≡ length peers.now.ends.now) }
 {
-    let count = peers.rows().count();
     let test = Ends {
         peers: *peers,
         groups,
         mode,
         bound,
     };
-    push_cuts(ends, &test, count, peers.first())
+    push_group_cuts(ends, &test, peers)
 }

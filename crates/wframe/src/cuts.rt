@@ -27,8 +27,8 @@ pub trait Cut {
         ensures rows { (i j : ℕ) → row ≤ i → i < result → passes self.now i j ≡ passes self.now row j };
 }
 
-// Where the places that pass for a row end, when all before `from` are known to pass.
-fn advance<C: Cut>(cut: &C, rows: usize, row: usize, from: usize) -> usize
+/// Where the places that pass for a row end, when all before `from` are known to pass.
+pub fn advance<C: Cut>(cut: &C, rows: usize, row: usize, from: usize) -> usize
     requires rows { rows ≡ C.row_count cut.now }
     requires cut { IsCut rows (C.passes cut.now) }
     requires row { row < rows }
@@ -73,8 +73,7 @@ fn next_end<C: Cut>(cut: &C, rows: usize, row: usize, last: Reached) -> Reached
     }
 }
 
-/// Adds, for each row, where the places that pass end, counted on from `first`. [`crate::Partitions::build`] finds the frames
-/// of RANGE and GROUPS with an offset by it.
+/// Adds, for each row, where the places that pass end, counted on from `first`.
 ///
 /// The end moves along with the rows and never back: of rows that the test cannot tell apart one is tested once, and once
 /// more where it is an end.

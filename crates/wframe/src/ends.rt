@@ -1,4 +1,5 @@
-ghost use Rattle.std.specs.Prelude.{◌≡◌, ◌+◌, ◌<◌, ◌^◌, ◌&&◌, length, max, slice_index, IsTrue, IfOk, OnOk, not, true};
+ghost use Rattle.std.specs.Prelude.{◌≡◌, ◌+◌, ◌<◌, ◌≤◌, ◌^◌, ◌&&◌, length, max, slice_index, IsTrue, IfOk, OnOk, not, true};
+ghost use Rattle.wframe.specs.PeerGroups.{begins_of};
 
 use crate::bounds::{push_ends, push_starts};
 use crate::frame::{Frame, FrameMode, Span};
@@ -8,14 +9,22 @@ use crate::moves::moves_groups;
 use crate::peers::{PeerEnds, push_peers};
 use std::alloc::{AllocError, Global};
 
-/// Where peers begin and end, and in RANGE and GROUPS with an offset where frames do, for the rows of one partition after
-/// another, by places among all rows.
+/// Where peers end, and in RANGE and GROUPS with an offset where frames start and end, for the rows of one partition after
+/// another, by places among all rows. It is kept once for each group of peers; each row has its group's number.
 #[derive(Drop)]
 pub struct FrameEnds {
+    numbers: Vec<usize>,
+    peer_ends: Vec<usize>,
     starts: Vec<usize>,
     ends: Vec<usize>,
-    peer_starts: Vec<usize>,
-    peer_ends: Vec<usize>,
+}
+
+// Where the group of a number begins: where the one before ends.
+fn group_begin(ends: &[usize], number: usize) -> usize
+    requires { number ≤ length ends.now }
+    ensures { result ≡ slice_index (begins_of ends.now) number }
+{
+    if number == 0 { 0 } else { ends[number - 1] }
 }
 
 impl FrameEnds {
@@ -23,8 +32,8 @@ impl FrameEnds {
     ghost use Rattle.wframe.specs.Bounds.{is_offset};
     ghost use Rattle.wframe.specs.Offsets.{is_range, moves_groups};
     ghost use Rattle.wframe.specs.FrameEnds.{HasFrames, Extends, AreLong};
-    ghost use Rattle.wframe.specs.Cuts.{HasCuts, BeginsWith};
-    ghost use Rattle.wframe.specs.Peers.{is_upto};
+    ghost use Rattle.wframe.specs.Cuts.{HasNumberedCuts, BeginsWith};
+    ghost use Rattle.wframe.specs.PeerGroups.{AreGroups};
     ghost use Rattle.wframe.specs.Frame.{is_before_start, is_after_end};
     ghost use Rattle.wvalues.specs.Order.{keys_cmp};
 
@@ -34,10 +43,10 @@ impl FrameEnds {
     {
         let bounded = if moves_groups(frame) { rows } else { 0 };
         Ok(FrameEnds {
+            numbers: Vec::with_capacity(alloc, rows)?,
+            peer_ends: Vec::with_capacity(alloc, rows)?,
             starts: Vec::with_capacity(alloc, bounded)?,
             ends: Vec::with_capacity(alloc, bounded)?,
-            peer_starts: Vec::with_capacity(alloc, rows)?,
-            peer_ends: Vec::with_capacity(alloc, rows)?,
         })
     }
 
@@ -53,19 +62,19 @@ impl FrameEnds {
         requires ordered { AreInOrder rows.now }
         requires start { IsTrue (is_range frame.mode && is_offset frame.start) → length (sort_keys rows.now) ≡ 1 }
         requires end { IsTrue (is_range frame.mode && is_offset frame.end) → length (sort_keys rows.now) ≡ 1 }
-        requires starts { length self.old.starts.items ≡ first }
-        requires ends { length self.old.ends.items ≡ first }
-        requires peers { HasCuts first (length (key_lists rows.now)) (is_upto (keys_cmp (sort_keys rows.now)) (key_lists rows.now)) self.old.peer_ends.items }
+        requires ends { length self.old.ends.items ≡ length self.old.starts.items }
+        requires peers { AreGroups (keys_cmp (sort_keys rows.now)) (key_lists rows.now) first (length self.old.starts.items) (length (key_lists rows.now)) self.old.numbers.items self.old.peer_ends.items }
         requires room { first + length (key_lists rows.now) < 2 ^ 64 }
-        ensures starts { OnOk result (HasCuts first (length (key_lists rows.now)) (is_before_start (sort_keys rows.now) (key_lists rows.now) frame.mode frame.start) self.new.starts.items) }
+        ensures starts { OnOk result (HasNumberedCuts first (length (key_lists rows.now)) (is_before_start (sort_keys rows.now) (key_lists rows.now) frame.mode frame.start) self.old.numbers.items self.new.starts.items) }
         ensures starts_stay { OnOk result (BeginsWith self.old.starts.items self.new.starts.items) }
-        ensures starts_long { OnOk result (length self.new.starts.items ≡ first + length (key_lists rows.now)) }
-        ensures ends { OnOk result (HasCuts first (length (key_lists rows.now)) (λ i j. not (is_after_end (sort_keys rows.now) (key_lists rows.now) frame.mode frame.end i j)) self.new.ends.items) }
+        ensures starts_long { OnOk result (length self.new.starts.items ≡ length self.old.peer_ends.items) }
+        ensures ends { OnOk result (HasNumberedCuts first (length (key_lists rows.now)) (λ i j. not (is_after_end (sort_keys rows.now) (key_lists rows.now) frame.mode frame.end i j)) self.old.numbers.items self.new.ends.items) }
         ensures ends_stay { OnOk result (BeginsWith self.old.ends.items self.new.ends.items) }
-        ensures ends_long { OnOk result (length self.new.ends.items ≡ first + length (key_lists rows.now)) }
-        ensures peers { (self.new.peer_starts ≡ self.old.peer_starts) × (self.new.peer_ends ≡ self.old.peer_ends) }
+        ensures ends_long { OnOk result (length self.new.ends.items ≡ length self.old.peer_ends.items) }
+        ensures peers { (self.new.numbers ≡ self.old.numbers) × (self.new.peer_ends ≡ self.old.peer_ends) }
     {
-        let peers = PeerEnds::new(*rows, &self.peer_ends, first);
+        let first_group = self.starts.len();
+        let peers = PeerEnds::new(*rows, &self.numbers, &self.peer_ends, first, first_group);
         if frame.mode == FrameMode::Groups {
             number_groups(groups, &peers)?;
         }
@@ -73,8 +82,8 @@ impl FrameEnds {
         push_ends(&mut self.ends, &peers, groups, frame.mode, frame.end)
     }
 
-    /// Adds what is kept of a partition, whose first row has the place `first`. Where groups are counted, their numbers are put
-    /// in `groups`.
+    /// Adds what is kept of a partition, whose first row has the place `first`. Where groups are counted, their numbers in the
+    /// partition are put in `groups`.
     pub fn push_partition(
         &mut self,
         groups: &mut Vec<usize>,
@@ -91,7 +100,7 @@ impl FrameEnds {
         ensures extends { OnOk result (Extends self.old self.new) }
         ensures long { OnOk result (AreLong frame (first + length (key_lists rows.now)) self.new) }
     {
-        push_peers(&mut self.peer_starts, &mut self.peer_ends, rows, first)?;
+        push_peers(&mut self.numbers, &mut self.peer_ends, rows, first)?;
         if moves_groups(frame) {
             return self.push_bounds(groups, rows, frame, first);
         }
@@ -100,28 +109,31 @@ impl FrameEnds {
 
     /// The extent of a row's frame: what lies from its start to its end, excluded rows too.
     pub fn extent(&self, row: usize) -> Span
-        requires starts { row < length self.now.starts.items }
-        requires ends { row < length self.now.ends.items }
-        ensures from { result.from ≡ slice_index self.now.starts.items row }
-        ensures to { result.to ≡ max (slice_index self.now.starts.items row) (slice_index self.now.ends.items row) }
+        requires row { row < length self.now.numbers.items }
+        requires start { slice_index self.now.numbers.items row < length self.now.starts.items }
+        requires end { slice_index self.now.numbers.items row < length self.now.ends.items }
+        ensures from { result.from ≡ slice_index self.now.starts.items (slice_index self.now.numbers.items row) }
+        ensures to { result.to ≡ max (slice_index self.now.starts.items (slice_index self.now.numbers.items row)) (slice_index self.now.ends.items (slice_index self.now.numbers.items row)) }
     {
-        let from = self.starts[row];
+        let number = self.numbers[row];
+        let from = self.starts[number];
         Span {
             from,
-            to: from.max(self.ends[row]),
+            to: from.max(self.ends[number]),
         }
     }
 
     /// The span of a row's peers.
     pub fn peers(&self, row: usize) -> Span
-        requires starts { row < length self.now.peer_starts.items }
-        requires ends { row < length self.now.peer_ends.items }
-        ensures from { result.from ≡ slice_index self.now.peer_starts.items row }
-        ensures to { result.to ≡ slice_index self.now.peer_ends.items row }
+        requires row { row < length self.now.numbers.items }
+        requires group { slice_index self.now.numbers.items row < length self.now.peer_ends.items }
+        ensures from { result.from ≡ slice_index (begins_of self.now.peer_ends.items) (slice_index self.now.numbers.items row) }
+        ensures to { result.to ≡ slice_index self.now.peer_ends.items (slice_index self.now.numbers.items row) }
     {
+        let number = self.numbers[row];
         Span {
-            from: self.peer_starts[row],
-            to: self.peer_ends[row],
+            from: group_begin(&self.peer_ends, number),
+            to: self.peer_ends[number],
         }
     }
 }

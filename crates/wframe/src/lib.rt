@@ -16,6 +16,7 @@ mod ends;
 mod exclusion;
 mod frame;
 mod frames;
+mod group_cuts;
 mod groups;
 mod key_rows;
 mod laws;

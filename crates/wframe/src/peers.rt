@@ -1,11 +1,10 @@
-ghost use Rattle.std.specs.Prelude.{◌≡◌, ◌<◌, ◌+◌, ◌-◌, ◌^◌, length, OnOk};
+ghost use Rattle.std.specs.Prelude.{◌≡◌, ◌<◌, ◌≤◌, ◌+◌, ◌-◌, ◌^◌, ℕ, [], ◌∷◌, ◌++◌, length, slice_index, OnOk};
 ghost use Rattle.wvalues.specs.Order.{keys_cmp};
 ghost use Rattle.wframe.specs.KeyRows.{key_lists, sort_keys, AreInOrder};
 ghost use Rattle.wframe.specs.Peers.{is_before, is_upto};
-ghost use Rattle.wframe.specs.Cuts.{CutsAt, HasCuts, BeginsWith};
-ghost use Rattle.wframe.specs.Partitions.{IsGroup};
+ghost use Rattle.wframe.specs.Cuts.{CutsAt, BeginsWith};
+ghost use Rattle.wframe.specs.PeerGroups.{AreGroups, begins_of};
 
-use crate::frame::Span;
 use crate::key_rows::KeyRows;
 use crate::order::are_equal;
 use std::alloc::AllocError;
@@ -30,74 +29,96 @@ pub fn agreeing_end(rows: &KeyRows, first: usize) -> usize
     count
 }
 
-// The peers of a row, after those of the row before.
-fn next_group(rows: &KeyRows, row: usize, last: Span) -> Span
-    requires ordered { AreInOrder rows.now }
-    requires row { row < length (key_lists rows.now) }
-    requires first { row ≡ 0 → last.to ≡ 0 }
-    requires last { 0 < row → IsGroup (keys_cmp (sort_keys rows.now)) (key_lists rows.now) (row - 1) last }
-    ensures { IsGroup (keys_cmp (sort_keys rows.now)) (key_lists rows.now) row result }
+// Adds a group of so many rows, which ends at a place: for each row the group's number, and for the group its end.
+fn push_group(
+    numbers: &mut Vec<usize>,
+    ends: &mut Vec<usize>,
+    rows: usize,
+    end: usize,
+) -> Result<(), AllocError>
+    ensures ends { OnOk result (ends.new.items ≡ ends.old.items ++ end ∷ []) }
+    ensures stays { OnOk result (BeginsWith numbers.old.items numbers.new.items) }
+    ensures each { OnOk result ((i : ℕ) → length numbers.old.items ≤ i → i < length numbers.new.items → slice_index numbers.new.items i ≡ length ends.old.items) }
+    ensures long { OnOk result (length numbers.new.items ≡ length numbers.old.items + rows) }
 {
-    let end = last.to;
-    if row < end {
-        return last;
+    let number = ends.len();
+    ends.push(end)?;
+    for _ in 0..rows {
+        numbers.push(number)?;
     }
-    let to = agreeing_end(rows, row);
-    Span { from: row, to }
+    Ok(())
 }
 
-/// Adds, for each row, where its peers begin and where they end, counted on from `first`.
+/// Adds, for each row, the number of its group of peers, and for each group where it ends, counted on from `first`. Groups are
+/// numbered on from those that are there.
 ///
-/// Each row is compared with the first of its peers alone, and with the last of the peers before.
+/// Each row is compared with the first of its peers alone, and with the first of the peers before.
 pub fn push_peers(
-    starts: &mut Vec<usize>,
+    numbers: &mut Vec<usize>,
     ends: &mut Vec<usize>,
     rows: &KeyRows,
     first: usize,
 ) -> Result<(), AllocError>
     requires ordered { AreInOrder rows.now }
-    requires starts { length starts.old.items ≡ first }
-    requires ends { length ends.old.items ≡ first }
+    requires numbers { length numbers.old.items ≡ first }
+    requires last { slice_index (begins_of ends.old.items) (length ends.old.items) ≡ first }
     requires room { first + length (key_lists rows.now) < 2 ^ 64 }
-    ensures starts { OnOk result (HasCuts first (length (key_lists rows.now)) (is_before (keys_cmp (sort_keys rows.now)) (key_lists rows.now)) starts.new.items) }
-    ensures starts_stay { OnOk result (BeginsWith starts.old.items starts.new.items) }
-    ensures starts_long { OnOk result (length starts.new.items ≡ first + length (key_lists rows.now)) }
-    ensures ends { OnOk result (HasCuts first (length (key_lists rows.now)) (is_upto (keys_cmp (sort_keys rows.now)) (key_lists rows.now)) ends.new.items) }
+    ensures groups { OnOk result (AreGroups (keys_cmp (sort_keys rows.now)) (key_lists rows.now) first (length ends.old.items) (length (key_lists rows.now)) numbers.new.items ends.new.items) }
+    ensures numbers_stay { OnOk result (BeginsWith numbers.old.items numbers.new.items) }
     ensures ends_stay { OnOk result (BeginsWith ends.old.items ends.new.items) }
-    ensures ends_long { OnOk result (length ends.new.items ≡ first + length (key_lists rows.now)) }
+    ensures long { OnOk result (length numbers.new.items ≡ first + length (key_lists rows.now)) }
+    ensures last { OnOk result (slice_index (begins_of ends.new.items) (length ends.new.items) ≡ first + length (key_lists rows.now)) }
 {
     let count = rows.count();
-    let mut group = Span { from: 0, to: 0 };
-    for row in 0..count {
-        group = next_group(rows, row, group);
-        starts.push(first + group.from)?;
-        ends.push(first + group.to)?;
+    let mut from = 0;
+    while from < count {
+        let to = agreeing_end(rows, from);
+        push_group(numbers, ends, to - from, first + to)?;
+        from = to;
     }
     Ok(())
 }
 
-/// Rows in order, with the places where the peers of each end, counted on from `first`.
+/// Rows in order, with the number of each row's group of peers, and for each group the place where it ends, counted on from
+/// `first`. The first row's group has the number `first_group`.
 #[derive(Clone, Copy)]
 pub struct PeerEnds<'a> {
     rows: KeyRows<'a>,
+    numbers: &'a [usize],
     ends: &'a [usize],
     first: usize,
+    first_group: usize,
     ghost ordered: { AreInOrder rows },
-    ghost cuts: { HasCuts first (length (key_lists rows)) (is_upto (keys_cmp (sort_keys rows)) (key_lists rows)) ends.now },
+    ghost groups: { AreGroups (keys_cmp (sort_keys rows)) (key_lists rows) first first_group (length (key_lists rows)) numbers.now ends.now },
 }
 
 impl<'a> PeerEnds<'a> {
-    ghost use Rattle.std.specs.Prelude.{ℕ, ◌≤◌, true, false};
+    ghost use Rattle.std.specs.Prelude.{true, false};
     ghost use Rattle.wframe.specs.Peers.{are_peers};
 
-    /// The rows, and the places where the peers of each end.
-    pub fn new(rows: KeyRows<'a>, ends: &'a [usize], first: usize) -> PeerEnds<'a>
+    /// The rows, and the groups of their peers.
+    pub fn new(
+        rows: KeyRows<'a>,
+        numbers: &'a [usize],
+        ends: &'a [usize],
+        first: usize,
+        first_group: usize,
+    ) -> PeerEnds<'a>
         requires ordered { AreInOrder rows }
-        requires cuts { HasCuts first (length (key_lists rows)) (is_upto (keys_cmp (sort_keys rows)) (key_lists rows)) ends.now }
+        requires groups { AreGroups (keys_cmp (sort_keys rows)) (key_lists rows) first first_group (length (key_lists rows)) numbers.now ends.now }
         ensures rows { result.rows ≡ rows.entry }
+        ensures numbers { result.numbers ≡ numbers.entry }
+        ensures ends { result.ends ≡ ends.entry }
         ensures first { result.first ≡ first }
+        ensures first_group { result.first_group ≡ first_group }
     {
-        PeerEnds { rows, ends, first }
+        PeerEnds {
+            rows,
+            numbers,
+            ends,
+            first,
+            first_group,
+        }
     }
 
     /// The rows.
@@ -121,7 +142,10 @@ impl<'a> PeerEnds<'a> {
         ensures within { result ≤ length (key_lists self.now.rows) }
         ensures peers { (j : ℕ) → row ≤ j → j < result → are_peers (keys_cmp (sort_keys self.now.rows)) (key_lists self.now.rows) row j ≡ true }
         ensures others { (j : ℕ) → result ≤ j → j < length (key_lists self.now.rows) → are_peers (keys_cmp (sort_keys self.now.rows)) (key_lists self.now.rows) row j ≡ false }
+        ensures same { (j : ℕ) → row ≤ j → j < result → slice_index self.now.numbers.now (self.now.first + j) ≡ slice_index self.now.numbers.now (self.now.first + row) }
+        ensures next { result < length (key_lists self.now.rows) → slice_index self.now.numbers.now (self.now.first + result) ≡ slice_index self.now.numbers.now (self.now.first + row) + 1 }
+        ensures last { result ≡ length (key_lists self.now.rows) → slice_index self.now.numbers.now (self.now.first + row) + 1 ≡ length self.now.ends.now }
     {
-        self.ends[self.first + row] - self.first
+        self.ends[self.numbers[self.first + row]] - self.first
     }
 }
