@@ -1,7 +1,7 @@
--- How rows in the order of a window are kept: the cells of one row after another.
-use Rattle.std.specs.Prelude.{◌≡◌, ◌*◌, ◌<◌, All, length}
+-- How rows in the order of a window are kept: the cells of one row after another, by the rows' numbers.
+use Rattle.std.specs.Prelude.{◌≡◌, ◌*◌, ◌<◌, All, length, map}
 use Rattle.wvalues.specs.Order.{keys_cmp}
-use Rattle.wframe.specs.Peers.{AreOrdered, AreOrderedWithin}
+use Rattle.wframe.specs.Peers.{AreOrdered, AreOrderedWithin, key_at}
 use Rattle.wrows.specs.LaidRows.{laid}
 use Rattle.wcalls.specs.Ordered.{Ordered}
 use Rattle.wcalls.specs.declared.window.WindowOrder.TheInside.{Inside}
@@ -9,9 +9,9 @@ use Rattle.wcalls.specs.declared.window.WindowOrder.TheInside.{Inside}
 abbrev pub order_of : Inside → Ordered
 order_of o = record {
   rows = o.rows.items;
-  values = laid (length o.value_order.items) (length o.rows.items) o.values.items;
+  values = map (key_at (laid (length o.value_order.items) (length o.rows.items) o.values.items)) o.rows.items;
   value_order = o.value_order.items;
-  keys = laid (length o.key_order.items) (length o.rows.items) o.keys.items;
+  keys = map (key_at (laid (length o.key_order.items) (length o.rows.items) o.keys.items)) o.rows.items;
   order = o.key_order.items;
 }
 

@@ -20,6 +20,7 @@ mod aggregated;
 mod calls;
 mod columns;
 mod functions;
+mod lending;
 mod limits;
 mod numbered;
 mod parts;

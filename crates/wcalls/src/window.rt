@@ -18,12 +18,13 @@ ghost use Rattle.wcalls.specs.Arranged.{IsArranged};
 ghost use Rattle.wcalls.specs.Ordered.{in_order, ordered_by, ordered_rows};
 ghost use Rattle.wcalls.specs.Windows.{Windowed};
 
+use crate::lending::lent_rows;
 use crate::parts::{key_cells, key_orders, partition_cells, value_orders};
 use std::alloc::{AllocError, Global};
 use std::marker::Model;
 use wframe::{Frame, KeyRows, Partitions};
 use wplan::{SettledWindow, same_order};
-use wrows::{AnswerFault, gathered, resorted_numbers, sorted_numbers};
+use wrows::{AnswerFault, resorted_numbers, sorted_numbers};
 use wvalues::{SortKey, Value};
 
 /// Rows by the partition values of a window, by its keys and then by number, with the partition values and the keys of
@@ -31,7 +32,7 @@ use wvalues::{SortKey, Value};
 #[derive(Drop)]
 pub struct WindowOrder {
     rows: Vec<usize>,
-    // Those of one row after another, in their order.
+    // Those of one row after another, by the rows' numbers.
     values: Vec<Value>,
     value_order: Vec<SortKey>,
     keys: Vec<Value>,
@@ -88,7 +89,8 @@ impl WindowOrder {
         ensures rows { IfOk result (λ cells. rows_of (length self.now.order) (length self.now.rows) cells.items ≡ self.now.keys) }
         ensures laid { IfOk result (λ cells. length cells.items ≡ length self.now.rows * length self.now.order) }
     {
-        let cells = lent_cells(alloc, &self.keys)?;
+        let count = self.rows.len();
+        let cells = lent_rows(alloc, &self.keys, self.key_order.len(), count, &self.rows)?;
         Ok(cells)
     }
 
@@ -106,8 +108,15 @@ impl WindowOrder {
         ensures arranged { IfOk result (λ all. (w : Windowed) → self.now ≡ in_order w → frame ≡ w.frame → IsArranged w self.now.rows all) }
         ensures len { IfOk result (λ all. length self.now.rows ≡ length all.keys) }
     {
-        let cells = lent_cells(alloc, &self.values)?;
-        let values = KeyRows::new(&cells, &self.value_order, self.rows.len());
+        let count = self.rows.len();
+        let cells = lent_rows(
+            alloc,
+            &self.values,
+            self.value_order.len(),
+            count,
+            &self.rows,
+        )?;
+        let values = KeyRows::new(&cells, &self.value_order, count);
         let partitions = Partitions::build(alloc, &values, keys, frame)?;
         Ok(partitions)
     }
@@ -137,13 +146,11 @@ fn ordered_cells(
     ensures { IfOk result (λ order. order ≡ ordered_by (laid (length value_order.items) count values.items) value_order.items (laid (length key_order.items) count keys.items) key_order.items) }
 {
     let rows = ordered_numbers(alloc, &values, &value_order, &keys, &key_order, count)?;
-    let sorted_values = moved(alloc, values, value_order.len(), count, &rows)?;
-    let sorted_keys = moved(alloc, keys, key_order.len(), count, &rows)?;
     Ok(WindowOrder {
         rows,
-        values: sorted_values,
+        values,
         value_order,
-        keys: sorted_keys,
+        keys,
         key_order,
     })
 }
@@ -167,32 +174,4 @@ fn ordered_numbers(
     let by_key = sorted_numbers(alloc, keys, key_order, count)?;
     let rows = resorted_numbers(alloc, values, value_order, count, by_key)?;
     Ok(rows)
-}
-
-// Cells of rows by number, in another order of the rows.
-fn moved(
-    alloc: Global,
-    cells: Vec<Value>,
-    width: usize,
-    count: usize,
-    rows: &[usize],
-) -> Result<Vec<Value>, AllocError>
-    requires laid { length cells.items ≡ count * width }
-    requires rows { All (λ i. i < count) rows.now }
-    ensures rows { IfOk result (λ moved. laid width (length rows.now) moved.items ≡ map (key_at (laid width count cells.items)) rows.now) }
-    ensures laid { IfOk result (λ moved. length moved.items ≡ length rows.now * width) }
-{
-    gathered(alloc, &cells, width, count, rows)
-}
-
-// Each of some values, lent.
-fn lent_cells(alloc: Global, cells: &[Value]) -> Result<Vec<&Value>, AllocError>
-    ensures cells { IfOk result (λ lent. map (λ cell. cell.now) lent.items ≡ cells.now) }
-    ensures len { IfOk result (λ lent. length lent.items ≡ length cells.now) }
-{
-    let mut lent = Vec::with_capacity(alloc, cells.len())?;
-    for cell in cells {
-        lent.push(cell)?;
-    }
-    Ok(lent)
 }

@@ -1,4 +1,4 @@
-use Rattle.std.proofs.Common.{◌≡◌, ◌<◌, ℕ, List, length, map, refl, sym, ◌∙◌, subst}
+use Rattle.std.proofs.Common.{◌≡◌, ◌<◌, ◌*◌, ℕ, List, length, map, refl, sym, ap, ◌∙◌, subst}
 use Rattle.std.specs.List.{All}
 use Rattle.std.specs.Ordering.{on}
 use Rattle.wvalues.specs.Meaning.{Meaning}
@@ -20,18 +20,16 @@ invariant_of-result c =
     let V : List (List Meaning) = laid (length vo) n c.args.values.items in
     let K : List (List Meaning) = laid (length ko) n c.args.keys.items in
     let rows : List ℕ = c.in_ok-rows.rows.items in
-    let SV : List (List Meaning) = laid (length vo) (length rows) c.in_ok-sorted_values.sorted_values.items in
-    let SK : List (List Meaning) = laid (length ko) (length rows) c.in_ok-sorted_keys.sorted_keys.items in
+    let SV : List (List Meaning) = map (key_at (laid (length vo) (length rows) c.args.values.items)) rows in
+    let SK : List (List Meaning) = map (key_at (laid (length ko) (length rows) c.args.keys.items)) rows in
     let told : rows ≡ sorted (on (key_at V) (keys_cmp vo)) (numbers_by ko K n) = rw (c.deref.ensures.value, c.deref-2.ensures.value, c.deref-3.ensures.value, c.deref-4.ensures.value) at c.in_ok-rows.ensures.order in
     let is_sorted : rows ≡ numbers_in_order V vo K ko = by_both V vo K ko rows n (numbers_by ko K n) (sym (length-laid (length vo) n c.args.values.items)) refl told in
-    let values_wide : c.len.result ≡ length vo = c.len.ensures ∙ c.args.value_order.ok.0 in
-    let keys_wide : c.len-2.result ≡ length ko = c.len-2.ensures ∙ c.args.key_order.ok.0 in
-    let values_are : SV ≡ map (key_at V) rows = rw (values_wide, c.deref-5.ensures.value) at c.in_ok-sorted_values.ensures.rows in
-    let keys_are : SK ≡ map (key_at K) rows = rw (keys_wide, c.deref-6.ensures.value) at c.in_ok-sorted_keys.ensures.rows in
+    let values_are : SV ≡ map (key_at V) rows = ap (λ k. map (key_at (laid (length vo) k c.args.values.items)) rows) c.in_ok-rows.ensures.len in
+    let keys_are : SK ≡ map (key_at K) rows = ap (λ k. map (key_at (laid (length ko) k c.args.keys.items)) rows) c.in_ok-rows.ensures.len in
     record {
       below = subst (λ k. All (λ i. i < k) rows) (sym c.in_ok-rows.ensures.len) c.in_ok-rows.ensures.below;
-      whole_values = rw (values_wide, c.deref-5.ensures.value) at c.in_ok-sorted_values.ensures.laid;
-      whole_keys = rw (keys_wide, c.deref-6.ensures.value) at c.in_ok-sorted_keys.ensures.laid;
+      whole_values = c.requires.values ∙ ap (λ k. k * length vo) (sym c.in_ok-rows.ensures.len);
+      whole_keys = c.requires.keys ∙ ap (λ k. k * length ko) (sym c.in_ok-rows.ensures.len);
       by_values = values_stand V vo K ko rows is_sorted SV SK values_are keys_are;
       by_keys = keys_stand V vo K ko rows is_sorted SV SK values_are keys_are;
     }
@@ -44,12 +42,10 @@ returns c =
     let V : List (List Meaning) = laid (length vo) n c.args.values.items in
     let K : List (List Meaning) = laid (length ko) n c.args.keys.items in
     let rows : List ℕ = c.in_ok-rows.rows.items in
-    let SV : List (List Meaning) = laid (length vo) (length rows) c.in_ok-sorted_values.sorted_values.items in
-    let SK : List (List Meaning) = laid (length ko) (length rows) c.in_ok-sorted_keys.sorted_keys.items in
+    let SV : List (List Meaning) = map (key_at (laid (length vo) (length rows) c.args.values.items)) rows in
+    let SK : List (List Meaning) = map (key_at (laid (length ko) (length rows) c.args.keys.items)) rows in
     let told : rows ≡ sorted (on (key_at V) (keys_cmp vo)) (numbers_by ko K n) = rw (c.deref.ensures.value, c.deref-2.ensures.value, c.deref-3.ensures.value, c.deref-4.ensures.value) at c.in_ok-rows.ensures.order in
     let is_sorted : rows ≡ numbers_in_order V vo K ko = by_both V vo K ko rows n (numbers_by ko K n) (sym (length-laid (length vo) n c.args.values.items)) refl told in
-    let values_wide : c.len.result ≡ length vo = c.len.ensures ∙ c.args.value_order.ok.0 in
-    let keys_wide : c.len-2.result ≡ length ko = c.len-2.ensures ∙ c.args.key_order.ok.0 in
-    let values_are : SV ≡ map (key_at V) rows = rw (values_wide, c.deref-5.ensures.value) at c.in_ok-sorted_values.ensures.rows in
-    let keys_are : SK ≡ map (key_at K) rows = rw (keys_wide, c.deref-6.ensures.value) at c.in_ok-sorted_keys.ensures.rows in
+    let values_are : SV ≡ map (key_at V) rows = ap (λ k. map (key_at (laid (length vo) k c.args.values.items)) rows) c.in_ok-rows.ensures.len in
+    let keys_are : SK ≡ map (key_at K) rows = ap (λ k. map (key_at (laid (length ko) k c.args.keys.items)) rows) c.in_ok-rows.ensures.len in
     ordered_as V vo K ko rows is_sorted SV SK values_are keys_are _ refl

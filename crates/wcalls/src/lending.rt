@@ -1,0 +1,48 @@
+//! Cells of rows, lent in another order of the rows.
+ghost use Rattle.std.specs.Prelude.{◌≡◌, ◌*◌, ◌+◌, ◌≤◌, ◌<◌, ◌++◌, All, IfOk, OnOk, drop, length, map, take};
+ghost use Rattle.wvalues.specs.Meaning.{meaning};
+ghost use Rattle.wframe.specs.Cells.{meanings, rows_of};
+ghost use Rattle.wframe.specs.Peers.{key_at};
+ghost use Rattle.wrows.specs.LaidRows.{laid};
+
+use std::alloc::{AllocError, Global};
+use wvalues::Value;
+
+// The cells of a row that there is.
+fn row_of(cells: &[Value], width: usize, row: usize) -> &[Value]
+    requires { row * width + width ≤ length cells.now }
+    ensures { result.now ≡ take width (drop (row * width) cells.now) }
+{
+    let from = row * width;
+    &cells[from..from + width]
+}
+
+// Appends each of some cells, lent.
+fn push_lent<'a>(lent: &mut Vec<&'a Value>, cells: &'a [Value]) -> Result<(), AllocError>
+    ensures { OnOk result (meanings lent.new.items ≡ meanings lent.old.items ++ map meaning cells.now) }
+{
+    for cell in cells {
+        lent.push(cell)?;
+    }
+    Ok(())
+}
+
+/// The cells of the rows of these numbers, in their order, lent from where they lie.
+pub(crate) fn lent_rows<'a>(
+    alloc: Global,
+    cells: &'a [Value],
+    width: usize,
+    count: usize,
+    numbers: &[usize],
+) -> Result<Vec<&'a Value>, AllocError>
+    requires laid { length cells.now ≡ count * width }
+    requires below { All (λ i. i < count) numbers.now }
+    ensures rows { IfOk result (λ lent. rows_of width (length numbers.now) lent.items ≡ map (key_at (laid width count cells.now)) numbers.now) }
+    ensures len { IfOk result (λ lent. length lent.items ≡ length numbers.now * width) }
+{
+    let mut lent = Vec::with_capacity(alloc, cells.len())?;
+    for number in numbers {
+        push_lent(&mut lent, row_of(cells, width, *number))?;
+    }
+    Ok(lent)
+}
