@@ -7,12 +7,15 @@ use Rattle.std.specs.List.{prefix_len}
 use Rattle.wlexer.specs.declared.bytes.Stretch.{Stretch}
 use Rattle.wlexer.specs.declared.bytes.Stretch.TheVariants as stretches
 use Rattle.wlexer.specs.declared.bytes.TokenKind.TheVariants as kinds
+use Rattle.wlexer.specs.declared.fault.LexFault.{LexFault}
+use Rattle.wlexer.specs.declared.fault.LexFault.TheVariants as faults
 use Rattle.wlexer.specs.declared.keyword.Keyword.{Keyword}
 use Rattle.wlexer.specs.declared.token.Symbol.{Symbol}
 use Rattle.wlexer.specs.declared.token.Token.{Token}
 use Rattle.wlexer.specs.Bytes.{dash, apostrophe, double_quote, begins_word, continues, continues_word, is_blank, kind_of, spoils_number}
 use Rattle.wlexer.specs.Keywords.{keyword_of}
 use Rattle.wlexer.specs.Lexing.{Separates, nothing, blank, comment, LexesFirst, no_token, next_token}
+use Rattle.wlexer.specs.Reading.{FaultsHere, IsLexicalFault}
 use Rattle.wlexer.specs.Spelling.{IsStuck, front, behind, StopsBefore, Quoted, number_of, with_quotes_doubled, Spelled, keyword_word, name_word, quoted_name, quoted_text, digits, symbol_pair, single_symbol}
 use Rattle.wlexer.specs.Symbols.{symbol_of_one, symbol_of_two, IsNoPair}
 use Rattle.wlexer.specs.Token.{TokenMeaning, KeywordToken, NameToken, NumberToken, TextToken, SymbolToken, PlacedToken, placed, meaning_of}
@@ -169,6 +172,13 @@ tokens_before text left here tokens so_far x = subst (λ (z : List PlacedToken).
 -- all tokens
 pub all_tokens : (text left here : List ℕ) (tokens : List Token) → GoesBefore text left tokens → Separates left here → length here ≡ 0 → LexesFirst (length text) text (map placed tokens) []
 all_tokens text left here tokens so_far x e = subst (λ (z : List ℕ). LexesFirst (length text) text (map placed tokens) z) (no_length here e) (tokens_before text left here tokens so_far x)
+
+-- a fault that is met behind these tokens
+pub lexical_fault : {tokens : List PlacedToken} (place : ℕ) (text here : List ℕ) (e : LexFault) → LexesFirst (length text) text tokens here → place + length here ≡ length text → 0 < length here → FaultsHere place here e → IsLexicalFault text e
+lexical_fault {tokens} place text here (faults.At from) before at left h = record { tokens = tokens; rest = here; before = before; here = ap (λ (z : ℕ). z + length here) h.0 ∙ at; left = left; stuck = h.1 }
+lexical_fault place text here faults.NoMemory before at left h = tt
+lexical_fault place text here faults.TooLong before at left h = absurd h
+lexical_fault place text here faults.NotUtf8 before at left h = absurd h
 
 -- one more token
 pub token_more : (text left here after : List ℕ) (tokens pushed : List Token) (t : Token) → GoesBefore text left tokens → Separates left here → Spelled here (meaning_of t) after → t.from + length here ≡ length text → t.to + length after ≡ length text → pushed ≡ tokens ++ (t ∷ []) → GoesBefore text after pushed

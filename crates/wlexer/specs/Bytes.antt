@@ -22,25 +22,39 @@ apostrophe = 39
 abbrev pub dash : ℕ
 dash = 45
 
+-- `_`
+abbrev pub underscore : ℕ
+underscore = 95
+
+-- `.`
+abbrev pub point : ℕ
+point = 46
+
+abbrev pub line_feed : ℕ
+line_feed = 10
+
+abbrev pub carriage_return : ℕ
+carriage_return = 13
+
 -- a word begins with a letter or `_`
 abbrev pub begins_word : ℕ → Bool
-begins_word b = is_ascii_alphabetic b || b == 95
+begins_word b = is_ascii_alphabetic b || b == underscore
 
 -- it goes on with letters, digits and `_`
 abbrev pub continues_word : ℕ → Bool
-continues_word b = is_ascii_alphanumeric b || b == 95
+continues_word b = is_ascii_alphanumeric b || b == underscore
 
 -- what may not follow a number: a letter, `_` or `.`
 abbrev pub spoils_number : ℕ → Bool
-spoils_number b = begins_word b || b == 46
+spoils_number b = begins_word b || b == point
 
 -- space, tab, LF, CR, form feed
 abbrev pub is_blank : ℕ → Bool
-is_blank b = b == 32 || b == 9 || b == 10 || b == 13 || b == 12
+is_blank b = b == 32 || b == 9 || b == line_feed || b == carriage_return || b == 12
 
 -- LF or CR, before which a comment ends
 abbrev pub ends_line : ℕ → Bool
-ends_line b = b == 10 || b == 13
+ends_line b = b == line_feed || b == carriage_return
 
 -- whether a stretch of bytes goes on over this one
 abbrev pub continues : Stretch → ℕ → Bool

@@ -40,11 +40,13 @@ pub fn spoils_number(byte: u8) -> bool
     begins_word(byte) || byte == b'.'
 }
 
+const FORM_FEED: u8 = 12;
+
 /// Space, tab, LF, CR, form feed.
 pub fn is_blank(byte: u8) -> bool
     ensures { result ≡ is_blank byte }
 {
-    byte == b' ' || byte == b'\t' || byte == b'\n' || byte == b'\r' || byte == 12
+    byte == b' ' || byte == b'\t' || byte == b'\n' || byte == b'\r' || byte == FORM_FEED
 }
 
 fn ends_line(byte: u8) -> bool

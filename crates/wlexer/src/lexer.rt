@@ -4,14 +4,15 @@ ghost use Rattle.std.specs.Prelude.{◌≡◌, ◌↔◌, ◌⊎◌, ℕ, ◌<�
 ghost use Rattle.std.specs.Str.{IsUtf8};
 ghost use Rattle.wlexer.specs.declared.fault.LexFault.TheVariants.{TooLong, NotUtf8, At};
 ghost use Rattle.wlexer.specs.Lexing.{longest_text, IsBare, Separates, Lexes, HasFaultAt};
-ghost use Rattle.wlexer.specs.Reading.{IsLexicalFault};
-ghost use Rattle.wlexer.specs.Token.{PlacedToken, placed};
+ghost use Rattle.wlexer.specs.Reading.{FaultsHere, IsLexicalFault};
+ghost use Rattle.wlexer.specs.Spelling.{Spelled};
+ghost use Rattle.wlexer.specs.Token.{PlacedToken, lexeme_meaning, placed};
 
 use crate::bytes::{Stretch, is_blank};
 use crate::fault::{LexFault, Miss};
 use crate::pieces::{first_ascii, split_stretch};
 use crate::reading::token;
-use crate::token::Token;
+use crate::token::{Lexeme, Token};
 use std::alloc::Global;
 
 /// The most bytes of a text.
@@ -44,6 +45,18 @@ fn behind_separators(text: &str) -> &str
     left
 }
 
+/// The token at the front of what is left of a text, at whose place a fault is told, and what follows it.
+fn token_at(alloc: Global, place: usize, text: &str) -> Result<(Lexeme, &str), LexFault>
+    ensures found { IfOk result (λ x. Spelled text.now (lexeme_meaning x.0) x.1.now) }
+    ensures fault { IfErr result (λ e. FaultsHere place text.now e) }
+{
+    match token(alloc, text) {
+        Err(Miss::NoMemory) => Err(LexFault::NoMemory),
+        Err(Miss::Nothing) => Err(LexFault::At { place }),
+        Ok(read) => Ok(read),
+    }
+}
+
 /// The tokens of a text that is short enough and UTF-8, or the place of its first fault.
 fn lex_text(alloc: Global, text: &str) -> Result<Vec<Token>, LexFault>
     ensures found { IfOk result (λ tokens. Lexes text.now (map placed tokens.items)) }
@@ -57,15 +70,10 @@ fn lex_text(alloc: Global, text: &str) -> Result<Vec<Token>, LexFault>
             return Ok(tokens);
         }
         let from = text.len() - here.len();
-        match token(alloc, here) {
-            Err(Miss::NoMemory) => return Err(LexFault::NoMemory),
-            Err(Miss::Nothing) => return Err(LexFault::At { place: from }),
-            Ok((lexeme, after)) => {
-                let to = text.len() - after.len();
-                tokens.push(Token { lexeme, from, to })?;
-                left = after;
-            }
-        }
+        let (lexeme, after) = token_at(alloc, from, here)?;
+        let to = text.len() - after.len();
+        tokens.push(Token { lexeme, from, to })?;
+        left = after;
     }
 }
 
