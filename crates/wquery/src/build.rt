@@ -1,4 +1,4 @@
-//! Makes the parts of queries; each function says what its result says.
+//! Makes the parts of queries; each function says what its result says. An error is a growth that was refused.
 
 ghost use Rattle.std.specs.Prelude.{◌≡◌, Some, map, IfOk};
 ghost use Rattle.std.specs.Rc.{rc_str_bytes};
@@ -15,14 +15,14 @@ use std::alloc::{AllocError, Global};
 use std::rc::RcStr;
 use wlexer::Number;
 
-/// What was made; a fault is handed on, and what is held is let go before. It stands for `?`, which at the end of a
-/// scope lets go of each part of what is held, and so makes a long proof.
+/// What was made; a fault is handed on, and what is held is let go before. It stands for `?` where expressions, lists or
+/// queries are held: `?` lets go of them part by part, at the end of a scope, and so makes a long proof.
 macro_rules! made {
-    ($made:expr $(, $held:ident)*) => {
+    ($made:expr, $($held:ident),+) => {
         match $made {
             Ok(made) => made,
             Err(fault) => {
-                $(drop($held);)*
+                $(drop($held);)+
                 return Err(fault.into());
             }
         }
@@ -52,7 +52,7 @@ pub fn call(
         filter,
         over,
     };
-    let call = made!(Box::new(alloc, call));
+    let call = Box::new(alloc, call)?;
     Ok(Expression::Call(call))
 }
 
@@ -95,7 +95,7 @@ pub fn key(expression: Expression, descending: bool, nulls: Option<NullOrder>) -
 pub fn not(alloc: Global, e: Expression) -> Result<Expression, AllocError>
     ensures { IfOk result (λ x. view x ≡ Negated (view e)) }
 {
-    let operand = made!(Box::new(alloc, e));
+    let operand = Box::new(alloc, e)?;
     Ok(Expression::Not(operand))
 }
 
@@ -103,7 +103,7 @@ pub fn not(alloc: Global, e: Expression) -> Result<Expression, AllocError>
 pub fn signed(alloc: Global, minus: bool, e: Expression) -> Result<Expression, AllocError>
     ensures { IfOk result (λ x. view x ≡ Signed minus (view e)) }
 {
-    let operand = made!(Box::new(alloc, e));
+    let operand = Box::new(alloc, e)?;
     Ok(Expression::Sign { minus, operand })
 }
 
@@ -129,7 +129,7 @@ pub fn compared(
 pub fn null_test(alloc: Global, negated: bool, e: Expression) -> Result<Expression, AllocError>
     ensures { IfOk result (λ x. view x ≡ NullTest negated (view e)) }
 {
-    let operand = made!(Box::new(alloc, e));
+    let operand = Box::new(alloc, e)?;
     Ok(Expression::IsNull { negated, operand })
 }
 
