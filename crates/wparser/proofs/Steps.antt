@@ -1,10 +1,11 @@
 -- What the outcomes of parts make of a row's outcome, for each form of the notation.
-use Rattle.std.proofs.Common.{◌≡◌, ℕ, ◌<◌, ◌≤◌, List, [], ◌∷◌, ◌++◌, append_assoc, Option, Some, None, Result, Ok, Err, IfOk, refl, sym, ap, subst, ◌∙◌, arith}
+use Rattle.std.proofs.Common.{◌≡◌, ℕ, ◌<◌, ◌≤◌, List, [], ◌∷◌, ◌++◌, append_assoc, Option, Some, None, Result, Ok, Err, IfOk, IsErrAnd, refl, sym, ap, subst, ◌∙◌, arith}
 use Rattle.wlexer.specs.Token.{TokenMeaning, KeywordToken, NameToken, NumberToken, TextToken, SymbolToken}
 use Rattle.wlexer.specs.declared.keyword.Keyword.{Keyword}
 use Rattle.wlexer.specs.declared.keyword.Keyword.TheVariants as keywords
 use Rattle.wlexer.specs.declared.token.Symbol.{Symbol}
 use Rattle.wlexer.specs.declared.token.Symbol.TheVariants as symbols
+use Rattle.wlexer.specs.declared.token.Token.{Token}
 use Rattle.wquery.specs.declared.expression.Expression.{Expression}
 use Rattle.wquery.specs.Tree.{Tree, view}
 use Rattle.wparser.specs.declared.fault.ParseFault.{ParseFault}
@@ -13,7 +14,7 @@ use Rattle.wparser.specs.Words.{CommaSign, CloseSign}
 use Rattle.wparser.specs.Notation.{Tokens, Row, One, one, After, after, Then, before, Done, done, Perhaps, absent, present, Either, first, second, Room, room, Listed, last, next, As, Never}
 use Rattle.wparser.specs.Grammar.{Closed}
 use Rattle.wparser.specs.Grips.{grip, keyword_grip, symbol_grip, Stops}
-use Rattle.wparser.specs.Finding.{Outcome, Got, Refused, Short, failed, made, IsRead, Agrees, Answers}
+use Rattle.wparser.specs.Finding.{Outcome, Got, Refused, Short, failed, outcome, made, IsRead, Agrees, Answers}
 
 pub stops_more : {j k : ℕ} → j ≤ k → (rest : Tokens) → Stops j rest → Stops k rest
 stops_more le [] h = tt
@@ -54,6 +55,11 @@ got_along {X} {P} {k} {ts} {rest} {rest'} {x} {x'} e q a = subst (λ (y : X). An
 pub made_along : {E : Type 0} {P : Row Tree} {k : ℕ} {ts rest : Tokens} {t : Tree} {o : Outcome Tree} (built : Result Expression E) → o ≡ made built rest → IfOk built (λ x. view x ≡ t) → Answers P k ts (Got t rest) → Answers P k ts o
 made_along {P = P} {k = k} {ts = ts} (Ok e) q h a = subst (λ (o : Outcome Tree). Answers P k ts o) (sym q) (got_along h refl a)
 made_along {P = P} {k = k} {ts = ts} (Err f) q h a = subst (λ (o : Outcome Tree). Answers P k ts o) (sym q) (record { found = tt; only = λ y rest p h. tt })
+
+-- a fault that is handed on is the fault that was met
+pub handed_on : {A X : Type 0} {P : Row X} {k : ℕ} {ts : Tokens} (value : A → X) (left : A → List Token) (f : ParseFault) (r : Result A ParseFault) → IsErrAnd r (λ e. e ≡ f) → Answers P k ts (failed f) → Answers P k ts (outcome value left r)
+handed_on {P = P} {k = k} {ts = ts} value left f (Err e) h a = subst (λ (x : ParseFault). Answers P k ts (failed x)) (sym h) a
+handed_on value left f (Ok x) h a = absurd h
 
 -- a fault says the same of a row of other values
 pub failed_agrees : {X Y : Type 0} (f : ParseFault) (x : X) (y : Y) (r s : Tokens) → Agrees {X = X} (failed f) x r → Agrees {X = Y} (failed f) y s

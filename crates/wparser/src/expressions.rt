@@ -29,10 +29,7 @@ fn made(
 ) -> Result<(Expression, &[Token]), ParseFault>
     ensures { outcome (λ x. view x.0) (λ x. x.1.now) result ≡ made built (meanings rest.now) }
 {
-    match built {
-        Ok(e) => Ok((e, rest)),
-        Err(_) => Err(ParseFault::NoMemory),
-    }
+    Ok((built?, rest))
 }
 
 #[cycle(parser)]
@@ -62,7 +59,7 @@ pub fn chain(
 ) -> Result<(Expression, &[Token]), ParseFault>
     ensures { Answers (chain depth kind) (kind_class kind) (meanings tokens.now) (outcome (λ x. view x.0) (λ x. x.1.now) result) }
 {
-    let (first, rest) = got!(operand(alloc, kind, depth, tokens));
+    let (first, rest) = operand(alloc, kind, depth, tokens)?;
     goes_on(alloc, kind, depth, first, rest)
 }
 
@@ -103,7 +100,7 @@ fn negation(
     if depth == 0 {
         return Err(ParseFault::Syntax);
     }
-    let (e, rest) = got!(negation(alloc, depth - 1, after));
+    let (e, rest) = negation(alloc, depth - 1, after)?;
     made(build::not(alloc, e), rest)
 }
 
@@ -111,7 +108,7 @@ fn negation(
 fn test(alloc: Global, depth: u32, tokens: &[Token]) -> Result<(Expression, &[Token]), ParseFault>
     ensures { Answers (test depth) negation_class (meanings tokens.now) (outcome (λ x. view x.0) (λ x. x.1.now) result) }
 {
-    let (e, rest) = got!(comparison(alloc, depth, tokens));
+    let (e, rest) = comparison(alloc, depth, tokens)?;
     null_tested(alloc, e, rest)
 }
 
@@ -141,7 +138,7 @@ fn comparison(
 ) -> Result<(Expression, &[Token]), ParseFault>
     ensures { Answers (comparison depth) comparison_class (meanings tokens.now) (outcome (λ x. view x.0) (λ x. x.1.now) result) }
 {
-    let (left, rest) = got!(range(alloc, depth, tokens));
+    let (left, rest) = range(alloc, depth, tokens)?;
     compared(alloc, depth, left, rest)
 }
 
@@ -165,7 +162,7 @@ fn compared(
 fn range(alloc: Global, depth: u32, tokens: &[Token]) -> Result<(Expression, &[Token]), ParseFault>
     ensures { Answers (range depth) range_class (meanings tokens.now) (outcome (λ x. view x.0) (λ x. x.1.now) result) }
 {
-    let (e, rest) = got!(chain(alloc, ChainKind::Sum, depth, tokens));
+    let (e, rest) = chain(alloc, ChainKind::Sum, depth, tokens)?;
     range_tested(alloc, depth, e, rest)
 }
 
@@ -282,7 +279,7 @@ fn sign(alloc: Global, depth: u32, tokens: &[Token]) -> Result<(Expression, &[To
     if depth == 0 {
         return Err(ParseFault::Syntax);
     }
-    let (e, rest) = got!(sign(alloc, depth - 1, after));
+    let (e, rest) = sign(alloc, depth - 1, after)?;
     made(build::signed(alloc, minus, e), rest)
 }
 
@@ -298,19 +295,15 @@ fn primary(
         return Ok((Expression::Number(*n), rest));
     }
     if let Some((text, rest)) = text(tokens) {
-        return match text.clone() {
-            Err(_) => Err(ParseFault::NoMemory),
-            Ok(text) => Ok((Expression::Text(text), rest)),
-        };
+        let text = text.clone()?;
+        return Ok((Expression::Text(text), rest));
     }
     if let Some(rest) = keyword(tokens, Keyword::Null) {
         return Ok((Expression::Null, rest));
     }
     if let Some((name, rest)) = name(tokens) {
-        return match name.clone() {
-            Err(_) => Err(ParseFault::NoMemory),
-            Ok(name) => column_or_call(alloc, depth, name, rest),
-        };
+        let name = name.clone()?;
+        return column_or_call(alloc, depth, name, rest);
     }
     match symbol(tokens, Symbol::OpenParenthesis) {
         None => Err(ParseFault::Syntax),
@@ -325,7 +318,7 @@ fn closed(alloc: Global, depth: u32, tokens: &[Token]) -> Result<(Expression, &[
     if depth == 0 {
         return Err(ParseFault::Syntax);
     }
-    let (e, rest) = got!(chain(alloc, ChainKind::Disjunction, depth - 1, tokens));
+    let (e, rest) = chain(alloc, ChainKind::Disjunction, depth - 1, tokens)?;
     match symbol(rest, Symbol::CloseParenthesis) {
         None => {
             drop(e);
@@ -356,7 +349,7 @@ fn column_or_call(
 fn qualified(qualifier: RcStr, tokens: &[Token]) -> Result<(Expression, &[Token]), ParseFault>
     ensures { Answers (qualified (rc_str_bytes qualifier)) any_class (meanings tokens.now) (outcome (λ x. view x.0) (λ x. x.1.now) result) }
 {
-    let (column, rest) = got!(copied_name(tokens), qualifier);
+    let (column, rest) = copied_name(tokens)?;
     Ok((build::column(Some(qualifier), column), rest))
 }
 
@@ -369,7 +362,7 @@ fn call(
 ) -> Result<(Expression, &[Token]), ParseFault>
     ensures { Answers (call depth (inner depth) (rc_str_bytes function)) sign_class (meanings tokens.now) (outcome (λ x. view x.0) (λ x. x.1.now) result) }
 {
-    let (arguments, rest) = got!(arguments(alloc, depth, tokens), function);
+    let (arguments, rest) = arguments(alloc, depth, tokens)?;
     let (filter, rest) = got!(optional_filter(alloc, depth, rest), function, arguments);
     let (over, rest) = got!(
         optional_over(alloc, depth, rest),
@@ -397,7 +390,7 @@ fn arguments(
             Some((star, rest)) => Ok((star, rest)),
         };
     }
-    let (list, rest) = got!(closed_list(alloc, ChainKind::Disjunction, depth, tokens));
+    let (list, rest) = closed_list(alloc, ChainKind::Disjunction, depth, tokens)?;
     Ok((build::listed(list), rest))
 }
 
@@ -407,10 +400,8 @@ fn everything_closed(depth: u32, tokens: &[Token]) -> Option<(Arguments, &[Token
     if depth == 0 {
         return None;
     }
-    match symbol(tokens, Symbol::CloseParenthesis) {
-        None => None,
-        Some(rest) => Some((Arguments::Star, rest)),
-    }
+    let rest = symbol(tokens, Symbol::CloseParenthesis)?;
+    Some((Arguments::Star, rest))
 }
 
 #[cycle(parser)]
@@ -425,7 +416,7 @@ fn closed_list(
     if depth == 0 {
         return Err(ParseFault::Syntax);
     }
-    let (list, rest) = got!(list(alloc, kind, depth - 1, tokens));
+    let (list, rest) = list(alloc, kind, depth - 1, tokens)?;
     match symbol(rest, Symbol::CloseParenthesis) {
         None => {
             drop(list);
@@ -444,16 +435,7 @@ fn list(
 ) -> Result<(Vec<Expression>, &[Token]), ParseFault>
     ensures { Answers (Listed (chain depth kind)) list_class (meanings tokens.now) (outcome (λ x. views x.0.items) (λ x. x.1.now) result) }
 {
-    let mut items = Vec::new(alloc);
-    let mut left = tokens;
-    'list: loop {
-        let (item, rest) = got!(chain(alloc, kind, depth, left), items);
-        got!(push(&mut items, item), items);
-        match behind_comma(rest) {
-            None => return Ok((items, rest)),
-            Some(after) => left = after,
-        }
-    }
+    comma_list!(alloc, tokens, left => chain(alloc, kind, depth, left))
 }
 
 #[cycle(parser)]
@@ -473,7 +455,7 @@ fn optional_filter(
     let Some(after) = keyword(after, Keyword::Where) else {
         return Err(ParseFault::Syntax);
     };
-    let (e, rest) = got!(closed(alloc, depth, after));
+    let (e, rest) = closed(alloc, depth, after)?;
     Ok((Some(e), rest))
 }
 
@@ -489,10 +471,10 @@ fn optional_over(
         return Ok((None, tokens));
     };
     if let Some(after) = symbol(after, Symbol::OpenParenthesis) {
-        let (window, rest) = got!(window_inside(alloc, depth, after));
+        let (window, rest) = window_inside(alloc, depth, after)?;
         return Ok((Some(Over::Windowed(window)), rest));
     }
-    let (name, rest) = got!(copied_name(after));
+    let (name, rest) = copied_name(after)?;
     Ok((Some(Over::Named(name)), rest))
 }
 
@@ -514,7 +496,7 @@ pub fn window_inside(
     if depth == 0 {
         return Err(ParseFault::Syntax);
     }
-    let (window, rest) = got!(window(alloc, depth - 1, tokens));
+    let (window, rest) = window(alloc, depth - 1, tokens)?;
     match symbol(rest, Symbol::CloseParenthesis) {
         None => {
             drop(window);
@@ -528,8 +510,8 @@ pub fn window_inside(
 fn window(alloc: Global, depth: u32, tokens: &[Token]) -> Result<(Window, &[Token]), ParseFault>
     ensures { Answers (window (condition depth)) frame_class (meanings tokens.now) (outcome (λ x. view_window x.0) (λ x. x.1.now) result) }
 {
-    let (copied, rest) = got!(optional_name(tokens));
-    let (partition, rest) = got!(partition(alloc, depth, rest), copied);
+    let (copied, rest) = optional_name(tokens)?;
+    let (partition, rest) = partition(alloc, depth, rest)?;
     let (order, rest) = got!(order(alloc, depth, rest), copied, partition);
     let Some((frame, rest)) = optional_frame(rest) else {
         drop(copied);
@@ -579,23 +561,14 @@ pub fn order(
 fn keys(alloc: Global, depth: u32, tokens: &[Token]) -> Result<(Vec<Key>, &[Token]), ParseFault>
     ensures { Answers (Listed (key (condition depth))) list_class (meanings tokens.now) (outcome (λ x. view_keys x.0.items) (λ x. x.1.now) result) }
 {
-    let mut items = Vec::new(alloc);
-    let mut left = tokens;
-    'keys: loop {
-        let (item, rest) = got!(key(alloc, depth, left), items);
-        got!(push(&mut items, item), items);
-        match behind_comma(rest) {
-            None => return Ok((items, rest)),
-            Some(after) => left = after,
-        }
-    }
+    comma_list!(alloc, tokens, left => key(alloc, depth, left))
 }
 
 #[cycle(parser)]
 fn key(alloc: Global, depth: u32, tokens: &[Token]) -> Result<(Key, &[Token]), ParseFault>
     ensures { Answers (key (condition depth)) nulls_class (meanings tokens.now) (outcome (λ x. view_key x.0) (λ x. x.1.now) result) }
 {
-    let (e, rest) = got!(chain(alloc, ChainKind::Disjunction, depth, tokens));
+    let (e, rest) = chain(alloc, ChainKind::Disjunction, depth, tokens)?;
     let (descending, rest) = descending(rest);
     let Some((nulls, rest)) = nulls_placed(rest) else {
         drop(e);

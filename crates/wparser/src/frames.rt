@@ -32,26 +32,22 @@ pub fn optional_not(tokens: &[Token]) -> (bool, &[Token])
 pub fn copied_name(tokens: &[Token]) -> Result<(RcStr, &[Token]), ParseFault>
     ensures { Answers (One name_of) any_class (meanings tokens.now) (outcome (λ x. rc_str_bytes x.0) (λ x. x.1.now) result) }
 {
-    match name(tokens) {
-        None => Err(ParseFault::Syntax),
-        Some((name, rest)) => match name.clone() {
-            Err(_) => Err(ParseFault::NoMemory),
-            Ok(name) => Ok((name, rest)),
-        },
-    }
+    let Some((name, rest)) = name(tokens) else {
+        return Err(ParseFault::Syntax);
+    };
+    let name = name.clone()?;
+    Ok((name, rest))
 }
 
 /// A name, if one comes first.
 pub fn optional_name(tokens: &[Token]) -> Result<(Option<RcStr>, &[Token]), ParseFault>
     ensures { Answers optional_name name_class (meanings tokens.now) (outcome (λ x. name_bytes x.0) (λ x. x.1.now) result) }
 {
-    match name(tokens) {
-        None => Ok((None, tokens)),
-        Some((name, rest)) => match name.clone() {
-            Err(_) => Err(ParseFault::NoMemory),
-            Ok(name) => Ok((Some(name), rest)),
-        },
-    }
+    let Some((name, rest)) = name(tokens) else {
+        return Ok((None, tokens));
+    };
+    let name = name.clone()?;
+    Ok((Some(name), rest))
 }
 
 /// Whether DESC comes first; ASC and nothing are the same.
@@ -71,10 +67,8 @@ pub fn nulls_placed(tokens: &[Token]) -> Option<(Option<NullOrder>, &[Token])>
     let Some(after) = keyword(tokens, Keyword::Nulls) else {
         return Some((None, tokens));
     };
-    match null_order(after) {
-        None => None,
-        Some((nulls, rest)) => Some((Some(nulls), rest)),
-    }
+    let (nulls, rest) = null_order(after)?;
+    Some((Some(nulls), rest))
 }
 
 /// A frame, if a mode comes first. It refuses what only begins as one.
@@ -139,10 +133,8 @@ fn bound(tokens: &[Token]) -> Option<(FrameBound, &[Token])>
     if let Some(rest) = keyword_pair(tokens, Keyword::Current, Keyword::Row) {
         return Some((FrameBound::CurrentRow, rest));
     }
-    match number(tokens) {
-        None => None,
-        Some((n, after)) => { toward(after, FrameBound::Preceding(*n), FrameBound::Following(*n)) }
-    }
+    let (n, after) = number(tokens)?;
+    toward(after, FrameBound::Preceding(*n), FrameBound::Following(*n))
 }
 
 fn toward(tokens: &[Token], back: FrameBound, ahead: FrameBound) -> Option<(FrameBound, &[Token])>
@@ -151,10 +143,8 @@ fn toward(tokens: &[Token], back: FrameBound, ahead: FrameBound) -> Option<(Fram
     if let Some(rest) = keyword(tokens, Keyword::Preceding) {
         return Some((back, rest));
     }
-    match keyword(tokens, Keyword::Following) {
-        None => None,
-        Some(rest) => Some((ahead, rest)),
-    }
+    let rest = keyword(tokens, Keyword::Following)?;
+    Some((ahead, rest))
 }
 
 fn optional_exclusion(tokens: &[Token]) -> Option<(Option<FrameExclusion>, &[Token])>
@@ -163,10 +153,8 @@ fn optional_exclusion(tokens: &[Token]) -> Option<(Option<FrameExclusion>, &[Tok
     let Some(after) = keyword(tokens, Keyword::Exclude) else {
         return Some((None, tokens));
     };
-    match exclusion(after) {
-        None => None,
-        Some((exclusion, rest)) => Some((Some(exclusion), rest)),
-    }
+    let (exclusion, rest) = exclusion(after)?;
+    Some((Some(exclusion), rest))
 }
 
 fn exclusion(tokens: &[Token]) -> Option<(FrameExclusion, &[Token])>
@@ -181,8 +169,6 @@ fn exclusion(tokens: &[Token]) -> Option<(FrameExclusion, &[Token])>
     if let Some(rest) = keyword(tokens, Keyword::Ties) {
         return Some((FrameExclusion::Ties, rest));
     }
-    match keyword_pair(tokens, Keyword::No, Keyword::Others) {
-        None => None,
-        Some(rest) => Some((FrameExclusion::NoOthers, rest)),
-    }
+    let rest = keyword_pair(tokens, Keyword::No, Keyword::Others)?;
+    Some((FrameExclusion::NoOthers, rest))
 }

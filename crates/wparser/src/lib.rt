@@ -10,19 +10,36 @@
 //! Read `specs/Notation.antt`, `specs/Grammar.antt` and `specs/Queries.antt`, then `specs/Finding.antt`.
 #![tactic(auto)]
 
-/// What was read and what follows it; a fault is handed on, and what is held is let go before. It stands for `?`, which
-/// no proof covers yet where a value that owns memory stands beside a reference. To let go by a call keeps a function's
-/// proof small, however much its values hold.
+/// What was read and what follows it; a fault is handed on, and what is held is let go before. It stands for `?` where
+/// expressions, lists or queries are held: a call lets go of each in one step of a function's proof, and the end of a
+/// scope part by part.
 macro_rules! got {
-    ($outcome:expr $(, $held:ident)*) => {
+    ($outcome:expr, $($held:ident),+) => {
         match $outcome {
             Ok(read) => read,
             Err(fault) => {
-                $(drop($held);)*
+                $(drop($held);)+
                 return Err(fault);
             }
         }
     };
+}
+
+/// One element at least, with commas between them, each read from what is left by then. Functions that call one another
+/// are proved together, so a list that is read by one of them has this loop in a function of its own.
+macro_rules! comma_list {
+    ($alloc:expr, $tokens:expr, $left:ident => $element:expr) => {{
+        let mut elements = Vec::new($alloc);
+        let mut $left = $tokens;
+        'elements: loop {
+            let (element, rest) = got!($element, elements);
+            got!(push(&mut elements, element), elements);
+            match behind_comma(rest) {
+                None => return Ok((elements, rest)),
+                Some(after) => $left = after,
+            }
+        }
+    }};
 }
 
 mod expressions;

@@ -45,14 +45,5 @@ pub fn elements<E: Element>(
 ) -> Result<(Vec<E>, &[Token]), ParseFault>
     ensures { Answers (Listed (E.spelling depth)) list_class (meanings tokens.now) (outcome (λ x. map E.said x.0.items) (λ x. x.1.now) result) }
 {
-    let mut elements = Vec::new(alloc);
-    let mut left = tokens;
-    'elements: loop {
-        let (element, rest) = got!(E::read(alloc, depth, left), elements);
-        got!(push(&mut elements, element), elements);
-        match behind_comma(rest) {
-            None => return Ok((elements, rest)),
-            Some(after) => left = after,
-        }
-    }
+    comma_list!(alloc, tokens, left => E::read(alloc, depth, left))
 }

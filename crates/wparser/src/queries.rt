@@ -35,13 +35,11 @@ fn required_alias(tokens: &[Token]) -> Result<(RcStr, &[Token]), ParseFault>
 fn optional_alias(tokens: &[Token]) -> Result<(Option<RcStr>, &[Token]), ParseFault>
     ensures { Answers optional_alias name_class (meanings tokens.now) (outcome (λ x. name_bytes x.0) (λ x. x.1.now) result) }
 {
-    match keyword(tokens, Keyword::As) {
-        None => optional_name(tokens),
-        Some(after) => {
-            let (name, rest) = got!(copied_name(after));
-            Ok((Some(name), rest))
-        }
-    }
+    let Some(after) = keyword(tokens, Keyword::As) else {
+        return optional_name(tokens);
+    };
+    let (name, rest) = copied_name(after)?;
+    Ok((Some(name), rest))
 }
 
 impl Element for Item {
@@ -55,7 +53,7 @@ impl Element for Item {
         if let Some(rest) = symbol(tokens, Symbol::Asterisk) {
             return Ok((Item::All, rest));
         }
-        let (expression, rest) = got!(chain(alloc, ChainKind::Disjunction, depth, tokens));
+        let (expression, rest) = chain(alloc, ChainKind::Disjunction, depth, tokens)?;
         let (alias, rest) = got!(optional_alias(rest), expression);
         Ok((build::item(expression, alias), rest))
     }
@@ -74,7 +72,7 @@ fn clause(
     let Some(after) = keyword(tokens, word) else {
         return Ok((None, tokens));
     };
-    let (e, rest) = got!(chain(alloc, ChainKind::Disjunction, depth, after));
+    let (e, rest) = chain(alloc, ChainKind::Disjunction, depth, after)?;
     Ok((Some(e), rest))
 }
 
@@ -90,13 +88,16 @@ impl Element for Column {
         _depth: u32,
         tokens: &[Token],
     ) -> Result<(Column, &[Token]), ParseFault> {
-        let (name, rest) = got!(copied_name(tokens));
+        let (first, rest) = copied_name(tokens)?;
         let Some(after) = symbol(rest, Symbol::Dot) else {
-            let qualifier = None;
-            return Ok((Column { qualifier, name }, rest));
+            let column = Column {
+                qualifier: None,
+                name: first,
+            };
+            return Ok((column, rest));
         };
-        let qualifier = Some(name);
-        let (name, rest) = got!(copied_name(after), qualifier);
+        let qualifier = Some(first);
+        let (name, rest) = copied_name(after)?;
         Ok((Column { qualifier, name }, rest))
     }
 }
@@ -125,7 +126,7 @@ impl Element for WindowEntry {
         depth: u32,
         tokens: &[Token],
     ) -> Result<(WindowEntry, &[Token]), ParseFault> {
-        let (name, rest) = got!(copied_name(tokens));
+        let (name, rest) = copied_name(tokens)?;
         let Some(after) = keyword(rest, Keyword::As) else {
             drop(name);
             return Err(ParseFault::Syntax);
@@ -134,7 +135,7 @@ impl Element for WindowEntry {
             drop(name);
             return Err(ParseFault::Syntax);
         };
-        let (window, rest) = got!(window_inside(alloc, depth, after), name);
+        let (window, rest) = window_inside(alloc, depth, after)?;
         Ok((WindowEntry { name, window }, rest))
     }
 }
@@ -159,10 +160,8 @@ fn count(word: Keyword, tokens: &[Token]) -> Option<(Option<Number>, &[Token])>
     let Some(after) = keyword(tokens, word) else {
         return Some((None, tokens));
     };
-    match number(after) {
-        None => None,
-        Some((n, rest)) => Some((Some(*n), rest)),
-    }
+    let (n, rest) = number(after)?;
+    Some((Some(*n), rest))
 }
 
 /// A number, and then what OFFSET says, behind LIMIT.
@@ -289,7 +288,7 @@ pub fn query(alloc: Global, depth: u32, tokens: &[Token]) -> Result<(Query, &[To
     let Some(after) = keyword(tokens, Keyword::Select) else {
         return Err(ParseFault::Syntax);
     };
-    let (items, rest) = got!(elements(alloc, depth, after));
+    let (items, rest) = elements(alloc, depth, after)?;
     let Some(after) = keyword(rest, Keyword::From) else {
         drop(items);
         return Err(ParseFault::Syntax);
@@ -305,8 +304,8 @@ fn source(alloc: Global, depth: u32, tokens: &[Token]) -> Result<(Source, &[Toke
     if let Some(after) = symbol(tokens, Symbol::OpenParenthesis) {
         return derived(alloc, depth, after);
     }
-    let (table, rest) = got!(copied_name(tokens));
-    let (alias, rest) = got!(optional_alias(rest), table);
+    let (table, rest) = copied_name(tokens)?;
+    let (alias, rest) = optional_alias(rest)?;
     Ok((build::table(table, alias), rest))
 }
 
@@ -317,7 +316,7 @@ fn derived(alloc: Global, depth: u32, tokens: &[Token]) -> Result<(Source, &[Tok
     if depth == 0 {
         return Err(ParseFault::Syntax);
     }
-    let (query, rest) = got!(query(alloc, depth - 1, tokens));
+    let (query, rest) = query(alloc, depth - 1, tokens)?;
     let Some(after) = symbol(rest, Symbol::CloseParenthesis) else {
         drop(query);
         return Err(ParseFault::Syntax);
@@ -352,7 +351,7 @@ fn optional_semicolon(tokens: &[Token]) -> (bool, &[Token])
 fn text(alloc: Global, tokens: &[Token]) -> Result<(Query, &[Token]), ParseFault>
     ensures { Answers text text_class (meanings tokens.now) (outcome (λ x. view_query x.0) (λ x. x.1.now) result) }
 {
-    let (query, rest) = got!(whole_query(alloc, tokens));
+    let (query, rest) = whole_query(alloc, tokens)?;
     Ok((query, optional_semicolon(rest).1))
 }
 
@@ -366,7 +365,7 @@ pub fn parse(alloc: Global, tokens: &[Token]) -> Result<Query, ParseFault>
     // Only what spells no query is refused.
     ensures refused { result ≡ Err Syntax → (query : QueryTree) → Spells query (meanings tokens.now) → ⊥ }
 {
-    let (query, rest) = got!(text(alloc, tokens));
+    let (query, rest) = text(alloc, tokens)?;
     match rest {
         [] => Ok(query),
         _ => {

@@ -15,19 +15,15 @@ use wquery::{ChainKind, Comparison, FrameMode, NullOrder, Operator};
 fn front(tokens: &[Token]) -> Option<(&Lexeme, &[Token])>
     ensures { MatchOption result (meanings tokens.now ≡ []) (λ x. meanings tokens.now ≡ lexeme_meaning x.0.now ∷ meanings x.1.now) }
 {
-    match tokens.split_first() {
-        None => None,
-        Some((token, rest)) => Some((&token.lexeme, rest)),
-    }
+    let (token, rest) = tokens.split_first()?;
+    Some((&token.lexeme, rest))
 }
 
 /// What follows this keyword, where it comes first.
 pub fn keyword(tokens: &[Token], wanted: Keyword) -> Option<&[Token]>
     ensures { MatchOption result ((ts : Tokens) → meanings tokens.now ≢ KeywordToken wanted ∷ ts) (λ x. meanings tokens.now ≡ KeywordToken wanted ∷ meanings x.now) }
 {
-    let Some((lexeme, rest)) = front(tokens) else {
-        return None;
-    };
+    let (lexeme, rest) = front(tokens)?;
     if is_keyword(lexeme, wanted) {
         Some(rest)
     } else {
@@ -39,10 +35,8 @@ pub fn keyword(tokens: &[Token], wanted: Keyword) -> Option<&[Token]>
 pub fn keyword_pair(tokens: &[Token], one: Keyword, other: Keyword) -> Option<&[Token]>
     ensures { MatchOption result ((ts : Tokens) → meanings tokens.now ≢ KeywordToken one ∷ KeywordToken other ∷ ts) (λ x. meanings tokens.now ≡ KeywordToken one ∷ KeywordToken other ∷ meanings x.now) }
 {
-    match keyword(tokens, one) {
-        None => None,
-        Some(after) => keyword(after, other),
-    }
+    let after = keyword(tokens, one)?;
+    keyword(after, other)
 }
 
 fn is_keyword(lexeme: &Lexeme, wanted: Keyword) -> bool
@@ -59,9 +53,7 @@ fn is_keyword(lexeme: &Lexeme, wanted: Keyword) -> bool
 pub fn symbol(tokens: &[Token], wanted: Symbol) -> Option<&[Token]>
     ensures { MatchOption result ((ts : Tokens) → meanings tokens.now ≢ SymbolToken wanted ∷ ts) (λ x. meanings tokens.now ≡ SymbolToken wanted ∷ meanings x.now) }
 {
-    let Some((lexeme, rest)) = front(tokens) else {
-        return None;
-    };
+    let (lexeme, rest) = front(tokens)?;
     if is_symbol(lexeme, wanted) {
         Some(rest)
     } else {
@@ -90,12 +82,10 @@ fn is_symbol(lexeme: &Lexeme, wanted: Symbol) -> bool
 pub fn name(tokens: &[Token]) -> Option<(&RcStr, &[Token])>
     ensures { MatchOption result (Never (One name_of) (meanings tokens.now)) (λ x. One name_of (rc_str_bytes x.0.now) (meanings tokens.now) (meanings x.1.now)) }
 {
-    match front(tokens) {
-        None => None,
-        Some((lexeme, rest)) => match lexeme {
-            Lexeme::Name(name) => Some((name, rest)),
-            _ => None,
-        },
+    let (lexeme, rest) = front(tokens)?;
+    match lexeme {
+        Lexeme::Name(name) => Some((name, rest)),
+        _ => None,
     }
 }
 
@@ -103,12 +93,10 @@ pub fn name(tokens: &[Token]) -> Option<(&RcStr, &[Token])>
 pub fn text(tokens: &[Token]) -> Option<(&RcStr, &[Token])>
     ensures { MatchOption result (Never (One text_of) (meanings tokens.now)) (λ x. One text_of (rc_str_bytes x.0.now) (meanings tokens.now) (meanings x.1.now)) }
 {
-    match front(tokens) {
-        None => None,
-        Some((lexeme, rest)) => match lexeme {
-            Lexeme::Text(text) => Some((text, rest)),
-            _ => None,
-        },
+    let (lexeme, rest) = front(tokens)?;
+    match lexeme {
+        Lexeme::Text(text) => Some((text, rest)),
+        _ => None,
     }
 }
 
@@ -116,12 +104,10 @@ pub fn text(tokens: &[Token]) -> Option<(&RcStr, &[Token])>
 pub fn number(tokens: &[Token]) -> Option<(&Number, &[Token])>
     ensures { MatchOption result (Never (One number_of) (meanings tokens.now)) (λ x. One number_of (x.0.now) (meanings tokens.now) (meanings x.1.now)) }
 {
-    match front(tokens) {
-        None => None,
-        Some((lexeme, rest)) => match lexeme {
-            Lexeme::Number(n) => Some((n, rest)),
-            _ => None,
-        },
+    let (lexeme, rest) = front(tokens)?;
+    match lexeme {
+        Lexeme::Number(n) => Some((n, rest)),
+        _ => None,
     }
 }
 
@@ -148,13 +134,9 @@ fn operator_of(kind: ChainKind, lexeme: &Lexeme) -> Option<Operator>
 pub fn operator(kind: ChainKind, tokens: &[Token]) -> Option<(Operator, &[Token])>
     ensures { MatchOption result (Never (One (operator_of kind)) (meanings tokens.now)) (λ x. One (operator_of kind) (x.0) (meanings tokens.now) (meanings x.1.now)) }
 {
-    match front(tokens) {
-        None => None,
-        Some((lexeme, rest)) => match operator_of(kind, lexeme) {
-            None => None,
-            Some(operator) => Some((operator, rest)),
-        },
-    }
+    let (lexeme, rest) = front(tokens)?;
+    let operator = operator_of(kind, lexeme)?;
+    Some((operator, rest))
 }
 
 fn comparison_of(lexeme: &Lexeme) -> Option<Comparison>
@@ -178,13 +160,9 @@ fn comparison_of(lexeme: &Lexeme) -> Option<Comparison>
 pub fn comparison_operator(tokens: &[Token]) -> Option<(Comparison, &[Token])>
     ensures { MatchOption result (Never (One comparison_of) (meanings tokens.now)) (λ x. One comparison_of (x.0) (meanings tokens.now) (meanings x.1.now)) }
 {
-    match front(tokens) {
-        None => None,
-        Some((lexeme, rest)) => match comparison_of(lexeme) {
-            None => None,
-            Some(comparison) => Some((comparison, rest)),
-        },
-    }
+    let (lexeme, rest) = front(tokens)?;
+    let comparison = comparison_of(lexeme)?;
+    Some((comparison, rest))
 }
 
 fn sign_of(lexeme: &Lexeme) -> Option<bool>
@@ -201,13 +179,9 @@ fn sign_of(lexeme: &Lexeme) -> Option<bool>
 pub fn leading_sign(tokens: &[Token]) -> Option<(bool, &[Token])>
     ensures { MatchOption result (Never (One sign_of) (meanings tokens.now)) (λ x. One sign_of (x.0) (meanings tokens.now) (meanings x.1.now)) }
 {
-    match front(tokens) {
-        None => None,
-        Some((lexeme, rest)) => match sign_of(lexeme) {
-            None => None,
-            Some(minus) => Some((minus, rest)),
-        },
-    }
+    let (lexeme, rest) = front(tokens)?;
+    let minus = sign_of(lexeme)?;
+    Some((minus, rest))
 }
 
 fn direction_of(lexeme: &Lexeme) -> Option<bool>
@@ -224,13 +198,9 @@ fn direction_of(lexeme: &Lexeme) -> Option<bool>
 pub fn direction(tokens: &[Token]) -> Option<(bool, &[Token])>
     ensures { MatchOption result (Never (One direction_of) (meanings tokens.now)) (λ x. One direction_of (x.0) (meanings tokens.now) (meanings x.1.now)) }
 {
-    match front(tokens) {
-        None => None,
-        Some((lexeme, rest)) => match direction_of(lexeme) {
-            None => None,
-            Some(descends) => Some((descends, rest)),
-        },
-    }
+    let (lexeme, rest) = front(tokens)?;
+    let descends = direction_of(lexeme)?;
+    Some((descends, rest))
 }
 
 fn null_order_of(lexeme: &Lexeme) -> Option<NullOrder>
@@ -247,13 +217,9 @@ fn null_order_of(lexeme: &Lexeme) -> Option<NullOrder>
 pub fn null_order(tokens: &[Token]) -> Option<(NullOrder, &[Token])>
     ensures { MatchOption result (Never (One null_order_of) (meanings tokens.now)) (λ x. One null_order_of (x.0) (meanings tokens.now) (meanings x.1.now)) }
 {
-    match front(tokens) {
-        None => None,
-        Some((lexeme, rest)) => match null_order_of(lexeme) {
-            None => None,
-            Some(nulls) => Some((nulls, rest)),
-        },
-    }
+    let (lexeme, rest) = front(tokens)?;
+    let nulls = null_order_of(lexeme)?;
+    Some((nulls, rest))
 }
 
 fn mode_of(lexeme: &Lexeme) -> Option<FrameMode>
@@ -271,11 +237,7 @@ fn mode_of(lexeme: &Lexeme) -> Option<FrameMode>
 pub fn mode(tokens: &[Token]) -> Option<(FrameMode, &[Token])>
     ensures { MatchOption result (Never (One mode_of) (meanings tokens.now)) (λ x. One mode_of (x.0) (meanings tokens.now) (meanings x.1.now)) }
 {
-    match front(tokens) {
-        None => None,
-        Some((lexeme, rest)) => match mode_of(lexeme) {
-            None => None,
-            Some(mode) => Some((mode, rest)),
-        },
-    }
+    let (lexeme, rest) = front(tokens)?;
+    let mode = mode_of(lexeme)?;
+    Some((mode, rest))
 }

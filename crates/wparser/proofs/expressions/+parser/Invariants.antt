@@ -33,17 +33,17 @@ invariant-goes_on-chain l = Going l.kind (operand l.depth l.kind) (meanings l.to
 abbrev pub decreases-goes_on-chain : goal.decreases-goes_on-chain
 decreases-goes_on-chain l = length l.rest
 
-abbrev pub invariant-list-list : goal.invariant-list-list
-invariant-list-list l = Listing (chain l.depth l.kind) (meanings l.tokens) (views l.items.items) (meanings l.left)
+abbrev pub invariant-list-elements : goal.invariant-list-elements
+invariant-list-elements l = Listing (chain l.depth l.kind) (meanings l.tokens) (views l.elements.items) (meanings l.left)
 
-abbrev pub decreases-list-list : goal.decreases-list-list
-decreases-list-list l = length l.left
+abbrev pub decreases-list-elements : goal.decreases-list-elements
+decreases-list-elements l = length l.left
 
-abbrev pub invariant-keys-keys : goal.invariant-keys-keys
-invariant-keys-keys l = Listing (key (condition l.depth)) (meanings l.tokens) (view_keys l.items.items) (meanings l.left)
+abbrev pub invariant-keys-elements : goal.invariant-keys-elements
+invariant-keys-elements l = Listing (key (condition l.depth)) (meanings l.tokens) (view_keys l.elements.items) (meanings l.left)
 
-abbrev pub decreases-keys-keys : goal.decreases-keys-keys
-decreases-keys-keys l = length l.left
+abbrev pub decreases-keys-elements : goal.decreases-keys-elements
+decreases-keys-elements l = length l.left
 
 abbrev pub decreases-window : goal.decreases-window
 decreases-window l = 64 * l.depth + 60

@@ -6,4 +6,4 @@ use Rattle.wparser.proofs.Steps.{one_here}
 use Rattle.wparser.proofs.tokens.name.Goals as goal
 
 pub returns-in-Name : goal.returns-in-Name
-returns-in-Name c = one_here c.in-Some.ensures (ap (λ (l : Lexeme). name_of (lexeme_meaning l)) c.in-Name.is)
+returns-in-Name c = one_here c.in_ok-lexeme.ensures (ap (λ (l : Lexeme). name_of (lexeme_meaning l)) c.in-Name.is)

@@ -6,4 +6,4 @@ use Rattle.wparser.proofs.Steps.{one_here}
 use Rattle.wparser.proofs.tokens.number.Goals as goal
 
 pub returns-in-Number : goal.returns-in-Number
-returns-in-Number c = one_here c.in-Some.ensures (ap (λ (l : Lexeme). number_of (lexeme_meaning l)) c.in-Number.is)
+returns-in-Number c = one_here c.in_ok-lexeme.ensures (ap (λ (l : Lexeme). number_of (lexeme_meaning l)) c.in-Number.is)

@@ -6,4 +6,4 @@ use Rattle.wparser.proofs.Steps.{one_here}
 use Rattle.wparser.proofs.tokens.text.Goals as goal
 
 pub returns-in-Text : goal.returns-in-Text
-returns-in-Text c = one_here c.in-Some.ensures (ap (λ (l : Lexeme). text_of (lexeme_meaning l)) c.in-Text.is)
+returns-in-Text c = one_here c.in_ok-lexeme.ensures (ap (λ (l : Lexeme). text_of (lexeme_meaning l)) c.in-Text.is)
