@@ -1,5 +1,5 @@
 -- How words, refusals, lists and answers are spelled.
-use Rattle.std.specs.Prelude.{ℕ, List, [], ◌∷◌, ◌++◌, codes, length}
+use Rattle.std.specs.Prelude.{ℕ, Bool, true, false, List, [], ◌∷◌, ◌++◌, codes, length}
 use Rattle.std.specs.Fmt.{decimal}
 use Rattle.std.specs.List.{flat_map}
 use Rattle.wvalues.specs.declared.name.NameFault.{NameFault}
@@ -85,6 +85,12 @@ query_text (queries.Broken rule) = at_number (codes "refused Q") rule
 query_text queries.OutOfRange = codes "refused Q40\n"
 query_text queries.TooManyRows = codes "refused Q41\n"
 query_text queries.NoMemory = no_memory
+
+-- a fault of a query that is told with a number
+abbrev pub has_number : AskFault → Bool
+has_number (queries.At place) = true
+has_number (queries.Broken rule) = true
+has_number _ = false
 
 -- how a name stands, and its rows where it is live
 abbrev pub status_text : Status → ℕ → List ℕ

@@ -1,6 +1,6 @@
 //! Refusals of segments, exchange files and queries.
-ghost use Rattle.std.specs.Prelude.{◌≡◌, ◌++◌, IfOk, OnErr, OnOk};
-ghost use Rattle.wreplies.specs.Spelling.{at_number, file_text, query_text, segment_text, segment_words};
+ghost use Rattle.std.specs.Prelude.{◌≡◌, ◌≢◌, ◌++◌, IfOk, OnErr, OnOk, true};
+ghost use Rattle.wreplies.specs.Spelling.{at_number, file_text, has_number, query_text, segment_text, segment_words};
 ghost use Rattle.wreplies.specs.Texts.{bytes_of};
 
 use crate::text::{Text, push_at};
@@ -46,9 +46,10 @@ fn refused_with(alloc: Global, words: &[u8], fault: SegmentFault) -> Result<Text
     Ok(Text::Made(text))
 }
 
-/// The refusal of a segment. `AllocError`: a growth was refused.
+/// The refusal of a segment. `AllocError`: a growth was refused, which want of memory itself does not ask for.
 pub fn refused_segment(alloc: Global, fault: SegmentFault) -> Result<Text, AllocError>
-    ensures { IfOk result (λ text. bytes_of text ≡ segment_text fault) }
+    ensures text { IfOk result (λ text. bytes_of text ≡ segment_text fault) }
+    ensures lacks { OnErr result (fault ≢ SegmentFault.NoMemory) }
 {
     match fault {
         SegmentFault::NoMemory => Ok(Text::Fixed(b"no memory\n")),
@@ -73,9 +74,10 @@ pub fn refused_file(alloc: Global, fault: FileFault) -> Result<Text, AllocError>
     }
 }
 
-/// The refusal of a query. `AllocError`: a growth was refused.
+/// The refusal of a query. `AllocError`: a growth was refused, which a refusal with a number alone asks for.
 pub fn refused_query(alloc: Global, fault: AskFault) -> Result<Text, AllocError>
-    ensures { IfOk result (λ text. bytes_of text ≡ query_text fault) }
+    ensures text { IfOk result (λ text. bytes_of text ≡ query_text fault) }
+    ensures lacks { OnErr result (has_number fault ≡ true) }
 {
     match fault {
         AskFault::TooLong => Ok(Text::Fixed(b"refused Q1\n")),

@@ -16,7 +16,7 @@ use Rattle.wset.specs.Words.{taken_word, retired_word}
 use Rattle.wset.specs.declared.words.Taken.{Taken}
 use Rattle.wset.specs.declared.words.Retired.{Retired}
 use Rattle.wset.specs.declared.words.Listed.{Listed}
-use Rattle.wstore.specs.Commands.{Command, Take, Retire as Retiring, Listing, Ask, Put, Get, node_count, slot_count}
+use Rattle.wstore.specs.Commands.{Command, Take, Retire as Retiring, Listing, Ask, Put, Get, longest_segment, longest_text, node_count, slot_count}
 use Rattle.wstore.specs.Replies.{Reply, text_of, Took, Was, RefusedSegment, Names, Answered, RefusedQuery, Done, RefusedFile, NoMemory}
 use Rattle.wreplies.specs.Spelling.{file_text, taken_text, retired_text, segment_text, names_text, answer_text, query_text}
 use Rattle.wstore.specs.History.{Step, Answers, NodeAnswers, file_if, declaration, declared_by, segment_reply, delivers, gets, puts, heard, drawn, held, is_put, known, slot_file}
@@ -81,7 +81,7 @@ module _ (d : Declaration) (at : Places) (h : List Step) (n p : ℕ) (node : Nod
         stand = learns c r (SegmentItem name bytes) new (sound_segment d name bytes named.is_name (subst (λ s. IsOk (rows_of s bytes)) here_schema read)) refl new_is (λ m. refl) (λ m. refl) (λ k. refl) (λ m. refl);
       }
 
-  pub refused_at : (origin number bytes : List ℕ) (name : NameParts) (fault : SegmentFault) (text : List ℕ) → length bytes ≤ 67108864 → SpellsName origin number name → Fails fault (rows_of node.schema bytes) → text ≡ segment_text fault → AnswersAs d at h (Take n origin number bytes) text
+  pub refused_at : (origin number bytes : List ℕ) (name : NameParts) (fault : SegmentFault) (text : List ℕ) → length bytes ≤ longest_segment → SpellsName origin number name → Fails fault (rows_of node.schema bytes) → text ≡ segment_text fault → AnswersAs d at h (Take n origin number bytes) text
   refused_at origin number bytes name fault text short named fails text_is =
       let c = Take n origin number bytes in
       elim fails [
@@ -112,7 +112,7 @@ module _ (d : Declaration) (at : Places) (h : List Step) (n p : ℕ) (node : Nod
       quietly (Ask n query) (Answered bytes) text (under d h (Ask n query) (Answered bytes) stand.declared (here (Ask n query) (Answered bytes) (Ok bytes, answer_is, refl))) text_is refl
       (record { delivers_none = λ m. refl; gets_none = λ m. refl; puts_none = λ k. refl; hears_none = λ m. refl })
 
-  pub unanswered_at : (query text : List ℕ) (fault : AskFault) → length query ≤ 65536 → (fault ≡ queries.NoMemory) ⊎ IsAnswer node.schema node.view query (Err fault) → text ≡ query_text fault → AnswersAs d at h (Ask n query) text
+  pub unanswered_at : (query text : List ℕ) (fault : AskFault) → length query ≤ longest_text → (fault ≡ queries.NoMemory) ⊎ IsAnswer node.schema node.view query (Err fault) → text ≡ query_text fault → AnswersAs d at h (Ask n query) text
   unanswered_at query text fault short fails text_is = elim fails [
     | inl e ↦ quietly (Ask n query) NoMemory text (inr (short, refl)) (text_is ∙ ap query_text e) refl (record { delivers_none = λ m. refl; gets_none = λ m. refl; puts_none = λ k. refl; hears_none = λ m. refl })
     | inr e ↦ quietly (Ask n query) (RefusedQuery fault) text

@@ -5,7 +5,7 @@ use Rattle.std.specs.Io.KnownBytes.{Consumes}
 use Rattle.wvalues.specs.Names.{NameParts}
 use Rattle.wvalues.specs.declared.name.NameFault.{NameFault}
 use Rattle.wlines.specs.Reads.{HasNoBody}
-use Rattle.wstore.specs.Commands.{IsShortDeclaration}
+use Rattle.wstore.specs.Commands.{IsShortDeclaration, longest_segment, longest_text}
 use Rattle.wstore.specs.Requests.{BehindReads, FoundBehind, IsBadBehind, IsCommandOf, KeepsBody, body_length, follows_declaration}
 use Rattle.wstore.specs.declared.header.Header.{Header}
 use Rattle.wstore.specs.declared.header.Header.TheVariants as headers
@@ -36,34 +36,34 @@ always (Some xs) P f = f xs
 
 module _ (old new : Option (List ℕ)) where
   pub declaration_kept : (len : ℕ) (kept : Vec ℕ Global) → FoundBehind (headers.Declare len) (Some (found.Kept kept)) old new → BehindReads (requests.Whole (commands.Declare kept)) (headers.Declare len) false old new
-  declaration_kept len kept h = declared_behind (IsCommandOf (commands.Declare kept)) old new len kept.items (refl, short len 65536 _ h.0 h.1) h.2 (sized len _ h.0)
+  declaration_kept len kept h = declared_behind (IsCommandOf (commands.Declare kept)) old new len kept.items (refl, short len longest_text _ h.0 h.1) h.2 (sized len _ h.0)
 
   pub declaration_dropped : (len : ℕ) → FoundBehind (headers.Declare len) (Some found.Dropped) old new → BehindReads (requests.Whole (commands.Refused refusals.LongDeclaration)) (headers.Declare len) false old new
-  declaration_dropped len h = declared_behind (IsCommandOf (commands.Refused refusals.LongDeclaration)) old new len h.bytes (long len 65536 _ h.passed.0 h.passed.1) h.passed.2 (sized len _ h.passed.0)
+  declaration_dropped len h = declared_behind (IsCommandOf (commands.Refused refusals.LongDeclaration)) old new len h.bytes (long len longest_text _ h.passed.0 h.passed.1) h.passed.2 (sized len _ h.passed.0)
 
   pub declaration_lacking : (len : ℕ) → FoundBehind (headers.Declare len) (Some found.NoMemory) old new → BehindReads requests.NoRoom (headers.Declare len) false old new
-  declaration_lacking len h = declared_behind IsShortDeclaration old new len h.bytes (short len 65536 _ h.passed.0 h.passed.1) h.passed.2 (sized len _ h.passed.0)
+  declaration_lacking len h = declared_behind IsShortDeclaration old new len h.bytes (short len longest_text _ h.passed.0 h.passed.1) h.passed.2 (sized len _ h.passed.0)
 
   pub segment_kept : (node : ℕ) (name : NameParts) (len : ℕ) (kept : Vec ℕ Global) → FoundBehind (headers.Take node (Ok name) len) (Some (found.Kept kept)) old new → BehindReads (requests.Whole (commands.At node (orders.Take name kept))) (headers.Take node (Ok name) len) true old new
-  segment_kept node name len kept h = segment_behind (IsCommandOf (commands.At node (orders.Take name kept))) old new node (Ok name) len kept.items (λ o m named. (refl, named, refl, short len 67108864 _ h.0 h.1)) h.2 (sized len _ h.0)
+  segment_kept node name len kept h = segment_behind (IsCommandOf (commands.At node (orders.Take name kept))) old new node (Ok name) len kept.items (λ o m named. (refl, named, refl, short len longest_segment _ h.0 h.1)) h.2 (sized len _ h.0)
 
   pub segment_dropped : (node : ℕ) (name : NameParts) (len : ℕ) → FoundBehind (headers.Take node (Ok name) len) (Some found.Dropped) old new → BehindReads (requests.Whole (commands.Refused refusals.LongSegment)) (headers.Take node (Ok name) len) true old new
-  segment_dropped node name len h = segment_behind (IsCommandOf (commands.Refused refusals.LongSegment)) old new node (Ok name) len h.bytes (λ o m named. (name, named, long len 67108864 _ h.passed.0 h.passed.1)) h.passed.2 (sized len _ h.passed.0)
+  segment_dropped node name len h = segment_behind (IsCommandOf (commands.Refused refusals.LongSegment)) old new node (Ok name) len h.bytes (λ o m named. (name, named, long len longest_segment _ h.passed.0 h.passed.1)) h.passed.2 (sized len _ h.passed.0)
 
   pub segment_lacking : (node : ℕ) (name : NameParts) (len : ℕ) → FoundBehind (headers.Take node (Ok name) len) (Some found.NoMemory) old new → BehindReads requests.NoMemory (headers.Take node (Ok name) len) true old new
-  segment_lacking node name len h = segment_behind KeepsBody old new node (Ok name) len h.bytes (λ o m named. ((name, named), short len 67108864 _ h.passed.0 h.passed.1)) h.passed.2 (sized len _ h.passed.0)
+  segment_lacking node name len h = segment_behind KeepsBody old new node (Ok name) len h.bytes (λ o m named. ((name, named), short len longest_segment _ h.passed.0 h.passed.1)) h.passed.2 (sized len _ h.passed.0)
 
   pub nameless_dropped : (node : ℕ) (fault : NameFault) (len : ℕ) → FoundBehind (headers.Take node (Err fault) len) (Some found.Dropped) old new → BehindReads (requests.Whole (commands.Refused (refusals.BadName fault))) (headers.Take node (Err fault) len) true old new
   nameless_dropped node fault len h = segment_behind (IsCommandOf (commands.Refused (refusals.BadName fault))) old new node (Err fault) len h.bytes (λ o m named. named) h.passed.2 (sized len _ h.passed.0)
 
   pub query_kept : (node len : ℕ) (kept : Vec ℕ Global) → FoundBehind (headers.Ask node len) (Some (found.Kept kept)) old new → BehindReads (requests.Whole (commands.At node (orders.Ask kept))) (headers.Ask node len) true old new
-  query_kept node len kept h = query_behind (IsCommandOf (commands.At node (orders.Ask kept))) old new node len kept.items (refl, refl, short len 65536 _ h.0 h.1) h.2 (sized len _ h.0)
+  query_kept node len kept h = query_behind (IsCommandOf (commands.At node (orders.Ask kept))) old new node len kept.items (refl, refl, short len longest_text _ h.0 h.1) h.2 (sized len _ h.0)
 
   pub query_dropped : (node len : ℕ) → FoundBehind (headers.Ask node len) (Some found.Dropped) old new → BehindReads (requests.Whole (commands.Refused refusals.LongQuery)) (headers.Ask node len) true old new
-  query_dropped node len h = query_behind (IsCommandOf (commands.Refused refusals.LongQuery)) old new node len h.bytes (long len 65536 _ h.passed.0 h.passed.1) h.passed.2 (sized len _ h.passed.0)
+  query_dropped node len h = query_behind (IsCommandOf (commands.Refused refusals.LongQuery)) old new node len h.bytes (long len longest_text _ h.passed.0 h.passed.1) h.passed.2 (sized len _ h.passed.0)
 
   pub query_lacking : (node len : ℕ) → FoundBehind (headers.Ask node len) (Some found.NoMemory) old new → BehindReads requests.NoMemory (headers.Ask node len) true old new
-  query_lacking node len h = query_behind KeepsBody old new node len h.bytes (short len 65536 _ h.passed.0 h.passed.1) h.passed.2 (sized len _ h.passed.0)
+  query_lacking node len h = query_behind KeepsBody old new node len h.bytes (short len longest_text _ h.passed.0 h.passed.1) h.passed.2 (sized len _ h.passed.0)
 
   pub piece_kept : (node len : ℕ) (kept : Vec ℕ Global) → FoundBehind (headers.Feed node len) (Some (found.Kept kept)) old new → BehindReads (requests.Whole (commands.Feed node kept)) (headers.Feed node len) true old new
   piece_kept node len kept h = piece_behind (IsCommandOf (commands.Feed node kept)) old new node len kept.items (refl, refl) h.2 (sized len _ h.0)

@@ -5,7 +5,7 @@ use Rattle.std.specs.Io.KnownBytes.{Consumes}
 use Rattle.std.proofs.KnownBytes.{Consumes-trans}
 use Rattle.wlines.specs.Words.{Lacks}
 use Rattle.wlines.specs.Reads.{HasNoLine}
-use Rattle.wstore.specs.Commands.{Form, DeclareForm, TakeForm, RetireForm, ListForm, AskForm, FeedForm, PutForm, GetForm, IsForm, IsNode, IsSlot, Command, IsMalformed, IsShortDeclaration, line_of, form_of, behind, spell}
+use Rattle.wstore.specs.Commands.{Form, DeclareForm, TakeForm, RetireForm, ListForm, AskForm, FeedForm, PutForm, GetForm, IsForm, IsNode, IsSlot, Command, IsMalformed, IsShortDeclaration, line_of, form_of, behind, longest_line, spell}
 use Rattle.wstore.specs.Headers.{IsHeaderOf}
 use Rattle.wstore.specs.Requests.{IsCommandOf, IsBadBehind, KeepsBody, Behind, BehindReads, ReadsCommand, RequestReads}
 use Rattle.wstore.specs.declared.header.Header.{Header}
@@ -56,7 +56,7 @@ cut_once c (x ∷ xs) (y ∷ ys) b b' l l' e =
 -- ---- whole commands
 
 -- a whole command, from its line and what stands behind it
-pub whole_command : (d : Bool) (P : Command → Type 0) (old mid new : Option (List ℕ)) (line : List ℕ) (h : Header) (f : Form) → IsHeaderOf h f → IsForm f → line ≡ line_of f → length line ≤ 200 → Consumes old mid (line ++ 10 ∷ []) → Behind h d P mid new → ReadsCommand d P old new
+pub whole_command : (d : Bool) (P : Command → Type 0) (old mid new : Option (List ℕ)) (line : List ℕ) (h : Header) (f : Form) → IsHeaderOf h f → IsForm f → line ≡ line_of f → length line ≤ longest_line → Consumes old mid (line ++ 10 ∷ []) → Behind h d P mid new → ReadsCommand d P old new
 whole_command d P old mid new line h f is form line_is short k b =
     let found = b f is in
     let c = found.0 in
@@ -64,7 +64,7 @@ whole_command d P old mid new line h f is form line_is short k b =
     let spelled : (line ++ 10 ∷ []) ++ behind c ≡ spell c = append_assoc line (10 ∷ []) (behind c) ∙ ap (λ l. l ++ (10 ∷ behind c)) line_of_c in (
       c,
       found.2,
-      record { form = subst IsForm (sym found.1) form; short = subst (λ l. length l ≤ 200) line_of_c short; allowed = found.3 },
+      record { form = subst IsForm (sym found.1) form; short = subst (λ l. length l ≤ longest_line) line_of_c short; allowed = found.3 },
       subst (Consumes old new) spelled (Consumes-trans old mid new (line ++ 10 ∷ []) (behind c) k found.4),
     )
 
@@ -116,7 +116,7 @@ bad_behind d old mid line h k lacks only bad =
     })
 
 -- what was read behind a header, and so with its line
-pub request_reads : (r : Request) (d : Bool) (old mid new : Option (List ℕ)) (line : List ℕ) (h : Header) (f : Form) → IsHeaderOf h f → IsForm f → line ≡ line_of f → length line ≤ 200 → Lacks 10 line → Consumes old mid (line ++ 10 ∷ []) → ((f : Form) → IsForm f → line ≡ line_of f → IsHeaderOf h f) → BehindReads r h d mid new → RequestReads r d old new
+pub request_reads : (r : Request) (d : Bool) (old mid new : Option (List ℕ)) (line : List ℕ) (h : Header) (f : Form) → IsHeaderOf h f → IsForm f → line ≡ line_of f → length line ≤ longest_line → Lacks 10 line → Consumes old mid (line ++ 10 ∷ []) → ((f : Form) → IsForm f → line ≡ line_of f → IsHeaderOf h f) → BehindReads r h d mid new → RequestReads r d old new
 request_reads (requests.Whole command) d old mid new line h f is form line_is short lacks k only b = whole_command d (IsCommandOf command) old mid new line h f is form line_is short k b
 request_reads requests.NoMemory d old mid new line h f is form line_is short lacks k only b = whole_command d KeepsBody old mid new line h f is form line_is short k b
 request_reads requests.NoRoom d old mid new line h f is form line_is short lacks k only b = whole_command d IsShortDeclaration old mid new line h f is form line_is short k b

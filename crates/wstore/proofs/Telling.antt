@@ -14,7 +14,7 @@ use Rattle.std.specs.List.{flat_map, AllByRecursion}
 use Rattle.wexchange.specs.Messages.{IsMessage, message_text}
 use Rattle.wset.specs.Items.{view_of}
 use Rattle.wstore.specs.Nodes.{NodeState, fresh_node}
-use Rattle.wstore.specs.Commands.{Command, Declare, Take, Retire, Listing, Ask, Feed, Put, Get, IsAllowed, node_count, slot_count}
+use Rattle.wstore.specs.Commands.{Command, Declare, Take, Retire, Listing, Ask, Feed, Put, Get, IsAllowed, longest_segment, node_count, slot_count}
 use Rattle.wstore.specs.Replies.{Reply, Declared, RefusedTable, RefusedName, RefusedSegment, RefusedQuery, NoMemory, text_of}
 use Rattle.wreplies.specs.Spelling.{table_text, name_text, segment_text, query_text, no_memory}
 use Rattle.wstore.specs.Requests.{IsRefusedAs, refusal_text}
@@ -186,9 +186,9 @@ bad_name session h (Get s m) fault named allowed stands = absurd named
 less : (a b : ℕ) → a < b → nat_lt a b ≡ true
 less a b h = grind (arith, nat_tests)
 
-too_long : (d : Declaration) (bytes : List ℕ) → 67108864 < length bytes → rows_of d bytes ≡ Err segments.TooLong
+too_long : (d : Declaration) (bytes : List ℕ) → longest_segment < length bytes → rows_of d bytes ≡ Err segments.TooLong
 unfolding rows_of
-too_long d bytes h = rw (less 67108864 (length bytes) h) refl
+too_long d bytes h = rw (less longest_segment (length bytes) h) refl
 
 pub long_segment : (session : Session) (h : List Step) (c : Command) → IsRefusedAs refusals.LongSegment c → IsAllowed (is_declared h) c → Stands session h → Tells session h c (segment_text segments.TooLong)
 long_segment session h (Declare bytes) long allowed stands = absurd long

@@ -1,6 +1,5 @@
 -- The bytes that a number's word lacks.
-use Rattle.std.proofs.Common.{◌≡◌, ℕ, ◌^◌, ◌<◌, List, [], ◌∷◌, ◌++◌, take, drop, sym, ap, ◌∙◌, subst, arith, nat_eq, true, take-append-drop}
-use Rattle.std.specs.Cmp.Lexicographic.{pointwise, bytes_decides}
+use Rattle.std.proofs.Common.{ℕ, ◌^◌, ◌<◌, List, [], ◌∷◌, subst, arith}
 use Rattle.std.specs.Fmt.{decimal}
 use Rattle.std.specs.Int.{IsInRange}
 use Rattle.std.specs.Str.Parse.{AllDigits, digits_value}
@@ -23,7 +22,3 @@ no_space n h = decimal_lacks 32 n (λ r. omega (arith, r)) (omega arith)
 
 pub no_feed : (n : ℕ) → n < 2 ^ 32 → Lacks 10 (decimal n)
 no_feed n h = decimal_lacks 10 n (λ r. omega (arith, r)) (omega arith)
-
--- a text that begins with two bytes
-pub two_first : (a b : ℕ) (xs rest : List ℕ) → pointwise nat_eq (take 2 xs) (a ∷ b ∷ []) ≡ true → rest ≡ drop 2 xs → xs ≡ a ∷ b ∷ rest
-two_first a b xs rest e r = sym (take-append-drop 2 xs) ∙ ap (λ l. l ++ drop 2 xs) ((bytes_decides (take 2 xs) (a ∷ b ∷ [])).0 e) ∙ ap (λ l. a ∷ b ∷ l) (sym r)

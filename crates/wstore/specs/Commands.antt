@@ -11,6 +11,22 @@ node_count = 16
 abbrev pub slot_count : ℕ
 slot_count = 16
 
+-- how many bytes a header line has at most
+abbrev pub longest_line : ℕ
+longest_line = 200
+
+-- a declaration, and the text of a query
+abbrev pub longest_text : ℕ
+longest_text = 65536
+
+-- a segment
+abbrev pub longest_segment : ℕ
+longest_segment = 67108864
+
+-- a piece of a delivery stream
+abbrev pub longest_piece : ℕ
+longest_piece = 67108864
+
 pub data Command : Type 0 where
   -- the bytes of a table's declaration
   Declare : List ℕ → Command
@@ -74,9 +90,9 @@ pub record IsSlot (slot : ℕ) : Type 0 where
 pub record IsLength (len : ℕ) : Type 0 where
   pub fits : len < 2 ^ 32
 
--- a piece has 67,108,864 bytes at most
+-- the length of a piece is within its limit
 pub record IsPieceLength (len : ℕ) : Type 0 where
-  pub fits : len ≤ 67108864
+  pub fits : len ≤ longest_piece
 
 abbrev pub IsForm : Form → Type 0
 IsForm (DeclareForm len) = IsLength len
@@ -123,10 +139,10 @@ IsAllowed declared (Feed node piece) = declared ≡ true
 IsAllowed declared (Put node slot) = declared ≡ true
 IsAllowed declared (Get slot node) = declared ≡ true
 
--- a command that may stand next, its header line at most 200 bytes long
+-- a command that may stand next, its header line within its limit
 pub record IsCommand (declared : Bool) (c : Command) : Type 0 where
   pub form : IsForm (form_of c)
-  pub short : length (line_of (form_of c)) ≤ 200
+  pub short : length (line_of (form_of c)) ≤ longest_line
   pub allowed : IsAllowed declared c
 
 -- the bytes are not at their end, and do not begin with a command
@@ -136,7 +152,7 @@ pub record IsMalformed (declared : Bool) (bytes : List ℕ) : Type 0 where
 
 -- a declaration within its limit
 abbrev pub IsShortDeclaration : Command → Type 0
-IsShortDeclaration (Declare bytes) = length bytes ≤ 65536
+IsShortDeclaration (Declare bytes) = length bytes ≤ longest_text
 IsShortDeclaration (Take node origin number bytes) = ⊥
 IsShortDeclaration (Retire node origin number) = ⊥
 IsShortDeclaration (Listing node) = ⊥

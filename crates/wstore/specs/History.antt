@@ -20,7 +20,7 @@ use Rattle.wexchange.specs.Judging.{Judges}
 use Rattle.wexchange.specs.Messages.{IsMessage, IsOpen, IsBad, Splits, message_text}
 use Rattle.wexchange.specs.declared.fault.FileFault.{FileFault}
 use Rattle.wexchange.specs.declared.fault.FileFault.TheVariants as files
-use Rattle.wstore.specs.Commands.{Command, Declare, Take, Retire, Listing, Ask, Feed, Put, Get}
+use Rattle.wstore.specs.Commands.{Command, Declare, Take, Retire, Listing, Ask, Feed, Put, Get, longest_segment, longest_text}
 use Rattle.wstore.specs.Replies.{Reply, Line, TookLine, WasLine, RefusedLine, SpentLine, line_item, line_items, Fed, Declared, RefusedTable, Took, Was, RefusedName, RefusedSegment, Names, Answered, RefusedQuery, Done, RefusedFile, NoMemory}
 use Rattle.wask.specs.Asking.{IsAnswer}
 use Rattle.wplanner.specs.declared.fault.AskFault.{AskFault}
@@ -240,10 +240,10 @@ AreName origin number = (name : NameParts) × ReadsName origin number (Ok name)
 -- the commands that may find no memory; any other is answered without it: a declaration, a name that is none, a body over its limit, and a slot that was not put
 abbrev pub MayLackMemory : List Step → Command → Type 0
 MayLackMemory h (Declare bytes) = ⊥
-MayLackMemory h (Take n origin number bytes) = AreName origin number × (length bytes ≤ 67108864)
+MayLackMemory h (Take n origin number bytes) = AreName origin number × (length bytes ≤ longest_segment)
 MayLackMemory h (Retire n origin number) = AreName origin number
 MayLackMemory h (Listing n) = ⊤
-MayLackMemory h (Ask n text) = length text ≤ 65536
+MayLackMemory h (Ask n text) = length text ≤ longest_text
 MayLackMemory h (Feed n piece) = ⊤
 MayLackMemory h (Put n slot) = ⊤
 MayLackMemory h (Get slot n) = is_put h slot ≡ true

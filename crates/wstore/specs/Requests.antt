@@ -8,7 +8,7 @@ use Rattle.wsegment.specs.declared.schema_fault.SchemaFault.TheVariants as table
 use Rattle.wsegment.specs.declared.fault.SegmentFault.TheVariants as segments
 use Rattle.wplanner.specs.declared.fault.AskFault.TheVariants as queries
 use Rattle.wreplies.specs.Spelling.{name_text, query_text, segment_text, table_text}
-use Rattle.wstore.specs.Commands.{Form, Command, Declare, Take, Retire, Listing, Ask, Feed, Put, Get, IsAllowed, IsCommand, IsShortDeclaration, IsMalformed, form_of, behind, spell}
+use Rattle.wstore.specs.Commands.{Form, Command, Declare, Take, Retire, Listing, Ask, Feed, Put, Get, IsAllowed, IsCommand, IsShortDeclaration, IsMalformed, form_of, behind, longest_segment, longest_text, spell}
 use Rattle.wstore.specs.Headers.{IsHeaderOf}
 use Rattle.wstore.specs.History.{AreName}
 use Rattle.wstore.specs.declared.header.Header.{Header}
@@ -26,11 +26,11 @@ use Rattle.wstore.specs.declared.request.Request.TheVariants as requests
 
 -- the form of the command is why it is refused: its body is too long, or its words spell no name
 abbrev pub IsRefusedAs : Refusal → Command → Type 0
-IsRefusedAs refusals.LongDeclaration (Declare bytes) = 65536 < length bytes
+IsRefusedAs refusals.LongDeclaration (Declare bytes) = longest_text < length bytes
 IsRefusedAs (refusals.BadName fault) (Take node origin number bytes) = ReadsName origin number (Err fault)
 IsRefusedAs (refusals.BadName fault) (Retire node origin number) = ReadsName origin number (Err fault)
-IsRefusedAs refusals.LongSegment (Take node origin number bytes) = (name : NameParts) × ReadsName origin number (Ok name) × (67108864 < length bytes)
-IsRefusedAs refusals.LongQuery (Ask node text) = 65536 < length text
+IsRefusedAs refusals.LongSegment (Take node origin number bytes) = (name : NameParts) × ReadsName origin number (Ok name) × (longest_segment < length bytes)
+IsRefusedAs refusals.LongQuery (Ask node text) = longest_text < length text
 IsRefusedAs _ _ = ⊥
 
 -- what is told of a command that its form refuses
@@ -42,10 +42,10 @@ refusal_text refusals.LongQuery = query_text queries.TooLong
 
 -- a node is told, asked, put or gets this; its body is within its limit
 abbrev pub IsOrderAt : ℕ → Order → Command → Type 0
-IsOrderAt n (orders.Take name kept) (Take node origin number bytes) = (node ≡ n) × ReadsName origin number (Ok name) × (bytes ≡ kept.items) × (length bytes ≤ 67108864)
+IsOrderAt n (orders.Take name kept) (Take node origin number bytes) = (node ≡ n) × ReadsName origin number (Ok name) × (bytes ≡ kept.items) × (length bytes ≤ longest_segment)
 IsOrderAt n (orders.Retire name) (Retire node origin number) = (node ≡ n) × ReadsName origin number (Ok name)
 IsOrderAt n orders.List (Listing node) = node ≡ n
-IsOrderAt n (orders.Ask kept) (Ask node text) = (node ≡ n) × (text ≡ kept.items) × (length text ≤ 65536)
+IsOrderAt n (orders.Ask kept) (Ask node text) = (node ≡ n) × (text ≡ kept.items) × (length text ≤ longest_text)
 IsOrderAt n (orders.Put k) (Put node slot) = (node ≡ n) × (slot ≡ k)
 IsOrderAt n (orders.Get k) (Get slot node) = (slot ≡ k) × (node ≡ n)
 IsOrderAt _ _ _ = ⊥
@@ -57,7 +57,7 @@ IsFeedOf n bytes c = ⊥
 
 -- the code's command is this one
 abbrev pub IsCommandOf : code.Command → Command → Type 0
-IsCommandOf (commands.Declare kept) (Declare bytes) = (bytes ≡ kept.items) × (length bytes ≤ 65536)
+IsCommandOf (commands.Declare kept) (Declare bytes) = (bytes ≡ kept.items) × (length bytes ≤ longest_text)
 IsCommandOf (commands.Refused refusal) c = IsRefusedAs refusal c
 IsCommandOf (commands.At n order) c = IsOrderAt n order c
 IsCommandOf (commands.Feed n kept) c = IsFeedOf n kept.items c
@@ -78,9 +78,9 @@ body_length _ = None
 
 -- the body is kept: it is within its limit, and the words of its name are one
 abbrev pub keeps_body : Header → Bool
-keeps_body (headers.Declare len) = nat_le len 65536
-keeps_body (headers.Take node (Ok name) len) = nat_le len 67108864
-keeps_body (headers.Ask node len) = nat_le len 65536
+keeps_body (headers.Declare len) = nat_le len longest_text
+keeps_body (headers.Take node (Ok name) len) = nat_le len longest_segment
+keeps_body (headers.Ask node len) = nat_le len longest_text
 keeps_body (headers.Feed node len) = true
 keeps_body _ = false
 
@@ -112,10 +112,10 @@ Behind header declared P old new = (f : Form) → IsHeaderOf header f → (c : C
 -- the body of the command, which is no declaration, is kept: it is within its limit, and the words of its name are one
 abbrev pub KeepsBody : Command → Type 0
 KeepsBody (Declare bytes) = ⊥
-KeepsBody (Take node origin number bytes) = AreName origin number × (length bytes ≤ 67108864)
+KeepsBody (Take node origin number bytes) = AreName origin number × (length bytes ≤ longest_segment)
 KeepsBody (Retire node origin number) = ⊥
 KeepsBody (Listing node) = ⊥
-KeepsBody (Ask node text) = length text ≤ 65536
+KeepsBody (Ask node text) = length text ≤ longest_text
 KeepsBody (Feed node piece) = ⊤
 KeepsBody (Put node slot) = ⊥
 KeepsBody (Get slot node) = ⊥

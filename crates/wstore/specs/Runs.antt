@@ -2,7 +2,7 @@
 use Rattle.std.specs.Prelude.{◌≡◌, ℕ, ◌≤◌, List, [], ◌∷◌, ◌++◌, length, take, Some, ◌⊎◌}
 use Rattle.std.specs.List.{flat_map}
 use Rattle.wsegment.specs.Declaration.{Declaration}
-use Rattle.wstore.specs.Commands.{Command, Declare, Feed, IsCommand, IsMalformed, spell}
+use Rattle.wstore.specs.Commands.{Command, Declare, Feed, IsCommand, IsMalformed, longest_text, spell}
 use Rattle.wstore.specs.Replies.{Reply, Line, line_text, text_of, bad_script}
 use Rattle.wstore.specs.History.{Step, Answers, FeedBegins, declaration, is_declared}
 use Rattle.wstore.specs.declared.runs.End.{End}
@@ -50,7 +50,7 @@ pub data Begins (h : List Step) (rest : List ℕ) : List ℕ → Type 0 where
 -- the rest begins with a declaration within its limit, which may stand there
 pub record IsDeclaring (h : List Step) (rest : List ℕ) : Type 0 where
   pub bytes : List ℕ
-  pub fits : length bytes ≤ 65536
+  pub fits : length bytes ≤ longest_text
   pub more : List ℕ
   pub command : IsCommand (is_declared h) (Declare bytes)
   pub rest_is : rest ≡ spell (Declare bytes) ++ more

@@ -4,7 +4,7 @@ ghost use Rattle.wlines.specs.Pending.{IsSoundWriter};
 ghost use Rattle.std.specs.FinMap as map;
 ghost use Rattle.wsegment.specs.Declaration.{Declaration};
 ghost use Rattle.wvalues.specs.NameReading.{ReadsName};
-ghost use Rattle.wstore.specs.Commands.{Command as Spelled, Take, Retire as Retiring, Listing, Ask, Put, Get, node_count, slot_count};
+ghost use Rattle.wstore.specs.Commands.{Command as Spelled, Take, Retire as Retiring, Listing, Ask, Put, Get, longest_segment, longest_text, node_count, slot_count};
 ghost use Rattle.wstore.specs.History.{Step, declaration, is_put};
 ghost use Rattle.wstore.specs.Nodes.{fresh_node};
 
@@ -82,7 +82,7 @@ impl Cluster {
         name: Name,
         bytes: &[u8],
     ) -> Result<Text, AllocError>
-        ensures answers { IfOk result (λ text. (d : Declaration) (h : List Step) (origin number : List ℕ) → length bytes.now ≤ 67108864 → ReadsName origin number (Ok name) → StandAt d (places self.old.nodes.items self.old.slots.items) h → AnswersAs d (places self.new.nodes.items self.new.slots.items) h (Take node origin number bytes.now) (bytes_of text)) }
+        ensures answers { IfOk result (λ text. (d : Declaration) (h : List Step) (origin number : List ℕ) → length bytes.now ≤ longest_segment → ReadsName origin number (Ok name) → StandAt d (places self.old.nodes.items self.old.slots.items) h → AnswersAs d (places self.new.nodes.items self.new.slots.items) h (Take node origin number bytes.now) (bytes_of text)) }
         ensures err { OnErr result (self.new.nodes.items ≡ self.old.nodes.items) }
         ensures err_slots { OnErr result (self.new.slots.items ≡ self.old.slots.items) }
     {
@@ -119,7 +119,7 @@ impl Cluster {
 
     /// Asks a node.
     pub(crate) fn ask(&self, node: NodeNumber, text: &[u8]) -> Result<Text, AllocError>
-        ensures { IfOk result (λ reply. (d : Declaration) (h : List Step) → length text.now ≤ 65536 → StandAt d (places self.now.nodes.items self.now.slots.items) h → AnswersAs d (places self.now.nodes.items self.now.slots.items) h (Ask node text.now) (bytes_of reply)) }
+        ensures { IfOk result (λ reply. (d : Declaration) (h : List Step) → length text.now ≤ longest_text → StandAt d (places self.now.nodes.items self.now.slots.items) h → AnswersAs d (places self.now.nodes.items self.now.slots.items) h (Ask node text.now) (bytes_of reply)) }
     {
         let place = node.place();
         match self.nodes[place].ask(text) {

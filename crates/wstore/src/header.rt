@@ -1,9 +1,8 @@
 //! Header lines of commands.
-ghost use Rattle.std.specs.Prelude.{◌≡◌, ℕ, ◌<◌, ◌≤◌, List, [], ◌∷◌, ◌++◌, IfSome, IsSome, IsSomeAnd, decimal, Some, ◌↔◌};
-ghost use Rattle.wlines.specs.Words.{Lacks, IsWord};
-ghost use Rattle.wvalues.specs.NameReading.{ReadsName};
-ghost use Rattle.wstore.specs.Commands.{Form, DeclareForm, TakeForm, RetireForm, ListForm, AskForm, FeedForm, PutForm, GetForm, IsForm, IsNode, IsSlot, IsLength, IsPieceLength, line_of, take_words, retire_words, pair_words};
-ghost use Rattle.wstore.specs.Headers.{IsHeaderOf};
+ghost use Rattle.std.specs.Prelude.{◌≡◌, ℕ, ◌^◌, ◌<◌, List, ◌∷◌, ◌++◌, IfSome, IsSomeAnd, decimal, Some};
+ghost use Rattle.wlines.specs.Words.{IsWord};
+ghost use Rattle.wstore.specs.Commands.{AskForm, DeclareForm, FeedForm, Form, GetForm, IsForm, ListForm, PutForm, RetireForm, TakeForm, line_of, pair_words, retire_words, take_words};
+ghost use Rattle.wstore.specs.Headers.{IsHeaderOf, IsNumberRead, IsPairRead};
 ghost use Rattle.wstore.specs.Requests.{body_length as length_of_body, follows_declaration as is_behind_declaration, keeps_body as is_body_kept};
 
 use crate::numbers::{NodeNumber, SlotNumber};
@@ -71,85 +70,32 @@ impl Header {
     }
 }
 
-// The node that a word names.
-fn node_word(word: &[u8]) -> Option<NodeNumber>
-    ensures found { IfSome result (λ n. (word.now ≡ decimal n) × IsNode n) }
-    ensures only { (n : ℕ) → IsNode n → word.now ≡ decimal n → result ≡ Some n }
-{
-    match number_word(word) {
-        Some(number) => NodeNumber::new(number),
-        None => None,
-    }
-}
-
-// The slot that a word names.
-fn slot_word(word: &[u8]) -> Option<SlotNumber>
-    ensures found { IfSome result (λ n. (word.now ≡ decimal n) × IsSlot n) }
-    ensures only { (n : ℕ) → IsSlot n → word.now ≡ decimal n → result ≡ Some n }
-{
-    match number_word(word) {
-        Some(number) => SlotNumber::new(number),
-        None => None,
-    }
-}
-
-// The length that a word tells.
-fn length_word(word: &[u8]) -> Option<u32>
-    ensures found { IfSome result (λ n. (word.now ≡ decimal n) × IsLength n) }
-    ensures only { (n : ℕ) → IsLength n → word.now ≡ decimal n → result ≡ Some n }
-{
-    number_word(word)
-}
-
-// The length, if a piece may have it.
-fn piece_length(len: u32) -> Option<u32>
-    ensures found { IsSome result ↔ IsPieceLength len }
-    ensures value { IfSome result (λ n. n ≡ len) }
-{
-    if len <= LONGEST_PIECE {
-        Some(len)
-    } else {
-        None
-    }
-}
-
-// The length of a piece that a word tells.
-fn piece_word(word: &[u8]) -> Option<u32>
-    ensures found { IfSome result (λ n. (word.now ≡ decimal n) × IsPieceLength n) }
-    ensures only { (n : ℕ) → IsPieceLength n → word.now ≡ decimal n → result ≡ Some n }
-{
-    match number_word(word) {
-        Some(number) => piece_length(number),
-        None => None,
-    }
-}
-
-// The node in front, and the words behind it.
-fn split_node(words: &[u8]) -> Option<(NodeNumber, &[u8])>
-    ensures found { IfSome result (λ parts. IsNode parts.0 × (words.now ≡ decimal parts.0 ++ (32 ∷ parts.1.now))) }
-    ensures only { (n : ℕ) (rest : List ℕ) → IsNode n → words.now ≡ decimal n ++ (32 ∷ rest) → IsSomeAnd result (λ parts. (parts.0 ≡ n) × (parts.1.now ≡ rest)) }
+// The number in front, and the words behind it.
+fn split_number(words: &[u8]) -> Option<(u32, &[u8])>
+    ensures found { IfSome result (λ parts. words.now ≡ decimal parts.0 ++ (32 ∷ parts.1.now)) }
+    ensures only { (number : ℕ) (rest : List ℕ) → number < 2 ^ 32 → words.now ≡ decimal number ++ (32 ∷ rest) → IsSomeAnd result (λ parts. (parts.0 ≡ number) × (parts.1.now ≡ rest)) }
 {
     let Some((first, rest)) = split_word(words) else {
         return None;
     };
-    let Some(node) = node_word(first) else {
+    let Some(number) = number_word(first) else {
         return None;
     };
-    Some((node, rest))
+    Some((number, rest))
 }
 
-// The slot in front, and the words behind it.
-fn split_slot(words: &[u8]) -> Option<(SlotNumber, &[u8])>
-    ensures found { IfSome result (λ parts. IsSlot parts.0 × (words.now ≡ decimal parts.0 ++ (32 ∷ parts.1.now))) }
-    ensures only { (n : ℕ) (rest : List ℕ) → IsSlot n → words.now ≡ decimal n ++ (32 ∷ rest) → IsSomeAnd result (λ parts. (parts.0 ≡ n) × (parts.1.now ≡ rest)) }
+// Two numbers.
+fn two_numbers(words: &[u8]) -> Option<(u32, u32)>
+    ensures found { IfSome result (λ pair. words.now ≡ pair_words pair.0 pair.1) }
+    ensures only { (first second : ℕ) → first < 2 ^ 32 → second < 2 ^ 32 → words.now ≡ pair_words first second → result ≡ Some (first, second) }
 {
-    let Some((first, rest)) = split_word(words) else {
+    let Some((first, last)) = split_number(words) else {
         return None;
     };
-    let Some(slot) = slot_word(first) else {
+    let Some(second) = number_word(last) else {
         return None;
     };
-    Some((slot, rest))
+    Some((first, second))
 }
 
 // The word in front, and the words behind it.
@@ -166,12 +112,48 @@ fn split_any(words: &[u8]) -> Option<(&[u8], &[u8])>
     Some((first, rest))
 }
 
+// The words behind `T`.
+fn declare_header(words: &[u8]) -> Option<Header>
+    ensures { IsNumberRead DeclareForm words.now result }
+{
+    let Some(len) = number_word(words) else {
+        return None;
+    };
+    Some(Header::Declare(len))
+}
+
+// The words behind `S`.
+fn take_header(words: &[u8]) -> Option<Header>
+    ensures found { IfSome result (λ h. (node : ℕ) × (origin : List ℕ) × (number : List ℕ) × (len : ℕ) × IsForm (TakeForm node origin number len) × IsHeaderOf h (TakeForm node origin number len) × (words.now ≡ take_words node origin number len)) }
+    ensures only { (node : ℕ) (origin number : List ℕ) (len : ℕ) → IsForm (TakeForm node origin number len) → words.now ≡ take_words node origin number len → IsSomeAnd result (λ h. IsHeaderOf h (TakeForm node origin number len)) }
+{
+    let Some((first, rest)) = split_number(words) else {
+        return None;
+    };
+    let Some(node) = NodeNumber::new(first) else {
+        return None;
+    };
+    let Some((origin, rest)) = split_any(rest) else {
+        return None;
+    };
+    let Some((number, last)) = split_any(rest) else {
+        return None;
+    };
+    let Some(len) = number_word(last) else {
+        return None;
+    };
+    Some(Header::Take(node, Name::read(origin, number), len))
+}
+
 // The words behind `R`.
 fn retire_header(words: &[u8]) -> Option<Header>
     ensures found { IfSome result (λ h. (node : ℕ) × (origin : List ℕ) × (number : List ℕ) × IsForm (RetireForm node origin number) × IsHeaderOf h (RetireForm node origin number) × (words.now ≡ retire_words node origin number)) }
     ensures only { (node : ℕ) (origin number : List ℕ) → IsForm (RetireForm node origin number) → words.now ≡ retire_words node origin number → IsSomeAnd result (λ h. IsHeaderOf h (RetireForm node origin number)) }
 {
-    let Some((node, rest)) = split_node(words) else {
+    let Some((first, rest)) = split_number(words) else {
+        return None;
+    };
+    let Some(node) = NodeNumber::new(first) else {
         return None;
     };
     let Some((origin, number)) = split_any(rest) else {
@@ -183,35 +165,27 @@ fn retire_header(words: &[u8]) -> Option<Header>
     Some(Header::Retire(node, Name::read(origin, number)))
 }
 
-// The words behind `S`.
-fn take_header(words: &[u8]) -> Option<Header>
-    ensures found { IfSome result (λ h. (node : ℕ) × (origin : List ℕ) × (number : List ℕ) × (len : ℕ) × IsForm (TakeForm node origin number len) × IsHeaderOf h (TakeForm node origin number len) × (words.now ≡ take_words node origin number len)) }
-    ensures only { (node : ℕ) (origin number : List ℕ) (len : ℕ) → IsForm (TakeForm node origin number len) → words.now ≡ take_words node origin number len → IsSomeAnd result (λ h. IsHeaderOf h (TakeForm node origin number len)) }
+// The words behind `L`.
+fn list_header(words: &[u8]) -> Option<Header>
+    ensures { IsNumberRead ListForm words.now result }
 {
-    let Some((node, rest)) = split_node(words) else {
+    let Some(number) = number_word(words) else {
         return None;
     };
-    let Some((origin, rest)) = split_any(rest) else {
+    let Some(node) = NodeNumber::new(number) else {
         return None;
     };
-    let Some((number, last)) = split_any(rest) else {
-        return None;
-    };
-    let Some(len) = length_word(last) else {
-        return None;
-    };
-    Some(Header::Take(node, Name::read(origin, number), len))
+    Some(Header::List(node))
 }
 
 // The words behind `Q`.
 fn ask_header(words: &[u8]) -> Option<Header>
-    ensures found { IfSome result (λ h. (node : ℕ) × (len : ℕ) × IsForm (AskForm node len) × IsHeaderOf h (AskForm node len) × (words.now ≡ pair_words node len)) }
-    ensures only { (node len : ℕ) → IsForm (AskForm node len) → words.now ≡ pair_words node len → IsSomeAnd result (λ h. IsHeaderOf h (AskForm node len)) }
+    ensures { IsPairRead AskForm words.now result }
 {
-    let Some((node, last)) = split_node(words) else {
+    let Some((first, len)) = two_numbers(words) else {
         return None;
     };
-    let Some(len) = length_word(last) else {
+    let Some(node) = NodeNumber::new(first) else {
         return None;
     };
     Some(Header::Ask(node, len))
@@ -219,49 +193,31 @@ fn ask_header(words: &[u8]) -> Option<Header>
 
 // The words behind `F`.
 fn feed_header(words: &[u8]) -> Option<Header>
-    ensures found { IfSome result (λ h. (node : ℕ) × (len : ℕ) × IsForm (FeedForm node len) × IsHeaderOf h (FeedForm node len) × (words.now ≡ pair_words node len)) }
-    ensures only { (node len : ℕ) → IsForm (FeedForm node len) → words.now ≡ pair_words node len → IsSomeAnd result (λ h. IsHeaderOf h (FeedForm node len)) }
+    ensures { IsPairRead FeedForm words.now result }
 {
-    let Some((node, last)) = split_node(words) else {
+    let Some((first, len)) = two_numbers(words) else {
         return None;
     };
-    let Some(len) = piece_word(last) else {
+    let Some(node) = NodeNumber::new(first) else {
         return None;
     };
+    if len > LONGEST_PIECE {
+        return None;
+    }
     Some(Header::Feed(node, len))
-}
-
-// The words behind `T`.
-fn declare_header(words: &[u8]) -> Option<Header>
-    ensures found { IfSome result (λ h. (len : ℕ) × IsForm (DeclareForm len) × IsHeaderOf h (DeclareForm len) × (words.now ≡ decimal len)) }
-    ensures only { (len : ℕ) → IsForm (DeclareForm len) → words.now ≡ decimal len → IsSomeAnd result (λ h. IsHeaderOf h (DeclareForm len)) }
-{
-    let Some(len) = length_word(words) else {
-        return None;
-    };
-    Some(Header::Declare(len))
-}
-
-// The words behind `L`.
-fn list_header(words: &[u8]) -> Option<Header>
-    ensures found { IfSome result (λ h. (node : ℕ) × IsForm (ListForm node) × IsHeaderOf h (ListForm node) × (words.now ≡ decimal node)) }
-    ensures only { (node : ℕ) → IsForm (ListForm node) → words.now ≡ decimal node → IsSomeAnd result (λ h. IsHeaderOf h (ListForm node)) }
-{
-    let Some(node) = node_word(words) else {
-        return None;
-    };
-    Some(Header::List(node))
 }
 
 // The words behind `P`.
 fn put_header(words: &[u8]) -> Option<Header>
-    ensures found { IfSome result (λ h. (node : ℕ) × (slot : ℕ) × IsForm (PutForm node slot) × IsHeaderOf h (PutForm node slot) × (words.now ≡ pair_words node slot)) }
-    ensures only { (node slot : ℕ) → IsForm (PutForm node slot) → words.now ≡ pair_words node slot → IsSomeAnd result (λ h. IsHeaderOf h (PutForm node slot)) }
+    ensures { IsPairRead PutForm words.now result }
 {
-    let Some((node, last)) = split_node(words) else {
+    let Some((first, second)) = two_numbers(words) else {
         return None;
     };
-    let Some(slot) = slot_word(last) else {
+    let Some(node) = NodeNumber::new(first) else {
+        return None;
+    };
+    let Some(slot) = SlotNumber::new(second) else {
         return None;
     };
     Some(Header::Put(node, slot))
@@ -269,13 +225,15 @@ fn put_header(words: &[u8]) -> Option<Header>
 
 // The words behind `G`.
 fn get_header(words: &[u8]) -> Option<Header>
-    ensures found { IfSome result (λ h. (slot : ℕ) × (node : ℕ) × IsForm (GetForm slot node) × IsHeaderOf h (GetForm slot node) × (words.now ≡ pair_words slot node)) }
-    ensures only { (slot node : ℕ) → IsForm (GetForm slot node) → words.now ≡ pair_words slot node → IsSomeAnd result (λ h. IsHeaderOf h (GetForm slot node)) }
+    ensures { IsPairRead GetForm words.now result }
 {
-    let Some((slot, last)) = split_slot(words) else {
+    let Some((first, second)) = two_numbers(words) else {
         return None;
     };
-    let Some(node) = node_word(last) else {
+    let Some(slot) = SlotNumber::new(first) else {
+        return None;
+    };
+    let Some(node) = NodeNumber::new(second) else {
         return None;
     };
     Some(Header::Get(slot, node))

@@ -2,7 +2,7 @@
 ghost use Rattle.std.specs.Prelude.{false, ◌≡◌, ℕ, ◌<◌, ◌≤◌, length, take, List, Some, None, IfOk, IfErr, OnOk, OnErr, IfSome, IsNone, is_some, true};
 ghost use Rattle.std.specs.Io.KnownBytes.{Appends};
 ghost use Rattle.wlines.specs.Pending.{left, budget, IsNew, IsSound, IsSoundWriter};
-ghost use Rattle.wstore.specs.Commands.{Command as Spelled, Declare, IsAllowed};
+ghost use Rattle.wstore.specs.Commands.{Command as Spelled, Declare, IsAllowed, longest_text};
 ghost use Rattle.wstore.specs.Requests.{IsCommandOf, IsFeedOf, IsOrderAt, IsRefusedAs};
 ghost use Rattle.wstore.specs.History.{Step, is_declared};
 ghost use Rattle.wstore.specs.Runs.{Replies, RepliesBegun};
@@ -66,7 +66,7 @@ fn declare<W: Write>(
     requires { IsSoundWriter output.old }
     ensures ok { OnOk result ((h : List Step) → is_declared h ≡ false → Stands session.old h → Answered session.new h (Declare bytes.now) (W.contents output.old.inner) (W.contents output.new.inner)) }
     ensures sound { OnOk result (IsSoundWriter output.new) }
-    ensures part { IfErr result (λ fault. (h : List Step) → length bytes.now ≤ 65536 → is_declared h ≡ false → Stands session.old h → Unanswered fault h (Declare bytes.now) (W.contents output.old.inner) (W.contents output.new.inner)) }
+    ensures part { IfErr result (λ fault. (h : List Step) → length bytes.now ≤ longest_text → is_declared h ≡ false → Stands session.old h → Unanswered fault h (Declare bytes.now) (W.contents output.old.inner) (W.contents output.new.inner)) }
     ensures cause { IfErr result (λ e. HasWriteCause e output.new) }
 {
     let Ok(text) = session.declare(bytes) else {

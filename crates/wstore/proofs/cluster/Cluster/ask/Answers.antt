@@ -11,4 +11,4 @@ returns-in_ok-reply-in-Ok c = λ d h short stand.
 pub returns-in_ok-reply-in-Err : goal.returns-in_ok-reply-in-Err
 returns-in_ok-reply-in-Err c = λ d h short stand.
     unanswered_at d _ h c.args.node c.place-place.result c.index.result.now stand c.place-place.ensures.place c.place-place.ensures.in_range c.index.ensures
-    c.args.text.now _ c.in-Err.fault short c.in-Err.ensures c.in_ok-reply-in-Err.ensures
+    c.args.text.now _ c.in-Err.fault short c.in-Err.ensures c.in_ok-reply-in-Err.ensures.text

@@ -16,4 +16,4 @@ returns-in_ok-text-in-Err-clause-answers c = λ d h origin number short named st
     let kept : set nodes p c.take.new.self ≡ nodes = ap (set nodes p) (c.in-Err.ensures.err ∙ c.index_mut.ensures.value) ∙ set-get_or nodes p c.index_mut.result.now in
     rw kept
     (refused_at d (places nodes c.args.self.now.slots.items) h c.args.node p c.index_mut.result.now stand c.place-place.ensures.place c.place-place.ensures.in_range c.index_mut.ensures.value
-    origin number c.args.bytes.now c.args.name c.in-Err.fault _ short named c.in-Err.ensures.refused c.in_ok-text-in-Err.ensures)
+    origin number c.args.bytes.now c.args.name c.in-Err.fault _ short named c.in-Err.ensures.refused c.in_ok-text-in-Err.ensures.text)
