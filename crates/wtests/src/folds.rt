@@ -348,20 +348,12 @@ fn greatest<'a>(values: &'a [&'a Value], filter: Option<&'a [bool]>) -> Greatest
     Greatest { values, filter }
 }
 
-#[test]
-fn sums_over_frames(rt: HostRuntime) -> Result<(), Fail> {
+// Frames over the days, and the sum of the amounts over each row's.
+fn frames_with_sums() -> [(Frame, [Option<i128>; 4]); 5] {
     use FrameBound::{CurrentRow, Following, Preceding, UnboundedPreceding};
     use FrameExclusion::NoOthers;
     use FrameMode::{Range, Rows};
-    let alloc = rt.alloc();
-    let days_values = column(alloc, &DAYS)?;
-    let days = lent(alloc, &days_values)?;
-    let amounts_values = column(alloc, &AMOUNTS)?;
-    let amounts = lent(alloc, &amounts_values)?;
-    assert_eq!(rt; days.len(), 4);
-    assert_eq!(rt; amounts.len(), 4);
-    let amount = sum(&amounts, None);
-    for (frame, sums) in [
+    [
         (
             frame(Range, UnboundedPreceding, CurrentRow, NoOthers),
             [Some(10), Some(35), Some(35), Some(35)],
@@ -382,7 +374,20 @@ fn sums_over_frames(rt: HostRuntime) -> Result<(), Fail> {
             frame(Rows, Preceding(2), CurrentRow, NoOthers),
             [Some(10), Some(30), Some(35), Some(25)],
         ),
-    ] {
+    ]
+}
+
+#[test]
+fn sums_over_frames(rt: HostRuntime) -> Result<(), Fail> {
+    let alloc = rt.alloc();
+    let days_values = column(alloc, &DAYS)?;
+    let days = lent(alloc, &days_values)?;
+    let amounts_values = column(alloc, &AMOUNTS)?;
+    let amounts = lent(alloc, &amounts_values)?;
+    assert_eq!(rt; days.len(), 4);
+    assert_eq!(rt; amounts.len(), 4);
+    let amount = sum(&amounts, None);
+    for (frame, sums) in frames_with_sums() {
         let mut meter = Meter::new();
         let outcome = both_folds(&rt, alloc, &days, BY_KEY, frame, &amount, &mut meter)?;
         let folds = numbers(alloc, &outcome.folds)?;
