@@ -3,12 +3,13 @@ use Rattle.std.proofs.Common.{◌≡◌, ◌≢◌, ◌⊎◌, ◌∙◌, ℕ, L
 use Rattle.std.specs.FinMap.{empty}
 use Rattle.wsegment.specs.Declaration.{Declaration}
 use Rattle.wsegment.specs.Spelling.{ReadsDeclaration}
+use Rattle.wsegment.specs.declared.schema_fault.SchemaFault.{SchemaFault}
 use Rattle.wset.specs.Views.{View, join}
 use Rattle.wexchange.specs.Judging.{IsFileOf}
 use Rattle.wact.specs.declared.acted.Acted.{Acted}
 use Rattle.wact.specs.Outcomes.{IsStored}
 use Rattle.wcommand.specs.declared.choice.Choice.{Choice}
-use Rattle.wact.specs.Acts.{Acts, ActsBy, Declared, Knows}
+use Rattle.wact.specs.Acts.{Acts, ActsRead, Knows}
 
 -- what follows from a value holds of an answer that is there
 pub if_ok : {A E : Type 0} {P Q : A → Type 0} (r : Result A E) → ((v : A) → P v → Q v) → IfOk r P → IfOk r Q
@@ -33,8 +34,8 @@ knows_told d d' store bytes v v' w there same none file is = subst (λ (s : Opti
   is = is ∙ ap (λ x. join x w) none;
 })
 
--- what is done where the table is read
-pub declared : {E : Type 0} (choice : Choice) (table : List ℕ) (store : Option (List ℕ)) (other : List ℕ) (d : Declaration) (r : Result Acted E) → ReadsDeclaration table (Ok d) → IfOk r (λ acted. ActsBy d choice store other acted)
-    → IfOk r (λ acted. Acts choice table store other acted)
-declared choice table store other d (Ok acted) reads acts = Declared d reads acts
-declared choice table store other d (Err e) reads acts = tt
+-- what is done where the table is judged
+pub acts : {E : Type 0} (choice : Choice) (table : List ℕ) (store : Option (List ℕ)) (other : List ℕ) (declared : Result Declaration SchemaFault) (r : Result Acted E) → ReadsDeclaration table declared
+    → IfOk r (λ acted. ActsRead declared choice store other acted) → IfOk r (λ acted. Acts choice table store other acted)
+acts choice table store other declared (Ok acted) reads done = record { declared = declared; reads = reads; acts = done }
+acts choice table store other declared (Err e) reads done = tt

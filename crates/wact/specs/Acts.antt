@@ -1,5 +1,5 @@
 -- What each subcommand does.
-use Rattle.std.specs.Prelude.{◌≡◌, ◌≢◌, ℕ, List, Option, Some, None, Ok, Err, IsOk, codes, map}
+use Rattle.std.specs.Prelude.{◌≡◌, ◌≢◌, ⊤, ℕ, List, Option, Some, None, Result, Ok, Err, IsOk, codes, map}
 use Rattle.std.specs.FinMap.{empty, entries, get}
 use Rattle.wvalues.specs.Names.{NameParts}
 use Rattle.wvalues.specs.NameReading.{ReadsName}
@@ -14,10 +14,11 @@ use Rattle.wset.specs.Items.{RetirementItem, SegmentItem, view_of_item}
 use Rattle.wset.specs.Listing.{listed}
 use Rattle.wset.specs.Views.{View, join}
 use Rattle.wset.specs.Words.{retired_word, taken_word}
-use Rattle.wexchange.specs.Judging.{IsFault, IsFileOf}
+use Rattle.wexchange.specs.Judging.{HasTable, IsFault, IsFileOf}
 use Rattle.wexchange.specs.declared.fault.FileFault.{FileFault}
 use Rattle.wexchange.specs.declared.fault.FileFault.TheVariants as files
 use Rattle.wask.specs.Asking.{IsAnswer}
+use Rattle.wstore.specs.History.{AreName}
 use Rattle.wreplies.specs.Spelling.{file_text, name_text, names_text, query_text, retired_text, segment_text, table_text, taken_text}
 use Rattle.wplanner.specs.declared.fault.AskFault.{AskFault}
 use Rattle.wplanner.specs.declared.fault.AskFault.TheVariants as queries
@@ -63,6 +64,15 @@ ActsOn d v (choices.Join paths path) other acted = Joins d v other acted
 ActsOn d v (choices.List paths) other acted = Lists d v acted
 ActsOn d v (choices.Ask paths query) other acted = Asks d v query.now acted
 
+-- where it may find no memory then: a name that is none needs none, nor does another store before its declaration
+abbrev pub MayLackMemory : Declaration → Choice → List ℕ → Type 0
+MayLackMemory d choices.Session other = ⊥
+MayLackMemory d (choices.Take paths origin number csv) other = AreName origin.now number.now
+MayLackMemory d (choices.Retire paths origin number) other = AreName origin.now number.now
+MayLackMemory d (choices.Join paths path) other = HasTable d other
+MayLackMemory d (choices.List paths) other = ⊤
+MayLackMemory d (choices.Ask paths query) other = ⊤
+
 -- the bytes are the file of a view, which is joined into that of a store that knows nothing
 pub record Tells (d : Declaration) (bytes : List ℕ) (v : View) : Type 0 where
   pub told : View
@@ -84,7 +94,13 @@ pub data ActsBy (d : Declaration) (choice : Choice) (store : Option (List ℕ)) 
   StoreRefused : (fault : FileFault) → fault ≢ files.NoMemory → HasFault d store fault → IsRefused acted (file_text fault) → ActsBy d choice store other acted
   Done : (v : View) → Knows d store v → ActsOn d v choice other acted → ActsBy d choice store other acted
 
+-- where the declaration of the table is read, it is acted by it; else its fault is told
+abbrev pub ActsRead : Result Declaration SchemaFault → Choice → Option (List ℕ) → List ℕ → Acted → Type 0
+ActsRead (Ok d) choice store other acted = ActsBy d choice store other acted
+ActsRead (Err fault) choice store other acted = (fault ≢ tables.NoMemory) × IsRefused acted (table_text fault)
+
 -- the table is judged before all
-pub data Acts (choice : Choice) (table : List ℕ) (store : Option (List ℕ)) (other : List ℕ) (acted : Acted) : Type 0 where
-  TableRefused : (fault : SchemaFault) → fault ≢ tables.NoMemory → ReadsDeclaration table (Err fault) → IsRefused acted (table_text fault) → Acts choice table store other acted
-  Declared : (d : Declaration) → ReadsDeclaration table (Ok d) → ActsBy d choice store other acted → Acts choice table store other acted
+pub record Acts (choice : Choice) (table : List ℕ) (store : Option (List ℕ)) (other : List ℕ) (acted : Acted) : Type 0 where
+  pub declared : Result Declaration SchemaFault
+  pub reads : ReadsDeclaration table declared
+  pub acts : ActsRead declared choice store other acted

@@ -1,9 +1,11 @@
 //! Subcommands on bytes.
-ghost use Rattle.std.specs.Prelude.{◌≡◌, ◌≢◌, IfErr, IfOk, option_map};
+ghost use Rattle.std.specs.Prelude.{◌≡◌, ◌≢◌, IfErr, IfOk, OnErr, option_map};
 ghost use Rattle.wcommand.specs.declared.choice.Choice.TheVariants.{Session};
+ghost use Rattle.wexchange.specs.Judging.{HasTable};
 ghost use Rattle.wreplies.specs.Spelling.{name_text};
+ghost use Rattle.wstore.specs.History.{AreName};
 ghost use Rattle.wact.specs.Outcomes.{IsAnswered, IsRefused};
-ghost use Rattle.wact.specs.Acts.{Acts, ActsBy, ActsOn, Asks, HasFault, Joins, Knows, Lists, OnName, Retires, Takes};
+ghost use Rattle.wact.specs.Acts.{Acts, ActsBy, ActsOn, ActsRead, Asks, HasFault, Joins, Knows, Lists, MayLackMemory, OnName, Retires, Takes};
 
 use crate::acted::{Acted, answered, refused, stored};
 use std::alloc::{AllocError, Global};
@@ -50,7 +52,8 @@ fn take(
     number: &str,
     csv: &[u8],
 ) -> Result<Acted, AllocError>
-    ensures { IfOk result (λ acted. OnName origin.now number.now acted (Takes node.old.schema node.old.view csv.now acted)) }
+    ensures does { IfOk result (λ acted. OnName origin.now number.now acted (Takes node.old.schema node.old.view csv.now acted)) }
+    ensures lacks { OnErr result (AreName origin.now number.now) }
 {
     match Name::read(origin.as_bytes(), number.as_bytes()) {
         Ok(name) => take_under(alloc, node, name, csv),
@@ -59,7 +62,8 @@ fn take(
 }
 
 fn retire(alloc: Global, node: &mut Node, origin: &str, number: &str) -> Result<Acted, AllocError>
-    ensures { IfOk result (λ acted. OnName origin.now number.now acted (Retires node.old.schema node.old.view acted)) }
+    ensures does { IfOk result (λ acted. OnName origin.now number.now acted (Retires node.old.schema node.old.view acted)) }
+    ensures lacks { OnErr result (AreName origin.now number.now) }
 {
     match Name::read(origin.as_bytes(), number.as_bytes()) {
         Ok(name) => retire_name(node, name),
@@ -69,7 +73,8 @@ fn retire(alloc: Global, node: &mut Node, origin: &str, number: &str) -> Result<
 
 // Joins what another store's file tells.
 fn join(alloc: Global, node: &mut Node, other: &[u8]) -> Result<Acted, AllocError>
-    ensures { IfOk result (λ acted. Joins node.old.schema node.old.view other.now acted) }
+    ensures does { IfOk result (λ acted. Joins node.old.schema node.old.view other.now acted) }
+    ensures lacks { OnErr result (HasTable node.old.schema other.now) }
 {
     match node.get(other) {
         Ok(()) => stored(node, b"ok\n"),
@@ -111,7 +116,8 @@ fn act_on(
     other: &[u8],
 ) -> Result<Acted, AllocError>
     requires { choice.now ≢ Session }
-    ensures { IfOk result (λ acted. ActsOn node.old.schema node.old.view choice.now other.now acted) }
+    ensures does { IfOk result (λ acted. ActsOn node.old.schema node.old.view choice.now other.now acted) }
+    ensures lacks { OnErr result (MayLackMemory node.old.schema choice.now other.now) }
 {
     match *choice {
         Choice::Session => unreachable!(),
@@ -157,10 +163,28 @@ fn act_by(
     }
 }
 
+// What a subcommand does where the declaration of the table is read, and else why it is none.
+fn act_read(
+    alloc: Global,
+    choice: &Choice<'_>,
+    declared: Result<Schema, SchemaFault>,
+    store: Option<&[u8]>,
+    other: &[u8],
+) -> Result<Acted, AllocError>
+    requires { choice.now ≢ Session }
+    ensures { IfOk result (λ acted. ActsRead declared choice.now (option_map (λ bytes. bytes.now) store.entry) other.now acted) }
+{
+    match declared {
+        Ok(schema) => act_by(alloc, choice, schema, store, other),
+        Err(SchemaFault::NoMemory) => Err(AllocError),
+        Err(fault) => Ok(refused(Text::Fixed(refused_table(fault)))),
+    }
+}
+
 /// What the subcommand of a choice gives on the bytes of the table's file, of the store's file if there is one, and
 /// of CSV or OTHER, which are empty where the subcommand has none. The table is judged first, then the store, then the
 /// subcommand. At `AllocError` nothing is judged.
-#[tactic(auto, using(crate::proofs::Outcomes::declared))]
+#[tactic(auto, using(crate::proofs::Outcomes::acts))]
 pub fn act(
     alloc: Global,
     choice: &Choice<'_>,
@@ -171,9 +195,5 @@ pub fn act(
     requires { choice.now ≢ Session }
     ensures { IfOk result (λ acted. Acts choice.now table.now (option_map (λ bytes. bytes.now) store.entry) other.now acted) }
 {
-    match Schema::read(alloc, table) {
-        Ok(schema) => act_by(alloc, choice, schema, store, other),
-        Err(SchemaFault::NoMemory) => Err(AllocError),
-        Err(fault) => Ok(refused(Text::Fixed(refused_table(fault)))),
-    }
+    act_read(alloc, choice, Schema::read(alloc, table), store, other)
 }
