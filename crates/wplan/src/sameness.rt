@@ -3,9 +3,10 @@
 ghost use Rattle.std.specs.Prelude.{◌≡◌, true, map};
 ghost use Rattle.std.specs.Cmp.Lexicographic.{pointwise};
 ghost use Rattle.std.proofs.Math.Bool.{beq};
-ghost use Rattle.wplan.specs.Formula.{formula, operand_of};
+ghost use Rattle.wplan.specs.declared.expr.Expr.{out-Expr};
+ghost use Rattle.wplan.specs.Formula.{Signed, Compared, NullTest, Within, Among, chained, formula, formulas, operand_of};
 ghost use Rattle.wplan.specs.Plans.{key_plan, window_plan};
-ghost use Rattle.wplan.specs.Sameness.{is_same, is_same_key, is_same_link, is_same_order, same_comparison, same_operator, same_sort_key};
+ghost use Rattle.wplan.specs.Sameness.{is_sign, is_chain, is_comparison, is_null_test, is_range_test, is_list_test, is_same, is_same_key, is_same_link, is_same_order, same_comparison, same_operator, same_sort_key};
 
 use crate::expr::{Expr, Further};
 use crate::resolved::{SettledKey, SettledWindow};
@@ -40,6 +41,105 @@ fn same_sort_key(a: SortKey, b: SortKey) -> bool
     a.col == b.col && (same_flag(a.desc, b.desc) && same_flag(a.nulls_first, b.nulls_first))
 }
 
+#[cycle(sameness)]
+#[tactic(auto, unfolding(crate::specs::Formula::formula))]
+fn is_sign(e: &Expr, minus: bool, operand: &Expr) -> bool
+    ensures exact { result ≡ is_sign minus (is_same operand.now) (out-Expr e.now) }
+    ensures alike { result ≡ true → Signed minus (formula operand.now) ≡ formula e.now }
+{
+    match e {
+        Expr::Sign {
+            minus: other,
+            operand: x,
+        } => { same_flag(minus, *other) && same_value(x, operand) }
+        _ => false,
+    }
+}
+
+#[cycle(sameness)]
+#[tactic(auto, unfolding(crate::specs::Formula::formula))]
+fn is_chain(e: &Expr, first: &Expr, links: &[Further]) -> bool
+    ensures exact { result ≡ is_chain (is_same first.now) (map is_same_link links.now) (out-Expr e.now) }
+    ensures alike { result ≡ true → chained (formula first.now) (map operand_of links.now) ≡ formula e.now }
+{
+    match e {
+        Expr::Chain {
+            first: x,
+            links: others,
+        } => { same_value(x, first) && same_links(others.as_slice(), links) }
+        _ => false,
+    }
+}
+
+#[cycle(sameness)]
+#[tactic(auto, unfolding(crate::specs::Formula::formula))]
+fn is_comparison(e: &Expr, comparison: Comparison, left: &Expr, right: &Expr) -> bool
+    ensures exact { result ≡ is_comparison comparison (is_same left.now) (is_same right.now) (out-Expr e.now) }
+    ensures alike { result ≡ true → Compared comparison (formula left.now) (formula right.now) ≡ formula e.now }
+{
+    match e {
+        Expr::Compare {
+            comparison: other,
+            left: x,
+            right: y,
+        } => {
+            same_comparison(comparison, *other) && (same_value(x, left) && same_value(y, right))
+        }
+        _ => false,
+    }
+}
+
+#[cycle(sameness)]
+#[tactic(auto, unfolding(crate::specs::Formula::formula))]
+fn is_null_test(e: &Expr, negated: bool, operand: &Expr) -> bool
+    ensures exact { result ≡ is_null_test negated (is_same operand.now) (out-Expr e.now) }
+    ensures alike { result ≡ true → NullTest negated (formula operand.now) ≡ formula e.now }
+{
+    match e {
+        Expr::IsNull {
+            negated: other,
+            operand: x,
+        } => { same_flag(negated, *other) && same_value(x, operand) }
+        _ => false,
+    }
+}
+
+#[cycle(sameness)]
+#[tactic(auto, unfolding(crate::specs::Formula::formula))]
+fn is_range_test(e: &Expr, negated: bool, operand: &Expr, low: &Expr, high: &Expr) -> bool
+    ensures exact { result ≡ is_range_test negated (is_same operand.now) (is_same low.now) (is_same high.now) (out-Expr e.now) }
+    ensures alike { result ≡ true → Within negated (formula operand.now) (formula low.now) (formula high.now) ≡ formula e.now }
+{
+    let Expr::Between {
+        negated: other,
+        operand: x,
+        low: y,
+        high: z,
+    } = e
+    else {
+        return false;
+    };
+    same_flag(negated, *other)
+        && (same_value(x, operand) && (same_value(y, low) && same_value(z, high)))
+}
+
+#[cycle(sameness)]
+#[tactic(auto, unfolding(crate::specs::Formula::formula))]
+fn is_list_test(e: &Expr, negated: bool, operand: &Expr, list: &[Expr]) -> bool
+    ensures exact { result ≡ is_list_test negated (is_same operand.now) (map is_same list.now) (out-Expr e.now) }
+    ensures alike { result ≡ true → Among negated (formula operand.now) (formulas (map formula list.now)) ≡ formula e.now }
+{
+    let Expr::In {
+        negated: other,
+        operand: x,
+        list: others,
+    } = e
+    else {
+        return false;
+    };
+    same_flag(negated, *other) && (same_value(x, operand) && same_values(others.as_slice(), list))
+}
+
 // Whether an expression is written as another one is, part by part.
 #[cycle(sameness)]
 #[tactic(auto, unfolding(crate::specs::Formula::formula, crate::specs::Formula::operand_of, crate::specs::Sameness::is_same, crate::specs::Sameness::is_same_link))]
@@ -53,39 +153,17 @@ fn same_value(e: &Expr, other: &Expr) -> bool
         (Expr::Text(text), Expr::Text(x)) => text.as_str() == x.as_str(),
         (Expr::Place(place), Expr::Place(x)) => place == x,
         (Expr::Not(operand), Expr::Not(x)) => same_value(x, operand),
-        (
-            Expr::Sign { minus, operand },
-            Expr::Sign {
-                minus: sign,
-                operand: x,
-            },
-        ) => same_flag(*minus, *sign) && same_value(x, operand),
-        (
-            Expr::Chain { first, links },
-            Expr::Chain {
-                first: x,
-                links: others,
-            },
-        ) => same_value(x, first) && same_links(others.as_slice(), links.as_slice()),
+        (Expr::Sign { minus, operand }, _) => is_sign(e, *minus, operand),
+        (Expr::Chain { first, links }, _) => is_chain(e, first, links.as_slice()),
         (
             Expr::Compare {
                 comparison,
                 left,
                 right,
             },
-            Expr::Compare {
-                comparison: sign,
-                left: x,
-                right: y,
-            },
-        ) => same_comparison(*comparison, *sign) && (same_value(x, left) && same_value(y, right)),
-        (
-            Expr::IsNull { negated, operand },
-            Expr::IsNull {
-                negated: sign,
-                operand: x,
-            },
-        ) => same_flag(*negated, *sign) && same_value(x, operand),
+            _,
+        ) => is_comparison(e, *comparison, left, right),
+        (Expr::IsNull { negated, operand }, _) => is_null_test(e, *negated, operand),
         (
             Expr::Between {
                 negated,
@@ -93,31 +171,16 @@ fn same_value(e: &Expr, other: &Expr) -> bool
                 low,
                 high,
             },
-            Expr::Between {
-                negated: sign,
-                operand: x,
-                low: y,
-                high: z,
-            },
-        ) => {
-            same_flag(*negated, *sign)
-                && (same_value(x, operand) && (same_value(y, low) && same_value(z, high)))
-        }
+            _,
+        ) => is_range_test(e, *negated, operand, low, high),
         (
             Expr::In {
                 negated,
                 operand,
                 list,
             },
-            Expr::In {
-                negated: sign,
-                operand: x,
-                list: others,
-            },
-        ) => {
-            same_flag(*negated, *sign)
-                && (same_value(x, operand) && same_values(others.as_slice(), list.as_slice()))
-        }
+            _,
+        ) => is_list_test(e, *negated, operand, list.as_slice()),
         _ => false,
     }
 }
