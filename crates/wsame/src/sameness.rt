@@ -157,58 +157,136 @@ fn same_name(a: &RcStr, b: &RcStr) -> bool
     a.as_str() == b.as_str()
 }
 
+#[cycle(sameness)]
+#[tactic(auto, unfolding(wquery::specs::Tree::view))]
+fn is_sign(e: &Expression, minus: bool, operand: &Expression) -> bool
+    ensures { result ≡ is_same (view e.now) (Signed minus (view operand.now)) }
+{
+    match e {
+        Expression::Sign {
+            minus: other,
+            operand: x,
+        } => same_flag(*other, minus) && same(x, operand),
+        _ => false,
+    }
+}
+
+#[cycle(sameness)]
+#[tactic(auto, unfolding(wquery::specs::Tree::view))]
+fn is_chain(e: &Expression, kind: ChainKind, first: &Expression, links: &[Link]) -> bool
+    ensures { result ≡ is_same (view e.now) (Joined kind (view first.now) (linked NoLinks (map view_link links.now))) }
+{
+    match e {
+        Expression::Chain {
+            kind: other,
+            first: x,
+            links: others,
+        } => { same_kind(*other, kind) && (same(x, first) && same_links(others.as_slice(), links)) }
+        _ => false,
+    }
+}
+
+#[cycle(sameness)]
+#[tactic(auto, unfolding(wquery::specs::Tree::view))]
+fn is_comparison(
+    e: &Expression,
+    comparison: Comparison,
+    left: &Expression,
+    right: &Expression,
+) -> bool
+    ensures { result ≡ is_same (view e.now) (Compared comparison (view left.now) (view right.now)) }
+{
+    match e {
+        Expression::Compare {
+            comparison: other,
+            left: x,
+            right: y,
+        } => same_comparison(*other, comparison) && (same(x, left) && same(y, right)),
+        _ => false,
+    }
+}
+
+#[cycle(sameness)]
+#[tactic(auto, unfolding(wquery::specs::Tree::view))]
+fn is_null_test(e: &Expression, negated: bool, operand: &Expression) -> bool
+    ensures { result ≡ is_same (view e.now) (NullTest negated (view operand.now)) }
+{
+    match e {
+        Expression::IsNull {
+            negated: other,
+            operand: x,
+        } => same_flag(*other, negated) && same(x, operand),
+        _ => false,
+    }
+}
+
+#[cycle(sameness)]
+#[tactic(auto, unfolding(wquery::specs::Tree::view))]
+fn is_range_test(
+    e: &Expression,
+    negated: bool,
+    operand: &Expression,
+    low: &Expression,
+    high: &Expression,
+) -> bool
+    ensures { result ≡ is_same (view e.now) (Within negated (view operand.now) (view low.now) (view high.now)) }
+{
+    let Expression::Between {
+        negated: other,
+        operand: x,
+        low: y,
+        high: z,
+    } = e
+    else {
+        return false;
+    };
+    same_flag(*other, negated) && (same(x, operand) && (same(y, low) && same(z, high)))
+}
+
+#[cycle(sameness)]
+#[tactic(auto, unfolding(wquery::specs::Tree::view))]
+fn is_list_test(e: &Expression, negated: bool, operand: &Expression, list: &[Expression]) -> bool
+    ensures { result ≡ is_same (view e.now) (Among negated (view operand.now) (trees (views list.now))) }
+{
+    let Expression::In {
+        negated: other,
+        operand: x,
+        list: others,
+    } = e
+    else {
+        return false;
+    };
+    same_flag(*other, negated) && (same(x, operand) && same_listed(others.as_slice(), list))
+}
+
 /// Whether two expressions are equal. A column is the same where its name is.
 #[cycle(sameness)]
 #[tactic(auto, unfolding(wquery::specs::Tree::view, wquery::specs::Tree::view_call))]
 pub fn same(a: &Expression, b: &Expression) -> bool
     ensures { result ≡ is_same (view a.now) (view b.now) }
 {
-    match (a, b) {
+    match (b, a) {
         (Expression::Null, Expression::Null) => true,
-        (Expression::Number(n), Expression::Number(m)) => n.get() == m.get(),
-        (Expression::Text(text), Expression::Text(other)) => text.as_str() == other.as_str(),
+        (Expression::Number(n), Expression::Number(m)) => m.get() == n.get(),
+        (Expression::Text(text), Expression::Text(other)) => other.as_str() == text.as_str(),
         (Expression::Column(column), Expression::Column(other)) => {
-            column.name.as_str() == other.name.as_str()
+            other.name.as_str() == column.name.as_str()
         }
-        (Expression::Call(call), Expression::Call(other)) => same_call(call, other),
-        (Expression::Not(operand), Expression::Not(x)) => same(operand, x),
-        (
-            Expression::Sign { minus, operand },
-            Expression::Sign {
-                minus: sign,
-                operand: x,
-            },
-        ) => same_flag(*minus, *sign) && same(operand, x),
-        (
-            Expression::Chain { kind, first, links },
-            Expression::Chain {
-                kind: sign,
-                first: x,
-                links: others,
-            },
-        ) => {
-            same_kind(*kind, *sign)
-                && (same(first, x) && same_links(links.as_slice(), others.as_slice()))
-        },
+        (Expression::Call(call), Expression::Call(other)) => same_call(other, call),
+        (Expression::Not(operand), Expression::Not(x)) => same(x, operand),
+        (Expression::Sign { minus, operand }, _) => is_sign(a, *minus, operand),
+        (Expression::Chain { kind, first, links }, _) => {
+            is_chain(a, *kind, first, links.as_slice())
+        }
         (
             Expression::Compare {
                 comparison,
                 left,
                 right,
             },
-            Expression::Compare {
-                comparison: sign,
-                left: x,
-                right: y,
-            },
-        ) => same_comparison(*comparison, *sign) && (same(left, x) && same(right, y)),
-        (
-            Expression::IsNull { negated, operand },
-            Expression::IsNull {
-                negated: sign,
-                operand: x,
-            },
-        ) => same_flag(*negated, *sign) && same(operand, x),
+            _,
+        ) => is_comparison(a, *comparison, left, right),
+        (Expression::IsNull { negated, operand }, _) => is_null_test(a, *negated, operand),
         (
             Expression::Between {
                 negated,
@@ -216,28 +294,16 @@ pub fn same(a: &Expression, b: &Expression) -> bool
                 low,
                 high,
             },
-            Expression::Between {
-                negated: sign,
-                operand: x,
-                low: y,
-                high: z,
-            },
-        ) => same_flag(*negated, *sign) && (same(operand, x) && (same(low, y) && same(high, z))),
+            _,
+        ) => is_range_test(a, *negated, operand, low, high),
         (
             Expression::In {
                 negated,
                 operand,
                 list,
             },
-            Expression::In {
-                negated: sign,
-                operand: x,
-                list: others,
-            },
-        ) => {
-            same_flag(*negated, *sign)
-                && (same(operand, x) && same_listed(list.as_slice(), others.as_slice()))
-        }
+            _,
+        ) => is_list_test(a, *negated, operand, list.as_slice()),
         _ => false,
     }
 }

@@ -55,16 +55,6 @@ same_orders-returns t c =
     let k : view_keys c.as_slice.result.now ≡ (view_window c.args.b.now).order = ap view_keys c.as_slice.ensures.value ∙ sym (order_is c.args.b.now) in
     c.same_order_as.ensures ∙ ap (λ ks. are_same_keys (keys (view_window c.args.a.now).order) (keys ks)) k
 
-pub same-returns-then-same : goal.same-returns-then-same
-same-returns-then-same t c =
-    chain_same _ c.deref-then-same_kind-2.result.now _ _ c.in-Chain-Chain.sign _ _ _ c.as_slice-then-same.result.now _ _ _ c.in-Chain-Chain.is-0 c.deref-then-same_kind.ensures c.as_slice.ensures.value c.same_kind.ensures c.if-same_kind.true c.same-then-same_kind.ensures c.if-same.true c.same_links.ensures
-    ∙ ap (is_same (view c.args.a.now)) (sym (chain_view _ _ _ _ _ _ c.in-Chain-Chain.is-1 c.deref-then-same_kind-2.ensures c.as_slice-then-same.ensures.value))
-
-pub same-returns-then-same-5 : goal.same-returns-then-same-5
-same-returns-then-same-5 t c =
-    list_same _ c.deref-then-same_flag-4-2.result.now _ _ c.in-In-In.sign _ _ _ c.as_slice-then-same-5-2.result.now _ _ _ c.in-In-In.is-0 c.deref-then-same_flag-4.ensures c.as_slice-then-same-5.ensures.value c.same_flag-in-In-In.ensures c.if-same_flag-4.true c.same-then-same_flag-4.ensures c.if-same-5.true c.same_listed.ensures
-    ∙ ap (is_same (view c.args.a.now)) (sym (list_view _ _ _ _ _ _ c.in-In-In.is-1 c.deref-then-same_flag-4-2.ensures c.as_slice-then-same-5-2.ensures.value))
-
 pub same_arguments-returns-in-Listed-Listed : goal.same_arguments-returns-in-Listed-Listed
 same_arguments-returns-in-Listed-Listed t c =
     c.same_listed.ensures ∙ ap (λ x. are_same (trees (views x)) (trees (views c.as_slice-in-Listed-Listed.result.now))) c.as_slice.ensures.value ∙ ap (λ y. are_same (trees (views c.in-Listed-Listed.x.items)) (trees (views y))) c.as_slice-in-Listed-Listed.ensures.value ∙ sym (same_listed_views c.args.a.now c.args.b.now c.in-Listed-Listed.x c.in-Listed-Listed.y c.in-Listed-Listed.is-0 c.in-Listed-Listed.is-1)
@@ -80,3 +70,19 @@ same_links-returns t c =
 pub same_keys-returns : goal.same_keys-returns
 same_keys-returns t c =
     ends (λ xs ys. are_same_keys (keys (view_keys xs)) (keys (view_keys ys))) refl (λ y ys. refl) c.args.a.now c.args.b.now c.keys.x-index c.keys.place c.keys-test.false c.keys.invariant.0 ∙ sym c.keys.invariant.1
+
+pub is_chain-returns-then-same : goal.is_chain-returns-then-same
+is_chain-returns-then-same t c =
+    chain_same _ c.args.first.now _ _ c.args.kind c.in-Chain.x c.in-Chain.others _ c.args.links.now _ _ _ c.in-Chain.is c.deref.ensures c.as_slice.ensures.value c.same_kind.ensures c.if-same_kind.true c.same.ensures c.if-same.true c.same_links.ensures
+
+pub same-returns-in-Chain-default : goal.same-returns-in-Chain-default
+same-returns-in-Chain-default t c =
+    c.is_chain.ensures ∙ ap (is_same (view c.args.a.now)) (sym (chain_view c.args.b.now _ _ c.in-Chain-default.first c.in-Chain-default.links _ c.in-Chain-default.is-0 c.deref-in-Chain-default.ensures c.as_slice.ensures.value))
+
+pub same-returns-in-In-default : goal.same-returns-in-In-default
+same-returns-in-In-default t c =
+    c.is_list_test.ensures ∙ ap (is_same (view c.args.a.now)) (sym (list_view c.args.b.now _ _ c.in-In-default.operand c.in-In-default.list _ c.in-In-default.is-0 c.deref-in-In-default.ensures c.as_slice-in-In-default.ensures.value))
+
+pub is_list_test-returns-then-same : goal.is_list_test-returns-then-same
+is_list_test-returns-then-same t c =
+    list_same _ c.args.operand.now _ _ c.args.negated c.in-In.x c.in-In.others _ c.args.list.now _ _ _ c.in-In.is c.deref.ensures c.as_slice.ensures.value c.same_flag.ensures c.if-same_flag.true c.same.ensures c.if-same.true c.same_listed.ensures
