@@ -17,11 +17,6 @@ pub record CutsFrom (first n : ℕ) (passes : ℕ → Bool) (c : ℕ) : Type 0 w
   pub from : first ≤ c
   pub at : CutsAt n passes (c - first)
 
--- a list that has, from `first` on, for each of n rows the end of the places that pass
-pub record HasCuts (first n : ℕ) (passes : ℕ → ℕ → Bool) (cuts : List ℕ) : Type 0 where
-  pub each : (i : ℕ) → i < n → CutsFrom first n (passes i) (slice_index cuts (first + i))
-  pub long : first + n ≤ length cuts
-
 -- a list that begins with another one
 pub record BeginsWith (old new : List ℕ) : Type 0 where
   pub same : (i : ℕ) → i < length old → slice_index new i ≡ slice_index old i

@@ -8,9 +8,8 @@ ghost use Rattle.wframe.specs.Numbered.{AreNumbered};
 ghost use Rattle.wframe.specs.Cuts.{HasNumberedCuts, BeginsWith};
 ghost use Rattle.wframe.specs.Frame.{is_before_start as before_start, is_after_end as after_end};
 
-use crate::cuts::Cut;
+use crate::cuts::{Cut, push_group_cuts};
 use crate::frame::{FrameBound, FrameMode};
-use crate::group_cuts::push_group_cuts;
 use crate::order::{is_after_end, is_before_start, key_is_after_end, key_is_before_start};
 use crate::peers::PeerEnds;
 use std::alloc::AllocError;

@@ -1,6 +1,10 @@
 ghost use Rattle.std.specs.Prelude.{◌≡◌, ◌<◌, ◌≤◌, ◌+◌, ◌^◌, ℕ, Bool, true, length, OnOk};
-ghost use Rattle.wframe.specs.Cuts.{IsCut, CutsAt, HasCuts, BeginsWith};
+ghost use Rattle.wvalues.specs.Order.{keys_cmp};
+ghost use Rattle.wframe.specs.KeyRows.{key_lists, sort_keys};
+ghost use Rattle.wframe.specs.Peers.{are_peers};
+ghost use Rattle.wframe.specs.Cuts.{IsCut, CutsAt, HasNumberedCuts, BeginsWith};
 
+use crate::peers::PeerEnds;
 use std::alloc::AllocError;
 
 /// A test of the places of a partition, for each of its rows: for a row it passes the first places up to one, where an end of
@@ -27,8 +31,8 @@ pub trait Cut {
         ensures rows { (i j : ℕ) → row ≤ i → i < result → passes self.now i j ≡ passes self.now row j };
 }
 
-/// Where the places that pass for a row end, when all before `from` are known to pass.
-pub fn advance<C: Cut>(cut: &C, rows: usize, row: usize, from: usize) -> usize
+// Where the places that pass for a row end, when all before `from` are known to pass.
+fn advance<C: Cut>(cut: &C, rows: usize, row: usize, from: usize) -> usize
     requires rows { rows ≡ C.row_count cut.now }
     requires cut { IsCut rows (C.passes cut.now) }
     requires row { row < rows }
@@ -46,58 +50,32 @@ pub fn advance<C: Cut>(cut: &C, rows: usize, row: usize, from: usize) -> usize
     rows
 }
 
-// Where the places that pass end, and the rows for which that is known.
-#[derive(Clone, Copy)]
-struct Reached {
-    end: usize,
-    rows_end: usize,
-}
-
-// Where the places that pass for a row end, after those for the row before.
-fn next_end<C: Cut>(cut: &C, rows: usize, row: usize, last: Reached) -> Reached
-    requires rows { rows ≡ C.row_count cut.now }
-    requires cut { IsCut rows (C.passes cut.now) }
-    requires row { row < rows }
-    requires within { last.end ≤ rows }
-    requires before { (j : ℕ) → j < last.end → C.passes cut.now row j ≡ true }
-    requires known { (i : ℕ) → row ≤ i → i < last.rows_end → CutsAt rows (C.passes cut.now i) last.end }
-    ensures more { row < result.rows_end }
-    ensures known { (i : ℕ) → row ≤ i → i < result.rows_end → CutsAt rows (C.passes cut.now i) result.end }
-{
-    if row < last.rows_end {
-        return last;
-    }
-    Reached {
-        end: advance(cut, rows, row, last.end),
-        rows_end: cut.end_of_equals(row),
-    }
-}
-
-/// Adds, for each row, where the places that pass end, counted on from `first`.
+/// Adds, for each group of peers, where the places end that pass for its rows, counted on from the first row's place, for a test
+/// that cannot tell peers apart.
 ///
-/// The end moves along with the rows and never back: of rows that the test cannot tell apart one is tested once, and once
-/// more where it is an end.
-pub fn push_cuts<C: Cut>(
-    ends: &mut Vec<usize>,
+/// The end moves along with the groups and never back: of each group one row is tested, and once more where it is an end.
+pub fn push_group_cuts<C: Cut>(
+    cuts: &mut Vec<usize>,
     cut: &C,
-    rows: usize,
-    first: usize,
+    peers: &PeerEnds,
 ) -> Result<(), AllocError>
-    requires rows { rows ≡ C.row_count cut.now }
-    requires cut { IsCut rows (C.passes cut.now) }
-    requires first { length ends.old.items ≡ first }
-    requires room { first + rows < 2 ^ 64 }
-    ensures cuts { OnOk result (HasCuts first rows (C.passes cut.now) ends.new.items) }
-    ensures stays { OnOk result (BeginsWith ends.old.items ends.new.items) }
-    ensures long { OnOk result (length ends.new.items ≡ first + rows) }
+    requires rows { length (key_lists peers.now.rows) ≡ C.row_count cut.now }
+    requires cut { IsCut (length (key_lists peers.now.rows)) (C.passes cut.now) }
+    requires alike { (i k j : ℕ) → are_peers (keys_cmp (sort_keys peers.now.rows)) (key_lists peers.now.rows) i k ≡ true → C.passes cut.now i j ≡ C.passes cut.now k j }
+    requires first { length cuts.old.items ≡ peers.now.first_group }
+    requires room { peers.now.first + length (key_lists peers.now.rows) < 2 ^ 64 }
+    ensures cuts { OnOk result (HasNumberedCuts peers.now.first (length (key_lists peers.now.rows)) (C.passes cut.now) peers.now.numbers.now cuts.new.items) }
+    ensures stays { OnOk result (BeginsWith cuts.old.items cuts.new.items) }
+    ensures long { OnOk result (length cuts.new.items ≡ length peers.now.ends.now) }
 {
-    let mut reached = Reached {
-        end: 0,
-        rows_end: 0,
-    };
-    for row in 0..rows {
-        reached = next_end(cut, rows, row, reached);
-        ends.push(first + reached.end)?;
+    let rows = peers.rows().count();
+    let first = peers.first();
+    let mut row = 0;
+    let mut end = 0;
+    while row < rows {
+        end = advance(cut, rows, row, end);
+        cuts.push(first + end)?;
+        row = peers.end(row);
     }
     Ok(())
 }

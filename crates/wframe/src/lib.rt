@@ -16,7 +16,6 @@ mod ends;
 mod exclusion;
 mod frame;
 mod frames;
-mod group_cuts;
 mod groups;
 mod key_rows;
 mod laws;
@@ -26,7 +25,7 @@ mod partitions;
 mod peers;
 
 pub use conditions::are_in_order;
-pub use cuts::{Cut, push_cuts};
+pub use cuts::{Cut, push_group_cuts};
 pub use frame::{Frame, FrameBound, FrameExclusion, FrameMode, Span};
 pub use frames::Frames;
 pub use key_rows::KeyRows;
@@ -37,3 +36,4 @@ pub use laws::{
 };
 pub use order::compare_lists;
 pub use partitions::Partitions;
+pub use peers::{PeerEnds, push_peers};

@@ -1,4 +1,4 @@
-ghost use Rattle.std.specs.Prelude.{◌+◌, nat_le};
+ghost use Rattle.std.specs.Prelude.{nat_lt};
 
 use std::alloc::{AllocError, Global};
 use std::cell::Cell;
@@ -251,7 +251,7 @@ fn places_in_a_partition(rt: HostRuntime) -> Result<(), Fail> {
     Ok(())
 }
 
-/// Passes the places up to the third one after a row, and counts how often it is asked.
+/// Passes the first half of the places, whatever the row, and counts how often it is asked.
 #[derive(Drop)]
 struct AskedCut {
     rows: usize,
@@ -261,11 +261,11 @@ struct AskedCut {
 impl Cut for AskedCut {
     ghost row_count = { λ cut. cut.rows };
 
-    ghost passes = { λ _ row place. nat_le place (row + 3) };
+    ghost passes = { λ _ _ place. nat_lt place 500 };
 
-    fn is_passed(&self, row: usize, place: usize) -> bool {
+    fn is_passed(&self, _row: usize, place: usize) -> bool {
         self.calls.set(self.calls.get().wrapping_add(1));
-        place <= row || place - row <= 3
+        place < 500
     }
 
     fn end_of_equals(&self, row: usize) -> usize {
@@ -273,17 +273,36 @@ impl Cut for AskedCut {
     }
 }
 
+// A thousand keys, each greater than the one before.
+fn rising_keys(alloc: Global) -> Result<Vec<Value>, AllocError> {
+    let mut keys = Vec::new(alloc);
+    for number in 0..1000i64 {
+        keys.push(Value::Int(Whole::from(number)))?;
+    }
+    Ok(keys)
+}
+
 #[test]
 fn the_end_of_a_frame_moves_along(rt: HostRuntime) -> Result<(), Fail> {
+    let values = rising_keys(rt.alloc())?;
+    let cells = lent(rt.alloc(), &values)?;
+    let order = [ASCENDING];
+    assert_eq!(rt; cells.len(), 1000);
+    let keys = KeyRows::new(&cells, &order, 1000);
+    assert!(rt; are_in_order(&keys, &keys));
+    let mut numbers = Vec::new(rt.alloc());
+    let mut group_ends = Vec::new(rt.alloc());
+    push_peers(&mut numbers, &mut group_ends, &keys, 0)?;
+    let peers = PeerEnds::new(keys, &numbers, &group_ends, 0, 0);
     let cut = AskedCut {
         rows: 1000,
         calls: Cell::new(0),
     };
     let mut ends = Vec::new(rt.alloc());
-    push_cuts(&mut ends, &cut, 1000, 0)?;
+    push_group_cuts(&mut ends, &cut, &peers)?;
     assert_eq!(rt; ends.len(), 1000);
-    assert_eq!(rt; ends.first(), Some(&4));
-    assert_eq!(rt; ends.last(), Some(&1000));
+    assert_eq!(rt; ends.first(), Some(&500));
+    assert_eq!(rt; ends.last(), Some(&500));
     assert!(rt; cut.calls.get() <= 2000);
     Ok(())
 }

@@ -3,7 +3,7 @@ use Rattle.wframe.specs.KeyRows.{key_lists}
 use Rattle.wframe.specs.Cuts.{CutsAt}
 use Rattle.wframe.proofs.CutFacts.{front_more, long_more}
 use Rattle.wframe.proofs.NumberedFacts.{cuts_more, known_more}
-use Rattle.wframe.proofs.group_cuts.push_group_cuts.Goals as goal
+use Rattle.wframe.proofs.cuts.push_group_cuts.Goals as goal
 
 pub loop-row-preserved : goal.loop-row-preserved
 loop-row-preserved g c =

@@ -1,7 +1,7 @@
 use Rattle.std.proofs.Common.{◌≡◌, ℕ, ◌+◌, ◌-◌, ◌<◌, ◌≤◌, true, length, get_or}
 use Rattle.wframe.specs.KeyRows.{key_lists}
 use Rattle.wframe.specs.Cuts.{CutsFrom, BeginsWith}
-use Rattle.wframe.proofs.group_cuts.push_group_cuts.Given as goal
+use Rattle.wframe.proofs.cuts.push_group_cuts.Given as goal
 
 abbrev pub invariant-loop-row : goal.invariant-loop-row
 invariant-loop-row g l =
