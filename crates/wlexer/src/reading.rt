@@ -4,6 +4,7 @@ ghost use Rattle.std.specs.Prelude.{◌≡◌, ℕ, ◌<◌, ◌≤◌, List, �
 ghost use Rattle.std.specs.Char.{to_ascii_lowercase};
 ghost use Rattle.std.specs.String.{string_bytes};
 ghost use Rattle.wlexer.specs.declared.bytes.TokenKind.TheVariants as kinds;
+ghost use Rattle.wlexer.specs.declared.fault.Miss.TheVariants.{Nothing};
 ghost use Rattle.wlexer.specs.Bytes.{apostrophe, double_quote, kind_of};
 ghost use Rattle.wlexer.specs.Reading.{Misses};
 ghost use Rattle.wlexer.specs.Spelling.{IsStuck, longest_name, number_limit, number_of, Spelled};
@@ -104,6 +105,7 @@ fn number(text: &str) -> Result<(Lexeme, &str), Miss>
     requires { (b : ℕ) × (rest : List ℕ) × (text.now ≡ b ∷ rest) × (kind_of b ≡ kinds.Number) }
     ensures found { IfOk result (λ x. Spelled text.now (lexeme_meaning x.0) x.1.now) }
     ensures none { IfErr result (λ e. Misses e (IsStuck text.now)) }
+    ensures no_memory { IfErr result (λ e. e ≡ Nothing) }
 {
     let (digits, rest) = split_stretch(Stretch::Digits, text);
     if !ends_number(rest) {
@@ -129,6 +131,7 @@ fn symbol(first: u8, text: &str) -> Result<(Lexeme, &str), Miss>
     requires { kind_of first ≡ kinds.Symbol }
     ensures found { IfOk result (λ x. Spelled (first ∷ text.now) (lexeme_meaning x.0) x.1.now) }
     ensures none { IfErr result (λ e. Misses e (IsStuck (first ∷ text.now))) }
+    ensures no_memory { IfErr result (λ e. e ≡ Nothing) }
 {
     if let Some((symbol, rest)) = pair(first, text) {
         return Ok((Lexeme::Symbol(symbol), rest));
