@@ -13,4 +13,4 @@ first_half n = record {
 }
 
 pub push_group_cuts-requires-clause-cut : goal.push_group_cuts-requires-clause-cut
-push_group_cuts-requires-clause-cut g c = first_half 1000
+push_group_cuts-requires-clause-cut g c = first_half _
