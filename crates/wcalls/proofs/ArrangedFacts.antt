@@ -27,7 +27,7 @@ use Rattle.wcalls.specs.Windows.{Windowed, partition_rows, partition_at, place_a
 use Rattle.wcalls.specs.Calls.{each_row}
 use Rattle.wcalls.specs.Arranged.{window_cmp, IsArranged, Answer, answer_on, answered}
 use Rattle.wcalls.proofs.Answering.{partition_answers, window_answers, answer_values, HasEachOnce}
-use Rattle.wrows.proofs.SortFacts as sorts
+use Rattle.wframe.proofs.SortFacts as sorts
 use Rattle.wcalls.proofs.FilterFacts.{filter_sorted}
 use Rattle.wrows.proofs.RowFacts.{map-map, refused, map-taken, map-dropped, length-places, places_below}
 use Rattle.wcalls.proofs.WindowFacts.{whole_total, at_places, span_rows}

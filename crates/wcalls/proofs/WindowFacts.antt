@@ -15,7 +15,7 @@ use Rattle.wframe.specs.Places.{places_from, places, is_in_span}
 use Rattle.wframe.specs.Partitions.{IsPartition}
 use Rattle.wframe.specs.Sorting.{inserted, sorted}
 use Rattle.wcalls.specs.Windows.{Windowed, partition_rows}
-use Rattle.wrows.proofs.SortFacts.{tail_of}
+use Rattle.wframe.proofs.SortFacts.{tail_of}
 use Rattle.wcalls.proofs.FilterFacts.{filter_sorted}
 use Rattle.wrows.proofs.RowFacts.{filter-map}
 

@@ -14,7 +14,7 @@ use Rattle.wrows.specs.Columns.{Row, lists_of, value_on}
 use Rattle.wrows.specs.LaidRows.{laid}
 use Rattle.wrows.specs.Sorting.{ascending}
 use Rattle.wrows.proofs.RowFacts.{length-places, then_ok}
-use Rattle.wrows.proofs.SortFacts.{length_sorted}
+use Rattle.wframe.proofs.SortFacts.{length_sorted}
 use Rattle.wcalls.specs.Frames as frames
 use Rattle.wcalls.specs.Windows.{Windowed, windowed}
 use Rattle.wframe.specs.Places.{places}

@@ -19,7 +19,7 @@ use Rattle.wrows.specs.Laid.{row_seen, rows_seen}
 use Rattle.wrows.specs.Plain.{numbers_by}
 use Rattle.wrows.specs.Sorting.{ascending}
 use Rattle.wrows.proofs.RowFacts.{all_of_each, row_at, map-map, places_below, length-places}
-use Rattle.wrows.proofs.SortFacts.{length_sorted}
+use Rattle.wframe.proofs.SortFacts.{length_sorted}
 use Rattle.wgroup.specs.Grouping.{Group, agree, first_rows, group_cmp, group_key, group_of, groups_of}
 use Rattle.wgroup.specs.Held.{groups_by, lists_in, lists_seen}
 use Rattle.wgroup.specs.Sight.{first_of, key_in, list_at, members, same_row, slice_at}

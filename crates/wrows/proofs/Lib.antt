@@ -1,6 +1,5 @@
 pub mod RowFacts
 mod BesideFacts
-pub mod SortFacts
 mod MoreSorting
 mod CodeFacts
 pub mod ChainFacts
