@@ -1,4 +1,4 @@
-mod CutFacts
+pub mod CutFacts
 mod BoundFacts
 mod MoveFacts
 mod SpanFacts

@@ -22,6 +22,7 @@ use wvalues::Value;
 fn push_rows<'a>(rows: &mut Vec<&'a [Value]>, segment: &'a Segment) -> Result<(), AllocError>
     ensures { OnOk result (rows_seen rows.new.items ≡ rows_seen rows.old.items ++ segment.now.rows) }
 {
+    rows.reserve(segment.rows())?;
     for row in 0..segment.rows() {
         rows.push(segment.row(row))?;
     }

@@ -10,3 +10,4 @@ mod SeenFacts
 mod AllFacts
 mod PickFacts
 mod SelectFacts
+mod FirstFacts

@@ -1,5 +1,5 @@
 -- Values at places, and items that are read of the rows that are asked for alone.
-use Rattle.std.proofs.Common.{◌≡◌, ℕ, zero, suc, ◌*◌, ◌<◌, ◌||◌, false, List, [], ◌∷◌, ◌++◌, length, map, take, drop, get_or, Option, None, Some, Result, Ok, Err, refl, sym, ap, subst, ◌∙◌, arith}
+use Rattle.std.proofs.Common.{◌≡◌, ℕ, zero, suc, ◌<◌, ◌||◌, false, List, [], ◌∷◌, ◌++◌, length, map, take, drop, get_or, Option, None, Some, Result, Ok, Err, refl, sym, ap, subst, ◌∙◌, arith}
 use Rattle.std.specs.Prelude.{All, IfSome}
 use Rattle.std.specs.Borrow.{Bor}
 use Rattle.std.specs.List.{AllByRecursion, list_any}

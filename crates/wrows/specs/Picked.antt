@@ -1,5 +1,5 @@
 -- The rows that are asked for, by number, and values at places of rows that have columns behind their cells.
-use Rattle.std.specs.Prelude.{ℕ, ◌++◌, List, length, map, Option, Result, Ok}
+use Rattle.std.specs.Prelude.{ℕ, ◌++◌, List, length, map, take, Option, Result, Ok}
 use Rattle.wvalues.specs.declared.key.SortKey.{SortKey}
 use Rattle.wvalues.specs.Meaning.{Meaning}
 use Rattle.wframe.specs.Peers.{key_at}
@@ -20,3 +20,7 @@ picked places rows columns i = map (value_at (row_beside rows columns i)) places
 -- the numbers of the rows that are asked for, in order. All keys are evaluated, on every row
 abbrev pub asked_of : List Formula → List SortKey → ℕ → Option ℕ → List Row → Result (List ℕ) AnswerFault
 asked_of keys order offset limit rows = lists_of keys rows >>= λ by. Ok (cut offset limit (numbers_by order by (length rows)))
+
+-- the numbers of the first so many of the rows, in order. All keys are evaluated, on every row
+abbrev pub first_of : List Formula → List SortKey → ℕ → List Row → Result (List ℕ) AnswerFault
+first_of keys order most rows = lists_of keys rows >>= λ by. Ok (take most (numbers_by order by (length rows)))

@@ -9,9 +9,9 @@ ghost use Rattle.wrows.specs.Picked.{asked_of};
 
 use crate::cells::{Cells, gathered};
 use crate::fault::AnswerFault;
-use crate::listing::{evaluated_lists, told_lists};
+use crate::first::first_by_keys;
+use crate::listing::evaluated_lists;
 use crate::places::{picked_lists, picked_rows, places_of};
-use crate::selected::first_numbers;
 use std::alloc::{AllocError, Global};
 use wplan::Expr;
 use wvalues::{SortKey, Value};
@@ -76,9 +76,8 @@ fn asked_numbers(
     ensures gives { Gives (λ numbers. numbers.items) result (asked_of (formulas_seen keys.now) order.now offset limit (beside (rows_seen rows.now) (rows_seen columns.now))) }
     ensures below { IfOk result (λ numbers. All (λ i. i < length rows.now) numbers.items) }
 {
-    let key_cells = told_lists(alloc, keys, rows, columns)?;
     let (from, count) = asked_for(offset, limit, rows.len());
-    let first = first_numbers(alloc, &key_cells, order, rows.len(), from + count)?;
+    let first = first_by_keys(alloc, keys, order, from + count, rows, columns)?;
     let numbers = cut_numbers(alloc, &first, offset, limit)?;
     Ok(numbers)
 }
