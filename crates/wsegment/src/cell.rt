@@ -1,7 +1,9 @@
 //! A cell, read by what its column holds.
-ghost use Rattle.std.specs.Prelude.{◌≡◌};
+ghost use Rattle.std.specs.Prelude.{◌≡◌, Err};
+ghost use Rattle.std.specs.Str.{IsUtf8};
 ghost use Rattle.wvalues.specs.Meaning.{meaning};
 ghost use Rattle.wsegment.specs.Cells.{cell_of, number_cell, typed};
+ghost use Rattle.wsegment.specs.declared.fault.SegmentFault.TheVariants.{RowNotUtf8};
 ghost use Rattle.wsegment.specs.Integer.{integer_of};
 ghost use Rattle.wsegment.specs.Outcome.{Gives};
 
@@ -46,7 +48,7 @@ fn typed(
     }
 }
 
-/// What a field of a row holds. A text that was read lately is shared.
+/// What a field of a row holds. A text that was read lately is shared. A field that is no text is refused without memory.
 #[tactic(auto, unfolding(crate::specs::Cells::cell_of))]
 pub(crate) fn cell(
     alloc: Global,
@@ -55,7 +57,8 @@ pub(crate) fn cell(
     field: &[u8],
     texts: &mut Texts,
 ) -> Result<Value, SegmentFault>
-    ensures { Gives meaning result (cell_of row kind field.now) }
+    ensures gives { Gives meaning result (cell_of row kind field.now) }
+    ensures refused { (IsUtf8 field.now → ⊥) → result ≡ Err (RowNotUtf8 row) }
 {
     let Ok(text) = str::from_utf8(field) else {
         return Err(SegmentFault::RowNotUtf8 { row });

@@ -1,5 +1,5 @@
 //! A table's declaration as it is read, and the text that spells it.
-ghost use Rattle.std.specs.Prelude.{◌≡◌, ◌<◌, ◌↔◌, IsTrue, IfOk, IfSome, MatchResult, length};
+ghost use Rattle.std.specs.Prelude.{◌≡◌, ◌<◌, ◌↔◌, Err, IsTrue, IfOk, IfSome, MatchResult, length};
 ghost use Rattle.std.specs.String.{string_bytes};
 ghost use Rattle.wsegment.specs.Declaration.{Declaration, declaration_text, place_of};
 ghost use Rattle.wsegment.specs.Spelling.{IsDeclaration, ReadsDeclaration};
@@ -42,8 +42,10 @@ impl Model for Schema {
 impl Schema {
     /// The declaration that bytes spell: `table NAME`, then `NAME integer` or `NAME text` for each column, each
     /// line ended by LF. A fault of the form comes before a repeated name, and that before a wrong number of columns.
+    /// Bytes of more than a declaration may have take no memory.
     pub fn read(alloc: Global, bytes: &[u8]) -> Result<Schema, SchemaFault>
         ensures reads { ReadsDeclaration bytes.now result }
+        ensures long { 65536 < length bytes.now → result ≡ Err SchemaFault.Syntax }
         ensures only { (d : Declaration) → IsDeclaration d → bytes.now ≡ declaration_text d → MatchResult result (λ schema. schema ≡ d) (λ fault. fault ≡ NoMemory) }
     {
         if bytes.len() > MAX_BYTES {

@@ -1,5 +1,5 @@
 //! A segment: rows of the table with the bytes that they were read from.
-ghost use Rattle.std.specs.Prelude.{◌≡◌, ◌+◌, ◌*◌, ◌<◌, ◌≤◌, [], IfOk, drop, length, map, slice_index_or, take};
+ghost use Rattle.std.specs.Prelude.{◌≡◌, ◌+◌, ◌*◌, ◌<◌, ◌≤◌, [], Err, IfOk, drop, length, map, slice_index_or, take};
 ghost use Rattle.wvalues.specs.Meaning.{meaning};
 ghost use Rattle.wsegment.specs.Outcome.{Gives};
 ghost use Rattle.wsegment.specs.Rows.{cell, rows_of};
@@ -46,13 +46,14 @@ fn part(cells: &[Value], row: usize, width: usize) -> &[Value]
 }
 
 impl Segment {
-    /// The typed rows of these bytes, or their first fault. Their number is judged first, then the header from left
+    /// The typed rows of these bytes, or their first fault. Their number is judged first, without memory, then the header from left
     /// to right, then whether a column is missing, then row by row whether there are too many, the row's length, and
     /// its fields from left to right.
     pub fn read(alloc: Global, schema: &Schema, bytes: &[u8]) -> Result<Segment, SegmentFault>
         ensures rows { Gives (λ segment. segment.rows) result (rows_of schema.now bytes.now) }
         ensures bytes { IfOk result (λ segment. segment.bytes ≡ bytes.now) }
         ensures columns { IfOk result (λ segment. segment.columns ≡ length schema.now.columns) }
+        ensures long { 67108864 < length bytes.now → result ≡ Err SegmentFault.TooLong }
     {
         if bytes.len() > MAX_BYTES {
             return Err(SegmentFault::TooLong);

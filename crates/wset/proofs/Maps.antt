@@ -10,7 +10,7 @@ use Rattle.wset.specs.Merging.{IsKnownTo, join_lists}
 use Rattle.std.specs.List.{AllByRecursion, filter_map}
 use Rattle.wset.proofs.EntryFacts.{length-known_entries}
 use Rattle.wset.proofs.Joining.{same_view, get-join}
-use Rattle.wset.proofs.Merging.{entries-join, told_again}
+use Rattle.wset.proofs.Merging.{each_known, entries-join, told_again}
 
 abbrev pub stored_view : List Entry → View
 stored_view es = from_sorted (known_entries es)
@@ -61,6 +61,15 @@ view_again es fs h k all = sym (same_view _ _ (λ q.
     ∙ ap (join_told (find name_cmp q (known_entries es))) (get-view fs q k)
     ∙ told_again es fs q all
     ∙ sym (get-view es q h)))
+
+-- where a view learns nothing from another, each of the other's entries is known
+pub known_again : (es fs : List Entry) (v w : View) → IsRising es → IsRising fs → stored_view es ≡ v → stored_view fs ≡ w → join v w ≡ v → AllByRecursion (IsKnownTo es) fs
+known_again es fs v w h k ours theirs same = each_known es fs k (λ q.
+    sym (ap (λ o. join_told o (find name_cmp q (known_entries fs))) (get-view es q h))
+    ∙ sym (ap (join_told (get (stored_view es) q)) (get-view fs q k))
+    ∙ sym (get-join (stored_view es) (stored_view fs) q)
+    ∙ ap (λ u. get u q) (ap (λ u. join u (stored_view fs)) ours ∙ ap (join v) theirs ∙ same ∙ sym ours)
+    ∙ get-view es q h)
 
 -- what is put is one entry more, or none
 pub put_sized : (es fs : List Entry) (n : NameParts) (k : Known) → IsRising es → known_entries fs ≡ put name_cmp n k (known_entries es) → (length es ≤ length fs) × (length fs ≤ length es + 1)

@@ -5,6 +5,7 @@ use Rattle.std.specs.declared.cmp.Ordering.TheVariants.{Less, Equal, Greater}
 use Rattle.std.specs.FinMap.Entries.{below_all, by_order}
 use Rattle.std.specs.FinMap.{find, put, entries, insert, get, entries-insert, get-entries, get-insert, get_tied}
 use Rattle.std.specs.Ordering.{eq_by_cmp}
+use Rattle.std.proofs.lemmas.Cmp.{tied_itself}
 use Rattle.wvalues.specs.Names.{NameParts, name_cmp, names_total}
 use Rattle.wsegment.specs.Declaration.{Declaration}
 use Rattle.wset.specs.Views.{Known, View, join, join_told, join_known}
@@ -193,6 +194,36 @@ held_more d (x ∷ xs) entry all held = (all.0, held_more d xs entry all.1 held)
 
 pub told_known : (o : Option Known) (j k : Known) → o ≡ Some j → join_known j k ≡ j → join_told o (Some k) ≡ o
 told_known o j k is same = rw is (ap (λ (k : Known). Some k) same)
+
+pub known_told : (o : Option Known) (j k : Known) → o ≡ Some j → join_told o (Some k) ≡ o → join_known j k ≡ j
+known_told o j k is same = let e : Some (join_known j k) ≡ Some j = sym (ap (λ p. join_told p (Some k)) is) ∙ same ∙ is in cc
+
+-- what holds of two lists together, and of each
+pub all_both : (P : Entry → Type 0) (xs ys : List Entry) → AllByRecursion P xs → AllByRecursion P ys → AllByRecursion P (xs ++ ys)
+all_both P [] ys h k = k
+all_both P (x ∷ xs) ys h k = (h.0, all_both P xs ys h.1 k)
+
+pub all_front : (P : Entry → Type 0) (xs ys : List Entry) → AllByRecursion P (xs ++ ys) → AllByRecursion P xs
+all_front P [] ys h = tt
+all_front P (x ∷ xs) ys h = (h.0, all_front P xs ys h.1)
+
+pub all_back : (P : Entry → Type 0) (xs ys : List Entry) → AllByRecursion P (xs ++ ys) → AllByRecursion P ys
+all_back P [] ys h = h
+all_back P (x ∷ xs) ys h = all_back P xs ys h.1
+
+-- where all that is told is known, each entry is
+pub each_known : (es fs : List Entry) → IsRising fs → ((q : NameParts) → join_told (find name_cmp q (known_entries es)) (find name_cmp q (known_entries fs)) ≡ find name_cmp q (known_entries es)) → AllByRecursion (IsKnownTo es) fs
+each_known es [] h told = tt
+each_known es (f ∷ fs) h told = (here, each_known es fs (second _ _ h) (λ q. by q (is_eq (name_cmp q f.name)) refl))
+  where
+    here : join_told (find name_cmp f.name (known_entries es)) (Some (known_of f.held)) ≡ find name_cmp f.name (known_entries es)
+    here = (rw (ap is_eq (tied_itself names_total f.name)) at (told f.name))
+
+    by : (q : NameParts) (b : Bool) → is_eq (name_cmp q f.name) ≡ b → join_told (find name_cmp q (known_entries es)) (find name_cmp q (known_entries fs)) ≡ find name_cmp q (known_entries es)
+    by q true e =
+        let none : find name_cmp q (known_entries fs) ≡ None = ap (λ n. find name_cmp n (known_entries fs)) (same_name-true q f.name e) ∙ find_below f.name (known_entries fs) (first _ _ h) in
+        ap (join_told (find name_cmp q (known_entries es))) none ∙ sym (with_none (find name_cmp q (known_entries es)))
+    by q false e = (rw e at (told q))
 
 -- what a name's entry tells besides is known
 pub told_again : (es fs : List Entry) (q : NameParts) → AllByRecursion (IsKnownTo es) fs → join_told (find name_cmp q (known_entries es)) (find name_cmp q (known_entries fs)) ≡ find name_cmp q (known_entries es)

@@ -1,5 +1,5 @@
 //! Entries in blocks of a bounded size, so that an insert moves few of them.
-ghost use Rattle.std.specs.Prelude.{◌≡◌, ◌↔◌, ◌<◌, ◌≤◌, ◌++◌, IsTrue, List, true, false, length, map, option_map, IfSome, IfOk, OnOk, OnErr};
+ghost use Rattle.std.specs.Prelude.{◌≡◌, ◌↔◌, ◌<◌, ◌≤◌, ◌++◌, ◌-◌, ◌^◌, IsOk, IsSome, IsTrue, List, true, false, length, map, option_map, IfSome, IfOk, OnOk, OnErr};
 ghost use Rattle.std.specs.Option.{option_copied};
 ghost use Rattle.std.specs.FinMap.{find, put};
 ghost use Rattle.wsegment.specs.Declaration.{Declaration};
@@ -223,12 +223,15 @@ pub(crate) fn put_in(
     Ok(())
 }
 
-/// The number of entries when something is put of a name, where so many there are now.
+/// The number of entries when something is put of a name, where so many there are now. It errs where there are as many
+/// as a number can tell, and none of this name.
 pub(crate) fn count_after(blocks: &[Block], count: usize, name: &Name) -> Result<usize, AllocError>
     requires rising { IsRising (flat blocks.now) }
     requires count { count ≡ length (flat blocks.now) }
-    ensures { IfOk result
+    ensures count { IfOk result
         (λ after. (k : TheKnown) → after ≡ length (put name_cmp name.now k (known_entries (flat blocks.now)))) }
+    ensures full { OnErr result (count ≡ 2 ^ 64 - 1) }
+    ensures known { IsSome (find name_cmp name.now (known_entries (flat blocks.now))) → IsOk result }
 {
     if held_in(blocks, name).is_some() {
         return Ok(count);

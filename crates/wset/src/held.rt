@@ -63,7 +63,8 @@ impl Held {
 
     /// Whether another's knowledge of a name adds to this.
     pub(crate) fn learns(&self, other: &Held) -> bool
-        ensures { result ≡ false → join_known (known_of self.now) (known_of other.now) ≡ known_of self.now }
+        ensures known { result ≡ false → join_known (known_of self.now) (known_of other.now) ≡ known_of self.now }
+        ensures new { join_known (known_of self.now) (known_of other.now) ≡ known_of self.now → result ≡ false }
     {
         match (self, other) {
             (Held::Retired, _) => false,

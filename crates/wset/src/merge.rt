@@ -80,7 +80,8 @@ fn first_joined<'a>(ours: &'a [Entry], theirs: &'a [Entry]) -> Result<Option<Ste
 /// Whether an entry adds to what is known of its name.
 fn adds(ours: &[Block], entry: &Entry) -> bool
     requires { IsRising (flat ours.now) }
-    ensures { result ≡ false → IsKnownTo (flat ours.now) entry.now }
+    ensures known { result ≡ false → IsKnownTo (flat ours.now) entry.now }
+    ensures new { IsKnownTo (flat ours.now) entry.now → result ≡ false }
 {
     match held_in(ours, &entry.name) {
         None => true,
@@ -91,7 +92,8 @@ fn adds(ours: &[Block], entry: &Entry) -> bool
 /// Whether some of these add to what ours tell.
 fn some_add(ours: &[Block], theirs: &[Entry]) -> bool
     requires { IsRising (flat ours.now) }
-    ensures { result ≡ false → AllByRecursion (IsKnownTo (flat ours.now)) theirs.now }
+    ensures known { result ≡ false → AllByRecursion (IsKnownTo (flat ours.now)) theirs.now }
+    ensures new { AllByRecursion (IsKnownTo (flat ours.now)) theirs.now → result ≡ false }
 {
     'theirs: for entry in theirs {
         if adds(ours, entry) {
@@ -104,7 +106,8 @@ fn some_add(ours: &[Block], theirs: &[Entry]) -> bool
 /// Whether theirs add to what ours tell.
 pub(crate) fn teaches(ours: &[Block], theirs: &[Block]) -> bool
     requires { IsRising (flat ours.now) }
-    ensures { result ≡ false → AllByRecursion (IsKnownTo (flat ours.now)) (flat theirs.now) }
+    ensures known { result ≡ false → AllByRecursion (IsKnownTo (flat ours.now)) (flat theirs.now) }
+    ensures new { AllByRecursion (IsKnownTo (flat ours.now)) (flat theirs.now) → result ≡ false }
 {
     'theirs: for block in theirs {
         if some_add(ours, block.entries()) {

@@ -242,7 +242,7 @@ impl SegmentSet {
     /// Learns all that the other set knows. Sets of different declarations are not joined; there, and
     /// where memory runs out, the set is as it was.
     ///
-    /// A join that teaches nothing looks each of the other's names up and makes no list. Any other walks
+    /// A join that teaches nothing looks each of the other's names up, makes no list and takes no memory. Any other walks
     /// the names of both sets once, whatever the segments' sizes: it makes a list of the entries of each
     /// set and one of both, some 64 bytes a name each, and keeps the last as one block. Segments are
     /// shared: none is read, and no byte or cell is copied.
@@ -251,6 +251,7 @@ impl SegmentSet {
         ensures same { OnOk result (self.old.schema ≡ other.now.schema) }
         ensures refused { result ≡ Err JoinError.OtherSchema → self.old.schema ≢ other.now.schema }
         ensures other { self.old.schema ≢ other.now.schema → result ≡ Err JoinError.OtherSchema }
+        ensures known { self.old.schema ≡ other.now.schema → join self.old.view other.now.view ≡ self.old.view → IsOk result }
         ensures err { OnErr result (self.new ≡ self.old) }
     {
         if !self.is_alike(other) {

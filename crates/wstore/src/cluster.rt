@@ -55,6 +55,7 @@ fn empty_slots(alloc: Global) -> Result<Vec<Slot>, AllocError>
 }
 
 impl Cluster {
+    ghost use Rattle.std.specs.Prelude.{◌+◌, ◌-◌, ◌<◌, slice_index_or};
     ghost use Rattle.wstore.specs.Standing.{StandAt, AnswersAs, places};
     ghost use Rattle.wreplies.specs.Texts.{bytes_of};
     ghost use Rattle.wstore.specs.Requests.{IsOrderAt};
@@ -73,6 +74,15 @@ impl Cluster {
             nodes,
             slots,
         })
+    }
+
+    // The node of a number.
+    fn node(&self, number: NodeNumber) -> &Node
+        ensures place { number - 1 + 1 ≡ number }
+        ensures in_range { number - 1 < node_count }
+        ensures node { result.now ≡ slice_index_or self.now.nodes.items (number - 1) result.now }
+    {
+        &self.nodes[number.place()]
     }
 
     /// Takes a segment at a node.
@@ -111,8 +121,7 @@ impl Cluster {
     pub(crate) fn list(&self, node: NodeNumber) -> Result<Text, AllocError>
         ensures { IfOk result (λ text. (d : Declaration) (h : List Step) → StandAt d (places self.now.nodes.items self.now.slots.items) h → AnswersAs d (places self.now.nodes.items self.now.slots.items) h (Listing node) (bytes_of text)) }
     {
-        let place = node.place();
-        let all = self.nodes[place].list()?;
+        let all = self.node(node).list()?;
         let text = names(self.alloc, &all)?;
         Ok(text)
     }
@@ -121,8 +130,7 @@ impl Cluster {
     pub(crate) fn ask(&self, node: NodeNumber, text: &[u8]) -> Result<Text, AllocError>
         ensures { IfOk result (λ reply. (d : Declaration) (h : List Step) → length text.now ≤ longest_text → StandAt d (places self.now.nodes.items self.now.slots.items) h → AnswersAs d (places self.now.nodes.items self.now.slots.items) h (Ask node text.now) (bytes_of reply)) }
     {
-        let place = node.place();
-        match self.nodes[place].ask(text) {
+        match self.node(node).ask(text) {
             Ok(bytes) => {
                 let reply = answer(self.alloc, &bytes)?;
                 Ok(reply)

@@ -37,7 +37,7 @@ returns-in_err-value-clause-fault c =
     let i = c.loop-i.i in
     rw (p.1, p.2) (cells-stop c.in_err-value.field-0.0 c.args.number (drop i ks) (drop (suc i) ks) (drop i fs) (drop (suc i) fs) c.index-header-i.result.now.kind c.in-Some.field.now
     (map meaning (drop (length c.args.cells.now.items) c.loop-i.cells.items)) (row_of c.args.number ks fs) (kind-drop c.args.header.now i c.index-header-i.result c.loop-i-test.true c.index-header-i.is)
-    (field-drop fs i c.in-Some.field.now (sym c.in-Some.ensures.value)) (rw c.kind.ensures at c.in_err-value.ensures) c.loop-i.invariant.so_far)
+    (field-drop fs i c.in-Some.field.now (sym c.in-Some.ensures.value)) (rw c.kind.ensures at c.in_err-value.ensures.gives) c.loop-i.invariant.so_far)
 
 pub loop-i-preserved : goal.loop-i-preserved
 loop-i-preserved c =
@@ -55,7 +55,7 @@ loop-i-preserved c =
       added = omega (arith, long, c.loop-i.invariant.added);
       so_far = rw (e, add-one i) (cells-go c.args.number (drop i ks) (drop (suc i) ks) (drop i fs) (drop (suc i) fs) c.index-header-i.result.now.kind c.in-Some.field.now
           (map meaning (drop start cells)) (meaning c.in_ok-value.value) (row_of c.args.number ks fs) (kind-drop c.args.header.now i c.index-header-i.result c.loop-i-test.true c.index-header-i.is)
-          (field-drop fs i c.in-Some.field.now (sym c.in-Some.ensures.value)) (rw c.kind.ensures at c.in_ok-value.ensures) c.loop-i.invariant.so_far);
+          (field-drop fs i c.in-Some.field.now (sym c.in-Some.ensures.value)) (rw c.kind.ensures at c.in_ok-value.ensures.gives) c.loop-i.invariant.so_far);
     }
 
 pub returns-clause-added : goal.returns-clause-added

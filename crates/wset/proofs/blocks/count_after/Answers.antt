@@ -3,10 +3,10 @@ use Rattle.wset.specs.Blocks.{flat}
 use Rattle.wset.proofs.BlockFacts.{counted_after}
 use Rattle.wset.proofs.blocks.count_after.Goals as goal
 
-pub returns-then-is_some : goal.returns-then-is_some
-returns-then-is_some c k =
+pub returns-then-is_some-clause-count : goal.returns-then-is_some-clause-count
+returns-then-is_some-clause-count c k =
     c.requires.count ∙ sym (counted_after c.held_in.result (flat c.args.blocks.now) c.args.name.now k true c.held_in.ensures.known (sym c.is_some.ensures ∙ c.if-is_some.true) c.requires.rising)
 
-pub returns : goal.returns
-returns c k =
+pub returns-clause-count : goal.returns-clause-count
+returns-clause-count c k =
     ap (λ n. n + 1) c.requires.count ∙ sym (counted_after c.held_in.result (flat c.args.blocks.now) c.args.name.now k false c.held_in.ensures.known (sym c.is_some.ensures ∙ c.if-is_some.false) c.requires.rising)

@@ -2,7 +2,7 @@ use Rattle.std.proofs.Common.{◌≡◌, ◌∙◌, sym, ap, subst, length, arit
 use Rattle.wset.specs.Views.{join}
 use Rattle.wset.specs.Entries.{AllHeldBy, known_entries}
 use Rattle.wset.specs.Blocks.{flat}
-use Rattle.wset.proofs.Maps.{rising_join, stored_view, view_again, view_join}
+use Rattle.wset.proofs.Maps.{known_again, rising_join, stored_view, view_again, view_join}
 use Rattle.wset.proofs.Sets.{changed, same_view}
 use Rattle.wset.proofs.set.SegmentSet.join.Goals as goal
 
@@ -27,7 +27,7 @@ returns-clause-ok c =
 
 pub returns-then-not-teaches-clause-ok : goal.returns-then-not-teaches-clause-ok
 returns-then-not-teaches-clause-ok c =
-    let teaches = rw (c.deref.ensures.value, c.deref-2.ensures.value) at c.teaches.ensures in
+    let teaches = rw (c.deref.ensures.value, c.deref-2.ensures.value) at c.teaches.ensures.known in
     let known = teaches c.if-not-teaches.true in
     let ours = ap (λ s. s.view) c.self.view_is in
     let theirs = ap (λ s. s.view) c.other.view_is in
@@ -35,3 +35,13 @@ returns-then-not-teaches-clause-ok c =
     ∙ view_again (flat c.self.inside.blocks.items) (flat c.other.inside.blocks.items) c.self.invariant.rising c.other.invariant.rising known
     ∙ ap (λ v. join v (stored_view (flat c.other.inside.blocks.items))) ours
     ∙ ap (join c.args.self.now.view) theirs)
+
+pub returns-in_default-clause-known : goal.returns-in_default-clause-known
+returns-in_default-clause-known c = λ alike same.
+    let teaches = rw (c.deref.ensures.value, c.deref-2.ensures.value) at c.teaches.ensures.new in
+    sym (teaches (known_again _ _ _ _ c.self.invariant.rising c.other.invariant.rising (ap (λ s. s.view) c.self.view_is) (ap (λ s. s.view) c.other.view_is) same)) ∙ c.if-not-teaches.false
+
+pub returns-in_default-in_blocks-clause-known : goal.returns-in_default-in_blocks-clause-known
+returns-in_default-in_blocks-clause-known c = λ alike same.
+    let teaches = rw (c.deref.ensures.value, c.deref-2.ensures.value) at c.teaches.ensures.new in
+    sym (teaches (known_again _ _ _ _ c.self.invariant.rising c.other.invariant.rising (ap (λ s. s.view) c.self.view_is) (ap (λ s. s.view) c.other.view_is) same)) ∙ c.if-not-teaches.false

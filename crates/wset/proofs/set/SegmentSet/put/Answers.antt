@@ -10,7 +10,7 @@ use Rattle.wset.proofs.set.SegmentSet.put.Goals as goal
 pub invariant_of-self-2 : goal.invariant_of-self-2
 invariant_of-self-2 c = record {
   rising = rising_put (flat c.self.inside.blocks.items) (flat c.put_in.new.blocks.items) c.args.name (known_of c.args.held) c.self.invariant.rising c.in_ok-put_in.ensures.ok;
-  counted = (rw c.deref.ensures.value at c.in_ok-count.ensures) (known_of c.args.held) ∙ ap length (sym c.in_ok-put_in.ensures.ok) ∙ length-known_entries (flat c.put_in.new.blocks.items);
+  counted = (rw c.deref.ensures.value at c.in_ok-count.ensures.count) (known_of c.args.held) ∙ ap length (sym c.in_ok-put_in.ensures.ok) ∙ length-known_entries (flat c.put_in.new.blocks.items);
   few = omega arith;
   read = c.put_in.ensures.read _ c.self.invariant.read (subst (λ s. IsHeldBy s.schema c.args.held) (sym c.self.view_is) c.requires);
 }
