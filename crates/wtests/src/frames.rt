@@ -1,4 +1,7 @@
-ghost use Rattle.std.specs.Prelude.{nat_lt};
+ghost use Rattle.std.specs.Prelude.{length};
+ghost use Rattle.wvalues.specs.Order.{keys_cmp};
+ghost use Rattle.wframe.specs.KeyRows.{key_lists, sort_keys};
+ghost use Rattle.wframe.specs.Peers.{is_upto};
 
 use std::alloc::{AllocError, Global};
 use std::cell::Cell;
@@ -251,25 +254,26 @@ fn places_in_a_partition(rt: HostRuntime) -> Result<(), Fail> {
     Ok(())
 }
 
-/// Passes the first half of the places, whatever the row, and counts how often it is asked.
+/// Passes what stands no later than the row in the order of the rows, and counts how often it is asked.
 #[derive(Drop)]
-struct AskedCut {
-    rows: usize,
+struct AskedCut<'a> {
+    rows: KeyRows<'a>,
     calls: Cell<u64>,
 }
 
-impl Cut for AskedCut {
-    ghost row_count = { λ cut. cut.rows };
+impl<'a> Cut for AskedCut<'a> {
+    ghost row_count = { λ cut. length (key_lists cut.rows) };
 
-    ghost passes = { λ _ _ place. nat_lt place 500 };
+    ghost passes = { λ cut. is_upto (keys_cmp (sort_keys cut.rows)) (key_lists cut.rows) };
 
-    fn is_passed(&self, _row: usize, place: usize) -> bool {
+    fn is_passed(&self, row: usize, place: usize) -> bool {
         self.calls.set(self.calls.get().wrapping_add(1));
-        place < 500
+        !self.rows.compare(row, place).is_lt()
     }
 
     fn end_of_equals(&self, row: usize) -> usize {
-        row + 1
+        let count = self.rows.count();
+        if row + 1 < count { row + 1 } else { count }
     }
 }
 
@@ -295,14 +299,13 @@ fn the_end_of_a_frame_moves_along(rt: HostRuntime) -> Result<(), Fail> {
     push_peers(&mut numbers, &mut group_ends, &keys, 0)?;
     let peers = PeerEnds::new(keys, &numbers, &group_ends, 0, 0);
     let cut = AskedCut {
-        rows: 1000,
+        rows: keys,
         calls: Cell::new(0),
     };
     let mut ends = Vec::new(rt.alloc());
     push_group_cuts(&mut ends, &cut, &peers)?;
-    assert_eq!(rt; ends.len(), 1000);
-    assert_eq!(rt; ends.first(), Some(&500));
-    assert_eq!(rt; ends.last(), Some(&500));
+    let wanted: Vec<usize> = (1..1001).collect(rt.alloc())?;
+    assert_eq!(rt; ends.as_slice(), wanted.as_slice());
     assert!(rt; cut.calls.get() <= 2000);
     Ok(())
 }

@@ -32,6 +32,17 @@ fn is_live(set: &SegmentSet, origin: &[u8], bytes: &[u8]) -> bool {
     false
 }
 
+// How many names are live, and how many rows their segments have together.
+fn live_counts(set: &SegmentSet) -> (usize, usize) {
+    let mut names: usize = 0;
+    let mut rows: usize = 0;
+    for (_, segment) in set.lives() {
+        names = names.wrapping_add(1);
+        rows = rows.wrapping_add(segment.rows());
+    }
+    (names, rows)
+}
+
 #[test]
 fn same_bytes_are_taken_once(rt: HostRuntime) -> Result<(), Fail> {
     let mut set = sales(rt.alloc())?;
@@ -51,7 +62,7 @@ fn other_bytes_are_disputed(rt: HostRuntime) -> Result<(), Fail> {
     assert_eq!(rt; set.take(east()?, OTHER_ROWS)?, Taken::New);
     assert_eq!(rt; set.take(east()?, FOUR_ROWS)?, Taken::Disputed);
     assert_eq!(rt; set.take(east()?, OTHER_ROWS)?, Taken::Ignored);
-    assert!(rt; !is_live(&set, b"east", OTHER_ROWS));
+    assert_eq!(rt; live_counts(&set), (0, 0));
     let all = set.list()?;
     assert_eq!(rt; all.len(), 1);
     assert_eq!(rt; all[0].status, Status::Disputed);
@@ -74,7 +85,7 @@ fn a_refused_segment_is_not_taken(rt: HostRuntime) -> Result<(), Fail> {
     let mut set = sales(rt.alloc())?;
     assert_eq!(rt; set.take(east()?, b""), Err(SegmentFault::NoHeader));
     assert_eq!(rt; set.status(east()?), Status::Unknown);
-    assert!(rt; !is_live(&set, b"east", b""));
+    assert_eq!(rt; live_counts(&set), (0, 0));
     Ok(())
 }
 
@@ -91,7 +102,8 @@ fn both_ways_of_joining_agree(rt: HostRuntime) -> Result<(), Fail> {
     assert!(rt; is_live(&one, b"west", OTHER_ROWS));
     assert!(rt; is_live(&two, b"east", FOUR_ROWS));
     assert!(rt; is_live(&two, b"west", OTHER_ROWS));
-    assert!(rt; !is_live(&two, b"north", FOUR_ROWS));
+    assert_eq!(rt; live_counts(&one), (2, 8));
+    assert_eq!(rt; live_counts(&two), (2, 8));
     assert_eq!(rt; two.list()?.len(), 3);
     Ok(())
 }
