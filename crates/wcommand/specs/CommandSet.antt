@@ -42,12 +42,16 @@ list_shape = shape_on_files (codes "list") []
 abbrev pub ask_shape : Shape
 ask_shape = shape_on_files (codes "ask") (positional_rule (codes "QUERY") ∷ [])
 
--- the program without its subcommands: its words are those behind its name, and it and they have a version
-abbrev pub program_app : App
-program_app = record {
-  top = record (new_shape (codes "wstore")) { no_binary_name = true; has_version = true; propagate_version = true };
+-- the program without its subcommands and its version: its words are those behind its name
+abbrev pub unversioned_app : App
+unversioned_app = record {
+  top = record (new_shape (codes "wstore")) { no_binary_name = true };
   subs = [];
 }
+
+-- the program without its subcommands: it and they have a version
+abbrev pub program_app : App
+program_app = record unversioned_app { top = record unversioned_app.top { has_version = true; propagate_version = true } }
 
 -- the subcommands, in the order of the help
 abbrev pub subcommands : List Shape

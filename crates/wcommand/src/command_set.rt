@@ -2,7 +2,7 @@
 ghost use Rattle.std.specs.Prelude.{◌≡◌, IfOk, false, codes, true};
 ghost use Rattle.clap.specs.Words.{app_of, rule_of, shape_of, with_rule, is_broken, new_app};
 ghost use Rattle.clap.specs.declared.builder.command.Command.TheViews.{out-Command as fields_of};
-ghost use Rattle.wcommand.specs.CommandSet.{ask_shape, command_set, join_shape, list_shape, option_rule, positional_rule, program_app, retire_shape, session_shape, take_shape};
+ghost use Rattle.wcommand.specs.CommandSet.{ask_shape, command_set, join_shape, list_shape, option_rule, positional_rule, program_app, retire_shape, session_shape, take_shape, unversioned_app};
 
 use crate::help;
 use clap::{Arg, Command};
@@ -115,14 +115,23 @@ fn session<'a>(alloc: Global) -> Command<'a>
         .after_help(help::AFTER_SESSION)
 }
 
+// The program without its version, which takes words behind its name alone.
+fn unversioned<'a>(alloc: Global) -> Result<Command<'a>, AllocError>
+    ensures shape { IfOk result (λ c. app_of c ≡ unversioned_app) }
+    ensures local { IfOk result (λ c. (fields_of c).has_globals ≡ false) }
+{
+    let command = Command::new(alloc, "wstore")
+        .no_binary_name(true)
+        .bin_name("wstore")?;
+    Ok(command)
+}
+
 // The program, before its subcommands.
 fn program<'a>(alloc: Global) -> Result<Command<'a>, AllocError>
     ensures shape { IfOk result (λ c. app_of c ≡ program_app) }
     ensures local { IfOk result (λ c. (fields_of c).has_globals ≡ false) }
 {
-    let command = Command::new(alloc, "wstore")
-        .no_binary_name(true)
-        .bin_name("wstore")?
+    let command = unversioned(alloc)?
         .version(help::VERSION)
         .propagate_version(true)
         .about(help::ABOUT)

@@ -9,9 +9,9 @@ use Rattle.wact.specs.declared.acted.Acted.{Acted}
 use Rattle.wstore.specs.declared.runs.End.{End}
 use Rattle.wstore.specs.declared.runs.End.TheVariants as ends
 use Rattle.wstore.specs.declared.runs.RunFault.{RunFault}
-use Rattle.wstore_program.specs.Calls.{CallCounts, HasCause, IsSound}
+use Rattle.wfiles.specs.Calls.{CallCounts, HasCause, IsSound}
 use Rattle.wstore_program.specs.Performing.{IsPerformed}
-use Rattle.wstore_program.specs.declared.fault.Fault.{Fault}
+use Rattle.wfiles.specs.declared.fault.Fault.{Fault}
 
 -- of a script
 abbrev pub script_status : Result End RunFault → ℕ

@@ -4,16 +4,14 @@ ghost use Rattle.wcommand.specs.Inputs.{input_of};
 ghost use Rattle.wcommand.specs.declared.choice.Choice.TheVariants.{Session};
 ghost use Rattle.wact.specs.Acts.{Acts};
 ghost use Rattle.wstore_program.specs.Performing.{IsPerformed};
-ghost use Rattle.wstore_program.specs.Calls.{HasCause, IsSound};
+ghost use Rattle.wfiles.specs.Calls.{HasCause, IsSound};
 
-use crate::fault::Fault;
-use crate::files::{Place, read_if_there, read_whole};
-use crate::system::System;
 use std::alloc::{AllocError, Global};
 use std::fs::File;
 use std::rt::Files;
 use wact::{Acted, act};
 use wcommand::{Choice, Paths};
+use wfiles::{Fault, Place, System, read_if_there, read_whole};
 
 // What the subcommand gives on these bytes.
 fn acted(

@@ -7,23 +7,19 @@
 ghost use Rattle.std.specs.Prelude.{◌≡◌, ◌≢◌};
 ghost use Rattle.std.specs.Process.{exit_status};
 ghost use Rattle.wcommand.specs.declared.choice.Choice.TheVariants.{Session};
-ghost use Rattle.wstore_program.specs.Calls.{IsSound};
+ghost use Rattle.wfiles.specs.Calls.{IsSound};
 ghost use Rattle.wstore_program.specs.Statuses.{HasFileStatus, HasWordsStatus, IsPrinted, script_status};
 
 mod acting;
-mod fault;
-mod files;
-mod system;
 
 use acting::perform;
-use fault::Fault;
 use std::env;
 use std::fs::File;
 use std::io::{ErrorKind, Write};
 use std::process::ExitCode;
 use std::rt::Files;
-use system::System;
 use wcommand::{Choice, Paths, WordsFault, choose};
+use wfiles::{Fault, System};
 use wstore::{End, RunFault, run};
 use wvalues::Counted;
 

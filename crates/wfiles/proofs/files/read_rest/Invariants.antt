@@ -1,7 +1,7 @@
 use Rattle.std.proofs.Common.{◌-◌}
 use Rattle.std.specs.Io.KnownBytes.{Consumes}
-use Rattle.wstore_program.specs.Calls.{IsSound, most_reads}
-use Rattle.wstore_program.proofs.files.read_rest.Given as goal
+use Rattle.wfiles.specs.Calls.{IsSound, most_reads}
+use Rattle.wfiles.proofs.files.read_rest.Given as goal
 
 abbrev pub invariant-reads : goal.invariant-reads
 invariant-reads g l = record {

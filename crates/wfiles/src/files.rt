@@ -1,7 +1,7 @@
 //! Files, read and replaced whole.
 ghost use Rattle.std.specs.Prelude.{◌≡◌, IfOk, IfErr, OnOk};
 ghost use Rattle.std.specs.Io.KnownBytes.{Consumes, IsAtEnd};
-ghost use Rattle.wstore_program.specs.Calls.{HasCause, IsSound};
+ghost use Rattle.wfiles.specs.Calls.{HasCause, IsSound};
 
 use crate::fault::Fault;
 use crate::system::System;

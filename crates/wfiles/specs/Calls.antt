@@ -1,8 +1,8 @@
 -- What is counted of the program's calls on files and streams, and the causes of its faults.
 use Rattle.std.specs.Prelude.{◌≡◌, ◌⊎◌, ℕ, ◌^◌, ◌<◌, ◌≤◌, List, length, take, Option, None, Some}
 use Rattle.std.specs.Io.KnownBytes.{Consumes, IsAtEnd, Keeps}
-use Rattle.wstore_program.specs.declared.fault.Fault.{Fault}
-use Rattle.wstore_program.specs.declared.fault.Fault.TheVariants as faults
+use Rattle.wfiles.specs.declared.fault.Fault.{Fault}
+use Rattle.wfiles.specs.declared.fault.Fault.TheVariants as faults
 
 -- the reads of files, and the calls that failed: those that open or read, and those that write, replace, or bring to the
 -- disk; and the growths of memory that were refused. A path that leads to no place for a file counts as a failed write. A

@@ -3,8 +3,8 @@ ghost use Rattle.std.specs.Prelude.{◌≡◌, ◌≢◌, ◌+◌, ◌≤◌, �
 ghost use Rattle.std.specs.IoError.{error_kind};
 ghost use Rattle.std.specs.Fs.{IsReadonly};
 ghost use Rattle.std.specs.Io.KnownBytes.{Appends};
-ghost use Rattle.wstore_program.specs.declared.fault.Fault.TheVariants.{NoMemory};
-ghost use Rattle.wstore_program.specs.Calls.{GivesBytes, HasCause, IsSound};
+ghost use Rattle.wfiles.specs.declared.fault.Fault.TheVariants.{NoMemory};
+ghost use Rattle.wfiles.specs.Calls.{GivesBytes, HasCause, IsSound};
 
 use crate::fault::Fault;
 use std::alloc::AllocError;
@@ -28,7 +28,7 @@ pub struct System<'a, R> {
 }
 
 impl<'a, R> Model for System<'a, R> {
-    ghost use Rattle.wstore_program.specs.Calls.{CallCounts};
+    ghost use Rattle.wfiles.specs.Calls.{CallCounts};
 
     ghost Value = { CallCounts };
 

@@ -1,0 +1,20 @@
+//! Files, read whole and replaced whole, over calls that are counted.
+//!
+//! - Gives a system that counts the reads of files, the calls that failed and the growths that were refused; the bytes of
+//!   a file; and a place whose file is replaced, by one that is written beside it.
+//! - Promises: a fault comes only where a call failed, a growth was refused or the reads are used up, as the system
+//!   counts them, and nothing else has failed then. What is read is all that the file had left, and what is written is
+//!   written whole.
+//! - Asks: a system in which nothing has failed yet.
+//! - Leaves what the bytes mean to the program.
+//!
+//! Read `specs/Calls.antt`.
+#![tactic(auto)]
+
+mod fault;
+mod files;
+mod system;
+
+pub use fault::Fault;
+pub use files::{Place, read_if_there, read_whole};
+pub use system::System;
