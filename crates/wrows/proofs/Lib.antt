@@ -2,6 +2,7 @@ pub mod RowFacts
 mod BesideFacts
 mod MoreSorting
 mod CodeFacts
+mod DealFacts
 pub mod ChainFacts
 mod KeyFacts
 mod RankFacts

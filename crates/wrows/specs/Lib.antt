@@ -6,6 +6,7 @@ pub mod Laid
 pub mod Plain
 pub mod Codes
 pub mod CodedRows
+pub mod Dealt
 pub mod Told
 pub mod Ranks
 pub mod Picked

@@ -17,6 +17,7 @@
 mod cells;
 mod coded;
 mod codes;
+mod dealing;
 mod fault;
 mod first;
 mod joined;
