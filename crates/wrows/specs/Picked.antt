@@ -9,9 +9,13 @@ use Rattle.wrows.specs.Outcomes.{◌>>=◌}
 use Rattle.wrows.specs.Columns.{Row, lists_of, value_at}
 use Rattle.wrows.specs.Plain.{cut, numbers_by}
 
+-- a row's own cells, and behind them what the columns have for it
+abbrev pub with_columns : Row → List (List Meaning) → ℕ → Row
+with_columns own columns i = own ++ map (λ column. value_at column i) columns
+
 -- the row of a number, with what the columns have for it
 abbrev pub row_beside : List Row → List (List Meaning) → ℕ → Row
-row_beside rows columns i = key_at rows i ++ map (λ column. value_at column i) columns
+row_beside rows columns i = with_columns (key_at rows i) columns i
 
 -- its values at some places
 abbrev pub picked : List ℕ → List Row → List (List Meaning) → ℕ → Row

@@ -1,15 +1,15 @@
 //! Values at places of rows, read where they lie.
-ghost use Rattle.std.specs.Prelude.{◌≡◌, ◌*◌, ◌++◌, IfOk, IfSome, Ok, OnOk, length, map};
-ghost use Rattle.std.specs.List.{list_all};
+ghost use Rattle.std.specs.Prelude.{List, ◌≡◌, ◌*◌, ◌++◌, IfOk, IfSome, Ok, OnOk, length, map};
+ghost use Rattle.std.specs.List.{flat_map, list_all};
 ghost use Rattle.std.specs.Option.{is_some};
 ghost use Rattle.wvalues.specs.Meaning.{meaning, Null};
 ghost use Rattle.wframe.specs.Peers.{key_at};
 ghost use Rattle.wplan.specs.declared.expr.Expr.{out-Expr};
 ghost use Rattle.wplan.specs.Formula.{At, formula};
-ghost use Rattle.wrows.specs.Columns.{beside, lists_of, value_at};
+ghost use Rattle.wrows.specs.Columns.{Row, beside, lists_of, value_at};
 ghost use Rattle.wrows.specs.LaidRows.{laid};
 ghost use Rattle.wrows.specs.Laid.{formulas_seen, rows_seen};
-ghost use Rattle.wrows.specs.Picked.{picked, row_beside};
+ghost use Rattle.wrows.specs.Picked.{picked, row_beside, with_columns};
 ghost use Rattle.wrows.specs.PlainColumns.{is_plain, plain_place};
 
 use std::alloc::{AllocError, Global};
@@ -74,6 +74,24 @@ fn answer_at<'a>(columns: &[&'a [Value]], null: &'a Value, row: usize, number: u
     }
 }
 
+// A value of a row that has these cells, at a place: of its own cells, or behind them of what the columns have for it.
+fn value_of<'a>(
+    own: &'a [Value],
+    columns: &[&'a [Value]],
+    null: &'a Value,
+    row: usize,
+    place: usize,
+) -> &'a Value
+    requires { meaning null.now ≡ Null }
+    ensures { meaning result.now ≡ value_at (with_columns (map meaning own.now) (rows_seen columns.now) row) place }
+{
+    if place < own.len() {
+        &own[place]
+    } else {
+        answer_at(columns, null, row, place - own.len())
+    }
+}
+
 /// A row's value at a place: of its own cells, or behind them of what the columns have for it. It is null where there
 /// is none.
 pub(crate) fn value_beside<'a>(
@@ -86,17 +104,12 @@ pub(crate) fn value_beside<'a>(
     requires { meaning null.now ≡ Null }
     ensures { meaning result.now ≡ value_at (row_beside (rows_seen rows.now) (rows_seen columns.now) row) place }
 {
-    let cells = cells_at(rows, row);
-    if place < cells.len() {
-        &cells[place]
-    } else {
-        answer_at(columns, null, row, place - cells.len())
-    }
+    value_of(cells_at(rows, row), columns, null, row, place)
 }
 
-// Appends a row's values at some places.
+// Appends the values at some places of a row that has these cells.
 fn push_picked(
-    rows: &[&[Value]],
+    own: &[Value],
     columns: &[&[Value]],
     null: &Value,
     places: &[usize],
@@ -104,10 +117,45 @@ fn push_picked(
     cells: &mut Vec<Value>,
 ) -> Result<(), AllocError>
     requires { meaning null.now ≡ Null }
-    ensures { OnOk result (map meaning cells.new.items ≡ map meaning cells.old.items ++ picked places.now (rows_seen rows.now) (rows_seen columns.now) row) }
+    ensures { OnOk result (map meaning cells.new.items ≡ map meaning cells.old.items ++ map (value_at (with_columns (map meaning own.now) (rows_seen columns.now) row)) places.now) }
 {
     for place in places {
-        cells.push(value_beside(rows, columns, null, row, *place).duplicate()?)?;
+        cells.push(value_of(own, columns, null, row, *place).duplicate()?)?;
+    }
+    Ok(())
+}
+
+// The cells of the rows of these numbers, in their order, lent. This loop does nothing else, so that the processor has
+// many rows on their way at once.
+fn lent_by_number<'a>(
+    alloc: Global,
+    rows: &[&'a [Value]],
+    numbers: &[usize],
+) -> Result<Vec<&'a [Value]>, AllocError>
+    ensures { IfOk result (λ lent. rows_seen lent.items ≡ map (key_at (rows_seen rows.now)) numbers.now) }
+{
+    let mut lent = Vec::with_capacity(alloc, numbers.len())?;
+    for number in numbers {
+        lent.push(cells_at(rows, *number))?;
+    }
+    Ok(lent)
+}
+
+// The values at some places of rows that have these cells and numbers, laid out one row after another.
+fn push_rows(
+    lent: &[&[Value]],
+    columns: &[&[Value]],
+    null: &Value,
+    places: &[usize],
+    numbers: &[usize],
+    cells: &mut Vec<Value>,
+) -> Result<(), AllocError>
+    requires null { meaning null.now ≡ Null }
+    requires len { length lent.now ≡ length numbers.now }
+    ensures { (rows : List Row) → rows_seen lent.now ≡ map (key_at rows) numbers.now → OnOk result (map meaning cells.new.items ≡ map meaning cells.old.items ++ flat_map (picked places.now rows (rows_seen columns.now)) numbers.now) }
+{
+    for (i, number) in numbers.iter().enumerate() {
+        push_picked(lent[i], columns, null, places, *number, cells)?;
     }
     Ok(())
 }
@@ -125,10 +173,9 @@ pub(crate) fn picked_rows(
     ensures rows { IfOk result (λ cells. laid (length places.now) (length numbers.now) cells.items ≡ map (picked places.now (rows_seen rows.now) (rows_seen columns.now)) numbers.now) }
     ensures laid { IfOk result (λ cells. length cells.items ≡ length numbers.now * length places.now) }
 {
+    let lent = lent_by_number(alloc, rows, numbers)?;
     let mut cells = Vec::with_capacity(alloc, numbers.len().saturating_mul(places.len()))?;
-    for number in numbers {
-        push_picked(rows, columns, null, places, *number, &mut cells)?;
-    }
+    push_rows(&lent, columns, null, places, numbers, &mut cells)?;
     Ok(cells)
 }
 
@@ -146,7 +193,7 @@ pub(crate) fn picked_lists(
 {
     let mut cells = Vec::with_capacity(alloc, rows.len().saturating_mul(places.len()))?;
     for row in 0..rows.len() {
-        push_picked(rows, columns, null, places, row, &mut cells)?;
+        push_picked(cells_at(rows, row), columns, null, places, row, &mut cells)?;
     }
     Ok(cells)
 }

@@ -1,10 +1,11 @@
-use Rattle.std.proofs.Common.{◌≡◌, ◌*◌, ◌++◌, [], ℕ, length, refl, sym, ap, ◌∙◌, arith}
+use Rattle.std.proofs.Common.{◌≡◌, ◌*◌, ◌++◌, [], ℕ, length, map, refl, sym, ap, ◌∙◌, arith}
 use Rattle.std.specs.List.{flat_map}
 use Rattle.std.proofs.lemmas.List.{flat_map_more, length-map}
 use Rattle.wvalues.specs.Meaning.{meaning}
 use Rattle.wframe.specs.Places.{places}
 use Rattle.wrows.specs.Laid.{rows_seen}
-use Rattle.wrows.specs.Picked.{picked}
+use Rattle.wrows.specs.Columns.{value_at}
+use Rattle.wrows.specs.Picked.{picked, with_columns}
 use Rattle.wrows.proofs.PickFacts.{all_told, picked_wide}
 use Rattle.wrows.proofs.RowFacts.{laid_length, laid_rows, length-places, places_more}
 use Rattle.wrows.proofs.places.picked_lists.Goals as goal
@@ -13,7 +14,9 @@ pub loop-row-preserved : goal.loop-row-preserved
 loop-row-preserved c =
     let f = picked c.args.places.now (rows_seen c.args.rows.now) (rows_seen c.args.columns.now) in
     let row = c.loop-row.row in
-    c.in_ok-push_picked.ensures ∙ ap (λ l. l ++ f row) c.loop-row.invariant ∙ flat_map_more f [] (places row) row ∙ ap (flat_map f) (sym (places_more 0 row row (omega arith)))
+    c.in_ok-push_picked.ensures
+    ∙ ap (λ own. map meaning c.loop-row.cells.items ++ map (value_at (with_columns own (rows_seen c.args.columns.now) row)) c.args.places.now) c.cells_at.ensures
+    ∙ ap (λ l. l ++ f row) c.loop-row.invariant ∙ flat_map_more f [] (places row) row ∙ ap (flat_map f) (sym (places_more 0 row row (omega arith)))
 
 pub returns-clause-gives : goal.returns-clause-gives
 returns-clause-gives c =

@@ -1,4 +1,4 @@
-use Rattle.std.proofs.Common.{length, take_all, sym, ap, ◌∙◌}
+use Rattle.std.proofs.Common.{◌++◌, length, map, sym, ap, ◌∙◌}
 use Rattle.std.specs.List.{flat_map}
 use Rattle.std.proofs.lemmas.List.{length-map}
 use Rattle.wvalues.specs.Meaning.{meaning}
@@ -14,8 +14,9 @@ returns-clause-rows c =
     let numbers = c.args.numbers.now in
     let rows = rows_seen c.args.rows.now in
     let columns = rows_seen c.args.columns.now in
-    laid_rows (length places) (picked places rows columns) numbers (picked_wide places rows columns numbers) c.loop-number.cells.items
-    (c.loop-number.invariant ∙ ap (flat_map (picked places rows columns)) (take_all c.loop-number.number-index numbers c.loop-number-test.false))
+    let told = c.in_ok-push_rows.ensures rows (ap rows_seen c.deref.ensures.value ∙ c.in_ok-lent.ensures)
+        ∙ ap (λ cells. map meaning cells ++ flat_map (picked places rows columns) numbers) c.in_ok-cells.ensures.items in
+    laid_rows (length places) (picked places rows columns) numbers (picked_wide places rows columns numbers) c.push_rows.new.cells.items told
 
 pub returns-clause-laid : goal.returns-clause-laid
 returns-clause-laid c =
@@ -23,6 +24,7 @@ returns-clause-laid c =
     let numbers = c.args.numbers.now in
     let rows = rows_seen c.args.rows.now in
     let columns = rows_seen c.args.columns.now in
-    sym (length-map c.loop-number.cells.items meaning) ∙ ap length c.loop-number.invariant
-    ∙ ap (λ xs. length (flat_map (picked places rows columns) xs)) (take_all c.loop-number.number-index numbers c.loop-number-test.false)
+    let told = c.in_ok-push_rows.ensures rows (ap rows_seen c.deref.ensures.value ∙ c.in_ok-lent.ensures)
+        ∙ ap (λ cells. map meaning cells ++ flat_map (picked places rows columns) numbers) c.in_ok-cells.ensures.items in
+    sym (length-map c.push_rows.new.cells.items meaning) ∙ ap length told
     ∙ laid_length (length places) (picked places rows columns) numbers (picked_wide places rows columns numbers)
