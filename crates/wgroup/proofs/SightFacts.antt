@@ -13,7 +13,8 @@ use Rattle.wvalues.specs.Sameness.{meaning_equiv}
 use Rattle.wframe.specs.Places.{places}
 use Rattle.wrows.proofs.RowFacts.{any-map, places_more}
 use Rattle.wgroup.specs.Held.{lists_in}
-use Rattle.wgroup.specs.Sight.{first_of, members, put_in, slice_at, same_cells, same_row}
+use Rattle.wrows.specs.Dealt.{put_in}
+use Rattle.wgroup.specs.Sight.{first_of, members, slice_at, same_cells, same_row}
 
 or_false : (b : Bool) → b ≡ (b || false)
 or_false true = refl

@@ -16,12 +16,6 @@ first_of same n = filter (λ i. not (list_any (same i) (places i))) (places n)
 abbrev pub members : (ℕ → ℕ → Bool) → ℕ → ℕ → List ℕ
 members same n i = filter (same i) (places n)
 
--- a number more in one of some lists
-abbrev pub put_in : ℕ → ℕ → List (List ℕ) → List (List ℕ)
-put_in place number [] = []
-put_in zero number (xs ∷ xss) = (xs ++ number ∷ []) ∷ xss
-put_in (suc place) number (xs ∷ xss) = xs ∷ put_in place number xss
-
 -- a list of these, none where there is no such list
 abbrev pub list_at : List (List ℕ) → ℕ → List ℕ
 list_at lists g = slice_index_or lists g []

@@ -1,7 +1,8 @@
 //! Rows that are the same, in the order of first sight.
 ghost use Rattle.std.specs.Prelude.{◌≡◌, ◌*◌, ◌+◌, ◌<◌, ◌++◌, ◌∷◌, [], length, map, if◌then◌else◌, IfOk, OnOk};
 ghost use Rattle.wgroup.specs.Held.{lists_in};
-ghost use Rattle.wgroup.specs.Sight.{first_of, members, put_in, same_row};
+ghost use Rattle.wrows.specs.Dealt.{put_in};
+ghost use Rattle.wgroup.specs.Sight.{first_of, members, same_row};
 
 use crate::keys::slice_of;
 use indexmap::IndexSet;

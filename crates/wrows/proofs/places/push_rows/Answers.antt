@@ -16,9 +16,9 @@ loop-i-preserved c = λ rows e.
     let columns = rows_seen c.args.columns.now in
     let f = picked c.args.places.now rows columns in
     let own = ap row_seen c.index-lent-i.is
-        ∙ sym (get_or-map row_seen c.args.lent.now i c.index-lent-i.result [] (omega arith))
-        ∙ ap (λ lists. get_or lists i []) e
-        ∙ get_or-map (key_at rows) numbers i 0 [] (omega arith) in
+    ∙ sym (get_or-map row_seen c.args.lent.now i c.index-lent-i.result [] (omega arith))
+    ∙ ap (λ lists. get_or lists i []) e
+    ∙ get_or-map (key_at rows) numbers i 0 [] (omega arith) in
     c.in_ok-push_picked.ensures
     ∙ ap (λ cells. map meaning c.loop-i.cells.items ++ map (value_at (with_columns cells columns number)) c.args.places.now) own
     ∙ ap (λ l. l ++ f number) (c.loop-i.invariant rows e)
