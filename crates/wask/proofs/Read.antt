@@ -7,7 +7,7 @@ use Rattle.wlexer.specs.declared.fault.LexFault.TheVariants as lexing
 use Rattle.wlexer.specs.Lexing.{Lexes}
 use Rattle.wquery.specs.QueryTree.{QueryTree}
 use Rattle.wparser.specs.Queries.{Spells}
-use Rattle.wparser.specs.Finding.{meanings}
+use Rattle.wtokens.specs.Notation.{meanings}
 use Rattle.wparser.specs.declared.fault.ParseFault.{ParseFault}
 use Rattle.wparser.specs.declared.fault.ParseFault.TheVariants as parsing
 use Rattle.wask.specs.Texts.{IsForeign, IsRefused, IsText, Reads, said, syntactical}

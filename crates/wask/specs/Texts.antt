@@ -6,7 +6,7 @@ use Rattle.wlexer.specs.Lexing.{Lexes, HasFaultAt}
 use Rattle.wlexer.specs.declared.fault.LexFault.{LexFault}
 use Rattle.wlexer.specs.declared.fault.LexFault.TheVariants as lexing
 use Rattle.wquery.specs.QueryTree.{QueryTree}
-use Rattle.wparser.specs.Notation.{Tokens}
+use Rattle.wtokens.specs.Notation.{Tokens}
 use Rattle.wparser.specs.Queries.{Spells}
 use Rattle.wparser.specs.declared.fault.ParseFault.{ParseFault}
 use Rattle.wparser.specs.declared.fault.ParseFault.TheVariants as parsing

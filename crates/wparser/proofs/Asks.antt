@@ -6,8 +6,8 @@ use Rattle.wlexer.specs.declared.token.Symbol.TheVariants as symbols
 use Rattle.wquery.specs.declared.expression.ChainKind.TheVariants.{Disjunction}
 use Rattle.wquery.specs.Tree.{Tree, KeyTree}
 use Rattle.wquery.specs.QueryTree.{QueryTree, SourceTree, ItemTree, EntryTree, query_of}
-use Rattle.wparser.specs.Words.{name_of}
-use Rattle.wparser.specs.Notation.{Tokens, Row, One, After, after, Then, before, Done, Perhaps, absent, present, As, Never}
+use Rattle.wtokens.specs.Words.{name_of}
+use Rattle.wtokens.specs.Notation.{Tokens, Row, One, After, after, Then, before, Done, Perhaps, absent, present, As, Never}
 use Rattle.wparser.specs.Grammar.{ChainRank, deeper, condition, optional_name, order}
 use Rattle.wparser.specs.Queries.{required_alias, optional_alias, computed_item, item, clause, column, grouping, entry, windows, limits, clauses, query_over, deeper_query}
 use Rattle.wparser.specs.Finding.{Outcome, Answers}

@@ -9,8 +9,8 @@ use Rattle.wquery.specs.declared.frame.FrameBound.{FrameBound}
 use Rattle.wquery.specs.declared.expression.ChainKind.{ChainKind}
 use Rattle.wquery.specs.declared.expression.ChainKind.TheVariants.{Disjunction, Conjunction, Sum, Product}
 use Rattle.wquery.specs.Tree.{Tree}
-use Rattle.wparser.specs.Words.{CommaSign, name_of, number_of, text_of, sign_of}
-use Rattle.wparser.specs.Notation.{Tokens, Row, One, one, After, after, Then, before, Done, done, Perhaps, absent, present, Either, first, second, Room, room, Listed, last, next, GoesOn, ended, further, Chain, chaining, As, Never}
+use Rattle.wtokens.specs.Words.{CommaSign, name_of, number_of, text_of, sign_of}
+use Rattle.wtokens.specs.Notation.{Tokens, Row, One, one, After, after, Then, before, Done, done, Perhaps, absent, present, Either, first, second, Room, room, Listed, last, next, GoesOn, ended, further, Chain, chaining, As, Never}
 use Rattle.wparser.proofs.Steps.{one_parts}
 use Rattle.wparser.specs.Grammar.{Closed, toward, bound, extent, exclusion, frame, key, window, window_inside, over, arguments, filter, call, optional_not, primary, sign_row, range_row, comparison_row, test_row, negation_row, Rank, ChainRank, NegationRank, SignRank, sign_over, comparison_over, negation_over, operand_over, row_over, deeper, operand}
 

@@ -7,7 +7,7 @@ use Rattle.wquery.specs.declared.expression.Operator.{Operator}
 use Rattle.wlexer.specs.declared.keyword.Keyword.{Keyword}
 use Rattle.wquery.specs.QueryTree.{QueryTree, SourceTree, ItemTree, EntryTree}
 use Rattle.wquery.specs.Tree.{Tree, Given, Filter, Reach, KeyTree, WindowTree, Joined, Further, NoLinks, trees, keys, own_window, same_kind, is_chain, lengthened, joined}
-use Rattle.wparser.specs.Notation.{Tokens, Row, Listed, last, next, GoesOn, ended, further, Chain, chaining}
+use Rattle.wtokens.specs.Notation.{Tokens, Row, Listed, last, next, GoesOn, ended, further, Chain, chaining}
 use Rattle.wparser.specs.Grammar.{key, window, window_inside, optional_over, arguments, optional_filter, call, column_or_call, primary, sign_row, range_test, range_row, comparison_row, test_row, negation_row, Rank, ChainRank, NegationRank, SignRank, sign_over, negation_over, operand_over, row_over, deeper, condition, order}
 use Rattle.wparser.specs.Queries.{item, source, clause, column, grouping, entry, windows, clauses, query_over, deeper_query, Spells}
 use Rattle.wparser.specs.Depth.{height, trees_height, links_height, given_height, filter_height, reach_height, keys_height, most, item_height, optional_height, entry_height, query_height, source_height}

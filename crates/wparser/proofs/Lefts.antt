@@ -9,8 +9,8 @@ use Rattle.wquery.specs.declared.expression.ChainKind.TheVariants.{Disjunction, 
 use Rattle.wquery.specs.declared.expression.Operator.{Operator}
 use Rattle.wquery.specs.Tree.{Tree, KeyTree, Joined, Further, NoLinks, trees, keys, same_kind, is_chain, lengthened, joined}
 use Rattle.wquery.specs.Lefts.{chain_kind, IsLeft, AreLeft, AreGivenLeft, IsFilterLeft, IsReachLeft, AreKeysLeft, IsWindowLeft, IsOptionalLeft, AreItemsLeft, AreEntriesLeft, IsQueryLeft, IsSourceLeft}
-use Rattle.wparser.specs.Words.{operator_of}
-use Rattle.wparser.specs.Notation.{Tokens, Row, After, after, Then, before, Done, done, Perhaps, absent, present, Either, first, second, Room, room, Listed, last, next, GoesOn, ended, further, Chain, chaining, As}
+use Rattle.wtokens.specs.Words.{operator_of}
+use Rattle.wtokens.specs.Notation.{Tokens, Row, After, after, Then, before, Done, done, Perhaps, absent, present, Either, first, second, Room, room, Listed, last, next, GoesOn, ended, further, Chain, chaining, As}
 use Rattle.wquery.specs.QueryTree.{QueryTree, SourceTree, ItemTree, EntryTree, AllColumns, Computed}
 use Rattle.wparser.specs.Queries.{item, source, clause, entry, clauses, query_over, deeper_query, Spells}
 use Rattle.wparser.specs.Grammar.{order, Closed, key, window, window_inside, optional_over, arguments, optional_filter, call, column_or_call, primary, sign_row, range_test, range_row, comparison_row, test_row, Rank, ChainRank, NegationRank, SignRank, sign_over, negation_over, operand_over, row_over, deeper, condition}

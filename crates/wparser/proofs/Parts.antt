@@ -10,11 +10,11 @@ use Rattle.wquery.specs.declared.expression.ChainKind.{ChainKind}
 use Rattle.wquery.specs.declared.expression.ChainKind.TheVariants.{Disjunction, Conjunction, Sum, Product}
 use Rattle.wquery.specs.declared.frame.FrameMode.{FrameMode}
 use Rattle.wquery.specs.Tree.{Tree, KeyTree, Invoked, Given, Filter, NullWord, Numeral, Quoted, no_window, window_of, key_of}
-use Rattle.wparser.specs.Words.{OpenSign, CloseSign, name_of, number_of, text_of, mode_of, direction_of}
-use Rattle.wparser.specs.Notation.{Tokens, Row, One, After, Then, Done, Perhaps, Listed, As, Never}
+use Rattle.wtokens.specs.Words.{OpenSign, CloseSign, name_of, number_of, text_of, mode_of, direction_of}
+use Rattle.wtokens.specs.Notation.{Tokens, Row, One, After, Then, Done, Perhaps, Listed, As, Never, meanings}
 use Rattle.wparser.specs.Grips.{grip, Stops, kind_class}
 use Rattle.wparser.specs.Grammar.{Closed, optional_not, optional_frame, frame, partition, order, nulls_placed, window, window_inside, optional_over, column_or_call, primary, range_test, range_tested, compared, null_tested, inner}
-use Rattle.wparser.specs.Finding.{Outcome, Got, Refused, Answers, IsNoTest, IsWithout, meanings}
+use Rattle.wparser.specs.Finding.{Outcome, Got, Refused, Answers, IsNoTest, IsWithout}
 use Rattle.wparser.proofs.Steps.{Leads, answers_less, got_along, grips, missing, perhaps_present, other_token, not_said, one_parts, never_either, never_then, never_listed, any_leads, one_then_leads, one_leads, then_leads, perhaps_leads, after_leads, either_leads, done_leads, as_leads, then_got, after_got, after_never, as_got, one_got, never_perhaps_then, perhaps_absent, either_first, either_second, done_got, either_same, room_agrees, closed_got}
 use Rattle.wparser.proofs.Rows.{comparison_grip}
 use Rattle.wparser.proofs.Fits.{Falls, inner_begins, begins_not, symbol_start}

@@ -10,8 +10,8 @@ use Rattle.wquery.specs.declared.frame.FrameBound.{FrameBound}
 use Rattle.wquery.specs.declared.frame.FrameMode.{FrameMode}
 use Rattle.wquery.specs.Tree.{Tree, WindowTree, joined, no_window}
 use Rattle.wquery.specs.QueryTree.{QueryTree, SourceTree, ItemTree}
-use Rattle.wparser.specs.Words.{CommaSign, CloseSign, name_of, mode_of, direction_of, comparison_of, operator_of}
-use Rattle.wparser.specs.Notation.{Tokens, Row, One, one, After, after, Then, before, Done, done, Perhaps, absent, present, Either, first, second, Room, room, Listed, last, next, GoesOn, ended, further, Chain, chaining, As, Never}
+use Rattle.wtokens.specs.Words.{CommaSign, CloseSign, name_of, mode_of, direction_of, comparison_of, operator_of}
+use Rattle.wtokens.specs.Notation.{Tokens, Row, One, one, After, after, Then, before, Done, done, Perhaps, absent, present, Either, first, second, Room, room, Listed, last, next, GoesOn, ended, further, Chain, chaining, As, Never}
 use Rattle.wparser.specs.Grammar.{Closed, toward, bound, extent, exclusion, optional_exclusion, frame, key, partition, order, window, window_inside, over, optional_over, arguments, optional_filter, call, column_or_call, primary, range_test, optional_not, range_row, comparison_row, test_row, sign_row, optional_frame, nulls_placed, Rank, ChainRank, NegationRank, SignRank, sign_over, sum_over, comparison_over, negation_over, operand_over, row_over, deeper, condition}
 use Rattle.wparser.specs.Grips.{grip, Stops, kind_class, operand_class}
 use Rattle.wparser.specs.Queries.{required_alias, optional_alias, item, source, clause, column, grouping, entry, windows, count, limits, clauses, query_over, deeper_query, text, Spells}

@@ -10,8 +10,8 @@ use Rattle.wquery.specs.declared.expression.Expression.{Expression}
 use Rattle.wquery.specs.Tree.{Tree, view}
 use Rattle.wparser.specs.declared.fault.ParseFault.{ParseFault}
 use Rattle.wparser.specs.declared.fault.ParseFault.TheVariants.{NoMemory, Syntax}
-use Rattle.wparser.specs.Words.{CommaSign, CloseSign}
-use Rattle.wparser.specs.Notation.{Tokens, Row, One, one, After, after, Then, before, Done, done, Perhaps, absent, present, Either, first, second, Room, room, Listed, last, next, As, Never}
+use Rattle.wtokens.specs.Words.{CommaSign, CloseSign}
+use Rattle.wtokens.specs.Notation.{Tokens, Row, One, one, After, after, Then, before, Done, done, Perhaps, absent, present, Either, first, second, Room, room, Listed, last, next, As, Never}
 use Rattle.wparser.specs.Grammar.{Closed}
 use Rattle.wparser.specs.Grips.{grip, keyword_grip, symbol_grip, Stops}
 use Rattle.wparser.specs.Finding.{Outcome, Got, Refused, Short, failed, outcome, made, IsRead, Agrees, Answers}
@@ -113,9 +113,6 @@ same_some e = cc
 
 one_only : {X : Type 0} {says : TokenMeaning → Option X} {x y : X} {ts us rest : Tokens} → One says x ts us → One says y ts rest → (x ≡ y) × (us ≡ rest)
 one_only (one e) (one f) = (same_some (sym e ∙ f), refl)
-
-pub one_here : {X : Type 0} {says : TokenMeaning → Option X} {x : X} {token : TokenMeaning} {ts rest : Tokens} → ts ≡ token ∷ rest → says token ≡ Some x → One says x ts rest
-one_here {says = says} {x = x} {rest = rest} e f = subst (λ (z : Tokens). One says x z rest) (sym e) (one f)
 
 pub one_got : {X : Type 0} {says : TokenMeaning → Option X} {k : ℕ} {x : X} {ts us : Tokens} → One says x ts us → Answers (One says) k ts (Got x us)
 one_got p = record { found = p; only = λ y rest q h. one_only p q }

@@ -14,8 +14,8 @@ use Rattle.wquery.specs.declared.frame.FrameBound.TheVariants as bounds
 use Rattle.wquery.specs.declared.frame.FrameExclusion.{FrameExclusion}
 use Rattle.wquery.specs.declared.frame.FrameExclusion.TheVariants as exclusions
 use Rattle.wquery.specs.Tree.{Tree, Given, Filter, Reach, KeyTree, WindowTree, NullWord, Numeral, Quoted, Field, Invoked, Negated, Signed, Compared, NullTest, Within, Among, NoTrees, Everything, These, Unfiltered, FilteredBy, ItsGroup, ThatWindow, trees, own_window, no_window, window_of, key_of}
-use Rattle.wparser.specs.Words.{OpenSign, CloseSign, name_of, number_of, text_of, comparison_of, sign_of, direction_of, null_order_of, mode_of}
-use Rattle.wparser.specs.Notation.{Row, One, After, Then, Done, Perhaps, Either, Room, Listed, Chain, As}
+use Rattle.wtokens.specs.Words.{OpenSign, CloseSign, name_of, number_of, text_of, comparison_of, sign_of, direction_of, null_order_of, mode_of}
+use Rattle.wtokens.specs.Notation.{Row, One, After, Then, Done, Perhaps, Either, Room, Listed, Chain, As}
 
 -- a keyword and then the row, a symbol and then the row
 abbrev pub Word : {X : Type 0} → Keyword → Row X → Row X

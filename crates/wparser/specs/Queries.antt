@@ -5,8 +5,8 @@ use Rattle.wlexer.specs.declared.keyword.Keyword.TheVariants as keywords
 use Rattle.wlexer.specs.declared.token.Symbol.TheVariants as symbols
 use Rattle.wquery.specs.Tree.{Tree, Field}
 use Rattle.wquery.specs.QueryTree.{QueryTree, SourceTree, ItemTree, EntryTree, AllColumns, Computed, FromTable, FromQuery, query_of, entry_of}
-use Rattle.wparser.specs.Words.{OpenSign, name_of, number_of}
-use Rattle.wparser.specs.Notation.{Tokens, Row, One, After, Then, Done, Perhaps, Either, Listed, As}
+use Rattle.wtokens.specs.Words.{OpenSign, name_of, number_of}
+use Rattle.wtokens.specs.Notation.{Tokens, Row, One, After, Then, Done, Perhaps, Either, Listed, As}
 use Rattle.wparser.specs.Grammar.{Word, Sign, Closed, qualified, window_inside, order, condition, inner}
 
 -- [AS]

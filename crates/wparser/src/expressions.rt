@@ -4,23 +4,23 @@ ghost use Rattle.std.specs.Prelude.{◌≡◌, List, true, false, Some, None};
 ghost use Rattle.std.specs.Rc.{rc_str_bytes};
 ghost use Rattle.wquery.specs.declared.expression.ChainKind.TheVariants.{Disjunction, Sum};
 ghost use Rattle.wquery.specs.Tree.{view, views, view_arguments, view_over, view_key, view_keys, view_window, view_optional, view_optional_over, filter_of, reach_of};
-ghost use Rattle.wparser.specs.Notation.{GoesOn, Listed};
+ghost use Rattle.wtokens.specs.Notation.{GoesOn, Listed, meanings};
 ghost use Rattle.wparser.specs.Grammar.{Closed, ChainRank, deeper, inner, operand, chain, condition, sum, range, comparison, negation, sign, test, null_tested, compared, range_tested, range_test, among, between, up_to, primary, column_or_call, qualified, everything_closed, call, arguments, optional_filter, optional_over, window_inside, window, partition, order, key};
 ghost use Rattle.wparser.specs.Grips.{any_class, filter_class, sign_class, range_class, comparison_class, negation_class, nulls_class, list_class, partition_class, order_class, frame_class, Stops, kind_class, operand_class};
-ghost use Rattle.wparser.specs.Finding.{meanings, outcome, made, settled, Answers, IsNoTest};
+ghost use Rattle.wparser.specs.Finding.{outcome, made, settled, Answers, IsNoTest};
 
 use crate::fault::ParseFault;
 use crate::frames::{
     copied_name, descending, nulls_placed, optional_frame, optional_name, optional_not,
 };
 use crate::lists::push;
-use crate::tokens::{
-    behind_comma, comparison_operator, keyword, leading_sign, name, number, operator, symbol, text,
-};
 use std::alloc::{AllocError, Global};
 use std::rc::RcStr;
 use wlexer::{Keyword, Symbol, Token};
 use wquery::{Arguments, ChainKind, Expression, Key, Over, Window, build};
+use wtokens::{
+    behind_comma, comparison_operator, keyword, leading_sign, name, number, operator, symbol, text,
+};
 
 /// What a builder has made, and what follows it.
 fn made(
@@ -51,7 +51,7 @@ fn operand(
 
 /// A chain of this kind, or one operand of it.
 #[cycle(parser)]
-pub fn chain(
+pub(crate) fn chain(
     alloc: Global,
     kind: ChainKind,
     depth: u32,
@@ -480,7 +480,7 @@ fn optional_over(
 
 /// A window, behind its opening parenthesis.
 #[cycle(parser)]
-pub fn window_inside(
+pub(crate) fn window_inside(
     alloc: Global,
     depth: u32,
     tokens: &[Token],
@@ -541,7 +541,7 @@ fn partition(
 
 /// The keys behind ORDER BY, none where it is left out.
 #[cycle(parser)]
-pub fn order(
+pub(crate) fn order(
     alloc: Global,
     depth: u32,
     tokens: &[Token],

@@ -7,7 +7,7 @@
 //! - Asks: nothing. Takes time in proportion to the tokens, and a stack bounded by the nesting.
 //! - Leaves: names, types, defaults and limits of lists to the crate that resolves queries.
 //!
-//! Read `specs/Notation.antt`, `specs/Grammar.antt` and `specs/Queries.antt`, then `specs/Finding.antt`.
+//! Read `specs/Notation.antt` of `wtokens`, `specs/Grammar.antt` and `specs/Queries.antt`, then `specs/Finding.antt`.
 #![tactic(auto)]
 
 /// What was read and what follows it; a fault is handed on, and what is held is let go before. It stands for `?` where
@@ -48,7 +48,6 @@ mod frames;
 mod law;
 mod lists;
 mod queries;
-mod tokens;
 
 pub use fault::ParseFault;
 pub use law::{bounded_height, no_chain_first, one_query};

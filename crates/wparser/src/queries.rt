@@ -9,18 +9,19 @@ ghost use Rattle.wquery.specs.QueryTree.{QueryTree, ItemTree, EntryTree, view_qu
 ghost use Rattle.wparser.specs.Queries.{required_alias, optional_alias, item, derived, source, clause, column, grouping, entry, windows, count, limit_first, offset_first, limits, behind_groups, behind_windows, clauses, query, deeper_query, most_nesting, text, Spells};
 ghost use Rattle.wparser.specs.Grips.{any_class, condition_class, name_class, element_class, grouping_class, windows_class, limits_class, text_class, keyword_grip};
 ghost use Rattle.wparser.specs.declared.fault.ParseFault.TheVariants.{Syntax};
-ghost use Rattle.wparser.specs.Finding.{meanings, outcome, settled, Answers, IsWithout};
+ghost use Rattle.wtokens.specs.Notation.{meanings};
+ghost use Rattle.wparser.specs.Finding.{outcome, settled, Answers, IsWithout};
 
 use crate::expressions::{chain, order, window_inside};
 use crate::fault::ParseFault;
 use crate::frames::{copied_name, optional_name};
 use crate::lists::{Element, elements};
-use crate::tokens::{keyword, number, symbol};
 use std::alloc::Global;
 use std::rc::RcStr;
 use wlexer::{Keyword, Number, Symbol, Token};
 use wquery::build::{self, Clauses};
 use wquery::{ChainKind, Column, Expression, Item, Query, Source, WindowEntry};
+use wtokens::{keyword, number, symbol};
 
 /// A name, with or without AS before it.
 fn required_alias(tokens: &[Token]) -> Result<(RcStr, &[Token]), ParseFault>
@@ -282,7 +283,11 @@ fn behind_windows(
 
 /// A query.
 #[cycle(queries)]
-pub fn query(alloc: Global, depth: u32, tokens: &[Token]) -> Result<(Query, &[Token]), ParseFault>
+pub(crate) fn query(
+    alloc: Global,
+    depth: u32,
+    tokens: &[Token],
+) -> Result<(Query, &[Token]), ParseFault>
     ensures { Answers (query depth) limits_class (meanings tokens.now) (outcome (λ x. view_query x.0) (λ x. x.1.now) result) }
 {
     let Some(after) = keyword(tokens, Keyword::Select) else {

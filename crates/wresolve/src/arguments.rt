@@ -44,7 +44,7 @@ fn number_in(e: &Expression, default: u128) -> u128
 }
 
 /// The number literal that stands at a place, or else a default.
-pub fn number_at(arguments: &Arguments, place: usize, default: u128) -> u128
+pub(crate) fn number_at(arguments: &Arguments, place: usize, default: u128) -> u128
     ensures { result ≡ number_or default (argument place (view_arguments arguments.now)) }
 {
     match argument_at(arguments, place) {
@@ -106,7 +106,7 @@ fn literal_in(e: &Expression) -> Result<Value, AllocError>
 }
 
 /// The literal that stands at a place, NULL where there is none.
-pub fn literal_at(arguments: &Arguments, place: usize) -> Result<Value, AllocError>
+pub(crate) fn literal_at(arguments: &Arguments, place: usize) -> Result<Value, AllocError>
     ensures { IfOk result (λ v. meaning v ≡ literal_of (argument place (view_arguments arguments.now))) }
 {
     match argument_at(arguments, place) {
@@ -117,7 +117,7 @@ pub fn literal_at(arguments: &Arguments, place: usize) -> Result<Value, AllocErr
 
 /// The argument that stands at a place, NULL where there is none.
 #[tactic(auto, unfolding(wplan::specs::Formula::formula))]
-pub fn build_argument(
+pub(crate) fn build_argument(
     alloc: Global,
     layout: &RowLayout,
     arguments: &Arguments,

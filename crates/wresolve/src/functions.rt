@@ -37,7 +37,7 @@ fn aggregate_function(function: Option<Function>, arguments: &Arguments) -> Aggr
 }
 
 /// An expression that may be left out.
-pub fn build_option(
+pub(crate) fn build_option(
     alloc: Global,
     layout: &RowLayout,
     e: &Option<Expression>,
@@ -88,7 +88,7 @@ fn build_aggregated(
 }
 
 /// An aggregate.
-pub fn build_aggregate(
+pub(crate) fn build_aggregate(
     alloc: Global,
     layout: &RowLayout,
     call: &Call,
@@ -178,7 +178,7 @@ fn build_of(
 }
 
 /// The function of a call with OVER.
-pub fn build_function(
+pub(crate) fn build_function(
     alloc: Global,
     layout: &RowLayout,
     call: &Call,

@@ -49,7 +49,7 @@ fn length_of(places: &[usize]) -> usize
 
 impl<'a, 'b, 'c> RowLayout<'a, 'b, 'c> {
     /// The cell of a column of the source.
-    pub fn cell(&self, place: usize) -> usize
+    pub(crate) fn cell(&self, place: usize) -> usize
         ensures { result ≡ cell_of (layout_of self.now) place }
     {
         match self.grouping {
@@ -59,7 +59,7 @@ impl<'a, 'b, 'c> RowLayout<'a, 'b, 'c> {
     }
 
     /// How many cells stand before the answers of calls.
-    pub fn width(&self) -> usize
+    pub(crate) fn width(&self) -> usize
         ensures width { result ≡ width (layout_of self.now) }
         ensures small { result < 2 ^ 63 }
     {
@@ -72,7 +72,7 @@ impl<'a, 'b, 'c> RowLayout<'a, 'b, 'c> {
 
 impl<'a> RowCalls<'a> {
     /// No calls.
-    pub fn none(alloc: Global) -> RowCalls<'a>
+    pub(crate) fn none(alloc: Global) -> RowCalls<'a>
         ensures { row_calls result ≡ [] }
     {
         RowCalls {
@@ -82,7 +82,7 @@ impl<'a> RowCalls<'a> {
     }
 
     /// The place of the call that is equal to this one, or the number of calls.
-    pub fn place(&self, call: &Call) -> usize
+    pub(crate) fn place(&self, call: &Call) -> usize
         ensures place { result ≡ place_of_same (row_calls self.now) (view_call call.now) }
         ensures small { result ≤ 2 ^ 63 }
     {

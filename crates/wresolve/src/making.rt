@@ -12,7 +12,7 @@ use wquery::Comparison;
 use wvalues::Whole;
 
 #[tactic(auto, unfolding(wplan::specs::Formula::formula))]
-pub fn number(n: u128) -> Expr
+pub(crate) fn number(n: u128) -> Expr
     ensures { formula result ≡ Constant (literal n) }
 {
     if n >= 1 << 95 {
@@ -25,14 +25,14 @@ pub fn number(n: u128) -> Expr
 }
 
 #[tactic(auto, unfolding(wplan::specs::Formula::formula))]
-pub fn not(alloc: Global, e: Expr) -> Result<Expr, AllocError>
+pub(crate) fn not(alloc: Global, e: Expr) -> Result<Expr, AllocError>
     ensures { IfOk result (λ x. formula x ≡ Negation (formula e)) }
 {
     Ok(Expr::Not(Box::new(alloc, e)?))
 }
 
 #[tactic(auto, unfolding(wplan::specs::Formula::formula))]
-pub fn sign(alloc: Global, minus: bool, e: Expr) -> Result<Expr, AllocError>
+pub(crate) fn sign(alloc: Global, minus: bool, e: Expr) -> Result<Expr, AllocError>
     ensures { IfOk result (λ x. formula x ≡ Signed minus (formula e)) }
 {
     Ok(Expr::Sign {
@@ -42,7 +42,12 @@ pub fn sign(alloc: Global, minus: bool, e: Expr) -> Result<Expr, AllocError>
 }
 
 #[tactic(auto, unfolding(wplan::specs::Formula::formula))]
-pub fn compared(alloc: Global, comparison: Comparison, l: Expr, r: Expr) -> Result<Expr, AllocError>
+pub(crate) fn compared(
+    alloc: Global,
+    comparison: Comparison,
+    l: Expr,
+    r: Expr,
+) -> Result<Expr, AllocError>
     ensures { IfOk result (λ x. formula x ≡ Compared comparison (formula l) (formula r)) }
 {
     Ok(Expr::Compare {
@@ -53,7 +58,7 @@ pub fn compared(alloc: Global, comparison: Comparison, l: Expr, r: Expr) -> Resu
 }
 
 #[tactic(auto, unfolding(wplan::specs::Formula::formula, wplan::specs::Formula::operand_of))]
-pub fn chain(alloc: Global, first: Expr, links: Vec<Further>) -> Result<Expr, AllocError>
+pub(crate) fn chain(alloc: Global, first: Expr, links: Vec<Further>) -> Result<Expr, AllocError>
     ensures { IfOk result (λ x. formula x ≡ chained (formula first) (map operand_of links.items)) }
 {
     Ok(Expr::Chain {
@@ -63,7 +68,7 @@ pub fn chain(alloc: Global, first: Expr, links: Vec<Further>) -> Result<Expr, Al
 }
 
 #[tactic(auto, unfolding(wplan::specs::Formula::formula))]
-pub fn null_test(alloc: Global, negated: bool, e: Expr) -> Result<Expr, AllocError>
+pub(crate) fn null_test(alloc: Global, negated: bool, e: Expr) -> Result<Expr, AllocError>
     ensures { IfOk result (λ x. formula x ≡ NullTest negated (formula e)) }
 {
     Ok(Expr::IsNull {
@@ -73,7 +78,7 @@ pub fn null_test(alloc: Global, negated: bool, e: Expr) -> Result<Expr, AllocErr
 }
 
 #[tactic(auto, unfolding(wplan::specs::Formula::formula))]
-pub fn within(
+pub(crate) fn within(
     alloc: Global,
     negated: bool,
     e: Expr,
@@ -91,7 +96,12 @@ pub fn within(
 }
 
 #[tactic(auto, unfolding(wplan::specs::Formula::formula))]
-pub fn among(alloc: Global, negated: bool, e: Expr, list: Vec<Expr>) -> Result<Expr, AllocError>
+pub(crate) fn among(
+    alloc: Global,
+    negated: bool,
+    e: Expr,
+    list: Vec<Expr>,
+) -> Result<Expr, AllocError>
     ensures { IfOk result (λ x. formula x ≡ Among negated (formula e) (formulas (map formula list.items))) }
 {
     Ok(Expr::In {

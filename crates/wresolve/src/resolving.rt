@@ -33,7 +33,7 @@ fn answer(layout: &RowLayout, call: &Call) -> Expr
 /// The expression over a row.
 #[cycle(resolving)]
 #[tactic(auto, unfolding(wquery::specs::Tree::view, wplan::specs::Formula::formula, wquery::specs::Tree::view_link))]
-pub fn build(alloc: Global, layout: &RowLayout, e: &Expression) -> Result<Expr, AllocError>
+pub(crate) fn build(alloc: Global, layout: &RowLayout, e: &Expression) -> Result<Expr, AllocError>
     ensures { IfOk result (λ x. formula x ≡ resolved (layout_of layout.now) (view e.now)) }
 {
     match e {
@@ -113,7 +113,7 @@ fn build_links(
 }
 
 #[cycle(resolving)]
-pub fn build_listed(
+pub(crate) fn build_listed(
     alloc: Global,
     layout: &RowLayout,
     list: &[Expression],

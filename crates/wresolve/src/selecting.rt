@@ -351,7 +351,7 @@ fn build_with<'a>(
 }
 
 /// A SELECT over the columns of its source.
-pub fn build_select<'a>(
+pub(crate) fn build_select<'a>(
     alloc: Global,
     columns: &'a [SourceColumn],
     query: &'a Query,

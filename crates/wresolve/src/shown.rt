@@ -89,7 +89,7 @@ fn push_item<'a>(
 }
 
 /// The SELECT list over some columns, `*` written out.
-pub fn written_out<'a>(
+pub(crate) fn written_out<'a>(
     alloc: Global,
     columns: &'a [SourceColumn],
     items: &'a [Item],
@@ -138,7 +138,7 @@ fn numbered<'a>(shown: &[ShownOutput<'a>], n: u128) -> ShownValue<'a>
 
 /// What a key of the query's ORDER BY stands for: a bare number for an item, a bare name for an output first.
 #[tactic(auto, unfolding(wquery::specs::Tree::view))]
-pub fn key_value<'a>(shown: &[ShownOutput<'a>], key: &'a Expression) -> ShownValue<'a>
+pub(crate) fn key_value<'a>(shown: &[ShownOutput<'a>], key: &'a Expression) -> ShownValue<'a>
     ensures { shown_of result ≡ key_shown (shown_items shown.now) (view key.now) }
 {
     match key {

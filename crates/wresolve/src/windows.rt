@@ -32,7 +32,7 @@ fn nulls_first(descending: bool, nulls: Option<NullOrder>) -> bool
 }
 
 /// How the rows stand by a key, with where its nulls stand.
-pub fn sort_key(descending: bool, nulls: Option<NullOrder>) -> SortKey
+pub(crate) fn sort_key(descending: bool, nulls: Option<NullOrder>) -> SortKey
     ensures { result ≡ sort_key_of descending nulls }
 {
     SortKey {
@@ -134,7 +134,7 @@ fn build_window(
 }
 
 /// The windows of WINDOW entries, used or not.
-pub fn build_entries(
+pub(crate) fn build_entries(
     alloc: Global,
     layout: &RowLayout,
     entries: &[FullEntry],
@@ -198,7 +198,7 @@ fn push_own_window(
 }
 
 /// The windows that calls have of their own, behind those so far.
-pub fn push_own_windows(
+pub(crate) fn push_own_windows(
     alloc: Global,
     layout: &RowLayout,
     entries: &[FullEntry],
@@ -277,7 +277,7 @@ fn build_call(
 }
 
 /// The calls with OVER, where the next window of a call's own has this place.
-pub fn build_calls(
+pub(crate) fn build_calls(
     alloc: Global,
     layout: &RowLayout,
     entries: &[FullEntry],

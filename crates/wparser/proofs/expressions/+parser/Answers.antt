@@ -4,9 +4,9 @@ use Rattle.wquery.specs.declared.expression.ChainKind.TheVariants.{Disjunction}
 use Rattle.wquery.specs.declared.expression.Expression.{Expression}
 use Rattle.wquery.specs.Tree.{Tree, Quoted, These, trees, view, views, view_key, view_keys, view_window}
 use Rattle.wquery.proofs.Says.{null_says, number_says, text_says, named_says, windowed_says}
-use Rattle.wparser.specs.Notation.{Row, Listed}
+use Rattle.wtokens.specs.Notation.{Row, Listed, meanings}
 use Rattle.wparser.specs.Grammar.{ChainRank, NegationRank, SignRank, deeper, window}
-use Rattle.wparser.specs.Finding.{Got, failed, Answers, meanings}
+use Rattle.wparser.specs.Finding.{Got, failed, Answers}
 use Rattle.wparser.proofs.Steps.{answers_less, short, grips, missing, not_said, got_along, made_along, other_token, one_parts, never_either, never_then, never_listed, any_leads, after_leads, done_leads, then_got, then_refused, after_got, after_missing, after_never, as_got, as_refused, one_got, perhaps_absent, perhaps_present, either_first, either_second, done_got, room_answers, closed_refused, closed_missing, closed_got, listing_more, listing_got, listing_refused, handed_on}
 use Rattle.wparser.proofs.Rows.{chain_refused, chain_got, going_more, going_refused, going_over, comparison_grip}
 use Rattle.wparser.proofs.Fits.{tests_begin, begins_not, primary_no_sign, lower, nothing_below, operand_falls, chain_falls, key_falls}

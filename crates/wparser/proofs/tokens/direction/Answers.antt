@@ -1,6 +1,0 @@
-use Rattle.std.proofs.Common.{sym, ◌∙◌}
-use Rattle.wparser.proofs.Steps.{one_here}
-use Rattle.wparser.proofs.tokens.direction.Goals as goal
-
-pub returns : goal.returns
-returns c = one_here c.in_ok-lexeme.ensures (sym c.direction_of.ensures ∙ c.in_ok-descends.was)

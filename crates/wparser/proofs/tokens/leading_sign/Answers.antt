@@ -1,6 +1,0 @@
-use Rattle.std.proofs.Common.{sym, ◌∙◌}
-use Rattle.wparser.proofs.Steps.{one_here}
-use Rattle.wparser.proofs.tokens.leading_sign.Goals as goal
-
-pub returns : goal.returns
-returns c = one_here c.in_ok-lexeme.ensures (sym c.sign_of.ensures ∙ c.in_ok-minus.was)
