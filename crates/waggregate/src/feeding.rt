@@ -14,26 +14,9 @@ ghost use Rattle.waggregate.specs.Feeding.{feed_in};
 
 use crate::feed::Feed;
 use std::alloc::Global;
-use wplan::{Aggregate, EvalFault, Expr, eval};
-use wrows::{AnswerFault, lists};
-use wvalues::{Truth, Value};
-
-fn is_yes(truth: Truth) -> bool
-    ensures { result ≡ is_yes truth }
-{
-    matches!(truth, Truth::Yes)
-}
-
-// Whether a condition is true on a row.
-fn holds(condition: &Expr, row: &[Value]) -> Result<bool, AnswerFault>
-    ensures { Gives (λ b. b) result (unless (is_out_of_range (formula condition.now) (map meaning row.now)) OutOfRange (holds_on (formula condition.now) (map meaning row.now))) }
-{
-    match eval(condition, row) {
-        Ok(cell) => Ok(is_yes(cell.truth())),
-        Err(EvalFault::OutOfRange) => Err(AnswerFault::OutOfRange),
-        Err(EvalFault::NoMemory) => Err(AnswerFault::NoMemory),
-    }
-}
+use wplan::{Aggregate, Expr};
+use wrows::{AnswerFault, holds, lists};
+use wvalues::Value;
 
 // Whether a condition is true on each row.
 fn tests(alloc: Global, condition: &Expr, rows: &[&[Value]]) -> Result<Vec<bool>, AnswerFault>

@@ -6,16 +6,8 @@ ghost use Rattle.wframe.specs.Peers.{key_at};
 ghost use Rattle.wrows.specs.LaidRows.{laid};
 
 use std::alloc::{AllocError, Global};
+use wrows::slice_of;
 use wvalues::Value;
-
-// The cells of a row that there is.
-fn row_of(cells: &[Value], width: usize, row: usize) -> &[Value]
-    requires { row * width + width ≤ length cells.now }
-    ensures { result.now ≡ take width (drop (row * width) cells.now) }
-{
-    let from = row * width;
-    &cells[from..from + width]
-}
 
 // Appends each of some cells, lent.
 fn push_lent<'a>(lent: &mut Vec<&'a Value>, cells: &'a [Value]) -> Result<(), AllocError>
@@ -42,7 +34,7 @@ pub(crate) fn lent_rows<'a>(
 {
     let mut lent = Vec::with_capacity(alloc, cells.len())?;
     for number in numbers {
-        push_lent(&mut lent, row_of(cells, width, *number))?;
+        push_lent(&mut lent, slice_of(cells, width, *number))?;
     }
     Ok(lent)
 }

@@ -11,7 +11,7 @@ ghost use Rattle.wcalls.specs.Seen.{values_seen};
 
 use std::alloc::{AllocError, Global};
 use wplan::Expr;
-use wrows::{AnswerFault, lists};
+use wrows::{AnswerFault, lists, place_of};
 use wvalues::Value;
 
 /// The values of an expression on rows, by number.
@@ -33,18 +33,6 @@ fn value_column(alloc: Global, expr: &Expr, rows: &[&[Value]]) -> Result<Vec<Val
 {
     let column = lists(alloc, &[expr], rows)?;
     Ok(column)
-}
-
-// The place that an expression names, where it is a plain column.
-#[tactic(auto, unfolding(wplan::specs::Formula::formula))]
-fn place_of(expr: &Expr) -> Option<usize>
-    ensures found { result ≡ plain_place (out-Expr expr.now) }
-    ensures formula { IfSome result (λ place. formula expr.now ≡ At place) }
-{
-    match expr {
-        Expr::Place(place) => Some(*place),
-        _ => None,
-    }
 }
 
 /// An expression's values on rows. Those of a plain column are not copied.

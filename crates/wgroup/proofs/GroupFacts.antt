@@ -25,7 +25,7 @@ use Rattle.wgroup.specs.Held.{groups_by, lists_in, lists_seen}
 use Rattle.wgroup.specs.Sight.{first_of, key_in, list_at, members, same_row, slice_at}
 use Rattle.wgroup.proofs.ListFacts.{filter_same, any_same, map_same, all_implied, all_kept, all_mapped, below_all, at_places, filter_le}
 use Rattle.wgroup.proofs.KeyFacts.{cells_agree}
-use Rattle.wgroup.proofs.OrderFacts.{sorted_map, sorted_same}
+use Rattle.wrows.proofs.MoreSorting.{sorted_map, sorted_same}
 
 pub keys_wide : (columns : List ℕ) (rows : List (Bor (List Value))) → AllByRecursion (λ r. length (key_in columns (row_seen r)) ≡ length columns) rows
 keys_wide columns rows = all_of_each (λ r. length (key_in columns (row_seen r)) ≡ length columns) (λ r. length-map columns (λ c. slice_index_or (row_seen r) c Null)) rows

@@ -1,5 +1,4 @@
 mod SightFacts
-mod OrderFacts
 mod ListFacts
 mod KeyFacts
 mod GroupFacts

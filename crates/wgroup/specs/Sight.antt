@@ -1,5 +1,5 @@
 -- Rows by a test of whether two are the same, in the order of first sight, and rows of cells that are the same.
-use Rattle.std.specs.Prelude.{ℕ, zero, suc, ◌*◌, Bool, not, List, [], ◌∷◌, ◌++◌, map, filter, take, drop, slice_index_or}
+use Rattle.std.specs.Prelude.{ℕ, ◌*◌, Bool, not, List, [], map, filter, take, drop, slice_index_or}
 use Rattle.std.specs.List.{list_any}
 use Rattle.std.specs.Cmp.Lexicographic.{pointwise}
 use Rattle.wvalues.specs.declared.value.Value.{Value}

@@ -1,21 +1,12 @@
 //! The keys of rows.
-ghost use Rattle.std.specs.Prelude.{◌≡◌, ◌*◌, ◌+◌, ◌≤◌, ◌++◌, length, map, IfOk, OnOk, slice_index_or};
+ghost use Rattle.std.specs.Prelude.{◌≡◌, ◌*◌, ◌++◌, length, map, IfOk, OnOk, slice_index_or};
 ghost use Rattle.wvalues.specs.Meaning.{meaning, Null};
 ghost use Rattle.wrows.specs.LaidRows.{laid};
 ghost use Rattle.wrows.specs.Laid.{rows_seen};
-ghost use Rattle.wgroup.specs.Sight.{key_in, slice_at};
+ghost use Rattle.wgroup.specs.Sight.{key_in};
 
 use std::alloc::{AllocError, Global};
 use wvalues::Value;
-
-// The cells of a row that there is.
-pub(crate) fn slice_of(cells: &[Value], width: usize, row: usize) -> &[Value]
-    requires { row * width + width ≤ length cells.now }
-    ensures { result.now ≡ slice_at width cells.now row }
-{
-    let from = row * width;
-    &cells[from..from + width]
-}
 
 // A row's value in a column, null behind its end.
 fn cell(row: &[Value], column: usize) -> Result<Value, AllocError>
@@ -52,14 +43,4 @@ pub(crate) fn key_cells(
         push_key(columns, row, &mut cells)?;
     }
     Ok(cells)
-}
-
-/// Appends the values of some cells.
-pub(crate) fn push_cells(cells: &[Value], out: &mut Vec<Value>) -> Result<(), AllocError>
-    ensures { OnOk result (map meaning out.new.items ≡ map meaning out.old.items ++ map meaning cells.now) }
-{
-    for value in cells {
-        out.push(value.duplicate()?)?;
-    }
-    Ok(())
 }

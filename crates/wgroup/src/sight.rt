@@ -4,9 +4,9 @@ ghost use Rattle.wgroup.specs.Held.{lists_in};
 ghost use Rattle.wrows.specs.Dealt.{put_in};
 ghost use Rattle.wgroup.specs.Sight.{first_of, members, same_row};
 
-use crate::keys::slice_of;
 use indexmap::IndexSet;
 use std::alloc::{AllocError, Global};
+use wrows::slice_of;
 use wvalues::Value;
 
 /// The first row of each group, and all its rows, in the order of first sight.

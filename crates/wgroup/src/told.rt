@@ -9,10 +9,9 @@ ghost use Rattle.wrows.specs.Laid.{row_seen, rows_in};
 ghost use Rattle.wgroup.specs.Held.{columns_in, groups_in};
 
 use crate::found::Groups;
-use crate::keys::{push_cells, slice_of};
 use std::alloc::{AllocError, Global};
 use wplan::Expr;
-use wrows::{AnswerFault, Cells, kept_rows, lent_rows};
+use wrows::{AnswerFault, Cells, kept_rows, lent_rows, push_row, slice_of};
 use wvalues::Value;
 
 // Appends what the columns have at a place.
@@ -44,7 +43,7 @@ pub(crate) fn group_cells(
     let mut cells = Vec::new(alloc);
     for place in 0..groups.order.len() {
         let number = groups.order[place];
-        push_cells(slice_of(&groups.keys, groups.width, number), &mut cells)?;
+        push_row(&mut cells, slice_of(&groups.keys, groups.width, number))?;
         push_results(columns, place, &mut cells)?;
     }
     Ok(Cells {
@@ -60,7 +59,7 @@ fn copied(alloc: Global, rows: &[&[Value]]) -> Result<Vec<Value>, AllocError>
 {
     let mut cells = Vec::new(alloc);
     for row in rows {
-        push_cells(row, &mut cells)?;
+        push_row(&mut cells, row)?;
     }
     Ok(cells)
 }

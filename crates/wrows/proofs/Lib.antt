@@ -1,6 +1,6 @@
 pub mod RowFacts
 mod BesideFacts
-mod MoreSorting
+pub mod MoreSorting
 mod CodeFacts
 mod DealFacts
 pub mod ChainFacts

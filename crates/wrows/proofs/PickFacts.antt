@@ -1,9 +1,10 @@
 -- Values at places, and items that are read of the rows that are asked for alone.
-use Rattle.std.proofs.Common.{◌≡◌, ℕ, zero, suc, ◌<◌, ◌||◌, false, List, [], ◌∷◌, ◌++◌, length, map, take, drop, get_or, Option, None, Some, Result, Ok, Err, refl, sym, ap, subst, ◌∙◌, arith}
-use Rattle.std.specs.Prelude.{All, IfSome}
+use Rattle.std.proofs.Common.{◌≡◌, ℕ, zero, suc, ◌<◌, ◌||◌, ◌+◌, ◌-◌, ◌≤◌, false, List, [], ◌∷◌, ◌++◌, length, map, take, drop, get_or, Option, None, Some, Result, Ok, Err, refl, sym, ap, subst, ◌∙◌, arith}
+use Rattle.std.specs.Prelude.{All, IfSome, slice_range}
 use Rattle.std.specs.Borrow.{Bor}
-use Rattle.std.specs.List.{AllByRecursion, list_any}
-use Rattle.std.proofs.lemmas.List.{get_or-map, length-map}
+use Rattle.std.specs.List.{AllByRecursion, flat_map, list_any}
+use Rattle.std.proofs.lemmas.Grind.{flat_map-append}
+use Rattle.std.proofs.lemmas.List.{append_assoc, get_or-map, length-map}
 use Rattle.std.proofs.lemmas.List.Elements.{All-from_recursion, recursion_from_All}
 use Rattle.wvalues.specs.declared.key.SortKey.{SortKey}
 use Rattle.wvalues.specs.declared.value.Value.{Value}
@@ -148,3 +149,17 @@ pub of_some : {X : Type 0} (P : X → Type 0) (o : Option X) (x : X) → o ≡ S
 of_some {X = X} P o x e h =
     let Q : Option X → Type 0 = λ o. IfSome o P in
     subst Q e h
+
+-- the front of a list, and what stands behind it
+pub front_more : {X : Type 0} (n m : ℕ) (xs : List X) → take n xs ++ take m (drop n xs) ≡ take (n + m) xs
+front_more zero m xs = let e : m ≡ 0 + m = omega arith in ap (λ k. take k xs) e
+front_more (suc n) zero [] = let e : suc n ≡ suc n + 0 = omega arith in ap (λ k. take k []) e
+front_more (suc n) (suc m) [] = let e : suc (n + suc m) ≡ suc n + suc m = omega arith in ap (λ k. take k []) e
+front_more (suc n) m (x ∷ xs) = let e : suc (n + m) ≡ suc n + m = omega arith in ap (λ l. x ∷ l) (front_more n m xs) ∙ ap (λ k. take k (x ∷ xs)) e
+
+-- what the front of a list gives, and what stands behind it
+pub flat_more : {X Y : Type 0} (f : X → List Y) (before : List Y) (n next : ℕ) (xs : List X) → n ≤ next → (before ++ flat_map f (take n xs)) ++ flat_map f (slice_range xs n next) ≡ before ++ flat_map f (take next xs)
+flat_more f before n next xs h =
+    let e : n + (next - n) ≡ next = omega (arith, h) in
+    append_assoc before (flat_map f (take n xs)) (flat_map f (slice_range xs n next))
+    ∙ ap (λ l. before ++ l) (sym (flat_map-append f (take n xs) (slice_range xs n next)) ∙ ap (flat_map f) (front_more n (next - n) xs ∙ ap (λ k. take k xs) e))

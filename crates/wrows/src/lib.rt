@@ -5,18 +5,21 @@
 //! - Promises: nothing is skipped, so a number that is out of range on any row refuses; ties are settled by number.
 //!   Rows are sorted by codes of 32 bits, a key at a time and the last one first: distances of numbers that lie close
 //!   enough, and else ranks among the distinct values. Where few rows are asked for, these alone are found. Items that
-//!   are all plain columns are read behind the sort, of the rows that are asked for.
+//!   are all plain columns are read behind the sort, of the rows that are asked for. What lies far apart is read some
+//!   rows at a time before it is copied.
 //! - Asks: an order for each key.
 //! - Leaves expressions to `wplan`, and groups, windows and whole queries to `wplanner`.
 //!
 //! Read `specs/Outcomes.antt`, `specs/Columns.antt`, `specs/Sorting.antt` and `specs/Plain.antt`, then
 //! `specs/LaidRows.antt`, `specs/Laid.antt` and `specs/Picked.antt`; `specs/Codes.antt`, `specs/CodedRows.antt`,
-//! `specs/Told.antt` and `specs/Ranks.antt` say what is sorted.
+//! `specs/Told.antt` and `specs/Ranks.antt` say what is sorted, and `specs/Dealt.antt` how. `specs/Copied.antt` tells
+//! texts among values.
 #![tactic(auto)]
 
 mod cells;
 mod coded;
 mod codes;
+mod copied;
 mod dealing;
 mod fault;
 mod first;
@@ -33,11 +36,12 @@ mod selected;
 mod told;
 mod values;
 
-pub use cells::{Cells, gathered};
+pub use cells::{Cells, gathered, push_row, slice_of};
 pub use fault::AnswerFault;
 pub use lent::lent_rows;
 pub use listing::lists;
-pub use order::{resorted_numbers, sorted_numbers};
+pub use order::{numbers, resorted_numbers, sorted_numbers};
+pub use places::place_of;
 pub use plain::{joined_items, ordered_items};
 pub use rows::{kept_rows, not_too_many};
 pub use values::holds;

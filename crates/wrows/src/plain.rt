@@ -48,16 +48,21 @@ fn asked_for(offset: u128, limit: Option<u128>, count: usize) -> (usize, usize)
     (from, limited(limit, count - from))
 }
 
-// The numbers that are asked for.
+// The numbers that are asked for. Where none is left out first, the list is handed on.
 fn cut_numbers(
     alloc: Global,
-    numbers: &[usize],
+    numbers: Vec<usize>,
     offset: u128,
     limit: Option<u128>,
 ) -> Result<Vec<usize>, AllocError>
-    ensures { IfOk result (λ taken. taken.items ≡ cut offset limit numbers.now) }
+    ensures { IfOk result (λ taken. taken.items ≡ cut offset limit numbers.items) }
 {
     let (from, count) = asked_for(offset, limit, numbers.len());
+    if from == 0 {
+        let mut taken = numbers;
+        taken.truncate(count);
+        return Ok(taken);
+    }
     let taken = Vec::from_slice(alloc, &numbers[from..from + count])?;
     Ok(taken)
 }
@@ -78,7 +83,7 @@ fn asked_numbers(
 {
     let (from, count) = asked_for(offset, limit, rows.len());
     let first = first_by_keys(alloc, keys, order, from + count, rows, columns)?;
-    let numbers = cut_numbers(alloc, &first, offset, limit)?;
+    let numbers = cut_numbers(alloc, first, offset, limit)?;
     Ok(numbers)
 }
 

@@ -1,4 +1,4 @@
-use Rattle.std.proofs.Common.{◌≡◌, ◌<◌, ◌≤◌, ◌+◌, ◌*◌, ◌++◌, length, map, take_all, get_or, refl, sym, ap, ◌∙◌, arith}
+use Rattle.std.proofs.Common.{◌<◌, ◌++◌, length, map, take_all, get_or, refl, sym, ap, ◌∙◌, arith}
 use Rattle.std.specs.List.{flat_map}
 use Rattle.std.proofs.lemmas.List.{length-map}
 use Rattle.std.proofs.lemmas.List.Elements.{recursion_from_All, All-get_or}
@@ -10,8 +10,8 @@ use Rattle.wrows.proofs.RowFacts.{flat_next, laid_length, laid_rows, map-map, ro
 use Rattle.wcalls.proofs.LentFacts.{lent_as, values_of}
 use Rattle.wcalls.proofs.lending.lent_rows.Goals as goal
 
-pub row_of-requires : goal.row_of-requires
-row_of-requires c =
+pub slice_of-requires : goal.slice_of-requires
+slice_of-requires c =
     let numbers = c.args.numbers.now in
     let i = c.loop-number.number-index in
     let there : get_or numbers i 0 < c.args.count = All-get_or (λ k. k < c.args.count) numbers i 0 c.loop-number-test.true c.requires.below in
@@ -24,7 +24,7 @@ loop-number-preserved c =
     let cells = c.args.cells.now in
     let there : get_or numbers i 0 < c.args.count = All-get_or (λ k. k < c.args.count) numbers i 0 c.loop-number-test.true c.requires.below in
     flat_next (key_at (laid c.args.width c.args.count cells)) numbers i (get_or numbers i 0) (meanings c.loop-number.lent.items) (meanings c.push_lent.new.lent.items) c.loop-number-test.true (same_at numbers i 0 (get_or numbers i 0) c.loop-number-test.true) c.loop-number.invariant
-    (c.in_ok-push_lent.ensures ∙ ap (λ l. meanings c.loop-number.lent.items ++ map meaning l) c.row_of.ensures ∙ ap (λ l. meanings c.loop-number.lent.items ++ l) (sym (row_at c.args.width c.args.count cells (get_or numbers i 0) there)))
+    (c.in_ok-push_lent.ensures ∙ ap (λ l. meanings c.loop-number.lent.items ++ map meaning l) c.slice_of.ensures.list ∙ ap (λ l. meanings c.loop-number.lent.items ++ l) (sym (row_at c.args.width c.args.count cells (get_or numbers i 0) there)))
 
 pub returns-clause-rows : goal.returns-clause-rows
 returns-clause-rows c =

@@ -13,7 +13,7 @@ loop-row-preserved c =
     let seen = c.loop-row.invariant.seen in
     let lists = lists_in c.loop-row.rows.items in
     record {
-      seen = ap (map now) c.in_ok-place.ensures.keys ∙ seen_next w cells row keys value c.slice_of.ensures seen;
-      firsts = c.in_ok-note.ensures ∙ ap (λ b. cond b (c.loop-row.firsts.items ++ row ∷ []) c.loop-row.firsts.items) c.in_ok-place.ensures.added ∙ first_next w cells row keys value c.slice_of.ensures seen c.loop-row.firsts.items c.loop-row.invariant.firsts;
-      rows = c.in_ok-put.ensures ∙ rows_made w cells row keys value c.slice_of.ensures seen lists _ _ _ c.loop-row.invariant.rows c.in_ok-place.ensures.added c.in_ok-begin.ensures.lists c.in_ok-place.ensures.index;
+      seen = ap (map now) c.in_ok-place.ensures.keys ∙ seen_next w cells row keys value c.slice_of.ensures.list seen;
+      firsts = c.in_ok-note.ensures ∙ ap (λ b. cond b (c.loop-row.firsts.items ++ row ∷ []) c.loop-row.firsts.items) c.in_ok-place.ensures.added ∙ first_next w cells row keys value c.slice_of.ensures.list seen c.loop-row.firsts.items c.loop-row.invariant.firsts;
+      rows = c.in_ok-put.ensures ∙ rows_made w cells row keys value c.slice_of.ensures.list seen lists _ _ _ c.loop-row.invariant.rows c.in_ok-place.ensures.added c.in_ok-begin.ensures.lists c.in_ok-place.ensures.index;
     }

@@ -21,9 +21,9 @@ loop-place-preserved c =
     let there : place < length g.order.items = subst (λ m. place < m) (c.len-place-end.ensures ∙ g.order.ok.0) c.loop-place-test.true in
     let results = map (λ column. value_at column place) columns in
     cells_more (row_of g columns) (map meaning c.loop-place.cells.items) (map meaning c.slice_of.result.now) results _ place c.loop-place.invariant
-    (c.in_ok-push_results.ensures ∙ ap (λ l. l ++ results) c.in_ok-push_cells.ensures)
+    (c.in_ok-push_results.ensures ∙ ap (λ l. l ++ results) c.in_ok-push_row.ensures)
     (ap (λ l. l ++ results)
-    (ap (map meaning) (c.slice_of.ensures ∙ ap (λ xs. slice_at g.width xs number) c.deref.ensures.value ∙ ap (slice_at g.width g.keys.items) (c.index-number.ensures ∙ same_at g.order.items place number 0 there)) ∙ key_is g columns place there))
+    (ap (map meaning) (c.slice_of.ensures.list ∙ ap (λ xs. slice_at g.width xs number) c.deref.ensures.value ∙ ap (slice_at g.width g.keys.items) (c.index-number.ensures ∙ same_at g.order.items place number 0 there)) ∙ key_is g columns place there))
 
 pub invariant_of-result : goal.invariant_of-result
 invariant_of-result c =

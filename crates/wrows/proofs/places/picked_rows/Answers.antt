@@ -14,7 +14,7 @@ returns-clause-rows c =
     let numbers = c.args.numbers.now in
     let rows = rows_seen c.args.rows.now in
     let columns = rows_seen c.args.columns.now in
-    let told = c.in_ok-push_rows.ensures rows (ap rows_seen c.deref.ensures.value ∙ c.in_ok-lent.ensures)
+    let told = c.in_ok-push_rows.ensures
     ∙ ap (λ cells. map meaning cells ++ flat_map (picked places rows columns) numbers) c.in_ok-cells.ensures.items in
     laid_rows (length places) (picked places rows columns) numbers (picked_wide places rows columns numbers) c.push_rows.new.cells.items told
 
@@ -24,7 +24,7 @@ returns-clause-laid c =
     let numbers = c.args.numbers.now in
     let rows = rows_seen c.args.rows.now in
     let columns = rows_seen c.args.columns.now in
-    let told = c.in_ok-push_rows.ensures rows (ap rows_seen c.deref.ensures.value ∙ c.in_ok-lent.ensures)
+    let told = c.in_ok-push_rows.ensures
     ∙ ap (λ cells. map meaning cells ++ flat_map (picked places rows columns) numbers) c.in_ok-cells.ensures.items in
     sym (length-map c.push_rows.new.cells.items meaning) ∙ ap length told
     ∙ laid_length (length places) (picked places rows columns) numbers (picked_wide places rows columns numbers)

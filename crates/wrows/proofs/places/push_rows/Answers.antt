@@ -1,26 +1,21 @@
-use Rattle.std.proofs.Common.{◌++◌, [], arith, get_or, map, sym, ap, ◌∙◌, take}
+use Rattle.std.proofs.Common.{◌≤◌, ◌++◌, arith, map, ap, ◌∙◌}
+use Rattle.std.specs.Prelude.{slice_range}
 use Rattle.std.specs.List.{flat_map}
-use Rattle.std.proofs.lemmas.List.{flat_map_more, get_or-map, take_more}
 use Rattle.wvalues.specs.Meaning.{meaning}
-use Rattle.wframe.specs.Peers.{key_at}
-use Rattle.wrows.specs.Columns.{value_at}
-use Rattle.wrows.specs.Laid.{row_seen, rows_seen}
-use Rattle.wrows.specs.Picked.{picked, with_columns}
+use Rattle.wrows.specs.Laid.{rows_seen}
+use Rattle.wrows.specs.Picked.{picked}
+use Rattle.wrows.proofs.PickFacts.{flat_more}
 use Rattle.wrows.proofs.places.push_rows.Goals as goal
 
-pub loop-i-preserved : goal.loop-i-preserved
-loop-i-preserved c = λ rows e.
-    let i = c.loop-i.i in
+pub loop-done-preserved : goal.loop-done-preserved
+loop-done-preserved c =
     let numbers = c.args.numbers.now in
-    let number = get_or numbers i 0 in
-    let columns = rows_seen c.args.columns.now in
-    let f = picked c.args.places.now rows columns in
-    let own = ap row_seen c.index-lent-i.is
-    ∙ sym (get_or-map row_seen c.args.lent.now i c.index-lent-i.result [] (omega arith))
-    ∙ ap (λ lists. get_or lists i []) e
-    ∙ get_or-map (key_at rows) numbers i 0 [] (omega arith) in
-    c.in_ok-push_picked.ensures
-    ∙ ap (λ cells. map meaning c.loop-i.cells.items ++ map (value_at (with_columns cells columns number)) c.args.places.now) own
-    ∙ ap (λ l. l ++ f number) (c.loop-i.invariant rows e)
-    ∙ flat_map_more f (map meaning c.args.cells.now.items) (take i numbers) number
-    ∙ ap (λ front. map meaning c.args.cells.now.items ++ flat_map f front) (sym (take_more numbers i 0 (omega arith)))
+    let f = picked c.args.places.now (rows_seen c.args.rows.now) (rows_seen c.args.columns.now) in
+    let done = c.loop-done.done in
+    let end = c.batch_end-end.result in
+    let rising : done ≤ end = omega (arith, c.batch_end-end.ensures.some) in (
+      c.batch_end-end.ensures.within,
+      c.in_ok-push_batch.ensures
+          ∙ ap (λ l. l ++ flat_map f (slice_range numbers done end)) c.loop-done.invariant.1
+          ∙ flat_more f (map meaning c.args.cells.now.items) done end numbers rising,
+    )

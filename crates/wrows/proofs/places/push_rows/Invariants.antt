@@ -1,11 +1,12 @@
-use Rattle.std.proofs.Common.{◌≡◌, ◌++◌, List, map, take}
+use Rattle.std.proofs.Common.{◌≡◌, ◌++◌, ◌≤◌, ◌-◌, length, map, take}
 use Rattle.std.specs.List.{flat_map}
 use Rattle.wvalues.specs.Meaning.{meaning}
-use Rattle.wframe.specs.Peers.{key_at}
-use Rattle.wrows.specs.Columns.{Row}
 use Rattle.wrows.specs.Laid.{rows_seen}
 use Rattle.wrows.specs.Picked.{picked}
 use Rattle.wrows.proofs.places.push_rows.Given as goal
 
-abbrev pub invariant-loop-i : goal.invariant-loop-i
-invariant-loop-i l = (rows : List Row) → rows_seen l.lent ≡ map (key_at rows) l.numbers → map meaning l.cells.items ≡ map meaning l.fn.cells.items ++ flat_map (picked l.places rows (rows_seen l.columns)) (take l.i l.numbers)
+abbrev pub invariant-loop-done : goal.invariant-loop-done
+invariant-loop-done l = (l.done ≤ length l.numbers) × (map meaning l.cells.items ≡ map meaning l.fn.cells.items ++ flat_map (picked l.places (rows_seen l.rows) (rows_seen l.columns)) (take l.done l.numbers))
+
+abbrev pub decreases-loop-done : goal.decreases-loop-done
+decreases-loop-done l = length l.numbers - l.done
