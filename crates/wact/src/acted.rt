@@ -1,5 +1,5 @@
 //! What a subcommand gives.
-ghost use Rattle.std.specs.Prelude.{◌≡◌, IfOk};
+ghost use Rattle.std.specs.Prelude.{IfOk};
 ghost use Rattle.wreplies.specs.Texts.{bytes_of};
 ghost use Rattle.wact.specs.Outcomes.{IsAnswered, IsRefused, IsStored};
 

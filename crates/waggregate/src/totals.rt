@@ -1,5 +1,5 @@
 //! Aggregates of some rows.
-ghost use Rattle.std.specs.Prelude.{◌≡◌, ◌<◌, ◌^◌, All, IfSome, None, Ok, length, map, not, option_map, slice_index_or};
+ghost use Rattle.std.specs.Prelude.{◌≡◌, ◌<◌, ◌^◌, All, None, Ok, length, map, not, option_map, slice_index_or};
 ghost use Rattle.std.specs.Option.{ForSome};
 ghost use Rattle.wvalues.specs.Meaning.{Null, meaning};
 ghost use Rattle.wvalues.specs.Order.{key_cmp};

@@ -1,5 +1,5 @@
 //! Cells of rows, lent in another order of the rows.
-ghost use Rattle.std.specs.Prelude.{◌≡◌, ◌*◌, ◌+◌, ◌≤◌, ◌<◌, ◌++◌, All, IfOk, OnOk, drop, length, map, take};
+ghost use Rattle.std.specs.Prelude.{◌≡◌, ◌*◌, ◌+◌, ◌<◌, ◌++◌, All, IfOk, OnOk, length, map};
 ghost use Rattle.wvalues.specs.Meaning.{meaning};
 ghost use Rattle.wframe.specs.Cells.{meanings, rows_of};
 ghost use Rattle.wframe.specs.Peers.{key_at};

@@ -1,12 +1,10 @@
 //! The values of an expression on rows: those of a plain column are read where they lie.
-ghost use Rattle.std.specs.Prelude.{◌≡◌, IfOk, IfSome, length, map};
+ghost use Rattle.std.specs.Prelude.{◌≡◌, IfOk, length, map};
 ghost use Rattle.wvalues.specs.Meaning.{meaning};
-ghost use Rattle.wplan.specs.declared.expr.Expr.{out-Expr};
 ghost use Rattle.wplan.specs.Formula.{At, formula};
 ghost use Rattle.wrows.specs.Outcomes.{Gives};
 ghost use Rattle.wrows.specs.Columns.{column_of, value_at, value_on};
 ghost use Rattle.wrows.specs.Laid.{rows_seen};
-ghost use Rattle.wrows.specs.PlainColumns.{plain_place};
 ghost use Rattle.wcalls.specs.Seen.{values_seen};
 
 use std::alloc::{AllocError, Global};

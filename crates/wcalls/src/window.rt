@@ -1,5 +1,5 @@
 //! Rows in the order of a window.
-ghost use Rattle.std.specs.Prelude.{◌≡◌, ◌*◌, ◌<◌, true, List, All, IfOk, IsTrue, length, map};
+ghost use Rattle.std.specs.Prelude.{◌≡◌, ◌*◌, ◌<◌, true, List, All, IfOk, IsTrue, length};
 ghost use Rattle.std.specs.Ordering.{on};
 ghost use Rattle.wvalues.specs.Order.{keys_cmp};
 ghost use Rattle.wframe.specs.Cells.{rows_of};

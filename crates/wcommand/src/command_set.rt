@@ -1,6 +1,6 @@
 //! The command set, as `clap` builds it.
 ghost use Rattle.std.specs.Prelude.{◌≡◌, IfOk, false, codes, true};
-ghost use Rattle.clap.specs.Words.{app_of, rule_of, shape_of, with_rule, is_broken, new_app};
+ghost use Rattle.clap.specs.Words.{app_of, rule_of, shape_of, with_rule, new_app};
 ghost use Rattle.clap.specs.declared.builder.command.Command.TheViews.{out-Command as fields_of};
 ghost use Rattle.wcommand.specs.CommandSet.{ask_shape, command_set, join_shape, list_shape, option_rule, positional_rule, program_app, retire_shape, session_shape, take_shape, unversioned_app};
 

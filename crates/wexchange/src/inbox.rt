@@ -1,5 +1,5 @@
 //! Keeps what has come of a delivery stream.
-ghost use Rattle.std.specs.Prelude.{◌≡◌, ℕ, ◌≤◌, ◌↔◌, [], ◌++◌, true, false, Some, None, Err, OnOk, OnErr, drop, length, vec_len};
+ghost use Rattle.std.specs.Prelude.{◌≡◌, ◌≤◌, [], ◌++◌, true, false, Some, None, Err, OnOk, OnErr, drop, length, vec_len};
 ghost use Rattle.std.specs.Borrow.{sem};
 ghost use Rattle.std.specs.Io.BufRead.{Rests};
 ghost use Rattle.wexchange.specs.contracts.inbox.Inbox.{the_row};

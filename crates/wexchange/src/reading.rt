@@ -6,7 +6,7 @@ ghost use Rattle.wvalues.specs.Names.{IsName};
 ghost use Rattle.wsegment.specs.Declaration.{Declaration, declaration_text};
 ghost use Rattle.wexchange.specs.declared.fault.FileFault.TheVariants.{OtherSchema, Trailing};
 ghost use Rattle.wexchange.specs.Forms.{IsForm, IsNumber, line_of};
-ghost use Rattle.wexchange.specs.Files.{head, begun, table_text, end_text, AreRecords};
+ghost use Rattle.wexchange.specs.Files.{head, table_text, end_text, AreRecords};
 ghost use Rattle.wexchange.specs.Judging.{GoesOn, AtTable, Behind, IsFault, IsFileOf};
 ghost use Rattle.wexchange.specs.Steps.{ReadsNext, Spoils, file_fault};
 

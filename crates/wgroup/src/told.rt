@@ -1,5 +1,5 @@
 //! The rows of groups, and those that HAVING keeps.
-ghost use Rattle.std.specs.Prelude.{◌≡◌, ◌+◌, ◌*◌, ◌<◌, ◌^◌, ◌++◌, All, length, map, IfOk, OnOk};
+ghost use Rattle.std.specs.Prelude.{◌≡◌, ◌+◌, ◌<◌, ◌^◌, ◌++◌, All, length, map, IfOk, OnOk};
 ghost use Rattle.std.specs.List.{flat_map};
 ghost use Rattle.wvalues.specs.Meaning.{meaning};
 ghost use Rattle.wplan.specs.Plans.{optional_formula};

@@ -1,6 +1,6 @@
 //! Cuts pieces off the front of a text.
 
-ghost use Rattle.std.specs.Prelude.{◌≡◌, ◌<◌, ◌≤◌, ◌∷◌, length, IfOk, IfErr, IfSome, IfNone, MatchBool, MatchOption};
+ghost use Rattle.std.specs.Prelude.{◌≡◌, ◌<◌, ◌∷◌, IfOk, IfErr, MatchBool, MatchOption};
 ghost use Rattle.std.specs.List.{prefix_len};
 ghost use Rattle.std.specs.String.{string_bytes};
 ghost use Rattle.wlexer.specs.Bytes.{ascii_limit, continues, spoils_number};

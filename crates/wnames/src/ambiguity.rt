@@ -1,6 +1,6 @@
 //! The rule on names that two columns or two items have.
 
-ghost use Rattle.std.specs.Prelude.{◌≡◌, ◌≤◌, ℕ, Bool, List, Option, Some, None, map, [], ◌∷◌, length};
+ghost use Rattle.std.specs.Prelude.{◌≡◌, List, Option, Some, None, map, [], ◌∷◌};
 ghost use Rattle.std.specs.List.{list_any};
 ghost use Rattle.wquery.specs.Tree.{KeyTree, view, view_key};
 ghost use Rattle.wquery.specs.QueryTree.{view_item, view_query};

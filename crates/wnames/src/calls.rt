@@ -1,9 +1,9 @@
 //! The rules on what a call is given.
 
-ghost use Rattle.std.specs.Prelude.{◌≡◌, ◌&&◌, Bool, Some};
+ghost use Rattle.std.specs.Prelude.{◌≡◌, ◌&&◌, Some};
 ghost use Rattle.wquery.specs.Tree.{Tree, view, views, trees, view_call, view_arguments};
 ghost use Rattle.wquery.specs.QueryTree.{view_query};
-ghost use Rattle.wscope.specs.Functions.{function_of as function_named, takes as may_take};
+ghost use Rattle.wscope.specs.Functions.{takes as may_take};
 ghost use Rattle.wscope.specs.Scope.{clauses_of};
 ghost use Rattle.wscope.specs.Sources.{all_titled};
 ghost use Rattle.wscope.specs.Finding.{finds, count_trees};

@@ -1,6 +1,6 @@
 //! The rules on where calls and columns may stand.
 
-ghost use Rattle.std.specs.Prelude.{◌≡◌, ◌&&◌, Bool, map, if◌then◌else◌};
+ghost use Rattle.std.specs.Prelude.{◌≡◌, ◌&&◌, map, if◌then◌else◌};
 ghost use Rattle.std.specs.List.{list_any};
 ghost use Rattle.wquery.specs.Tree.{view, view_column, view_call};
 ghost use Rattle.wquery.specs.QueryTree.{view_query, view_item};

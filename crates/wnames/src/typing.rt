@@ -1,13 +1,13 @@
 //! The rule on types.
 
-ghost use Rattle.std.specs.Prelude.{◌≡◌, ◌||◌, ◌&&◌, Bool, not, map, [], ◌∷◌};
+ghost use Rattle.std.specs.Prelude.{◌≡◌, ◌||◌, ◌&&◌, not, map, [], ◌∷◌};
 ghost use Rattle.std.specs.List.{list_any};
 ghost use Rattle.wquery.specs.declared.expression.ChainKind.{ChainKind};
 ghost use Rattle.wquery.specs.Tree.{Tree, view, views, trees, keys, view_keys, view_key, view_link, linked, NoLinks, view_call, view_arguments, view_optional, view_optional_over, view_window, filter_of, reach_of, own_window};
 ghost use Rattle.wquery.specs.QueryTree.{view_query, view_item, view_entry};
 ghost use Rattle.wscope.specs.Scope.{clauses_of};
 ghost use Rattle.wscope.specs.Sources.{all_titled};
-ghost use Rattle.wscope.specs.Types.{type_of as type_in, is_truth as is_truth_type, fits_integer as suits_integer, fits_text as suits_text, agree as do_agree};
+ghost use Rattle.wscope.specs.Types.{is_truth as is_truth_type, fits_integer as suits_integer, fits_text as suits_text, agree as do_agree};
 ghost use Rattle.wscope.specs.Finding.{finds};
 ghost use Rattle.wnames.specs.Typing.{is_condition as is_truth, is_value as is_no_truth, is_integer as is_of_integers, is_text as is_of_texts, all_trees, all_links, all_keys, suits as is_suited, is_window_typed as has_typed_window, is_filter_typed as has_typed_filter, has_fit_default as is_default_fit, suits_function as are_suited, are_typed as are_arguments_typed, is_ill_typed as is_wrong, is_no_condition as is_other, is_truth_item as has_truth, is_truth_key as is_key_of_truth, is_truth_entry as is_entry_of_truth, breaks_types};
 

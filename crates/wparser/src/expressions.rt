@@ -1,9 +1,9 @@
 //! Reads expressions, row by row of the grammar; `depth` levels of nesting are left.
 
-ghost use Rattle.std.specs.Prelude.{◌≡◌, List, true, false, Some, None};
+ghost use Rattle.std.specs.Prelude.{◌≡◌, true, false, Some, None};
 ghost use Rattle.std.specs.Rc.{rc_str_bytes};
 ghost use Rattle.wquery.specs.declared.expression.ChainKind.TheVariants.{Disjunction, Sum};
-ghost use Rattle.wquery.specs.Tree.{view, views, view_arguments, view_over, view_key, view_keys, view_window, view_optional, view_optional_over, filter_of, reach_of};
+ghost use Rattle.wquery.specs.Tree.{view, views, view_arguments, view_key, view_keys, view_window, view_optional, view_optional_over, filter_of, reach_of};
 ghost use Rattle.wtokens.specs.Notation.{GoesOn, Listed, meanings};
 ghost use Rattle.wparser.specs.Grammar.{Closed, ChainRank, deeper, inner, operand, chain, condition, sum, range, comparison, negation, sign, test, null_tested, compared, range_tested, range_test, among, between, up_to, primary, column_or_call, qualified, everything_closed, call, arguments, optional_filter, optional_over, window_inside, window, partition, order, key};
 ghost use Rattle.wparser.specs.Grips.{any_class, filter_class, sign_class, range_class, comparison_class, negation_class, nulls_class, list_class, partition_class, order_class, frame_class, Stops, kind_class, operand_class};

@@ -1,11 +1,11 @@
 //! Reads whole queries; `depth` levels of nesting are left.
 
-ghost use Rattle.std.specs.Prelude.{◌≡◌, ◌≤◌, true, false, List, ◌∷◌, map, Some, None, IfOk};
+ghost use Rattle.std.specs.Prelude.{◌≡◌, ◌≤◌, true, false, ◌∷◌, map, Some, None, IfOk};
 ghost use Rattle.wlexer.specs.Token.{SymbolToken};
 ghost use Rattle.wlexer.specs.declared.token.Symbol.TheVariants.{Semicolon};
 ghost use Rattle.std.specs.Rc.{rc_str_bytes};
-ghost use Rattle.wquery.specs.Tree.{Tree, view, view_column, view_keys, view_optional, name_bytes};
-ghost use Rattle.wquery.specs.QueryTree.{QueryTree, ItemTree, EntryTree, view_query, view_source, view_item, view_entry, query_of};
+ghost use Rattle.wquery.specs.Tree.{Tree, view_column, view_optional, name_bytes};
+ghost use Rattle.wquery.specs.QueryTree.{QueryTree, ItemTree, EntryTree, view_query, view_source, view_item, view_entry};
 ghost use Rattle.wparser.specs.Queries.{required_alias, optional_alias, item, derived, source, clause, column, grouping, entry, windows, count, limit_first, offset_first, limits, behind_groups, behind_windows, clauses, query, deeper_query, most_nesting, text, Spells};
 ghost use Rattle.wparser.specs.Grips.{any_class, condition_class, name_class, element_class, grouping_class, windows_class, limits_class, text_class, keyword_grip};
 ghost use Rattle.wparser.specs.declared.fault.ParseFault.TheVariants.{Syntax};

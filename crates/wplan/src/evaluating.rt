@@ -1,6 +1,6 @@
 //! The value of an expression on a row.
 
-ghost use Rattle.std.specs.Prelude.{◌≡◌, map, get_or};
+ghost use Rattle.std.specs.Prelude.{map, get_or};
 ghost use Rattle.std.specs.Rc.{rc_str_bytes};
 ghost use Rattle.wvalues.specs.Meaning.{meaning, Null, Text};
 ghost use Rattle.wvalues.specs.declared.truth.Truth.TheVariants.{No};

@@ -1,8 +1,7 @@
 //! Makes expressions over rows.
 
 ghost use Rattle.std.specs.Prelude.{◌≡◌, IfOk, map};
-ghost use Rattle.std.specs.Rc.{rc_str_bytes};
-ghost use Rattle.wplan.specs.Formula.{formula, formulas, chained, operand_of, Constant, At, Negation, Signed, Compared, NullTest, Within, Among};
+ghost use Rattle.wplan.specs.Formula.{formula, formulas, chained, operand_of, Constant, Negation, Signed, Compared, NullTest, Within, Among};
 ghost use Rattle.wresolve.specs.Resolving.{literal};
 
 use std::alloc::{AllocError, Global};

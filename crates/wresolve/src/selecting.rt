@@ -1,7 +1,6 @@
 //! SELECTs with each name and default settled.
 
-ghost use Rattle.std.specs.Prelude.{◌≡◌, ◌++◌, ◌∷◌, [], ◌||◌, IfOk, OnOk, map, length, Some, None, is_some, unwrap_or, if◌then◌else◌};
-ghost use Rattle.std.specs.Rc.{rc_str_bytes};
+ghost use Rattle.std.specs.Prelude.{◌≡◌, [], ◌||◌, IfOk, map, length, Some, None, is_some, unwrap_or, if◌then◌else◌};
 ghost use Rattle.wquery.specs.Tree.{view_key, view_column, view_optional};
 ghost use Rattle.wplan.specs.Formula.{formula};
 ghost use Rattle.wplan.specs.Plans.{aggregate_plan, grouping_plan, optional_formula, optional_grouping, output_plan, key_plan, select_plan, window_plan, call_plan};

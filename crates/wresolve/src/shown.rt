@@ -4,7 +4,7 @@ ghost use Rattle.std.specs.Prelude.{◌≡◌, ◌++◌, ◌∷◌, [], IfOk, On
 ghost use Rattle.wquery.specs.Tree.{name_bytes, view};
 ghost use Rattle.wquery.specs.QueryTree.{Computed, view_item};
 ghost use Rattle.wscope.specs.Sources.{Spelled, all_titled, columns_from, written_out as all_shown};
-ghost use Rattle.wresolve.specs.Shown.{shown_of, shown_item, shown_items};
+ghost use Rattle.wresolve.specs.Shown.{shown_of, shown_items};
 ghost use Rattle.wresolve.specs.Selecting.{item_at, called_or as item_called, key_shown};
 
 use std::alloc::{AllocError, Global};

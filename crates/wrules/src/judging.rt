@@ -8,7 +8,7 @@ ghost use Rattle.wscope.specs.Sources.{all_titled, answered, origin_of};
 ghost use Rattle.wscope.specs.Windows.{named_windows};
 ghost use Rattle.wnames.specs.Names.{source_of};
 ghost use Rattle.wwindows.specs.Windows.{windows_of};
-ghost use Rattle.wrules.specs.Rules.{least_broken, first_of_names as first_on_names, first_of_windows as first_on_windows, least, least_source, depth, first_broken_rule as least_rule};
+ghost use Rattle.wrules.specs.Rules.{least_broken, first_of_names as first_on_names, first_of_windows as first_on_windows, least_source, depth, first_broken_rule as least_rule};
 ghost use Rattle.wrules.specs.Judging.{JudgesQuery, JudgesSource};
 
 use crate::rule::Rule;

@@ -1,6 +1,6 @@
 //! Names of columns and of items.
 
-ghost use Rattle.std.specs.Prelude.{◌≡◌, ◌≤◌, Bool, List, map, length};
+ghost use Rattle.std.specs.Prelude.{◌≡◌, ◌≤◌, List, map, length};
 ghost use Rattle.std.specs.List.{list_any};
 ghost use Rattle.wquery.specs.QueryTree.{view_item};
 ghost use Rattle.wquery.specs.Tree.{view, name_bytes};

@@ -1,10 +1,9 @@
 //! Walks over the clauses of a query.
 
-ghost use Rattle.std.specs.Prelude.{◌≡◌, Bool, List, map, [], ◌∷◌};
-ghost use Rattle.std.specs.List.{list_any};
+ghost use Rattle.std.specs.Prelude.{◌≡◌, map, [], ◌∷◌};
 ghost use Rattle.wquery.specs.QueryTree.{view_item, view_entry, view_query};
 ghost use Rattle.wquery.specs.Tree.{view, view_optional, view_key};
-ghost use Rattle.wscope.specs.Scope.{some_item, some_option, some_entry, some_sort, some_shown, some_anywhere, is_output as stands_for_item, item_has_name, clauses_of};
+ghost use Rattle.wscope.specs.Scope.{some_item, some_option, some_entry, some_sort, some_shown, some_anywhere, is_output as stands_for_item, clauses_of};
 ghost use Rattle.wscope.specs.Sources.{all_titled};
 
 use crate::names::names_item;

@@ -1,6 +1,6 @@
 //! Walks through the nodes of an expression.
 
-ghost use Rattle.std.specs.Prelude.{◌≡◌, Bool, map};
+ghost use Rattle.std.specs.Prelude.{◌≡◌, map};
 ghost use Rattle.wquery.specs.Tree.{Tree, view, view_over, view_window, view_call, view_key, view_link, view_arguments, view_optional, view_optional_over, filter_of, reach_of, trees, views, keys, view_keys, own_window, linked, NoLinks};
 ghost use Rattle.wscope.specs.Seeking.{some_node, some_below, some_given, some_filter, some_reach, some_tree, some_key, some_link};
 ghost use Rattle.wscope.specs.declared.look.Look.{Look};

@@ -1,7 +1,7 @@
 //! Windows with what they copy, found.
 
 ghost use Rattle.std.specs.Prelude.{◌≡◌, map, [], IfOk};
-ghost use Rattle.wquery.specs.Tree.{view_window, keys, view_keys, name_bytes};
+ghost use Rattle.wquery.specs.Tree.{view_window, keys, view_keys};
 ghost use Rattle.wquery.specs.QueryTree.{view_entry};
 ghost use Rattle.wscope.specs.Windows.{settle_tree, settle_all as settled_entries, keys_or, window_named, or_none, named_windows, settled_window, optional_window, lent_frame};
 

@@ -1,6 +1,6 @@
 //! The types of expressions.
 
-ghost use Rattle.std.specs.Prelude.{◌≡◌, map};
+ghost use Rattle.std.specs.Prelude.{◌≡◌};
 ghost use Rattle.wquery.specs.Tree.{view, view_call, view_arguments, trees, views};
 ghost use Rattle.wscope.specs.Types.{type_of as type_in, given_type, type_at, type_named, chain_type, call_type, type_or};
 ghost use Rattle.wscope.specs.Sources.{all_titled};

@@ -1,5 +1,5 @@
 //! The records of some bytes, one after the other.
-ghost use Rattle.std.specs.Prelude.{◌≡◌, ◌⊎◌, true, [], Some, IfOk, IfErr, ℕ, List};
+ghost use Rattle.std.specs.Prelude.{◌≡◌, ◌⊎◌, true, [], Some, IfOk, IfErr};
 ghost use Rattle.csv.specs.Reading.{default_config, records, source_of, strip_bom};
 ghost use Rattle.csv.specs.Records.{fields_of};
 ghost use Rattle.csv.specs.declared.parser.State.TheVariants as st;

@@ -1,6 +1,5 @@
 //! A table's declaration as it is read, and the text that spells it.
 ghost use Rattle.std.specs.Prelude.{◌≡◌, ◌<◌, ◌↔◌, Err, IsTrue, IfOk, IfSome, MatchResult, length};
-ghost use Rattle.std.specs.String.{string_bytes};
 ghost use Rattle.wsegment.specs.Declaration.{Declaration, declaration_text, place_of};
 ghost use Rattle.wsegment.specs.Spelling.{IsDeclaration, ReadsDeclaration};
 ghost use Rattle.wsegment.specs.declared.schema_fault.SchemaFault.TheVariants.{NoMemory};

@@ -1,7 +1,6 @@
 //! The spelling of a declaration, read piece by piece.
-ghost use Rattle.std.specs.Prelude.{◌≡◌, ◌<◌, ◌≤◌, ◌++◌, ℕ, List, length, true, false, IfNone, IfOk, IfSome, MatchOption, codes, drop, take};
-ghost use Rattle.std.specs.List.{AllByRecursion, flat_map, list_all, list_any, prefix_len};
-ghost use Rattle.std.specs.Str.{bytes_eq};
+ghost use Rattle.std.specs.Prelude.{◌≡◌, ◌<◌, ◌≤◌, ◌++◌, ℕ, List, length, true, false, IfNone, IfOk, IfSome, MatchOption};
+ghost use Rattle.std.specs.List.{AllByRecursion, flat_map, list_all, prefix_len};
 ghost use Rattle.std.specs.String.{string_bytes};
 ghost use Rattle.wsegment.specs.Declaration.{Described, column_text, is_name, is_name_byte, kind_text, table_text};
 ghost use Rattle.wsegment.specs.Spelling.{HasName, repeats_name};

@@ -1,5 +1,5 @@
 //! Entries in blocks of a bounded size, so that an insert moves few of them.
-ghost use Rattle.std.specs.Prelude.{◌≡◌, ◌↔◌, ◌<◌, ◌≤◌, ◌++◌, ◌-◌, ◌^◌, IsOk, IsSome, IsTrue, List, true, false, length, map, option_map, IfSome, IfOk, OnOk, OnErr};
+ghost use Rattle.std.specs.Prelude.{◌≡◌, ◌↔◌, ◌<◌, ◌++◌, ◌-◌, ◌^◌, IsOk, IsSome, IsTrue, List, true, false, length, map, option_map, IfSome, IfOk, OnOk, OnErr};
 ghost use Rattle.std.specs.Option.{option_copied};
 ghost use Rattle.std.specs.FinMap.{find, put};
 ghost use Rattle.wsegment.specs.Declaration.{Declaration};

@@ -7,7 +7,7 @@ ghost use Rattle.std.specs.FinMap.{find, put};
 ghost use Rattle.wsegment.specs.Declaration.{Declaration};
 ghost use Rattle.wvalues.specs.Names.{name_cmp};
 ghost use Rattle.wset.specs.Views.{join_known};
-ghost use Rattle.wset.specs.Holding.{IsHeldBy, known_of, row_count_of};
+ghost use Rattle.wset.specs.Holding.{IsHeldBy, known_of};
 ghost use Rattle.wset.specs.Entries.{AllHeldBy, IsGap, IsPlace, IsRising, known_entries, known_entry, listing_of};
 
 use crate::held::Held;

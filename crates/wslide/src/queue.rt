@@ -19,7 +19,7 @@ pub struct FoldQueue<P> {
 }
 
 impl<P: Copy> FoldQueue<P> {
-    ghost use Rattle.std.specs.Prelude.{ℕ, ◌<◌, ◌^◌, List, [], ◌∷◌, ◌++◌, length, drop, IfOk};
+    ghost use Rattle.std.specs.Prelude.{◌<◌, ◌^◌, List, [], ◌∷◌, ◌++◌, drop, IfOk};
     ghost use Rattle.wslide.specs.Laws.{total};
     ghost use Rattle.wslide.specs.Queue.{part_count, capacity, owed, KeepsParts, IsFilledBy};
 

@@ -1,4 +1,4 @@
-ghost use Rattle.std.specs.Prelude.{◌≡◌, ◌<◌, ℕ, List, Bool, Option, All, length, slice_index_or};
+ghost use Rattle.std.specs.Prelude.{◌<◌, ℕ, List, Bool, Option, All, length, slice_index_or};
 ghost use Rattle.wvalues.specs.Meaning.{meaning, Null};
 ghost use Rattle.wframe.specs.Cells.{meanings};
 ghost use Rattle.wslide.specs.Aggregates.{fed, IsInRange};

@@ -11,7 +11,7 @@ pub struct FoldTree<P> {
     levels: Vec<Vec<P>>,
 }
 
-ghost use Rattle.std.specs.Prelude.{◌≡◌, ◌≤◌, ◌+◌, ◌*◌, ◌-◌, ◌/◌, ◌%◌, ℕ, ◌<◌, ◌^◌, length, slice_range, IfOk, All, vec_len};
+ghost use Rattle.std.specs.Prelude.{◌≡◌, ◌≤◌, ◌+◌, ◌*◌, ◌-◌, ◌/◌, ◌%◌, ◌<◌, ◌^◌, length, slice_range, IfOk, All, vec_len};
 ghost use Rattle.wslide.specs.Laws.{total};
 ghost use Rattle.wslide.specs.Tree.{paired, tree_parts, IsBuiltBy};
 

@@ -5,7 +5,7 @@ ghost use Rattle.std.specs.FinMap as map;
 ghost use Rattle.wsegment.specs.Declaration.{Declaration};
 ghost use Rattle.wvalues.specs.NameReading.{ReadsName};
 ghost use Rattle.wstore.specs.Commands.{Command as Spelled, Take, Retire as Retiring, Listing, Ask, Put, Get, longest_segment, longest_text, node_count, slot_count};
-ghost use Rattle.wstore.specs.History.{Step, declaration, is_put};
+ghost use Rattle.wstore.specs.History.{Step, is_put};
 ghost use Rattle.wstore.specs.Nodes.{fresh_node};
 
 use crate::feeding::tell_messages;

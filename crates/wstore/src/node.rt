@@ -1,11 +1,10 @@
 //! One node.
-ghost use Rattle.std.specs.Prelude.{◌≢◌, ◌≡◌, ◌⊎◌, ◌<◌, ◌++◌, ◌∷◌, length, map as list_map, true, false, Ok, Err, IsOk, IfOk, IfErr, OnOk, OnErr, MatchResult, IfSome, codes, decimal};
+ghost use Rattle.std.specs.Prelude.{◌≡◌, ◌⊎◌, ◌<◌, ◌++◌, length, map as list_map, true, false, Ok, Err, IsOk, IfOk, IfErr, OnOk, OnErr, MatchResult};
 ghost use Rattle.std.specs.FinMap as map;
 ghost use Rattle.wsegment.specs.Outcome.{Fails};
 ghost use Rattle.wsegment.specs.Rows.{rows_of};
 ghost use Rattle.wset.specs.Views.{join};
 ghost use Rattle.wset.specs.Items.{SegmentItem, RetirementItem, view_of_item};
-ghost use Rattle.wset.specs.Tables.{table_of};
 ghost use Rattle.wset.specs.Words.{retired_word, taken_word};
 ghost use Rattle.wset.specs.Listing.{listed};
 ghost use Rattle.wexchange.specs.Files.{file_of};

@@ -1,6 +1,5 @@
 //! What a script has declared, and the replies to its commands.
-ghost use Rattle.std.specs.Prelude.{[], ◌≡◌, ◌<◌, ℕ, List, ◌∷◌, IsTrue, ◌↔◌, IfOk, IfErr, OnOk, OnErr, is_some, false, true};
-ghost use Rattle.wsegment.specs.Declaration.{Declaration};
+ghost use Rattle.std.specs.Prelude.{[], ◌≡◌, ◌<◌, List, IfOk, IfErr, OnOk, OnErr, is_some, false, true};
 ghost use Rattle.wstore.specs.Commands.{Command as Spelled, Declare, Feed, IsAllowed};
 ghost use Rattle.wstore.specs.Requests.{IsOrderAt, IsRefusedAs, refusal_text};
 ghost use Rattle.wstore.specs.History.{Step, MayLackMemory, is_declared};

@@ -1,6 +1,6 @@
 //! The first token of what is left.
 
-ghost use Rattle.std.specs.Prelude.{◌≡◌, ◌≢◌, true, false, List, [], ◌∷◌, MatchOption};
+ghost use Rattle.std.specs.Prelude.{◌≡◌, ◌≢◌, true, false, [], ◌∷◌, MatchOption};
 ghost use Rattle.std.specs.Rc.{rc_str_bytes};
 ghost use Rattle.wlexer.specs.Token.{lexeme_meaning, KeywordToken, SymbolToken};
 ghost use Rattle.wtokens.specs.Words.{CommaSign, name_of, number_of, text_of, operator_of, comparison_of, sign_of, direction_of, null_order_of, mode_of};

@@ -7,7 +7,7 @@ ghost use Rattle.wsame.specs.Bounds.{end_of};
 ghost use Rattle.wscope.specs.Scope.{clauses_of};
 ghost use Rattle.wscope.specs.Sources.{all_titled};
 ghost use Rattle.wscope.specs.Types.{type_of as type_in};
-ghost use Rattle.wscope.specs.Windows.{named_windows, settled_window};
+ghost use Rattle.wscope.specs.Windows.{named_windows};
 ghost use Rattle.wwindows.specs.Windows.{is_long as is_long_bound, is_offset as is_offset_bound, has_bad_bounds as are_bad_bounds, has_bad_frame, lacks_groups, is_groups, is_range, is_text_type as is_type_of_texts, has_range_key as is_range_key, lacks_range_key, breaks_bounds, breaks_groups, breaks_ranges};
 
 use crate::windows::{WindowTest, any_window, is_unordered};

@@ -1,9 +1,9 @@
 //! The rule on limits.
 
-ghost use Rattle.std.specs.Prelude.{◌≡◌, ◌||◌, ◌+◌, ℕ, Bool, map, min, length, nat_lt};
+ghost use Rattle.std.specs.Prelude.{◌≡◌, ◌||◌, ◌+◌, ℕ, map, min, length, nat_lt};
 ghost use Rattle.std.specs.List.{list_any};
-ghost use Rattle.wquery.specs.Tree.{trees, views, keys, view_keys, view_window, view_optional_over, reach_of, own_window};
-ghost use Rattle.wquery.specs.QueryTree.{view_item, view_entry, view_query};
+ghost use Rattle.wquery.specs.Tree.{trees, views, keys, view_keys, view_window, own_window};
+ghost use Rattle.wquery.specs.QueryTree.{view_entry, view_query};
 ghost use Rattle.wscope.specs.Scope.{clauses_of};
 ghost use Rattle.wscope.specs.Sources.{all_titled};
 ghost use Rattle.wscope.specs.Finding.{count_trees, count_keys};

@@ -1,6 +1,6 @@
 //! The rule on numbers and literals in the query's ORDER BY.
 
-ghost use Rattle.std.specs.Prelude.{◌≡◌, ◌≤◌, ◌*◌, ◌^◌, map};
+ghost use Rattle.std.specs.Prelude.{◌≡◌, map};
 ghost use Rattle.std.specs.List.{list_any};
 ghost use Rattle.wquery.specs.Tree.{view, view_key, KeyTree};
 ghost use Rattle.wquery.specs.QueryTree.{view_item, view_query};

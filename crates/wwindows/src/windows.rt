@@ -1,12 +1,12 @@
 //! The rules on windows and what they copy.
 
-ghost use Rattle.std.specs.Prelude.{◌≡◌, ◌&&◌, ℕ, Bool, Option, Some, map, take, not, is_some};
+ghost use Rattle.std.specs.Prelude.{◌≡◌, ◌&&◌, Bool, Option, Some, map, take, not, is_some};
 ghost use Rattle.std.specs.List.{list_any};
-ghost use Rattle.wquery.specs.Tree.{Reach, WindowTree, Keys, keys, view_keys, trees, views, view_window, view_call, view_optional_over, reach_of, own_window};
+ghost use Rattle.wquery.specs.Tree.{Reach, keys, view_keys, trees, views, view_window, view_call, view_optional_over, reach_of};
 ghost use Rattle.wquery.specs.QueryTree.{view_query, view_entry};
 ghost use Rattle.wscope.specs.Scope.{clauses_of, some_anywhere};
 ghost use Rattle.wscope.specs.Sources.{all_titled};
-ghost use Rattle.wscope.specs.Windows.{NamedWindow, Settled, window_named, or_none, named_windows, settled_window, lent_frame};
+ghost use Rattle.wscope.specs.Windows.{Settled, window_named, or_none, named_windows, settled_window, lent_frame};
 ghost use Rattle.wscope.specs.Finding.{finds};
 ghost use Rattle.wwindows.specs.Windows.{reach_is, some_entry_after, is_unknown_window as is_no_window, copies_unknown as copies_no_window, is_over_unknown as is_over_no_window, has_entry_name, breaks_entries, is_bad_copy as is_wrong_copy, copies_badly as is_copied_wrongly, is_over_bad_copy as is_over_wrong_copy, own_window_is, entry_is, has_keys, has_trees, some_window, breaks_window_names, breaks_copies};
 
