@@ -1,15 +1,11 @@
--- Folds of some rows and one row more, and what is made of sums and of results.
-use Rattle.std.proofs.Common.{◌≡◌, ℕ, ℤ, ◌+◌, ◌<◌, ◌||◌, true, false, cond, List, [], ◌∷◌, ◌++◌, length, map, filter, take, get_or, Option, Some, None, Result, Ok, Err, subst, refl, sym, ap, ◌∙◌}
+-- Values that are fed alike, and what is made of sums and of results.
+use Rattle.std.proofs.Common.{◌≡◌, ℕ, ℤ, ◌<◌, ◌||◌, true, false, cond, List, [], ◌∷◌, ◌++◌, length, map, filter, get_or, Option, Some, None, Result, Err, subst, refl, ap, ◌∙◌}
 use Rattle.std.specs.Prelude.{All, OnOk}
-use Rattle.std.specs.List.{AllByRecursion, fold, list_any}
+use Rattle.std.specs.List.{AllByRecursion, list_any}
 use Rattle.std.specs.Option.{is_none}
-use Rattle.std.proofs.lemmas.List.{map-append, take_more}
-use Rattle.std.proofs.lemmas.List.Sums.{fold-append}
-use Rattle.std.proofs.lemmas.List.Elements.{All-push, All-same, recursion_from_All}
+use Rattle.std.proofs.lemmas.List.Elements.{recursion_from_All}
 use Rattle.wvalues.specs.Meaning.{Meaning, meaning}
-use Rattle.wvalues.specs.declared.value.Value.{Value}
-use Rattle.wslide.specs.Aggregates.{is_value, sum_of, sum_or_none}
-use Rattle.wslide.specs.Laws.{rows_fold}
+use Rattle.wslide.specs.Aggregates.{is_value}
 use Rattle.wrows.specs.declared.fault.AnswerFault.{AnswerFault}
 use Rattle.wrows.specs.declared.fault.AnswerFault.TheVariants.{OutOfRange, TooManyRows, NoMemory}
 use Rattle.wrows.specs.Outcomes.{unless, Gives}
@@ -17,15 +13,6 @@ use Rattle.wrows.proofs.RowFacts.{any-map}
 use Rattle.std.proofs.lemmas.List.Folds.{list_any_at}
 use Rattle.waggregate.specs.Aggregating.{sum_answer, sum_or_null}
 use Rattle.waggregate.specs.Framing.{values_or_null, told_or_out_of_range}
-
-fold_more : {P : Type 0} (neutral : P) (joined : P → P → P) (part_at : ℕ → P) (rows : List ℕ) (i d : ℕ) → i < length rows → rows_fold neutral joined part_at (take (i + 1) rows) ≡ joined (rows_fold neutral joined part_at (take i rows)) (part_at (get_or rows i d))
-fold_more neutral joined part_at rows i d h =
-    ap (λ l. fold joined neutral (map part_at l)) (take_more rows i d h)
-    ∙ ap (fold joined neutral) (map-append part_at (take i rows) (get_or rows i d ∷ []))
-    ∙ fold-append joined neutral (map part_at (take i rows)) (part_at (get_or rows i d) ∷ [])
-
-pub all_more : (P : ℕ → Type 0) (rows : List ℕ) (i d : ℕ) → i < length rows → All P (take i rows) → P (get_or rows i d) → All P (take (i + 1) rows)
-all_more P rows i d h all here = All-same P (take (i + 1) rows) (take i rows ++ get_or rows i d ∷ []) (take_more rows i d h) (All-push P (take i rows) (get_or rows i d) all here)
 
 -- a sum as an answer
 pub sum_as_answer : (feed : ℕ → Meaning) (rows : List ℕ) (z : ℤ) → sum_answer (cond (list_any (λ row. is_value (feed row)) rows) (Some z) None) ≡ sum_or_null (filter is_value (map feed rows)) z
@@ -47,15 +34,6 @@ fed_alike near far f n (x ∷ xs) same all = ap (λ v. v ∷ map near xs) (same 
 -- what is fed by place is what is fed by number
 pub values_alike : (near far : ℕ → Meaning) (f : ℕ → ℕ) (n : ℕ) (xs : List ℕ) → ((x : ℕ) → x < n → near x ≡ far (f x)) → All (λ x. x < n) xs → filter is_value (map near xs) ≡ filter is_value (map far (map f xs))
 values_alike near far f n xs same all = ap (filter is_value) (fed_alike near far f n xs same (recursion_from_All (λ x. x < n) xs all))
-
--- one row more
-pub fold_step : {P : Type 0} (neutral : P) (joined : P → P → P) (part_at : ℕ → P) (rows : List ℕ) (i d : ℕ) (before part after : P) → i < length rows → before ≡ rows_fold neutral joined part_at (take i rows) → part ≡ part_at (get_or rows i d) → after ≡ joined before part
-    → after ≡ rows_fold neutral joined part_at (take (i + 1) rows)
-fold_step neutral joined part_at rows i d before part after h so_far is step =
-    step ∙ ap (λ b. joined b part) so_far ∙ ap (joined (rows_fold neutral joined part_at (take i rows))) is ∙ sym (fold_more neutral joined part_at rows i d h)
-
-pub given_alike : (r : Result Value AnswerFault) (m n : Meaning) → m ≡ n → Gives meaning r (Ok m) → Gives meaning r (Ok n)
-given_alike r m n e h = subst (λ m. Gives meaning r (Ok m)) e h
 
 pub refused_alike : (r : Result (Unit {0}) AnswerFault) (xs ys : List (Option Meaning)) → xs ≡ ys → Gives {X = Unit {0}} {Y = Unit {0}} (λ u. u) r (unless (list_any is_none xs) OutOfRange (tt {0})) → Gives {X = Unit {0}} {Y = Unit {0}} (λ u. u) r (unless (list_any is_none ys) OutOfRange (tt {0}))
 refused_alike r xs ys e h = subst (λ l. Gives {X = Unit {0}} {Y = Unit {0}} (λ u. u) r (unless (list_any is_none l) OutOfRange (tt {0}))) e h
@@ -80,7 +58,3 @@ refused_part told OutOfRange parts i d h e =
     rw some refl
 refused_part told TooManyRows parts i d h e = absurd (not_too_many (told (get_or parts i d)) e)
 refused_part told NoMemory parts i d h e = tt
-
-pub sum_given : (r : Result Value AnswerFault) (sum : Option ℤ) (feed : ℕ → Meaning) (rows : List ℕ) → sum ≡ sum_or_none feed rows → Gives meaning r (told_or_out_of_range (sum_answer sum))
-    → Gives meaning r (told_or_out_of_range (sum_or_null (filter is_value (map feed rows)) (sum_of feed rows)))
-sum_given r sum feed rows e h = subst (λ a. Gives meaning r (told_or_out_of_range a)) (ap sum_answer e ∙ sum_as_answer feed rows (sum_of feed rows)) h

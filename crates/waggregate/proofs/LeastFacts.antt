@@ -52,8 +52,3 @@ least_value law order total values tests rows (Some i) (left, right, b) =
     (All-from_recursion (λ a. is_lt (order (feed i) a) ≡ true) (values_of feed left) (each_value feed (λ a. is_lt (order (feed i) a) ≡ true) left (recursion_from_All (λ row. is_value (feed row) ≡ true → is_lt (order (feed i) (feed row)) ≡ true) left b.before)))
     (All-from_recursion (λ a. is_gt (order (feed i) a) ≡ false) (values_of feed right) (each_value feed (λ a. is_gt (order (feed i) a) ≡ false) right (recursion_from_All (λ row. is_value (feed row) ≡ true → is_gt (order (feed i) (feed row)) ≡ false) right b.after)))
     ∙ own (passes tests i) (get_or values i Null) b.feeds)
-
--- the same, of a place that is known to be the least row
-pub least_told : FirstLaw → (order : Meaning → Meaning → Ordering) → IsTotalOrder order → (values : List Meaning) (tests : Option (List Bool)) (rows : List ℕ) (place least : Option ℕ) → place ≡ least → IsLeast order (fed values tests) rows least
-    → value_or_null values place ≡ first_or_null (sorted order (filter is_value (map (fed values tests) rows)))
-least_told law order total values tests rows place least e h = ap (value_or_null values) e ∙ least_value law order total values tests rows least h

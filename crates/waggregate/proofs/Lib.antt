@@ -4,3 +4,4 @@ pub mod LeastFacts
 pub mod FrameFacts
 pub mod WindowFacts
 pub mod PickedFacts
+pub mod GroupFacts

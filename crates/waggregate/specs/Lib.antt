@@ -1,3 +1,4 @@
 pub mod Aggregating
 pub mod Feeding
 pub mod Framing
+pub mod Grouped

@@ -41,7 +41,7 @@ fn value_at(values: &[&Value], place: Option<usize>) -> Result<Value, AnswerFaul
 }
 
 /// A fold of which each part is told as a value.
-trait ToldFold: Fold {
+pub(crate) trait ToldFold: Fold {
     /// The value of a part; none where it is out of range.
     ghost told: { Self → Self.Part → Option Meaning };
 
@@ -91,8 +91,8 @@ impl<'a> ToldFold for Greatest<'a> {
     }
 }
 
-// Appends the values of some parts, `OutOfRange` where one is so.
-fn push_values<F: ToldFold>(
+/// Appends the values of some parts, `OutOfRange` where one is so.
+pub(crate) fn push_values<F: ToldFold>(
     told: &mut Vec<Value>,
     fold: &F,
     parts: &[F::Part],

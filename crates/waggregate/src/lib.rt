@@ -1,23 +1,23 @@
 //! Aggregates of rows.
 //!
-//! - Gives what an aggregate is fed by each row, its result over some of the rows, and over the frame of each row of a
-//!   window.
+//! - Gives what an aggregate is fed by each row, its result over the rows of each group, and over the frame of each row
+//!   of a window.
 //! - Promises: nothing is skipped, so an argument or filter that is out of range on any row refuses, as a result that
 //!   is out of range does; a sum is tested against the range once it is whole.
 //! - Asks: fewer than 2^31 rows.
 //! - Leaves expressions to `wplan`, frames to `wframe` and their folds to `wslide`.
 //!
-//! Read `specs/Aggregating.antt`, then `specs/Feeding.antt` and `specs/Framing.antt`.
+//! Read `specs/Aggregating.antt`, then `specs/Feeding.antt`, `specs/Grouped.antt` and `specs/Framing.antt`.
 #![tactic(auto)]
 
 mod answers;
 mod feed;
 mod feeding;
 mod folding;
+mod grouped;
 mod picking;
-mod totals;
 
 pub use feed::Feed;
 pub use feeding::feed_rows;
 pub use folding::push_frame_aggregates;
-pub use totals::aggregate_rows;
+pub use grouped::aggregate_groups;

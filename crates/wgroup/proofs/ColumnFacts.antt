@@ -1,19 +1,12 @@
 -- Steps of loops over aggregates and groups.
-use Rattle.std.proofs.Common.{◌≡◌, false, List, [], ◌∷◌, ◌++◌, map, Result, Ok, Err, Option, Some, None, refl, sym, ap, ◌∙◌, append_assoc, unwrap_or, ℕ, zero, suc, ◌+◌, ◌<◌, length, take, drop, get_or, arith, ◌≤◌, subst, All, Vec, Global, length-append}
-use Rattle.std.specs.Borrow.{Bor}
-use Rattle.std.specs.List.{list_any}
+use Rattle.std.proofs.Common.{◌≡◌, List, [], ◌∷◌, ◌++◌, map, Result, Ok, Err, refl, sym, ap, ◌∙◌, append_assoc, ℕ, zero, suc, ◌+◌, ◌<◌, length, drop, get_or, arith, ◌≤◌, subst, All, Vec, Global, length-append}
 use Rattle.std.proofs.lemmas.List.Elements.{All-push}
-use Rattle.std.proofs.lemmas.List.{map-append, take_more}
-use Rattle.std.specs.Option.{is_none}
 use Rattle.wvalues.specs.declared.value.Value.{Value}
-use Rattle.wvalues.specs.Meaning.{Meaning, Null, meaning}
+use Rattle.wvalues.specs.Meaning.{Meaning}
 use Rattle.wrows.specs.declared.fault.AnswerFault.{AnswerFault}
 use Rattle.wrows.specs.declared.fault.AnswerFault.TheVariants.{OutOfRange, TooManyRows, NoMemory}
-use Rattle.wrows.specs.Outcomes.{◌>>=◌, each, unless, Gives}
-use Rattle.wrows.specs.Columns.{in_range}
-use Rattle.wrows.proofs.RowFacts.{any-map, any_of_all, refused_by, same_at}
-use Rattle.wgroup.specs.Held.{columns_in, lists_seen}
-use Rattle.waggregate.specs.Framing.{told_or_out_of_range}
+use Rattle.wrows.specs.Outcomes.{◌>>=◌, each, Gives}
+use Rattle.wgroup.specs.Held.{columns_in}
 
 -- what others come to, behind what there is
 abbrev pub each_behind : {A B : Type 0} → (A → Result B AnswerFault) → List B → List A → Result (List B) AnswerFault
@@ -42,35 +35,12 @@ each_fault f made x others OutOfRange all view inner e h = e ∙ ap (λ r. (r >>
 each_fault f made x others TooManyRows all view inner e h = e ∙ ap (λ r. (r >>= λ y. each f others >>= λ ys. Ok (y ∷ ys)) >>= λ ys. Ok (made ++ ys)) h
 each_fault f made x others NoMemory all view inner e h = tt
 
-pub told_unless : (r : Option Meaning) → told_or_out_of_range r ≡ unless (is_none r) OutOfRange (unwrap_or r Null)
-told_unless None = refl
-told_unless (Some m) = refl
-
-pub told_ok : (r : Option Meaning) (m : Meaning) → told_or_out_of_range r ≡ Ok m → (is_none r ≡ false) × (m ≡ unwrap_or r Null)
-told_ok None m h = absurd (cc)
-told_ok (Some x) m h = (refl, let e : m ≡ x = cc in e)
-
--- one more of a list that is told
-pub told_next : {X Y V : Type 0} (g : X → Y) (h : V → Y) (xs : List X) (i : ℕ) (x : X) (old new : List V) (v : V) → i < length xs → x ≡ get_or xs i x → map h old ≡ map g (take i xs) → new ≡ old ++ v ∷ [] → h v ≡ g x → map h new ≡ map g (take (i + 1) xs)
-told_next g h xs i x old new v lt is so_far e here =
-    ap (map h) e ∙ map-append h old (v ∷ []) ∙ ap (λ l. l ++ h v ∷ []) so_far ∙ ap (λ y. map g (take i xs) ++ y ∷ []) (here ∙ ap g is)
-    ∙ sym (map-append g (take i xs) (get_or xs i x ∷ [])) ∙ ap (map g) (sym (take_more xs i x lt))
-
 pub drop_next : {X : Type 0} (xs : List X) (i : ℕ) (x : X) → i < length xs → x ≡ get_or xs i x → drop i xs ≡ x ∷ drop (i + 1) xs
 drop_next [] i x lt is = absurd (omega arith)
 drop_next (y ∷ ys) zero x lt is = ap (λ z. z ∷ ys) (sym is)
 drop_next (y ∷ ys) (suc i) x lt is =
     let s : suc i + 1 ≡ suc (i + 1) = omega arith in
     drop_next ys i x (omega arith) is ∙ ap (λ k. x ∷ drop k (y ∷ ys)) (sym s)
-
--- a result that is out of range is one of all
-pub results_fault : {V : Type 0} (g : List ℕ → Option Meaning) (lists : List (Bor (List ℕ))) (i : ℕ) (d : Bor (List ℕ)) (fault : AnswerFault) (view : V → List Meaning) → i < length lists → Gives meaning (Err fault) (told_or_out_of_range (g (get_or lists i d).now))
-    → Gives view (Err fault) (in_range (map g (lists_seen lists)))
-results_fault g lists i d fault view lt h =
-    let list = get_or lists i d in
-    refused_by meaning view fault (is_none (g list.now)) (list_any is_none (map g (lists_seen lists))) (unwrap_or (g list.now) Null) (map (λ r. unwrap_or r Null) (map g (lists_seen lists)))
-    (subst (λ m. Gives meaning (Err fault) m) (told_unless (g list.now)) h)
-    (λ e. any-map is_none g (lists_seen lists) ∙ any_of_all (λ l. is_none (g l)) (λ (l : Bor (List ℕ)). l.now) lists i list lt (same_at lists i d list lt) e)
 
 module _ {A B C : Type 0} (f : C → Result B AnswerFault) (plan : A → C) (made : List B) (xs : List A) (i : ℕ) (x : A) (lt : i < length xs) (is : x ≡ get_or xs i x) (all : Result (List B) AnswerFault)
     (so_far : all ≡ each_behind f made (map plan (drop i xs))) where

@@ -1,5 +1,5 @@
 -- Groups by the order of first sight, and by their keys.
-use Rattle.std.proofs.Common.{◌≡◌, ℕ, ◌<◌, ◌≤◌, ◌^◌, Bool, not, List, [], ◌∷◌, length, map, filter, get_or, slice_index_or, All, Ordering, Vec, Global, sym, ap, subst, ◌∙◌, arith}
+use Rattle.std.proofs.Common.{◌≡◌, ℕ, zero, suc, ◌+◌, ◌<◌, ◌≤◌, ◌^◌, Bool, not, List, [], ◌∷◌, length, map, filter, get_or, slice_index_or, All, Ordering, sym, ap, subst, ◌∙◌, arith}
 use Rattle.std.specs.Borrow.{Bor}
 use Rattle.std.specs.List.{list_any, AllByRecursion}
 use Rattle.std.specs.Ordering.{on}
@@ -10,7 +10,7 @@ use Rattle.wvalues.specs.declared.value.Value.{Value}
 use Rattle.wvalues.specs.Meaning.{Meaning, Null, meaning}
 use Rattle.wvalues.specs.OrderLaws.{keys_total}
 use Rattle.wvalues.specs.Order.{keys_cmp}
-use Rattle.wframe.specs.Places.{places}
+use Rattle.wframe.specs.Places.{places, places_from}
 use Rattle.wframe.specs.Peers.{key_at}
 use Rattle.wframe.specs.Sorting.{sorted}
 use Rattle.wrows.specs.Columns.{Row}
@@ -21,14 +21,21 @@ use Rattle.wrows.specs.Sorting.{ascending}
 use Rattle.wrows.proofs.RowFacts.{all_of_each, row_at, map-map, places_below, length-places}
 use Rattle.wframe.proofs.SortFacts.{length_sorted}
 use Rattle.wgroup.specs.Grouping.{Group, agree, first_rows, group_cmp, group_key, group_of, groups_of}
-use Rattle.wgroup.specs.Held.{groups_by, lists_in, lists_seen}
-use Rattle.wgroup.specs.Sight.{first_of, key_in, list_at, members, same_row, slice_at}
-use Rattle.wgroup.proofs.ListFacts.{filter_same, any_same, map_same, all_implied, all_kept, all_mapped, below_all, at_places, filter_le}
+use Rattle.waggregate.specs.Grouped.{rows_of_group}
+use Rattle.wgroup.specs.Held.{groups_by}
+use Rattle.wgroup.specs.Sight.{first_of, key_in, members, same_row, slice_at}
+use Rattle.wgroup.proofs.ListFacts.{filter_same, any_same, map_same, all_implied, all_kept, below_all, at_places, filter_le}
 use Rattle.wgroup.proofs.KeyFacts.{cells_agree}
 use Rattle.wrows.proofs.MoreSorting.{sorted_map, sorted_same}
 
 pub keys_wide : (columns : List ℕ) (rows : List (Bor (List Value))) → AllByRecursion (λ r. length (key_in columns (row_seen r)) ≡ length columns) rows
 keys_wide columns rows = all_of_each (λ r. length (key_in columns (row_seen r)) ≡ length columns) (λ r. length-map columns (λ c. slice_index_or (row_seen r) c Null)) rows
+
+-- what stands at a place of consecutive numbers
+place_at : (a n g : ℕ) → g < n → get_or (places_from a n) g 0 ≡ a + g
+place_at a zero g h = absurd (omega (arith, h))
+place_at a (suc n) zero h = omega arith
+place_at a (suc n) (suc g) h = let s : a + 1 + g ≡ a + suc g = omega arith in place_at (a + 1) n g (omega (arith, h)) ∙ s
 
 pub firsts_below : (same : ℕ → ℕ → Bool) (n : ℕ) → AllByRecursion (λ i. i < n) (first_of same n)
 firsts_below same n = all_kept (λ i. i < n) (λ i. not (list_any (same i) (places i))) (places n) (places_below 0 n n (omega arith))
@@ -70,8 +77,8 @@ module _ (columns : List ℕ) (rows : List (Bor (List Value))) (cells : List Val
       filter_same (same_row w cells i) (agree columns told i) (places n) (below_all (λ j. same_row w cells i j ≡ agree columns told i j) n (λ j k. same_agrees i j h k))
       ∙ ap (λ m. filter (agree columns told i) (places m)) (sym long)
 
-  module _ (firsts order : List ℕ) (lists : List (List ℕ)) (keys : List Value) (count : ℕ)
-      (are_firsts : firsts ≡ first_of (same_row w cells) n) (are_lists : lists ≡ map (members (same_row w cells) n) (first_of (same_row w cells) n))
+  module _ (firsts order numbers : List ℕ) (keys : List Value) (count : ℕ)
+      (are_firsts : firsts ≡ first_of (same_row w cells) n) (are_lists : map (rows_of_group numbers) (places (length firsts)) ≡ map (members (same_row w cells) n) (first_of (same_row w cells) n))
       (are_keys : laid w (length firsts) keys ≡ map (key_at (laid w n cells)) firsts) (are_so_many : count ≡ length firsts)
       (in_order : order ≡ numbers_by (ascending columns) (laid w (length firsts) keys) (length firsts)) (below : All (λ i. i < length firsts) order) where
     abbrev first : ℕ → ℕ
@@ -83,19 +90,22 @@ module _ (columns : List ℕ) (rows : List (Bor (List Value))) (cells : List Val
     key_here : (g : ℕ) → g < length firsts → key_at (laid w (length firsts) keys) g ≡ group_key columns told (first g)
     key_here g h = ap (λ ks. get_or ks g []) are_keys ∙ get_or-map (key_at (laid w n cells)) firsts g 0 [] h ∙ key_of (first g) (first_below g h)
 
-    list_here : (g : ℕ) → g < length firsts → list_at lists g ≡ filter (agree columns told (first g)) (places (length told))
-    list_here g h =
-        ap (λ ls. get_or ls g []) (are_lists ∙ ap (map (members (same_row w cells) n)) (sym are_firsts)) ∙ get_or-map (members (same_row w cells) n) firsts g 0 [] h
+    rows_here : (g : ℕ) → g < length firsts → rows_of_group numbers g ≡ filter (agree columns told (first g)) (places (length told))
+    rows_here g h =
+        let room : g < length (places (length firsts)) = omega (arith, h, length-places 0 (length firsts)) in
+        let zero_more : 0 + g ≡ g = omega arith in
+        ap (rows_of_group numbers) (sym (place_at 0 (length firsts) g h ∙ zero_more)) ∙ sym (get_or-map (rows_of_group numbers) (places (length firsts)) g 0 [] room)
+        ∙ ap (λ ls. get_or ls g []) (are_lists ∙ ap (map (members (same_row w cells) n)) (sym are_firsts)) ∙ get_or-map (members (same_row w cells) n) firsts g 0 [] h
         ∙ members_agree (first g) (first_below g h)
 
     abbrev group : ℕ → Group
-    group g = record { key = key_at (laid w count keys) g; rows = list_at lists g }
+    group g = record { key = key_at (laid w count keys) g; rows = rows_of_group numbers g }
 
     group_here : (g : ℕ) → g < length firsts → group g ≡ group_of columns told (first g)
     group_here g h =
         let key : key_at (laid w count keys) g ≡ group_key columns told (first g) = ap (λ m. key_at (laid w m keys) g) are_so_many ∙ key_here g h in
         let one : List Meaning → List ℕ → Group = λ k rs. record { key = k; rows = rs } in
-        ap (λ k. one k (list_at lists g)) key ∙ ap (λ rs. one (group_key columns told (first g)) rs) (list_here g h)
+        ap (λ k. one k (rows_of_group numbers g)) key ∙ ap (λ rs. one (group_key columns told (first g)) rs) (rows_here g h)
 
     abbrev by_key : ℕ → ℕ → Ordering
     by_key = on (group_key columns told) (group_cmp columns)
@@ -125,24 +135,7 @@ pub with_columns : (columns : List ℕ) (rows : List Row) (groups : List Group) 
 with_columns [] rows groups h e = absurd (omega arith)
 with_columns (c ∷ cs) rows groups h e = e
 
--- the rows of groups are rows, and no more than there are
-abbrev pub Within : ℕ → List ℕ → Type 0
-Within n list = AllByRecursion (λ i. i < n) list × (length list ≤ n)
-
-pub groups_within : (columns : List ℕ) (rows : List Row) → AllByRecursion (Within (length rows)) (map (λ group. group.rows) (groups_of columns rows))
-groups_within [] rows = ((places_below 0 (length rows) (length rows) (omega arith), omega (arith, length-places 0 (length rows))), tt)
-groups_within (c ∷ cs) rows = go (sorted (on (group_key (c ∷ cs) rows) (group_cmp (c ∷ cs))) (first_rows (c ∷ cs) rows))
-  where
-    go : (xs : List ℕ) → AllByRecursion (Within (length rows)) (map (λ group. group.rows) (map (group_of (c ∷ cs) rows) xs))
-    go [] = tt
-    go (x ∷ xs) = (
-      (
-        all_kept (λ i. i < length rows) (agree (c ∷ cs) rows x) (places (length rows)) (places_below 0 (length rows) (length rows) (omega arith)),
-        omega (arith, filter_le (agree (c ∷ cs) rows x) (places (length rows)), length-places 0 (length rows)),
-      ),
-      go xs,
-    )
-
+-- no more groups than rows
 pub groups_few : (columns : List ℕ) (rows : List Row) → length rows < 2 ^ 31 → length (groups_of columns rows) < 2 ^ 31
 groups_few [] rows h = omega arith
 groups_few (c ∷ cs) rows h =
@@ -151,26 +144,3 @@ groups_few (c ∷ cs) rows h =
     let some : length firsts ≤ length (places (length rows)) = filter_le (λ i. not (list_any (agree (c ∷ cs) rows i) (places i))) (places (length rows)) in
     let sorts : length (sorted cmp firsts) ≡ length firsts = length_sorted cmp (on_total (group_key (c ∷ cs) rows) (keys_total (ascending (c ∷ cs)))) firsts in
     omega (arith, h, some, sorts, length-places 0 (length rows), length-map (sorted cmp firsts) (group_of (c ∷ cs) rows))
-
--- the same of lists that are lent
-module _ (columns : List ℕ) (rows : List (Bor (List Value))) (lists : List (Bor (List ℕ))) (groups : List Group)
-    (are : groups ≡ groups_of columns (rows_seen rows)) (told_lists : lists_seen lists ≡ map (λ group. group.rows) groups) where
-  lists_within : AllByRecursion (λ list. Within (length rows) list.now) lists
-  lists_within =
-      all_mapped (Within (length rows)) (λ list. list.now) lists
-      (subst (AllByRecursion (Within (length rows))) (sym (told_lists ∙ ap (map (λ group. group.rows)) are))
-      (subst (λ n. AllByRecursion (Within n) (map (λ group. group.rows) (groups_of columns (rows_seen rows)))) (length-map rows row_seen) (groups_within columns (rows_seen rows))))
-
-  pub lists_below : All (λ list. All (λ i. i < length rows) list.now) lists
-  lists_below =
-      All-from_recursion (λ list. All (λ i. i < length rows) list.now) lists
-      (all_implied (λ list. Within (length rows) list.now) (λ list. All (λ i. i < length rows) list.now) (λ list p. All-from_recursion (λ i. i < length rows) list.now p.0) lists lists_within)
-
-  pub lists_few : length rows < 2 ^ 31 → All (λ list. length list.now < 2 ^ 31) lists
-  lists_few few =
-      All-from_recursion (λ list. length list.now < 2 ^ 31) lists
-      (all_implied (λ list. Within (length rows) list.now) (λ list. length list.now < 2 ^ 31) (λ list p. omega (arith, few, p.1)) lists lists_within)
-
--- as many lists as first rows
-pub count_is : (lists : List (Vec ℕ Global)) (firsts xs : List ℕ) (f : ℕ → List ℕ) → lists_in lists ≡ map f xs → firsts ≡ xs → length lists ≡ length firsts
-count_is lists firsts xs f e d = sym (length-map lists (λ (l : Vec ℕ Global). l.items)) ∙ ap length e ∙ length-map xs f ∙ ap length (sym d)

@@ -1,4 +1,5 @@
 mod SightFacts
+mod NumberFacts
 mod ListFacts
 mod KeyFacts
 mod GroupFacts

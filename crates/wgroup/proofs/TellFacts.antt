@@ -83,19 +83,19 @@ module _ (groups : memory.Groups) (columns : List (List Meaning)) where
   long : length keys ≡ length order
   long = length-map (groups_in groups) (λ group. group.key) ∙ length-map order (group_in groups)
 
-  there : (place : ℕ) → place < length order → get_or order place 0 < length groups.rows.items
-  there place h = All-get_or (λ i. i < length groups.rows.items) order place 0 h groups.below
+  there : (place : ℕ) → place < length order → get_or order place 0 < groups.count
+  there place h = All-get_or (λ i. i < groups.count) order place 0 h groups.below
 
-  key_there : (place : ℕ) → place < length order → key_at keys place ≡ key_at (laid groups.width (length groups.rows.items) groups.keys.items) (get_or order place 0)
+  key_there : (place : ℕ) → place < length order → key_at keys place ≡ key_at (laid groups.width groups.count groups.keys.items) (get_or order place 0)
   key_there place h =
-      ap (λ ks. get_or ks place []) (map-map (λ group. group.key) (group_in groups) order) ∙ get_or-map (λ i. key_at (laid groups.width (length groups.rows.items) groups.keys.items) i) order place 0 [] h
+      ap (λ ks. get_or ks place []) (map-map (λ group. group.key) (group_in groups) order) ∙ get_or-map (λ i. key_at (laid groups.width groups.count groups.keys.items) i) order place 0 [] h
 
   pub key_is : (place : ℕ) → place < length order → map meaning (slice_at groups.width groups.keys.items (get_or order place 0)) ≡ key_at keys place
-  key_is place h = sym (row_at groups.width (length groups.rows.items) groups.keys.items (get_or order place 0) (there place h)) ∙ sym (key_there place h)
+  key_is place h = sym (row_at groups.width groups.count groups.keys.items (get_or order place 0) (there place h)) ∙ sym (key_there place h)
 
   row_long : (place : ℕ) → place < length order → length (row_of place) ≡ groups.width + length columns
   row_long place h =
-      let k : length (key_at keys place) ≡ groups.width = ap length (key_there place h) ∙ row_wide groups.width (length groups.rows.items) groups.keys.items (get_or order place 0) groups.laid (there place h) in
+      let k : length (key_at keys place) ≡ groups.width = ap length (key_there place h) ∙ row_wide groups.width groups.count groups.keys.items (get_or order place 0) groups.laid (there place h) in
       let c : length (map (λ column. value_at column place) columns) ≡ length columns = length-map columns (λ column. value_at column place) in
       omega (arith, length-append (key_at keys place) (map (λ column. value_at column place) columns), k, c)
 
@@ -113,16 +113,16 @@ module _ (groups : memory.Groups) (columns : List (List Meaning)) where
       ∙ ap (λ m. m * (groups.width + length columns)) (length-places 0 (length order))
 
 -- the meaning of grouped rows, over the groups in memory
-over_lists : (rows : List Row) (groups : List Group) → aggregate_column rows groups ≡ column_over rows (map (λ group. group.rows) groups)
-over_lists rows groups = λ j a. feed_of a rows >>= λ feed. in_range (sym (map-map (aggregate_of a.function feed) (λ group. group.rows) groups) j)
+over_numbers : (rows : List Row) (groups : memory.Groups) → aggregate_column rows (groups_in groups) ≡ column_over rows groups.numbers.items groups.order.items
+over_numbers rows groups = λ j a. feed_of a rows >>= λ feed. in_range (map-map (λ (group : Group). aggregate_of a.function feed group.rows) (group_in groups) groups.order.items j)
 
-pub grouped : (plan : GroupingPlan) (rows : List Row) (groups : List Group) → groups ≡ groups_of plan.columns rows → length rows < 2 ^ 31
-    → group_rows plan rows ≡ (each (column_over rows (map (λ group. group.rows) groups)) plan.aggregates >>= λ columns. held_rows plan.having (beside (map (λ group. group.key) groups) columns))
+pub grouped : (plan : GroupingPlan) (rows : List Row) (groups : memory.Groups) → groups_in groups ≡ groups_of plan.columns rows → length rows < 2 ^ 31
+    → group_rows plan rows ≡ (each (column_over rows groups.numbers.items groups.order.items) plan.aggregates >>= λ columns. held_rows plan.having (beside (map (λ group. group.key) (groups_in groups)) columns))
 grouped plan rows groups are few =
     ap (λ gs. not_too_many gs >>= λ groups. each (aggregate_column rows groups) plan.aggregates >>= λ columns. held_rows plan.having (beside (map (λ group. group.key) groups) columns)) (sym are)
-    ∙ then_ok groups (not_too_many groups) (λ groups. each (aggregate_column rows groups) plan.aggregates >>= λ columns. held_rows plan.having (beside (map (λ group. group.key) groups) columns))
-    (few_ok groups (subst (λ gs. length gs < 2 ^ 31) (sym are) (groups_few plan.columns rows few)))
-    ∙ ap (λ column. each column plan.aggregates >>= λ columns. held_rows plan.having (beside (map (λ group. group.key) groups) columns)) (over_lists rows groups)
+    ∙ then_ok (groups_in groups) (not_too_many (groups_in groups)) (λ groups. each (aggregate_column rows groups) plan.aggregates >>= λ columns. held_rows plan.having (beside (map (λ group. group.key) groups) columns))
+    (few_ok (groups_in groups) (subst (λ gs. length gs < 2 ^ 31) (sym are) (groups_few plan.columns rows few)))
+    ∙ ap (λ column. each column plan.aggregates >>= λ columns. held_rows plan.having (beside (map (λ group. group.key) (groups_in groups)) columns)) (over_numbers rows groups)
 
 -- the same fault, of what is meant
 pub same_fault : {A B Y : Type 0} (inner : A → Y) (view : B → Y) (fault : AnswerFault) (m n : Result Y AnswerFault) → m ≡ n → Gives inner (Err fault) m → Gives view (Err fault) n

@@ -1,6 +1,5 @@
--- Groups in memory, and aggregates over lists of rows.
-use Rattle.std.specs.Prelude.{ℕ, List, map, length, Result}
-use Rattle.std.specs.Borrow.{Bor}
+-- Groups in memory, and aggregates over their rows.
+use Rattle.std.specs.Prelude.{ℕ, List, map, Result}
 use Rattle.std.specs.Ordering.{on}
 use Rattle.std.specs.declared.alloc.Global.{Global}
 use Rattle.std.specs.declared.vec.Vec.{Vec}
@@ -14,17 +13,11 @@ use Rattle.wrows.specs.Outcomes.{◌>>=◌}
 use Rattle.wrows.specs.Columns.{Row, in_range}
 use Rattle.wrows.specs.LaidRows.{laid}
 use Rattle.waggregate.specs.Aggregating.{feed_of, aggregate_of}
+use Rattle.waggregate.specs.Grouped.{rows_of_group}
 use Rattle.wgroup.specs.declared.found.Groups as memory
 use Rattle.wgroup.specs.Grouping.{Group, group_cmp, group_key, group_of, first_rows}
-use Rattle.wgroup.specs.Sight.{list_at}
 
--- what lists in memory hold
-abbrev pub lists_in : List (Vec ℕ Global) → List (List ℕ)
-lists_in = map (λ list. list.items)
-
-abbrev pub lists_seen : List (Bor (List ℕ)) → List (List ℕ)
-lists_seen = map (λ list. list.now)
-
+-- what columns in memory say
 abbrev pub columns_in : List (Vec Value Global) → List (List Meaning)
 columns_in = map (λ column. map meaning column.items)
 
@@ -34,11 +27,11 @@ groups_by columns rows = map (group_of columns rows) (sorted (on (group_key colu
 
 -- a group in memory by its number in the order of first sight, and all by their keys
 abbrev pub group_in : memory.Groups → ℕ → Group
-group_in g i = record { key = key_at (laid g.width (length g.rows.items) g.keys.items) i; rows = list_at (lists_in g.rows.items) i }
+group_in g i = record { key = key_at (laid g.width g.count g.keys.items) i; rows = rows_of_group g.numbers.items i }
 
 abbrev pub groups_in : memory.Groups → List Group
 groups_in g = map (group_in g) g.order.items
 
--- an aggregate of each list of rows
-abbrev pub column_over : List Row → List (List ℕ) → AggregatePlan → Result (List Meaning) AnswerFault
-column_over rows lists a = feed_of a rows >>= λ feed. in_range (map (aggregate_of a.function feed) lists)
+-- an aggregate of each of some groups, where each row has the number of its group
+abbrev pub column_over : List Row → List ℕ → List ℕ → AggregatePlan → Result (List Meaning) AnswerFault
+column_over rows numbers groups a = feed_of a rows >>= λ feed. in_range (map (λ g. aggregate_of a.function feed (rows_of_group numbers g)) groups)

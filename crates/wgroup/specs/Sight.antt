@@ -1,5 +1,5 @@
 -- Rows by a test of whether two are the same, in the order of first sight, and rows of cells that are the same.
-use Rattle.std.specs.Prelude.{ℕ, ◌*◌, Bool, not, List, [], map, filter, take, drop, slice_index_or}
+use Rattle.std.specs.Prelude.{ℕ, ◌*◌, Bool, not, List, map, filter, take, drop, slice_index_or}
 use Rattle.std.specs.List.{list_any}
 use Rattle.std.specs.Cmp.Lexicographic.{pointwise}
 use Rattle.wvalues.specs.declared.value.Value.{Value}
@@ -15,10 +15,6 @@ first_of same n = filter (λ i. not (list_any (same i) (places i))) (places n)
 -- the rows, of n, that are the same as this one
 abbrev pub members : (ℕ → ℕ → Bool) → ℕ → ℕ → List ℕ
 members same n i = filter (same i) (places n)
-
--- a list of these, none where there is no such list
-abbrev pub list_at : List (List ℕ) → ℕ → List ℕ
-list_at lists g = slice_index_or lists g []
 
 -- the cells of a row of this width
 abbrev pub slice_at : ℕ → List Value → ℕ → List Value

@@ -9,10 +9,13 @@ pub(crate) struct Groups {
     pub(crate) keys: Vec<Value>,
     /// How many values a key has.
     pub(crate) width: usize,
-    /// The numbers of the rows of each group.
-    pub(crate) rows: Vec<Vec<usize>>,
+    /// How many groups there are.
+    pub(crate) count: usize,
+    /// The number of each row's group.
+    pub(crate) numbers: Vec<usize>,
     pub(crate) order: Vec<usize>,
     ghost narrow: { width < 2 ^ 62 },
-    ghost laid: { length keys.items ≡ length rows.items * width },
-    ghost below: { All (λ i. i < length rows.items) order.items },
+    ghost laid: { length keys.items ≡ count * width },
+    ghost numbered: { All (λ i. i < count) numbers.items },
+    ghost below: { All (λ i. i < count) order.items },
 }

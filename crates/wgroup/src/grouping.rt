@@ -6,7 +6,7 @@ ghost use Rattle.wrows.specs.Laid.{rows_in, rows_seen};
 ghost use Rattle.wgroup.specs.Grouping.{group_rows};
 
 use crate::columns::aggregate_columns;
-use crate::groups::{find_groups, rows_of_groups};
+use crate::groups::find_groups;
 use crate::told::{group_cells, rows_held};
 use std::alloc::Global;
 use wplan::Grouping;
@@ -29,8 +29,7 @@ pub fn group_rows(
     ensures width { IfOk result (λ cells. cells.width ≡ length grouping.now.columns.items + length grouping.now.aggregates.items) }
 {
     let groups = find_groups(alloc, &grouping.columns, rows)?;
-    let lists = rows_of_groups(alloc, &groups)?;
-    let columns = aggregate_columns(alloc, &grouping.aggregates, rows, &lists)?;
+    let columns = aggregate_columns(alloc, &grouping.aggregates, rows, &groups)?;
     let cells = group_cells(alloc, &groups, &columns)?;
     rows_held(alloc, &grouping.having, cells)
 }

@@ -2,13 +2,14 @@ use Rattle.std.proofs.Common.{◌≡◌, ◌*◌, ◌<◌, length, map, All, sub
 use Rattle.std.specs.List.{AllByRecursion}
 use Rattle.std.proofs.lemmas.List.Elements.{All-from_recursion}
 use Rattle.wframe.specs.Peers.{key_at}
+use Rattle.wframe.specs.Places.{places}
 use Rattle.wrows.specs.LaidRows.{laid}
 use Rattle.wrows.specs.Plain.{numbers_by}
 use Rattle.wrows.specs.Sorting.{ascending}
-use Rattle.wgroup.specs.Held.{lists_in}
+use Rattle.waggregate.specs.Grouped.{rows_of_group}
 use Rattle.wgroup.specs.Sight.{first_of, members, same_row}
 use Rattle.wgroup.proofs.KeyFacts.{length_ascending}
-use Rattle.wgroup.proofs.GroupFacts.{are_groups, count_is, firsts_below}
+use Rattle.wgroup.proofs.GroupFacts.{are_groups, firsts_below}
 use Rattle.wgroup.proofs.groups.agreeing_rows.Goals as goal
 
 pub gathered-requires-clause-numbers : goal.gathered-requires-clause-numbers
@@ -19,21 +20,14 @@ gathered-requires-clause-numbers c =
 
 pub invariant_of-result-clause-laid : goal.invariant_of-result-clause-laid
 invariant_of-result-clause-laid c =
-    let n = length c.args.rows.now in
     let w = length c.args.columns.now in
-    let same = same_row w c.deref.result.now in
-    let firsts = c.in_ok-sight.sight.firsts.items in
-    let long : length c.in_ok-sight.sight.rows.items ≡ length firsts = count_is c.in_ok-sight.sight.rows.items firsts (first_of same n) (members same n) c.in_ok-sight.ensures.rows c.in_ok-sight.ensures.firsts in
-    c.in_ok-keys.ensures.laid ∙ ap (λ m. m * w) (ap length c.deref-3.ensures.value ∙ sym long)
+    let count : c.len-2.result ≡ length c.in_ok-sight.sight.firsts.items = c.len-2.ensures ∙ c.in_ok-sight.sight.firsts.ok.0 in
+    c.in_ok-keys.ensures.laid ∙ ap (λ m. m * w) (ap length c.deref-3.ensures.value ∙ sym count)
 
-pub invariant_of-result-clause-below : goal.invariant_of-result-clause-below
-invariant_of-result-clause-below c =
-    let n = length c.args.rows.now in
-    let same = same_row (length c.args.columns.now) c.deref.result.now in
-    let firsts = c.in_ok-sight.sight.firsts.items in
-    let long : length c.in_ok-sight.sight.rows.items ≡ length firsts = count_is c.in_ok-sight.sight.rows.items firsts (first_of same n) (members same n) c.in_ok-sight.ensures.rows c.in_ok-sight.ensures.firsts in
-    let count : c.len.result ≡ length firsts = c.len.ensures ∙ c.in_ok-sight.sight.firsts.ok.0 in
-    subst (λ m. All (λ i. i < m) c.in_ok-order.order.items) (count ∙ sym long) c.in_ok-order.ensures.below
+pub invariant_of-result-clause-numbered : goal.invariant_of-result-clause-numbered
+invariant_of-result-clause-numbered c =
+    let count : c.len-2.result ≡ length c.in_ok-sight.sight.firsts.items = c.len-2.ensures ∙ c.in_ok-sight.sight.firsts.ok.0 in
+    subst (λ m. All (λ i. i < m) c.in_ok-sight.sight.numbers.items) (sym count) c.in_ok-sight.ensures.below
 
 pub returns-clause-groups : goal.returns-clause-groups
 returns-clause-groups c =
@@ -42,13 +36,13 @@ returns-clause-groups c =
     let w = length columns in
     let cells = c.in_ok-cells.cells.items in
     let firsts = c.in_ok-sight.sight.firsts.items in
-    let rows = c.in_ok-sight.sight.rows.items in
+    let numbers = c.in_ok-sight.sight.numbers.items in
     let keys = c.in_ok-keys.keys.items in
     let order = c.in_ok-order.order.items in
     let m = c.len.result in
     let count : m ≡ length firsts = c.len.ensures ∙ c.in_ok-sight.sight.firsts.ok.0 in
     let are_firsts : firsts ≡ first_of (same_row w cells) n = c.in_ok-sight.ensures.firsts ∙ ap (λ xs. first_of (same_row w xs) n) c.deref.ensures.value in
-    let are_lists : lists_in rows ≡ map (members (same_row w cells) n) (first_of (same_row w cells) n) = c.in_ok-sight.ensures.rows ∙ ap (λ xs. map (members (same_row w xs) n) (first_of (same_row w xs) n)) c.deref.ensures.value in
+    let are_lists : map (rows_of_group numbers) (places (length firsts)) ≡ map (members (same_row w cells) n) (first_of (same_row w cells) n) = c.in_ok-sight.ensures.rows ∙ ap (λ xs. map (members (same_row w xs) n) (first_of (same_row w xs) n)) c.deref.ensures.value in
     let are_keys : laid w (length firsts) keys ≡ map (key_at (laid w n cells)) firsts
     = ap (λ xs. laid w (length xs) keys) (sym c.deref-3.ensures.value) ∙ c.in_ok-keys.ensures.rows ∙ ap (λ xs. map (key_at (laid w n xs)) c.deref-3.result.now) c.deref-2.ensures.value ∙ ap (map (key_at (laid w n cells))) c.deref-3.ensures.value in
     let in_order : order ≡ numbers_by (ascending columns) (laid w (length firsts) keys) (length firsts)
@@ -57,5 +51,5 @@ returns-clause-groups c =
     ∙ ap (λ k. numbers_by (ascending columns) (laid k m c.deref-4.result.now) m) (length_ascending columns)
     ∙ ap (λ xs. numbers_by (ascending columns) (laid w m xs) m) c.deref-4.ensures.value
     ∙ ap (λ k. numbers_by (ascending columns) (laid w k keys) k) count in
-    are_groups columns c.args.rows.now cells c.in_ok-cells.ensures.keys firsts order (lists_in rows) keys (length rows) are_firsts are_lists are_keys
-    (count_is rows firsts (first_of (same_row w cells) n) (members (same_row w cells) n) are_lists are_firsts) in_order (subst (λ k. All (λ i. i < k) order) count c.in_ok-order.ensures.below)
+    are_groups columns c.args.rows.now cells c.in_ok-cells.ensures.keys firsts order numbers keys c.len-2.result are_firsts are_lists are_keys
+    (c.len-2.ensures ∙ c.in_ok-sight.sight.firsts.ok.0) in_order (subst (λ k. All (λ i. i < k) order) count c.in_ok-order.ensures.below)
