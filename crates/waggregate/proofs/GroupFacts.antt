@@ -35,7 +35,8 @@ use Rattle.waggregate.proofs.PickedFacts.{CountedRowsLaw, CountedLaw, SummedLaw}
 abbrev pub part_of : {P : Type 0} → P → (P → P → P) → (ℕ → P) → List ℕ → ℕ → ℕ → P
 part_of neutral joined part_at groups rows group = rows_fold neutral joined part_at (filter (λ row. get_or groups row 0 == group) (places rows))
 
-place_at_from : (a n k d : ℕ) → k < n → get_or (places_from a n) k d ≡ a + k
+-- the number at a place of numbers that follow each other
+pub place_at_from : (a n k d : ℕ) → k < n → get_or (places_from a n) k d ≡ a + k
 place_at_from a zero k d h = absurd (omega arith)
 place_at_from a (suc n) zero d h = omega arith
 place_at_from a (suc n) (suc k) d h = place_at_from (a + 1) n k d (omega arith) ∙ (omega arith)

@@ -164,8 +164,8 @@ fn lent_values<'a>(alloc: Global, values: &'a [Value]) -> Result<Vec<&'a Value>,
 }
 
 /// What an aggregate comes to over the rows of each group, `OutOfRange` where a result is so. `groups` has the number of
-/// each row's group, of so many groups, and `order` the groups that are answered, in their order. The rows are gone through
-/// once.
+/// each row's group, of so many groups, and `order` the groups that are answered, in their order. The rows are gone
+/// through as often for many groups as for one.
 pub fn aggregate_groups(
     alloc: Global,
     function: AggregateFunction,

@@ -16,8 +16,9 @@ use Rattle.wcalls.specs.Sound.{is_sound_function}
 use Rattle.wplanner.specs.Sound.{is_sound_call}
 use Rattle.wdistinct.specs.declared.calls.CallKind.TheVariants.{Windowed}
 use Rattle.wdistinct.specs.Calls.{is_call_of}
-use Rattle.wresolve.specs.Resolving.{Layout}
-use Rattle.wresolve.specs.Selecting.{call_function, calls_made, function_made, has_own_window, number_or, own_window, own_windows, place_over, tree_at, window_place}
+use Rattle.wsettle.specs.Resolving.{Layout}
+use Rattle.wsettle.specs.Functions.{call_function, function_made, number_or, tree_at}
+use Rattle.wresolve.specs.Selecting.{calls_made, has_own_window, own_window, own_windows, place_over, window_place}
 use Rattle.wask.proofs.Nodes.{is_kept}
 
 -- a count that is not 0, or that is left out

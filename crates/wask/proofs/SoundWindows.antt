@@ -18,7 +18,7 @@ use Rattle.wframe.specs.Bounds as frames
 use Rattle.wframe.specs.Offsets as frames_offsets
 use Rattle.wcalls.specs.Frames.{bound_of, frame_of, mode_of}
 use Rattle.wcalls.specs.Sound.{is_sound_window}
-use Rattle.wresolve.specs.Resolving.{Layout}
+use Rattle.wsettle.specs.Resolving.{Layout}
 use Rattle.wresolve.specs.Selecting.{entries_made, frame_made, keys_made, own_window, own_windows, window_made, window_of_reach}
 use Rattle.wask.proofs.Nodes.{is_kept}
 

@@ -3,8 +3,7 @@ use Rattle.std.proofs.Common.{◌≡◌, ◌≢◌, ℕ, zero, suc, set, ◌+◌
 use Rattle.std.proofs.Math.ListN.{drop_of_length-le}
 use Rattle.std.proofs.lemmas.Bool.Decides.{nat_tests}
 use Rattle.std.proofs.lemmas.List.{at_drop_more, get_or-map, map-set, length-set, get_or-set_same, get_or-set_other}
-use Rattle.wvalues.specs.declared.value.Value.{Value}
-use Rattle.wvalues.specs.Meaning.{Meaning, Null, meaning}
+use Rattle.wvalues.specs.Meaning.{Meaning, Null}
 use Rattle.wframe.specs.Places.{places_from, places}
 use Rattle.wrows.proofs.RowFacts.{length-places}
 use Rattle.wcalls.proofs.Answering.{HasEachOnce}
@@ -24,16 +23,16 @@ put_long cells [] v = refl
 put_long cells (p ∷ r) [] = refl
 put_long cells (p ∷ r) (x ∷ v) = put_long (set cells p x) r v ∙ length-set cells p x
 
--- one value more
-pub put_next : (rows : List ℕ) (values : List Meaning) (k : ℕ) (cells new : List Value) (value : Value) (end : List Meaning) → k < length rows → k < length values → new ≡ set cells (get_or rows k 0) value → meaning value ≡ get_or values k Null
-    → put_all (map meaning cells) (drop k rows) (drop k values) ≡ end → put_all (map meaning new) (drop (k + 1) rows) (drop (k + 1) values) ≡ end
-put_next rows values k cells new value end h l written is so_far =
+-- one value more, of cells that each stand for a value
+pub put_next : {X : Type 0} (meant : X → Meaning) (rows : List ℕ) (values : List Meaning) (k : ℕ) (cells new : List X) (value : X) (end : List Meaning) → k < length rows → k < length values → new ≡ set cells (get_or rows k 0) value → meant value ≡ get_or values k Null
+    → put_all (map meant cells) (drop k rows) (drop k values) ≡ end → put_all (map meant new) (drop (k + 1) rows) (drop (k + 1) values) ≡ end
+put_next meant rows values k cells new value end h l written is so_far =
     let r = get_or rows k 0 in
-    ap (λ c. put_all (map meaning c) (drop (k + 1) rows) (drop (k + 1) values)) written
-    ∙ ap (λ c. put_all c (drop (k + 1) rows) (drop (k + 1) values)) (map-set meaning cells r value)
-    ∙ ap (λ m. put_all (set (map meaning cells) r m) (drop (k + 1) rows) (drop (k + 1) values)) is
-    ∙ sym (at_drop_more (λ l. put_all (map meaning cells) l (get_or values k Null ∷ drop (k + 1) values)) rows k 0 h)
-    ∙ sym (at_drop_more (put_all (map meaning cells) (drop k rows)) values k Null l)
+    ap (λ c. put_all (map meant c) (drop (k + 1) rows) (drop (k + 1) values)) written
+    ∙ ap (λ c. put_all c (drop (k + 1) rows) (drop (k + 1) values)) (map-set meant cells r value)
+    ∙ ap (λ m. put_all (set (map meant cells) r m) (drop (k + 1) rows) (drop (k + 1) values)) is
+    ∙ sym (at_drop_more (λ l. put_all (map meant cells) l (get_or values k Null ∷ drop (k + 1) values)) rows k 0 h)
+    ∙ sym (at_drop_more (put_all (map meant cells) (drop k rows)) values k Null l)
     ∙ so_far
 
 place_is : (a n k d : ℕ) → k < n → get_or (places_from a n) k d ≡ a + k
@@ -46,8 +45,8 @@ pub told_at : (f : ℕ → Meaning) (n k : ℕ) → k < n → f k ≡ get_or (ma
 told_at f n k h = let z : 0 + k ≡ k = omega arith in sym (get_or-map f (places n) k 0 Null (omega (arith, h, length-places 0 n)) ∙ ap f (place_is 0 n k 0 h ∙ z))
 
 -- all values
-pub all_values : (rows : List ℕ) (values : List Meaning) (k : ℕ) (cells : List Value) (end : List Meaning) → length rows ≤ k → put_all (map meaning cells) (drop k rows) (drop k values) ≡ end → map meaning cells ≡ end
-all_values rows values k cells end h is = sym (ap (λ r. put_all (map meaning cells) r (drop k values)) (drop_of_length-le rows h)) ∙ is
+pub all_values : {X : Type 0} (meant : X → Meaning) (rows : List ℕ) (values : List Meaning) (k : ℕ) (cells : List X) (end : List Meaning) → length rows ≤ k → put_all (map meant cells) (drop k rows) (drop k values) ≡ end → map meant cells ≡ end
+all_values meant rows values k cells end h is = sym (ap (λ r. put_all (map meant cells) r (drop k values)) (drop_of_length-le rows h)) ∙ is
 
 -- a number that stands in the list has what is meant there
 put_at : (of : ℕ → Meaning) (i : ℕ) (rows : List ℕ) (cells : List Meaning) → i < length cells → (get_or cells i Null ≡ of i) ⊎ (filter (λ k. k == i) rows ≡ i ∷ []) → get_or (put_all cells rows (map of rows)) i Null ≡ of i
@@ -75,3 +74,25 @@ put_each of rows cells once long =
     sym (all_places Null column)
     ∙ ap (λ n. map (λ j. get_or column j Null) (places n)) (put_long cells rows (map of rows) ∙ long)
     ∙ pointwise (λ j. get_or column j Null) of 0 0 (length rows) (λ j l. put_at of (0 + j) rows cells (omega (arith, l, long)) (inr (once (0 + j) (omega arith))))
+
+-- one value more, of those that are put one after another
+pub filled_next : (cells values : List Meaning) (k : ℕ) (value : Meaning) → k < length cells → value ≡ get_or values k Null → ((j : ℕ) → j < k → get_or cells j Null ≡ get_or values j Null)
+    → (j : ℕ) → j < k + 1 → get_or (set cells k value) j Null ≡ get_or values j Null
+filled_next cells values k value here is before j h = go (j == k) refl
+  where
+    go : (b : Bool) → (j == k) ≡ b → get_or (set cells k value) j Null ≡ get_or values j Null
+    go true e =
+        let same : j ≡ k = grind (arith, nat_tests) in
+        ap (λ i. get_or (set cells k value) i Null) same ∙ get_or-set_same cells k value Null here ∙ is ∙ ap (λ i. get_or values i Null) (sym same)
+    go false e =
+        let other : j ≢ k = grind (arith, nat_tests) in
+        let less : j < k = grind (arith, nat_tests) in
+        get_or-set_other cells k j value Null other ∙ before j less
+
+-- values of which each is there
+pub all_filled : (cells values : List Meaning) → length cells ≡ length values → ((j : ℕ) → j < length values → get_or cells j Null ≡ get_or values j Null) → cells ≡ values
+all_filled cells values long each =
+    sym (all_places Null cells)
+    ∙ ap (λ n. map (λ j. get_or cells j Null) (places n)) long
+    ∙ pointwise (λ j. get_or cells j Null) (λ j. get_or values j Null) 0 0 (length values) (λ j h. each (0 + j) (omega (arith, h)))
+    ∙ all_places Null values

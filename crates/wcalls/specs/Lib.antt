@@ -6,6 +6,7 @@ pub mod Sound
 pub mod Lent
 pub mod Seen
 pub mod Put
+pub mod Kept
 pub mod Arranged
 pub mod Ordered
 pub mod OrderKept

@@ -1,5 +1,5 @@
 //! The column of a call with OVER, put by the numbers of the rows.
-ghost use Rattle.std.specs.Prelude.{◌≡◌, ◌+◌, ◌<◌, ◌^◌, ℕ, List, All, length, map, set, slice_index_or, take, OnOk};
+ghost use Rattle.std.specs.Prelude.{◌≡◌, ◌+◌, ◌<◌, ◌^◌, ℕ, List, All, length, map, set, slice_index_or, take, IfOk, OnOk};
 ghost use Rattle.wvalues.specs.Meaning.{Meaning, meaning};
 ghost use Rattle.wframe.specs.Partition.{Partition};
 ghost use Rattle.wframe.specs.Places.{places};
@@ -8,7 +8,7 @@ ghost use Rattle.wcalls.specs.Calls.{each_row};
 ghost use Rattle.wcalls.specs.Arranged.{IsArranged};
 ghost use Rattle.wcalls.specs.Put.{put_all};
 
-use std::alloc::AllocError;
+use std::alloc::{AllocError, Global};
 use wframe::{Frames, Partitions};
 use wvalues::Value;
 
@@ -23,8 +23,8 @@ pub(crate) fn push_nulls(cells: &mut Vec<Value>, count: usize) -> Result<(), All
     Ok(())
 }
 
-/// Puts a value at the number of the row at a place.
-pub(crate) fn put_at(column: &mut [Value], rows: &[usize], place: usize, value: Value)
+/// Puts something at the number of the row at a place.
+pub(crate) fn put_at<T: Drop>(column: &mut [T], rows: &[usize], place: usize, value: T)
     requires place { place < length rows.now }
     requires row { slice_index_or rows.now place 0 < length column.old }
     ensures { column.new ≡ set column.old (slice_index_or rows.now place 0) value }
@@ -50,21 +50,59 @@ pub(crate) fn put_values(
 }
 
 /// A call with OVER that has a value for each row of a partition and is never out of range.
+///
+/// What it tells is kept as a number for each row until all rows have theirs, and only then read as a value. Rows that
+/// follow each other in the order of a window lie far apart, and a number is put there without reading what stood there.
 pub trait Tells {
     /// What it tells for the row at a place of a partition, of which the rows are given by number.
     ghost told: { Self → Partition → List ℕ → ℕ → Meaning };
 
-    /// Puts what it tells for the rows of a partition, each at the row's number.
-    fn put(&self, frames: &Frames, rows: &[usize], column: &mut [Value]) -> Result<(), AllocError>
+    /// What a kept number means.
+    ghost meant: { Self → ℕ → Meaning };
+
+    /// Keeps what it tells for the rows of a partition, each at the row's number.
+    fn keep(&self, frames: &Frames, rows: &[usize], kept: &mut [usize])
         requires few { length rows.now < 2 ^ 31 }
         requires len { length rows.now ≡ length frames.now.keys }
-        requires below { All (λ i. i < length column.old) rows.now }
-        ensures { OnOk result (map meaning column.new ≡ put_all (map meaning column.old) rows.now (map (told self.now frames.now rows.now) (places (length rows.now)))) };
+        requires below { All (λ i. i < length kept.old) rows.now }
+        ensures { map (meant self.now) kept.new ≡ put_all (map (meant self.now) kept.old) rows.now (map (told self.now frames.now rows.now) (places (length rows.now))) };
+
+    /// The value that a kept number stands for.
+    fn value(&self, number: usize) -> Result<Value, AllocError>
+        ensures { IfOk result (λ value. meaning value ≡ meant self.now number) };
 }
 
-/// Puts what a call tells for the rows of a window, each at the row's number. No list is made, whatever the number of
+// Keeps what a call tells for the rows of a window, each at the row's number.
+fn keep_told<T: Tells>(call: &T, order: &[usize], partitions: &Partitions, kept: &mut [usize])
+    requires len { length order.now ≡ length partitions.now.keys }
+    requires below { All (λ i. i < length order.now) order.now }
+    requires room { length kept.old ≡ length order.now }
+    requires few { length order.now < 2 ^ 31 }
+    ensures { (w : Windowed) → IsArranged w order.now partitions.now → map (T.meant call.now) kept.new ≡ each_row w (λ i. T.told call.now (partition_at w i) (partition_rows w i) (place_at w i)) }
+{
+    for number in 0..partitions.count() {
+        let span = partitions.span(number);
+        let frames = partitions.partition(number);
+        call.keep(&frames, &order[span.from..span.to], kept);
+    }
+}
+
+// Puts the values that kept numbers stand for, one after another.
+fn put_kept<T: Tells>(call: &T, kept: &[usize], column: &mut [Value]) -> Result<(), AllocError>
+    requires { length column.old ≡ length kept.now }
+    ensures { OnOk result (map meaning column.new ≡ map (T.meant call.now) kept.now) }
+{
+    for row in 0..kept.len() {
+        let value = call.value(kept[row])?;
+        column[row] = value;
+    }
+    Ok(())
+}
+
+/// Puts what a call tells for the rows of a window, each at the row's number. One list is made, whatever the number of
 /// partitions.
 pub(crate) fn put_told<T: Tells>(
+    alloc: Global,
     call: &T,
     order: &[usize],
     partitions: &Partitions,
@@ -76,10 +114,8 @@ pub(crate) fn put_told<T: Tells>(
     requires few { length order.now < 2 ^ 31 }
     ensures { (w : Windowed) → IsArranged w order.now partitions.now → OnOk result (map meaning column.new ≡ each_row w (λ i. T.told call.now (partition_at w i) (partition_rows w i) (place_at w i))) }
 {
-    for number in 0..partitions.count() {
-        let span = partitions.span(number);
-        let frames = partitions.partition(number);
-        call.put(&frames, &order[span.from..span.to], column)?;
-    }
+    let mut kept = vec![in alloc; 0usize; order.len()]?;
+    keep_told(call, order, partitions, &mut kept);
+    put_kept(call, &kept, column)?;
     Ok(())
 }

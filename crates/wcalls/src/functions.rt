@@ -24,6 +24,7 @@ use wvalues::Value;
 
 // Puts the column of a function that counts.
 fn counted_column<N: Counts + Copy>(
+    alloc: Global,
     counts: N,
     order: &[usize],
     partitions: &Partitions,
@@ -36,7 +37,7 @@ fn counted_column<N: Counts + Copy>(
     ensures { (w : Windowed) → IsArranged w order.now partitions.now → Gives (λ _. map meaning column.new) result (numbers w (λ i. N.count_at counts (length (partition_rows w i)) (partition_at w i) (place_at w i))) }
 {
     let call = Counted { counts };
-    put_told(&call, order, partitions, column)?;
+    put_told(alloc, &call, order, partitions, column)?;
     Ok(())
 }
 
@@ -64,7 +65,7 @@ fn told_column<P: RowPlaces + Copy>(
         values,
         default,
     };
-    put_told(&call, order, partitions, column)?;
+    put_told(alloc, &call, order, partitions, column)?;
     Ok(())
 }
 
@@ -107,12 +108,12 @@ pub(crate) fn function_column(
     ensures { (w : Windowed) → IsArranged w order.now partitions.now → Gives (λ _. map meaning column.new) result (function_column (rows_seen rows.now) w (function_plan function.now)) }
 {
     match function {
-        WindowFunction::RowNumber => counted_column(RowNumber, order, partitions, column),
-        WindowFunction::Rank => counted_column(Rank, order, partitions, column),
-        WindowFunction::DenseRank => counted_column(DenseRank, order, partitions, column),
+        WindowFunction::RowNumber => counted_column(alloc, RowNumber, order, partitions, column),
+        WindowFunction::Rank => counted_column(alloc, Rank, order, partitions, column),
+        WindowFunction::DenseRank => counted_column(alloc, DenseRank, order, partitions, column),
         WindowFunction::Tile(tiles) => {
             let tile = Tile { tiles: *tiles };
-            counted_column(tile, order, partitions, column)
+            counted_column(alloc, tile, order, partitions, column)
         }
         WindowFunction::Lag {
             value,

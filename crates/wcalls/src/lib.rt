@@ -8,12 +8,13 @@
 //!
 //! Rows are put into the order of a window once, which serves each window of the same partition values and keys. Each
 //! function answers one partition after another there, and each answer is put at its row's number in the window's
-//! columns. Where no aggregate is asked for, that makes no list, whatever the number of partitions, but one of the
-//! values of an argument that is more than a plain column.
+//! columns. A function that is no aggregate keeps a number at the row's number first, and its value is read from that, row
+//! after row: one list a function, whatever the number of partitions, and one of the values of an argument that is more than
+//! a plain column.
 //!
 //! Read `specs/Frames.antt`, `specs/Windows.antt`, `specs/Calls.antt` and `specs/Functions.antt`, then
-//! `specs/Ordered.antt`, `specs/Arranged.antt`, `specs/Put.antt` and `specs/Seen.antt`; `specs/Sound.antt` says what is
-//! asked.
+//! `specs/Ordered.antt`, `specs/Arranged.antt`, `specs/Put.antt`, `specs/Kept.antt` and `specs/Seen.antt`; `specs/Sound.antt`
+//! says what is asked.
 #![tactic(auto)]
 
 mod aggregated;

@@ -44,13 +44,18 @@ pub struct Counted<N> {
 impl<N: Counts> Tells for Counted<N> {
     ghost told = { λ call p rows place. Int (pos (N.count_at call.counts (length rows) p place)) };
 
-    fn put(&self, frames: &Frames, rows: &[usize], column: &mut [Value]) -> Result<(), AllocError> {
+    ghost meant = { λ _ count. Int (pos count) };
+
+    fn keep(&self, frames: &Frames, rows: &[usize], kept: &mut [usize]) {
         let mut count = 0;
         for place in 0..rows.len() {
             count = self.counts.next_count(frames, place, count);
-            put_at(column, rows, place, count_value(count));
+            put_at(kept, rows, place, count);
         }
-        Ok(())
+    }
+
+    fn value(&self, number: usize) -> Result<Value, AllocError> {
+        Ok(count_value(number))
     }
 }
 

@@ -1,9 +1,10 @@
 //! Calls with OVER that tell a value of another row: `lag`, `lead`, `first_value`, `last_value`, `nth_value`.
-ghost use Rattle.std.specs.Prelude.{◌≡◌, ◌≤◌, ◌<◌, ◌^◌, ℕ, Option, length, slice_index_or, IfOk};
+ghost use Rattle.std.specs.Prelude.{◌≡◌, ◌≤◌, ◌<◌, ◌^◌, ℕ, Option, All, length, slice_index_or};
 ghost use Rattle.wvalues.specs.Meaning.{meaning};
 ghost use Rattle.wframe.specs.Partition.{Partition};
 ghost use Rattle.wplaces.specs.RowPlaces.{lag_place, lead_place, first_place, last_place, nth_place};
 ghost use Rattle.wcalls.specs.Arranged.{told_value};
+ghost use Rattle.wcalls.specs.Kept.{number_told, value_of_number};
 ghost use Rattle.wcalls.specs.Seen.{values_seen};
 
 use crate::calls::{Tells, put_at};
@@ -21,18 +22,14 @@ fn row_told(rows: &[usize], place: usize) -> usize
     if place < rows.len() { rows[place] } else { 0 }
 }
 
-// The value that is told for a row.
-fn told_value(
-    values: &ColumnValues,
-    rows: &[usize],
-    default: &Value,
-    place: Option<usize>,
-) -> Result<Value, AllocError>
-    ensures { IfOk result (λ value. meaning value ≡ told_value (values_seen values.now) rows.now (meaning default.now) place) }
+// The number that is kept for a row: one more than the number of the row that is told for it, or 0 where none is.
+fn number_told(rows: &[usize], place: Option<usize>, count: usize) -> usize
+    requires { All (λ i. i < count) rows.now }
+    ensures { result ≡ number_told rows.now place }
 {
     match place {
-        Some(place) => value_of_row(values, row_told(rows, place)),
-        None => default.duplicate(),
+        Some(place) => row_told(rows, place) + 1,
+        None => 0,
     }
 }
 
@@ -59,13 +56,21 @@ pub struct Told<'a, P> {
 impl<'a, P: RowPlaces> Tells for Told<'a, P> {
     ghost told = { λ call p rows place. told_value (values_seen call.values) rows (meaning call.default.now) (P.place_told call.places (length rows) p place) };
 
-    fn put(&self, frames: &Frames, rows: &[usize], column: &mut [Value]) -> Result<(), AllocError> {
+    ghost meant = { λ call. value_of_number (values_seen call.values) (meaning call.default.now) };
+
+    fn keep(&self, frames: &Frames, rows: &[usize], kept: &mut [usize]) {
+        let count = kept.len();
         for place in 0..rows.len() {
             let told = self.places.place_of(frames, place);
-            let value = told_value(&self.values, rows, self.default, told)?;
-            put_at(column, rows, place, value);
+            put_at(kept, rows, place, number_told(rows, told, count));
         }
-        Ok(())
+    }
+
+    fn value(&self, number: usize) -> Result<Value, AllocError> {
+        match number {
+            0 => self.default.duplicate(),
+            _ => value_of_row(&self.values, number - 1),
+        }
     }
 }
 

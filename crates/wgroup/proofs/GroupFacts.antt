@@ -1,5 +1,5 @@
 -- Groups by the order of first sight, and by their keys.
-use Rattle.std.proofs.Common.{◌≡◌, ℕ, zero, suc, ◌+◌, ◌<◌, ◌≤◌, ◌^◌, Bool, not, List, [], ◌∷◌, length, map, filter, get_or, slice_index_or, All, Ordering, sym, ap, subst, ◌∙◌, arith}
+use Rattle.std.proofs.Common.{◌≡◌, ℕ, ◌+◌, ◌<◌, ◌≤◌, ◌^◌, Bool, not, List, [], ◌∷◌, length, map, filter, get_or, slice_index_or, All, Ordering, sym, ap, subst, ◌∙◌, arith}
 use Rattle.std.specs.Borrow.{Bor}
 use Rattle.std.specs.List.{list_any, AllByRecursion}
 use Rattle.std.specs.Ordering.{on}
@@ -10,7 +10,7 @@ use Rattle.wvalues.specs.declared.value.Value.{Value}
 use Rattle.wvalues.specs.Meaning.{Meaning, Null, meaning}
 use Rattle.wvalues.specs.OrderLaws.{keys_total}
 use Rattle.wvalues.specs.Order.{keys_cmp}
-use Rattle.wframe.specs.Places.{places, places_from}
+use Rattle.wframe.specs.Places.{places}
 use Rattle.wframe.specs.Peers.{key_at}
 use Rattle.wframe.specs.Sorting.{sorted}
 use Rattle.wrows.specs.Columns.{Row}
@@ -20,6 +20,7 @@ use Rattle.wrows.specs.Plain.{numbers_by}
 use Rattle.wrows.specs.Sorting.{ascending}
 use Rattle.wrows.proofs.RowFacts.{all_of_each, row_at, map-map, places_below, length-places}
 use Rattle.wframe.proofs.SortFacts.{length_sorted}
+use Rattle.waggregate.proofs.GroupFacts.{place_at_from}
 use Rattle.wgroup.specs.Grouping.{Group, agree, first_rows, group_cmp, group_key, group_of, groups_of}
 use Rattle.waggregate.specs.Grouped.{rows_of_group}
 use Rattle.wgroup.specs.Held.{groups_by}
@@ -30,12 +31,6 @@ use Rattle.wrows.proofs.MoreSorting.{sorted_map, sorted_same}
 
 pub keys_wide : (columns : List ℕ) (rows : List (Bor (List Value))) → AllByRecursion (λ r. length (key_in columns (row_seen r)) ≡ length columns) rows
 keys_wide columns rows = all_of_each (λ r. length (key_in columns (row_seen r)) ≡ length columns) (λ r. length-map columns (λ c. slice_index_or (row_seen r) c Null)) rows
-
--- what stands at a place of consecutive numbers
-place_at : (a n g : ℕ) → g < n → get_or (places_from a n) g 0 ≡ a + g
-place_at a zero g h = absurd (omega (arith, h))
-place_at a (suc n) zero h = omega arith
-place_at a (suc n) (suc g) h = let s : a + 1 + g ≡ a + suc g = omega arith in place_at (a + 1) n g (omega (arith, h)) ∙ s
 
 pub firsts_below : (same : ℕ → ℕ → Bool) (n : ℕ) → AllByRecursion (λ i. i < n) (first_of same n)
 firsts_below same n = all_kept (λ i. i < n) (λ i. not (list_any (same i) (places i))) (places n) (places_below 0 n n (omega arith))
@@ -94,7 +89,7 @@ module _ (columns : List ℕ) (rows : List (Bor (List Value))) (cells : List Val
     rows_here g h =
         let room : g < length (places (length firsts)) = omega (arith, h, length-places 0 (length firsts)) in
         let zero_more : 0 + g ≡ g = omega arith in
-        ap (rows_of_group numbers) (sym (place_at 0 (length firsts) g h ∙ zero_more)) ∙ sym (get_or-map (rows_of_group numbers) (places (length firsts)) g 0 [] room)
+        ap (rows_of_group numbers) (sym (place_at_from 0 (length firsts) g 0 h ∙ zero_more)) ∙ sym (get_or-map (rows_of_group numbers) (places (length firsts)) g 0 [] room)
         ∙ ap (λ ls. get_or ls g []) (are_lists ∙ ap (map (members (same_row w cells) n)) (sym are_firsts)) ∙ get_or-map (members (same_row w cells) n) firsts g 0 [] h
         ∙ members_agree (first g) (first_below g h)
 

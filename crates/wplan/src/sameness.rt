@@ -3,15 +3,18 @@
 ghost use Rattle.std.specs.Prelude.{◌≡◌, true, map};
 ghost use Rattle.std.specs.Cmp.Lexicographic.{pointwise};
 ghost use Rattle.std.proofs.Math.Bool.{beq};
+ghost use Rattle.std.specs.Rc.{rc_str_bytes};
+ghost use Rattle.wvalues.specs.Meaning.{Null, Int, Text};
 ghost use Rattle.wplan.specs.declared.expr.Expr.{out-Expr};
-ghost use Rattle.wplan.specs.Formula.{Signed, Compared, NullTest, Within, Among, chained, formula, formulas, operand_of};
+ghost use Rattle.wplan.specs.Formula.{Constant, At, Negation, Signed, Compared, NullTest, Within, Among, chained, formula, formulas, operand_of};
 ghost use Rattle.wplan.specs.Plans.{key_plan, window_plan};
-ghost use Rattle.wplan.specs.Sameness.{is_sign, is_chain, is_comparison, is_null_test, is_range_test, is_list_test, is_same, is_same_key, is_same_link, is_same_order, same_comparison, same_operator, same_sort_key};
+ghost use Rattle.wplan.specs.Sameness.{is_null_word, is_number, is_text, is_place, is_negation, is_sign, is_chain, is_comparison, is_null_test, is_range_test, is_list_test, is_same, is_same_key, is_same_link, is_same_order, same_comparison, same_operator, same_sort_key};
 
 use crate::expr::{Expr, Further};
 use crate::resolved::{SettledKey, SettledWindow};
+use std::rc::RcStr;
 use wquery::{Comparison, Operator};
-use wvalues::SortKey;
+use wvalues::{SortKey, Whole};
 
 fn same_operator(a: Operator, b: Operator) -> bool
     ensures exact { result ≡ same_operator a b }
@@ -39,6 +42,59 @@ fn same_sort_key(a: SortKey, b: SortKey) -> bool
     ensures alike { result ≡ true → a ≡ b }
 {
     a.col == b.col && (same_flag(a.desc, b.desc) && same_flag(a.nulls_first, b.nulls_first))
+}
+
+#[tactic(auto, unfolding(crate::specs::Formula::formula))]
+fn is_null_word(e: &Expr) -> bool
+    ensures exact { result ≡ is_null_word (out-Expr e.now) }
+    ensures alike { result ≡ true → Constant Null ≡ formula e.now }
+{
+    matches!(e, Expr::Null)
+}
+
+#[tactic(auto, unfolding(crate::specs::Formula::formula))]
+fn is_number(e: &Expr, number: Whole) -> bool
+    ensures exact { result ≡ is_number number (out-Expr e.now) }
+    ensures alike { result ≡ true → Constant (Int number) ≡ formula e.now }
+{
+    match e {
+        Expr::Number(other) => number.get() == other.get(),
+        _ => false,
+    }
+}
+
+#[tactic(auto, unfolding(crate::specs::Formula::formula))]
+fn is_text(e: &Expr, text: &RcStr) -> bool
+    ensures exact { result ≡ is_text (rc_str_bytes text.now) (out-Expr e.now) }
+    ensures alike { result ≡ true → Constant (Text (rc_str_bytes text.now)) ≡ formula e.now }
+{
+    match e {
+        Expr::Text(other) => text.as_str() == other.as_str(),
+        _ => false,
+    }
+}
+
+#[tactic(auto, unfolding(crate::specs::Formula::formula))]
+fn is_place(e: &Expr, place: usize) -> bool
+    ensures exact { result ≡ is_place place (out-Expr e.now) }
+    ensures alike { result ≡ true → At place ≡ formula e.now }
+{
+    match e {
+        Expr::Place(other) => place == *other,
+        _ => false,
+    }
+}
+
+#[cycle(sameness)]
+#[tactic(auto, unfolding(crate::specs::Formula::formula))]
+fn is_negation(e: &Expr, operand: &Expr) -> bool
+    ensures exact { result ≡ is_negation (is_same operand.now) (out-Expr e.now) }
+    ensures alike { result ≡ true → Negation (formula operand.now) ≡ formula e.now }
+{
+    match e {
+        Expr::Not(x) => same_value(x, operand),
+        _ => false,
+    }
 }
 
 #[cycle(sameness)]
@@ -147,41 +203,31 @@ fn same_value(e: &Expr, other: &Expr) -> bool
     ensures exact { result ≡ is_same other.now e.now }
     ensures alike { result ≡ true → formula other.now ≡ formula e.now }
 {
-    match (other, e) {
-        (Expr::Null, Expr::Null) => true,
-        (Expr::Number(n), Expr::Number(m)) => n.get() == m.get(),
-        (Expr::Text(text), Expr::Text(x)) => text.as_str() == x.as_str(),
-        (Expr::Place(place), Expr::Place(x)) => place == x,
-        (Expr::Not(operand), Expr::Not(x)) => same_value(x, operand),
-        (Expr::Sign { minus, operand }, _) => is_sign(e, *minus, operand),
-        (Expr::Chain { first, links }, _) => is_chain(e, first, links.as_slice()),
-        (
-            Expr::Compare {
-                comparison,
-                left,
-                right,
-            },
-            _,
-        ) => is_comparison(e, *comparison, left, right),
-        (Expr::IsNull { negated, operand }, _) => is_null_test(e, *negated, operand),
-        (
-            Expr::Between {
-                negated,
-                operand,
-                low,
-                high,
-            },
-            _,
-        ) => is_range_test(e, *negated, operand, low, high),
-        (
-            Expr::In {
-                negated,
-                operand,
-                list,
-            },
-            _,
-        ) => is_list_test(e, *negated, operand, list.as_slice()),
-        _ => false,
+    match other {
+        Expr::Null => is_null_word(e),
+        Expr::Number(number) => is_number(e, *number),
+        Expr::Text(text) => is_text(e, text),
+        Expr::Place(place) => is_place(e, *place),
+        Expr::Not(operand) => is_negation(e, operand),
+        Expr::Sign { minus, operand } => is_sign(e, *minus, operand),
+        Expr::Chain { first, links } => is_chain(e, first, links.as_slice()),
+        Expr::Compare {
+            comparison,
+            left,
+            right,
+        } => is_comparison(e, *comparison, left, right),
+        Expr::IsNull { negated, operand } => is_null_test(e, *negated, operand),
+        Expr::Between {
+            negated,
+            operand,
+            low,
+            high,
+        } => is_range_test(e, *negated, operand, low, high),
+        Expr::In {
+            negated,
+            operand,
+            list,
+        } => is_list_test(e, *negated, operand, list.as_slice()),
     }
 }
 

@@ -1,7 +1,6 @@
 mod Views
 mod Placed
-mod FunctionFacts
-mod Made
+mod Listed
 mod Queried
 mod Cases
 mod Grouped

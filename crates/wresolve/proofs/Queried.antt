@@ -9,7 +9,7 @@ use Rattle.wscope.specs.Sources.{origin_of, answer_columns, answered}
 use Rattle.wplan.specs.Plans.{SelectPlan}
 use Rattle.wdistinct.specs.Calls.{group_calls, window_calls}
 use Rattle.wdistinct.specs.Clauses.{clauses_in}
-use Rattle.wresolve.specs.Resolving.{Layout}
+use Rattle.wsettle.specs.Resolving.{Layout}
 use Rattle.wresolve.specs.Selecting.{select_over, select_with, select_made, is_grouped, group_columns, resolved_query, resolved_source}
 use Rattle.wresolve.proofs.Views.{query_is}
 

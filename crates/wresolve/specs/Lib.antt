@@ -1,4 +1,3 @@
-pub mod Resolving
 pub mod Selecting
 pub mod Shown
 pub mod Outcomes

@@ -1,10 +1,8 @@
 -- The SELECTs that a query stands for, with each name and default settled. (SQL, `<query specification>`, `<window
 -- clause>`, `<window function>`; PostgreSQL, SELECT, ORDER BY Clause.)
-use Rattle.std.specs.Prelude.{ℕ, zero, suc, ◌-◌, pos, neg_ℤ, nat_lt, ◌^◌, Bool, true, false, ◌||◌, List, [], ◌∷◌, ◌++◌, map, length, Option, Some, None, is_some, if◌then◌else◌, unwrap_or}
+use Rattle.std.specs.Prelude.{ℕ, zero, suc, ◌-◌, Bool, true, false, ◌||◌, List, [], ◌∷◌, ◌++◌, map, length, Option, Some, None, is_some, if◌then◌else◌, unwrap_or}
 use Rattle.std.specs.Str.{bytes_eq}
 use Rattle.wsegment.specs.Declaration.{Declaration}
-use Rattle.std.specs.Borrow.{Bor}
-use Rattle.wquery.specs.declared.expression.Expression.{Expression}
 use Rattle.wquery.specs.declared.expression.NullOrder.{NullOrder}
 use Rattle.wquery.specs.declared.expression.NullOrder.TheVariants.{First, Last}
 use Rattle.wquery.specs.declared.frame.Frame.{Frame}
@@ -12,93 +10,19 @@ use Rattle.wquery.specs.declared.frame.FrameMode.TheVariants.{Range}
 use Rattle.wquery.specs.declared.frame.FrameBound.TheVariants.{UnboundedPreceding, CurrentRow}
 use Rattle.wquery.specs.declared.frame.FrameExclusion.{FrameExclusion}
 use Rattle.wquery.specs.declared.frame.FrameExclusion.TheVariants.{NoOthers}
-use Rattle.wquery.specs.Tree.{Tree, NullWord, Numeral, Quoted, Field, Invoked, Signed, Trees, NoTrees, MoreTrees, Given, Everything, These, Filter, Unfiltered, FilteredBy, Reach, ItsGroup, ThatWindow, OwnWindow, Keys, NoKeys, MoreKeys, KeyTree, view}
+use Rattle.wquery.specs.Tree.{Tree, NullWord, Numeral, Field, Invoked, Trees, NoTrees, MoreTrees, Reach, ItsGroup, ThatWindow, OwnWindow, Keys, NoKeys, MoreKeys, KeyTree}
 use Rattle.wquery.specs.QueryTree.{Clauses, QueryTree, Selected, SourceTree, FromTable, FromQuery}
 use Rattle.wvalues.specs.declared.key.SortKey.{SortKey}
-use Rattle.wvalues.specs.Meaning.{Meaning, Null, Int, Text}
 use Rattle.wsame.specs.Bounds.{end_of}
-use Rattle.wscope.specs.declared.function.Function.{Function}
-use Rattle.wscope.specs.declared.function.Function.TheVariants as functions
-use Rattle.wscope.specs.Functions.{function_of}
 use Rattle.wscope.specs.Types.{Titled, place_named}
 use Rattle.wscope.specs.Sources.{Shown, Placed, Spelled, ShownItem, written_out, origin_of}
 use Rattle.wscope.specs.Windows.{NamedWindow, Settled, settle, settle_all}
-use Rattle.wplan.specs.declared.resolved.AggregateFunction.{AggregateFunction}
-use Rattle.wplan.specs.declared.resolved.AggregateFunction.TheVariants as aggregates
 use Rattle.wplan.specs.declared.resolved.SettledFrame.{SettledFrame}
 use Rattle.wplan.specs.Formula.{Formula, At}
-use Rattle.wplan.specs.Plans.{AggregatePlan, GroupingPlan, KeyPlan, WindowPlan, FunctionPlan, RowNumber, Rank, DenseRank, Tile, Lag, Lead, FirstValue, LastValue, NthValue, Aggregated, CallPlan, OutputPlan, SelectPlan}
+use Rattle.wplan.specs.Plans.{GroupingPlan, KeyPlan, WindowPlan, CallPlan, OutputPlan, SelectPlan}
 use Rattle.wdistinct.specs.Calls.{group_calls, window_calls}
-use Rattle.wresolve.specs.Resolving.{Layout, source_row, cell_of, resolved, resolved_option, literal}
-
--- calls
-
--- the argument at a place, NULL where there is none
-abbrev pub tree_at : ℕ → Trees → Tree
-tree_at n NoTrees = NullWord
-tree_at zero (MoreTrees t ts) = t
-tree_at (suc n) (MoreTrees t ts) = tree_at n ts
-
-abbrev pub argument : ℕ → Given → Tree
-argument n Everything = NullWord
-argument n (These ts) = tree_at n ts
-
--- an argument in memory
-abbrev pub tree_or_null : Option (Bor Expression) → Tree
-tree_or_null None = NullWord
-tree_or_null (Some e) = view e.now
-
--- a number literal, or else a default
-abbrev pub number_or : ℕ → Tree → ℕ
-number_or d (Numeral n) = n
-number_or d _ = d
-
--- numbers of queries are below 2^95
-abbrev pub negative : ℕ → Meaning
-negative n = if nat_lt n (2 ^ 95) then Int (neg_ℤ (pos n)) else Null
-
--- a number with at most one minus, or a text; NULL otherwise
-abbrev pub literal_of : Tree → Meaning
-literal_of (Numeral n) = literal n
-literal_of (Signed true (Numeral n)) = negative n
-literal_of (Quoted text) = Text text
-literal_of _ = Null
-
-abbrev pub filter_made : Layout → Filter → Option Formula
-filter_made l Unfiltered = None
-filter_made l (FilteredBy t) = Some (resolved l t)
-
-abbrev pub aggregate_function : Option Function → Given → AggregateFunction
-aggregate_function (Some functions.Sum) given = aggregates.Sum
-aggregate_function (Some functions.Min) given = aggregates.Min
-aggregate_function (Some functions.Max) given = aggregates.Max
-aggregate_function f Everything = aggregates.CountRows
-aggregate_function f (These ts) = aggregates.Count
-
-abbrev pub aggregated : Layout → Option Function → Given → Filter → AggregatePlan
-aggregated l f given filter = record { function = aggregate_function f given; argument = resolved l (argument 0 given); filter = filter_made l filter }
-
--- an aggregate, with or without OVER
-abbrev pub aggregate_made : Layout → Tree → AggregatePlan
-aggregate_made l (Invoked name given filter reach) = aggregated l (function_of name) given filter
-aggregate_made l _ = aggregated l None Everything Unfiltered
-
--- lag and lead look one row away and have the default NULL where nothing else is said
-abbrev pub function_made : Layout → Option Function → Given → Filter → FunctionPlan
-function_made l (Some functions.RowNumber) given filter = RowNumber
-function_made l (Some functions.Rank) given filter = Rank
-function_made l (Some functions.DenseRank) given filter = DenseRank
-function_made l (Some functions.Ntile) given filter = Tile (number_or 1 (argument 0 given))
-function_made l (Some functions.Lag) given filter = Lag (resolved l (argument 0 given)) (number_or 1 (argument 1 given)) (literal_of (argument 2 given))
-function_made l (Some functions.Lead) given filter = Lead (resolved l (argument 0 given)) (number_or 1 (argument 1 given)) (literal_of (argument 2 given))
-function_made l (Some functions.FirstValue) given filter = FirstValue (resolved l (argument 0 given))
-function_made l (Some functions.LastValue) given filter = LastValue (resolved l (argument 0 given))
-function_made l (Some functions.NthValue) given filter = NthValue (resolved l (argument 0 given)) (number_or 1 (argument 1 given))
-function_made l f given filter = Aggregated (aggregated l f given filter)
-
-abbrev pub call_function : Layout → Tree → FunctionPlan
-call_function l (Invoked name given filter reach) = function_made l (function_of name) given filter
-call_function l _ = RowNumber
+use Rattle.wsettle.specs.Resolving.{Layout, source_row, cell_of, resolved, resolved_option}
+use Rattle.wsettle.specs.Functions.{aggregate_made, call_function}
 
 -- windows
 

@@ -5,20 +5,15 @@
 //!   column its place, each window with what it copies, each call once, each key of ORDER BY the item or the expression
 //!   that it names. A refused query is answered the least rule that it breaks.
 //! - Asks nothing. Memory is asked for what is made alone; a walk goes as deep as the nesting alone.
-//! - Leaves the rules to `wrules`, names and windows to `wscope`, which calls there are to `wdistinct`, values to `wplan`,
-//!   the meaning of a query to `wplanner`.
+//! - Leaves the rules to `wrules`, names and windows to `wscope`, which calls there are to `wdistinct`, expressions, aggregates
+//!   and functions to `wsettle`, values to `wplan`, the meaning of a query to `wplanner`.
 //!
-//! Read `specs/Resolving.antt`, `specs/Shown.antt`, `specs/Selecting.antt`, `specs/Outcomes.antt`.
+//! Read `specs/Shown.antt`, `specs/Selecting.antt`, `specs/Outcomes.antt`.
 #![tactic(auto)]
 
-mod arguments;
-mod functions;
 mod laws;
-mod layout;
-mod making;
 mod query;
 mod resolve_query;
-mod resolving;
 mod selecting;
 mod shown;
 mod windows;

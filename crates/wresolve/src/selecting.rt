@@ -9,13 +9,11 @@ ghost use Rattle.wscope.specs.Windows.{named_windows, settle_all as settled_entr
 ghost use Rattle.wdistinct.specs.Calls.{call_trees};
 ghost use Rattle.wdistinct.specs.Clauses.{clauses_in};
 ghost use Rattle.wdistinct.specs.Places.{calls_in};
-ghost use Rattle.wresolve.specs.Resolving.{layout_of, row_calls, places_of, source_row, resolved_option};
+ghost use Rattle.wsettle.specs.Resolving.{layout_of, row_calls, places_of, source_row, resolved_option};
+ghost use Rattle.wsettle.specs.Functions.{aggregate_made};
 ghost use Rattle.wresolve.specs.Shown.{shown_of, shown_item, shown_items};
-ghost use Rattle.wresolve.specs.Selecting.{aggregate_made, column_place, output_made, order_made, shown_formula, grouping_over, windows_made, calls_made, has_some, is_grouped as is_grouped_query, select_over, select_with, select_made};
+ghost use Rattle.wresolve.specs.Selecting.{column_place, output_made, order_made, shown_formula, grouping_over, windows_made, calls_made, has_some, is_grouped as is_grouped_query, select_over, select_with, select_made};
 
-use crate::functions::{build_aggregate, build_option};
-use crate::layout::{RowCalls, RowLayout};
-use crate::resolving::build;
 use crate::shown::{ShownOutput, ShownValue, key_value, written_out};
 use crate::windows::{build_calls, build_entries, push_own_windows, sort_key};
 use std::alloc::{AllocError, Global};
@@ -24,6 +22,7 @@ use wdistinct::{group_calls, window_calls};
 use wplan::{Aggregate, CallOver, Expr, Grouping, Output, Selection, SettledKey, SettledWindow};
 use wquery::{Call, Column, Key, Query};
 use wscope::{FullEntry, SourceColumn, place_named, settle_all};
+use wsettle::{RowCalls, RowLayout, build, build_aggregate, build_option};
 
 fn group_columns(
     alloc: Global,

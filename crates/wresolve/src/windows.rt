@@ -6,12 +6,10 @@ ghost use Rattle.wplan.specs.Formula.{formula};
 ghost use Rattle.wplan.specs.Plans.{key_plan, window_plan, call_plan};
 ghost use Rattle.wscope.specs.Windows.{named_windows, settled_window};
 ghost use Rattle.wdistinct.specs.Calls.{call_trees};
-ghost use Rattle.wresolve.specs.Resolving.{layout_of, resolved};
-ghost use Rattle.wresolve.specs.Selecting.{nulls_first as stand_first, sort_key as sort_key_of, key_made, trees_made, keys_made, frame_made, or_no_others, window_made, entries_made, own_window, window_of_reach, place_of_reach, is_own_window as is_with_own, own_windows as windows_of_calls, window_place as place_of_window, place_over as place_of_call, has_own_window as is_with_window, calls_made, call_function as function_of_call};
+ghost use Rattle.wsettle.specs.Resolving.{layout_of, resolved};
+ghost use Rattle.wsettle.specs.Functions.{call_function as function_of_call};
+ghost use Rattle.wresolve.specs.Selecting.{nulls_first as stand_first, sort_key as sort_key_of, key_made, trees_made, keys_made, frame_made, or_no_others, window_made, entries_made, own_window, window_of_reach, place_of_reach, is_own_window as is_with_own, own_windows as windows_of_calls, window_place as place_of_window, place_over as place_of_call, has_own_window as is_with_window, calls_made};
 
-use crate::functions::build_function;
-use crate::layout::RowLayout;
-use crate::resolving::{build, build_listed};
 use std::alloc::{AllocError, Global};
 use wplan::{CallOver, Expr, SettledFrame, SettledKey, SettledWindow};
 use wquery::{
@@ -19,6 +17,7 @@ use wquery::{
 };
 use wsame::frame_end;
 use wscope::{FullEntry, FullWindow, settle};
+use wsettle::{RowLayout, build, build_function, build_listed};
 use wvalues::SortKey;
 
 fn nulls_first(descending: bool, nulls: Option<NullOrder>) -> bool
@@ -68,7 +67,7 @@ fn build_keys(
     Ok(made)
 }
 
-#[tactic(auto, using(crate::proofs::Made::trees_made_map))]
+#[tactic(auto, using(crate::proofs::Listed::trees_made_map))]
 fn build_partition(
     alloc: Global,
     layout: &RowLayout,

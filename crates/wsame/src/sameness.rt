@@ -3,7 +3,7 @@
 ghost use Rattle.std.specs.Prelude.{◌≡◌, map, Some, nat_eq};
 ghost use Rattle.std.specs.Rc.{rc_str_bytes};
 ghost use Rattle.std.specs.Str.{bytes_eq};
-ghost use Rattle.wquery.specs.Tree.{view, view_over, view_window, view_call, view_key, view_link, view_arguments, view_optional, view_optional_over, filter_of, reach_of, trees, views, keys, view_keys, own_window, linked, name_bytes, Signed, Joined, Compared, NullTest, Within, Among, NoLinks, same_kind as is_same_kind};
+ghost use Rattle.wquery.specs.Tree.{view, view_over, view_window, view_call, view_key, view_link, view_arguments, view_optional, view_optional_over, filter_of, reach_of, trees, views, keys, view_keys, own_window, linked, name_bytes, view_column, NullWord, Numeral, Quoted, Negated, Signed, Joined, Compared, NullTest, Within, Among, NoLinks, same_kind as is_same_kind};
 ghost use Rattle.wsame.specs.Sameness.{is_same, is_same_branch, is_same_key, are_same, are_same_links, are_same_given, is_same_filter, is_same_reach, are_same_keys, same_bool, same_frame as is_same_frame, same_bound as is_same_bound, same_copied as is_same_copied, operator_number as number_of_operator, comparison_number as number_of_comparison, nulls_number as number_of_nulls, mode_number as number_of_mode, exclusion_number as number_of_exclusion, offset_in};
 
 use crate::bounds::{bound_place, frame_end};
@@ -157,6 +157,65 @@ fn same_name(a: &RcStr, b: &RcStr) -> bool
     a.as_str() == b.as_str()
 }
 
+#[tactic(auto, unfolding(wquery::specs::Tree::view))]
+fn is_null(e: &Expression) -> bool
+    ensures { result ≡ is_same (view e.now) NullWord }
+{
+    matches!(e, Expression::Null)
+}
+
+#[tactic(auto, unfolding(wquery::specs::Tree::view))]
+fn is_number(e: &Expression, number: u128) -> bool
+    ensures { result ≡ is_same (view e.now) (Numeral number) }
+{
+    match e {
+        Expression::Number(other) => other.get() == number,
+        _ => false,
+    }
+}
+
+#[tactic(auto, unfolding(wquery::specs::Tree::view))]
+fn is_text(e: &Expression, text: &RcStr) -> bool
+    ensures { result ≡ is_same (view e.now) (Quoted (rc_str_bytes text.now)) }
+{
+    match e {
+        Expression::Text(other) => same_name(other, text),
+        _ => false,
+    }
+}
+
+#[tactic(auto, unfolding(wquery::specs::Tree::view))]
+fn is_column(e: &Expression, column: &Column) -> bool
+    ensures { result ≡ is_same (view e.now) (view_column column.now) }
+{
+    match e {
+        Expression::Column(other) => same_name(&other.name, &column.name),
+        _ => false,
+    }
+}
+
+#[cycle(sameness)]
+#[tactic(auto, unfolding(wquery::specs::Tree::view, wquery::specs::Tree::view_call))]
+fn is_call(e: &Expression, call: &Call) -> bool
+    ensures { result ≡ is_same (view e.now) (view_call call.now) }
+{
+    match e {
+        Expression::Call(other) => same_call(other, call),
+        _ => false,
+    }
+}
+
+#[cycle(sameness)]
+#[tactic(auto, unfolding(wquery::specs::Tree::view))]
+fn is_negation(e: &Expression, operand: &Expression) -> bool
+    ensures { result ≡ is_same (view e.now) (Negated (view operand.now)) }
+{
+    match e {
+        Expression::Not(x) => same(x, operand),
+        _ => false,
+    }
+}
+
 #[cycle(sameness)]
 #[tactic(auto, unfolding(wquery::specs::Tree::view))]
 fn is_sign(e: &Expression, minus: bool, operand: &Expression) -> bool
@@ -265,46 +324,32 @@ fn is_list_test(e: &Expression, negated: bool, operand: &Expression, list: &[Exp
 pub fn same(a: &Expression, b: &Expression) -> bool
     ensures { result ≡ is_same (view a.now) (view b.now) }
 {
-    match (b, a) {
-        (Expression::Null, Expression::Null) => true,
-        (Expression::Number(n), Expression::Number(m)) => m.get() == n.get(),
-        (Expression::Text(text), Expression::Text(other)) => other.as_str() == text.as_str(),
-        (Expression::Column(column), Expression::Column(other)) => {
-            other.name.as_str() == column.name.as_str()
-        }
-        (Expression::Call(call), Expression::Call(other)) => same_call(other, call),
-        (Expression::Not(operand), Expression::Not(x)) => same(x, operand),
-        (Expression::Sign { minus, operand }, _) => is_sign(a, *minus, operand),
-        (Expression::Chain { kind, first, links }, _) => {
-            is_chain(a, *kind, first, links.as_slice())
-        }
-        (
-            Expression::Compare {
-                comparison,
-                left,
-                right,
-            },
-            _,
-        ) => is_comparison(a, *comparison, left, right),
-        (Expression::IsNull { negated, operand }, _) => is_null_test(a, *negated, operand),
-        (
-            Expression::Between {
-                negated,
-                operand,
-                low,
-                high,
-            },
-            _,
-        ) => is_range_test(a, *negated, operand, low, high),
-        (
-            Expression::In {
-                negated,
-                operand,
-                list,
-            },
-            _,
-        ) => is_list_test(a, *negated, operand, list.as_slice()),
-        _ => false,
+    match b {
+        Expression::Null => is_null(a),
+        Expression::Number(number) => is_number(a, number.get()),
+        Expression::Text(text) => is_text(a, text),
+        Expression::Column(column) => is_column(a, column),
+        Expression::Call(call) => is_call(a, call),
+        Expression::Not(operand) => is_negation(a, operand),
+        Expression::Sign { minus, operand } => is_sign(a, *minus, operand),
+        Expression::Chain { kind, first, links } => is_chain(a, *kind, first, links.as_slice()),
+        Expression::Compare {
+            comparison,
+            left,
+            right,
+        } => is_comparison(a, *comparison, left, right),
+        Expression::IsNull { negated, operand } => is_null_test(a, *negated, operand),
+        Expression::Between {
+            negated,
+            operand,
+            low,
+            high,
+        } => is_range_test(a, *negated, operand, low, high),
+        Expression::In {
+            negated,
+            operand,
+            list,
+        } => is_list_test(a, *negated, operand, list.as_slice()),
     }
 }
 

@@ -1,5 +1,4 @@
 ghost use Rattle.std.specs.Prelude.{◌≡◌, ◌<◌, ◌^◌, length, slice_index};
-ghost use Rattle.std.specs.Option.{ForSome};
 ghost use Rattle.wslide.specs.Counts.{IsCount, counts_joined};
 ghost use Rattle.wslide.specs.Lawful.{count_laws};
 ghost use Rattle.wtests.specs.AffineMaps.{IsMap, maps_joined, map_laws};
@@ -7,14 +6,13 @@ ghost use Rattle.wtests.specs.AffineMaps.{IsMap, maps_joined, map_laws};
 use std::alloc::{AllocError, Global};
 use std::cell::Cell;
 use std::process::Abort;
-use std::rc::RcStr;
 use std::test::Fail;
 use wframe::{
     Frame, FrameBound, FrameExclusion, FrameMode, KeyRows, Partitions, Span, are_in_order,
 };
 use wslide::{
-    Count, CountRows, Fold, FoldQueue, FoldTree, Greatest, Least, Meter, PartialSum, Sum,
-    frame_folds, height_is_least, most_is_small, plain_folds,
+    CountRows, Fold, FoldQueue, FoldTree, Meter, frame_folds, height_is_least, most_is_small,
+    plain_folds,
 };
 use wvalues::{SortKey, Value, Whole};
 
@@ -32,12 +30,11 @@ struct Outcome<P> {
     walked: Vec<P>,
 }
 
-// The folds of the frames of one partition whose rows stand by these keys, in both ways.
+// The folds of the frames of one partition whose rows stand by these rising keys, in both ways.
 fn both_folds<F: Fold>(
     rt: &impl Abort,
     alloc: Global,
     cells: &[&Value],
-    key: SortKey,
     frame: Frame,
     fold: &F,
     meter: &mut F::Meter,
@@ -46,7 +43,7 @@ fn both_folds<F: Fold>(
     requires few { length cells.now < 2 ^ 16 }
     requires fresh { F.count meter.old ≡ 0 }
 {
-    let by_key = [key];
+    let by_key = [BY_KEY];
     let values = KeyRows::new(&[], &[], cells.len());
     let keys = KeyRows::new(cells, &by_key, cells.len());
     assert!(rt; are_in_order(&values, &keys));
@@ -163,7 +160,7 @@ fn a_join_for_each_that_the_meter_shows(rt: HostRuntime) -> Result<(), Fail> {
             joins: Cell::new(0),
         };
         let mut meter = Joins { count: 0 };
-        let outcome = both_folds(&rt, alloc, &keys, BY_KEY, frame, &tally, &mut meter)?;
+        let outcome = both_folds(&rt, alloc, &keys, frame, &tally, &mut meter)?;
         assert_eq!(rt; outcome.folds.len(), 2000);
         assert!(rt; outcome.folds.iter().all(|&count| count == size));
         assert_eq!(rt; outcome.folds.as_slice(), outcome.walked.as_slice());
@@ -185,7 +182,7 @@ fn one_row_takes_few_joins(rt: HostRuntime) -> Result<(), Fail> {
             filter: None,
         };
         let mut meter = Meter::new();
-        let outcome = both_folds(&rt, alloc, &keys, BY_KEY, frame, &count, &mut meter)?;
+        let outcome = both_folds(&rt, alloc, &keys, frame, &count, &mut meter)?;
         assert_eq!(rt; outcome.folds.as_slice(), [1].as_slice());
         assert!(rt; outcome.joins <= most);
     }
@@ -272,316 +269,10 @@ fn maps_one_after_another(rt: HostRuntime) -> Result<(), Fail> {
             shifts: &shifts,
         };
         let mut meter = Joins { count: 0 };
-        let outcome = both_folds(&rt, alloc, &keys, BY_KEY, frame, &maps, &mut meter)?;
+        let outcome = both_folds(&rt, alloc, &keys, frame, &maps, &mut meter)?;
         assert_eq!(rt; outcome.folds.len(), 2000);
         assert_eq!(rt; outcome.folds.as_slice(), outcome.walked.as_slice());
     }
-    Ok(())
-}
-
-const DAYS: [Option<i64>; 4] = [Some(1), Some(2), Some(2), Some(4)];
-
-const AMOUNTS: [Option<i64>; 4] = [Some(10), Some(20), Some(5), None];
-
-const KEPT: [bool; 4] = [true; 4];
-
-// A column of these numbers.
-fn column(alloc: Global, numbers: &[Option<i64>]) -> Result<Vec<Value>, AllocError> {
-    let mut column = Vec::new(alloc);
-    for number in numbers {
-        column.push(match number {
-            Some(number) => Value::Int(Whole::from(*number)),
-            None => Value::Null,
-        })?;
-    }
-    Ok(column)
-}
-
-const fn frame(
-    mode: FrameMode,
-    start: FrameBound,
-    end: FrameBound,
-    exclusion: FrameExclusion,
-) -> Frame {
-    Frame {
-        mode,
-        start,
-        end,
-        exclusion,
-    }
-}
-
-// The sum of a column, where its filter is true.
-fn sum<'a>(values: &'a [&'a Value], filter: Option<&'a [bool]>) -> Sum<'a>
-    requires { ForSome filter (λ filter. length filter.now ≡ length values.now) }
-    ensures { length result.values.now ≡ length values.now }
-{
-    Sum { values, filter }
-}
-
-// The numbers of sums, none where no number was added.
-fn numbers(alloc: Global, sums: &[PartialSum]) -> Result<Vec<Option<i128>>, AllocError> {
-    sums.iter().map(|sum| sum.get()).collect(alloc)
-}
-
-// How many values a column has, where its filter is true.
-fn count<'a>(values: &'a [&'a Value], filter: Option<&'a [bool]>) -> Count<'a>
-    requires { ForSome filter (λ filter. length filter.now ≡ length values.now) }
-    ensures { length result.values.now ≡ length values.now }
-{
-    Count { values, filter }
-}
-
-// The least value of a column, where its filter is true.
-fn least<'a>(values: &'a [&'a Value], filter: Option<&'a [bool]>) -> Least<'a>
-    requires { ForSome filter (λ filter. length filter.now ≡ length values.now) }
-    ensures { length result.values.now ≡ length values.now }
-{
-    Least { values, filter }
-}
-
-// The greatest value of a column, where its filter is true.
-fn greatest<'a>(values: &'a [&'a Value], filter: Option<&'a [bool]>) -> Greatest<'a>
-    requires { ForSome filter (λ filter. length filter.now ≡ length values.now) }
-    ensures { length result.values.now ≡ length values.now }
-{
-    Greatest { values, filter }
-}
-
-// Frames over the days, and the sum of the amounts over each row's.
-fn frames_with_sums() -> [(Frame, [Option<i128>; 4]); 5] {
-    use FrameBound::{CurrentRow, Following, Preceding, UnboundedPreceding};
-    use FrameExclusion::NoOthers;
-    use FrameMode::{Range, Rows};
-    [
-        (
-            frame(Range, UnboundedPreceding, CurrentRow, NoOthers),
-            [Some(10), Some(35), Some(35), Some(35)],
-        ),
-        (
-            frame(Range, Preceding(1), Following(1), NoOthers),
-            [Some(35), Some(35), Some(35), None],
-        ),
-        (
-            frame(Rows, Preceding(1), Following(1), FrameExclusion::CurrentRow),
-            [Some(20), Some(15), Some(20), Some(5)],
-        ),
-        (
-            frame(Rows, Preceding(7), Preceding(8), NoOthers),
-            [None, None, None, None],
-        ),
-        (
-            frame(Rows, Preceding(2), CurrentRow, NoOthers),
-            [Some(10), Some(30), Some(35), Some(25)],
-        ),
-    ]
-}
-
-#[test]
-fn sums_over_frames(rt: HostRuntime) -> Result<(), Fail> {
-    let alloc = rt.alloc();
-    let days_values = column(alloc, &DAYS)?;
-    let days = lent(alloc, &days_values)?;
-    let amounts_values = column(alloc, &AMOUNTS)?;
-    let amounts = lent(alloc, &amounts_values)?;
-    assert_eq!(rt; days.len(), 4);
-    assert_eq!(rt; amounts.len(), 4);
-    let amount = sum(&amounts, None);
-    for (frame, sums) in frames_with_sums() {
-        let mut meter = Meter::new();
-        let outcome = both_folds(&rt, alloc, &days, BY_KEY, frame, &amount, &mut meter)?;
-        let folds = numbers(alloc, &outcome.folds)?;
-        let walked = numbers(alloc, &outcome.walked)?;
-        assert_eq!(rt; folds.as_slice(), sums.as_slice());
-        assert_eq!(rt; walked.as_slice(), sums.as_slice());
-    }
-    Ok(())
-}
-
-#[test]
-fn counts_over_frames(rt: HostRuntime) -> Result<(), Fail> {
-    use FrameBound::{CurrentRow, Following, Preceding, UnboundedPreceding};
-    use FrameExclusion::{NoOthers, Ties};
-    use FrameMode::{Groups, Range, Rows};
-    let alloc = rt.alloc();
-    let days_values = column(alloc, &DAYS)?;
-    let days = lent(alloc, &days_values)?;
-    let amounts_values = column(alloc, &AMOUNTS)?;
-    let amounts = lent(alloc, &amounts_values)?;
-    assert_eq!(rt; days.len(), 4);
-    assert_eq!(rt; amounts.len(), 4);
-    let groups = frame(Groups, Preceding(1), CurrentRow, Ties);
-    let after = frame(Rows, Following(1), Following(2), Ties);
-    let up_to_day = frame(Range, UnboundedPreceding, CurrentRow, NoOthers);
-    let above_five = [true, true, false, false];
-    for (filter, frame, counts) in [
-        (KEPT, groups, [1, 2, 2, 3]),
-        (KEPT, after, [2, 1, 1, 0]),
-        (above_five, ALL_ROWS, [2, 2, 2, 2]),
-    ] {
-        let rows = CountRows {
-            rows: 4,
-            filter: Some(&filter),
-        };
-        let mut meter = Meter::new();
-        let outcome = both_folds(&rt, alloc, &days, BY_KEY, frame, &rows, &mut meter)?;
-        assert_eq!(rt; outcome.folds.as_slice(), counts.as_slice());
-        assert_eq!(rt; outcome.walked.as_slice(), counts.as_slice());
-    }
-    let values = count(&amounts, Some(&KEPT));
-    let mut meter = Meter::new();
-    let outcome = both_folds(&rt, alloc, &days, BY_KEY, up_to_day, &values, &mut meter)?;
-    assert_eq!(rt; outcome.folds.as_slice(), [1, 3, 3, 3].as_slice());
-    assert_eq!(rt; outcome.walked.as_slice(), [1, 3, 3, 3].as_slice());
-    Ok(())
-}
-
-#[test]
-fn sums_in_descending_order(rt: HostRuntime) -> Result<(), Fail> {
-    use FrameBound::{CurrentRow, Preceding};
-    use FrameExclusion::NoOthers;
-    use FrameMode::Range;
-    let alloc = rt.alloc();
-    let days_values = column(alloc, &[Some(4), Some(2), Some(2), Some(1)])?;
-    let days = lent(alloc, &days_values)?;
-    let amounts_values = column(alloc, &[None, Some(20), Some(5), Some(10)])?;
-    let amounts = lent(alloc, &amounts_values)?;
-    assert_eq!(rt; days.len(), 4);
-    assert_eq!(rt; amounts.len(), 4);
-    let by_key_descending = SortKey {
-        col: 0,
-        desc: true,
-        nulls_first: true,
-    };
-    let amount = sum(&amounts, Some(&KEPT));
-    let mut meter = Meter::new();
-    let day_before = frame(Range, Preceding(1), CurrentRow, NoOthers);
-    let outcome = both_folds(
-        &rt,
-        alloc,
-        &days,
-        by_key_descending,
-        day_before,
-        &amount,
-        &mut meter,
-    )?;
-    let folds = numbers(alloc, &outcome.folds)?;
-    assert_eq!(rt;
-        folds.as_slice(),
-        [None, Some(25), Some(25), Some(35)].as_slice()
-    );
-    Ok(())
-}
-
-#[test]
-fn counts_by_amount(rt: HostRuntime) -> Result<(), Fail> {
-    use FrameBound::{Following, Preceding};
-    let alloc = rt.alloc();
-    let amounts_values = column(alloc, &[Some(5), Some(10), Some(20), None])?;
-    let amounts = lent(alloc, &amounts_values)?;
-    assert_eq!(rt; amounts.len(), 4);
-    let rows = CountRows {
-        rows: 4,
-        filter: Some(&KEPT),
-    };
-    let mut meter = Meter::new();
-    let five_around = frame(
-        FrameMode::Range,
-        Preceding(5),
-        Following(5),
-        FrameExclusion::NoOthers,
-    );
-    let outcome = both_folds(&rt, alloc, &amounts, BY_KEY, five_around, &rows, &mut meter)?;
-    assert_eq!(rt; outcome.folds.as_slice(), [2, 2, 1, 1].as_slice());
-    Ok(())
-}
-
-#[test]
-fn leftmost_places_over_frames(rt: HostRuntime) -> Result<(), Fail> {
-    use FrameBound::{UnboundedFollowing, UnboundedPreceding};
-    let alloc = rt.alloc();
-    let days_values = column(alloc, &DAYS)?;
-    let days = lent(alloc, &days_values)?;
-    assert_eq!(rt; days.len(), 4);
-    let first_day = least(&days, Some(&KEPT));
-    let mut meter = Meter::new();
-    let others = frame(
-        FrameMode::Range,
-        UnboundedPreceding,
-        UnboundedFollowing,
-        FrameExclusion::Group,
-    );
-    let outcome = both_folds(&rt, alloc, &days, BY_KEY, others, &first_day, &mut meter)?;
-    assert_eq!(rt;
-        outcome.folds.as_slice(),
-        [Some(1), Some(0), Some(0), Some(0)].as_slice()
-    );
-
-    let last_day = greatest(&days, Some(&[true, true, true, false]));
-    let mut meter = Meter::new();
-    let outcome = both_folds(&rt, alloc, &days, BY_KEY, ALL_ROWS, &last_day, &mut meter)?;
-    assert_eq!(rt; outcome.folds.as_slice(), [Some(1); 4].as_slice());
-    Ok(())
-}
-
-#[test]
-fn no_place_of_a_null(rt: HostRuntime) -> Result<(), Fail> {
-    use FrameBound::CurrentRow;
-    let alloc = rt.alloc();
-    let days_values = column(alloc, &DAYS)?;
-    let days = lent(alloc, &days_values)?;
-    let amounts_values = column(alloc, &AMOUNTS)?;
-    let amounts = lent(alloc, &amounts_values)?;
-    assert_eq!(rt; days.len(), 4);
-    assert_eq!(rt; amounts.len(), 4);
-    let greatest_amount = greatest(&amounts, Some(&KEPT));
-    let mut meter = Meter::new();
-    let row_alone = frame(
-        FrameMode::Rows,
-        CurrentRow,
-        CurrentRow,
-        FrameExclusion::NoOthers,
-    );
-    let outcome = both_folds(
-        &rt,
-        alloc,
-        &days,
-        BY_KEY,
-        row_alone,
-        &greatest_amount,
-        &mut meter,
-    )?;
-    assert_eq!(rt;
-        outcome.folds.as_slice(),
-        [Some(0), Some(1), Some(2), None].as_slice()
-    );
-    Ok(())
-}
-
-#[test]
-fn places_of_texts(rt: HostRuntime) -> Result<(), Fail> {
-    let alloc = rt.alloc();
-    let days_values = column(alloc, &DAYS)?;
-    let days = lent(alloc, &days_values)?;
-    let mut shop_values = Vec::new(alloc);
-    for shop in ["b", "", "c", "a"] {
-        shop_values.push(Value::Text(RcStr::from_str(alloc, shop)?))?;
-    }
-    let shops = lent(alloc, &shop_values)?;
-    assert_eq!(rt; days.len(), 4);
-    assert_eq!(rt; shops.len(), 4);
-    let first_shop = least(&shops, Some(&[true, false, true, true]));
-    let mut meter = Meter::new();
-    let outcome = both_folds(
-        &rt,
-        alloc,
-        &days,
-        BY_KEY,
-        ALL_BUT_TIES,
-        &first_shop,
-        &mut meter,
-    )?;
-    assert_eq!(rt; outcome.folds.as_slice(), [Some(3); 4].as_slice());
     Ok(())
 }
 

@@ -10,48 +10,16 @@ use std::test::Fail;
 use wframe::*;
 use wvalues::{SortKey, Value, Whole};
 
-// Four rows in the order of their days.
-const DAYS: [Option<i64>; 4] = [Some(1), Some(2), Some(2), Some(4)];
-
-/// The greatest offset that a query may have.
-const GREATEST: u128 = 9_223_372_036_854_775_807;
-
-const ONE_PARTITION: [Option<i64>; 4] = [None; 4];
-
 const ASCENDING: SortKey = SortKey {
     col: 0,
     desc: false,
     nulls_first: false,
 };
 
-const DESCENDING: SortKey = SortKey {
-    col: 0,
-    desc: true,
-    nulls_first: true,
-};
-
-const NULLS_FIRST: SortKey = SortKey {
-    col: 0,
-    desc: false,
-    nulls_first: true,
-};
-
-fn frame(mode: FrameMode, start: FrameBound, end: FrameBound, exclusion: FrameExclusion) -> Frame {
-    Frame {
-        mode,
-        start,
-        end,
-        exclusion,
-    }
-}
-
-fn cells(alloc: Global, numbers: &[Option<i64>]) -> Result<Vec<Value>, AllocError> {
+fn cells(alloc: Global, numbers: &[i64]) -> Result<Vec<Value>, AllocError> {
     let mut cells = Vec::new(alloc);
     for number in numbers {
-        cells.push(match number {
-            Some(n) => Value::Int(Whole::from(*n)),
-            None => Value::Null,
-        })?;
+        cells.push(Value::Int(Whole::from(*number)))?;
     }
     Ok(cells)
 }
@@ -61,173 +29,11 @@ fn lent<'a>(alloc: Global, values: &'a [Value]) -> Result<Vec<&'a Value>, AllocE
     values.iter().collect(alloc)
 }
 
-// How many rows each frame has, for partitions by the first numbers and one key by the second.
-fn sizes(
-    rt: &impl Abort,
-    alloc: Global,
-    values: &[Option<i64>],
-    numbers: &[Option<i64>],
-    key: SortKey,
-    frame: Frame,
-) -> Result<Vec<usize>, Fail> {
-    let partition_values = cells(alloc, values)?;
-    let value_cells = lent(alloc, &partition_values)?;
-    let key_values = cells(alloc, numbers)?;
-    let key_cells = lent(alloc, &key_values)?;
-    let value_keys = [ASCENDING];
-    let keys = [key];
-    assert_eq!(rt; value_cells.len(), key_cells.len());
-    let values = KeyRows::new(&value_cells, &value_keys, key_cells.len());
-    let keys = KeyRows::new(&key_cells, &keys, key_cells.len());
-    assert!(rt; are_in_order(&values, &keys));
-    let partitions = Partitions::build(alloc, &values, keys, frame)?;
-    let mut sizes = Vec::new(alloc);
-    for k in 0..partitions.count() {
-        let frames = partitions.partition(k);
-        for row in 0..frames.count() {
-            let [a, b, c] = frames.frame(row);
-            sizes.push((a.to - a.from) + (b.to - b.from) + (c.to - c.from))?;
-        }
-    }
-    Ok(sizes)
-}
-
-// Frames over these days in ascending order, and how many rows each has.
-const BY_DAY: [(
-    FrameMode,
-    FrameBound,
-    FrameBound,
-    FrameExclusion,
-    [usize; 4],
-); 8] = [
-    (
-        FrameMode::Range,
-        FrameBound::UnboundedPreceding,
-        FrameBound::CurrentRow,
-        FrameExclusion::NoOthers,
-        [1, 3, 3, 4],
-    ),
-    (
-        FrameMode::Range,
-        FrameBound::Preceding(1),
-        FrameBound::Following(1),
-        FrameExclusion::NoOthers,
-        [3, 3, 3, 1],
-    ),
-    (
-        FrameMode::Range,
-        FrameBound::Preceding(GREATEST),
-        FrameBound::Following(GREATEST),
-        FrameExclusion::NoOthers,
-        [4, 4, 4, 4],
-    ),
-    (
-        FrameMode::Groups,
-        FrameBound::Preceding(1),
-        FrameBound::CurrentRow,
-        FrameExclusion::Ties,
-        [1, 2, 2, 3],
-    ),
-    (
-        FrameMode::Rows,
-        FrameBound::Following(1),
-        FrameBound::Following(2),
-        FrameExclusion::Ties,
-        [2, 1, 1, 0],
-    ),
-    (
-        FrameMode::Rows,
-        FrameBound::Preceding(1),
-        FrameBound::Following(1),
-        FrameExclusion::CurrentRow,
-        [1, 2, 2, 1],
-    ),
-    (
-        FrameMode::Range,
-        FrameBound::UnboundedPreceding,
-        FrameBound::UnboundedFollowing,
-        FrameExclusion::Group,
-        [3, 2, 2, 3],
-    ),
-    (
-        FrameMode::Rows,
-        FrameBound::Preceding(7),
-        FrameBound::Preceding(8),
-        FrameExclusion::NoOthers,
-        [0, 0, 0, 0],
-    ),
-];
-
-#[test]
-fn frames_by_day(rt: HostRuntime) -> Result<(), Fail> {
-    for (mode, start, end, exclusion, want) in BY_DAY {
-        let frame = frame(mode, start, end, exclusion);
-        let found = sizes(&rt, rt.alloc(), &ONE_PARTITION, &DAYS, ASCENDING, frame)?;
-        assert_eq!(rt; found.as_slice(), want.as_slice(), "at {frame:?}");
-    }
-    Ok(())
-}
-
-#[test]
-fn frames_by_other_orders(rt: HostRuntime) -> Result<(), Fail> {
-    use FrameBound::*;
-    let none = FrameExclusion::NoOthers;
-    let cases = [
-        (
-            [Some(4), Some(2), Some(2), Some(1)],
-            DESCENDING,
-            Preceding(1),
-            CurrentRow,
-            [1, 2, 2, 3],
-        ),
-        (
-            [Some(5), Some(10), Some(20), None],
-            ASCENDING,
-            Preceding(5),
-            Following(5),
-            [2, 2, 1, 1],
-        ),
-        (
-            [None, Some(5), Some(10), Some(20)],
-            NULLS_FIRST,
-            UnboundedPreceding,
-            Following(5),
-            [1, 3, 3, 4],
-        ),
-    ];
-    for (numbers, key, start, end, want) in cases {
-        let frame = frame(FrameMode::Range, start, end, none);
-        let found = sizes(&rt, rt.alloc(), &ONE_PARTITION, &numbers, key, frame)?;
-        assert_eq!(rt; found.as_slice(), want.as_slice(), "at {numbers:?}");
-    }
-    Ok(())
-}
-
-#[test]
-fn frames_in_partitions(rt: HostRuntime) -> Result<(), Fail> {
-    use FrameBound::*;
-    let before = frame(
-        FrameMode::Rows,
-        Preceding(1),
-        Preceding(1),
-        FrameExclusion::NoOthers,
-    );
-    let shops = [Some(1), Some(1), Some(1), Some(2)];
-    let days = [Some(1), Some(2), Some(4), Some(2)];
-    let found = sizes(&rt, rt.alloc(), &shops, &days, ASCENDING, before)?;
-    assert_eq!(rt; found.as_slice(), [0, 1, 1, 0].as_slice());
-    let alone = sizes(&rt, rt.alloc(), &[None], &[Some(7)], ASCENDING, before)?;
-    assert_eq!(rt; alone.as_slice(), [0].as_slice());
-    let no_rows = sizes(&rt, rt.alloc(), &[], &[], ASCENDING, before)?;
-    assert_eq!(rt; no_rows.len(), 0);
-    Ok(())
-}
-
 // Two partitions of two rows each, without keys.
 #[test]
 fn places_in_a_partition(rt: HostRuntime) -> Result<(), Fail> {
     let alloc = rt.alloc();
-    let shop_values = cells(alloc, &[Some(1), Some(1), Some(2), Some(2)])?;
+    let shop_values = cells(alloc, &[1, 1, 2, 2])?;
     let shops = lent(alloc, &shop_values)?;
     let shop = [ASCENDING];
     assert_eq!(rt; shops.len(), 4);

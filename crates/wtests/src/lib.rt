@@ -17,8 +17,6 @@ mod nodes;
 #[cfg(test)]
 mod places;
 #[cfg(test)]
-mod rules;
-#[cfg(test)]
 mod segments;
 #[cfg(test)]
 mod sets;
@@ -26,5 +24,3 @@ mod sets;
 mod tokens;
 #[cfg(test)]
 mod values;
-#[cfg(test)]
-mod windows;

@@ -6,18 +6,12 @@ use wplaces::*;
 use wvalues::{SortKey, Value, Whole};
 
 // The table of days, shops and amounts: one of shop `a` on day 1, one each of `a` and `b` on day 2, one of `a` on day 4.
-const DAYS: [Option<i64>; 4] = [Some(1), Some(2), Some(2), Some(4)];
+const DAYS: [i64; 4] = [1, 2, 2, 4];
 
 const ASCENDING: SortKey = SortKey {
     col: 0,
     desc: false,
     nulls_first: false,
-};
-
-const DESCENDING: SortKey = SortKey {
-    col: 0,
-    desc: true,
-    nulls_first: true,
 };
 
 // What a window has where it says nothing of its frame.
@@ -28,13 +22,10 @@ const DEFAULT: Frame = Frame {
     exclusion: FrameExclusion::NoOthers,
 };
 
-fn cells(alloc: Global, numbers: &[Option<i64>]) -> Result<Vec<Value>, AllocError> {
+fn cells(alloc: Global, numbers: &[i64]) -> Result<Vec<Value>, AllocError> {
     let mut cells = Vec::new(alloc);
     for number in numbers {
-        cells.push(match number {
-            Some(n) => Value::Int(Whole::from(*n)),
-            None => Value::Null,
-        })?;
+        cells.push(Value::Int(Whole::from(*number)))?;
     }
     Ok(cells)
 }
@@ -84,30 +75,6 @@ fn ranks_by_day(rt: HostRuntime) -> Result<(), Fail> {
 }
 
 #[test]
-fn ranks_by_amount(rt: HostRuntime) -> Result<(), Fail> {
-    let alloc = rt.alloc();
-    let amounts_values = cells(alloc, &[None, Some(20), Some(10), Some(5)])?;
-    let amounts = lent(alloc, &amounts_values)?;
-    let partitions = one_partition(&rt, alloc, &amounts, &[DESCENDING], DEFAULT)?;
-    assert_eq!(rt; partitions.count(), 1);
-    let ranks = rank(alloc, &partitions.partition(0))?;
-    assert_eq!(rt; ranks.as_slice(), [1, 2, 3, 4].as_slice());
-    Ok(())
-}
-
-#[test]
-fn tiles_of_five_rows(rt: HostRuntime) -> Result<(), Fail> {
-    let alloc = rt.alloc();
-    let days_values = cells(alloc, &[Some(1), Some(2), Some(2), Some(3), Some(4)])?;
-    let days = lent(alloc, &days_values)?;
-    let partitions = one_partition(&rt, alloc, &days, &[ASCENDING], DEFAULT)?;
-    assert_eq!(rt; partitions.count(), 1);
-    let tiles = ntile(alloc, &partitions.partition(0), 3)?;
-    assert_eq!(rt; tiles.as_slice(), [1, 1, 2, 2, 3].as_slice());
-    Ok(())
-}
-
-#[test]
 fn places_by_day(rt: HostRuntime) -> Result<(), Fail> {
     let alloc = rt.alloc();
     let days_values = cells(alloc, &DAYS)?;
@@ -142,9 +109,9 @@ fn places_by_day(rt: HostRuntime) -> Result<(), Fail> {
 #[test]
 fn days_after_by_shop(rt: HostRuntime) -> Result<(), Fail> {
     let alloc = rt.alloc();
-    let shops_values = cells(alloc, &[Some(1), Some(1), Some(1), Some(2)])?;
+    let shops_values = cells(alloc, &[1, 1, 1, 2])?;
     let shops = lent(alloc, &shops_values)?;
-    let days_values = cells(alloc, &[Some(1), Some(2), Some(4), Some(2)])?;
+    let days_values = cells(alloc, &[1, 2, 4, 2])?;
     let days = lent(alloc, &days_values)?;
     assert_eq!(rt; shops.len(), 4);
     assert_eq!(rt; days.len(), 4);
@@ -158,51 +125,5 @@ fn days_after_by_shop(rt: HostRuntime) -> Result<(), Fail> {
     assert_eq!(rt; in_a.as_slice(), [Some(1), Some(2), None].as_slice());
     let in_b = lead(alloc, &partitions.partition(1), 1)?;
     assert_eq!(rt; in_b.as_slice(), [None].as_slice());
-    Ok(())
-}
-
-#[test]
-fn next_day_in_frame(rt: HostRuntime) -> Result<(), Fail> {
-    let alloc = rt.alloc();
-    let days_values = cells(alloc, &DAYS)?;
-    let days = lent(alloc, &days_values)?;
-    let frame = Frame {
-        mode: FrameMode::Rows,
-        start: FrameBound::CurrentRow,
-        end: FrameBound::Following(1),
-        exclusion: FrameExclusion::CurrentRow,
-    };
-    let partitions = one_partition(&rt, alloc, &days, &[ASCENDING], frame)?;
-    assert_eq!(rt; partitions.count(), 1);
-    let next = nth_value(alloc, &partitions.partition(0), 1)?;
-    assert_eq!(rt;
-        next.as_slice(),
-        [Some(1), Some(2), Some(3), None].as_slice()
-    );
-    Ok(())
-}
-
-// Here no row lies in its own frame, and a peer that would is left out.
-#[test]
-fn places_without_ties(rt: HostRuntime) -> Result<(), Fail> {
-    let alloc = rt.alloc();
-    let days_values = cells(alloc, &DAYS)?;
-    let days = lent(alloc, &days_values)?;
-    let frame = Frame {
-        mode: FrameMode::Rows,
-        start: FrameBound::Following(1),
-        end: FrameBound::Following(2),
-        exclusion: FrameExclusion::Ties,
-    };
-    let partitions = one_partition(&rt, alloc, &days, &[ASCENDING], frame)?;
-    assert_eq!(rt; partitions.count(), 1);
-    let frames = partitions.partition(0);
-    let last = last_value(alloc, &frames)?;
-    assert_eq!(rt;
-        last.as_slice(),
-        [Some(2), Some(3), Some(3), None].as_slice()
-    );
-    let second = nth_value(alloc, &frames, 2)?;
-    assert_eq!(rt; second.as_slice(), [Some(2), None, None, None].as_slice());
     Ok(())
 }

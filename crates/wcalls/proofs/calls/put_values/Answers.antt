@@ -15,5 +15,5 @@ loop-place-preserved c =
     let there : k < length values = omega (arith, here, c.requires.len) in
     record {
       long = ap length c.put_at.ensures ∙ length-set column (get_or rows k 0) value ∙ c.loop-place.invariant.long;
-      put = put_next rows (map meaning values) k column c.put_at.new.column value _ here (omega (arith, there, length-map values meaning)) c.put_at.ensures (c.in_ok-value.ensures ∙ ap meaning c.index-values-place.is ∙ sym (get_or-map meaning values k _ Null there)) c.loop-place.invariant.put;
+      put = put_next meaning rows (map meaning values) k column c.put_at.new.column value _ here (omega (arith, there, length-map values meaning)) c.put_at.ensures (c.in_ok-value.ensures ∙ ap meaning c.index-values-place.is ∙ sym (get_or-map meaning values k _ Null there)) c.loop-place.invariant.put;
     }

@@ -1,8 +1,8 @@
 use Rattle.std.proofs.Common.{◌≡◌, ◌++◌, drop, map}
 use Rattle.wplan.specs.Plans.{aggregate_plan}
 use Rattle.wdistinct.specs.Calls.{call_trees}
-use Rattle.wresolve.specs.Resolving.{layout_of}
-use Rattle.wresolve.specs.Selecting.{aggregate_made}
+use Rattle.wsettle.specs.Resolving.{layout_of}
+use Rattle.wsettle.specs.Functions.{aggregate_made}
 use Rattle.wresolve.proofs.selecting.build_aggregates.Given as goal
 
 abbrev pub invariant-calls : goal.invariant-calls

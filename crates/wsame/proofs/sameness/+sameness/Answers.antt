@@ -75,13 +75,13 @@ pub is_chain-returns-then-same : goal.is_chain-returns-then-same
 is_chain-returns-then-same t c =
     chain_same _ c.args.first.now _ _ c.args.kind c.in-Chain.x c.in-Chain.others _ c.args.links.now _ _ _ c.in-Chain.is c.deref.ensures c.as_slice.ensures.value c.same_kind.ensures c.if-same_kind.true c.same.ensures c.if-same.true c.same_links.ensures
 
-pub same-returns-in-Chain-default : goal.same-returns-in-Chain-default
-same-returns-in-Chain-default t c =
-    c.is_chain.ensures ∙ ap (is_same (view c.args.a.now)) (sym (chain_view c.args.b.now _ _ c.in-Chain-default.first c.in-Chain-default.links _ c.in-Chain-default.is-0 c.deref-in-Chain-default.ensures c.as_slice.ensures.value))
+pub same-returns-in-Chain : goal.same-returns-in-Chain
+same-returns-in-Chain t c =
+    c.is_chain.ensures ∙ ap (is_same (view c.args.a.now)) (sym (chain_view c.args.b.now _ _ c.in-Chain.first c.in-Chain.links _ c.in-Chain.is c.deref-in-Chain.ensures c.as_slice.ensures.value))
 
-pub same-returns-in-In-default : goal.same-returns-in-In-default
-same-returns-in-In-default t c =
-    c.is_list_test.ensures ∙ ap (is_same (view c.args.a.now)) (sym (list_view c.args.b.now _ _ c.in-In-default.operand c.in-In-default.list _ c.in-In-default.is-0 c.deref-in-In-default.ensures c.as_slice-in-In-default.ensures.value))
+pub same-returns-in-In : goal.same-returns-in-In
+same-returns-in-In t c =
+    c.is_list_test.ensures ∙ ap (is_same (view c.args.a.now)) (sym (list_view c.args.b.now _ _ c.in-In.operand c.in-In.list _ c.in-In.is c.deref-in-In.ensures c.as_slice-in-In.ensures.value))
 
 pub is_list_test-returns-then-same : goal.is_list_test-returns-then-same
 is_list_test-returns-then-same t c =

@@ -1,0 +1,32 @@
+use Rattle.std.proofs.Common.{◌≡◌, ◌<◌, ℕ, List, Option, Some, None, get_or, length, map, refl, sym, ap, ◌∙◌, arith}
+use Rattle.std.proofs.lemmas.List.{length-map, length-set}
+use Rattle.wvalues.specs.Meaning.{Meaning, meaning}
+use Rattle.wframe.specs.Places.{places}
+use Rattle.wrows.proofs.RowFacts.{length-places}
+use Rattle.wcalls.specs.Arranged.{told_value}
+use Rattle.wcalls.specs.Kept.{number_told, value_of_number}
+use Rattle.wcalls.specs.Seen.{values_seen}
+use Rattle.wcalls.proofs.PutFacts.{put_next, told_at}
+use Rattle.wcalls.proofs.told.ToldTells.keep.Goals as goal
+
+told_kept : (values : List Meaning) (rows : List ℕ) (default : Meaning) (place : Option ℕ) → value_of_number values default (number_told rows place) ≡ told_value values rows default place
+told_kept values rows default None = refl
+told_kept values rows default (Some place) = refl
+
+pub loop-place-preserved : goal.loop-place-preserved
+loop-place-preserved g c =
+    let rows = c.args.rows.now in
+    let call = c.args.self.now in
+    let k = c.loop-place.place in
+    let place_told : ℕ → ℕ → Option ℕ = λ n. g.P.RowPlaces.place_told call.places n c.args.frames.now in
+    let values = values_seen call.values in
+    let default = meaning call.default.now in
+    let meant = value_of_number values default in
+    let told : ℕ → Meaning = λ place. told_value values rows default (place_told (length rows) place) in
+    let here : k < length rows = omega arith in
+    let place = c.place_of-told.result in
+    record {
+      long = ap length c.put_at.ensures ∙ length-set c.loop-place.kept (get_or rows k 0) c.number_told.result ∙ c.loop-place.invariant.long;
+      put = put_next meant rows (map told (places (length rows))) k c.loop-place.kept c.put_at.new.column c.number_told.result _ here (omega (arith, here, length-map (places (length rows)) told, length-places 0 (length rows))) c.put_at.ensures
+          (ap meant c.number_told.ensures ∙ told_kept values rows default place ∙ ap (told_value values rows default) (c.place_of-told.ensures ∙ ap (λ n. place_told n k) (sym c.requires.len)) ∙ told_at told (length rows) k here) c.loop-place.invariant.put;
+    }

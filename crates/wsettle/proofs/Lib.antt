@@ -1,0 +1,4 @@
+mod Views
+mod Placed
+mod FunctionFacts
+mod Made
