@@ -1,7 +1,8 @@
-//! Tests of the public calls of all crates.
+//! Tests of public calls, above all of what no script of the program shows.
 //!
 //! What is compared was typed from the formats, the grammar and the public standard, or worked out by hand. Each call that
-//! asks for memory is called where there is enough, since a contract lets a body answer that there is none.
+//! asks for memory is called, here or by the program, where there is enough, since a contract lets a body answer that there
+//! is none.
 #![tactic(auto)]
 
 #[cfg(test)]
