@@ -6,6 +6,7 @@ mod ArrangedFacts
 mod PutFacts
 mod CallFacts
 mod PlainFacts
+mod CodeFacts
 mod CutFacts
 mod Listed
 mod LentFacts

@@ -17,7 +17,7 @@ use crate::functions::function_column;
 use crate::parts::frame_of;
 use crate::window::WindowOrder;
 use std::alloc::Global;
-use wframe::{KeyRows, Partitions};
+use wframe::Partitions;
 use wplan::{SettledWindow, WindowFunction};
 use wrows::{AnswerFault, Cells};
 use wvalues::Value;
@@ -101,7 +101,7 @@ pub fn window_columns(
     ensures count { IfOk result (λ cells. cells.count ≡ length functions.now) }
 {
     let cells = order.lent_keys(alloc)?;
-    let keys = KeyRows::new(&cells, order.key_order(), order.rows().len());
+    let keys = order.key_rows(&cells);
     let partitions = order.partitions(alloc, keys, frame_of(&window.frame))?;
     every_column(alloc, functions, rows, order.rows(), &partitions)
 }

@@ -1,14 +1,18 @@
 //! Rows in the order of a window.
-ghost use Rattle.std.specs.Prelude.{◌≡◌, ◌*◌, ◌<◌, true, List, All, IfOk, IsTrue, length};
+ghost use Rattle.std.specs.Prelude.{◌≡◌, ◌*◌, ◌<◌, true, List, All, IfOk, IfSome, IsTrue, length, map};
 ghost use Rattle.std.specs.Ordering.{on};
+ghost use Rattle.wvalues.specs.declared.key.SortKey.{SortKey};
+ghost use Rattle.wvalues.specs.Meaning.{Meaning};
 ghost use Rattle.wvalues.specs.Order.{keys_cmp};
 ghost use Rattle.wframe.specs.Cells.{rows_of};
+ghost use Rattle.wframe.specs.Codes.{TellApart};
 ghost use Rattle.wframe.specs.KeyRows.{key_lists, sort_keys};
 ghost use Rattle.wframe.specs.Offsets.{has_range_offset};
 ghost use Rattle.wframe.specs.Peers.{key_at};
 ghost use Rattle.wframe.specs.Sorting.{sorted};
 ghost use Rattle.wplan.specs.Plans.{window_plan};
 ghost use Rattle.wplan.specs.Sameness.{is_same_order};
+ghost use Rattle.wrows.specs.CodedRows.{AreRowCodes};
 ghost use Rattle.wrows.specs.Columns.{Row};
 ghost use Rattle.wrows.specs.LaidRows.{laid};
 ghost use Rattle.wrows.specs.Laid.{rows_seen};
@@ -24,19 +28,24 @@ use std::alloc::{AllocError, Global};
 use std::marker::Model;
 use wframe::{Frame, KeyRows, Partitions};
 use wplan::{SettledWindow, same_order};
-use wrows::{AnswerFault, resorted_numbers, sorted_numbers};
+use wrows::{AnswerFault, numbers, picked_codes, resorted_numbers, row_codes};
 use wvalues::{SortKey, Value};
 
 /// Rows by the partition values of a window, by its keys and then by number, with the partition values and the keys of
 /// each. The window's frame plays no part, so it serves each window of the same partition values and keys.
+///
+/// A single partition value or key was sorted by codes. These are kept in the order of the rows and tell the rows apart there,
+/// so that partitions and peers are found without a look at the values, which lie scattered.
 #[derive(Drop)]
 pub struct WindowOrder {
     rows: Vec<usize>,
     // Those of one row after another, by the rows' numbers.
     values: Vec<Value>,
     value_order: Vec<SortKey>,
+    value_codes: Option<Vec<u32>>,
     keys: Vec<Value>,
     key_order: Vec<SortKey>,
+    key_codes: Option<Vec<u32>>,
 }
 
 impl Model for WindowOrder {
@@ -77,13 +86,6 @@ impl WindowOrder {
         &self.rows
     }
 
-    /// How keys are ordered.
-    pub(crate) fn key_order(&self) -> &[SortKey]
-        ensures { result.now ≡ self.now.order }
-    {
-        &self.key_order
-    }
-
     /// The keys of the rows in order, lent from where they lie.
     pub(crate) fn lent_keys(&self, alloc: Global) -> Result<Vec<&Value>, AllocError>
         ensures rows { IfOk result (λ cells. rows_of (length self.now.order) (length self.now.rows) cells.items ≡ self.now.keys) }
@@ -92,6 +94,17 @@ impl WindowOrder {
         let count = self.rows.len();
         let cells = lent_rows(alloc, &self.keys, self.key_order.len(), count, &self.rows)?;
         Ok(cells)
+    }
+
+    /// The rows in order by their keys, which are lent in order.
+    pub(crate) fn key_rows<'a>(&'a self, cells: &'a [&'a Value]) -> KeyRows<'a>
+        requires laid { length cells.now ≡ length self.now.rows * length self.now.order }
+        requires rows { rows_of (length self.now.order) (length self.now.rows) cells.now ≡ self.now.keys }
+        ensures lists { key_lists result ≡ self.now.keys }
+        ensures order { sort_keys result ≡ self.now.order }
+    {
+        let keys = KeyRows::new(cells, &self.key_order, self.rows.len());
+        told_apart(keys, &self.key_codes)
     }
 
     /// The partitions of the rows with their frames, where the keys of the rows are lent in order.
@@ -116,7 +129,8 @@ impl WindowOrder {
             count,
             &self.rows,
         )?;
-        let values = KeyRows::new(&cells, &self.value_order, count);
+        let rows = KeyRows::new(&cells, &self.value_order, count);
+        let values = told_apart(rows, &self.value_codes);
         let partitions = Partitions::build(alloc, &values, keys, frame)?;
         Ok(partitions)
     }
@@ -145,33 +159,105 @@ fn ordered_cells(
     requires keys { length keys.items ≡ count * length key_order.items }
     ensures { IfOk result (λ order. order ≡ ordered_by (laid (length value_order.items) count values.items) value_order.items (laid (length key_order.items) count keys.items) key_order.items) }
 {
-    let rows = ordered_numbers(alloc, &values, &value_order, &keys, &key_order, count)?;
+    let RowOrder {
+        rows,
+        value_codes,
+        key_codes,
+    } = row_order(alloc, &values, &value_order, &keys, &key_order, count)?;
     Ok(WindowOrder {
         rows,
         values,
         value_order,
+        value_codes,
         keys,
         key_order,
+        key_codes,
     })
 }
 
-// The numbers of rows by partition values, then by keys, then by number. The keys are sorted by first, and then the
-// partition values, which leaves rows of one partition as they stand.
-fn ordered_numbers(
+// Rows that are told apart by codes, where there are some.
+fn told_apart<'a>(rows: KeyRows<'a>, codes: &'a Option<Vec<u32>>) -> KeyRows<'a>
+    requires { IfSome codes.now (λ codes. TellApart (keys_cmp (sort_keys rows)) (key_lists rows) codes.items) }
+    ensures lists { key_lists result ≡ key_lists rows.entry }
+    ensures keys { sort_keys result ≡ sort_keys rows.entry }
+{
+    match codes {
+        Some(codes) => rows.with_codes(codes),
+        None => rows,
+    }
+}
+
+// The numbers of rows in an order, and there the codes of the partition value and of the key, if each has one.
+#[derive(Drop)]
+struct RowOrder {
+    rows: Vec<usize>,
+    value_codes: Option<Vec<u32>>,
+    key_codes: Option<Vec<u32>>,
+}
+
+// The order of rows by partition values, then by keys, then by number.
+fn row_order(
     alloc: Global,
     values: &[Value],
     value_order: &[SortKey],
     keys: &[Value],
     key_order: &[SortKey],
     count: usize,
-) -> Result<Vec<usize>, AllocError>
+) -> Result<RowOrder, AllocError>
     requires values { length values.now ≡ count * length value_order.now }
     requires keys { length keys.now ≡ count * length key_order.now }
-    ensures order { IfOk result (λ rows. rows.items ≡ sorted (on (key_at (laid (length value_order.now) count values.now)) (keys_cmp value_order.now)) (numbers_by key_order.now (laid (length key_order.now) count keys.now) count)) }
+    ensures order { IfOk result (λ order. order.rows.items ≡ sorted (on (key_at (laid (length value_order.now) count values.now)) (keys_cmp value_order.now)) (numbers_by key_order.now (laid (length key_order.now) count keys.now) count)) }
+    ensures below { IfOk result (λ order. All (λ i. i < count) order.rows.items) }
+    ensures len { IfOk result (λ order. length order.rows.items ≡ count) }
+    ensures value_codes { IfOk result (λ order. IfSome order.value_codes (λ codes. TellApart (keys_cmp value_order.now) (map (key_at (laid (length value_order.now) count values.now)) order.rows.items) codes.items)) }
+    ensures key_codes { IfOk result (λ order. IfSome order.key_codes (λ codes. TellApart (keys_cmp key_order.now) (map (key_at (laid (length key_order.now) count keys.now)) order.rows.items) codes.items)) }
+{
+    let key_codes = row_codes(alloc, keys, key_order, count)?;
+    let value_codes = row_codes(alloc, values, value_order, count)?;
+    let by_key = numbers_in(alloc, keys, key_order, &key_codes, count)?;
+    let rows = resorted_numbers(alloc, values, value_order, &value_codes, count, by_key)?;
+    let value_codes = codes_of(alloc, value_codes, &rows)?;
+    let key_codes = codes_of(alloc, key_codes, &rows)?;
+    Ok(RowOrder {
+        rows,
+        value_codes,
+        key_codes,
+    })
+}
+
+// The numbers of rows by keys, and then by number. They have the codes that are told, if there are any.
+fn numbers_in(
+    alloc: Global,
+    keys: &[Value],
+    order: &[SortKey],
+    codes: &Option<Vec<u32>>,
+    count: usize,
+) -> Result<Vec<usize>, AllocError>
+    requires laid { length keys.now ≡ count * length order.now }
+    requires codes { IfSome codes.now (λ codes. AreRowCodes order.now (laid (length order.now) count keys.now) codes.items) }
+    ensures order { IfOk result (λ rows. rows.items ≡ numbers_by order.now (laid (length order.now) count keys.now) count) }
     ensures below { IfOk result (λ rows. All (λ i. i < count) rows.items) }
     ensures len { IfOk result (λ rows. length rows.items ≡ count) }
 {
-    let by_key = sorted_numbers(alloc, keys, key_order, count)?;
-    let rows = resorted_numbers(alloc, values, value_order, count, by_key)?;
-    Ok(rows)
+    let rows = numbers(alloc, count)?;
+    let by_key = resorted_numbers(alloc, keys, order, codes, count, rows)?;
+    Ok(by_key)
+}
+
+// The codes of the rows of these numbers, in their order, if rows have codes.
+fn codes_of(
+    alloc: Global,
+    codes: Option<Vec<u32>>,
+    rows: &[usize],
+) -> Result<Option<Vec<u32>>, AllocError>
+    requires { IfSome codes (λ codes. All (λ i. i < length codes.items) rows.now) }
+    ensures { (keys : List SortKey) (lists : List (List Meaning)) → IfSome codes (λ codes. AreRowCodes keys lists codes.items) → IfOk result (λ found. IfSome found (λ codes. TellApart (keys_cmp keys) (map (key_at lists) rows.now) codes.items)) }
+{
+    match codes {
+        Some(codes) => {
+            let picked = picked_codes(alloc, &codes, rows)?;
+            Ok(Some(picked))
+        }
+        None => Ok(None),
+    }
 }

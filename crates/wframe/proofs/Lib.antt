@@ -4,6 +4,7 @@ mod MoveFacts
 mod SpanFacts
 mod PieceFacts
 mod CellFacts
+mod CodeFacts
 mod OrderFacts
 mod GroupFacts
 mod NumberFacts

@@ -76,8 +76,8 @@ each_item_more P xs ys i x e n each here k d =
     (λ k h. let l : k < length xs = omega arith in subst (P k) (sym (ap (λ zs. get_or zs k d) e ∙ get_or_append_left xs (x ∷ []) d k l)) (each k d h))
     (subst (P i) (sym (ap (λ zs. get_or zs i d) e ∙ get_or_push xs x d i n)) here) k
 
-part_at : (keys : List (List Meaning)) (from to i : ℕ) → i < to - from → key_at (slice_range keys from to) i ≡ key_at keys (from + i)
-part_at keys from to i h = get_or-take (to - from) (drop from keys) i [] h ∙ get_or-drop from keys i []
+pub part_at : {X : Type 0} (xs : List X) (from to i : ℕ) (d : X) → i < to - from → get_or (slice_range xs from to) i d ≡ get_or xs (from + i) d
+part_at xs from to i d h = get_or-take (to - from) (drop from xs) i d h ∙ get_or-drop from xs i d
 
 is_equal : (r : Ordering) → is_eq r ≡ true → r ≡ Equal
 is_equal Less h = cc
@@ -94,8 +94,8 @@ ordered_part P R o parts keys s n ordered part i j l h =
     let jn : s.from + j < length parts = omega (arith, w, hj) in
     let ik : s.from + j < length keys = omega (arith, jn) in
     let e : is_gt (R (key_at keys (s.from + i)) (key_at keys (s.from + j))) ≡ false = ordered (s.from + i) (s.from + j) (omega arith) ik (both i j hi hj) in
-    ap (λ x. is_gt (R x (key_at (slice_range keys s.from s.to) j))) (part_at keys s.from s.to i hi)
-    ∙ ap (λ y. is_gt (R (key_at keys (s.from + i)) y)) (part_at keys s.from s.to j hj)
+    ap (λ x. is_gt (R x (key_at (slice_range keys s.from s.to) j))) (part_at keys s.from s.to i [] hi)
+    ∙ ap (λ y. is_gt (R (key_at keys (s.from + i)) y)) (part_at keys s.from s.to j [] hj)
     ∙ e
   where
     in_part : (k : ℕ) → k < s.to - s.from → is_eq (P (key_at parts s.from) (key_at parts (s.from + k))) ≡ true
@@ -107,5 +107,5 @@ ordered_part P R o parts keys s n ordered part i j l h =
     both : (i j : ℕ) → i < s.to - s.from → j < s.to - s.from → is_eq (P (key_at parts (s.from + i)) (key_at parts (s.from + j))) ≡ true
     both i j hi hj = ap is_eq (sym (o.congr (key_at parts s.from) (key_at parts (s.from + i)) (key_at parts (s.from + j)) (is_equal (P (key_at parts s.from) (key_at parts (s.from + i))) (in_part i hi)))) ∙ in_part j hj
 
-pub length-slice : (keys : List (List Meaning)) (from to : ℕ) → to ≤ length keys → length (slice_range keys from to) ≡ to - from
-length-slice keys from to h = omega (arith, length-take (to - from) (drop from keys), length-drop from keys)
+pub length-slice : {X : Type 0} (xs : List X) (from to : ℕ) → to ≤ length xs → length (slice_range xs from to) ≡ to - from
+length-slice xs from to h = omega (arith, length-take (to - from) (drop from xs), length-drop from xs)

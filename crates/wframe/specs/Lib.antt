@@ -9,6 +9,7 @@ pub mod Moves
 pub mod Steps
 pub mod Partitions
 pub mod Cells
+pub mod Codes
 pub mod KeyRows
 pub mod Cuts
 pub mod PeerGroups

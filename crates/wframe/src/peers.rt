@@ -6,7 +6,6 @@ ghost use Rattle.wframe.specs.Cuts.{CutsAt, BeginsWith};
 ghost use Rattle.wframe.specs.PeerGroups.{AreGroups, begins_of};
 
 use crate::key_rows::KeyRows;
-use crate::order::are_equal;
 use std::alloc::AllocError;
 
 /// Where the rows that agree with a row end, which is the first of them. Without keys all agree.
@@ -20,9 +19,8 @@ pub fn agreeing_end(rows: &KeyRows, first: usize) -> usize
     if rows.keys().is_empty() {
         return count;
     }
-    let key = rows.row(first);
     for place in first + 1..count {
-        if !are_equal(key, rows.row(place), rows.keys()) {
+        if !rows.agree(first, place) {
             return place;
         }
     }

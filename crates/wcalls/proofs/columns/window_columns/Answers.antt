@@ -16,7 +16,7 @@ pub every_column-requires-clause-rows : goal.every_column-requires-clause-rows
 every_column-requires-clause-rows c =
     let rows = rows_seen c.args.rows.now in
     let plan = window_plan c.args.window.now in
-    ap length c.rows-2.ensures.rows ∙ rows_long rows plan c.args.order.now (opened rows plan c.args.order.now c.requires.order) ∙ Rattle.std.proofs.lemmas.List.length-map c.args.rows.now Rattle.wrows.specs.Laid.row_seen
+    ap length c.rows.ensures.rows ∙ rows_long rows plan c.args.order.now (opened rows plan c.args.order.now c.requires.order) ∙ Rattle.std.proofs.lemmas.List.length-map c.args.rows.now Rattle.wrows.specs.Laid.row_seen
 
 pub every_column-requires-clause-few : goal.every_column-requires-clause-few
 every_column-requires-clause-few c = subst (λ n. n < 2 ^ 31) (sym (every_column-requires-clause-rows c)) c.requires.few
@@ -28,6 +28,6 @@ returns-clause-columns c =
     let fs = functions_seen c.args.functions.now in
     let p = opened rows plan c.args.order.now c.requires.order in
     let P : Result (List (List Meaning)) AnswerFault → Type 0 = λ meant. Gives rows_in c.every_column.result meant in
-    let arranged : IsArranged p.window c.rows-2.result.now c.in_ok-partitions.partitions
-    = subst (λ order. IsArranged p.window order c.in_ok-partitions.partitions) (sym c.rows-2.ensures.rows) (c.in_ok-partitions.ensures.arranged p.window p.order_is (c.frame_of.ensures ∙ sym p.frame)) in
+    let arranged : IsArranged p.window c.rows.result.now c.in_ok-partitions.partitions
+    = subst (λ order. IsArranged p.window order c.in_ok-partitions.partitions) (sym c.rows.ensures.rows) (c.in_ok-partitions.ensures.arranged p.window p.order_is (c.frame_of.ensures ∙ sym p.frame)) in
     subst P (sym (then_ok p.window (windowed rows plan) (λ w. each (function_column rows w) fs) p.is)) (c.every_column.ensures.columns p.window arranged)
