@@ -195,7 +195,8 @@ struct RowOrder {
     key_codes: Option<Vec<u32>>,
 }
 
-// The order of rows by partition values, then by keys, then by number.
+// The order of rows by partition values, then by keys, then by number. The keys are sorted by first, and then the partition
+// values, which leaves rows of one partition as they stand.
 fn row_order(
     alloc: Global,
     values: &[Value],

@@ -6,7 +6,8 @@
 //! - Leaves: ordering, also among peers, to the planner; values to `wplaces` and `wslide`. It evaluates nothing.
 //!
 //! Read `specs/Places.antt`, `specs/Peers.antt` and `specs/Partition.antt`, then `specs/Bounds.antt` and
-//! `specs/Frame.antt`; `specs/Partitions.antt`, `specs/Offsets.antt` and `specs/Ties.antt` say what callers meet.
+//! `specs/Frame.antt`; `specs/Partitions.antt`, `specs/Offsets.antt`, `specs/Codes.antt` and `specs/Ties.antt` say what
+//! callers meet.
 #![tactic(auto)]
 
 mod bounds;
