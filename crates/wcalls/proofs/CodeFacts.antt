@@ -2,14 +2,24 @@
 use Rattle.std.proofs.Common.{◌≡◌, ℕ, ◌<◌, ◌==◌, List, [], length, map, get_or, None, Some, Option, Vec, Global, sym, ap, ◌∙◌, arith}
 use Rattle.std.specs.Prelude.{All, IfSome}
 use Rattle.std.specs.Cmp.{unsigned_tied}
-use Rattle.std.specs.Ordering.{is_eq}
+use Rattle.std.specs.List.{AllByRecursion}
+use Rattle.std.specs.Ordering.{on, is_eq, nat_cmp}
+use Rattle.std.proofs.lemmas.Cmp.{on_total}
 use Rattle.std.proofs.lemmas.List.{get_or-map, length-map}
+use Rattle.std.proofs.lemmas.List.Elements.{All-from_recursion, All-same}
 use Rattle.wvalues.specs.declared.key.SortKey.{SortKey}
 use Rattle.wvalues.specs.Meaning.{Meaning}
 use Rattle.wvalues.specs.Order.{keys_cmp}
+use Rattle.wvalues.specs.OrderLaws.{keys_total}
 use Rattle.wframe.specs.Codes.{TellApart}
 use Rattle.wframe.specs.Peers.{key_at}
+use Rattle.wframe.specs.Places.{places}
+use Rattle.wframe.specs.Sorting.{sorted}
+use Rattle.wframe.proofs.SortFacts.{all_sorted, length_sorted}
 use Rattle.wrows.specs.CodedRows.{AreRowCodes, code_at}
+use Rattle.wrows.specs.Plain.{numbers_by}
+use Rattle.wrows.proofs.KeyFacts.{sorted_by_row_codes}
+use Rattle.wrows.proofs.RowFacts.{places_below, length-places}
 
 module _ (keys : List SortKey) (lists : List (List Meaning)) (rows : List ℕ) where
   pub told_by_codes : (codes : List ℕ) → AreRowCodes keys lists codes → All (λ i. i < length codes) rows → TellApart (keys_cmp keys) (map (key_at lists) rows) (map (code_at codes) rows)
@@ -32,3 +42,37 @@ module _ (keys : List SortKey) (lists : List (List Meaning)) (rows : List ℕ) w
   pub codes_reach : (n : ℕ) (codes : Option (Vec ℕ Global)) → length lists ≡ n → IfSome codes (λ c. AreRowCodes keys lists c.items) → All (λ i. i < n) rows → IfSome codes (λ c. All (λ i. i < length c.items) rows)
   codes_reach n None long told below = tt
   codes_reach n (Some c) long told below = λ k d h. omega (arith, below k d h, told.len, long)
+
+-- rows by two codes of each are rows by their partition values and then by their keys
+module _ (vo ko : List SortKey) (V K : List (List Meaning)) (n : ℕ) (firsts seconds : List ℕ) (tv : AreRowCodes vo V firsts) (tk : AreRowCodes ko K seconds) (lv : length V ≡ n) (lk : length K ≡ n) where
+  all_places : AllByRecursion (λ i. i < n) (places n)
+  all_places = places_below 0 n n (omega arith)
+
+  by_key : sorted (on (code_at seconds) nat_cmp) (places n) ≡ numbers_by ko K n
+  by_key = sorted_by_row_codes ko K seconds (places n) tk (λ i d h. omega (arith, All-from_recursion (λ j. j < n) (places n) all_places i d h, lk))
+
+  all_by_key : AllByRecursion (λ i. i < n) (numbers_by ko K n)
+  all_by_key = all_sorted (on (key_at K) (keys_cmp ko)) (on_total (key_at K) (keys_total ko)) (λ i. i < n) (places n) all_places
+
+  module _ (rows : List ℕ) (is : rows ≡ sorted (on (code_at firsts) nat_cmp) (sorted (on (code_at seconds) nat_cmp) (places (length seconds)))) where
+    long : length seconds ≡ n
+    long = tk.len ∙ lk
+
+    pub rows_by_codes : rows ≡ sorted (on (key_at V) (keys_cmp vo)) (numbers_by ko K n)
+    rows_by_codes =
+        is
+        ∙ ap (sorted (on (code_at firsts) nat_cmp)) (ap (λ m. sorted (on (code_at seconds) nat_cmp) (places m)) long ∙ by_key)
+        ∙ sorted_by_row_codes vo V firsts (numbers_by ko K n) tv (λ i d h. omega (arith, All-from_recursion (λ j. j < n) (numbers_by ko K n) all_by_key i d h, lv))
+
+    pub rows_below : All (λ i. i < n) rows
+    rows_below =
+        All-same (λ i. i < n) rows (sorted (on (key_at V) (keys_cmp vo)) (numbers_by ko K n)) rows_by_codes
+        (All-from_recursion (λ i. i < n) (sorted (on (key_at V) (keys_cmp vo)) (numbers_by ko K n))
+        (all_sorted (on (key_at V) (keys_cmp vo)) (on_total (key_at V) (keys_total vo)) (λ i. i < n) (numbers_by ko K n) all_by_key))
+
+    pub rows_long : length rows ≡ n
+    rows_long =
+        ap length rows_by_codes
+        ∙ length_sorted (on (key_at V) (keys_cmp vo)) (on_total (key_at V) (keys_total vo)) (numbers_by ko K n)
+        ∙ length_sorted (on (key_at K) (keys_cmp ko)) (on_total (key_at K) (keys_total ko)) (places n)
+        ∙ length-places 0 n

@@ -28,7 +28,7 @@ use std::alloc::{AllocError, Global};
 use std::marker::Model;
 use wframe::{Frame, KeyRows, Partitions};
 use wplan::{SettledWindow, same_order};
-use wrows::{AnswerFault, numbers, picked_codes, resorted_numbers, row_codes};
+use wrows::{AnswerFault, numbers, order_by_codes, picked_codes, resorted_numbers, row_codes};
 use wvalues::{SortKey, Value};
 
 /// Rows by the partition values of a window, by its keys and then by number, with the partition values and the keys of
@@ -195,8 +195,8 @@ struct RowOrder {
     key_codes: Option<Vec<u32>>,
 }
 
-// The order of rows by partition values, then by keys, then by number. The keys are sorted by first, and then the partition
-// values, which leaves rows of one partition as they stand.
+// The order of rows by partition values, then by keys, then by number: by the codes of both, where there are some. Else
+// the keys are sorted by first, and then the partition values, which leaves rows of one partition as they stand.
 fn row_order(
     alloc: Global,
     values: &[Value],
@@ -215,6 +215,14 @@ fn row_order(
 {
     let key_codes = row_codes(alloc, keys, key_order, count)?;
     let value_codes = row_codes(alloc, values, value_order, count)?;
+    if let (Some(firsts), Some(seconds)) = (&value_codes, &key_codes) {
+        let order = order_by_codes(alloc, firsts, seconds)?;
+        return Ok(RowOrder {
+            rows: order.rows,
+            value_codes: Some(order.firsts),
+            key_codes: Some(order.seconds),
+        });
+    }
     let by_key = numbers_in(alloc, keys, key_order, &key_codes, count)?;
     let rows = resorted_numbers(alloc, values, value_order, &value_codes, count, by_key)?;
     let value_codes = codes_of(alloc, value_codes, &rows)?;

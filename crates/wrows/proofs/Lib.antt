@@ -4,7 +4,8 @@ pub mod MoreSorting
 mod CodeFacts
 mod DealFacts
 pub mod ChainFacts
-mod KeyFacts
+mod TwoFacts
+pub mod KeyFacts
 mod RankFacts
 mod PlaceFacts
 mod SeenFacts

@@ -3,10 +3,11 @@
 //! - Gives the rows that a condition keeps, the values of expressions on each row, the numbers of rows in the order of
 //!   keys, and the items of rows in that order, cut by OFFSET and LIMIT, also of rows with columns behind their cells.
 //! - Promises: nothing is skipped, so a number that is out of range on any row refuses; ties are settled by number.
-//!   Rows are sorted by codes of 32 bits, a key at a time and the last one first: distances of numbers that lie close
-//!   enough, and else ranks among the distinct values. Where few rows are asked for, these alone are found. Items that
-//!   are all plain columns are read behind the sort, of the rows that are asked for. What lies far apart is read some
-//!   rows at a time before it is copied.
+//!   Rows are sorted by codes of 32 bits: distances of numbers that lie close enough, and else ranks among the distinct
+//!   values. Rows of two keys are dealt by the first and sorted there by the second, where the first has few values, and
+//!   else rows are sorted a key at a time, the last one first. Where few rows are asked for, these alone are found. Items
+//!   that are all plain columns are read behind the sort, of the rows that are asked for. What lies far apart is read
+//!   some rows at a time before it is copied.
 //! - Asks: an order for each key.
 //! - Leaves expressions to `wplan`, and groups, windows and whole queries to `wplanner`.
 //!
@@ -34,6 +35,7 @@ mod ranks;
 mod rows;
 mod selected;
 mod told;
+mod two_codes;
 mod values;
 
 pub use cells::{Cells, gathered, push_row, slice_of};
@@ -45,4 +47,5 @@ pub use places::place_of;
 pub use plain::{joined_items, ordered_items};
 pub use ranks::picked_codes;
 pub use rows::{kept_rows, not_too_many};
+pub use two_codes::{CodedOrder, order_by_codes};
 pub use values::holds;
