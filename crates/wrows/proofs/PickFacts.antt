@@ -1,5 +1,5 @@
 -- Values at places, and items that are read of the rows that are asked for alone.
-use Rattle.std.proofs.Common.{◌≡◌, ℕ, zero, suc, ◌<◌, ◌||◌, ◌+◌, ◌-◌, ◌≤◌, false, List, [], ◌∷◌, ◌++◌, length, map, take, drop, get_or, Option, None, Some, Result, Ok, Err, refl, sym, ap, subst, ◌∙◌, arith}
+use Rattle.std.proofs.Common.{◌≡◌, ℕ, zero, suc, ◌<◌, ◌||◌, ◌+◌, ◌-◌, ◌≤◌, Bool, true, false, true≢false, List, [], ◌∷◌, ◌++◌, length, map, take, drop, get_or, Option, None, Some, Result, Ok, Err, refl, sym, ap, subst, ◌∙◌, arith}
 use Rattle.std.specs.Prelude.{All, IfSome, slice_range}
 use Rattle.std.specs.Borrow.{Bor}
 use Rattle.std.specs.List.{AllByRecursion, flat_map, list_any}
@@ -163,3 +163,20 @@ flat_more f before n next xs h =
     let e : n + (next - n) ≡ next = omega (arith, h) in
     append_assoc before (flat_map f (take n xs)) (flat_map f (slice_range xs n next))
     ∙ ap (λ l. before ++ l) (sym (flat_map-append f (take n xs) (slice_range xs n next)) ∙ ap (flat_map f) (front_more n (next - n) xs ∙ ap (λ k. take k xs) e))
+
+neither : (a b : Bool) → (a || b) ≡ false → (a ≡ false) × (b ≡ false)
+neither true b e = absurd (true≢false e)
+neither false b e = (refl, e)
+
+-- what holds of no element does not hold of the one at a place
+none_at : {X : Type 0} (f : X → Bool) (xs : List X) (k : ℕ) (d : X) → k < length xs → list_any f xs ≡ false → f (get_or xs k d) ≡ false
+none_at f [] k d h e = absurd (omega arith)
+none_at f (x ∷ xs) zero d h e = let both = neither (f x) (list_any f xs) e in both.0
+none_at f (x ∷ xs) (suc k) d h e = let both = neither (f x) (list_any f xs) e in none_at f xs k d (omega arith) both.1
+
+-- what holds of no row at any place does not hold of one row at any place
+pub none_of_row : (f : ℕ → ℕ → Bool) (ps numbers : List ℕ) (k : ℕ) → k < length numbers → list_any (λ p. list_any (f p) numbers) ps ≡ false → list_any (λ p. f p (get_or numbers k 0)) ps ≡ false
+none_of_row f [] numbers k h e = refl
+none_of_row f (p ∷ ps) numbers k h e =
+    let both = neither (list_any (f p) numbers) (list_any (λ p. list_any (f p) numbers) ps) e in
+    ap (λ b. b || list_any (λ p. f p (get_or numbers k 0)) ps) (none_at (f p) numbers k 0 h both.0) ∙ none_of_row f ps numbers k h both.1

@@ -10,6 +10,5 @@ pub mod Dealt
 pub mod Told
 pub mod Ranks
 pub mod Picked
-pub mod Copied
 pub mod PlainColumns
 pub mod Bases

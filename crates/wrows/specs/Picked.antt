@@ -1,7 +1,7 @@
 -- The rows that are asked for, by number, and values at places of rows that have columns behind their cells.
-use Rattle.std.specs.Prelude.{ℕ, ◌++◌, List, length, map, take, Option, Result, Ok}
+use Rattle.std.specs.Prelude.{ℕ, ◌++◌, Bool, true, false, List, length, map, take, Option, Result, Ok}
 use Rattle.wvalues.specs.declared.key.SortKey.{SortKey}
-use Rattle.wvalues.specs.Meaning.{Meaning}
+use Rattle.wvalues.specs.Meaning.{Meaning, Null, Int, Text}
 use Rattle.wframe.specs.Peers.{key_at}
 use Rattle.wplan.specs.Formula.{Formula}
 use Rattle.wrows.specs.declared.fault.AnswerFault.{AnswerFault}
@@ -28,3 +28,9 @@ asked_of keys order offset limit rows = lists_of keys rows >>= λ by. Ok (cut of
 -- the numbers of the first so many of the rows, in order. All keys are evaluated, on every row
 abbrev pub first_of : List Formula → List SortKey → ℕ → List Row → Result (List ℕ) AnswerFault
 first_of keys order most rows = lists_of keys rows >>= λ by. Ok (take most (numbers_by order by (length rows)))
+
+-- whether a value is a text
+abbrev pub is_text : Meaning → Bool
+is_text Null = false
+is_text (Int n) = false
+is_text (Text t) = true

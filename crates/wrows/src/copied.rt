@@ -1,69 +1,216 @@
-//! Copies of values that lie far apart. A loop that reads alone goes ahead of the one that copies, so that the processor
-//! has many of them on their way from memory at once.
-ghost use Rattle.std.specs.Prelude.{◌≡◌, ◌++◌, IfOk, OnOk, map};
-ghost use Rattle.wvalues.specs.Meaning.{meaning};
-ghost use Rattle.wrows.specs.CodedRows.{values_seen};
-ghost use Rattle.wrows.specs.Copied.{text_in, text_seen};
+//! Copies of values of rows that lie far apart. A loop that reads alone goes ahead of the one that copies, so that the
+//! processor has many of them on their way from memory at once.
+ghost use Rattle.std.specs.Prelude.{◌≡◌, ◌<◌, ◌≤◌, ◌*◌, ◌++◌, false, IfOk, OnOk, length, map};
+ghost use Rattle.std.specs.List.{flat_map, list_any};
+ghost use Rattle.wvalues.specs.Meaning.{meaning, Null};
+ghost use Rattle.wrows.specs.Columns.{value_at};
+ghost use Rattle.wrows.specs.Laid.{rows_seen};
+ghost use Rattle.wrows.specs.LaidRows.{laid};
+ghost use Rattle.wrows.specs.Picked.{is_text, picked, row_beside, with_columns};
 
+use crate::places::{cells_at, push_picked, value_beside, value_of};
 use std::alloc::{AllocError, Global};
-use std::rc::RcStr;
 use wvalues::Value;
 
-// The text that a value is, if it is one.
-fn text_of<'a>(value: &'a Value) -> Option<&'a RcStr>
-    ensures { text_seen result ≡ text_in (meaning value.now) }
+/// How many rows are read before they are copied, so few that a cache holds them until then.
+const BATCH: usize = 256;
+
+// Whether a value is a text.
+fn is_text(value: &Value) -> bool
+    ensures { result ≡ is_text (meaning value.now) }
+{
+    matches!(value, Value::Text(_))
+}
+
+// Whether one of the rows of these numbers has a text at a place. Each is read, whatever was found before.
+fn has_text<'a>(
+    rows: &[&'a [Value]],
+    columns: &[&'a [Value]],
+    null: &'a Value,
+    place: usize,
+    numbers: &[usize],
+) -> bool
+    requires { meaning null.now ≡ Null }
+    ensures { result ≡ list_any (λ i. is_text (value_at (row_beside (rows_seen rows.now) (rows_seen columns.now) i) place)) numbers.now }
+{
+    let mut found = false;
+    for number in numbers {
+        if is_text(value_beside(rows, columns, null, *number, place)) {
+            found = true;
+        }
+    }
+    found
+}
+
+// Whether one of the rows of these numbers has a text at one of some places. All of their values are read.
+fn have_texts<'a>(
+    rows: &[&'a [Value]],
+    columns: &[&'a [Value]],
+    null: &'a Value,
+    places: &[usize],
+    numbers: &[usize],
+) -> bool
+    requires { meaning null.now ≡ Null }
+    ensures { result ≡ list_any (λ place. list_any (λ i. is_text (value_at (row_beside (rows_seen rows.now) (rows_seen columns.now) i) place)) numbers.now) places.now }
+{
+    let mut found = false;
+    for place in places {
+        if has_text(rows, columns, null, *place, numbers) {
+            found = true;
+        }
+    }
+    found
+}
+
+// A copy of a value that is no text, which takes no memory.
+fn copy_of(value: &Value) -> Value
+    requires { is_text (meaning value.now) ≡ false }
+    ensures { meaning result ≡ meaning value.now }
 {
     match value {
-        Value::Text(text) => Some(text),
-        _ => None,
+        Value::Int(number) => Value::Int(*number),
+        Value::Null | Value::Text(_) => Value::Null,
     }
 }
 
-// Reads values: each one's text, if it is one.
-fn texts_of<'a>(alloc: Global, values: &[&'a Value]) -> Result<Vec<Option<&'a RcStr>>, AllocError>
-    ensures { IfOk result (λ texts. map text_seen texts.items ≡ map text_in (values_seen values.now)) }
-{
-    let mut texts = Vec::with_capacity(alloc, values.len())?;
-    for value in values {
-        texts.push(text_of(*value))?;
-    }
-    Ok(texts)
-}
-
-// A copy of a value, whose text is shared.
-fn copy_of(value: &Value, text: Option<&RcStr>) -> Result<Value, AllocError>
-    requires { text_seen text ≡ text_in (meaning value.now) }
-    ensures { IfOk result (λ copy. meaning copy ≡ meaning value.now) }
-{
-    match text {
-        Some(text) => Ok(Value::Text(text.clone()?)),
-        None => value.duplicate(),
-    }
-}
-
-// Appends copies of values that were read.
-fn push_read(
-    values: &[&Value],
-    texts: &[Option<&RcStr>],
+// Appends the values at some places of a row that has these cells, of which none is a text.
+fn push_without_texts<'a>(
+    own: &'a [Value],
+    columns: &[&'a [Value]],
+    null: &'a Value,
+    places: &[usize],
+    row: usize,
     cells: &mut Vec<Value>,
 ) -> Result<(), AllocError>
-    requires { map text_seen texts.now ≡ map text_in (values_seen values.now) }
-    ensures { OnOk result (map meaning cells.new.items ≡ map meaning cells.old.items ++ values_seen values.now) }
+    requires null { meaning null.now ≡ Null }
+    requires none { list_any (λ place. is_text (value_at (with_columns (map meaning own.now) (rows_seen columns.now) row) place)) places.now ≡ false }
+    ensures { OnOk result (map meaning cells.new.items ≡ map meaning cells.old.items ++ map (value_at (with_columns (map meaning own.now) (rows_seen columns.now) row)) places.now) }
 {
-    for (i, value) in values.iter().enumerate() {
-        cells.push(copy_of(*value, texts[i])?)?;
+    for place in places {
+        cells.push(copy_of(value_of(own, columns, null, row, *place)))?;
     }
     Ok(())
 }
 
-/// Appends copies of values, wherever these lie. They are few, so that what is read stays in a cache until it is copied.
-pub(crate) fn push_copies(
-    alloc: Global,
-    values: &[&Value],
+// Appends the values at some places of the rows of these numbers, one row after another. None of them is a text.
+fn push_all_without_texts<'a>(
+    rows: &[&'a [Value]],
+    columns: &[&'a [Value]],
+    null: &'a Value,
+    places: &[usize],
+    numbers: &[usize],
     cells: &mut Vec<Value>,
 ) -> Result<(), AllocError>
-    ensures { OnOk result (map meaning cells.new.items ≡ map meaning cells.old.items ++ values_seen values.now) }
+    requires null { meaning null.now ≡ Null }
+    requires none { list_any (λ place. list_any (λ i. is_text (value_at (row_beside (rows_seen rows.now) (rows_seen columns.now) i) place)) numbers.now) places.now ≡ false }
+    ensures { OnOk result (map meaning cells.new.items ≡ map meaning cells.old.items ++ flat_map (picked places.now (rows_seen rows.now) (rows_seen columns.now)) numbers.now) }
 {
-    let texts = texts_of(alloc, values)?;
-    push_read(values, &texts, cells)
+    for number in numbers {
+        push_without_texts(
+            cells_at(rows, *number),
+            columns,
+            null,
+            places,
+            *number,
+            cells,
+        )?;
+    }
+    Ok(())
+}
+
+// Appends the values at some places of the rows of these numbers, one row after another.
+fn push_all(
+    rows: &[&[Value]],
+    columns: &[&[Value]],
+    null: &Value,
+    places: &[usize],
+    numbers: &[usize],
+    cells: &mut Vec<Value>,
+) -> Result<(), AllocError>
+    requires { meaning null.now ≡ Null }
+    ensures { OnOk result (map meaning cells.new.items ≡ map meaning cells.old.items ++ flat_map (picked places.now (rows_seen rows.now) (rows_seen columns.now)) numbers.now) }
+{
+    for number in numbers {
+        push_picked(
+            cells_at(rows, *number),
+            columns,
+            null,
+            places,
+            *number,
+            cells,
+        )?;
+    }
+    Ok(())
+}
+
+// Appends the values at some places of the rows of these numbers, one row after another. The rows are few: all values are
+// read, and then copied, without a look at what they share where there is no text.
+fn push_batch(
+    rows: &[&[Value]],
+    columns: &[&[Value]],
+    null: &Value,
+    places: &[usize],
+    numbers: &[usize],
+    cells: &mut Vec<Value>,
+) -> Result<(), AllocError>
+    requires { meaning null.now ≡ Null }
+    ensures { OnOk result (map meaning cells.new.items ≡ map meaning cells.old.items ++ flat_map (picked places.now (rows_seen rows.now) (rows_seen columns.now)) numbers.now) }
+{
+    if have_texts(rows, columns, null, places, numbers) {
+        push_all(rows, columns, null, places, numbers, cells)
+    } else {
+        push_all_without_texts(rows, columns, null, places, numbers, cells)
+    }
+}
+
+// Where the rows end that are taken next, of so many. How many they are is a matter of speed alone.
+fn batch_end(done: usize, count: usize) -> usize
+    requires { done < count }
+    ensures some { done < result }
+    ensures within { result ≤ count }
+{
+    if count - done < BATCH {
+        count
+    } else {
+        done + BATCH
+    }
+}
+
+// Appends the values at some places of the rows of these numbers, one row after another.
+fn push_rows(
+    rows: &[&[Value]],
+    columns: &[&[Value]],
+    null: &Value,
+    places: &[usize],
+    numbers: &[usize],
+    cells: &mut Vec<Value>,
+) -> Result<(), AllocError>
+    requires { meaning null.now ≡ Null }
+    ensures { OnOk result (map meaning cells.new.items ≡ map meaning cells.old.items ++ flat_map (picked places.now (rows_seen rows.now) (rows_seen columns.now)) numbers.now) }
+{
+    let mut done = 0;
+    while done < numbers.len() {
+        let end = batch_end(done, numbers.len());
+        push_batch(rows, columns, null, places, &numbers[done..end], cells)?;
+        done = end;
+    }
+    Ok(())
+}
+
+/// The values at some places of the rows of these numbers, laid out one row after another. No other row is read.
+pub(crate) fn picked_rows(
+    alloc: Global,
+    rows: &[&[Value]],
+    columns: &[&[Value]],
+    null: &Value,
+    places: &[usize],
+    numbers: &[usize],
+) -> Result<Vec<Value>, AllocError>
+    requires { meaning null.now ≡ Null }
+    ensures rows { IfOk result (λ cells. laid (length places.now) (length numbers.now) cells.items ≡ map (picked places.now (rows_seen rows.now) (rows_seen columns.now)) numbers.now) }
+    ensures laid { IfOk result (λ cells. length cells.items ≡ length numbers.now * length places.now) }
+{
+    let mut cells = Vec::with_capacity(alloc, numbers.len().saturating_mul(places.len()))?;
+    push_rows(rows, columns, null, places, numbers, &mut cells)?;
+    Ok(cells)
 }

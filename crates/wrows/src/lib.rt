@@ -13,8 +13,7 @@
 //!
 //! Read `specs/Outcomes.antt`, `specs/Columns.antt`, `specs/Sorting.antt` and `specs/Plain.antt`, then
 //! `specs/LaidRows.antt`, `specs/Laid.antt` and `specs/Picked.antt`; `specs/Codes.antt`, `specs/CodedRows.antt`,
-//! `specs/Told.antt` and `specs/Ranks.antt` say what is sorted, and `specs/Dealt.antt` how. `specs/Copied.antt` tells
-//! texts among values.
+//! `specs/Told.antt` and `specs/Ranks.antt` say what is sorted, and `specs/Dealt.antt` how.
 #![tactic(auto)]
 
 mod cells;

@@ -1,25 +1,20 @@
 //! Values at places of rows, read where they lie.
-ghost use Rattle.std.specs.Prelude.{List, ◌≡◌, ◌<◌, ◌≤◌, ◌*◌, ◌++◌, IfOk, IfSome, Ok, OnOk, length, map};
-ghost use Rattle.std.specs.List.{flat_map, list_all};
+ghost use Rattle.std.specs.Prelude.{◌≡◌, ◌*◌, ◌++◌, IfOk, IfSome, Ok, OnOk, length, map};
+ghost use Rattle.std.specs.List.{list_all};
 ghost use Rattle.std.specs.Option.{is_some};
 ghost use Rattle.wvalues.specs.Meaning.{meaning, Null};
 ghost use Rattle.wframe.specs.Peers.{key_at};
 ghost use Rattle.wplan.specs.declared.expr.Expr.{out-Expr};
 ghost use Rattle.wplan.specs.Formula.{At, formula};
-ghost use Rattle.wrows.specs.CodedRows.{values_seen};
-ghost use Rattle.wrows.specs.Columns.{Row, beside, lists_of, value_at};
+ghost use Rattle.wrows.specs.Columns.{beside, lists_of, value_at};
 ghost use Rattle.wrows.specs.LaidRows.{laid};
 ghost use Rattle.wrows.specs.Laid.{formulas_seen, rows_seen};
-ghost use Rattle.wrows.specs.Picked.{picked, row_beside, with_columns};
+ghost use Rattle.wrows.specs.Picked.{row_beside, with_columns};
 ghost use Rattle.wrows.specs.PlainColumns.{is_plain, plain_place};
 
-use crate::copied::push_copies;
 use std::alloc::{AllocError, Global};
 use wplan::Expr;
 use wvalues::Value;
-
-/// How many rows are read before they are copied.
-const BATCH: usize = 256;
 
 /// The place that an expression names, where it is a plain column.
 #[tactic(auto, unfolding(wplan::specs::Formula::formula))]
@@ -48,8 +43,8 @@ pub(crate) fn places_of(alloc: Global, exprs: &[&Expr]) -> Result<Option<Vec<usi
     Ok(Some(places))
 }
 
-// The cells of the row of a number, none where there is no such row.
-fn cells_at<'a>(rows: &[&'a [Value]], row: usize) -> &'a [Value]
+/// The cells of the row of a number, none where there is no such row.
+pub(crate) fn cells_at<'a>(rows: &[&'a [Value]], row: usize) -> &'a [Value]
     ensures { map meaning result.now ≡ key_at (rows_seen rows.now) row }
 {
     if row < rows.len() { rows[row] } else { &[] }
@@ -79,8 +74,8 @@ fn answer_at<'a>(columns: &[&'a [Value]], null: &'a Value, row: usize, number: u
     }
 }
 
-// A value of a row that has these cells, at a place: of its own cells, or behind them of what the columns have for it.
-fn value_of<'a>(
+/// A value of a row that has these cells, at a place: of its own cells, or behind them of what the columns have for it.
+pub(crate) fn value_of<'a>(
     own: &'a [Value],
     columns: &[&'a [Value]],
     null: &'a Value,
@@ -112,8 +107,8 @@ pub(crate) fn value_beside<'a>(
     value_of(cells_at(rows, row), columns, null, row, place)
 }
 
-// Appends the values at some places of a row that has these cells.
-fn push_picked(
+/// Appends the values at some places of a row that has these cells.
+pub(crate) fn push_picked(
     own: &[Value],
     columns: &[&[Value]],
     null: &Value,
@@ -128,140 +123,6 @@ fn push_picked(
         cells.push(value_of(own, columns, null, row, *place).duplicate()?)?;
     }
     Ok(())
-}
-
-// The cells of the rows of these numbers, in their order, lent.
-fn lent_by_number<'a>(
-    alloc: Global,
-    rows: &[&'a [Value]],
-    numbers: &[usize],
-) -> Result<Vec<&'a [Value]>, AllocError>
-    ensures rows { IfOk result (λ lent. rows_seen lent.items ≡ map (key_at (rows_seen rows.now)) numbers.now) }
-    ensures len { IfOk result (λ lent. length lent.items ≡ length numbers.now) }
-{
-    let mut lent = Vec::with_capacity(alloc, numbers.len())?;
-    for number in numbers {
-        lent.push(cells_at(rows, *number))?;
-    }
-    Ok(lent)
-}
-
-// Appends the values at some places of a row that has these cells, lent.
-fn push_lent<'a>(
-    own: &'a [Value],
-    columns: &[&'a [Value]],
-    null: &'a Value,
-    places: &[usize],
-    row: usize,
-    values: &mut Vec<&'a Value>,
-) -> Result<(), AllocError>
-    requires { meaning null.now ≡ Null }
-    ensures { OnOk result (values_seen values.new.items ≡ values_seen values.old.items ++ map (value_at (with_columns (map meaning own.now) (rows_seen columns.now) row)) places.now) }
-{
-    for place in places {
-        values.push(value_of(own, columns, null, row, *place))?;
-    }
-    Ok(())
-}
-
-// The values at some places of rows that have these cells and numbers, lent, one row after another.
-fn lent_values<'a>(
-    alloc: Global,
-    lent: &[&'a [Value]],
-    columns: &[&'a [Value]],
-    null: &'a Value,
-    places: &[usize],
-    numbers: &[usize],
-) -> Result<Vec<&'a Value>, AllocError>
-    requires null { meaning null.now ≡ Null }
-    requires len { length lent.now ≡ length numbers.now }
-    ensures { (rows : List Row) → rows_seen lent.now ≡ map (key_at rows) numbers.now → IfOk result (λ values. values_seen values.items ≡ flat_map (picked places.now rows (rows_seen columns.now)) numbers.now) }
-{
-    let mut values = Vec::with_capacity(alloc, numbers.len().saturating_mul(places.len()))?;
-    for (i, number) in numbers.iter().enumerate() {
-        push_lent(lent[i], columns, null, places, *number, &mut values)?;
-    }
-    Ok(values)
-}
-
-// Appends the values at some places of the rows of these numbers, one row after another. The rows are few: first all of
-// them are lent, then their values, and then these are read, each in a loop that does nothing else.
-fn push_batch(
-    alloc: Global,
-    rows: &[&[Value]],
-    columns: &[&[Value]],
-    null: &Value,
-    places: &[usize],
-    numbers: &[usize],
-    cells: &mut Vec<Value>,
-) -> Result<(), AllocError>
-    requires { meaning null.now ≡ Null }
-    ensures { OnOk result (map meaning cells.new.items ≡ map meaning cells.old.items ++ flat_map (picked places.now (rows_seen rows.now) (rows_seen columns.now)) numbers.now) }
-{
-    let lent = lent_by_number(alloc, rows, numbers)?;
-    let values = lent_values(alloc, &lent, columns, null, places, numbers)?;
-    push_copies(alloc, &values, cells)
-}
-
-// Where the rows end that are taken next, of so many. How many they are is a matter of speed alone.
-fn batch_end(done: usize, count: usize) -> usize
-    requires { done < count }
-    ensures some { done < result }
-    ensures within { result ≤ count }
-{
-    if count - done < BATCH {
-        count
-    } else {
-        done + BATCH
-    }
-}
-
-// Appends the values at some places of the rows of these numbers, one row after another.
-fn push_rows(
-    alloc: Global,
-    rows: &[&[Value]],
-    columns: &[&[Value]],
-    null: &Value,
-    places: &[usize],
-    numbers: &[usize],
-    cells: &mut Vec<Value>,
-) -> Result<(), AllocError>
-    requires { meaning null.now ≡ Null }
-    ensures { OnOk result (map meaning cells.new.items ≡ map meaning cells.old.items ++ flat_map (picked places.now (rows_seen rows.now) (rows_seen columns.now)) numbers.now) }
-{
-    let mut done = 0;
-    while done < numbers.len() {
-        let end = batch_end(done, numbers.len());
-        push_batch(
-            alloc,
-            rows,
-            columns,
-            null,
-            places,
-            &numbers[done..end],
-            cells,
-        )?;
-        done = end;
-    }
-    Ok(())
-}
-
-/// The values at some places of the rows of these numbers, laid out one row after another. No other row is read.
-pub(crate) fn picked_rows(
-    alloc: Global,
-    rows: &[&[Value]],
-    columns: &[&[Value]],
-    null: &Value,
-    places: &[usize],
-    numbers: &[usize],
-) -> Result<Vec<Value>, AllocError>
-    requires { meaning null.now ≡ Null }
-    ensures rows { IfOk result (λ cells. laid (length places.now) (length numbers.now) cells.items ≡ map (picked places.now (rows_seen rows.now) (rows_seen columns.now)) numbers.now) }
-    ensures laid { IfOk result (λ cells. length cells.items ≡ length numbers.now * length places.now) }
-{
-    let mut cells = Vec::with_capacity(alloc, numbers.len().saturating_mul(places.len()))?;
-    push_rows(alloc, rows, columns, null, places, numbers, &mut cells)?;
-    Ok(cells)
 }
 
 /// The values at some places of each row, with what the columns have for it behind its cells.

@@ -8,10 +8,11 @@ ghost use Rattle.wrows.specs.Plain.{at_most_limit, cut, ordered_of};
 ghost use Rattle.wrows.specs.Picked.{asked_of};
 
 use crate::cells::{Cells, gathered};
+use crate::copied::picked_rows;
 use crate::fault::AnswerFault;
 use crate::first::first_by_keys;
 use crate::listing::evaluated_lists;
-use crate::places::{picked_lists, picked_rows, places_of};
+use crate::places::{picked_lists, places_of};
 use std::alloc::{AllocError, Global};
 use wplan::Expr;
 use wvalues::{SortKey, Value};

@@ -5,7 +5,7 @@ use Rattle.wvalues.specs.Meaning.{meaning}
 use Rattle.wrows.specs.Laid.{rows_seen}
 use Rattle.wrows.specs.Picked.{picked}
 use Rattle.wrows.proofs.PickFacts.{flat_more}
-use Rattle.wrows.proofs.places.push_rows.Goals as goal
+use Rattle.wrows.proofs.copied.push_rows.Goals as goal
 
 pub loop-done-preserved : goal.loop-done-preserved
 loop-done-preserved c =

@@ -3,7 +3,7 @@ use Rattle.std.specs.List.{flat_map}
 use Rattle.wvalues.specs.Meaning.{meaning}
 use Rattle.wrows.specs.Laid.{rows_seen}
 use Rattle.wrows.specs.Picked.{picked}
-use Rattle.wrows.proofs.places.push_rows.Given as goal
+use Rattle.wrows.proofs.copied.push_rows.Given as goal
 
 abbrev pub invariant-loop-done : goal.invariant-loop-done
 invariant-loop-done l = (l.done ≤ length l.numbers) × (map meaning l.cells.items ≡ map meaning l.fn.cells.items ++ flat_map (picked l.places (rows_seen l.rows) (rows_seen l.columns)) (take l.done l.numbers))

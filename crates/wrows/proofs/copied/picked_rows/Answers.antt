@@ -6,7 +6,7 @@ use Rattle.wrows.specs.Laid.{rows_seen}
 use Rattle.wrows.specs.Picked.{picked}
 use Rattle.wrows.proofs.PickFacts.{picked_wide}
 use Rattle.wrows.proofs.RowFacts.{laid_length, laid_rows}
-use Rattle.wrows.proofs.places.picked_rows.Goals as goal
+use Rattle.wrows.proofs.copied.picked_rows.Goals as goal
 
 pub returns-clause-rows : goal.returns-clause-rows
 returns-clause-rows c =
