@@ -1,6 +1,6 @@
 -- Values that are fed alike, and what is made of sums and of results.
-use Rattle.std.proofs.Common.{◌≡◌, ℕ, ℤ, ◌<◌, ◌||◌, true, false, cond, List, [], ◌∷◌, ◌++◌, length, map, filter, get_or, Option, Some, None, Result, Err, subst, refl, ap, ◌∙◌}
-use Rattle.std.specs.Prelude.{All, OnOk}
+use Rattle.std.proofs.Common.{◌≡◌, ℕ, ℤ, ◌<◌, ◌||◌, true, false, cond, List, [], ◌∷◌, length, map, filter, get_or, Option, Some, None, Err, refl, ap, ◌∙◌}
+use Rattle.std.specs.Prelude.{All}
 use Rattle.std.specs.List.{AllByRecursion, list_any}
 use Rattle.std.specs.Option.{is_none}
 use Rattle.std.proofs.lemmas.List.Elements.{recursion_from_All}
@@ -12,7 +12,7 @@ use Rattle.wrows.specs.Outcomes.{unless, Gives}
 use Rattle.wrows.proofs.RowFacts.{any-map}
 use Rattle.std.proofs.lemmas.List.Folds.{list_any_at}
 use Rattle.waggregate.specs.Aggregating.{sum_answer, sum_or_null}
-use Rattle.waggregate.specs.Framing.{values_or_null, told_or_out_of_range}
+use Rattle.waggregate.specs.Framing.{told_or_out_of_range}
 
 -- a sum as an answer
 pub sum_as_answer : (feed : ℕ → Meaning) (rows : List ℕ) (z : ℤ) → sum_answer (cond (list_any (λ row. is_value (feed row)) rows) (Some z) None) ≡ sum_or_null (filter is_value (map feed rows)) z
@@ -34,12 +34,6 @@ fed_alike near far f n (x ∷ xs) same all = ap (λ v. v ∷ map near xs) (same 
 -- what is fed by place is what is fed by number
 pub values_alike : (near far : ℕ → Meaning) (f : ℕ → ℕ) (n : ℕ) (xs : List ℕ) → ((x : ℕ) → x < n → near x ≡ far (f x)) → All (λ x. x < n) xs → filter is_value (map near xs) ≡ filter is_value (map far (map f xs))
 values_alike near far f n xs same all = ap (filter is_value) (fed_alike near far f n xs same (recursion_from_All (λ x. x < n) xs all))
-
-pub refused_alike : (r : Result (Unit {0}) AnswerFault) (xs ys : List (Option Meaning)) → xs ≡ ys → Gives {X = Unit {0}} {Y = Unit {0}} (λ u. u) r (unless (list_any is_none xs) OutOfRange (tt {0})) → Gives {X = Unit {0}} {Y = Unit {0}} (λ u. u) r (unless (list_any is_none ys) OutOfRange (tt {0}))
-refused_alike r xs ys e h = subst (λ l. Gives {X = Unit {0}} {Y = Unit {0}} (λ u. u) r (unless (list_any is_none l) OutOfRange (tt {0}))) e h
-
-pub added_alike : (r : Result (Unit {0}) AnswerFault) (xs ys : List (Option Meaning)) (before after : List Meaning) → xs ≡ ys → OnOk r (after ≡ before ++ values_or_null xs) → OnOk r (after ≡ before ++ values_or_null ys)
-added_alike r xs ys before after e h = subst (λ l. OnOk r (after ≡ before ++ values_or_null l)) e h
 
 -- a part that is out of range refuses all
 fault_is_none : (r : Option Meaning) → told_or_out_of_range r ≡ Err OutOfRange → is_none r ≡ true

@@ -1,7 +1,9 @@
 -- Aggregates over frames, of which the rows are told by number.
-use Rattle.std.specs.Prelude.{◌≡◌, ℕ, Bool, List, map, length, Option, Some, None, Result, Ok, Err, slice_index_or, slice_range, unwrap_or}
-use Rattle.std.specs.List.{flat_map}
-use Rattle.wvalues.specs.Meaning.{Meaning, Null}
+use Rattle.std.specs.Prelude.{◌≡◌, ◌++◌, ℕ, Bool, List, map, length, Option, Some, None, OnOk, Result, Ok, Err, slice_index_or, slice_range, unwrap_or}
+use Rattle.std.specs.List.{flat_map, list_any}
+use Rattle.std.specs.Option.{is_none}
+use Rattle.wvalues.specs.declared.value.Value.{Value}
+use Rattle.wvalues.specs.Meaning.{Meaning, Null, meaning}
 use Rattle.wframe.specs.Partition.{Partition, Partitioned, partition_of}
 use Rattle.wframe.specs.Places.{places}
 use Rattle.wframe.specs.Frame.{frame_rows}
@@ -9,6 +11,7 @@ use Rattle.wslide.specs.Aggregates.{picked_values, picked_tests}
 use Rattle.wplan.specs.declared.resolved.AggregateFunction.{AggregateFunction}
 use Rattle.wrows.specs.declared.fault.AnswerFault.{AnswerFault}
 use Rattle.wrows.specs.declared.fault.AnswerFault.TheVariants.{OutOfRange}
+use Rattle.wrows.specs.Outcomes.{Gives, unless}
 use Rattle.waggregate.specs.Aggregating.{Feed, aggregate_of}
 
 -- what the rows of these numbers feed, in that order
@@ -36,3 +39,8 @@ values_or_null = map (λ r. unwrap_or r Null)
 abbrev pub told_or_out_of_range : Option Meaning → Result Meaning AnswerFault
 told_or_out_of_range None = Err OutOfRange
 told_or_out_of_range (Some m) = Ok m
+
+-- what a call comes to that appends the values of results: it is out of range where one of them is so
+pub record Appends (results : List (Option Meaning)) (outcome : Result (Unit {0}) AnswerFault) (old new : List Value) : Type 0 where
+  pub gives : Gives {X = Unit {0}} {Y = Unit {0}} (λ u. u) outcome (unless (list_any is_none results) OutOfRange (tt {0}))
+  pub added : OnOk outcome (map meaning new ≡ map meaning old ++ values_or_null results)

@@ -11,7 +11,7 @@ ghost use Rattle.wrows.specs.Outcomes.{Gives, unless};
 ghost use Rattle.waggregate.specs.Aggregating as aggregating;
 ghost use Rattle.waggregate.specs.Aggregating.{sum_answer, value_or_null};
 ghost use Rattle.waggregate.specs.Feeding.{feed_in};
-ghost use Rattle.waggregate.specs.Framing.{IsPicked, told_or_out_of_range, values_or_null, window_answers};
+ghost use Rattle.waggregate.specs.Framing.{Appends, IsPicked, told_or_out_of_range, window_answers};
 
 use crate::answers::{count_value, sum_value};
 use crate::feed::Feed;
@@ -98,8 +98,7 @@ pub(crate) fn push_values<F: ToldFold>(
     parts: &[F::Part],
 ) -> Result<(), AnswerFault>
     requires { All (F.is_part fold.now) parts.now }
-    ensures gives { Gives (λ u. u) result (unless (list_any is_none (map (F.told fold.now) parts.now)) OutOfRange tt) }
-    ensures added { OnOk result (map meaning told.new.items ≡ map meaning told.old.items ++ values_or_null (map (F.told fold.now) parts.now)) }
+    ensures { Appends (map (F.told fold.now) parts.now) result told.old.items told.new.items }
 {
     for part in parts {
         told.push(fold.value(*part)?)?;
@@ -119,8 +118,7 @@ fn push_folds<F: ToldFold>(
     requires rows { length partitions.now.keys ≡ F.rows fold.now }
     requires few { F.rows fold.now < 2 ^ 31 }
     requires fresh { F.count meter.old ≡ 0 }
-    ensures gives { Gives (λ u. u) result (unless (list_any is_none (map (F.told fold.now) (folds_of_partitions (F.neutral fold.now) (F.joined fold.now) (F.part_at fold.now) partitions.now))) OutOfRange tt) }
-    ensures added { OnOk result (map meaning told.new.items ≡ map meaning told.old.items ++ values_or_null (map (F.told fold.now) (folds_of_partitions (F.neutral fold.now) (F.joined fold.now) (F.part_at fold.now) partitions.now))) }
+    ensures { Appends (map (F.told fold.now) (folds_of_partitions (F.neutral fold.now) (F.joined fold.now) (F.part_at fold.now) partitions.now)) result told.old.items told.new.items }
 {
     let mut parts = Vec::with_capacity(alloc, rows)?;
     push_window_folds(alloc, &mut parts, fold, partitions, meter)?;
@@ -139,8 +137,7 @@ fn push_picked(
     requires values { length values.now ≡ length partitions.now.keys }
     requires len { ForSome filter.now (λ tests. length tests.items ≡ length values.now) }
     requires few { length values.now < 2 ^ 31 }
-    ensures gives { (feed : aggregating.Feed) (rows : List ℕ) → IsPicked feed rows (meanings values.now) (option_map (λ tests. tests.items) filter.now) → Gives (λ u. u) result (unless (list_any is_none (window_answers function feed partitions.now rows)) OutOfRange tt) }
-    ensures added { (feed : aggregating.Feed) (rows : List ℕ) → IsPicked feed rows (meanings values.now) (option_map (λ tests. tests.items) filter.now) → OnOk result (map meaning told.new.items ≡ map meaning told.old.items ++ values_or_null (window_answers function feed partitions.now rows)) }
+    ensures { (feed : aggregating.Feed) (rows : List ℕ) → IsPicked feed rows (meanings values.now) (option_map (λ tests. tests.items) filter.now) → Appends (window_answers function feed partitions.now rows) result told.old.items told.new.items }
 {
     // Laws, which do nothing.
     frames_are_rows();
@@ -192,8 +189,7 @@ pub fn push_frame_aggregates(
     requires len { length rows.now ≡ length partitions.now.keys }
     requires below { All (λ i. i < length feed.now.values.items) rows.now }
     requires few { length rows.now < 2 ^ 31 }
-    ensures gives { Gives (λ u. u) result (unless (list_any is_none (window_answers function (feed_in feed.now) partitions.now rows.now)) OutOfRange tt) }
-    ensures added { OnOk result (map meaning told.new.items ≡ map meaning told.old.items ++ values_or_null (window_answers function (feed_in feed.now) partitions.now rows.now)) }
+    ensures { Appends (window_answers function (feed_in feed.now) partitions.now rows.now) result told.old.items told.new.items }
 {
     let values = values_of(alloc, &feed.values, rows)?;
     let filter = filter_of(alloc, &feed.filter, rows)?;

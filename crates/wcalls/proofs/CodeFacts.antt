@@ -1,5 +1,5 @@
 -- Codes of rows tell them apart, in whatever order the rows stand.
-use Rattle.std.proofs.Common.{◌≡◌, ℕ, ◌<◌, ◌==◌, List, [], length, map, get_or, None, Some, Option, Vec, Global, sym, ap, ◌∙◌, arith}
+use Rattle.std.proofs.Common.{◌≡◌, ℕ, ◌<◌, ◌==◌, List, [], length, map, get_or, None, Some, Option, Vec, Global, subst, sym, ap, ◌∙◌, arith}
 use Rattle.std.specs.Prelude.{All, IfSome}
 use Rattle.std.specs.Cmp.{unsigned_tied}
 use Rattle.std.specs.List.{AllByRecursion}
@@ -20,6 +20,7 @@ use Rattle.wrows.specs.CodedRows.{AreRowCodes, code_at}
 use Rattle.wrows.specs.Plain.{numbers_by}
 use Rattle.wrows.proofs.KeyFacts.{sorted_by_row_codes}
 use Rattle.wrows.proofs.RowFacts.{places_below, length-places}
+use Rattle.wcalls.specs.RowOrders.{IsRowOrder}
 
 module _ (keys : List SortKey) (lists : List (List Meaning)) (rows : List ℕ) where
   pub told_by_codes : (codes : List ℕ) → AreRowCodes keys lists codes → All (λ i. i < length codes) rows → TellApart (keys_cmp keys) (map (key_at lists) rows) (map (code_at codes) rows)
@@ -44,35 +45,45 @@ module _ (keys : List SortKey) (lists : List (List Meaning)) (rows : List ℕ) w
   codes_reach n (Some c) long told below = λ k d h. omega (arith, below k d h, told.len, long)
 
 -- rows by two codes of each are rows by their partition values and then by their keys
-module _ (vo ko : List SortKey) (V K : List (List Meaning)) (n : ℕ) (firsts seconds : List ℕ) (tv : AreRowCodes vo V firsts) (tk : AreRowCodes ko K seconds) (lv : length V ≡ n) (lk : length K ≡ n) where
+module _ (vo ko : List SortKey) (V K : List (List Meaning)) (firsts seconds : List ℕ) (tv : AreRowCodes vo V firsts) (tk : AreRowCodes ko K seconds) (same : length firsts ≡ length seconds) where
+  abbrev n : ℕ
+  n = length seconds
+
   all_places : AllByRecursion (λ i. i < n) (places n)
   all_places = places_below 0 n n (omega arith)
 
   by_key : sorted (on (code_at seconds) nat_cmp) (places n) ≡ numbers_by ko K n
-  by_key = sorted_by_row_codes ko K seconds (places n) tk (λ i d h. omega (arith, All-from_recursion (λ j. j < n) (places n) all_places i d h, lk))
+  by_key = sorted_by_row_codes ko K seconds (places n) tk (λ i d h. omega (arith, All-from_recursion (λ j. j < n) (places n) all_places i d h, tk.len))
 
   all_by_key : AllByRecursion (λ i. i < n) (numbers_by ko K n)
   all_by_key = all_sorted (on (key_at K) (keys_cmp ko)) (on_total (key_at K) (keys_total ko)) (λ i. i < n) (places n) all_places
 
-  module _ (rows : List ℕ) (is : rows ≡ sorted (on (code_at firsts) nat_cmp) (sorted (on (code_at seconds) nat_cmp) (places (length seconds)))) where
-    long : length seconds ≡ n
-    long = tk.len ∙ lk
-
-    pub rows_by_codes : rows ≡ sorted (on (key_at V) (keys_cmp vo)) (numbers_by ko K n)
-    rows_by_codes =
+  module _ (rows : List ℕ) (is : rows ≡ sorted (on (code_at firsts) nat_cmp) (sorted (on (code_at seconds) nat_cmp) (places n))) where
+    stand : rows ≡ sorted (on (key_at V) (keys_cmp vo)) (numbers_by ko K n)
+    stand =
         is
-        ∙ ap (sorted (on (code_at firsts) nat_cmp)) (ap (λ m. sorted (on (code_at seconds) nat_cmp) (places m)) long ∙ by_key)
-        ∙ sorted_by_row_codes vo V firsts (numbers_by ko K n) tv (λ i d h. omega (arith, All-from_recursion (λ j. j < n) (numbers_by ko K n) all_by_key i d h, lv))
+        ∙ ap (sorted (on (code_at firsts) nat_cmp)) by_key
+        ∙ sorted_by_row_codes vo V firsts (numbers_by ko K n) tv (λ i d h. omega (arith, All-from_recursion (λ j. j < n) (numbers_by ko K n) all_by_key i d h, tv.len, same))
 
-    pub rows_below : All (λ i. i < n) rows
-    rows_below =
-        All-same (λ i. i < n) rows (sorted (on (key_at V) (keys_cmp vo)) (numbers_by ko K n)) rows_by_codes
+    below : All (λ i. i < n) rows
+    below =
+        All-same (λ i. i < n) rows (sorted (on (key_at V) (keys_cmp vo)) (numbers_by ko K n)) stand
         (All-from_recursion (λ i. i < n) (sorted (on (key_at V) (keys_cmp vo)) (numbers_by ko K n))
         (all_sorted (on (key_at V) (keys_cmp vo)) (on_total (key_at V) (keys_total vo)) (λ i. i < n) (numbers_by ko K n) all_by_key))
 
-    pub rows_long : length rows ≡ n
-    rows_long =
-        ap length rows_by_codes
+    long : length rows ≡ n
+    long =
+        ap length stand
         ∙ length_sorted (on (key_at V) (keys_cmp vo)) (on_total (key_at V) (keys_total vo)) (numbers_by ko K n)
         ∙ length_sorted (on (key_at K) (keys_cmp ko)) (on_total (key_at K) (keys_total ko)) (places n)
         ∙ length-places 0 n
+
+  pub rows_by_codes : (rows fs ss : Vec ℕ Global) → rows.items ≡ sorted (on (code_at firsts) nat_cmp) (sorted (on (code_at seconds) nat_cmp) (places n)) → fs.items ≡ map (code_at firsts) rows.items → ss.items ≡ map (code_at seconds) rows.items
+      → IsRowOrder vo V ko K n (record { rows = rows; value_codes = Some fs; key_codes = Some ss })
+  rows_by_codes rows fs ss is firsts_are seconds_are = record {
+    order = stand rows.items is;
+    below = below rows.items is;
+    len = long rows.items is;
+    value_codes = subst (TellApart (keys_cmp vo) (map (key_at V) rows.items)) (sym firsts_are) (told_by_codes vo V rows.items firsts tv (λ i d h. omega (arith, below rows.items is i d h, same)));
+    key_codes = subst (TellApart (keys_cmp ko) (map (key_at K) rows.items)) (sym seconds_are) (told_by_codes ko K rows.items seconds tk (below rows.items is));
+  }

@@ -10,3 +10,4 @@ pub mod Kept
 pub mod Arranged
 pub mod Ordered
 pub mod OrderKept
+pub mod RowOrders

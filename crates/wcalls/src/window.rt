@@ -1,5 +1,5 @@
 //! Rows in the order of a window.
-ghost use Rattle.std.specs.Prelude.{◌≡◌, ◌*◌, ◌<◌, true, List, All, IfOk, IfSome, IsTrue, length, map};
+ghost use Rattle.std.specs.Prelude.{◌≡◌, ◌*◌, ◌<◌, ◌≤◌, ◌^◌, true, List, All, IfOk, IfSome, IsTrue, length, map};
 ghost use Rattle.std.specs.Ordering.{on};
 ghost use Rattle.wvalues.specs.declared.key.SortKey.{SortKey};
 ghost use Rattle.wvalues.specs.Meaning.{Meaning};
@@ -20,6 +20,7 @@ ghost use Rattle.wrows.specs.Outcomes.{Gives};
 ghost use Rattle.wrows.specs.Plain.{numbers_by};
 ghost use Rattle.wcalls.specs.Arranged.{IsArranged};
 ghost use Rattle.wcalls.specs.Ordered.{in_order, ordered_by, ordered_rows};
+ghost use Rattle.wcalls.specs.RowOrders.{IsRowOrder};
 ghost use Rattle.wcalls.specs.Windows.{Windowed};
 
 use crate::lending::lent_rows;
@@ -195,6 +196,20 @@ struct RowOrder {
     key_codes: Option<Vec<u32>>,
 }
 
+// The order of rows that have codes for their partition values and for their keys, by both.
+fn coded_order(alloc: Global, firsts: &[u32], seconds: &[u32]) -> Result<RowOrder, AllocError>
+    requires len { length firsts.now ≡ length seconds.now }
+    requires few { length seconds.now ≤ 2 ^ 32 }
+    ensures { (value_order key_order : List SortKey) (values keys : List (List Meaning)) → AreRowCodes value_order values firsts.now → AreRowCodes key_order keys seconds.now → IfOk result (IsRowOrder value_order values key_order keys (length seconds.now)) }
+{
+    let order = order_by_codes(alloc, firsts, seconds)?;
+    Ok(RowOrder {
+        rows: order.rows,
+        value_codes: Some(order.firsts),
+        key_codes: Some(order.seconds),
+    })
+}
+
 // The order of rows by partition values, then by keys, then by number: by the codes of both, where there are some. Else
 // the keys are sorted by first, and then the partition values, which leaves rows of one partition as they stand.
 fn row_order(
@@ -207,21 +222,13 @@ fn row_order(
 ) -> Result<RowOrder, AllocError>
     requires values { length values.now ≡ count * length value_order.now }
     requires keys { length keys.now ≡ count * length key_order.now }
-    ensures order { IfOk result (λ order. order.rows.items ≡ sorted (on (key_at (laid (length value_order.now) count values.now)) (keys_cmp value_order.now)) (numbers_by key_order.now (laid (length key_order.now) count keys.now) count)) }
-    ensures below { IfOk result (λ order. All (λ i. i < count) order.rows.items) }
-    ensures len { IfOk result (λ order. length order.rows.items ≡ count) }
-    ensures value_codes { IfOk result (λ order. IfSome order.value_codes (λ codes. TellApart (keys_cmp value_order.now) (map (key_at (laid (length value_order.now) count values.now)) order.rows.items) codes.items)) }
-    ensures key_codes { IfOk result (λ order. IfSome order.key_codes (λ codes. TellApart (keys_cmp key_order.now) (map (key_at (laid (length key_order.now) count keys.now)) order.rows.items) codes.items)) }
+    ensures { IfOk result (IsRowOrder value_order.now (laid (length value_order.now) count values.now) key_order.now (laid (length key_order.now) count keys.now) count) }
 {
     let key_codes = row_codes(alloc, keys, key_order, count)?;
     let value_codes = row_codes(alloc, values, value_order, count)?;
     if let (Some(firsts), Some(seconds)) = (&value_codes, &key_codes) {
-        let order = order_by_codes(alloc, firsts, seconds)?;
-        return Ok(RowOrder {
-            rows: order.rows,
-            value_codes: Some(order.firsts),
-            key_codes: Some(order.seconds),
-        });
+        let order = coded_order(alloc, firsts, seconds)?;
+        return Ok(order);
     }
     let by_key = numbers_in(alloc, keys, key_order, &key_codes, count)?;
     let rows = resorted_numbers(alloc, values, value_order, &value_codes, count, by_key)?;

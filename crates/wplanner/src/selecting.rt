@@ -14,9 +14,20 @@ use crate::windows::{call_columns, window_answers};
 use std::alloc::Global;
 use wgroup::group_rows;
 use wplan::{Grouping, Selection};
-use wrows::{AnswerFault, Cells, joined_items, kept_rows, lent_rows, ordered_items};
+use wrows::{AnswerFault, Asked, Cells, joined_items, kept_rows, lent_rows, ordered_items};
 use wset::SegmentSet;
 use wvalues::Value;
+
+// The rows that OFFSET and LIMIT ask for.
+fn asked_of(select: &Selection) -> Asked
+    ensures offset { result.offset ≡ select.now.offset }
+    ensures limit { result.limit ≡ select.now.limit }
+{
+    Asked {
+        offset: select.offset,
+        limit: select.limit,
+    }
+}
 
 // The items of some rows, in order and cut.
 fn items_of(alloc: Global, select: &Selection, rows: &[&[Value]]) -> Result<Cells, AnswerFault>
@@ -26,15 +37,8 @@ fn items_of(alloc: Global, select: &Selection, rows: &[&[Value]]) -> Result<Cell
     let items = item_values(alloc, &select.items)?;
     let keys = key_values(alloc, &select.keys)?;
     let order = key_orders(alloc, &select.keys)?;
-    ordered_items(
-        alloc,
-        &items,
-        &keys,
-        &order,
-        select.offset,
-        select.limit,
-        rows,
-    )
+    let asked = asked_of(select);
+    ordered_items(alloc, &items, &keys, &order, asked, rows)
 }
 
 // The items of rows that have the values of some columns behind their cells, in order and cut.
@@ -50,16 +54,8 @@ fn items_beside(
     let items = item_values(alloc, &select.items)?;
     let keys = key_values(alloc, &select.keys)?;
     let order = key_orders(alloc, &select.keys)?;
-    joined_items(
-        alloc,
-        &items,
-        &keys,
-        &order,
-        select.offset,
-        select.limit,
-        rows,
-        columns,
-    )
+    let asked = asked_of(select);
+    joined_items(alloc, &items, &keys, &order, asked, rows, columns)
 }
 
 // The items of rows with what the calls answer behind their cells.

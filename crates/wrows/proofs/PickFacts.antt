@@ -1,4 +1,4 @@
--- Values at places, and items that are read of the rows that are asked for alone.
+-- Values at places, which of them are texts, and items that are read of the rows that are asked for alone.
 use Rattle.std.proofs.Common.{◌≡◌, ℕ, zero, suc, ◌<◌, ◌||◌, ◌+◌, ◌-◌, ◌≤◌, Bool, true, false, true≢false, List, [], ◌∷◌, ◌++◌, length, map, take, drop, get_or, Option, None, Some, Result, Ok, Err, refl, sym, ap, subst, ◌∙◌, arith}
 use Rattle.std.specs.Prelude.{All, IfSome, slice_range}
 use Rattle.std.specs.Borrow.{Bor}

@@ -92,8 +92,9 @@ fn push_without_texts<'a>(
     Ok(())
 }
 
-// Appends the values at some places of the rows of these numbers, one row after another. None of them is a text.
-fn push_all_without_texts<'a>(
+// Appends the values at some places of the rows of these numbers, one row after another. The rows are few: all values are
+// read, and then copied, without a look at what they share where there is no text.
+fn push_batch<'a>(
     rows: &[&'a [Value]],
     columns: &[&'a [Value]],
     null: &'a Value,
@@ -101,66 +102,19 @@ fn push_all_without_texts<'a>(
     numbers: &[usize],
     cells: &mut Vec<Value>,
 ) -> Result<(), AllocError>
-    requires null { meaning null.now ≡ Null }
-    requires none { list_any (λ place. list_any (λ i. is_text (value_at (row_beside (rows_seen rows.now) (rows_seen columns.now) i) place)) numbers.now) places.now ≡ false }
-    ensures { OnOk result (map meaning cells.new.items ≡ map meaning cells.old.items ++ flat_map (picked places.now (rows_seen rows.now) (rows_seen columns.now)) numbers.now) }
-{
-    for number in numbers {
-        push_without_texts(
-            cells_at(rows, *number),
-            columns,
-            null,
-            places,
-            *number,
-            cells,
-        )?;
-    }
-    Ok(())
-}
-
-// Appends the values at some places of the rows of these numbers, one row after another.
-fn push_all(
-    rows: &[&[Value]],
-    columns: &[&[Value]],
-    null: &Value,
-    places: &[usize],
-    numbers: &[usize],
-    cells: &mut Vec<Value>,
-) -> Result<(), AllocError>
     requires { meaning null.now ≡ Null }
     ensures { OnOk result (map meaning cells.new.items ≡ map meaning cells.old.items ++ flat_map (picked places.now (rows_seen rows.now) (rows_seen columns.now)) numbers.now) }
 {
+    let some_text = have_texts(rows, columns, null, places, numbers);
     for number in numbers {
-        push_picked(
-            cells_at(rows, *number),
-            columns,
-            null,
-            places,
-            *number,
-            cells,
-        )?;
+        let own = cells_at(rows, *number);
+        if some_text {
+            push_picked(own, columns, null, places, *number, cells)?;
+        } else {
+            push_without_texts(own, columns, null, places, *number, cells)?;
+        }
     }
     Ok(())
-}
-
-// Appends the values at some places of the rows of these numbers, one row after another. The rows are few: all values are
-// read, and then copied, without a look at what they share where there is no text.
-fn push_batch(
-    rows: &[&[Value]],
-    columns: &[&[Value]],
-    null: &Value,
-    places: &[usize],
-    numbers: &[usize],
-    cells: &mut Vec<Value>,
-) -> Result<(), AllocError>
-    requires { meaning null.now ≡ Null }
-    ensures { OnOk result (map meaning cells.new.items ≡ map meaning cells.old.items ++ flat_map (picked places.now (rows_seen rows.now) (rows_seen columns.now)) numbers.now) }
-{
-    if have_texts(rows, columns, null, places, numbers) {
-        push_all(rows, columns, null, places, numbers, cells)
-    } else {
-        push_all_without_texts(rows, columns, null, places, numbers, cells)
-    }
 }
 
 // Where the rows end that are taken next, of so many. How many they are is a matter of speed alone.
@@ -177,10 +131,10 @@ fn batch_end(done: usize, count: usize) -> usize
 }
 
 // Appends the values at some places of the rows of these numbers, one row after another.
-fn push_rows(
-    rows: &[&[Value]],
-    columns: &[&[Value]],
-    null: &Value,
+fn push_rows<'a>(
+    rows: &[&'a [Value]],
+    columns: &[&'a [Value]],
+    null: &'a Value,
     places: &[usize],
     numbers: &[usize],
     cells: &mut Vec<Value>,

@@ -43,7 +43,7 @@ pub use lent::lent_rows;
 pub use listing::lists;
 pub use order::{numbers, resorted_numbers, row_codes, sorted_numbers};
 pub use places::place_of;
-pub use plain::{joined_items, ordered_items};
+pub use plain::{Asked, joined_items, ordered_items};
 pub use ranks::picked_codes;
 pub use rows::{kept_rows, not_too_many};
 pub use two_codes::{CodedOrder, order_by_codes};

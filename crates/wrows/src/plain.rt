@@ -17,6 +17,15 @@ use std::alloc::{AllocError, Global};
 use wplan::Expr;
 use wvalues::{SortKey, Value};
 
+/// Which rows of a list are asked for, by OFFSET and LIMIT.
+#[derive(Clone, Copy)]
+pub struct Asked {
+    /// How many rows are left out first.
+    pub offset: u128,
+    /// How many of the others are answered at most; all of them, where there is none.
+    pub limit: Option<u128>,
+}
+
 // How many rows are left out first.
 fn skipped(offset: u128, count: usize) -> usize
     ensures { result ≡ min offset count }
@@ -40,25 +49,20 @@ fn limited(limit: Option<u128>, count: usize) -> usize
 }
 
 // The first of the rows that are asked for, and how many they are.
-fn asked_for(offset: u128, limit: Option<u128>, count: usize) -> (usize, usize)
-    ensures first { result.0 ≡ min offset count }
-    ensures count { result.1 ≡ at_most_limit limit (count - result.0) }
+fn asked_for(asked: Asked, count: usize) -> (usize, usize)
+    ensures first { result.0 ≡ min asked.offset count }
+    ensures count { result.1 ≡ at_most_limit asked.limit (count - result.0) }
     ensures within { result.0 + result.1 ≤ count }
 {
-    let from = skipped(offset, count);
-    (from, limited(limit, count - from))
+    let from = skipped(asked.offset, count);
+    (from, limited(asked.limit, count - from))
 }
 
 // The numbers that are asked for. Where none is left out first, the list is handed on.
-fn cut_numbers(
-    alloc: Global,
-    numbers: Vec<usize>,
-    offset: u128,
-    limit: Option<u128>,
-) -> Result<Vec<usize>, AllocError>
-    ensures { IfOk result (λ taken. taken.items ≡ cut offset limit numbers.items) }
+fn cut_numbers(alloc: Global, numbers: Vec<usize>, asked: Asked) -> Result<Vec<usize>, AllocError>
+    ensures { IfOk result (λ taken. taken.items ≡ cut asked.offset asked.limit numbers.items) }
 {
-    let (from, count) = asked_for(offset, limit, numbers.len());
+    let (from, count) = asked_for(asked, numbers.len());
     if from == 0 {
         let mut taken = numbers;
         taken.truncate(count);
@@ -73,34 +77,33 @@ fn asked_numbers(
     alloc: Global,
     keys: &[&Expr],
     order: &[SortKey],
-    offset: u128,
-    limit: Option<u128>,
+    asked: Asked,
     rows: &[&[Value]],
     columns: &[&[Value]],
 ) -> Result<Vec<usize>, AnswerFault>
     requires { length keys.now ≡ length order.now }
-    ensures gives { Gives (λ numbers. numbers.items) result (asked_of (formulas_seen keys.now) order.now offset limit (beside (rows_seen rows.now) (rows_seen columns.now))) }
+    ensures gives { Gives (λ numbers. numbers.items) result (asked_of (formulas_seen keys.now) order.now asked.offset asked.limit (beside (rows_seen rows.now) (rows_seen columns.now))) }
     ensures below { IfOk result (λ numbers. All (λ i. i < length rows.now) numbers.items) }
 {
-    let (from, count) = asked_for(offset, limit, rows.len());
+    let (from, count) = asked_for(asked, rows.len());
     let first = first_by_keys(alloc, keys, order, from + count, rows, columns)?;
-    let numbers = cut_numbers(alloc, first, offset, limit)?;
+    let numbers = cut_numbers(alloc, first, asked)?;
     Ok(numbers)
 }
 
 // Whether rows are asked for as they stand: by no key, and all of them.
-fn asks_for_all(order: &[SortKey], offset: u128, limit: Option<u128>) -> bool
+fn asks_for_all(order: &[SortKey], asked: Asked) -> bool
     ensures keys { result ≡ true → length order.now ≡ 0 }
-    ensures offset { result ≡ true → offset ≡ 0 }
-    ensures limit { result ≡ true → limit ≡ None }
+    ensures offset { result ≡ true → asked.offset ≡ 0 }
+    ensures limit { result ≡ true → asked.limit ≡ None }
 {
     if !order.is_empty() {
         return false;
     }
-    if offset != 0 {
+    if asked.offset != 0 {
         return false;
     }
-    limit.is_none()
+    asked.limit.is_none()
 }
 
 // Items that are evaluated on every row, of the rows that are asked for.
@@ -109,24 +112,23 @@ fn evaluated_items(
     items: &[&Expr],
     keys: &[&Expr],
     order: &[SortKey],
-    offset: u128,
-    limit: Option<u128>,
+    asked: Asked,
     rows: &[&[Value]],
     columns: &[&[Value]],
 ) -> Result<Cells, AnswerFault>
     requires { length keys.now ≡ length order.now }
     ensures width { IfOk result (λ cells. cells.width ≡ length items.now) }
-    ensures rows { Gives rows_in result (ordered_of (formulas_seen items.now) (formulas_seen keys.now) order.now offset limit (beside (rows_seen rows.now) (rows_seen columns.now))) }
+    ensures rows { Gives rows_in result (ordered_of (formulas_seen items.now) (formulas_seen keys.now) order.now asked.offset asked.limit (beside (rows_seen rows.now) (rows_seen columns.now))) }
 {
     let told = Cells {
         cells: evaluated_lists(alloc, items, rows, columns)?,
         width: items.len(),
         count: rows.len(),
     };
-    if asks_for_all(order, offset, limit) {
+    if asks_for_all(order, asked) {
         return Ok(told);
     }
-    let numbers = asked_numbers(alloc, keys, order, offset, limit, rows, columns)?;
+    let numbers = asked_numbers(alloc, keys, order, asked, rows, columns)?;
     let cells = gathered(alloc, &told.cells, told.width, told.count, &numbers)?;
     Ok(Cells {
         cells,
@@ -141,24 +143,23 @@ fn plain_items(
     places: &[usize],
     keys: &[&Expr],
     order: &[SortKey],
-    offset: u128,
-    limit: Option<u128>,
+    asked: Asked,
     rows: &[&[Value]],
     columns: &[&[Value]],
 ) -> Result<Cells, AnswerFault>
     requires { length keys.now ≡ length order.now }
     ensures width { IfOk result (λ cells. cells.width ≡ length places.now) }
-    ensures rows { Gives rows_in result (ordered_of (map At places.now) (formulas_seen keys.now) order.now offset limit (beside (rows_seen rows.now) (rows_seen columns.now))) }
+    ensures rows { Gives rows_in result (ordered_of (map At places.now) (formulas_seen keys.now) order.now asked.offset asked.limit (beside (rows_seen rows.now) (rows_seen columns.now))) }
 {
     let null = Value::Null;
-    if asks_for_all(order, offset, limit) {
+    if asks_for_all(order, asked) {
         return Ok(Cells {
             cells: picked_lists(alloc, places, rows, columns, &null)?,
             width: places.len(),
             count: rows.len(),
         });
     }
-    let numbers = asked_numbers(alloc, keys, order, offset, limit, rows, columns)?;
+    let numbers = asked_numbers(alloc, keys, order, asked, rows, columns)?;
     let cells = picked_rows(alloc, rows, columns, &null, places, &numbers)?;
     Ok(Cells {
         cells,
@@ -168,7 +169,7 @@ fn plain_items(
 }
 
 /// The items on all rows with the values of some columns behind their cells, in the order of the keys and then by
-/// number, without the first `offset` and of the others the first `limit`. All items and keys are evaluated on every
+/// number, without the rows that are left out. All items and keys are evaluated on every
 /// row, whatever is left out; where all items are plain columns, which cannot be out of range, they are read of the
 /// rows that are asked for alone. One row with what stands behind its cells lies in memory at a time.
 pub fn joined_items(
@@ -176,19 +177,18 @@ pub fn joined_items(
     items: &[&Expr],
     keys: &[&Expr],
     order: &[SortKey],
-    offset: u128,
-    limit: Option<u128>,
+    asked: Asked,
     rows: &[&[Value]],
     columns: &[&[Value]],
 ) -> Result<Cells, AnswerFault>
     requires { length keys.now ≡ length order.now }
     ensures width { IfOk result (λ cells. cells.width ≡ length items.now) }
-    ensures rows { Gives rows_in result (ordered_of (formulas_seen items.now) (formulas_seen keys.now) order.now offset limit (beside (rows_seen rows.now) (rows_seen columns.now))) }
+    ensures rows { Gives rows_in result (ordered_of (formulas_seen items.now) (formulas_seen keys.now) order.now asked.offset asked.limit (beside (rows_seen rows.now) (rows_seen columns.now))) }
 {
     let plain = places_of(alloc, items)?;
     match plain {
-        Some(places) => plain_items(alloc, &places, keys, order, offset, limit, rows, columns),
-        None => evaluated_items(alloc, items, keys, order, offset, limit, rows, columns),
+        Some(places) => plain_items(alloc, &places, keys, order, asked, rows, columns),
+        None => evaluated_items(alloc, items, keys, order, asked, rows, columns),
     }
 }
 
@@ -198,13 +198,12 @@ pub fn ordered_items(
     items: &[&Expr],
     keys: &[&Expr],
     order: &[SortKey],
-    offset: u128,
-    limit: Option<u128>,
+    asked: Asked,
     rows: &[&[Value]],
 ) -> Result<Cells, AnswerFault>
     requires { length keys.now ≡ length order.now }
     ensures width { IfOk result (λ cells. cells.width ≡ length items.now) }
-    ensures rows { Gives rows_in result (ordered_of (formulas_seen items.now) (formulas_seen keys.now) order.now offset limit (rows_seen rows.now)) }
+    ensures rows { Gives rows_in result (ordered_of (formulas_seen items.now) (formulas_seen keys.now) order.now asked.offset asked.limit (rows_seen rows.now)) }
 {
-    joined_items(alloc, items, keys, order, offset, limit, rows, &[])
+    joined_items(alloc, items, keys, order, asked, rows, &[])
 }

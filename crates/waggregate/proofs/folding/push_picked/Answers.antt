@@ -1,16 +1,14 @@
-use Rattle.std.proofs.Common.{◌≡◌, ◌<◌, ◌^◌, length, map, sym, refl, ap, ◌∙◌, arith}
-use Rattle.wvalues.specs.Meaning.{meaning}
+use Rattle.std.proofs.Common.{◌≡◌, ◌<◌, ◌^◌, length, subst, sym, refl, ap, ◌∙◌, arith}
 use Rattle.wframe.specs.Cells.{meanings}
 use Rattle.wslide.specs.Aggregates.{by_value, by_value_descending, tests}
 use Rattle.wslide.specs.Lawful.{by_value_total, by_value_descending_total}
 use Rattle.wplan.specs.declared.resolved.AggregateFunction.TheVariants.{Min, Max}
-use Rattle.waggregate.specs.Framing.{window_answers}
-use Rattle.waggregate.proofs.FoldFacts.{refused_alike, added_alike}
+use Rattle.waggregate.specs.Framing.{Appends, window_answers}
 use Rattle.waggregate.proofs.PickedFacts.{picked_long, row_counts_alike, value_counts_alike, sums_alike, firsts_alike}
 use Rattle.waggregate.proofs.folding.push_picked.Goals as goal
 
-pub returns-in-CountRows-clause-gives : goal.returns-in-CountRows-clause-gives
-returns-in-CountRows-clause-gives c feed rows of =
+pub returns-in-CountRows : goal.returns-in-CountRows
+returns-in-CountRows c feed rows of =
     let all = c.args.partitions.now in
     let long : length rows ≡ length all.keys = picked_long c.args.values.now feed.values rows (length all.keys) of.picked c.requires.values in
     let small : length rows < 2 ^ 31 = omega (arith, long, c.requires.values, c.requires.few) in
@@ -18,21 +16,10 @@ returns-in-CountRows-clause-gives c feed rows of =
     row_counts_alike all feed rows long small c.frames_are_rows.ensures.below c.frames_are_rows.ensures.few (meanings c.args.values.now) (tests c.lent-filter.result) of.picked (c.lent-filter.ensures.value ∙ of.tested)
     c.counts_are_exact.ensures.rows c.picked_rows_feed_alike.ensures.rows
     ∙ ap (λ f. window_answers f feed all rows) (sym c.in-CountRows.is) in
-    refused_alike c.push_folds.result _ _ same c.push_folds.ensures.gives
+    subst (λ results. Appends results c.push_folds.result c.args.told.now.items c.push_folds.new.told.items) same c.push_folds.ensures
 
-pub returns-in-CountRows-clause-added : goal.returns-in-CountRows-clause-added
-returns-in-CountRows-clause-added c feed rows of =
-    let all = c.args.partitions.now in
-    let long : length rows ≡ length all.keys = picked_long c.args.values.now feed.values rows (length all.keys) of.picked c.requires.values in
-    let small : length rows < 2 ^ 31 = omega (arith, long, c.requires.values, c.requires.few) in
-    let same =
-    row_counts_alike all feed rows long small c.frames_are_rows.ensures.below c.frames_are_rows.ensures.few (meanings c.args.values.now) (tests c.lent-filter.result) of.picked (c.lent-filter.ensures.value ∙ of.tested)
-    c.counts_are_exact.ensures.rows c.picked_rows_feed_alike.ensures.rows
-    ∙ ap (λ f. window_answers f feed all rows) (sym c.in-CountRows.is) in
-    added_alike c.push_folds.result _ _ (map meaning c.args.told.now.items) (map meaning c.push_folds.new.told.items) same c.push_folds.ensures.added
-
-pub returns-in-Count-clause-gives : goal.returns-in-Count-clause-gives
-returns-in-Count-clause-gives c feed rows of =
+pub returns-in-Count : goal.returns-in-Count
+returns-in-Count c feed rows of =
     let all = c.args.partitions.now in
     let long : length rows ≡ length all.keys = picked_long c.args.values.now feed.values rows (length all.keys) of.picked c.requires.values in
     let small : length rows < 2 ^ 31 = omega (arith, long, c.requires.values, c.requires.few) in
@@ -40,21 +27,10 @@ returns-in-Count-clause-gives c feed rows of =
     value_counts_alike all feed rows long small c.frames_are_rows.ensures.below c.frames_are_rows.ensures.few (meanings c.args.values.now) (tests c.lent-filter.result) of.picked (c.lent-filter.ensures.value ∙ of.tested)
     c.counts_are_exact.ensures.values c.picked_rows_feed_alike.ensures.count
     ∙ ap (λ f. window_answers f feed all rows) (sym c.in-Count.is) in
-    refused_alike c.push_folds-in-Count.result _ _ same c.push_folds-in-Count.ensures.gives
+    subst (λ results. Appends results c.push_folds-in-Count.result c.args.told.now.items c.push_folds-in-Count.new.told.items) same c.push_folds-in-Count.ensures
 
-pub returns-in-Count-clause-added : goal.returns-in-Count-clause-added
-returns-in-Count-clause-added c feed rows of =
-    let all = c.args.partitions.now in
-    let long : length rows ≡ length all.keys = picked_long c.args.values.now feed.values rows (length all.keys) of.picked c.requires.values in
-    let small : length rows < 2 ^ 31 = omega (arith, long, c.requires.values, c.requires.few) in
-    let same =
-    value_counts_alike all feed rows long small c.frames_are_rows.ensures.below c.frames_are_rows.ensures.few (meanings c.args.values.now) (tests c.lent-filter.result) of.picked (c.lent-filter.ensures.value ∙ of.tested)
-    c.counts_are_exact.ensures.values c.picked_rows_feed_alike.ensures.count
-    ∙ ap (λ f. window_answers f feed all rows) (sym c.in-Count.is) in
-    added_alike c.push_folds-in-Count.result _ _ (map meaning c.args.told.now.items) (map meaning c.push_folds-in-Count.new.told.items) same c.push_folds-in-Count.ensures.added
-
-pub returns-in-Sum-clause-gives : goal.returns-in-Sum-clause-gives
-returns-in-Sum-clause-gives c feed rows of =
+pub returns-in-Sum : goal.returns-in-Sum
+returns-in-Sum c feed rows of =
     let all = c.args.partitions.now in
     let long : length rows ≡ length all.keys = picked_long c.args.values.now feed.values rows (length all.keys) of.picked c.requires.values in
     let small : length rows < 2 ^ 31 = omega (arith, long, c.requires.values, c.requires.few) in
@@ -62,21 +38,10 @@ returns-in-Sum-clause-gives c feed rows of =
     sums_alike all feed rows long small c.frames_are_rows.ensures.below c.frames_are_rows.ensures.few (meanings c.args.values.now) (tests c.lent-filter.result) of.picked (c.lent-filter.ensures.value ∙ of.tested)
     c.sums_are_exact.ensures c.picked_rows_feed_alike.ensures.feed c.picked_rows_feed_alike.ensures.sum (c.see_ranges.ensures.fed (tests c.lent-filter.result))
     ∙ ap (λ f. window_answers f feed all rows) (sym c.in-Sum.is) in
-    refused_alike c.push_folds-in-Sum.result _ _ same c.push_folds-in-Sum.ensures.gives
+    subst (λ results. Appends results c.push_folds-in-Sum.result c.args.told.now.items c.push_folds-in-Sum.new.told.items) same c.push_folds-in-Sum.ensures
 
-pub returns-in-Sum-clause-added : goal.returns-in-Sum-clause-added
-returns-in-Sum-clause-added c feed rows of =
-    let all = c.args.partitions.now in
-    let long : length rows ≡ length all.keys = picked_long c.args.values.now feed.values rows (length all.keys) of.picked c.requires.values in
-    let small : length rows < 2 ^ 31 = omega (arith, long, c.requires.values, c.requires.few) in
-    let same =
-    sums_alike all feed rows long small c.frames_are_rows.ensures.below c.frames_are_rows.ensures.few (meanings c.args.values.now) (tests c.lent-filter.result) of.picked (c.lent-filter.ensures.value ∙ of.tested)
-    c.sums_are_exact.ensures c.picked_rows_feed_alike.ensures.feed c.picked_rows_feed_alike.ensures.sum (c.see_ranges.ensures.fed (tests c.lent-filter.result))
-    ∙ ap (λ f. window_answers f feed all rows) (sym c.in-Sum.is) in
-    added_alike c.push_folds-in-Sum.result _ _ (map meaning c.args.told.now.items) (map meaning c.push_folds-in-Sum.new.told.items) same c.push_folds-in-Sum.ensures.added
-
-pub returns-in-Min-clause-gives : goal.returns-in-Min-clause-gives
-returns-in-Min-clause-gives c feed rows of =
+pub returns-in-Min : goal.returns-in-Min
+returns-in-Min c feed rows of =
     let all = c.args.partitions.now in
     let long : length rows ≡ length all.keys = picked_long c.args.values.now feed.values rows (length all.keys) of.picked c.requires.values in
     let small : length rows < 2 ^ 31 = omega (arith, long, c.requires.values, c.requires.few) in
@@ -84,21 +49,10 @@ returns-in-Min-clause-gives c feed rows of =
     firsts_alike all feed rows long small c.frames_are_rows.ensures.below c.frames_are_rows.ensures.few (meanings c.args.values.now) (tests c.lent-filter.result) of.picked (c.lent-filter.ensures.value ∙ of.tested)
     c.picked_rows_feed_alike.ensures.feed c.stable_sorts_agree.ensures.first by_value by_value_total c.places_are_least.ensures.least Min (λ rs. refl)
     ∙ ap (λ f. window_answers f feed all rows) (sym c.in-Min.is) in
-    refused_alike c.push_folds-in-Min.result _ _ same c.push_folds-in-Min.ensures.gives
+    subst (λ results. Appends results c.push_folds-in-Min.result c.args.told.now.items c.push_folds-in-Min.new.told.items) same c.push_folds-in-Min.ensures
 
-pub returns-in-Min-clause-added : goal.returns-in-Min-clause-added
-returns-in-Min-clause-added c feed rows of =
-    let all = c.args.partitions.now in
-    let long : length rows ≡ length all.keys = picked_long c.args.values.now feed.values rows (length all.keys) of.picked c.requires.values in
-    let small : length rows < 2 ^ 31 = omega (arith, long, c.requires.values, c.requires.few) in
-    let same =
-    firsts_alike all feed rows long small c.frames_are_rows.ensures.below c.frames_are_rows.ensures.few (meanings c.args.values.now) (tests c.lent-filter.result) of.picked (c.lent-filter.ensures.value ∙ of.tested)
-    c.picked_rows_feed_alike.ensures.feed c.stable_sorts_agree.ensures.first by_value by_value_total c.places_are_least.ensures.least Min (λ rs. refl)
-    ∙ ap (λ f. window_answers f feed all rows) (sym c.in-Min.is) in
-    added_alike c.push_folds-in-Min.result _ _ (map meaning c.args.told.now.items) (map meaning c.push_folds-in-Min.new.told.items) same c.push_folds-in-Min.ensures.added
-
-pub returns-in-Max-clause-gives : goal.returns-in-Max-clause-gives
-returns-in-Max-clause-gives c feed rows of =
+pub returns-in-Max : goal.returns-in-Max
+returns-in-Max c feed rows of =
     let all = c.args.partitions.now in
     let long : length rows ≡ length all.keys = picked_long c.args.values.now feed.values rows (length all.keys) of.picked c.requires.values in
     let small : length rows < 2 ^ 31 = omega (arith, long, c.requires.values, c.requires.few) in
@@ -106,15 +60,4 @@ returns-in-Max-clause-gives c feed rows of =
     firsts_alike all feed rows long small c.frames_are_rows.ensures.below c.frames_are_rows.ensures.few (meanings c.args.values.now) (tests c.lent-filter.result) of.picked (c.lent-filter.ensures.value ∙ of.tested)
     c.picked_rows_feed_alike.ensures.feed c.stable_sorts_agree.ensures.first by_value_descending by_value_descending_total c.places_are_least.ensures.greatest Max (λ rs. refl)
     ∙ ap (λ f. window_answers f feed all rows) (sym c.in-Max.is) in
-    refused_alike c.push_folds-in-Max.result _ _ same c.push_folds-in-Max.ensures.gives
-
-pub returns-in-Max-clause-added : goal.returns-in-Max-clause-added
-returns-in-Max-clause-added c feed rows of =
-    let all = c.args.partitions.now in
-    let long : length rows ≡ length all.keys = picked_long c.args.values.now feed.values rows (length all.keys) of.picked c.requires.values in
-    let small : length rows < 2 ^ 31 = omega (arith, long, c.requires.values, c.requires.few) in
-    let same =
-    firsts_alike all feed rows long small c.frames_are_rows.ensures.below c.frames_are_rows.ensures.few (meanings c.args.values.now) (tests c.lent-filter.result) of.picked (c.lent-filter.ensures.value ∙ of.tested)
-    c.picked_rows_feed_alike.ensures.feed c.stable_sorts_agree.ensures.first by_value_descending by_value_descending_total c.places_are_least.ensures.greatest Max (λ rs. refl)
-    ∙ ap (λ f. window_answers f feed all rows) (sym c.in-Max.is) in
-    added_alike c.push_folds-in-Max.result _ _ (map meaning c.args.told.now.items) (map meaning c.push_folds-in-Max.new.told.items) same c.push_folds-in-Max.ensures.added
+    subst (λ results. Appends results c.push_folds-in-Max.result c.args.told.now.items c.push_folds-in-Max.new.told.items) same c.push_folds-in-Max.ensures

@@ -1,4 +1,4 @@
-use Rattle.std.proofs.Common.{map, subst}
+use Rattle.std.proofs.Common.{map, rules, subst}
 use Rattle.std.specs.Prelude.{unwrap_or}
 use Rattle.std.specs.Option.{is_none}
 use Rattle.std.proofs.lemmas.Result.{err_from_is_err_and}
@@ -11,17 +11,21 @@ use Rattle.waggregate.specs.Framing.{told_or_out_of_range}
 use Rattle.waggregate.proofs.FoldFacts.{refused_part}
 use Rattle.waggregate.proofs.folding.push_values.Goals as goal
 
-pub returns-in_err-value-clause-gives : goal.returns-in_err-value-clause-gives
-returns-in_err-value-clause-gives g c =
+pub returns-in_err-value : goal.returns-in_err-value
+returns-in_err-value g c =
     let p = err_from_is_err_and c.from_residual.result c.from_residual.ensures.1 in
     let told = g.F.ToldFold.told c.args.fold.now in
-    rw (p.1, p.2) (refused_part told c.in_err-value.field-0.0 c.args.parts.now c.loop-part.part-index c.part-item.result c.loop-part-test.true
-    (subst (λ part. Gives meaning (Err c.in_err-value.field-0.0) (told_or_out_of_range (told part))) c.part-item.is c.in_err-value.ensures))
+    record {
+      gives = rw (p.1, p.2) (refused_part told c.in_err-value.field-0.0 c.args.parts.now c.loop-part.part-index c.part-item.result c.loop-part-test.true
+          (subst (λ part. Gives meaning (Err c.in_err-value.field-0.0) (told_or_out_of_range (told part))) c.part-item.is c.in_err-value.ensures));
+      added = search rules;
+    }
 
-pub returns-clause-gives : goal.returns-clause-gives
-returns-clause-gives g c =
-    none_of_all is_none (g.F.ToldFold.told c.args.fold.now) OutOfRange c.args.parts.now c.loop-part.part-index c.loop-part-test.false c.loop-part.invariant.in_range
-
-pub returns-clause-added : goal.returns-clause-added
-returns-clause-added g c =
-    added_all (λ (r : _). unwrap_or r Null) (g.F.ToldFold.told c.args.fold.now) c.args.parts.now c.loop-part.part-index (map meaning c.args.told.now.items) (map meaning c.loop-part.told.items) c.loop-part-test.false c.loop-part.invariant.so_far
+pub returns : goal.returns
+returns g c =
+    let told = g.F.ToldFold.told c.args.fold.now in
+    let parts = c.args.parts.now in
+    record {
+      gives = none_of_all is_none told OutOfRange parts c.loop-part.part-index c.loop-part-test.false c.loop-part.invariant.in_range;
+      added = added_all (λ (r : _). unwrap_or r Null) told parts c.loop-part.part-index (map meaning c.args.told.now.items) (map meaning c.loop-part.told.items) c.loop-part-test.false c.loop-part.invariant.so_far;
+    }

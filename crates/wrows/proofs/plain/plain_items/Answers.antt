@@ -15,7 +15,7 @@ use Rattle.wrows.proofs.plain.plain_items.Goals as goal
 pub returns-then-asks_for_all-clause-rows : goal.returns-then-asks_for_all-clause-rows
 returns-then-asks_for_all-clause-rows c =
     let told = laid (length c.args.places.now) (length c.args.rows.now) c.in_ok-picked_lists.field-0.items in
-    as_they_stand (map At c.args.places.now) (formulas_seen c.args.keys.now) c.args.order.now c.args.offset c.args.limit (beside (rows_seen c.args.rows.now) (rows_seen c.args.columns.now)) told
+    as_they_stand (map At c.args.places.now) (formulas_seen c.args.keys.now) c.args.order.now c.args.asked.offset c.args.asked.limit (beside (rows_seen c.args.rows.now) (rows_seen c.args.columns.now)) told
     (length-map c.args.keys.now formula_seen ∙ c.requires) (c.asks_for_all.ensures.keys c.if-asks_for_all.true) (c.asks_for_all.ensures.offset c.if-asks_for_all.true) (c.asks_for_all.ensures.limit c.if-asks_for_all.true)
     c.in_ok-picked_lists.ensures.gives
 
@@ -27,7 +27,7 @@ returns-clause-rows c =
     let row_of = picked ps (rows_seen c.args.rows.now) (rows_seen c.args.columns.now) in
     let numbers = c.in_ok-numbers.numbers.items in
     let count : c.len.result ≡ length c.deref.result.now = c.len.ensures ∙ c.in_ok-numbers.numbers.ok.0 ∙ ap length (sym c.deref.ensures.value) in
-    items_asked (map At ps) (formulas_seen c.args.keys.now) c.args.order.now c.args.offset c.args.limit all (map row_of (places n)) numbers (picked_lists ps c.args.rows.now c.args.columns.now)
+    items_asked (map At ps) (formulas_seen c.args.keys.now) c.args.order.now c.args.asked.offset c.args.asked.limit all (map row_of (places n)) numbers (picked_lists ps c.args.rows.now c.args.columns.now)
     (length-map (places n) row_of ∙ length-places 0 n ∙ sym (beside_long c.args.rows.now c.args.columns.now)) c.in_ok-numbers.ensures.gives
     ∙ ap Ok (sym (picked_at row_of n numbers (recursion_from_All (λ i. i < n) numbers c.in_ok-numbers.ensures.below)))
     ∙ ap (λ l. Ok (map row_of l)) (sym c.deref.ensures.value)
