@@ -12,7 +12,7 @@ use Rattle.wrows.specs.Outcomes.{unless, Gives}
 use Rattle.wrows.proofs.RowFacts.{any-map}
 use Rattle.std.proofs.lemmas.List.Folds.{list_any_at}
 use Rattle.waggregate.specs.Aggregating.{sum_answer, sum_or_null}
-use Rattle.waggregate.specs.Framing.{told_or_out_of_range}
+use Rattle.waggregate.specs.FrameAnswers.{told_or_out_of_range}
 
 -- a sum as an answer
 pub sum_as_answer : (feed : ℕ → Meaning) (rows : List ℕ) (z : ℤ) → sum_answer (cond (list_any (λ row. is_value (feed row)) rows) (Some z) None) ≡ sum_or_null (filter is_value (map feed rows)) z

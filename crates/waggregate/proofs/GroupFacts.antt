@@ -24,7 +24,7 @@ use Rattle.wrows.specs.Columns.{in_range}
 use Rattle.wrows.specs.Outcomes.{Gives, unless}
 use Rattle.wrows.proofs.RowFacts.{length-places, map-map, ok_is_false, places_more, refused, same_at}
 use Rattle.waggregate.specs.Aggregating.{Feed, aggregate_of, fed_values, first_or_null, sum_answer, sum_or_null, value_or_null}
-use Rattle.waggregate.specs.Framing.{values_or_null}
+use Rattle.waggregate.specs.FrameAnswers.{values_or_null}
 use Rattle.waggregate.specs.Grouped.{rows_of_group}
 use Rattle.waggregate.proofs.FoldFacts.{sum_as_answer}
 use Rattle.waggregate.proofs.FrameFacts.{LeastLaw}

@@ -20,7 +20,7 @@ use Rattle.wslide.specs.Sums.{sum_part, sums_joined}
 use Rattle.wplan.specs.declared.resolved.AggregateFunction.{AggregateFunction}
 use Rattle.wplan.specs.declared.resolved.AggregateFunction.TheVariants.{CountRows, Count, Sum}
 use Rattle.waggregate.specs.Aggregating.{Feed, aggregate_of, fed_values, first_or_null, sum_answer, value_or_null}
-use Rattle.waggregate.specs.Framing.{window_answers}
+use Rattle.waggregate.specs.FrameAnswers.{window_answers}
 use Rattle.waggregate.proofs.LeastFacts.{FirstLaw}
 use Rattle.waggregate.proofs.FrameFacts.{FeedLaw, RowsLaw, CountLaw, PickedSumLaw, LeastLaw, counted_rows, counted_values, summed, first_valued}
 use Rattle.waggregate.proofs.WindowFacts.{BelowLaw, FewLaw, answers_alike}

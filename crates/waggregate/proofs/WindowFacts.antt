@@ -12,7 +12,7 @@ use Rattle.wframe.specs.Frame.{frame_rows}
 use Rattle.wslide.specs.Frames.{frame_places, in_each_frame, of_each_frame}
 use Rattle.wplan.specs.declared.resolved.AggregateFunction.{AggregateFunction}
 use Rattle.waggregate.specs.Aggregating.{Feed, aggregate_of}
-use Rattle.waggregate.specs.Framing.{frame_numbers, frame_answers, window_answers}
+use Rattle.waggregate.specs.FrameAnswers.{frame_numbers, frame_answers, window_answers}
 use Rattle.waggregate.proofs.FoldFacts.{mapped_alike}
 use Rattle.waggregate.proofs.FrameFacts.{numbers_at}
 

@@ -1,4 +1,4 @@
 pub mod Aggregating
 pub mod Feeding
-pub mod Framing
+pub mod FrameAnswers
 pub mod Grouped

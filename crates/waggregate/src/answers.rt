@@ -3,7 +3,7 @@ ghost use Rattle.std.specs.Prelude.{◌≡◌, pos};
 ghost use Rattle.wvalues.specs.Meaning.{Int, meaning};
 ghost use Rattle.wrows.specs.Outcomes.{Gives};
 ghost use Rattle.waggregate.specs.Aggregating.{sum_answer};
-ghost use Rattle.waggregate.specs.Framing.{told_or_out_of_range};
+ghost use Rattle.waggregate.specs.FrameAnswers.{told_or_out_of_range};
 
 use wrows::AnswerFault;
 use wslide::PartialSum;

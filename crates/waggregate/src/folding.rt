@@ -1,17 +1,15 @@
 //! Aggregates over frames.
-ghost use Rattle.std.specs.Prelude.{◌≡◌, ◌<◌, ◌^◌, ◌++◌, ℕ, List, All, OnOk, Option, Some, length, map, option_map, pos};
-ghost use Rattle.std.specs.List.{list_any};
-ghost use Rattle.std.specs.Option.{ForSome, is_none};
+ghost use Rattle.std.specs.Prelude.{◌≡◌, ◌<◌, ◌^◌, ℕ, List, All, Option, Some, length, map, option_map, pos};
+ghost use Rattle.std.specs.Option.{ForSome};
 ghost use Rattle.wvalues.specs.Meaning.{Int, Meaning, meaning};
 ghost use Rattle.wframe.specs.Cells.{meanings};
 ghost use Rattle.wslide.specs.Frames.{folds_of_partitions};
 ghost use Rattle.wslide.specs.Leasts.{IsPlace};
-ghost use Rattle.wrows.specs.declared.fault.AnswerFault.TheVariants.{OutOfRange};
-ghost use Rattle.wrows.specs.Outcomes.{Gives, unless};
+ghost use Rattle.wrows.specs.Outcomes.{Gives};
 ghost use Rattle.waggregate.specs.Aggregating as aggregating;
 ghost use Rattle.waggregate.specs.Aggregating.{sum_answer, value_or_null};
 ghost use Rattle.waggregate.specs.Feeding.{feed_in};
-ghost use Rattle.waggregate.specs.Framing.{Appends, IsPicked, told_or_out_of_range, window_answers};
+ghost use Rattle.waggregate.specs.FrameAnswers.{Appends, IsPicked, told_or_out_of_range, window_answers};
 
 use crate::answers::{count_value, sum_value};
 use crate::feed::Feed;

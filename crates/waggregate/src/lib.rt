@@ -7,7 +7,7 @@
 //! - Asks: fewer than 2^31 rows.
 //! - Leaves expressions to `wplan`, frames to `wframe` and their folds to `wslide`.
 //!
-//! Read `specs/Aggregating.antt`, then `specs/Feeding.antt`, `specs/Grouped.antt` and `specs/Framing.antt`.
+//! Read `specs/Aggregating.antt`, then `specs/Feeding.antt`, `specs/Grouped.antt` and `specs/FrameAnswers.antt`.
 #![tactic(auto)]
 
 mod answers;

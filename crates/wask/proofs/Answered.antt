@@ -6,7 +6,7 @@ use Rattle.wquery.specs.QueryTree.{QueryTree}
 use Rattle.wplanner.specs.declared.fault.AskFault.{AskFault}
 use Rattle.wplanner.specs.declared.fault.AskFault.TheVariants as faults
 use Rattle.wask.specs.Texts.{IsRefused, IsUnread, Reads}
-use Rattle.wask.specs.Asking.{IsAnswer, query_answer}
+use Rattle.wask.specs.Answer.{IsAnswer, query_answer}
 
 -- a fault that is want of memory or an answer
 abbrev IsTold : Declaration → View → List ℕ → AskFault → Type 0

@@ -1,9 +1,7 @@
 -- A text has one answer.
-use Rattle.std.proofs.Common.{◌≡◌, ◌≢◌, ◌⊎◌, inl, inr, ℕ, ◌<◌, ◌≤◌, List, length, Result, Ok, Err, refl, sym, ap, ◌∙◌, subst, arith}
+use Rattle.std.proofs.Common.{◌≡◌, ◌⊎◌, inl, inr, ℕ, ◌<◌, ◌≤◌, List, length, Result, Ok, Err, refl, sym, ap, ◌∙◌, subst, arith}
 use Rattle.wsegment.specs.Declaration.{Declaration}
 use Rattle.wset.specs.Views.{View}
-use Rattle.wlexer.specs.Token.{PlacedToken}
-use Rattle.wlexer.specs.Lexing.{Lexes}
 use Rattle.wlexer.proofs.OneLexing.{one_list, tokens_or_fault, one_place}
 use Rattle.wquery.specs.QueryTree.{QueryTree}
 use Rattle.wparser.specs.Queries.{Spells}
@@ -11,7 +9,7 @@ use Rattle.wparser.proofs.Singles.{one_query}
 use Rattle.wplanner.specs.declared.fault.AskFault.{AskFault}
 use Rattle.wplanner.specs.declared.fault.AskFault.TheVariants as faults
 use Rattle.wask.specs.Texts.{IsUnread, Reads, said}
-use Rattle.wask.specs.Asking.{IsAnswer, query_answer}
+use Rattle.wask.specs.Answer.{IsAnswer, query_answer}
 
 long_or_short : (text : List ℕ) → 65536 < length text → ¬ (length text ≤ 65536)
 long_or_short text long short = omega (arith, long, short)

@@ -1,5 +1,5 @@
 -- What a node establishes as it reads a text.
-use Rattle.std.proofs.Common.{◌≡◌, ◌≢◌, ◌↔◌, ◌⊎◌, inl, inr, map, [], ◌∷◌, ℕ, ◌<◌, ◌≤◌, List, length, Result, Ok, Err, refl, sym, ap, ◌∙◌, subst, arith}
+use Rattle.std.proofs.Common.{◌≡◌, ◌≢◌, ◌↔◌, inl, inr, map, [], ◌∷◌, ℕ, ◌<◌, ◌≤◌, List, length, Result, Ok, Err, refl, sym, ap, subst, arith}
 use Rattle.wlexer.specs.Token.{placed, meaning_of}
 use Rattle.wlexer.specs.declared.token.Token.{Token}
 use Rattle.wlexer.specs.declared.fault.LexFault.{LexFault}

@@ -7,7 +7,7 @@ use Rattle.wrules.specs.Rules.{first_broken_rule}
 use Rattle.wresolve.specs.Selecting.{resolved_query}
 use Rattle.wplanner.specs.Sound.{is_sound_query}
 use Rattle.wplanner.specs.declared.fault.AskFault.{AskFault}
-use Rattle.wask.specs.Asking.{IsAnswer}
+use Rattle.wask.specs.Answer.{IsAnswer}
 
 -- under one declaration and on one view
 abbrev pub OneAnswer : Type 0

@@ -1,3 +1,3 @@
 pub mod Texts
-pub mod Asking
+pub mod Answer
 pub mod Laws

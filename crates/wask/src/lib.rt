@@ -6,12 +6,12 @@
 //! - Asks: nothing. Want of memory alone may come in the place of an answer.
 //! - Leaves each step to the crate that it belongs to: `wlexer`, `wparser`, `wresolve` and `wplanner`.
 //!
-//! Read `specs/Texts.antt`, then `specs/Asking.antt` and `specs/Laws.antt`.
+//! Read `specs/Texts.antt`, then `specs/Answer.antt` and `specs/Laws.antt`.
 #![tactic(auto)]
 
-mod asking;
+mod answer;
 mod laws;
 
-pub use asking::ask;
+pub use answer::ask;
 pub use laws::{accepted_is_sound, one_answer};
 pub use wplanner::AskFault;

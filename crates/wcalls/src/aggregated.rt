@@ -6,7 +6,7 @@ ghost use Rattle.wrows.specs.Outcomes.{Gives};
 ghost use Rattle.wrows.specs.Laid.{rows_seen};
 ghost use Rattle.waggregate.specs.Aggregating.{aggregate_of};
 ghost use Rattle.waggregate.specs.Feeding.{feed_in};
-ghost use Rattle.waggregate.specs.Framing.{frame_numbers};
+ghost use Rattle.waggregate.specs.FrameAnswers.{frame_numbers};
 ghost use Rattle.wcalls.specs.Windows.{Windowed};
 ghost use Rattle.wcalls.specs.Functions.{function_column};
 ghost use Rattle.wcalls.specs.Arranged.{answered, IsArranged};

@@ -1,6 +1,5 @@
 //! Rows in the order of a window.
 ghost use Rattle.std.specs.Prelude.{◌≡◌, ◌*◌, ◌<◌, ◌≤◌, ◌^◌, true, List, All, IfOk, IfSome, IsTrue, length, map};
-ghost use Rattle.std.specs.Ordering.{on};
 ghost use Rattle.wvalues.specs.declared.key.SortKey.{SortKey};
 ghost use Rattle.wvalues.specs.Meaning.{Meaning};
 ghost use Rattle.wvalues.specs.Order.{keys_cmp};
@@ -9,7 +8,6 @@ ghost use Rattle.wframe.specs.Codes.{TellApart};
 ghost use Rattle.wframe.specs.KeyRows.{key_lists, sort_keys};
 ghost use Rattle.wframe.specs.Offsets.{has_range_offset};
 ghost use Rattle.wframe.specs.Peers.{key_at};
-ghost use Rattle.wframe.specs.Sorting.{sorted};
 ghost use Rattle.wplan.specs.Plans.{window_plan};
 ghost use Rattle.wplan.specs.Sameness.{is_same_order};
 ghost use Rattle.wrows.specs.CodedRows.{AreRowCodes};

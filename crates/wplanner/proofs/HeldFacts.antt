@@ -1,9 +1,8 @@
 -- The rows of segments on which a condition is true.
-use Rattle.std.proofs.Common.{◌≡◌, ℕ, ◌+◌, ◌<◌, ◌≤◌, ◌||◌, Bool, true, false, cond, List, [], ◌∷◌, ◌++◌, length, filter, take, take_all, get_or, append-nil, append_assoc, Result, Ok, Err, refl, sym, ap, ◌∙◌}
+use Rattle.std.proofs.Common.{◌≡◌, ℕ, ◌+◌, ◌<◌, ◌||◌, Bool, true, false, cond, List, [], ◌∷◌, ◌++◌, length, filter, take, get_or, append-nil, append_assoc, refl, sym, ap, ◌∙◌}
 use Rattle.std.specs.List.{flat_map, list_any}
 use Rattle.std.proofs.lemmas.List.Elements.{filter-append, filter_more}
 use Rattle.std.proofs.lemmas.List.Folds.{list_any-append, list_any_more}
-use Rattle.wvalues.specs.Meaning.{Meaning}
 use Rattle.wvalues.specs.Names.{NameParts}
 use Rattle.wsegment.specs.Rows.{Content}
 use Rattle.wrows.specs.Columns.{Row}

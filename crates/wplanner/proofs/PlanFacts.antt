@@ -19,7 +19,7 @@ use Rattle.wcalls.specs.Sound.{is_sound_window}
 use Rattle.wplanner.specs.Sound.{is_sound_call, is_sound_query, is_sound_select}
 use Rattle.wcalls.specs.Windows.{windowed}
 use Rattle.wplanner.specs.declared.fault.AskFault.{AskFault}
-use Rattle.wplanner.specs.Asking.{unanswered}
+use Rattle.wplanner.specs.Faults.{unanswered}
 use Rattle.wplanner.specs.Parts.{TableParts}
 use Rattle.wplanner.specs.Tables.{Tells}
 use Rattle.wplanner.proofs.SourceFacts.{all_places}

@@ -5,5 +5,5 @@ pub mod Parts
 pub mod Kept
 pub mod KeptOrders
 pub mod Printing
-pub mod Asking
+pub mod Faults
 pub mod Tables

@@ -1,6 +1,6 @@
 ghost use Rattle.std.specs.Prelude.{◌≡◌};
 ghost use Rattle.wplanner.specs.declared.fault.AskFault.TheVariants.{NoMemory};
-ghost use Rattle.wplanner.specs.Asking.{unanswered};
+ghost use Rattle.wplanner.specs.Faults.{unanswered};
 
 use std::alloc::AllocError;
 use thiserror::Error;

@@ -1,5 +1,5 @@
 -- Queries that are resolved, by computation.
-use Rattle.std.proofs.Common.{◌≡◌, ℕ, zero, suc, true, false, List, [], ◌∷◌, Option, Some, None, refl, codes, pos}
+use Rattle.std.proofs.Common.{◌≡◌, ℕ, true, false, List, [], ◌∷◌, Some, None, refl, codes, pos}
 use Rattle.wsegment.specs.Declaration.{Declaration}
 use Rattle.wsegment.specs.declared.kind.Kind.TheVariants as kinds
 use Rattle.wquery.specs.declared.frame.Frame.{Frame}
@@ -8,7 +8,7 @@ use Rattle.wquery.specs.declared.frame.FrameBound.TheVariants as bounds
 use Rattle.wquery.specs.declared.frame.FrameExclusion.TheVariants as exclusions
 use Rattle.wquery.specs.declared.expression.NullOrder.TheVariants as nulls
 use Rattle.wquery.specs.declared.expression.Comparison.TheVariants.{Greater}
-use Rattle.wquery.specs.Tree.{Tree, Numeral, Field, Invoked, Compared, Everything, These, trees, Unfiltered, FilteredBy, Reach, ItsGroup, ThatWindow, OwnWindow, NoKeys, MoreKeys, NoTrees}
+use Rattle.wquery.specs.Tree.{Tree, Numeral, Field, Invoked, Compared, These, trees, Unfiltered, Reach, ItsGroup, ThatWindow, OwnWindow, NoKeys, MoreKeys, NoTrees}
 use Rattle.wquery.specs.QueryTree.{Clauses, ItemTree, Computed, AllColumns, QueryTree, Selected, FromTable, FromQuery, EntryTree}
 use Rattle.wvalues.specs.Meaning.{Null, Int}
 use Rattle.wplan.specs.declared.resolved.AggregateFunction.TheVariants as aggregates

@@ -3,22 +3,22 @@ use Rattle.std.proofs.Common.{◌≡◌, Bool, true, false, not, ◌&&◌, ◌||
 use Rattle.std.specs.Prelude.{if◌then◌else◌}
 use Rattle.std.specs.List.{list_any}
 use Rattle.wquery.specs.Tree.{Tree, NullWord, Numeral, Quoted, Field, Invoked, Negated, Signed, Joined, Compared, NullTest, Within, Among, Trees, NoTrees, MoreTrees, Links, NoLinks, Further, Given, Everything, These, Filter, Unfiltered, FilteredBy, Reach, ItsGroup, ThatWindow, OwnWindow, Keys, NoKeys, MoreKeys, KeyTree, own_window}
-use Rattle.wquery.specs.QueryTree.{Clauses, ItemTree, AllColumns, Computed, EntryTree}
+use Rattle.wquery.specs.QueryTree.{ItemTree, AllColumns, Computed, EntryTree}
 use Rattle.wsame.specs.Sameness.{is_same}
-use Rattle.wscope.specs.Functions.{function_of, is_aggregate}
+use Rattle.wscope.specs.Functions.{function_of}
 use Rattle.wscope.specs.declared.function.Function.{Function}
 use Rattle.wscope.specs.declared.look.Look.TheVariants.{Found, Below}
 use Rattle.wscope.specs.Finding.{finds}
-use Rattle.wscope.specs.Scope.{is_output, some_entry, some_item, some_option, some_shown, some_sort}
+use Rattle.wscope.specs.Scope.{is_output, some_entry, some_item, some_sort}
 use Rattle.wscope.specs.Seeking.{found_or, some_below, some_node, some_tree, some_link, some_given, some_filter, some_reach, some_key}
 use Rattle.wscope.specs.Types.{Titled}
 use Rattle.wnames.specs.Calls.{is_aggregate_of}
 use Rattle.wnames.specs.Places
 use Rattle.wnames.specs.Places.{is_group_call}
 use Rattle.wdistinct.specs.declared.calls.CallKind.TheVariants.{Grouped}
-use Rattle.wdistinct.specs.Calls.{group_calls, is_aggregate_function, is_call_of, node_or, nodes_below, nodes_given, nodes_in, nodes_in_entries, nodes_in_filter, nodes_in_items, nodes_in_keys, nodes_in_links, nodes_in_option, nodes_in_order, nodes_in_reach, nodes_in_trees, with_new}
+use Rattle.wdistinct.specs.Calls.{is_aggregate_function, is_call_of, node_or, nodes_below, nodes_given, nodes_in, nodes_in_entries, nodes_in_filter, nodes_in_items, nodes_in_keys, nodes_in_links, nodes_in_option, nodes_in_order, nodes_in_reach, nodes_in_trees, with_new}
 use Rattle.wresolve.specs.Laws.{GroupedAlike}
-use Rattle.wresolve.specs.Selecting.{has_some, is_grouped}
+use Rattle.wresolve.specs.Selecting.{has_some}
 
 -- of two lists, and of one that is made longer
 

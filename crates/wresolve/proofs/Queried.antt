@@ -1,5 +1,5 @@
 -- SELECTs and queries, put together.
-use Rattle.std.proofs.Common.{◌≡◌, Bool, ℕ, List, [], ◌∷◌, ◌++◌, Option, Some, None, map, refl, ap, sym, ◌∙◌, append_assoc, if◌then◌else◌}
+use Rattle.std.proofs.Common.{◌≡◌, ℕ, List, [], ◌∷◌, ◌++◌, Option, Some, None, map, ap, sym, ◌∙◌, append_assoc, if◌then◌else◌}
 use Rattle.wsegment.specs.Declaration.{Declaration}
 use Rattle.wquery.specs.declared.query.Query.{Query}
 use Rattle.wquery.specs.QueryTree.{Clauses, QueryTree, view_query, view_source, view_item}

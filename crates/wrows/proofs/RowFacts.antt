@@ -1,5 +1,5 @@
 -- Steps of loops over rows, and cells by their rows.
-use Rattle.std.proofs.Common.{◌≡◌, ℕ, zero, suc, ◌+◌, ◌*◌, ◌<◌, ◌≤◌, ◌||◌, Bool, true, false, cond, List, [], ◌∷◌, ◌++◌, length, map, filter, take, drop, Ordering, Less, Equal, Greater, Result, Ok, Err, Option, Some, None, nat_lt, take_all, take_at, drop_at, length-append, length-drop, min, ◌-◌, ◌==◌, get_or, append_assoc, refl, sym, ap, ◌∙◌, arith}
+use Rattle.std.proofs.Common.{◌≡◌, ℕ, zero, suc, ◌+◌, ◌*◌, ◌<◌, ◌≤◌, ◌||◌, Bool, true, false, cond, List, [], ◌∷◌, ◌++◌, length, map, filter, take, drop, Less, Equal, Greater, Result, Ok, Err, Option, Some, None, take_all, take_at, drop_at, length-append, length-drop, min, ◌-◌, ◌==◌, get_or, refl, sym, ap, ◌∙◌, arith}
 use Rattle.std.proofs.Math.Nat.{mul-le-mul_right}
 use Rattle.std.specs.List.{list_any, flat_map, AllByRecursion}
 use Rattle.std.proofs.lemmas.Bool.Decides.{nat_tests}

@@ -168,10 +168,10 @@ fn plain_items(
     })
 }
 
-/// The items on all rows with the values of some columns behind their cells, in the order of the keys and then by
-/// number, without the rows that are left out. All items and keys are evaluated on every
-/// row, whatever is left out; where all items are plain columns, which cannot be out of range, they are read of the
-/// rows that are asked for alone. One row with what stands behind its cells lies in memory at a time.
+/// The items of the rows that are asked for, in the order of the keys and then by number; behind each row's cells stand
+/// the values of some columns. All items and keys are evaluated on every row, asked for or not; where all items are plain
+/// columns, which cannot be out of range, they are read of the rows that are asked for alone. One row with what stands
+/// behind its cells lies in memory at a time.
 pub fn joined_items(
     alloc: Global,
     items: &[&Expr],

@@ -11,8 +11,7 @@ use Rattle.wquery.specs.declared.expression.Link.{Link}
 use Rattle.wquery.specs.declared.expression.Expression.{Expression}
 use Rattle.wquery.specs.declared.expression.Expression.TheVariants as queries
 use Rattle.wquery.specs.declared.expression.Arguments.TheOpen as layer
-use Rattle.wquery.specs.declared.expression.Arguments.TheFolds.{fold-Expression, fold-roll-Expression, fold_out-Link}
-use Rattle.wquery.specs.Tree.{Tree, Given, Reach, KeyTree, Branch, WindowTree, Links, NoLinks, Further as Longer, Joined, Among as Contained, trees, views, linked, view, view_link, view_call, arguments_step, expression_step, over_step, call_step, key_step, link_step, window_step}
+use Rattle.wquery.specs.Tree.{Tree, Branch, Links, NoLinks, Further as Longer, trees, views, linked, view, view_link, view_call}
 use Rattle.wplan.specs.declared.expr.Expr.{Expr}
 use Rattle.wplan.specs.declared.expr.Further.{Further}
 use Rattle.wplan.specs.Formula.{Formula, Operand, chained, formula, formulas, operand_of, At, Among, MoreFormulas}

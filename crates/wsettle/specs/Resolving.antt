@@ -1,5 +1,5 @@
 -- An expression over the columns of a source, as one over a row. (SQL, `<value expression>` and `<column reference>`.)
-use Rattle.std.specs.Prelude.{ℕ, pos, zero, suc, List, ◌+◌, ◌==◌, map, Option, Some, None, length, if◌then◌else◌, nat_lt, ◌^◌, [], ◌∷◌, ◌++◌}
+use Rattle.std.specs.Prelude.{ℕ, pos, zero, suc, List, ◌+◌, ◌==◌, Option, Some, None, length, if◌then◌else◌, nat_lt, ◌^◌, [], ◌∷◌, ◌++◌}
 use Rattle.std.specs.Borrow.{Bor}
 use Rattle.wquery.specs.Tree.{Tree, NullWord, Numeral, Quoted, Field, Invoked, Negated, Signed, Joined, Compared, NullTest, Within, Among, Branch, Links, NoLinks, Further, Trees, NoTrees, MoreTrees}
 use Rattle.wvalues.specs.Meaning.{Meaning, Null, Int, Text}

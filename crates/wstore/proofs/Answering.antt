@@ -20,7 +20,7 @@ use Rattle.wstore.specs.Commands.{Command, Take, Retire as Retiring, Listing, As
 use Rattle.wstore.specs.Replies.{Reply, text_of, Took, Was, RefusedSegment, Names, Answered, RefusedQuery, Done, RefusedFile, NoMemory}
 use Rattle.wreplies.specs.Spelling.{file_text, taken_text, retired_text, segment_text, names_text, answer_text, query_text}
 use Rattle.wstore.specs.History.{Step, Answers, NodeAnswers, file_if, declaration, declared_by, segment_reply, delivers, gets, puts, heard, drawn, held, is_put, known, slot_file}
-use Rattle.wask.specs.Asking.{IsAnswer}
+use Rattle.wask.specs.Answer.{IsAnswer}
 use Rattle.wexchange.specs.Files.{file_of}
 use Rattle.wexchange.specs.Judging.{HasTable, HasBadSegment, IsFault, IsFileOf}
 use Rattle.wexchange.proofs.Faults.{segment_has_table}

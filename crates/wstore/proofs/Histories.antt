@@ -12,7 +12,7 @@ use Rattle.wexchange.specs.Judging.{Judges}
 use Rattle.wexchange.specs.declared.fault.FileFault.{FileFault}
 use Rattle.wstore.specs.Commands.{Command, Listing, Ask, Put, Get}
 use Rattle.wstore.specs.Replies.{Reply, Names, Done, NoMemory}
-use Rattle.wask.specs.Asking.{IsAnswer}
+use Rattle.wask.specs.Answer.{IsAnswer}
 use Rattle.wask.proofs.OneAnswer.{one_answer}
 use Rattle.wstore.specs.History.{Step, Answers, AnswersUnder, declaration, delivers, gets, puts, drawn, replaced, known, held, is_put, is_put_by, file_if, slot_file, file_reply, FileAnswers, query_reply}
 use Rattle.wstore.specs.Laws.{Drawn, Replaced, Knows, Holds, ListsAreExact, SlotsJoin, SameViews, SameFiles, SameAnswers, SameLists}

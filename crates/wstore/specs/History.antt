@@ -22,7 +22,7 @@ use Rattle.wexchange.specs.declared.fault.FileFault.{FileFault}
 use Rattle.wexchange.specs.declared.fault.FileFault.TheVariants as files
 use Rattle.wstore.specs.Commands.{Command, Declare, Take, Retire, Listing, Ask, Feed, Put, Get, longest_segment, longest_text}
 use Rattle.wstore.specs.Replies.{Reply, Line, TookLine, WasLine, RefusedLine, SpentLine, line_item, line_items, Fed, Declared, RefusedTable, Took, Was, RefusedName, RefusedSegment, Names, Answered, RefusedQuery, Done, RefusedFile, NoMemory}
-use Rattle.wask.specs.Asking.{IsAnswer}
+use Rattle.wask.specs.Answer.{IsAnswer}
 use Rattle.wplanner.specs.declared.fault.AskFault.{AskFault}
 
 pub record Step : Type 0 where

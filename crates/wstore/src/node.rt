@@ -10,7 +10,7 @@ ghost use Rattle.wset.specs.Listing.{listed};
 ghost use Rattle.wexchange.specs.Files.{file_of};
 ghost use Rattle.wexchange.specs.Judging.{IsFault};
 ghost use Rattle.wstore.specs.Nodes.{IsTold, LearnsFile, NextReply, fresh_node};
-ghost use Rattle.wask.specs.Asking.{IsAnswer};
+ghost use Rattle.wask.specs.Answer.{IsAnswer};
 
 use std::alloc::{AllocError, Global};
 use std::marker::Model;

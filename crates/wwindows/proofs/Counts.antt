@@ -1,5 +1,5 @@
--- Counts of windows, to 33.
-use Rattle.std.proofs.Common.{◌≡◌, ℕ, suc, ◌+◌, ◌<◌, ◌≤◌, Bool, List, [], ◌∷◌, length, get_or, drop, map, min, ap, sym, ◌∙◌, arith, add-one, add_assoc}
+-- Counts of windows, to one more than the most.
+use Rattle.std.proofs.Common.{◌≡◌, ℕ, suc, ◌+◌, ◌<◌, ◌≤◌, Bool, List, [], ◌∷◌, length, get_or, drop, map, ap, sym, ◌∙◌, arith, add-one, add_assoc}
 use Rattle.std.proofs.Math.Seq.{drop-cons}
 use Rattle.std.proofs.lemmas.List.{drop_all}
 use Rattle.std.specs.declared.alloc.Global.{Global}
@@ -16,18 +16,18 @@ use Rattle.wquery.specs.declared.expression.Call.{Call}
 use Rattle.wquery.specs.declared.expression.Link.{Link}
 use Rattle.wquery.specs.Tree.{Tree, Given, Reach, KeyTree, Branch, WindowTree, Links, NoLinks, Further, linked, trees, views, keys, view_keys, view_key, view, view_call, view_link, view_arguments, view_optional, view_optional_over, filter_of, reach_of, arguments_step, expression_step, over_step, call_step, key_step, link_step, window_step}
 use Rattle.wsame.proofs.Views.{view_call_is, view_of_chain, view_of_in}
-use Rattle.wwindows.specs.Limits.{count_over, over_trees, over_links, over_given, over_filter, over_reach, over_keys, over_items, over_order}
+use Rattle.wwindows.specs.Limits.{count_over, over_trees, over_links, over_given, over_filter, over_reach, over_keys, over_items, over_order, counted}
 
 abbrev pub over_branches : List Branch → ℕ
 over_branches [] = 0
 over_branches (b ∷ bs) = count_over b.operand + over_branches bs
 
--- a sum of counts, each to 33
-pub both_counted : (a b x y : ℕ) → a ≡ min 33 x → b ≡ min 33 y → min 33 (a + b) ≡ min 33 (x + y)
+-- a sum of counts
+pub both_counted : (a b x y : ℕ) → a ≡ counted x → b ≡ counted y → counted (a + b) ≡ counted (x + y)
 both_counted a b x y e f = omega arith
 
 -- a count, the next one and the rest
-pub next_counted : (a b n x y r : ℕ) → min 33 n ≡ min 33 (a + (x + r)) → b ≡ min 33 x → y ≡ min 33 (a + b) → min 33 n ≡ min 33 (y + r)
+pub next_counted : (a b n x y r : ℕ) → counted n ≡ counted (a + (x + r)) → b ≡ counted x → y ≡ counted (a + b) → counted n ≡ counted (y + r)
 next_counted a b n x y r e f g = omega arith
 
 pub over_linked : (front : Links) (bs : List Branch) → over_links (linked front bs) ≡ over_links front + over_branches bs
@@ -42,28 +42,28 @@ pub branch_counted : (ls : List Link) (i : ℕ) (l : Link) → i < length ls →
 branch_counted ls i l h e =
     rw (add-one, drop-cons ls i l) (ap (λ (t : Tree). count_over t + over_branches (map view_link (drop (suc i) ls))) (ap (λ (x : Link). (view_link x).operand) (sym e) ∙ link_operand l))
 
-pub call_counted : (c : Call) (a f o s r : ℕ) → a ≡ min 33 (over_given (view_arguments c.arguments)) → f ≡ min 33 (over_filter (filter_of (view_optional c.filter))) → o ≡ min 33 (over_reach (reach_of (view_optional_over c.over))) → s ≡ min 33 (f + o) → r ≡ min 33 (a + s) → r ≡ min 33 (count_over (view_call c))
+pub call_counted : (c : Call) (a f o s r : ℕ) → a ≡ counted (over_given (view_arguments c.arguments)) → f ≡ counted (over_filter (filter_of (view_optional c.filter))) → o ≡ counted (over_reach (reach_of (view_optional_over c.over))) → s ≡ counted (f + o) → r ≡ counted (a + s) → r ≡ counted (count_over (view_call c))
 call_counted c a f o s r ea ef eo es er =
-    let k : r ≡ min 33 (over_given (view_arguments c.arguments) + (over_filter (filter_of (view_optional c.filter)) + over_reach (reach_of (view_optional_over c.over)))) = omega arith in
-    k ∙ sym (ap (λ (t : Tree). min 33 (count_over t)) (view_call_is c))
+    let k : r ≡ counted (over_given (view_arguments c.arguments) + (over_filter (filter_of (view_optional c.filter)) + over_reach (reach_of (view_optional_over c.over)))) = omega arith in
+    k ∙ sym (ap (λ (t : Tree). counted (count_over t)) (view_call_is c))
 
 -- all has been counted
-pub all_counted : (a n r : ℕ) → a ≤ 33 → min 33 n ≡ min 33 (a + r) → r ≡ 0 → a ≡ min 33 n
+pub all_counted : (a n r : ℕ) → a ≤ 33 → counted n ≡ counted (a + r) → r ≡ 0 → a ≡ counted n
 all_counted a n r h e z = omega arith
 
-pub chain_counted : (e d : Expression) (kind : ChainKind) (first : Box Expression Global) (links : Vec Link Global) (us : List Link) (a b r : ℕ) → e ≡ queries.Chain kind first links → d ≡ first.value → us ≡ links.items → a ≡ min 33 (count_over (view d)) → b ≡ min 33 (over_links (linked NoLinks (map view_link us))) → r ≡ min 33 (a + b) → r ≡ min 33 (count_over (view e))
+pub chain_counted : (e d : Expression) (kind : ChainKind) (first : Box Expression Global) (links : Vec Link Global) (us : List Link) (a b r : ℕ) → e ≡ queries.Chain kind first links → d ≡ first.value → us ≡ links.items → a ≡ counted (count_over (view d)) → b ≡ counted (over_links (linked NoLinks (map view_link us))) → r ≡ counted (a + b) → r ≡ counted (count_over (view e))
 chain_counted e d kind first links us a b r is ed eu ea eb er =
     er ∙ both_counted a b (count_over (view d)) (over_links (linked NoLinks (map view_link us))) ea eb
-    ∙ ap (λ (z : Expression). min 33 (count_over (view z) + over_links (linked NoLinks (map view_link us)))) ed
-    ∙ ap (λ (zs : List Link). min 33 (count_over (view first.value) + over_links (linked NoLinks (map view_link zs)))) eu
-    ∙ sym (ap (λ (z : Expression). min 33 (count_over (view z))) is ∙ ap (λ (t : Tree). min 33 (count_over t)) (view_of_chain kind first links))
+    ∙ ap (λ (z : Expression). counted (count_over (view z) + over_links (linked NoLinks (map view_link us)))) ed
+    ∙ ap (λ (zs : List Link). counted (count_over (view first.value) + over_links (linked NoLinks (map view_link zs)))) eu
+    ∙ sym (ap (λ (z : Expression). counted (count_over (view z))) is ∙ ap (λ (t : Tree). counted (count_over t)) (view_of_chain kind first links))
 
-pub in_counted : (e d : Expression) (n : Bool) (operand : Box Expression Global) (list : Vec Expression Global) (us : List Expression) (a b r : ℕ) → e ≡ queries.In n operand list → d ≡ operand.value → us ≡ list.items → a ≡ min 33 (count_over (view d)) → b ≡ min 33 (over_trees (trees (views us))) → r ≡ min 33 (a + b) → r ≡ min 33 (count_over (view e))
+pub in_counted : (e d : Expression) (n : Bool) (operand : Box Expression Global) (list : Vec Expression Global) (us : List Expression) (a b r : ℕ) → e ≡ queries.In n operand list → d ≡ operand.value → us ≡ list.items → a ≡ counted (count_over (view d)) → b ≡ counted (over_trees (trees (views us))) → r ≡ counted (a + b) → r ≡ counted (count_over (view e))
 in_counted e d n operand list us a b r is ed eu ea eb er =
     er ∙ both_counted a b (count_over (view d)) (over_trees (trees (views us))) ea eb
-    ∙ ap (λ (z : Expression). min 33 (count_over (view z) + over_trees (trees (views us)))) ed
-    ∙ ap (λ (zs : List Expression). min 33 (count_over (view operand.value) + over_trees (trees (views zs)))) eu
-    ∙ sym (ap (λ (z : Expression). min 33 (count_over (view z))) is ∙ ap (λ (t : Tree). min 33 (count_over t)) (view_of_in n operand list))
+    ∙ ap (λ (z : Expression). counted (count_over (view z) + over_trees (trees (views us)))) ed
+    ∙ ap (λ (zs : List Expression). counted (count_over (view operand.value) + over_trees (trees (views zs)))) eu
+    ∙ sym (ap (λ (z : Expression). counted (count_over (view z))) is ∙ ap (λ (t : Tree). counted (count_over t)) (view_of_in n operand list))
 
 -- nothing is left
 

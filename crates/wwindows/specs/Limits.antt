@@ -1,5 +1,5 @@
 -- The rule on limits: Q27.
-use Rattle.std.specs.Prelude.{ℕ, Bool, false, ◌||◌, ◌+◌, nat_lt, List, [], ◌∷◌, length}
+use Rattle.std.specs.Prelude.{ℕ, Bool, false, ◌||◌, ◌+◌, min, nat_lt, List, [], ◌∷◌, length}
 use Rattle.std.specs.List.{list_any}
 use Rattle.wquery.specs.Tree.{Tree, NullWord, Numeral, Quoted, Field, Invoked, Negated, Signed, Joined, Compared, NullTest, Within, Among, Trees, NoTrees, MoreTrees, Links, NoLinks, Further, Given, Everything, These, Filter, Unfiltered, FilteredBy, Reach, ItsGroup, ThatWindow, OwnWindow, Keys, NoKeys, MoreKeys, KeyTree, own_window}
 use Rattle.wquery.specs.QueryTree.{Clauses, ItemTree, AllColumns, Computed, EntryTree}
@@ -59,13 +59,29 @@ abbrev pub over_order : List KeyTree → ℕ
 over_order [] = 0
 over_order (k ∷ ks) = count_over k.expression + over_order ks
 
+-- the most items, `*` written out
+abbrev pub most_items : ℕ
+most_items = 64
+
+-- the most windows: WINDOW entries, and OVER with parentheses
+abbrev pub most_windows : ℕ
+most_windows = 32
+
+-- the most entries in one list of GROUP BY, PARTITION BY or ORDER BY
+abbrev pub most_entries : ℕ
+most_entries = 16
+
+-- a number of windows, as far as it matters: to one more than the most
+abbrev pub counted : ℕ → ℕ
+counted n = min 33 n
+
 -- WINDOW entries, and OVER with parentheses in the SELECT list and the query's ORDER BY, the places where it may stand
 abbrev pub count_windows : Clauses → ℕ
 count_windows c = length c.windows + (over_items c.items + over_order c.order)
 
--- over 16 entries in a list of a call's own window
+-- too many entries in a list of a call's own window
 abbrev pub has_long_list : Reach → Bool
-has_long_list (OwnWindow copied partition order frame) = nat_lt 16 (count_trees partition) || nat_lt 16 (count_keys order)
+has_long_list (OwnWindow copied partition order frame) = nat_lt most_entries (count_trees partition) || nat_lt most_entries (count_keys order)
 has_long_list _ = false
 
 abbrev pub is_long_entry : EntryTree → Bool
@@ -75,6 +91,6 @@ is_long_entry e = has_long_list (own_window e.window)
 -- ORDER BY
 abbrev pub breaks_limits : List Titled → Clauses → Bool
 breaks_limits cs c =
-    nat_lt 64 (count_items cs c.items) || (nat_lt 32 (count_windows c)
-    || ((nat_lt 16 (length c.grouping) || nat_lt 16 (length c.order))
+    nat_lt most_items (count_items cs c.items) || (nat_lt most_windows (count_windows c)
+    || ((nat_lt most_entries (length c.grouping) || nat_lt most_entries (length c.order))
     || (list_any is_long_entry c.windows || some_anywhere cs c (finds (reach_is has_long_list)))))

@@ -1,29 +1,32 @@
-//! How often OVER stands with parentheses, counted to 33.
+//! How often OVER stands with parentheses, counted to one more than the most windows.
 
-ghost use Rattle.std.specs.Prelude.{◌≡◌, ◌+◌, map, min, [], ◌∷◌};
+ghost use Rattle.std.specs.Prelude.{◌≡◌, ◌+◌, map, [], ◌∷◌};
 ghost use Rattle.wquery.specs.Tree.{view, view_over, view_window, view_call, view_key, view_link, view_arguments, view_optional, view_optional_over, filter_of, reach_of, trees, views, keys, view_keys, own_window, linked, NoLinks};
 ghost use Rattle.wquery.specs.QueryTree.{view_item};
-ghost use Rattle.wwindows.specs.Limits.{count_over as over_in, over_trees, over_links, over_given, over_filter, over_reach, over_keys, over_items, over_order};
+ghost use Rattle.wwindows.specs.Limits.{count_over as over_in, over_trees, over_links, over_given, over_filter, over_reach, over_keys, over_items, over_order, counted};
 
 use wquery::{Arguments, Call, Expression, Item, Key, Link, Over, Window};
 
-/// A sum, or 33 where it is greater.
+/// Where counts stop: one more than the most windows of a query.
+const STOP: u32 = 33;
+
+/// A sum of counts.
 pub(crate) fn plus(a: u32, b: u32) -> u32
-    ensures { result ≡ min 33 (a + b) }
+    ensures { result ≡ counted (a + b) }
 {
-    if a >= 33 {
-        return 33;
+    if a >= STOP {
+        return STOP;
     }
-    if b >= 33 {
-        return 33;
+    if b >= STOP {
+        return STOP;
     }
-    if a + b < 33 { a + b } else { 33 }
+    if a + b < STOP { a + b } else { STOP }
 }
 
 #[cycle(counting)]
 #[tactic(auto, unfolding(wquery::specs::Tree::view, wquery::specs::Tree::view_call, wquery::specs::Tree::view_link))]
 fn count_over(e: &Expression) -> u32
-    ensures { result ≡ min 33 (over_in (view e.now)) }
+    ensures { result ≡ counted (over_in (view e.now)) }
 {
     match e {
         Expression::Null => 0,
@@ -52,7 +55,7 @@ fn count_over(e: &Expression) -> u32
 
 #[cycle(counting)]
 fn count_listed(list: &[Expression]) -> u32
-    ensures { result ≡ min 33 (over_trees (trees (views list.now))) }
+    ensures { result ≡ counted (over_trees (trees (views list.now))) }
 {
     let mut count = 0;
     'list: for e in list {
@@ -64,7 +67,7 @@ fn count_listed(list: &[Expression]) -> u32
 #[cycle(counting)]
 #[tactic(auto, unfolding(wquery::specs::Tree::view_link, wquery::specs::Tree::view))]
 fn count_in_links(links: &[Link]) -> u32
-    ensures { result ≡ min 33 (over_links (linked NoLinks (map view_link links.now))) }
+    ensures { result ≡ counted (over_links (linked NoLinks (map view_link links.now))) }
 {
     let mut count = 0;
     'links: for link in links {
@@ -76,7 +79,7 @@ fn count_in_links(links: &[Link]) -> u32
 #[cycle(counting)]
 #[tactic(auto, unfolding(wquery::specs::Tree::view_key, wquery::specs::Tree::view))]
 fn count_in_keys(order: &[Key]) -> u32
-    ensures { result ≡ min 33 (over_keys (keys (view_keys order.now))) }
+    ensures { result ≡ counted (over_keys (keys (view_keys order.now))) }
 {
     let mut count = 0;
     'keys: for key in order {
@@ -88,7 +91,7 @@ fn count_in_keys(order: &[Key]) -> u32
 #[cycle(counting)]
 #[tactic(auto, unfolding(wquery::specs::Tree::view_window, wquery::specs::Tree::view, wquery::specs::Tree::view_key))]
 fn count_in_window(window: &Window) -> u32
-    ensures { result ≡ min 33 (over_reach (own_window (view_window window.now))) }
+    ensures { result ≡ counted (over_reach (own_window (view_window window.now))) }
 {
     let within = plus(
         count_listed(window.partition.as_slice()),
@@ -100,7 +103,7 @@ fn count_in_window(window: &Window) -> u32
 #[cycle(counting)]
 #[tactic(auto, unfolding(wquery::specs::Tree::view_arguments, wquery::specs::Tree::view))]
 fn count_in_arguments(arguments: &Arguments) -> u32
-    ensures { result ≡ min 33 (over_given (view_arguments arguments.now)) }
+    ensures { result ≡ counted (over_given (view_arguments arguments.now)) }
 {
     match arguments {
         Arguments::Star => 0,
@@ -110,7 +113,7 @@ fn count_in_arguments(arguments: &Arguments) -> u32
 
 #[cycle(counting)]
 fn count_in_filter(filter: &Option<Expression>) -> u32
-    ensures { result ≡ min 33 (over_filter (filter_of (view_optional filter.now))) }
+    ensures { result ≡ counted (over_filter (filter_of (view_optional filter.now))) }
 {
     match filter {
         None => 0,
@@ -121,7 +124,7 @@ fn count_in_filter(filter: &Option<Expression>) -> u32
 #[cycle(counting)]
 #[tactic(auto, unfolding(wquery::specs::Tree::view_over, wquery::specs::Tree::view_window))]
 fn count_in_over(over: &Option<Over>) -> u32
-    ensures { result ≡ min 33 (over_reach (reach_of (view_optional_over over.now))) }
+    ensures { result ≡ counted (over_reach (reach_of (view_optional_over over.now))) }
 {
     match over {
         None => 0,
@@ -132,7 +135,7 @@ fn count_in_over(over: &Option<Over>) -> u32
 
 #[cycle(counting)]
 fn count_in_call(call: &Call) -> u32
-    ensures { result ≡ min 33 (over_in (view_call call.now)) }
+    ensures { result ≡ counted (over_in (view_call call.now)) }
 {
     let arguments = count_in_arguments(&call.arguments);
     let filter = count_in_filter(&call.filter);
@@ -141,7 +144,7 @@ fn count_in_call(call: &Call) -> u32
 }
 
 fn count_in_item(item: &Item) -> u32
-    ensures { result ≡ min 33 (over_items (view_item item.now ∷ [])) }
+    ensures { result ≡ counted (over_items (view_item item.now ∷ [])) }
 {
     match item {
         Item::All => 0,
@@ -151,7 +154,7 @@ fn count_in_item(item: &Item) -> u32
 
 /// How often OVER stands with parentheses in the SELECT list.
 pub(crate) fn count_in_items(items: &[Item]) -> u32
-    ensures { result ≡ min 33 (over_items (map view_item items.now)) }
+    ensures { result ≡ counted (over_items (map view_item items.now)) }
 {
     let mut count = 0;
     'items: for item in items {
@@ -163,7 +166,7 @@ pub(crate) fn count_in_items(items: &[Item]) -> u32
 /// How often OVER stands with parentheses in the query's ORDER BY.
 #[tactic(auto, unfolding(wquery::specs::Tree::view_key, wquery::specs::Tree::view))]
 pub(crate) fn count_in_order(order: &[Key]) -> u32
-    ensures { result ≡ min 33 (over_order (map view_key order.now)) }
+    ensures { result ≡ counted (over_order (map view_key order.now)) }
 {
     let mut count = 0;
     'keys: for key in order {

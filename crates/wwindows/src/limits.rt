@@ -1,6 +1,6 @@
 //! The rule on limits.
 
-ghost use Rattle.std.specs.Prelude.{◌≡◌, ◌||◌, ◌+◌, ℕ, map, min, length, nat_lt};
+ghost use Rattle.std.specs.Prelude.{◌≡◌, ◌||◌, ◌+◌, ℕ, map, length, nat_lt};
 ghost use Rattle.std.specs.List.{list_any};
 ghost use Rattle.wquery.specs.Tree.{trees, views, keys, view_keys, view_window, own_window};
 ghost use Rattle.wquery.specs.QueryTree.{view_entry, view_query};
@@ -8,7 +8,7 @@ ghost use Rattle.wscope.specs.Scope.{clauses_of};
 ghost use Rattle.wscope.specs.Sources.{all_titled};
 ghost use Rattle.wscope.specs.Finding.{count_trees, count_keys};
 ghost use Rattle.wwindows.specs.Order.{count_items as number_of_items};
-ghost use Rattle.wwindows.specs.Limits.{count_windows as number_of_windows, has_long_list as is_reach_long, is_long_entry as is_entry_long, breaks_limits};
+ghost use Rattle.wwindows.specs.Limits.{count_windows as number_of_windows, has_long_list as is_reach_long, is_long_entry as is_entry_long, breaks_limits, counted, most_entries, most_items, most_windows};
 
 use crate::counting::{count_in_items, count_in_order, plus};
 use crate::order::count_items;
@@ -26,13 +26,13 @@ const MAX_WINDOWS: usize = 32;
 const MAX_ENTRIES: usize = 16;
 
 fn are_many(list: &[Expression]) -> bool
-    ensures { result ≡ nat_lt 16 (count_trees (trees (views list.now))) }
+    ensures { result ≡ nat_lt most_entries (count_trees (trees (views list.now))) }
 {
     list.len() > MAX_ENTRIES
 }
 
 fn are_many_keys(order: &[Key]) -> bool
-    ensures { result ≡ nat_lt 16 (count_keys (keys (view_keys order.now))) }
+    ensures { result ≡ nat_lt most_entries (count_keys (keys (view_keys order.now))) }
 {
     order.len() > MAX_ENTRIES
 }
@@ -44,7 +44,7 @@ fn is_window_long(window: &Window) -> bool
     are_many(window.partition.as_slice()) || are_many_keys(window.order.as_slice())
 }
 
-/// Over 16 entries in a list of a call's own window.
+/// Too many entries in a list of a call's own window.
 #[derive(Drop)]
 struct LongList;
 
@@ -73,17 +73,17 @@ fn any_long_entry(entries: &[WindowEntry]) -> bool
 }
 
 fn exceeds_windows(entries: usize, in_items: u32, in_order: u32) -> bool
-    ensures { (items order : ℕ) → in_items ≡ min 33 items → in_order ≡ min 33 order → result ≡ nat_lt 32 (entries + (items + order)) }
+    ensures { (items order : ℕ) → in_items ≡ counted items → in_order ≡ counted order → result ≡ nat_lt most_windows (entries + (items + order)) }
 {
     if entries > MAX_WINDOWS {
         return true;
     }
-    entries as u32 + plus(in_items, in_order) > 32
+    entries as u32 + plus(in_items, in_order) > MAX_WINDOWS as u32
 }
 
 #[tactic(auto, unfolding(wquery::specs::QueryTree::view_query))]
 fn has_many_windows(query: &Query) -> bool
-    ensures { result ≡ nat_lt 32 (number_of_windows (clauses_of (view_query query.now))) }
+    ensures { result ≡ nat_lt most_windows (number_of_windows (clauses_of (view_query query.now))) }
 {
     exceeds_windows(
         query.windows.len(),
@@ -94,14 +94,14 @@ fn has_many_windows(query: &Query) -> bool
 
 #[tactic(auto, unfolding(wquery::specs::QueryTree::view_query))]
 fn has_many_items(columns: &[SourceColumn], query: &Query) -> bool
-    ensures { result ≡ nat_lt 64 (number_of_items (all_titled columns.now) (clauses_of (view_query query.now)).items) }
+    ensures { result ≡ nat_lt most_items (number_of_items (all_titled columns.now) (clauses_of (view_query query.now)).items) }
 {
     count_items(columns, query.items.as_slice()) > MAX_ITEMS
 }
 
 #[tactic(auto, unfolding(wquery::specs::QueryTree::view_query))]
 fn has_long_clause(query: &Query) -> bool
-    ensures { result ≡ (nat_lt 16 (length (clauses_of (view_query query.now)).grouping) || nat_lt 16 (length (clauses_of (view_query query.now)).order)) }
+    ensures { result ≡ (nat_lt most_entries (length (clauses_of (view_query query.now)).grouping) || nat_lt most_entries (length (clauses_of (view_query query.now)).order)) }
 {
     if query.grouping.len() > MAX_ENTRIES {
         return true;

@@ -1,5 +1,5 @@
 use Rattle.std.proofs.Common.{rules, ◌≢◌, ◌≡◌, ◌⊎◌, Err}
-use Rattle.wask.specs.Asking.{IsAnswer}
+use Rattle.wask.specs.Answer.{IsAnswer}
 use Rattle.wplanner.specs.declared.fault.AskFault.TheVariants.{NoMemory}
 use Rattle.wact.specs.Acts.{Answered, QueryRefused}
 use Rattle.wact.proofs.Outcomes.{but_memory}

@@ -3,7 +3,7 @@ use Rattle.wframe.specs.Cells.{meanings}
 use Rattle.wslide.specs.Aggregates.{by_value, by_value_descending, tests}
 use Rattle.wslide.specs.Lawful.{by_value_total, by_value_descending_total}
 use Rattle.wplan.specs.declared.resolved.AggregateFunction.TheVariants.{Min, Max}
-use Rattle.waggregate.specs.Framing.{Appends, window_answers}
+use Rattle.waggregate.specs.FrameAnswers.{Appends, window_answers}
 use Rattle.waggregate.proofs.PickedFacts.{picked_long, row_counts_alike, value_counts_alike, sums_alike, firsts_alike}
 use Rattle.waggregate.proofs.folding.push_picked.Goals as goal
 

@@ -7,7 +7,7 @@ use Rattle.wrows.specs.declared.fault.AnswerFault.TheVariants.{OutOfRange}
 use Rattle.wrows.proofs.RowFacts.{none_of_all, added_all}
 use Rattle.wrows.specs.Outcomes.{Gives}
 use Rattle.std.specs.Prelude.{Err}
-use Rattle.waggregate.specs.Framing.{told_or_out_of_range}
+use Rattle.waggregate.specs.FrameAnswers.{told_or_out_of_range}
 use Rattle.waggregate.proofs.FoldFacts.{refused_part}
 use Rattle.waggregate.proofs.folding.push_values.Goals as goal
 

@@ -5,7 +5,7 @@ use Rattle.std.proofs.lemmas.List.{length-map}
 use Rattle.wvalues.specs.Meaning.{Meaning, Null, meaning}
 use Rattle.waggregate.specs.Aggregating.{aggregate_of}
 use Rattle.waggregate.specs.Feeding.{feed_in}
-use Rattle.waggregate.specs.Framing.{frame_numbers}
+use Rattle.waggregate.specs.FrameAnswers.{frame_numbers}
 use Rattle.wcalls.specs.Arranged.{Answer}
 use Rattle.wcalls.proofs.Answering.{answer_values, window_answers}
 use Rattle.wcalls.proofs.ArrangedFacts.{answers_long, refused_answers}

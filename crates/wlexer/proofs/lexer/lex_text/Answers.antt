@@ -1,8 +1,7 @@
-use Rattle.std.proofs.Common.{◌-◌, length, map, sym, arith, rules, false-eqb}
+use Rattle.std.proofs.Common.{◌-◌, length, sym, arith, rules, false-eqb}
 use Rattle.std.proofs.lemmas.Bool.{eqb-true}
 use Rattle.std.proofs.lemmas.Result.{err_from_is_err_and}
 use Rattle.wlexer.proofs.Steps.{separates_shorter, spelled_shorter, tokens_before, all_tokens, lexical_fault, token_more}
-use Rattle.wlexer.specs.Token.{placed}
 use Rattle.wlexer.proofs.lexer.lex_text.Goals as goal
 
 pub returns-then-is_empty-clause-found : goal.returns-then-is_empty-clause-found

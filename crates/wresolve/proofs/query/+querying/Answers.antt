@@ -1,7 +1,6 @@
-use Rattle.std.proofs.Common.{◌≡◌, ◌++◌, [], ◌∷◌, map, ap, ◌∙◌}
+use Rattle.std.proofs.Common.{◌++◌, [], ◌∷◌, map, ap, ◌∙◌}
 use Rattle.wscope.specs.Sources.{all_titled, answered}
-use Rattle.wscope.specs.Types.{Titled}
-use Rattle.wplan.specs.Plans.{select_plan, SelectPlan}
+use Rattle.wplan.specs.Plans.{select_plan}
 use Rattle.wdistinct.specs.Clauses.{clauses_in}
 use Rattle.wresolve.specs.Selecting.{select_made}
 use Rattle.wresolve.proofs.Queried.{query_answers, query_pushed}

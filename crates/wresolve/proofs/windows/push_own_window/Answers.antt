@@ -1,4 +1,3 @@
-use Rattle.std.proofs.Common.{rules}
 use Rattle.wsame.proofs.Views.{view_call_is}
 use Rattle.wresolve.proofs.windows.push_own_window.Goals as goal
 

@@ -1,5 +1,6 @@
-use Rattle.std.proofs.Common.{◌∙◌, ◌+◌, ℕ, ap, map, min, arith}
+use Rattle.std.proofs.Common.{◌∙◌, ◌+◌, ℕ, ap, map, arith}
 use Rattle.wquery.specs.Tree.{view_link, NoLinks}
+use Rattle.wwindows.specs.Limits.{counted}
 use Rattle.wwindows.proofs.Counts.{all_counted, next_counted, over_linked, branch_counted, call_counted, chain_counted, in_counted, no_trees, no_links, no_keys}
 use Rattle.wwindows.proofs.counting.+counting.Goals as goal
 
@@ -25,8 +26,8 @@ pub count_in_links-returns : goal.count_in_links-returns
 count_in_links-returns t c = all_counted c.links.count _ _ c.links.invariant.0 c.links.invariant.1 (no_links c.args.links.now c.links.link-index c.links-test.false)
 
 pub count_in_links-links-init : goal.count_in_links-links-init
-count_in_links-links-init t c = (omega arith, ap (min 33) (over_linked NoLinks (map view_link c.args.links.now)))
+count_in_links-links-init t c = (omega arith, ap counted (over_linked NoLinks (map view_link c.args.links.now)))
 
 pub count_in_links-links-preserved : goal.count_in_links-links-preserved
 count_in_links-links-preserved t c =
-    (omega (arith, c.plus-count.ensures), next_counted c.links.count c.count_over.result _ _ c.plus-count.result _ (c.links.invariant.1 ∙ ap (λ (n : ℕ). min 33 (c.links.count + n)) (branch_counted c.args.links.now c.links.link-index c.link-item.result c.links-test.true c.link-item.is)) c.count_over.ensures c.plus-count.ensures)
+    (omega (arith, c.plus-count.ensures), next_counted c.links.count c.count_over.result _ _ c.plus-count.result _ (c.links.invariant.1 ∙ ap (λ (n : ℕ). counted (c.links.count + n)) (branch_counted c.args.links.now c.links.link-index c.link-item.result c.links-test.true c.link-item.is)) c.count_over.ensures c.plus-count.ensures)

@@ -12,7 +12,7 @@ use Rattle.wresolve.specs.Selecting.{resolved_query}
 use Rattle.wplanner.specs.Parts.{TableParts}
 use Rattle.wplanner.specs.Answers.{table_answer}
 use Rattle.wplanner.specs.Printing.{table_text}
-use Rattle.wplanner.specs.Asking.{unanswered}
+use Rattle.wplanner.specs.Faults.{unanswered}
 use Rattle.wplanner.specs.Tables.{rows_of_set}
 use Rattle.wplanner.specs.declared.fault.AskFault.{AskFault}
 use Rattle.wplanner.specs.declared.fault.AskFault.TheVariants as faults

@@ -1,7 +1,7 @@
 use Rattle.wquery.specs.QueryTree.{view_query}
 use Rattle.wplan.specs.Plans.{plans}
 use Rattle.wask.proofs.Accepted.{resolved_is_sound}
-use Rattle.wask.proofs.asking.answer.Goals as goal
+use Rattle.wask.proofs.answer.answer.Goals as goal
 
 pub executed-requires : goal.executed-requires
 executed-requires c = resolved_is_sound c.schema.result.now (view_query c.args.query.now) (plans c.in-Ok.resolved) c.in-Ok.ensures

@@ -6,7 +6,7 @@ ghost use Rattle.wplan.specs.Plans.{plans};
 ghost use Rattle.wplanner.specs.Sound.{is_sound_query};
 ghost use Rattle.wplanner.specs.Tables.{rows_of_set};
 ghost use Rattle.wplanner.specs.declared.fault.AskFault.TheVariants.{NoMemory};
-ghost use Rattle.wask.specs.Asking.{IsAnswer, plan_answer, query_answer};
+ghost use Rattle.wask.specs.Answer.{IsAnswer, plan_answer, query_answer};
 
 use std::alloc::Global;
 use wlexer::{LexFault, lex};

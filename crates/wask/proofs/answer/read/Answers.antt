@@ -4,7 +4,7 @@ use Rattle.wlexer.specs.Lexing.{Lexes}
 use Rattle.wquery.specs.QueryTree.{view_query}
 use Rattle.wask.specs.Texts.{IsRefused}
 use Rattle.wask.proofs.Read.{lexed_text, read_by, unparsed}
-use Rattle.wask.proofs.asking.read.Goals as goal
+use Rattle.wask.proofs.answer.read.Goals as goal
 
 pub returns-in-Err-parse : goal.returns-in-Err-parse
 returns-in-Err-parse c =
