@@ -58,13 +58,9 @@ fn executed(alloc: Global, set: &SegmentSet, query: &Resolved) -> Result<Vec<u8>
         (λ bytes. plan_answer (plans query.now) (rows_of_set set.now) ≡ Ok bytes.items)
         (λ fault. (fault ≡ NoMemory) ⊎ (plan_answer (plans query.now) (rows_of_set set.now) ≡ Err fault)) }
 {
-    match execute(alloc, set, query) {
-        Err(fault) => Err(fault),
-        Ok(table) => match print(alloc, &table) {
-            Err(_) => Err(AskFault::NoMemory),
-            Ok(bytes) => Ok(bytes),
-        },
-    }
+    let table = execute(alloc, set, query)?;
+    let bytes = print(alloc, &table)?;
+    Ok(bytes)
 }
 
 // What a query is answered on the rows of the set.
@@ -88,8 +84,6 @@ pub fn ask(alloc: Global, set: &SegmentSet, text: &[u8]) -> Result<Vec<u8>, AskF
         (λ bytes. IsAnswer set.now.schema set.now.view text.now (Ok bytes.items))
         (λ fault. (fault ≡ NoMemory) ⊎ IsAnswer set.now.schema set.now.view text.now (Err fault)) }
 {
-    match read(alloc, text) {
-        Err(fault) => Err(fault),
-        Ok(query) => answer(alloc, set, &query),
-    }
+    let query = read(alloc, text)?;
+    answer(alloc, set, &query)
 }

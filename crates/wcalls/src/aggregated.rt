@@ -1,5 +1,5 @@
 //! Aggregates with OVER.
-ghost use Rattle.std.specs.Prelude.{◌≡◌, ◌<◌, ◌^◌, All, length, map};
+ghost use Rattle.std.specs.Prelude.{◌≡◌, ◌<◌, length, map};
 ghost use Rattle.wvalues.specs.Meaning.{meaning};
 ghost use Rattle.wplan.specs.Plans.{aggregate_plan, Aggregated};
 ghost use Rattle.wrows.specs.Outcomes.{Gives};
@@ -11,10 +11,10 @@ ghost use Rattle.wcalls.specs.Windows.{Windowed};
 ghost use Rattle.wcalls.specs.Functions.{function_column};
 ghost use Rattle.wcalls.specs.Arranged.{answered, IsArranged};
 
+use crate::arranged::ArrangedRows;
 use crate::calls::put_values;
 use std::alloc::Global;
 use waggregate::{Feed, feed_rows, push_frame_aggregates};
-use wframe::Partitions;
 use wplan::{Aggregate, AggregateFunction};
 use wrows::AnswerFault;
 use wvalues::Value;
@@ -24,22 +24,25 @@ fn put_aggregates(
     alloc: Global,
     function: AggregateFunction,
     feed: &Feed,
-    order: &[usize],
-    partitions: &Partitions,
+    arranged: &ArrangedRows,
     column: &mut [Value],
 ) -> Result<(), AnswerFault>
-    requires len { length order.now ≡ length partitions.now.keys }
-    requires fed { length feed.now.values.items ≡ length order.now }
-    requires below { All (λ i. i < length order.now) order.now }
-    requires room { length column.old ≡ length order.now }
-    requires few { length order.now < 2 ^ 31 }
-    ensures { (w : Windowed) → IsArranged w order.now partitions.now → Gives (λ _. map meaning column.new) result (answered w (λ p rows place. aggregate_of function (feed_in feed.now) (frame_numbers p rows place))) }
+    requires fed { length feed.now.values.items ≡ length arranged.now.order.now }
+    requires room { length column.old ≡ length arranged.now.order.now }
+    ensures { (w : Windowed) → IsArranged w arranged.now.order.now arranged.now.partitions.now → Gives (λ _. map meaning column.new) result (answered w (λ p rows place. aggregate_of function (feed_in feed.now) (frame_numbers p rows place))) }
 {
     // It says that the partitions leave no row out.
-    let _ = partitions.count();
-    let mut told = Vec::with_capacity(alloc, order.len())?;
-    push_frame_aggregates(alloc, function, feed, order, partitions, &mut told)?;
-    put_values(order, &told, column)?;
+    let _ = arranged.partitions.count();
+    let mut told = Vec::with_capacity(alloc, arranged.order.len())?;
+    push_frame_aggregates(
+        alloc,
+        function,
+        feed,
+        arranged.order,
+        arranged.partitions,
+        &mut told,
+    )?;
+    put_values(arranged.order, &told, column)?;
     Ok(())
 }
 
@@ -47,18 +50,12 @@ fn put_aggregates(
 pub(crate) fn aggregated_column(
     alloc: Global,
     aggregate: &Aggregate,
-    rows: &[&[Value]],
-    order: &[usize],
-    partitions: &Partitions,
+    arranged: &ArrangedRows,
     column: &mut [Value],
 ) -> Result<(), AnswerFault>
-    requires rows { length order.now ≡ length rows.now }
-    requires len { length order.now ≡ length partitions.now.keys }
-    requires below { All (λ i. i < length order.now) order.now }
-    requires room { length column.old ≡ length order.now }
-    requires few { length order.now < 2 ^ 31 }
-    ensures { (w : Windowed) → IsArranged w order.now partitions.now → Gives (λ _. map meaning column.new) result (function_column (rows_seen rows.now) w (Aggregated (aggregate_plan aggregate.now))) }
+    requires { length column.old ≡ length arranged.now.order.now }
+    ensures { (w : Windowed) → IsArranged w arranged.now.order.now arranged.now.partitions.now → Gives (λ _. map meaning column.new) result (function_column (rows_seen arranged.now.rows.now) w (Aggregated (aggregate_plan aggregate.now))) }
 {
-    let feed = feed_rows(alloc, aggregate, rows)?;
-    put_aggregates(alloc, aggregate.function, &feed, order, partitions, column)
+    let feed = feed_rows(alloc, aggregate, arranged.rows)?;
+    put_aggregates(alloc, aggregate.function, &feed, arranged, column)
 }

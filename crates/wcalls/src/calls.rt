@@ -8,8 +8,9 @@ ghost use Rattle.wcalls.specs.Calls.{each_row};
 ghost use Rattle.wcalls.specs.Arranged.{IsArranged};
 ghost use Rattle.wcalls.specs.Put.{put_all};
 
+use crate::arranged::ArrangedRows;
 use std::alloc::{AllocError, Global};
-use wframe::{Frames, Partitions};
+use wframe::Frames;
 use wvalues::Value;
 
 /// Appends so many nulls.
@@ -73,17 +74,15 @@ pub trait Tells {
 }
 
 // Keeps what a call tells for the rows of a window, each at the row's number.
-fn keep_told<T: Tells>(call: &T, order: &[usize], partitions: &Partitions, kept: &mut [usize])
-    requires len { length order.now ≡ length partitions.now.keys }
-    requires below { All (λ i. i < length order.now) order.now }
-    requires room { length kept.old ≡ length order.now }
-    requires few { length order.now < 2 ^ 31 }
-    ensures { (w : Windowed) → IsArranged w order.now partitions.now → map (T.meant call.now) kept.new ≡ each_row w (λ i. T.told call.now (partition_at w i) (partition_rows w i) (place_at w i)) }
+fn keep_told<T: Tells>(call: &T, arranged: &ArrangedRows, kept: &mut [usize])
+    requires { length kept.old ≡ length arranged.now.order.now }
+    ensures { (w : Windowed) → IsArranged w arranged.now.order.now arranged.now.partitions.now → map (T.meant call.now) kept.new ≡ each_row w (λ i. T.told call.now (partition_at w i) (partition_rows w i) (place_at w i)) }
 {
+    let partitions = arranged.partitions;
     for number in 0..partitions.count() {
         let span = partitions.span(number);
         let frames = partitions.partition(number);
-        call.keep(&frames, &order[span.from..span.to], kept);
+        call.keep(&frames, &arranged.order[span.from..span.to], kept);
     }
 }
 
@@ -104,18 +103,14 @@ fn put_kept<T: Tells>(call: &T, kept: &[usize], column: &mut [Value]) -> Result<
 pub(crate) fn put_told<T: Tells>(
     alloc: Global,
     call: &T,
-    order: &[usize],
-    partitions: &Partitions,
+    arranged: &ArrangedRows,
     column: &mut [Value],
 ) -> Result<(), AllocError>
-    requires len { length order.now ≡ length partitions.now.keys }
-    requires below { All (λ i. i < length order.now) order.now }
-    requires room { length column.old ≡ length order.now }
-    requires few { length order.now < 2 ^ 31 }
-    ensures { (w : Windowed) → IsArranged w order.now partitions.now → OnOk result (map meaning column.new ≡ each_row w (λ i. T.told call.now (partition_at w i) (partition_rows w i) (place_at w i))) }
+    requires { length column.old ≡ length arranged.now.order.now }
+    ensures { (w : Windowed) → IsArranged w arranged.now.order.now arranged.now.partitions.now → OnOk result (map meaning column.new ≡ each_row w (λ i. T.told call.now (partition_at w i) (partition_rows w i) (place_at w i))) }
 {
-    let mut kept = vec![in alloc; 0usize; order.len()]?;
-    keep_told(call, order, partitions, &mut kept);
+    let mut kept = vec![in alloc; 0usize; arranged.order.len()]?;
+    keep_told(call, arranged, &mut kept);
     put_kept(call, &kept, column)?;
     Ok(())
 }

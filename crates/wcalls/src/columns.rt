@@ -1,5 +1,5 @@
 //! The columns of a window's functions.
-ghost use Rattle.std.specs.Prelude.{◌≡◌, ◌+◌, ◌<◌, ◌^◌, true, All, IfOk, OnOk, Ok, length, map, take, drop};
+ghost use Rattle.std.specs.Prelude.{◌≡◌, ◌+◌, ◌<◌, ◌^◌, true, IfOk, OnOk, Ok, length, map, take, drop};
 ghost use Rattle.std.specs.List.{list_all};
 ghost use Rattle.wvalues.specs.Meaning.{meaning};
 ghost use Rattle.wplan.specs.Plans.{function_plan, window_plan};
@@ -12,12 +12,12 @@ ghost use Rattle.wcalls.specs.Sound.{is_sound_function, is_sound_window};
 ghost use Rattle.wcalls.specs.Arranged.{IsArranged};
 ghost use Rattle.wcalls.specs.Ordered.{ordered_rows};
 
+use crate::arranged::ArrangedRows;
 use crate::calls::push_nulls;
 use crate::functions::function_column;
 use crate::parts::frame_of;
 use crate::window::WindowOrder;
 use std::alloc::Global;
-use wframe::Partitions;
 use wplan::{SettledWindow, WindowFunction};
 use wrows::{AnswerFault, Cells};
 use wvalues::Value;
@@ -26,57 +26,38 @@ use wvalues::Value;
 fn push_column(
     alloc: Global,
     function: &WindowFunction,
-    rows: &[&[Value]],
-    order: &[usize],
-    partitions: &Partitions,
+    arranged: &ArrangedRows,
     cells: &mut Vec<Value>,
 ) -> Result<(), AnswerFault>
-    requires sound { is_sound_function (function_plan function.now) ≡ true }
-    requires rows { length order.now ≡ length rows.now }
-    requires len { length order.now ≡ length partitions.now.keys }
-    requires below { All (λ i. i < length order.now) order.now }
-    requires few { length order.now < 2 ^ 31 }
-    ensures column { (w : Windowed) → IsArranged w order.now partitions.now → Gives (λ _. map meaning (drop (length cells.old.items) cells.new.items)) result (function_column (rows_seen rows.now) w (function_plan function.now)) }
+    requires { is_sound_function (function_plan function.now) ≡ true }
+    ensures column { (w : Windowed) → IsArranged w arranged.now.order.now arranged.now.partitions.now → Gives (λ _. map meaning (drop (length cells.old.items) cells.new.items)) result (function_column (rows_seen arranged.now.rows.now) w (function_plan function.now)) }
     ensures kept { OnOk result (take (length cells.old.items) cells.new.items ≡ cells.old.items) }
-    ensures len { OnOk result (length cells.new.items ≡ length cells.old.items + length rows.now) }
+    ensures len { OnOk result (length cells.new.items ≡ length cells.old.items + length arranged.now.rows.now) }
 {
     let start = cells.len();
-    push_nulls(cells, rows.len())?;
-    function_column(
-        alloc,
-        function,
-        rows,
-        order,
-        partitions,
-        &mut cells[start..],
-    )
+    push_nulls(cells, arranged.rows.len())?;
+    function_column(alloc, function, arranged, &mut cells[start..])
 }
 
 // The columns of functions of a window, by number, where the rows stand in its order and in its partitions.
 fn every_column(
     alloc: Global,
     functions: &[&WindowFunction],
-    rows: &[&[Value]],
-    order: &[usize],
-    partitions: &Partitions,
+    arranged: &ArrangedRows,
 ) -> Result<Cells, AnswerFault>
-    requires sound { list_all is_sound_function (functions_seen functions.now) ≡ true }
-    requires rows { length order.now ≡ length rows.now }
-    requires len { length order.now ≡ length partitions.now.keys }
-    requires below { All (λ i. i < length order.now) order.now }
-    requires few { length order.now < 2 ^ 31 }
-    ensures columns { (w : Windowed) → IsArranged w order.now partitions.now → Gives rows_in result (each (function_column (rows_seen rows.now) w) (functions_seen functions.now)) }
-    ensures width { IfOk result (λ cells. cells.width ≡ length rows.now) }
+    requires { list_all is_sound_function (functions_seen functions.now) ≡ true }
+    ensures columns { (w : Windowed) → IsArranged w arranged.now.order.now arranged.now.partitions.now → Gives rows_in result (each (function_column (rows_seen arranged.now.rows.now) w) (functions_seen functions.now)) }
+    ensures width { IfOk result (λ cells. cells.width ≡ length arranged.now.rows.now) }
     ensures count { IfOk result (λ cells. cells.count ≡ length functions.now) }
 {
     // Room for all columns at once: a list that grows is held twice while it is moved.
-    let mut cells = Vec::with_capacity(alloc, rows.len().saturating_mul(functions.len()))?;
+    let mut cells = Vec::with_capacity(alloc, arranged.rows.len().saturating_mul(functions.len()))?;
     for function in functions {
-        push_column(alloc, function, rows, order, partitions, &mut cells)?;
+        push_column(alloc, function, arranged, &mut cells)?;
     }
     Ok(Cells {
         cells,
-        width: rows.len(),
+        width: arranged.rows.len(),
         count: functions.len(),
     })
 }
@@ -103,5 +84,10 @@ pub fn window_columns(
     let cells = order.lent_keys(alloc)?;
     let keys = order.key_rows(&cells);
     let partitions = order.partitions(alloc, keys, frame_of(&window.frame))?;
-    every_column(alloc, functions, rows, order.rows(), &partitions)
+    let arranged = ArrangedRows {
+        rows,
+        order: order.rows(),
+        partitions: &partitions,
+    };
+    every_column(alloc, functions, &arranged)
 }

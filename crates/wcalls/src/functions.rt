@@ -1,5 +1,5 @@
 //! The column of one function of a window.
-ghost use Rattle.std.specs.Prelude.{◌≡◌, ◌<◌, ◌^◌, true, All, length, map};
+ghost use Rattle.std.specs.Prelude.{◌≡◌, ◌<◌, true, length, map};
 ghost use Rattle.wvalues.specs.Meaning.{meaning, Null};
 ghost use Rattle.wplan.specs.Formula.{formula};
 ghost use Rattle.wplan.specs.Plans.{function_plan};
@@ -12,12 +12,12 @@ ghost use Rattle.wcalls.specs.Arranged.{IsArranged};
 ghost use Rattle.wcalls.specs.Sound.{is_sound_function};
 
 use crate::aggregated::aggregated_column;
+use crate::arranged::ArrangedRows;
 use crate::calls::put_told;
 use crate::numbered::{Counted, Counts, DenseRank, Rank, RowNumber, Tile};
 use crate::told::{FirstValue, Lag, LastValue, Lead, NthValue, RowPlaces, Told};
 use crate::values::column_values;
 use std::alloc::Global;
-use wframe::Partitions;
 use wplan::{Expr, WindowFunction};
 use wrows::AnswerFault;
 use wvalues::Value;
@@ -26,18 +26,14 @@ use wvalues::Value;
 fn counted_column<N: Counts + Copy>(
     alloc: Global,
     counts: N,
-    order: &[usize],
-    partitions: &Partitions,
+    arranged: &ArrangedRows,
     column: &mut [Value],
 ) -> Result<(), AnswerFault>
-    requires len { length order.now ≡ length partitions.now.keys }
-    requires below { All (λ i. i < length order.now) order.now }
-    requires room { length column.old ≡ length order.now }
-    requires few { length order.now < 2 ^ 31 }
-    ensures { (w : Windowed) → IsArranged w order.now partitions.now → Gives (λ _. map meaning column.new) result (numbers w (λ i. N.count_at counts (length (partition_rows w i)) (partition_at w i) (place_at w i))) }
+    requires { length column.old ≡ length arranged.now.order.now }
+    ensures { (w : Windowed) → IsArranged w arranged.now.order.now arranged.now.partitions.now → Gives (λ _. map meaning column.new) result (numbers w (λ i. N.count_at counts (length (partition_rows w i)) (partition_at w i) (place_at w i))) }
 {
     let call = Counted { counts };
-    put_told(alloc, &call, order, partitions, column)?;
+    put_told(alloc, &call, arranged, column)?;
     Ok(())
 }
 
@@ -47,25 +43,19 @@ fn told_column<P: RowPlaces + Copy>(
     places: P,
     expr: &Expr,
     default: &Value,
-    rows: &[&[Value]],
-    order: &[usize],
-    partitions: &Partitions,
+    arranged: &ArrangedRows,
     column: &mut [Value],
 ) -> Result<(), AnswerFault>
-    requires rows { length order.now ≡ length rows.now }
-    requires len { length order.now ≡ length partitions.now.keys }
-    requires below { All (λ i. i < length order.now) order.now }
-    requires room { length column.old ≡ length order.now }
-    requires few { length order.now < 2 ^ 31 }
-    ensures { (w : Windowed) → IsArranged w order.now partitions.now → Gives (λ _. map meaning column.new) result (values_told w (formula expr.now) (rows_seen rows.now) (meaning default.now) (λ i. P.place_told places (length (partition_rows w i)) (partition_at w i) (place_at w i))) }
+    requires { length column.old ≡ length arranged.now.order.now }
+    ensures { (w : Windowed) → IsArranged w arranged.now.order.now arranged.now.partitions.now → Gives (λ _. map meaning column.new) result (values_told w (formula expr.now) (rows_seen arranged.now.rows.now) (meaning default.now) (λ i. P.place_told places (length (partition_rows w i)) (partition_at w i) (place_at w i))) }
 {
-    let values = column_values(alloc, expr, rows)?;
+    let values = column_values(alloc, expr, arranged.rows)?;
     let call = Told {
         places,
         values,
         default,
     };
-    put_told(alloc, &call, order, partitions, column)?;
+    put_told(alloc, &call, arranged, column)?;
     Ok(())
 }
 
@@ -74,46 +64,34 @@ fn told_or_null<P: RowPlaces + Copy>(
     alloc: Global,
     places: P,
     expr: &Expr,
-    rows: &[&[Value]],
-    order: &[usize],
-    partitions: &Partitions,
+    arranged: &ArrangedRows,
     column: &mut [Value],
 ) -> Result<(), AnswerFault>
-    requires rows { length order.now ≡ length rows.now }
-    requires len { length order.now ≡ length partitions.now.keys }
-    requires below { All (λ i. i < length order.now) order.now }
-    requires room { length column.old ≡ length order.now }
-    requires few { length order.now < 2 ^ 31 }
-    ensures { (w : Windowed) → IsArranged w order.now partitions.now → Gives (λ _. map meaning column.new) result (values_told w (formula expr.now) (rows_seen rows.now) Null (λ i. P.place_told places (length (partition_rows w i)) (partition_at w i) (place_at w i))) }
+    requires { length column.old ≡ length arranged.now.order.now }
+    ensures { (w : Windowed) → IsArranged w arranged.now.order.now arranged.now.partitions.now → Gives (λ _. map meaning column.new) result (values_told w (formula expr.now) (rows_seen arranged.now.rows.now) Null (λ i. P.place_told places (length (partition_rows w i)) (partition_at w i) (place_at w i))) }
 {
     let null = Value::Null;
-    told_column(alloc, places, expr, &null, rows, order, partitions, column)
+    told_column(alloc, places, expr, &null, arranged, column)
 }
 
-/// Puts the column of a function on rows, by number, where the rows stand in the window's `order` and in `partitions`.
+/// Puts the column of a function on rows, by number, where they stand in the window's order.
 pub(crate) fn function_column(
     alloc: Global,
     function: &WindowFunction,
-    rows: &[&[Value]],
-    order: &[usize],
-    partitions: &Partitions,
+    arranged: &ArrangedRows,
     column: &mut [Value],
 ) -> Result<(), AnswerFault>
     requires sound { is_sound_function (function_plan function.now) ≡ true }
-    requires rows { length order.now ≡ length rows.now }
-    requires len { length order.now ≡ length partitions.now.keys }
-    requires below { All (λ i. i < length order.now) order.now }
-    requires room { length column.old ≡ length order.now }
-    requires few { length order.now < 2 ^ 31 }
-    ensures { (w : Windowed) → IsArranged w order.now partitions.now → Gives (λ _. map meaning column.new) result (function_column (rows_seen rows.now) w (function_plan function.now)) }
+    requires room { length column.old ≡ length arranged.now.order.now }
+    ensures { (w : Windowed) → IsArranged w arranged.now.order.now arranged.now.partitions.now → Gives (λ _. map meaning column.new) result (function_column (rows_seen arranged.now.rows.now) w (function_plan function.now)) }
 {
     match function {
-        WindowFunction::RowNumber => counted_column(alloc, RowNumber, order, partitions, column),
-        WindowFunction::Rank => counted_column(alloc, Rank, order, partitions, column),
-        WindowFunction::DenseRank => counted_column(alloc, DenseRank, order, partitions, column),
+        WindowFunction::RowNumber => counted_column(alloc, RowNumber, arranged, column),
+        WindowFunction::Rank => counted_column(alloc, Rank, arranged, column),
+        WindowFunction::DenseRank => counted_column(alloc, DenseRank, arranged, column),
         WindowFunction::Tile(tiles) => {
             let tile = Tile { tiles: *tiles };
-            counted_column(alloc, tile, order, partitions, column)
+            counted_column(alloc, tile, arranged, column)
         }
         WindowFunction::Lag {
             value,
@@ -121,7 +99,7 @@ pub(crate) fn function_column(
             default,
         } => {
             let lag = Lag { rows: *before };
-            told_column(alloc, lag, value, default, rows, order, partitions, column)
+            told_column(alloc, lag, value, default, arranged, column)
         }
         WindowFunction::Lead {
             value,
@@ -129,20 +107,20 @@ pub(crate) fn function_column(
             default,
         } => {
             let lead = Lead { rows: *after };
-            told_column(alloc, lead, value, default, rows, order, partitions, column)
+            told_column(alloc, lead, value, default, arranged, column)
         }
         WindowFunction::FirstValue(value) => {
-            told_or_null(alloc, FirstValue, value, rows, order, partitions, column)
+            told_or_null(alloc, FirstValue, value, arranged, column)
         }
         WindowFunction::LastValue(value) => {
-            told_or_null(alloc, LastValue, value, rows, order, partitions, column)
+            told_or_null(alloc, LastValue, value, arranged, column)
         }
         WindowFunction::NthValue { value, place } => {
             let nth = NthValue { n: *place };
-            told_or_null(alloc, nth, value, rows, order, partitions, column)
+            told_or_null(alloc, nth, value, arranged, column)
         }
         WindowFunction::Aggregated(aggregate) => {
-            aggregated_column(alloc, aggregate, rows, order, partitions, column)
+            aggregated_column(alloc, aggregate, arranged, column)
         }
     }
 }

@@ -18,6 +18,7 @@
 #![tactic(auto)]
 
 mod aggregated;
+mod arranged;
 mod calls;
 mod columns;
 mod functions;

@@ -93,10 +93,8 @@ fn read_table<'a>(schema: &Schema, rest: &'a [u8]) -> Result<&'a [u8], FileFault
     ensures found { IfOk result (λ more. rest.now ≡ table_text schema.now ++ more.now) }
     ensures fault { IfErr result (λ fault. (bytes : List ℕ) → GoesOn schema.now AtTable bytes rest.now → IsFault schema.now bytes fault) }
 {
-    match read_table_line(rest) {
-        Ok((len, after)) => table_behind(schema, len, after),
-        Err(fault) => Err(fault),
-    }
+    let (len, after) = read_table_line(rest)?;
+    table_behind(schema, len, after)
 }
 
 // The fault of a file with a content that is refused.
@@ -267,10 +265,8 @@ fn read_front<'a>(schema: &Schema, bytes: &'a [u8]) -> Result<&'a [u8], FileFaul
     ensures found { IfOk result (λ records. bytes.now ≡ head ++ (table_text schema.now ++ records.now)) }
     ensures fault { IfErr result (λ fault. IsFault schema.now bytes.now fault) }
 {
-    match read_head(bytes) {
-        Ok(rest) => read_table(schema, rest),
-        Err(fault) => Err(fault),
-    }
+    let rest = read_head(bytes)?;
+    read_table(schema, rest)
 }
 
 // Reads what stands behind the declaration into a set, beside one that is known.
@@ -293,10 +289,8 @@ pub fn read_beside(alloc: Global, known: &SegmentSet, bytes: &[u8]) -> Result<Se
     ensures schema { IfOk result (λ set. set.schema ≡ known.now.schema) }
     ensures fault { IfErr result (λ fault. IsFault known.now.schema bytes.now fault) }
 {
-    match read_front(known.schema(), bytes) {
-        Ok(records) => read_behind(alloc, known, records),
-        Err(fault) => Err(fault),
-    }
+    let records = read_front(known.schema(), bytes)?;
+    read_behind(alloc, known, records)
 }
 
 /// The set whose file the bytes are, under this declaration, or their first fault from left to right. The bytes are
@@ -306,11 +300,9 @@ pub fn read(alloc: Global, schema: &Schema, bytes: &[u8]) -> Result<SegmentSet, 
     ensures schema { IfOk result (λ set. set.schema ≡ schema.now) }
     ensures fault { IfErr result (λ fault. IsFault schema.now bytes.now fault) }
 {
-    match read_front(schema, bytes) {
-        Ok(records) => match schema.copy() {
-            Ok(copied) => read_behind(alloc, &SegmentSet::new(alloc, copied), records),
-            Err(_) => Err(FileFault::NoMemory),
-        },
-        Err(fault) => Err(fault),
-    }
+    let records = read_front(schema, bytes)?;
+    let Ok(copied) = schema.copy() else {
+        return Err(FileFault::NoMemory);
+    };
+    read_behind(alloc, &SegmentSet::new(alloc, copied), records)
 }

@@ -153,14 +153,7 @@ pub fn write<W: Write>(set: &SegmentSet, output: &mut Counted<W>) -> Result<(), 
     ensures front { OnErr result (AppendsFront (W.contents output.old.inner) (W.contents output.new.inner) (file_of set.now.schema set.now.view)) }
     ensures failed { OnErr result (output.new.failures ≡ 1) }
 {
-    if let Err(fault) = write_start(set, output) {
-        return Err(fault);
-    }
-    if let Err(fault) = write_records(set, output) {
-        return Err(fault);
-    }
-    match write_end(output, set.name_count()) {
-        Ok(()) => Ok(()),
-        Err(fault) => Err(fault),
-    }
+    write_start(set, output)?;
+    write_records(set, output)?;
+    write_end(output, set.name_count())
 }

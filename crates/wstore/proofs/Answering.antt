@@ -1,5 +1,6 @@
 -- Commands that nodes answer.
-use Rattle.std.proofs.Common.{Bool, ◌≡◌, ◌≢◌, ℕ, ◌+◌, ◌<◌, ◌≤◌, length, List, [], ◌∷◌, ◌++◌, get_or, set, map, None, Some, Result, Ok, Err, IsOk, ◌⊎◌, refl, sym, ap, ◌∙◌, subst, inl, inr, cond, ◌==◌, append-nil, true, false}
+use Rattle.std.proofs.Common.{Bool, ◌≡◌, ◌≢◌, ℕ, ◌+◌, ◌<◌, ◌≤◌, length, List, [], ◌∷◌, ◌++◌, get_or, set, map, None, Some, Result, Ok, Err, IsOk, IfOk, IfErr, OnOk, OnErr, ◌⊎◌, refl, sym, ap, ◌∙◌, subst, inl, inr, cond, ◌==◌, append-nil, true, false}
+use Rattle.std.proofs.lemmas.List.{set-get_or}
 use Rattle.std.specs.FinMap.{get, entries}
 use Rattle.wvalues.specs.Names.{NameParts}
 use Rattle.wvalues.specs.Meaning.{Meaning}
@@ -17,7 +18,7 @@ use Rattle.wset.specs.declared.words.Taken.{Taken}
 use Rattle.wset.specs.declared.words.Retired.{Retired}
 use Rattle.wset.specs.declared.words.Listed.{Listed}
 use Rattle.wstore.specs.Commands.{Command, Take, Retire as Retiring, Listing, Ask, Put, Get, longest_segment, longest_text, node_count, slot_count}
-use Rattle.wstore.specs.Replies.{Reply, text_of, Took, Was, RefusedSegment, Names, Answered, RefusedQuery, Done, RefusedFile, NoMemory}
+use Rattle.wstore.specs.Replies.{Reply, text_of, Took, Was, RefusedSegment, Names, Answered, RefusedQuery, Done, RefusedFile, NoMemory, take_text, get_text}
 use Rattle.wreplies.specs.Spelling.{file_text, taken_text, retired_text, segment_text, names_text, answer_text, query_text}
 use Rattle.wstore.specs.History.{Step, Answers, NodeAnswers, file_if, declaration, declared_by, segment_reply, delivers, gets, puts, heard, drawn, held, is_put, known, slot_file}
 use Rattle.wask.specs.Answer.{IsAnswer}
@@ -70,7 +71,7 @@ module _ (d : Declaration) (at : Places) (h : List Step) (n p : ℕ) (node : Nod
       ∙ ap (λ l. known h (p + 1) ++ l) (delivers_is (p + 1) ∙ told_here n (p + 1) (i ∷ []) (sym place)))
       (λ m other. delivers_is m ∙ told_elsewhere n m (i ∷ []) (λ e. other (sym e ∙ sym place))) (λ m other. gets_none m) puts_none deaf
 
-  pub taken_at : (origin number bytes : List ℕ) (name : NameParts) (new : NodeState) (word : Taken) (text : List ℕ) → SpellsName origin number name → IsOk (rows_of node.schema bytes) → word ≡ taken_word (get node.view name) bytes → new ≡ record node { view = join node.view (view_of_item (SegmentItem name bytes)) } → text ≡ taken_text word → AnswersAs d (places (set at.nodes p new) at.slots) h (Take n origin number bytes) text
+  taken_at : (origin number bytes : List ℕ) (name : NameParts) (new : NodeState) (word : Taken) (text : List ℕ) → SpellsName origin number name → IsOk (rows_of node.schema bytes) → word ≡ taken_word (get node.view name) bytes → new ≡ record node { view = join node.view (view_of_item (SegmentItem name bytes)) } → text ≡ taken_text word → AnswersAs d (places (set at.nodes p new) at.slots) h (Take n origin number bytes) text
   taken_at origin number bytes name new word text named read word_is new_is text_is =
       let c = Take n origin number bytes in
       let r = Took name word in
@@ -81,7 +82,7 @@ module _ (d : Declaration) (at : Places) (h : List Step) (n p : ℕ) (node : Nod
         stand = learns c r (SegmentItem name bytes) new (sound_segment d name bytes named.is_name (subst (λ s. IsOk (rows_of s bytes)) here_schema read)) refl new_is (λ m. refl) (λ m. refl) (λ k. refl) (λ m. refl);
       }
 
-  pub refused_at : (origin number bytes : List ℕ) (name : NameParts) (fault : SegmentFault) (text : List ℕ) → length bytes ≤ longest_segment → SpellsName origin number name → Fails fault (rows_of node.schema bytes) → text ≡ segment_text fault → AnswersAs d at h (Take n origin number bytes) text
+  refused_at : (origin number bytes : List ℕ) (name : NameParts) (fault : SegmentFault) (text : List ℕ) → length bytes ≤ longest_segment → SpellsName origin number name → Fails fault (rows_of node.schema bytes) → text ≡ segment_text fault → AnswersAs d at h (Take n origin number bytes) text
   refused_at origin number bytes name fault text short named fails text_is =
       let c = Take n origin number bytes in
       elim fails [
@@ -90,6 +91,15 @@ module _ (d : Declaration) (at : Places) (h : List Step) (n p : ℕ) (node : Nod
             (under d h c (RefusedSegment fault) stand.declared (here c (RefusedSegment fault) (Ok name, named, ap (λ r. segment_reply r node.view name bytes) (sym e)))) text_is refl
             (record { delivers_none = λ m. refl; gets_none = λ m. refl; puts_none = λ k. refl; hears_none = λ m. refl })
       ]
+
+  -- a node that is as it was stands where it stood
+  same_nodes : (new : NodeState) → new ≡ node → set at.nodes p new ≡ at.nodes
+  same_nodes new same = ap (set at.nodes p) (same ∙ is) ∙ set-get_or at.nodes p node
+
+  pub take_at : (origin number bytes : List ℕ) (name : NameParts) (told : Result Taken SegmentFault) (new : NodeState) (text : List ℕ) → length bytes ≤ longest_segment → SpellsName origin number name → IfOk told (λ word. word ≡ taken_word (get node.view name) bytes) → OnOk told (new ≡ record node { view = join node.view (view_of_item (SegmentItem name bytes)) }) → OnOk told (IsOk (rows_of node.schema bytes)) → IfErr told (λ fault. Fails fault (rows_of node.schema bytes)) → OnErr told (new ≡ node) → text ≡ take_text told → AnswersAs d (places (set at.nodes p new) at.slots) h (Take n origin number bytes) text
+  take_at origin number bytes name (Ok word) new text short named word_is new_is read fails same text_is = taken_at origin number bytes name new word text named read word_is new_is text_is
+  take_at origin number bytes name (Err fault) new text short named word_is new_is read fails same text_is =
+      subst (λ nodes. AnswersAs d (places nodes at.slots) h (Take n origin number bytes) text) (sym (same_nodes new same)) (refused_at origin number bytes name fault text short named fails text_is)
 
   pub retired_at : (origin number : List ℕ) (name : NameParts) (new : NodeState) (word : Retired) (text : List ℕ) → SpellsName origin number name → word ≡ retired_word (get node.view name) → new ≡ record node { view = join node.view (view_of_item (RetirementItem name)) } → text ≡ retired_text word → AnswersAs d (places (set at.nodes p new) at.slots) h (Retiring n origin number) text
   retired_at origin number name new word text named word_is new_is text_is =
@@ -135,7 +145,7 @@ module _ (d : Declaration) (at : Places) (h : List Step) (n p : ℕ) (node : Nod
   file_is : (slot q : ℕ) (bytes e : List ℕ) → q + 1 ≡ slot → q < slot_count → bytes ≡ get_or at.slots q e → bytes ≡ slot_file d h slot
   file_is slot q bytes e slot_is q_low is = is ∙ stand.slot q e q_low ∙ ap (slot_file d h) slot_is
 
-  pub got_at : (slot q : ℕ) (bytes e : List ℕ) (new : NodeState) (text : List ℕ) → q + 1 ≡ slot → q < slot_count → bytes ≡ get_or at.slots q e → LearnsFile node bytes new → text ≡ text_of Done → AnswersAs d (places (set at.nodes p new) at.slots) h (Get slot n) text
+  got_at : (slot q : ℕ) (bytes e : List ℕ) (new : NodeState) (text : List ℕ) → q + 1 ≡ slot → q < slot_count → bytes ≡ get_or at.slots q e → LearnsFile node bytes new → text ≡ text_of Done → AnswersAs d (places (set at.nodes p new) at.slots) h (Get slot n) text
   got_at slot q bytes e new text slot_is q_low bytes_are learned text_is =
       let c = Get slot n in
       let same_bytes = file_is slot q bytes e slot_is q_low bytes_are in
@@ -152,7 +162,7 @@ module _ (d : Declaration) (at : Places) (h : List Step) (n p : ℕ) (node : Nod
             (λ m other. refl) (λ m other. drawn_elsewhere n m slot (λ e. other (sym e ∙ sym place))) (λ k. refl) (λ m. refl);
       }
 
-  pub refused_file_at : (slot q : ℕ) (bytes e text : List ℕ) (fault : FileFault) → q + 1 ≡ slot → q < slot_count → bytes ≡ get_or at.slots q e → IsFault node.schema bytes fault → text ≡ file_text fault → AnswersAs d at h (Get slot n) text
+  refused_file_at : (slot q : ℕ) (bytes e text : List ℕ) (fault : FileFault) → q + 1 ≡ slot → q < slot_count → bytes ≡ get_or at.slots q e → IsFault node.schema bytes fault → text ≡ file_text fault → AnswersAs d at h (Get slot n) text
   refused_file_at slot q bytes e text fault slot_is q_low bytes_are is_fault text_is = by fault here_fault text_is
     where
       here_fault : IsFault d (slot_file d h slot) fault
@@ -175,6 +185,11 @@ module _ (d : Declaration) (at : Places) (h : List Step) (n p : ℕ) (node : Nod
       by (files.Segment fault) i t = told (files.Segment fault) i (λ w. cc) t
       by files.Trailing i t = told files.Trailing i (λ w. cc) t
       by files.NoMemory i t = quietly (Get slot n) NoMemory text (inr (put_where d (is_put h slot) (held h slot) i, refl)) t refl (record { delivers_none = λ m. refl; gets_none = λ m. refl; puts_none = λ k. refl; hears_none = λ m. refl })
+
+  pub get_at : (slot q : ℕ) (bytes e : List ℕ) (told : Result (Unit {0}) FileFault) (new : NodeState) (text : List ℕ) → q + 1 ≡ slot → q < slot_count → bytes ≡ get_or at.slots q e → OnOk told (LearnsFile node bytes new) → IfErr told (λ fault. IsFault node.schema bytes fault) → OnErr told (new ≡ node) → text ≡ get_text told → AnswersAs d (places (set at.nodes p new) at.slots) h (Get slot n) text
+  get_at slot q bytes e (Ok _) new text slot_is q_low bytes_are learned fails same text_is = got_at slot q bytes e new text slot_is q_low bytes_are learned text_is
+  get_at slot q bytes e (Err fault) new text slot_is q_low bytes_are learned fails same text_is =
+      subst (λ nodes. AnswersAs d (places nodes at.slots) h (Get slot n) text) (sym (same_nodes new same)) (refused_file_at slot q bytes e text fault slot_is q_low bytes_are fails text_is)
 
   -- a slot whose file is refused for a segment was put
   pub got_put : (slot q : ℕ) (bytes e : List ℕ) (fault : FileFault) (refused : SegmentFault) → q + 1 ≡ slot → q < slot_count → bytes ≡ get_or at.slots q e → IsFault node.schema bytes fault → fault ≡ files.Segment refused → is_put h slot ≡ true

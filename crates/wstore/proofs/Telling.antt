@@ -19,14 +19,13 @@ use Rattle.wstore.specs.Replies.{Reply, Declared, RefusedTable, RefusedName, Ref
 use Rattle.wreplies.specs.Spelling.{table_text, name_text, segment_text, query_text, no_memory}
 use Rattle.wstore.specs.Requests.{IsRefusedAs, refusal_text}
 use Rattle.wstore.specs.History.{Step, AnswersUnder, MayLackMemory, declaration, declared_by, is_declared, is_put, is_put_by, held, known, puts, replaced, file_if, heard, heard_items, heard_bad, entered, stream, handled, is_bad, segment_reply}
-use Rattle.wstore.specs.Standing.{KnowsThese, IsSound, Listens, StandAt, places}
+use Rattle.wstore.specs.Standing.{KnowsThese, IsSound, Listens, Places, StandAt, places}
 use Rattle.wplanner.specs.declared.fault.AskFault.TheVariants as queries
 use Rattle.wstore.specs.declared.request.Refusal.{Refusal}
 use Rattle.wstore.specs.declared.request.Refusal.TheVariants as refusals
 use Rattle.wstore.proofs.Soundness.{sound_nothing}
 use Rattle.wstore.proofs.Standing.{IsQuiet, stand_quiet, untold, or_none, listens_still}
 use Rattle.wstore.specs.Sessions.{ClusterStands, IsSilent, Stands, Tells}
-use Rattle.wstore.specs.declared.cluster.Cluster.{Cluster}
 use Rattle.wstore.specs.declared.session.Session.{Session}
 
 none_of : (o : Option Declaration) → is_some o ≡ false → o ≡ None
@@ -34,7 +33,7 @@ none_of None e = refl
 none_of (Some d) e = cc
 
 -- where nothing is declared, nothing is known or put
-nothing_yet : (cluster : Option Cluster) (h : List Step) → is_declared h ≡ false → ClusterStands cluster h → ((n : ℕ) → known h n ≡ []) × ((k : ℕ) → is_put h k ≡ false) × ((n : ℕ) → IsSilent h n)
+nothing_yet : (cluster : Option Places) (h : List Step) → is_declared h ≡ false → ClusterStands cluster h → ((n : ℕ) → known h n ≡ []) × ((k : ℕ) → is_put h k ≡ false) × ((n : ℕ) → IsSilent h n)
 nothing_yet None h e stands = (stands.1, stands.2, stands.3)
 nothing_yet (Some cluster) h e stands = let wrong : true ≡ false = sym (ap (λ o. is_some o) (stands.1.declared)) ∙ e in cc
 
@@ -57,10 +56,10 @@ silent_listens d h n s = record {
 }
 
 -- a step by which no node is told anything, nothing is put, and nothing is declared
-pub stands_untold : (cluster : Option Cluster) (h : List Step) (c : Command) (r : Reply) → ClusterStands cluster h → declared_by r (declaration h) ≡ declaration h → IsQuiet c r → ClusterStands cluster (record { command = c; reply = r } ∷ h)
+pub stands_untold : (cluster : Option Places) (h : List Step) (c : Command) (r : Reply) → ClusterStands cluster h → declared_by r (declaration h) ≡ declaration h → IsQuiet c r → ClusterStands cluster (record { command = c; reply = r } ∷ h)
 stands_untold None h c r stands same quiet =
     (same ∙ stands.0, λ n. untold h c r n (quiet.delivers_none n) (quiet.gets_none n) ∙ stands.1 n, λ k. ap (λ o. is_put_by o (is_put h k)) (quiet.puts_none k) ∙ stands.2 k, λ n. silent_still h c r n (quiet.hears_none n) (stands.3 n))
-stands_untold (Some cluster) h c r stands same quiet = (stands.0, stand_quiet stands.0 (places cluster.nodes.items cluster.slots.items) h c r stands.1 same quiet)
+stands_untold (Some cluster) h c r stands same quiet = (stands.0, stand_quiet stands.0 cluster h c r stands.1 same quiet)
 
 -- a slot that was not put holds nothing
 holds_none : (h : List Step) (k : ℕ) → is_put h k ≡ false → held h k ≡ []
@@ -93,8 +92,8 @@ fresh_stand d h c r k j is js declared quiet none unput silent = record {
     still_unput : (n : ℕ) → is_put (record { command = c; reply = r } ∷ h) n ≡ false
     still_unput n = ap (λ o. is_put_by o (is_put h n)) (quiet.puts_none n) ∙ unput n
 
-pub declares : (session : Session) (new : Cluster) (h : List Step) (bytes : List ℕ) (d : Declaration) → is_declared h ≡ false → Stands session h → ReadsDeclaration bytes (Ok d) → new.nodes.items ≡ replicate node_count (fresh_node d map.empty) → new.slots.items ≡ replicate slot_count [] → Tells (record session { cluster = Some new }) h (Declare bytes) (111 ∷ 107 ∷ 10 ∷ [])
-declares session new h bytes d e stands reads nodes_is slots_are =
+pub declares : (session : Session) (new : Places) (h : List Step) (bytes : List ℕ) (d : Declaration) → is_declared h ≡ false → Stands session h → ReadsDeclaration bytes (Ok d) → new ≡ places (replicate node_count (fresh_node d map.empty)) (replicate slot_count []) → Tells (record session { cluster = Some new }) h (Declare bytes) (111 ∷ 107 ∷ 10 ∷ [])
+declares session new h bytes d e stands reads is =
     let none = nothing_yet session.cluster h e stands in
     let s : Step = record { command = Declare bytes; reply = Declared d } in
     record {
@@ -103,9 +102,8 @@ declares session new h bytes d e stands reads nodes_is slots_are =
       text_is = refl;
       stands = (
         d,
-        subst (λ slots. StandAt d (places new.nodes.items slots) (s ∷ h)) (sym slots_are)
-            (subst (λ nodes. StandAt d (places nodes (replicate slot_count [])) (s ∷ h)) (sym nodes_is)
-            (fresh_stand d h (Declare bytes) (Declared d) node_count slot_count refl refl refl (record { delivers_none = λ n. refl; gets_none = λ n. refl; puts_none = λ k. refl; hears_none = λ n. refl }) none.0 none.1 none.2)),
+        subst (λ at. StandAt d at (s ∷ h)) (sym is)
+            (fresh_stand d h (Declare bytes) (Declared d) node_count slot_count refl refl refl (record { delivers_none = λ n. refl; gets_none = λ n. refl; puts_none = λ k. refl; hears_none = λ n. refl }) none.0 none.1 none.2),
       );
     }
 

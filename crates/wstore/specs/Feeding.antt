@@ -1,5 +1,5 @@
 -- What feeding a node writes.
-use Rattle.std.specs.Prelude.{◌≡◌, ℕ, Bool, List, ◌∷◌, ◌++◌, take, length, Option, ◌⊎◌}
+use Rattle.std.specs.Prelude.{◌≡◌, ℕ, Bool, true, false, List, ◌∷◌, ◌++◌, take, length, Option, ◌⊎◌}
 use Rattle.std.specs.List.{flat_map}
 use Rattle.std.specs.Io.KnownBytes.{Appends}
 use Rattle.wsegment.specs.Declaration.{Declaration}
@@ -46,6 +46,21 @@ pub record SendsFront (old : NodeState) (held new_held : Option (List ℕ)) : Ty
 
 abbrev pub SendsPart : NodeState → Option (List ℕ) → Option (List ℕ) → Type 0
 SendsPart old held new_held = SendsSome old held new_held ⊎ SendsFront old held new_held
+
+-- the piece entered the stream of the node, which was not bad, and all messages that are whole then were handled; or the
+-- stream is bad, or memory ran out, and the node is as it was
+abbrev pub Feeds : NodeState → List ℕ → NodeState → Option (List ℕ) → Option (List ℕ) → Type 0
+Feeds old piece new held new_held =
+    ((old.is_bad ≡ false) × SendsAll (record old { held = old.held ++ piece }) new held new_held)
+    ⊎ ((old.is_bad ≡ true) × (new ≡ old) × Appends held new_held (fed_text 0 true))
+    ⊎ ((old.is_bad ≡ false) × (new ≡ old) × Appends held new_held no_memory)
+
+-- a front was written of what feeding the piece comes to
+abbrev pub FeedsPart : NodeState → List ℕ → Option (List ℕ) → Option (List ℕ) → Type 0
+FeedsPart old piece held new_held =
+    ((old.is_bad ≡ false) × SendsPart (record old { held = old.held ++ piece }) held new_held)
+    ⊎ ((old.is_bad ≡ true) × ((n : ℕ) × Appends held new_held (take n (fed_text 0 true))))
+    ⊎ ((old.is_bad ≡ false) × ((n : ℕ) × Appends held new_held (take n no_memory)))
 
 -- a node was fed a piece, which was answered in full, and the nodes and slots stand behind it
 pub record FedAs (d : Declaration) (at : Places) (h : List Step) (n : ℕ) (piece : List ℕ) (held new_held : Option (List ℕ)) : Type 0 where

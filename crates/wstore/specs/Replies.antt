@@ -1,5 +1,5 @@
 -- The replies to commands, and how each is spelled.
-use Rattle.std.specs.Prelude.{ℕ, Bool, true, false, List, [], ◌∷◌, ◌++◌, codes, length}
+use Rattle.std.specs.Prelude.{ℕ, Bool, true, false, List, [], ◌∷◌, ◌++◌, codes, length, Result, Ok, Err}
 use Rattle.std.specs.Fmt.{decimal}
 use Rattle.std.specs.List.{flat_map}
 use Rattle.wvalues.specs.Names.{NameParts}
@@ -82,3 +82,13 @@ text_of (Fed lines bad) = flat_map line_text lines ++ fed_text (length lines) ba
 text_of Done = codes "ok\n"
 text_of (RefusedFile fault) = file_text fault
 text_of NoMemory = no_memory
+
+-- what a take came to, as it is spelled
+abbrev pub take_text : Result Taken SegmentFault → List ℕ
+take_text (Ok word) = taken_text word
+take_text (Err fault) = segment_text fault
+
+-- what reading a slot came to
+abbrev pub get_text : Result (Unit {0}) FileFault → List ℕ
+get_text (Ok _) = text_of Done
+get_text (Err fault) = file_text fault

@@ -4,8 +4,7 @@ use Rattle.wsegment.specs.Declaration.{Declaration}
 use Rattle.wstore.specs.Commands.{Command}
 use Rattle.wstore.specs.Replies.{Reply, text_of}
 use Rattle.wstore.specs.History.{Step, Answers, declaration, known, is_put, is_bad, stream, handled}
-use Rattle.wstore.specs.Standing.{StandAt, places}
-use Rattle.wstore.specs.declared.cluster.Cluster.{Cluster}
+use Rattle.wstore.specs.Standing.{Places, StandAt}
 use Rattle.wstore.specs.declared.request.Command as code
 use Rattle.wstore.specs.declared.request.Command.TheVariants as commands
 use Rattle.wstore.specs.declared.session.Session.{Session}
@@ -14,9 +13,9 @@ use Rattle.wstore.specs.declared.session.Session.{Session}
 abbrev pub IsSilent : List Step → ℕ → Type 0
 IsSilent h n = (is_bad h n ≡ false) × (stream h n ≡ []) × (handled h n ≡ [])
 
-abbrev pub ClusterStands : Option Cluster → List Step → Type 0
+abbrev pub ClusterStands : Option Places → List Step → Type 0
 ClusterStands None h = (declaration h ≡ None) × ((n : ℕ) → known h n ≡ []) × ((k : ℕ) → is_put h k ≡ false) × ((n : ℕ) → IsSilent h n)
-ClusterStands (Some cluster) h = (d : Declaration) × StandAt d (places cluster.nodes.items cluster.slots.items) h
+ClusterStands (Some cluster) h = (d : Declaration) × StandAt d cluster h
 
 -- nothing was declared, known or put, or the nodes and slots stand where the history led
 abbrev pub Stands : Session → List Step → Type 0

@@ -1,5 +1,5 @@
 -- Where nodes stand after a history.
-use Rattle.std.specs.Prelude.{◌≡◌, ℕ, ◌+◌, ◌<◌, false, List, ◌∷◌, ◌++◌, length, slice_index_or, Some}
+use Rattle.std.specs.Prelude.{◌≡◌, ℕ, ◌+◌, ◌<◌, false, refl, List, ◌∷◌, ◌++◌, length, slice_index_or, Some}
 use Rattle.std.specs.List.{flat_map, AllByRecursion}
 use Rattle.std.specs.FinMap.{get}
 use Rattle.wvalues.specs.Names.{NameParts}
@@ -8,7 +8,8 @@ use Rattle.wset.specs.Items.{Item, view_of}
 use Rattle.wset.specs.Views.{Known}
 use Rattle.wexchange.specs.Files.{IsRecord}
 use Rattle.wexchange.specs.Messages.{IsMessage, message_text}
-use Rattle.wstore.specs.Nodes.{NodeState}
+use Rattle.std.specs.Coded.{Coded, code_by, coded×, coded_ℕ, coded_list}
+use Rattle.wstore.specs.Nodes.{NodeState, coded_node}
 use Rattle.wstore.specs.Commands.{Command, node_count, slot_count}
 use Rattle.wstore.specs.Replies.{Reply, text_of}
 use Rattle.wstore.specs.History.{Step, Answers, declaration, known, held, slot_file, stream, handled, is_bad}
@@ -35,6 +36,11 @@ pub record Places : Type 0 where
 
 abbrev pub places : List NodeState → List (List ℕ) → Places
 places nodes slots = record { nodes = nodes; slots = slots }
+
+abbrev pub coded_places : Coded Places
+coded_places =
+    code_by (List NodeState × List (List ℕ)) (coded× (coded_list coded_node) (coded_list (coded_list coded_ℕ)))
+    (λ at. (at.nodes, at.slots)) (λ p. record { nodes = p.0; slots = p.1 }) (λ _. refl)
 
 -- they are of this declaration, and stand where the history led; a slot holds the bytes of its file
 pub record StandAt (d : Declaration) (at : Places) (h : List Step) : Type 0 where

@@ -1,5 +1,5 @@
 //! The nodes of a script, under one declaration.
-ghost use Rattle.std.specs.Prelude.{◌≡◌, ◌≤◌, ℕ, List, [], Ok, true, length, replicate, IfOk, IfErr, OnOk, OnErr, vec_len};
+ghost use Rattle.std.specs.Prelude.{◌≡◌, ◌≤◌, ℕ, List, [], Ok, Err, IsErr, true, length, replicate, IfOk, IfErr, OnOk, OnErr};
 ghost use Rattle.wlines.specs.Pending.{IsSoundWriter};
 ghost use Rattle.std.specs.FinMap as map;
 ghost use Rattle.wsegment.specs.Declaration.{Declaration};
@@ -7,28 +7,45 @@ ghost use Rattle.wvalues.specs.NameReading.{ReadsName};
 ghost use Rattle.wstore.specs.Commands.{Command as Spelled, Take, Retire as Retiring, Listing, Ask, Put, Get, longest_segment, longest_text, node_count, slot_count};
 ghost use Rattle.wstore.specs.History.{Step, is_put};
 ghost use Rattle.wstore.specs.Nodes.{fresh_node};
+ghost use Rattle.wstore.specs.Replies.{get_text, take_text};
+ghost use Rattle.wreplies.specs.Texts.{bytes_of};
 
-use crate::feeding::tell_messages;
+use crate::feeding::feed_node;
 use crate::node::Node;
 use crate::numbers::{NODES, NodeNumber, SLOTS, SlotNumber};
 use crate::request::Order;
-use crate::runs::{RunFault, send};
+use crate::runs::RunFault;
 use crate::slot::Slot;
 use std::alloc::{AllocError, Global};
 use std::io::Write;
-use wexchange::PushFault;
+use std::marker::Model;
+use wexchange::FileFault;
 use wreplies::{Text, answer, names, refused_file, refused_query, refused_segment, retired, taken};
-use wsegment::Schema;
+use wsegment::{Schema, SegmentFault};
+use wset::{TakeError, Taken};
 use wvalues::{Counted, Name};
 
 /// The nodes and slots of a script. A slot holds the exchange file of what a node knew when it was put, or no bytes.
+/// Contracts see them as what the nodes stand for, and the bytes of the slots.
 #[derive(Drop)]
 pub(crate) struct Cluster {
     alloc: Global,
     nodes: Vec<Node>,
     slots: Vec<Slot>,
-    ghost full: { vec_len nodes ≡ node_count },
-    ghost full_slots: { vec_len slots ≡ slot_count },
+}
+
+impl Model for Cluster {
+    ghost use Rattle.std.specs.Prelude.{◌≡◌, length};
+    ghost use Rattle.wstore.specs.Commands.{node_count, slot_count};
+    ghost use Rattle.wstore.specs.Standing.{Places, coded_places, places};
+
+    ghost Value = { Places };
+
+    ghost coded = { coded_places };
+
+    ghost view = { λ c. places c.nodes.items c.slots.items };
+
+    ghost invariant = { λ c. (length c.nodes.items ≡ node_count) × (length c.slots.items ≡ slot_count) };
 }
 
 // Nodes that know nothing.
@@ -54,18 +71,44 @@ fn empty_slots(alloc: Global) -> Result<Vec<Slot>, AllocError>
     Ok(slots)
 }
 
+// What a take came to, as it is spelled. `AllocError`: a refusal found no memory.
+fn take_text(alloc: Global, told: Result<Taken, TakeError>) -> Result<Text, AllocError>
+    ensures text { IfOk result (λ text. bytes_of text ≡ take_text told) }
+    ensures lacks { OnErr result (IsErr told) }
+{
+    match told {
+        Ok(word) => Ok(Text::Fixed(taken(word))),
+        Err(fault) => {
+            let text = refused_segment(alloc, fault)?;
+            Ok(text)
+        }
+    }
+}
+
+// What reading a slot came to, as it is spelled. `AllocError`: the refusal of a segment found no memory.
+fn get_text(alloc: Global, told: Result<(), FileFault>) -> Result<Text, AllocError>
+    ensures text { IfOk result (λ text. bytes_of text ≡ get_text told) }
+    ensures lacks { OnErr result ((refused : SegmentFault) × (told ≡ Err (FileFault.Segment refused))) }
+{
+    match told {
+        Ok(()) => Ok(Text::Fixed(b"ok\n")),
+        Err(fault) => {
+            let text = refused_file(alloc, fault)?;
+            Ok(text)
+        }
+    }
+}
+
 impl Cluster {
     ghost use Rattle.std.specs.Prelude.{◌+◌, ◌-◌, ◌<◌, slice_index_or};
     ghost use Rattle.wstore.specs.Standing.{StandAt, AnswersAs, places};
-    ghost use Rattle.wreplies.specs.Texts.{bytes_of};
     ghost use Rattle.wstore.specs.Requests.{IsOrderAt};
     ghost use Rattle.wstore.specs.Feeding.{FedAs};
     ghost use Rattle.wstore.specs.Steps.{FedPart};
 
     /// Nodes that know nothing.
     pub(crate) fn new(alloc: Global, schema: &Schema) -> Result<Cluster, AllocError>
-        ensures nodes { IfOk result (λ c. c.nodes.items ≡ replicate node_count (fresh_node schema.now map.empty)) }
-        ensures slots { IfOk result (λ c. c.slots.items ≡ replicate slot_count []) }
+        ensures { IfOk result (λ c. c ≡ places (replicate node_count (fresh_node schema.now map.empty)) (replicate slot_count [])) }
     {
         let nodes = new_nodes(alloc, schema)?;
         let slots = empty_slots(alloc)?;
@@ -80,7 +123,7 @@ impl Cluster {
     fn node(&self, number: NodeNumber) -> &Node
         ensures place { number - 1 + 1 ≡ number }
         ensures in_range { number - 1 < node_count }
-        ensures node { result.now ≡ slice_index_or self.now.nodes.items (number - 1) result.now }
+        ensures node { result.now ≡ slice_index_or self.now.nodes (number - 1) result.now }
     {
         &self.nodes[number.place()]
     }
@@ -92,25 +135,18 @@ impl Cluster {
         name: Name,
         bytes: &[u8],
     ) -> Result<Text, AllocError>
-        ensures answers { IfOk result (λ text. (d : Declaration) (h : List Step) (origin number : List ℕ) → length bytes.now ≤ longest_segment → ReadsName origin number (Ok name) → StandAt d (places self.old.nodes.items self.old.slots.items) h → AnswersAs d (places self.new.nodes.items self.new.slots.items) h (Take node origin number bytes.now) (bytes_of text)) }
-        ensures err { OnErr result (self.new.nodes.items ≡ self.old.nodes.items) }
-        ensures err_slots { OnErr result (self.new.slots.items ≡ self.old.slots.items) }
+        ensures answers { IfOk result (λ text. (d : Declaration) (h : List Step) (origin number : List ℕ) → length bytes.now ≤ longest_segment → ReadsName origin number (Ok name) → StandAt d self.old h → AnswersAs d self.new h (Take node origin number bytes.now) (bytes_of text)) }
+        ensures err { OnErr result (self.new ≡ self.old) }
     {
         let place = node.place();
-        match self.nodes[place].take(name, bytes) {
-            Ok(word) => Ok(Text::Fixed(taken(word))),
-            Err(fault) => {
-                let text = refused_segment(self.alloc, fault)?;
-                Ok(text)
-            }
-        }
+        let told = self.nodes[place].take(name, bytes);
+        take_text(self.alloc, told)
     }
 
     /// Retires a name at a node.
     pub(crate) fn retire(&mut self, node: NodeNumber, name: Name) -> Result<Text, AllocError>
-        ensures answers { IfOk result (λ text. (d : Declaration) (h : List Step) (origin number : List ℕ) → ReadsName origin number (Ok name) → StandAt d (places self.old.nodes.items self.old.slots.items) h → AnswersAs d (places self.new.nodes.items self.new.slots.items) h (Retiring node origin number) (bytes_of text)) }
-        ensures err { OnErr result (self.new.nodes.items ≡ self.old.nodes.items) }
-        ensures err_slots { OnErr result (self.new.slots.items ≡ self.old.slots.items) }
+        ensures answers { IfOk result (λ text. (d : Declaration) (h : List Step) (origin number : List ℕ) → ReadsName origin number (Ok name) → StandAt d self.old h → AnswersAs d self.new h (Retiring node origin number) (bytes_of text)) }
+        ensures err { OnErr result (self.new ≡ self.old) }
     {
         let place = node.place();
         let word = self.nodes[place].retire(name)?;
@@ -119,7 +155,7 @@ impl Cluster {
 
     /// Lists the names that a node knows.
     pub(crate) fn list(&self, node: NodeNumber) -> Result<Text, AllocError>
-        ensures { IfOk result (λ text. (d : Declaration) (h : List Step) → StandAt d (places self.now.nodes.items self.now.slots.items) h → AnswersAs d (places self.now.nodes.items self.now.slots.items) h (Listing node) (bytes_of text)) }
+        ensures { IfOk result (λ text. (d : Declaration) (h : List Step) → StandAt d self.now h → AnswersAs d self.now h (Listing node) (bytes_of text)) }
     {
         let all = self.node(node).list()?;
         let text = names(self.alloc, &all)?;
@@ -128,7 +164,7 @@ impl Cluster {
 
     /// Asks a node.
     pub(crate) fn ask(&self, node: NodeNumber, text: &[u8]) -> Result<Text, AllocError>
-        ensures { IfOk result (λ reply. (d : Declaration) (h : List Step) → length text.now ≤ longest_text → StandAt d (places self.now.nodes.items self.now.slots.items) h → AnswersAs d (places self.now.nodes.items self.now.slots.items) h (Ask node text.now) (bytes_of reply)) }
+        ensures { IfOk result (λ reply. (d : Declaration) (h : List Step) → length text.now ≤ longest_text → StandAt d self.now h → AnswersAs d self.now h (Ask node text.now) (bytes_of reply)) }
     {
         match self.node(node).ask(text) {
             Ok(bytes) => {
@@ -144,9 +180,8 @@ impl Cluster {
 
     /// Puts the exchange file of what a node knows into a slot. Later steps of the node do not reach it.
     pub(crate) fn put(&mut self, node: NodeNumber, slot: SlotNumber) -> Result<Text, AllocError>
-        ensures answers { IfOk result (λ text. (d : Declaration) (h : List Step) → StandAt d (places self.old.nodes.items self.old.slots.items) h → AnswersAs d (places self.new.nodes.items self.new.slots.items) h (Put node slot) (bytes_of text)) }
-        ensures err { OnErr result (self.new.nodes.items ≡ self.old.nodes.items) }
-        ensures err_slots { OnErr result (self.new.slots.items ≡ self.old.slots.items) }
+        ensures answers { IfOk result (λ text. (d : Declaration) (h : List Step) → StandAt d self.old h → AnswersAs d self.new h (Put node slot) (bytes_of text)) }
+        ensures err { OnErr result (self.new ≡ self.old) }
     {
         let from = node.place();
         let to = slot.place();
@@ -158,21 +193,15 @@ impl Cluster {
     /// Joins what the file of a slot tells into a node, or refuses the slot's bytes. A slot that was not put needs no
     /// memory.
     pub(crate) fn get(&mut self, slot: SlotNumber, node: NodeNumber) -> Result<Text, AllocError>
-        ensures answers { IfOk result (λ text. (d : Declaration) (h : List Step) → StandAt d (places self.old.nodes.items self.old.slots.items) h → AnswersAs d (places self.new.nodes.items self.new.slots.items) h (Get slot node) (bytes_of text)) }
-        ensures err { OnErr result (self.new.nodes.items ≡ self.old.nodes.items) }
-        ensures err_slots { OnErr result (self.new.slots.items ≡ self.old.slots.items) }
-        ensures lacks { OnErr result ((d : Declaration) (h : List Step) → StandAt d (places self.old.nodes.items self.old.slots.items) h → is_put h slot ≡ true) }
+        ensures answers { IfOk result (λ text. (d : Declaration) (h : List Step) → StandAt d self.old h → AnswersAs d self.new h (Get slot node) (bytes_of text)) }
+        ensures err { OnErr result (self.new ≡ self.old) }
+        ensures lacks { OnErr result ((d : Declaration) (h : List Step) → StandAt d self.old h → is_put h slot ≡ true) }
     {
         let from = slot.place();
         let to = node.place();
         let file = self.slots[from].as_slice();
-        match self.nodes[to].get(file) {
-            Ok(()) => Ok(Text::Fixed(b"ok\n")),
-            Err(fault) => {
-                let text = refused_file(self.alloc, fault)?;
-                Ok(text)
-            }
-        }
+        let told = self.nodes[to].get(file);
+        get_text(self.alloc, told)
     }
 
     /// Feeds a node a piece of its delivery stream, and writes what its messages are told.
@@ -183,53 +212,29 @@ impl Cluster {
         piece: &[u8],
     ) -> Result<(), RunFault>
         requires { IsSoundWriter output.old }
-        ensures ok { OnOk result ((d : Declaration) (h : List Step) → StandAt d (places self.old.nodes.items self.old.slots.items) h → FedAs d (places self.new.nodes.items self.new.slots.items) h node piece.now (W.contents output.old.inner) (W.contents output.new.inner)) }
+        ensures ok { OnOk result ((d : Declaration) (h : List Step) → StandAt d self.old h → FedAs d self.new h node piece.now (W.contents output.old.inner) (W.contents output.new.inner)) }
         ensures sound { OnOk result (IsSoundWriter output.new) }
-        ensures part { OnErr result ((d : Declaration) (h : List Step) → StandAt d (places self.old.nodes.items self.old.slots.items) h → FedPart h node piece.now (W.contents output.old.inner) (W.contents output.new.inner)) }
+        ensures part { OnErr result ((d : Declaration) (h : List Step) → StandAt d self.old h → FedPart h node piece.now (W.contents output.old.inner) (W.contents output.new.inner)) }
         ensures fault { IfErr result (λ e. e ≡ RunFault.Write) }
         ensures cause { OnErr result (output.new.failures ≡ 1) }
     {
         let place = node.place();
-        let fed = &mut self.nodes[place];
-        match fed.feed(piece) {
-            Ok(()) => tell_messages(self.alloc, output, fed),
-            Err(PushFault::Bad) => send(output, b"refused B1\n"),
-            Err(PushFault::NoMemory) => send(output, b"no memory\n"),
-        }
+        feed_node(self.alloc, output, &mut self.nodes[place], piece)
     }
 
     /// The reply of a node.
     pub(crate) fn answer(&mut self, node: NodeNumber, order: &Order) -> Result<Text, AllocError>
-        ensures answers { IfOk result (λ text. (d : Declaration) (h : List Step) (c : Spelled) → IsOrderAt node order.now c → StandAt d (places self.old.nodes.items self.old.slots.items) h → AnswersAs d (places self.new.nodes.items self.new.slots.items) h c (bytes_of text)) }
-        ensures err { OnErr result (self.new.nodes.items ≡ self.old.nodes.items) }
-        ensures err_slots { OnErr result (self.new.slots.items ≡ self.old.slots.items) }
-        ensures lacks { OnErr result ((slot : ℕ) (d : Declaration) (h : List Step) → order.now ≡ Order.Get slot → StandAt d (places self.old.nodes.items self.old.slots.items) h → is_put h slot ≡ true) }
+        ensures answers { IfOk result (λ text. (d : Declaration) (h : List Step) (c : Spelled) → IsOrderAt node order.now c → StandAt d self.old h → AnswersAs d self.new h c (bytes_of text)) }
+        ensures err { OnErr result (self.new ≡ self.old) }
+        ensures lacks { OnErr result ((slot : ℕ) (d : Declaration) (h : List Step) → order.now ≡ Order.Get slot → StandAt d self.old h → is_put h slot ≡ true) }
     {
         match order {
-            Order::Take(name, bytes) => {
-                let text = self.take(node, *name, bytes)?;
-                Ok(text)
-            }
-            Order::Retire(name) => {
-                let text = self.retire(node, *name)?;
-                Ok(text)
-            }
-            Order::List => {
-                let text = self.list(node)?;
-                Ok(text)
-            }
-            Order::Ask(text) => {
-                let text = self.ask(node, text)?;
-                Ok(text)
-            }
-            Order::Put(slot) => {
-                let text = self.put(node, *slot)?;
-                Ok(text)
-            }
-            Order::Get(slot) => {
-                let text = self.get(*slot, node)?;
-                Ok(text)
-            }
+            Order::Take(name, bytes) => self.take(node, *name, bytes),
+            Order::Retire(name) => self.retire(node, *name),
+            Order::List => self.list(node),
+            Order::Ask(text) => self.ask(node, text),
+            Order::Put(slot) => self.put(node, *slot),
+            Order::Get(slot) => self.get(*slot, node),
         }
     }
 }

@@ -4,13 +4,14 @@ ghost use Rattle.std.specs.Io.KnownBytes.{Appends};
 ghost use Rattle.wlines.specs.Pending.{IsSoundWriter};
 ghost use Rattle.wreplies.specs.Texts.{bytes_of};
 ghost use Rattle.wstore.specs.Replies.{fed_text};
-ghost use Rattle.wstore.specs.Feeding.{IsTextOf, SendsAll, SendsPart};
+ghost use Rattle.wstore.specs.Feeding.{Feeds, FeedsPart, IsTextOf, SendsAll, SendsPart};
 
 use crate::node::{Node, Reply};
 use crate::runs::{RunFault, send};
 use itoa::Buffer;
 use std::alloc::Global;
 use std::io::Write;
+use wexchange::PushFault;
 use wreplies::{Text, refused_segment, retired, taken};
 use wvalues::Counted;
 
@@ -72,8 +73,8 @@ fn send_fed<W: Write>(output: &mut Counted<W>, count: usize) -> Result<(), RunFa
     send_number(output, count)
 }
 
-/// Handles the messages that are whole, and writes what each is told, and then their number, or that the stream is bad.
-pub(crate) fn tell_messages<W: Write>(
+// Handles the messages that are whole, and writes what each is told, and then their number, or that the stream is bad.
+fn tell_messages<W: Write>(
     alloc: Global,
     output: &mut Counted<W>,
     node: &mut Node,
@@ -99,5 +100,26 @@ pub(crate) fn tell_messages<W: Write>(
             return Err(fault);
         }
         count += 1;
+    }
+}
+
+/// Feeds a node a piece of its delivery stream, and writes what its messages are told.
+pub(crate) fn feed_node<W: Write>(
+    alloc: Global,
+    output: &mut Counted<W>,
+    node: &mut Node,
+    piece: &[u8],
+) -> Result<(), RunFault>
+    requires { IsSoundWriter output.old }
+    ensures ok { OnOk result (Feeds node.old piece.now node.new (W.contents output.old.inner) (W.contents output.new.inner)) }
+    ensures sound { OnOk result (IsSoundWriter output.new) }
+    ensures part { OnErr result (FeedsPart node.old piece.now (W.contents output.old.inner) (W.contents output.new.inner)) }
+    ensures fault { IfErr result (λ e. e ≡ RunFault.Write) }
+    ensures cause { OnErr result (output.new.failures ≡ 1) }
+{
+    match node.feed(piece) {
+        Ok(()) => tell_messages(alloc, output, node),
+        Err(PushFault::Bad) => send(output, b"refused B1\n"),
+        Err(PushFault::NoMemory) => send(output, b"no memory\n"),
     }
 }

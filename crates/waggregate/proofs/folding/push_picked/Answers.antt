@@ -1,63 +1,47 @@
-use Rattle.std.proofs.Common.{◌≡◌, ◌<◌, ◌^◌, length, subst, sym, refl, ap, ◌∙◌, arith}
-use Rattle.wframe.specs.Cells.{meanings}
+use Rattle.std.proofs.Common.{subst, sym, refl, ap, ◌∙◌}
 use Rattle.wslide.specs.Aggregates.{by_value, by_value_descending, tests}
 use Rattle.wslide.specs.Lawful.{by_value_total, by_value_descending_total}
 use Rattle.wplan.specs.declared.resolved.AggregateFunction.TheVariants.{Min, Max}
 use Rattle.waggregate.specs.FrameAnswers.{Appends, window_answers}
-use Rattle.waggregate.proofs.PickedFacts.{picked_long, row_counts_alike, value_counts_alike, sums_alike, firsts_alike}
+use Rattle.waggregate.proofs.PickedFacts.{row_counts_alike, value_counts_alike, sums_alike, firsts_alike}
 use Rattle.waggregate.proofs.folding.push_picked.Goals as goal
 
 pub returns-in-CountRows : goal.returns-in-CountRows
 returns-in-CountRows c feed rows of =
-    let all = c.args.partitions.now in
-    let long : length rows ≡ length all.keys = picked_long c.args.values.now feed.values rows (length all.keys) of.picked c.requires.values in
-    let small : length rows < 2 ^ 31 = omega (arith, long, c.requires.values, c.requires.few) in
-    let same =
-    row_counts_alike all feed rows long small c.frames_are_rows.ensures.below c.frames_are_rows.ensures.few (meanings c.args.values.now) (tests c.lent-filter.result) of.picked (c.lent-filter.ensures.value ∙ of.tested)
+    subst (λ results. Appends results c.push_folds.result c.args.told.now.items c.push_folds.new.told.items)
+    (row_counts_alike c.args.partitions.now feed rows c.args.values.now c.requires.values c.requires.few c.frames_are_rows.ensures.below c.frames_are_rows.ensures.few (tests c.lent-filter.result) of.picked (c.lent-filter.ensures.value ∙ of.tested)
     c.counts_are_exact.ensures.rows c.picked_rows_feed_alike.ensures.rows
-    ∙ ap (λ f. window_answers f feed all rows) (sym c.in-CountRows.is) in
-    subst (λ results. Appends results c.push_folds.result c.args.told.now.items c.push_folds.new.told.items) same c.push_folds.ensures
+    ∙ ap (λ f. window_answers f feed c.args.partitions.now rows) (sym c.in-CountRows.is))
+    c.push_folds.ensures
 
 pub returns-in-Count : goal.returns-in-Count
 returns-in-Count c feed rows of =
-    let all = c.args.partitions.now in
-    let long : length rows ≡ length all.keys = picked_long c.args.values.now feed.values rows (length all.keys) of.picked c.requires.values in
-    let small : length rows < 2 ^ 31 = omega (arith, long, c.requires.values, c.requires.few) in
-    let same =
-    value_counts_alike all feed rows long small c.frames_are_rows.ensures.below c.frames_are_rows.ensures.few (meanings c.args.values.now) (tests c.lent-filter.result) of.picked (c.lent-filter.ensures.value ∙ of.tested)
+    subst (λ results. Appends results c.push_folds-in-Count.result c.args.told.now.items c.push_folds-in-Count.new.told.items)
+    (value_counts_alike c.args.partitions.now feed rows c.args.values.now c.requires.values c.requires.few c.frames_are_rows.ensures.below c.frames_are_rows.ensures.few (tests c.lent-filter.result) of.picked (c.lent-filter.ensures.value ∙ of.tested)
     c.counts_are_exact.ensures.values c.picked_rows_feed_alike.ensures.count
-    ∙ ap (λ f. window_answers f feed all rows) (sym c.in-Count.is) in
-    subst (λ results. Appends results c.push_folds-in-Count.result c.args.told.now.items c.push_folds-in-Count.new.told.items) same c.push_folds-in-Count.ensures
+    ∙ ap (λ f. window_answers f feed c.args.partitions.now rows) (sym c.in-Count.is))
+    c.push_folds-in-Count.ensures
 
 pub returns-in-Sum : goal.returns-in-Sum
 returns-in-Sum c feed rows of =
-    let all = c.args.partitions.now in
-    let long : length rows ≡ length all.keys = picked_long c.args.values.now feed.values rows (length all.keys) of.picked c.requires.values in
-    let small : length rows < 2 ^ 31 = omega (arith, long, c.requires.values, c.requires.few) in
-    let same =
-    sums_alike all feed rows long small c.frames_are_rows.ensures.below c.frames_are_rows.ensures.few (meanings c.args.values.now) (tests c.lent-filter.result) of.picked (c.lent-filter.ensures.value ∙ of.tested)
+    subst (λ results. Appends results c.push_folds-in-Sum.result c.args.told.now.items c.push_folds-in-Sum.new.told.items)
+    (sums_alike c.args.partitions.now feed rows c.args.values.now c.requires.values c.requires.few c.frames_are_rows.ensures.below c.frames_are_rows.ensures.few (tests c.lent-filter.result) of.picked (c.lent-filter.ensures.value ∙ of.tested)
     c.sums_are_exact.ensures c.picked_rows_feed_alike.ensures.feed c.picked_rows_feed_alike.ensures.sum (c.see_ranges.ensures.fed (tests c.lent-filter.result))
-    ∙ ap (λ f. window_answers f feed all rows) (sym c.in-Sum.is) in
-    subst (λ results. Appends results c.push_folds-in-Sum.result c.args.told.now.items c.push_folds-in-Sum.new.told.items) same c.push_folds-in-Sum.ensures
+    ∙ ap (λ f. window_answers f feed c.args.partitions.now rows) (sym c.in-Sum.is))
+    c.push_folds-in-Sum.ensures
 
 pub returns-in-Min : goal.returns-in-Min
 returns-in-Min c feed rows of =
-    let all = c.args.partitions.now in
-    let long : length rows ≡ length all.keys = picked_long c.args.values.now feed.values rows (length all.keys) of.picked c.requires.values in
-    let small : length rows < 2 ^ 31 = omega (arith, long, c.requires.values, c.requires.few) in
-    let same =
-    firsts_alike all feed rows long small c.frames_are_rows.ensures.below c.frames_are_rows.ensures.few (meanings c.args.values.now) (tests c.lent-filter.result) of.picked (c.lent-filter.ensures.value ∙ of.tested)
+    subst (λ results. Appends results c.push_folds-in-Min.result c.args.told.now.items c.push_folds-in-Min.new.told.items)
+    (firsts_alike c.args.partitions.now feed rows c.args.values.now c.requires.values c.requires.few c.frames_are_rows.ensures.below c.frames_are_rows.ensures.few (tests c.lent-filter.result) of.picked (c.lent-filter.ensures.value ∙ of.tested)
     c.picked_rows_feed_alike.ensures.feed c.stable_sorts_agree.ensures.first by_value by_value_total c.places_are_least.ensures.least Min (λ rs. refl)
-    ∙ ap (λ f. window_answers f feed all rows) (sym c.in-Min.is) in
-    subst (λ results. Appends results c.push_folds-in-Min.result c.args.told.now.items c.push_folds-in-Min.new.told.items) same c.push_folds-in-Min.ensures
+    ∙ ap (λ f. window_answers f feed c.args.partitions.now rows) (sym c.in-Min.is))
+    c.push_folds-in-Min.ensures
 
 pub returns-in-Max : goal.returns-in-Max
 returns-in-Max c feed rows of =
-    let all = c.args.partitions.now in
-    let long : length rows ≡ length all.keys = picked_long c.args.values.now feed.values rows (length all.keys) of.picked c.requires.values in
-    let small : length rows < 2 ^ 31 = omega (arith, long, c.requires.values, c.requires.few) in
-    let same =
-    firsts_alike all feed rows long small c.frames_are_rows.ensures.below c.frames_are_rows.ensures.few (meanings c.args.values.now) (tests c.lent-filter.result) of.picked (c.lent-filter.ensures.value ∙ of.tested)
+    subst (λ results. Appends results c.push_folds-in-Max.result c.args.told.now.items c.push_folds-in-Max.new.told.items)
+    (firsts_alike c.args.partitions.now feed rows c.args.values.now c.requires.values c.requires.few c.frames_are_rows.ensures.below c.frames_are_rows.ensures.few (tests c.lent-filter.result) of.picked (c.lent-filter.ensures.value ∙ of.tested)
     c.picked_rows_feed_alike.ensures.feed c.stable_sorts_agree.ensures.first by_value_descending by_value_descending_total c.places_are_least.ensures.greatest Max (λ rs. refl)
-    ∙ ap (λ f. window_answers f feed all rows) (sym c.in-Max.is) in
-    subst (λ results. Appends results c.push_folds-in-Max.result c.args.told.now.items c.push_folds-in-Max.new.told.items) same c.push_folds-in-Max.ensures
+    ∙ ap (λ f. window_answers f feed c.args.partitions.now rows) (sym c.in-Max.is))
+    c.push_folds-in-Max.ensures

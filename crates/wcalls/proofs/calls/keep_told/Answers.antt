@@ -6,10 +6,10 @@ use Rattle.wcalls.proofs.calls.keep_told.Goals as goal
 
 pub returns : goal.returns
 returns g c w arranged =
-    let order = c.args.order.now in
-    let all = c.args.partitions.now in
+    let order = c.args.arranged.now.order.now in
+    let all = c.args.arranged.now.partitions.now in
     let told = g.T.Tells.told c.args.call.now in
     let meant = g.T.Tells.meant c.args.call.now in
     let new = map meant c.loop-number.kept in
-    all_put w order all told (map meant c.args.kept.now) new arranged (length-map c.args.kept.now meant ∙ c.requires.room) c.requires.len
+    all_put w order all told (map meant c.args.kept.now) new arranged (length-map c.args.kept.now meant ∙ c.requires) c.args.arranged.now.dealt
     (sym (ap (put_in told all order new) (drop_of_length-le all.spans (omega (arith, c.loop-number-test.false, c.count-number-end.ensures.count)))) ∙ c.loop-number.invariant.put)

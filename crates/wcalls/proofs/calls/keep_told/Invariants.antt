@@ -7,5 +7,5 @@ invariant-loop-number g l =
     let meant = g.T.Tells.meant l.call in
     record {
       long : length l.kept ≡ length l.fn.kept;
-      put : put_in (g.T.Tells.told l.call) l.partitions l.order (map meant l.kept) (drop l.number l.partitions.spans) ≡ put_in (g.T.Tells.told l.call) l.partitions l.order (map meant l.fn.kept) l.partitions.spans;
+      put : put_in (g.T.Tells.told l.call) l.arranged.partitions.now l.arranged.order.now (map meant l.kept) (drop l.number l.arranged.partitions.now.spans) ≡ put_in (g.T.Tells.told l.call) l.arranged.partitions.now l.arranged.order.now (map meant l.fn.kept) l.arranged.partitions.now.spans;
     }

@@ -11,18 +11,18 @@ use Rattle.wcalls.specs.Sound.{is_sound_function}
 use Rattle.wcalls.proofs.ColumnFacts.{mapped_at, each_is, each_more, each_refused, laid_more, longer}
 use Rattle.wcalls.proofs.columns.every_column.Goals as goal
 
-pub push_column-requires-clause-sound : goal.push_column-requires-clause-sound
-push_column-requires-clause-sound c =
+pub push_column-requires : goal.push_column-requires
+push_column-requires c =
     let fs = c.args.functions.now in
     let i = c.loop-function.function-index in
     let f = c.function-item.result in
     let h : i < length (functions_seen fs) = omega (arith, c.loop-function-test.true, length-map fs (λ f. function_plan f.now)) in
-    each_is is_sound_function (functions_seen fs) i (function_plan f.now) c.requires.sound h (mapped_at (λ f. function_plan f.now) fs i f c.loop-function-test.true c.function-item.is)
+    each_is is_sound_function (functions_seen fs) i (function_plan f.now) c.requires h (mapped_at (λ f. function_plan f.now) fs i f c.loop-function-test.true c.function-item.is)
 
 pub loop-function-preserved : goal.loop-function-preserved
 loop-function-preserved c =
     let fs = c.args.functions.now in
-    let n = length c.args.rows.now in
+    let n = length c.args.arranged.now.rows.now in
     let i = c.loop-function.function-index in
     let f = c.function-item.result in
     let h : i < length (functions_seen fs) = omega (arith, c.loop-function-test.true, length-map fs (λ f. function_plan f.now)) in
@@ -35,7 +35,7 @@ loop-function-preserved c =
     record {
       long = longer i n (length cells) n _ c.loop-function.invariant.long refl c.in_ok-push_column.ensures.len;
       so_far = λ w arranged.
-          each_more (function_column (rows_seen c.args.rows.now) w) (functions_seen fs) i (laid n i cells) (function_plan f.now) (map meaning column) h at (c.loop-function.invariant.so_far w arranged) (c.in_ok-push_column.ensures.column w arranged)
+          each_more (function_column (rows_seen c.args.arranged.now.rows.now) w) (functions_seen fs) i (laid n i cells) (function_plan f.now) (map meaning column) h at (c.loop-function.invariant.so_far w arranged) (c.in_ok-push_column.ensures.column w arranged)
           ∙ ap Ok (sym (ap (laid n (i + 1)) split ∙ laid_more n i cells column c.loop-function.invariant.long long));
     }
 
@@ -43,10 +43,10 @@ pub returns-in_err-push_column-clause-columns : goal.returns-in_err-push_column-
 returns-in_err-push_column-clause-columns c w arranged =
     let p = err_from_is_err_and c.from_residual-in_err-push_column.result c.from_residual-in_err-push_column.ensures.1 in
     let fs = c.args.functions.now in
-    let n = length c.args.rows.now in
+    let n = length c.args.arranged.now.rows.now in
     let i = c.loop-function.function-index in
     let f = c.function-item.result in
     let h : i < length (functions_seen fs) = omega (arith, c.loop-function-test.true, length-map fs (λ f. function_plan f.now)) in
     let at = mapped_at (λ f. function_plan f.now) fs i f c.loop-function-test.true c.function-item.is in
     let view : Unit {0} → List Meaning = λ u. [] in
-    rw (p.1, p.2) (each_refused (function_column (rows_seen c.args.rows.now) w) view rows_in c.in_err-push_column.field-0.0 (functions_seen fs) i (laid n i c.loop-function.cells.items) (function_plan f.now) h at (c.loop-function.invariant.so_far w arranged) (c.in_err-push_column.ensures.column w arranged))
+    rw (p.1, p.2) (each_refused (function_column (rows_seen c.args.arranged.now.rows.now) w) view rows_in c.in_err-push_column.field-0.0 (functions_seen fs) i (laid n i c.loop-function.cells.items) (function_plan f.now) h at (c.loop-function.invariant.so_far w arranged) (c.in_err-push_column.ensures.column w arranged))

@@ -10,6 +10,6 @@ use Rattle.wcalls.proofs.columns.every_column.Given as goal
 
 abbrev pub invariant-loop-function : goal.invariant-loop-function
 invariant-loop-function l = record {
-  long : length l.cells.items ≡ l.function-index * length l.rows;
-  so_far : (w : Windowed) → IsArranged w l.order l.partitions → each (function_column (rows_seen l.rows) w) (take l.function-index (functions_seen l.functions)) ≡ Ok (laid (length l.rows) l.function-index l.cells.items);
+  long : length l.cells.items ≡ l.function-index * length l.arranged.rows.now;
+  so_far : (w : Windowed) → IsArranged w l.arranged.order.now l.arranged.partitions.now → each (function_column (rows_seen l.arranged.rows.now) w) (take l.function-index (functions_seen l.functions)) ≡ Ok (laid (length l.arranged.rows.now) l.function-index l.cells.items);
 }

@@ -1,9 +1,11 @@
 use Rattle.std.proofs.Common.{◌<◌, ◌^◌, List, Result, length, sym, ap, ◌∙◌, subst}
+use Rattle.std.specs.Prelude.{All}
+use Rattle.std.proofs.lemmas.List.{length-map}
 use Rattle.wvalues.specs.Meaning.{Meaning}
 use Rattle.wplan.specs.Plans.{window_plan}
 use Rattle.wrows.specs.declared.fault.AnswerFault.{AnswerFault}
 use Rattle.wrows.specs.Outcomes.{Gives, each}
-use Rattle.wrows.specs.Laid.{rows_in, rows_seen}
+use Rattle.wrows.specs.Laid.{row_seen, rows_in, rows_seen}
 use Rattle.wrows.proofs.RowFacts.{then_ok}
 use Rattle.wcalls.specs.Arranged.{IsArranged}
 use Rattle.wcalls.specs.Functions.{function_column}
@@ -12,14 +14,17 @@ use Rattle.wcalls.specs.Windows.{windowed}
 use Rattle.wcalls.proofs.WindowedFacts.{opened, rows_long}
 use Rattle.wcalls.proofs.columns.window_columns.Goals as goal
 
-pub every_column-requires-clause-rows : goal.every_column-requires-clause-rows
-every_column-requires-clause-rows c =
+pub invariant_of-arranged-clause-listed : goal.invariant_of-arranged-clause-listed
+invariant_of-arranged-clause-listed c =
     let rows = rows_seen c.args.rows.now in
     let plan = window_plan c.args.window.now in
-    ap length c.rows.ensures.rows ∙ rows_long rows plan c.args.order.now (opened rows plan c.args.order.now c.requires.order) ∙ Rattle.std.proofs.lemmas.List.length-map c.args.rows.now Rattle.wrows.specs.Laid.row_seen
+    ap length c.rows.ensures.rows ∙ rows_long rows plan c.args.order.now (opened rows plan c.args.order.now c.requires.order) ∙ length-map c.args.rows.now row_seen
 
-pub every_column-requires-clause-few : goal.every_column-requires-clause-few
-every_column-requires-clause-few c = subst (λ n. n < 2 ^ 31) (sym (every_column-requires-clause-rows c)) c.requires.few
+pub invariant_of-arranged-clause-below : goal.invariant_of-arranged-clause-below
+invariant_of-arranged-clause-below c = subst (λ l. All (λ i. i < length l) l) (sym c.rows.ensures.rows) c.rows.ensures.below
+
+pub invariant_of-arranged-clause-few : goal.invariant_of-arranged-clause-few
+invariant_of-arranged-clause-few c = subst (λ n. n < 2 ^ 31) (sym (invariant_of-arranged-clause-listed c)) c.requires.few
 
 pub returns-clause-columns : goal.returns-clause-columns
 returns-clause-columns c =

@@ -7,4 +7,4 @@ use Rattle.wcalls.proofs.functions.told_column.Goals as goal
 
 pub returns : goal.returns
 returns g c w arranged =
-    told_is w (formula c.args.expr.now) (rows_seen c.args.rows.now) (meaning c.args.default.now) (g.P.RowPlaces.place_told c.args.places) (values_seen c.in_ok-values.values) _ c.in_ok-values.ensures (c.in_ok-put_told.ensures w arranged)
+    told_is w (formula c.args.expr.now) (rows_seen c.args.arranged.now.rows.now) (meaning c.args.default.now) (g.P.RowPlaces.place_told c.args.places) (values_seen c.in_ok-values.values) _ c.in_ok-values.ensures (c.in_ok-put_told.ensures w arranged)
