@@ -178,10 +178,8 @@ impl Place {
         ensures sound { OnOk result (IsSound system.new) }
         ensures cause { IfErr result (λ fault. HasCause fault system.new) }
     {
-        match write_new(system, beside, bytes, &self.permissions) {
-            Ok(()) => system.rename(beside, self.path.as_str()),
-            Err(fault) => Err(fault),
-        }
+        write_new(system, beside, bytes, &self.permissions)?;
+        system.rename(beside, self.path.as_str())
     }
 
     /// Puts these bytes in the place of the file's, whole: they are written beside it, and moved over it once they are

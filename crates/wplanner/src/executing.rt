@@ -61,10 +61,8 @@ fn query_rows(alloc: Global, selects: &[Selection], set: &SegmentSet) -> Result<
     ensures rows { Gives rows_in result (answer_of (map select_plan selects.now) (rows_of_set set.now)) }
     ensures width { IfOk result (λ cells. cells.width ≡ width_of (map select_plan selects.now) 0) }
 {
-    match select_table_rows(alloc, &selects[0], set) {
-        Err(fault) => Err(fault),
-        Ok(cells) => answered(alloc, &selects[1..], cells),
-    }
+    let cells = select_table_rows(alloc, &selects[0], set)?;
+    answered(alloc, &selects[1..], cells)
 }
 
 // The answer of a query on the rows of the table.
@@ -76,10 +74,7 @@ fn query_answer(
     requires { is_sound_query (map select_plan selects.now) ≡ true }
     ensures { Gives (λ table. table) result (table_answer (map select_plan selects.now) (rows_of_set set.now)) }
 {
-    let cells = match query_rows(alloc, selects, set) {
-        Err(fault) => return Err(fault),
-        Ok(cells) => cells,
-    };
+    let cells = query_rows(alloc, selects, set)?;
     let names = output_names(alloc, selects)?;
     Ok(Table::new(names, cells))
 }
@@ -96,9 +91,6 @@ pub fn execute(alloc: Global, set: &SegmentSet, query: &Resolved) -> Result<Tabl
     requires sound { is_sound_query (plans query.now) ≡ true }
     ensures answered { Tells result (table_answer (plans query.now) (rows_of_set set.now)) }
 {
-    let selects = query.selections.as_slice();
-    match query_answer(alloc, selects, set) {
-        Err(fault) => Err(AskFault::from(fault)),
-        Ok(table) => Ok(table),
-    }
+    let table = query_answer(alloc, query.selections.as_slice(), set)?;
+    Ok(table)
 }
