@@ -10,8 +10,8 @@ use Rattle.wrows.specs.declared.fault.AnswerFault.TheVariants.{OutOfRange}
 use Rattle.wrows.specs.Outcomes.{unless, ◌>>=◌}
 use Rattle.wrows.specs.Columns.{Row, is_out_of_range, lists_of}
 use Rattle.wrows.specs.Plain.{cut, ordered, ordered_of}
-use Rattle.wrows.proofs.KeyFacts.{by_no_key}
-use Rattle.wrows.proofs.PlaceFacts.{all_rows}
+use Rattle.wsort.proofs.KeyFacts.{by_no_key}
+use Rattle.wsort.proofs.PlaceFacts.{all_rows}
 use Rattle.wrows.proofs.RowFacts.{then_ok}
 
 none_refused : (rows : List Row) → list_any (λ row. list_any (λ t. is_out_of_range t row) []) rows ≡ false

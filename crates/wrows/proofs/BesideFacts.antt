@@ -10,7 +10,7 @@ use Rattle.wframe.specs.Places.{places, places_from}
 use Rattle.wplan.specs.Formula.{Formula}
 use Rattle.wrows.specs.declared.fault.AnswerFault.TheVariants.{OutOfRange}
 use Rattle.wrows.specs.Columns.{Row, beside, is_out_of_range, lists_of, value_at, value_on}
-use Rattle.wrows.specs.LaidRows.{laid}
+use Rattle.wsort.specs.LaidRows.{laid}
 use Rattle.wrows.specs.Picked.{row_beside}
 use Rattle.wrows.specs.Laid.{row_seen, rows_seen}
 use Rattle.wrows.proofs.RowFacts.{all_of_each, any_of_all, laid_length, laid_rows, length-places, map-map, told_all}

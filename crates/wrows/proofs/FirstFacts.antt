@@ -17,10 +17,10 @@ use Rattle.wrows.specs.Columns.{Row, lists_of}
 use Rattle.wrows.specs.Plain.{at_most_limit, cut, numbers_by}
 use Rattle.wrows.specs.Picked.{asked_of, first_of}
 use Rattle.wrows.proofs.BesideFacts.{place_is}
-use Rattle.wrows.proofs.MoreSorting.{sorted_same}
+use Rattle.wsort.proofs.MoreSorting.{sorted_same}
 use Rattle.wrows.proofs.PickFacts.{cut_below}
 use Rattle.wrows.proofs.RowFacts.{length-places, places_below}
-use Rattle.wrows.proofs.SelectFacts.{cut_of_first, first_below, numbers_long}
+use Rattle.wrows.proofs.CutFacts.{cut_of_first, first_below, numbers_long}
 
 -- rows sorted by a rule for their keys are sorted by the keys listed
 pub sorted_listed : (order : List SortKey) (key : ℕ → List Meaning) (n : ℕ) → sorted (on key (keys_cmp order)) (places n) ≡ numbers_by order (map key (places n)) n

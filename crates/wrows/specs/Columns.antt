@@ -1,5 +1,5 @@
 -- What expressions come to on all rows (<value expression>, <search condition>). Nothing is skipped: out of range on any row refuses.
-use Rattle.std.specs.Prelude.{ℕ, ◌++◌, Bool, List, map, filter, length, Option, Some, None, Result, Ok, nat_lt, slice_index_or, unwrap_or}
+use Rattle.std.specs.Prelude.{ℕ, ◌++◌, Bool, List, map, filter, length, Option, Some, None, Result, Ok, nat_lt, unwrap_or}
 use Rattle.std.specs.List.{list_any}
 use Rattle.std.specs.Option.{is_none}
 use Rattle.wvalues.specs.Meaning.{Meaning, Null}
@@ -10,6 +10,7 @@ use Rattle.wplan.specs.Values.{value_of, value_in, truth_of, is_too_large, is_ye
 use Rattle.wrows.specs.declared.fault.AnswerFault.{AnswerFault}
 use Rattle.wrows.specs.declared.fault.AnswerFault.TheVariants.{OutOfRange, TooManyRows}
 use Rattle.wrows.specs.Outcomes.{unless}
+pub use Rattle.wsort.specs.Columns.{value_at}
 
 -- a row of cells
 abbrev pub Row : Type 0
@@ -24,10 +25,6 @@ value_on t row = value_in (value_of row t)
 
 abbrev pub holds_on : Formula → Row → Bool
 holds_on t row = is_yes (truth_of (value_of row t))
-
--- the value of a column on the row of a number
-abbrev pub value_at : List Meaning → ℕ → Meaning
-value_at column i = slice_index_or column i Null
 
 -- an expression's value on each row
 abbrev pub column_of : Formula → List Row → Result (List Meaning) AnswerFault

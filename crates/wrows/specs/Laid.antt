@@ -7,7 +7,7 @@ use Rattle.wplan.specs.declared.expr.Expr.{Expr}
 use Rattle.wplan.specs.Formula.{Formula, formula}
 use Rattle.wrows.specs.declared.cells.Cells.{Cells}
 use Rattle.wrows.specs.Columns.{Row}
-use Rattle.wrows.specs.LaidRows.{laid}
+use Rattle.wsort.specs.LaidRows.{laid}
 
 -- rows of cells that stand one after another
 abbrev pub rows_in : Cells → List Row

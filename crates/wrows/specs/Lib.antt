@@ -1,14 +1,10 @@
 pub mod Outcomes
 pub mod Columns
 pub mod Sorting
-pub mod LaidRows
 pub mod Laid
 pub mod Plain
-pub mod Codes
-pub mod CodedRows
-pub mod Dealt
-pub mod Told
-pub mod Ranks
 pub mod Picked
 pub mod PlainColumns
-pub mod Bases
+pub use Rattle.wsort.specs.LaidRows
+pub use Rattle.wsort.specs.CodedRows
+pub use Rattle.wsort.specs.Dealt

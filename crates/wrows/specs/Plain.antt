@@ -1,20 +1,13 @@
 -- Kept rows, and the items of rows in order (<query specification>, <order by clause>, <result offset clause>, <fetch first clause>).
 use Rattle.std.specs.Prelude.{ℕ, List, map, length, take, drop, min, Option, Some, None, Result, Ok}
-use Rattle.std.specs.Ordering.{on}
 use Rattle.wvalues.specs.declared.key.SortKey.{SortKey}
 use Rattle.wvalues.specs.Meaning.{Meaning}
-use Rattle.wvalues.specs.Order.{keys_cmp}
 use Rattle.wframe.specs.Peers.{key_at}
-use Rattle.wframe.specs.Places.{places}
 use Rattle.wplan.specs.Formula.{Formula}
 use Rattle.wrows.specs.declared.fault.AnswerFault.{AnswerFault}
 use Rattle.wrows.specs.Outcomes.{◌>>=◌}
 use Rattle.wrows.specs.Columns.{Row, held_rows, not_too_many, lists_of}
-use Rattle.wframe.specs.Sorting.{sorted}
-
--- the numbers of rows by their keys, and then by number
-abbrev pub numbers_by : List SortKey → List (List Meaning) → ℕ → List ℕ
-numbers_by order keys count = sorted (on (key_at keys) (keys_cmp order)) (places count)
+pub use Rattle.wsort.specs.Ordered.{numbers_by}
 
 -- rows by their keys, and then by number
 abbrev pub ordered : List SortKey → List (List Meaning) → List Row → List Row

@@ -5,7 +5,7 @@ ghost use Rattle.std.specs.List.{flat_map, list_any};
 ghost use Rattle.wvalues.specs.Meaning.{meaning, Null};
 ghost use Rattle.wrows.specs.Columns.{value_at};
 ghost use Rattle.wrows.specs.Laid.{rows_seen};
-ghost use Rattle.wrows.specs.LaidRows.{laid};
+ghost use Rattle.wsort.specs.LaidRows.{laid};
 ghost use Rattle.wrows.specs.Picked.{is_text, picked, row_beside, with_columns};
 
 use crate::places::{cells_at, push_picked, value_beside, value_of};

@@ -3,7 +3,7 @@ ghost use Rattle.std.specs.Prelude.{◌≡◌, ◌*◌, ◌++◌, IfOk, OnOk, le
 ghost use Rattle.wvalues.specs.Meaning.{meaning};
 ghost use Rattle.wrows.specs.Outcomes.{Gives};
 ghost use Rattle.wrows.specs.Columns.{beside, lists_of, value_at};
-ghost use Rattle.wrows.specs.LaidRows.{laid};
+ghost use Rattle.wsort.specs.LaidRows.{laid};
 ghost use Rattle.wrows.specs.Laid.{formulas_seen, rows_seen};
 
 use crate::cells::push_row;

@@ -2,8 +2,9 @@
 ghost use Rattle.std.specs.Prelude.{◌≡◌, IfOk};
 ghost use Rattle.wrows.specs.Laid.{rows_in, rows_seen};
 
-use crate::cells::{Cells, slice_of};
+use crate::cells::Cells;
 use std::alloc::{AllocError, Global};
+use wsort::slice_of;
 use wvalues::Value;
 
 /// Each row as it lies, by number.

@@ -7,7 +7,7 @@ ghost use Rattle.wframe.specs.Peers.{key_at};
 ghost use Rattle.wplan.specs.declared.expr.Expr.{out-Expr};
 ghost use Rattle.wplan.specs.Formula.{At, formula};
 ghost use Rattle.wrows.specs.Columns.{beside, lists_of, value_at};
-ghost use Rattle.wrows.specs.LaidRows.{laid};
+ghost use Rattle.wsort.specs.LaidRows.{laid};
 ghost use Rattle.wrows.specs.Laid.{formulas_seen, rows_seen};
 ghost use Rattle.wrows.specs.Picked.{row_beside, with_columns};
 ghost use Rattle.wrows.specs.PlainColumns.{is_plain, plain_place};

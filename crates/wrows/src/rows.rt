@@ -7,7 +7,7 @@ ghost use Rattle.wplan.specs.Plans.{optional_formula};
 ghost use Rattle.wrows.specs.declared.fault.AnswerFault.TheVariants.{OutOfRange};
 ghost use Rattle.wrows.specs.Outcomes.{Gives, unless};
 ghost use Rattle.wrows.specs.Columns.{is_out_of_range, value_on, held_rows, lists_of, not_too_many};
-ghost use Rattle.wrows.specs.LaidRows.{laid};
+ghost use Rattle.wsort.specs.LaidRows.{laid};
 ghost use Rattle.wrows.specs.Laid.{formulas_seen, rows_seen};
 ghost use Rattle.wrows.specs.Plain.{kept_of};
 

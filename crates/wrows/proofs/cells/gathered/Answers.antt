@@ -2,7 +2,7 @@ use Rattle.std.proofs.Common.{◌<◌, ◌++◌, length, map, take_all, get_or, 
 use Rattle.std.specs.List.{flat_map}
 use Rattle.std.proofs.lemmas.List.Elements.{recursion_from_All, All-get_or}
 use Rattle.wvalues.specs.Meaning.{meaning}
-use Rattle.wrows.specs.LaidRows.{laid}
+use Rattle.wsort.specs.LaidRows.{laid}
 use Rattle.wframe.specs.Peers.{key_at}
 use Rattle.wrows.proofs.RowFacts.{flat_next, laid_rows, row_at, rows_wide, same_at, laid_length}
 use Rattle.std.proofs.lemmas.List.{length-map}

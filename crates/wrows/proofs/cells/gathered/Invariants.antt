@@ -1,7 +1,7 @@
 use Rattle.std.proofs.Common.{◌≡◌, map, take}
 use Rattle.std.specs.List.{flat_map}
 use Rattle.wvalues.specs.Meaning.{meaning}
-use Rattle.wrows.specs.LaidRows.{laid}
+use Rattle.wsort.specs.LaidRows.{laid}
 use Rattle.wframe.specs.Peers.{key_at}
 use Rattle.wrows.proofs.cells.gathered.Given as goal
 

@@ -1,6 +1,6 @@
 use Rattle.std.proofs.Common.{Ok, length, map, take, sym, ap, ◌∙◌}
 use Rattle.wframe.specs.Places.{places}
-use Rattle.wrows.specs.LaidRows.{laid}
+use Rattle.wsort.specs.LaidRows.{laid}
 use Rattle.wrows.specs.Laid.{rows_seen}
 use Rattle.wrows.specs.Columns.{beside}
 use Rattle.wrows.specs.Picked.{picked}

@@ -1,5 +1,5 @@
 use Rattle.std.proofs.Common.{Ok, length, take, sym, ap, ◌∙◌}
-use Rattle.wrows.specs.LaidRows.{laid}
+use Rattle.wsort.specs.LaidRows.{laid}
 use Rattle.wrows.specs.Laid.{rows_seen}
 use Rattle.wrows.specs.Columns.{beside}
 use Rattle.wrows.specs.Plain.{numbers_by}

@@ -5,7 +5,7 @@ use Rattle.std.proofs.lemmas.Result.{err_from_is_err_and}
 use Rattle.wvalues.specs.declared.value.Value.{Value}
 use Rattle.wvalues.specs.Meaning.{meaning}
 use Rattle.wframe.specs.Places.{places}
-use Rattle.wrows.specs.LaidRows.{laid}
+use Rattle.wsort.specs.LaidRows.{laid}
 use Rattle.wrows.specs.Picked.{row_beside}
 use Rattle.wrows.specs.Columns.{Row, is_out_of_range, value_on}
 use Rattle.wrows.specs.Laid.{formulas_seen, formula_seen, rows_seen}

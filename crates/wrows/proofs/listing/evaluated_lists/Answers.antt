@@ -2,7 +2,7 @@ use Rattle.std.proofs.Common.{◌≡◌, List, Vec, Global, length, subst, sym, 
 use Rattle.wvalues.specs.declared.value.Value.{Value}
 use Rattle.wrows.specs.Outcomes.{Gives}
 use Rattle.wrows.specs.Columns.{Row, beside, lists_of}
-use Rattle.wrows.specs.LaidRows.{laid}
+use Rattle.wsort.specs.LaidRows.{laid}
 use Rattle.wrows.specs.Laid.{formulas_seen, rows_seen}
 use Rattle.wrows.proofs.RowFacts.{zero_length}
 use Rattle.wrows.proofs.PickFacts.{beside_none, no_columns}

@@ -2,7 +2,7 @@ use Rattle.std.proofs.Common.{List, Vec, Global, length, subst}
 use Rattle.wvalues.specs.declared.value.Value.{Value}
 use Rattle.wrows.specs.Outcomes.{Gives}
 use Rattle.wrows.specs.Columns.{Row, lists_of}
-use Rattle.wrows.specs.LaidRows.{laid}
+use Rattle.wsort.specs.LaidRows.{laid}
 use Rattle.wrows.specs.Laid.{formulas_seen, rows_seen}
 use Rattle.wrows.proofs.PickFacts.{beside_none}
 use Rattle.wrows.proofs.listing.lists.Goals as goal

@@ -1,7 +1,7 @@
 use Rattle.std.proofs.Common.{◌≡◌, Ok, length, map, sym, ap, ◌∙◌}
 use Rattle.std.proofs.lemmas.List.{length-map}
 use Rattle.wframe.specs.Peers.{key_at}
-use Rattle.wrows.specs.LaidRows.{laid}
+use Rattle.wsort.specs.LaidRows.{laid}
 use Rattle.wrows.specs.Laid.{formula_seen, formulas_seen, rows_seen}
 use Rattle.wrows.specs.Columns.{beside}
 use Rattle.wrows.proofs.AllFacts.{as_they_stand}

@@ -3,7 +3,7 @@ use Rattle.std.proofs.lemmas.List.{length-map}
 use Rattle.std.proofs.lemmas.List.Elements.{recursion_from_All}
 use Rattle.wframe.specs.Places.{places}
 use Rattle.wplan.specs.Formula.{At}
-use Rattle.wrows.specs.LaidRows.{laid}
+use Rattle.wsort.specs.LaidRows.{laid}
 use Rattle.wrows.specs.Laid.{formula_seen, formulas_seen, rows_seen}
 use Rattle.wrows.specs.Columns.{beside}
 use Rattle.wrows.specs.Picked.{picked}

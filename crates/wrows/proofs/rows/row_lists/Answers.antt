@@ -4,7 +4,7 @@ use Rattle.std.proofs.lemmas.List.{length-map}
 use Rattle.wvalues.specs.declared.value.Value.{Value}
 use Rattle.std.proofs.lemmas.Result.{err_from_is_err_and}
 use Rattle.wvalues.specs.Meaning.{meaning}
-use Rattle.wrows.specs.LaidRows.{laid}
+use Rattle.wsort.specs.LaidRows.{laid}
 use Rattle.wrows.specs.declared.fault.AnswerFault.TheVariants.{OutOfRange}
 use Rattle.wrows.specs.Columns.{Row, is_out_of_range, value_on}
 use Rattle.wrows.specs.Laid.{formulas_seen, formula_seen, row_seen}

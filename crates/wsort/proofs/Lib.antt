@@ -1,0 +1,11 @@
+pub mod RowFacts
+pub mod MoreSorting
+mod CodeFacts
+mod DealFacts
+pub mod ChainFacts
+mod TwoFacts
+pub mod KeyFacts
+mod RankFacts
+pub mod PlaceFacts
+mod SeenFacts
+mod SelectFacts

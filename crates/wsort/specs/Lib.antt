@@ -1,0 +1,9 @@
+pub mod Columns
+pub mod LaidRows
+pub mod Ordered
+pub mod Codes
+pub mod Bases
+pub mod CodedRows
+pub mod Dealt
+pub mod Told
+pub mod Ranks
