@@ -1,9 +1,9 @@
 //! Aggregates over frames.
-ghost use Rattle.std.specs.Prelude.{◌≡◌, ◌<◌, ◌^◌, ℕ, List, All, Option, Some, length, map, option_map, pos};
+ghost use Rattle.std.specs.Prelude.{◌≡◌, ◌≤◌, ◌<◌, ◌+◌, ◌-◌, ◌^◌, ℕ, OnOk, min, List, All, Option, Some, length, map, option_map, pos};
 ghost use Rattle.std.specs.Option.{ForSome};
 ghost use Rattle.wvalues.specs.Meaning.{Int, Meaning, meaning};
 ghost use Rattle.wframe.specs.Cells.{meanings};
-ghost use Rattle.wslide.specs.Frames.{folds_of_partitions};
+ghost use Rattle.wslide.specs.Frames.{folds_of_partitions, most_by_queues};
 ghost use Rattle.wslide.specs.Leasts.{IsPlace};
 ghost use Rattle.wrows.specs.Outcomes.{Gives};
 ghost use Rattle.waggregate.specs.Aggregating as aggregating;
@@ -14,6 +14,7 @@ ghost use Rattle.waggregate.specs.FrameAnswers.{Appends, IsPicked, told_or_out_o
 use crate::answers::{count_value, sum_value};
 use crate::feed::Feed;
 use crate::picking::{filter_of, lent, values_of};
+use crate::tally::Tally;
 use std::alloc::Global;
 use wframe::{Partitions, frames_are_rows, stable_sorts_agree};
 use wplan::AggregateFunction;
@@ -104,7 +105,8 @@ pub(crate) fn push_values<F: ToldFold>(
     Ok(())
 }
 
-// Appends the value of the fold of each row's frame, one partition after another, `OutOfRange` where one is so.
+// Appends the value of the fold of each row's frame, one partition after another, `OutOfRange` where one is so. The joins
+// that the meter counts are told to the tally.
 fn push_folds<F: ToldFold>(
     alloc: Global,
     fold: &F,
@@ -112,14 +114,18 @@ fn push_folds<F: ToldFold>(
     partitions: &Partitions,
     meter: &mut F::Meter,
     told: &mut Vec<Value>,
+    tally: &mut Tally,
 ) -> Result<(), AnswerFault>
     requires rows { length partitions.now.keys ≡ F.rows fold.now }
     requires few { F.rows fold.now < 2 ^ 31 }
     requires fresh { F.count meter.old ≡ 0 }
-    ensures { Appends (map (F.told fold.now) (folds_of_partitions (F.neutral fold.now) (F.joined fold.now) (F.part_at fold.now) partitions.now)) result told.old.items told.new.items }
+    ensures answers { Appends (map (F.told fold.now) (folds_of_partitions (F.neutral fold.now) (F.joined fold.now) (F.part_at fold.now) partitions.now)) result told.old.items told.new.items }
+    ensures tallied { OnOk result (tally.new ≡ min (tally.old + F.count meter.new) (2 ^ 64 - 1)) }
+    ensures joins { tally.new ≤ tally.old + most_by_queues partitions.now.frame.exclusion (F.rows fold.now) }
 {
     let mut parts = Vec::with_capacity(alloc, rows)?;
     push_window_folds(alloc, &mut parts, fold, partitions, meter)?;
+    tally.add(fold.joins(meter));
     push_values(told, fold, &parts)
 }
 
@@ -131,11 +137,13 @@ fn push_picked(
     filter: &Option<Vec<bool>>,
     partitions: &Partitions,
     told: &mut Vec<Value>,
+    tally: &mut Tally,
 ) -> Result<(), AnswerFault>
     requires values { length values.now ≡ length partitions.now.keys }
     requires len { ForSome filter.now (λ tests. length tests.items ≡ length values.now) }
     requires few { length values.now < 2 ^ 31 }
-    ensures { (feed : aggregating.Feed) (rows : List ℕ) → IsPicked feed rows (meanings values.now) (option_map (λ tests. tests.items) filter.now) → Appends (window_answers function feed partitions.now rows) result told.old.items told.new.items }
+    ensures joins { tally.new ≤ tally.old + most_by_queues partitions.now.frame.exclusion (length values.now) }
+    ensures answers { (feed : aggregating.Feed) (rows : List ℕ) → IsPicked feed rows (meanings values.now) (option_map (λ tests. tests.items) filter.now) → Appends (window_answers function feed partitions.now rows) result told.old.items told.new.items }
 {
     // Laws, which do nothing.
     frames_are_rows();
@@ -150,24 +158,24 @@ fn push_picked(
     match function {
         AggregateFunction::CountRows => {
             let fold = CountRows { rows, filter };
-            push_folds(alloc, &fold, rows, partitions, &mut meter, told)
+            push_folds(alloc, &fold, rows, partitions, &mut meter, told, tally)
         }
         AggregateFunction::Count => {
             let fold = Count { values, filter };
-            push_folds(alloc, &fold, rows, partitions, &mut meter, told)
+            push_folds(alloc, &fold, rows, partitions, &mut meter, told, tally)
         }
         AggregateFunction::Sum => {
             see_ranges(values);
             let fold = Sum { values, filter };
-            push_folds(alloc, &fold, rows, partitions, &mut meter, told)
+            push_folds(alloc, &fold, rows, partitions, &mut meter, told, tally)
         }
         AggregateFunction::Min => {
             let fold = Least { values, filter };
-            push_folds(alloc, &fold, rows, partitions, &mut meter, told)
+            push_folds(alloc, &fold, rows, partitions, &mut meter, told, tally)
         }
         AggregateFunction::Max => {
             let fold = Greatest { values, filter };
-            push_folds(alloc, &fold, rows, partitions, &mut meter, told)
+            push_folds(alloc, &fold, rows, partitions, &mut meter, told, tally)
         }
     }
 }
@@ -175,7 +183,8 @@ fn push_picked(
 /// Appends what an aggregate comes to over the frame of each row of a window, one partition after another. `rows` has the
 /// numbers of the window's rows in that order. It is `OutOfRange` where a result is so.
 ///
-/// What the rows feed is picked once, in their order.
+/// What the rows feed is picked once, in their order. The tally rises by the joins that the folds take: at most three for
+/// each row, and eight where the frame clause excludes rows.
 pub fn push_frame_aggregates(
     alloc: Global,
     function: AggregateFunction,
@@ -183,13 +192,15 @@ pub fn push_frame_aggregates(
     rows: &[usize],
     partitions: &Partitions,
     told: &mut Vec<Value>,
+    tally: &mut Tally,
 ) -> Result<(), AnswerFault>
     requires len { length rows.now ≡ length partitions.now.keys }
     requires below { All (λ i. i < length feed.now.values.items) rows.now }
     requires few { length rows.now < 2 ^ 31 }
-    ensures { Appends (window_answers function (feed_in feed.now) partitions.now rows.now) result told.old.items told.new.items }
+    ensures joins { tally.new ≤ tally.old + most_by_queues partitions.now.frame.exclusion (length rows.now) }
+    ensures answers { Appends (window_answers function (feed_in feed.now) partitions.now rows.now) result told.old.items told.new.items }
 {
     let values = values_of(alloc, &feed.values, rows)?;
     let filter = filter_of(alloc, &feed.filter, rows)?;
-    push_picked(alloc, function, &values, &filter, partitions, told)
+    push_picked(alloc, function, &values, &filter, partitions, told, tally)
 }

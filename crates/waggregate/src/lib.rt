@@ -3,7 +3,8 @@
 //! - Gives what an aggregate is fed by each row, its result over the rows of each group, and over the frame of each row
 //!   of a window.
 //! - Promises: nothing is skipped, so an argument or filter that is out of range on any row refuses, as a result that
-//!   is out of range does; a sum is tested against the range once it is whole.
+//!   is out of range does; a sum is tested against the range once it is whole. Frames take at most three joins for each
+//!   row, eight where rows are excluded.
 //! - Asks: fewer than 2^31 rows.
 //! - Leaves expressions to `wplan`, frames to `wframe` and their folds to `wslide`.
 //!
@@ -16,8 +17,10 @@ mod feeding;
 mod folding;
 mod grouped;
 mod picking;
+mod tally;
 
 pub use feed::Feed;
 pub use feeding::feed_rows;
 pub use folding::push_frame_aggregates;
 pub use grouped::aggregate_groups;
+pub use tally::Tally;

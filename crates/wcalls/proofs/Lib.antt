@@ -11,6 +11,7 @@ mod CutFacts
 mod Listed
 mod LentFacts
 mod ColumnFacts
+mod JoinFacts
 mod WindowedFacts
 mod PartitionFacts
 mod OrderFacts

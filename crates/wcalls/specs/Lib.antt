@@ -11,3 +11,4 @@ pub mod Arranged
 pub mod Ordered
 pub mod OrderKept
 pub mod RowOrders
+pub mod Joins

@@ -1,5 +1,5 @@
 //! The column of one function of a window.
-ghost use Rattle.std.specs.Prelude.{◌≡◌, ◌<◌, true, length, map};
+ghost use Rattle.std.specs.Prelude.{◌≡◌, ◌≤◌, ◌<◌, ◌+◌, true, length, map};
 ghost use Rattle.wvalues.specs.Meaning.{meaning, Null};
 ghost use Rattle.wplan.specs.Formula.{formula};
 ghost use Rattle.wplan.specs.Plans.{function_plan};
@@ -10,6 +10,7 @@ ghost use Rattle.wcalls.specs.Calls.{numbers, values_told};
 ghost use Rattle.wcalls.specs.Functions.{function_column};
 ghost use Rattle.wcalls.specs.Arranged.{IsArranged};
 ghost use Rattle.wcalls.specs.Sound.{is_sound_function};
+ghost use Rattle.wcalls.specs.Joins.{most_of_function};
 
 use crate::aggregated::aggregated_column;
 use crate::arranged::ArrangedRows;
@@ -18,6 +19,7 @@ use crate::numbered::{Counted, Counts, DenseRank, Rank, RowNumber, Tile};
 use crate::told::{FirstValue, Lag, LastValue, Lead, NthValue, RowPlaces, Told};
 use crate::values::column_values;
 use std::alloc::Global;
+use waggregate::Tally;
 use wplan::{Expr, WindowFunction};
 use wrows::AnswerFault;
 use wvalues::Value;
@@ -74,16 +76,19 @@ fn told_or_null<P: RowPlaces + Copy>(
     told_column(alloc, places, expr, &null, arranged, column)
 }
 
-/// Puts the column of a function on rows, by number, where they stand in the window's order.
+/// Puts the column of a function on rows, by number, where they stand in the window's order. The tally rises by the joins
+/// that it takes.
 pub(crate) fn function_column(
     alloc: Global,
     function: &WindowFunction,
     arranged: &ArrangedRows,
     column: &mut [Value],
+    tally: &mut Tally,
 ) -> Result<(), AnswerFault>
     requires sound { is_sound_function (function_plan function.now) ≡ true }
     requires room { length column.old ≡ length arranged.now.order.now }
-    ensures { (w : Windowed) → IsArranged w arranged.now.order.now arranged.now.partitions.now → Gives (λ _. map meaning column.new) result (function_column (rows_seen arranged.now.rows.now) w (function_plan function.now)) }
+    ensures joins { tally.new ≤ tally.old + most_of_function arranged.now.partitions.now.frame.exclusion (length arranged.now.order.now) (function_plan function.now) }
+    ensures column { (w : Windowed) → IsArranged w arranged.now.order.now arranged.now.partitions.now → Gives (λ _. map meaning column.new) result (function_column (rows_seen arranged.now.rows.now) w (function_plan function.now)) }
 {
     match function {
         WindowFunction::RowNumber => counted_column(alloc, RowNumber, arranged, column),
@@ -120,7 +125,7 @@ pub(crate) fn function_column(
             told_or_null(alloc, nth, value, arranged, column)
         }
         WindowFunction::Aggregated(aggregate) => {
-            aggregated_column(alloc, aggregate, arranged, column)
+            aggregated_column(alloc, aggregate, arranged, column, tally)
         }
     }
 }

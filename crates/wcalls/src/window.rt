@@ -1,5 +1,5 @@
 //! Rows in the order of a window.
-ghost use Rattle.std.specs.Prelude.{◌≡◌, ◌*◌, ◌<◌, ◌≤◌, ◌^◌, true, List, All, IfOk, IfSome, IsTrue, length, map};
+ghost use Rattle.std.specs.Prelude.{◌≡◌, ◌*◌, ◌+◌, ◌-◌, ◌<◌, ◌≤◌, ◌^◌, true, min, List, All, OnOk, OnErr, IfOk, IfSome, IsTrue, length, map};
 ghost use Rattle.wvalues.specs.declared.key.SortKey.{SortKey};
 ghost use Rattle.wvalues.specs.Meaning.{Meaning};
 ghost use Rattle.wvalues.specs.Order.{keys_cmp};
@@ -25,6 +25,7 @@ use crate::lending::lent_rows;
 use crate::parts::{key_cells, key_orders, partition_cells, value_orders};
 use std::alloc::{AllocError, Global};
 use std::marker::Model;
+use waggregate::Tally;
 use wframe::{Frame, KeyRows, Partitions};
 use wplan::{SettledWindow, same_order};
 use wrows::{AnswerFault, numbers, order_by_codes, picked_codes, resorted_numbers, row_codes};
@@ -61,19 +62,23 @@ impl Model for WindowOrder {
 
 impl WindowOrder {
     /// Orders rows as a window does. All its partition values and keys are evaluated on every row, and `OutOfRange` where
-    /// one is so on any; the rows are sorted once.
+    /// one is so on any; the rows are sorted once. The order that is made counts among the orders.
     pub fn new(
         alloc: Global,
         window: &SettledWindow,
         rows: &[&[Value]],
+        orders: &mut Tally,
     ) -> Result<WindowOrder, AnswerFault>
-        ensures { Gives (λ order. order) result (ordered_rows (rows_seen rows.now) (window_plan window.now)) }
+        ensures order { Gives (λ order. order) result (ordered_rows (rows_seen rows.now) (window_plan window.now)) }
+        ensures made { OnOk result (orders.new ≡ min (orders.old + 1) (2 ^ 64 - 1)) }
+        ensures none { OnErr result (orders.new ≡ orders.old) }
     {
         let values = partition_cells(alloc, window, rows)?;
         let keys = key_cells(alloc, window, rows)?;
         let value_order = value_orders(alloc, &window.partition)?;
         let key_order = key_orders(alloc, &window.keys)?;
         let order = ordered_cells(alloc, values, value_order, keys, key_order, rows.len())?;
+        orders.add(1);
         Ok(order)
     }
 
@@ -118,6 +123,7 @@ impl WindowOrder {
         requires count { length (key_lists keys) ≡ length self.now.rows }
         requires offset { IsTrue (has_range_offset frame) → length self.now.order ≡ 1 }
         ensures arranged { IfOk result (λ all. (w : Windowed) → self.now ≡ in_order w → frame ≡ w.frame → IsArranged w self.now.rows all) }
+        ensures frame { IfOk result (λ all. all.frame ≡ frame) }
         ensures len { IfOk result (λ all. length self.now.rows ≡ length all.keys) }
     {
         let count = self.rows.len();

@@ -1,3 +1,4 @@
 mod Running
 mod Alike
 mod LeafFacts
+mod ReadFacts

@@ -1,5 +1,5 @@
 -- What an outcome in memory says, and how an outcome is answered.
-use Rattle.std.specs.Prelude.{◌≡◌, Result, Ok, Err}
+use Rattle.std.specs.Prelude.{◌≡◌, Option, Some, None, Result, Ok, Err}
 use Rattle.wvalues.specs.Meaning.{meaning}
 use Rattle.wvalues.specs.declared.truth.Truth.{Truth}
 use Rattle.wplan.specs.Values.{Outcome, Held, Judged, TooLarge}
@@ -11,6 +11,11 @@ use Rattle.wplan.specs.declared.cell.EvalFault.TheVariants.{OutOfRange, NoMemory
 abbrev pub outcome : Cell → Outcome
 outcome (cells.Value v) = Held (meaning v)
 outcome (cells.Truth t) = Judged t
+
+-- the outcome, of which nothing is in memory where it is out of range
+abbrev pub Comes : Option Cell → Outcome → Type 0
+Comes (Some cell) o = outcome cell ≡ o
+Comes None o = o ≡ TooLarge
 
 -- the outcome, unless memory was refused
 abbrev pub Gives : Result Cell EvalFault → Outcome → Type 0

@@ -4,3 +4,4 @@ pub mod Cells
 pub mod Plans
 pub mod Sameness
 pub mod Leaves
+pub mod Reads

@@ -4,57 +4,54 @@ ghost use Rattle.std.specs.Prelude.{◌≡◌, ◌+ℤ◌, ◌-ℤ◌, ◌*ℤ�
 ghost use Rattle.wvalues.specs.Meaning.{meaning};
 ghost use Rattle.wvalues.specs.Truth.{opposite};
 ghost use Rattle.wplan.specs.Values.{Judged, ranged, on_numbers, apply, order_of, meets, judged, compared, turned, is_null, between, signed, value_in, truth_of};
-ghost use Rattle.wplan.specs.Cells.{outcome, Gives};
+ghost use Rattle.wplan.specs.Cells.{outcome, Comes};
 
-use crate::cell::{Cell, EvalFault};
+use crate::cell::Cell;
 use std::cmp::Ordering;
 use wquery::{Comparison, Operator};
 use wvalues::{Truth, Value, Whole};
 
 // A number, where there is one in range.
-fn in_range(number: Option<Whole>) -> Result<Cell, EvalFault>
-    ensures { Gives result (ranged number) }
+fn in_range(number: Option<Whole>) -> Option<Cell>
+    ensures { Comes result (ranged number) }
 {
-    match number {
-        None => Err(EvalFault::OutOfRange),
-        Some(n) => Ok(Cell::Value(Value::Int(n))),
-    }
+    number.map(|n| Cell::Value(Value::Int(n)))
 }
 
-fn sum(x: &Cell, y: &Cell) -> Result<Cell, EvalFault>
-    ensures { Gives result (on_numbers (λ a b. a +ℤ b) (value_in (outcome x.now)) (value_in (outcome y.now))) }
+fn sum(x: &Cell, y: &Cell) -> Option<Cell>
+    ensures { Comes result (on_numbers (λ a b. a +ℤ b) (value_in (outcome x.now)) (value_in (outcome y.now))) }
 {
     match (x, y) {
         (Cell::Value(Value::Int(x)), Cell::Value(Value::Int(y))) => in_range(x.add(*y)),
-        _ => Ok(Cell::Value(Value::Null)),
+        _ => Some(Cell::Value(Value::Null)),
     }
 }
 
-fn difference(x: &Cell, y: &Cell) -> Result<Cell, EvalFault>
-    ensures { Gives result (on_numbers (λ a b. a -ℤ b) (value_in (outcome x.now)) (value_in (outcome y.now))) }
+fn difference(x: &Cell, y: &Cell) -> Option<Cell>
+    ensures { Comes result (on_numbers (λ a b. a -ℤ b) (value_in (outcome x.now)) (value_in (outcome y.now))) }
 {
     match (x, y) {
         (Cell::Value(Value::Int(x)), Cell::Value(Value::Int(y))) => in_range(x.sub(*y)),
-        _ => Ok(Cell::Value(Value::Null)),
+        _ => Some(Cell::Value(Value::Null)),
     }
 }
 
-fn product(x: &Cell, y: &Cell) -> Result<Cell, EvalFault>
-    ensures { Gives result (on_numbers (λ a b. a *ℤ b) (value_in (outcome x.now)) (value_in (outcome y.now))) }
+fn product(x: &Cell, y: &Cell) -> Option<Cell>
+    ensures { Comes result (on_numbers (λ a b. a *ℤ b) (value_in (outcome x.now)) (value_in (outcome y.now))) }
 {
     match (x, y) {
         (Cell::Value(Value::Int(x)), Cell::Value(Value::Int(y))) => in_range(x.mul(*y)),
-        _ => Ok(Cell::Value(Value::Null)),
+        _ => Some(Cell::Value(Value::Null)),
     }
 }
 
-/// What an operator makes of two operands.
-pub(crate) fn applied(operator: Operator, x: &Cell, y: &Cell) -> Result<Cell, EvalFault>
-    ensures { Gives result (apply operator (outcome x.now) (outcome y.now)) }
+/// What an operator makes of two operands, `None` where that is out of range.
+pub(crate) fn applied(operator: Operator, x: &Cell, y: &Cell) -> Option<Cell>
+    ensures { Comes result (apply operator (outcome x.now) (outcome y.now)) }
 {
     match operator {
-        Operator::Or => Ok(Cell::Truth(x.truth().or(y.truth()))),
-        Operator::And => Ok(Cell::Truth(x.truth().and(y.truth()))),
+        Operator::Or => Some(Cell::Truth(x.truth().or(y.truth()))),
+        Operator::And => Some(Cell::Truth(x.truth().and(y.truth()))),
         Operator::Plus => sum(x, y),
         Operator::Minus => difference(x, y),
         Operator::Times => product(x, y),

@@ -6,42 +6,42 @@ use Rattle.waggregate.specs.FrameAnswers.{Appends, window_answers}
 use Rattle.waggregate.proofs.PickedFacts.{row_counts_alike, value_counts_alike, sums_alike, firsts_alike}
 use Rattle.waggregate.proofs.folding.push_picked.Goals as goal
 
-pub returns-in-CountRows : goal.returns-in-CountRows
-returns-in-CountRows c feed rows of =
+pub returns-in-CountRows-clause-answers : goal.returns-in-CountRows-clause-answers
+returns-in-CountRows-clause-answers c feed rows of =
     subst (λ results. Appends results c.push_folds.result c.args.told.now.items c.push_folds.new.told.items)
     (row_counts_alike c.args.partitions.now feed rows c.args.values.now c.requires.values c.requires.few c.frames_are_rows.ensures.below c.frames_are_rows.ensures.few (tests c.lent-filter.result) of.picked (c.lent-filter.ensures.value ∙ of.tested)
     c.counts_are_exact.ensures.rows c.picked_rows_feed_alike.ensures.rows
     ∙ ap (λ f. window_answers f feed c.args.partitions.now rows) (sym c.in-CountRows.is))
-    c.push_folds.ensures
+    c.push_folds.ensures.answers
 
-pub returns-in-Count : goal.returns-in-Count
-returns-in-Count c feed rows of =
+pub returns-in-Count-clause-answers : goal.returns-in-Count-clause-answers
+returns-in-Count-clause-answers c feed rows of =
     subst (λ results. Appends results c.push_folds-in-Count.result c.args.told.now.items c.push_folds-in-Count.new.told.items)
     (value_counts_alike c.args.partitions.now feed rows c.args.values.now c.requires.values c.requires.few c.frames_are_rows.ensures.below c.frames_are_rows.ensures.few (tests c.lent-filter.result) of.picked (c.lent-filter.ensures.value ∙ of.tested)
     c.counts_are_exact.ensures.values c.picked_rows_feed_alike.ensures.count
     ∙ ap (λ f. window_answers f feed c.args.partitions.now rows) (sym c.in-Count.is))
-    c.push_folds-in-Count.ensures
+    c.push_folds-in-Count.ensures.answers
 
-pub returns-in-Sum : goal.returns-in-Sum
-returns-in-Sum c feed rows of =
+pub returns-in-Sum-clause-answers : goal.returns-in-Sum-clause-answers
+returns-in-Sum-clause-answers c feed rows of =
     subst (λ results. Appends results c.push_folds-in-Sum.result c.args.told.now.items c.push_folds-in-Sum.new.told.items)
     (sums_alike c.args.partitions.now feed rows c.args.values.now c.requires.values c.requires.few c.frames_are_rows.ensures.below c.frames_are_rows.ensures.few (tests c.lent-filter.result) of.picked (c.lent-filter.ensures.value ∙ of.tested)
     c.sums_are_exact.ensures c.picked_rows_feed_alike.ensures.feed c.picked_rows_feed_alike.ensures.sum (c.see_ranges.ensures.fed (tests c.lent-filter.result))
     ∙ ap (λ f. window_answers f feed c.args.partitions.now rows) (sym c.in-Sum.is))
-    c.push_folds-in-Sum.ensures
+    c.push_folds-in-Sum.ensures.answers
 
-pub returns-in-Min : goal.returns-in-Min
-returns-in-Min c feed rows of =
+pub returns-in-Min-clause-answers : goal.returns-in-Min-clause-answers
+returns-in-Min-clause-answers c feed rows of =
     subst (λ results. Appends results c.push_folds-in-Min.result c.args.told.now.items c.push_folds-in-Min.new.told.items)
     (firsts_alike c.args.partitions.now feed rows c.args.values.now c.requires.values c.requires.few c.frames_are_rows.ensures.below c.frames_are_rows.ensures.few (tests c.lent-filter.result) of.picked (c.lent-filter.ensures.value ∙ of.tested)
     c.picked_rows_feed_alike.ensures.feed c.stable_sorts_agree.ensures.first by_value by_value_total c.places_are_least.ensures.least Min (λ rs. refl)
     ∙ ap (λ f. window_answers f feed c.args.partitions.now rows) (sym c.in-Min.is))
-    c.push_folds-in-Min.ensures
+    c.push_folds-in-Min.ensures.answers
 
-pub returns-in-Max : goal.returns-in-Max
-returns-in-Max c feed rows of =
+pub returns-in-Max-clause-answers : goal.returns-in-Max-clause-answers
+returns-in-Max-clause-answers c feed rows of =
     subst (λ results. Appends results c.push_folds-in-Max.result c.args.told.now.items c.push_folds-in-Max.new.told.items)
     (firsts_alike c.args.partitions.now feed rows c.args.values.now c.requires.values c.requires.few c.frames_are_rows.ensures.below c.frames_are_rows.ensures.few (tests c.lent-filter.result) of.picked (c.lent-filter.ensures.value ∙ of.tested)
     c.picked_rows_feed_alike.ensures.feed c.stable_sorts_agree.ensures.first by_value_descending by_value_descending_total c.places_are_least.ensures.greatest Max (λ rs. refl)
     ∙ ap (λ f. window_answers f feed c.args.partitions.now rows) (sym c.in-Max.is))
-    c.push_folds-in-Max.ensures
+    c.push_folds-in-Max.ensures.answers

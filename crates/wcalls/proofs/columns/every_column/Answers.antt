@@ -8,6 +8,8 @@ use Rattle.wrows.specs.Laid.{rows_in, rows_seen}
 use Rattle.wcalls.specs.Functions.{function_column}
 use Rattle.wcalls.specs.Lent.{functions_seen}
 use Rattle.wcalls.specs.Sound.{is_sound_function}
+use Rattle.wcalls.specs.Joins.{most_of_function}
+use Rattle.wcalls.proofs.JoinFacts.{joins_more, joins_of_all, joins_within}
 use Rattle.wcalls.proofs.ColumnFacts.{mapped_at, each_is, each_more, each_refused, laid_more, longer}
 use Rattle.wcalls.proofs.columns.every_column.Goals as goal
 
@@ -32,12 +34,30 @@ loop-function-preserved c =
     let column = drop (length cells) new in
     let long : length column ≡ n = omega (arith, length-drop (length cells) new, c.in_ok-push_column.ensures.len) in
     let split : new ≡ cells ++ column = sym (take-append-drop (length cells) new) ∙ ap (λ l. l ++ column) c.in_ok-push_column.ensures.kept in
+    let most = most_of_function c.args.arranged.now.partitions.now.frame.exclusion (length c.args.arranged.now.order.now) in
     record {
+      joins = joins_more most (functions_seen fs) i (function_plan f.now) _ _ _ h at c.loop-function.invariant.joins c.push_column.ensures.joins;
       long = longer i n (length cells) n _ c.loop-function.invariant.long refl c.in_ok-push_column.ensures.len;
       so_far = λ w arranged.
           each_more (function_column (rows_seen c.args.arranged.now.rows.now) w) (functions_seen fs) i (laid n i cells) (function_plan f.now) (map meaning column) h at (c.loop-function.invariant.so_far w arranged) (c.in_ok-push_column.ensures.column w arranged)
           ∙ ap Ok (sym (ap (laid n (i + 1)) split ∙ laid_more n i cells column c.loop-function.invariant.long long));
     }
+
+pub returns-in_err-push_column-clause-joins : goal.returns-in_err-push_column-clause-joins
+returns-in_err-push_column-clause-joins c =
+    let fs = c.args.functions.now in
+    let i = c.loop-function.function-index in
+    let f = c.function-item.result in
+    let h : i < length (functions_seen fs) = omega (arith, c.loop-function-test.true, length-map fs (λ f. function_plan f.now)) in
+    let at = mapped_at (λ f. function_plan f.now) fs i f c.loop-function-test.true c.function-item.is in
+    let most = most_of_function c.args.arranged.now.partitions.now.frame.exclusion (length c.args.arranged.now.order.now) in
+    joins_within most (functions_seen fs) i (function_plan f.now) _ _ _ h at c.loop-function.invariant.joins c.push_column.ensures.joins
+
+pub returns-clause-joins : goal.returns-clause-joins
+returns-clause-joins c =
+    let fs = c.args.functions.now in
+    let most = most_of_function c.args.arranged.now.partitions.now.frame.exclusion (length c.args.arranged.now.order.now) in
+    joins_of_all most (functions_seen fs) c.loop-function.function-index _ _ c.loop-function.invariant.joins
 
 pub returns-in_err-push_column-clause-columns : goal.returns-in_err-push_column-clause-columns
 returns-in_err-push_column-clause-columns c w arranged =

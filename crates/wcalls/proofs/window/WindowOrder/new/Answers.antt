@@ -6,8 +6,8 @@ use Rattle.wrows.specs.Sorting.{ascending}
 use Rattle.wcalls.proofs.WindowedFacts.{order_told}
 use Rattle.wcalls.proofs.window.WindowOrder.new.Goals as goal
 
-pub returns : goal.returns
-returns c =
+pub returns-clause-order : goal.returns-clause-order
+returns-clause-order c =
     let w = c.args.window.now in
     order_told (rows_seen c.args.rows.now) (window_plan w) (length c.args.rows.now) (length w.partition.items) (length w.keys.items) c.in_ok-values.values.items c.in_ok-keys.keys.items c.in_ok-value_order.value_order.items c.in_ok-key_order.key_order.items
     c.in_ok-values.ensures.gives c.in_ok-keys.ensures.gives
