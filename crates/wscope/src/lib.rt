@@ -32,8 +32,10 @@ pub use look::Look;
 pub use names::{has_column, output_name, place_named};
 pub use naming::function_of;
 pub use outputs::{declared_columns, known, output_columns};
-pub use scoping::{any_anywhere, any_in_entries, any_in_option, any_shown, is_output};
-pub use seeking::{NodeTest, any_below};
+pub use scoping::{
+    any_anywhere, any_in_entries, any_in_items, any_in_option, any_shown, is_output,
+};
+pub use seeking::{NodeTest, any_below, any_node};
 pub use settling::{find_window, settle, settle_all};
 pub use source::SourceColumn;
 pub use typing::type_of;

@@ -12,7 +12,7 @@ use crate::source::SourceColumn;
 use wquery::{Expression, Item, Key, Query, WindowEntry};
 
 /// Whether some node of the items is found.
-fn any_in_items<T: NodeTest>(test: &T, items: &[Item]) -> bool
+pub fn any_in_items<T: NodeTest>(test: &T, items: &[Item]) -> bool
     ensures { result ≡ some_item (T.sees test.now) (map view_item items.now) }
 {
     'items: for item in items {
@@ -73,10 +73,10 @@ pub fn is_output(columns: &[SourceColumn], items: &[Item], key: &Expression) -> 
 fn any_in_key<T: NodeTest>(test: &T, columns: &[SourceColumn], items: &[Item], key: &Key) -> bool
     ensures { result ≡ some_sort (all_titled columns.now) (map view_item items.now) (T.sees test.now) (view_key key.now ∷ []) }
 {
-    if is_output(columns, items, &key.expression) {
+    if !any_node(test, &key.expression) {
         return false;
     }
-    any_node(test, &key.expression)
+    !is_output(columns, items, &key.expression)
 }
 
 /// Whether some node of the query's ORDER BY is found, keys that stand for items left out.

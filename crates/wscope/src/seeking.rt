@@ -20,7 +20,7 @@ pub trait NodeTest {
 
 /// Whether some node of the expression is found.
 #[cycle(seeking)]
-pub(crate) fn any_node<T: NodeTest>(test: &T, e: &Expression) -> bool
+pub fn any_node<T: NodeTest>(test: &T, e: &Expression) -> bool
     ensures { result ≡ some_node (T.sees test.now) (view e.now) }
 {
     match test.look(e) {
