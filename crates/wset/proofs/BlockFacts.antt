@@ -1,7 +1,6 @@
 -- What blocks of entries hold together.
 use Rattle.std.proofs.Common.{option_map, is_some, IfSome, ◌≡◌, ◌∙◌, ◌+◌, ◌<◌, ◌++◌, Bool, true, false, cond, T, ℕ, zero, suc, List, [], ◌∷◌, length, get_or, set, take, drop, Option, None, Some, refl, sym, ap, subst, arith, append_assoc, is_eq}
 use Rattle.std.proofs.lemmas.List.{append-nil, map-append}
-use Rattle.std.specs.List.{insert}
 use Rattle.std.specs.Ordering.{is_lt}
 use Rattle.std.specs.declared.cmp.Ordering.{Ordering}
 use Rattle.std.specs.declared.cmp.Ordering.TheVariants.{Less, Equal, Greater}
@@ -35,12 +34,6 @@ flat_set (b ∷ bs) (suc k) c lt = ap (λ es. b ++ es) (flat_set bs k c (omega a
 
 pub known_append : (xs ys : List Entry) → known_entries (xs ++ ys) ≡ known_entries xs ++ known_entries ys
 known_append xs ys = map-append known_entry xs ys
-
--- a block is cut in two
-pub flat_halves : (bs : List (List Entry)) (k : ℕ) (d front back : List Entry) → k < length bs → front ++ back ≡ get_or bs k d → flat (set (insert bs (suc k) back) k front) ≡ flat bs
-flat_halves [] k d front back lt is = absurd (omega arith)
-flat_halves (b ∷ bs) zero d front back lt is = sym (append_assoc front back (flat bs)) ∙ ap (λ es. es ++ flat bs) is
-flat_halves (b ∷ bs) (suc k) d front back lt is = ap (λ es. b ++ es) (flat_halves bs k d front back (omega arith) is)
 
 -- ---- looking up and putting in a part
 

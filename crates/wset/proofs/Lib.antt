@@ -9,5 +9,6 @@ mod Maps
 mod Sets
 mod Tables
 mod BlockFacts
+mod Cutting
 mod Walks
 mod KeptSets

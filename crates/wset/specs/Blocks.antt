@@ -1,5 +1,6 @@
 -- Entries in blocks, one block after another.
-use Rattle.std.specs.Prelude.{◌≡◌, ◌<◌, ℕ, suc, List, [], ◌∷◌, ◌++◌, length, take, drop}
+use Rattle.std.specs.Prelude.{◌≡◌, ◌<◌, ◌≤◌, ℕ, zero, suc, List, [], ◌∷◌, ◌++◌, length, take, drop}
+use Rattle.std.specs.FinMap.{put}
 use Rattle.std.specs.List.{AllByRecursion}
 use Rattle.std.specs.declared.cmp.Ordering.TheVariants.{Less}
 use Rattle.wvalues.specs.Names.{NameParts, name_cmp}
@@ -12,6 +13,30 @@ use Rattle.wset.specs.declared.entries.Entry.{Entry}
 abbrev pub flat : List (List Entry) → List Entry
 flat [] = []
 flat (b ∷ bs) = b ++ flat bs
+
+-- the most entries of a block
+abbrev pub longest : ℕ
+longest = 512
+
+-- the entries of each half of such a block
+abbrev pub half : ℕ
+half = 256
+
+-- each block but the last has so many entries at least
+abbrev pub AreFilled : ℕ → List (List Entry) → Type 0
+AreFilled n [] = Unit {0}
+AreFilled n (b ∷ []) = Unit {0}
+AreFilled n (b ∷ c ∷ bs) = (n ≤ length b) × AreFilled n (c ∷ bs)
+
+-- whatever is put of the name, the block stays within its limit
+abbrev pub HasRoom : List Entry → NameParts → Type 0
+HasRoom b n = (k : Known) → length (put name_cmp n k (known_entries b)) ≤ longest
+
+-- the blocks with two halves in the place of block k
+abbrev pub halved : ℕ → List (List Entry) → List (List Entry)
+halved k [] = []
+halved zero (b ∷ bs) = take half b ∷ drop half b ∷ bs
+halved (suc k) (b ∷ bs) = b ∷ halved k bs
 
 -- these names stand behind the name
 abbrev pub AreBehind : NameParts → List (NameParts × Known) → Type 0

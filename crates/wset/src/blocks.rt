@@ -1,5 +1,5 @@
 //! Entries in blocks of a bounded size, so that an insert moves few of them.
-ghost use Rattle.std.specs.Prelude.{◌≡◌, ◌↔◌, ◌<◌, ◌++◌, ◌-◌, ◌^◌, IsOk, IsSome, IsTrue, List, true, false, length, map, option_map, IfSome, IfOk, OnOk, OnErr};
+ghost use Rattle.std.specs.Prelude.{◌≡◌, ◌↔◌, ◌<◌, ◌≤◌, ◌++◌, ◌-◌, ◌^◌, [], ◌∷◌, ℕ, IsOk, IsSome, IsTrue, List, true, false, length, take, drop, get_or, map, option_map, IfSome, IfOk, OnOk, OnErr};
 ghost use Rattle.std.specs.Option.{option_copied};
 ghost use Rattle.std.specs.FinMap.{find, put};
 ghost use Rattle.wsegment.specs.Declaration.{Declaration};
@@ -8,7 +8,7 @@ ghost use Rattle.wset.specs.Views.{Known as TheKnown};
 ghost use Rattle.wset.specs.Holding.{IsHeldBy, known_of};
 ghost use Rattle.wset.specs.Lending.{AreBelow};
 ghost use Rattle.wset.specs.Entries.{AllHeldBy, IsRising, known_entries, listing_of};
-ghost use Rattle.wset.specs.Blocks.{AreBehind, IsHome, flat};
+ghost use Rattle.wset.specs.Blocks.{AreBehind, AreFilled, HasRoom, IsHome, flat, half, halved, longest};
 ghost use Rattle.wset.specs.declared.entries.Entry.{Entry as HeldEntry};
 
 use crate::entries::{Entry, held_of, list_entries, put_entry, share_entries};
@@ -18,30 +18,35 @@ use std::alloc::{AllocError, Global};
 use std::marker::Model;
 use wvalues::Name;
 
-/// The most entries of a block, but for one that a join made.
+/// The most entries of a block.
 const LONGEST: usize = 512;
 
-/// One entry or more in the order of their names. In a contract it is its entries.
+/// The entries of each half of a block that has the most.
+const HALF: usize = 256;
+
+/// From one entry to 512, in the order of their names. In a contract it is its entries.
 #[derive(Drop)]
 pub(crate) struct Block {
     entries: Vec<Entry>,
 }
 
 impl Model for Block {
-    ghost use Rattle.std.specs.Prelude.{List, ◌<◌, length};
+    ghost use Rattle.std.specs.Prelude.{List, ◌<◌, ◌≤◌, length};
+    ghost use Rattle.wset.specs.Blocks.{longest};
     ghost use Rattle.wset.specs.declared.entries.Entry.{Entry};
 
     ghost Value = { List Entry };
 
     ghost view = { λ b. b.entries.items };
 
-    ghost invariant = { λ b. 0 < length b.entries.items };
+    ghost invariant = { λ b. (0 < length b.entries.items) × (length b.entries.items ≤ longest) };
 }
 
 impl Block {
     /// A block of these entries.
     pub(crate) fn new(entries: Vec<Entry>) -> Block
-        requires { 0 < length entries.items }
+        requires some { 0 < length entries.items }
+        requires bounded { length entries.items ≤ longest }
         ensures { result ≡ entries.items }
     {
         Block { entries }
@@ -49,7 +54,8 @@ impl Block {
 
     /// A block of the same entries.
     fn copy(alloc: Global, entries: &[Entry]) -> Result<Block, AllocError>
-        requires { 0 < length entries.now }
+        requires some { 0 < length entries.now }
+        requires bounded { length entries.now ≤ longest }
         ensures { IfOk result (λ block. block ≡ entries.now) }
     {
         let mut shared = Vec::new(alloc);
@@ -61,33 +67,72 @@ impl Block {
     pub(crate) fn entries(&self) -> &[Entry]
         ensures same { result.now ≡ self.now }
         ensures filled { 0 < length result.now }
+        ensures bounded { length result.now ≤ longest }
     {
         self.entries.as_slice()
     }
 
+    /// Whether it has the most entries that a block can have.
+    fn is_full(&self) -> bool
+        ensures full { result ≡ true → length self.now ≡ longest }
+        ensures room { result ≡ false → length self.now < longest }
+    {
+        self.entries.len() == LONGEST
+    }
+
+    /// Whether something can be put of a name: its entry is here, or there is room for one.
+    fn has_room(&self, name: &Name) -> bool
+        requires { IsRising self.now }
+        ensures room { result ≡ true → HasRoom self.now name.now }
+        ensures full { result ≡ false → length self.now ≡ longest }
+    {
+        if held_of(&self.entries, name).is_some() {
+            return true;
+        }
+        !self.is_full()
+    }
+
     /// Puts what is held of a name, in the place of what was. Where it finds no memory nothing is changed.
     fn put(&mut self, name: Name, held: Held) -> Result<(), AllocError>
-        requires { IsRising self.old }
+        requires rising { IsRising self.old }
+        requires room { HasRoom self.old name }
         ensures ok { OnOk result
             (known_entries self.new ≡ put name_cmp name (known_of held) (known_entries self.old)) }
         ensures read { (d : Declaration)
             → AllHeldBy d self.old → IsHeldBy d held → AllHeldBy d self.new }
+        ensures more { length self.old ≤ length self.new }
         ensures err { OnErr result (self.new ≡ self.old) }
     {
         put_entry(&mut self.entries, name, held)?;
         Ok(())
     }
 
-    /// The same entries in two blocks.
-    fn halves(&self, alloc: Global) -> Result<(Block, Block), AllocError>
-        requires { 1 < length self.now }
-        ensures { IfOk result (λ halves. halves.0 ++ halves.1 ≡ self.now) }
+    /// Puts an entry behind the others. Where it finds no memory nothing is changed.
+    fn push(&mut self, entry: Entry) -> Result<(), AllocError>
+        requires { length self.old < longest }
+        ensures ok { OnOk result (self.new ≡ self.old ++ entry ∷ []) }
+        ensures err { OnErr result (self.new ≡ self.old) }
     {
-        let half = self.entries.len() / 2;
-        let (front, back) = self.entries.as_slice().split_at(half);
-        let front = Block::copy(alloc, front)?;
-        let back = Block::copy(alloc, back)?;
-        Ok((front, back))
+        self.entries.push(entry)?;
+        Ok(())
+    }
+
+    /// The later half of a block that has the most entries.
+    fn later_half(&self, alloc: Global) -> Result<Block, AllocError>
+        requires { length self.now ≡ longest }
+        ensures { IfOk result (λ later. later ≡ drop half self.now) }
+    {
+        let (_, later) = self.entries.as_slice().split_at(HALF);
+        let block = Block::copy(alloc, later)?;
+        Ok(block)
+    }
+
+    /// Lets the later half go.
+    fn keep_half(&mut self)
+        requires { length self.old ≡ longest }
+        ensures { self.new ≡ take half self.old }
+    {
+        self.entries.truncate(HALF);
     }
 
     /// Whether its last name stands before the name.
@@ -150,35 +195,78 @@ pub(crate) fn held_in<'a>(blocks: &'a [Block], name: &Name) -> Option<&'a Held>
     held_of(blocks[k].entries(), name)
 }
 
-/// Cuts a long block in two, if there is memory for it.
-fn split(alloc: Global, blocks: &mut Vec<Block>, k: usize)
-    requires { k < length blocks.old.items }
-    ensures { flat blocks.new.items ≡ flat blocks.old.items }
+/// Cuts a block that has the most entries in two halves. Where it finds no memory nothing is changed.
+fn cut(alloc: Global, blocks: &mut Vec<Block>, k: usize) -> Result<(), AllocError>
+    requires in_range { k < length blocks.old.items }
+    requires full { (d : List HeldEntry) → length (get_or blocks.old.items k d) ≡ longest }
+    ensures ok { OnOk result (blocks.new.items ≡ halved k blocks.old.items) }
+    ensures err { OnErr result (blocks.new.items ≡ blocks.old.items) }
 {
-    if blocks[k].entries().len() <= LONGEST {
-        return;
-    }
-    let Ok((front, back)) = blocks[k].halves(alloc) else {
-        return;
-    };
-    if blocks.insert(k + 1, back).is_ok() {
-        blocks[k] = front;
-    }
+    let later = blocks[k].later_half(alloc)?;
+    blocks.insert(k + 1, later)?;
+    blocks[k].keep_half();
+    Ok(())
 }
 
-/// Makes the first block.
-fn begin(alloc: Global, blocks: &mut Vec<Block>, name: Name, held: Held) -> Result<(), AllocError>
-    requires { length blocks.old.items ≡ 0 }
-    ensures ok { OnOk result
-        (known_entries (flat blocks.new.items)
-        ≡ put name_cmp name (known_of held) (known_entries (flat blocks.old.items))) }
-    ensures read { (d : Declaration)
-        → AllHeldBy d (flat blocks.old.items) → IsHeldBy d held → AllHeldBy d (flat blocks.new.items) }
-    ensures err { OnErr result (flat blocks.new.items ≡ flat blocks.old.items) }
+/// The home of a name, with room for it: a block that has the most entries is cut in two before. Where it finds no memory
+/// nothing is changed.
+fn roomy_home(alloc: Global, blocks: &mut Vec<Block>, name: &Name) -> Result<usize, AllocError>
+    requires some { 0 < length blocks.old.items }
+    requires rising { IsRising (flat blocks.old.items) }
+    ensures home { IfOk result (λ k. IsHome blocks.new.items name.now k) }
+    ensures room { IfOk result (λ k. (d : List HeldEntry) → HasRoom (get_or blocks.new.items k d) name.now) }
+    ensures same { flat blocks.new.items ≡ flat blocks.old.items }
+    ensures filled { AreFilled half blocks.old.items → AreFilled half blocks.new.items }
+{
+    let k = home(blocks, name);
+    if blocks[k].has_room(name) {
+        return Ok(k);
+    }
+    cut(alloc, blocks, k)?;
+    if blocks[k].ends_before(name) {
+        return Ok(k + 1);
+    }
+    Ok(k)
+}
+
+/// Whether there is no block, or the last has the most entries.
+fn end_full(blocks: &[Block]) -> bool
+    ensures full { result ≡ true → (n : ℕ) (b : List HeldEntry)
+        → n ≤ longest → AreFilled n blocks.now → AreFilled n (blocks.now ++ b ∷ []) }
+    ensures some { result ≡ false → 0 < length blocks.now }
+    ensures room { result ≡ false → (d : List HeldEntry) → length (get_or blocks.now (length blocks.now - 1) d) < longest }
+{
+    if blocks.is_empty() {
+        return true;
+    }
+    let last = blocks.len() - 1;
+    blocks[last].is_full()
+}
+
+/// Puts an entry into a block of its own behind all others. Where it finds no memory nothing is changed.
+fn begin(alloc: Global, blocks: &mut Vec<Block>, entry: Entry) -> Result<(), AllocError>
+    ensures ok { OnOk result (blocks.new.items ≡ blocks.old.items ++ (entry ∷ []) ∷ []) }
+    ensures err { OnErr result (blocks.new.items ≡ blocks.old.items) }
 {
     let mut entries = Vec::new(alloc);
-    entries.push(Entry { name, held })?;
+    entries.push(entry)?;
     blocks.push(Block::new(entries))?;
+    Ok(())
+}
+
+/// Puts an entry behind all others. A block is begun only where the last has the most entries, so that entries which are
+/// put so fill their blocks. Where it finds no memory nothing is changed.
+fn append(alloc: Global, blocks: &mut Vec<Block>, entry: Entry) -> Result<(), AllocError>
+    ensures ok { OnOk result (flat blocks.new.items ≡ flat blocks.old.items ++ entry ∷ []) }
+    ensures err { OnErr result (blocks.new.items ≡ blocks.old.items) }
+    ensures filled { (n : ℕ) → n ≤ longest → AreFilled n blocks.old.items → AreFilled n blocks.new.items }
+{
+    if end_full(blocks) {
+        begin(alloc, blocks, entry)?;
+        return Ok(());
+    }
+    let last = blocks.len() - 1;
+    blocks[last].push(entry)?;
     Ok(())
 }
 
@@ -186,13 +274,14 @@ fn begin(alloc: Global, blocks: &mut Vec<Block>, name: Name, held: Held) -> Resu
 fn put_home(blocks: &mut Vec<Block>, k: usize, name: Name, held: Held) -> Result<(), AllocError>
     requires rising { IsRising (flat blocks.old.items) }
     requires home { IsHome blocks.old.items name k }
+    requires room { (d : List HeldEntry) → HasRoom (get_or blocks.old.items k d) name }
     ensures ok { OnOk result
         (known_entries (flat blocks.new.items)
         ≡ put name_cmp name (known_of held) (known_entries (flat blocks.old.items))) }
     ensures read { (d : Declaration)
         → AllHeldBy d (flat blocks.old.items) → IsHeldBy d held → AllHeldBy d (flat blocks.new.items) }
     ensures err { OnErr result (flat blocks.new.items ≡ flat blocks.old.items) }
-    ensures kept { length blocks.new.items ≡ length blocks.old.items }
+    ensures filled { AreFilled half blocks.old.items → AreFilled half blocks.new.items }
 {
     let block = &mut blocks[k];
     block.put(name, held)?;
@@ -213,13 +302,14 @@ pub(crate) fn put_in(
     ensures read { (d : Declaration)
         → AllHeldBy d (flat blocks.old.items) → IsHeldBy d held → AllHeldBy d (flat blocks.new.items) }
     ensures err { OnErr result (flat blocks.new.items ≡ flat blocks.old.items) }
+    ensures filled { AreFilled half blocks.old.items → AreFilled half blocks.new.items }
 {
-    if blocks.is_empty() {
-        return begin(alloc, blocks, name, held);
+    if end_before(blocks, &name) {
+        append(alloc, blocks, Entry { name, held })?;
+        return Ok(());
     }
-    let k = home(blocks, &name);
+    let k = roomy_home(alloc, blocks, &name)?;
     put_home(blocks, k, name, held)?;
-    split(alloc, blocks, k);
     Ok(())
 }
 
@@ -253,15 +343,16 @@ pub(crate) fn shared(alloc: Global, blocks: &[Block]) -> Result<Vec<Entry>, Allo
     Ok(all)
 }
 
-/// These entries in blocks.
-pub(crate) fn in_blocks(alloc: Global, entries: Vec<Entry>) -> Result<Vec<Block>, AllocError>
-    ensures { IfOk result (λ blocks. flat blocks.items ≡ entries.items) }
+/// The same entries in blocks, of which each but the last has the most.
+pub(crate) fn in_blocks(alloc: Global, entries: &[Entry]) -> Result<Vec<Block>, AllocError>
+    ensures same { IfOk result (λ blocks. flat blocks.items ≡ entries.now) }
+    ensures filled { IfOk result (λ blocks. AreFilled longest blocks.items) }
 {
     let mut blocks = Vec::new(alloc);
-    if entries.is_empty() {
-        return Ok(blocks);
+    'entries: for entry in entries {
+        let shared = entry.share()?;
+        append(alloc, &mut blocks, shared)?;
     }
-    blocks.push(Block::new(entries))?;
     Ok(blocks)
 }
 

@@ -26,9 +26,9 @@ use wvalues::Name;
 /// What is known of each name, and the declaration by which all its segments were read.
 ///
 /// In a contract it is the declaration and the view. It keeps an entry for each name that is not
-/// unknown, in the order of names and in blocks of at most 512; only a join makes a longer block, which is
-/// cut in two as its names are put. A segment's bytes and cells are shared by all sets that know it, so a
-/// set that is new and then joins another is a cheap copy of it.
+/// unknown, in the order of names and in blocks of at most 512, which are cut in two as they grow: each but
+/// the last has at least 256. A segment's bytes and cells are shared by all sets that know it, so a set that
+/// is new and then joins another is a cheap copy of it.
 #[derive(Drop)]
 pub struct SegmentSet {
     alloc: Global,
@@ -244,7 +244,7 @@ impl SegmentSet {
     ///
     /// A join that teaches nothing looks each of the other's names up, makes no list and takes no memory. Any other walks
     /// the names of both sets once, whatever the segments' sizes: it makes a list of the entries of each
-    /// set and one of both, some 64 bytes a name each, and keeps the last as one block. Segments are
+    /// set and one of both, some 64 bytes a name each, and puts the last into blocks of 512. Segments are
     /// shared: none is read, and no byte or cell is copied.
     pub fn join(&mut self, other: &SegmentSet) -> Result<(), JoinError>
         ensures ok { OnOk result (self.new ≡ record self.old { view = join self.old.view other.now.view }) }
@@ -264,7 +264,7 @@ impl SegmentSet {
             return Err(JoinError::NoMemory);
         };
         let names = entries.len();
-        let Ok(blocks) = in_blocks(self.alloc, entries) else {
+        let Ok(blocks) = in_blocks(self.alloc, &entries) else {
             return Err(JoinError::NoMemory);
         };
         self.blocks = blocks;

@@ -1,12 +1,23 @@
-use Rattle.std.proofs.Common.{sym, subst}
+use Rattle.std.proofs.Common.{◌≤◌, length, sym, subst}
 use Rattle.wset.specs.Entries.{IsRising, AllHeldBy}
 use Rattle.wset.specs.Holding.{known_of}
+use Rattle.wset.specs.Blocks.{HasRoom, half}
 use Rattle.wset.proofs.BlockFacts.{held_set, put_home, rising_at}
+use Rattle.wset.proofs.Cutting.{filled_set}
 use Rattle.wset.proofs.blocks.put_home.Goals as goal
 
-pub put-requires : goal.put-requires
-put-requires c =
+pub put-requires-clause-rising : goal.put-requires-clause-rising
+put-requires-clause-rising c =
     subst IsRising (sym c.index_mut-block.ensures.value) (rising_at c.args.blocks.now.items c.args.k c.index_mut-block.result.now c.requires.home.in_range c.requires.rising)
+
+pub put-requires-clause-room : goal.put-requires-clause-room
+put-requires-clause-room c =
+    subst (λ b. HasRoom b c.args.name) (sym c.index_mut-block.ensures.value) (c.requires.room c.index_mut-block.result.now)
+
+pub returns-clause-filled : goal.returns-clause-filled
+returns-clause-filled c =
+    filled_set half c.args.blocks.now.items c.args.k c.index_mut-block.result.now c.put.new.self
+    (subst (λ b. length b ≤ length c.put.new.self) c.index_mut-block.ensures.value c.put.ensures.more)
 
 pub returns-clause-ok : goal.returns-clause-ok
 returns-clause-ok c =

@@ -1,13 +1,24 @@
-use Rattle.std.proofs.Common.{sym, subst, arith}
-use Rattle.wset.specs.Entries.{AllHeldBy, IsRising}
+use Rattle.std.proofs.Common.{◌≤◌, ap, length, sym, subst, arith}
+use Rattle.std.specs.FinMap.{put}
+use Rattle.wvalues.specs.Names.{name_cmp}
+use Rattle.wset.specs.Blocks.{longest}
+use Rattle.wset.specs.Entries.{AllHeldBy, IsRising, known_entries}
 use Rattle.wset.specs.Holding.{known_of}
+use Rattle.wset.proofs.EntryFacts.{length-known_entries}
 use Rattle.wset.proofs.Maps.{put_sized}
 use Rattle.wset.proofs.blocks.Block.put.Goals as goal
 
 pub invariant_of-self-2 : goal.invariant_of-self-2
 invariant_of-self-2 c =
-    let sized = put_sized c.self.inside.entries.items c.put_entry.new.entries.items c.args.name (known_of c.args.held) (subst IsRising (sym c.self.view_is) c.requires) c.in_ok-put_entry.ensures.ok in
-    omega (arith, c.self.invariant, sized.0)
+    let sized = put_sized c.self.inside.entries.items c.put_entry.new.entries.items c.args.name (known_of c.args.held) (subst IsRising (sym c.self.view_is) c.requires.rising) c.in_ok-put_entry.ensures.ok in
+    let room : length (put name_cmp c.args.name (known_of c.args.held) (known_entries c.self.inside.entries.items)) ≤ longest =
+    subst (λ es. length (put name_cmp c.args.name (known_of c.args.held) (known_entries es)) ≤ longest) (sym c.self.view_is) (c.requires.room (known_of c.args.held)) in
+    (omega (arith, c.self.invariant.0, sized.0), omega (arith, room, ap length c.in_ok-put_entry.ensures.ok, length-known_entries c.put_entry.new.entries.items))
 
 pub returns-clause-read : goal.returns-clause-read
 returns-clause-read c d all held = c.put_entry.ensures.read d (subst (AllHeldBy d) (sym c.self.view_is) all) held
+
+pub returns-clause-more : goal.returns-clause-more
+returns-clause-more c =
+    let sized = put_sized c.self.inside.entries.items c.put_entry.new.entries.items c.args.name (known_of c.args.held) (subst IsRising (sym c.self.view_is) c.requires.rising) c.in_ok-put_entry.ensures.ok in
+    omega (arith, sized.0, ap length c.self.view_is)

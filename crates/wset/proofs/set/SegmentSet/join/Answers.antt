@@ -1,26 +1,28 @@
 use Rattle.std.proofs.Common.{◌≡◌, ◌∙◌, sym, ap, subst, length, arith}
 use Rattle.wset.specs.Views.{join}
 use Rattle.wset.specs.Entries.{AllHeldBy, known_entries}
-use Rattle.wset.specs.Blocks.{flat}
+use Rattle.wset.specs.Blocks.{flat, half, longest}
+use Rattle.wset.proofs.Cutting.{filled_less}
 use Rattle.wset.proofs.Maps.{known_again, rising_join, stored_view, view_again, view_join}
 use Rattle.wset.proofs.Sets.{changed, same_view}
 use Rattle.wset.proofs.set.SegmentSet.join.Goals as goal
 
 pub invariant_of-self : goal.invariant_of-self
 invariant_of-self c =
-    let known = ap known_entries c.in-Ok-in_blocks.ensures ∙ (rw (c.deref-3.ensures.value, c.deref-4.ensures.value) at c.in-Ok.ensures.known) in
+    let known = ap known_entries (c.in-Ok-in_blocks.ensures.same ∙ c.deref-5.ensures.value) ∙ (rw (c.deref-3.ensures.value, c.deref-4.ensures.value) at c.in-Ok.ensures.known) in
     let same : c.other.inside.schema ≡ c.self.inside.schema = ap (λ s. s.schema) c.other.view_is ∙ sym (c.is_alike.ensures.0 c.if-not-is_alike.false) ∙ sym (ap (λ s. s.schema) c.self.view_is) in
     record {
       rising = rising_join (flat c.self.inside.blocks.items) (flat c.other.inside.blocks.items) (flat c.in-Ok-in_blocks.blocks.items) c.self.invariant.rising c.other.invariant.rising known;
-      counted = omega (arith, ap length c.in-Ok-in_blocks.ensures, c.in-Ok.entries.ok.0);
+      counted = omega (arith, ap length (c.in-Ok-in_blocks.ensures.same ∙ c.deref-5.ensures.value), c.in-Ok.entries.ok.0);
       few = omega (arith, c.in-Ok.entries.ok.0);
-      read = subst (AllHeldBy c.self.inside.schema) (sym c.in-Ok-in_blocks.ensures)
+      read = subst (AllHeldBy c.self.inside.schema) (sym (c.in-Ok-in_blocks.ensures.same ∙ c.deref-5.ensures.value))
           (c.in-Ok.ensures.read c.self.inside.schema (rw c.deref-3.ensures.value c.self.invariant.read) (rw c.deref-4.ensures.value (subst (λ d. AllHeldBy d (flat c.other.inside.blocks.items)) same c.other.invariant.read)));
+      filled = filled_less half longest c.in-Ok-in_blocks.blocks.items (omega arith) c.in-Ok-in_blocks.ensures.filled;
     }
 
 pub returns-clause-ok : goal.returns-clause-ok
 returns-clause-ok c =
-    let known = ap known_entries c.in-Ok-in_blocks.ensures ∙ (rw (c.deref-3.ensures.value, c.deref-4.ensures.value) at c.in-Ok.ensures.known) in
+    let known = ap known_entries (c.in-Ok-in_blocks.ensures.same ∙ c.deref-5.ensures.value) ∙ (rw (c.deref-3.ensures.value, c.deref-4.ensures.value) at c.in-Ok.ensures.known) in
     changed c.self.inside.schema _ _ c.args.self.now (λ v. join v c.args.other.now.view) c.self.view_is
     (view_join (flat c.self.inside.blocks.items) (flat c.other.inside.blocks.items) (flat c.in-Ok-in_blocks.blocks.items) c.self.invariant.rising c.other.invariant.rising known
     ∙ ap (λ s. join (stored_view (flat c.self.inside.blocks.items)) s.view) c.other.view_is)

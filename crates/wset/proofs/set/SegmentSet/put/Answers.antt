@@ -13,6 +13,7 @@ invariant_of-self-2 c = record {
   counted = (rw c.deref.ensures.value at c.in_ok-count.ensures.count) (known_of c.args.held) ∙ ap length (sym c.in_ok-put_in.ensures.ok) ∙ length-known_entries (flat c.put_in.new.blocks.items);
   few = omega arith;
   read = c.put_in.ensures.read _ c.self.invariant.read (subst (λ s. IsHeldBy s.schema c.args.held) (sym c.self.view_is) c.requires);
+  filled = c.put_in.ensures.filled c.self.invariant.filled;
 }
 
 pub returns-clause-ok : goal.returns-clause-ok
