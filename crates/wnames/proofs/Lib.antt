@@ -3,3 +3,4 @@ mod Fields
 mod Typed
 mod Outputs
 mod Listed
+mod Indexed

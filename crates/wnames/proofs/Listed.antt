@@ -1,5 +1,5 @@
 -- Arguments that are a list, and HAVING.
-use Rattle.std.proofs.Common.{◌≡◌, ℕ, Bool, false, ◌&&◌, ◌||◌, not, List, [], ◌∷◌, refl, ap, sym, ◌∙◌, map, Option, Some, None}
+use Rattle.std.proofs.Common.{◌≡◌, Bool, ◌&&◌, ◌||◌, not, List, ap, sym, ◌∙◌, Option, Some}
 use Rattle.std.specs.List.{list_any}
 use Rattle.std.specs.declared.alloc.Global.{Global}
 use Rattle.std.specs.declared.boxed.Box.{Box}
@@ -8,21 +8,18 @@ use Rattle.wquery.specs.declared.expression.Arguments.{Arguments}
 use Rattle.wquery.specs.declared.expression.Arguments.TheVariants as given
 use Rattle.wquery.specs.declared.expression.Arguments.TheOpen as layer
 use Rattle.wquery.specs.declared.expression.Arguments.TheFolds.{fold-Arguments, fold-roll-Arguments}
-use Rattle.wquery.specs.declared.expression.Column.{Column}
 use Rattle.wquery.specs.declared.expression.Expression.{Expression}
 use Rattle.wquery.specs.declared.expression.Expression.TheVariants as queries
 use Rattle.wquery.specs.declared.query.Query.{Query, out-Query}
 use Rattle.wquery.specs.declared.query.Source.TheFolds.{fold_out-Query}
 use Rattle.wquery.specs.QueryTree.{QueryTree, SourceTree, source_step, query_step, view_query}
-use Rattle.wquery.specs.Tree.{Tree, These, Given, Reach, KeyTree, Branch, WindowTree, trees, views, view, view_arguments, view_column, view_optional, arguments_step, expression_step, over_step, call_step, key_step, link_step, window_step}
+use Rattle.wquery.specs.Tree.{Tree, These, Given, Reach, KeyTree, Branch, WindowTree, trees, views, view, view_arguments, view_optional, arguments_step, expression_step, over_step, call_step, key_step, link_step, window_step}
 use Rattle.wscope.specs.declared.function.Function.{Function}
 use Rattle.wscope.specs.Finding.{count_trees}
 use Rattle.wscope.specs.Functions.{takes}
 use Rattle.wscope.specs.Scope.{clauses_of, some_option}
-use Rattle.wscope.specs.Sources.{Shown, ShownItem}
 use Rattle.wscope.specs.Types.{Titled}
 use Rattle.wnames.specs.Calls.{are_literal, is_well_given}
-use Rattle.wnames.specs.Names.{is_unlike}
 use Rattle.wnames.specs.Places.{sees_ungrouped}
 use Rattle.wnames.specs.Typing.{all_trees, is_value, is_integer, is_text, suits_function, are_typed, is_ill_typed}
 use Rattle.wsame.proofs.Views.{view_of_in}
@@ -39,17 +36,11 @@ pub listed_typed : (cs : List Titled) (a : Arguments) (f : Option Function) (v :
 listed_typed cs a f v us r ea eu er =
     er ∙ ap (λ (zs : List Expression). all_trees (is_value cs) (trees (views zs)) && suits_function cs f (trees (views zs))) eu ∙ sym (ap (λ (x : Arguments). are_typed cs f (view_arguments x)) ea ∙ ap (are_typed cs f) (view_of_listed v))
 
-none_unlike : (cs : List Titled) (name : List ℕ) (items : List ShownItem) → list_any (is_unlike cs name None) items ≡ false
-none_unlike cs name [] = refl
-none_unlike cs name (i ∷ is) = none_unlike cs name is
-
-pub no_first : (cs : List Titled) (name : List ℕ) (items : List ShownItem) (o : Option Shown) → None ≡ o → false ≡ list_any (is_unlike cs name o) items
-no_first cs name items o e = sym (ap (λ (p : Option Shown). list_any (is_unlike cs name p) items) (sym e) ∙ none_unlike cs name items)
-
-pub ungrouped_having : (q : Query) (g : List Column) (r : Bool) → g ≡ (out-Query q).grouping.items → r ≡ some_option (sees_ungrouped (map view_column g)) (view_optional (out-Query q).having) → r ≡ some_option (sees_ungrouped (clauses_of (view_query q)).grouping) (clauses_of (view_query q)).having
+pub ungrouped_having : (q : Query) (g : List Tree) (r : Bool) → g ≡ (clauses_of (view_query q)).grouping → r ≡ some_option (sees_ungrouped g) (view_optional (out-Query q).having) → r ≡ some_option (sees_ungrouped (clauses_of (view_query q)).grouping) (clauses_of (view_query q)).having
 unfolding view_query
 ungrouped_having q g r eg er =
-    er ∙ ap (λ (cs : List Column). some_option (sees_ungrouped (map view_column cs)) (view_optional (out-Query q).having)) eg ∙ sym (ap (λ (t : QueryTree). some_option (sees_ungrouped (clauses_of t).grouping) (clauses_of t).having) (fold_out-Query SourceTree QueryTree source_step query_step q))
+    er ∙ ap (λ (t : QueryTree). some_option (sees_ungrouped g) (clauses_of t).having) (sym (fold_out-Query SourceTree QueryTree source_step query_step q))
+    ∙ ap (λ (gs : List Tree). some_option (sees_ungrouped gs) (clauses_of (view_query q)).having) eg
 
 pub typed_in : (cs : List Titled) (e d : Expression) (n : Bool) (x : Box Expression Global) (v : Vec Expression Global) (us : List Expression) (r : Bool) → e ≡ queries.In n x v → d ≡ x.value → us ≡ v.items → r ≡ not ((is_integer cs (view d) && all_trees (is_integer cs) (trees (views us))) || (is_text cs (view d) && all_trees (is_text cs) (trees (views us)))) → r ≡ is_ill_typed cs (view e)
 typed_in cs e d n x v us r is ed eu er =

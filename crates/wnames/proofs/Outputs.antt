@@ -1,78 +1,130 @@
 -- Items written out, one after the other.
-use Rattle.std.proofs.Common.{◌≡◌, ℕ, Bool, true, false, ◌||◌, List, [], ◌∷◌, ◌++◌, refl, ap, sym, ◌∙◌, if◌then◌else◌, Option, Some, None, drop, map, length, ◌<◌, get_or, ◌+◌, suc, add-one, is_some}
-use Rattle.std.proofs.Math.Seq.{drop-cons}
-use Rattle.std.proofs.lemmas.List.{append-nil}
+use Rattle.std.proofs.Common.{◌≡◌, ℕ, Bool, true, false, ◌||◌, ◌&&◌, not, List, [], ◌∷◌, ◌++◌, refl, ap, sym, ◌∙◌, if◌then◌else◌, Option, Some, None, append_assoc, suc, is_some}
+use Rattle.std.proofs.lemmas.List.Folds.{list_any-append}
 use Rattle.std.specs.List.{list_any}
-use Rattle.wquery.specs.declared.query.Item.{Item}
-use Rattle.wquery.specs.QueryTree.{ItemTree, AllColumns, Computed, view_item}
-use Rattle.wscope.specs.Sources.{Shown, ShownItem, columns_from, written_out}
-use Rattle.wscope.specs.Types.{Titled}
-use Rattle.wnames.specs.declared.output.Output.{Output}
-use Rattle.wnames.specs.Names.{first_called, is_called}
-use Rattle.wnames.specs.Outputs.{shown, optional_shown}
+use Rattle.wquery.specs.QueryTree.{ItemTree, AllColumns, Computed}
+use Rattle.wscope.specs.Scope.{output_name, item_has_name, has_name}
+use Rattle.wscope.specs.Sources.{Shown, Placed, Spelled, ShownItem, columns_from, written_out}
+use Rattle.wscope.specs.Types.{Titled, type_of}
+use Rattle.wnames.specs.Names.{first_called, is_called, is_unlike, same_shown}
+use Rattle.wnames.specs.Outputs.{first_or}
+use Rattle.wnames.specs.Places.{is_star}
 
-or_assoc : (a b c : Bool) → (a || b) || c ≡ a || (b || c)
-or_assoc true b c = refl
-or_assoc false b c = refl
+pub or_false : (a : Bool) → (a || false) ≡ a
+or_false true = refl
+or_false false = refl
 
-pub or_first : (a b : Bool) → a ≡ true → true ≡ a || b
-or_first a b e = rw e refl
+absorb : (a b : Bool) → ((a || b) || a) ≡ (a || b)
+absorb true b = refl
+absorb false b = or_false b
 
-pub or_second : (a b : Bool) → a ≡ false → (a || b) ≡ b
-or_second a b e = rw e refl
-
-pub written_split : (cs : List Titled) (i : ItemTree) (is : List ItemTree) → written_out cs (i ∷ is) ≡ written_out cs (i ∷ []) ++ written_out cs is
-written_split cs AllColumns is = ap (λ (xs : List ShownItem). xs ++ written_out cs is) (sym (append-nil (columns_from 0 cs)))
-written_split cs (Computed t alias) is = refl
-
-pub star_written : (cs : List Titled) → written_out cs (AllColumns ∷ []) ≡ columns_from 0 cs
-star_written cs = append-nil (columns_from 0 cs)
-
-pub any_split : (holds : ShownItem → Bool) (xs ys : List ShownItem) → list_any holds (xs ++ ys) ≡ (list_any holds xs || list_any holds ys)
-any_split holds [] ys = refl
-any_split holds (x ∷ xs) ys = ap (λ (b : Bool). holds x || b) (any_split holds xs ys) ∙ sym (or_assoc (holds x) (list_any holds xs) (list_any holds ys))
-
-abbrev or_else : Option Shown → Option Shown → Option Shown
+abbrev pub or_else : Option Shown → Option Shown → Option Shown
 or_else None other = other
 or_else (Some s) other = Some s
+
+pub or_else_none : (f : Option Shown) → or_else f None ≡ f
+or_else_none None = refl
+or_else_none (Some s) = refl
+
+pub some_first : (f : Option Shown) (s : Shown) → Some (first_or f s) ≡ or_else f (Some s)
+some_first None s = refl
+some_first (Some a) s = refl
+
+again : (a b : Option Shown) → or_else (or_else a b) a ≡ or_else a b
+again None b = or_else_none b
+again (Some s) b = refl
 
 pick : (b : Bool) (s : Shown) (x y : Option Shown) → (if b then Some s else or_else x y) ≡ or_else (if b then Some s else x) y
 pick true s x y = refl
 pick false s x y = refl
 
-first_split : (name : List ℕ) (xs ys : List ShownItem) → first_called name (xs ++ ys) ≡ or_else (first_called name xs) (first_called name ys)
+pub first_split : (name : List ℕ) (xs ys : List ShownItem) → first_called name (xs ++ ys) ≡ or_else (first_called name xs) (first_called name ys)
 first_split name [] ys = refl
 first_split name (x ∷ xs) ys = ap (λ (o : Option Shown). if is_called name x then Some x.shown else o) (first_split name xs ys) ∙ pick (is_called name x) x.shown (first_called name xs) (first_called name ys)
 
-item_split : (name : List ℕ) (cs : List Titled) (i : ItemTree) (is : List ItemTree) → first_called name (written_out cs (i ∷ is)) ≡ or_else (first_called name (written_out cs (i ∷ []))) (first_called name (written_out cs is))
-item_split name cs i is = ap (first_called name) (written_split cs i is) ∙ first_split name (written_out cs (i ∷ [])) (written_out cs is)
+pub written_append : (cs : List Titled) (xs ys : List ItemTree) → written_out cs (xs ++ ys) ≡ written_out cs xs ++ written_out cs ys
+written_append cs [] ys = refl
+written_append cs (AllColumns ∷ xs) ys = ap (λ (zs : List ShownItem). columns_from 0 cs ++ zs) (written_append cs xs ys) ∙ sym (append_assoc (columns_from 0 cs) (written_out cs xs) (written_out cs ys))
+written_append cs (Computed t alias ∷ xs) ys = ap (λ (zs : List ShownItem). record { name = output_name t alias; type = type_of cs t; shown = Spelled t } ∷ zs) (written_append cs xs ys)
 
--- the next item of a list has no such name
-pub none_step : (name : List ℕ) (cs : List Titled) (xs : List Item) (k : ℕ) (x : Item) (o : Option Shown) → k < length xs → x ≡ get_or xs k x → o ≡ first_called name (written_out cs (view_item x ∷ [])) → o ≡ None → first_called name (written_out cs (map view_item (drop k xs))) ≡ first_called name (written_out cs (map view_item (drop (k + 1) xs)))
-none_step name cs xs k x o h e eo en =
-    rw (add-one, drop-cons xs k x) (ap (λ (y : Item). first_called name (written_out cs (view_item y ∷ map view_item (drop (suc k) xs)))) (sym e) ∙ item_split name cs (view_item x) (map view_item (drop (suc k) xs)) ∙ ap (λ (p : Option Shown). or_else p (first_called name (written_out cs (map view_item (drop (suc k) xs))))) (sym eo ∙ en))
+-- what a second `*` brings in was there
+pub star_first : (name : List ℕ) (cs : List Titled) (items : List ItemTree) → list_any is_star items ≡ true → first_called name (written_out cs items ++ columns_from 0 cs) ≡ first_called name (written_out cs items)
+star_first name cs [] e = cc
+star_first name cs (AllColumns ∷ items) e =
+    first_split name (columns_from 0 cs ++ written_out cs items) (columns_from 0 cs)
+    ∙ ap (λ (o : Option Shown). or_else o (first_called name (columns_from 0 cs))) (first_split name (columns_from 0 cs) (written_out cs items))
+    ∙ again (first_called name (columns_from 0 cs)) (first_called name (written_out cs items))
+    ∙ sym (first_split name (columns_from 0 cs) (written_out cs items))
+star_first name cs (Computed t alias ∷ items) e =
+    ap (λ (o : Option Shown). if is_called name (record { name = output_name t alias; type = type_of cs t; shown = Spelled t }) then Some (Spelled t) else o) (star_first name cs items e)
 
--- the next item has this name
-pub some_step : (name : List ℕ) (cs : List Titled) (xs : List Item) (k : ℕ) (x : Item) (s : Shown) → k < length xs → x ≡ get_or xs k x → Some s ≡ first_called name (written_out cs (view_item x ∷ [])) → first_called name (written_out cs (map view_item (drop k xs))) ≡ Some s
-some_step name cs xs k x s h e eo =
-    rw (drop-cons xs k x) (ap (λ (y : Item). first_called name (written_out cs (view_item y ∷ map view_item (drop (suc k) xs)))) (sym e) ∙ item_split name cs (view_item x) (map view_item (drop (suc k) xs)) ∙ ap (λ (p : Option Shown). or_else p (first_called name (written_out cs (map view_item (drop (suc k) xs))))) (sym eo))
+pub star_any : (p : ShownItem → Bool) (cs : List Titled) (items : List ItemTree) → list_any is_star items ≡ true → list_any p (written_out cs items ++ columns_from 0 cs) ≡ list_any p (written_out cs items)
+star_any p cs [] e = cc
+star_any p cs (AllColumns ∷ items) e =
+    list_any-append p (columns_from 0 cs ++ written_out cs items) (columns_from 0 cs)
+    ∙ ap (λ (b : Bool). b || list_any p (columns_from 0 cs)) (list_any-append p (columns_from 0 cs) (written_out cs items))
+    ∙ absorb (list_any p (columns_from 0 cs)) (list_any p (written_out cs items))
+    ∙ sym (list_any-append p (columns_from 0 cs) (written_out cs items))
+star_any p cs (Computed t alias ∷ items) e =
+    ap (λ (b : Bool). p (record { name = output_name t alias; type = type_of cs t; shown = Spelled t }) || b) (star_any p cs items e)
 
-any_item_split : (holds : ShownItem → Bool) (cs : List Titled) (i : ItemTree) (is : List ItemTree) → list_any holds (written_out cs (i ∷ is)) ≡ (list_any holds (written_out cs (i ∷ [])) || list_any holds (written_out cs is))
-any_item_split holds cs i is = ap (list_any holds) (written_split cs i is) ∙ any_split holds (written_out cs (i ∷ [])) (written_out cs is)
+none_unlike : (cs : List Titled) (name : List ℕ) (is : List ShownItem) → list_any (is_unlike cs name None) is ≡ false
+none_unlike cs name [] = refl
+none_unlike cs name (i ∷ is) = none_unlike cs name is
 
-pub any_step : (holds : ShownItem → Bool) (cs : List Titled) (xs : List Item) (k : ℕ) (x : Item) → k < length xs → x ≡ get_or xs k x → list_any holds (written_out cs (map view_item (drop k xs))) ≡ (list_any holds (written_out cs (view_item x ∷ [])) || list_any holds (written_out cs (map view_item (drop (k + 1) xs))))
-any_step holds cs xs k x h e =
-    rw (add-one, drop-cons xs k x) (ap (λ (y : Item). list_any holds (written_out cs (view_item y ∷ map view_item (drop (suc k) xs)))) (sym e) ∙ any_item_split holds cs (view_item x) (map view_item (drop (suc k) xs)))
+none_here : (b : Bool) (s : Shown) (o : Option Shown) → (if b then Some s else o) ≡ None → b ≡ false
+none_here true s o e = cc
+none_here false s o e = refl
 
-no_output : (o : Option Output) → is_some o ≡ false → optional_shown o ≡ None
-no_output None e = refl
-no_output (Some o) e = cc
+none_below : (b : Bool) (s : Shown) (o : Option Shown) → (if b then Some s else o) ≡ None → o ≡ None
+none_below true s o e = cc
+none_below false s o e = e
 
--- the next item has no such name
-pub passed_step : (name : List ℕ) (cs : List Titled) (xs : List Item) (k : ℕ) (x : Item) (o : Option Output) → k < length xs → x ≡ get_or xs k x → optional_shown o ≡ first_called name (written_out cs (view_item x ∷ [])) → is_some o ≡ false → first_called name (written_out cs (map view_item (drop k xs))) ≡ first_called name (written_out cs (map view_item (drop (k + 1) xs)))
-passed_step name cs xs k x o h e eo n = none_step name cs xs k x (optional_shown o) h e eo (no_output o n)
+-- where no item has a name, none is unlike another one of it
+none_called : (cs : List Titled) (name : List ℕ) (s : Shown) (is : List ShownItem) → first_called name is ≡ None → list_any (is_unlike cs name (Some s)) is ≡ false
+none_called cs name s [] e = refl
+none_called cs name s (i ∷ is) e =
+    ap (λ (b : Bool). (b && not (same_shown cs s i.shown)) || list_any (is_unlike cs name (Some s)) is) (none_here (is_called name i) i.shown (first_called name is) e)
+    ∙ none_called cs name s is (none_below (is_called name i) i.shown (first_called name is) e)
 
--- the next item has this name
-pub found_step : (name : List ℕ) (cs : List Titled) (xs : List Item) (k : ℕ) (x : Item) (o : Option Output) → k < length xs → x ≡ get_or xs k x → optional_shown o ≡ first_called name (written_out cs (view_item x ∷ [])) → is_some o ≡ true → first_called name (written_out cs (map view_item (drop k xs))) ≡ optional_shown o
-found_step name cs xs k x None h e eo n = cc
-found_step name cs xs k x (Some o) h e eo n = some_step name cs xs k x (shown o) h e eo
+-- one more item of a name, and one of another name
+pub called_more : (cs : List Titled) (name : List ℕ) (is : List ShownItem) (i : ShownItem) (f : Option Shown) → first_called name is ≡ f → is_called name i ≡ true → list_any (is_unlike cs name (or_else f (Some i.shown))) (is ++ i ∷ []) ≡ (list_any (is_unlike cs name f) is || not (same_shown cs (first_or f i.shown) i.shown))
+called_more cs name is i None e b =
+    list_any-append (is_unlike cs name (Some i.shown)) is (i ∷ [])
+    ∙ ap (λ (x : Bool). x || (is_unlike cs name (Some i.shown) i || false)) (none_called cs name i.shown is e)
+    ∙ or_false (is_unlike cs name (Some i.shown) i)
+    ∙ ap (λ (x : Bool). x && not (same_shown cs i.shown i.shown)) b
+    ∙ sym (ap (λ (x : Bool). x || not (same_shown cs i.shown i.shown)) (none_unlike cs name is))
+called_more cs name is i (Some a) e b =
+    list_any-append (is_unlike cs name (Some a)) is (i ∷ [])
+    ∙ ap (λ (x : Bool). list_any (is_unlike cs name (Some a)) is || x) (or_false (is_unlike cs name (Some a) i) ∙ ap (λ (x : Bool). x && not (same_shown cs a i.shown)) b)
+
+pub other_more : (cs : List Titled) (name : List ℕ) (is : List ShownItem) (i : ShownItem) (f : Option Shown) → is_called name i ≡ false → list_any (is_unlike cs name f) (is ++ i ∷ []) ≡ list_any (is_unlike cs name f) is
+other_more cs name is i None b = none_unlike cs name (is ++ i ∷ []) ∙ sym (none_unlike cs name is)
+other_more cs name is i (Some a) b =
+    list_any-append (is_unlike cs name (Some a)) is (i ∷ [])
+    ∙ ap (λ (x : Bool). list_any (is_unlike cs name (Some a)) is || x) (or_false (is_unlike cs name (Some a) i) ∙ ap (λ (x : Bool). x && not (same_shown cs a i.shown)) b)
+    ∙ or_false (list_any (is_unlike cs name (Some a)) is)
+
+some_or : (b : Bool) (s : Shown) (o : Option Shown) (r : Bool) → r ≡ is_some o → (b || r) ≡ is_some (if b then Some s else o)
+some_or true s o r e = refl
+some_or false s o r e = e
+
+columns_named : (name : List ℕ) (place : ℕ) (cs : List Titled) → list_any (has_name name) cs ≡ is_some (first_called name (columns_from place cs))
+columns_named name place [] = refl
+columns_named name place (c ∷ cs) = some_or (has_name name c) (Placed place) (first_called name (columns_from (suc place) cs)) (list_any (has_name name) cs) (columns_named name (suc place) cs)
+
+some_else : (a b : Option Shown) → (is_some a || is_some b) ≡ is_some (or_else a b)
+some_else None b = refl
+some_else (Some s) b = refl
+
+-- an item has a name where one is called so
+pub item_named : (name : List ℕ) (cs : List Titled) (items : List ItemTree) → list_any (item_has_name cs name) items ≡ is_some (first_called name (written_out cs items))
+item_named name cs [] = refl
+item_named name cs (AllColumns ∷ items) =
+    ap (λ (b : Bool). b || list_any (item_has_name cs name) items) (columns_named name 0 cs)
+    ∙ ap (λ (b : Bool). is_some (first_called name (columns_from 0 cs)) || b) (item_named name cs items)
+    ∙ some_else (first_called name (columns_from 0 cs)) (first_called name (written_out cs items))
+    ∙ ap is_some (sym (first_split name (columns_from 0 cs) (written_out cs items)))
+item_named name cs (Computed t alias ∷ items) =
+    some_or (item_has_name cs name (Computed t alias)) (Spelled t) (first_called name (written_out cs items)) (list_any (item_has_name cs name) items) (item_named name cs items)

@@ -1,5 +1,7 @@
 pub mod Names
+pub mod Texts
 pub mod Outputs
+pub mod Indexes
 pub mod Calls
 pub mod Typing
 pub mod Places

@@ -1,7 +1,16 @@
 -- Items of a SELECT list in memory, `*` written out.
-use Rattle.std.specs.Prelude.{Option, Some, None}
+use Rattle.std.specs.Prelude.{◌≡◌, ℕ, Bool, false, List, Option, Some, None}
+use Rattle.std.specs.BTreeMap.{BTreeMap, get}
+use Rattle.std.specs.Borrow.{Bor}
+use Rattle.std.specs.List.{list_any}
+use Rattle.wquery.specs.QueryTree.{ItemTree}
 use Rattle.wquery.specs.Tree.{view}
-use Rattle.wscope.specs.Sources.{Shown, Placed, Spelled}
+use Rattle.wscope.specs.Sources.{Shown, Placed, Spelled, ShownItem, written_out}
+use Rattle.wscope.specs.Types.{Titled}
+use Rattle.wnames.specs.Names.{first_called, is_unlike}
+use Rattle.wnames.specs.Texts.{by_text}
+use Rattle.wnames.specs.declared.called.Called.{Called}
+use Rattle.wnames.specs.declared.output_names.OutputNames.{OutputNames}
 use Rattle.wnames.specs.declared.output.Output.{Output}
 use Rattle.wnames.specs.declared.output.Output.TheVariants as outputs
 
@@ -13,3 +22,27 @@ shown (outputs.Spelled e) = Spelled (view e.now)
 abbrev pub optional_shown : Option Output → Option Shown
 optional_shown None = None
 optional_shown (Some o) = Some (shown o)
+
+-- the first item of a name
+abbrev pub first_of : Option Called → Option Shown
+first_of None = None
+first_of (Some c) = Some (shown c.first)
+
+-- whether items of a name have two expressions
+abbrev pub is_told : Option Called → Bool
+is_told None = false
+is_told (Some c) = c.is_ambiguous
+
+-- the first of the items so far, or else the next one
+abbrev pub first_or : Option Shown → Shown → Shown
+first_or None next = next
+first_or (Some s) next = s
+
+-- each name has the first of these items that is called so, and whether another one is unlike it
+pub record IsIndex (m : BTreeMap (Bor (List ℕ)) Called) (cs : List Titled) (is : List ShownItem) : Type 0 where
+  pub first : (q : Bor (List ℕ)) → first_of (get by_text m q) ≡ first_called q.now is
+  pub told : (q : Bor (List ℕ)) → is_told (get by_text m q) ≡ list_any (is_unlike cs q.now (first_called q.now is)) is
+
+-- the names are the output names of these items
+abbrev pub HasOutputs : OutputNames → List Titled → List ItemTree → Type 0
+HasOutputs o cs items = IsIndex o.called cs (written_out cs items)

@@ -8,7 +8,10 @@ ghost use Rattle.wscope.specs.Scope.{clauses_of};
 ghost use Rattle.wscope.specs.Sources.{all_titled};
 ghost use Rattle.wscope.specs.Finding.{finds};
 ghost use Rattle.wnames.specs.Names.{source_of, names_other_table as is_other_table, is_misqualified, is_missing, is_ambiguous, count_named, breaks_tables, breaks_columns};
+ghost use Rattle.wnames.specs.Indexes.{IsIndexOf};
 
+use crate::name_index::NameIndex;
+use crate::walking::any_anywhere_by;
 use wquery::{Column, Expression, Query, Source};
 use wscope::{Look, NodeTest, SourceColumn, any_anywhere, found_if, has_column};
 
@@ -158,11 +161,16 @@ pub fn names_unknown_table(
 
 /// Q11.
 #[tactic(auto, unfolding(wquery::specs::QueryTree::view_query))]
-pub fn names_unknown_column(columns: &[SourceColumn], query: &Query) -> bool
+pub fn names_unknown_column<'a>(
+    names: &NameIndex<'a>,
+    columns: &[SourceColumn],
+    query: &'a Query,
+) -> bool
+    requires { IsIndexOf names.now (all_titled columns.now) (clauses_of (view_query query.now)) }
     ensures { result ≡ breaks_columns (all_titled columns.now) (clauses_of (view_query query.now)) }
 {
     let test = Missing { columns };
-    if any_anywhere(&test, columns, query) {
+    if any_anywhere_by(&test, &names.outputs, columns, query) {
         return true;
     }
     any_grouping(&test, query.grouping.as_slice())

@@ -8,10 +8,14 @@ ghost use Rattle.wscope.specs.Scope.{clauses_of, some_shown, some_option};
 ghost use Rattle.wscope.specs.Sources.{all_titled};
 ghost use Rattle.wscope.specs.declared.look.Look.TheVariants.{Found, Below};
 ghost use Rattle.wscope.specs.Finding.{finds};
+ghost use Rattle.wnames.specs.Indexes.{IsIndexOf};
 ghost use Rattle.wnames.specs.Places.{is_window_call as is_call_over, is_misplaced_window_call as is_misplaced, is_group_call as is_call_of_group, is_nested_group_call as is_nested, names, sees_ungrouped, is_ungrouped_column as is_outside, is_star, names_ungrouped as names_outside, is_grouped as has_groups, breaks_window_places, breaks_aggregate_places, breaks_grouping};
 
 use crate::calls::is_aggregate_name;
-use wquery::{Column, Expression, Item, Query};
+use crate::group_names::GroupNames;
+use crate::name_index::NameIndex;
+use crate::walking::any_shown_by;
+use wquery::{Expression, Item, Query};
 use wscope::{
     Look, NodeTest, SourceColumn, any_anywhere, any_below, any_in_entries, any_in_option,
     any_shown, found_if,
@@ -145,21 +149,10 @@ pub fn is_grouped(columns: &[SourceColumn], query: &Query) -> bool
     any_shown(&GroupCall, columns, query)
 }
 
-fn is_grouping(grouping: &[Column], name: &str) -> bool
-    ensures { result ≡ list_any (names name.now) (map view_column grouping.now) }
+fn look_at_column(grouping: &GroupNames, name: &str) -> Look
+    ensures { result ≡ if list_any (names name.now) (map view_column grouping.now.grouping.now) then Below else Found }
 {
-    'grouping: for column in grouping {
-        if name == column.name.as_str() {
-            return true;
-        }
-    }
-    false
-}
-
-fn look_at_column(grouping: &[Column], name: &str) -> Look
-    ensures { result ≡ if list_any (names name.now) (map view_column grouping.now) then Below else Found }
-{
-    if is_grouping(grouping, name) {
+    if grouping.has(name) {
         Look::Below
     } else {
         Look::Found
@@ -168,12 +161,12 @@ fn look_at_column(grouping: &[Column], name: &str) -> Look
 
 /// A column outside GROUP BY, not in arguments and FILTER of aggregates without OVER.
 #[derive(Drop)]
-struct Ungrouped<'a> {
-    grouping: &'a [Column],
+struct Ungrouped<'a, 'b> {
+    grouping: &'a GroupNames<'b>,
 }
 
-impl<'a> NodeTest for Ungrouped<'a> {
-    ghost sees = { λ u. sees_ungrouped (map view_column u.grouping.now) };
+impl<'a, 'b> NodeTest for Ungrouped<'a, 'b> {
+    ghost sees = { λ u. sees_ungrouped (map view_column u.grouping.now.grouping.now) };
 
     #[tactic(auto, unfolding(wquery::specs::Tree::view))]
     fn look(&self, node: &Expression) -> Look {
@@ -187,11 +180,11 @@ impl<'a> NodeTest for Ungrouped<'a> {
     }
 }
 
-fn any_ungrouped_column(columns: &[SourceColumn], grouping: &[Column]) -> bool
-    ensures { result ≡ list_any (is_outside (map view_column grouping.now)) (all_titled columns.now) }
+fn any_ungrouped_column(columns: &[SourceColumn], grouping: &GroupNames) -> bool
+    ensures { result ≡ list_any (is_outside (map view_column grouping.now.grouping.now)) (all_titled columns.now) }
 {
     'columns: for column in columns {
-        if !is_grouping(grouping, column.name.as_str()) {
+        if !grouping.has(column.name.as_str()) {
             return true;
         }
     }
@@ -209,47 +202,66 @@ fn has_star(items: &[Item]) -> bool
     false
 }
 
-#[tactic(auto, unfolding(wquery::specs::QueryTree::view_query))]
-fn shows_ungrouped(columns: &[SourceColumn], query: &Query) -> bool
+fn shows_ungrouped<'a>(names: &NameIndex<'a>, columns: &[SourceColumn], query: &'a Query) -> bool
+    requires { IsIndexOf names.now (all_titled columns.now) (clauses_of (view_query query.now)) }
     ensures { result ≡ some_shown (all_titled columns.now) (clauses_of (view_query query.now)) (sees_ungrouped (clauses_of (view_query query.now)).grouping) }
 {
-    let grouping = query.grouping.as_slice();
-    any_shown(&Ungrouped { grouping }, columns, query)
+    let test = Ungrouped {
+        grouping: &names.grouping,
+    };
+    any_shown_by(&test, &names.outputs, columns, query)
 }
 
 #[tactic(auto, unfolding(wquery::specs::QueryTree::view_query))]
-fn has_ungrouped(query: &Query) -> bool
+fn has_ungrouped(names: &NameIndex, columns: &[SourceColumn], query: &Query) -> bool
+    requires { IsIndexOf names.now (all_titled columns.now) (clauses_of (view_query query.now)) }
     ensures { result ≡ some_option (sees_ungrouped (clauses_of (view_query query.now)).grouping) (clauses_of (view_query query.now)).having }
 {
-    let grouping = query.grouping.as_slice();
-    any_in_option(&Ungrouped { grouping }, &query.having)
+    let test = Ungrouped {
+        grouping: &names.grouping,
+    };
+    any_in_option(&test, &query.having)
+}
+
+fn lacks_column(names: &NameIndex, columns: &[SourceColumn], query: &Query) -> bool
+    requires { IsIndexOf names.now (all_titled columns.now) (clauses_of (view_query query.now)) }
+    ensures { result ≡ list_any (is_outside (clauses_of (view_query query.now)).grouping) (all_titled columns.now) }
+{
+    any_ungrouped_column(columns, &names.grouping)
 }
 
 #[tactic(auto, unfolding(wquery::specs::QueryTree::view_query))]
-fn stars_ungrouped(columns: &[SourceColumn], query: &Query) -> bool
+fn stars_ungrouped(names: &NameIndex, columns: &[SourceColumn], query: &Query) -> bool
+    requires { IsIndexOf names.now (all_titled columns.now) (clauses_of (view_query query.now)) }
     ensures { result ≡ (list_any is_star (clauses_of (view_query query.now)).items && list_any (is_outside (clauses_of (view_query query.now)).grouping) (all_titled columns.now)) }
 {
     if !has_star(query.items.as_slice()) {
         return false;
     }
-    any_ungrouped_column(columns, query.grouping.as_slice())
+    lacks_column(names, columns, query)
 }
 
-fn names_ungrouped(columns: &[SourceColumn], query: &Query) -> bool
+fn names_ungrouped<'a>(names: &NameIndex<'a>, columns: &[SourceColumn], query: &'a Query) -> bool
+    requires { IsIndexOf names.now (all_titled columns.now) (clauses_of (view_query query.now)) }
     ensures { result ≡ names_outside (all_titled columns.now) (clauses_of (view_query query.now)) }
 {
-    if shows_ungrouped(columns, query) {
+    if shows_ungrouped(names, columns, query) {
         return true;
     }
-    if has_ungrouped(query) {
+    if has_ungrouped(names, columns, query) {
         return true;
     }
-    stars_ungrouped(columns, query)
+    stars_ungrouped(names, columns, query)
 }
 
 /// Q17.
-pub fn names_ungrouped_column(columns: &[SourceColumn], query: &Query) -> bool
+pub fn names_ungrouped_column<'a>(
+    names: &NameIndex<'a>,
+    columns: &[SourceColumn],
+    query: &'a Query,
+) -> bool
+    requires { IsIndexOf names.now (all_titled columns.now) (clauses_of (view_query query.now)) }
     ensures { result ≡ breaks_grouping (all_titled columns.now) (clauses_of (view_query query.now)) }
 {
-    is_grouped(columns, query) && names_ungrouped(columns, query)
+    is_grouped(columns, query) && names_ungrouped(names, columns, query)
 }

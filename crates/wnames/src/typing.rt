@@ -346,10 +346,10 @@ fn any_truth_entry(columns: &[SourceColumn], entries: &[WindowEntry]) -> bool
 fn is_truth_key(columns: &[SourceColumn], items: &[Item], key: &Key) -> bool
     ensures { result ≡ is_key_of_truth (all_titled columns.now) (map view_item items.now) (view_key key.now) }
 {
-    if is_output(columns, items, &key.expression) {
+    if is_value(columns, &key.expression) {
         return false;
     }
-    !is_value(columns, &key.expression)
+    !is_output(columns, items, &key.expression)
 }
 
 fn any_truth_key(columns: &[SourceColumn], items: &[Item], order: &[Key]) -> bool

@@ -1,5 +1,5 @@
 -- A query, judged over the columns of its source.
-use Rattle.std.proofs.Common.{◌≡◌, ℕ, List, Option, None, ap, sym, ◌∙◌}
+use Rattle.std.proofs.Common.{◌≡◌, ℕ, List, Option, Some, None, ap, sym, ◌∙◌}
 use Rattle.wsegment.specs.Declaration.{Declaration}
 use Rattle.wquery.specs.declared.query.Query.{Query, out-Query}
 use Rattle.wquery.specs.declared.query.Source.TheFolds.{fold_out-Query}
@@ -15,6 +15,10 @@ use Rattle.wrules.specs.Rules.{or_else, first_of_names, first_of_windows, least_
 -- no rule on names is broken
 pub none_first : (table alias : List ℕ) (cs : List Titled) (c : Clauses) (s : SourceTree) → None ≡ first_of_names table alias cs c s → first_of_windows (windows_of c) cs c ≡ least_broken table alias cs c s
 none_first table alias cs c s e = ap (λ (o : Option Rule). or_else o (first_of_windows (windows_of c) cs c)) e
+
+-- a rule on names is broken
+pub some_first : (table alias : List ℕ) (cs : List Titled) (c : Clauses) (s : SourceTree) (r : Rule) → Some r ≡ first_of_names table alias cs c s → Some r ≡ least_broken table alias cs c s
+some_first table alias cs c s r e = ap (λ (o : Option Rule). or_else o (first_of_windows (windows_of c) cs c)) e
 
 pub broken_is : (d : Declaration) (q : QueryTree) (table alias : List ℕ) (cs : List Titled) (o : Option Rule) → table ≡ d.table → alias ≡ (origin_of d (source_of q)).alias → least_source d (source_of q) ≡ None → cs ≡ (origin_of d (source_of q)).columns → o ≡ least_broken table alias cs (clauses_of q) (source_of q) → least d q ≡ o
 broken_is d (Selected c s) table alias cs o et ea h ec eo =

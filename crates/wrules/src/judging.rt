@@ -1,20 +1,21 @@
 //! The least rule that a query breaks.
 
-ghost use Rattle.std.specs.Prelude.{◌≡◌, IfOk, None, nat_lt};
+ghost use Rattle.std.specs.Prelude.{◌≡◌, ◌+◌, ◌-◌, ◌^◌, ◌≤◌, IfOk, None, min, nat_lt};
 ghost use Rattle.wsegment.specs.Declaration.{Declaration};
 ghost use Rattle.wquery.specs.QueryTree.{view_query, view_source};
 ghost use Rattle.wscope.specs.Scope.{clauses_of};
 ghost use Rattle.wscope.specs.Sources.{all_titled, answered, origin_of};
 ghost use Rattle.wscope.specs.Windows.{named_windows};
+ghost use Rattle.wnames.specs.Indexes.{IsIndexOf};
 ghost use Rattle.wnames.specs.Names.{source_of};
 ghost use Rattle.wwindows.specs.Windows.{windows_of};
-ghost use Rattle.wrules.specs.Rules.{least_broken, first_of_names as first_on_names, first_of_windows as first_on_windows, least_source, depth, first_broken_rule as least_rule};
+ghost use Rattle.wrules.specs.Rules.{least_broken, first_of_names as first_on_names, first_of_windows as first_on_windows, least_source, depth, source_depth, first_broken_rule as least_rule};
 ghost use Rattle.wrules.specs.Judging.{JudgesQuery, JudgesSource};
 
 use crate::rule::Rule;
 use std::alloc::{AllocError, Global};
 use wnames::{
-    calls_wrongly, counts_none, filters_wrongly, has_wrong_types, misplaces_aggregates,
+    NameIndex, calls_wrongly, counts_none, filters_wrongly, has_wrong_types, misplaces_aggregates,
     misplaces_window_calls, names_ambiguously, names_ungrouped_column, names_unknown_column,
     names_unknown_table,
 };
@@ -36,16 +37,23 @@ pub(crate) enum Judgement {
 }
 
 /// The first rule that is broken of those on names, calls, types and groups.
-fn first_of_names(table: &str, alias: &str, columns: &[SourceColumn], query: &Query) -> Option<Rule>
+fn first_of_names<'a>(
+    table: &str,
+    alias: &str,
+    names: &NameIndex<'a>,
+    columns: &[SourceColumn],
+    query: &'a Query,
+) -> Option<Rule>
+    requires { IsIndexOf names.now (all_titled columns.now) (clauses_of (view_query query.now)) }
     ensures { result ≡ first_on_names table.now alias.now (all_titled columns.now) (clauses_of (view_query query.now)) (source_of (view_query query.now)) }
 {
     if names_unknown_table(table, alias, columns, query) {
         return Some(Rule::UnknownTable);
     }
-    if names_unknown_column(columns, query) {
+    if names_unknown_column(names, columns, query) {
         return Some(Rule::UnknownColumn);
     }
-    if names_ambiguously(columns, query) {
+    if names_ambiguously(names, columns, query) {
         return Some(Rule::AmbiguousName);
     }
     if calls_wrongly(columns, query) {
@@ -60,7 +68,7 @@ fn first_of_names(table: &str, alias: &str, columns: &[SourceColumn], query: &Qu
     if misplaces_aggregates(columns, query) {
         return Some(Rule::MisplacedAggregate);
     }
-    if names_ungrouped_column(columns, query) {
+    if names_ungrouped_column(names, columns, query) {
         return Some(Rule::UngroupedColumn);
     }
     if filters_wrongly(columns, query) {
@@ -123,6 +131,20 @@ fn windows_rule(
     Ok(first_of_windows(windows.as_slice(), columns, query))
 }
 
+/// The first rule that is broken of those on names, calls, types and groups, with the names found by an index.
+fn names_rule<'a>(
+    alloc: Global,
+    table: &str,
+    alias: &str,
+    columns: &'a [SourceColumn],
+    query: &'a Query,
+) -> Result<Option<Rule>, AllocError>
+    ensures { IfOk result (λ rule. rule ≡ first_on_names table.now alias.now (all_titled columns.now) (clauses_of (view_query query.now)) (source_of (view_query query.now))) }
+{
+    let names = NameIndex::new(alloc, columns, query)?;
+    Ok(first_of_names(table, alias, &names, columns, query))
+}
+
 /// The least rule that a query over these columns breaks, its derived table aside, by the declared table's name and the
 /// source's alias.
 fn broken_rule(
@@ -134,7 +156,8 @@ fn broken_rule(
 ) -> Result<Option<Rule>, AllocError>
     ensures { IfOk result (λ rule. rule ≡ least_broken table.now alias.now (all_titled columns.now) (clauses_of (view_query query.now)) (source_of (view_query query.now))) }
 {
-    match first_of_names(table, alias, columns, query) {
+    let broken = names_rule(alloc, table, alias, columns, query)?;
+    match broken {
         Some(rule) => Ok(Some(rule)),
         None => windows_rule(alloc, columns, query),
     }
@@ -171,14 +194,25 @@ fn answer_of(
     output_columns(alloc, columns, query.items.as_slice())
 }
 
+// Counts one more SELECT that is judged, as far as numbers go.
+fn count(judged: &mut u64)
+    ensures { judged.new ≡ min (2 ^ 64 - 1) (judged.old + 1) }
+{
+    *judged = judged.saturating_add(1);
+}
+
+// Judges a query over the columns of its source, which costs the most.
 fn judge_over(
     alloc: Global,
     schema: &Schema,
     columns: &[SourceColumn],
     query: &Query,
+    judged: &mut u64,
 ) -> Result<Judgement, AllocError>
-    ensures { least_source schema.now (source_of (view_query query.now)) ≡ None → all_titled columns.now ≡ (origin_of schema.now (source_of (view_query query.now))).columns → IfOk result (JudgesQuery schema.now (view_query query.now)) }
+    ensures counted { judged.new ≡ min (2 ^ 64 - 1) (judged.old + 1) }
+    ensures answer { least_source schema.now (source_of (view_query query.now)) ≡ None → all_titled columns.now ≡ (origin_of schema.now (source_of (view_query query.now))).columns → IfOk result (JudgesQuery schema.now (view_query query.now)) }
 {
+    count(judged);
     let broken = broken_rule(alloc, schema.table(), query_alias(query), columns, query)?;
     match broken {
         Some(rule) => Ok(Judgement::Broken(rule)),
@@ -189,29 +223,42 @@ fn judge_over(
     }
 }
 
+// Judges a query, each SELECT of it at most once.
 #[cycle(judging)]
 #[tactic(auto, unfolding(wquery::specs::QueryTree::view_query, wquery::specs::QueryTree::view_source))]
-fn judge(alloc: Global, schema: &Schema, query: &Query) -> Result<Judgement, AllocError>
-    ensures { IfOk result (JudgesQuery schema.now (view_query query.now)) }
+fn judge(
+    alloc: Global,
+    schema: &Schema,
+    query: &Query,
+    judged: &mut u64,
+) -> Result<Judgement, AllocError>
+    ensures once { judged.new ≤ judged.old + (1 + depth (view_query query.now)) }
+    ensures answer { IfOk result (JudgesQuery schema.now (view_query query.now)) }
 {
-    let judgement = judge_source(alloc, schema, &query.source)?;
+    let judgement = judge_source(alloc, schema, &query.source, judged)?;
     match judgement {
         Judgement::Broken(rule) => Ok(Judgement::Broken(rule)),
-        Judgement::Columns(columns) => judge_over(alloc, schema, columns.as_slice(), query),
+        Judgement::Columns(columns) => judge_over(alloc, schema, columns.as_slice(), query, judged),
     }
 }
 
 #[cycle(judging)]
 #[tactic(auto, unfolding(wquery::specs::QueryTree::view_query, wquery::specs::QueryTree::view_source))]
-fn judge_source(alloc: Global, schema: &Schema, source: &Source) -> Result<Judgement, AllocError>
-    ensures { IfOk result (JudgesSource schema.now (view_source source.now)) }
+fn judge_source(
+    alloc: Global,
+    schema: &Schema,
+    source: &Source,
+    judged: &mut u64,
+) -> Result<Judgement, AllocError>
+    ensures once { judged.new ≤ judged.old + source_depth (view_source source.now) }
+    ensures answer { IfOk result (JudgesSource schema.now (view_source source.now)) }
 {
     match source {
         Source::Table { .. } => {
             let columns = declared_columns(alloc, schema)?;
             Ok(Judgement::Columns(columns))
         }
-        Source::Derived { query, .. } => judge(alloc, schema, query),
+        Source::Derived { query, .. } => judge(alloc, schema, query, judged),
     }
 }
 
@@ -238,7 +285,8 @@ pub fn first_broken_rule(
 ) -> Result<Option<Rule>, AllocError>
     ensures { IfOk result (λ rule. rule ≡ least_rule schema.now (view_query query.now)) }
 {
-    let judgement = judge(alloc, schema, query)?;
+    let mut judged = 0;
+    let judgement = judge(alloc, schema, query, &mut judged)?;
     if let Judgement::Broken(rule) = judgement {
         return Ok(Some(rule));
     }

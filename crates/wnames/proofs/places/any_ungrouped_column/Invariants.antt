@@ -6,4 +6,4 @@ use Rattle.wnames.specs.Places.{is_ungrouped_column}
 use Rattle.wnames.proofs.places.any_ungrouped_column.Given as goal
 
 abbrev pub invariant-columns : goal.invariant-columns
-invariant-columns l = list_any (is_ungrouped_column (map view_column l.grouping)) (all_titled l.columns) ≡ list_any (is_ungrouped_column (map view_column l.grouping)) (all_titled (drop l.column-index l.columns))
+invariant-columns l = list_any (is_ungrouped_column (map view_column l.grouping.grouping.now)) (all_titled l.columns) ≡ list_any (is_ungrouped_column (map view_column l.grouping.grouping.now)) (all_titled (drop l.column-index l.columns))

@@ -8,4 +8,4 @@ use Rattle.wnames.proofs.places.UngroupedNodeTest.look.Goals as goal
 
 pub returns-in-Column : goal.returns-in-Column
 returns-in-Column c =
-    c.look_at_column.ensures ∙ ap (λ n. if list_any (names n) (map view_column c.args.self.now.grouping.now) then Below else Found) c.as_str.ensures.value ∙ sym (ungrouped_column (map view_column c.args.self.now.grouping.now) c.args.node.now c.in-Column.column c.in-Column.is)
+    c.look_at_column.ensures ∙ ap (λ n. if list_any (names n) (map view_column c.args.self.now.grouping.now.grouping.now) then Below else Found) c.as_str.ensures.value ∙ sym (ungrouped_column (map view_column c.args.self.now.grouping.now.grouping.now) c.args.node.now c.in-Column.column c.in-Column.is)
