@@ -9,7 +9,7 @@ use Rattle.wframe.specs.KeyRows.{key_lists, sort_keys, AreInOrder}
 use Rattle.wframe.specs.Peers.{are_peers, is_upto, key_at}
 use Rattle.wframe.specs.declared.key_rows.KeyRows.{KeyRows}
 use Rattle.wframe.proofs.CutFacts.{end_cut}
-use Rattle.wtests.proofs.frames.the_end_of_a_frame_moves_along.Goals as goal
+use Rattle.wtests_windows.proofs.frames.the_end_of_a_frame_moves_along.Goals as goal
 
 abbrev upto : KeyRows → ℕ → ℕ → Bool
 upto rows = is_upto (keys_cmp (sort_keys rows)) (key_lists rows)

@@ -1,7 +1,7 @@
 use Rattle.std.proofs.Common.{◌≡◌, ◌≤◌, length, ap, arith}
 use Rattle.wslide.specs.Height.{height}
 use Rattle.wslide.specs.Tree.{tree_parts}
-use Rattle.wtests.proofs.folds.a_span_of_a_tree.Goals as goal
+use Rattle.wtests_windows.proofs.folds.a_span_of_a_tree.Goals as goal
 
 pub fold-requires-clause-room : goal.fold-requires-clause-room
 fold-requires-clause-room g c =

@@ -1,7 +1,7 @@
 ghost use Rattle.std.specs.Prelude.{◌≡◌, ◌<◌, ◌^◌, length, slice_index};
 ghost use Rattle.wslide.specs.Counts.{IsCount, counts_joined};
 ghost use Rattle.wslide.specs.Lawful.{count_laws};
-ghost use Rattle.wtests.specs.AffineMaps.{IsMap, maps_joined, map_laws};
+ghost use Rattle.wtests_windows.specs.AffineMaps.{IsMap, maps_joined, map_laws};
 
 use std::alloc::{AllocError, Global};
 use std::cell::Cell;
@@ -11,8 +11,7 @@ use wframe::{
     Frame, FrameBound, FrameExclusion, FrameMode, KeyRows, Partitions, Span, are_in_order,
 };
 use wslide::{
-    CountRows, Fold, FoldQueue, FoldTree, Meter, frame_folds, height_is_least, most_is_small,
-    plain_folds,
+    CountRows, Fold, FoldTree, Meter, frame_folds, height_is_least, most_is_small, plain_folds,
 };
 use wvalues::{SortKey, Value, Whole};
 
@@ -273,26 +272,6 @@ fn maps_one_after_another(rt: HostRuntime) -> Result<(), Fail> {
         assert_eq!(rt; outcome.folds.len(), 2000);
         assert_eq!(rt; outcome.folds.as_slice(), outcome.walked.as_slice());
     }
-    Ok(())
-}
-
-#[test]
-fn parts_come_out_as_they_went_in(rt: HostRuntime) -> Result<(), Fail> {
-    let alloc = rt.alloc();
-    let maps = Maps {
-        scales: &[],
-        shifts: &[],
-    };
-    let mut meter = Joins { count: 0 };
-    let mut queue = FoldQueue::with_capacity(alloc, &maps, 3)?;
-    queue.push(&maps, &mut meter, (2, 1));
-    queue.push(&maps, &mut meter, (3, 4));
-    queue.push(&maps, &mut meter, (5, 0));
-    assert_eq!(rt; queue.fold(&maps, &mut meter), (30, 9));
-    queue.pop(&maps, &mut meter);
-    assert_eq!(rt; queue.fold(&maps, &mut meter), (15, 4));
-    queue.push(&maps, &mut meter, (7, 1));
-    assert_eq!(rt; queue.fold(&maps, &mut meter), (105, 19));
     Ok(())
 }
 

@@ -16,48 +16,9 @@ const ASCENDING: SortKey = SortKey {
     nulls_first: false,
 };
 
-fn cells(alloc: Global, numbers: &[i64]) -> Result<Vec<Value>, AllocError> {
-    let mut cells = Vec::new(alloc);
-    for number in numbers {
-        cells.push(Value::Int(Whole::from(*number)))?;
-    }
-    Ok(cells)
-}
-
 // What is lent of some values.
 fn lent<'a>(alloc: Global, values: &'a [Value]) -> Result<Vec<&'a Value>, AllocError> {
     values.iter().collect(alloc)
-}
-
-// Two partitions of two rows each, without keys.
-#[test]
-fn places_in_a_partition(rt: HostRuntime) -> Result<(), Fail> {
-    let alloc = rt.alloc();
-    let shop_values = cells(alloc, &[1, 1, 2, 2])?;
-    let shops = lent(alloc, &shop_values)?;
-    let shop = [ASCENDING];
-    assert_eq!(rt; shops.len(), 4);
-    let values = KeyRows::new(&shops, &shop, 4);
-    let (no_cells, no_keys) = (Vec::new(alloc), []);
-    let keys = KeyRows::new(&no_cells, &no_keys, 4);
-    assert!(rt; are_in_order(&values, &keys));
-    let onward = Frame {
-        mode: FrameMode::Rows,
-        start: FrameBound::CurrentRow,
-        end: FrameBound::UnboundedFollowing,
-        exclusion: FrameExclusion::CurrentRow,
-    };
-    let partitions = Partitions::build(alloc, &values, keys, onward)?;
-    assert_eq!(rt; partitions.count(), 2);
-    assert_eq!(rt; partitions.span(1), Span { from: 2, to: 4 });
-    let frames = partitions.partition(1);
-    assert_eq!(rt; frames.exclusion(), FrameExclusion::CurrentRow);
-    assert_eq!(rt; frames.count(), 2);
-    assert_eq!(rt; frames.peers(1), Span { from: 0, to: 2 });
-    assert_eq!(rt; frames.extent(1), Span { from: 1, to: 2 });
-    let [_, _, rest] = frames.frame(0);
-    assert_eq!(rt; rest, Span { from: 1, to: 2 });
-    Ok(())
 }
 
 /// Passes what stands no later than the row in the order of the rows, and counts how often it is asked.

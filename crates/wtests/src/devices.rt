@@ -2,16 +2,8 @@ use std::alloc::Global;
 use std::io::{self, Read, Write};
 use std::process::Abort;
 use std::test::*;
-use wsegment::Schema;
-use wset::{Retired, Status, Taken};
-use wstore::{End, Node, RunFault, run};
-use wvalues::{Counted, Name};
-
-const TABLE: &[u8] = b"table sales\nday integer\nshop text\namount integer\n";
-
-const FOUR_ROWS: &[u8] = b"day,shop,amount\n1,a,10\n2,a,20\n2,b,5\n4,a,\n";
-
-const COUNT: &[u8] = b"SELECT count(*) FROM sales";
+use wstore::{End, RunFault, run};
+use wvalues::Counted;
 
 // A segment is taken, listed, counted, retired and counted again.
 const SCRIPT: &[u8] = b"T 49\ntable sales\nday integer\nshop text\namount integer\n\n\
@@ -37,23 +29,6 @@ const ENDS: [(usize, usize); 6] = [
     (160, 55),
     (194, 72),
 ];
-
-const DISPUTE: &[u8] = b"T 49\ntable sales\nday integer\nshop text\namount integer\n\n\
-    S 1 east 1 41\nday,shop,amount\n1,a,10\n2,a,20\n2,b,5\n4,a,\n\n\
-    S 1 east 1 42\nday,shop,amount\n1,a,10\n2,a,20\n2,b,5\n4,a,1\n\n\
-    L 1\n\
-    Q 1 26\nSELECT count(*) FROM sales\n\
-    S 1 east 1 41\nday,shop,amount\n1,a,10\n2,a,20\n2,b,5\n4,a,\n\n";
-
-const DISPUTE_REPLIES: &[u8] = b"ok\n\
-    taken\n\
-    disputed\n\
-    list 1\neast 1 disputed\n\
-    answer 8\ncount\n0\n\
-    ignored\n";
-
-const SHORT_LENGTH: &[u8] = b"T 49\ntable sales\nday integer\nshop text\namount integer\n\n\
-    Q 1 20\nSELECT day FROM sales\n";
 
 // Gives at most `most` bytes a call, and fails at the call that is numbered `failing`, from 0.
 #[derive(Drop)]
@@ -133,21 +108,6 @@ fn writer_to_memory(alloc: Global, most: usize, failing: usize) -> FaultyWriter 
         calls: 0,
         failing,
         failure: Failure::Fault(io::ErrorKind::BrokenPipe),
-    }
-}
-
-#[test]
-fn scripts_have_their_replies(rt: HostRuntime) {
-    let rows: [(&[u8], End, &[u8]); 3] = [
-        (SCRIPT, End::Done, REPLIES),
-        (DISPUTE, End::Done, DISPUTE_REPLIES),
-        (SHORT_LENGTH, End::Bad, b"ok\nbad script\n"),
-    ];
-    for (script, end, replies) in rows {
-        let mut input = Counted::new(script);
-        let mut output = Counted::new(Vec::new(rt.alloc()));
-        assert_eq!(rt; run(rt.alloc(), &mut input, &mut output), Ok(end));
-        assert_eq!(rt; output.into_inner().as_slice(), replies);
     }
 }
 
@@ -247,26 +207,4 @@ fn a_first_call_that_is_interrupted_or_takes_nothing(rt: HostRuntime) {
         assert_eq!(rt; output.failures(), 1);
         assert!(rt; output.into_inner().taken.is_empty());
     }
-}
-
-#[test]
-fn a_node_is_told_and_asked(rt: HostRuntime) -> Result<(), Fail> {
-    let name = Name::read(b"east", b"1")?;
-    let mut node = Node::new(rt.alloc(), Schema::read(rt.alloc(), TABLE)?);
-    assert_eq!(rt; node.take(name, FOUR_ROWS)?, Taken::New);
-    let all = node.list()?;
-    assert_eq!(rt; all.len(), 1);
-    assert_eq!(rt; all[0].name.origin(), b"east".as_slice());
-    assert_eq!(rt; all[0].name.number(), 1);
-    assert_eq!(rt; all[0].status, Status::Live);
-    assert_eq!(rt; all[0].rows, 4);
-    assert_eq!(rt; node.ask(COUNT)?.as_slice(), b"count\n4\n".as_slice());
-    assert_eq!(rt;
-        node.ask(b"SELECT day AS d FROM sales WHERE shop = 'a' ORDER BY 1 DESC")?
-            .as_slice(),
-        b"d\n4\n2\n1\n".as_slice()
-    );
-    assert_eq!(rt; node.retire(name)?, Retired::New);
-    assert_eq!(rt; node.ask(COUNT)?.as_slice(), b"count\n0\n".as_slice());
-    Ok(())
 }
