@@ -8,4 +8,6 @@ pub mod KeyFacts
 mod RankFacts
 pub mod PlaceFacts
 mod SeenFacts
+mod ByteFacts
+mod ForetoldFacts
 mod SelectFacts

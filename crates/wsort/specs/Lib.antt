@@ -5,5 +5,5 @@ pub mod Codes
 pub mod Bases
 pub mod CodedRows
 pub mod Dealt
-pub mod Told
+pub mod Foretold
 pub mod Ranks
