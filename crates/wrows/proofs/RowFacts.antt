@@ -1,19 +1,15 @@
 -- Steps of loops over rows, and cells by their rows.
-use Rattle.std.proofs.Common.{◌≡◌, ℕ, zero, suc, ◌+◌, ◌*◌, ◌<◌, ◌≤◌, ◌||◌, Bool, true, false, cond, List, [], ◌∷◌, ◌++◌, length, map, filter, take, drop, Less, Equal, Greater, Result, Ok, Err, Option, Some, None, take_all, take_at, drop_at, length-append, length-drop, min, ◌-◌, ◌==◌, get_or, refl, sym, ap, ◌∙◌, arith}
-use Rattle.std.proofs.Math.Nat.{mul-le-mul_right}
+use Rattle.std.proofs.Common.{◌≡◌, ℕ, zero, suc, ◌+◌, ◌*◌, ◌<◌, ◌≤◌, ◌||◌, Bool, true, false, cond, List, [], ◌∷◌, ◌++◌, length, map, filter, take, drop, Result, Ok, Err, Option, Some, None, take_all, take_at, drop_at, length-append, length-drop, min, ◌-◌, get_or, refl, sym, ap, ◌∙◌, arith}
 use Rattle.std.specs.List.{list_any, flat_map, AllByRecursion}
-use Rattle.std.proofs.lemmas.Bool.Decides.{nat_tests}
-use Rattle.std.proofs.lemmas.List.{drop-drop, take_more, map-append, flat_map_more, length-map}
+use Rattle.std.proofs.lemmas.List.{take_more, map-append, flat_map_more}
 use Rattle.std.proofs.lemmas.List.Folds.{list_any_more, list_any_at}
 use Rattle.wvalues.specs.declared.value.Value.{Value}
 use Rattle.wvalues.specs.declared.key.SortKey.{SortKey}
 use Rattle.wvalues.specs.Meaning.{Meaning, meaning}
-use Rattle.wvalues.specs.Order.{keys_cmp}
 use Rattle.std.specs.Borrow.{Bor}
 use Rattle.wsort.specs.LaidRows.{laid}
 use Rattle.wrows.specs.Laid.{row_seen, rows_seen}
 use Rattle.wframe.specs.Peers.{key_at}
-use Rattle.wframe.specs.Places.{places_from}
 use Rattle.wrows.specs.declared.fault.AnswerFault.{AnswerFault}
 use Rattle.wrows.specs.declared.fault.AnswerFault.TheVariants.{OutOfRange, TooManyRows, NoMemory}
 use Rattle.wrows.specs.Outcomes.{unless, Gives, ◌>>=◌}

@@ -1,5 +1,5 @@
 -- What expressions come to on all rows (<value expression>, <search condition>). Nothing is skipped: out of range on any row refuses.
-use Rattle.std.specs.Prelude.{ℕ, ◌++◌, Bool, List, map, filter, length, Option, Some, None, Result, Ok, nat_lt, unwrap_or}
+use Rattle.std.specs.Prelude.{◌++◌, Bool, List, map, filter, length, Option, Some, None, Result, Ok, nat_lt, unwrap_or}
 use Rattle.std.specs.List.{list_any}
 use Rattle.std.specs.Option.{is_none}
 use Rattle.wvalues.specs.Meaning.{Meaning, Null}
