@@ -1,5 +1,5 @@
 -- Lemmas on what a source holds.
-use Rattle.std.proofs.Common.{◌≡◌, ℕ, suc, ◌+◌, ◌-◌, ◌<◌, ◌≤◌, List, [], ◌∷◌, ◌++◌, length, take, drop, get_or, Option, None, Some, refl, sym, ap, ◌∙◌, subst, arith, add-one, drop-cons, length-take, length-drop, append_assoc, take-append-drop}
+use Rattle.std.proofs.Common.{◌≡◌, ◌≢◌, ℕ, suc, ◌+◌, ◌-◌, ◌<◌, ◌≤◌, List, [], ◌∷◌, ◌++◌, length, take, drop, get_or, Option, None, Some, refl, sym, ap, ◌∙◌, subst, arith, add-one, drop-cons, length-take, length-drop, append_assoc, take-append-drop}
 use Rattle.std.proofs.lemmas.List.{drop-take, drop-drop}
 use Rattle.std.proofs.KnownBytes.{Consumes-trans}
 use Rattle.std.specs.Io.KnownBytes.{Keeps, Consumes, prepend_known}
@@ -35,3 +35,7 @@ front_held (Some xs) (Some ys) n old new k e =
 -- what was taken so far, and then a front of what is held
 pub piece_taken : (a b c d : Option (List ℕ)) (taken : List ℕ) (n : ℕ) (old new : List ℕ) → Consumes a b taken → Keeps b (prepend_known old d) → c ≡ prepend_known new d → new ≡ drop n old → Consumes a c (taken ++ take n old)
 piece_taken a b c d taken n old new k kept is e = subst (λ x. Consumes a x (taken ++ take n old)) (sym is) (Consumes-trans a b (prepend_known new d) taken (take n old) k (front_held b d n old new kept e))
+
+pub some_held : (xs : List ℕ) → xs ≢ [] → 0 < length xs
+some_held [] some = absurd (some refl)
+some_held (x ∷ xs) some = omega arith

@@ -1,3 +1,4 @@
+pub mod Saying
 pub mod Held
 pub mod Cuts
 pub mod Lines

@@ -1,5 +1,5 @@
 -- What was read, and that it begins with no line or no body.
-use Rattle.std.proofs.Common.{Bool, true, false, ◌≡◌, ◌≢◌, ℕ, ◌<◌, ◌≤◌, List, [], ◌∷◌, ◌++◌, length, Option, None, Some, IfSome, refl, sym, ap, ◌∙◌, subst, arith, length-append}
+use Rattle.std.proofs.Common.{Bool, true, false, ◌≡◌, ◌≢◌, ℕ, ◌+◌, ◌<◌, ◌≤◌, List, [], ◌∷◌, ◌++◌, length, Option, None, Some, IfSome, refl, sym, ap, ◌∙◌, subst, arith, length-append}
 use Rattle.std.specs.Io.KnownBytes.{Keeps, Consumes, IsAtEnd}
 use Rattle.std.proofs.KnownBytes.{Consumes-whole, Consumes-kept, Consumes-trans}
 use Rattle.wlines.specs.Words.{Lacks}
@@ -72,3 +72,21 @@ unfed_body n (Some xs) (Some ys) taken k len none = λ body rest size e. none re
 pub fed_body : (found : Bool) (n : ℕ) (a b c : Option (List ℕ)) (taken : List ℕ) → Consumes a b taken → length taken ≡ n → FeedReads found b c → SkipReads found n a c
 fed_body true n a b c taken k len feed = (taken, Consumes-trans a b c taken (10 ∷ []) k feed, len)
 fed_body false n a b c taken k len feed = unfed_body n a b taken k len feed
+
+-- ---- one byte more on a line
+
+pub line_lacks : (line new : List ℕ) (byte : ℕ) → new ≡ line ++ byte ∷ [] → Lacks 10 line → byte ≢ 10 → Lacks 10 new
+line_lacks line new byte e lacks ne = subst (Lacks 10) (sym e) (Lacks-push 10 line byte lacks ne)
+
+pub line_longer : (line new : List ℕ) (byte : ℕ) → new ≡ line ++ byte ∷ [] → length new ≡ length line + 1
+line_longer line new byte e = ap length e ∙ length-append line (byte ∷ [])
+
+pub line_consumed : (a b c : Option (List ℕ)) (line new : List ℕ) (byte : ℕ) → new ≡ line ++ byte ∷ [] → Consumes a b line → Consumes b c (byte ∷ []) → Consumes a c new
+line_consumed a b c line new byte e k k2 = subst (Consumes a c) (sym e) (Consumes-trans a b c line (byte ∷ []) k k2)
+
+below_full : (n : ℕ) → n ≤ 200 → n ≢ 200 → n + 1 ≤ 200
+below_full n h ne = omega arith
+
+pub not_full : (is_full : Bool) (n : ℕ) → is_full ≡ false → (n ≡ 200 → is_full ≡ true) → n ≤ 200 → n + 1 ≤ 200
+not_full true n e full h = let w : true ≡ false = e in cc
+not_full false n e full h = below_full n h (λ q. let w : false ≡ true = full q in cc)

@@ -1,10 +1,12 @@
 //! Reads in blocks, and hands the bytes out.
-ghost use Rattle.std.specs.Prelude.{take, vec_len, ◌-◌, ◌≡◌, ◌≢◌, ◌+◌, ◌<◌, ◌≤◌, ◌↔◌, List, ℕ, [], ◌∷◌, length, drop, OnOk, OnErr, IfOk, IfSome, IfNone, IsTrue, false};
+ghost use Rattle.std.specs.Prelude.{take, vec_len, ◌-◌, ◌≡◌, ◌≢◌, ◌+◌, ◌<◌, ◌≤◌, ◌↔◌, List, ℕ, [], ◌∷◌, length, drop, OnOk, IfOk, IfErr, IfSome, IfNone, IsTrue, false};
 ghost use Rattle.std.specs.Io.KnownBytes.{Keeps, Consumes, IsAtEnd};
-ghost use Rattle.wlines.specs.Pending.{block, left, budget, IsSound, ReadFailed};
+ghost use Rattle.wlines.specs.Pending.{block, left, budget, IsSound, IsSoundWriter, ReadFailed};
 
+use crate::fault::ReadFault;
+use crate::outbox::Outbox;
 use std::alloc::{AllocError, Global};
-use std::io::Read;
+use std::io::{Read, Write};
 use std::marker::Model;
 use wvalues::Counted;
 
@@ -14,11 +16,8 @@ const BLOCK: usize = 65_536;
 /// How many reads a run may make.
 const MOST_READS: u64 = 1 << 40;
 
-/// The reader failed, or it has not ended within 2^40 reads.
-#[derive(Debug, Drop)]
-pub struct ReadFault;
-
-/// The bytes that were read and not yet handed out. Contracts see it as the list of these bytes.
+/// The bytes that were read and not yet handed out. Contracts see it as the list of these bytes, and how many bytes of
+/// the last read were handed out.
 #[derive(Drop)]
 pub struct Source {
     bytes: Vec<u8>,
@@ -27,17 +26,25 @@ pub struct Source {
 }
 
 impl Model for Source {
-    ghost Value = { List ℕ };
+    ghost use Rattle.std.specs.Prelude.{◌-◌, ◌≡◌, ◌≤◌, take, drop, vec_len};
+    ghost use Rattle.wlines.specs.Sent.{Block, coded_block};
 
-    ghost view = { λ s. take (s.end - s.start) (drop s.start s.bytes.items) };
+    ghost Value = { Block };
+
+    ghost coded = { coded_block };
+
+    ghost view = { λ s. record { held = take (s.end - s.start) (drop s.start s.bytes.items); taken = s.start } };
 
     ghost invariant = { λ s. (s.start ≤ s.end) × (s.end ≤ vec_len s.bytes) × (vec_len s.bytes ≡ 65536) };
 }
 
 impl Source {
+    ghost use Rattle.wlines.specs.Failing.{HasFailed};
+    ghost use Rattle.wlines.specs.Sent.{IsUsed, Says, handed, sent};
+
     /// A source that holds nothing.
     pub fn new(alloc: Global) -> Result<Source, AllocError>
-        ensures { IfOk result (λ s. s ≡ []) }
+        ensures { IfOk result (λ s. s ≡ handed [] 0) }
     {
         let bytes = vec![in alloc; 0u8; BLOCK]?;
         Ok(Source {
@@ -47,19 +54,22 @@ impl Source {
         })
     }
 
-    /// Reads a block where nothing is held. It answers false at the end of the input.
-    fn refill<R: Read>(&mut self, input: &mut Counted<R>) -> Result<bool, ReadFault>
-        requires empty { self.old ≡ [] }
+    /// Asks the reader for a block, where nothing is held and nothing waits to be written. It answers false at the end
+    /// of the input.
+    fn ask<R: Read>(&mut self, input: &mut Counted<R>, outbox: &Outbox) -> Result<bool, ReadFault>
+        requires empty { self.old.held ≡ [] }
+        requires written { outbox.now.bytes ≡ [] }
         requires sound { IsSound input.old }
-        ensures bytes { Keeps (left R.remaining self.old input.old) (left R.remaining self.new input.new) }
+        ensures bytes { Keeps (left R.remaining self.old.held input.old) (left R.remaining self.new.held input.new) }
         ensures sound { OnOk result (IsSound input.new) }
         ensures reads { input.old.reads ≤ input.new.reads }
-        ensures more { IfOk result (λ more. IsTrue more → (0 < length self.new) × (length self.new ≤ block) × (input.new.reads ≡ input.old.reads + 1)) }
-        ensures end { IfOk result (λ more. (more ≡ false) → (self.new ≡ []) × IsAtEnd (R.remaining input.new.inner)) }
-        ensures fault { OnErr result (ReadFailed input.new) }
+        ensures more { IfOk result (λ more. IsTrue more → (0 < length self.new.held) × (length self.new.held ≤ block) × (input.new.reads ≡ input.old.reads + 1)) }
+        ensures end { IfOk result (λ more. (more ≡ false) → (self.new.held ≡ []) × IsAtEnd (R.remaining input.new.inner)) }
+        ensures fault { IfErr result (λ fault. (fault ≡ ReadFault.Reader) × ReadFailed input.new) }
     {
+        prove!(outbox.is_empty());
         if input.reads() >= MOST_READS {
-            return Err(ReadFault);
+            return Err(ReadFault::Reader);
         }
         match input.read(&mut self.bytes) {
             Ok(n) => {
@@ -67,52 +77,67 @@ impl Source {
                 self.end = n;
                 Ok(n > 0)
             }
-            Err(_) => Err(ReadFault),
+            Err(_) => Err(ReadFault::Reader),
         }
     }
 
-    /// Sees to it that a byte is held. It answers false at the end of the input.
-    pub(crate) fn top_up<R: Read>(&mut self, input: &mut Counted<R>) -> Result<bool, ReadFault>
-        requires { IsSound input.old }
-        ensures bytes { Keeps (left R.remaining self.old input.old) (left R.remaining self.new input.new) }
-        ensures sound { OnOk result (IsSound input.new) }
-        ensures more { IfOk result (λ more. IsTrue more → self.new ≢ []) }
-        ensures end { IfOk result (λ more. (more ≡ false) → IsAtEnd (left R.remaining self.new input.new)) }
-        ensures falls { OnOk result (budget self.new input.new ≤ budget self.old input.old) }
-        ensures fault { OnErr result (ReadFailed input.new) }
+    /// Sees to it that a byte is held. Before the reader is asked, all that waits is written. It answers false at the
+    /// end of the input.
+    #[tactic(auto, using(crate::proofs::Saying::says_nothing))]
+    pub(crate) fn top_up<R: Read, W: Write>(
+        &mut self,
+        input: &mut Counted<R>,
+        outbox: &mut Outbox,
+        output: &mut Counted<W>,
+    ) -> Result<bool, ReadFault>
+        requires input { IsSound input.old }
+        requires output { IsSoundWriter output.old }
+        ensures bytes { Keeps (left R.remaining self.old.held input.old) (left R.remaining self.new.held input.new) }
+        ensures says { Says (sent W.contents outbox.old output.old) (sent W.contents outbox.new output.new) [] }
+        ensures owed { outbox.new.is_answered ≡ outbox.old.is_answered }
+        ensures input { OnOk result (IsSound input.new) }
+        ensures output { OnOk result (IsSoundWriter output.new) }
+        ensures more { IfOk result (λ more. IsTrue more → self.new.held ≢ []) }
+        ensures end { IfOk result (λ more. (more ≡ false) → (self.new.held ≡ []) × IsAtEnd (left R.remaining self.new.held input.new)) }
+        ensures falls { OnOk result (budget self.new.held input.new ≤ budget self.old.held input.old) }
+        ensures fault { IfErr result (λ fault. HasFailed fault input.new outbox.new output.new) }
     {
         if !self.is_empty() {
             return Ok(true);
         }
-        let more = self.refill(input)?;
+        let Ok(()) = outbox.flush(output) else {
+            return Err(ReadFault::Writer);
+        };
+        let more = self.ask(input, outbox)?;
         Ok(more)
     }
 
     /// Whether nothing is held.
     pub(crate) fn is_empty(&self) -> bool
-        ensures { IsTrue result ↔ (self.now ≡ []) }
+        ensures { IsTrue result ↔ (self.now.held ≡ []) }
     {
         self.start == self.end
     }
 
     /// The bytes that are held.
     pub(crate) fn held(&self) -> &[u8]
-        ensures { result.now ≡ self.now }
+        ensures { result.now ≡ self.now.held }
     {
         &self.bytes[self.start..self.end]
     }
 
     /// Hands out the first n bytes that are held.
     pub(crate) fn advance(&mut self, n: usize)
-        requires { n ≤ length self.old }
-        ensures { self.new ≡ drop n self.old }
+        requires { n ≤ length self.old.held }
+        ensures { self.new ≡ handed (drop n self.old.held) (self.old.taken + n) }
     {
         self.start += n;
     }
 
     fn take_first(&mut self) -> u8
-        requires { self.old ≢ [] }
-        ensures { self.old ≡ result ∷ self.new }
+        requires { self.old.held ≢ [] }
+        ensures byte { self.old.held ≡ result ∷ self.new.held }
+        ensures taken { self.new.taken ≡ self.old.taken + 1 }
     {
         let byte = self.bytes[self.start];
         self.start += 1;
@@ -120,17 +145,26 @@ impl Source {
     }
 
     /// The next byte, or nothing at the end of the input.
-    pub(crate) fn next<R: Read>(&mut self, input: &mut Counted<R>) -> Result<Option<u8>, ReadFault>
-        requires { IsSound input.old }
-        ensures sound { OnOk result (IsSound input.new) }
-        ensures some { IfOk result (λ o. IfSome o (λ b. Consumes (left R.remaining self.old input.old) (left R.remaining self.new input.new) (b ∷ []))) }
-        ensures falls { IfOk result (λ o. IfSome o (λ _. budget self.new input.new < budget self.old input.old)) }
-        ensures kept { IfOk result (λ o. IfNone o (Keeps (left R.remaining self.old input.old) (left R.remaining self.new input.new))) }
-        ensures end { IfOk result (λ o. IfNone o (IsAtEnd (left R.remaining self.new input.new))) }
-        ensures fault { OnErr result (ReadFailed input.new) }
-        ensures err { OnErr result (Keeps (left R.remaining self.old input.old) (left R.remaining self.new input.new)) }
+    pub(crate) fn next<R: Read, W: Write>(
+        &mut self,
+        input: &mut Counted<R>,
+        outbox: &mut Outbox,
+        output: &mut Counted<W>,
+    ) -> Result<Option<u8>, ReadFault>
+        requires input { IsSound input.old }
+        requires output { IsSoundWriter output.old }
+        ensures says { Says (sent W.contents outbox.old output.old) (sent W.contents outbox.new output.new) [] }
+        ensures owed { outbox.new.is_answered ≡ outbox.old.is_answered }
+        ensures input { OnOk result (IsSound input.new) }
+        ensures output { OnOk result (IsSoundWriter output.new) }
+        ensures used { OnOk result (IsUsed self.new) }
+        ensures some { IfOk result (λ o. IfSome o (λ b. Consumes (left R.remaining self.old.held input.old) (left R.remaining self.new.held input.new) (b ∷ []))) }
+        ensures falls { IfOk result (λ o. IfSome o (λ _. budget self.new.held input.new < budget self.old.held input.old)) }
+        ensures kept { IfOk result (λ o. IfNone o (Keeps (left R.remaining self.old.held input.old) (left R.remaining self.new.held input.new))) }
+        ensures end { IfOk result (λ o. IfNone o (IsAtEnd (left R.remaining self.new.held input.new))) }
+        ensures fault { IfErr result (λ fault. HasFailed fault input.new outbox.new output.new) }
     {
-        if !self.top_up(input)? {
+        if !self.top_up(input, outbox, output)? {
             return Ok(None);
         }
         Ok(Some(self.take_first()))

@@ -1,7 +1,7 @@
 -- A piece that a node was fed.
 use Rattle.std.proofs.Common.{◌≡◌, ◌≢◌, ℕ, ◌+◌, ◌<◌, Bool, true, false, cond, ◌||◌, ◌==◌, List, [], ◌∷◌, ◌++◌, map, take, get_or, set, Option, None, Some, ◌⊎◌, inl, inr, refl, sym, ap, ◌∙◌, subst, arith, append_assoc, append-nil}
 use Rattle.std.specs.List.{flat_map, AllByRecursion}
-use Rattle.std.specs.Io.KnownBytes.{Appends}
+use Rattle.wlines.specs.Sent.{Sent, Says}
 use Rattle.std.proofs.Math.ListN.{length-set}
 use Rattle.std.proofs.lemmas.Bool.{eqb-true}
 use Rattle.std.proofs.lemmas.List.{set-get_or}
@@ -176,7 +176,7 @@ module _ (d : Declaration) (at : Places) (h : List Step) (p : ℕ) (node : NodeS
           (sound_lines d (view_of (known h (p + 1))) lines all.tells.each (answered lines all.last all.tells))
           listens_after
 
-    fed_all : (n : ℕ) (new : NodeState) (a b : Option (List ℕ)) → p + 1 ≡ n → SendsAll pushed new a b → FedAs d (places (set at.nodes p new) at.slots) h n piece a b
+    fed_all : (n : ℕ) (new : NodeState) (a b : Sent) → p + 1 ≡ n → SendsAll pushed new a b → FedAs d (places (set at.nodes p new) at.slots) h n piece a b
     fed_all n new a b place s = subst (λ m. FedAs d (places (set at.nodes p new) at.slots) h m piece a b) place (record {
       reply = Fed s.lines s.bad;
       answers = answers s.lines s.bad new s.tells;
@@ -184,7 +184,7 @@ module _ (d : Declaration) (at : Places) (h : List Step) (p : ℕ) (node : NodeS
       stand = stands s.lines s.bad new s.tells;
     })
 
-    fed_part : (n : ℕ) (a b : Option (List ℕ)) → p + 1 ≡ n → SendsPart pushed a b → FedPart h n piece a b
+    fed_part : (n : ℕ) (a b : Sent) → p + 1 ≡ n → SendsPart pushed a b → FedPart h n piece a b
     fed_part n a b place part = subst (λ m. FedPart h m piece a b) place (by part)
       where
         by : SendsPart pushed a b → FedPart h (p + 1) piece a b
@@ -193,7 +193,7 @@ module _ (d : Declaration) (at : Places) (h : List Step) (p : ℕ) (node : NodeS
 
   -- ---- a piece that finds no memory
 
-  fed_starved : (n : ℕ) (new : NodeState) (a b : Option (List ℕ)) → new ≡ node → Appends a b no_memory → FedAs d (places (set at.nodes p new) at.slots) h n piece a b
+  fed_starved : (n : ℕ) (new : NodeState) (a b : Sent) → new ≡ node → Says a b no_memory → FedAs d (places (set at.nodes p new) at.slots) h n piece a b
   fed_starved n new a b same k =
       let kept : set at.nodes p new ≡ at.nodes = ap (set at.nodes p) (same ∙ is) ∙ set-get_or at.nodes p node in
       subst (λ nodes. FedAs d (places nodes at.slots) h n piece a b) (sym kept) (record {
@@ -203,7 +203,7 @@ module _ (d : Declaration) (at : Places) (h : List Step) (p : ℕ) (node : NodeS
         stand = stand_quiet d at h (Feed n piece) NoMemory stand refl (record { delivers_none = λ m. refl; gets_none = λ m. refl; puts_none = λ k. refl; hears_none = λ m. refl });
       })
 
-  fed_starved_part : (n : ℕ) (a b : Option (List ℕ)) → ((k : ℕ) × Appends a b (take k no_memory)) → FedPart h n piece a b
+  fed_starved_part : (n : ℕ) (a b : Sent) → ((k : ℕ) × Says a b (take k no_memory)) → FedPart h n piece a b
   fed_starved_part n a b w = inl (record { reply = NoMemory; n = w.0; answers = inr (tt, refl); appends = w.1 })
 
   -- ---- a stream that was found bad
@@ -229,20 +229,20 @@ module _ (d : Declaration) (at : Places) (h : List Step) (p : ℕ) (node : NodeS
           each = subst (λ o. AllByRecursion IsMessage (handled h (p + 1) ++ heard_items o)) (sym (heard_here [] true)) (subst (AllByRecursion IsMessage) (sym (append-nil (handled h (p + 1)))) listens.each);
         })
 
-    fed_bad : (n : ℕ) (new : NodeState) (a b : Option (List ℕ)) → p + 1 ≡ n → new ≡ node → Appends a b (fed_text 0 true) → FedAs d (places (set at.nodes p new) at.slots) h n piece a b
+    fed_bad : (n : ℕ) (new : NodeState) (a b : Sent) → p + 1 ≡ n → new ≡ node → Says a b (fed_text 0 true) → FedAs d (places (set at.nodes p new) at.slots) h n piece a b
     fed_bad n new a b place same k = subst (λ m. FedAs d (places (set at.nodes p new) at.slots) h m piece a b) place (record { reply = Fed [] true; answers = bad_answers; appends = k; stand = bad_stands new same })
 
-    fed_bad_part : (n : ℕ) (a b : Option (List ℕ)) → p + 1 ≡ n → ((k : ℕ) × Appends a b (take k (fed_text 0 true))) → FedPart h n piece a b
+    fed_bad_part : (n : ℕ) (a b : Sent) → p + 1 ≡ n → ((k : ℕ) × Says a b (take k (fed_text 0 true))) → FedPart h n piece a b
     fed_bad_part n a b place w = subst (λ m. FedPart h m piece a b) place (inl (record { reply = Fed [] true; n = w.0; answers = bad_answers; appends = w.1 }))
 
   -- ---- a piece
 
-  pub fed_as : (n : ℕ) (new : NodeState) (a b : Option (List ℕ)) → p + 1 ≡ n → Feeds node piece new a b → FedAs d (places (set at.nodes p new) at.slots) h n piece a b
+  pub fed_as : (n : ℕ) (new : NodeState) (a b : Sent) → p + 1 ≡ n → Feeds node piece new a b → FedAs d (places (set at.nodes p new) at.slots) h n piece a b
   fed_as n new a b place (inl f) = fed_all (record node { held = node.held ++ piece }) refl f.0 n new a b place f.1
   fed_as n new a b place (inr (inl f)) = fed_bad f.0 n new a b place f.1 f.2
   fed_as n new a b place (inr (inr f)) = fed_starved n new a b f.1 f.2
 
-  pub fed_part_as : (n : ℕ) (a b : Option (List ℕ)) → p + 1 ≡ n → FeedsPart node piece a b → FedPart h n piece a b
+  pub fed_part_as : (n : ℕ) (a b : Sent) → p + 1 ≡ n → FeedsPart node piece a b → FedPart h n piece a b
   fed_part_as n a b place (inl f) = fed_part (record node { held = node.held ++ piece }) refl f.0 n a b place f.1
   fed_part_as n a b place (inr (inl f)) = fed_bad_part f.0 n a b place f.1
   fed_part_as n a b place (inr (inr f)) = fed_starved_part n a b f.1

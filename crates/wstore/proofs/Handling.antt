@@ -1,9 +1,9 @@
 -- Messages of a stream that are handled one after the other.
-use Rattle.std.proofs.Common.{◌≡◌, ℕ, zero, suc, ◌+◌, ◌<◌, ◌≤◌, Bool, true, false, List, [], ◌∷◌, ◌++◌, map, take, length, Option, Result, Ok, Err, IfOk, OnOk, OnErr, ◌⊎◌, inl, inr, refl, sym, ap, ◌∙◌, subst, arith, append_assoc, append-nil, length-append}
+use Rattle.std.proofs.Common.{◌≡◌, ℕ, zero, suc, ◌+◌, ◌<◌, ◌≤◌, Bool, true, false, List, [], ◌∷◌, ◌++◌, map, take, length, Result, Ok, Err, IfOk, OnOk, OnErr, ◌⊎◌, inl, inr, refl, sym, ap, ◌∙◌, subst, arith, append_assoc, append-nil, length-append}
 use Rattle.std.specs.List.{flat_map, AllByRecursion}
 use Rattle.std.specs.FinMap.{get}
-use Rattle.std.specs.Io.KnownBytes.{Appends}
-use Rattle.std.proofs.KnownBytes.{Appends-nil, Appends-trans}
+use Rattle.wlines.specs.Sent.{Sent, Says}
+use Rattle.wlines.proofs.Saying.{says_nothing, says_more}
 use Rattle.wsegment.specs.Declaration.{Declaration}
 use Rattle.wset.specs.Views.{View, join, join_told}
 use Rattle.wset.specs.Items.{Item, SegmentItem, RetirementItem, view_of}
@@ -44,25 +44,25 @@ front_take zero xs ys = refl
 front_take (suc n) [] ys = refl
 front_take (suc n) (x ∷ xs) ys = ap (λ l. x ∷ l) (front_take n xs ys)
 
-pub front_first : (a b : Option (List ℕ)) (xs ys : List ℕ) → ((n : ℕ) × Appends a b (take n xs)) → (n : ℕ) × Appends a b (take n (xs ++ ys))
-front_first a b xs ys w = (length (take w.0 xs), subst (Appends a b) (sym (front_take w.0 xs ys)) w.1)
+pub front_first : (a b : Sent) (xs ys : List ℕ) → ((n : ℕ) × Says a b (take n xs)) → (n : ℕ) × Says a b (take n (xs ++ ys))
+front_first a b xs ys w = (length (take w.0 xs), subst (Says a b) (sym (front_take w.0 xs ys)) w.1)
 
-pub front_behind : (a b c : Option (List ℕ)) (xs ys : List ℕ) → Appends a b xs → ((n : ℕ) × Appends b c (take n ys)) → (n : ℕ) × Appends a c (take n (xs ++ ys))
-front_behind a b c xs ys k w = (length xs + w.0, subst (Appends a c) (sym (take_behind xs ys w.0)) (Appends-trans a b c xs (take w.0 ys) k w.1))
+pub front_behind : (a b c : Sent) (xs ys : List ℕ) → Says a b xs → ((n : ℕ) × Says b c (take n ys)) → (n : ℕ) × Says a c (take n (xs ++ ys))
+front_behind a b c xs ys k w = (length xs + w.0, subst (Says a c) (sym (take_behind xs ys w.0)) (says_more a b c xs (take w.0 ys) k w.1))
 
 -- ---- one line more
 
-pub record SoFar (old new : NodeState) (held new_held : Option (List ℕ)) (count : ℕ) : Type 0 where
+pub record SoFar (old new : NodeState) (held new_held : Sent) (count : ℕ) : Type 0 where
   pub lines : List Line
   pub tells : Tells old lines new
-  pub appends : Appends held new_held (flat_map line_text lines)
+  pub appends : Says held new_held (flat_map line_text lines)
   pub count_is : count ≡ length lines
 
-pub nothing_told : (old : NodeState) (held : Option (List ℕ)) → SoFar old old held held 0
+pub nothing_told : (old : NodeState) (held : Sent) → SoFar old old held held 0
 nothing_told old held = record {
   lines = [];
   tells = record { schema_is = refl; view_is = refl; answers = tt; each = tt; held_is = refl; good = refl };
-  appends = Appends-nil held;
+  appends = says_nothing held;
   count_is = refl;
 }
 
@@ -79,13 +79,13 @@ record LineTold (d : Declaration) (v w : View) (item : Item) (text : List ℕ) :
 line_told : (d : Declaration) (v w : View) (item : Item) (reply : Reply) (text : List ℕ) → IsTold d v item reply w → IsTextOf reply text → LineTold d v w item text
 line_told d v w (SegmentItem n b) (replies.Taken word) text t is = record { line = TookLine n b word; item_is = refl; answers = (t.0, t.1); view_is = t.2; text_is = is }
 line_told d v w (SegmentItem n b) (replies.Refused fault) text t (inl is) = record { line = RefusedLine n b fault; item_is = refl; answers = t.0; view_is = t.1 ∙ join_nothing v; text_is = is }
-line_told d v w (SegmentItem n b) (replies.Refused fault) text t (inr is) = record { line = SpentLine (SegmentItem n b); item_is = refl; answers = tt; view_is = t.1 ∙ join_nothing v; text_is = is }
+line_told d v w (SegmentItem n b) (replies.Refused fault) text t (inr is) = record { line = SpentLine (SegmentItem n b); item_is = refl; answers = t.2; view_is = t.1 ∙ join_nothing v; text_is = is }
 line_told d v w (SegmentItem n b) (replies.Retired word) text t is = absurd t
-line_told d v w (SegmentItem n b) replies.NoMemory text t is = record { line = SpentLine (SegmentItem n b); item_is = refl; answers = tt; view_is = t ∙ join_nothing v; text_is = is }
+line_told d v w (SegmentItem n b) replies.NoMemory text t is = record { line = SpentLine (SegmentItem n b); item_is = refl; answers = t.1; view_is = t.0 ∙ join_nothing v; text_is = is }
 line_told d v w (RetirementItem n) (replies.Retired word) text t is = record { line = WasLine n word; item_is = refl; answers = t.0; view_is = t.1; text_is = is }
 line_told d v w (RetirementItem n) (replies.Taken word) text t is = absurd t
 line_told d v w (RetirementItem n) (replies.Refused fault) text t is = absurd t
-line_told d v w (RetirementItem n) replies.NoMemory text t is = record { line = SpentLine (RetirementItem n); item_is = refl; answers = tt; view_is = t ∙ join_nothing v; text_is = is }
+line_told d v w (RetirementItem n) replies.NoMemory text t is = record { line = SpentLine (RetirementItem n); item_is = refl; answers = t.1; view_is = t.0 ∙ join_nothing v; text_is = is }
 
 view-push : (v : View) (ls : List Line) (l : Line) → told_view v (ls ++ l ∷ []) ≡ join (told_view v ls) (view_of (line_items l))
 view-push v [] l = refl
@@ -113,7 +113,7 @@ texts-push (x ∷ ls) l = append_assoc (line_text x) (flat_map line_text ls) (li
 length-push : (ls : List Line) (l : Line) → length (ls ++ l ∷ []) ≡ length ls + 1
 length-push ls l = length-append ls (l ∷ [])
 
-module _ (old mid new : NodeState) (a b c : Option (List ℕ)) (count : ℕ) (so_far : SoFar old mid a b count) where
+module _ (old mid new : NodeState) (a b c : Sent) (count : ℕ) (so_far : SoFar old mid a b count) where
   module _ (reply : Reply) (text : List ℕ) (handles : Handles mid reply new) (is : IsTextOf reply text) where
     last : LineTold mid.schema mid.view new.view handles.item text
     last = line_told mid.schema mid.view new.view handles.item reply text handles.told is
@@ -130,33 +130,33 @@ module _ (old mid new : NodeState) (a b c : Option (List ℕ)) (count : ℕ) (so
       good = handles.good.1 ∙ sym handles.good.0 ∙ so_far.tells.good;
     }
 
-    pub one_more : Appends b c text → SoFar old new a c (count + 1)
+    pub one_more : Says b c text → SoFar old new a c (count + 1)
     one_more k = record {
       lines = so_far.lines ++ last.line ∷ [];
       tells = more;
-      appends = subst (Appends a c) (texts-push so_far.lines last.line) (Appends-trans a b c (flat_map line_text so_far.lines) (line_text last.line) so_far.appends (subst (Appends b c) last.text_is k));
+      appends = subst (Says a c) (texts-push so_far.lines last.line) (says_more a b c (flat_map line_text so_far.lines) (line_text last.line) so_far.appends (subst (Says b c) last.text_is k));
       count_is = ap (λ n. n + 1) so_far.count_is ∙ sym (length-push so_far.lines last.line);
     }
 
-    pub some_told : ((n : ℕ) × Appends b c (take n text)) → SendsPart old a c
+    pub some_told : ((n : ℕ) × Says b c (take n text)) → SendsPart old a c
     some_told w =
-        let f = front_behind a b c (flat_map line_text so_far.lines) (line_text last.line) so_far.appends (w.0, subst (λ t. Appends b c (take w.0 t)) last.text_is w.1) in
+        let f = front_behind a b c (flat_map line_text so_far.lines) (line_text last.line) so_far.appends (w.0, subst (λ t. Says b c (take w.0 t)) last.text_is w.1) in
         inl (record {
           lines = so_far.lines ++ last.line ∷ [];
           new = new;
           n = f.0;
           tells = more;
-          appends = subst (λ t. Appends a c (take f.0 t)) (texts-push so_far.lines last.line) f.1;
+          appends = subst (λ t. Says a c (take f.0 t)) (texts-push so_far.lines last.line) f.1;
         })
 
   module _ (bad : Bool) (new_is : new ≡ record mid { is_bad = bad }) where
     abbrev last_text : List ℕ
     last_text = fed_text (length so_far.lines) bad
 
-    all : (end : TellsAll old so_far.lines bad new) → Appends b c last_text → SendsAll old new a c
-    all end k = record { lines = so_far.lines; bad = bad; tells = end; appends = Appends-trans a b c (flat_map line_text so_far.lines) last_text so_far.appends k }
+    all : (end : TellsAll old so_far.lines bad new) → Says b c last_text → SendsAll old new a c
+    all end k = record { lines = so_far.lines; bad = bad; tells = end; appends = says_more a b c (flat_map line_text so_far.lines) last_text so_far.appends k }
 
-    part : (end : TellsAll old so_far.lines bad new) → ((n : ℕ) × Appends b c (take n last_text)) → SendsPart old a c
+    part : (end : TellsAll old so_far.lines bad new) → ((n : ℕ) × Says b c (take n last_text)) → SendsPart old a c
     part end w =
         let f = front_behind a b c (flat_map line_text so_far.lines) last_text so_far.appends w in
         inr (record { lines = so_far.lines; bad = bad; new = new; n = f.0; tells = end; appends = f.1 })
@@ -168,11 +168,11 @@ module _ (old mid new : NodeState) (a b c : Option (List ℕ)) (count : ℕ) (so
     ended : TellsAll old so_far.lines false new
     ended = record { last = mid; tells = so_far.tells; new_is = new_is; end = is_open.1 }
 
-    pub all_told : Appends b c (fed_text count false) → SendsAll old new a c
-    all_told k = all false new_is ended (subst (λ n. Appends b c (fed_text n false)) so_far.count_is k)
+    pub all_told : Says b c (fed_text count false) → SendsAll old new a c
+    all_told k = all false new_is ended (subst (λ n. Says b c (fed_text n false)) so_far.count_is k)
 
-    pub all_told_part : ((n : ℕ) × Appends b c (take n (fed_text count false))) → SendsPart old a c
-    all_told_part w = part false new_is ended (w.0, subst (λ n. Appends b c (take w.0 (fed_text n false))) so_far.count_is w.1)
+    pub all_told_part : ((n : ℕ) × Says b c (take n (fed_text count false))) → SendsPart old a c
+    all_told_part w = part false new_is ended (w.0, subst (λ n. Says b c (take w.0 (fed_text n false))) so_far.count_is w.1)
 
   module _ (good : old.is_bad ≡ false) (ends : ((mid.is_bad ≡ true) ⊎ IsBad mid.held) × (new ≡ record mid { is_bad = true })) where
     rest_is_bad : (mid.is_bad ≡ true) ⊎ IsBad mid.held → IsBad mid.held
@@ -182,10 +182,10 @@ module _ (old mid new : NodeState) (a b c : Option (List ℕ)) (count : ℕ) (so
     ended_bad : TellsAll old so_far.lines true new
     ended_bad = record { last = mid; tells = so_far.tells; new_is = ends.1; end = rest_is_bad ends.0 }
 
-    pub bad_told : Appends b c (fed_text 0 true) → SendsAll old new a c
+    pub bad_told : Says b c (fed_text 0 true) → SendsAll old new a c
     bad_told k = all true ends.1 ended_bad k
 
-    pub bad_told_part : ((n : ℕ) × Appends b c (take n (fed_text 0 true))) → SendsPart old a c
+    pub bad_told_part : ((n : ℕ) × Says b c (take n (fed_text 0 true))) → SendsPart old a c
     bad_told_part w = part true ends.1 ended_bad w
 
 -- ---- how many there can be
@@ -198,7 +198,7 @@ many : (ls : List Line) → length ls ≤ length (flat_map message_text (map lin
 many [] = omega arith
 many (l ∷ ls) = omega (arith, many ls, text_some (line_item l), length-append (message_text (line_item l)) (flat_map message_text (map line_item ls)))
 
-pub room : (old new : NodeState) (a b : Option (List ℕ)) (count : ℕ) → SoFar old new a b count → count + length new.held ≤ length old.held
+pub room : (old new : NodeState) (a b : Sent) (count : ℕ) → SoFar old new a b count → count + length new.held ≤ length old.held
 room old new a b count s = omega (arith, s.count_is, many s.lines, ap length s.tells.held_is, length-append (flat_map message_text (map line_item s.lines)) new.held)
 
 pub fewer : (mid new : NodeState) (reply : Reply) → Handles mid reply new → length new.held < length mid.held

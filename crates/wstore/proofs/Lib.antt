@@ -1,3 +1,5 @@
+pub mod Quiet
+pub mod Lacking
 pub mod Words
 pub mod Behind
 pub mod Bodies

@@ -1,6 +1,9 @@
 -- Replies that were written, in full or in part.
-use Rattle.std.proofs.Common.{◌≡◌, ℕ, true, List, take, Option, ◌⊎◌, inl, refl, sym, subst}
-use Rattle.std.specs.Io.KnownBytes.{Appends}
+use Rattle.std.proofs.Common.{◌≡◌, ℕ, true, List, [], take, ◌⊎◌, inl, inr, refl, sym, subst}
+use Rattle.std.specs.List.{flat_map}
+use Rattle.wlines.specs.Sent.{Sent, Says}
+use Rattle.wlines.proofs.Saying.{says_behind}
+use Rattle.wstore.specs.Replies.{line_text, text_of}
 use Rattle.wstore.specs.Commands.{Command, Declare, Take, Retire, Listing, Ask, Feed, Put, Get}
 use Rattle.wstore.specs.History.{Step, MayLackMemory, is_put}
 use Rattle.wstore.specs.Requests.{IsFeedOf, IsOrderAt, KeepsBody}
@@ -12,19 +15,39 @@ use Rattle.wstore.specs.declared.runs.RunFault.{RunFault}
 use Rattle.wstore.specs.declared.runs.RunFault.TheVariants as faults
 use Rattle.wstore.specs.declared.session.Session.{Session}
 
-module _ (session : Session) (h : List Step) (c : Command) (text : List ℕ) (held new_held : Option (List ℕ)) (tells : Tells session h c text) where
-  pub answered : Appends held new_held text → Answered session h c held new_held
-  answered k = record { reply = tells.reply; answers = tells.answers; appends = subst (Appends held new_held) tells.text_is k; stands = tells.stands }
+module _ (session : Session) (h : List Step) (c : Command) (text : List ℕ) (held new_held : Sent) (tells : Tells session h c text) where
+  pub answered : Says held new_held text → Answered session h c held new_held
+  answered k = record { reply = tells.reply; answers = tells.answers; appends = subst (Says held new_held) tells.text_is k; stands = tells.stands }
 
-  pub answered_part : (n : ℕ) → Appends held new_held (take n text) → AnsweredPart h c held new_held
-  answered_part n k = record { reply = tells.reply; n = n; answers = tells.answers; appends = subst (λ t. Appends held new_held (take n t)) tells.text_is k }
+  pub answered_part : (n : ℕ) → Says held new_held (take n text) → AnsweredPart h c held new_held
+  answered_part n k = record { reply = tells.reply; n = n; answers = tells.answers; appends = subst (λ t. Says held new_held (take n t)) tells.text_is k }
 
 -- a write fault leaves a front
-pub unanswered : (fault : RunFault) (h : List Step) (c : Command) (held new_held : Option (List ℕ)) → fault ≡ faults.Write → AnsweredPart h c held new_held → Unanswered fault h c held new_held
+pub unanswered : (fault : RunFault) (h : List Step) (c : Command) (held new_held : Sent) → fault ≡ faults.Write → AnsweredPart h c held new_held → Unanswered fault h c held new_held
 unanswered fault h c held new_held e part = subst (λ f. Unanswered f h c held new_held) (sym e) (inl part)
 
-pub unanswered_feed : (fault : RunFault) (h : List Step) (c : Command) (held new_held : Option (List ℕ)) → fault ≡ faults.Write → AnsweredPart h c held new_held ⊎ AnsweredLines h c held new_held → Unanswered fault h c held new_held
+pub unanswered_feed : (fault : RunFault) (h : List Step) (c : Command) (held new_held : Sent) → fault ≡ faults.Write → AnsweredPart h c held new_held ⊎ AnsweredLines h c held new_held → Unanswered fault h c held new_held
 unanswered_feed fault h c held new_held e part = subst (λ f. Unanswered f h c held new_held) (sym e) part
+
+-- where nothing was said before
+pub answered_behind : (session : Session) (h : List Step) (c : Command) (before held new_held : Sent) → Says before held [] → Answered session h c held new_held → Answered session h c before new_held
+answered_behind session h c before held new_held still a = record { reply = a.reply; answers = a.answers; appends = says_behind before held new_held (text_of a.reply) still a.appends; stands = a.stands }
+
+pub unanswered_behind : (fault : RunFault) (h : List Step) (c : Command) (before held new_held : Sent) → Says before held [] → Unanswered fault h c held new_held → Unanswered fault h c before new_held
+unanswered_behind faults.Read h c before held new_held still u = absurd u
+unanswered_behind faults.Write h c before held new_held still (inl part) = inl (record { reply = part.reply; n = part.n; answers = part.answers; appends = says_behind before held new_held (take part.n (text_of part.reply)) still part.appends })
+unanswered_behind faults.Write h c before held new_held still (inr part) = inr (record {
+  d = part.d;
+  node = part.node;
+  piece = part.piece;
+  lines = part.lines;
+  n = part.n;
+  declared = part.declared;
+  command_is = part.command_is;
+  begins = part.begins;
+  appends = says_behind before held new_held (take part.n (flat_map line_text part.lines)) still part.appends;
+})
+unanswered_behind faults.NoMemory h c before held new_held still part = (part.0, says_behind before held new_held [] still part.1)
 
 -- a command by which a node is fed
 pub fed_command : (n : ℕ) (bytes : List ℕ) (c : Command) → IsFeedOf n bytes c → Feed n bytes ≡ c

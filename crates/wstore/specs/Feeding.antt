@@ -1,7 +1,7 @@
 -- What feeding a node writes.
-use Rattle.std.specs.Prelude.{◌≡◌, ℕ, Bool, true, false, List, ◌∷◌, ◌++◌, take, length, Option, ◌⊎◌}
+use Rattle.std.specs.Prelude.{◌≡◌, ℕ, Bool, true, false, List, ◌∷◌, ◌++◌, take, length, ◌⊎◌}
 use Rattle.std.specs.List.{flat_map}
-use Rattle.std.specs.Io.KnownBytes.{Appends}
+use Rattle.wlines.specs.Sent.{Sent, Says}
 use Rattle.wsegment.specs.Declaration.{Declaration}
 use Rattle.wstore.specs.Commands.{Feed}
 use Rattle.wstore.specs.Replies as history
@@ -21,50 +21,50 @@ IsTextOf (replies.Refused fault) text = (text ≡ segment_text fault) ⊎ (text 
 IsTextOf replies.NoMemory text = text ≡ no_memory
 
 -- the messages that are whole were handled, and all that they are told was written
-pub record SendsAll (old new : NodeState) (held new_held : Option (List ℕ)) : Type 0 where
+pub record SendsAll (old new : NodeState) (held new_held : Sent) : Type 0 where
   pub lines : List Line
   pub bad : Bool
   pub tells : TellsAll old lines bad new
-  pub appends : Appends held new_held (flat_map line_text lines ++ fed_text (length lines) bad)
+  pub appends : Says held new_held (flat_map line_text lines ++ fed_text (length lines) bad)
 
 -- a front was written of what the first messages are told
-pub record SendsSome (old : NodeState) (held new_held : Option (List ℕ)) : Type 0 where
+pub record SendsSome (old : NodeState) (held new_held : Sent) : Type 0 where
   pub lines : List Line
   pub new : NodeState
   pub n : ℕ
   pub tells : Tells old lines new
-  pub appends : Appends held new_held (take n (flat_map line_text lines))
+  pub appends : Says held new_held (take n (flat_map line_text lines))
 
 -- or of all
-pub record SendsFront (old : NodeState) (held new_held : Option (List ℕ)) : Type 0 where
+pub record SendsFront (old : NodeState) (held new_held : Sent) : Type 0 where
   pub lines : List Line
   pub bad : Bool
   pub new : NodeState
   pub n : ℕ
   pub tells : TellsAll old lines bad new
-  pub appends : Appends held new_held (take n (flat_map line_text lines ++ fed_text (length lines) bad))
+  pub appends : Says held new_held (take n (flat_map line_text lines ++ fed_text (length lines) bad))
 
-abbrev pub SendsPart : NodeState → Option (List ℕ) → Option (List ℕ) → Type 0
+abbrev pub SendsPart : NodeState → Sent → Sent → Type 0
 SendsPart old held new_held = SendsSome old held new_held ⊎ SendsFront old held new_held
 
 -- the piece entered the stream of the node, which was not bad, and all messages that are whole then were handled; or the
 -- stream is bad, or memory ran out, and the node is as it was
-abbrev pub Feeds : NodeState → List ℕ → NodeState → Option (List ℕ) → Option (List ℕ) → Type 0
+abbrev pub Feeds : NodeState → List ℕ → NodeState → Sent → Sent → Type 0
 Feeds old piece new held new_held =
     ((old.is_bad ≡ false) × SendsAll (record old { held = old.held ++ piece }) new held new_held)
-    ⊎ ((old.is_bad ≡ true) × (new ≡ old) × Appends held new_held (fed_text 0 true))
-    ⊎ ((old.is_bad ≡ false) × (new ≡ old) × Appends held new_held no_memory)
+    ⊎ ((old.is_bad ≡ true) × (new ≡ old) × Says held new_held (fed_text 0 true))
+    ⊎ ((old.is_bad ≡ false) × (new ≡ old) × Says held new_held no_memory)
 
 -- a front was written of what feeding the piece comes to
-abbrev pub FeedsPart : NodeState → List ℕ → Option (List ℕ) → Option (List ℕ) → Type 0
+abbrev pub FeedsPart : NodeState → List ℕ → Sent → Sent → Type 0
 FeedsPart old piece held new_held =
     ((old.is_bad ≡ false) × SendsPart (record old { held = old.held ++ piece }) held new_held)
-    ⊎ ((old.is_bad ≡ true) × ((n : ℕ) × Appends held new_held (take n (fed_text 0 true))))
-    ⊎ ((old.is_bad ≡ false) × ((n : ℕ) × Appends held new_held (take n no_memory)))
+    ⊎ ((old.is_bad ≡ true) × ((n : ℕ) × Says held new_held (take n (fed_text 0 true))))
+    ⊎ ((old.is_bad ≡ false) × ((n : ℕ) × Says held new_held (take n no_memory)))
 
 -- a node was fed a piece, which was answered in full, and the nodes and slots stand behind it
-pub record FedAs (d : Declaration) (at : Places) (h : List Step) (n : ℕ) (piece : List ℕ) (held new_held : Option (List ℕ)) : Type 0 where
+pub record FedAs (d : Declaration) (at : Places) (h : List Step) (n : ℕ) (piece : List ℕ) (held new_held : Sent) : Type 0 where
   pub reply : history.Reply
   pub answers : Answers h (Feed n piece) reply
-  pub appends : Appends held new_held (text_of reply)
+  pub appends : Says held new_held (text_of reply)
   pub stand : StandAt d at (record { command = Feed n piece; reply = reply } ∷ h)

@@ -11,7 +11,7 @@ use Rattle.wsegment.specs.Spelling.{ReadsDeclaration}
 use Rattle.wsegment.specs.Rows.{rows_of}
 use Rattle.wsegment.specs.declared.fault.SegmentFault.{SegmentFault}
 use Rattle.wsegment.specs.declared.schema_fault.SchemaFault.TheVariants as tables
-use Rattle.wset.specs.Views.{View, join}
+use Rattle.wset.specs.Views.{View, Live, Retired as Gone, join}
 use Rattle.wset.specs.Items.{Item, SegmentItem, RetirementItem, view_of}
 use Rattle.wset.specs.Words.{taken_word, retired_word}
 use Rattle.wset.specs.Listing.{listed}
@@ -183,12 +183,17 @@ pub record FileAnswers (d : Declaration) (bytes : List ℕ) (r : Reply) : Type 0
   pub is_judged : judged ≢ Err files.NoMemory
   pub reply_is : r ≡ file_reply judged
 
--- a message is told what the command would be told that speaks of its item, or that it found no memory
+-- taking an item may need memory, unless its name is live with these bytes, or is to be retired and is
+abbrev pub MayNeedMemory : View → Item → Type 0
+MayNeedMemory v (SegmentItem name bytes) = get v name ≢ Some (Live bytes)
+MayNeedMemory v (RetirementItem name) = get v name ≢ Some Gone
+
+-- a message is told what the command would be told that speaks of its item, or, where that may need memory, that it found none
 abbrev pub LineAnswers : Declaration → View → Line → Type 0
 LineAnswers d v (TookLine name bytes word) = IsOk (rows_of d bytes) × (word ≡ taken_word (get v name) bytes)
 LineAnswers d v (WasLine name word) = word ≡ retired_word (get v name)
 LineAnswers d v (RefusedLine name bytes fault) = rows_of d bytes ≡ Err fault
-LineAnswers d v (SpentLine item) = ⊤
+LineAnswers d v (SpentLine item) = MayNeedMemory v item
 
 -- messages are told so one after the other, each by the view that those before it have left
 abbrev pub LinesAnswer : Declaration → View → List Line → Type 0

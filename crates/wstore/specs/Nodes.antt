@@ -14,7 +14,7 @@ use Rattle.wexchange.specs.Judging.{IsFileOf}
 use Rattle.wexchange.specs.Messages.{IsMessage, IsOpen, IsBad, message_text}
 use Rattle.wexchange.specs.declared.message.BadStream.{BadStream}
 use Rattle.wstore.specs.Replies.{Line, line_item, line_items}
-use Rattle.wstore.specs.History.{IsRest, LinesAnswer}
+use Rattle.wstore.specs.History.{IsRest, LinesAnswer, MayNeedMemory}
 use Rattle.wstore.specs.declared.node.Reply.{Reply}
 use Rattle.wstore.specs.declared.node.Reply.TheVariants as replies
 
@@ -40,12 +40,12 @@ pub record LearnsFile (old : NodeState) (bytes : List ℕ) (new : NodeState) : T
   pub file : IsFileOf old.schema view bytes
   pub new_is : new ≡ record old { view = join old.view view }
 
--- a message was told this, as its command would be, and the view is this then
+-- a message was told this, as its command would be, and the view is this then; what needs no memory is neither refused nor finds none
 abbrev pub IsTold : Declaration → View → Item → Reply → View → Type 0
 IsTold d v (SegmentItem n bytes) (replies.Taken word) w = IsOk (rows_of d bytes) × (word ≡ taken_word (get v n) bytes) × (w ≡ join v (view_of_item (SegmentItem n bytes)))
-IsTold d v (SegmentItem n bytes) (replies.Refused fault) w = (rows_of d bytes ≡ Err fault) × (w ≡ v)
+IsTold d v (SegmentItem n bytes) (replies.Refused fault) w = (rows_of d bytes ≡ Err fault) × (w ≡ v) × MayNeedMemory v (SegmentItem n bytes)
 IsTold d v (RetirementItem n) (replies.Retired word) w = (word ≡ retired_word (get v n)) × (w ≡ join v (view_of_item (RetirementItem n)))
-IsTold d v i replies.NoMemory w = w ≡ v
+IsTold d v i replies.NoMemory w = (w ≡ v) × MayNeedMemory v i
 IsTold d v i r w = ⊥
 
 -- the next message was handled

@@ -1,6 +1,7 @@
 //! The nodes of a script, under one declaration.
 ghost use Rattle.std.specs.Prelude.{◌≡◌, ◌≤◌, ℕ, List, [], Ok, Err, IsErr, true, length, replicate, IfOk, IfErr, OnOk, OnErr};
 ghost use Rattle.wlines.specs.Pending.{IsSoundWriter};
+ghost use Rattle.wlines.specs.Sent.{sent};
 ghost use Rattle.std.specs.FinMap as map;
 ghost use Rattle.wsegment.specs.Declaration.{Declaration};
 ghost use Rattle.wvalues.specs.NameReading.{ReadsName};
@@ -20,6 +21,7 @@ use std::alloc::{AllocError, Global};
 use std::io::Write;
 use std::marker::Model;
 use wexchange::FileFault;
+use wlines::Outbox;
 use wreplies::{Text, answer, names, refused_file, refused_query, refused_segment, retired, taken};
 use wsegment::{Schema, SegmentFault};
 use wset::{TakeError, Taken};
@@ -207,19 +209,21 @@ impl Cluster {
     /// Feeds a node a piece of its delivery stream, and writes what its messages are told.
     pub(crate) fn feed<W: Write>(
         &mut self,
+        outbox: &mut Outbox,
         output: &mut Counted<W>,
         node: NodeNumber,
         piece: &[u8],
     ) -> Result<(), RunFault>
         requires { IsSoundWriter output.old }
-        ensures ok { OnOk result ((d : Declaration) (h : List Step) → StandAt d self.old h → FedAs d self.new h node piece.now (W.contents output.old.inner) (W.contents output.new.inner)) }
+        ensures ok { OnOk result ((d : Declaration) (h : List Step) → StandAt d self.old h → FedAs d self.new h node piece.now (sent W.contents outbox.old output.old) (sent W.contents outbox.new output.new)) }
+        ensures answered { OnOk result (outbox.new.is_answered ≡ true) }
         ensures sound { OnOk result (IsSoundWriter output.new) }
-        ensures part { OnErr result ((d : Declaration) (h : List Step) → StandAt d self.old h → FedPart h node piece.now (W.contents output.old.inner) (W.contents output.new.inner)) }
+        ensures part { OnErr result ((d : Declaration) (h : List Step) → StandAt d self.old h → FedPart h node piece.now (sent W.contents outbox.old output.old) (sent W.contents outbox.new output.new)) }
         ensures fault { IfErr result (λ e. e ≡ RunFault.Write) }
         ensures cause { OnErr result (output.new.failures ≡ 1) }
     {
         let place = node.place();
-        feed_node(self.alloc, output, &mut self.nodes[place], piece)
+        feed_node(self.alloc, outbox, output, &mut self.nodes[place], piece)
     }
 
     /// The reply of a node.

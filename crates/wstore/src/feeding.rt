@@ -1,7 +1,7 @@
 //! Handles the messages of a node's delivery stream, and writes what they are told.
-ghost use Rattle.std.specs.Prelude.{◌≡◌, ◌++◌, ℕ, [], ◌∷◌, take, decimal, false, IfErr, OnOk, OnErr};
-ghost use Rattle.std.specs.Io.KnownBytes.{Appends};
+ghost use Rattle.std.specs.Prelude.{◌≡◌, ◌++◌, ℕ, [], ◌∷◌, take, decimal, true, false, IfErr, OnOk, OnErr};
 ghost use Rattle.wlines.specs.Pending.{IsSoundWriter};
+ghost use Rattle.wlines.specs.Sent.{Says, sent};
 ghost use Rattle.wreplies.specs.Texts.{bytes_of};
 ghost use Rattle.wstore.specs.Replies.{fed_text};
 ghost use Rattle.wstore.specs.Feeding.{Feeds, FeedsPart, IsTextOf, SendsAll, SendsPart};
@@ -12,6 +12,7 @@ use itoa::Buffer;
 use std::alloc::Global;
 use std::io::Write;
 use wexchange::PushFault;
+use wlines::Outbox;
 use wreplies::{Text, refused_segment, retired, taken};
 use wvalues::Counted;
 
@@ -31,59 +32,76 @@ fn reply_text(alloc: Global, reply: Reply) -> Text
 }
 
 // Writes the digits of a number.
-fn send_digits<W: Write>(output: &mut Counted<W>, number: usize) -> Result<(), RunFault>
+fn send_digits<W: Write>(
+    outbox: &mut Outbox,
+    output: &mut Counted<W>,
+    number: usize,
+) -> Result<(), RunFault>
     requires { IsSoundWriter output.old }
-    ensures ok { OnOk result (Appends (W.contents output.old.inner) (W.contents output.new.inner) (decimal number)) }
+    ensures ok { OnOk result (Says (sent W.contents outbox.old output.old) (sent W.contents outbox.new output.new) (decimal number)) }
+    ensures answered { OnOk result (outbox.new.is_answered ≡ true) }
     ensures sound { OnOk result (IsSoundWriter output.new) }
     ensures fault { IfErr result (λ e. e ≡ RunFault.Write) }
-    ensures front { OnErr result ((n : ℕ) × Appends (W.contents output.old.inner) (W.contents output.new.inner) (take n (decimal number))) }
+    ensures front { OnErr result ((n : ℕ) × Says (sent W.contents outbox.old output.old) (sent W.contents outbox.new output.new) (take n (decimal number))) }
     ensures cause { OnErr result (output.new.failures ≡ 1) }
 {
     let mut buffer = Buffer::new();
-    send(output, buffer.format(number).as_bytes())
+    send(outbox, output, buffer.format(number).as_bytes())
 }
 
 // Writes a number and a line feed.
-fn send_number<W: Write>(output: &mut Counted<W>, number: usize) -> Result<(), RunFault>
+fn send_number<W: Write>(
+    outbox: &mut Outbox,
+    output: &mut Counted<W>,
+    number: usize,
+) -> Result<(), RunFault>
     requires { IsSoundWriter output.old }
-    ensures ok { OnOk result (Appends (W.contents output.old.inner) (W.contents output.new.inner) (decimal number ++ 10 ∷ [])) }
+    ensures ok { OnOk result (Says (sent W.contents outbox.old output.old) (sent W.contents outbox.new output.new) (decimal number ++ 10 ∷ [])) }
+    ensures answered { OnOk result (outbox.new.is_answered ≡ true) }
     ensures sound { OnOk result (IsSoundWriter output.new) }
     ensures fault { IfErr result (λ e. e ≡ RunFault.Write) }
-    ensures front { OnErr result ((n : ℕ) × Appends (W.contents output.old.inner) (W.contents output.new.inner) (take n (decimal number ++ 10 ∷ []))) }
+    ensures front { OnErr result ((n : ℕ) × Says (sent W.contents outbox.old output.old) (sent W.contents outbox.new output.new) (take n (decimal number ++ 10 ∷ []))) }
     ensures cause { OnErr result (output.new.failures ≡ 1) }
 {
-    if let Err(fault) = send_digits(output, number) {
+    if let Err(fault) = send_digits(outbox, output, number) {
         return Err(fault);
     }
-    send(output, b"\n")
+    send(outbox, output, b"\n")
 }
 
 // Writes the last line of a piece whose stream is good.
-fn send_fed<W: Write>(output: &mut Counted<W>, count: usize) -> Result<(), RunFault>
+fn send_fed<W: Write>(
+    outbox: &mut Outbox,
+    output: &mut Counted<W>,
+    count: usize,
+) -> Result<(), RunFault>
     requires { IsSoundWriter output.old }
-    ensures ok { OnOk result (Appends (W.contents output.old.inner) (W.contents output.new.inner) (fed_text count false)) }
+    ensures ok { OnOk result (Says (sent W.contents outbox.old output.old) (sent W.contents outbox.new output.new) (fed_text count false)) }
+    ensures answered { OnOk result (outbox.new.is_answered ≡ true) }
     ensures sound { OnOk result (IsSoundWriter output.new) }
     ensures fault { IfErr result (λ e. e ≡ RunFault.Write) }
-    ensures front { OnErr result ((n : ℕ) × Appends (W.contents output.old.inner) (W.contents output.new.inner) (take n (fed_text count false))) }
+    ensures front { OnErr result ((n : ℕ) × Says (sent W.contents outbox.old output.old) (sent W.contents outbox.new output.new) (take n (fed_text count false))) }
     ensures cause { OnErr result (output.new.failures ≡ 1) }
 {
-    if let Err(fault) = send(output, b"fed ") {
+    if let Err(fault) = send(outbox, output, b"fed ") {
         return Err(fault);
     }
-    send_number(output, count)
+    send_number(outbox, output, count)
 }
 
 // Handles the messages that are whole, and writes what each is told, and then their number, or that the stream is bad.
 fn tell_messages<W: Write>(
     alloc: Global,
+    outbox: &mut Outbox,
     output: &mut Counted<W>,
     node: &mut Node,
 ) -> Result<(), RunFault>
     requires output { IsSoundWriter output.old }
     requires good { node.old.is_bad ≡ false }
-    ensures ok { OnOk result (SendsAll node.old node.new (W.contents output.old.inner) (W.contents output.new.inner)) }
+    ensures ok { OnOk result (SendsAll node.old node.new (sent W.contents outbox.old output.old) (sent W.contents outbox.new output.new)) }
+    ensures answered { OnOk result (outbox.new.is_answered ≡ true) }
     ensures sound { OnOk result (IsSoundWriter output.new) }
-    ensures part { OnErr result (SendsPart node.old (W.contents output.old.inner) (W.contents output.new.inner)) }
+    ensures part { OnErr result (SendsPart node.old (sent W.contents outbox.old output.old) (sent W.contents outbox.new output.new)) }
     ensures fault { IfErr result (λ e. e ≡ RunFault.Write) }
     ensures cause { OnErr result (output.new.failures ≡ 1) }
 {
@@ -92,11 +110,11 @@ fn tell_messages<W: Write>(
     'messages: loop {
         let reply = match node.next_reply() {
             Ok(Some(reply)) => reply,
-            Ok(None) => return send_fed(output, count),
-            Err(_) => return send(output, b"refused B1\n"),
+            Ok(None) => return send_fed(outbox, output, count),
+            Err(_) => return send(outbox, output, b"refused B1\n"),
         };
         let text = reply_text(alloc, reply);
-        if let Err(fault) = send(output, text.as_slice()) {
+        if let Err(fault) = send(outbox, output, text.as_slice()) {
             return Err(fault);
         }
         count += 1;
@@ -106,20 +124,22 @@ fn tell_messages<W: Write>(
 /// Feeds a node a piece of its delivery stream, and writes what its messages are told.
 pub(crate) fn feed_node<W: Write>(
     alloc: Global,
+    outbox: &mut Outbox,
     output: &mut Counted<W>,
     node: &mut Node,
     piece: &[u8],
 ) -> Result<(), RunFault>
     requires { IsSoundWriter output.old }
-    ensures ok { OnOk result (Feeds node.old piece.now node.new (W.contents output.old.inner) (W.contents output.new.inner)) }
+    ensures ok { OnOk result (Feeds node.old piece.now node.new (sent W.contents outbox.old output.old) (sent W.contents outbox.new output.new)) }
+    ensures answered { OnOk result (outbox.new.is_answered ≡ true) }
     ensures sound { OnOk result (IsSoundWriter output.new) }
-    ensures part { OnErr result (FeedsPart node.old piece.now (W.contents output.old.inner) (W.contents output.new.inner)) }
+    ensures part { OnErr result (FeedsPart node.old piece.now (sent W.contents outbox.old output.old) (sent W.contents outbox.new output.new)) }
     ensures fault { IfErr result (λ e. e ≡ RunFault.Write) }
     ensures cause { OnErr result (output.new.failures ≡ 1) }
 {
     match node.feed(piece) {
-        Ok(()) => tell_messages(alloc, output, node),
-        Err(PushFault::Bad) => send(output, b"refused B1\n"),
-        Err(PushFault::NoMemory) => send(output, b"no memory\n"),
+        Ok(()) => tell_messages(alloc, outbox, output, node),
+        Err(PushFault::Bad) => send(outbox, output, b"refused B1\n"),
+        Err(PushFault::NoMemory) => send(outbox, output, b"no memory\n"),
     }
 }

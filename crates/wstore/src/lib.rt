@@ -4,7 +4,8 @@
 //!   answers queries, and `run`, which reads a script of such commands to sixteen nodes and sixteen slots from any
 //!   reader and writes a reply to each.
 //! - Promises: what `run` has written is what the script's commands are answered, each by what its node was told
-//!   before it, itself, by its stream or through slots; at a fault it is a beginning of that. Nodes that know the same
+//!   before it, itself, by its stream or through slots; at a fault it is a beginning of that. Before the reader is
+//!   asked for more, all commands that it gave are answered and the replies written (`step`). Nodes that know the same
 //!   answer the same (`laws`). A node is what it knows, and a refused command changes nothing.
 //! - Asks: a reader and a writer that have counted nothing yet.
 //! - Leaves segments to `wsegment`, names to `wset`, files and streams to `wexchange`, lines to `wlines`.

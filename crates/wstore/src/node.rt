@@ -9,6 +9,7 @@ ghost use Rattle.wset.specs.Words.{retired_word, taken_word};
 ghost use Rattle.wset.specs.Listing.{listed};
 ghost use Rattle.wexchange.specs.Files.{file_of};
 ghost use Rattle.wexchange.specs.Judging.{IsFault};
+ghost use Rattle.wstore.specs.History.{MayNeedMemory};
 ghost use Rattle.wstore.specs.Nodes.{IsTold, LearnsFile, NextReply, fresh_node};
 ghost use Rattle.wask.specs.Answer.{IsAnswer};
 
@@ -54,6 +55,7 @@ impl Model for Node {
 }
 
 // Takes the segment of a message.
+#[tactic(auto, using(crate::proofs::Lacking::err_needs, crate::proofs::Lacking::on_err_needs))]
 fn take_message(set: &mut SegmentSet, name: Name, bytes: &[u8]) -> Reply
     ensures told { IsTold set.old.schema set.old.view (SegmentItem name bytes.now) result set.new.view }
     ensures schema { set.new.schema ≡ set.old.schema }
@@ -66,6 +68,7 @@ fn take_message(set: &mut SegmentSet, name: Name, bytes: &[u8]) -> Reply
 }
 
 // Retires the name of a message.
+#[tactic(auto, using(crate::proofs::Lacking::err_needs, crate::proofs::Lacking::on_err_needs))]
 fn retire_message(set: &mut SegmentSet, name: Name) -> Reply
     ensures told { IsTold set.old.schema set.old.view (RetirementItem name) result set.new.view }
     ensures schema { set.new.schema ≡ set.old.schema }
@@ -88,22 +91,26 @@ impl Node {
         }
     }
 
-    /// Takes a segment, as `SegmentSet::take` does.
+    /// Takes a segment, as `SegmentSet::take` does. One that is live with these bytes needs no memory.
+    #[tactic(auto, using(crate::proofs::Lacking::err_needs, crate::proofs::Lacking::on_err_needs))]
     pub fn take(&mut self, name: Name, bytes: &[u8]) -> Result<Taken, TakeError>
         ensures word { IfOk result (λ word. word ≡ taken_word (map.get self.old.view name) bytes.now) }
         ensures ok { OnOk result (self.new ≡ record self.old { view = join self.old.view (view_of_item (SegmentItem name bytes.now)) }) }
         ensures read { OnOk result (IsOk (rows_of self.old.schema bytes.now)) }
         ensures refused { IfErr result (λ fault. Fails fault (rows_of self.old.schema bytes.now)) }
         ensures err { OnErr result (self.new ≡ self.old) }
+        ensures lacks { OnErr result (MayNeedMemory self.old.view (SegmentItem name bytes.now)) }
     {
         self.set.take(name, bytes)
     }
 
-    /// Retires a name, as `SegmentSet::retire` does.
+    /// Retires a name, as `SegmentSet::retire` does. One that is retired needs no memory.
+    #[tactic(auto, using(crate::proofs::Lacking::err_needs, crate::proofs::Lacking::on_err_needs))]
     pub fn retire(&mut self, name: Name) -> Result<Retired, AllocError>
         ensures word { IfOk result (λ word. word ≡ retired_word (map.get self.old.view name)) }
         ensures ok { OnOk result (self.new ≡ record self.old { view = join self.old.view (view_of_item (RetirementItem name)) }) }
         ensures err { OnErr result (self.new ≡ self.old) }
+        ensures lacks { OnErr result (MayNeedMemory self.old.view (RetirementItem name)) }
     {
         self.set.retire(name)
     }

@@ -1,40 +1,50 @@
 //! Reads commands.
-ghost use Rattle.std.specs.Prelude.{ℕ, List, Option, Some, Ok, Err, [], ◌<◌, ◌≤◌, true, false, IfOk, OnOk, OnErr, OnSome};
+ghost use Rattle.std.specs.Prelude.{◌≡◌, ℕ, List, Option, Some, Ok, Err, [], ◌<◌, ◌≤◌, true, false, IfOk, IfErr, OnOk, OnSome};
 ghost use Rattle.std.specs.Io.KnownBytes.{Consumes};
-ghost use Rattle.wlines.specs.Pending.{left, budget, IsSound, ReadFailed};
+ghost use Rattle.wlines.specs.Failing.{HasFailed};
+ghost use Rattle.wlines.specs.Pending.{left, budget, IsSound, IsSoundWriter};
+ghost use Rattle.wlines.specs.Sent.{IsUsed, Says, sent};
 ghost use Rattle.wstore.specs.Requests.{BehindReads, FoundBehind, GoesOn, RequestReads, follows_declaration};
 
 use crate::header::{Header, read_header};
 use crate::numbers::NodeNumber;
 use crate::request::{Command, Found, Order, Refusal, Request};
 use std::alloc::Global;
-use std::io::Read;
-use wlines::{Body, Line, LineEnd, ReadFault, Source, read_body, read_line, skip_body};
+use std::io::{Read, Write};
+use wlines::{Body, Line, LineEnd, Outbox, ReadFault, Source, read_body, read_line, skip_body};
 use wvalues::{Counted, Name, NameFault};
 
 // Reads the body behind a header line: nothing is found where no such body stands there.
-fn read_found<R: Read>(
+#[tactic(auto, using(crate::proofs::Quiet::nothing_said))]
+fn read_found<R: Read, W: Write>(
     alloc: Global,
     source: &mut Source,
     input: &mut Counted<R>,
+    outbox: &mut Outbox,
+    output: &mut Counted<W>,
     header: &Header,
 ) -> Result<Option<Found>, ReadFault>
-    requires { IsSound input.old }
-    ensures sound { OnOk result (IsSound input.new) }
-    ensures reads { IfOk result (λ found. FoundBehind header.now found (left R.remaining source.old input.old) (left R.remaining source.new input.new)) }
-    ensures falls { IfOk result (λ found. OnSome found (budget source.new input.new ≤ budget source.old input.old)) }
-    ensures fault { OnErr result (ReadFailed input.new) }
+    requires input { IsSound input.old }
+    requires output { IsSoundWriter output.old }
+    requires used { IsUsed source.old }
+    ensures says { Says (sent W.contents outbox.old output.old) (sent W.contents outbox.new output.new) [] }
+    ensures input { OnOk result (IsSound input.new) }
+    ensures output { OnOk result (IsSoundWriter output.new) }
+    ensures used { OnOk result (IsUsed source.new) }
+    ensures reads { IfOk result (λ found. FoundBehind header.now found (left R.remaining source.old.held input.old) (left R.remaining source.new.held input.new)) }
+    ensures falls { IfOk result (λ found. OnSome found (budget source.new.held input.new ≤ budget source.old.held input.old)) }
+    ensures fault { IfErr result (λ fault. HasFailed fault input.new outbox.new output.new) }
 {
     let Some(len) = header.body_length() else {
         return Ok(Some(Found::Nothing));
     };
     if !header.keeps_body() {
-        if !skip_body(source, input, len as usize)? {
+        if !skip_body(source, input, outbox, output, len as usize)? {
             return Ok(None);
         }
         return Ok(Some(Found::Dropped));
     }
-    match read_body(alloc, source, input, len as usize)? {
+    match read_body(alloc, source, input, outbox, output, len as usize)? {
         Body::Whole(bytes) => Ok(Some(Found::Kept(bytes))),
         Body::NoMemory => Ok(Some(Found::NoMemory)),
         Body::Malformed => Ok(None),
@@ -142,44 +152,59 @@ fn request_of(header: Header, found: Found) -> Request
 }
 
 // Reads what stands behind a header line, the table being declared or not.
-#[tactic(auto, using(crate::proofs::Bodies::out_of_order, crate::proofs::Bodies::nothing_found))]
-fn read_behind<R: Read>(
+#[tactic(auto, using(crate::proofs::Bodies::out_of_order, crate::proofs::Bodies::nothing_found, crate::proofs::Quiet::nothing_said))]
+fn read_behind<R: Read, W: Write>(
     alloc: Global,
     source: &mut Source,
     input: &mut Counted<R>,
+    outbox: &mut Outbox,
+    output: &mut Counted<W>,
     declared: bool,
     header: Header,
 ) -> Result<Request, ReadFault>
-    requires { IsSound input.old }
-    ensures sound { OnOk result (IsSound input.new) }
-    ensures reads { IfOk result (λ request. BehindReads request header declared (left R.remaining source.old input.old) (left R.remaining source.new input.new)) }
-    ensures falls { IfOk result (λ request. GoesOn request → budget source.new input.new ≤ budget source.old input.old) }
-    ensures fault { OnErr result (ReadFailed input.new) }
+    requires input { IsSound input.old }
+    requires output { IsSoundWriter output.old }
+    requires used { IsUsed source.old }
+    ensures says { Says (sent W.contents outbox.old output.old) (sent W.contents outbox.new output.new) [] }
+    ensures input { OnOk result (IsSound input.new) }
+    ensures output { OnOk result (IsSoundWriter output.new) }
+    ensures used { OnOk result (IsUsed source.new) }
+    ensures reads { IfOk result (λ request. BehindReads request header declared (left R.remaining source.old.held input.old) (left R.remaining source.new.held input.new)) }
+    ensures falls { IfOk result (λ request. GoesOn request → budget source.new.held input.new ≤ budget source.old.held input.old) }
+    ensures fault { IfErr result (λ fault. HasFailed fault input.new outbox.new output.new) }
 {
     if header.follows_declaration() != declared {
         return Ok(Request::Malformed);
     }
-    let Some(found) = read_found(alloc, source, input, &header)? else {
+    let Some(found) = read_found(alloc, source, input, outbox, output, &header)? else {
         return Ok(Request::Malformed);
     };
     Ok(request_of(header, found))
 }
 
-/// Reads the command that stands next, the table being declared or not.
-pub(crate) fn read_command<R: Read>(
+/// Reads the command that stands next, the table being declared or not. The command before it is answered.
+#[tactic(auto, using(crate::proofs::Quiet::still_quiet))]
+pub(crate) fn read_command<R: Read, W: Write>(
     alloc: Global,
     source: &mut Source,
     input: &mut Counted<R>,
+    outbox: &mut Outbox,
+    output: &mut Counted<W>,
     declared: bool,
 ) -> Result<Request, ReadFault>
-    requires { IsSound input.old }
-    ensures sound { OnOk result (IsSound input.new) }
-    ensures reads { IfOk result (λ request. RequestReads request declared (left R.remaining source.old input.old) (left R.remaining source.new input.new)) }
-    ensures falls { IfOk result (λ request. GoesOn request → budget source.new input.new < budget source.old input.old) }
-    ensures fault { OnErr result (ReadFailed input.new) }
+    requires input { IsSound input.old }
+    requires output { IsSoundWriter output.old }
+    requires answered { outbox.old.is_answered ≡ true }
+    ensures says { Says (sent W.contents outbox.old output.old) (sent W.contents outbox.new output.new) [] }
+    ensures input { OnOk result (IsSound input.new) }
+    ensures output { OnOk result (IsSoundWriter output.new) }
+    ensures used { OnOk result (IsUsed source.new) }
+    ensures reads { IfOk result (λ request. RequestReads request declared (left R.remaining source.old.held input.old) (left R.remaining source.new.held input.new)) }
+    ensures falls { IfOk result (λ request. GoesOn request → budget source.new.held input.new < budget source.old.held input.old) }
+    ensures fault { IfErr result (λ fault. HasFailed fault input.new outbox.new output.new) }
 {
     let mut line = Line::new();
-    let end = read_line(source, input, &mut line)?;
+    let end = read_line(source, input, outbox, output, &mut line)?;
     match end {
         LineEnd::Closed => return Ok(Request::Closed),
         LineEnd::Malformed => return Ok(Request::Malformed),
@@ -188,6 +213,6 @@ pub(crate) fn read_command<R: Read>(
     let Some(header) = read_header(line.as_slice()) else {
         return Ok(Request::Malformed);
     };
-    let request = read_behind(alloc, source, input, declared, header)?;
+    let request = read_behind(alloc, source, input, outbox, output, declared, header)?;
     Ok(request)
 }

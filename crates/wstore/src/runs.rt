@@ -1,13 +1,14 @@
 //! Runs a script.
-ghost use Rattle.std.specs.Prelude.{false, ◌≡◌, ℕ, ◌<◌, ◌≤◌, length, take, List, Some, None, IfOk, IfErr, OnOk, OnErr, IfSome, IsNone, is_some, true};
+ghost use Rattle.std.specs.Prelude.{[], false, ◌≡◌, ℕ, ◌<◌, ◌≤◌, length, take, List, Some, None, IfOk, IfErr, OnOk, OnErr, IfSome, IsNone, is_some, true};
 ghost use Rattle.std.specs.Io.KnownBytes.{Appends};
 ghost use Rattle.wlines.specs.Pending.{left, budget, IsNew, IsSound, IsSoundWriter};
+ghost use Rattle.wlines.specs.Sent.{IsUsed, Says, sent};
 ghost use Rattle.wstore.specs.Commands.{Command as Spelled, Declare, IsAllowed, longest_text};
-ghost use Rattle.wstore.specs.Requests.{IsCommandOf, IsFeedOf, IsOrderAt, IsRefusedAs};
+ghost use Rattle.wstore.specs.Requests.{IsCommandOf, IsFeedOf, IsOrderAt, IsRefusedAs, GoesOn, RequestReads};
 ghost use Rattle.wstore.specs.History.{Step, is_declared};
 ghost use Rattle.wstore.specs.Runs.{Replies, RepliesBegun};
 ghost use Rattle.wstore.specs.Sessions.{Stands, MayStand};
-ghost use Rattle.wstore.specs.Steps.{HasCause, HasWriteCause, Answered, Unanswered, StepTells, StepFails};
+ghost use Rattle.wstore.specs.Steps.{HasCause, HasStepCause, HasWriteCause, Answered, Unanswered, StepTells, StepFails};
 
 use crate::numbers::NodeNumber;
 use crate::reading::read_command;
@@ -16,7 +17,7 @@ use crate::session::{Session, refuse};
 use std::alloc::Global;
 use std::io::{Read, Write};
 use thiserror::Error;
-use wlines::{Source, write_reply};
+use wlines::{Outbox, ReadFault, Source};
 use wvalues::Counted;
 
 /// How a run ended.
@@ -42,16 +43,21 @@ pub enum RunFault {
     NoMemory,
 }
 
-/// Writes a reply, or fails as a run does.
-pub(crate) fn send<W: Write>(output: &mut Counted<W>, reply: &[u8]) -> Result<(), RunFault>
+/// Says a reply, or fails as a run does.
+pub(crate) fn send<W: Write>(
+    outbox: &mut Outbox,
+    output: &mut Counted<W>,
+    reply: &[u8],
+) -> Result<(), RunFault>
     requires { IsSoundWriter output.old }
-    ensures ok { OnOk result (Appends (W.contents output.old.inner) (W.contents output.new.inner) reply.now) }
+    ensures ok { OnOk result (Says (sent W.contents outbox.old output.old) (sent W.contents outbox.new output.new) reply.now) }
+    ensures answered { OnOk result (outbox.new.is_answered ≡ true) }
     ensures sound { OnOk result (IsSoundWriter output.new) }
     ensures fault { IfErr result (λ e. e ≡ RunFault.Write) }
-    ensures front { OnErr result ((n : ℕ) × Appends (W.contents output.old.inner) (W.contents output.new.inner) (take n reply.now)) }
+    ensures front { OnErr result ((n : ℕ) × Says (sent W.contents outbox.old output.old) (sent W.contents outbox.new output.new) (take n reply.now)) }
     ensures cause { OnErr result (output.new.failures ≡ 1) }
 {
-    match write_reply(output, reply) {
+    match outbox.say(output, reply) {
         Ok(()) => Ok(()),
         Err(_) => Err(RunFault::Write),
     }
@@ -59,20 +65,22 @@ pub(crate) fn send<W: Write>(output: &mut Counted<W>, reply: &[u8]) -> Result<()
 
 /// Declares the table, and writes the reply. A declaration over its limit is refused as it is read, without memory.
 fn declare<W: Write>(
+    outbox: &mut Outbox,
     output: &mut Counted<W>,
     session: &mut Session,
     bytes: &[u8],
 ) -> Result<(), RunFault>
     requires { IsSoundWriter output.old }
-    ensures ok { OnOk result ((h : List Step) → is_declared h ≡ false → Stands session.old h → Answered session.new h (Declare bytes.now) (W.contents output.old.inner) (W.contents output.new.inner)) }
+    ensures ok { OnOk result ((h : List Step) → is_declared h ≡ false → Stands session.old h → Answered session.new h (Declare bytes.now) (sent W.contents outbox.old output.old) (sent W.contents outbox.new output.new)) }
+    ensures answered { OnOk result (outbox.new.is_answered ≡ true) }
     ensures sound { OnOk result (IsSoundWriter output.new) }
-    ensures part { IfErr result (λ fault. (h : List Step) → length bytes.now ≤ longest_text → is_declared h ≡ false → Stands session.old h → Unanswered fault h (Declare bytes.now) (W.contents output.old.inner) (W.contents output.new.inner)) }
+    ensures part { IfErr result (λ fault. (h : List Step) → length bytes.now ≤ longest_text → is_declared h ≡ false → Stands session.old h → Unanswered fault h (Declare bytes.now) (sent W.contents outbox.old output.old) (sent W.contents outbox.new output.new)) }
     ensures cause { IfErr result (λ e. HasWriteCause e output.new) }
 {
     let Ok(text) = session.declare(bytes) else {
         return Err(RunFault::NoMemory);
     };
-    if let Err(fault) = send(output, text.as_slice()) {
+    if let Err(fault) = send(outbox, output, text.as_slice()) {
         return Err(fault);
     }
     Ok(())
@@ -80,6 +88,7 @@ fn declare<W: Write>(
 
 /// Speaks to a node, and writes the reply.
 fn speak<W: Write>(
+    outbox: &mut Outbox,
     output: &mut Counted<W>,
     session: &mut Session,
     node: NodeNumber,
@@ -87,13 +96,14 @@ fn speak<W: Write>(
 ) -> Result<(), RunFault>
     requires output { IsSoundWriter output.old }
     requires declared { is_some session.old.cluster ≡ true }
-    ensures ok { OnOk result ((h : List Step) (c : Spelled) → IsOrderAt node order.now c → Stands session.old h → Answered session.new h c (W.contents output.old.inner) (W.contents output.new.inner)) }
+    ensures ok { OnOk result ((h : List Step) (c : Spelled) → IsOrderAt node order.now c → Stands session.old h → Answered session.new h c (sent W.contents outbox.old output.old) (sent W.contents outbox.new output.new)) }
+    ensures answered { OnOk result (outbox.new.is_answered ≡ true) }
     ensures sound { OnOk result (IsSoundWriter output.new) }
-    ensures part { IfErr result (λ fault. (h : List Step) (c : Spelled) → IsOrderAt node order.now c → Stands session.old h → Unanswered fault h c (W.contents output.old.inner) (W.contents output.new.inner)) }
+    ensures part { IfErr result (λ fault. (h : List Step) (c : Spelled) → IsOrderAt node order.now c → Stands session.old h → Unanswered fault h c (sent W.contents outbox.old output.old) (sent W.contents outbox.new output.new)) }
     ensures cause { IfErr result (λ e. HasWriteCause e output.new) }
 {
     let text = session.reply(node, order);
-    if let Err(fault) = send(output, text.as_slice()) {
+    if let Err(fault) = send(outbox, output, text.as_slice()) {
         return Err(fault);
     }
     Ok(())
@@ -101,6 +111,7 @@ fn speak<W: Write>(
 
 /// Feeds a node, and writes the reply.
 fn feed<W: Write>(
+    outbox: &mut Outbox,
     output: &mut Counted<W>,
     session: &mut Session,
     node: NodeNumber,
@@ -108,26 +119,32 @@ fn feed<W: Write>(
 ) -> Result<(), RunFault>
     requires output { IsSoundWriter output.old }
     requires declared { is_some session.old.cluster ≡ true }
-    ensures ok { OnOk result ((h : List Step) (c : Spelled) → IsFeedOf node piece.now c → Stands session.old h → Answered session.new h c (W.contents output.old.inner) (W.contents output.new.inner)) }
+    ensures ok { OnOk result ((h : List Step) (c : Spelled) → IsFeedOf node piece.now c → Stands session.old h → Answered session.new h c (sent W.contents outbox.old output.old) (sent W.contents outbox.new output.new)) }
+    ensures answered { OnOk result (outbox.new.is_answered ≡ true) }
     ensures sound { OnOk result (IsSoundWriter output.new) }
-    ensures part { IfErr result (λ fault. (h : List Step) (c : Spelled) → IsFeedOf node piece.now c → Stands session.old h → Unanswered fault h c (W.contents output.old.inner) (W.contents output.new.inner)) }
+    ensures part { IfErr result (λ fault. (h : List Step) (c : Spelled) → IsFeedOf node piece.now c → Stands session.old h → Unanswered fault h c (sent W.contents outbox.old output.old) (sent W.contents outbox.new output.new)) }
     ensures cause { IfErr result (λ e. HasWriteCause e output.new) }
 {
-    if let Err(fault) = session.feed(output, node, piece) {
+    if let Err(fault) = session.feed(outbox, output, node, piece) {
         return Err(fault);
     }
     Ok(())
 }
 
 /// Writes the refusal of a command whose form alone refuses it.
-fn turn_down<W: Write>(output: &mut Counted<W>, refusal: Refusal) -> Result<(), RunFault>
+fn turn_down<W: Write>(
+    outbox: &mut Outbox,
+    output: &mut Counted<W>,
+    refusal: Refusal,
+) -> Result<(), RunFault>
     requires { IsSoundWriter output.old }
-    ensures ok { OnOk result ((session : Session) (h : List Step) (c : Spelled) → IsRefusedAs refusal c → IsAllowed (is_declared h) c → Stands session h → Answered session h c (W.contents output.old.inner) (W.contents output.new.inner)) }
+    ensures ok { OnOk result ((session : Session) (h : List Step) (c : Spelled) → IsRefusedAs refusal c → IsAllowed (is_declared h) c → Stands session h → Answered session h c (sent W.contents outbox.old output.old) (sent W.contents outbox.new output.new)) }
+    ensures answered { OnOk result (outbox.new.is_answered ≡ true) }
     ensures sound { OnOk result (IsSoundWriter output.new) }
-    ensures part { IfErr result (λ fault. (session : Session) (h : List Step) (c : Spelled) → IsRefusedAs refusal c → IsAllowed (is_declared h) c → Stands session h → Unanswered fault h c (W.contents output.old.inner) (W.contents output.new.inner)) }
+    ensures part { IfErr result (λ fault. (session : Session) (h : List Step) (c : Spelled) → IsRefusedAs refusal c → IsAllowed (is_declared h) c → Stands session h → Unanswered fault h c (sent W.contents outbox.old output.old) (sent W.contents outbox.new output.new)) }
     ensures cause { IfErr result (λ e. HasWriteCause e output.new) }
 {
-    if let Err(fault) = send(output, refuse(refusal)) {
+    if let Err(fault) = send(outbox, output, refuse(refusal)) {
         return Err(fault);
     }
     Ok(())
@@ -135,61 +152,141 @@ fn turn_down<W: Write>(output: &mut Counted<W>, refusal: Refusal) -> Result<(), 
 
 /// Answers a command, and writes the reply.
 fn answer_command<W: Write>(
+    outbox: &mut Outbox,
     output: &mut Counted<W>,
     session: &mut Session,
     command: &Command,
 ) -> Result<(), RunFault>
     requires output { IsSoundWriter output.old }
     requires suits { MayStand session.old command.now }
-    ensures ok { OnOk result ((h : List Step) (c : Spelled) → IsCommandOf command.now c → IsAllowed (is_declared h) c → Stands session.old h → Answered session.new h c (W.contents output.old.inner) (W.contents output.new.inner)) }
+    ensures ok { OnOk result ((h : List Step) (c : Spelled) → IsCommandOf command.now c → IsAllowed (is_declared h) c → Stands session.old h → Answered session.new h c (sent W.contents outbox.old output.old) (sent W.contents outbox.new output.new)) }
+    ensures answered { OnOk result (outbox.new.is_answered ≡ true) }
     ensures sound { OnOk result (IsSoundWriter output.new) }
-    ensures part { IfErr result (λ fault. (h : List Step) (c : Spelled) → IsCommandOf command.now c → IsAllowed (is_declared h) c → Stands session.old h → Unanswered fault h c (W.contents output.old.inner) (W.contents output.new.inner)) }
+    ensures part { IfErr result (λ fault. (h : List Step) (c : Spelled) → IsCommandOf command.now c → IsAllowed (is_declared h) c → Stands session.old h → Unanswered fault h c (sent W.contents outbox.old output.old) (sent W.contents outbox.new output.new)) }
     ensures cause { IfErr result (λ e. HasWriteCause e output.new) }
 {
     match command {
-        Command::Declare(bytes) => declare(output, session, bytes),
-        Command::Refused(refusal) => turn_down(output, *refusal),
-        Command::At(node, order) => speak(output, session, *node, order),
-        Command::Feed(node, piece) => feed(output, session, *node, piece),
+        Command::Declare(bytes) => declare(outbox, output, session, bytes),
+        Command::Refused(refusal) => turn_down(outbox, output, *refusal),
+        Command::At(node, order) => speak(outbox, output, session, *node, order),
+        Command::Feed(node, piece) => feed(outbox, output, session, *node, piece),
     }
 }
 
-/// Reads the next command, answers it, and writes the reply.
+/// Reads the next command, or fails as a run does. The command before it is answered.
+#[tactic(auto, using(crate::proofs::Stepping::read_fails, crate::proofs::Stepping::write_fails))]
+fn next_request<R: Read, W: Write>(
+    alloc: Global,
+    source: &mut Source,
+    input: &mut Counted<R>,
+    outbox: &mut Outbox,
+    output: &mut Counted<W>,
+    declared: bool,
+) -> Result<Request, RunFault>
+    requires input { IsSound input.old }
+    requires output { IsSoundWriter output.old }
+    requires answered { outbox.old.is_answered ≡ true }
+    ensures says { Says (sent W.contents outbox.old output.old) (sent W.contents outbox.new output.new) [] }
+    ensures input { OnOk result (IsSound input.new) }
+    ensures output { OnOk result (IsSoundWriter output.new) }
+    ensures used { OnOk result (IsUsed source.new) }
+    ensures reads { IfOk result (λ request. RequestReads request declared (left R.remaining source.old.held input.old) (left R.remaining source.new.held input.new)) }
+    ensures falls { IfOk result (λ request. GoesOn request → budget source.new.held input.new < budget source.old.held input.old) }
+    ensures fails { IfErr result (λ fault. (h : List Step) → StepFails fault h (left R.remaining source.old.held input.old) (sent W.contents outbox.old output.old) (sent W.contents outbox.new output.new)) }
+    ensures cause { IfErr result (λ e. HasStepCause e input.new outbox.new output.new) }
+{
+    match read_command(alloc, source, input, outbox, output, declared) {
+        Ok(request) => Ok(request),
+        Err(ReadFault::Reader) => Err(RunFault::Read),
+        Err(ReadFault::Writer) => Err(RunFault::Write),
+    }
+}
+
+/// Reads the next command, answers it, and says the reply. Nothing is read that the command does not need.
 fn step<R: Read, W: Write>(
     alloc: Global,
     source: &mut Source,
     input: &mut Counted<R>,
+    outbox: &mut Outbox,
     output: &mut Counted<W>,
     session: &mut Session,
 ) -> Result<Option<End>, RunFault>
     requires input { IsSound input.old }
     requires output { IsSoundWriter output.old }
-    ensures tells { IfOk result (λ end. (h : List Step) → Stands session.old h → StepTells end session.new h (left R.remaining source.old input.old) (left R.remaining source.new input.new) (W.contents output.old.inner) (W.contents output.new.inner)) }
+    requires answered { outbox.old.is_answered ≡ true }
+    ensures tells { IfOk result (λ end. (h : List Step) → Stands session.old h → StepTells end session.new h (left R.remaining source.old.held input.old) (left R.remaining source.new.held input.new) (sent W.contents outbox.old output.old) (sent W.contents outbox.new output.new)) }
+    ensures answered { IfOk result (λ end. IsNone end → outbox.new.is_answered ≡ true) }
+    ensures used { OnOk result (IsUsed source.new) }
     ensures input { OnOk result (IsSound input.new) }
     ensures output { OnOk result (IsSoundWriter output.new) }
-    ensures falls { IfOk result (λ end. IsNone end → budget source.new input.new < budget source.old input.old) }
-    ensures fails { IfErr result (λ fault. (h : List Step) → Stands session.old h → StepFails fault h (left R.remaining source.old input.old) (W.contents output.old.inner) (W.contents output.new.inner)) }
-    ensures cause { IfErr result (λ e. HasCause e input.new output.new) }
+    ensures falls { IfOk result (λ end. IsNone end → budget source.new.held input.new < budget source.old.held input.old) }
+    ensures fails { IfErr result (λ fault. (h : List Step) → Stands session.old h → StepFails fault h (left R.remaining source.old.held input.old) (sent W.contents outbox.old output.old) (sent W.contents outbox.new output.new)) }
+    ensures cause { IfErr result (λ e. HasStepCause e input.new outbox.new output.new) }
 {
-    let Ok(request) = read_command(alloc, source, input, session.is_declared()) else {
-        return Err(RunFault::Read);
+    let declared = session.is_declared();
+    let request = match next_request(alloc, source, input, outbox, output, declared) {
+        Ok(request) => request,
+        Err(fault) => return Err(fault),
     };
     match request {
         Request::Closed => Ok(Some(End::Done)),
         Request::Malformed => {
-            send(output, b"bad script\n")?;
+            send(outbox, output, b"bad script\n")?;
             Ok(Some(End::Bad))
         }
         Request::NoRoom => Err(RunFault::NoMemory),
         Request::NoMemory => {
-            send(output, b"no memory\n")?;
+            send(outbox, output, b"no memory\n")?;
             Ok(None)
         }
         Request::Whole(command) => {
-            answer_command(output, session, &command)?;
+            answer_command(outbox, output, session, &command)?;
             Ok(None)
         }
     }
+}
+
+/// Reads the commands of a script, and says a reply to each.
+fn answer_all<R: Read, W: Write>(
+    alloc: Global,
+    source: &mut Source,
+    input: &mut Counted<R>,
+    outbox: &mut Outbox,
+    output: &mut Counted<W>,
+) -> Result<End, RunFault>
+    requires input { IsSound input.old }
+    requires output { IsSoundWriter output.old }
+    requires answered { outbox.old.is_answered ≡ true }
+    ensures replies { IfOk result (λ end. IfSome (left R.remaining source.old.held input.old) (λ bytes.
+        (written : List ℕ) × Says (sent W.contents outbox.old output.old) (sent W.contents outbox.new output.new) written × Replies end bytes written)) }
+    ensures begun { IfErr result (λ fault. IfSome (left R.remaining source.old.held input.old) (λ bytes.
+        (written : List ℕ) × Says (sent W.contents outbox.old output.old) (sent W.contents outbox.new output.new) written × RepliesBegun fault input.new.reads bytes written)) }
+    ensures sound { OnOk result (IsSound input.new × IsSoundWriter output.new) }
+    ensures cause { IfErr result (λ fault. HasStepCause fault input.new outbox.new output.new) }
+{
+    let mut session = Session::new(alloc);
+    'commands: loop {
+        match step(alloc, source, input, outbox, output, &mut session) {
+            Ok(None) => {}
+            Ok(Some(end)) => return Ok(end),
+            Err(fault) => return Err(fault),
+        }
+    }
+}
+
+/// Writes what waits, or fails as a run does.
+fn write_rest<W: Write>(outbox: &mut Outbox, output: &mut Counted<W>) -> Result<(), RunFault>
+    requires { IsSoundWriter output.old }
+    ensures says { Says (sent W.contents outbox.old output.old) (sent W.contents outbox.new output.new) [] }
+    ensures ok { OnOk result (outbox.new.bytes ≡ []) }
+    ensures sound { OnOk result (IsSoundWriter output.new) }
+    ensures fault { IfErr result (λ e. e ≡ RunFault.Write) }
+    ensures cause { OnErr result (output.new.failures ≡ 1) }
+{
+    if outbox.flush(output).is_err() {
+        return Err(RunFault::Write);
+    }
+    Ok(())
 }
 
 /// Runs a script: reads its commands, and writes a reply to each.
@@ -215,12 +312,24 @@ pub fn run<R: Read, W: Write>(
     let Ok(mut source) = Source::new(alloc) else {
         return Err(RunFault::NoMemory);
     };
-    let mut session = Session::new(alloc);
-    'commands: loop {
-        match step(alloc, &mut source, input, output, &mut session) {
-            Ok(None) => {}
-            Ok(Some(end)) => return Ok(end),
-            Err(fault) => return Err(fault),
+    let Ok(mut outbox) = Outbox::new(alloc) else {
+        return Err(RunFault::NoMemory);
+    };
+    match answer_all(alloc, &mut source, input, &mut outbox, output) {
+        Ok(end) => {
+            if let Err(fault) = write_rest(&mut outbox, output) {
+                return Err(fault);
+            }
+            Ok(end)
         }
+        Err(RunFault::NoMemory) => {
+            if let Err(fault) = write_rest(&mut outbox, output) {
+                return Err(fault);
+            }
+            Err(RunFault::NoMemory)
+        }
+        // What waited was written before the reader failed, and cannot be after the writer did.
+        Err(RunFault::Read) => Err(RunFault::Read),
+        Err(RunFault::Write) => Err(RunFault::Write),
     }
 }

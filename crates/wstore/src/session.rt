@@ -5,6 +5,7 @@ ghost use Rattle.wstore.specs.Requests.{IsOrderAt, IsRefusedAs, refusal_text};
 ghost use Rattle.wstore.specs.History.{Step, MayLackMemory, is_declared};
 ghost use Rattle.wreplies.specs.Texts.{bytes_of};
 ghost use Rattle.wlines.specs.Pending.{IsSoundWriter};
+ghost use Rattle.wlines.specs.Sent.{sent};
 ghost use Rattle.wstore.specs.Sessions.{Stands, Tells};
 ghost use Rattle.wstore.specs.Steps.{Answered, FedPart};
 
@@ -14,6 +15,7 @@ use crate::request::{Order, Refusal};
 use crate::runs::RunFault;
 use std::alloc::{AllocError, Global};
 use std::io::Write;
+use wlines::Outbox;
 use wreplies::{Text, refused_name, refused_table};
 use wsegment::{Schema, SchemaFault};
 use wvalues::Counted;
@@ -79,22 +81,24 @@ impl Session {
     /// Feeds a node, and writes what its messages are told.
     pub(crate) fn feed<W: Write>(
         &mut self,
+        outbox: &mut Outbox,
         output: &mut Counted<W>,
         node: NodeNumber,
         piece: &[u8],
     ) -> Result<(), RunFault>
         requires output { IsSoundWriter output.old }
         requires declared { is_some self.old.cluster ≡ true }
-        ensures ok { OnOk result ((h : List Step) → Stands self.old h → Answered self.new h (Feed node piece.now) (W.contents output.old.inner) (W.contents output.new.inner)) }
+        ensures ok { OnOk result ((h : List Step) → Stands self.old h → Answered self.new h (Feed node piece.now) (sent W.contents outbox.old output.old) (sent W.contents outbox.new output.new)) }
+        ensures answered { OnOk result (outbox.new.is_answered ≡ true) }
         ensures sound { OnOk result (IsSoundWriter output.new) }
-        ensures part { OnErr result ((h : List Step) → Stands self.old h → FedPart h node piece.now (W.contents output.old.inner) (W.contents output.new.inner)) }
+        ensures part { OnErr result ((h : List Step) → Stands self.old h → FedPart h node piece.now (sent W.contents outbox.old output.old) (sent W.contents outbox.new output.new)) }
         ensures fault { IfErr result (λ e. e ≡ RunFault.Write) }
         ensures cause { OnErr result (output.new.failures ≡ 1) }
     {
         let Some(cluster) = &mut self.cluster else {
             unreachable!()
         };
-        cluster.feed(output, node, piece)
+        cluster.feed(outbox, output, node, piece)
     }
 
     /// The reply of a node, which may be that it finds no memory, where the command needs some.

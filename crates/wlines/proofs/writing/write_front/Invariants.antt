@@ -1,14 +1,14 @@
 use Rattle.std.proofs.Common.{◌-◌, ◌≤◌, length, take}
 use Rattle.std.specs.Io.KnownBytes.{Appends}
 use Rattle.wlines.specs.Pending.{IsSoundWriter}
-use Rattle.wlines.proofs.writing.write_reply.Given as goal
+use Rattle.wlines.proofs.writing.write_front.Given as goal
 
 abbrev pub invariant-loop-written : goal.invariant-loop-written
 invariant-loop-written g l = record {
-  within : l.written ≤ length l.reply;
+  within : l.written ≤ length l.bytes;
   sound : IsSoundWriter l.output;
-  appended : Appends (g.W.Write.contents l.initial.output.inner) (g.W.Write.contents l.output.inner) (take l.written l.reply);
+  appended : Appends (g.W.Write.contents l.initial.output.inner) (g.W.Write.contents l.output.inner) (take l.written l.bytes);
 }
 
 abbrev pub decreases-loop-written : goal.decreases-loop-written
-decreases-loop-written g l = length l.reply - l.written
+decreases-loop-written g l = length l.bytes - l.written

@@ -3,11 +3,11 @@ use Rattle.std.specs.Io.KnownBytes.{Appends}
 use Rattle.std.proofs.KnownBytes.{Appends-trans}
 use Rattle.std.proofs.Math.Seq.{take-add}
 use Rattle.wlines.proofs.Cuts.{take_rest}
-use Rattle.wlines.proofs.writing.write_reply.Goals as goal
+use Rattle.wlines.proofs.writing.write_front.Goals as goal
 
 pub loop-written-preserved : goal.loop-written-preserved
 loop-written-preserved g c =
-    let xs = c.args.reply.now in
+    let xs = c.args.bytes.now in
     let w = c.loop-written.written in
     let n = c.in-Ok.count in
     let piece = take (length xs - w) (drop w xs) in
