@@ -5,9 +5,9 @@ ghost use Rattle.wsegment.specs.Declaration.{Declaration};
 ghost use Rattle.wquery.specs.QueryTree.{view_query, view_source};
 ghost use Rattle.wscope.specs.Scope.{clauses_of};
 ghost use Rattle.wscope.specs.Sources.{all_titled, answered, origin_of};
-ghost use Rattle.wscope.specs.Windows.{named_windows};
 ghost use Rattle.wnames.specs.Indexes.{IsIndexOf};
 ghost use Rattle.wnames.specs.Names.{source_of};
+ghost use Rattle.wwindows.specs.Earlier.{windows_in};
 ghost use Rattle.wwindows.specs.Windows.{windows_of};
 ghost use Rattle.wrules.specs.Rules.{least_broken, first_of_names as first_on_names, first_of_windows as first_on_windows, least_source, depth, source_depth, first_broken_rule as least_rule};
 ghost use Rattle.wrules.specs.Judging.{JudgesQuery, JudgesSource};
@@ -20,11 +20,11 @@ use wnames::{
     names_unknown_table,
 };
 use wquery::{Query, Source};
-use wscope::{FullEntry, SourceColumn, declared_columns, output_columns, settle_all};
+use wscope::{SourceColumn, declared_columns, output_columns};
 use wsegment::Schema;
 use wwindows::{
-    bounds_wrongly, copies_wrongly, exceeds_limits, has_unordered_groups, has_wrong_place,
-    has_wrong_range_key, names_unknown_window, repeats_windows,
+    WindowIndex, bounds_wrongly, copies_wrongly, exceeds_limits, has_unordered_groups,
+    has_wrong_place, has_wrong_range_key, names_unknown_window, repeats_windows,
 };
 
 /// What judging a query, or the source of one, has found.
@@ -79,8 +79,8 @@ fn first_of_names<'a>(
 
 /// The first rule that is broken of those on windows, places and limits.
 #[tactic(auto, unfolding(wquery::specs::QueryTree::view_query))]
-fn first_of_windows(windows: &[FullEntry], columns: &[SourceColumn], query: &Query) -> Option<Rule>
-    ensures { result ≡ first_on_windows (named_windows windows.now) (all_titled columns.now) (clauses_of (view_query query.now)) }
+fn first_of_windows(windows: &WindowIndex, columns: &[SourceColumn], query: &Query) -> Option<Rule>
+    ensures { result ≡ first_on_windows (windows_in windows.now) (all_titled columns.now) (clauses_of (view_query query.now)) }
 {
     if names_unknown_window(windows, columns, query) {
         return Some(Rule::UnknownWindow);
@@ -113,10 +113,10 @@ fn first_of_windows(windows: &[FullEntry], columns: &[SourceColumn], query: &Que
 }
 
 #[tactic(auto, unfolding(wquery::specs::QueryTree::view_query))]
-fn settled_windows<'a>(alloc: Global, query: &'a Query) -> Result<Vec<FullEntry<'a>>, AllocError>
-    ensures { IfOk result (λ windows. named_windows windows.items ≡ windows_of (clauses_of (view_query query.now))) }
+fn settled_windows<'a>(alloc: Global, query: &'a Query) -> Result<WindowIndex<'a>, AllocError>
+    ensures { IfOk result (λ windows. windows_in windows ≡ windows_of (clauses_of (view_query query.now))) }
 {
-    settle_all(alloc, query.windows.as_slice())
+    WindowIndex::new(alloc, query.windows.as_slice())
 }
 
 /// The first rule that is broken of those on windows, places and limits, with what the windows copy.
@@ -128,7 +128,7 @@ fn windows_rule(
     ensures { IfOk result (λ rule. rule ≡ first_on_windows (windows_of (clauses_of (view_query query.now))) (all_titled columns.now) (clauses_of (view_query query.now))) }
 {
     let windows = settled_windows(alloc, query)?;
-    Ok(first_of_windows(windows.as_slice(), columns, query))
+    Ok(first_of_windows(&windows, columns, query))
 }
 
 /// The first rule that is broken of those on names, calls, types and groups, with the names found by an index.

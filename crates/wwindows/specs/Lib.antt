@@ -1,3 +1,5 @@
 pub mod Windows
 pub mod Order
 pub mod Limits
+pub mod Indexes
+pub mod Earlier

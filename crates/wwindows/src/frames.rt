@@ -7,13 +7,14 @@ ghost use Rattle.wsame.specs.Bounds.{end_of};
 ghost use Rattle.wscope.specs.Scope.{clauses_of};
 ghost use Rattle.wscope.specs.Sources.{all_titled};
 ghost use Rattle.wscope.specs.Types.{type_of as type_in};
-ghost use Rattle.wscope.specs.Windows.{named_windows};
+ghost use Rattle.wwindows.specs.Earlier.{windows_in};
 ghost use Rattle.wwindows.specs.Windows.{is_long as is_long_bound, is_offset as is_offset_bound, has_bad_bounds as are_bad_bounds, has_bad_frame, lacks_groups, is_groups, is_range, is_text_type as is_type_of_texts, has_range_key as is_range_key, lacks_range_key, breaks_bounds, breaks_groups, breaks_ranges};
 
+use crate::window_index::WindowIndex;
 use crate::windows::{WindowTest, any_window, is_unordered};
 use wquery::{Frame, FrameBound, FrameMode, Key, Query};
 use wsame::{bound_place, frame_end};
-use wscope::{DataType, FullEntry, FullWindow, SourceColumn, type_of};
+use wscope::{DataType, FullWindow, SourceColumn, type_of};
 
 fn is_long(bound: &FrameBound) -> bool
     ensures { result ≡ is_long_bound bound.now }
@@ -64,8 +65,8 @@ impl WindowTest for BadBounds {
 }
 
 /// Q22.
-pub fn bounds_wrongly(windows: &[FullEntry], columns: &[SourceColumn], query: &Query) -> bool
-    ensures { result ≡ breaks_bounds (named_windows windows.now) (all_titled columns.now) (clauses_of (view_query query.now)) }
+pub fn bounds_wrongly(windows: &WindowIndex, columns: &[SourceColumn], query: &Query) -> bool
+    ensures { result ≡ breaks_bounds (windows_in windows.now) (all_titled columns.now) (clauses_of (view_query query.now)) }
 {
     any_window(&BadBounds, windows, columns, query)
 }
@@ -92,8 +93,8 @@ impl WindowTest for UnorderedGroups {
 }
 
 /// Q23.
-pub fn has_unordered_groups(windows: &[FullEntry], columns: &[SourceColumn], query: &Query) -> bool
-    ensures { result ≡ breaks_groups (named_windows windows.now) (all_titled columns.now) (clauses_of (view_query query.now)) }
+pub fn has_unordered_groups(windows: &WindowIndex, columns: &[SourceColumn], query: &Query) -> bool
+    ensures { result ≡ breaks_groups (windows_in windows.now) (all_titled columns.now) (clauses_of (view_query query.now)) }
 {
     any_window(&UnorderedGroups, windows, columns, query)
 }
@@ -154,8 +155,8 @@ impl<'a> WindowTest for WrongRangeKey<'a> {
 }
 
 /// Q24.
-pub fn has_wrong_range_key(windows: &[FullEntry], columns: &[SourceColumn], query: &Query) -> bool
-    ensures { result ≡ breaks_ranges (named_windows windows.now) (all_titled columns.now) (clauses_of (view_query query.now)) }
+pub fn has_wrong_range_key(windows: &WindowIndex, columns: &[SourceColumn], query: &Query) -> bool
+    ensures { result ≡ breaks_ranges (windows_in windows.now) (all_titled columns.now) (clauses_of (view_query query.now)) }
 {
     any_window(&WrongRangeKey { columns }, windows, columns, query)
 }

@@ -6,15 +6,16 @@ ghost use Rattle.wquery.specs.Tree.{Reach, keys, view_keys, trees, views, view_w
 ghost use Rattle.wquery.specs.QueryTree.{view_query, view_entry};
 ghost use Rattle.wscope.specs.Scope.{clauses_of, some_anywhere};
 ghost use Rattle.wscope.specs.Sources.{all_titled};
-ghost use Rattle.wscope.specs.Windows.{Settled, window_named, or_none, named_windows, settled_window, lent_frame};
+ghost use Rattle.wscope.specs.Windows.{Settled, window_named, or_none, named_windows, settled_window, settle_tree, lent_frame};
 ghost use Rattle.wscope.specs.Finding.{finds};
+ghost use Rattle.wwindows.specs.Earlier.{seen, windows_in};
 ghost use Rattle.wwindows.specs.Windows.{reach_is, some_entry_after, is_unknown_window as is_no_window, copies_unknown as copies_no_window, is_over_unknown as is_over_no_window, has_entry_name, breaks_entries, is_bad_copy as is_wrong_copy, copies_badly as is_copied_wrongly, is_over_bad_copy as is_over_wrong_copy, own_window_is, entry_is, has_keys, has_trees, some_window, breaks_window_names, breaks_copies};
 
+use crate::earlier::Earlier;
+use crate::finding::{find, find_copied, settle_over};
+use crate::window_index::WindowIndex;
 use wquery::{Expression, Frame, Key, Over, Query, Window, WindowEntry};
-use wscope::{
-    FullEntry, FullWindow, Look, NodeTest, SourceColumn, any_anywhere, find_window, found_if,
-    settle,
-};
+use wscope::{FullEntry, FullWindow, Look, NodeTest, SourceColumn, any_anywhere, found_if};
 
 /// A test of what stands behind OVER.
 pub(crate) trait ReachTest {
@@ -51,25 +52,24 @@ pub(crate) fn any_over<T: ReachTest>(test: &T, columns: &[SourceColumn], query: 
 }
 
 /// The windows of the entries before a place.
-fn before<'a, 'b>(windows: &'b [FullEntry<'a>], place: usize) -> &'b [FullEntry<'a>]
-    ensures { named_windows result.now ≡ take place (named_windows windows.now) }
+fn before<'a, 'b>(windows: &'b WindowIndex<'a>, place: usize) -> Earlier<'a, 'b>
+    ensures { seen result ≡ take place (windows_in windows.now) }
 {
-    if place < windows.len() {
-        &windows[..place]
-    } else {
-        windows
+    Earlier {
+        index: windows,
+        before: Some(place),
     }
 }
 
-fn is_unknown_window(windows: &[FullEntry], name: &str) -> bool
-    ensures { result ≡ is_no_window (named_windows windows.now) (Some name.now) }
+fn is_unknown_window(windows: Earlier, name: &str) -> bool
+    ensures { result ≡ is_no_window (seen windows.entry) (Some name.now) }
 {
-    find_window(windows, name).is_none()
+    find(windows, name).is_none()
 }
 
 #[tactic(auto, unfolding(wquery::specs::Tree::view_window))]
-fn copies_unknown(windows: &[FullEntry], window: &Window) -> bool
-    ensures { result ≡ copies_no_window (named_windows windows.now) (view_window window.now) }
+fn copies_unknown(windows: Earlier, window: &Window) -> bool
+    ensures { result ≡ copies_no_window (seen windows.entry) (view_window window.now) }
 {
     match &window.copied {
         None => false,
@@ -79,12 +79,12 @@ fn copies_unknown(windows: &[FullEntry], window: &Window) -> bool
 
 /// A window name that no entry has.
 #[derive(Drop)]
-struct UnknownWindow<'a> {
-    windows: &'a [FullEntry<'a>],
+struct UnknownWindow<'a, 'b> {
+    windows: Earlier<'a, 'b>,
 }
 
-impl<'a> ReachTest for UnknownWindow<'a> {
-    ghost holds = { λ u. is_over_no_window (named_windows u.windows.now) };
+impl<'a, 'b> ReachTest for UnknownWindow<'a, 'b> {
+    ghost holds = { λ u. is_over_no_window (seen u.windows) };
 
     #[tactic(auto, unfolding(wquery::specs::Tree::view_over, wquery::specs::Tree::view_window))]
     fn is_hit(&self, over: &Option<Over>) -> bool {
@@ -96,8 +96,8 @@ impl<'a> ReachTest for UnknownWindow<'a> {
     }
 }
 
-fn any_entry_unknown(windows: &[FullEntry], entries: &[WindowEntry]) -> bool
-    ensures { result ≡ some_entry_after (named_windows windows.now) 0 copies_no_window (map view_entry entries.now) }
+fn any_entry_unknown(windows: &WindowIndex, entries: &[WindowEntry]) -> bool
+    ensures { result ≡ some_entry_after (windows_in windows.now) 0 copies_no_window (map view_entry entries.now) }
 {
     let mut place = 0;
     'entries: for entry in entries {
@@ -111,12 +111,16 @@ fn any_entry_unknown(windows: &[FullEntry], entries: &[WindowEntry]) -> bool
 
 /// Q19.
 #[tactic(auto, unfolding(wquery::specs::QueryTree::view_query))]
-pub fn names_unknown_window(windows: &[FullEntry], columns: &[SourceColumn], query: &Query) -> bool
-    ensures { result ≡ breaks_window_names (named_windows windows.now) (all_titled columns.now) (clauses_of (view_query query.now)) }
+pub fn names_unknown_window(windows: &WindowIndex, columns: &[SourceColumn], query: &Query) -> bool
+    ensures { result ≡ breaks_window_names (windows_in windows.now) (all_titled columns.now) (clauses_of (view_query query.now)) }
 {
     if any_entry_unknown(windows, query.windows.as_slice()) {
         return true;
     }
+    let windows = Earlier {
+        index: windows,
+        before: None,
+    };
     any_over(&UnknownWindow { windows }, columns, query)
 }
 
@@ -152,10 +156,10 @@ pub(crate) fn is_unordered(order: &[Key]) -> bool
     order.is_empty()
 }
 
-fn has_order(windows: &[FullEntry], name: &str) -> bool
-    ensures { result ≡ has_keys (or_none (window_named (named_windows windows.now) name.now)).order }
+fn has_order(windows: Earlier, name: &str) -> bool
+    ensures { result ≡ has_keys (or_none (window_named (seen windows.entry) name.now)).order }
 {
-    match find_window(windows, name) {
+    match find(windows, name) {
         None => false,
         Some(window) => !is_unordered(window.order),
     }
@@ -170,10 +174,10 @@ fn is_framed(frame: Option<&Frame>) -> bool
     }
 }
 
-fn has_frame(windows: &[FullEntry], name: &str) -> bool
-    ensures { result ≡ is_some (or_none (window_named (named_windows windows.now) name.now)).frame }
+fn has_frame(windows: Earlier, name: &str) -> bool
+    ensures { result ≡ is_some (or_none (window_named (seen windows.entry) name.now)).frame }
 {
-    match find_window(windows, name) {
+    match find(windows, name) {
         None => false,
         Some(window) => is_framed(window.frame),
     }
@@ -185,8 +189,8 @@ fn is_partitioned(partition: &[Expression]) -> bool
     !partition.is_empty()
 }
 
-fn orders_again(windows: &[FullEntry], name: &str, order: &[Key]) -> bool
-    ensures { result ≡ (has_keys (keys (view_keys order.now)) && has_keys (or_none (window_named (named_windows windows.now) name.now)).order) }
+fn orders_again(windows: Earlier, name: &str, order: &[Key]) -> bool
+    ensures { result ≡ (has_keys (keys (view_keys order.now)) && has_keys (or_none (window_named (seen windows.entry) name.now)).order) }
 {
     if is_unordered(order) {
         return false;
@@ -194,8 +198,8 @@ fn orders_again(windows: &[FullEntry], name: &str, order: &[Key]) -> bool
     has_order(windows, name)
 }
 
-fn is_bad_copy(windows: &[FullEntry], name: &str, partition: &[Expression], order: &[Key]) -> bool
-    ensures { result ≡ is_wrong_copy (named_windows windows.now) (Some name.now) (trees (views partition.now)) (keys (view_keys order.now)) }
+fn is_bad_copy(windows: Earlier, name: &str, partition: &[Expression], order: &[Key]) -> bool
+    ensures { result ≡ is_wrong_copy (seen windows.entry) (Some name.now) (trees (views partition.now)) (keys (view_keys order.now)) }
 {
     if is_partitioned(partition) {
         return true;
@@ -207,8 +211,8 @@ fn is_bad_copy(windows: &[FullEntry], name: &str, partition: &[Expression], orde
 }
 
 #[tactic(auto, unfolding(wquery::specs::Tree::view_window, wquery::specs::Tree::view, wquery::specs::Tree::view_key))]
-fn copies_badly(windows: &[FullEntry], window: &Window) -> bool
-    ensures { result ≡ is_copied_wrongly (named_windows windows.now) (view_window window.now) }
+fn copies_badly(windows: Earlier, window: &Window) -> bool
+    ensures { result ≡ is_copied_wrongly (seen windows.entry) (view_window window.now) }
 {
     match &window.copied {
         None => false,
@@ -223,12 +227,12 @@ fn copies_badly(windows: &[FullEntry], window: &Window) -> bool
 
 /// A copy that adds what it may not.
 #[derive(Drop)]
-struct BadCopy<'a> {
-    windows: &'a [FullEntry<'a>],
+struct BadCopy<'a, 'b> {
+    windows: Earlier<'a, 'b>,
 }
 
-impl<'a> ReachTest for BadCopy<'a> {
-    ghost holds = { λ b. is_over_wrong_copy (named_windows b.windows.now) };
+impl<'a, 'b> ReachTest for BadCopy<'a, 'b> {
+    ghost holds = { λ b. is_over_wrong_copy (seen b.windows) };
 
     #[tactic(auto, unfolding(wquery::specs::Tree::view_over, wquery::specs::Tree::view_window))]
     fn is_hit(&self, over: &Option<Over>) -> bool {
@@ -240,8 +244,8 @@ impl<'a> ReachTest for BadCopy<'a> {
     }
 }
 
-fn any_entry_bad(windows: &[FullEntry], entries: &[WindowEntry]) -> bool
-    ensures { result ≡ some_entry_after (named_windows windows.now) 0 is_copied_wrongly (map view_entry entries.now) }
+fn any_entry_bad(windows: &WindowIndex, entries: &[WindowEntry]) -> bool
+    ensures { result ≡ some_entry_after (windows_in windows.now) 0 is_copied_wrongly (map view_entry entries.now) }
 {
     let mut place = 0;
     'entries: for entry in entries {
@@ -255,12 +259,16 @@ fn any_entry_bad(windows: &[FullEntry], entries: &[WindowEntry]) -> bool
 
 /// Q21.
 #[tactic(auto, unfolding(wquery::specs::QueryTree::view_query))]
-pub fn copies_wrongly(windows: &[FullEntry], columns: &[SourceColumn], query: &Query) -> bool
-    ensures { result ≡ breaks_copies (named_windows windows.now) (all_titled columns.now) (clauses_of (view_query query.now)) }
+pub fn copies_wrongly(windows: &WindowIndex, columns: &[SourceColumn], query: &Query) -> bool
+    ensures { result ≡ breaks_copies (windows_in windows.now) (all_titled columns.now) (clauses_of (view_query query.now)) }
 {
     if any_entry_bad(windows, query.windows.as_slice()) {
         return true;
     }
+    let windows = Earlier {
+        index: windows,
+        before: None,
+    };
     any_over(&BadCopy { windows }, columns, query)
 }
 
@@ -273,30 +281,38 @@ pub(crate) trait WindowTest {
         ensures { result ≡ holds self.now (settled_window window.entry) };
 }
 
-/// The windows of calls that are hit.
-#[derive(Drop)]
-struct OwnWindow<'a, T> {
-    windows: &'a [FullEntry<'a>],
-    test: &'a T,
+fn is_window_hit<T: WindowTest>(test: &T, windows: Earlier, window: &Window) -> bool
+    ensures { result ≡ T.holds test.now (settle_tree (seen windows.entry) (view_window window.now)) }
+{
+    let found = find_copied(windows, window);
+    let settled = settle_over(found, window);
+    test.is_hit(settled)
 }
 
-impl<'a, T: WindowTest> ReachTest for OwnWindow<'a, T> {
-    ghost holds = { λ o. own_window_is (named_windows o.windows.now) (T.holds o.test.now) };
+/// The windows of calls that are hit.
+#[derive(Drop)]
+struct OwnWindow<'a, 'b, T> {
+    windows: Earlier<'a, 'b>,
+    test: &'b T,
+}
+
+impl<'a, 'b, T: WindowTest> ReachTest for OwnWindow<'a, 'b, T> {
+    ghost holds = { λ o. own_window_is (seen o.windows) (T.holds o.test.now) };
 
     #[tactic(auto, unfolding(wquery::specs::Tree::view_over, wquery::specs::Tree::view_window))]
     fn is_hit(&self, over: &Option<Over>) -> bool {
         match over {
             None => false,
             Some(Over::Named(_)) => false,
-            Some(Over::Windowed(window)) => self.test.is_hit(settle(self.windows, window)),
+            Some(Over::Windowed(window)) => is_window_hit(self.test, self.windows, window),
         }
     }
 }
 
-fn any_entry<T: WindowTest>(test: &T, windows: &[FullEntry]) -> bool
-    ensures { result ≡ list_any (entry_is (T.holds test.now)) (named_windows windows.now) }
+fn any_listed<T: WindowTest>(test: &T, entries: &[FullEntry]) -> bool
+    ensures { result ≡ list_any (entry_is (T.holds test.now)) (named_windows entries.now) }
 {
-    'windows: for entry in windows {
+    'entries: for entry in entries {
         if test.is_hit(entry.window) {
             return true;
         }
@@ -304,17 +320,27 @@ fn any_entry<T: WindowTest>(test: &T, windows: &[FullEntry]) -> bool
     false
 }
 
+fn any_entry<T: WindowTest>(test: &T, windows: &WindowIndex) -> bool
+    ensures { result ≡ list_any (entry_is (T.holds test.now)) (windows_in windows.now) }
+{
+    any_listed(test, windows.entries.as_slice())
+}
+
 /// Whether some window of the query is hit, used or not.
 pub(crate) fn any_window<T: WindowTest>(
     test: &T,
-    windows: &[FullEntry],
+    windows: &WindowIndex,
     columns: &[SourceColumn],
     query: &Query,
 ) -> bool
-    ensures { result ≡ some_window (named_windows windows.now) (all_titled columns.now) (clauses_of (view_query query.now)) (T.holds test.now) }
+    ensures { result ≡ some_window (windows_in windows.now) (all_titled columns.now) (clauses_of (view_query query.now)) (T.holds test.now) }
 {
     if any_entry(test, windows) {
         return true;
     }
+    let windows = Earlier {
+        index: windows,
+        before: None,
+    };
     any_over(&OwnWindow { windows, test }, columns, query)
 }
