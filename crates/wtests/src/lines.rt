@@ -7,7 +7,8 @@ use std::io::{ErrorKind, Read, Write};
 use std::process::Abort;
 use std::test::Fail;
 use wlines::{
-    Body, Line, LineEnd, Source, is_word, read_body, read_line, skip_body, split_word, write_reply,
+    Body, Line, LineEnd, Outbox, ReadFault, Source, is_word, read_body, read_line, skip_body,
+    split_word, write_reply,
 };
 use wvalues::Counted;
 
@@ -67,6 +68,15 @@ fn slow(bytes: &[u8], fails: bool) -> Counted<OneByOne<'_>>
     Counted::new(OneByOne { bytes, fails })
 }
 
+fn empty() -> Counted<FourBytes>
+    ensures { IsNew result }
+{
+    Counted::new(FourBytes {
+        bytes: [0; 4],
+        len: 0,
+    })
+}
+
 #[test]
 fn lines(rt: HostRuntime) -> Result<(), Fail> {
     let mut long = [b'a'; 202];
@@ -79,10 +89,17 @@ fn lines(rt: HostRuntime) -> Result<(), Fail> {
         (b"", LineEnd::Closed, 0),
     ] {
         let mut source = Source::new(rt.alloc())?;
+        let mut outbox = Outbox::new(rt.alloc())?;
         let mut line = Line::new();
         assert!(rt; line.is_empty());
         assert_eq!(rt;
-            read_line(&mut source, &mut slow(bytes, false), &mut line)?,
+            read_line(
+                &mut source,
+                &mut slow(bytes, false),
+                &mut outbox,
+                &mut empty(),
+                &mut line
+            )?,
             end
         );
         assert_eq!(rt; line.as_slice().len(), len);
@@ -93,25 +110,41 @@ fn lines(rt: HostRuntime) -> Result<(), Fail> {
 #[test]
 fn a_failure_is_a_fault(rt: HostRuntime) -> Result<(), Fail> {
     let mut source = Source::new(rt.alloc())?;
+    let mut outbox = Outbox::new(rt.alloc())?;
     let mut input = slow(b"L 1\nL", true);
+    let mut output = empty();
     let mut line = Line::new();
     assert_eq!(rt;
-        read_line(&mut source, &mut input, &mut line)?,
+        read_line(&mut source, &mut input, &mut outbox, &mut output, &mut line)?,
         LineEnd::Whole
     );
     assert_eq!(rt;
         split_word(line.as_slice()),
         Some((b"L".as_slice(), b"1".as_slice()))
     );
-    assert!(rt; read_line(&mut source, &mut input, &mut line).is_err());
+    outbox.say(&mut output, b"ok\n")?;
+    assert_eq!(rt;
+        read_line(&mut source, &mut input, &mut outbox, &mut output, &mut line),
+        Err(ReadFault::Reader)
+    );
     assert_eq!(rt; input.failures(), 1);
+    assert_eq!(rt; output.into_inner().bytes.as_slice(), b"ok\n\0".as_slice());
     Ok(())
 }
 
 // Reads a body of three bytes, which is there or not.
 fn is_body(rt: &(impl Abort + AllocGlobal), bytes: &[u8], is_there: bool) -> Result<(), Fail> {
     let mut source = Source::new(rt.alloc())?;
-    match read_body(rt.alloc(), &mut source, &mut slow(bytes, false), 3)? {
+    let mut outbox = Outbox::new(rt.alloc())?;
+    let found = read_body(
+        rt.alloc(),
+        &mut source,
+        &mut slow(bytes, false),
+        &mut outbox,
+        &mut empty(),
+        3,
+    )?;
+    match found {
         Body::Whole(body) => {
             assert!(rt; is_there);
             assert_eq!(rt; body.as_slice(), b"a\nc".as_slice());
@@ -121,7 +154,13 @@ fn is_body(rt: &(impl Abort + AllocGlobal), bytes: &[u8], is_there: bool) -> Res
     }
     let mut other = Source::new(rt.alloc())?;
     assert_eq!(rt;
-        skip_body(&mut other, &mut slow(bytes, false), 3)?,
+        skip_body(
+            &mut other,
+            &mut slow(bytes, false),
+            &mut outbox,
+            &mut empty(),
+            3
+        )?,
         is_there
     );
     Ok(())
@@ -137,10 +176,7 @@ fn bodies(rt: HostRuntime) -> Result<(), Fail> {
 
 #[test]
 fn replies(rt: HostRuntime) {
-    let mut output = Counted::new(FourBytes {
-        bytes: [0; 4],
-        len: 0,
-    });
+    let mut output = empty();
     assert!(rt; write_reply(&mut output, b"ok\n").is_ok());
     assert!(rt; write_reply(&mut output, b"ok\n").is_err());
     assert_eq!(rt; output.failures(), 1);
