@@ -16,9 +16,11 @@ use Rattle.wrows.specs.Outcomes.{◌>>=◌, each, unless}
 use Rattle.wrows.specs.Columns.{Row, beside, held_rows, holds_on, is_out_of_range, not_too_many}
 use Rattle.wrows.proofs.RowFacts.{length-places, map-taken, places_more}
 use Rattle.wgroup.specs.Grouping.{Group, aggregate_column, group_rows, groups_of}
+use Rattle.wcalls.specs.Frames.{frame_of}
 use Rattle.wcalls.specs.Functions.{window_columns}
+use Rattle.wcalls.specs.Joins.{most_of_functions}
 use Rattle.wcalls.specs.Sound.{is_sound_window}
-use Rattle.wplanner.specs.ByWindow.{calls_before, column_found, columns_from, columns_of_calls, functions_over}
+use Rattle.wplanner.specs.ByWindow.{calls_before, column_found, columns_from, columns_of_calls, functions_over, most_from}
 use Rattle.wplanner.specs.Answers.{items_of, left_items}
 use Rattle.wplanner.specs.Sound.{is_sound_call, is_sound_select}
 use Rattle.wplanner.proofs.CallFacts.{by_window, sound_windows}
@@ -117,6 +119,17 @@ window_refused rows calls ws told i w fault whole h e so_far is =
     let rest : Result (List (List (List Meaning))) AnswerFault = columns_from rows calls (i + 1) (map window_plan (drop (i + 1) ws)) in
     so_far ∙ ap (goes_with rows calls told i) (windows_left ws i w h e)
     ∙ ap (λ r. (r >>= λ c. rest >>= λ others. Ok (c ∷ others)) >>= λ others. Ok (told ++ others)) is
+
+-- the joins of the functions over one window more, and those that are left
+pub joins_told : (rows : ℕ) (calls : List CallPlan) (ws : List SettledWindow) (i : ℕ) (w : SettledWindow) (old new whole : ℕ)
+    → i < length ws → w ≡ get_or ws i w → old + most_from rows calls i (map window_plan (drop i ws)) ≤ whole → new ≤ old + most_of_functions (frame_of (window_plan w).frame).exclusion rows (functions_over calls i)
+    → new + most_from rows calls (i + 1) (map window_plan (drop (i + 1) ws)) ≤ whole
+joins_told rows calls ws i w old new whole h e so_far here = omega (arith, ap (most_from rows calls i) (windows_left ws i w h e))
+
+pub joins_refused : (rows : ℕ) (calls : List CallPlan) (ws : List SettledWindow) (i : ℕ) (w : SettledWindow) (old new whole : ℕ)
+    → i < length ws → w ≡ get_or ws i w → old + most_from rows calls i (map window_plan (drop i ws)) ≤ whole → new ≤ old + most_of_functions (frame_of (window_plan w).frame).exclusion rows (functions_over calls i)
+    → new ≤ whole
+joins_refused rows calls ws i w old new whole h e so_far here = omega (arith, ap (most_from rows calls i) (windows_left ws i w h e))
 
 pub none_left : (ws : List SettledWindow) (i : ℕ) → length ws ≤ i → drop i ws ≡ []
 none_left [] zero h = refl

@@ -7,7 +7,9 @@ use Rattle.wplan.specs.Plans.{CallPlan, FunctionPlan, WindowPlan}
 use Rattle.wrows.specs.declared.fault.AnswerFault.{AnswerFault}
 use Rattle.wrows.specs.Outcomes.{◌>>=◌}
 use Rattle.wrows.specs.Columns.{Row}
+use Rattle.wcalls.specs.Frames.{frame_of}
 use Rattle.wcalls.specs.Functions.{window_columns}
+use Rattle.wcalls.specs.Joins.{most_of_functions}
 
 -- the functions of the calls over the window of a number, in the order of the calls
 abbrev pub functions_over : List CallPlan → ℕ → List FunctionPlan
@@ -20,6 +22,11 @@ columns_from rows calls w (window ∷ windows) = do
   columns ← window_columns window (functions_over calls w) rows
   others ← columns_from rows calls (w + 1) windows
   Ok (columns ∷ others)
+
+-- the most joins, over so many rows, of the functions over each window, of which the first has this number
+abbrev pub most_from : ℕ → List CallPlan → ℕ → List WindowPlan → ℕ
+most_from rows calls w [] = 0
+most_from rows calls w (window ∷ windows) = most_of_functions (frame_of window.frame).exclusion rows (functions_over calls w) + most_from rows calls (w + 1) windows
 
 -- how many of the first calls are over the window of a number
 abbrev pub calls_before : List CallPlan → ℕ → ℕ → ℕ

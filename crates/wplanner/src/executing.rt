@@ -13,6 +13,7 @@ use crate::fault::AskFault;
 use crate::parts::item_names;
 use crate::selecting::{select_rows, select_table_rows};
 use crate::table::Table;
+use crate::work::Work;
 use std::alloc::{AllocError, Global};
 use std::rc::RcStr;
 use wplan::{Resolved, Selection};
@@ -20,24 +21,34 @@ use wrows::{AnswerFault, Cells, lent_rows};
 use wset::SegmentSet;
 
 // What one SELECT answers on the rows of the one before.
-fn select_cells(alloc: Global, select: &Selection, source: &Cells) -> Result<Cells, AnswerFault>
+fn select_cells(
+    alloc: Global,
+    select: &Selection,
+    source: &Cells,
+    work: &mut Work,
+) -> Result<Cells, AnswerFault>
     requires { is_sound_select (select_plan select.now) ≡ true }
     ensures rows { Gives rows_in result (select_of (select_plan select.now) (rows_in source.now)) }
     ensures width { IfOk result (λ cells. cells.width ≡ length select.now.items.items) }
 {
     let rows = lent_rows(alloc, source)?;
-    select_rows(alloc, select, rows)
+    select_rows(alloc, select, rows, work)
 }
 
 // What the SELECTs answer, each over the rows of the one before.
-fn answered(alloc: Global, selects: &[Selection], source: Cells) -> Result<Cells, AnswerFault>
+fn answered(
+    alloc: Global,
+    selects: &[Selection],
+    source: Cells,
+    work: &mut Work,
+) -> Result<Cells, AnswerFault>
     requires { list_all is_sound_select (map select_plan selects.now) ≡ true }
     ensures rows { Gives rows_in result (answer_of (map select_plan selects.now) (rows_in source)) }
     ensures width { IfOk result (λ cells. cells.width ≡ width_of (map select_plan selects.now) source.width) }
 {
     let mut cells = source;
     'selects: for select in selects {
-        match select_cells(alloc, select, &cells) {
+        match select_cells(alloc, select, &cells, work) {
             Err(fault) => return Err(fault),
             Ok(next) => cells = next,
         }
@@ -56,13 +67,18 @@ fn output_names(alloc: Global, selects: &[Selection]) -> Result<Vec<RcStr>, Allo
 }
 
 // What the SELECTs answer, of which the first is over the rows of the table.
-fn query_rows(alloc: Global, selects: &[Selection], set: &SegmentSet) -> Result<Cells, AnswerFault>
+fn query_rows(
+    alloc: Global,
+    selects: &[Selection],
+    set: &SegmentSet,
+    work: &mut Work,
+) -> Result<Cells, AnswerFault>
     requires { is_sound_query (map select_plan selects.now) ≡ true }
     ensures rows { Gives rows_in result (answer_of (map select_plan selects.now) (rows_of_set set.now)) }
     ensures width { IfOk result (λ cells. cells.width ≡ width_of (map select_plan selects.now) 0) }
 {
-    let cells = select_table_rows(alloc, &selects[0], set)?;
-    answered(alloc, &selects[1..], cells)
+    let cells = select_table_rows(alloc, &selects[0], set, work)?;
+    answered(alloc, &selects[1..], cells, work)
 }
 
 // The answer of a query on the rows of the table.
@@ -74,9 +90,10 @@ fn query_answer(
     requires { is_sound_query (map select_plan selects.now) ≡ true }
     ensures { Gives (λ table. table) result (table_answer (map select_plan selects.now) (rows_of_set set.now)) }
 {
-    let cells = query_rows(alloc, selects, set)?;
+    let mut work = Work::new();
+    let cells = query_rows(alloc, selects, set, &mut work)?;
     let names = output_names(alloc, selects)?;
-    Ok(Table::new(names, cells))
+    Ok(Table::new(names, cells, &work))
 }
 
 /// The answer of a query on the rows of the set's live segments, by name and then by place.

@@ -20,6 +20,7 @@ mod selecting;
 mod source;
 mod table;
 mod windows;
+mod work;
 
 pub use executing::execute;
 pub use fault::AskFault;

@@ -1,5 +1,5 @@
 //! Orders of rows that several windows share.
-ghost use Rattle.std.specs.Prelude.{◌≡◌, ◌<◌, Ok, IfSome, List, OnOk, length, slice_index_or};
+ghost use Rattle.std.specs.Prelude.{◌≡◌, ◌≤◌, ◌<◌, ◌+◌, if◌then◌else◌, Ok, IfSome, List, OnOk, length, slice_index_or};
 ghost use Rattle.std.specs.List.{list_any};
 ghost use Rattle.std.specs.Option.{is_some};
 ghost use Rattle.wplan.specs.Plans.{window_plan};
@@ -11,6 +11,7 @@ ghost use Rattle.wcalls.specs.Ordered.{ordered_rows};
 ghost use Rattle.wplanner.specs.KeptOrders.{AreOrdersOf, serves, with_shared};
 
 use std::alloc::{AllocError, Global};
+use waggregate::Tally;
 use wcalls::{WindowOrder, share_order};
 use wplan::SettledWindow;
 use wrows::AnswerFault;
@@ -42,6 +43,7 @@ fn take_shared(kept: &mut Vec<KeptOrder>, window: &SettledWindow) -> Option<Wind
     ensures found { is_some result ≡ list_any (serves window.now) kept.old.items }
     ensures order { (rows : List Row) → AreOrdersOf rows kept.old.items → IfSome result (λ order. ordered_rows rows (window_plan window.now) ≡ Ok order) }
     ensures others { (rows : List Row) → AreOrdersOf rows kept.old.items → AreOrdersOf rows kept.new.items }
+    ensures fewer { length kept.new.items ≤ length kept.old.items }
 {
     match place_shared(kept.as_slice(), window) {
         None => None,
@@ -52,20 +54,24 @@ fn take_shared(kept: &mut Vec<KeptOrder>, window: &SettledWindow) -> Option<Wind
     }
 }
 
-/// The rows in the order of a window: a kept order that it shares, which is taken out, else a new one.
+/// The rows in the order of a window: a kept order that it shares, which is taken out, else a new one, which counts among
+/// the orders that are made.
 pub(crate) fn order_of(
     alloc: Global,
     window: &SettledWindow,
     rows: &[&[Value]],
     kept: &mut Vec<KeptOrder>,
+    made: &mut Tally,
 ) -> Result<WindowOrder, AnswerFault>
     requires { AreOrdersOf (rows_seen rows.now) kept.old.items }
     ensures order { Gives (λ order. order) result (ordered_rows (rows_seen rows.now) (window_plan window.now)) }
     ensures others { AreOrdersOf (rows_seen rows.now) kept.new.items }
+    ensures fewer { length kept.new.items ≤ length kept.old.items }
+    ensures made { made.new ≤ made.old + (if list_any (serves window.now) kept.old.items then 0 else 1) }
 {
     match take_shared(kept, window) {
         Some(order) => Ok(order),
-        None => WindowOrder::new(alloc, window, rows),
+        None => WindowOrder::new(alloc, window, rows, made),
     }
 }
 

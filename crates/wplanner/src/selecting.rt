@@ -11,7 +11,9 @@ ghost use Rattle.wplanner.specs.Tables.{rows_of_set};
 use crate::parts::{item_values, key_orders, key_values};
 use crate::source::kept_table_rows;
 use crate::windows::{call_columns, window_answers};
+use crate::work::Work;
 use std::alloc::Global;
+use waggregate::Tally;
 use wgroup::group_rows;
 use wplan::{Grouping, Selection};
 use wrows::{AnswerFault, Asked, Cells, joined_items, kept_rows, lent_rows, ordered_items};
@@ -26,6 +28,13 @@ fn asked_of(select: &Selection) -> Asked
     Asked {
         offset: select.offset,
         limit: select.limit,
+    }
+}
+
+// Counts the order that ORDER BY asks for, if there is one.
+fn count_order(select: &Selection, orders: &mut Tally) {
+    if !select.keys.is_empty() {
+        orders.add(1);
     }
 }
 
@@ -59,28 +68,39 @@ fn items_beside(
 }
 
 // The items of rows with what the calls answer behind their cells.
-fn called_items(alloc: Global, select: &Selection, rows: &[&[Value]]) -> Result<Cells, AnswerFault>
+fn called_items(
+    alloc: Global,
+    select: &Selection,
+    rows: &[&[Value]],
+    work: &mut Work,
+) -> Result<Cells, AnswerFault>
     requires sound { is_sound_select (select_plan select.now) ≡ true }
     requires few { length rows.now < 2 ^ 31 }
     ensures rows { Gives rows_in result (left_items (select_plan select.now) (rows_seen rows.now)) }
     ensures width { IfOk result (λ cells. cells.width ≡ length select.now.items.items) }
 {
-    let answers = window_answers(alloc, &select.windows, &select.calls, rows)?;
+    let answers = window_answers(alloc, &select.windows, &select.calls, rows, work)?;
     let columns = call_columns(alloc, &answers, &select.calls)?;
     items_beside(alloc, select, rows, &columns)
 }
 
 // The items of the rows that are left, which are lent on where nothing calls for a window.
-fn left_items(alloc: Global, select: &Selection, rows: &[&[Value]]) -> Result<Cells, AnswerFault>
+fn left_items(
+    alloc: Global,
+    select: &Selection,
+    rows: &[&[Value]],
+    work: &mut Work,
+) -> Result<Cells, AnswerFault>
     requires sound { is_sound_select (select_plan select.now) ≡ true }
     requires few { length rows.now < 2 ^ 31 }
     ensures rows { Gives rows_in result (left_items (select_plan select.now) (rows_seen rows.now)) }
     ensures width { IfOk result (λ cells. cells.width ≡ length select.now.items.items) }
 {
+    count_order(select, &mut work.orders);
     if select.windows.is_empty() {
         items_of(alloc, select, rows)
     } else {
-        called_items(alloc, select, rows)
+        called_items(alloc, select, rows, work)
     }
 }
 
@@ -90,6 +110,7 @@ fn grouped_items(
     select: &Selection,
     grouping: &Grouping,
     kept: &[&[Value]],
+    work: &mut Work,
 ) -> Result<Cells, AnswerFault>
     requires sound { is_sound_select (select_plan select.now) ≡ true }
     requires few { length kept.now < 2 ^ 31 }
@@ -98,7 +119,7 @@ fn grouped_items(
 {
     let groups = group_rows(alloc, grouping, kept)?;
     let left = lent_rows(alloc, &groups)?;
-    left_items(alloc, select, &left)
+    left_items(alloc, select, &left, work)
 }
 
 /// The items of the rows that WHERE keeps, or of their groups.
@@ -106,6 +127,7 @@ pub(crate) fn kept_items(
     alloc: Global,
     select: &Selection,
     kept: &[&[Value]],
+    work: &mut Work,
 ) -> Result<Cells, AnswerFault>
     requires sound { is_sound_select (select_plan select.now) ≡ true }
     requires few { length kept.now < 2 ^ 31 }
@@ -113,8 +135,8 @@ pub(crate) fn kept_items(
     ensures width { IfOk result (λ cells. cells.width ≡ length select.now.items.items) }
 {
     match &select.grouping {
-        None => left_items(alloc, select, kept),
-        Some(grouping) => grouped_items(alloc, select, grouping, kept),
+        None => left_items(alloc, select, kept, work),
+        Some(grouping) => grouped_items(alloc, select, grouping, kept, work),
     }
 }
 
@@ -123,13 +145,14 @@ pub(crate) fn select_rows(
     alloc: Global,
     select: &Selection,
     rows: Vec<&[Value]>,
+    work: &mut Work,
 ) -> Result<Cells, AnswerFault>
     requires { is_sound_select (select_plan select.now) ≡ true }
     ensures rows { Gives rows_in result (select_of (select_plan select.now) (rows_seen rows.entry.items)) }
     ensures width { IfOk result (λ cells. cells.width ≡ length select.now.items.items) }
 {
     let kept = kept_rows(alloc, &select.condition, rows)?;
-    kept_items(alloc, select, &kept)
+    kept_items(alloc, select, &kept, work)
 }
 
 /// What one SELECT answers on the rows of the set's live segments.
@@ -137,11 +160,12 @@ pub(crate) fn select_table_rows(
     alloc: Global,
     select: &Selection,
     set: &SegmentSet,
+    work: &mut Work,
 ) -> Result<Cells, AnswerFault>
     requires { is_sound_select (select_plan select.now) ≡ true }
     ensures rows { Gives rows_in result (select_of (select_plan select.now) (rows_of_set set.now)) }
     ensures width { IfOk result (λ cells. cells.width ≡ length select.now.items.items) }
 {
     let kept = kept_table_rows(alloc, &select.condition, set)?;
-    kept_items(alloc, select, &kept)
+    kept_items(alloc, select, &kept, work)
 }

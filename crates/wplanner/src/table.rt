@@ -5,6 +5,7 @@ ghost use Rattle.wvalues.specs.Meaning.{meaning};
 ghost use Rattle.wrows.specs.Laid.{rows_in};
 ghost use Rattle.wplanner.specs.Parts.{value_at};
 
+use crate::work::Work;
 use std::marker::Model;
 use std::rc::RcStr;
 use wrows::Cells;
@@ -17,6 +18,8 @@ pub struct Table {
     // One row after another.
     cells: Vec<Value>,
     rows: usize,
+    joins: u64,
+    orders: u64,
 }
 
 impl Model for Table {
@@ -41,7 +44,7 @@ pub(crate) fn cells_from(cells: &[Value], start: usize, width: usize) -> &[Value
 
 impl Table {
     /// A table of rows with a value under each name.
-    pub(crate) fn new(names: Vec<RcStr>, rows: Cells) -> Table
+    pub(crate) fn new(names: Vec<RcStr>, rows: Cells, work: &Work) -> Table
         requires { rows.width ≡ vec_len names }
         ensures { result ≡ record { names = map rc_str_bytes names.items; rows = rows_in rows } }
     {
@@ -49,7 +52,20 @@ impl Table {
             names,
             cells: rows.cells,
             rows: rows.count,
+            joins: work.joins.count(),
+            orders: work.orders.count(),
         }
+    }
+
+    /// How many joins the folds of frames took, of derived tables too. No clause says of how many; it is for tests.
+    pub fn joins(&self) -> u64 {
+        self.joins
+    }
+
+    /// How many orders of rows were made, of derived tables too: one for all windows of the same partition values and keys,
+    /// and one for each ORDER BY. No clause says of how many; it is for tests.
+    pub fn orders(&self) -> u64 {
+        self.orders
     }
 
     /// How many rows it has.

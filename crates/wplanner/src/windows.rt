@@ -1,19 +1,23 @@
 //! The columns of the calls with OVER.
-ghost use Rattle.std.specs.Prelude.{◌≡◌, ◌<◌, ◌^◌, [], true, IfOk, length, map, slice_index_or};
-ghost use Rattle.std.specs.List.{list_all};
+ghost use Rattle.std.specs.Prelude.{◌≡◌, ◌≤◌, ◌<◌, ◌+◌, ◌^◌, if◌then◌else◌, [], true, IfOk, OnOk, length, map, slice_index_or};
+ghost use Rattle.std.specs.List.{list_all, list_any};
 ghost use Rattle.wvalues.specs.Meaning.{meaning};
 ghost use Rattle.wplan.specs.Plans.{call_plan, window_plan};
+ghost use Rattle.wplan.specs.Sameness.{is_same_order};
 ghost use Rattle.wrows.specs.Outcomes.{Gives};
 ghost use Rattle.wrows.specs.Laid.{rows_in, rows_seen};
+ghost use Rattle.wcalls.specs.Frames.{frame_of};
 ghost use Rattle.wcalls.specs.Functions.{window_columns};
+ghost use Rattle.wcalls.specs.Joins.{most_of_functions};
 ghost use Rattle.wcalls.specs.Lent.{functions_seen};
 ghost use Rattle.wcalls.specs.Sound.{is_sound_function, is_sound_window};
-ghost use Rattle.wplanner.specs.ByWindow.{columns_from, columns_of_calls, functions_over};
-ghost use Rattle.wplanner.specs.KeptOrders.{AreOrdersOf};
+ghost use Rattle.wplanner.specs.ByWindow.{columns_from, columns_of_calls, functions_over, most_from};
+ghost use Rattle.wplanner.specs.KeptOrders.{AreOrdersOf, serves};
 ghost use Rattle.wplanner.specs.Sound.{is_sound_call};
 
 use crate::orders::{KeptOrder, keep_shared, order_of};
 use crate::table::cells_from;
+use crate::work::Work;
 use std::alloc::{AllocError, Global};
 use wcalls::window_columns;
 use wplan::{CallOver, SettledWindow, WindowFunction};
@@ -37,7 +41,8 @@ fn functions_over(
     Ok(functions)
 }
 
-// The columns of the functions over the window of a number. Its order is kept for the later windows that share it.
+// The columns of the functions over the window of a number. Its order is kept for the later windows that share it, and none
+// is made where one that it shares is kept.
 fn answers_over<'a>(
     alloc: Global,
     window: &'a SettledWindow,
@@ -46,6 +51,7 @@ fn answers_over<'a>(
     calls: &[CallOver],
     rows: &[&[Value]],
     kept: &mut Vec<KeptOrder<'a>>,
+    work: &mut Work,
 ) -> Result<Cells, AnswerFault>
     requires few { length rows.now < 2 ^ 31 }
     requires window { is_sound_window (window_plan window.now) ≡ true }
@@ -53,31 +59,38 @@ fn answers_over<'a>(
     requires kept { AreOrdersOf (rows_seen rows.now) kept.old.items }
     ensures columns { Gives rows_in result (window_columns (window_plan window.now) (functions_over (map call_plan calls.now) number) (rows_seen rows.now)) }
     ensures kept { AreOrdersOf (rows_seen rows.now) kept.new.items }
+    ensures let_go { OnOk result (length kept.new.items ≤ length kept.old.items + (if list_any (is_same_order window.entry.now) later.now then 1 else 0)) }
+    ensures made { work.new.orders ≤ work.old.orders + (if list_any (serves window.entry.now) kept.old.items then 0 else 1) }
+    ensures joins { work.new.joins ≤ work.old.joins + most_of_functions (frame_of (window_plan window.entry.now).frame).exclusion (length rows.now) (functions_over (map call_plan calls.now) number) }
 {
     let functions = functions_over(alloc, calls, number)?;
-    let order = order_of(alloc, window, rows, kept)?;
-    let columns = window_columns(alloc, window, &order, &functions, rows)?;
+    let order = order_of(alloc, window, rows, kept, &mut work.orders)?;
+    let columns = window_columns(alloc, window, &order, &functions, rows, &mut work.joins)?;
     keep_shared(kept, window, order, later)?;
     Ok(columns)
 }
 
-/// For each window the columns of the functions of its calls. Windows that order rows alike share one order.
+/// For each window the columns of the functions of its calls. Windows that order rows alike share one order, so at most one is
+/// made for each window. The joins are those of its aggregates.
 pub(crate) fn window_answers(
     alloc: Global,
     windows: &[SettledWindow],
     calls: &[CallOver],
     rows: &[&[Value]],
+    work: &mut Work,
 ) -> Result<Vec<Cells>, AnswerFault>
     requires few { length rows.now < 2 ^ 31 }
     requires windows { list_all is_sound_window (map window_plan windows.now) ≡ true }
     requires calls { list_all (is_sound_call (length windows.now)) (map call_plan calls.now) ≡ true }
-    ensures { Gives (λ answers. map rows_in answers.items) result (columns_from (rows_seen rows.now) (map call_plan calls.now) 0 (map window_plan windows.now)) }
+    ensures made { work.new.orders ≤ work.old.orders + length windows.now }
+    ensures joins { work.new.joins ≤ work.old.joins + most_from (length rows.now) (map call_plan calls.now) 0 (map window_plan windows.now) }
+    ensures answers { Gives (λ answers. map rows_in answers.items) result (columns_from (rows_seen rows.now) (map call_plan calls.now) 0 (map window_plan windows.now)) }
 {
     let mut answers = Vec::with_capacity(alloc, windows.len())?;
     let mut kept = Vec::new(alloc);
     for (number, window) in windows.iter().enumerate() {
         let later = &windows[number + 1..];
-        match answers_over(alloc, window, number, later, calls, rows, &mut kept) {
+        match answers_over(alloc, window, number, later, calls, rows, &mut kept, work) {
             Err(fault) => return Err(fault),
             Ok(columns) => answers.push(columns)?,
         }

@@ -1,0 +1,22 @@
+//! How much work an answer took.
+
+use waggregate::Tally;
+
+/// How much work an answer took.
+#[derive(Drop)]
+pub(crate) struct Work {
+    /// How many joins the folds of frames took.
+    pub joins: Tally,
+    /// How many orders of rows were made, of windows and of ORDER BY.
+    pub orders: Tally,
+}
+
+impl Work {
+    /// None so far.
+    pub(crate) fn new() -> Work {
+        Work {
+            joins: Tally::new(),
+            orders: Tally::new(),
+        }
+    }
+}
