@@ -19,10 +19,6 @@ abbrev pub shown : Output → Shown
 shown (outputs.Placed place) = Placed place
 shown (outputs.Spelled e) = Spelled (view e.now)
 
-abbrev pub optional_shown : Option Output → Option Shown
-optional_shown None = None
-optional_shown (Some o) = Some (shown o)
-
 -- the first item of a name
 abbrev pub first_of : Option Called → Option Shown
 first_of None = None
