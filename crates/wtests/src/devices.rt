@@ -1,3 +1,5 @@
+//! Runs over readers and writers of one byte a call, and those that fail at each call in turn.
+
 use std::alloc::Global;
 use std::io::{self, Read, Write};
 use std::process::Abort;
@@ -167,7 +169,7 @@ fn a_writer_that_fails(rt: HostRuntime) {
 fn a_writer_that_fails_at_a_whole_reply(rt: HostRuntime) {
     let mut before = 0;
     for (k, (_, end)) in ENDS.iter().enumerate() {
-        let mut input = Counted::new(SCRIPT);
+        let mut input = Counted::new(reader_of_script(1, usize::MAX));
         let mut output = Counted::new(writer_to_memory(rt.alloc(), usize::MAX, k));
         assert_eq!(rt;
             run(rt.alloc(), &mut input, &mut output),
