@@ -9,6 +9,7 @@ use Rattle.wvalues.specs.declared.value.Value.{Value}
 use Rattle.wvalues.specs.declared.key.SortKey.{SortKey}
 use Rattle.wvalues.specs.Meaning.{Meaning, meaning}
 use Rattle.wvalues.specs.Sameness.{same_meaning, meaning_decides}
+use Rattle.wvalues.specs.Order.{keys_cmp}
 use Rattle.wvalues.specs.OrderLaws.{keys_total, ties_are_same}
 use Rattle.wrows.specs.Sorting.{ascending}
 use Rattle.wgroup.specs.Grouping.{group_cmp}
@@ -29,16 +30,20 @@ from_eq Less h = absurd (true≢false (sym h))
 from_eq Equal h = refl
 from_eq Greater h = absurd (true≢false (sym h))
 
-tie_decides : (columns : List ℕ) (a b : List Meaning) → length a ≡ length columns → length b ≡ length columns → (is_eq (group_cmp columns a b) ≡ true → a ≡ b) × (a ≡ b → is_eq (group_cmp columns a b) ≡ true)
-tie_decides columns a b m n = (
-  λ h. ties_are_same (ascending columns) a b (m ∙ sym (length_ascending columns)) (n ∙ sym (length_ascending columns)) (from_eq (group_cmp columns a b) h),
-  λ e. ap (λ x. is_eq (group_cmp columns a x)) (sym e) ∙ ap is_eq (tied_itself (keys_total (ascending columns)) a),
+keys_decide : (keys : List SortKey) (a b : List Meaning) → length a ≡ length keys → length b ≡ length keys → (is_eq (keys_cmp keys a b) ≡ true → a ≡ b) × (a ≡ b → is_eq (keys_cmp keys a b) ≡ true)
+keys_decide keys a b m n = (
+  λ h. ties_are_same keys a b m n (from_eq (keys_cmp keys a b) h),
+  λ e. ap (λ x. is_eq (keys_cmp keys a x)) (sym e) ∙ ap is_eq (tied_itself (keys_total keys) a),
 )
+
+pub cells_tie : (keys : List SortKey) (xs ys : List Value) (a b : List Meaning) → map meaning xs ≡ a → map meaning ys ≡ b → length a ≡ length keys → length b ≡ length keys → same_cells xs ys ≡ is_eq (keys_cmp keys a b)
+cells_tie keys xs ys a b p q m n =
+    by_meaning xs ys ∙ ap (λ x. pointwise same_meaning x (map meaning ys)) p ∙ ap (λ y. pointwise same_meaning a y) q
+    ∙ one_answer (pointwise same_meaning a b) (is_eq (keys_cmp keys a b)) (pointwise_decides meaning_decides a b) (keys_decide keys a b m n)
 
 pub cells_agree : (columns : List ℕ) (xs ys : List Value) (a b : List Meaning) → map meaning xs ≡ a → map meaning ys ≡ b → length a ≡ length columns → length b ≡ length columns → same_cells xs ys ≡ is_eq (group_cmp columns a b)
 cells_agree columns xs ys a b p q m n =
-    by_meaning xs ys ∙ ap (λ x. pointwise same_meaning x (map meaning ys)) p ∙ ap (λ y. pointwise same_meaning a y) q
-    ∙ one_answer (pointwise same_meaning a b) (is_eq (group_cmp columns a b)) (pointwise_decides meaning_decides a b) (tie_decides columns a b m n)
+    cells_tie (ascending columns) xs ys a b p q (m ∙ sym (length_ascending columns)) (n ∙ sym (length_ascending columns))
 
 -- an ascending key more
 pub ascending_made : (columns : List ℕ) (i : ℕ) (old new : List SortKey) → i < length columns → old ≡ ascending (take i columns) → new ≡ old ++ record { col = 0; desc = false; nulls_first = false } ∷ [] → new ≡ ascending (take (i + 1) columns)

@@ -1,7 +1,9 @@
+mod LeaderFacts
 mod SightFacts
 mod NumberFacts
 mod ListFacts
 mod KeyFacts
+mod OrderFacts
 mod GroupFacts
 mod ColumnFacts
 mod TellFacts

@@ -1,5 +1,5 @@
 -- Rows by a test of whether two are the same, in the order of first sight, and rows of cells that are the same.
-use Rattle.std.specs.Prelude.{ℕ, ◌*◌, Bool, not, List, map, filter, take, drop, slice_index_or}
+use Rattle.std.specs.Prelude.{◌≡◌, ℕ, ◌*◌, ◌<◌, ◌≤◌, Bool, true, not, List, map, filter, take, drop, slice_index_or}
 use Rattle.std.specs.List.{list_any}
 use Rattle.std.specs.Cmp.Lexicographic.{pointwise}
 use Rattle.wvalues.specs.declared.value.Value.{Value}
@@ -11,6 +11,11 @@ use Rattle.wrows.specs.Columns.{Row}
 -- the rows, of n, with which no earlier row is the same
 abbrev pub first_of : (ℕ → ℕ → Bool) → ℕ → List ℕ
 first_of same n = filter (λ i. not (list_any (same i) (places i))) (places n)
+
+-- the first row, of n, that is the same as this one
+pub record IsFirst (same : ℕ → ℕ → Bool) (n row first : ℕ) : Type 0 where
+  pub alike : same row first ≡ true
+  pub least : (i : ℕ) → i < n → same row i ≡ true → first ≤ i
 
 -- the rows, of n, that are the same as this one
 abbrev pub members : (ℕ → ℕ → Bool) → ℕ → ℕ → List ℕ

@@ -14,6 +14,7 @@ mod found;
 mod grouping;
 mod groups;
 mod keys;
+mod leaders;
 mod sight;
 mod told;
 
