@@ -5,10 +5,11 @@ ghost use Rattle.wfiles.specs.Calls.{HasCause, IsSound};
 
 use crate::fault::Fault;
 use crate::system::System;
-use std::alloc::Global;
-use std::fs::{File, Permissions};
+use std::alloc::{AllocError, Global};
+use std::fs::File;
 use std::io::Read;
 use std::rt::Files;
+use std::str;
 
 /// The bytes that are read at once.
 const BLOCK: usize = 65_536;
@@ -73,141 +74,30 @@ pub fn read_whole<R: Files<File = File> + AllocGlobal>(
     Ok(bytes)
 }
 
-/// A file that may be replaced: a plain one that may be written, found behind the links to it, or none yet. While this
-/// stands no other such program replaces a file of its folder, where the system can lock folders.
-#[derive(Drop)]
-pub struct Place {
-    path: String,
-    permissions: Option<Permissions>,
-    folder: Option<File>,
-    is_locked: bool,
-}
-
-// The folder that a path stands in.
-fn folder_of(path: &str) -> &str {
-    match path.rsplit_once('/') {
-        Some(("", _)) => "/",
-        Some((folder, _)) => folder,
-        None => ".",
+// Those of the names that begin as the names of new files do. Each ends in a zero byte.
+fn new_names(alloc: Global, names: &[u8]) -> Result<Vec<String>, AllocError> {
+    let mut found = Vec::new(alloc);
+    'names: for name in names.split(|byte| *byte == 0) {
+        if let Ok(text) = str::from_utf8(name) {
+            if text.starts_with(".wstore-") {
+                found.push(String::from_str(alloc, text)?)?;
+            }
+        }
     }
+    Ok(found)
 }
 
-// The path of the file that is replaced.
-fn target<R: Files<File = File> + AllocGlobal>(
+/// The names of a folder's files that begin as those of new files do.
+pub(crate) fn read_names<R: Files<File = File> + AllocGlobal>(
     alloc: Global,
     system: &mut System<'_, R>,
     path: &str,
-    is_there: bool,
-) -> Result<String, Fault>
+) -> Result<Vec<String>, Fault>
     requires { IsSound system.old }
     ensures sound { OnOk result (IsSound system.new) }
     ensures cause { IfErr result (λ fault. HasCause fault system.new) }
 {
-    if is_there {
-        return system.real_path(path);
-    }
-    system.grown(String::from_str(alloc, path))
-}
-
-// The bytes, in a new file, on the disk.
-fn write_new<R: Files<File = File> + AllocGlobal>(
-    system: &mut System<'_, R>,
-    path: &str,
-    bytes: &[u8],
-    permissions: &Option<Permissions>,
-) -> Result<(), Fault>
-    requires { IsSound system.old }
-    ensures sound { OnOk result (IsSound system.new) }
-    ensures cause { IfErr result (λ fault. HasCause fault system.new) }
-{
-    let mut file = system.create_new(path)?;
-    if let Some(permissions) = permissions {
-        system.permit(&file, permissions)?;
-    }
-    system.write(&mut file, bytes)?;
-    system.sync(&file)
-}
-
-impl Place {
-    /// Where the file of a path stands.
-    pub fn find<R: Files<File = File> + AllocGlobal>(
-        alloc: Global,
-        system: &mut System<'_, R>,
-        path: &str,
-    ) -> Result<Place, Fault>
-        requires { IsSound system.old }
-        ensures sound { OnOk result (IsSound system.new) }
-        ensures cause { IfErr result (λ fault. HasCause fault system.new) }
-    {
-        let permissions = system.replaceable(path)?;
-        let path = target(alloc, system, path, permissions.is_some())?;
-        let folder = system.folder(folder_of(path.as_str()))?;
-        let is_locked = match &folder {
-            Some(folder) => folder.lock().is_ok(),
-            None => false,
-        };
-        Ok(Place {
-            path,
-            permissions,
-            folder,
-            is_locked,
-        })
-    }
-
-    /// The bytes of the file as it stands now.
-    pub fn read<R: Files<File = File> + AllocGlobal>(
-        &self,
-        alloc: Global,
-        system: &mut System<'_, R>,
-    ) -> Result<Option<Vec<u8>>, Fault>
-        requires { IsSound system.old }
-        ensures sound { OnOk result (IsSound system.new) }
-        ensures cause { IfErr result (λ fault. HasCause fault system.new) }
-    {
-        read_if_there(alloc, system, self.path.as_str())
-    }
-
-    // The bytes in a new file beside the old one, and then in its place.
-    fn put<R: Files<File = File> + AllocGlobal>(
-        &self,
-        system: &mut System<'_, R>,
-        beside: &str,
-        bytes: &[u8],
-    ) -> Result<(), Fault>
-        requires { IsSound system.old }
-        ensures sound { OnOk result (IsSound system.new) }
-        ensures cause { IfErr result (λ fault. HasCause fault system.new) }
-    {
-        write_new(system, beside, bytes, &self.permissions)?;
-        system.rename(beside, self.path.as_str())
-    }
-
-    /// Puts these bytes in the place of the file's, whole: they are written beside it, and moved over it once they are
-    /// on the disk. At a fault the file is as it was, but where only the folder could not be brought to the disk: then
-    /// it has the new bytes.
-    pub fn replace<R: Files<File = File> + AllocGlobal>(
-        &self,
-        alloc: Global,
-        system: &mut System<'_, R>,
-        bytes: &[u8],
-    ) -> Result<(), Fault>
-        requires { IsSound system.old }
-        ensures sound { OnOk result (IsSound system.new) }
-        ensures cause { IfErr result (λ fault. HasCause fault system.new) }
-    {
-        let path = self.path.as_str();
-        let beside = system.grown(format!(in alloc; "{path}.new"))?;
-        if self.is_locked {
-            // what a program that did not end well left
-            system.remove(beside.as_str());
-        }
-        if let Err(fault) = self.put(system, beside.as_str(), bytes) {
-            system.remove(beside.as_str());
-            return Err(fault);
-        }
-        match &self.folder {
-            Some(folder) => system.sync(folder),
-            None => Ok(()),
-        }
-    }
+    let mut folder = system.names(path)?;
+    let names = read_rest(alloc, system, &mut folder)?;
+    system.grown(new_names(alloc, names.as_slice()))
 }

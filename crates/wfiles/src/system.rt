@@ -7,14 +7,22 @@ ghost use Rattle.wfiles.specs.declared.fault.Fault.TheVariants.{NoMemory};
 ghost use Rattle.wfiles.specs.Calls.{GivesBytes, HasCause, IsSound};
 
 use crate::fault::Fault;
+use crate::folder::Access;
 use std::alloc::AllocError;
-use std::fs::{self, File, Metadata, OpenFile, Permissions};
+use std::fs::{self, File, Metadata, OpenFile, OpenOptions, Permissions};
 use std::io::{self, ErrorKind, Read, Write};
 use std::marker::Model;
+use std::os::unix::fs::{MetadataExt, OpenOptionsExt, fchown};
 use std::rt::Files;
 
 /// How often files are read at most.
 const MOST_READS: u64 = 1 << 40;
+
+/// The mode of a new file, of which the process's mask takes away.
+const OPEN_MODE: u32 = 0o666;
+
+/// The mode of a new file that nobody but its owner may read or write.
+const CLOSED_MODE: u32 = 0o600;
 
 /// The files of a system, with the number of reads, of the calls that failed and of the growths that were refused.
 /// Nothing else can count a failure.
@@ -42,6 +50,25 @@ fn is_out_of_memory(error: &io::Error) -> bool
     error.kind() == ErrorKind::OutOfMemory
 }
 
+// Makes a new file, if nothing has its name.
+fn new_file<R: Files<File = File>>(files: &R, path: &str, is_closed: bool) -> io::Result<File> {
+    let mode = if is_closed { CLOSED_MODE } else { OPEN_MODE };
+    OpenOptions::new()
+        .write(true)
+        .create_new(true)
+        .mode(mode)
+        .open(files, path)
+}
+
+// Gives a file an owner and a group, if it has others, and then permissions.
+fn give(file: &File, owner: u32, group: u32, permissions: Permissions) -> io::Result<()> {
+    let metadata = file.metadata()?;
+    if metadata.uid() != owner || metadata.gid() != group {
+        fchown(file, Some(owner), Some(group))?;
+    }
+    file.set_permissions(permissions)
+}
+
 impl<'a, R> System<'a, R> {
     /// Nothing has been counted yet.
     pub fn new(files: &'a R) -> Self
@@ -56,8 +83,21 @@ impl<'a, R> System<'a, R> {
         }
     }
 
-    // The fault of a growth that was refused.
-    fn refused(&mut self) -> Fault
+    /// The same system, with the same counts.
+    pub(crate) fn again(&self) -> System<'a, R>
+        ensures { result ≡ self.now }
+    {
+        System {
+            files: self.files,
+            reads: self.reads,
+            failed_reads: self.failed_reads,
+            failed_writes: self.failed_writes,
+            refused_growths: self.refused_growths,
+        }
+    }
+
+    /// The fault of a growth that was refused.
+    pub(crate) fn refused(&mut self) -> Fault
         requires { IsSound self.old }
         ensures fault { result ≡ NoMemory }
         ensures cause { HasCause result self.new }
@@ -108,8 +148,8 @@ impl<'a, R> System<'a, R> {
         self.misplaced()
     }
 
-    // The fault of a path that leads to no place for a file, and of a call that wrote.
-    fn misplaced(&mut self) -> Fault
+    /// The fault of a path that leads to no place for a file, and of a call that wrote.
+    pub(crate) fn misplaced(&mut self) -> Fault
         requires { IsSound self.old }
         ensures fault { result ≡ Fault.Write }
         ensures cause { HasCause result self.new }
@@ -196,18 +236,22 @@ impl<R: Files<File = File> + AllocGlobal> System<'_, R> {
         Ok(permissions)
     }
 
-    /// The permissions of the file that a path leads to, if there is one: a plain file with leave to write. Nothing else is
+    /// Who may read and write the file that a path leads to, if there is one: a plain file with leave to write. Nothing else is
     /// replaced: a device, a pipe, a folder, a file without leave to write, or a link to nothing is no place for a file.
-    pub fn replaceable(&mut self, path: &str) -> Result<Option<Permissions>, Fault>
+    pub fn replaceable(&mut self, path: &str) -> Result<Option<Access>, Fault>
         requires { IsSound self.old }
-        ensures writable { IfOk result (λ found. IfSome found (λ permissions. IsReadonly permissions → ⊥)) }
+        ensures writable { IfOk result (λ found. IfSome found (λ access. IsReadonly access.permissions → ⊥)) }
         ensures sound { OnOk result (IsSound self.new) }
         ensures cause { IfErr result (λ fault. HasCause fault self.new) }
     {
         match fs::metadata(self.files, path) {
             Ok(metadata) => {
                 let permissions = self.permissions(&metadata)?;
-                Ok(Some(permissions))
+                Ok(Some(Access {
+                    owner: metadata.uid(),
+                    group: metadata.gid(),
+                    permissions,
+                }))
             }
             Err(error) if error.kind() == ErrorKind::NotFound => self.absent(path),
             Err(error) => Err(self.write_failed(&error)),
@@ -215,7 +259,7 @@ impl<R: Files<File = File> + AllocGlobal> System<'_, R> {
     }
 
     // Nothing, where a path leads to nothing and is no link.
-    fn absent(&mut self, path: &str) -> Result<Option<Permissions>, Fault>
+    fn absent(&mut self, path: &str) -> Result<Option<Access>, Fault>
         requires { IsSound self.old }
         ensures none { IfOk result (λ found. IsNone found) }
         ensures sound { OnOk result (IsSound self.new) }
@@ -240,33 +284,34 @@ impl<R: Files<File = File> + AllocGlobal> System<'_, R> {
         }
     }
 
-    /// Makes a new file.
-    pub fn create_new(&mut self, path: &str) -> Result<File, Fault>
+    /// Makes a new file, if nothing has its name. One that is closed is for its owner alone.
+    pub(crate) fn create_new(&mut self, path: &str, is_closed: bool) -> Result<Option<File>, Fault>
         requires { IsSound self.old }
         ensures sound { OnOk result (IsSound self.new) }
         ensures cause { IfErr result (λ fault. HasCause fault self.new) }
     {
-        match File::create_new(self.files, path) {
-            Ok(created) => Ok(created),
+        match new_file(self.files, path, is_closed) {
+            Ok(created) => Ok(Some(created)),
+            Err(error) if error.kind() == ErrorKind::AlreadyExists => Ok(None),
             Err(error) => Err(self.write_failed(&error)),
         }
     }
 
-    /// Gives a file these permissions.
-    pub fn permit(&mut self, file: &File, permissions: &Permissions) -> Result<(), Fault>
+    /// Gives a file this owner and group, and then the permissions, so that nobody may read it who may not read the other.
+    pub(crate) fn permit(&mut self, file: &File, access: &Access) -> Result<(), Fault>
         requires { IsSound self.old }
         ensures sound { OnOk result (IsSound self.new) }
         ensures cause { IfErr result (λ fault. HasCause fault self.new) }
     {
-        let permissions = self.grown(permissions.clone())?;
-        match file.set_permissions(permissions) {
+        let permissions = self.grown(access.permissions.clone())?;
+        match give(file, access.owner, access.group, permissions) {
             Ok(()) => Ok(()),
             Err(error) => Err(self.write_failed(&error)),
         }
     }
 
     /// Brings a file or a folder to the disk.
-    pub fn sync(&mut self, file: &File) -> Result<(), Fault>
+    pub(crate) fn sync(&mut self, file: &File) -> Result<(), Fault>
         requires { IsSound self.old }
         ensures sound { OnOk result (IsSound self.new) }
         ensures cause { IfErr result (λ fault. HasCause fault self.new) }
@@ -278,7 +323,7 @@ impl<R: Files<File = File> + AllocGlobal> System<'_, R> {
     }
 
     /// Moves a file over another.
-    pub fn rename(&mut self, from: &str, to: &str) -> Result<(), Fault>
+    pub(crate) fn rename(&mut self, from: &str, to: &str) -> Result<(), Fault>
         requires { IsSound self.old }
         ensures sound { OnOk result (IsSound self.new) }
         ensures cause { IfErr result (λ fault. HasCause fault self.new) }
@@ -289,24 +334,46 @@ impl<R: Files<File = File> + AllocGlobal> System<'_, R> {
         }
     }
 
-    /// Removes a file, if there is one that can be removed. One that cannot is no failure.
-    pub(crate) fn remove(&mut self, path: &str)
+    /// Removes a file, if there is one that can be removed, and tells whether it did. One that cannot is no failure.
+    pub(crate) fn remove(&mut self, path: &str) -> bool
         ensures { self.new ≡ self.old }
     {
-        let _ = fs::remove_file(self.files, path);
+        fs::remove_file(self.files, path).is_ok()
     }
 
-    /// A folder, if it can be opened. One that cannot is no failure, but for want of memory.
-    pub(crate) fn folder(&mut self, path: &str) -> Result<Option<File>, Fault>
+    /// A folder, which has to be there.
+    pub(crate) fn folder(&mut self, path: &str) -> Result<File, Fault>
         requires { IsSound self.old }
-        ensures memory { IfErr result (λ fault. fault ≡ NoMemory) }
         ensures sound { OnOk result (IsSound self.new) }
         ensures cause { IfErr result (λ fault. HasCause fault self.new) }
     {
         match File::open(self.files, path) {
-            Ok(folder) => Ok(Some(folder)),
-            Err(error) if is_out_of_memory(&error) => Err(self.refused()),
-            Err(_) => Ok(None),
+            Ok(folder) => Ok(folder),
+            Err(error) => Err(self.write_failed(&error)),
+        }
+    }
+
+    /// Waits for the lock of a folder.
+    pub(crate) fn lock(&mut self, folder: &File) -> Result<(), Fault>
+        requires { IsSound self.old }
+        ensures sound { OnOk result (IsSound self.new) }
+        ensures cause { IfErr result (λ fault. HasCause fault self.new) }
+    {
+        match folder.lock() {
+            Ok(()) => Ok(()),
+            Err(error) => Err(self.write_failed(&error)),
+        }
+    }
+
+    /// The names in a folder, to be read, each ended by a zero byte.
+    pub(crate) fn names(&mut self, path: &str) -> Result<R::Dir, Fault>
+        requires { IsSound self.old }
+        ensures sound { OnOk result (IsSound self.new) }
+        ensures cause { IfErr result (λ fault. HasCause fault self.new) }
+    {
+        match self.files.open_dir(path) {
+            Ok(names) => Ok(names),
+            Err(error) => Err(self.read_failed(&error)),
         }
     }
 }

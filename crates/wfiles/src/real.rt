@@ -1,0 +1,175 @@
+//! The folder of a system. Each method makes the call that it notes, and notes what was answered: that is what the theorems over
+//! the record rest on, and no proof shows it.
+ghost use Rattle.std.specs.Prelude.{◌≡◌, ◌∷◌, is_ok, IfErr, OnOk};
+ghost use Rattle.wfiles.specs.Call.{call_of};
+ghost use Rattle.wfiles.specs.Calls.{HasCause, IsSound};
+
+use crate::fault::Fault;
+use crate::files::{read_if_there, read_names};
+use crate::folder::{Access, Folder};
+use crate::record::Record;
+use crate::system::System;
+use std::alloc::Global;
+use std::fs::File;
+use std::rt::Files;
+
+const LOCKED: u64 = 0;
+
+const FOUND: u64 = 1;
+
+const CREATED: u64 = 2;
+
+const PERMITTED: u64 = 3;
+
+const WROTE: u64 = 4;
+
+const SYNCED: u64 = 5;
+
+const MOVED: u64 = 6;
+
+const SYNCED_FOLDER: u64 = 7;
+
+const REMOVED: u64 = 8;
+
+/// A folder of the operating system, and the new file that was made last.
+#[derive(Drop)]
+pub(crate) struct RealFolder<'s, 'a, R> {
+    system: System<'a, R>,
+    folder: &'s File,
+    made: Option<File>,
+    trace: Record,
+}
+
+impl<'s, 'a, R> RealFolder<'s, 'a, R> {
+    /// An open folder, of which nothing is noted yet.
+    pub(crate) fn new(system: System<'a, R>, folder: &'s File) -> Self
+        ensures { result.system ≡ system.entry }
+    {
+        RealFolder {
+            system,
+            folder,
+            made: None,
+            trace: Record::new(),
+        }
+    }
+
+    /// The system, with what was counted.
+    pub(crate) fn system(&self) -> System<'a, R>
+        ensures { result ≡ self.now.system }
+    {
+        self.system.again()
+    }
+
+    // Notes a call.
+    fn note(&mut self, number: u64, is_done: bool, path: &[u8], bytes: &[u8])
+        ensures calls { self.new.trace.calls ≡ call_of number is_done path.now bytes.now ∷ self.old.trace.calls }
+        ensures system { self.new.system ≡ self.old.system }
+    {
+        if is_done {
+            self.trace.note(&[number, 1], path, bytes);
+        } else {
+            self.trace.note(&[number, 0], path, bytes);
+        }
+    }
+}
+
+impl<R: Files<File = File> + AllocGlobal> Folder for RealFolder<'_, '_, R> {
+    ghost calls = { λ f. f.trace.calls };
+
+    ghost counts = { λ f. f.system };
+
+    fn lock(&mut self) -> Result<(), Fault> {
+        let taken = self.system.lock(self.folder);
+        self.note(LOCKED, taken.is_ok(), &[], &[]);
+        taken
+    }
+
+    fn lacks_memory(&mut self) -> Fault {
+        self.system.refused()
+    }
+
+    fn misplaced(&mut self) -> Fault {
+        self.system.misplaced()
+    }
+
+    fn names(&mut self, alloc: Global, folder: &str) -> Result<Vec<String>, Fault> {
+        read_names(alloc, &mut self.system, folder)
+    }
+
+    fn read(&mut self, alloc: Global, path: &str) -> Result<Option<Vec<u8>>, Fault> {
+        match read_if_there(alloc, &mut self.system, path) {
+            Ok(Some(bytes)) => {
+                self.note(FOUND, true, path.as_bytes(), bytes.as_slice());
+                Ok(Some(bytes))
+            }
+            Ok(None) => {
+                self.note(FOUND, false, path.as_bytes(), &[]);
+                Ok(None)
+            }
+            Err(fault) => Err(fault),
+        }
+    }
+
+    fn create_new(&mut self, path: &str, is_closed: bool) -> Result<bool, Fault> {
+        match self.system.create_new(path, is_closed) {
+            Ok(Some(file)) => {
+                self.made = Some(file);
+                self.note(CREATED, true, path.as_bytes(), &[]);
+                Ok(true)
+            }
+            Ok(None) => {
+                self.note(CREATED, false, path.as_bytes(), &[]);
+                Ok(false)
+            }
+            Err(fault) => {
+                self.note(CREATED, false, path.as_bytes(), &[]);
+                Err(fault)
+            }
+        }
+    }
+
+    fn permit(&mut self, path: &str, access: &Access) -> Result<(), Fault> {
+        let given = match &self.made {
+            Some(file) => self.system.permit(file, access),
+            None => Err(self.system.misplaced()),
+        };
+        self.note(PERMITTED, given.is_ok(), path.as_bytes(), &[]);
+        given
+    }
+
+    fn write(&mut self, path: &str, bytes: &[u8]) -> Result<(), Fault> {
+        let written = match &mut self.made {
+            Some(file) => self.system.write(file, bytes),
+            None => Err(self.system.misplaced()),
+        };
+        self.note(WROTE, written.is_ok(), path.as_bytes(), bytes);
+        written
+    }
+
+    fn sync(&mut self, path: &str) -> Result<(), Fault> {
+        let synced = match &self.made {
+            Some(file) => self.system.sync(file),
+            None => Err(self.system.misplaced()),
+        };
+        self.note(SYNCED, synced.is_ok(), path.as_bytes(), &[]);
+        synced
+    }
+
+    fn rename(&mut self, from: &str, to: &str) -> Result<(), Fault> {
+        let moved = self.system.rename(from, to);
+        self.note(MOVED, moved.is_ok(), from.as_bytes(), to.as_bytes());
+        moved
+    }
+
+    fn sync_folder(&mut self) -> Result<(), Fault> {
+        let synced = self.system.sync(self.folder);
+        self.note(SYNCED_FOLDER, synced.is_ok(), &[], &[]);
+        synced
+    }
+
+    fn remove(&mut self, path: &str) -> bool {
+        let is_removed = self.system.remove(path);
+        self.note(REMOVED, is_removed, path.as_bytes(), &[]);
+        is_removed
+    }
+}
