@@ -3,11 +3,11 @@ use Rattle.std.specs.Prelude.{◌≡◌, ◌||◌, ◌==◌, ℕ, Bool, true, Li
 use Rattle.std.specs.List.{list_all}
 use Rattle.std.specs.Char.{is_ascii_digit}
 
--- a digit, or the - between two numbers
+-- a digit, or a - between two numbers
 abbrev pub is_number_byte : ℕ → Bool
 is_number_byte b = is_ascii_digit b || (b == 45)
 
--- .wstore- and then the numbers of a process and of a try
+-- .wstore- and then the number of a try
 pub record IsNewName (name : List ℕ) : Type 0 where
   pub begins : take 8 name ≡ codes ".wstore-"
   pub numbers : list_all is_number_byte (drop 8 name) ≡ true

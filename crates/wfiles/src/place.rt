@@ -66,7 +66,6 @@ fn replace_locked<F: Folder>(
     alloc: Global,
     folder: &mut F,
     target: &Target,
-    process: u32,
     bytes: &[u8],
 ) -> Result<(), NotReplaced>
     requires { IsSound (F.counts folder.old) }
@@ -74,7 +73,7 @@ fn replace_locked<F: Folder>(
     ensures cause { IfErr result (λ fault. HasCause (fault_of fault) (F.counts folder.new)) }
 {
     match folder.lock() {
-        Ok(()) => replace(alloc, folder, target, process, bytes),
+        Ok(()) => replace(alloc, folder, target, bytes),
         Err(fault) => Err(NotReplaced::Kept(fault)),
     }
 }
@@ -133,8 +132,7 @@ impl Place {
         ensures cause { IfErr result (λ fault. HasCause fault system.new) }
     {
         let mut folder = RealFolder::new(system.again(), &self.folder);
-        let process = libc::getpid().unsigned_abs();
-        let replaced = replace_locked(alloc, &mut folder, &self.target, process, bytes);
+        let replaced = replace_locked(alloc, &mut folder, &self.target, bytes);
         *system = folder.system();
         match replaced {
             Ok(()) => Ok(()),

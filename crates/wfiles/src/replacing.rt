@@ -126,7 +126,6 @@ fn try_new<F: Folder>(
     alloc: Global,
     folder: &mut F,
     target: &Target,
-    process: u32,
     number: u32,
 ) -> Result<Option<String>, Fault>
     requires sound { IsSound (F.counts folder.old) }
@@ -135,7 +134,7 @@ fn try_new<F: Folder>(
     ensures sound { OnOk result (IsSound (F.counts folder.new)) }
     ensures cause { IfErr result (λ fault. HasCause fault (F.counts folder.new)) }
 {
-    let Ok(name) = format!(in alloc; ".wstore-{process}-{number}") else {
+    let Ok(name) = format!(in alloc; ".wstore-{number}") else {
         return Err(folder.lacks_memory());
     };
     match path_beside(alloc, target, name.as_str()) {
@@ -146,12 +145,7 @@ fn try_new<F: Folder>(
 }
 
 // Makes a new file beside the store, under a name that is free.
-fn make_new<F: Folder>(
-    alloc: Global,
-    folder: &mut F,
-    target: &Target,
-    process: u32,
-) -> Result<String, Fault>
+fn make_new<F: Folder>(alloc: Global, folder: &mut F, target: &Target) -> Result<String, Fault>
     requires sound { IsSound (F.counts folder.old) }
     ensures made { IfOk result (λ name. Brings (string_bytes target.now.path) (F.calls folder.old) Idle (F.calls folder.new) (Beside (string_bytes name) (Some []) false)) }
     ensures idle { OnErr result (Brings (string_bytes target.now.path) (F.calls folder.old) Idle (F.calls folder.new) Idle) }
@@ -159,7 +153,7 @@ fn make_new<F: Folder>(
     ensures cause { IfErr result (λ fault. HasCause fault (F.counts folder.new)) }
 {
     'tries: for number in 0..TRIES {
-        match try_new(alloc, folder, target, process, number) {
+        match try_new(alloc, folder, target, number) {
             Ok(Some(path)) => return Ok(path),
             Ok(None) => {}
             Err(fault) => return Err(fault),
@@ -210,12 +204,7 @@ fn clear<F: Folder>(alloc: Global, folder: &mut F, target: &Target) -> Result<()
 }
 
 // Makes the new file, where nothing of an earlier run is left.
-fn begin<F: Folder>(
-    alloc: Global,
-    folder: &mut F,
-    target: &Target,
-    process: u32,
-) -> Result<String, Fault>
+fn begin<F: Folder>(alloc: Global, folder: &mut F, target: &Target) -> Result<String, Fault>
     requires sound { IsSound (F.counts folder.old) }
     ensures made { IfOk result (λ name. Brings (string_bytes target.now.path) (F.calls folder.old) Idle (F.calls folder.new) (Beside (string_bytes name) (Some []) false)) }
     ensures idle { OnErr result (Brings (string_bytes target.now.path) (F.calls folder.old) Idle (F.calls folder.new) Idle) }
@@ -223,7 +212,7 @@ fn begin<F: Folder>(
     ensures cause { IfErr result (λ fault. HasCause fault (F.counts folder.new)) }
 {
     match clear(alloc, folder, target) {
-        Ok(()) => make_new(alloc, folder, target, process),
+        Ok(()) => make_new(alloc, folder, target),
         Err(fault) => Err(fault),
     }
 }
@@ -259,7 +248,6 @@ pub fn replace<F: Folder>(
     alloc: Global,
     folder: &mut F,
     target: &Target,
-    process: u32,
     bytes: &[u8],
 ) -> Result<(), NotReplaced>
     requires sound { IsSound (F.counts folder.old) }
@@ -268,7 +256,7 @@ pub fn replace<F: Folder>(
     ensures sound { OnOk result (IsSound (F.counts folder.new)) }
     ensures cause { IfErr result (λ fault. HasCause (fault_of fault) (F.counts folder.new)) }
 {
-    let new = match begin(alloc, folder, target, process) {
+    let new = match begin(alloc, folder, target) {
         Ok(new) => new,
         Err(fault) => return Err(NotReplaced::Kept(fault)),
     };
