@@ -1,6 +1,6 @@
 -- What each subcommand does.
 use Rattle.std.specs.Prelude.{◌≡◌, ◌≢◌, ⊤, ℕ, List, Option, Some, None, Result, Ok, Err, IsOk, codes, map}
-use Rattle.std.specs.FinMap.{empty, entries, get}
+use Rattle.std.specs.FinMap.{empty, entries}
 use Rattle.wvalues.specs.Names.{NameParts}
 use Rattle.wvalues.specs.NameReading.{ReadsName}
 use Rattle.wvalues.specs.declared.name.NameFault.{NameFault}
@@ -10,10 +10,10 @@ use Rattle.wsegment.specs.Rows.{rows_of}
 use Rattle.wsegment.specs.declared.schema_fault.SchemaFault.{SchemaFault}
 use Rattle.wsegment.specs.declared.schema_fault.SchemaFault.TheVariants as tables
 use Rattle.wsegment.specs.declared.fault.SegmentFault.{SegmentFault}
-use Rattle.wset.specs.Items.{RetirementItem, SegmentItem, view_of_item}
+use Rattle.wset.specs.Items.{FloorItem, RetirementItem, SegmentItem, view_of_item}
 use Rattle.wset.specs.Listing.{listed}
-use Rattle.wset.specs.Views.{View, join}
-use Rattle.wset.specs.Words.{retired_word, taken_word}
+use Rattle.wset.specs.Views.{View, join, known_in}
+use Rattle.wset.specs.Words.{floor_word, retired_word, taken_word}
 use Rattle.wexchange.specs.Judging.{HasTable, IsFault, IsFileOf}
 use Rattle.wexchange.specs.declared.fault.FileFault.{FileFault}
 use Rattle.wexchange.specs.declared.fault.FileFault.TheVariants as files
@@ -35,11 +35,15 @@ pub data OnName (origin number : List ℕ) (acted : Acted) (Does : NameParts →
 -- a segment is taken, or its first fault is told
 pub data Takes (d : Declaration) (v : View) (csv : List ℕ) (acted : Acted) (name : NameParts) : Type 0 where
   SegmentRefused : (fault : SegmentFault) → rows_of d csv ≡ Err fault → IsRefused acted (segment_text fault) → Takes d v csv acted name
-  Taken : IsOk (rows_of d csv) → IsStored d (join v (view_of_item (SegmentItem name csv))) acted (taken_text (taken_word (get v name) csv)) → Takes d v csv acted name
+  Taken : IsOk (rows_of d csv) → IsStored d (join v (view_of_item (SegmentItem name csv))) acted (taken_text (taken_word (known_in v name) csv)) → Takes d v csv acted name
 
 -- a name is retired
 abbrev pub Retires : Declaration → View → Acted → NameParts → Type 0
-Retires d v acted name = IsStored d (join v (view_of_item (RetirementItem name))) acted (retired_text (retired_word (get v name)))
+Retires d v acted name = IsStored d (join v (view_of_item (RetirementItem name))) acted (retired_text (retired_word (known_in v name)))
+
+-- all names of an origin up to one are retired
+abbrev pub RetiresTo : Declaration → View → Acted → NameParts → Type 0
+RetiresTo d v acted name = IsStored d (join v (view_of_item (FloorItem name))) acted (retired_text (floor_word v name))
 
 -- another store is joined, or its first fault is told
 pub data Joins (d : Declaration) (v : View) (other : List ℕ) (acted : Acted) : Type 0 where
@@ -60,6 +64,7 @@ abbrev pub ActsOn : Declaration → View → Choice → List ℕ → Acted → T
 ActsOn d v choices.Session other acted = ⊥
 ActsOn d v (choices.Take paths origin number csv) other acted = OnName origin.now number.now acted (Takes d v other acted)
 ActsOn d v (choices.Retire paths origin number) other acted = OnName origin.now number.now acted (Retires d v acted)
+ActsOn d v (choices.Floor paths origin number) other acted = OnName origin.now number.now acted (RetiresTo d v acted)
 ActsOn d v (choices.Join paths path) other acted = Joins d v other acted
 ActsOn d v (choices.List paths) other acted = Lists d v acted
 ActsOn d v (choices.Ask paths query) other acted = Asks d v query.now acted
@@ -69,6 +74,7 @@ abbrev pub MayLackMemory : Declaration → Choice → List ℕ → Type 0
 MayLackMemory d choices.Session other = ⊥
 MayLackMemory d (choices.Take paths origin number csv) other = AreName origin.now number.now
 MayLackMemory d (choices.Retire paths origin number) other = AreName origin.now number.now
+MayLackMemory d (choices.Floor paths origin number) other = AreName origin.now number.now
 MayLackMemory d (choices.Join paths path) other = HasTable d other
 MayLackMemory d (choices.List paths) other = ⊤
 MayLackMemory d (choices.Ask paths query) other = ⊤

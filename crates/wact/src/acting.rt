@@ -5,7 +5,7 @@ ghost use Rattle.wexchange.specs.Judging.{HasTable};
 ghost use Rattle.wreplies.specs.Spelling.{name_text};
 ghost use Rattle.wstore.specs.History.{AreName};
 ghost use Rattle.wact.specs.Outcomes.{IsAnswered, IsRefused};
-ghost use Rattle.wact.specs.Acts.{Acts, ActsBy, ActsOn, ActsRead, Asks, HasFault, Joins, Knows, Lists, MayLackMemory, OnName, Retires, Takes};
+ghost use Rattle.wact.specs.Acts.{Acts, ActsBy, ActsOn, ActsRead, Asks, HasFault, Joins, Knows, Lists, MayLackMemory, OnName, Retires, RetiresTo, Takes};
 
 use crate::acted::{Acted, answered, refused, stored};
 use std::alloc::{AllocError, Global};
@@ -38,6 +38,14 @@ fn retire_name(node: &mut Node, name: Name) -> Result<Acted, AllocError>
     stored(node, retired(word))
 }
 
+// Retires all names up to one.
+fn retire_to(node: &mut Node, name: Name) -> Result<Acted, AllocError>
+    ensures { IfOk result (λ acted. RetiresTo node.old.schema node.old.view acted name) }
+{
+    let word = node.retire_to(name)?;
+    stored(node, retired(word))
+}
+
 // The refusal of a name.
 fn bad_name(fault: NameFault) -> Acted
     ensures { IsRefused result (name_text fault) }
@@ -67,6 +75,16 @@ fn retire(alloc: Global, node: &mut Node, origin: &str, number: &str) -> Result<
 {
     match Name::read(origin.as_bytes(), number.as_bytes()) {
         Ok(name) => retire_name(node, name),
+        Err(fault) => Ok(bad_name(fault)),
+    }
+}
+
+fn floor(alloc: Global, node: &mut Node, origin: &str, number: &str) -> Result<Acted, AllocError>
+    ensures does { IfOk result (λ acted. OnName origin.now number.now acted (RetiresTo node.old.schema node.old.view acted)) }
+    ensures lacks { OnErr result (AreName origin.now number.now) }
+{
+    match Name::read(origin.as_bytes(), number.as_bytes()) {
+        Ok(name) => retire_to(node, name),
         Err(fault) => Ok(bad_name(fault)),
     }
 }
@@ -123,6 +141,7 @@ fn act_on(
         Choice::Session => unreachable!(),
         Choice::Take { origin, number, .. } => take(alloc, node, origin, number, other),
         Choice::Retire { origin, number, .. } => retire(alloc, node, origin, number),
+        Choice::Floor { origin, number, .. } => floor(alloc, node, origin, number),
         Choice::Join { .. } => join(alloc, node, other),
         Choice::List { .. } => list(alloc, node),
         Choice::Ask { query, .. } => ask(alloc, node, query),

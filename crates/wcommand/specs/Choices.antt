@@ -25,6 +25,8 @@ IsChoiceIn name rows (choices.Take paths origin number csv) = (name ≡ codes "t
     × HasValue rows (codes "ORIGIN") origin.now × HasValue rows (codes "NUMBER") number.now × HasValue rows (codes "CSV") csv.now
 IsChoiceIn name rows (choices.Retire paths origin number) = (name ≡ codes "retire") × HasPaths rows paths
     × HasValue rows (codes "ORIGIN") origin.now × HasValue rows (codes "NUMBER") number.now
+IsChoiceIn name rows (choices.Floor paths origin number) = (name ≡ codes "floor") × HasPaths rows paths
+    × HasValue rows (codes "ORIGIN") origin.now × HasValue rows (codes "NUMBER") number.now
 IsChoiceIn name rows (choices.Join paths other) = (name ≡ codes "join") × HasPaths rows paths × HasValue rows (codes "OTHER") other.now
 IsChoiceIn name rows (choices.List paths) = (name ≡ codes "list") × HasPaths rows paths
 IsChoiceIn name rows (choices.Ask paths query) = (name ≡ codes "ask") × HasPaths rows paths × HasValue rows (codes "QUERY") query.now

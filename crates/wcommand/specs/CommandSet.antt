@@ -30,6 +30,10 @@ take_shape = shape_on_files (codes "take") (positional_rule (codes "ORIGIN") ∷
 abbrev pub retire_shape : Shape
 retire_shape = shape_on_files (codes "retire") (positional_rule (codes "ORIGIN") ∷ positional_rule (codes "NUMBER") ∷ [])
 
+-- `floor --table FILE --store FILE ORIGIN NUMBER`
+abbrev pub floor_shape : Shape
+floor_shape = shape_on_files (codes "floor") (positional_rule (codes "ORIGIN") ∷ positional_rule (codes "NUMBER") ∷ [])
+
 -- `join --table FILE --store FILE OTHER`
 abbrev pub join_shape : Shape
 join_shape = shape_on_files (codes "join") (positional_rule (codes "OTHER") ∷ [])
@@ -55,7 +59,7 @@ program_app = record unversioned_app { top = record unversioned_app.top { has_ve
 
 -- the subcommands, in the order of the help
 abbrev pub subcommands : List Shape
-subcommands = session_shape ∷ take_shape ∷ retire_shape ∷ join_shape ∷ list_shape ∷ ask_shape ∷ []
+subcommands = session_shape ∷ take_shape ∷ retire_shape ∷ floor_shape ∷ join_shape ∷ list_shape ∷ ask_shape ∷ []
 
 -- the program with its subcommands
 abbrev pub command_set : App

@@ -11,6 +11,7 @@ abbrev pub paths_of : Choice → Option Paths
 paths_of choices.Session = None
 paths_of (choices.Take paths origin number csv) = Some paths
 paths_of (choices.Retire paths origin number) = Some paths
+paths_of (choices.Floor paths origin number) = Some paths
 paths_of (choices.Join paths other) = Some paths
 paths_of (choices.List paths) = Some paths
 paths_of (choices.Ask paths query) = Some paths

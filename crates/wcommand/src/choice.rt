@@ -29,6 +29,12 @@ pub enum Choice<'a> {
         origin: &'a str,
         number: &'a str,
     },
+    /// `floor ORIGIN NUMBER`: all names of the origin up to the number are retired for good.
+    Floor {
+        paths: Paths<'a>,
+        origin: &'a str,
+        number: &'a str,
+    },
     /// `join OTHER`: what the store in the file `other` knows is added.
     Join {
         paths: Paths<'a>,
@@ -56,6 +62,7 @@ impl<'a> Choice<'a> {
             Choice::Session => None,
             Choice::Take { paths, .. } => Some(paths),
             Choice::Retire { paths, .. } => Some(paths),
+            Choice::Floor { paths, .. } => Some(paths),
             Choice::Join { paths, .. } => Some(paths),
             Choice::List { paths } => Some(paths),
             Choice::Ask { paths, .. } => Some(paths),

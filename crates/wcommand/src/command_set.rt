@@ -2,7 +2,7 @@
 ghost use Rattle.std.specs.Prelude.{◌≡◌, IfOk, false, codes, true};
 ghost use Rattle.clap.specs.Words.{app_of, rule_of, shape_of, with_rule, new_app};
 ghost use Rattle.clap.specs.declared.builder.command.Command.TheViews.{out-Command as fields_of};
-ghost use Rattle.wcommand.specs.CommandSet.{ask_shape, command_set, join_shape, list_shape, option_rule, positional_rule, program_app, retire_shape, session_shape, take_shape, unversioned_app};
+ghost use Rattle.wcommand.specs.CommandSet.{ask_shape, command_set, floor_shape, join_shape, list_shape, option_rule, positional_rule, program_app, retire_shape, session_shape, take_shape, unversioned_app};
 
 use crate::help;
 use clap::{Arg, Command};
@@ -72,6 +72,16 @@ fn retire<'a>(alloc: Global) -> Result<Command<'a>, AllocError>
     let command = on_files(alloc, "retire", help::RETIRE, help::AFTER_RETIRE)?
         .arg(positional(alloc, "ORIGIN", "The origin of the name"))?
         .arg(positional(alloc, "NUMBER", "The number of the name"))?;
+    Ok(command)
+}
+
+fn floor<'a>(alloc: Global) -> Result<Command<'a>, AllocError>
+    ensures shape { IfOk result (λ c. shape_of c ≡ floor_shape) }
+    ensures local { IfOk result (λ c. (fields_of c).has_globals ≡ false) }
+{
+    let command = on_files(alloc, "floor", help::FLOOR, help::AFTER_FLOOR)?
+        .arg(positional(alloc, "ORIGIN", "The origin of the names"))?
+        .arg(positional(alloc, "NUMBER", "The greatest number that is retired"))?;
     Ok(command)
 }
 
@@ -147,6 +157,7 @@ pub(crate) fn command_set<'a>(alloc: Global) -> Result<Command<'a>, AllocError>
         .subcommand(session(alloc))?
         .subcommand(take(alloc)?)?
         .subcommand(retire(alloc)?)?
+        .subcommand(floor(alloc)?)?
         .subcommand(join(alloc)?)?
         .subcommand(list(alloc)?)?
         .subcommand(ask(alloc)?)?;

@@ -75,11 +75,27 @@ take the corrected file under a new number.
 
 Prints:
   retired   the name counted, was disputed or was not known
-  same      it was retired already
+  same      it was retired already, or is not above a floor
   refused   N1 an origin, N2 a number that is malformed
 
 Example:
   wstore retire --table sales.table --store sales.wsx east 1
+
+Exit status: 0 done, 1 refused, 2 words, 3 a fault. A store is replaced whole, or is as it was.";
+
+pub(crate) const FLOOR: &str = "Retire all names of an origin up to a number for good";
+
+pub(crate) const AFTER_FLOOR: &str = "\
+The store keeps one line for all of them, and forgets what it knew of each. A higher floor of the origin takes the
+place of a lower one; a lower one changes nothing.
+
+Prints:
+  retired   the floor rose
+  same      a floor of the origin stood as high
+  refused   N1 an origin, N2 a number that is malformed
+
+Example:
+  wstore floor --table sales.table --store sales.wsx east 365
 
 Exit status: 0 done, 1 refused, 2 words, 3 a fault. A store is replaced whole, or is as it was.";
 
@@ -91,7 +107,7 @@ the same. Joining again changes nothing.
 
 Prints:
   ok        the store knows what both knew
-  refused   X1 to X7: OTHER is no store of this table, or is cut or changed
+  refused   X1 to X8: OTHER is no store of this table, or is cut or changed
 
 Example:
   wstore join --table sales.table --store sales.wsx west.wsx
@@ -105,6 +121,7 @@ Prints 'list' and the number of names, then a line for each name, by origin and 
   east 1 live 4     its 4 rows count
   east 2 disputed   it was taken with different bytes, and counts nowhere
   west 1 retired    it was retired, and never counts again
+  north 30 floor    all names of its origin up to it are retired
 
 Example:
   wstore list --table sales.table --store sales.wsx

@@ -55,6 +55,20 @@ fn retire<'a>(found: &ArgMatches<'a>) -> Choice<'a>
     }
 }
 
+fn floor<'a>(found: &ArgMatches<'a>) -> Choice<'a>
+    requires { have_values (rows_of (found_of found.now)) (codes "table" ∷ codes "store" ∷ codes "ORIGIN" ∷ codes "NUMBER" ∷ []) ≡ true }
+    ensures { IsChoiceIn (codes "floor") (rows_of (found_of found.now)) result }
+{
+    let paths = paths(found);
+    let origin = value(found, "ORIGIN");
+    let number = value(found, "NUMBER");
+    Choice::Floor {
+        paths,
+        origin,
+        number,
+    }
+}
+
 fn join<'a>(found: &ArgMatches<'a>) -> Choice<'a>
     requires { have_values (rows_of (found_of found.now)) (codes "table" ∷ codes "store" ∷ codes "OTHER" ∷ []) ≡ true }
     ensures { IsChoiceIn (codes "join") (rows_of (found_of found.now)) result }
@@ -91,6 +105,9 @@ fn in_subcommand<'a>(name: &str, found: &ArgMatches<'a>) -> Choice<'a>
     }
     if name == "retire" {
         return retire(found);
+    }
+    if name == "floor" {
+        return floor(found);
     }
     if name == "join" {
         return join(found);

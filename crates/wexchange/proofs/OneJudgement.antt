@@ -14,21 +14,29 @@ use Rattle.wsegment.specs.Declaration.{Declaration, declaration_text}
 use Rattle.wsegment.specs.Spelling.{IsDeclaration}
 use Rattle.wsegment.specs.Rows.{rows_of}
 use Rattle.wsegment.specs.declared.fault.SegmentFault.{SegmentFault}
-use Rattle.wset.specs.Views.{Known, Live, Disputed, Retired, View}
-use Rattle.wset.specs.Lending.{AreBelow, IsAbove}
+use Rattle.wset.specs.Views.{Known, Live, Disputed, Retired, Floor, View, IsSettled}
+use Rattle.wset.specs.Lending.{AreBelow, IsAbove, IsBehindOrigins}
 use Rattle.wexchange.specs.Cuts.{IsUnfed}
 use Rattle.wexchange.specs.Forms.{IsForm, line_of}
-use Rattle.wexchange.specs.Files.{head, table_text, record_text, end_text, begun, file_of, IsRecord, IsView}
-use Rattle.wexchange.specs.Judging.{Place, AtTable, Behind, GoesOn, MayStand, Follows, record_name, body_length, Stands, HasOtherHead, IsCutHead, HasLowName, Judges}
+use Rattle.wexchange.specs.Files.{head, table_text, record_text, end_text, begun, counted, digest_of, digest_text, text_of, file_of, HasFloors, IsRecord, IsView, MayTell, Tells}
+use Rattle.wexchange.specs.declared.version.Version.{Version}
+use Rattle.wexchange.specs.declared.version.Version.TheVariants.{One, Two}
+use Rattle.wexchange.specs.Judging.{Place, AtTable, AtDigest, Behind, GoesOn, MayStand, Follows, record_name, body_length, Stands, HasOtherHead, IsCutHead, HasLowName, Judges}
 use Rattle.wexchange.specs.Laws.{OneJudgement, OwnJudgement}
 use Rattle.wexchange.specs.declared.form.Form.{Form}
 use Rattle.wexchange.specs.declared.form.Form.TheVariants as forms
 use Rattle.wexchange.specs.declared.fault.FileFault.{FileFault}
 use Rattle.wexchange.specs.declared.fault.FileFault.TheVariants as faults
 use Rattle.wexchange.proofs.Words.{line_lacks}
-use Rattle.wexchange.proofs.Streams.{same_behind}
-use Rattle.wexchange.proofs.FirstMessage.{same_front, cut}
-use Rattle.wexchange.proofs.OneView.{record_form, record_rest, record_is_form, record_first, one_record}
+use Rattle.wexchange.proofs.OneText.{cut, no_end, one_record, one_version, record_first, record_form, record_is_form, record_rest, same_front}
+use Rattle.wexchange.proofs.Before.{floor_next}
+use Rattle.wexchange.proofs.Digests.{digest_spelled}
+
+same_behind : (xs ys : List ℕ) (a b : ℕ) (more rest : List ℕ) → length xs ≡ length ys → xs ++ (a ∷ more) ≡ ys ++ (b ∷ rest) → a ≡ b
+same_behind [] [] a b more rest h e = cc
+same_behind [] (y ∷ ys) a b more rest h e = absurd (omega arith)
+same_behind (x ∷ xs) [] a b more rest h e = absurd (omega arith)
+same_behind (x ∷ xs) (y ∷ ys) a b more rest h e = same_behind xs ys a b more rest (omega arith) cc
 
 abbrev Outcome : Type 0
 Outcome = Result View FileFault
@@ -93,58 +101,100 @@ same_fault f g e = cc
 one_refusal : (d : Declaration) (content : List ℕ) (r s : Outcome) → IsRefused d content r → IsRefused d content s → r ≡ s
 one_refusal d content r s x y = x.is ∙ ap (λ f. Err (faults.Segment f)) (same_fault x.fault y.fault (sym x.refused ∙ y.refused)) ∙ sym y.is
 
--- the name is not greater than those before it, or it is, and what stands behind it has an outcome
-data NameStop (v : View) (name : NameParts) (Has : Outcome → Type 0) (r : Outcome) : Type 0 where
-  low : ¬ (IsAbove v name) → r ≡ Err faults.NotRising → NameStop v name Has r
-  above : IsAbove v name → Has r → NameStop v name Has r
+-- the name does not follow those before it, or it does, and what stands behind it has an outcome
+data NameStop (Fits : Type 0) (Has : Outcome → Type 0) (r : Outcome) : Type 0 where
+  low : ¬ Fits → r ≡ Err faults.NotRising → NameStop Fits Has r
+  above : Fits → Has r → NameStop Fits Has r
 
-one_name : (v : View) (name : NameParts) (Has : Outcome → Type 0) (r s : Outcome) → (Has r → Has s → r ≡ s) → NameStop v name Has r → NameStop v name Has s → r ≡ s
-one_name v name Has r s one (low h e) (low k f) = e ∙ sym f
-one_name v name Has r s one (low h e) (above k y) = absurd (h k)
-one_name v name Has r s one (above h x) (low k f) = absurd (k h)
-one_name v name Has r s one (above h x) (above k y) = one x y
-
--- the count is another one, or the file is followed by more, or whole
-data EndStop (v : View) (count : ℕ) (after : List ℕ) (r : Outcome) : Type 0 where
-  other_count : count ≢ length (entries v) → r ≡ Err faults.OtherCount → EndStop v count after r
-  trailing : (byte : ℕ) (more : List ℕ) → count ≡ length (entries v) → after ≡ byte ∷ more → r ≡ Err faults.Trailing → EndStop v count after r
-  file : count ≡ length (entries v) → after ≡ [] → r ≡ Ok v → EndStop v count after r
+one_name : (Fits : Type 0) (Has : Outcome → Type 0) (r s : Outcome) → (Has r → Has s → r ≡ s) → NameStop Fits Has r → NameStop Fits Has s → r ≡ s
+one_name Fits Has r s one (low h e) (low k f) = e ∙ sym f
+one_name Fits Has r s one (low h e) (above k y) = absurd (h k)
+one_name Fits Has r s one (above h x) (low k f) = absurd (k h)
+one_name Fits Has r s one (above h x) (above k y) = one x y
 
 no_byte : (byte : ℕ) (more : List ℕ) → byte ∷ more ≡ [] → ⊥
 no_byte byte more e = cc
 
-one_end : (v : View) (count : ℕ) (after : List ℕ) (r s : Outcome) → EndStop v count after r → EndStop v count after s → r ≡ s
-one_end v count after r s (other_count h e) (other_count k f) = e ∙ sym f
-one_end v count after r s (other_count h e) (trailing b more k i f) = absurd (h k)
-one_end v count after r s (other_count h e) (file k i f) = absurd (h k)
-one_end v count after r s (trailing b more h i e) (other_count k f) = absurd (k h)
-one_end v count after r s (trailing b more h i e) (trailing c rest k j f) = e ∙ sym f
-one_end v count after r s (trailing b more h i e) (file k j f) = absurd (no_byte b more (sym i ∙ j))
-one_end v count after r s (file h i e) (other_count k f) = absurd (k h)
-one_end v count after r s (file h i e) (trailing c rest k j f) = absurd (no_byte c rest (sym j ∙ i))
-one_end v count after r s (file h i e) (file k j f) = e ∙ sym f
+-- the count is another one, or in version 1 the text is followed by more, or whole
+data EndStop (v : Version) (w : View) (count : ℕ) (after : List ℕ) (r : Outcome) : Type 0 where
+  other_count : count ≢ length (entries w) → r ≡ Err faults.OtherCount → EndStop v w count after r
+  trailing : v ≡ One → (byte : ℕ) (more : List ℕ) → count ≡ length (entries w) → after ≡ byte ∷ more → r ≡ Err faults.Trailing → EndStop v w count after r
+  file : v ≡ One → count ≡ length (entries w) → after ≡ [] → r ≡ Ok w → EndStop v w count after r
+
+one_end : (v : Version) (w : View) (count : ℕ) (after : List ℕ) (r s : Outcome) → EndStop v w count after r → EndStop v w count after s → r ≡ s
+one_end v w count after r s (other_count h e) (other_count k f) = e ∙ sym f
+one_end v w count after r s (other_count h e) (trailing o b more k i f) = absurd (h k)
+one_end v w count after r s (other_count h e) (file o k i f) = absurd (h k)
+one_end v w count after r s (trailing o b more h i e) (other_count k f) = absurd (k h)
+one_end v w count after r s (trailing o b more h i e) (trailing p c rest k j f) = e ∙ sym f
+one_end v w count after r s (trailing o b more h i e) (file p k j f) = absurd (no_byte b more (sym i ∙ j))
+one_end v w count after r s (file o h i e) (other_count k f) = absurd (k h)
+one_end v w count after r s (file o h i e) (trailing p c rest k j f) = absurd (no_byte c rest (sym j ∙ i))
+one_end v w count after r s (file o h i e) (file p k j f) = e ∙ sym f
+
+-- the digest is another one, or the file is followed by more, or whole
+data SealStop (d : Declaration) (w : View) (digits after : List ℕ) (r : Outcome) : Type 0 where
+  other_digest : digits ≢ digest_of (counted Two d (entries w)) → r ≡ Err faults.OtherDigest → SealStop d w digits after r
+  sealed_more : (byte : ℕ) (more : List ℕ) → digits ≡ digest_of (counted Two d (entries w)) → after ≡ byte ∷ more → r ≡ Err faults.Trailing → SealStop d w digits after r
+  sealed_file : digits ≡ digest_of (counted Two d (entries w)) → after ≡ [] → r ≡ Ok w → SealStop d w digits after r
+
+one_seal : (d : Declaration) (w : View) (digits after : List ℕ) (r s : Outcome) → SealStop d w digits after r → SealStop d w digits after s → r ≡ s
+one_seal d w digits after r s (other_digest h e) (other_digest k f) = e ∙ sym f
+one_seal d w digits after r s (other_digest h e) (sealed_more b more k i f) = absurd (h k)
+one_seal d w digits after r s (other_digest h e) (sealed_file k i f) = absurd (h k)
+one_seal d w digits after r s (sealed_more b more h i e) (other_digest k f) = absurd (k h)
+one_seal d w digits after r s (sealed_more b more h i e) (sealed_more c rest k j f) = e ∙ sym f
+one_seal d w digits after r s (sealed_more b more h i e) (sealed_file k j f) = absurd (no_byte b more (sym i ∙ j))
+one_seal d w digits after r s (sealed_file h i e) (other_digest k f) = absurd (k h)
+one_seal d w digits after r s (sealed_file h i e) (sealed_more c rest k j f) = absurd (no_byte c rest (sym j ∙ i))
+one_seal d w digits after r s (sealed_file h i e) (sealed_file k j f) = e ∙ sym f
 
 -- this line stands at this place, and reading stops there or behind it
 abbrev FormStop : Declaration → Place → Form → List ℕ → Outcome → Type 0
-FormStop d AtTable (forms.Table len) after r = BodyStop len after (IsOtherTable d) r
-FormStop d AtTable f after r = ⊥
-FormStop d (Behind v) (forms.Table len) after r = ⊥
-FormStop d (Behind v) (forms.Content name len) after r = NameStop v name (BodyStop len after (IsRefused d)) r
-FormStop d (Behind v) (forms.Dispute name) after r = NameStop v name (λ r. ⊥) r
-FormStop d (Behind v) (forms.Retirement name) after r = NameStop v name (λ r. ⊥) r
-FormStop d (Behind v) (forms.End count) after r = EndStop v count after r
+FormStop d (AtTable v) (forms.Table len) after r = BodyStop len after (IsOtherTable d) r
+FormStop d (AtTable v) (forms.Content name len) after r = ⊥
+FormStop d (AtTable v) (forms.Dispute name) after r = ⊥
+FormStop d (AtTable v) (forms.Retirement name) after r = ⊥
+FormStop d (AtTable v) (forms.Floor name) after r = ⊥
+FormStop d (AtTable v) (forms.End count) after r = ⊥
+FormStop d (AtTable v) (forms.Digest digits) after r = ⊥
+FormStop d (Behind v w) (forms.Table len) after r = ⊥
+FormStop d (Behind v w) (forms.Content name len) after r = NameStop (IsAbove w name) (BodyStop len after (IsRefused d)) r
+FormStop d (Behind v w) (forms.Dispute name) after r = NameStop (IsAbove w name) (λ r. ⊥) r
+FormStop d (Behind v w) (forms.Retirement name) after r = NameStop (IsAbove w name) (λ r. ⊥) r
+FormStop d (Behind v w) (forms.Floor name) after r = NameStop (HasFloors v × IsBehindOrigins w name) (λ r. ⊥) r
+FormStop d (Behind v w) (forms.End count) after r = EndStop v w count after r
+FormStop d (Behind v w) (forms.Digest digits) after r = ⊥
+FormStop d (AtDigest w) (forms.Table len) after r = ⊥
+FormStop d (AtDigest w) (forms.Content name len) after r = ⊥
+FormStop d (AtDigest w) (forms.Dispute name) after r = ⊥
+FormStop d (AtDigest w) (forms.Retirement name) after r = ⊥
+FormStop d (AtDigest w) (forms.Floor name) after r = ⊥
+FormStop d (AtDigest w) (forms.End count) after r = ⊥
+FormStop d (AtDigest w) (forms.Digest digits) after r = SealStop d w digits after r
 
 one_form_stop : (d : Declaration) (p : Place) (f : Form) (after : List ℕ) (r s : Outcome) → FormStop d p f after r → FormStop d p f after s → r ≡ s
-one_form_stop d AtTable (forms.Table len) after r s x y = one_body len after (IsOtherTable d) r s (one_table d) x y
-one_form_stop d AtTable (forms.Content name len) after r s x y = absurd x
-one_form_stop d AtTable (forms.Dispute name) after r s x y = absurd x
-one_form_stop d AtTable (forms.Retirement name) after r s x y = absurd x
-one_form_stop d AtTable (forms.End count) after r s x y = absurd x
-one_form_stop d (Behind v) (forms.Table len) after r s x y = absurd x
-one_form_stop d (Behind v) (forms.Content name len) after r s x y = one_name v name (BodyStop len after (IsRefused d)) r s (one_body len after (IsRefused d) r s (one_refusal d)) x y
-one_form_stop d (Behind v) (forms.Dispute name) after r s x y = one_name v name (λ r. ⊥) r s (λ a b. absurd a) x y
-one_form_stop d (Behind v) (forms.Retirement name) after r s x y = one_name v name (λ r. ⊥) r s (λ a b. absurd a) x y
-one_form_stop d (Behind v) (forms.End count) after r s x y = one_end v count after r s x y
+one_form_stop d (AtTable v) (forms.Table len) after r s x y = one_body len after (IsOtherTable d) r s (one_table d) x y
+one_form_stop d (AtTable v) (forms.Content name len) after r s x y = absurd x
+one_form_stop d (AtTable v) (forms.Dispute name) after r s x y = absurd x
+one_form_stop d (AtTable v) (forms.Retirement name) after r s x y = absurd x
+one_form_stop d (AtTable v) (forms.Floor name) after r s x y = absurd x
+one_form_stop d (AtTable v) (forms.End count) after r s x y = absurd x
+one_form_stop d (AtTable v) (forms.Digest digits) after r s x y = absurd x
+one_form_stop d (Behind v w) (forms.Table len) after r s x y = absurd x
+one_form_stop d (Behind v w) (forms.Content name len) after r s x y = one_name (IsAbove w name) (BodyStop len after (IsRefused d)) r s (one_body len after (IsRefused d) r s (one_refusal d)) x y
+one_form_stop d (Behind v w) (forms.Dispute name) after r s x y = one_name (IsAbove w name) (λ r. ⊥) r s (λ a b. absurd a) x y
+one_form_stop d (Behind v w) (forms.Retirement name) after r s x y = one_name (IsAbove w name) (λ r. ⊥) r s (λ a b. absurd a) x y
+one_form_stop d (Behind v w) (forms.Floor name) after r s x y = one_name (HasFloors v × IsBehindOrigins w name) (λ r. ⊥) r s (λ a b. absurd a) x y
+one_form_stop d (Behind v w) (forms.End count) after r s x y = one_end v w count after r s x y
+one_form_stop d (Behind v w) (forms.Digest digits) after r s x y = absurd x
+one_form_stop d (AtDigest w) (forms.Table len) after r s x y = absurd x
+one_form_stop d (AtDigest w) (forms.Content name len) after r s x y = absurd x
+one_form_stop d (AtDigest w) (forms.Dispute name) after r s x y = absurd x
+one_form_stop d (AtDigest w) (forms.Retirement name) after r s x y = absurd x
+one_form_stop d (AtDigest w) (forms.Floor name) after r s x y = absurd x
+one_form_stop d (AtDigest w) (forms.End count) after r s x y = absurd x
+one_form_stop d (AtDigest w) (forms.Digest digits) after r s x y = one_seal d w digits after r s x y
 
 -- what stands at a place has no line feed, or a line that may not stand there, or one at which reading stops
 data Stop (d : Declaration) (p : Place) (rest : List ℕ) (r : Outcome) : Type 0 where
@@ -192,8 +242,8 @@ table_first d more =
     append_assoc (line_of (forms.Table (length (declaration_text d)))) (10 ∷ (declaration_text d ++ 10 ∷ [])) more
     ∙ ap (λ l. line_of (forms.Table (length (declaration_text d))) ++ (10 ∷ l)) (append_assoc (declaration_text d) (10 ∷ []) more)
 
-good_table : (d : Declaration) (rest more : List ℕ) → IsDeclaration d → rest ≡ table_text d ++ more → Good d AtTable rest
-good_table d rest more declared e =
+good_table : (d : Declaration) (v : Version) (rest more : List ℕ) → IsDeclaration d → rest ≡ table_text d ++ more → Good d (AtTable v) rest
+good_table d v rest more declared e =
     let text = declaration_text d in
     record {
       form = forms.Table (length text);
@@ -207,28 +257,57 @@ good_table d rest more declared e =
 not_refused : (d : Declaration) (content : List ℕ) (r : Outcome) → IsOk (rows_of d content) → IsRefused d content r → ⊥
 not_refused d content r ok x = let wrong : false ≡ true = rw x.refused at ok in cc
 
-record_may : (v : View) (e : NameParts × Known) → MayStand (Behind v) (record_form e)
-record_may v (n, Live bytes) = tt
-record_may v (n, Disputed) = tt
-record_may v (n, Retired) = tt
+record_may : (v : Version) (w : View) (e : NameParts × Known) → Tells v e → MayStand (Behind v w) (record_form e)
+record_may v w (n, Live bytes) h = tt
+record_may v w (n, Disputed) h = tt
+record_may v w (n, Retired) h = tt
+record_may v w (n, Floor) h = h
 
-record_none : (d : Declaration) (v : View) (e : NameParts × Known) (more : List ℕ) (r : Outcome) → IsRecord d e → IsAbove v e.0 → FormStop d (Behind v) (record_form e) (record_rest e more) r → ⊥
-record_none d v (n, Live bytes) more r is up (low h e) = h up
-record_none d v (n, Live bytes) more r is up (above h x) = not_refused d bytes r is.1 (whole_body (length bytes) (bytes ++ (10 ∷ more)) bytes more (IsRefused d) r refl refl x)
-record_none d v (n, Disputed) more r is up (low h e) = h up
-record_none d v (n, Disputed) more r is up (above h x) = x
-record_none d v (n, Retired) more r is up (low h e) = h up
-record_none d v (n, Retired) more r is up (above h x) = x
+-- an entry follows those of a view
+abbrev FollowsAll : Version → View → (NameParts × Known) → Type 0
+FollowsAll v w (n, Live bytes) = IsAbove w n
+FollowsAll v w (n, Disputed) = IsAbove w n
+FollowsAll v w (n, Retired) = IsAbove w n
+FollowsAll v w (n, Floor) = HasFloors v × IsBehindOrigins w n
 
-good_record : (d : Declaration) (v : View) (e : NameParts × Known) (rest more : List ℕ) → IsRecord d e → IsAbove v e.0 → rest ≡ record_text e ++ more → Good d (Behind v) rest
-good_record d v e rest more is up i = record {
+record_none : (d : Declaration) (v : Version) (w : View) (e : NameParts × Known) (more : List ℕ) (r : Outcome) → IsRecord d e → FollowsAll v w e → FormStop d (Behind v w) (record_form e) (record_rest e more) r → ⊥
+record_none d v w (n, Live bytes) more r is up (low h e) = h up
+record_none d v w (n, Live bytes) more r is up (above h x) = not_refused d bytes r is.1 (whole_body (length bytes) (bytes ++ (10 ∷ more)) bytes more (IsRefused d) r refl refl x)
+record_none d v w (n, Disputed) more r is up (low h e) = h up
+record_none d v w (n, Disputed) more r is up (above h x) = x
+record_none d v w (n, Retired) more r is up (low h e) = h up
+record_none d v w (n, Retired) more r is up (above h x) = x
+record_none d v w (n, Floor) more r is up (low h e) = h up
+record_none d v w (n, Floor) more r is up (above h x) = x
+
+good_record : (d : Declaration) (v : Version) (w : View) (e : NameParts × Known) (rest more : List ℕ) → IsRecord d e → Tells v e → FollowsAll v w e → rest ≡ record_text e ++ more → Good d (Behind v w) rest
+good_record d v w e rest more is tells up i = record {
   form = record_form e;
   after = record_rest e more;
   is_form = record_is_form d e is;
-  may = record_may v e;
+  may = record_may v w e tells;
   rest_is = i ∙ record_first e more;
-  none = λ r x. record_none d v e more r is up x;
+  none = λ r x. record_none d v w e more r is up x;
 }
+
+-- in version 2 the right count is good
+good_end : (d : Declaration) (v : Version) (w : View) (rest more : List ℕ) → v ≡ Two → IsView d w → rest ≡ end_text (length (entries w)) ++ more → Good d (Behind v w) rest
+good_end d v w rest more two is i = record {
+  form = forms.End (length (entries w));
+  after = more;
+  is_form = is.count;
+  may = tt;
+  rest_is = i ∙ append_assoc (line_of (forms.End (length (entries w)))) (10 ∷ []) more;
+  none = λ r x. never r x;
+}
+  where
+    not_one : One ≡ Two → ⊥
+    not_one e = cc
+
+    never : (r : Outcome) → EndStop v w (length (entries w)) more r → ⊥
+    never r (other_count h e) = h refl
+    never r (trailing o b rest h i e) = not_one (sym o ∙ two)
+    never r (file o h i e) = not_one (sym o ∙ two)
 
 -- ---- names
 
@@ -275,16 +354,23 @@ meets d (x ∷ es) (f ∷ fs) rest more h k e =
     (sym (append_assoc (record_text x) (flat_map record_text es) rest) ∙ e ∙ append_assoc (record_text f) (flat_map record_text fs) more) in
     meets_behind x f es fs rest more one.0 (meets d es fs rest more h.1 k.1 one.1)
 
-all_right : (d : Declaration) (xs ys : List (NameParts × Known)) → AllByRecursion (IsRecord d) (xs ++ ys) → AllByRecursion (IsRecord d) ys
-all_right d [] ys h = h
-all_right d (x ∷ xs) ys h = all_right d xs ys h.1
+all_right : (P : (NameParts × Known) → Type 0) (xs ys : List (NameParts × Known)) → AllByRecursion P (xs ++ ys) → AllByRecursion P ys
+all_right P [] ys h = h
+all_right P (x ∷ xs) ys h = all_right P xs ys h.1
 
 -- behind a part of a view's records the next one is good
-good_next : (d : Declaration) (v w : View) (x : NameParts × Known) (left : List (NameParts × Known)) (rest further : List ℕ) → AllByRecursion (IsRecord d) (entries w) → entries w ≡ entries v ++ (x ∷ left) → rest ≡ record_text x ++ further → Good d (Behind v) rest
-good_next d v w x left rest further h e i =
-    let is = all_right d (entries v) (x ∷ left) (subst (AllByRecursion (IsRecord d)) e h) in
+good_next : (d : Declaration) (v : Version) (u w : View) (x : NameParts × Known) (left : List (NameParts × Known)) (rest further : List ℕ) → IsSettled w → AllByRecursion (IsRecord d) (entries w) → AllByRecursion (Tells v) (entries w) → entries w ≡ entries u ++ (x ∷ left) → rest ≡ record_text x ++ further → Good d (Behind v u) rest
+good_next d v u w x left rest further s h t e i =
+    let is = all_right (IsRecord d) (entries u) (x ∷ left) (subst (AllByRecursion (IsRecord d)) e h) in
+    let tells = all_right (Tells v) (entries u) (x ∷ left) (subst (AllByRecursion (Tells v)) e t) in
     let sorted = subst (λ l. T (is_sorted name_cmp l)) e (entries_sorted w) in
-    good_record d v x rest further is.0 (all_below (entries v) x left sorted) i
+    good_record d v u x rest further is.0 tells.0 (follows x e tells.0 (all_below (entries u) x left sorted)) i
+  where
+    follows : (x : NameParts × Known) → entries w ≡ entries u ++ (x ∷ left) → Tells v x → AreBelow x.0 (entries u) → FollowsAll v u x
+    follows (n, Live bytes) e tells up = up
+    follows (n, Disputed) e tells up = up
+    follows (n, Retired) e tells up = up
+    follows (n, Floor) e tells up = (tells, floor_next w (entries u) n left s e)
 
 -- two places are one, or what stands at one of them is good
 data Order (d : Declaration) (p q : Place) (rest more : List ℕ) : Type 0 where
@@ -292,29 +378,105 @@ data Order (d : Declaration) (p q : Place) (rest more : List ℕ) : Type 0 where
   before : Good d p rest → Order d p q rest more
   behind : Good d q more → Order d p q rest more
 
-behind_table : (d : Declaration) (v : View) (rest : List ℕ) → begun d (entries v) ++ rest ≡ head ++ (table_text d ++ (flat_map record_text (entries v) ++ rest))
-behind_table d v rest = append_assoc (head ++ table_text d) (flat_map record_text (entries v)) rest ∙ append_assoc head (table_text d) (flat_map record_text (entries v) ++ rest)
+behind_table : (d : Declaration) (v : Version) (w : View) (rest : List ℕ) → begun v d (entries w) ++ rest ≡ head v ++ (table_text d ++ (flat_map record_text (entries w) ++ rest))
+behind_table d v w rest = append_assoc (head v ++ table_text d) (flat_map record_text (entries w)) rest ∙ append_assoc (head v) (table_text d) (flat_map record_text (entries w) ++ rest)
 
-after_head : (xs ys : List ℕ) → head ++ xs ≡ head ++ ys → xs ≡ ys
-after_head xs ys e = (same_front head head xs ys refl e).1
+behind_count : (d : Declaration) (w : View) (rest : List ℕ) → counted Two d (entries w) ++ rest ≡ head Two ++ (table_text d ++ (flat_map record_text (entries w) ++ (end_text (length (entries w)) ++ rest)))
+behind_count d w rest = append_assoc (begun Two d (entries w)) (end_text (length (entries w))) rest ∙ behind_table d Two w (end_text (length (entries w)) ++ rest)
+
+-- the version of a place, what stands behind the first line, and what stands behind the declaration where that was read
+abbrev version_of : Place → Version
+version_of (AtTable v) = v
+version_of (Behind v w) = v
+version_of (AtDigest w) = Two
+
+behind_head : (d : Declaration) (p : Place) (bytes rest : List ℕ) → GoesOn d p bytes rest → (more : List ℕ) × (bytes ≡ head (version_of p) ++ more)
+behind_head d (AtTable v) bytes rest g = (rest, g.bytes_are)
+behind_head d (Behind v w) bytes rest g = (table_text d ++ (flat_map record_text (entries w) ++ rest), g.bytes_are ∙ behind_table d v w rest)
+behind_head d (AtDigest w) bytes rest g = (table_text d ++ (flat_map record_text (entries w) ++ (end_text (length (entries w)) ++ rest)), g.bytes_are ∙ behind_count d w rest)
+
+head_cut : (v w : Version) (xs ys bytes : List ℕ) → bytes ≡ head v ++ xs → bytes ≡ head w ++ ys → (v ≡ w) × (xs ≡ ys)
+head_cut v w xs ys bytes e f =
+    let same = one_version v w xs ys (sym e ∙ f) in
+    (same, (same_front (head v) (head w) xs ys (ap (λ x. length (head x)) same) (sym e ∙ f)).1)
 
 after_table : (d : Declaration) (xs ys : List ℕ) → table_text d ++ xs ≡ table_text d ++ ys → xs ≡ ys
 after_table d xs ys e = (same_front (table_text d) (table_text d) xs ys refl e).1
 
+all_told : (es : List (NameParts × Known)) → AllByRecursion (Tells Two) es
+all_told [] = tt
+all_told ((n, Live c) ∷ es) = (tt, all_told es)
+all_told ((n, Disputed) ∷ es) = (tt, all_told es)
+all_told ((n, Retired) ∷ es) = (tt, all_told es)
+all_told ((n, Floor) ∷ es) = (tt, all_told es)
+
+-- it tells in one version what it tells in that version by another name
+told_in : (v w : Version) (es : List (NameParts × Known)) → v ≡ w → AllByRecursion (Tells v) es → AllByRecursion (Tells w) es
+told_in v w es e h = subst (λ x. AllByRecursion (Tells x) es) e h
+
 order : (d : Declaration) (p q : Place) (bytes rest more : List ℕ) → IsDeclaration d → GoesOn d p bytes rest → GoesOn d q bytes more → Order d p q rest more
-order d AtTable AtTable bytes rest more declared g h = one refl (after_head rest more (sym g.bytes_are ∙ h.bytes_are))
-order d AtTable (Behind w) bytes rest more declared g h =
-    before (good_table d rest (flat_map record_text (entries w) ++ more) declared (after_head _ _ (sym g.bytes_are ∙ h.bytes_are ∙ behind_table d w more)))
-order d (Behind v) AtTable bytes rest more declared g h =
-    behind (good_table d more (flat_map record_text (entries v) ++ rest) declared (after_head _ _ (sym h.bytes_are ∙ g.bytes_are ∙ behind_table d v rest)))
-order d (Behind v) (Behind w) bytes rest more declared g h =
-    let records = after_table d _ _ (after_head _ _ (sym (behind_table d v rest) ∙ sym g.bytes_are ∙ h.bytes_are ∙ behind_table d w more)) in
-    of (meets d (entries v) (entries w) rest more g.good h.good records)
+unfolding behind_head
+order d (AtTable v) (AtTable w) bytes rest more declared g h =
+    let c = head_cut v w rest more bytes g.bytes_are h.bytes_are in
+    one (ap (λ x. AtTable x) c.0) c.1
+order d (AtTable v) (Behind w x) bytes rest more declared g h =
+    let b = behind_head d (Behind w x) bytes more h in
+    before (good_table d v rest _ declared (head_cut v w rest b.0 bytes g.bytes_are b.1).1)
+order d (AtTable v) (AtDigest x) bytes rest more declared g h =
+    let b = behind_head d (AtDigest x) bytes more h in
+    before (good_table d v rest _ declared (head_cut v Two rest b.0 bytes g.bytes_are b.1).1)
+order d (Behind v x) (AtTable w) bytes rest more declared g h =
+    let b = behind_head d (Behind v x) bytes rest g in
+    behind (good_table d w more _ declared (head_cut w v more b.0 bytes h.bytes_are b.1).1)
+order d (AtDigest x) (AtTable w) bytes rest more declared g h =
+    let b = behind_head d (AtDigest x) bytes rest g in
+    behind (good_table d w more _ declared (head_cut w Two more b.0 bytes h.bytes_are b.1).1)
+order d (Behind v x) (Behind w y) bytes rest more declared g h =
+    let b = behind_head d (Behind v x) bytes rest g in
+    let c = behind_head d (Behind w y) bytes more h in
+    let cut_off = head_cut v w b.0 c.0 bytes b.1 c.1 in
+    of cut_off.0 (meets d (entries x) (entries y) rest more g.good.1 h.good.1 (after_table d _ _ cut_off.1))
   where
-    of : Meets (entries v) (entries w) rest more → Order d (Behind v) (Behind w) rest more
-    of (same e i) = one (ap (λ x. Behind x) (same_entries_map v w e)) i
-    of (first_goes_on x left further e i) = before (good_next d v w x left rest further h.good e i)
-    of (second_goes_on x left further e i) = behind (good_next d w v x left more further g.good e i)
+    of : v ≡ w → Meets (entries x) (entries y) rest more → Order d (Behind v x) (Behind w y) rest more
+    of version (same e i) = one (λ t. Behind (version t) (same_entries_map x y e t)) i
+    of version (first_goes_on z left further e i) = before (good_next d v x y z left rest further h.good.0 h.good.1 (told_in w v (entries y) (sym version) h.good.2) e i)
+    of version (second_goes_on z left further e i) = behind (good_next d w y x z left more further g.good.0 g.good.1 (told_in v w (entries x) version g.good.2) e i)
+order d (Behind v x) (AtDigest y) bytes rest more declared g h =
+    let b = behind_head d (Behind v x) bytes rest g in
+    let c = behind_head d (AtDigest y) bytes more h in
+    let cut_off = head_cut v Two b.0 c.0 bytes b.1 c.1 in
+    of cut_off.0 (meets d (entries x) (entries y) rest (end_text (length (entries y)) ++ more) g.good.1 h.good.records (after_table d _ _ cut_off.1))
+  where
+    of : v ≡ Two → Meets (entries x) (entries y) rest (end_text (length (entries y)) ++ more) → Order d (Behind v x) (AtDigest y) rest more
+    of version (same e i) =
+        let views = same_entries_map x y e in
+        before (good_end d v x rest more version (subst (IsView d) (sym views) h.good) (i ∙ ap (λ w. end_text (length (entries w)) ++ more) (sym views)))
+    of version (first_goes_on z left further e i) = before (good_next d v x y z left rest further h.good.settled h.good.records (told_in Two v (entries y) (sym version) (all_told (entries y))) e i)
+    of version (second_goes_on z left further e i) = absurd (no_end z (length (entries y)) further more (sym i))
+order d (AtDigest x) (Behind w y) bytes rest more declared g h =
+    let b = behind_head d (AtDigest x) bytes rest g in
+    let c = behind_head d (Behind w y) bytes more h in
+    let cut_off = head_cut w Two c.0 b.0 bytes c.1 b.1 in
+    of cut_off.0 (meets d (entries y) (entries x) more (end_text (length (entries x)) ++ rest) h.good.1 g.good.records (after_table d _ _ cut_off.1))
+  where
+    of : w ≡ Two → Meets (entries y) (entries x) more (end_text (length (entries x)) ++ rest) → Order d (AtDigest x) (Behind w y) rest more
+    of version (same e i) =
+        let views = same_entries_map y x e in
+        behind (good_end d w y more rest version (subst (IsView d) (sym views) g.good) (i ∙ ap (λ v. end_text (length (entries v)) ++ rest) (sym views)))
+    of version (first_goes_on z left further e i) = behind (good_next d w y x z left more further g.good.settled g.good.records (told_in Two w (entries x) (sym version) (all_told (entries x))) e i)
+    of version (second_goes_on z left further e i) = absurd (no_end z (length (entries x)) further rest (sym i))
+order d (AtDigest x) (AtDigest y) bytes rest more declared g h =
+    let b = behind_head d (AtDigest x) bytes rest g in
+    let c = behind_head d (AtDigest y) bytes more h in
+    let cut_off = head_cut Two Two b.0 c.0 bytes b.1 c.1 in
+    of (meets d (entries x) (entries y) (end_text (length (entries x)) ++ rest) (end_text (length (entries y)) ++ more) g.good.records h.good.records (after_table d _ _ cut_off.1))
+  where
+    of : Meets (entries x) (entries y) (end_text (length (entries x)) ++ rest) (end_text (length (entries y)) ++ more) → Order d (AtDigest x) (AtDigest y) rest more
+    of (same e i) =
+        let lines = ap (λ l. end_text (length l)) e in
+        one (ap (λ v. AtDigest v) (same_entries_map x y e)) (same_front (end_text (length (entries x))) (end_text (length (entries y))) rest more (ap length lines) i).1
+    of (first_goes_on z left further e i) = absurd (no_end z (length (entries x)) further rest (sym i))
+    of (second_goes_on z left further e i) = absurd (no_end z (length (entries y)) further more (sym i))
 
 -- ---- where a judgement stops
 
@@ -323,12 +485,12 @@ data Stops (d : Declaration) (bytes : List ℕ) (r : Outcome) : Type 0 where
   cut_head : IsCutHead bytes → r ≡ Err faults.Truncated → Stops d bytes r
   at_place : (p : Place) (rest : List ℕ) → GoesOn d p bytes rest → Stop d p rest r → Stops d bytes r
 
-begins : (d : Declaration) (p : Place) (bytes rest : List ℕ) → GoesOn d p bytes rest → (more : List ℕ) × (bytes ≡ head ++ more)
-begins d AtTable bytes rest g = (rest, g.bytes_are)
-begins d (Behind v) bytes rest g = (table_text d ++ (flat_map record_text (entries v) ++ rest), g.bytes_are ∙ behind_table d v rest)
-
 no_other_head : (d : Declaration) (p : Place) (bytes rest : List ℕ) → HasOtherHead bytes → GoesOn d p bytes rest → ⊥
-no_other_head d p bytes rest h g = let b = begins d p bytes rest g in h.not_begun b.0 b.1
+no_other_head d p bytes rest h g = let b = behind_head d p bytes rest g in h.not_begun (version_of p) b.0 b.1
+
+head_length : (v : Version) → length (head v) ≡ 5
+head_length One = refl
+head_length Two = refl
 
 nothing : (xs : List ℕ) → length xs ≡ 0 → xs ≡ []
 nothing [] e = refl
@@ -336,14 +498,14 @@ nothing (x ∷ xs) e = absurd (omega arith)
 
 no_cut_head : (d : Declaration) (p : Place) (bytes rest : List ℕ) → IsCutHead bytes → GoesOn d p bytes rest → ⊥
 no_cut_head d p bytes rest h g =
-    let b = begins d p bytes rest g in
-    h.some (nothing h.more (omega (arith, ap length h.head_is, length-append bytes h.more, ap length b.1, length-append head b.0)))
+    let b = behind_head d p bytes rest g in
+    h.some (nothing h.more (omega (arith, ap length h.head_is, length-append bytes h.more, ap length b.1, length-append (head (version_of p)) b.0, head_length h.version, head_length (version_of p))))
 
 one_place : (d : Declaration) (bytes : List ℕ) (r s : Outcome) → IsDeclaration d → Stops d bytes r → Stops d bytes s → r ≡ s
 one_place d bytes r s declared (other_head h e) (other_head k f) = e ∙ sym f
-one_place d bytes r s declared (other_head h e) (cut_head k f) = absurd (h.no_beginning k.more k.head_is)
+one_place d bytes r s declared (other_head h e) (cut_head k f) = absurd (h.no_beginning k.version k.more k.head_is)
 one_place d bytes r s declared (other_head h e) (at_place q more g y) = absurd (no_other_head d q bytes more h g)
-one_place d bytes r s declared (cut_head h e) (other_head k f) = absurd (k.no_beginning h.more h.head_is)
+one_place d bytes r s declared (cut_head h e) (other_head k f) = absurd (k.no_beginning h.version h.more h.head_is)
 one_place d bytes r s declared (cut_head h e) (cut_head k f) = e ∙ sym f
 one_place d bytes r s declared (cut_head h e) (at_place q more g y) = absurd (no_cut_head d q bytes more h g)
 one_place d bytes r s declared (at_place p rest g x) (other_head k f) = absurd (no_other_head d p bytes rest k g)
@@ -358,16 +520,27 @@ one_place d bytes r s declared (at_place p rest g x) (at_place q more h y) = of 
 -- ---- each judgement stops so
 
 may_stand : (p : Place) (f : Form) → Follows p f → MayStand p f
-may_stand AtTable (forms.Table len) h = tt
-may_stand AtTable (forms.Content name len) h = absurd h
-may_stand AtTable (forms.Dispute name) h = absurd h
-may_stand AtTable (forms.Retirement name) h = absurd h
-may_stand AtTable (forms.End count) h = absurd h
-may_stand (Behind v) (forms.Table len) h = absurd h
-may_stand (Behind v) (forms.Content name len) h = tt
-may_stand (Behind v) (forms.Dispute name) h = tt
-may_stand (Behind v) (forms.Retirement name) h = tt
-may_stand (Behind v) (forms.End count) h = tt
+may_stand (AtTable v) (forms.Table len) h = tt
+may_stand (AtTable v) (forms.Content name len) h = absurd h
+may_stand (AtTable v) (forms.Dispute name) h = absurd h
+may_stand (AtTable v) (forms.Retirement name) h = absurd h
+may_stand (AtTable v) (forms.Floor name) h = absurd h
+may_stand (AtTable v) (forms.End count) h = absurd h
+may_stand (AtTable v) (forms.Digest digits) h = absurd h
+may_stand (Behind v w) (forms.Table len) h = absurd h
+may_stand (Behind v w) (forms.Content name len) h = tt
+may_stand (Behind v w) (forms.Dispute name) h = tt
+may_stand (Behind v w) (forms.Retirement name) h = tt
+may_stand (Behind v w) (forms.Floor name) h = h.0
+may_stand (Behind v w) (forms.End count) h = tt
+may_stand (Behind v w) (forms.Digest digits) h = absurd h
+may_stand (AtDigest w) (forms.Table len) h = absurd h
+may_stand (AtDigest w) (forms.Content name len) h = absurd h
+may_stand (AtDigest w) (forms.Dispute name) h = absurd h
+may_stand (AtDigest w) (forms.Retirement name) h = absurd h
+may_stand (AtDigest w) (forms.Floor name) h = absurd h
+may_stand (AtDigest w) (forms.End count) h = absurd h
+may_stand (AtDigest w) (forms.Digest digits) h = tt
 
 no_length : (len : ℕ) → None ≡ Some len → ⊥
 no_length len e = cc
@@ -376,16 +549,27 @@ one_length : (m n : ℕ) → Some m ≡ Some n → n ≡ m
 one_length m n e = cc
 
 body_stop : (d : Declaration) (p : Place) (f : Form) (after : List ℕ) (len : ℕ) (r : Outcome) → Follows p f → body_length f ≡ Some len → ((Has : List ℕ → Outcome → Type 0) → BodyStop len after Has r) → FormStop d p f after r
-body_stop d AtTable (forms.Table n) after len r h e stop = subst (λ k. BodyStop k after (IsOtherTable d) r) (one_length n len e) (stop (IsOtherTable d))
-body_stop d AtTable (forms.Content name n) after len r h e stop = absurd h
-body_stop d AtTable (forms.Dispute name) after len r h e stop = absurd h
-body_stop d AtTable (forms.Retirement name) after len r h e stop = absurd h
-body_stop d AtTable (forms.End count) after len r h e stop = absurd h
-body_stop d (Behind v) (forms.Table n) after len r h e stop = absurd h
-body_stop d (Behind v) (forms.Content name n) after len r h e stop = above h (subst (λ k. BodyStop k after (IsRefused d) r) (one_length n len e) (stop (IsRefused d)))
-body_stop d (Behind v) (forms.Dispute name) after len r h e stop = absurd (no_length len e)
-body_stop d (Behind v) (forms.Retirement name) after len r h e stop = absurd (no_length len e)
-body_stop d (Behind v) (forms.End count) after len r h e stop = absurd (no_length len e)
+body_stop d (AtTable v) (forms.Table n) after len r h e stop = subst (λ k. BodyStop k after (IsOtherTable d) r) (one_length n len e) (stop (IsOtherTable d))
+body_stop d (AtTable v) (forms.Content name n) after len r h e stop = absurd h
+body_stop d (AtTable v) (forms.Dispute name) after len r h e stop = absurd h
+body_stop d (AtTable v) (forms.Retirement name) after len r h e stop = absurd h
+body_stop d (AtTable v) (forms.Floor name) after len r h e stop = absurd h
+body_stop d (AtTable v) (forms.End count) after len r h e stop = absurd h
+body_stop d (AtTable v) (forms.Digest digits) after len r h e stop = absurd h
+body_stop d (Behind v w) (forms.Table n) after len r h e stop = absurd h
+body_stop d (Behind v w) (forms.Content name n) after len r h e stop = above h (subst (λ k. BodyStop k after (IsRefused d) r) (one_length n len e) (stop (IsRefused d)))
+body_stop d (Behind v w) (forms.Dispute name) after len r h e stop = absurd (no_length len e)
+body_stop d (Behind v w) (forms.Retirement name) after len r h e stop = absurd (no_length len e)
+body_stop d (Behind v w) (forms.Floor name) after len r h e stop = absurd (no_length len e)
+body_stop d (Behind v w) (forms.End count) after len r h e stop = absurd (no_length len e)
+body_stop d (Behind v w) (forms.Digest digits) after len r h e stop = absurd h
+body_stop d (AtDigest w) (forms.Table n) after len r h e stop = absurd h
+body_stop d (AtDigest w) (forms.Content name n) after len r h e stop = absurd h
+body_stop d (AtDigest w) (forms.Dispute name) after len r h e stop = absurd h
+body_stop d (AtDigest w) (forms.Retirement name) after len r h e stop = absurd h
+body_stop d (AtDigest w) (forms.Floor name) after len r h e stop = absurd h
+body_stop d (AtDigest w) (forms.End count) after len r h e stop = absurd h
+body_stop d (AtDigest w) (forms.Digest digits) after len r h e stop = absurd (no_length len e)
 
 at_body : (d : Declaration) (p : Place) (f : Form) (bytes after : List ℕ) (len : ℕ) (r : Outcome) → Stands d p f bytes after → body_length f ≡ Some len → ((Has : List ℕ → Outcome → Type 0) → BodyStop len after Has r) → Stops d bytes r
 at_body d p f bytes after len r s e stop = at_place p (line_of f ++ (10 ∷ after)) s.goes_on (at_form f after s.form (may_stand p f s.follows) refl (body_stop d p f after len r s.follows e stop))
@@ -396,39 +580,50 @@ no_name n e = cc
 one_some : (m n : NameParts) → Some m ≡ Some n → n ≡ m
 one_some m n e = cc
 
-low_stop : (d : Declaration) (bytes : List ℕ) (f : Form) (h : HasLowName d bytes) → f ≡ h.form → Stop d (Behind h.view) (line_of h.form ++ (10 ∷ h.after)) (Err faults.NotRising)
+low_stop : (d : Declaration) (bytes : List ℕ) (f : Form) (h : HasLowName d bytes) → f ≡ h.form → Stop d (Behind h.version h.view) (line_of h.form ++ (10 ∷ h.after)) (Err faults.NotRising)
 low_stop d bytes (forms.Table len) h e = absurd (no_name h.name (ap record_name e ∙ h.name_is))
+low_stop d bytes (forms.Content name len) h e = at_form (forms.Content name len) h.after (subst IsForm (sym e) h.is_form) (subst (MayStand (Behind h.version h.view)) (sym e) h.may) (ap (λ f. line_of f ++ (10 ∷ h.after)) (sym e)) (low (subst (λ f. ¬ (Follows (Behind h.version h.view) f)) (sym e) h.low) refl)
+low_stop d bytes (forms.Dispute name) h e = at_form (forms.Dispute name) h.after (subst IsForm (sym e) h.is_form) (subst (MayStand (Behind h.version h.view)) (sym e) h.may) (ap (λ f. line_of f ++ (10 ∷ h.after)) (sym e)) (low (subst (λ f. ¬ (Follows (Behind h.version h.view) f)) (sym e) h.low) refl)
+low_stop d bytes (forms.Retirement name) h e = at_form (forms.Retirement name) h.after (subst IsForm (sym e) h.is_form) (subst (MayStand (Behind h.version h.view)) (sym e) h.may) (ap (λ f. line_of f ++ (10 ∷ h.after)) (sym e)) (low (subst (λ f. ¬ (Follows (Behind h.version h.view) f)) (sym e) h.low) refl)
+low_stop d bytes (forms.Floor name) h e = at_form (forms.Floor name) h.after (subst IsForm (sym e) h.is_form) (subst (MayStand (Behind h.version h.view)) (sym e) h.may) (ap (λ f. line_of f ++ (10 ∷ h.after)) (sym e)) (low (subst (λ f. ¬ (Follows (Behind h.version h.view) f)) (sym e) h.low) refl)
 low_stop d bytes (forms.End count) h e = absurd (no_name h.name (ap record_name e ∙ h.name_is))
-low_stop d bytes (forms.Content name len) h e = at_form (forms.Content name len) h.after (subst IsForm (sym e) h.is_form) tt (ap (λ f. line_of f ++ (10 ∷ h.after)) (sym e)) (low (subst (λ n. ¬ (IsAbove h.view n)) (one_some name h.name (ap record_name e ∙ h.name_is)) h.low) refl)
-low_stop d bytes (forms.Dispute name) h e = at_form (forms.Dispute name) h.after (subst IsForm (sym e) h.is_form) tt (ap (λ f. line_of f ++ (10 ∷ h.after)) (sym e)) (low (subst (λ n. ¬ (IsAbove h.view n)) (one_some name h.name (ap record_name e ∙ h.name_is)) h.low) refl)
-low_stop d bytes (forms.Retirement name) h e = at_form (forms.Retirement name) h.after (subst IsForm (sym e) h.is_form) tt (ap (λ f. line_of f ++ (10 ∷ h.after)) (sym e)) (low (subst (λ n. ¬ (IsAbove h.view n)) (one_some name h.name (ap record_name e ∙ h.name_is)) h.low) refl)
+low_stop d bytes (forms.Digest digits) h e = absurd (no_name h.name (ap record_name e ∙ h.name_is))
 
--- behind the records of a view stands the line of their count
-end_stop : (d : Declaration) (v : View) (bytes after : List ℕ) (r : Outcome) → IsView d v → bytes ≡ file_of d v ++ after → EndStop v (length (entries v)) after r → Stops d bytes r
-end_stop d v bytes after r is e stop =
-    let count = length (entries v) in
-    at_place (Behind v) (line_of (forms.End count) ++ (10 ∷ after))
+digest_is : (bytes : List ℕ) → IsForm (forms.Digest (digest_of bytes))
+digest_is bytes = digest_spelled bytes
+
+-- behind the records of a view stands the line of their count, and in version 2 behind that the line of the digest
+text_stop : (d : Declaration) (v : Version) (w : View) (bytes after : List ℕ) (r : Outcome) → IsView d w → MayTell v w → bytes ≡ text_of v d w ++ after → (v ≡ One → EndStop One w (length (entries w)) after r) → (v ≡ Two → SealStop d w (digest_of (counted Two d (entries w))) after r) → Stops d bytes r
+text_stop d One w bytes after r is may e stop other =
+    let count = length (entries w) in
+    at_place (Behind One w) (line_of (forms.End count) ++ (10 ∷ after))
     (record {
-      good = is.records;
-      bytes_are = e ∙ append_assoc (begun d (entries v)) (end_text count) after ∙ ap (λ l. begun d (entries v) ++ l) (append_assoc (line_of (forms.End count)) (10 ∷ []) after);
+      good = (is.settled, is.records, may);
+      bytes_are = e ∙ ap (λ l. l ++ after) (append-nil (counted One d (entries w))) ∙ append_assoc (begun One d (entries w)) (end_text count) after ∙ ap (λ l. begun One d (entries w) ++ l) (append_assoc (line_of (forms.End count)) (10 ∷ []) after);
     })
-    (at_form (forms.End count) after is.count tt refl stop)
+    (at_form (forms.End count) after is.count tt refl (stop refl))
+text_stop d Two w bytes after r is may e other stop =
+    let text = counted Two d (entries w) in
+    at_place (AtDigest w) (line_of (forms.Digest (digest_of text)) ++ (10 ∷ after))
+    (record { good = is; bytes_are = e ∙ append_assoc text (digest_text text) after ∙ ap (λ l. text ++ l) (append_assoc (line_of (forms.Digest (digest_of text))) (10 ∷ []) after) })
+    (at_form (forms.Digest (digest_of text)) after (digest_is text) tt refl (stop refl))
 
 stops : (d : Declaration) (bytes : List ℕ) (r : Outcome) → Judges d bytes r → r ≢ Err faults.NoMemory → Stops d bytes r
-stops d bytes (Ok v) j some = end_stop d v bytes [] (Ok v) j.is_view (j.bytes_are ∙ sym (append-nil (file_of d v))) (file refl refl refl)
+stops d bytes (Ok v) j some = text_stop d j.version v bytes [] (Ok v) j.is_view j.may (j.bytes_are ∙ sym (append-nil (text_of j.version d v))) (λ o. file refl refl refl refl) (λ o. sealed_file refl refl refl)
 stops d bytes (Err faults.OtherFormat) (inl h) some = other_head h refl
 stops d bytes (Err faults.OtherFormat) (inr (inl h)) some = at_place h.place (h.line ++ (10 ∷ h.after)) h.goes_on (bad_line h.line h.after h.lacks refl h.none refl)
 stops d bytes (Err faults.OtherFormat) (inr (inr h)) some = at_body d h.place h.form bytes h.after h.len (Err faults.OtherFormat) h.stands h.length_is (λ Has. unfed h.unfed refl)
 stops d bytes (Err faults.Truncated) (inl h) some = cut_head h refl
 stops d bytes (Err faults.Truncated) (inr (inl h)) some = at_place h.place h.rest h.goes_on (cut_line h.lacks refl)
 stops d bytes (Err faults.Truncated) (inr (inr h)) some = at_body d h.place h.form bytes h.after h.len (Err faults.Truncated) h.stands h.length_is (λ Has. short h.short refl)
-stops d bytes (Err faults.NotRising) h some = at_place (Behind h.view) (line_of h.form ++ (10 ∷ h.after)) h.goes_on (low_stop d bytes h.form h refl)
-stops d bytes (Err faults.OtherCount) h some = at_place (Behind h.view) (line_of (forms.End h.count) ++ (10 ∷ h.after)) h.stands.goes_on (at_form (forms.End h.count) h.after h.stands.form tt refl (other_count h.other refl))
+stops d bytes (Err faults.NotRising) h some = at_place (Behind h.version h.view) (line_of h.form ++ (10 ∷ h.after)) h.goes_on (low_stop d bytes h.form h refl)
+stops d bytes (Err faults.OtherCount) h some = at_place (Behind h.version h.view) (line_of (forms.End h.count) ++ (10 ∷ h.after)) h.stands.goes_on (at_form (forms.End h.count) h.after h.stands.form tt refl (other_count h.other refl))
 stops d bytes (Err faults.OtherSchema) h some =
-    at_place AtTable _ h.stands.goes_on (at_form (forms.Table (length h.table)) (h.table ++ (10 ∷ h.after)) h.stands.form tt refl (whole h.table h.after refl refl (h.other, refl)))
+    at_place (AtTable h.version) _ h.stands.goes_on (at_form (forms.Table (length h.table)) (h.table ++ (10 ∷ h.after)) h.stands.form tt refl (whole h.table h.after refl refl (h.other, refl)))
 stops d bytes (Err (faults.Segment fault)) h some =
-    at_place (Behind h.view) _ h.stands.goes_on (at_form (forms.Content h.name (length h.content)) (h.content ++ (10 ∷ h.after)) h.stands.form tt refl (above h.stands.follows (whole h.content h.after refl refl (record { fault = fault; refused = h.refused; is = refl }))))
-stops d bytes (Err faults.Trailing) h some = end_stop d h.view bytes (h.byte ∷ h.more) (Err faults.Trailing) h.is_view h.bytes_are (trailing h.byte h.more refl refl refl)
+    at_place (Behind h.version h.view) _ h.stands.goes_on (at_form (forms.Content h.name (length h.content)) (h.content ++ (10 ∷ h.after)) h.stands.form tt refl (above h.stands.follows (whole h.content h.after refl refl (record { fault = fault; refused = h.refused; is = refl }))))
+stops d bytes (Err faults.Trailing) h some = text_stop d h.version h.view bytes (h.byte ∷ h.more) (Err faults.Trailing) h.is_view h.may h.bytes_are (λ o. trailing refl h.byte h.more refl refl refl) (λ o. sealed_more h.byte h.more refl refl refl)
+stops d bytes (Err faults.OtherDigest) h some = at_place (AtDigest h.view) _ h.stands.goes_on (at_form (forms.Digest h.digits) h.after h.stands.form tt refl (other_digest h.other refl))
 stops d bytes (Err faults.NoMemory) h some = absurd (some refl)
 
 -- ---- the laws
@@ -438,7 +633,7 @@ one_judgement d bytes a b declared j k some also = one_place d bytes a b declare
 
 -- the file of a view is judged to be that view
 pub own_judgement : OwnJudgement
-own_judgement d v judged declared is j some = one_judgement d (file_of d v) judged (Ok v) declared j (record { is_view = is; bytes_are = refl }) some (λ e. never v e)
+own_judgement d v judged declared is j some = one_judgement d (file_of d v) judged (Ok v) declared j (record { is_view = is; version = Two; may = all_told (entries v); bytes_are = refl }) some (λ e. never v e)
   where
     never : (v : View) → Ok v ≡ Err faults.NoMemory → ⊥
     never v e = cc

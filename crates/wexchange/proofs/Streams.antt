@@ -6,7 +6,7 @@ use Rattle.std.proofs.lemmas.List.{length-take-le}
 use Rattle.wlines.specs.Words.{Lacks}
 use Rattle.wlines.proofs.Cuts.{cut_once, no_cut}
 use Rattle.wvalues.specs.Names.{NameParts, IsName}
-use Rattle.wset.specs.Items.{Item, SegmentItem, RetirementItem}
+use Rattle.wset.specs.Items.{Item, SegmentItem, RetirementItem, FloorItem}
 use Rattle.wexchange.specs.Cuts.{IsUnfed}
 use Rattle.wexchange.specs.Forms.{IsNumber, IsForm, line_of}
 use Rattle.wexchange.specs.Messages.{most_bytes, message_text, IsMessage, IsOpen, IsBad}
@@ -28,15 +28,18 @@ take_front (x ∷ xs) ys = ap (λ l. x ∷ l) (take_front xs ys)
 abbrev pub message_form : Item → Form
 message_form (SegmentItem n bytes) = forms.Content n (length bytes)
 message_form (RetirementItem n) = forms.Retirement n
+message_form (FloorItem n) = forms.Floor n
 
 -- what stands behind it
 abbrev pub message_rest : Item → List ℕ
 message_rest (SegmentItem n bytes) = bytes ++ 10 ∷ []
 message_rest (RetirementItem n) = []
+message_rest (FloorItem n) = []
 
 message_is : (i : Item) → message_text i ≡ line_of (message_form i) ++ (10 ∷ message_rest i)
 message_is (SegmentItem n bytes) = refl
 message_is (RetirementItem n) = refl
+message_is (FloorItem n) = refl
 
 pub few : (len : ℕ) → len ≤ most_bytes → IsNumber len
 few len h = record { fits = omega (arith, h) }
@@ -44,6 +47,7 @@ few len h = record { fits = omega (arith, h) }
 message_is_form : (i : Item) → IsMessage i → IsForm (message_form i)
 message_is_form (SegmentItem n bytes) h = (h.0, few (length bytes) h.1)
 message_is_form (RetirementItem n) h = h
+message_is_form (FloorItem n) h = h
 
 -- the line of a message is cut off in one way
 message_line : (i : Item) (line rest more : List ℕ) → IsMessage i → Lacks 10 line → line ++ (10 ∷ rest) ≡ message_text i ++ more → (line ≡ line_of (message_form i)) × (rest ≡ message_rest i ++ more)
@@ -57,8 +61,9 @@ message_line i line rest more h lacks e =
 pub bad_line : (bytes line rest : List ℕ) → Lacks 10 line → bytes ≡ line ++ (10 ∷ rest)
     → ((n : NameParts) (len : ℕ) → IsName n → len ≤ most_bytes → line ≢ line_of (forms.Content n len))
     → ((n : NameParts) → IsName n → line ≢ line_of (forms.Retirement n))
+    → ((n : NameParts) → IsName n → line ≢ line_of (forms.Floor n))
     → IsBad bytes
-bad_line bytes line rest lacks is no_content no_retirement = record { closed = closed; none = none }
+bad_line bytes line rest lacks is no_content no_retirement no_floor = record { closed = closed; none = none }
   where
     closed : ¬ (IsOpen bytes)
     closed (inl l) = no_cut 10 bytes line rest l.lacks is
@@ -70,12 +75,16 @@ bad_line bytes line rest lacks is no_content no_retirement = record { closed = c
     none : (i : Item) (more : List ℕ) → IsMessage i → bytes ≢ message_text i ++ more
     none (SegmentItem n bs) more h e = no_content n (length bs) h.0 h.1 (message_line (SegmentItem n bs) line rest more h lacks (sym is ∙ e)).0
     none (RetirementItem n) more h e = no_retirement n h (message_line (RetirementItem n) line rest more h lacks (sym is ∙ e)).0
+    none (FloorItem n) more h e = no_floor n h (message_line (FloorItem n) line rest more h lacks (sym is ∙ e)).0
 
 same_content : (m n : NameParts) (a b : ℕ) → forms.Content m a ≡ forms.Content n b → a ≡ b
 same_content m n a b e = cc
 
 other_forms : (m n : NameParts) (a : ℕ) → forms.Content m a ≡ forms.Retirement n → ⊥
 other_forms m n a e = cc
+
+other_floor : (m n : NameParts) (a : ℕ) → forms.Content m a ≡ forms.Floor n → ⊥
+other_floor m n a e = cc
 
 -- two bodies of one length stand before one byte
 pub same_behind : (xs ys : List ℕ) (a b : ℕ) (more rest : List ℕ) → length xs ≡ length ys → xs ++ (a ∷ more) ≡ ys ++ (b ∷ rest) → a ≡ b
@@ -113,6 +122,9 @@ bad_body bytes rest n len name within is u = record { closed = closed; none = no
     none (RetirementItem m) more h e =
         let cut = message_line (RetirementItem m) (line_of (forms.Content n len)) rest more h lacks (sym is ∙ e) in
         other_forms n m len (one_form (forms.Content n len) (forms.Retirement m) form h cut.0)
+    none (FloorItem m) more h e =
+        let cut = message_line (FloorItem m) (line_of (forms.Content n len)) rest more h lacks (sym is ∙ e) in
+        other_floor n m len (one_form (forms.Content n len) (forms.Floor m) form h cut.0)
 
 -- ---- whole
 
@@ -120,6 +132,17 @@ pub begins_retired : (bytes rest : List ℕ) (n : NameParts) → IsName n → by
 begins_retired bytes rest n h is =
     let whole = line_of (forms.Retirement n) ++ (10 ∷ []) in
     let cut : bytes ≡ whole ++ rest = is ∙ sym (append_assoc (line_of (forms.Retirement n)) (10 ∷ []) rest) in
+    let size : length bytes - length rest ≡ length whole = omega (arith, ap length cut, length-append whole rest) in
+    record {
+      is = h;
+      within = omega arith;
+      bytes_are = cut ∙ ap (λ l. whole ++ l) (sym (ap (λ k. drop k bytes) size ∙ ap (drop (length whole)) cut ∙ drop_front whole rest));
+    }
+
+pub begins_floor : (bytes rest : List ℕ) (n : NameParts) → IsName n → bytes ≡ line_of (forms.Floor n) ++ (10 ∷ rest) → BeginsWith bytes (FloorItem n) (length bytes - length rest)
+begins_floor bytes rest n h is =
+    let whole = line_of (forms.Floor n) ++ (10 ∷ []) in
+    let cut : bytes ≡ whole ++ rest = is ∙ sym (append_assoc (line_of (forms.Floor n)) (10 ∷ []) rest) in
     let size : length bytes - length rest ≡ length whole = omega (arith, ap length cut, length-append whole rest) in
     record {
       is = h;
@@ -167,31 +190,47 @@ IsOther (forms.Table len) = Unit {0}
 IsOther (forms.Content n len) = most_bytes < len
 IsOther (forms.Dispute n) = Unit {0}
 IsOther (forms.Retirement n) = ⊥
+IsOther (forms.Floor n) = ⊥
 IsOther (forms.End count) = Unit {0}
+IsOther (forms.Digest digits) = Unit {0}
 
 no_content : (f : Form) (n : NameParts) (len : ℕ) → IsOther f → len ≤ most_bytes → f ≡ forms.Content n len → ⊥
 no_content (forms.Table a) n len o h e = cc
 no_content (forms.Content m a) n len o h e = omega (arith, same_content m n a len e, o, h)
 no_content (forms.Dispute m) n len o h e = cc
 no_content (forms.Retirement m) n len o h e = o
+no_content (forms.Floor m) n len o h e = o
 no_content (forms.End a) n len o h e = cc
+no_content (forms.Digest digits) n len o h e = cc
 
 no_retirement : (f : Form) (n : NameParts) → IsOther f → f ≡ forms.Retirement n → ⊥
 no_retirement (forms.Table a) n o e = cc
 no_retirement (forms.Content m a) n o e = other_forms m n a e
 no_retirement (forms.Dispute m) n o e = cc
 no_retirement (forms.Retirement m) n o e = o
+no_retirement (forms.Floor m) n o e = o
 no_retirement (forms.End a) n o e = cc
+no_retirement (forms.Digest digits) n o e = cc
+
+no_floor : (f : Form) (n : NameParts) → IsOther f → f ≡ forms.Floor n → ⊥
+no_floor (forms.Table a) n o e = cc
+no_floor (forms.Content m a) n o e = other_floor m n a e
+no_floor (forms.Dispute m) n o e = cc
+no_floor (forms.Retirement m) n o e = o
+no_floor (forms.Floor m) n o e = o
+no_floor (forms.End a) n o e = cc
+no_floor (forms.Digest digits) n o e = cc
 
 pub bad_form : (bytes rest : List ℕ) (f : Form) → IsForm f → bytes ≡ line_of f ++ (10 ∷ rest) → IsOther f → IsBad bytes
 bad_form bytes rest f h is other =
     bad_line bytes (line_of f) rest (line_lacks f h) is
     (λ n len name within e. no_content f n len other within (one_form f (forms.Content n len) h (name, few len within) e))
     (λ n name e. no_retirement f n other (one_form f (forms.Retirement n) h name e))
+    (λ n name e. no_floor f n other (one_form f (forms.Floor n) h name e))
 
 pub bad_unread : (bytes line rest : List ℕ) → Lacks 10 line → bytes ≡ line ++ (10 ∷ rest) → ((f : Form) → IsForm f → line ≢ line_of f) → IsBad bytes
 bad_unread bytes line rest lacks is none =
-    bad_line bytes line rest lacks is (λ n len name within e. none (forms.Content n len) (name, few len within) e) (λ n name e. none (forms.Retirement n) name e)
+    bad_line bytes line rest lacks is (λ n len name within e. none (forms.Content n len) (name, few len within) e) (λ n name e. none (forms.Retirement n) name e) (λ n name e. none (forms.Floor n) name e)
 
 -- ---- a line that is too long
 
@@ -217,6 +256,11 @@ retirement_short n h =
     let number = number_short n.number (omega (arith, h.number.high)) in
     omega (arith, number, h.origin.short, length-append n.origin (32 ∷ decimal n.number))
 
+floor_short : (n : NameParts) → IsName n → length (line_of (forms.Floor n)) < 201
+floor_short n h =
+    let number = number_short n.number (omega (arith, h.number.high)) in
+    omega (arith, number, h.origin.short, length-append n.origin (32 ∷ decimal n.number))
+
 -- 201 bytes without a line feed
 pub bad_start : (bytes : List ℕ) → 200 < length bytes → Lacks 10 (take 201 bytes) → IsBad bytes
 bad_start bytes long lacks = record { closed = closed; none = none }
@@ -230,3 +274,5 @@ bad_start bytes long lacks = record { closed = closed; none = none }
         no_early 201 bytes (line_of (forms.Content n (length bs))) ((bs ++ 10 ∷ []) ++ more) lacks (content_short n (length bs) h.0 h.1) (e ∙ append_assoc (line_of (forms.Content n (length bs))) (10 ∷ (bs ++ 10 ∷ [])) more)
     none (RetirementItem n) more h e =
         no_early 201 bytes (line_of (forms.Retirement n)) more lacks (retirement_short n h) (e ∙ append_assoc (line_of (forms.Retirement n)) (10 ∷ []) more)
+    none (FloorItem n) more h e =
+        no_early 201 bytes (line_of (forms.Floor n)) more lacks (floor_short n h) (e ∙ append_assoc (line_of (forms.Floor n)) (10 ∷ []) more)

@@ -6,7 +6,7 @@ use Rattle.wlines.specs.Words.{Lacks}
 use Rattle.wlines.proofs.Decimals.{no_space}
 use Rattle.wlines.proofs.Decimals as Decimals
 use Rattle.wvalues.specs.Names.{NameParts, IsName, is_origin_byte}
-use Rattle.wexchange.specs.Forms.{IsNumber, IsForm, line_of}
+use Rattle.wexchange.specs.Forms.{IsNumber, IsForm, is_digest_digit, line_of}
 use Rattle.wexchange.specs.declared.form.Form.{Form}
 use Rattle.wexchange.specs.declared.form.Form.TheVariants as forms
 
@@ -49,6 +49,12 @@ spaced word rest k l = Lacks-append 10 word (32 ∷ rest) k (λ e. omega (arith,
 begun : (letter : ℕ) (rest : List ℕ) → letter ≢ 10 → Lacks 10 rest → Lacks 10 (letter ∷ 32 ∷ rest)
 begun letter rest ne k = (ne, ((λ e. omega (arith, e)), k))
 
+digits_lack : (c : ℕ) (bytes : List ℕ) → is_digest_digit c ≡ false → list_all is_digest_digit bytes ≡ true → Lacks c bytes
+digits_lack c [] other all = tt
+digits_lack c (x ∷ xs) other all =
+    let first : is_digest_digit x ≡ true = and_first (is_digest_digit x) (list_all is_digest_digit xs) all in
+    (λ e. let same : is_digest_digit x ≡ is_digest_digit c = ap is_digest_digit e in cc, digits_lack c xs other (and_second (is_digest_digit x) (list_all is_digest_digit xs) all))
+
 -- a header line has no line feed in it
 pub line_lacks : (f : Form) → IsForm f → Lacks 10 (line_of f)
 line_lacks (forms.Table len) h = begun 84 _ (λ e. omega (arith, e)) (no_feed len h)
@@ -57,3 +63,5 @@ line_lacks (forms.Content n len) h =
 line_lacks (forms.Dispute n) h = begun 68 _ (λ e. omega (arith, e)) (spaced n.origin _ (origin_no_feed n h) (number_no_feed n h))
 line_lacks (forms.Retirement n) h = begun 82 _ (λ e. omega (arith, e)) (spaced n.origin _ (origin_no_feed n h) (number_no_feed n h))
 line_lacks (forms.End count) h = begun 69 _ (λ e. omega (arith, e)) (no_feed count h)
+line_lacks (forms.Floor n) h = begun 85 _ (λ e. omega (arith, e)) (spaced n.origin _ (origin_no_feed n h) (number_no_feed n h))
+line_lacks (forms.Digest digits) h = begun 72 _ (λ e. omega (arith, e)) (digits_lack 10 digits refl h.spelled)

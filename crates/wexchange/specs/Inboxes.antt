@@ -1,6 +1,6 @@
 -- What an inbox stands for, what its calls tell, and how its steps lie in its bytes.
 use Rattle.std.specs.Prelude.{◌≡◌, ℕ, ◌-◌, ◌+◌, ◌<◌, ◌≤◌, Bool, true, false, List, ◌++◌, take, drop, length, Option, None, Some, Result, Ok, Err, ◌⊎◌}
-use Rattle.wset.specs.Items.{Item, SegmentItem, RetirementItem}
+use Rattle.wset.specs.Items.{Item, SegmentItem, RetirementItem, FloorItem}
 use Rattle.wexchange.specs.Messages.{IsMessage, IsOpen, IsBad, message_text}
 use Rattle.wexchange.specs.declared.found.Found.{Found}
 use Rattle.wexchange.specs.declared.found.Found.TheVariants as founds
@@ -19,6 +19,7 @@ pub record Pending : Type 0 where
 abbrev pub item_of : Message → Item
 item_of (messages.Take name bytes) = SegmentItem name.now bytes.now
 item_of (messages.Retire name) = RetirementItem name.now
+item_of (messages.RetireTo name) = FloorItem name.now
 
 -- a message stands first, and takes so many bytes
 pub record BeginsWith (bytes : List ℕ) (item : Item) (taken : ℕ) : Type 0 where
@@ -36,6 +37,7 @@ Finds bytes founds.Open = IsOpen bytes
 Finds bytes founds.Bad = IsBad bytes
 Finds bytes (founds.Take name len taken) = BeginsWith bytes (SegmentItem name (body_in bytes len taken)) taken × (len < taken)
 Finds bytes (founds.Retire name taken) = BeginsWith bytes (RetirementItem name) taken
+Finds bytes (founds.RetireTo name taken) = BeginsWith bytes (FloorItem name) taken
 
 -- the message was taken off
 pub record TakesOff (old : Pending) (item : Item) (new : Pending) : Type 0 where
@@ -53,6 +55,7 @@ HasBody bytes steps.Bad = Unit {0}
 HasBody bytes steps.Open = Unit {0}
 HasBody bytes (steps.Take name from to) = (from ≤ to) × (to ≤ length bytes)
 HasBody bytes (steps.Retire name) = Unit {0}
+HasBody bytes (steps.RetireTo name) = Unit {0}
 
 -- what a step hands out
 abbrev pub LendsOut : List ℕ → Step → Result (Option Message) BadStream → Type 0
@@ -60,6 +63,7 @@ LendsOut bytes steps.Bad (Err fault) = Unit {0}
 LendsOut bytes steps.Open (Ok None) = Unit {0}
 LendsOut bytes (steps.Take name from to) (Ok (Some message)) = item_of message ≡ SegmentItem name (between bytes from to)
 LendsOut bytes (steps.Retire name) (Ok (Some message)) = item_of message ≡ RetirementItem name
+LendsOut bytes (steps.RetireTo name) (Ok (Some message)) = item_of message ≡ FloorItem name
 LendsOut bytes _ _ = ⊥
 
 abbrev pending : List ℕ → ℕ → Bool → Pending
@@ -72,6 +76,7 @@ Steps bytes start is_bad new_start new_bad steps.Open = IsOpen (drop start bytes
 Steps bytes start is_bad new_start new_bad (steps.Take name from to) =
     (is_bad ≡ false) × TakesOff (pending bytes start is_bad) (SegmentItem name (between bytes from to)) (pending bytes new_start new_bad) × (from ≤ to) × (to ≤ length bytes)
 Steps bytes start is_bad new_start new_bad (steps.Retire name) = (is_bad ≡ false) × TakesOff (pending bytes start is_bad) (RetirementItem name) (pending bytes new_start new_bad)
+Steps bytes start is_bad new_start new_bad (steps.RetireTo name) = (is_bad ≡ false) × TakesOff (pending bytes start is_bad) (FloorItem name) (pending bytes new_start new_bad)
 
 -- the item that a step handed out, none where nothing was whole, and nothing at all where the stream was bad
 abbrev pub handed_of : List ℕ → Step → Option (Option Item)
@@ -79,6 +84,7 @@ handed_of bytes steps.Bad = None
 handed_of bytes steps.Open = Some None
 handed_of bytes (steps.Take name from to) = Some (Some (SegmentItem name (between bytes from to)))
 handed_of bytes (steps.Retire name) = Some (Some (RetirementItem name))
+handed_of bytes (steps.RetireTo name) = Some (Some (FloorItem name))
 
 -- the bytes that were not handed out, whether the stream was found bad, and what was handed out last
 pub record Inbox : Type 0 where

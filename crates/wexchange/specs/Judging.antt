@@ -6,30 +6,35 @@ use Rattle.wlines.specs.Words.{Lacks}
 use Rattle.wsegment.specs.Declaration.{Declaration, declaration_text}
 use Rattle.wsegment.specs.Rows.{rows_of}
 use Rattle.wsegment.specs.declared.fault.SegmentFault.{SegmentFault}
-use Rattle.wset.specs.Views.{View}
-use Rattle.wset.specs.Lending.{IsAbove}
+use Rattle.wset.specs.Views.{View, IsSettled}
+use Rattle.wset.specs.Lending.{IsAbove, IsBehindOrigins}
 use Rattle.wexchange.specs.Forms.{IsForm, line_of}
 use Rattle.wexchange.specs.Cuts.{IsUnfed}
-use Rattle.wexchange.specs.Files.{head, table_text, begun, file_of, AreRecords, IsView}
+use Rattle.wexchange.specs.Files.{head, table_text, begun, counted, digest_of, text_of, AreRecords, HasFloors, IsView, MayTell}
+use Rattle.wexchange.specs.declared.version.Version.{Version}
+use Rattle.wexchange.specs.declared.version.Version.TheVariants.{Two}
 use Rattle.wexchange.specs.declared.form.Form.{Form}
 use Rattle.wexchange.specs.declared.form.Form.TheVariants as forms
 use Rattle.wexchange.specs.declared.fault.FileFault.{FileFault}
 use Rattle.wexchange.specs.declared.fault.FileFault.TheVariants as faults
 
--- how far a file is good: up to the line of the table, or behind the records of a view
+-- how far a file of a version is good: up to the line of the table, behind the records of a view, or in version 2 behind their count
 pub data Place : Type 0 where
-  AtTable : Place
-  Behind : View → Place
+  AtTable : Version → Place
+  Behind : Version → View → Place
+  AtDigest : View → Place
 
 -- what stands before that place
 abbrev pub before : Declaration → Place → List ℕ
-before d AtTable = head
-before d (Behind v) = begun d (entries v)
+before d (AtTable r) = head r
+before d (Behind r v) = begun r d (entries v)
+before d (AtDigest v) = counted Two d (entries v)
 
--- what is good there is made of records
+-- what is good there is made of records that the version has
 abbrev pub IsGood : Declaration → Place → Type 0
-IsGood d AtTable = ⊤
-IsGood d (Behind v) = AreRecords d v
+IsGood d (AtTable r) = ⊤
+IsGood d (Behind r v) = IsSettled v × AreRecords d v × MayTell r v
+IsGood d (AtDigest v) = IsView d v
 
 -- the bytes are good up to this place, and so go on
 pub record GoesOn (d : Declaration) (p : Place) (bytes rest : List ℕ) : Type 0 where
@@ -38,29 +43,51 @@ pub record GoesOn (d : Declaration) (p : Place) (bytes rest : List ℕ) : Type 0
 
 -- the lines that may stand there, whatever their names
 abbrev pub MayStand : Place → Form → Type 0
-MayStand AtTable (forms.Table len) = ⊤
-MayStand AtTable (forms.Content name len) = ⊥
-MayStand AtTable (forms.Dispute name) = ⊥
-MayStand AtTable (forms.Retirement name) = ⊥
-MayStand AtTable (forms.End count) = ⊥
-MayStand (Behind v) (forms.Table len) = ⊥
-MayStand (Behind v) (forms.Content name len) = ⊤
-MayStand (Behind v) (forms.Dispute name) = ⊤
-MayStand (Behind v) (forms.Retirement name) = ⊤
-MayStand (Behind v) (forms.End count) = ⊤
+MayStand (AtTable r) (forms.Table len) = ⊤
+MayStand (AtTable r) (forms.Content name len) = ⊥
+MayStand (AtTable r) (forms.Dispute name) = ⊥
+MayStand (AtTable r) (forms.Retirement name) = ⊥
+MayStand (AtTable r) (forms.Floor name) = ⊥
+MayStand (AtTable r) (forms.End count) = ⊥
+MayStand (AtTable r) (forms.Digest digits) = ⊥
+MayStand (Behind r v) (forms.Table len) = ⊥
+MayStand (Behind r v) (forms.Content name len) = ⊤
+MayStand (Behind r v) (forms.Dispute name) = ⊤
+MayStand (Behind r v) (forms.Retirement name) = ⊤
+MayStand (Behind r v) (forms.Floor name) = HasFloors r
+MayStand (Behind r v) (forms.End count) = ⊤
+MayStand (Behind r v) (forms.Digest digits) = ⊥
+MayStand (AtDigest v) (forms.Table len) = ⊥
+MayStand (AtDigest v) (forms.Content name len) = ⊥
+MayStand (AtDigest v) (forms.Dispute name) = ⊥
+MayStand (AtDigest v) (forms.Retirement name) = ⊥
+MayStand (AtDigest v) (forms.Floor name) = ⊥
+MayStand (AtDigest v) (forms.End count) = ⊥
+MayStand (AtDigest v) (forms.Digest digits) = ⊤
 
--- and those whose name is greater than all before it, too
+-- and those whose name is greater than all before it, too, and a floor's origin greater than theirs
 abbrev pub Follows : Place → Form → Type 0
-Follows AtTable (forms.Table len) = ⊤
-Follows AtTable (forms.Content name len) = ⊥
-Follows AtTable (forms.Dispute name) = ⊥
-Follows AtTable (forms.Retirement name) = ⊥
-Follows AtTable (forms.End count) = ⊥
-Follows (Behind v) (forms.Table len) = ⊥
-Follows (Behind v) (forms.Content name len) = IsAbove v name
-Follows (Behind v) (forms.Dispute name) = IsAbove v name
-Follows (Behind v) (forms.Retirement name) = IsAbove v name
-Follows (Behind v) (forms.End count) = ⊤
+Follows (AtTable r) (forms.Table len) = ⊤
+Follows (AtTable r) (forms.Content name len) = ⊥
+Follows (AtTable r) (forms.Dispute name) = ⊥
+Follows (AtTable r) (forms.Retirement name) = ⊥
+Follows (AtTable r) (forms.Floor name) = ⊥
+Follows (AtTable r) (forms.End count) = ⊥
+Follows (AtTable r) (forms.Digest digits) = ⊥
+Follows (Behind r v) (forms.Table len) = ⊥
+Follows (Behind r v) (forms.Content name len) = IsAbove v name
+Follows (Behind r v) (forms.Dispute name) = IsAbove v name
+Follows (Behind r v) (forms.Retirement name) = IsAbove v name
+Follows (Behind r v) (forms.Floor name) = HasFloors r × IsBehindOrigins v name
+Follows (Behind r v) (forms.End count) = ⊤
+Follows (Behind r v) (forms.Digest digits) = ⊥
+Follows (AtDigest v) (forms.Table len) = ⊥
+Follows (AtDigest v) (forms.Content name len) = ⊥
+Follows (AtDigest v) (forms.Dispute name) = ⊥
+Follows (AtDigest v) (forms.Retirement name) = ⊥
+Follows (AtDigest v) (forms.Floor name) = ⊥
+Follows (AtDigest v) (forms.End count) = ⊥
+Follows (AtDigest v) (forms.Digest digits) = ⊤
 
 -- the name of a record
 abbrev pub record_name : Form → Option NameParts
@@ -68,7 +95,9 @@ record_name (forms.Table len) = None
 record_name (forms.Content name len) = Some name
 record_name (forms.Dispute name) = Some name
 record_name (forms.Retirement name) = Some name
+record_name (forms.Floor name) = Some name
 record_name (forms.End count) = None
+record_name (forms.Digest digits) = None
 
 -- the length of the body behind a line
 abbrev pub body_length : Form → Option ℕ
@@ -76,7 +105,9 @@ body_length (forms.Table len) = Some len
 body_length (forms.Content name len) = Some len
 body_length (forms.Dispute name) = None
 body_length (forms.Retirement name) = None
+body_length (forms.Floor name) = None
 body_length (forms.End count) = None
+body_length (forms.Digest digits) = None
 
 -- behind what is good stands this line, and then this
 pub record Stands (d : Declaration) (p : Place) (f : Form) (bytes after : List ℕ) : Type 0 where
@@ -86,10 +117,10 @@ pub record Stands (d : Declaration) (p : Place) (f : Form) (bytes after : List �
 
 -- ---- X1
 
--- the bytes are not begun by the head, and do not begin it
+-- the bytes are not begun by the head of a version, and do not begin one
 pub record HasOtherHead (bytes : List ℕ) : Type 0 where
-  pub not_begun : (rest : List ℕ) → bytes ≢ head ++ rest
-  pub no_beginning : (more : List ℕ) → head ≢ bytes ++ more
+  pub not_begun : (r : Version) (rest : List ℕ) → bytes ≢ head r ++ rest
+  pub no_beginning : (r : Version) (more : List ℕ) → head r ≢ bytes ++ more
 
 -- a line with its line feed is none that may stand there
 pub record HasBadLine (d : Declaration) (bytes : List ℕ) : Type 0 where
@@ -112,11 +143,12 @@ pub record HasUnfedBody (d : Declaration) (bytes : List ℕ) : Type 0 where
 
 -- ---- X2
 
--- more bytes make it the head
+-- more bytes make it the head of a version
 pub record IsCutHead (bytes : List ℕ) : Type 0 where
+  pub version : Version
   pub more : List ℕ
   pub some : more ≢ []
-  pub head_is : head ≡ bytes ++ more
+  pub head_is : head version ≡ bytes ++ more
 
 -- no line feed is left for a line
 pub record HasCutLine (d : Declaration) (bytes : List ℕ) : Type 0 where
@@ -135,57 +167,73 @@ pub record HasCutBody (d : Declaration) (bytes : List ℕ) : Type 0 where
   pub length_is : body_length form ≡ Some len
   pub short : length after ≤ len
 
--- ---- X3 to X7
+-- ---- X3 to X8
 
--- the name of a record is not greater than those before it
+-- the name of a record is not greater than those before it, or that of a floor is of the origin of one
 pub record HasLowName (d : Declaration) (bytes : List ℕ) : Type 0 where
+  pub version : Version
   pub view : View
   pub form : Form
   pub name : NameParts
   pub after : List ℕ
   pub is_form : IsForm form
+  pub may : MayStand (Behind version view) form
   pub name_is : record_name form ≡ Some name
-  pub low : ¬ (IsAbove view name)
-  pub goes_on : GoesOn d (Behind view) bytes (line_of form ++ (10 ∷ after))
+  pub low : ¬ (Follows (Behind version view) form)
+  pub goes_on : GoesOn d (Behind version view) bytes (line_of form ++ (10 ∷ after))
 
 -- the count of the end is not the number of records
 pub record HasOtherCount (d : Declaration) (bytes : List ℕ) : Type 0 where
+  pub version : Version
   pub view : View
   pub count : ℕ
   pub after : List ℕ
-  pub stands : Stands d (Behind view) (forms.End count) bytes after
+  pub stands : Stands d (Behind version view) (forms.End count) bytes after
   pub other : count ≢ length (entries view)
 
 -- the declaration is not that of the reader
 pub record HasOtherTable (d : Declaration) (bytes : List ℕ) : Type 0 where
+  pub version : Version
   pub table : List ℕ
   pub after : List ℕ
-  pub stands : Stands d AtTable (forms.Table (length table)) bytes (table ++ (10 ∷ after))
+  pub stands : Stands d (AtTable version) (forms.Table (length table)) bytes (table ++ (10 ∷ after))
   pub other : table ≢ declaration_text d
 
 -- a content is no segment
 pub record HasBadSegment (d : Declaration) (bytes : List ℕ) (fault : SegmentFault) : Type 0 where
+  pub version : Version
   pub view : View
   pub name : NameParts
   pub content : List ℕ
   pub after : List ℕ
-  pub stands : Stands d (Behind view) (forms.Content name (length content)) bytes (content ++ (10 ∷ after))
+  pub stands : Stands d (Behind version view) (forms.Content name (length content)) bytes (content ++ (10 ∷ after))
   pub refused : rows_of d content ≡ Err fault
 
--- a whole file is followed by more
+-- the digest is not that of all bytes before its line
+pub record HasOtherDigest (d : Declaration) (bytes : List ℕ) : Type 0 where
+  pub view : View
+  pub digits : List ℕ
+  pub after : List ℕ
+  pub stands : Stands d (AtDigest view) (forms.Digest digits) bytes after
+  pub other : digits ≢ digest_of (counted Two d (entries view))
+
+-- a whole text is followed by more
 pub record HasMore (d : Declaration) (bytes : List ℕ) : Type 0 where
+  pub version : Version
   pub view : View
   pub byte : ℕ
   pub more : List ℕ
   pub is_view : IsView d view
-  pub bytes_are : bytes ≡ file_of d view ++ (byte ∷ more)
+  pub may : MayTell version view
+  pub bytes_are : bytes ≡ text_of version d view ++ (byte ∷ more)
 
 -- ---- want of memory
 
 -- the first line and the reader's own declaration stand first: whatever is refused before them needs no memory
 pub record HasTable (d : Declaration) (bytes : List ℕ) : Type 0 where
+  pub version : Version
   pub rest : List ℕ
-  pub bytes_are : bytes ≡ (head ++ table_text d) ++ rest
+  pub bytes_are : bytes ≡ (head version ++ table_text d) ++ rest
 
 -- ---- all together
 
@@ -198,12 +246,15 @@ IsFault d bytes faults.OtherCount = HasOtherCount d bytes
 IsFault d bytes faults.OtherSchema = HasOtherTable d bytes
 IsFault d bytes (faults.Segment fault) = HasBadSegment d bytes fault
 IsFault d bytes faults.Trailing = HasMore d bytes
+IsFault d bytes faults.OtherDigest = HasOtherDigest d bytes
 IsFault d bytes faults.NoMemory = HasTable d bytes
 
--- the bytes are the file of this view
+-- the bytes are a text of this view: its file, or where it has no floor its text in version 1
 pub record IsFileOf (d : Declaration) (v : View) (bytes : List ℕ) : Type 0 where
   pub is_view : IsView d v
-  pub bytes_are : bytes ≡ file_of d v
+  pub version : Version
+  pub may : MayTell version v
+  pub bytes_are : bytes ≡ text_of version d v
 
 -- what the bytes are, unless memory ran out
 abbrev pub Judges : Declaration → List ℕ → Result View FileFault → Type 0

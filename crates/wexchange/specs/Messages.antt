@@ -3,7 +3,7 @@ use Rattle.std.specs.Prelude.{◌≡◌, ◌≢◌, ℕ, ◌≤◌, List, [], �
 use Rattle.std.specs.List.{flat_map, AllByRecursion}
 use Rattle.wvalues.specs.Names.{NameParts, IsName}
 use Rattle.wlines.specs.Words.{Lacks}
-use Rattle.wset.specs.Items.{Item, SegmentItem, RetirementItem}
+use Rattle.wset.specs.Items.{Item, SegmentItem, RetirementItem, FloorItem}
 use Rattle.wexchange.specs.Forms.{line_of}
 use Rattle.wexchange.specs.declared.form.Form.TheVariants as forms
 
@@ -15,10 +15,12 @@ most_bytes = 67108864
 abbrev pub message_text : Item → List ℕ
 message_text (SegmentItem n bytes) = line_of (forms.Content n (length bytes)) ++ (10 ∷ (bytes ++ 10 ∷ []))
 message_text (RetirementItem n) = line_of (forms.Retirement n) ++ (10 ∷ [])
+message_text (FloorItem n) = line_of (forms.Floor n) ++ (10 ∷ [])
 
 abbrev pub IsMessage : Item → Type 0
 IsMessage (SegmentItem n bytes) = IsName n × (length bytes ≤ most_bytes)
 IsMessage (RetirementItem n) = IsName n
+IsMessage (FloorItem n) = IsName n
 
 -- the line may still come
 pub record IsOpenLine (rest : List ℕ) : Type 0 where

@@ -58,6 +58,7 @@ enum Step {
     Open,
     Take(Name, usize, usize),
     Retire(Name),
+    RetireTo(Name),
 }
 
 // Moves the start behind the message that stands first, if it is whole.
@@ -80,6 +81,10 @@ fn advance(bytes: &[u8], start: &mut usize, is_bad: &mut bool) -> Step
             *start += taken;
             Step::Retire(name)
         }
+        Found::RetireTo(name, taken) => {
+            *start += taken;
+            Step::RetireTo(name)
+        }
         Found::Take(name, len, taken) => {
             let end = *start + taken - 1;
             *start += taken;
@@ -97,6 +102,7 @@ fn lend<'a>(bytes: &'a [u8], step: &'a Step) -> Result<Option<Message<'a>>, BadS
         Step::Bad => Err(BadStream),
         Step::Open => Ok(None),
         Step::Retire(name) => Ok(Some(Message::Retire(name))),
+        Step::RetireTo(name) => Ok(Some(Message::RetireTo(name))),
         Step::Take(name, from, to) => Ok(Some(Message::Take(name, &bytes[*from..*to]))),
     }
 }

@@ -1,5 +1,5 @@
 //! The laws of files and streams. The functions do nothing when run: each is the proof of its contract.
-ghost use Rattle.wexchange.specs.Laws.{FilesAlone, FirstMessage, OneJudgement, OneView, OwnJudgement};
+ghost use Rattle.wexchange.specs.Laws.{FirstMessage, OneJudgement, OneText, OneView, OwnJudgement, TextsAlone, WorkedFile};
 
 /// The messages of a stream do not depend on how it is cut: those of a message's text and a stream behind it are that
 /// message, and then those of the stream.
@@ -7,16 +7,22 @@ pub fn first_message()
     ensures { FirstMessage }
 {}
 
-/// No two views have one file.
+/// No two views have one file, and no two have one text, in whatever versions.
 pub fn one_view()
-    ensures { OneView }
+    ensures file { OneView }
+    ensures text { OneText }
 {}
 
-/// Bytes are judged in one way, whatever they are: they are the file of one view, or have one first fault. The file of
-/// a view is judged to be that view, and bytes are judged to be a view only where they are its file. Memory may run out
-/// beside all this.
+/// Bytes are judged in one way, whatever they are: they are a text of one view, or have one first fault. The file of
+/// a view is judged to be that view, and bytes are judged to be a view only where they are its file, or where it has no
+/// floor its text in version 1. Memory may run out beside all this.
 pub fn one_judgement()
     ensures one { OneJudgement }
     ensures own { OwnJudgement }
-    ensures alone { FilesAlone }
+    ensures alone { TextsAlone }
+{}
+
+/// The file of a view with a floor and one live name, byte by byte, its digest too.
+pub fn worked_file()
+    ensures { WorkedFile }
 {}

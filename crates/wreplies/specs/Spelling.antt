@@ -74,6 +74,7 @@ file_text files.OtherCount = codes "refused X4\n"
 file_text files.OtherSchema = codes "refused X5\n"
 file_text (files.Segment fault) = codes "refused X6 " ++ segment_words fault
 file_text files.Trailing = codes "refused X7\n"
+file_text files.OtherDigest = codes "refused X8\n"
 file_text files.NoMemory = no_memory
 
 abbrev pub query_text : AskFault → List ℕ
@@ -98,6 +99,7 @@ status_text statuses.Unknown rows = codes " unknown\n"
 status_text statuses.Live rows = codes " live " ++ (decimal rows ++ 10 ∷ [])
 status_text statuses.Disputed rows = codes " disputed\n"
 status_text statuses.Retired rows = codes " retired\n"
+status_text statuses.Floor rows = codes " floor\n"
 
 abbrev pub listed_text : Listed → List ℕ
 listed_text l = l.name.origin ++ (32 ∷ (decimal l.name.number ++ status_text l.status l.rows))

@@ -17,6 +17,7 @@ fn push_status(text: &mut Vec<u8>, status: Status, rows: usize) -> Result<(), Al
         Status::Live => push_at(text, b" live ", rows as u64),
         Status::Disputed => text.extend_from_slice(b" disputed\n"),
         Status::Retired => text.extend_from_slice(b" retired\n"),
+        Status::Floor => text.extend_from_slice(b" floor\n"),
     }
 }
 

@@ -70,6 +70,7 @@ pub fn refused_file(alloc: Global, fault: FileFault) -> Result<Text, AllocError>
         FileFault::OtherSchema => Ok(Text::Fixed(b"refused X5\n")),
         FileFault::Segment(refused) => refused_with(alloc, b"refused X6 ", refused),
         FileFault::Trailing => Ok(Text::Fixed(b"refused X7\n")),
+        FileFault::OtherDigest => Ok(Text::Fixed(b"refused X8\n")),
         FileFault::NoMemory => Ok(Text::Fixed(b"no memory\n")),
     }
 }

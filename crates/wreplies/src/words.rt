@@ -18,7 +18,7 @@ pub fn taken(word: Taken) -> &'static [u8]
     }
 }
 
-/// What retiring a name did.
+/// What retiring a name did, or all names of an origin up to one.
 pub fn retired(word: Retired) -> &'static [u8]
     ensures { result.now ≡ retired_text word }
 {

@@ -14,7 +14,7 @@ use Rattle.wset.specs.declared.entries.Entry.{Entry}
 use Rattle.wset.specs.declared.held.Held.{Held}
 use Rattle.wset.specs.Holding.{known_of}
 use Rattle.wset.specs.Entries.{known_entry, known_entries, IsRising, IsPlace, IsGap}
-use Rattle.wset.proofs.Joining.{exact_names}
+use Rattle.wset.proofs.Floors.{exact_names}
 
 pub both : (a b : Bool) → T a → T b → T (a && b)
 both true b p q = q

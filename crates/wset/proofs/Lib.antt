@@ -1,3 +1,4 @@
+pub mod Floors
 pub mod Joining
 pub mod Union
 pub mod Later
@@ -5,10 +6,13 @@ mod Finding
 mod Merging
 mod Singles
 mod EntryFacts
+mod Settling
 mod Maps
 mod Sets
 mod Tables
 mod BlockFacts
 mod Cutting
 mod Walks
+mod Lows
+mod Origins
 mod KeptSets

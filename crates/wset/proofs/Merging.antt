@@ -5,17 +5,17 @@ use Rattle.std.specs.declared.cmp.Ordering.TheVariants.{Less, Equal, Greater}
 use Rattle.std.specs.FinMap.Entries.{below_all, by_order}
 use Rattle.std.specs.FinMap.{find, put, entries, insert, get, entries-insert, get-entries, get-insert, get_tied}
 use Rattle.std.specs.Ordering.{eq_by_cmp}
-use Rattle.std.proofs.lemmas.Cmp.{tied_itself}
 use Rattle.wvalues.specs.Names.{NameParts, name_cmp, names_total}
 use Rattle.wsegment.specs.Declaration.{Declaration}
-use Rattle.wset.specs.Views.{Known, View, join, join_told, join_known}
+use Rattle.wset.specs.Views.{Known, View, join_names, join_told, join_known}
 use Rattle.wset.specs.Holding.{IsHeldBy, known_of}
 use Rattle.wset.specs.Entries.{AllHeldBy, IsRising, known_entry, known_entries}
 use Rattle.std.specs.List.{AllByRecursion}
-use Rattle.wset.specs.Merging.{IsKnownTo, join_with, join_lists, Joins}
+use Rattle.wset.specs.Merging.{join_with, join_lists, Joins}
 use Rattle.wset.specs.declared.entries.Entry.{Entry}
 use Rattle.wset.proofs.Finding.{both, first, second, less, is_less, turned, below_all_below, find_below, put_here}
-use Rattle.wset.proofs.Joining.{exact_names, is_equal, same_name-true, same_view, get-join, with_none}
+use Rattle.wset.proofs.Floors.{exact_names, is_equal}
+use Rattle.wset.proofs.Joining.{same_view, get-join_names, with_none}
 
 -- ---- the entries of a join
 
@@ -39,8 +39,8 @@ get-join_entries v (e ∷ es) q =
     get-insert names_total (join_entries v es) e.0 (join_with (get v e.0) e.1) q
     ∙ at_first (eq_by_cmp name_cmp q e.0) (get v e.0) (get v q) e.1 _ _ (λ t. get_tied names_total v q e.0 (is_equal _ t)) (get-join_entries v es q)
 
-is_join_entries : (v w : View) → join v w ≡ join_entries v (entries w)
-is_join_entries v w = same_view _ _ (λ q. get-join v w q ∙ ap (join_told (get v q)) (get-entries w q) ∙ sym (get-join_entries v (entries w) q))
+is_join_entries : (v w : View) → join_names v w ≡ join_entries v (entries w)
+is_join_entries v w = same_view _ _ (λ q. get-join_names v w q ∙ ap (join_told (get v q)) (get-entries w q) ∙ sym (get-join_entries v (entries w) q))
 
 entries-join_entries : (v : View) (fs : List (NameParts × Known)) → entries (join_entries v fs) ≡ join_lists (entries v) fs
 entries-join_entries v [] = refl
@@ -49,8 +49,8 @@ entries-join_entries v (f ∷ fs) =
     ∙ ap (λ o. put name_cmp f.0 (join_with o f.1) (entries (join_entries v fs))) (get-entries v f.0)
     ∙ ap (put name_cmp f.0 (join_with (find name_cmp f.0 (entries v)) f.1)) (entries-join_entries v fs)
 
-pub entries-join : (v w : View) → entries (join v w) ≡ join_lists (entries v) (entries w)
-entries-join v w = ap entries (is_join_entries v w) ∙ entries-join_entries v (entries w)
+pub entries-join_names : (v w : View) → entries (join_names v w) ≡ join_lists (entries v) (entries w)
+entries-join_names v w = ap entries (is_join_entries v w) ∙ entries-join_entries v (entries w)
 
 -- ---- the first entry of two rising lists
 
@@ -210,29 +210,3 @@ all_front P (x ∷ xs) ys h = (h.0, all_front P xs ys h.1)
 pub all_back : (P : Entry → Type 0) (xs ys : List Entry) → AllByRecursion P (xs ++ ys) → AllByRecursion P ys
 all_back P [] ys h = h
 all_back P (x ∷ xs) ys h = all_back P xs ys h.1
-
--- where all that is told is known, each entry is
-pub each_known : (es fs : List Entry) → IsRising fs → ((q : NameParts) → join_told (find name_cmp q (known_entries es)) (find name_cmp q (known_entries fs)) ≡ find name_cmp q (known_entries es)) → AllByRecursion (IsKnownTo es) fs
-each_known es [] h told = tt
-each_known es (f ∷ fs) h told = (here, each_known es fs (second _ _ h) (λ q. by q (is_eq (name_cmp q f.name)) refl))
-  where
-    here : join_told (find name_cmp f.name (known_entries es)) (Some (known_of f.held)) ≡ find name_cmp f.name (known_entries es)
-    here = (rw (ap is_eq (tied_itself names_total f.name)) at (told f.name))
-
-    by : (q : NameParts) (b : Bool) → is_eq (name_cmp q f.name) ≡ b → join_told (find name_cmp q (known_entries es)) (find name_cmp q (known_entries fs)) ≡ find name_cmp q (known_entries es)
-    by q true e =
-        let none : find name_cmp q (known_entries fs) ≡ None = ap (λ n. find name_cmp n (known_entries fs)) (same_name-true q f.name e) ∙ find_below f.name (known_entries fs) (first _ _ h) in
-        ap (join_told (find name_cmp q (known_entries es))) none ∙ sym (with_none (find name_cmp q (known_entries es)))
-    by q false e = (rw e at (told q))
-
--- what a name's entry tells besides is known
-pub told_again : (es fs : List Entry) (q : NameParts) → AllByRecursion (IsKnownTo es) fs → join_told (find name_cmp q (known_entries es)) (find name_cmp q (known_entries fs)) ≡ find name_cmp q (known_entries es)
-told_again es [] q all = sym (with_none (find name_cmp q (known_entries es)))
-told_again es (f ∷ fs) q all = by (is_eq (name_cmp q f.name)) refl (told_again es fs q all.1)
-  where
-    by : (b : Bool) → is_eq (name_cmp q f.name) ≡ b → join_told (find name_cmp q (known_entries es)) (find name_cmp q (known_entries fs)) ≡ find name_cmp q (known_entries es)
-        → join_told (find name_cmp q (known_entries es)) (find name_cmp q (known_entries (f ∷ fs))) ≡ find name_cmp q (known_entries es)
-    by true e later =
-        let same : f.name ≡ q = sym (same_name-true q f.name e) in
-        rw e (subst (λ n. join_told (find name_cmp n (known_entries es)) (Some (known_of f.held)) ≡ find name_cmp n (known_entries es)) same all.0)
-    by false e later = rw e later

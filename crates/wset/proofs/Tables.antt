@@ -24,6 +24,7 @@ held_row_count : (d : Declaration) (h : Held) → IsHeldBy d h → row_count_of 
 held_row_count d (held.Live content) h = ap length (sym (read_rows d content h))
 held_row_count d held.Disputed h = refl
 held_row_count d held.Retired h = refl
+held_row_count d held.Floor h = refl
 
 pub listed_entries : (d : Declaration) (es : List Entry) → AllHeldBy d es → map listing_of es ≡ map (listed d) (known_entries es)
 listed_entries d [] all = refl
@@ -45,6 +46,7 @@ row_sum d (e ∷ es) all = sum_by-cons (λ e. row_count_of e.held) e es ∙ by e
         ∙ sym (length-append (segment_rows d (n, content.bytes)) _)
     by n held.Disputed h rest = zero-add _ ∙ rest
     by n held.Retired h rest = zero-add _ ∙ rest
+    by n held.Floor h rest = zero-add _ ∙ rest
 
 -- a live content before others
 ok_first : (d : Declaration) (x : NameParts × List ℕ) (xs : List (NameParts × List ℕ)) → IsOk (rows_of d x.1) → All (λ e. IsOk (rows_of d e.1)) xs → All (λ e. IsOk (rows_of d e.1)) (x ∷ xs)
@@ -60,3 +62,4 @@ read_lives d (x ∷ es) all = by x.name x.held all.0 (read_lives d es all.1)
     by n (held.Live content) h rest = ok_first d (n, content.bytes) (filter_map live_of (known_entries es)) (subst IsOk (sym h.rows) refl) rest
     by n held.Disputed h rest = rest
     by n held.Retired h rest = rest
+    by n held.Floor h rest = rest

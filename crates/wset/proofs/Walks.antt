@@ -18,6 +18,7 @@ content_bytes (e ∷ es) = by e.name e.held (content_bytes es)
     by n (held.Live content) rest = ap (λ l. (n, content.bytes) ∷ l) rest
     by n held.Disputed rest = rest
     by n held.Retired rest = rest
+    by n held.Floor rest = rest
 
 pub contents_read : (d : Declaration) (es : List Entry) → AllHeldBy d es → AllByRecursion (λ e. IsReadBy d e.1) (contents es)
 contents_read d [] all = tt
@@ -27,3 +28,4 @@ contents_read d (e ∷ es) all = by e.name e.held all.0 (contents_read d es all.
     by n (held.Live content) read rest = (read, rest)
     by n held.Disputed read rest = rest
     by n held.Retired read rest = rest
+    by n held.Floor read rest = rest

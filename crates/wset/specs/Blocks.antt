@@ -1,11 +1,11 @@
 -- Entries in blocks, one block after another.
-use Rattle.std.specs.Prelude.{◌≡◌, ◌<◌, ◌≤◌, ℕ, zero, suc, List, [], ◌∷◌, ◌++◌, length, take, drop}
+use Rattle.std.specs.Prelude.{◌≡◌, ◌<◌, ◌≤◌, ℕ, zero, suc, List, [], ◌∷◌, ◌++◌, ◌⊎◌, length, get_or, take, drop, not, Option, None, Some, if◌then◌else◌}
 use Rattle.std.specs.FinMap.{put}
-use Rattle.std.specs.List.{AllByRecursion}
+use Rattle.std.specs.List.{AllByRecursion, filter, list_all}
 use Rattle.std.specs.declared.cmp.Ordering.TheVariants.{Less}
 use Rattle.wvalues.specs.Names.{NameParts, name_cmp}
-use Rattle.wset.specs.Views.{Known}
-use Rattle.wset.specs.Lending.{AreBelow}
+use Rattle.wset.specs.Views.{Known, is_above}
+use Rattle.wset.specs.Lending.{AreBelow, AreOriginsBelow}
 use Rattle.wset.specs.Entries.{known_entries}
 use Rattle.wset.specs.declared.entries.Entry.{Entry}
 
@@ -38,12 +38,27 @@ halved k [] = []
 halved zero (b ∷ bs) = take half b ∷ drop half b ∷ bs
 halved (suc k) (b ∷ bs) = b ∷ halved k bs
 
+-- the first of some entries
+abbrev pub first_of : List Entry → Option Entry
+first_of [] = None
+first_of (e ∷ es) = Some e
+
 -- these names stand behind the name
 abbrev pub AreBehind : NameParts → List (NameParts × Known) → Type 0
 AreBehind n es = AllByRecursion (λ e. name_cmp n e.0 ≡ Less) es
+
+-- the entries without those below a floor, unless all are
+abbrev pub trimmed : NameParts → List Entry → List Entry
+trimmed n es = if list_all (λ e. is_above e.name n) es then es else filter (λ e. not (is_above e.name n)) es
 
 -- no other block knows the name
 pub record IsHome (blocks : List (List Entry)) (n : NameParts) (k : ℕ) : Type 0 where
   pub in_range : k < length blocks
   pub before : AreBelow n (known_entries (flat (take k blocks)))
   pub behind : AreBehind n (known_entries (flat (drop (suc k) blocks)))
+
+-- no block before this one has an origin that does not stand before the origin, and it has one itself unless it is the last
+pub record IsOriginHome (blocks : List (List Entry)) (o : List ℕ) (k : ℕ) : Type 0 where
+  pub in_range : k < length blocks
+  pub before : AreOriginsBelow o (known_entries (flat (take k blocks)))
+  pub reached : (suc k ≡ length blocks) ⊎ (AreOriginsBelow o (known_entries (get_or blocks k [])) → ⊥)

@@ -1,11 +1,12 @@
 -- Entries in the order of their names.
-use Rattle.std.specs.Prelude.{◌≡◌, zero, suc, ℕ, List, [], ◌∷◌, map, T}
-use Rattle.std.specs.List.{AllByRecursion}
-use Rattle.std.specs.FinMap.{is_sorted}
+use Rattle.std.specs.Prelude.{◌≡◌, zero, suc, ℕ, true, not, List, [], ◌∷◌, map, T, Option, None, Some, if◌then◌else◌}
+use Rattle.std.specs.List.{AllByRecursion, filter, list_any}
+use Rattle.std.specs.Ordering.{is_lt}
+use Rattle.std.specs.FinMap.{find, is_sorted}
 use Rattle.std.specs.declared.cmp.Ordering.TheVariants.{Less, Equal, Greater}
 use Rattle.wvalues.specs.Names.{NameParts, name_cmp}
 use Rattle.wsegment.specs.Declaration.{Declaration}
-use Rattle.wset.specs.Views.{Known}
+use Rattle.wset.specs.Views.{Known, is_above, is_over}
 use Rattle.wset.specs.Words.{status_of_known}
 use Rattle.wset.specs.Holding.{IsHeldBy, known_of, row_count_of}
 use Rattle.wset.specs.declared.entries.Entry.{Entry}
@@ -21,6 +22,23 @@ known_entries es = map known_entry es
 -- the names strictly rise
 abbrev pub IsRising : List Entry → Type 0
 IsRising es = T (is_sorted name_cmp (known_entries es))
+
+-- no name of these is below a floor
+abbrev pub AreSettled : List (NameParts × Known) → Type 0
+AreSettled es = (n : NameParts) → list_any (is_over n) es ≡ true → find name_cmp n es ≡ None
+
+-- the entries without those below this floor
+abbrev pub above_floor : NameParts → List (NameParts × Known) → List (NameParts × Known)
+above_floor n es = filter (λ e. not (is_above e.0 n)) es
+
+-- the entries without those below a floor
+abbrev pub above_floors : List (NameParts × Known) → List (NameParts × Known)
+above_floors es = filter (λ e. not (list_any (is_over e.0) es)) es
+
+-- the first that does not stand before the name
+abbrev pub first_from : NameParts → List Entry → Option Entry
+first_from n [] = None
+first_from n (e ∷ es) = if is_lt (name_cmp e.name n) then first_from n es else Some e
 
 -- every segment that is held was read by the declaration
 abbrev pub AllHeldBy : Declaration → List Entry → Type 0

@@ -2,7 +2,7 @@
 use Rattle.std.specs.Prelude.{ℕ, length}
 use Rattle.wvalues.specs.Names.{NameParts}
 use Rattle.wsegment.specs.Declaration.{Declaration}
-use Rattle.wset.specs.Views.{Known, Live, Disputed, Retired}
+use Rattle.wset.specs.Views.{Known, Live, Disputed, Retired, Floor}
 use Rattle.wset.specs.Tables.{content_rows}
 use Rattle.wset.specs.Words.{status_of_known}
 use Rattle.wset.specs.declared.words.Listed.{Listed}
@@ -12,6 +12,7 @@ abbrev pub known_row_count : Declaration → Known → ℕ
 known_row_count d (Live bytes) = length (content_rows d bytes)
 known_row_count d Disputed = 0
 known_row_count d Retired = 0
+known_row_count d Floor = 0
 
 -- the name, its status and the number of its rows
 abbrev pub listed : Declaration → (NameParts × Known) → Listed

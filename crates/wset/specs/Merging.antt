@@ -1,9 +1,10 @@
 -- Joining entries name by name.
-use Rattle.std.specs.Prelude.{◌≡◌, ◌<◌, ◌+◌, List, [], ◌∷◌, length, Option, None, Some}
+use Rattle.std.specs.Prelude.{◌≡◌, ◌<◌, ◌+◌, ◌⊎◌, true, List, [], ◌∷◌, length, Option, None, Some}
+use Rattle.std.specs.List.{list_any}
 use Rattle.std.specs.FinMap.{put, find}
 use Rattle.wvalues.specs.Names.{NameParts, name_cmp}
 use Rattle.wsegment.specs.Declaration.{Declaration}
-use Rattle.wset.specs.Views.{Known, join_known, join_told}
+use Rattle.wset.specs.Views.{Known, is_over, join_known, join_told}
 use Rattle.wset.specs.Holding.{IsHeldBy, known_of}
 use Rattle.wset.specs.Entries.{AllHeldBy, IsRising, known_entries, known_entry}
 use Rattle.wset.specs.declared.entries.Entry.{Entry}
@@ -30,6 +31,8 @@ pub record Joins (ours theirs : List Entry) (entry : Entry) (ours_left theirs_le
       (d : Declaration) → AllHeldBy d ours → AllHeldBy d theirs
       → IsHeldBy d entry.held × AllHeldBy d ours_left × AllHeldBy d theirs_left
 
--- what the entry tells of its name is known to ours
+-- what the entry tells of its name is known to ours, by a floor above it or by what is known of the name
 abbrev pub IsKnownTo : List Entry → Entry → Type 0
-IsKnownTo ours e = join_told (find name_cmp e.name (known_entries ours)) (Some (known_of e.held)) ≡ find name_cmp e.name (known_entries ours)
+IsKnownTo ours e =
+    (list_any (is_over e.name) (known_entries ours) ≡ true)
+    ⊎ (join_told (find name_cmp e.name (known_entries ours)) (Some (known_of e.held)) ≡ find name_cmp e.name (known_entries ours))

@@ -12,6 +12,7 @@ abbrev pub named_content : NameParts → Held → Option (NameParts × Content)
 named_content n (held.Live content) = Some (n, content)
 named_content n held.Disputed = None
 named_content n held.Retired = None
+named_content n held.Floor = None
 
 -- the live names with their contents
 abbrev pub contents : List Entry → List (NameParts × Content)

@@ -1,17 +1,21 @@
 //! Entries in blocks of a bounded size, so that an insert moves few of them.
-ghost use Rattle.std.specs.Prelude.{◌≡◌, ◌↔◌, ◌<◌, ◌≤◌, ◌++◌, ◌-◌, ◌^◌, [], ◌∷◌, ℕ, IsOk, IsSome, IsTrue, List, true, false, length, take, drop, get_or, map, option_map, IfSome, IfOk, OnOk, OnErr};
+ghost use Rattle.std.specs.Prelude.{◌≡◌, ◌↔◌, ◌<◌, ◌≤◌, ◌++◌, ◌-◌, ◌^◌, [], ◌∷◌, ℕ, suc, IsOk, IsSome, IsTrue, List, true, false, length, take, drop, get_or, map, option_map, IfSome, IfOk, OnOk, OnErr};
 ghost use Rattle.std.specs.Option.{option_copied};
+ghost use Rattle.std.specs.List.{filter_map, list_all, list_any};
 ghost use Rattle.std.specs.FinMap.{find, put};
 ghost use Rattle.wsegment.specs.Declaration.{Declaration};
 ghost use Rattle.wvalues.specs.Names.{name_cmp};
-ghost use Rattle.wset.specs.Views.{Known as TheKnown};
+ghost use Rattle.wset.specs.Views.{Known as TheKnown, Floor, first_of as first_number, floor_number, is_above, is_over};
 ghost use Rattle.wset.specs.Holding.{IsHeldBy, known_of};
-ghost use Rattle.wset.specs.Lending.{AreBelow};
-ghost use Rattle.wset.specs.Entries.{AllHeldBy, IsRising, known_entries, listing_of};
-ghost use Rattle.wset.specs.Blocks.{AreBehind, AreFilled, HasRoom, IsHome, flat, half, halved, longest};
+ghost use Rattle.wset.specs.Lending.{AreBelow, AreOriginsBelow};
+ghost use Rattle.wset.specs.Entries.{AllHeldBy, AreSettled, IsRising, above_floor, first_from, known_entries, listing_of};
+ghost use Rattle.wset.specs.Blocks.{AreBehind, AreFilled, HasRoom, IsHome, IsOriginHome, first_of, flat, half, halved, longest, trimmed};
 ghost use Rattle.wset.specs.declared.entries.Entry.{Entry as HeldEntry};
 
-use crate::entries::{Entry, held_of, list_entries, put_entry, share_entries};
+use crate::entries::{
+    Entry, drop_under, first_from, floor_of, held_of, is_above, list_entries, put_entry,
+    share_entries,
+};
 use crate::held::Held;
 use crate::words::Listed;
 use std::alloc::{AllocError, Global};
@@ -107,6 +111,36 @@ impl Block {
         Ok(())
     }
 
+    /// Whether all its entries are below a floor. It looks at the first alone where that is not.
+    fn is_under(&self, floor: &Name) -> bool
+        ensures { result ≡ list_all (λ e. is_above e.name floor.now) self.now }
+    {
+        self.entries
+            .iter()
+            .all(|entry| is_above(&entry.name, floor))
+    }
+
+    /// Drops the entries that are below a floor, unless all are.
+    fn trim(&mut self, floor: &Name)
+        ensures { self.new ≡ trimmed floor.now self.old }
+    {
+        if self.is_under(floor) {
+            return;
+        }
+        drop_under(&mut self.entries, floor);
+    }
+
+    /// Whether the origin of its last name stands before this one.
+    fn ends_before_origin(&self, origin: &[u8]) -> bool
+        ensures before { result ≡ true → (before : List HeldEntry) → IsRising (before ++ self.now)
+            → AreOriginsBelow origin.now (known_entries (before ++ self.now)) }
+        ensures all { AreOriginsBelow origin.now (known_entries self.now) → IsTrue result }
+    {
+        let end = self.entries.len() - 1;
+        let last = &self.entries[end];
+        last.name.origin().cmp(origin).is_lt()
+    }
+
     /// Puts an entry behind the others. Where it finds no memory nothing is changed.
     fn push(&mut self, entry: Entry) -> Result<(), AllocError>
         requires { length self.old < longest }
@@ -149,6 +183,18 @@ impl Block {
     }
 }
 
+/// The first entry behind a block.
+fn first_after(blocks: &[Block], k: usize) -> Option<&Entry>
+    requires { k < length blocks.now }
+    ensures { option_copied result ≡ first_of (flat (drop (suc k) blocks.now)) }
+{
+    if k + 1 == blocks.len() {
+        return None;
+    }
+    let entries = blocks[k + 1].entries();
+    Some(&entries[0])
+}
+
 /// The block where a name is, if it is not unknown, or else goes.
 fn home(blocks: &[Block], name: &Name) -> usize
     requires some { 0 < length blocks.now }
@@ -160,6 +206,25 @@ fn home(blocks: &[Block], name: &Name) -> usize
     'search: while low < high {
         let middle = low + (high - low) / 2;
         if blocks[middle].ends_before(name) {
+            low = middle + 1;
+        } else {
+            high = middle;
+        }
+    }
+    low
+}
+
+/// The first block of which the last origin does not stand before this one, or else the last block.
+fn origin_home(blocks: &[Block], origin: &[u8]) -> usize
+    requires some { 0 < length blocks.now }
+    requires rising { IsRising (flat blocks.now) }
+    ensures { IsOriginHome blocks.now origin.now result }
+{
+    let mut low = 0;
+    let mut high = blocks.len() - 1;
+    'search: while low < high {
+        let middle = low + (high - low) / 2;
+        if blocks[middle].ends_before_origin(origin) {
             low = middle + 1;
         } else {
             high = middle;
@@ -180,6 +245,18 @@ pub(crate) fn end_before(blocks: &[Block], name: &Name) -> bool
     blocks[last].ends_before(name)
 }
 
+/// Whether all origins stand before that of the name.
+pub(crate) fn end_before_origin(blocks: &[Block], name: &Name) -> bool
+    requires { IsRising (flat blocks.now) }
+    ensures { IsTrue result ↔ AreOriginsBelow name.now.origin (known_entries (flat blocks.now)) }
+{
+    if blocks.is_empty() {
+        return true;
+    }
+    let last = blocks.len() - 1;
+    blocks[last].ends_before_origin(name.origin())
+}
+
 /// What is held of a name, if it is not unknown.
 pub(crate) fn held_in<'a>(blocks: &'a [Block], name: &Name) -> Option<&'a Held>
     requires { IsRising (flat blocks.now) }
@@ -193,6 +270,89 @@ pub(crate) fn held_in<'a>(blocks: &'a [Block], name: &Name) -> Option<&'a Held>
     }
     let k = home(blocks, name);
     held_of(blocks[k].entries(), name)
+}
+
+/// The first entry that does not stand before the name.
+pub(crate) fn first_in<'a>(blocks: &'a [Block], name: &Name) -> Option<&'a Entry>
+    requires { IsRising (flat blocks.now) }
+    ensures { option_copied result ≡ first_from name.now (flat blocks.now) }
+{
+    if blocks.is_empty() {
+        return None;
+    }
+    let k = home(blocks, name);
+    match first_from(blocks[k].entries(), name) {
+        Some(entry) => Some(entry),
+        None => first_after(blocks, k),
+    }
+}
+
+/// Whether a floor is above the name. No name before the floor of its origin is held, so that the first entry which does
+/// not stand before the name is that floor, if there is one.
+pub(crate) fn is_low(blocks: &[Block], name: &Name) -> bool
+    requires rising { IsRising (flat blocks.now) }
+    requires settled { AreSettled (known_entries (flat blocks.now)) }
+    ensures { result ≡ list_any (is_over name.now) (known_entries (flat blocks.now)) }
+{
+    match first_in(blocks, name) {
+        Some(entry) => entry.is_over(name),
+        None => false,
+    }
+}
+
+/// Drops the entries that are below a floor, but for blocks of such alone, in the blocks from `start` to `end`: those
+/// before have smaller origins, and those behind have names behind the floor.
+fn trim_all(blocks: &mut Vec<Block>, start: usize, end: usize, floor: &Name)
+    requires in_range { end < length blocks.old.items }
+    requires before { AreOriginsBelow floor.now.origin (known_entries (flat (take start blocks.old.items))) }
+    requires behind { AreBehind floor.now (known_entries (flat (drop (suc end) blocks.old.items))) }
+    ensures { blocks.new.items ≡ map (trimmed floor.now) blocks.old.items }
+{
+    'blocks: for k in start..end + 1 {
+        blocks[k].trim(floor);
+    }
+}
+
+/// Drops the entries that are below a floor. It takes no memory, and looks at no entries but those from the origin's first
+/// block to that of the floor, and at the first of each other block.
+pub(crate) fn drop_all_under(blocks: &mut Vec<Block>, floor: &Name)
+    requires { IsRising (flat blocks.old.items) }
+    ensures known { known_entries (flat blocks.new.items) ≡ above_floor floor.now (known_entries (flat blocks.old.items)) }
+    ensures read { (d : Declaration) → AllHeldBy d (flat blocks.old.items) → AllHeldBy d (flat blocks.new.items) }
+{
+    if blocks.is_empty() {
+        return;
+    }
+    let start = origin_home(blocks, floor.origin());
+    let end = home(blocks, floor);
+    trim_all(blocks, start, end, floor);
+    blocks.retain(|block| !block.is_under(floor));
+}
+
+/// The number of the floor of an origin. A floor is the first of its origin, so that no block but the first that has a
+/// name of the origin has it.
+pub(crate) fn floor_in(blocks: &[Block], origin: &[u8]) -> Option<u32>
+    requires rising { IsRising (flat blocks.now) }
+    requires settled { AreSettled (known_entries (flat blocks.now)) }
+    ensures { result ≡ first_number (filter_map (floor_number origin.now) (known_entries (flat blocks.now))) }
+{
+    if blocks.is_empty() {
+        return None;
+    }
+    let k = origin_home(blocks, origin);
+    floor_of(blocks[k].entries(), origin)
+}
+
+/// The number of entries.
+pub(crate) fn entry_count(blocks: &[Block]) -> usize
+    requires { length (flat blocks.now) < 2 ^ 64 }
+    ensures { result ≡ length (flat blocks.now) }
+{
+    let mut count = 0;
+    'blocks: for block in blocks {
+        count += block.entries().len();
+    }
+    count
 }
 
 /// Cuts a block that has the most entries in two halves. Where it finds no memory nothing is changed.

@@ -1,19 +1,26 @@
 //! Entries in the order of their names.
-ghost use Rattle.std.specs.Prelude.{◌≡◌, ◌<◌, ◌≤◌, ◌++◌, length, map, option_map, IfSome, IfOk, IfErr, OnOk, OnErr};
-ghost use Rattle.std.specs.List.{insert};
+ghost use Rattle.std.specs.Prelude.{not, true, false, ◌≢◌, ◌≡◌, ◌<◌, ◌≤◌, ◌++◌, length, map, option_map, IfSome, IfOk, IfErr, OnOk, OnErr};
+ghost use Rattle.std.specs.List.{filter, filter_map, insert};
 ghost use Rattle.std.specs.Option.{option_copied};
 ghost use Rattle.std.specs.Ordering.{is_lt};
 ghost use Rattle.std.specs.FinMap.{find, put};
 ghost use Rattle.wsegment.specs.Declaration.{Declaration};
 ghost use Rattle.wvalues.specs.Names.{name_cmp};
-ghost use Rattle.wset.specs.Views.{join_known};
+ghost use Rattle.wset.specs.Views.{Known as TheKnown, Floor, first_of as first_number, floor_number, is_above, is_over, join_known};
 ghost use Rattle.wset.specs.Holding.{IsHeldBy, known_of};
-ghost use Rattle.wset.specs.Entries.{AllHeldBy, IsGap, IsPlace, IsRising, known_entries, known_entry, listing_of};
+ghost use Rattle.wset.specs.Entries.{AllHeldBy, IsGap, IsPlace, IsRising, above_floor, first_from, known_entries, known_entry, listing_of};
 
 use crate::held::Held;
 use crate::words::Listed;
 use std::alloc::AllocError;
 use wvalues::Name;
+
+/// Whether a floor is above a name: of its origin, with a greater number.
+pub(crate) fn is_above(name: &Name, floor: &Name) -> bool
+    ensures { result ≡ is_above name.now floor.now }
+{
+    name.origin() == floor.origin() && name.number() < floor.number()
+}
 
 /// A name that is not unknown, and what is held of it. It is small: an insert moves those behind it in
 /// their block.
@@ -40,6 +47,46 @@ impl Entry {
         ensures { result ≡ is_lt (name_cmp self.now.name name.now) }
     {
         self.name.cmp(name).is_lt()
+    }
+
+    /// Whether it is a floor.
+    pub(crate) fn is_floor(&self) -> bool
+        ensures yes { result ≡ true → known_of self.now.held ≡ Floor }
+        ensures other { result ≡ false → known_of self.now.held ≢ Floor }
+    {
+        match self.held {
+            Held::Floor => true,
+            Held::Live(_) => false,
+            Held::Disputed => false,
+            Held::Retired => false,
+        }
+    }
+
+    /// Whether it is a floor above the name.
+    pub(crate) fn is_over(&self, name: &Name) -> bool
+        ensures { result ≡ is_over name.now (known_entry self.now) }
+    {
+        match self.held {
+            Held::Floor => is_above(name, &self.name),
+            Held::Live(_) => false,
+            Held::Disputed => false,
+            Held::Retired => false,
+        }
+    }
+
+    /// Its number, if it is a floor of this origin.
+    pub(crate) fn floor_of(&self, origin: &[u8]) -> Option<u32>
+        ensures { result ≡ floor_number origin.now (known_entry self.now) }
+    {
+        if self.name.origin() != origin {
+            return None;
+        }
+        match self.held {
+            Held::Floor => Some(self.name.number()),
+            Held::Live(_) => None,
+            Held::Disputed => None,
+            Held::Retired => None,
+        }
     }
 
     /// What two sets know together of a name, of which these are the entries.
@@ -114,6 +161,37 @@ pub(crate) fn put_entry(entries: &mut Vec<Entry>, name: Name, held: Held) -> Res
             Ok(())
         }
     }
+}
+
+/// The first entry that does not stand before the name.
+pub(crate) fn first_from<'a>(entries: &'a [Entry], name: &Name) -> Option<&'a Entry>
+    requires { IsRising entries.now }
+    ensures { option_copied result ≡ first_from name.now entries.now }
+{
+    match place(entries, name) {
+        Ok(i) => Some(&entries[i]),
+        Err(i) if i < entries.len() => Some(&entries[i]),
+        Err(_) => None,
+    }
+}
+
+/// Drops the entries that are below a floor.
+pub(crate) fn drop_under(entries: &mut Vec<Entry>, floor: &Name)
+    ensures { entries.new.items ≡ filter (λ e. not (is_above e.name floor.now)) entries.old.items }
+{
+    entries.retain(|entry| !is_above(&entry.name, floor));
+}
+
+/// The number of the first floor of an origin.
+pub(crate) fn floor_of(entries: &[Entry], origin: &[u8]) -> Option<u32>
+    ensures { result ≡ first_number (filter_map (floor_number origin.now) (known_entries entries.now)) }
+{
+    'entries: for entry in entries {
+        if let Some(number) = entry.floor_of(origin) {
+            return Some(number);
+        }
+    }
+    None
 }
 
 /// Puts each entry's name, status and number of rows behind others.

@@ -18,6 +18,8 @@ pub(crate) enum Held {
     Live(Kept),
     Disputed,
     Retired,
+    /// It is retired, and so are all names of its origin with a smaller number.
+    Floor,
 }
 
 /// What two sets know together of a name that is live in both.
@@ -45,6 +47,7 @@ impl Held {
             }
             Held::Disputed => Ok(Held::Disputed),
             Held::Retired => Ok(Held::Retired),
+            Held::Floor => Ok(Held::Floor),
         }
     }
 
@@ -55,6 +58,7 @@ impl Held {
         ensures read { IfOk result (λ held. (d : Declaration) → IsHeldBy d self.now → IsHeldBy d held) }
     {
         match (self, other) {
+            (Held::Floor, _) | (_, Held::Floor) => Ok(Held::Floor),
             (Held::Retired, _) | (_, Held::Retired) => Ok(Held::Retired),
             (Held::Disputed, _) | (_, Held::Disputed) => Ok(Held::Disputed),
             (Held::Live(ours), Held::Live(theirs)) => contents_joined(ours, theirs),
@@ -67,6 +71,8 @@ impl Held {
         ensures new { join_known (known_of self.now) (known_of other.now) ≡ known_of self.now → result ≡ false }
     {
         match (self, other) {
+            (Held::Floor, _) => false,
+            (_, Held::Floor) => true,
             (Held::Retired, _) => false,
             (_, Held::Retired) => true,
             (Held::Disputed, _) => false,
@@ -81,7 +87,7 @@ impl Held {
     {
         match self {
             Held::Live(kept) => kept.segment().rows(),
-            Held::Disputed | Held::Retired => 0,
+            Held::Disputed | Held::Retired | Held::Floor => 0,
         }
     }
 
@@ -93,6 +99,7 @@ impl Held {
             Held::Live(kept) => Known::Live(kept.segment()),
             Held::Disputed => Known::Disputed,
             Held::Retired => Known::Retired,
+            Held::Floor => Known::Floor,
         }
     }
 
@@ -104,6 +111,7 @@ impl Held {
             Held::Live(_) => Status::Live,
             Held::Disputed => Status::Disputed,
             Held::Retired => Status::Retired,
+            Held::Floor => Status::Floor,
         }
     }
 }

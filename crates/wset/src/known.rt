@@ -11,4 +11,6 @@ pub enum Known<'a> {
     Disputed,
     /// A retirement of it is known.
     Retired,
+    /// It is retired, and so are all names of its origin with a smaller number.
+    Floor,
 }

@@ -1,5 +1,5 @@
 //! The laws of views. The functions do nothing when run: each is the proof of its contract.
-ghost use Rattle.wset.specs.Laws.{JoinLaws, LaterNames, SameItemsSameView, ViewOfUnion, ViewTellsStatus};
+ghost use Rattle.wset.specs.Laws.{JoinLaws, LaterNames, SameItemsSameView, ViewOfUnion, ViewTellsStatus, ViewsAreSettled};
 
 /// Joining views is associative, commutative and idempotent.
 pub fn join_laws()
@@ -14,6 +14,11 @@ pub fn view_of_union()
 /// The view of items tells the status of each name among them.
 pub fn view_tells_status()
     ensures { ViewTellsStatus }
+{}
+
+/// The view of items has no name below a floor.
+pub fn views_are_settled()
+    ensures { ViewsAreSettled }
 {}
 
 /// The same items, in whatever order and however often, have one view.

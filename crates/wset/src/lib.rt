@@ -1,10 +1,11 @@
-//! What a node knows of each name: live, disputed or retired.
+//! What a node knows of each name: live, disputed or retired, by itself or by a floor of its origin.
 //!
-//! - Gives a set of segments under one declaration: it takes segments, retirements and disputes,
+//! - Gives a set of segments under one declaration: it takes segments, retirements, floors and disputes,
 //!   joins what another set knows, lists the names, and lends what it knows in the order of names.
-//! - Promises: a set is a view, a finite map from names to what is known of them. Each call tells the
-//!   whole view after it, at an error the one before. `take`, `retire`, `dispute` and `join` are joins
-//!   of views, and joining is associative, commutative and idempotent (`laws`).
+//! - Promises: a set is a view, a finite map from names to what is known of them, a floor under its own name
+//!   and no name below it. Each call tells the whole view after it, at an error the one before. `take`,
+//!   `retire`, `retire_to`, `dispute` and `join` are joins of views, and joining is associative,
+//!   commutative and idempotent (`laws`). No block of a set holds more than 512 entries.
 //! - Asks: of `take_beside` alone, that both sets have one declaration.
 //! - Leaves reading to `wsegment`, files and streams to `wexchange`.
 //!

@@ -1,15 +1,18 @@
 //! The entries of two sets, joined name by name.
-ghost use Rattle.std.specs.Prelude.{◌≡◌, ◌<◌, [], false, length, IfOk, MatchOption};
-ghost use Rattle.std.specs.List.{AllByRecursion};
+ghost use Rattle.std.specs.Prelude.{◌≡◌, ◌<◌, ◌++◌, ◌∷◌, [], false, not, length, IfOk, OnOk, MatchOption};
+ghost use Rattle.std.specs.List.{AllByRecursion, filter};
+ghost use Rattle.wset.specs.Lending.{AreBelow};
+ghost use Rattle.wset.specs.Views.{Floor as TheFloor, is_over};
 ghost use Rattle.wsegment.specs.Declaration.{Declaration};
-ghost use Rattle.wset.specs.Entries.{AllHeldBy, IsRising, known_entries};
+ghost use Rattle.wset.specs.Entries.{AllHeldBy, AreSettled, IsRising, above_floor, above_floors, known_entries, known_entry};
 ghost use Rattle.wset.specs.Blocks.{flat};
 ghost use Rattle.wset.specs.Merging.{IsKnownTo, Joins, join_lists};
 
-use crate::blocks::{Block, held_in, shared};
-use crate::entries::Entry;
+use crate::blocks::{Block, held_in, is_low, shared};
+use crate::entries::{Entry, is_above};
 use std::alloc::{AllocError, Global};
 use std::cmp::Ordering;
+use wvalues::Name;
 
 /// The first entry of a join, and what is left of both lists.
 #[derive(Drop)]
@@ -79,10 +82,14 @@ fn first_joined<'a>(ours: &'a [Entry], theirs: &'a [Entry]) -> Result<Option<Ste
 
 /// Whether an entry adds to what is known of its name.
 fn adds(ours: &[Block], entry: &Entry) -> bool
-    requires { IsRising (flat ours.now) }
+    requires rising { IsRising (flat ours.now) }
+    requires settled { AreSettled (known_entries (flat ours.now)) }
     ensures known { result ≡ false → IsKnownTo (flat ours.now) entry.now }
     ensures new { IsKnownTo (flat ours.now) entry.now → result ≡ false }
 {
+    if is_low(ours, &entry.name) {
+        return false;
+    }
     match held_in(ours, &entry.name) {
         None => true,
         Some(held) => held.learns(&entry.held),
@@ -91,7 +98,8 @@ fn adds(ours: &[Block], entry: &Entry) -> bool
 
 /// Whether some of these add to what ours tell.
 fn some_add(ours: &[Block], theirs: &[Entry]) -> bool
-    requires { IsRising (flat ours.now) }
+    requires rising { IsRising (flat ours.now) }
+    requires settled { AreSettled (known_entries (flat ours.now)) }
     ensures known { result ≡ false → AllByRecursion (IsKnownTo (flat ours.now)) theirs.now }
     ensures new { AllByRecursion (IsKnownTo (flat ours.now)) theirs.now → result ≡ false }
 {
@@ -105,7 +113,8 @@ fn some_add(ours: &[Block], theirs: &[Entry]) -> bool
 
 /// Whether theirs add to what ours tell.
 pub(crate) fn teaches(ours: &[Block], theirs: &[Block]) -> bool
-    requires { IsRising (flat ours.now) }
+    requires rising { IsRising (flat ours.now) }
+    requires settled { AreSettled (known_entries (flat ours.now)) }
     ensures known { result ≡ false → AllByRecursion (IsKnownTo (flat ours.now)) (flat theirs.now) }
     ensures new { AllByRecursion (IsKnownTo (flat ours.now)) (flat theirs.now) → result ≡ false }
 {
@@ -117,13 +126,43 @@ pub(crate) fn teaches(ours: &[Block], theirs: &[Block]) -> bool
     false
 }
 
+/// Drops the entries at the end that are below a floor.
+fn drop_tail(all: &mut Vec<Entry>, floor: &Name)
+    requires rising { IsRising all.old.items }
+    requires behind { AreBelow floor.now (known_entries all.old.items) }
+    ensures { all.new.items ≡ filter (λ e. not (is_over e.name (floor.now, TheFloor))) all.old.items }
+{
+    'tail: while !all.is_empty() {
+        let end = all.len() - 1;
+        if !is_above(&all[end].name, floor) {
+            return;
+        }
+        all.truncate(end);
+    }
+}
+
+/// Puts an entry behind others, without those that are then below it.
+fn push_settled(all: &mut Vec<Entry>, entry: Entry) -> Result<(), AllocError>
+    requires rising { IsRising all.old.items }
+    requires behind { AreBelow entry.name (known_entries all.old.items) }
+    ensures { OnOk result (all.new.items ≡ filter (λ e. not (is_over e.name (known_entry entry))) all.old.items ++ entry ∷ []) }
+{
+    if entry.is_floor() {
+        drop_tail(all, &entry.name);
+        all.push(entry)?;
+        return Ok(());
+    }
+    all.push(entry)?;
+    Ok(())
+}
+
 /// The join of two lists of entries. Segments are shared, and none is read again.
 fn merged(alloc: Global, ours: &[Entry], theirs: &[Entry]) -> Result<Vec<Entry>, AllocError>
     requires ours { IsRising ours.now }
     requires theirs { IsRising theirs.now }
     ensures known { IfOk result
         (λ all. known_entries all.items
-        ≡ join_lists (known_entries ours.now) (known_entries theirs.now)) }
+        ≡ above_floors (join_lists (known_entries ours.now) (known_entries theirs.now))) }
     ensures read { IfOk result
         (λ all. (d : Declaration)
         → AllHeldBy d ours.now → AllHeldBy d theirs.now → AllHeldBy d all.items) }
@@ -132,7 +171,7 @@ fn merged(alloc: Global, ours: &[Entry], theirs: &[Entry]) -> Result<Vec<Entry>,
     let mut ours = ours;
     let mut theirs = theirs;
     'merge: while let Some(step) = first_joined(ours, theirs)? {
-        all.push(step.entry)?;
+        push_settled(&mut all, step.entry)?;
         ours = step.ours;
         theirs = step.theirs;
     }
@@ -149,7 +188,7 @@ pub(crate) fn joined(
     requires theirs { IsRising (flat theirs.now) }
     ensures known { IfOk result
         (λ all. known_entries all.items
-        ≡ join_lists (known_entries (flat ours.now)) (known_entries (flat theirs.now))) }
+        ≡ above_floors (join_lists (known_entries (flat ours.now)) (known_entries (flat theirs.now)))) }
     ensures read { IfOk result
         (λ all. (d : Declaration)
         → AllHeldBy d (flat ours.now) → AllHeldBy d (flat theirs.now) → AllHeldBy d all.items) }

@@ -1,18 +1,21 @@
 //! A set of segments and retirements under one declaration.
-ghost use Rattle.std.specs.Prelude.{◌≡◌, ◌≢◌, ◌↔◌, ◌⊎◌, ◌<◌, IsTrue, IfSome, is_some, length, map as list_map, option_map, Some, Ok, Err, IsOk, IfOk, IfErr, OnOk, OnErr};
+ghost use Rattle.std.specs.Prelude.{true, false, ◌≡◌, ◌≢◌, ◌↔◌, ◌⊎◌, ◌<◌, IsTrue, IfSome, is_some, length, map as list_map, option_map, Some, Ok, Err, IsOk, IfOk, IfErr, OnOk, OnErr};
 ghost use Rattle.std.specs.FinMap as map;
 ghost use Rattle.std.specs.Option.{option_copied};
 ghost use Rattle.wsegment.specs.Outcome.{Fails};
 ghost use Rattle.wsegment.specs.Rows.{rows_of};
-ghost use Rattle.wset.specs.Views.{Live, Disputed, Retired as Gone, join};
-ghost use Rattle.wset.specs.Items.{SegmentItem, RetirementItem, view_of_item};
-ghost use Rattle.wset.specs.Words.{retired_word, status_word, taken_word};
+ghost use Rattle.wset.specs.Views.{Live, Disputed, Retired as Gone, Floor, IsSettled, floor_of, is_below, join, known_in};
+ghost use Rattle.wset.specs.Items.{SegmentItem, RetirementItem, FloorItem, view_of_item};
+ghost use Rattle.wset.specs.Words.{floor_word, is_reached, retired_word, status_word, taken_word};
 ghost use Rattle.wset.specs.Listing.{listed};
 ghost use Rattle.wset.specs.Sets.{IsReadBy, LivesAreRead};
-ghost use Rattle.wset.specs.Lending.{AreLivesOf, IsAbove, only_disputed};
+ghost use Rattle.wset.specs.Lending.{AreLivesOf, IsAbove, IsBehindOrigins, only_disputed};
 ghost use Rattle.wset.specs.Holding.{IsHeldBy, known_of};
 
-use crate::blocks::{Block, count_after, end_before, held_in, in_blocks, listing, put_in};
+use crate::blocks::{
+    Block, count_after, drop_all_under, end_before, end_before_origin, entry_count, floor_in,
+    held_in, in_blocks, is_low, listing, put_in,
+};
 use crate::held::Held;
 use crate::kept::Kept;
 use crate::merge::{joined, teaches};
@@ -25,10 +28,10 @@ use wvalues::Name;
 
 /// What is known of each name, and the declaration by which all its segments were read.
 ///
-/// In a contract it is the declaration and the view. It keeps an entry for each name that is not
-/// unknown, in the order of names and in blocks of at most 512, which are cut in two as they grow: each but
-/// the last has at least 256. A segment's bytes and cells are shared by all sets that know it, so a set that
-/// is new and then joins another is a cheap copy of it.
+/// In a contract it is the declaration and the view. It keeps an entry for each floor and for each name above it
+/// that is not unknown, in the order of names and in blocks of at most 512, which are cut in two as they grow. A
+/// segment's bytes and cells are shared by all sets that know it, so a set that is new and then joins another is a
+/// cheap copy of it.
 #[derive(Drop)]
 pub struct SegmentSet {
     alloc: Global,
@@ -80,6 +83,7 @@ impl SegmentSet {
     pub fn schema(&self) -> &Schema
         ensures schema { result.now ≡ self.now.schema }
         ensures read { LivesAreRead self.now }
+        ensures settled { IsSettled self.now.view }
     {
         &self.schema
     }
@@ -88,6 +92,7 @@ impl SegmentSet {
     fn held(&self, name: &Name) -> Option<&Held>
         ensures known { option_map known_of (option_copied result) ≡ map.get self.now.view name.now }
         ensures read { IfSome result (λ held. IsHeldBy self.now.schema held.now) }
+        ensures settled { IsSettled self.now.view }
     {
         held_in(&self.blocks, name)
     }
@@ -97,18 +102,30 @@ impl SegmentSet {
         ensures known { IsTrue (is_some result) ↔ (map.get self.now.view name.now ≡ Some (Live bytes.now)) }
         ensures bytes { IfSome result (λ kept. kept.now.bytes ≡ bytes.now) }
         ensures read { IfSome result (λ kept. IsReadBy self.now.schema kept.now) }
+        ensures settled { IsSettled self.now.view }
     {
         match self.held(name) {
             Some(Held::Live(known)) => with_bytes(known, bytes),
             Some(Held::Disputed) => None,
             Some(Held::Retired) => None,
+            Some(Held::Floor) => None,
             None => None,
         }
     }
 
+    /// Whether a floor is above the name.
+    fn is_low(&self, name: &Name) -> bool
+        ensures low { result ≡ is_below self.now.view name.now }
+        ensures settled { IsSettled self.now.view }
+    {
+        is_low(&self.blocks, name)
+    }
+
     /// Puts what is held of a name, in the place of what was.
     fn put(&mut self, name: Name, held: Held) -> Result<(), AllocError>
-        requires { IsHeldBy self.old.schema held }
+        requires read { IsHeldBy self.old.schema held }
+        requires high { is_below self.old.view name ≡ false }
+        requires marks { known_of held ≢ Floor }
         ensures ok { OnOk result
             (self.new ≡ record self.old { view = map.insert self.old.view name (known_of held) }) }
         ensures err { OnErr result (self.new ≡ self.old) }
@@ -122,13 +139,16 @@ impl SegmentSet {
     /// Takes bytes under this name that were read before.
     fn take_read(&mut self, name: Name, kept: Kept) -> Result<Taken, AllocError>
         requires { IsReadBy self.old.schema kept }
-        ensures word { IfOk result (λ word. word ≡ taken_word (map.get self.old.view name) kept.bytes) }
+        ensures word { IfOk result (λ word. word ≡ taken_word (known_in self.old.view name) kept.bytes) }
         ensures ok { let item = view_of_item (SegmentItem name kept.bytes) in
             OnOk result (self.new ≡ record self.old { view = join self.old.view item }) }
         ensures err { OnErr result (self.new ≡ self.old) }
     {
         if self.known_segment(&name, kept.bytes()).is_some() {
             return Ok(Taken::Same);
+        }
+        if self.is_low(&name) {
+            return Ok(Taken::Ignored);
         }
         match self.held(&name) {
             None => {
@@ -141,6 +161,7 @@ impl SegmentSet {
             }
             Some(Held::Disputed) => Ok(Taken::Ignored),
             Some(Held::Retired) => Ok(Taken::Ignored),
+            Some(Held::Floor) => Ok(Taken::Ignored),
         }
     }
 
@@ -148,13 +169,13 @@ impl SegmentSet {
     /// name, unless it is live with these bytes, which were read before: that takes no memory. Where they
     /// are refused, or memory runs out, the set is as it was.
     pub fn take(&mut self, name: Name, bytes: &[u8]) -> Result<Taken, TakeError>
-        ensures word { IfOk result (λ word. word ≡ taken_word (map.get self.old.view name) bytes.now) }
+        ensures word { IfOk result (λ word. word ≡ taken_word (known_in self.old.view name) bytes.now) }
         ensures ok { let item = view_of_item (SegmentItem name bytes.now) in
             OnOk result (self.new ≡ record self.old { view = join self.old.view item }) }
         ensures read { OnOk result (IsOk (rows_of self.old.schema bytes.now)) }
         ensures refused { IfErr result (λ fault. Fails fault (rows_of self.old.schema bytes.now)) }
         ensures err { OnErr result (self.new ≡ self.old) }
-        ensures same { map.get self.old.view name ≡ Some (Live bytes.now) → result ≡ Ok Taken.Same }
+        ensures same { known_in self.old.view name ≡ Some (Live bytes.now) → result ≡ Ok Taken.Same }
     {
         if self.known_segment(&name, bytes).is_some() {
             return Ok(Taken::Same);
@@ -175,7 +196,7 @@ impl SegmentSet {
         known: &SegmentSet,
     ) -> Result<Taken, TakeError>
         requires { self.old.schema ≡ known.now.schema }
-        ensures word { IfOk result (λ word. word ≡ taken_word (map.get self.old.view name) bytes.now) }
+        ensures word { IfOk result (λ word. word ≡ taken_word (known_in self.old.view name) bytes.now) }
         ensures ok { let item = view_of_item (SegmentItem name bytes.now) in
             OnOk result (self.new ≡ record self.old { view = join self.old.view item }) }
         ensures read { OnOk result (IsOk (rows_of self.old.schema bytes.now)) }
@@ -192,28 +213,98 @@ impl SegmentSet {
 
     /// Retires a name. A name that is retired takes no memory; where memory runs out the set is as it was.
     pub fn retire(&mut self, name: Name) -> Result<Retired, AllocError>
-        ensures word { IfOk result (λ word. word ≡ retired_word (map.get self.old.view name)) }
+        ensures word { IfOk result (λ word. word ≡ retired_word (known_in self.old.view name)) }
         ensures ok { let item = view_of_item (RetirementItem name) in
             OnOk result (self.new ≡ record self.old { view = join self.old.view item }) }
         ensures err { OnErr result (self.new ≡ self.old) }
-        ensures same { map.get self.old.view name ≡ Some Gone → result ≡ Ok Retired.Same }
+        ensures same { known_in self.old.view name ≡ Some Gone → result ≡ Ok Retired.Same }
     {
-        if let Some(Held::Retired) = self.held(&name) {
+        if self.is_retired(&name) {
             return Ok(Retired::Same);
         }
         self.put(name, Held::Retired)?;
         Ok(Retired::New)
     }
 
+    /// Whether a floor of the name's origin is not below the name.
+    fn is_reached(&self, name: &Name) -> bool
+        ensures reached { result ≡ is_reached self.now.view name.now }
+        ensures settled { IsSettled self.now.view }
+    {
+        if self.is_low(name) {
+            return true;
+        }
+        match self.held(name) {
+            Some(Held::Floor) => true,
+            Some(Held::Live(_)) => false,
+            Some(Held::Disputed) => false,
+            Some(Held::Retired) => false,
+            None => false,
+        }
+    }
+
+    /// Retires all names of an origin up to this one, for good: a floor. What is held below it is dropped: that looks
+    /// at the entries of the blocks from the origin's first name to the floor, and at the first entry of each other
+    /// block. A floor that does not rise takes no memory; where memory runs out the set is as it was.
+    pub fn retire_to(&mut self, name: Name) -> Result<Retired, AllocError>
+        ensures word { IfOk result (λ word. word ≡ floor_word self.old.view name) }
+        ensures ok { let item = view_of_item (FloorItem name) in
+            OnOk result (self.new ≡ record self.old { view = join self.old.view item }) }
+        ensures err { OnErr result (self.new ≡ self.old) }
+        ensures same { is_reached self.old.view name ≡ true → result ≡ Ok Retired.Same }
+    {
+        if self.is_reached(&name) {
+            return Ok(Retired::Same);
+        }
+        let _count = count_after(&self.blocks, self.count, &name)?;
+        put_in(self.alloc, &mut self.blocks, name, Held::Floor)?;
+        drop_all_under(&mut self.blocks, &name);
+        self.count = entry_count(&self.blocks);
+        Ok(Retired::New)
+    }
+
+    /// The greatest number up to which all names of an origin are retired by a floor. It is found by a binary search,
+    /// and takes no memory.
+    pub fn floor(&self, origin: &[u8]) -> Option<u32>
+        ensures { result ≡ floor_of self.now.view origin.now }
+    {
+        floor_in(&self.blocks, origin)
+    }
+
+    /// Whether a retirement of the name tells nothing new.
+    fn is_retired(&self, name: &Name) -> bool
+        ensures retired { IsTrue result ↔ (known_in self.now.view name.now ≡ Some Gone) }
+        ensures high { result ≡ false → is_below self.now.view name.now ≡ false }
+        ensures other { result ≡ false → map.get self.now.view name.now ≢ Some Floor }
+        ensures settled { IsSettled self.now.view }
+    {
+        if self.is_low(name) {
+            return true;
+        }
+        match self.held(name) {
+            Some(Held::Retired) => true,
+            Some(Held::Floor) => true,
+            Some(Held::Live(_)) => false,
+            Some(Held::Disputed) => false,
+            None => false,
+        }
+    }
+
     /// Whether a dispute of the name tells nothing new: it is disputed or retired.
     fn is_settled(&self, name: &Name) -> bool
-        ensures { IsTrue result ↔ (map.get self.now.view name.now ≡ Some Disputed) ⊎ (map.get self.now.view name.now ≡ Some Gone) }
+        ensures word { IsTrue result ↔ (known_in self.now.view name.now ≡ Some Disputed) ⊎ (known_in self.now.view name.now ≡ Some Gone) }
+        ensures high { result ≡ false → is_below self.now.view name.now ≡ false }
+        ensures settled { IsSettled self.now.view }
     {
+        if self.is_low(name) {
+            return true;
+        }
         match self.held(name) {
             None => false,
             Some(Held::Live(_)) => false,
             Some(Held::Disputed) => true,
             Some(Held::Retired) => true,
+            Some(Held::Floor) => true,
         }
     }
 
@@ -224,7 +315,7 @@ impl SegmentSet {
         ensures ok { OnOk result
             (self.new ≡ record self.old { view = join self.old.view (only_disputed name) }) }
         ensures err { OnErr result (self.new ≡ self.old) }
-        ensures same { (map.get self.old.view name ≡ Some Disputed) ⊎ (map.get self.old.view name ≡ Some Gone) → IsOk result }
+        ensures same { (known_in self.old.view name ≡ Some Disputed) ⊎ (known_in self.old.view name ≡ Some Gone) → IsOk result }
     {
         if self.is_settled(&name) {
             return Ok(());
@@ -274,10 +365,14 @@ impl SegmentSet {
 
     /// How a name stands.
     pub fn status(&self, name: Name) -> Status
-        ensures { result ≡ status_word (map.get self.now.view name) }
+        ensures { result ≡ status_word (known_in self.now.view name) }
     {
+        if self.is_low(&name) {
+            return Status::Retired;
+        }
         match self.held(&name) {
             None => Status::Unknown,
+            Some(Held::Floor) => Status::Retired,
             Some(held) => held.status(),
         }
     }
@@ -295,7 +390,8 @@ impl SegmentSet {
     /// How many names are not unknown.
     #[tactic(auto, using(crate::proofs::KeptSets::names_counted))]
     pub fn name_count(&self) -> usize
-        ensures { result ≡ length (map.entries self.now.view) }
+        ensures count { result ≡ length (map.entries self.now.view) }
+        ensures settled { IsSettled self.now.view }
     {
         self.count
     }
@@ -310,9 +406,18 @@ impl SegmentSet {
 
     /// Whether all names that are not unknown stand before the name. It takes constant time.
     pub fn ends_before(&self, name: &Name) -> bool
-        ensures { IsTrue result ↔ IsAbove self.now.view name.now }
+        ensures before { IsTrue result ↔ IsAbove self.now.view name.now }
+        ensures settled { IsSettled self.now.view }
     {
         end_before(&self.blocks, name)
+    }
+
+    /// Whether all origins of which something is known stand before that of the name. It takes constant time.
+    pub fn ends_before_origin(&self, name: &Name) -> bool
+        ensures before { IsTrue result ↔ IsBehindOrigins self.now.view name.now }
+        ensures settled { IsSettled self.now.view }
+    {
+        end_before_origin(&self.blocks, name)
     }
 
     /// Each live name and its segment, in the order of names, in one pass.

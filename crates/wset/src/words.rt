@@ -37,6 +37,8 @@ pub enum Status {
     Disputed,
     /// A retirement of it is known.
     Retired,
+    /// In a list alone: it is retired, and so are all names of its origin with a smaller number.
+    Floor,
 }
 
 /// A name that is not unknown, how it stands, and the number of its rows: none where it is not live.

@@ -1,7 +1,8 @@
 -- Commands that nodes answer.
-use Rattle.std.proofs.Common.{Bool, ◌≡◌, ◌≢◌, ℕ, ◌+◌, ◌<◌, ◌≤◌, length, List, [], ◌∷◌, ◌++◌, get_or, set, map, None, Some, Result, Ok, Err, IsOk, IfOk, IfErr, OnOk, OnErr, ◌⊎◌, refl, sym, ap, ◌∙◌, subst, inl, inr, cond, ◌==◌, append-nil, true, false}
+use Rattle.std.proofs.Common.{Bool, ◌≡◌, ◌≢◌, ℕ, ◌+◌, ◌<◌, ◌≤◌, length, List, [], ◌∷◌, ◌++◌, get_or, set, map, None, Some, Result, Ok, Err, IsOk, IfOk, IfErr, OnOk, OnErr, ◌⊎◌, refl, sym, ap, ◌∙◌, subst, inl, inr, cond, ◌==◌, append-nil, append_assoc, true, false}
 use Rattle.std.proofs.lemmas.List.{set-get_or}
-use Rattle.std.specs.FinMap.{get, entries}
+use Rattle.std.specs.List.{flat_map}
+use Rattle.std.specs.FinMap.{entries}
 use Rattle.wvalues.specs.Names.{NameParts}
 use Rattle.wvalues.specs.Meaning.{Meaning}
 use Rattle.wvalues.specs.NameReading.{SpellsName}
@@ -9,42 +10,59 @@ use Rattle.wsegment.specs.Declaration.{Declaration}
 use Rattle.wsegment.specs.Outcome.{Fails}
 use Rattle.wsegment.specs.Rows.{rows_of}
 use Rattle.wsegment.specs.declared.fault.SegmentFault.{SegmentFault}
-use Rattle.wset.specs.Views.{View, join}
-use Rattle.wset.specs.Items.{Item, SegmentItem, RetirementItem, view_of, view_of_item}
+use Rattle.wset.specs.Views.{View, join, known_in}
+use Rattle.wset.specs.Items.{Item, SegmentItem, RetirementItem, FloorItem, view_of, view_of_item}
 use Rattle.wstore.specs.Nodes.{NodeState}
 use Rattle.wset.specs.Listing.{listed}
-use Rattle.wset.specs.Words.{taken_word, retired_word}
+use Rattle.wset.specs.Words.{taken_word, retired_word, floor_word}
 use Rattle.wset.specs.declared.words.Taken.{Taken}
 use Rattle.wset.specs.declared.words.Retired.{Retired}
 use Rattle.wset.specs.declared.words.Listed.{Listed}
-use Rattle.wstore.specs.Commands.{Command, Take, Retire as Retiring, Listing, Ask, Put, Get, longest_segment, longest_text, node_count, slot_count}
+use Rattle.wstore.specs.Commands.{Command, Take, Retire as Retiring, RetireTo as RetiringTo, Listing, Ask, Put, Get, longest_segment, longest_text, node_count, slot_count}
 use Rattle.wstore.specs.Replies.{Reply, text_of, Took, Was, RefusedSegment, Names, Answered, RefusedQuery, Done, RefusedFile, NoMemory, take_text, get_text}
 use Rattle.wreplies.specs.Spelling.{file_text, taken_text, retired_text, segment_text, names_text, answer_text, query_text}
 use Rattle.wstore.specs.History.{Step, Answers, NodeAnswers, file_if, declaration, declared_by, segment_reply, delivers, gets, puts, heard, drawn, held, is_put, known, slot_file}
 use Rattle.wask.specs.Answer.{IsAnswer}
-use Rattle.wexchange.specs.Files.{file_of}
+use Rattle.wexchange.specs.Forms.{line_of}
+use Rattle.wexchange.specs.declared.form.Form.TheVariants as forms
+use Rattle.wexchange.specs.Files.{file_of, head, record_text, table_text}
+use Rattle.wexchange.specs.declared.version.Version.{Version}
+use Rattle.wexchange.specs.declared.version.Version.TheVariants.{One, Two}
 use Rattle.wexchange.specs.Judging.{HasTable, HasBadSegment, IsFault, IsFileOf}
-use Rattle.wexchange.proofs.Faults.{segment_has_table}
 use Rattle.wexchange.specs.declared.fault.FileFault.{FileFault}
 use Rattle.wexchange.specs.declared.fault.FileFault.TheVariants as files
 use Rattle.wstore.specs.Nodes.{LearnsFile}
 use Rattle.wstore.specs.Standing.{KnowsThese, IsSound, Places, StandAt, AnswersAs, places}
-use Rattle.wstore.proofs.Soundness.{sound_segment, sound_retirement, slot_view}
+use Rattle.wstore.proofs.Soundness.{sound_segment, sound_retirement, sound_floor, slot_view}
 use Rattle.wplanner.specs.declared.fault.AskFault.{AskFault}
 use Rattle.wplanner.specs.declared.fault.AskFault.TheVariants as queries
 use Rattle.wstore.proofs.Standing.{IsQuiet, stand_quiet, stand_told, stand_put, told_here, told_elsewhere, drawn_here, drawn_elsewhere, node_answers, under}
 
-read_reply : (r : Result (List (List Meaning)) SegmentFault) (v : View) (name : NameParts) (bytes : List ℕ) → IsOk r → Took name (taken_word (get v name) bytes) ≡ segment_reply r v name bytes
+read_reply : (r : Result (List (List Meaning)) SegmentFault) (v : View) (name : NameParts) (bytes : List ℕ) → IsOk r → Took name (taken_word (known_in v name) bytes) ≡ segment_reply r v name bytes
 read_reply (Ok rows) v name bytes h = refl
 read_reply (Err fault) v name bytes h = let wrong : false ≡ true = h in cc
+
+-- a file of which a content is refused has the declaration
+segment_has_table : (d : Declaration) (bytes : List ℕ) (fault : SegmentFault) → HasBadSegment d bytes fault → HasTable d bytes
+segment_has_table d bytes fault h =
+    let after = line_of (forms.Content h.name (length h.content)) ++ (10 ∷ (h.content ++ (10 ∷ h.after))) in
+    record {
+      version = h.version;
+      rest = flat_map record_text (entries h.view) ++ after;
+      bytes_are = h.stands.goes_on.bytes_are ∙ append_assoc (head h.version ++ table_text d) (flat_map record_text (entries h.view)) after;
+    }
 
 -- a slot whose bytes have a declaration was put
 put_where : (d : Declaration) (b : Bool) (items : List Item) → HasTable d (file_if b d items) → b ≡ true
 put_where d true items h = refl
-put_where d false items h = absurd (empty 87 _ h.bytes_are)
+put_where d false items h = absurd (empty h.version h.rest h.bytes_are)
   where
-    empty : (x : ℕ) (xs : List ℕ) → [] ≡ x ∷ xs → ⊥
-    empty x xs e = cc
+    no_byte : (x : ℕ) (xs : List ℕ) → [] ≡ x ∷ xs → ⊥
+    no_byte x xs e = cc
+
+    empty : (r : Version) (rest : List ℕ) → [] ≡ (head r ++ table_text d) ++ rest → ⊥
+    empty One rest e = no_byte 87 _ e
+    empty Two rest e = no_byte 87 _ e
 
 abbrev judged : FileFault → Result View FileFault
 judged f = Err f
@@ -71,7 +89,7 @@ module _ (d : Declaration) (at : Places) (h : List Step) (n p : ℕ) (node : Nod
       ∙ ap (λ l. known h (p + 1) ++ l) (delivers_is (p + 1) ∙ told_here n (p + 1) (i ∷ []) (sym place)))
       (λ m other. delivers_is m ∙ told_elsewhere n m (i ∷ []) (λ e. other (sym e ∙ sym place))) (λ m other. gets_none m) puts_none deaf
 
-  taken_at : (origin number bytes : List ℕ) (name : NameParts) (new : NodeState) (word : Taken) (text : List ℕ) → SpellsName origin number name → IsOk (rows_of node.schema bytes) → word ≡ taken_word (get node.view name) bytes → new ≡ record node { view = join node.view (view_of_item (SegmentItem name bytes)) } → text ≡ taken_text word → AnswersAs d (places (set at.nodes p new) at.slots) h (Take n origin number bytes) text
+  taken_at : (origin number bytes : List ℕ) (name : NameParts) (new : NodeState) (word : Taken) (text : List ℕ) → SpellsName origin number name → IsOk (rows_of node.schema bytes) → word ≡ taken_word (known_in node.view name) bytes → new ≡ record node { view = join node.view (view_of_item (SegmentItem name bytes)) } → text ≡ taken_text word → AnswersAs d (places (set at.nodes p new) at.slots) h (Take n origin number bytes) text
   taken_at origin number bytes name new word text named read word_is new_is text_is =
       let c = Take n origin number bytes in
       let r = Took name word in
@@ -96,12 +114,12 @@ module _ (d : Declaration) (at : Places) (h : List Step) (n p : ℕ) (node : Nod
   same_nodes : (new : NodeState) → new ≡ node → set at.nodes p new ≡ at.nodes
   same_nodes new same = ap (set at.nodes p) (same ∙ is) ∙ set-get_or at.nodes p node
 
-  pub take_at : (origin number bytes : List ℕ) (name : NameParts) (told : Result Taken SegmentFault) (new : NodeState) (text : List ℕ) → length bytes ≤ longest_segment → SpellsName origin number name → IfOk told (λ word. word ≡ taken_word (get node.view name) bytes) → OnOk told (new ≡ record node { view = join node.view (view_of_item (SegmentItem name bytes)) }) → OnOk told (IsOk (rows_of node.schema bytes)) → IfErr told (λ fault. Fails fault (rows_of node.schema bytes)) → OnErr told (new ≡ node) → text ≡ take_text told → AnswersAs d (places (set at.nodes p new) at.slots) h (Take n origin number bytes) text
+  pub take_at : (origin number bytes : List ℕ) (name : NameParts) (told : Result Taken SegmentFault) (new : NodeState) (text : List ℕ) → length bytes ≤ longest_segment → SpellsName origin number name → IfOk told (λ word. word ≡ taken_word (known_in node.view name) bytes) → OnOk told (new ≡ record node { view = join node.view (view_of_item (SegmentItem name bytes)) }) → OnOk told (IsOk (rows_of node.schema bytes)) → IfErr told (λ fault. Fails fault (rows_of node.schema bytes)) → OnErr told (new ≡ node) → text ≡ take_text told → AnswersAs d (places (set at.nodes p new) at.slots) h (Take n origin number bytes) text
   take_at origin number bytes name (Ok word) new text short named word_is new_is read fails same text_is = taken_at origin number bytes name new word text named read word_is new_is text_is
   take_at origin number bytes name (Err fault) new text short named word_is new_is read fails same text_is =
       subst (λ nodes. AnswersAs d (places nodes at.slots) h (Take n origin number bytes) text) (sym (same_nodes new same)) (refused_at origin number bytes name fault text short named fails text_is)
 
-  pub retired_at : (origin number : List ℕ) (name : NameParts) (new : NodeState) (word : Retired) (text : List ℕ) → SpellsName origin number name → word ≡ retired_word (get node.view name) → new ≡ record node { view = join node.view (view_of_item (RetirementItem name)) } → text ≡ retired_text word → AnswersAs d (places (set at.nodes p new) at.slots) h (Retiring n origin number) text
+  pub retired_at : (origin number : List ℕ) (name : NameParts) (new : NodeState) (word : Retired) (text : List ℕ) → SpellsName origin number name → word ≡ retired_word (known_in node.view name) → new ≡ record node { view = join node.view (view_of_item (RetirementItem name)) } → text ≡ retired_text word → AnswersAs d (places (set at.nodes p new) at.slots) h (Retiring n origin number) text
   retired_at origin number name new word text named word_is new_is text_is =
       let c = Retiring n origin number in
       let r = Was name word in
@@ -110,6 +128,17 @@ module _ (d : Declaration) (at : Places) (h : List Step) (n p : ℕ) (node : Nod
         answers = under d h c r stand.declared (here c r (Ok name, named, ap (Was name) word_is));
         text_is = text_is;
         stand = learns c r (RetirementItem name) new (sound_retirement d name named.is_name) refl new_is (λ m. refl) (λ m. refl) (λ k. refl) (λ m. refl);
+      }
+
+  pub floored_at : (origin number : List ℕ) (name : NameParts) (new : NodeState) (word : Retired) (text : List ℕ) → SpellsName origin number name → word ≡ floor_word node.view name → new ≡ record node { view = join node.view (view_of_item (FloorItem name)) } → text ≡ retired_text word → AnswersAs d (places (set at.nodes p new) at.slots) h (RetiringTo n origin number) text
+  floored_at origin number name new word text named word_is new_is text_is =
+      let c = RetiringTo n origin number in
+      let r = Was name word in
+      record {
+        reply = r;
+        answers = under d h c r stand.declared (here c r (Ok name, named, ap (Was name) word_is));
+        text_is = text_is;
+        stand = learns c r (FloorItem name) new (sound_floor d name named.is_name) refl new_is (λ m. refl) (λ m. refl) (λ k. refl) (λ m. refl);
       }
 
   pub listed_at : (all : List Listed) (text : List ℕ) → all ≡ map (listed node.schema) (entries node.view) → text ≡ names_text all → AnswersAs d at h (Listing n) text

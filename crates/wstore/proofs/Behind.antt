@@ -5,7 +5,7 @@ use Rattle.wvalues.specs.Names.{NameParts}
 use Rattle.wvalues.specs.NameReading.{ReadsName}
 use Rattle.wvalues.specs.declared.name.NameFault.{NameFault}
 use Rattle.wlines.specs.Reads.{HasNoBody}
-use Rattle.wstore.specs.Commands.{DeclareForm, TakeForm, RetireForm, ListForm, AskForm, FeedForm, PutForm, GetForm, Command, Declare, Take, Retire, Listing, Ask, Feed, Put, Get}
+use Rattle.wstore.specs.Commands.{DeclareForm, TakeForm, RetireForm, FloorForm, ListForm, AskForm, FeedForm, PutForm, GetForm, Command, Declare, Take, Retire, RetireTo, Listing, Ask, Feed, Put, Get}
 use Rattle.wstore.specs.Requests.{IsBadBehind, Behind, follows_declaration}
 use Rattle.wstore.specs.declared.header.Header.{Header}
 use Rattle.wstore.specs.declared.header.Header.TheVariants as headers
@@ -20,6 +20,7 @@ declare_bad : (len : ℕ) (d : Bool) (xs : List ℕ) → HasNoBody len xs → Is
 declare_bad len d xs none (Declare s) rest h a e = none s rest h (e ∙ append_assoc s (10 ∷ []) rest)
 declare_bad len d xs none (Take n o m b) rest h a e = h
 declare_bad len d xs none (Retire n o m) rest h a e = h
+declare_bad len d xs none (RetireTo n o m) rest h a e = h
 declare_bad len d xs none (Listing n) rest h a e = h
 declare_bad len d xs none (Ask n t) rest h a e = h
 declare_bad len d xs none (Feed n p) rest h a e = h
@@ -30,6 +31,7 @@ take_bad : (node : ℕ) (name : Result NameParts NameFault) (len : ℕ) (d : Boo
 take_bad node name len d xs none (Declare s) rest h a e = h
 take_bad node name len d xs none (Take n o m b) rest h a e = none b rest h.2 (e ∙ append_assoc b (10 ∷ []) rest)
 take_bad node name len d xs none (Retire n o m) rest h a e = h
+take_bad node name len d xs none (RetireTo n o m) rest h a e = h
 take_bad node name len d xs none (Listing n) rest h a e = h
 take_bad node name len d xs none (Ask n t) rest h a e = h
 take_bad node name len d xs none (Feed n p) rest h a e = h
@@ -40,6 +42,7 @@ ask_bad : (node len : ℕ) (d : Bool) (xs : List ℕ) → HasNoBody len xs → I
 ask_bad node len d xs none (Declare s) rest h a e = h
 ask_bad node len d xs none (Take n o m b) rest h a e = h
 ask_bad node len d xs none (Retire n o m) rest h a e = h
+ask_bad node len d xs none (RetireTo n o m) rest h a e = h
 ask_bad node len d xs none (Listing n) rest h a e = h
 ask_bad node len d xs none (Ask n t) rest h a e = none t rest h.1 (e ∙ append_assoc t (10 ∷ []) rest)
 ask_bad node len d xs none (Feed n p) rest h a e = h
@@ -50,6 +53,7 @@ feed_bad : (node len : ℕ) (d : Bool) (xs : List ℕ) → HasNoBody len xs → 
 feed_bad node len d xs none (Declare s) rest h a e = h
 feed_bad node len d xs none (Take n o m b) rest h a e = h
 feed_bad node len d xs none (Retire n o m) rest h a e = h
+feed_bad node len d xs none (RetireTo n o m) rest h a e = h
 feed_bad node len d xs none (Listing n) rest h a e = h
 feed_bad node len d xs none (Ask n t) rest h a e = h
 feed_bad node len d xs none (Feed n p) rest h a e = none p rest h.1 (e ∙ append_assoc p (10 ∷ []) rest)
@@ -74,6 +78,7 @@ pub no_order : (h : Header) (d : Bool) (xs : List ℕ) → follows_declaration h
 no_order (headers.Declare len) d xs ne (Declare s) rest h a e = ne (sym a)
 no_order (headers.Declare len) d xs ne (Take n o m b) rest h a e = h
 no_order (headers.Declare len) d xs ne (Retire n o m) rest h a e = h
+no_order (headers.Declare len) d xs ne (RetireTo n o m) rest h a e = h
 no_order (headers.Declare len) d xs ne (Listing n) rest h a e = h
 no_order (headers.Declare len) d xs ne (Ask n t) rest h a e = h
 no_order (headers.Declare len) d xs ne (Feed n p) rest h a e = h
@@ -82,6 +87,7 @@ no_order (headers.Declare len) d xs ne (Get k n) rest h a e = h
 no_order (headers.Take node name len) d xs ne (Declare s) rest h a e = h
 no_order (headers.Take node name len) d xs ne (Take n o m b) rest h a e = ne (sym a)
 no_order (headers.Take node name len) d xs ne (Retire n o m) rest h a e = h
+no_order (headers.Take node name len) d xs ne (RetireTo n o m) rest h a e = h
 no_order (headers.Take node name len) d xs ne (Listing n) rest h a e = h
 no_order (headers.Take node name len) d xs ne (Ask n t) rest h a e = h
 no_order (headers.Take node name len) d xs ne (Feed n p) rest h a e = h
@@ -90,14 +96,25 @@ no_order (headers.Take node name len) d xs ne (Get k n) rest h a e = h
 no_order (headers.Retire node name) d xs ne (Declare s) rest h a e = h
 no_order (headers.Retire node name) d xs ne (Take n o m b) rest h a e = h
 no_order (headers.Retire node name) d xs ne (Retire n o m) rest h a e = ne (sym a)
+no_order (headers.Retire node name) d xs ne (RetireTo n o m) rest h a e = h
 no_order (headers.Retire node name) d xs ne (Listing n) rest h a e = h
 no_order (headers.Retire node name) d xs ne (Ask n t) rest h a e = h
 no_order (headers.Retire node name) d xs ne (Feed n p) rest h a e = h
 no_order (headers.Retire node name) d xs ne (Put n k) rest h a e = h
 no_order (headers.Retire node name) d xs ne (Get k n) rest h a e = h
+no_order (headers.RetireTo node name) d xs ne (Declare s) rest h a e = h
+no_order (headers.RetireTo node name) d xs ne (Take n o m b) rest h a e = h
+no_order (headers.RetireTo node name) d xs ne (Retire n o m) rest h a e = h
+no_order (headers.RetireTo node name) d xs ne (RetireTo n o m) rest h a e = ne (sym a)
+no_order (headers.RetireTo node name) d xs ne (Listing n) rest h a e = h
+no_order (headers.RetireTo node name) d xs ne (Ask n t) rest h a e = h
+no_order (headers.RetireTo node name) d xs ne (Feed n p) rest h a e = h
+no_order (headers.RetireTo node name) d xs ne (Put n k) rest h a e = h
+no_order (headers.RetireTo node name) d xs ne (Get k n) rest h a e = h
 no_order (headers.List node) d xs ne (Declare s) rest h a e = h
 no_order (headers.List node) d xs ne (Take n o m b) rest h a e = h
 no_order (headers.List node) d xs ne (Retire n o m) rest h a e = h
+no_order (headers.List node) d xs ne (RetireTo n o m) rest h a e = h
 no_order (headers.List node) d xs ne (Listing n) rest h a e = ne (sym a)
 no_order (headers.List node) d xs ne (Ask n t) rest h a e = h
 no_order (headers.List node) d xs ne (Feed n p) rest h a e = h
@@ -106,6 +123,7 @@ no_order (headers.List node) d xs ne (Get k n) rest h a e = h
 no_order (headers.Ask node len) d xs ne (Declare s) rest h a e = h
 no_order (headers.Ask node len) d xs ne (Take n o m b) rest h a e = h
 no_order (headers.Ask node len) d xs ne (Retire n o m) rest h a e = h
+no_order (headers.Ask node len) d xs ne (RetireTo n o m) rest h a e = h
 no_order (headers.Ask node len) d xs ne (Listing n) rest h a e = h
 no_order (headers.Ask node len) d xs ne (Ask n t) rest h a e = ne (sym a)
 no_order (headers.Ask node len) d xs ne (Feed n p) rest h a e = h
@@ -114,6 +132,7 @@ no_order (headers.Ask node len) d xs ne (Get k n) rest h a e = h
 no_order (headers.Feed node len) d xs ne (Declare s) rest h a e = h
 no_order (headers.Feed node len) d xs ne (Take n o m b) rest h a e = h
 no_order (headers.Feed node len) d xs ne (Retire n o m) rest h a e = h
+no_order (headers.Feed node len) d xs ne (RetireTo n o m) rest h a e = h
 no_order (headers.Feed node len) d xs ne (Listing n) rest h a e = h
 no_order (headers.Feed node len) d xs ne (Ask n t) rest h a e = h
 no_order (headers.Feed node len) d xs ne (Feed n p) rest h a e = ne (sym a)
@@ -122,6 +141,7 @@ no_order (headers.Feed node len) d xs ne (Get k n) rest h a e = h
 no_order (headers.Put node slot) d xs ne (Declare s) rest h a e = h
 no_order (headers.Put node slot) d xs ne (Take n o m b) rest h a e = h
 no_order (headers.Put node slot) d xs ne (Retire n o m) rest h a e = h
+no_order (headers.Put node slot) d xs ne (RetireTo n o m) rest h a e = h
 no_order (headers.Put node slot) d xs ne (Listing n) rest h a e = h
 no_order (headers.Put node slot) d xs ne (Ask n t) rest h a e = h
 no_order (headers.Put node slot) d xs ne (Feed n p) rest h a e = h
@@ -130,6 +150,7 @@ no_order (headers.Put node slot) d xs ne (Get k n) rest h a e = h
 no_order (headers.Get slot node) d xs ne (Declare s) rest h a e = h
 no_order (headers.Get slot node) d xs ne (Take n o m b) rest h a e = h
 no_order (headers.Get slot node) d xs ne (Retire n o m) rest h a e = h
+no_order (headers.Get slot node) d xs ne (RetireTo n o m) rest h a e = h
 no_order (headers.Get slot node) d xs ne (Listing n) rest h a e = h
 no_order (headers.Get slot node) d xs ne (Ask n t) rest h a e = h
 no_order (headers.Get slot node) d xs ne (Feed n p) rest h a e = h
@@ -143,6 +164,7 @@ module _ (P : Command → Type 0) (old new : Option (List ℕ)) where
   declared_behind len bytes p k size (DeclareForm m) e = (Declare bytes, ap DeclareForm (size ∙ sym e), p, refl, k)
   declared_behind len bytes p k size (TakeForm n o j m) e = absurd e
   declared_behind len bytes p k size (RetireForm n o j) e = absurd e
+  declared_behind len bytes p k size (FloorForm n o j) e = absurd e
   declared_behind len bytes p k size (ListForm n) e = absurd e
   declared_behind len bytes p k size (AskForm n m) e = absurd e
   declared_behind len bytes p k size (FeedForm n m) e = absurd e
@@ -153,6 +175,7 @@ module _ (P : Command → Type 0) (old new : Option (List ℕ)) where
   segment_behind node name len bytes p k size (DeclareForm m) e = absurd e
   segment_behind node name len bytes p k size (TakeForm n o j m) e = (Take node o j bytes, cc (e.0, e.2, size), p o j e.1, refl, k)
   segment_behind node name len bytes p k size (RetireForm n o j) e = absurd e
+  segment_behind node name len bytes p k size (FloorForm n o j) e = absurd e
   segment_behind node name len bytes p k size (ListForm n) e = absurd e
   segment_behind node name len bytes p k size (AskForm n m) e = absurd e
   segment_behind node name len bytes p k size (FeedForm n m) e = absurd e
@@ -163,6 +186,7 @@ module _ (P : Command → Type 0) (old new : Option (List ℕ)) where
   query_behind node len text p k size (DeclareForm m) e = absurd e
   query_behind node len text p k size (TakeForm n o j m) e = absurd e
   query_behind node len text p k size (RetireForm n o j) e = absurd e
+  query_behind node len text p k size (FloorForm n o j) e = absurd e
   query_behind node len text p k size (ListForm n) e = absurd e
   query_behind node len text p k size (AskForm n m) e = (Ask node text, cc (e.0, e.1, size), p, refl, k)
   query_behind node len text p k size (FeedForm n m) e = absurd e
@@ -173,6 +197,7 @@ module _ (P : Command → Type 0) (old new : Option (List ℕ)) where
   piece_behind node len piece p k size (DeclareForm m) e = absurd e
   piece_behind node len piece p k size (TakeForm n o j m) e = absurd e
   piece_behind node len piece p k size (RetireForm n o j) e = absurd e
+  piece_behind node len piece p k size (FloorForm n o j) e = absurd e
   piece_behind node len piece p k size (ListForm n) e = absurd e
   piece_behind node len piece p k size (AskForm n m) e = absurd e
   piece_behind node len piece p k size (FeedForm n m) e = (Feed node piece, cc (e.0, e.1, size), p, refl, k)
@@ -183,16 +208,29 @@ module _ (P : Command → Type 0) (old new : Option (List ℕ)) where
   retired_behind node name p k (DeclareForm m) e = absurd e
   retired_behind node name p k (TakeForm n o j m) e = absurd e
   retired_behind node name p k (RetireForm n o j) e = (Retire node o j, ap (λ n. RetireForm n o j) (sym e.0), p o j e.1, refl, k)
+  retired_behind node name p k (FloorForm n o j) e = absurd e
   retired_behind node name p k (ListForm n) e = absurd e
   retired_behind node name p k (AskForm n m) e = absurd e
   retired_behind node name p k (FeedForm n m) e = absurd e
   retired_behind node name p k (PutForm n m) e = absurd e
   retired_behind node name p k (GetForm m n) e = absurd e
 
+  pub floored_behind : (node : ℕ) (name : Result NameParts NameFault) → ((origin number : List ℕ) → ReadsName origin number name → P (RetireTo node origin number)) → Consumes old new [] → Behind (headers.RetireTo node name) true P old new
+  floored_behind node name p k (DeclareForm m) e = absurd e
+  floored_behind node name p k (TakeForm n o j m) e = absurd e
+  floored_behind node name p k (RetireForm n o j) e = absurd e
+  floored_behind node name p k (FloorForm n o j) e = (RetireTo node o j, ap (λ n. FloorForm n o j) (sym e.0), p o j e.1, refl, k)
+  floored_behind node name p k (ListForm n) e = absurd e
+  floored_behind node name p k (AskForm n m) e = absurd e
+  floored_behind node name p k (FeedForm n m) e = absurd e
+  floored_behind node name p k (PutForm n m) e = absurd e
+  floored_behind node name p k (GetForm m n) e = absurd e
+
   pub listed_behind : (node : ℕ) → P (Listing node) → Consumes old new [] → Behind (headers.List node) true P old new
   listed_behind node p k (DeclareForm m) e = absurd e
   listed_behind node p k (TakeForm n o j m) e = absurd e
   listed_behind node p k (RetireForm n o j) e = absurd e
+  listed_behind node p k (FloorForm n o j) e = absurd e
   listed_behind node p k (ListForm n) e = (Listing node, ap ListForm (sym e), p, refl, k)
   listed_behind node p k (AskForm n m) e = absurd e
   listed_behind node p k (FeedForm n m) e = absurd e
@@ -203,6 +241,7 @@ module _ (P : Command → Type 0) (old new : Option (List ℕ)) where
   put_behind node slot p k (DeclareForm m) e = absurd e
   put_behind node slot p k (TakeForm n o j m) e = absurd e
   put_behind node slot p k (RetireForm n o j) e = absurd e
+  put_behind node slot p k (FloorForm n o j) e = absurd e
   put_behind node slot p k (ListForm n) e = absurd e
   put_behind node slot p k (AskForm n m) e = absurd e
   put_behind node slot p k (FeedForm n m) e = absurd e
@@ -213,6 +252,7 @@ module _ (P : Command → Type 0) (old new : Option (List ℕ)) where
   get_behind slot node p k (DeclareForm m) e = absurd e
   get_behind slot node p k (TakeForm n o j m) e = absurd e
   get_behind slot node p k (RetireForm n o j) e = absurd e
+  get_behind slot node p k (FloorForm n o j) e = absurd e
   get_behind slot node p k (ListForm n) e = absurd e
   get_behind slot node p k (AskForm n m) e = absurd e
   get_behind slot node p k (FeedForm n m) e = absurd e

@@ -15,7 +15,7 @@ use Rattle.wstore.specs.declared.request.Found.TheVariants as found
 use Rattle.wstore.specs.declared.request.Order.TheVariants as orders
 use Rattle.wstore.specs.declared.request.Refusal.TheVariants as refusals
 use Rattle.wstore.specs.declared.request.Request.TheVariants as requests
-use Rattle.wstore.proofs.Behind.{declared_behind, segment_behind, query_behind, piece_behind, retired_behind, listed_behind, put_behind, get_behind, no_declaration, no_segment, no_query, no_piece, no_order}
+use Rattle.wstore.proofs.Behind.{declared_behind, segment_behind, query_behind, piece_behind, retired_behind, floored_behind, listed_behind, put_behind, get_behind, no_declaration, no_segment, no_query, no_piece, no_order}
 
 -- a body of the header's length
 sized : (len n : ℕ) → Some len ≡ Some n → n ≡ len
@@ -84,6 +84,12 @@ module _ (old new : Option (List ℕ)) where
   pub nameless_found : (node : ℕ) (fault : NameFault) → Consumes old new [] → BehindReads (requests.Whole (commands.Refused (refusals.BadName fault))) (headers.Retire node (Err fault)) true old new
   nameless_found node fault k = retired_behind (IsCommandOf (commands.Refused (refusals.BadName fault))) old new node (Err fault) (λ o m named. named) k
 
+  pub floor_found : (node : ℕ) (name : NameParts) → Consumes old new [] → BehindReads (requests.Whole (commands.At node (orders.RetireTo name))) (headers.RetireTo node (Ok name)) true old new
+  floor_found node name k = floored_behind (IsCommandOf (commands.At node (orders.RetireTo name))) old new node (Ok name) (λ o m named. (refl, named)) k
+
+  pub nameless_floor : (node : ℕ) (fault : NameFault) → Consumes old new [] → BehindReads (requests.Whole (commands.Refused (refusals.BadName fault))) (headers.RetireTo node (Err fault)) true old new
+  nameless_floor node fault k = floored_behind (IsCommandOf (commands.Refused (refusals.BadName fault))) old new node (Err fault) (λ o m named. named) k
+
   pub listing_found : (node : ℕ) (f : Found) → FoundBehind (headers.List node) (Some f) old new → BehindReads (requests.Whole (commands.At node orders.List)) (headers.List node) true old new
   listing_found node f h = listed_behind (IsCommandOf (commands.At node orders.List)) old new node refl (bare (headers.List node) f refl h)
 
@@ -100,6 +106,7 @@ module _ (old new : Option (List ℕ)) where
   nothing_found (headers.Ask node len) d g = no_query node len d old (subst (λ n. IfSome old (λ xs. HasNoBody n xs)) (sized len _ g.1) g.2)
   nothing_found (headers.Feed node len) d g = no_piece node len d old (subst (λ n. IfSome old (λ xs. HasNoBody n xs)) (sized len _ g.1) g.2)
   nothing_found (headers.Retire node name) d g = absurd (none_some g.1)
+  nothing_found (headers.RetireTo node name) d g = absurd (none_some g.1)
   nothing_found (headers.List node) d g = absurd (none_some g.1)
   nothing_found (headers.Put node slot) d g = absurd (none_some g.1)
   nothing_found (headers.Get slot node) d g = absurd (none_some g.1)

@@ -6,19 +6,19 @@ use Rattle.std.proofs.Math.ListN.{length-set}
 use Rattle.std.proofs.lemmas.Bool.{eqb-true}
 use Rattle.std.proofs.lemmas.List.{set-get_or}
 use Rattle.wsegment.specs.Declaration.{Declaration}
-use Rattle.wset.specs.Views.{View, join}
-use Rattle.wset.specs.Items.{Item, SegmentItem, RetirementItem, view_of}
-use Rattle.wset.proofs.Union.{view_of_union}
+use Rattle.wset.specs.Views.{View, IsSettled, join}
+use Rattle.wset.specs.Items.{Item, SegmentItem, RetirementItem, FloorItem, view_of}
+use Rattle.wset.proofs.Union.{view_of_union, views_are_settled}
 use Rattle.wexchange.specs.Messages.{IsMessage, IsOpen, IsBad, message_text}
 use Rattle.wstore.specs.Commands.{Feed, node_count}
-use Rattle.wstore.specs.Replies.{Line, TookLine, WasLine, RefusedLine, SpentLine, line_item, line_items, fed_text, Fed, NoMemory}
+use Rattle.wstore.specs.Replies.{Line, TookLine, WasLine, FloorLine, RefusedLine, SpentLine, line_item, line_items, fed_text, Fed, NoMemory}
 use Rattle.wreplies.specs.Spelling.{no_memory}
 use Rattle.wstore.specs.History.{Step, Answers, LinesAnswer, IsRest, FeedBegins, PieceAnswers, Heard, heard, heard_items, heard_bad, entered, stream, handled, is_bad, declaration, known, held, slot_file}
 use Rattle.wstore.specs.Nodes.{NodeState, Tells, TellsAll, told_view}
 use Rattle.wstore.specs.Feeding.{SendsAll, SendsPart, Feeds, FeedsPart, FedAs}
 use Rattle.wstore.specs.Steps.{FedPart}
 use Rattle.wstore.specs.Standing.{KnowsThese, IsSound, Listens, Places, StandAt, places}
-use Rattle.wstore.proofs.Soundness.{sound_nothing, sound_both, sound_segment, sound_retirement}
+use Rattle.wstore.proofs.Soundness.{sound_nothing, sound_both, sound_segment, sound_retirement, sound_floor}
 use Rattle.wstore.proofs.Standing.{eqb_refl, eqb_other, told_here, told_elsewhere, listens_still, at_places, stand_quiet, under}
 
 -- one node changed, from one history to another
@@ -68,6 +68,7 @@ sound_lines : (d : Declaration) (v : View) (ls : List Line) → AllByRecursion I
 sound_lines d v [] h a = sound_nothing d
 sound_lines d v (TookLine n b word ∷ ls) h a = sound_both d (SegmentItem n b ∷ []) (flat_map line_items ls) (sound_segment d n b h.0.0 a.0.0) (sound_lines d (join v (view_of (SegmentItem n b ∷ []))) ls h.1 a.1)
 sound_lines d v (WasLine n word ∷ ls) h a = sound_both d (RetirementItem n ∷ []) (flat_map line_items ls) (sound_retirement d n h.0) (sound_lines d (join v (view_of (RetirementItem n ∷ []))) ls h.1 a.1)
+sound_lines d v (FloorLine n word ∷ ls) h a = sound_both d (FloorItem n ∷ []) (flat_map line_items ls) (sound_floor d n h.0) (sound_lines d (join v (view_of (FloorItem n ∷ []))) ls h.1 a.1)
 sound_lines d v (RefusedLine n b fault ∷ ls) h a = sound_lines d (join v (view_of [])) ls h.1 a.1
 sound_lines d v (SpentLine i ∷ ls) h a = sound_lines d (join v (view_of [])) ls h.1 a.1
 
@@ -120,6 +121,9 @@ module _ (d : Declaration) (at : Places) (h : List Step) (p : ℕ) (node : NodeS
     pushed_view : pushed.view ≡ view_of (known h (p + 1))
     pushed_view = ap (λ (x : NodeState). x.view) pushed_is ∙ knows.view_is
 
+    pushed_settled : IsSettled pushed.view
+    pushed_settled = subst IsSettled (sym pushed_view) (views_are_settled (known h (p + 1)))
+
     module _ (lines : List Line) (last : NodeState) (tells : Tells pushed lines last) where
       whole : stream h (p + 1) ++ piece ≡ flat_map message_text (handled h (p + 1) ++ map line_item lines) ++ last.held
       whole =
@@ -130,7 +134,7 @@ module _ (d : Declaration) (at : Places) (h : List Step) (p : ℕ) (node : NodeS
           ∙ ap (λ l. l ++ last.held) (texts-both (handled h (p + 1)) (map line_item lines))
 
       answered : LinesAnswer d (view_of (known h (p + 1))) lines
-      answered = subst (λ v. LinesAnswer d v lines) pushed_view (subst (λ s. LinesAnswer s pushed.view lines) pushed_schema tells.answers)
+      answered = subst (λ v. LinesAnswer d v lines) pushed_view (subst (λ s. LinesAnswer s pushed.view lines) pushed_schema (tells.answers pushed_settled))
 
       begins : FeedBegins d h (p + 1) piece lines
       begins = record { rest = last.held; good = not_bad; whole = whole; each = tells.each; lines_are = answered }
@@ -138,7 +142,7 @@ module _ (d : Declaration) (at : Places) (h : List Step) (p : ℕ) (node : NodeS
       knows_more : KnowsThese d (known h (p + 1) ++ flat_map line_items lines) last
       knows_more = record {
         schema_is = tells.schema_is ∙ pushed_schema;
-        view_is = tells.view_is ∙ ap (λ v. told_view v lines) pushed_view ∙ told_items (known h (p + 1)) lines;
+        view_is = tells.view_is pushed_settled ∙ ap (λ v. told_view v lines) pushed_view ∙ told_items (known h (p + 1)) lines;
       }
 
     module _ (lines : List Line) (bad : Bool) (new : NodeState) (all : TellsAll pushed lines bad new) where

@@ -1,16 +1,17 @@
 -- Messages of a stream that are handled one after the other.
-use Rattle.std.proofs.Common.{◌≡◌, ℕ, zero, suc, ◌+◌, ◌<◌, ◌≤◌, Bool, true, false, List, [], ◌∷◌, ◌++◌, map, take, length, Result, Ok, Err, IfOk, OnOk, OnErr, ◌⊎◌, inl, inr, refl, sym, ap, ◌∙◌, subst, arith, append_assoc, append-nil, length-append}
+use Rattle.std.proofs.Common.{◌≡◌, ℕ, zero, suc, ◌+◌, ◌<◌, ◌≤◌, Bool, true, false, List, [], ◌∷◌, ◌++◌, ◌||◌, cond, None, map, take, length, Result, Ok, Err, IfOk, OnOk, OnErr, ◌⊎◌, inl, inr, refl, sym, ap, ◌∙◌, subst, arith, append_assoc, append-nil, length-append}
 use Rattle.std.specs.List.{flat_map, AllByRecursion}
 use Rattle.std.specs.FinMap.{get}
 use Rattle.wlines.specs.Sent.{Sent, Says}
 use Rattle.wlines.proofs.Saying.{says_nothing, says_more}
 use Rattle.wsegment.specs.Declaration.{Declaration}
-use Rattle.wset.specs.Views.{View, join, join_told}
-use Rattle.wset.specs.Items.{Item, SegmentItem, RetirementItem, view_of}
-use Rattle.wset.proofs.Joining.{same_view, get-join, with_none}
-use Rattle.wset.proofs.Union.{view_tells_status}
+use Rattle.wset.specs.Views.{View, IsSettled, is_below, join, join_told}
+use Rattle.wset.specs.Items.{Item, SegmentItem, RetirementItem, FloorItem, view_of}
+use Rattle.wset.proofs.Joining.{join_laws, same_view, get-join}
+use Rattle.wset.proofs.Singles.{told_nothing}
+use Rattle.wset.proofs.Union.{below-view_of, get-view_of}
 use Rattle.wexchange.specs.Messages.{IsMessage, IsOpen, IsBad, message_text}
-use Rattle.wstore.specs.Replies.{Line, TookLine, WasLine, RefusedLine, SpentLine, line_item, line_items, line_text, fed_text}
+use Rattle.wstore.specs.Replies.{Line, TookLine, WasLine, FloorLine, RefusedLine, SpentLine, line_item, line_items, line_text, fed_text}
 use Rattle.wstore.specs.History.{LineAnswers, LinesAnswer}
 use Rattle.wstore.specs.Nodes.{NodeState, IsTold, Handles, Tells, TellsAll, told_view}
 use Rattle.wstore.specs.Feeding.{IsTextOf, SendsAll, SendsPart}
@@ -61,31 +62,44 @@ pub record SoFar (old new : NodeState) (held new_held : Sent) (count : ℕ) : Ty
 pub nothing_told : (old : NodeState) (held : Sent) → SoFar old old held held 0
 nothing_told old held = record {
   lines = [];
-  tells = record { schema_is = refl; view_is = refl; answers = tt; each = tt; held_is = refl; good = refl };
+  tells = record { schema_is = refl; view_is = λ s. refl; answers = λ s. tt; each = tt; held_is = refl; good = refl };
   appends = says_nothing held;
   count_is = refl;
 }
 
-join_nothing : (v : View) → v ≡ join v (view_of [])
-join_nothing v = same_view v (join v (view_of [])) (λ q. with_none (get v q) ∙ sym (get-join v (view_of []) q ∙ ap (join_told (get v q)) (view_tells_status [] q)))
+join_nothing : (v : View) → IsSettled v → v ≡ join v (view_of [])
+join_nothing v settled = same_view v (join v (view_of [])) (λ q. sym (
+    get-join v (view_of []) q
+    ∙ ap (λ b. cond (is_below v q || b) None (join_told (get v q) (get (view_of []) q))) (below-view_of [] q)
+    ∙ ap (λ o. cond (is_below v q || false) None (join_told (get v q) o)) (get-view_of [] q)
+    ∙ told_nothing v q settled))
+
+-- a settled view stays so
+told_settled : (v : View) (ls : List Line) → IsSettled v → IsSettled (told_view v ls)
+told_settled v [] settled = settled
+told_settled v (l ∷ ls) settled = told_settled (join v (view_of (line_items l))) ls (join_laws.settled v (view_of (line_items l)))
 
 record LineTold (d : Declaration) (v w : View) (item : Item) (text : List ℕ) : Type 0 where
   line : Line
   item_is : line_item line ≡ item
   answers : LineAnswers d v line
-  view_is : w ≡ join v (view_of (line_items line))
+  view_is : IsSettled v → w ≡ join v (view_of (line_items line))
   text_is : text ≡ line_text line
 
 line_told : (d : Declaration) (v w : View) (item : Item) (reply : Reply) (text : List ℕ) → IsTold d v item reply w → IsTextOf reply text → LineTold d v w item text
-line_told d v w (SegmentItem n b) (replies.Taken word) text t is = record { line = TookLine n b word; item_is = refl; answers = (t.0, t.1); view_is = t.2; text_is = is }
-line_told d v w (SegmentItem n b) (replies.Refused fault) text t (inl is) = record { line = RefusedLine n b fault; item_is = refl; answers = t.0; view_is = t.1 ∙ join_nothing v; text_is = is }
-line_told d v w (SegmentItem n b) (replies.Refused fault) text t (inr is) = record { line = SpentLine (SegmentItem n b); item_is = refl; answers = t.2; view_is = t.1 ∙ join_nothing v; text_is = is }
+line_told d v w (SegmentItem n b) (replies.Taken word) text t is = record { line = TookLine n b word; item_is = refl; answers = (t.0, t.1); view_is = λ s. t.2; text_is = is }
+line_told d v w (SegmentItem n b) (replies.Refused fault) text t (inl is) = record { line = RefusedLine n b fault; item_is = refl; answers = t.0; view_is = λ s. t.1 ∙ join_nothing v s; text_is = is }
+line_told d v w (SegmentItem n b) (replies.Refused fault) text t (inr is) = record { line = SpentLine (SegmentItem n b); item_is = refl; answers = t.2; view_is = λ s. t.1 ∙ join_nothing v s; text_is = is }
 line_told d v w (SegmentItem n b) (replies.Retired word) text t is = absurd t
-line_told d v w (SegmentItem n b) replies.NoMemory text t is = record { line = SpentLine (SegmentItem n b); item_is = refl; answers = t.1; view_is = t.0 ∙ join_nothing v; text_is = is }
-line_told d v w (RetirementItem n) (replies.Retired word) text t is = record { line = WasLine n word; item_is = refl; answers = t.0; view_is = t.1; text_is = is }
+line_told d v w (SegmentItem n b) replies.NoMemory text t is = record { line = SpentLine (SegmentItem n b); item_is = refl; answers = t.1; view_is = λ s. t.0 ∙ join_nothing v s; text_is = is }
+line_told d v w (RetirementItem n) (replies.Retired word) text t is = record { line = WasLine n word; item_is = refl; answers = t.0; view_is = λ s. t.1; text_is = is }
 line_told d v w (RetirementItem n) (replies.Taken word) text t is = absurd t
 line_told d v w (RetirementItem n) (replies.Refused fault) text t is = absurd t
-line_told d v w (RetirementItem n) replies.NoMemory text t is = record { line = SpentLine (RetirementItem n); item_is = refl; answers = t.1; view_is = t.0 ∙ join_nothing v; text_is = is }
+line_told d v w (RetirementItem n) replies.NoMemory text t is = record { line = SpentLine (RetirementItem n); item_is = refl; answers = t.1; view_is = λ s. t.0 ∙ join_nothing v s; text_is = is }
+line_told d v w (FloorItem n) (replies.Retired word) text t is = record { line = FloorLine n word; item_is = refl; answers = t.0; view_is = λ s. t.1; text_is = is }
+line_told d v w (FloorItem n) (replies.Taken word) text t is = absurd t
+line_told d v w (FloorItem n) (replies.Refused fault) text t is = absurd t
+line_told d v w (FloorItem n) replies.NoMemory text t is = record { line = SpentLine (FloorItem n); item_is = refl; answers = t.1; view_is = λ s. t.0 ∙ join_nothing v s; text_is = is }
 
 view-push : (v : View) (ls : List Line) (l : Line) → told_view v (ls ++ l ∷ []) ≡ join (told_view v ls) (view_of (line_items l))
 view-push v [] l = refl
@@ -118,11 +132,14 @@ module _ (old mid new : NodeState) (a b c : Sent) (count : ℕ) (so_far : SoFar 
     last : LineTold mid.schema mid.view new.view handles.item text
     last = line_told mid.schema mid.view new.view handles.item reply text handles.told is
 
+    mid_settled : IsSettled old.view → IsSettled mid.view
+    mid_settled s = subst IsSettled (sym (so_far.tells.view_is s)) (told_settled old.view so_far.lines s)
+
     more : Tells old (so_far.lines ++ last.line ∷ []) new
     more = record {
       schema_is = handles.schema_is ∙ so_far.tells.schema_is;
-      view_is = last.view_is ∙ ap (λ v. join v (view_of (line_items last.line))) so_far.tells.view_is ∙ sym (view-push old.view so_far.lines last.line);
-      answers = answers-push old.schema old.view so_far.lines last.line so_far.tells.answers (subst (λ v. LineAnswers old.schema v last.line) so_far.tells.view_is (subst (λ d. LineAnswers d mid.view last.line) so_far.tells.schema_is last.answers));
+      view_is = λ s. last.view_is (mid_settled s) ∙ ap (λ v. join v (view_of (line_items last.line))) (so_far.tells.view_is s) ∙ sym (view-push old.view so_far.lines last.line);
+      answers = λ s. answers-push old.schema old.view so_far.lines last.line (so_far.tells.answers s) (subst (λ v. LineAnswers old.schema v last.line) (so_far.tells.view_is s) (subst (λ d. LineAnswers d mid.view last.line) so_far.tells.schema_is last.answers));
       each = each-push so_far.lines last.line so_far.tells.each (subst IsMessage (sym last.item_is) handles.is);
       held_is =
           so_far.tells.held_is ∙ ap (λ x. flat_map message_text (map line_item so_far.lines) ++ x) (handles.held_is ∙ ap (λ i. message_text i ++ new.held) (sym last.item_is))
@@ -193,6 +210,7 @@ module _ (old mid new : NodeState) (a b c : Sent) (count : ℕ) (so_far : SoFar 
 text_some : (i : Item) → 0 < length (message_text i)
 text_some (SegmentItem n b) = omega arith
 text_some (RetirementItem n) = omega arith
+text_some (FloorItem n) = omega arith
 
 many : (ls : List Line) → length ls ≤ length (flat_map message_text (map line_item ls))
 many [] = omega arith

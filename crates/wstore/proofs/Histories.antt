@@ -7,7 +7,7 @@ use Rattle.wset.specs.Views.{View, join}
 use Rattle.wset.specs.Items.{Item, view_of}
 use Rattle.wset.specs.Listing.{listed}
 use Rattle.wset.proofs.Union.{view_of_union, same_items_same_view}
-use Rattle.wexchange.specs.Files.{file_of}
+use Rattle.wexchange.specs.Files.{file_of, text_of}
 use Rattle.wexchange.specs.Judging.{Judges}
 use Rattle.wexchange.specs.declared.fault.FileFault.{FileFault}
 use Rattle.wstore.specs.Commands.{Command, Listing, Ask, Put, Get}
@@ -119,7 +119,7 @@ put_first d true items f = refl
 put_first d false items f = absurd (by f.judged f.judges f.reply_is)
   where
     by : (r : Result View FileFault) → Judges d [] r → Done ≡ file_reply r → ⊥
-    by (Ok v) j e = no_file d v j.bytes_are
+    by (Ok v) j e = no_file d j.version v [] (j.bytes_are ∙ sym (append-nil (text_of j.version d v)))
     by (Err fault) j e = cc
 
 pub slots_join : SlotsJoin

@@ -10,7 +10,7 @@ use Rattle.wsegment.specs.declared.schema_fault.SchemaFault.{SchemaFault}
 use Rattle.wsegment.specs.declared.schema_fault.SchemaFault.TheVariants as tables
 use Rattle.wsegment.proofs.SpellingFacts.{spells-one}
 use Rattle.wexchange.proofs.FirstMessage.{same_front}
-use Rattle.wstore.specs.Commands.{Command, Declare, Take, Retire, Listing, Ask, Feed, Put, Get, IsForm, IsNode, IsSlot, IsPieceLength, IsAllowed, IsCommand, line_of, form_of, behind, spell, pair_words}
+use Rattle.wstore.specs.Commands.{Command, Declare, Take, Retire, RetireTo, Listing, Ask, Feed, Put, Get, IsForm, IsNode, IsSlot, IsPieceLength, IsAllowed, IsCommand, line_of, form_of, behind, spell, pair_words}
 use Rattle.wstore.specs.Replies.{Reply, Declared, RefusedTable, Took, Was, RefusedName, RefusedSegment, Names, Answered, RefusedQuery, Fed, Done, RefusedFile, NoMemory}
 use Rattle.wstore.specs.History.{Step, Answers, AnswersUnder, DeclareAnswers, declaration, declared_by, is_declared}
 use Rattle.wstore.specs.Runs.{Ran, asked}
@@ -72,6 +72,7 @@ one_command (Declare a) (Declare b) xs ys h k l r =
     (ap (λ x. Declare x) body.0, body.1)
 one_command (Declare a) (Take i p j b) xs ys h k l r = absurd (omega (arith, first_byte 84 83 _ _ l))
 one_command (Declare a) (Retire i p j) xs ys h k l r = absurd (omega (arith, first_byte 84 82 _ _ l))
+one_command (Declare a) (RetireTo i p j) xs ys h k l r = absurd (omega (arith, first_byte 84 85 _ _ l))
 one_command (Declare a) (Listing i) xs ys h k l r = absurd (omega (arith, first_byte 84 76 _ _ l))
 one_command (Declare a) (Ask i b) xs ys h k l r = absurd (omega (arith, first_byte 84 81 _ _ l))
 one_command (Declare a) (Feed i b) xs ys h k l r = absurd (omega (arith, first_byte 84 70 _ _ l))
@@ -85,6 +86,7 @@ one_command (Take n o m a) (Take i p j b) xs ys h k l r =
     let body = one_body a b xs ys (one_number (length a) (length b) h.3.fits k.3.fits number.1) r in
     (λ t. Take (node.0 t) (origin.0 t) (number.0 t) (body.0 t), body.1)
 one_command (Take n o m a) (Retire i p j) xs ys h k l r = absurd (omega (arith, first_byte 83 82 _ _ l))
+one_command (Take n o m a) (RetireTo i p j) xs ys h k l r = absurd (omega (arith, first_byte 83 85 _ _ l))
 one_command (Take n o m a) (Listing i) xs ys h k l r = absurd (omega (arith, first_byte 83 76 _ _ l))
 one_command (Take n o m a) (Ask i b) xs ys h k l r = absurd (omega (arith, first_byte 83 81 _ _ l))
 one_command (Take n o m a) (Feed i b) xs ys h k l r = absurd (omega (arith, first_byte 83 70 _ _ l))
@@ -96,14 +98,28 @@ one_command (Retire n o m) (Retire i p j) xs ys h k l r =
     let node = one_front n i _ _ (node_fits n h.0) (node_fits i k.0) (behind_two 82 32 82 32 _ _ l) in
     let origin = one_word o p _ _ h.1 k.1 node.1 in
     (λ t. Retire (node.0 t) (origin.0 t) (origin.1 t), r)
+one_command (Retire n o m) (RetireTo i p j) xs ys h k l r = absurd (omega (arith, first_byte 82 85 _ _ l))
 one_command (Retire n o m) (Listing i) xs ys h k l r = absurd (omega (arith, first_byte 82 76 _ _ l))
 one_command (Retire n o m) (Ask i b) xs ys h k l r = absurd (omega (arith, first_byte 82 81 _ _ l))
 one_command (Retire n o m) (Feed i b) xs ys h k l r = absurd (omega (arith, first_byte 82 70 _ _ l))
 one_command (Retire n o m) (Put i s) xs ys h k l r = absurd (omega (arith, first_byte 82 80 _ _ l))
 one_command (Retire n o m) (Get s i) xs ys h k l r = absurd (omega (arith, first_byte 82 71 _ _ l))
+one_command (RetireTo n o m) (Declare b) xs ys h k l r = absurd (omega (arith, first_byte 85 84 _ _ l))
+one_command (RetireTo n o m) (Take i p j b) xs ys h k l r = absurd (omega (arith, first_byte 85 83 _ _ l))
+one_command (RetireTo n o m) (Retire i p j) xs ys h k l r = absurd (omega (arith, first_byte 85 82 _ _ l))
+one_command (RetireTo n o m) (RetireTo i p j) xs ys h k l r =
+    let node = one_front n i _ _ (node_fits n h.0) (node_fits i k.0) (behind_two 85 32 85 32 _ _ l) in
+    let origin = one_word o p _ _ h.1 k.1 node.1 in
+    (λ t. RetireTo (node.0 t) (origin.0 t) (origin.1 t), r)
+one_command (RetireTo n o m) (Listing i) xs ys h k l r = absurd (omega (arith, first_byte 85 76 _ _ l))
+one_command (RetireTo n o m) (Ask i b) xs ys h k l r = absurd (omega (arith, first_byte 85 81 _ _ l))
+one_command (RetireTo n o m) (Feed i b) xs ys h k l r = absurd (omega (arith, first_byte 85 70 _ _ l))
+one_command (RetireTo n o m) (Put i s) xs ys h k l r = absurd (omega (arith, first_byte 85 80 _ _ l))
+one_command (RetireTo n o m) (Get s i) xs ys h k l r = absurd (omega (arith, first_byte 85 71 _ _ l))
 one_command (Listing n) (Declare b) xs ys h k l r = absurd (omega (arith, first_byte 76 84 _ _ l))
 one_command (Listing n) (Take i p j b) xs ys h k l r = absurd (omega (arith, first_byte 76 83 _ _ l))
 one_command (Listing n) (Retire i p j) xs ys h k l r = absurd (omega (arith, first_byte 76 82 _ _ l))
+one_command (Listing n) (RetireTo i p j) xs ys h k l r = absurd (omega (arith, first_byte 76 85 _ _ l))
 one_command (Listing n) (Listing i) xs ys h k l r =
     (ap (λ x. Listing x) (one_number n i (node_fits n h) (node_fits i k) (behind_two 76 32 76 32 _ _ l)), r)
 one_command (Listing n) (Ask i b) xs ys h k l r = absurd (omega (arith, first_byte 76 81 _ _ l))
@@ -113,6 +129,7 @@ one_command (Listing n) (Get s i) xs ys h k l r = absurd (omega (arith, first_by
 one_command (Ask n a) (Declare b) xs ys h k l r = absurd (omega (arith, first_byte 81 84 _ _ l))
 one_command (Ask n a) (Take i p j b) xs ys h k l r = absurd (omega (arith, first_byte 81 83 _ _ l))
 one_command (Ask n a) (Retire i p j) xs ys h k l r = absurd (omega (arith, first_byte 81 82 _ _ l))
+one_command (Ask n a) (RetireTo i p j) xs ys h k l r = absurd (omega (arith, first_byte 81 85 _ _ l))
 one_command (Ask n a) (Listing i) xs ys h k l r = absurd (omega (arith, first_byte 81 76 _ _ l))
 one_command (Ask n a) (Ask i b) xs ys h k l r =
     let pair = one_pair n (length a) i (length b) (node_fits n h.0) h.1.fits (node_fits i k.0) k.1.fits (behind_two 81 32 81 32 _ _ l) in
@@ -124,6 +141,7 @@ one_command (Ask n a) (Get s i) xs ys h k l r = absurd (omega (arith, first_byte
 one_command (Feed n a) (Declare b) xs ys h k l r = absurd (omega (arith, first_byte 70 84 _ _ l))
 one_command (Feed n a) (Take i p j b) xs ys h k l r = absurd (omega (arith, first_byte 70 83 _ _ l))
 one_command (Feed n a) (Retire i p j) xs ys h k l r = absurd (omega (arith, first_byte 70 82 _ _ l))
+one_command (Feed n a) (RetireTo i p j) xs ys h k l r = absurd (omega (arith, first_byte 70 85 _ _ l))
 one_command (Feed n a) (Listing i) xs ys h k l r = absurd (omega (arith, first_byte 70 76 _ _ l))
 one_command (Feed n a) (Ask i b) xs ys h k l r = absurd (omega (arith, first_byte 70 81 _ _ l))
 one_command (Feed n a) (Feed i b) xs ys h k l r =
@@ -135,6 +153,7 @@ one_command (Feed n a) (Get s i) xs ys h k l r = absurd (omega (arith, first_byt
 one_command (Put n q) (Declare b) xs ys h k l r = absurd (omega (arith, first_byte 80 84 _ _ l))
 one_command (Put n q) (Take i p j b) xs ys h k l r = absurd (omega (arith, first_byte 80 83 _ _ l))
 one_command (Put n q) (Retire i p j) xs ys h k l r = absurd (omega (arith, first_byte 80 82 _ _ l))
+one_command (Put n q) (RetireTo i p j) xs ys h k l r = absurd (omega (arith, first_byte 80 85 _ _ l))
 one_command (Put n q) (Listing i) xs ys h k l r = absurd (omega (arith, first_byte 80 76 _ _ l))
 one_command (Put n q) (Ask i b) xs ys h k l r = absurd (omega (arith, first_byte 80 81 _ _ l))
 one_command (Put n q) (Feed i b) xs ys h k l r = absurd (omega (arith, first_byte 80 70 _ _ l))
@@ -145,6 +164,7 @@ one_command (Put n q) (Get s i) xs ys h k l r = absurd (omega (arith, first_byte
 one_command (Get q n) (Declare b) xs ys h k l r = absurd (omega (arith, first_byte 71 84 _ _ l))
 one_command (Get q n) (Take i p j b) xs ys h k l r = absurd (omega (arith, first_byte 71 83 _ _ l))
 one_command (Get q n) (Retire i p j) xs ys h k l r = absurd (omega (arith, first_byte 71 82 _ _ l))
+one_command (Get q n) (RetireTo i p j) xs ys h k l r = absurd (omega (arith, first_byte 71 85 _ _ l))
 one_command (Get q n) (Listing i) xs ys h k l r = absurd (omega (arith, first_byte 71 76 _ _ l))
 one_command (Get q n) (Ask i b) xs ys h k l r = absurd (omega (arith, first_byte 71 81 _ _ l))
 one_command (Get q n) (Feed i b) xs ys h k l r = absurd (omega (arith, first_byte 71 70 _ _ l))
@@ -237,6 +257,7 @@ declared_alike g h (Declare bytes) r q allowed a b same =
     told h is r a = elim a [ inl x ↦ subst (λ o. AnswersUnder o h (Declare bytes) r) is x | inr x ↦ absurd x.0 ]
 declared_alike g h (Take n o m bytes) r q allowed a b same = stays r (declaration g) allowed ∙ sym (stays q (declaration h) (sym same ∙ allowed))
 declared_alike g h (Retire n o m) r q allowed a b same = stays r (declaration g) allowed ∙ sym (stays q (declaration h) (sym same ∙ allowed))
+declared_alike g h (RetireTo n o m) r q allowed a b same = stays r (declaration g) allowed ∙ sym (stays q (declaration h) (sym same ∙ allowed))
 declared_alike g h (Listing n) r q allowed a b same = stays r (declaration g) allowed ∙ sym (stays q (declaration h) (sym same ∙ allowed))
 declared_alike g h (Ask n text) r q allowed a b same = stays r (declaration g) allowed ∙ sym (stays q (declaration h) (sym same ∙ allowed))
 declared_alike g h (Feed n piece) r q allowed a b same = stays r (declaration g) allowed ∙ sym (stays q (declaration h) (sym same ∙ allowed))

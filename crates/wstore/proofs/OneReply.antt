@@ -1,7 +1,6 @@
 -- A command has one reply beside want of memory.
-use Rattle.std.proofs.Common.{◌≡◌, ◌≢◌, ℕ, Bool, true, false, List, [], ◌∷◌, ◌++◌, map, Option, None, Some, Result, Ok, Err, IsOk, inl, inr, refl, sym, ap, ◌∙◌, subst, arith, append_assoc}
+use Rattle.std.proofs.Common.{◌≡◌, ◌≢◌, ℕ, Bool, true, false, List, [], ◌∷◌, ◌++◌, map, Option, None, Some, Result, Ok, Err, IsOk, inl, inr, refl, sym, ap, ◌∙◌, subst, arith, append_assoc, append-nil}
 use Rattle.std.specs.List.{flat_map, AllByRecursion}
-use Rattle.std.specs.FinMap.{get}
 use Rattle.std.proofs.lemmas.Fmt.{decimal_injective}
 use Rattle.wvalues.specs.Names.{NameParts, IsOrigin}
 use Rattle.wvalues.specs.Meaning.{Meaning}
@@ -15,19 +14,21 @@ use Rattle.wsegment.specs.declared.fault.SegmentFault.{SegmentFault}
 use Rattle.wsegment.specs.declared.schema_fault.SchemaFault.{SchemaFault}
 use Rattle.wsegment.specs.declared.schema_fault.SchemaFault.TheVariants as tables
 use Rattle.wsegment.proofs.SpellingFacts.{spells-one}
-use Rattle.wset.specs.Views.{View, join}
-use Rattle.wset.specs.Items.{Item, SegmentItem, RetirementItem, view_of}
-use Rattle.wset.specs.Words.{taken_word, retired_word}
-use Rattle.wexchange.specs.Judging.{Place, AtTable, Behind, GoesOn, Judges}
+use Rattle.wset.specs.Views.{View, join, known_in}
+use Rattle.wset.specs.Items.{Item, SegmentItem, RetirementItem, FloorItem, view_of}
+use Rattle.wset.specs.Words.{taken_word, retired_word, floor_word}
+use Rattle.wexchange.specs.Files.{text_of}
+use Rattle.wexchange.specs.declared.version.Version.TheVariants.{One, Two}
+use Rattle.wexchange.specs.Judging.{Place, AtTable, Behind, AtDigest, GoesOn, Judges}
 use Rattle.wexchange.specs.Messages.{Splits, message_text}
 use Rattle.wexchange.specs.declared.fault.FileFault.{FileFault}
 use Rattle.wexchange.specs.declared.fault.FileFault.TheVariants as files
 use Rattle.wexchange.proofs.FirstMessage.{first_of_none, one_message}
 use Rattle.wexchange.proofs.OneJudgement.{one_judgement}
 use Rattle.wask.proofs.OneAnswer.{one_answer}
-use Rattle.wstore.specs.Commands.{Command, Declare, Take, Retire, Listing, Ask, Feed, Put, Get}
-use Rattle.wstore.specs.Replies.{Line, TookLine, WasLine, RefusedLine, SpentLine, line_item, line_items, Reply, Declared, RefusedTable, Took, Was, RefusedName, RefusedSegment, Names, Answered, RefusedQuery, Fed, Done, RefusedFile, NoMemory}
-use Rattle.wstore.specs.History.{Step, Answers, AnswersUnder, PieceAnswers, LineAnswers, LinesAnswer, IsRest, declaration, known, held, is_put, is_bad, stream, handled, file_if, take_reply, retire_reply, query_reply, file_reply}
+use Rattle.wstore.specs.Commands.{Command, Declare, Take, Retire, RetireTo, Listing, Ask, Feed, Put, Get}
+use Rattle.wstore.specs.Replies.{Line, TookLine, WasLine, FloorLine, RefusedLine, SpentLine, line_item, line_items, Reply, Declared, RefusedTable, Took, Was, RefusedName, RefusedSegment, Names, Answered, RefusedQuery, Fed, Done, RefusedFile, NoMemory}
+use Rattle.wstore.specs.History.{Step, Answers, AnswersUnder, PieceAnswers, LineAnswers, LinesAnswer, IsRest, declaration, known, held, is_put, is_bad, stream, handled, file_if, take_reply, retire_reply, floor_reply, query_reply, file_reply}
 use Rattle.wstore.specs.Laws.{IsHandled, HasMemory, IsOfTable, OneReply}
 use Rattle.wstore.proofs.OneReading.{IsTold, with_table, with_fault, told_of, no_fault}
 use Rattle.wstore.proofs.Soundness.{no_file}
@@ -114,6 +115,15 @@ retired m n e = cc
 apart : (m n : NameParts) (a : List ℕ) → SegmentItem m a ≡ RetirementItem n → ⊥
 apart m n a e = cc
 
+floor_name : (m n : NameParts) → FloorItem m ≡ FloorItem n → m ≡ n
+floor_name m n e = cc
+
+apart_floor : (m n : NameParts) (a : List ℕ) → SegmentItem m a ≡ FloorItem n → ⊥
+apart_floor m n a e = cc
+
+two_kinds : (m n : NameParts) → RetirementItem m ≡ FloorItem n → ⊥
+two_kinds m n e = cc
+
 abbrev err : SegmentFault → Result (List (List Meaning)) SegmentFault
 err f = Err f
 
@@ -123,7 +133,7 @@ one_fault f g e = cc
 one_line : (d : Declaration) (v : View) (a b : Line) → line_item a ≡ line_item b → LineAnswers d v a → LineAnswers d v b → IsHandled a → IsHandled b → a ≡ b
 one_line d v (TookLine m x word) (TookLine n y told) e h k p q =
     let same = parts m n x y e in
-    let word_is : word ≡ told = h.1 ∙ (λ i. taken_word (get v (same.0 i)) (same.1 i)) ∙ sym k.1 in
+    let word_is : word ≡ told = h.1 ∙ (λ i. taken_word (known_in v (same.0 i)) (same.1 i)) ∙ sym k.1 in
     λ i. TookLine (same.0 i) (same.1 i) (word_is i)
 one_line d v (TookLine m x word) (RefusedLine n y fault) e h k p q =
     let same = parts m n x y e in
@@ -131,7 +141,7 @@ one_line d v (TookLine m x word) (RefusedLine n y fault) e h k p q =
 one_line d v (TookLine m x word) (WasLine n told) e h k p q = absurd (apart m n x e)
 one_line d v (WasLine m word) (WasLine n told) e h k p q =
     let same = retired m n e in
-    let word_is : word ≡ told = h ∙ ap (λ x. retired_word (get v x)) same ∙ sym k in
+    let word_is : word ≡ told = h ∙ ap (λ x. retired_word (known_in v x)) same ∙ sym k in
     λ i. WasLine (same i) (word_is i)
 one_line d v (WasLine m word) (TookLine n y told) e h k p q = absurd (apart n m y (sym e))
 one_line d v (WasLine m word) (RefusedLine n y fault) e h k p q = absurd (apart n m y (sym e))
@@ -143,7 +153,18 @@ one_line d v (RefusedLine m x fault) (TookLine n y told) e h k p q =
     let same = parts m n x y e in
     absurd (refused_read (rows_of d y) fault k.0 (ap (rows_of d) (sym same.1) ∙ h))
 one_line d v (RefusedLine m x fault) (WasLine n told) e h k p q = absurd (apart m n x e)
+one_line d v (FloorLine m word) (FloorLine n told) e h k p q =
+    let same = floor_name m n e in
+    let word_is : word ≡ told = h ∙ ap (λ x. floor_word v x) same ∙ sym k in
+    λ i. FloorLine (same i) (word_is i)
+one_line d v (FloorLine m word) (TookLine n y told) e h k p q = absurd (apart_floor n m y (sym e))
+one_line d v (FloorLine m word) (RefusedLine n y fault) e h k p q = absurd (apart_floor n m y (sym e))
+one_line d v (FloorLine m word) (WasLine n told) e h k p q = absurd (two_kinds n m (sym e))
+one_line d v (TookLine m x word) (FloorLine n told) e h k p q = absurd (apart_floor m n x e)
+one_line d v (RefusedLine m x fault) (FloorLine n told) e h k p q = absurd (apart_floor m n x e)
+one_line d v (WasLine m word) (FloorLine n told) e h k p q = absurd (two_kinds m n e)
 one_line d v (SpentLine i) b e h k p q = absurd p
+one_line d v (FloorLine m word) (SpentLine i) e h k p q = absurd q
 one_line d v (TookLine m x word) (SpentLine i) e h k p q = absurd q
 one_line d v (WasLine m word) (SpentLine i) e h k p q = absurd q
 one_line d v (RefusedLine m x fault) (SpentLine i) e h k p q = absurd q
@@ -218,21 +239,25 @@ no_bytes : (x : ℕ) (xs : List ℕ) → [] ≡ x ∷ xs → ⊥
 no_bytes x xs e = cc
 
 nothing_good : (d : Declaration) (p : Place) (rest : List ℕ) → GoesOn d p [] rest → ⊥
-nothing_good d AtTable rest g = no_bytes 87 _ g.bytes_are
-nothing_good d (Behind v) rest g = no_bytes 87 _ g.bytes_are
+nothing_good d (AtTable One) rest g = no_bytes 87 _ g.bytes_are
+nothing_good d (AtTable Two) rest g = no_bytes 87 _ g.bytes_are
+nothing_good d (Behind One v) rest g = no_bytes 87 _ g.bytes_are
+nothing_good d (Behind Two v) rest g = no_bytes 87 _ g.bytes_are
+nothing_good d (AtDigest v) rest g = no_bytes 87 _ g.bytes_are
 
 -- no bytes end too early
 empty_judged : (d : Declaration) (r : Result View FileFault) → Judges d [] r → r ≢ Err files.NoMemory → r ≡ Err files.Truncated
-empty_judged d (Ok v) j some = absurd (no_file d v j.bytes_are)
-empty_judged d (Err files.OtherFormat) (inl h) some = absurd (h.no_beginning _ refl)
+empty_judged d (Ok v) j some = absurd (no_file d j.version v [] (j.bytes_are ∙ sym (append-nil (text_of j.version d v))))
+empty_judged d (Err files.OtherFormat) (inl h) some = absurd (h.no_beginning One _ refl)
 empty_judged d (Err files.OtherFormat) (inr (inl h)) some = absurd (nothing_good d h.place _ h.goes_on)
 empty_judged d (Err files.OtherFormat) (inr (inr h)) some = absurd (nothing_good d h.place _ h.stands.goes_on)
 empty_judged d (Err files.Truncated) j some = refl
-empty_judged d (Err files.NotRising) j some = absurd (nothing_good d (Behind j.view) _ j.goes_on)
-empty_judged d (Err files.OtherCount) j some = absurd (nothing_good d (Behind j.view) _ j.stands.goes_on)
-empty_judged d (Err files.OtherSchema) j some = absurd (nothing_good d AtTable _ j.stands.goes_on)
-empty_judged d (Err (files.Segment fault)) j some = absurd (nothing_good d (Behind j.view) _ j.stands.goes_on)
-empty_judged d (Err files.Trailing) j some = absurd (no_bytes 87 _ j.bytes_are)
+empty_judged d (Err files.NotRising) j some = absurd (nothing_good d (Behind j.version j.view) _ j.goes_on)
+empty_judged d (Err files.OtherCount) j some = absurd (nothing_good d (Behind j.version j.view) _ j.stands.goes_on)
+empty_judged d (Err files.OtherSchema) j some = absurd (nothing_good d (AtTable j.version) _ j.stands.goes_on)
+empty_judged d (Err (files.Segment fault)) j some = absurd (nothing_good d (Behind j.version j.view) _ j.stands.goes_on)
+empty_judged d (Err files.Trailing) j some = absurd (no_file d j.version j.view (j.byte ∷ j.more) j.bytes_are)
+empty_judged d (Err files.OtherDigest) j some = absurd (nothing_good d (AtDigest j.view) _ j.stands.goes_on)
 empty_judged d (Err files.NoMemory) j some = absurd (some refl)
 
 slot_judged : (d : Declaration) (b : Bool) (items : List Item) → (b ≡ true → IsDeclaration d) → (r s : Result View FileFault) → Judges d (file_if b d items) r → Judges d (file_if b d items) s → r ≢ Err files.NoMemory → s ≢ Err files.NoMemory → r ≡ s
@@ -248,6 +273,7 @@ one_under : (o : Option Declaration) (h : List Step) (c : Command) (r s : Reply)
 one_under None h (Declare bytes) r s is of a b some also = one_table bytes r s (told_of bytes r a) (told_of bytes s b)
 one_under None h (Take n o m bytes) r s is of a b some also = absurd a
 one_under None h (Retire n o m) r s is of a b some also = absurd a
+one_under None h (RetireTo n o m) r s is of a b some also = absurd a
 one_under None h (Listing n) r s is of a b some also = absurd a
 one_under None h (Ask n text) r s is of a b some also = absurd a
 one_under None h (Feed n piece) r s is of a b some also = absurd a
@@ -256,6 +282,7 @@ one_under None h (Get k n) r s is of a b some also = absurd a
 one_under (Some d) h (Declare bytes) r s is of a b some also = absurd a
 one_under (Some d) h (Take n o m bytes) r s is of a b some also = a.2 ∙ ap (λ x. take_reply x d (view_of (known h n)) bytes) (one_name o m a.0 b.0 a.1 b.1) ∙ sym b.2
 one_under (Some d) h (Retire n o m) r s is of a b some also = a.2 ∙ ap (λ x. retire_reply x (view_of (known h n))) (one_name o m a.0 b.0 a.1 b.1) ∙ sym b.2
+one_under (Some d) h (RetireTo n o m) r s is of a b some also = a.2 ∙ ap (λ x. floor_reply x (view_of (known h n))) (one_name o m a.0 b.0 a.1 b.1) ∙ sym b.2
 one_under (Some d) h (Listing n) r s is of a b some also = a ∙ sym b
 one_under (Some d) h (Ask n text) r s is of a b some also = a.2 ∙ ap query_reply (one_answer d (view_of (known h n)) text a.0 b.0 a.1 b.1) ∙ sym b.2
 one_under (Some d) h (Feed n piece) r s is of a b some also =

@@ -11,9 +11,9 @@ use Rattle.wsegment.specs.declared.fault.SegmentFault.{SegmentFault}
 use Rattle.wset.specs.Views.{View}
 use Rattle.wexchange.specs.declared.fault.FileFault.{FileFault}
 use Rattle.wplanner.specs.declared.fault.AskFault.{AskFault}
-use Rattle.wstore.specs.Commands.{Command, Declare, Take, Retire, Listing, Ask, Feed, Put, Get}
+use Rattle.wstore.specs.Commands.{Command, Declare, Take, Retire, RetireTo, Listing, Ask, Feed, Put, Get}
 use Rattle.wstore.specs.Replies.{Reply, Declared, RefusedTable, Took, Was, RefusedName, RefusedSegment, Names, Answered, RefusedQuery, Fed, Done, RefusedFile, NoMemory}
-use Rattle.wstore.specs.History.{Step, Answers, AnswersUnder, declaration, is_bad, segment_reply, take_reply, retire_reply, query_reply, file_reply}
+use Rattle.wstore.specs.History.{Step, Answers, AnswersUnder, declaration, is_bad, segment_reply, take_reply, retire_reply, floor_reply, query_reply, file_reply}
 use Rattle.wstore.specs.Runs.{Ran}
 use Rattle.wstore.specs.Laws.{HasMemory, IsOfTable, OneRun}
 use Rattle.wstore.proofs.OneReading.{one_reading}
@@ -33,6 +33,10 @@ no_retire : (d : Declaration) (name : Result NameParts NameFault) (v : View) →
 no_retire d (Ok name) v e = cc
 no_retire d (Err fault) v e = cc
 
+no_floor : (d : Declaration) (name : Result NameParts NameFault) (v : View) → Declared d ≡ floor_reply name v → ⊥
+no_floor d (Ok name) v e = cc
+no_floor d (Err fault) v e = cc
+
 no_query : (d : Declaration) (answer : Result (List ℕ) AskFault) → Declared d ≡ query_reply answer → ⊥
 no_query d (Ok bytes) e = cc
 no_query d (Err fault) e = cc
@@ -49,6 +53,7 @@ under_declares : (o : Option Declaration) (h : List Step) (c : Command) (d : Dec
 under_declares None h (Declare bytes) d a = a.0
 under_declares None h (Take n o m bytes) d a = absurd a
 under_declares None h (Retire n o m) d a = absurd a
+under_declares None h (RetireTo n o m) d a = absurd a
 under_declares None h (Listing n) d a = absurd a
 under_declares None h (Ask n text) d a = absurd a
 under_declares None h (Feed n piece) d a = absurd a
@@ -57,6 +62,7 @@ under_declares None h (Get k n) d a = absurd a
 under_declares (Some e) h (Declare bytes) d a = absurd a
 under_declares (Some e) h (Take n o m bytes) d a = absurd (no_take d e a.0 _ bytes a.2)
 under_declares (Some e) h (Retire n o m) d a = absurd (no_retire d a.0 _ a.2)
+under_declares (Some e) h (RetireTo n o m) d a = absurd (no_floor d a.0 _ a.2)
 under_declares (Some e) h (Listing n) d a = absurd (cc)
 under_declares (Some e) h (Ask n text) d a = absurd (no_query d a.0 a.2)
 under_declares (Some e) h (Feed n piece) d a = let fed = fed_of (is_bad h n) e h n piece (Declared d) a in let is = fed.is in absurd (cc)
@@ -101,6 +107,7 @@ is_of_table : (h : List Step) (c : Command) → HasTable h → IsOfTable h c
 is_of_table h (Declare bytes) table = tt
 is_of_table h (Take n o m bytes) table = tt
 is_of_table h (Retire n o m) table = tt
+is_of_table h (RetireTo n o m) table = tt
 is_of_table h (Listing n) table = tt
 is_of_table h (Ask n text) table = tt
 is_of_table h (Feed n piece) table = tt

@@ -1,5 +1,5 @@
 -- What is known of names is sound: each is a name, and each content a segment.
-use Rattle.std.proofs.Common.{◌≡◌, ℕ, Bool, true, false, cond, ◌&&◌, T, List, [], ◌∷◌, ◌++◌, length, Option, None, Some, IsOk, is_eq, nat_lt, refl, sym, ap, ◌∙◌, subst, arith}
+use Rattle.std.proofs.Common.{◌≡◌, ℕ, Bool, true, false, cond, ◌&&◌, ◌||◌, T, List, [], ◌∷◌, ◌++◌, length, Option, None, Some, IsOk, is_eq, nat_lt, refl, sym, ap, ◌∙◌, subst, arith, append-nil}
 use Rattle.std.proofs.lemmas.Bool.Decides.{nat_tests}
 use Rattle.std.specs.List.{AllByRecursion}
 use Rattle.std.specs.Ordering.{is_lt, ordering_reverse}
@@ -10,14 +10,18 @@ use Rattle.std.specs.FinMap.{get, entries, find, is_sorted, get-entries, entries
 use Rattle.wvalues.specs.Names.{NameParts, IsName, name_cmp, names_total}
 use Rattle.wsegment.specs.Declaration.{Declaration}
 use Rattle.wsegment.specs.Rows.{rows_of}
-use Rattle.wset.specs.Views.{Known, Live, Disputed, Retired, View, same_name, same_bytes, join_known, join_told}
-use Rattle.wset.specs.Items.{Item, SegmentItem, RetirementItem, status_of, view_of}
-use Rattle.wset.proofs.Joining.{exact_names, same_name-true, get-join}
-use Rattle.wset.proofs.Union.{view_tells_status, view_of_union}
+use Rattle.wset.specs.Views.{Known, Live, Disputed, Retired, Floor, View, is_below, same_name, same_bytes, join_known, join_told}
+use Rattle.wset.specs.Items.{Item, SegmentItem, RetirementItem, FloorItem, mark_of, view_of, view_of_item}
+use Rattle.wset.proofs.Floors.{exact_names, same_name-true}
+use Rattle.wset.proofs.Joining.{get-join}
+use Rattle.wset.proofs.Singles.{IsSingle, floor_single}
+use Rattle.wset.proofs.Union.{get-view_of, view_of_union}
 use Rattle.wexchange.specs.Forms.{IsNumber}
-use Rattle.wexchange.specs.Files.{IsRecord, AreRecords, file_of}
+use Rattle.wexchange.specs.Files.{IsRecord, AreRecords, text_of}
 use Rattle.wexchange.specs.Judging.{IsFileOf}
-use Rattle.wexchange.proofs.OneView.{one_view}
+use Rattle.wexchange.specs.declared.version.Version.{Version}
+use Rattle.wexchange.specs.declared.version.Version.TheVariants.{One, Two}
+use Rattle.wexchange.proofs.OneText.{one_text}
 use Rattle.wstore.specs.History.{file_if}
 use Rattle.wstore.specs.Standing.{IsSound}
 
@@ -30,13 +34,19 @@ one_known j k e = cc
 -- ---- of items
 
 pub sound_nothing : (d : Declaration) → IsSound d []
-sound_nothing d n k e = absurd (no_known k (sym (view_tells_status [] n) ∙ e))
+sound_nothing d n k e = absurd (no_known k (sym (get-view_of [] n) ∙ e))
 
 joined : (d : Declaration) (n : NameParts) (a b : Known) → IsRecord d (n, a) → IsRecord d (n, b) → IsRecord d (n, join_known a b)
-joined d n Retired b h k = h
+joined d n Floor b h k = h
+joined d n Retired Floor h k = k
+joined d n Retired Retired h k = h
+joined d n Retired Disputed h k = h
+joined d n Retired (Live b) h k = h
+joined d n Disputed Floor h k = k
 joined d n Disputed Retired h k = h
 joined d n Disputed Disputed h k = h
 joined d n Disputed (Live b) h k = h
+joined d n (Live a) Floor h k = k
 joined d n (Live a) Retired h k = k
 joined d n (Live a) Disputed h k = k
 joined d n (Live a) (Live b) h k = by (same_bytes a b)
@@ -52,8 +62,11 @@ told d n (Some a) (Some b) j f g e = subst (λ k. IsRecord d (n, k)) (one_known 
 
 pub sound_both : (d : Declaration) (xs ys : List Item) → IsSound d xs → IsSound d ys → IsSound d (xs ++ ys)
 sound_both d xs ys f g n j e =
-    told d n (get (view_of xs) n) (get (view_of ys) n) j (f n) (g n)
-    (sym (get-join (view_of xs) (view_of ys) n) ∙ ap (λ v. get v n) (sym (view_of_union xs ys)) ∙ e)
+    by (is_below (view_of xs) n || is_below (view_of ys) n) (sym (get-join (view_of xs) (view_of ys) n) ∙ ap (λ v. get v n) (sym (view_of_union xs ys)) ∙ e)
+  where
+    by : (b : Bool) → cond b None (join_told (get (view_of xs) n) (get (view_of ys) n)) ≡ Some j → IsRecord d (n, j)
+    by true e = absurd (no_known j e)
+    by false e = told d n (get (view_of xs) n) (get (view_of ys) n) j (f n) (g n) e
 
 fits : (d : Declaration) (bytes : List ℕ) → IsOk (rows_of d bytes) → IsNumber (length bytes)
 unfolding rows_of
@@ -69,29 +82,36 @@ fits d bytes ok = by (nat_lt 67108864 (length bytes)) refl
     by true e = absurd (refused true e refl)
     by false e = record { fits = grind (arith, nat_tests) }
 
-pub sound_segment : (d : Declaration) (m : NameParts) (bytes : List ℕ) → IsName m → IsOk (rows_of d bytes) → IsSound d (SegmentItem m bytes ∷ [])
-sound_segment d m bytes name read q k e = by (same_name q m) refl (sym (view_tells_status (SegmentItem m bytes ∷ []) q) ∙ e)
+segment_single : (n : NameParts) (bytes : List ℕ) → IsSingle (view_of_item (SegmentItem n bytes)) n (Live bytes)
+segment_single n bytes q = get-view_of (SegmentItem n bytes ∷ []) q ∙ by (same_name q n) refl
   where
-    status : (b : Bool) → same_name q m ≡ b → status_of (SegmentItem m bytes ∷ []) q ≡ cond b (Some (Live bytes)) None
-    status true e = rw e refl
-    status false e = rw e refl
+    by : (b : Bool) → same_name q n ≡ b → mark_of (SegmentItem n bytes ∷ []) q ≡ cond b (Some (Live bytes)) None
+    by true e = rw e refl
+    by false e = rw e refl
 
-    by : (b : Bool) → same_name q m ≡ b → status_of (SegmentItem m bytes ∷ []) q ≡ Some k → IsRecord d (q, k)
-    by true s e =
-        subst (λ j. IsRecord d (q, j)) (one_known (Live bytes) k (sym (status true s) ∙ e))
-        (subst IsName (sym (same_name-true q m s)) name, read, fits d bytes read)
-    by false s e = absurd (no_known k (sym (status false s) ∙ e))
+retirement_single : (n : NameParts) → IsSingle (view_of_item (RetirementItem n)) n Retired
+retirement_single n q = get-view_of (RetirementItem n ∷ []) q ∙ by (same_name q n) refl
+  where
+    by : (b : Bool) → same_name q n ≡ b → mark_of (RetirementItem n ∷ []) q ≡ cond b (Some Retired) None
+    by true e = rw e refl
+    by false e = rw e refl
+
+-- of one name one thing is known
+sound_single : (d : Declaration) (v : View) (m : NameParts) (j : Known) → IsSingle v m j → IsRecord d (m, j) → (q : NameParts) (k : Known) → get v q ≡ Some k → IsRecord d (q, k)
+sound_single d v m j single record_is q k e = by (same_name q m) refl (sym (single q) ∙ e)
+  where
+    by : (b : Bool) → same_name q m ≡ b → cond b (Some j) None ≡ Some k → IsRecord d (q, k)
+    by true s e = subst (λ i. IsRecord d (q, i)) (one_known j k e) (subst (λ n. IsRecord d (n, j)) (sym (same_name-true q m s)) record_is)
+    by false s e = absurd (no_known k e)
+
+pub sound_segment : (d : Declaration) (m : NameParts) (bytes : List ℕ) → IsName m → IsOk (rows_of d bytes) → IsSound d (SegmentItem m bytes ∷ [])
+sound_segment d m bytes name read = sound_single d (view_of_item (SegmentItem m bytes)) m (Live bytes) (segment_single m bytes) (name, read, fits d bytes read)
 
 pub sound_retirement : (d : Declaration) (m : NameParts) → IsName m → IsSound d (RetirementItem m ∷ [])
-sound_retirement d m name q k e = by (same_name q m) refl (sym (view_tells_status (RetirementItem m ∷ []) q) ∙ e)
-  where
-    status : (b : Bool) → same_name q m ≡ b → status_of (RetirementItem m ∷ []) q ≡ cond b (Some Retired) None
-    status true e = rw e refl
-    status false e = rw e refl
+sound_retirement d m name = sound_single d (view_of_item (RetirementItem m)) m Retired (retirement_single m) name
 
-    by : (b : Bool) → same_name q m ≡ b → status_of (RetirementItem m ∷ []) q ≡ Some k → IsRecord d (q, k)
-    by true s e = subst (λ j. IsRecord d (q, j)) (one_known Retired k (sym (status true s) ∙ e)) (subst IsName (sym (same_name-true q m s)) name)
-    by false s e = absurd (no_known k (sym (status false s) ∙ e))
+pub sound_floor : (d : Declaration) (m : NameParts) → IsName m → IsSound d (FloorItem m ∷ [])
+sound_floor d m name = sound_single d (view_of_item (FloorItem m)) m Floor (floor_single m) name
 
 -- ---- entry by entry
 
@@ -139,10 +159,12 @@ records d items sound = all_found d (entries (view_of items)) (entries_sorted (v
 no_bytes : (x : ℕ) (xs : List ℕ) → [] ≡ x ∷ xs → ⊥
 no_bytes x xs e = cc
 
-pub no_file : (d : Declaration) (v : View) → [] ≡ file_of d v → ⊥
-no_file d v e = no_bytes 87 _ e
+-- no bytes begin with a text
+pub no_file : (d : Declaration) (r : Version) (v : View) (more : List ℕ) → [] ≡ text_of r d v ++ more → ⊥
+no_file d One v more e = no_bytes 87 _ e
+no_file d Two v more e = no_bytes 87 _ e
 
 -- the view whose file a slot holds is that of its items
 pub slot_view : (d : Declaration) (b : Bool) (items : List Item) (v : View) → IsFileOf d v (file_if b d items) → IsSound d items → v ≡ view_of items
-slot_view d true items v f sound = one_view d v (view_of items) f.is_view.records (records d items sound) (sym f.bytes_are)
-slot_view d false items v f sound = absurd (no_file d v f.bytes_are)
+slot_view d true items v f sound = (one_text d f.version Two v (view_of items) f.is_view.records (records d items sound) (sym f.bytes_are)).1
+slot_view d false items v f sound = absurd (no_file d f.version v [] (f.bytes_are ∙ sym (append-nil (text_of f.version d v))))

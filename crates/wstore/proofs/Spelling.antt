@@ -5,7 +5,7 @@ use Rattle.std.specs.Io.KnownBytes.{Consumes}
 use Rattle.std.proofs.KnownBytes.{Consumes-trans}
 use Rattle.wlines.specs.Words.{Lacks}
 use Rattle.wlines.specs.Reads.{HasNoLine}
-use Rattle.wstore.specs.Commands.{Form, DeclareForm, TakeForm, RetireForm, ListForm, AskForm, FeedForm, PutForm, GetForm, IsForm, IsNode, IsSlot, Command, IsMalformed, IsShortDeclaration, line_of, form_of, behind, longest_line, spell}
+use Rattle.wstore.specs.Commands.{Form, DeclareForm, TakeForm, RetireForm, FloorForm, ListForm, AskForm, FeedForm, PutForm, GetForm, IsForm, IsNode, IsSlot, Command, IsMalformed, IsShortDeclaration, line_of, form_of, behind, longest_line, spell}
 use Rattle.wstore.specs.Headers.{IsHeaderOf}
 use Rattle.wstore.specs.Requests.{IsCommandOf, IsBadBehind, KeepsBody, Behind, BehindReads, ReadsCommand, RequestReads}
 use Rattle.wstore.specs.declared.header.Header.{Header}
@@ -38,6 +38,7 @@ line_lacks (DeclareForm len) h = begun 84 _ (λ e. omega (arith, e)) (no_feed le
 line_lacks (TakeForm node origin number len) h =
     begun 83 _ (λ e. omega (arith, e)) (spaced (decimal node) _ (node_lacks node h.0) (spaced origin _ h.1.no_lf (spaced number _ h.2.no_lf (no_feed len h.3.fits))))
 line_lacks (RetireForm node origin number) h = begun 82 _ (λ e. omega (arith, e)) (spaced (decimal node) _ (node_lacks node h.0) (spaced origin _ h.1.no_lf h.2.no_lf))
+line_lacks (FloorForm node origin number) h = begun 85 _ (λ e. omega (arith, e)) (spaced (decimal node) _ (node_lacks node h.0) (spaced origin _ h.1.no_lf h.2.no_lf))
 line_lacks (ListForm node) h = begun 76 _ (λ e. omega (arith, e)) (node_lacks node h)
 line_lacks (AskForm node len) h = begun 81 _ (λ e. omega (arith, e)) (spaced (decimal node) _ (node_lacks node h.0) (no_feed len h.1.fits))
 line_lacks (FeedForm node len) h = begun 70 _ (λ e. omega (arith, e)) (spaced (decimal node) _ (node_lacks node h.0) (no_feed len (omega (arith, h.1.fits))))

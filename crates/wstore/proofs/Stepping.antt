@@ -2,7 +2,7 @@
 use Rattle.std.proofs.Common.{◌≡◌, ℕ, Bool, true, List, [], take, Option, None, Some, IfSome, is_some, ◌++◌, inl, inr, refl, sym, ap, subst}
 use Rattle.std.specs.Io.KnownBytes.{Consumes}
 use Rattle.wlines.specs.Sent.{Sent, Says}
-use Rattle.wstore.specs.Commands.{Command, Declare, Take, Retire, Listing, Ask, Feed, Put, Get, IsAllowed, IsCommand, IsMalformed, spell}
+use Rattle.wstore.specs.Commands.{Command, Declare, Take, Retire, RetireTo, Listing, Ask, Feed, Put, Get, IsAllowed, IsCommand, IsMalformed, spell}
 use Rattle.wstore.specs.History.{Step, is_declared}
 use Rattle.std.specs.List.{flat_map}
 use Rattle.wstore.specs.Replies.{line_text, text_of, bad_script}
@@ -23,12 +23,14 @@ use Rattle.wstore.proofs.Spelling.{front_of}
 order_allowed : (n : ℕ) (order : Order) (c : Command) (declared : Bool) → IsOrderAt n order c → IsAllowed declared c → declared ≡ true
 order_allowed n (orders.Take name bytes) (Declare s) d is allowed = absurd is
 order_allowed n (orders.Retire name) (Declare s) d is allowed = absurd is
+order_allowed n (orders.RetireTo name) (Declare s) d is allowed = absurd is
 order_allowed n orders.List (Declare s) d is allowed = absurd is
 order_allowed n (orders.Ask text) (Declare s) d is allowed = absurd is
 order_allowed n (orders.Put k) (Declare s) d is allowed = absurd is
 order_allowed n (orders.Get k) (Declare s) d is allowed = absurd is
 order_allowed n order (Take m o k b) d is allowed = allowed
 order_allowed n order (Retire m o k) d is allowed = allowed
+order_allowed n order (RetireTo m o k) d is allowed = allowed
 order_allowed n order (Listing m) d is allowed = allowed
 order_allowed n order (Ask m t) d is allowed = allowed
 order_allowed n order (Feed m p) d is allowed = allowed
@@ -42,6 +44,7 @@ may_stand session (commands.Feed node kept) (Feed n p) is allowed = allowed
 may_stand session (commands.Feed node kept) (Declare s) is allowed = absurd is
 may_stand session (commands.Feed node kept) (Take n o m b) is allowed = absurd is
 may_stand session (commands.Feed node kept) (Retire n o m) is allowed = absurd is
+may_stand session (commands.Feed node kept) (RetireTo n o m) is allowed = absurd is
 may_stand session (commands.Feed node kept) (Listing n) is allowed = absurd is
 may_stand session (commands.Feed node kept) (Ask n t) is allowed = absurd is
 may_stand session (commands.Feed node kept) (Put n k) is allowed = absurd is
@@ -79,6 +82,7 @@ fails_at_answer faults.NoMemory h left new_left held new_held (Declare bytes) is
     (λ rest. ([], (refl, record { bytes = bytes; fits = part.0; more = rest; command = is; rest_is = refl }), part.1))
 fails_at_answer faults.NoMemory h left new_left held new_held (Take n o m b) is k part = absurd part.0
 fails_at_answer faults.NoMemory h left new_left held new_held (Retire n o m) is k part = absurd part.0
+fails_at_answer faults.NoMemory h left new_left held new_held (RetireTo n o m) is k part = absurd part.0
 fails_at_answer faults.NoMemory h left new_left held new_held (Listing n) is k part = absurd part.0
 fails_at_answer faults.NoMemory h left new_left held new_held (Ask n t) is k part = absurd part.0
 fails_at_answer faults.NoMemory h left new_left held new_held (Feed n p) is k part = absurd part.0

@@ -14,7 +14,7 @@ use Rattle.std.specs.List.{flat_map, AllByRecursion}
 use Rattle.wexchange.specs.Messages.{IsMessage, message_text}
 use Rattle.wset.specs.Items.{view_of}
 use Rattle.wstore.specs.Nodes.{NodeState, fresh_node}
-use Rattle.wstore.specs.Commands.{Command, Declare, Take, Retire, Listing, Ask, Feed, Put, Get, IsAllowed, longest_segment, node_count, slot_count}
+use Rattle.wstore.specs.Commands.{Command, Declare, Take, Retire, RetireTo, Listing, Ask, Feed, Put, Get, IsAllowed, longest_segment, node_count, slot_count}
 use Rattle.wstore.specs.Replies.{Reply, Declared, RefusedTable, RefusedName, RefusedSegment, RefusedQuery, NoMemory, text_of}
 use Rattle.wreplies.specs.Spelling.{table_text, name_text, segment_text, query_text, no_memory}
 use Rattle.wstore.specs.Requests.{IsRefusedAs, refusal_text}
@@ -128,6 +128,7 @@ finds_no_memory session h c may stands = record {
     quiet (Declare bytes) = record { delivers_none = λ n. refl; gets_none = λ n. refl; puts_none = λ k. refl; hears_none = λ n. refl }
     quiet (Take m o k bytes) = record { delivers_none = λ n. refl; gets_none = λ n. refl; puts_none = λ k. refl; hears_none = λ n. refl }
     quiet (Retire m o k) = record { delivers_none = λ n. refl; gets_none = λ n. refl; puts_none = λ k. refl; hears_none = λ n. refl }
+    quiet (RetireTo m o k) = record { delivers_none = λ n. refl; gets_none = λ n. refl; puts_none = λ k. refl; hears_none = λ n. refl }
     quiet (Listing m) = record { delivers_none = λ n. refl; gets_none = λ n. refl; puts_none = λ k. refl; hears_none = λ n. refl }
     quiet (Ask m text) = record { delivers_none = λ n. refl; gets_none = λ n. refl; puts_none = λ k. refl; hears_none = λ n. refl }
     quiet (Feed m p) = record { delivers_none = λ n. refl; gets_none = λ n. refl; puts_none = λ k. refl; hears_none = λ n. refl }
@@ -163,6 +164,7 @@ long_declaration session h (Declare bytes) long allowed stands =
     refuses_table session h bytes (table_text tables.Syntax) tables.Syntax allowed stands (λ d spells. omega (arith, long, spells.short)) (λ e. cc) refl
 long_declaration session h (Take n o m bytes) long allowed stands = absurd long
 long_declaration session h (Retire n o m) long allowed stands = absurd long
+long_declaration session h (RetireTo n o m) long allowed stands = absurd long
 long_declaration session h (Listing n) long allowed stands = absurd long
 long_declaration session h (Ask n text) long allowed stands = absurd long
 long_declaration session h (Feed m s) long allowed stands = absurd long
@@ -175,6 +177,8 @@ bad_name session h (Take n o m bytes) fault named allowed stands =
     node_tells session h (Take n o m bytes) (RefusedName fault) (name_text fault) allowed stands (λ d. (Err fault, named, refl)) refl (record { delivers_none = λ n. refl; gets_none = λ n. refl; puts_none = λ k. refl; hears_none = λ n. refl }) refl
 bad_name session h (Retire n o m) fault named allowed stands =
     node_tells session h (Retire n o m) (RefusedName fault) (name_text fault) allowed stands (λ d. (Err fault, named, refl)) refl (record { delivers_none = λ n. refl; gets_none = λ n. refl; puts_none = λ k. refl; hears_none = λ n. refl }) refl
+bad_name session h (RetireTo n o m) fault named allowed stands =
+    node_tells session h (RetireTo n o m) (RefusedName fault) (name_text fault) allowed stands (λ d. (Err fault, named, refl)) refl (record { delivers_none = λ n. refl; gets_none = λ n. refl; puts_none = λ k. refl; hears_none = λ n. refl }) refl
 bad_name session h (Listing n) fault named allowed stands = absurd named
 bad_name session h (Ask n text) fault named allowed stands = absurd named
 bad_name session h (Feed m s) fault named allowed stands = absurd named
@@ -194,6 +198,7 @@ long_segment session h (Take n o m bytes) long allowed stands =
     node_tells session h (Take n o m bytes) (RefusedSegment segments.TooLong) (segment_text segments.TooLong) allowed stands
     (λ d. (Ok long.0, long.1, ap (λ r. segment_reply r (view_of (known h n)) long.0 bytes) (sym (too_long d bytes long.2)))) refl (record { delivers_none = λ n. refl; gets_none = λ n. refl; puts_none = λ k. refl; hears_none = λ n. refl }) refl
 long_segment session h (Retire n o m) long allowed stands = absurd long
+long_segment session h (RetireTo n o m) long allowed stands = absurd long
 long_segment session h (Listing n) long allowed stands = absurd long
 long_segment session h (Ask n text) long allowed stands = absurd long
 long_segment session h (Feed m s) long allowed stands = absurd long
@@ -204,6 +209,7 @@ pub long_query : (session : Session) (h : List Step) (c : Command) → IsRefused
 long_query session h (Declare bytes) long allowed stands = absurd long
 long_query session h (Take n o m bytes) long allowed stands = absurd long
 long_query session h (Retire n o m) long allowed stands = absurd long
+long_query session h (RetireTo n o m) long allowed stands = absurd long
 long_query session h (Listing n) long allowed stands = absurd long
 long_query session h (Feed n k) long allowed stands = absurd long
 long_query session h (Put n k) long allowed stands = absurd long

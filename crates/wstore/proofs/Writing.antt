@@ -4,7 +4,7 @@ use Rattle.std.specs.List.{flat_map}
 use Rattle.wlines.specs.Sent.{Sent, Says}
 use Rattle.wlines.proofs.Saying.{says_behind}
 use Rattle.wstore.specs.Replies.{line_text, text_of}
-use Rattle.wstore.specs.Commands.{Command, Declare, Take, Retire, Listing, Ask, Feed, Put, Get}
+use Rattle.wstore.specs.Commands.{Command, Declare, Take, Retire, RetireTo, Listing, Ask, Feed, Put, Get}
 use Rattle.wstore.specs.History.{Step, MayLackMemory, is_put}
 use Rattle.wstore.specs.Requests.{IsFeedOf, IsOrderAt, KeepsBody}
 use Rattle.wstore.specs.Sessions.{Tells}
@@ -55,6 +55,7 @@ fed_command n bytes (Feed m piece) is = λ i. Feed (sym is.0 i) (sym is.1 i)
 fed_command n bytes (Declare s) is = absurd is
 fed_command n bytes (Take m o k b) is = absurd is
 fed_command n bytes (Retire m o k) is = absurd is
+fed_command n bytes (RetireTo m o k) is = absurd is
 fed_command n bytes (Listing m) is = absurd is
 fed_command n bytes (Ask m t) is = absurd is
 fed_command n bytes (Put m s) is = absurd is
@@ -65,6 +66,7 @@ pub kept_may_lack : (h : List Step) (c : Command) → KeepsBody c → MayLackMem
 kept_may_lack h (Declare s) kept = kept
 kept_may_lack h (Take m o k b) kept = kept
 kept_may_lack h (Retire m o k) kept = absurd kept
+kept_may_lack h (RetireTo m o k) kept = absurd kept
 kept_may_lack h (Listing m) kept = tt
 kept_may_lack h (Ask m t) kept = kept
 kept_may_lack h (Feed m p) kept = tt
@@ -76,6 +78,7 @@ pub order_may_lack : (n : ℕ) (order : Order) (h : List Step) (c : Command) →
 order_may_lack n (orders.Take name kept) h (Take m o k b) is put = ((name, is.1), is.3)
 order_may_lack n (orders.Take name kept) h (Declare s) is put = is
 order_may_lack n (orders.Take name kept) h (Retire m o k) is put = absurd is
+order_may_lack n (orders.Take name kept) h (RetireTo m o k) is put = absurd is
 order_may_lack n (orders.Take name kept) h (Listing m) is put = tt
 order_may_lack n (orders.Take name kept) h (Ask m t) is put = absurd is
 order_may_lack n (orders.Take name kept) h (Feed m p) is put = tt
@@ -84,14 +87,25 @@ order_may_lack n (orders.Take name kept) h (Get s m) is put = absurd is
 order_may_lack n (orders.Retire name) h (Take m o k b) is put = absurd is
 order_may_lack n (orders.Retire name) h (Declare s) is put = is
 order_may_lack n (orders.Retire name) h (Retire m o k) is put = (name, is.1)
+order_may_lack n (orders.Retire name) h (RetireTo m o k) is put = absurd is
 order_may_lack n (orders.Retire name) h (Listing m) is put = tt
 order_may_lack n (orders.Retire name) h (Ask m t) is put = absurd is
 order_may_lack n (orders.Retire name) h (Feed m p) is put = tt
 order_may_lack n (orders.Retire name) h (Put m s) is put = tt
 order_may_lack n (orders.Retire name) h (Get s m) is put = absurd is
+order_may_lack n (orders.RetireTo name) h (Take m o k b) is put = absurd is
+order_may_lack n (orders.RetireTo name) h (Declare s) is put = is
+order_may_lack n (orders.RetireTo name) h (Retire m o k) is put = absurd is
+order_may_lack n (orders.RetireTo name) h (RetireTo m o k) is put = (name, is.1)
+order_may_lack n (orders.RetireTo name) h (Listing m) is put = tt
+order_may_lack n (orders.RetireTo name) h (Ask m t) is put = absurd is
+order_may_lack n (orders.RetireTo name) h (Feed m p) is put = tt
+order_may_lack n (orders.RetireTo name) h (Put m s) is put = tt
+order_may_lack n (orders.RetireTo name) h (Get s m) is put = absurd is
 order_may_lack n orders.List h (Take m o k b) is put = absurd is
 order_may_lack n orders.List h (Declare s) is put = is
 order_may_lack n orders.List h (Retire m o k) is put = absurd is
+order_may_lack n orders.List h (RetireTo m o k) is put = absurd is
 order_may_lack n orders.List h (Listing m) is put = tt
 order_may_lack n orders.List h (Ask m t) is put = absurd is
 order_may_lack n orders.List h (Feed m p) is put = tt
@@ -100,6 +114,7 @@ order_may_lack n orders.List h (Get s m) is put = absurd is
 order_may_lack n (orders.Ask kept) h (Take m o k b) is put = absurd is
 order_may_lack n (orders.Ask kept) h (Declare s) is put = is
 order_may_lack n (orders.Ask kept) h (Retire m o k) is put = absurd is
+order_may_lack n (orders.Ask kept) h (RetireTo m o k) is put = absurd is
 order_may_lack n (orders.Ask kept) h (Listing m) is put = tt
 order_may_lack n (orders.Ask kept) h (Ask m t) is put = is.2
 order_may_lack n (orders.Ask kept) h (Feed m p) is put = tt
@@ -108,6 +123,7 @@ order_may_lack n (orders.Ask kept) h (Get s m) is put = absurd is
 order_may_lack n (orders.Put k) h (Take m o j b) is put = absurd is
 order_may_lack n (orders.Put k) h (Declare s) is put = is
 order_may_lack n (orders.Put k) h (Retire m o j) is put = absurd is
+order_may_lack n (orders.Put k) h (RetireTo m o j) is put = absurd is
 order_may_lack n (orders.Put k) h (Listing m) is put = tt
 order_may_lack n (orders.Put k) h (Ask m t) is put = absurd is
 order_may_lack n (orders.Put k) h (Feed m p) is put = tt
@@ -116,6 +132,7 @@ order_may_lack n (orders.Put k) h (Get s m) is put = absurd is
 order_may_lack n (orders.Get k) h (Take m o j b) is put = absurd is
 order_may_lack n (orders.Get k) h (Declare s) is put = is
 order_may_lack n (orders.Get k) h (Retire m o j) is put = absurd is
+order_may_lack n (orders.Get k) h (RetireTo m o j) is put = absurd is
 order_may_lack n (orders.Get k) h (Listing m) is put = tt
 order_may_lack n (orders.Get k) h (Ask m t) is put = absurd is
 order_may_lack n (orders.Get k) h (Feed m p) is put = tt

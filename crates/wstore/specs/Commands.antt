@@ -34,6 +34,8 @@ pub data Command : Type 0 where
   Take : ℕ → List ℕ → List ℕ → List ℕ → Command
   -- node, origin and number
   Retire : ℕ → List ℕ → List ℕ → Command
+  -- node, origin and number: this name and all of its origin below it
+  RetireTo : ℕ → List ℕ → List ℕ → Command
   -- node
   Listing : ℕ → Command
   -- node and text of a query
@@ -50,6 +52,7 @@ pub data Form : Type 0 where
   DeclareForm : ℕ → Form
   TakeForm : ℕ → List ℕ → List ℕ → ℕ → Form
   RetireForm : ℕ → List ℕ → List ℕ → Form
+  FloorForm : ℕ → List ℕ → List ℕ → Form
   ListForm : ℕ → Form
   AskForm : ℕ → ℕ → Form
   FeedForm : ℕ → ℕ → Form
@@ -72,6 +75,7 @@ abbrev pub line_of : Form → List ℕ
 line_of (DeclareForm len) = 84 ∷ 32 ∷ decimal len
 line_of (TakeForm node origin number len) = 83 ∷ 32 ∷ take_words node origin number len
 line_of (RetireForm node origin number) = 82 ∷ 32 ∷ retire_words node origin number
+line_of (FloorForm node origin number) = 85 ∷ 32 ∷ retire_words node origin number
 line_of (ListForm node) = 76 ∷ 32 ∷ decimal node
 line_of (AskForm node len) = 81 ∷ 32 ∷ pair_words node len
 line_of (FeedForm node len) = 70 ∷ 32 ∷ pair_words node len
@@ -98,6 +102,7 @@ abbrev pub IsForm : Form → Type 0
 IsForm (DeclareForm len) = IsLength len
 IsForm (TakeForm node origin number len) = IsNode node × IsWord origin × IsWord number × IsLength len
 IsForm (RetireForm node origin number) = IsNode node × IsWord origin × IsWord number
+IsForm (FloorForm node origin number) = IsNode node × IsWord origin × IsWord number
 IsForm (ListForm node) = IsNode node
 IsForm (AskForm node len) = IsNode node × IsLength len
 IsForm (FeedForm node len) = IsNode node × IsPieceLength len
@@ -108,6 +113,7 @@ abbrev pub form_of : Command → Form
 form_of (Declare bytes) = DeclareForm (length bytes)
 form_of (Take node origin number bytes) = TakeForm node origin number (length bytes)
 form_of (Retire node origin number) = RetireForm node origin number
+form_of (RetireTo node origin number) = FloorForm node origin number
 form_of (Listing node) = ListForm node
 form_of (Ask node text) = AskForm node (length text)
 form_of (Feed node piece) = FeedForm node (length piece)
@@ -119,6 +125,7 @@ abbrev pub behind : Command → List ℕ
 behind (Declare bytes) = bytes ++ 10 ∷ []
 behind (Take node origin number bytes) = bytes ++ 10 ∷ []
 behind (Retire node origin number) = []
+behind (RetireTo node origin number) = []
 behind (Listing node) = []
 behind (Ask node text) = text ++ 10 ∷ []
 behind (Feed node piece) = piece ++ 10 ∷ []
@@ -133,6 +140,7 @@ abbrev pub IsAllowed : Bool → Command → Type 0
 IsAllowed declared (Declare bytes) = declared ≡ false
 IsAllowed declared (Take node origin number bytes) = declared ≡ true
 IsAllowed declared (Retire node origin number) = declared ≡ true
+IsAllowed declared (RetireTo node origin number) = declared ≡ true
 IsAllowed declared (Listing node) = declared ≡ true
 IsAllowed declared (Ask node text) = declared ≡ true
 IsAllowed declared (Feed node piece) = declared ≡ true
@@ -155,6 +163,7 @@ abbrev pub IsShortDeclaration : Command → Type 0
 IsShortDeclaration (Declare bytes) = length bytes ≤ longest_text
 IsShortDeclaration (Take node origin number bytes) = ⊥
 IsShortDeclaration (Retire node origin number) = ⊥
+IsShortDeclaration (RetireTo node origin number) = ⊥
 IsShortDeclaration (Listing node) = ⊥
 IsShortDeclaration (Ask node text) = ⊥
 IsShortDeclaration (Feed node piece) = ⊥

@@ -2,7 +2,7 @@
 use Rattle.std.specs.Prelude.{◌≡◌, ℕ, List, Option, IfSome, IsSomeAnd}
 use Rattle.std.specs.Fmt.{decimal}
 use Rattle.wvalues.specs.NameReading.{ReadsName}
-use Rattle.wstore.specs.Commands.{Form, DeclareForm, TakeForm, RetireForm, ListForm, AskForm, FeedForm, PutForm, GetForm, IsForm, pair_words}
+use Rattle.wstore.specs.Commands.{Form, DeclareForm, TakeForm, RetireForm, FloorForm, ListForm, AskForm, FeedForm, PutForm, GetForm, IsForm, pair_words}
 use Rattle.wstore.specs.declared.header.Header.{Header}
 use Rattle.wstore.specs.declared.header.Header.TheVariants as headers
 
@@ -11,6 +11,7 @@ abbrev pub IsHeaderOf : Header → Form → Type 0
 IsHeaderOf (headers.Declare len) (DeclareForm m) = m ≡ len
 IsHeaderOf (headers.Take node name len) (TakeForm n origin number m) = (n ≡ node) × ReadsName origin number name × (m ≡ len)
 IsHeaderOf (headers.Retire node name) (RetireForm n origin number) = (n ≡ node) × ReadsName origin number name
+IsHeaderOf (headers.RetireTo node name) (FloorForm n origin number) = (n ≡ node) × ReadsName origin number name
 IsHeaderOf (headers.List node) (ListForm n) = n ≡ node
 IsHeaderOf (headers.Ask node len) (AskForm n m) = (n ≡ node) × (m ≡ len)
 IsHeaderOf (headers.Feed node len) (FeedForm n m) = (n ≡ node) × (m ≡ len)

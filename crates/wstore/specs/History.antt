@@ -1,7 +1,7 @@
 -- What nodes are told by a history of commands and replies, item by item, and the replies that it allows. A history has its newest step first.
 use Rattle.std.specs.Prelude.{◌≡◌, ◌≢◌, ℕ, ◌≤◌, Bool, false, true, List, [], ◌∷◌, ◌++◌, length, map, ◌==◌, ◌⊎◌, if◌then◌else◌, Option, None, Some, is_some, Result, Ok, Err, IsOk, ⊤, ◌||◌}
 use Rattle.std.specs.List.{flat_map, AllByRecursion}
-use Rattle.std.specs.FinMap.{get, entries}
+use Rattle.std.specs.FinMap.{entries}
 use Rattle.wvalues.specs.Names.{NameParts}
 use Rattle.wvalues.specs.NameReading.{ReadsName}
 use Rattle.wvalues.specs.Meaning.{Meaning}
@@ -11,17 +11,17 @@ use Rattle.wsegment.specs.Spelling.{ReadsDeclaration}
 use Rattle.wsegment.specs.Rows.{rows_of}
 use Rattle.wsegment.specs.declared.fault.SegmentFault.{SegmentFault}
 use Rattle.wsegment.specs.declared.schema_fault.SchemaFault.TheVariants as tables
-use Rattle.wset.specs.Views.{View, Live, Retired as Gone, join}
-use Rattle.wset.specs.Items.{Item, SegmentItem, RetirementItem, view_of}
-use Rattle.wset.specs.Words.{taken_word, retired_word}
+use Rattle.wset.specs.Views.{View, Live, Retired as Gone, join, known_in}
+use Rattle.wset.specs.Items.{Item, SegmentItem, RetirementItem, FloorItem, view_of}
+use Rattle.wset.specs.Words.{taken_word, retired_word, floor_word, is_reached}
 use Rattle.wset.specs.Listing.{listed}
 use Rattle.wexchange.specs.Files.{file_of}
 use Rattle.wexchange.specs.Judging.{Judges}
 use Rattle.wexchange.specs.Messages.{IsMessage, IsOpen, IsBad, Splits, message_text}
 use Rattle.wexchange.specs.declared.fault.FileFault.{FileFault}
 use Rattle.wexchange.specs.declared.fault.FileFault.TheVariants as files
-use Rattle.wstore.specs.Commands.{Command, Declare, Take, Retire, Listing, Ask, Feed, Put, Get, longest_segment, longest_text}
-use Rattle.wstore.specs.Replies.{Reply, Line, TookLine, WasLine, RefusedLine, SpentLine, line_item, line_items, Fed, Declared, RefusedTable, Took, Was, RefusedName, RefusedSegment, Names, Answered, RefusedQuery, Done, RefusedFile, NoMemory}
+use Rattle.wstore.specs.Commands.{Command, Declare, Take, Retire, RetireTo, Listing, Ask, Feed, Put, Get, longest_segment, longest_text}
+use Rattle.wstore.specs.Replies.{Reply, Line, TookLine, WasLine, FloorLine, RefusedLine, SpentLine, line_item, line_items, Fed, Declared, RefusedTable, Took, Was, RefusedName, RefusedSegment, Names, Answered, RefusedQuery, Done, RefusedFile, NoMemory}
 use Rattle.wask.specs.Answer.{IsAnswer}
 use Rattle.wplanner.specs.declared.fault.AskFault.{AskFault}
 
@@ -35,6 +35,7 @@ pub record Step : Type 0 where
 abbrev pub delivers : Command → Reply → ℕ → List Item
 delivers (Take m origin number bytes) (Took name word) n = if m == n then SegmentItem name bytes ∷ [] else []
 delivers (Retire m origin number) (Was name word) n = if m == n then RetirementItem name ∷ [] else []
+delivers (RetireTo m origin number) (Was name word) n = if m == n then FloorItem name ∷ [] else []
 delivers (Feed m piece) (Fed lines bad) n = if m == n then flat_map line_items lines else []
 delivers c r n = []
 
@@ -147,7 +148,7 @@ DeclareAnswers bytes r = ⊥
 
 -- a segment that was read is taken, else its fault is told
 abbrev pub segment_reply : Result (List (List Meaning)) SegmentFault → View → NameParts → List ℕ → Reply
-segment_reply (Ok rows) v name bytes = Took name (taken_word (get v name) bytes)
+segment_reply (Ok rows) v name bytes = Took name (taken_word (known_in v name) bytes)
 segment_reply (Err fault) v name bytes = RefusedSegment fault
 
 -- a bad name is told first
@@ -156,8 +157,12 @@ take_reply (Ok name) d v bytes = segment_reply (rows_of d bytes) v name bytes
 take_reply (Err fault) d v bytes = RefusedName fault
 
 abbrev pub retire_reply : Result NameParts NameFault → View → Reply
-retire_reply (Ok name) v = Was name (retired_word (get v name))
+retire_reply (Ok name) v = Was name (retired_word (known_in v name))
 retire_reply (Err fault) v = RefusedName fault
+
+abbrev pub floor_reply : Result NameParts NameFault → View → Reply
+floor_reply (Ok name) v = Was name (floor_word v name)
+floor_reply (Err fault) v = RefusedName fault
 
 abbrev pub query_reply : Result (List ℕ) AskFault → Reply
 query_reply (Ok bytes) = Answered bytes
@@ -167,6 +172,7 @@ query_reply (Err fault) = RefusedQuery fault
 abbrev pub NodeAnswers : Declaration → View → Command → Reply → Type 0
 NodeAnswers d v (Take n origin number bytes) r = (name : Result NameParts NameFault) × ReadsName origin number name × (r ≡ take_reply name d v bytes)
 NodeAnswers d v (Retire n origin number) r = (name : Result NameParts NameFault) × ReadsName origin number name × (r ≡ retire_reply name v)
+NodeAnswers d v (RetireTo n origin number) r = (name : Result NameParts NameFault) × ReadsName origin number name × (r ≡ floor_reply name v)
 NodeAnswers d v (Listing n) r = r ≡ Names (map (listed d) (entries v))
 NodeAnswers d v (Ask n text) r = (answer : Result (List ℕ) AskFault) × IsAnswer d v text answer × (r ≡ query_reply answer)
 NodeAnswers d v c r = ⊥
@@ -183,15 +189,17 @@ pub record FileAnswers (d : Declaration) (bytes : List ℕ) (r : Reply) : Type 0
   pub is_judged : judged ≢ Err files.NoMemory
   pub reply_is : r ≡ file_reply judged
 
--- taking an item may need memory, unless its name is live with these bytes, or is to be retired and is
+-- taking an item may need memory, unless its name is live with these bytes, or is to be retired and is, or a floor is not to rise
 abbrev pub MayNeedMemory : View → Item → Type 0
-MayNeedMemory v (SegmentItem name bytes) = get v name ≢ Some (Live bytes)
-MayNeedMemory v (RetirementItem name) = get v name ≢ Some Gone
+MayNeedMemory v (SegmentItem name bytes) = known_in v name ≢ Some (Live bytes)
+MayNeedMemory v (RetirementItem name) = known_in v name ≢ Some Gone
+MayNeedMemory v (FloorItem name) = is_reached v name ≢ true
 
 -- a message is told what the command would be told that speaks of its item, or, where that may need memory, that it found none
 abbrev pub LineAnswers : Declaration → View → Line → Type 0
-LineAnswers d v (TookLine name bytes word) = IsOk (rows_of d bytes) × (word ≡ taken_word (get v name) bytes)
-LineAnswers d v (WasLine name word) = word ≡ retired_word (get v name)
+LineAnswers d v (TookLine name bytes word) = IsOk (rows_of d bytes) × (word ≡ taken_word (known_in v name) bytes)
+LineAnswers d v (WasLine name word) = word ≡ retired_word (known_in v name)
+LineAnswers d v (FloorLine name word) = word ≡ floor_word v name
 LineAnswers d v (RefusedLine name bytes fault) = rows_of d bytes ≡ Err fault
 LineAnswers d v (SpentLine item) = MayNeedMemory v item
 
@@ -232,6 +240,7 @@ AnswersUnder None h c r = ⊥
 AnswersUnder (Some d) h (Declare bytes) r = ⊥
 AnswersUnder (Some d) h (Take n origin number bytes) r = NodeAnswers d (view_of (known h n)) (Take n origin number bytes) r
 AnswersUnder (Some d) h (Retire n origin number) r = NodeAnswers d (view_of (known h n)) (Retire n origin number) r
+AnswersUnder (Some d) h (RetireTo n origin number) r = NodeAnswers d (view_of (known h n)) (RetireTo n origin number) r
 AnswersUnder (Some d) h (Listing n) r = NodeAnswers d (view_of (known h n)) (Listing n) r
 AnswersUnder (Some d) h (Ask n text) r = NodeAnswers d (view_of (known h n)) (Ask n text) r
 AnswersUnder (Some d) h (Feed n piece) r = PieceAnswers (is_bad h n) d h n piece r
@@ -247,6 +256,7 @@ abbrev pub MayLackMemory : List Step → Command → Type 0
 MayLackMemory h (Declare bytes) = ⊥
 MayLackMemory h (Take n origin number bytes) = AreName origin number × (length bytes ≤ longest_segment)
 MayLackMemory h (Retire n origin number) = AreName origin number
+MayLackMemory h (RetireTo n origin number) = AreName origin number
 MayLackMemory h (Listing n) = ⊤
 MayLackMemory h (Ask n text) = length text ≤ longest_text
 MayLackMemory h (Feed n piece) = ⊤

@@ -2,14 +2,13 @@
 use Rattle.std.specs.Prelude.{◌≡◌, ℕ, Bool, List, [], ◌∷◌, ◌++◌, map, Option, None, Some, Result, Ok, Err, IsOk, ◌⊎◌, true, false, refl}
 use Rattle.std.specs.Coded.{Coded, code_by, coded×, coded_bool, coded_ℕ, coded_list}
 use Rattle.std.specs.List.{flat_map, AllByRecursion}
-use Rattle.std.specs.FinMap.{get}
 use Rattle.wsegment.specs.Declaration.{Declaration}
 use Rattle.wsegment.specs.Rows.{rows_of}
-use Rattle.wset.specs.Views.{View, join}
-use Rattle.wset.specs.Items.{Item, SegmentItem, RetirementItem, view_of, view_of_item}
+use Rattle.wset.specs.Views.{View, IsSettled, join, known_in}
+use Rattle.wset.specs.Items.{Item, SegmentItem, RetirementItem, FloorItem, view_of, view_of_item}
 use Rattle.wset.specs.Sets.{DeclaredView}
 use Rattle.wset.specs.Codes.{coded_declared_view}
-use Rattle.wset.specs.Words.{taken_word, retired_word}
+use Rattle.wset.specs.Words.{taken_word, retired_word, floor_word}
 use Rattle.wexchange.specs.Judging.{IsFileOf}
 use Rattle.wexchange.specs.Messages.{IsMessage, IsOpen, IsBad, message_text}
 use Rattle.wexchange.specs.declared.message.BadStream.{BadStream}
@@ -42,9 +41,10 @@ pub record LearnsFile (old : NodeState) (bytes : List ℕ) (new : NodeState) : T
 
 -- a message was told this, as its command would be, and the view is this then; what needs no memory is neither refused nor finds none
 abbrev pub IsTold : Declaration → View → Item → Reply → View → Type 0
-IsTold d v (SegmentItem n bytes) (replies.Taken word) w = IsOk (rows_of d bytes) × (word ≡ taken_word (get v n) bytes) × (w ≡ join v (view_of_item (SegmentItem n bytes)))
+IsTold d v (SegmentItem n bytes) (replies.Taken word) w = IsOk (rows_of d bytes) × (word ≡ taken_word (known_in v n) bytes) × (w ≡ join v (view_of_item (SegmentItem n bytes)))
 IsTold d v (SegmentItem n bytes) (replies.Refused fault) w = (rows_of d bytes ≡ Err fault) × (w ≡ v) × MayNeedMemory v (SegmentItem n bytes)
-IsTold d v (RetirementItem n) (replies.Retired word) w = (word ≡ retired_word (get v n)) × (w ≡ join v (view_of_item (RetirementItem n)))
+IsTold d v (RetirementItem n) (replies.Retired word) w = (word ≡ retired_word (known_in v n)) × (w ≡ join v (view_of_item (RetirementItem n)))
+IsTold d v (FloorItem n) (replies.Retired word) w = (word ≡ floor_word v n) × (w ≡ join v (view_of_item (FloorItem n)))
 IsTold d v i replies.NoMemory w = (w ≡ v) × MayNeedMemory v i
 IsTold d v i r w = ⊥
 
@@ -62,11 +62,11 @@ abbrev pub told_view : View → List Line → View
 told_view v [] = v
 told_view v (l ∷ ls) = told_view (join v (view_of (line_items l))) ls
 
--- messages were handled one after the other
+-- messages were handled one after the other; the view of a node is settled, as each of items is
 pub record Tells (old : NodeState) (lines : List Line) (new : NodeState) : Type 0 where
   pub schema_is : new.schema ≡ old.schema
-  pub view_is : new.view ≡ told_view old.view lines
-  pub answers : LinesAnswer old.schema old.view lines
+  pub view_is : IsSettled old.view → new.view ≡ told_view old.view lines
+  pub answers : IsSettled old.view → LinesAnswer old.schema old.view lines
   pub each : AllByRecursion IsMessage (map line_item lines)
   pub held_is : old.held ≡ flat_map message_text (map line_item lines) ++ new.held
   pub good : new.is_bad ≡ old.is_bad

@@ -7,7 +7,7 @@ use Rattle.wvalues.specs.declared.name.NameFault.{NameFault}
 use Rattle.wsegment.specs.Declaration.{Declaration}
 use Rattle.wsegment.specs.declared.fault.SegmentFault.{SegmentFault}
 use Rattle.wsegment.specs.declared.schema_fault.SchemaFault.{SchemaFault}
-use Rattle.wset.specs.Items.{Item, SegmentItem, RetirementItem}
+use Rattle.wset.specs.Items.{Item, SegmentItem, RetirementItem, FloorItem}
 use Rattle.wset.specs.declared.words.Taken.{Taken}
 use Rattle.wset.specs.declared.words.Retired.{Retired}
 use Rattle.wset.specs.declared.words.Listed.{Listed}
@@ -19,6 +19,7 @@ use Rattle.wreplies.specs.Spelling.{answer_text, file_text, name_text, names_tex
 pub data Line : Type 0 where
   TookLine : NameParts → List ℕ → Taken → Line
   WasLine : NameParts → Retired → Line
+  FloorLine : NameParts → Retired → Line
   RefusedLine : NameParts → List ℕ → SegmentFault → Line
   -- it found no memory, and is spent
   SpentLine : Item → Line
@@ -26,6 +27,7 @@ pub data Line : Type 0 where
 abbrev pub line_item : Line → Item
 line_item (TookLine name bytes word) = SegmentItem name bytes
 line_item (WasLine name word) = RetirementItem name
+line_item (FloorLine name word) = FloorItem name
 line_item (RefusedLine name bytes fault) = SegmentItem name bytes
 line_item (SpentLine item) = item
 
@@ -33,6 +35,7 @@ line_item (SpentLine item) = item
 abbrev pub line_items : Line → List Item
 line_items (TookLine name bytes word) = SegmentItem name bytes ∷ []
 line_items (WasLine name word) = RetirementItem name ∷ []
+line_items (FloorLine name word) = FloorItem name ∷ []
 line_items (RefusedLine name bytes fault) = []
 line_items (SpentLine item) = []
 
@@ -60,6 +63,7 @@ bad_script = codes "bad script\n"
 abbrev pub line_text : Line → List ℕ
 line_text (TookLine name bytes word) = taken_text word
 line_text (WasLine name word) = retired_text word
+line_text (FloorLine name word) = retired_text word
 line_text (RefusedLine name bytes fault) = segment_text fault
 line_text (SpentLine item) = no_memory
 

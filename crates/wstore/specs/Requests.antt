@@ -8,7 +8,7 @@ use Rattle.wsegment.specs.declared.schema_fault.SchemaFault.TheVariants as table
 use Rattle.wsegment.specs.declared.fault.SegmentFault.TheVariants as segments
 use Rattle.wplanner.specs.declared.fault.AskFault.TheVariants as queries
 use Rattle.wreplies.specs.Spelling.{name_text, query_text, segment_text, table_text}
-use Rattle.wstore.specs.Commands.{Form, Command, Declare, Take, Retire, Listing, Ask, Feed, Put, Get, IsAllowed, IsCommand, IsShortDeclaration, IsMalformed, form_of, behind, longest_segment, longest_text, spell}
+use Rattle.wstore.specs.Commands.{Form, Command, Declare, Take, Retire, RetireTo, Listing, Ask, Feed, Put, Get, IsAllowed, IsCommand, IsShortDeclaration, IsMalformed, form_of, behind, longest_segment, longest_text, spell}
 use Rattle.wstore.specs.Headers.{IsHeaderOf}
 use Rattle.wstore.specs.History.{AreName}
 use Rattle.wstore.specs.declared.header.Header.{Header}
@@ -29,6 +29,7 @@ abbrev pub IsRefusedAs : Refusal → Command → Type 0
 IsRefusedAs refusals.LongDeclaration (Declare bytes) = longest_text < length bytes
 IsRefusedAs (refusals.BadName fault) (Take node origin number bytes) = ReadsName origin number (Err fault)
 IsRefusedAs (refusals.BadName fault) (Retire node origin number) = ReadsName origin number (Err fault)
+IsRefusedAs (refusals.BadName fault) (RetireTo node origin number) = ReadsName origin number (Err fault)
 IsRefusedAs refusals.LongSegment (Take node origin number bytes) = (name : NameParts) × ReadsName origin number (Ok name) × (longest_segment < length bytes)
 IsRefusedAs refusals.LongQuery (Ask node text) = longest_text < length text
 IsRefusedAs _ _ = ⊥
@@ -44,6 +45,7 @@ refusal_text refusals.LongQuery = query_text queries.TooLong
 abbrev pub IsOrderAt : ℕ → Order → Command → Type 0
 IsOrderAt n (orders.Take name kept) (Take node origin number bytes) = (node ≡ n) × ReadsName origin number (Ok name) × (bytes ≡ kept.items) × (length bytes ≤ longest_segment)
 IsOrderAt n (orders.Retire name) (Retire node origin number) = (node ≡ n) × ReadsName origin number (Ok name)
+IsOrderAt n (orders.RetireTo name) (RetireTo node origin number) = (node ≡ n) × ReadsName origin number (Ok name)
 IsOrderAt n orders.List (Listing node) = node ≡ n
 IsOrderAt n (orders.Ask kept) (Ask node text) = (node ≡ n) × (text ≡ kept.items) × (length text ≤ longest_text)
 IsOrderAt n (orders.Put k) (Put node slot) = (node ≡ n) × (slot ≡ k)
@@ -114,6 +116,7 @@ abbrev pub KeepsBody : Command → Type 0
 KeepsBody (Declare bytes) = ⊥
 KeepsBody (Take node origin number bytes) = AreName origin number × (length bytes ≤ longest_segment)
 KeepsBody (Retire node origin number) = ⊥
+KeepsBody (RetireTo node origin number) = ⊥
 KeepsBody (Listing node) = ⊥
 KeepsBody (Ask node text) = length text ≤ longest_text
 KeepsBody (Feed node piece) = ⊤

@@ -5,7 +5,7 @@ ghost use Rattle.wlines.specs.Sent.{sent};
 ghost use Rattle.std.specs.FinMap as map;
 ghost use Rattle.wsegment.specs.Declaration.{Declaration};
 ghost use Rattle.wvalues.specs.NameReading.{ReadsName};
-ghost use Rattle.wstore.specs.Commands.{Command as Spelled, Take, Retire as Retiring, Listing, Ask, Put, Get, longest_segment, longest_text, node_count, slot_count};
+ghost use Rattle.wstore.specs.Commands.{Command as Spelled, Take, Retire as Retiring, RetireTo as RetiringTo, Listing, Ask, Put, Get, longest_segment, longest_text, node_count, slot_count};
 ghost use Rattle.wstore.specs.History.{Step, is_put};
 ghost use Rattle.wstore.specs.Nodes.{fresh_node};
 ghost use Rattle.wstore.specs.Replies.{get_text, take_text};
@@ -155,6 +155,16 @@ impl Cluster {
         Ok(Text::Fixed(retired(word)))
     }
 
+    /// Retires all names up to one at a node.
+    pub(crate) fn retire_to(&mut self, node: NodeNumber, name: Name) -> Result<Text, AllocError>
+        ensures answers { IfOk result (λ text. (d : Declaration) (h : List Step) (origin number : List ℕ) → ReadsName origin number (Ok name) → StandAt d self.old h → AnswersAs d self.new h (RetiringTo node origin number) (bytes_of text)) }
+        ensures err { OnErr result (self.new ≡ self.old) }
+    {
+        let place = node.place();
+        let word = self.nodes[place].retire_to(name)?;
+        Ok(Text::Fixed(retired(word)))
+    }
+
     /// Lists the names that a node knows.
     pub(crate) fn list(&self, node: NodeNumber) -> Result<Text, AllocError>
         ensures { IfOk result (λ text. (d : Declaration) (h : List Step) → StandAt d self.now h → AnswersAs d self.now h (Listing node) (bytes_of text)) }
@@ -235,6 +245,7 @@ impl Cluster {
         match order {
             Order::Take(name, bytes) => self.take(node, *name, bytes),
             Order::Retire(name) => self.retire(node, *name),
+            Order::RetireTo(name) => self.retire_to(node, *name),
             Order::List => self.list(node),
             Order::Ask(text) => self.ask(node, text),
             Order::Put(slot) => self.put(node, *slot),

@@ -1,7 +1,7 @@
 //! Header lines of commands.
 ghost use Rattle.std.specs.Prelude.{◌≡◌, ℕ, ◌^◌, ◌<◌, List, ◌∷◌, ◌++◌, IfSome, IsSomeAnd, decimal, Some};
 ghost use Rattle.wlines.specs.Words.{IsWord};
-ghost use Rattle.wstore.specs.Commands.{AskForm, DeclareForm, FeedForm, Form, GetForm, IsForm, ListForm, PutForm, RetireForm, TakeForm, line_of, pair_words, retire_words, take_words};
+ghost use Rattle.wstore.specs.Commands.{AskForm, DeclareForm, FeedForm, FloorForm, Form, GetForm, IsForm, ListForm, PutForm, RetireForm, TakeForm, line_of, pair_words, retire_words, take_words};
 ghost use Rattle.wstore.specs.Headers.{IsHeaderOf, IsNumberRead, IsPairRead};
 ghost use Rattle.wstore.specs.Requests.{body_length as length_of_body, follows_declaration as is_behind_declaration, keeps_body as is_body_kept};
 
@@ -16,6 +16,7 @@ pub(crate) enum Header {
     Declare(u32),
     Take(NodeNumber, Result<Name, NameFault>, u32),
     Retire(NodeNumber, Result<Name, NameFault>),
+    RetireTo(NodeNumber, Result<Name, NameFault>),
     List(NodeNumber),
     Ask(NodeNumber, u32),
     Feed(NodeNumber, u32),
@@ -165,6 +166,26 @@ fn retire_header(words: &[u8]) -> Option<Header>
     Some(Header::Retire(node, Name::read(origin, number)))
 }
 
+// The words behind `U`.
+fn floor_header(words: &[u8]) -> Option<Header>
+    ensures found { IfSome result (λ h. (node : ℕ) × (origin : List ℕ) × (number : List ℕ) × IsForm (FloorForm node origin number) × IsHeaderOf h (FloorForm node origin number) × (words.now ≡ retire_words node origin number)) }
+    ensures only { (node : ℕ) (origin number : List ℕ) → IsForm (FloorForm node origin number) → words.now ≡ retire_words node origin number → IsSomeAnd result (λ h. IsHeaderOf h (FloorForm node origin number)) }
+{
+    let Some((first, rest)) = split_number(words) else {
+        return None;
+    };
+    let Some(node) = NodeNumber::new(first) else {
+        return None;
+    };
+    let Some((origin, number)) = split_any(rest) else {
+        return None;
+    };
+    if !is_word(number) {
+        return None;
+    }
+    Some(Header::RetireTo(node, Name::read(origin, number)))
+}
+
 // The words behind `L`.
 fn list_header(words: &[u8]) -> Option<Header>
     ensures { IsNumberRead ListForm words.now result }
@@ -248,6 +269,7 @@ pub(crate) fn read_header(line: &[u8]) -> Option<Header>
         [b'T', b' ', words @ ..] => declare_header(words),
         [b'S', b' ', words @ ..] => take_header(words),
         [b'R', b' ', words @ ..] => retire_header(words),
+        [b'U', b' ', words @ ..] => floor_header(words),
         [b'L', b' ', words @ ..] => list_header(words),
         [b'Q', b' ', words @ ..] => ask_header(words),
         [b'F', b' ', words @ ..] => feed_header(words),

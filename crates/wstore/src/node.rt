@@ -3,9 +3,9 @@ ghost use Rattle.std.specs.Prelude.{◌≡◌, ◌⊎◌, ◌<◌, ◌++◌, len
 ghost use Rattle.std.specs.FinMap as map;
 ghost use Rattle.wsegment.specs.Outcome.{Fails};
 ghost use Rattle.wsegment.specs.Rows.{rows_of};
-ghost use Rattle.wset.specs.Views.{join};
-ghost use Rattle.wset.specs.Items.{SegmentItem, RetirementItem, view_of_item};
-ghost use Rattle.wset.specs.Words.{retired_word, taken_word};
+ghost use Rattle.wset.specs.Views.{join, known_in};
+ghost use Rattle.wset.specs.Items.{SegmentItem, RetirementItem, FloorItem, view_of_item};
+ghost use Rattle.wset.specs.Words.{floor_word, retired_word, taken_word};
 ghost use Rattle.wset.specs.Listing.{listed};
 ghost use Rattle.wexchange.specs.Files.{file_of};
 ghost use Rattle.wexchange.specs.Judging.{IsFault};
@@ -26,7 +26,7 @@ use wvalues::{Counted, Name};
 pub enum Reply {
     /// A segment was taken.
     Taken(Taken),
-    /// A name was retired.
+    /// A name was retired, or all names of its origin up to it.
     Retired(Retired),
     /// The bytes are no segment.
     Refused(SegmentFault),
@@ -79,6 +79,18 @@ fn retire_message(set: &mut SegmentSet, name: Name) -> Reply
     }
 }
 
+// Retires all names up to that of a message.
+#[tactic(auto, using(crate::proofs::Lacking::err_needs, crate::proofs::Lacking::on_err_needs))]
+fn floor_message(set: &mut SegmentSet, name: Name) -> Reply
+    ensures told { IsTold set.old.schema set.old.view (FloorItem name) result set.new.view }
+    ensures schema { set.new.schema ≡ set.old.schema }
+{
+    match set.retire_to(name) {
+        Ok(word) => Reply::Retired(word),
+        Err(_) => Reply::NoMemory,
+    }
+}
+
 impl Node {
     /// A node that knows nothing. It takes no memory.
     pub fn new(alloc: Global, schema: Schema) -> Node
@@ -94,7 +106,7 @@ impl Node {
     /// Takes a segment, as `SegmentSet::take` does. One that is live with these bytes needs no memory.
     #[tactic(auto, using(crate::proofs::Lacking::err_needs, crate::proofs::Lacking::on_err_needs))]
     pub fn take(&mut self, name: Name, bytes: &[u8]) -> Result<Taken, TakeError>
-        ensures word { IfOk result (λ word. word ≡ taken_word (map.get self.old.view name) bytes.now) }
+        ensures word { IfOk result (λ word. word ≡ taken_word (known_in self.old.view name) bytes.now) }
         ensures ok { OnOk result (self.new ≡ record self.old { view = join self.old.view (view_of_item (SegmentItem name bytes.now)) }) }
         ensures read { OnOk result (IsOk (rows_of self.old.schema bytes.now)) }
         ensures refused { IfErr result (λ fault. Fails fault (rows_of self.old.schema bytes.now)) }
@@ -107,12 +119,24 @@ impl Node {
     /// Retires a name, as `SegmentSet::retire` does. One that is retired needs no memory.
     #[tactic(auto, using(crate::proofs::Lacking::err_needs, crate::proofs::Lacking::on_err_needs))]
     pub fn retire(&mut self, name: Name) -> Result<Retired, AllocError>
-        ensures word { IfOk result (λ word. word ≡ retired_word (map.get self.old.view name)) }
+        ensures word { IfOk result (λ word. word ≡ retired_word (known_in self.old.view name)) }
         ensures ok { OnOk result (self.new ≡ record self.old { view = join self.old.view (view_of_item (RetirementItem name)) }) }
         ensures err { OnErr result (self.new ≡ self.old) }
         ensures lacks { OnErr result (MayNeedMemory self.old.view (RetirementItem name)) }
     {
         self.set.retire(name)
+    }
+
+    /// Retires all names of an origin up to this one, as `SegmentSet::retire_to` does. A floor that does not rise needs
+    /// no memory.
+    #[tactic(auto, using(crate::proofs::Lacking::err_needs, crate::proofs::Lacking::on_err_needs))]
+    pub fn retire_to(&mut self, name: Name) -> Result<Retired, AllocError>
+        ensures word { IfOk result (λ word. word ≡ floor_word self.old.view name) }
+        ensures ok { OnOk result (self.new ≡ record self.old { view = join self.old.view (view_of_item (FloorItem name)) }) }
+        ensures err { OnErr result (self.new ≡ self.old) }
+        ensures lacks { OnErr result (MayNeedMemory self.old.view (FloorItem name)) }
+    {
+        self.set.retire_to(name)
     }
 
     /// The exchange file of what the node knows.
@@ -162,8 +186,8 @@ impl Node {
         self.inbox.pending()
     }
 
-    /// Handles the next message of the stream, if it is whole: takes the segment, or retires the name. Where no message
-    /// can stand there the stream is bad, and stays so.
+    /// Handles the next message of the stream, if it is whole: takes the segment, or retires the name, or all names
+    /// up to it. Where no message can stand there the stream is bad, and stays so.
     pub fn next_reply(&mut self) -> Result<Option<Reply>, BadStream>
         ensures { NextReply self.old result self.new }
     {
@@ -174,6 +198,7 @@ impl Node {
                 Ok(Some(take_message(&mut self.set, *name, bytes)))
             }
             Ok(Some(Message::Retire(name))) => Ok(Some(retire_message(&mut self.set, *name))),
+            Ok(Some(Message::RetireTo(name))) => Ok(Some(floor_message(&mut self.set, *name))),
         }
     }
 

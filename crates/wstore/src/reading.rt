@@ -134,6 +134,17 @@ fn retire_request(node: NodeNumber, name: Result<Name, NameFault>) -> Request
     }
 }
 
+// The retirement of all names up to one, or why its words spell none.
+#[tactic(auto, using(crate::proofs::Bodies::floor_found, crate::proofs::Bodies::nameless_floor))]
+fn floor_request(node: NodeNumber, name: Result<Name, NameFault>) -> Request
+    ensures { (old new : Option (List ℕ)) → Consumes old new [] → BehindReads result (Header.RetireTo node name) true old new }
+{
+    match name {
+        Ok(name) => Request::Whole(Command::At(node, Order::RetireTo(name))),
+        Err(fault) => Request::Whole(Command::Refused(Refusal::BadName(fault))),
+    }
+}
+
 // The command of a header line and of what was found behind it.
 #[tactic(auto, using(crate::proofs::Bodies::listing_found, crate::proofs::Bodies::put_found, crate::proofs::Bodies::get_found, crate::proofs::Bodies::bare))]
 fn request_of(header: Header, found: Found) -> Request
@@ -143,6 +154,7 @@ fn request_of(header: Header, found: Found) -> Request
         Header::Declare(_) => declaration_request(found),
         Header::Take(node, name, _) => take_request(node, name, found),
         Header::Retire(node, name) => retire_request(node, name),
+        Header::RetireTo(node, name) => floor_request(node, name),
         Header::List(node) => Request::Whole(Command::At(node, Order::List)),
         Header::Ask(node, _) => query_request(node, found),
         Header::Feed(node, _) => piece_request(node, found),

@@ -20,6 +20,7 @@ pub(crate) enum Refusal {
 pub(crate) enum Order {
     Take(Name, Vec<u8>),
     Retire(Name),
+    RetireTo(Name),
     List,
     Ask(Vec<u8>),
     Put(SlotNumber),

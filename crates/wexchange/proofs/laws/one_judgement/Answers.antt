@@ -1,4 +1,5 @@
 use Rattle.wexchange.proofs.OneJudgement.{one_judgement, own_judgement}
+use Rattle.wexchange.proofs.Texts.{texts_alone}
 use Rattle.wexchange.proofs.laws.one_judgement.Goals as goal
 
 pub returns-clause-one : goal.returns-clause-one
@@ -8,4 +9,4 @@ pub returns-clause-own : goal.returns-clause-own
 returns-clause-own c = own_judgement
 
 pub returns-clause-alone : goal.returns-clause-alone
-returns-clause-alone c = λ d v bytes j. j.bytes_are
+returns-clause-alone c = texts_alone

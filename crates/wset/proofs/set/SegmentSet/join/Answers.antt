@@ -1,9 +1,8 @@
 use Rattle.std.proofs.Common.{◌≡◌, ◌∙◌, sym, ap, subst, length, arith}
 use Rattle.wset.specs.Views.{join}
 use Rattle.wset.specs.Entries.{AllHeldBy, known_entries}
-use Rattle.wset.specs.Blocks.{flat, half, longest}
-use Rattle.wset.proofs.Cutting.{filled_less}
-use Rattle.wset.proofs.Maps.{known_again, rising_join, stored_view, view_again, view_join}
+use Rattle.wset.specs.Blocks.{flat}
+use Rattle.wset.proofs.Maps.{known_again, rising_join, settled_join, stored_view, view_again, view_join}
 use Rattle.wset.proofs.Sets.{changed, same_view}
 use Rattle.wset.proofs.set.SegmentSet.join.Goals as goal
 
@@ -13,11 +12,11 @@ invariant_of-self c =
     let same : c.other.inside.schema ≡ c.self.inside.schema = ap (λ s. s.schema) c.other.view_is ∙ sym (c.is_alike.ensures.0 c.if-not-is_alike.false) ∙ sym (ap (λ s. s.schema) c.self.view_is) in
     record {
       rising = rising_join (flat c.self.inside.blocks.items) (flat c.other.inside.blocks.items) (flat c.in-Ok-in_blocks.blocks.items) c.self.invariant.rising c.other.invariant.rising known;
+      settled = settled_join (flat c.self.inside.blocks.items) (flat c.other.inside.blocks.items) (flat c.in-Ok-in_blocks.blocks.items) c.self.invariant.rising c.other.invariant.rising known;
       counted = omega (arith, ap length (c.in-Ok-in_blocks.ensures.same ∙ c.deref-5.ensures.value), c.in-Ok.entries.ok.0);
       few = omega (arith, c.in-Ok.entries.ok.0);
       read = subst (AllHeldBy c.self.inside.schema) (sym (c.in-Ok-in_blocks.ensures.same ∙ c.deref-5.ensures.value))
           (c.in-Ok.ensures.read c.self.inside.schema (rw c.deref-3.ensures.value c.self.invariant.read) (rw c.deref-4.ensures.value (subst (λ d. AllHeldBy d (flat c.other.inside.blocks.items)) same c.other.invariant.read)));
-      filled = filled_less half longest c.in-Ok-in_blocks.blocks.items (omega arith) c.in-Ok-in_blocks.ensures.filled;
     }
 
 pub returns-clause-ok : goal.returns-clause-ok
@@ -34,16 +33,16 @@ returns-then-not-teaches-clause-ok c =
     let ours = ap (λ s. s.view) c.self.view_is in
     let theirs = ap (λ s. s.view) c.other.view_is in
     same_view c.args.self.now _ _ (sym ours
-    ∙ view_again (flat c.self.inside.blocks.items) (flat c.other.inside.blocks.items) c.self.invariant.rising c.other.invariant.rising known
+    ∙ view_again (flat c.self.inside.blocks.items) (flat c.other.inside.blocks.items) c.self.invariant.rising c.self.invariant.settled c.other.invariant.rising known
     ∙ ap (λ v. join v (stored_view (flat c.other.inside.blocks.items))) ours
     ∙ ap (join c.args.self.now.view) theirs)
 
 pub returns-in_default-clause-known : goal.returns-in_default-clause-known
 returns-in_default-clause-known c = λ alike same.
     let teaches = rw (c.deref.ensures.value, c.deref-2.ensures.value) at c.teaches.ensures.new in
-    sym (teaches (known_again _ _ _ _ c.self.invariant.rising c.other.invariant.rising (ap (λ s. s.view) c.self.view_is) (ap (λ s. s.view) c.other.view_is) same)) ∙ c.if-not-teaches.false
+    sym (teaches (known_again _ _ _ _ c.self.invariant.rising c.other.invariant.rising c.other.invariant.settled (ap (λ s. s.view) c.self.view_is) (ap (λ s. s.view) c.other.view_is) same)) ∙ c.if-not-teaches.false
 
 pub returns-in_default-in_blocks-clause-known : goal.returns-in_default-in_blocks-clause-known
 returns-in_default-in_blocks-clause-known c = λ alike same.
     let teaches = rw (c.deref.ensures.value, c.deref-2.ensures.value) at c.teaches.ensures.new in
-    sym (teaches (known_again _ _ _ _ c.self.invariant.rising c.other.invariant.rising (ap (λ s. s.view) c.self.view_is) (ap (λ s. s.view) c.other.view_is) same)) ∙ c.if-not-teaches.false
+    sym (teaches (known_again _ _ _ _ c.self.invariant.rising c.other.invariant.rising c.other.invariant.settled (ap (λ s. s.view) c.self.view_is) (ap (λ s. s.view) c.other.view_is) same)) ∙ c.if-not-teaches.false
