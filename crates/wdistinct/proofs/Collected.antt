@@ -28,9 +28,9 @@ pub appended : (old mid new xs ys : List Tree) → mid ≡ old ++ xs → new ≡
 appended old mid new xs ys first second = second ∙ ap (λ (m : List Tree). m ++ ys) first ∙ append_assoc old xs ys
 
 -- a call that is looked for, and one that is not
-pub call_found : (kind : CallKind) (c : Call) (b : Bool) → b ≡ is_kind kind (rc_str_bytes c.name) (reach_of (view_optional_over c.over)) → b ≡ true → nodes_in (is_call_of kind) (view_call c) ≡ view_call c ∷ []
+pub call_found : (kind : CallKind) (c : Call) (b : Bool) → b ≡ is_kind kind (rc_str_bytes c.name) (view_arguments c.arguments) (reach_of (view_optional_over c.over)) → b ≡ true → nodes_in (is_call_of kind) (view_call c) ≡ view_call c ∷ []
 call_found kind c b e t = ap (λ (v : Bool). node_or v (view_call c) (nodes_below (is_call_of kind) (view_call c))) (ap (is_call_of kind) (view_call_is c) ∙ sym e ∙ t)
 
-pub call_passed : (kind : CallKind) (c : Call) (b : Bool) → b ≡ is_kind kind (rc_str_bytes c.name) (reach_of (view_optional_over c.over)) → b ≡ false → nodes_in (is_call_of kind) (view_call c) ≡ nodes_given (is_call_of kind) (view_arguments c.arguments) ++ (nodes_in_filter (is_call_of kind) (filter_of (view_optional c.filter)) ++ nodes_in_reach (is_call_of kind) (reach_of (view_optional_over c.over)))
+pub call_passed : (kind : CallKind) (c : Call) (b : Bool) → b ≡ is_kind kind (rc_str_bytes c.name) (view_arguments c.arguments) (reach_of (view_optional_over c.over)) → b ≡ false → nodes_in (is_call_of kind) (view_call c) ≡ nodes_given (is_call_of kind) (view_arguments c.arguments) ++ (nodes_in_filter (is_call_of kind) (filter_of (view_optional c.filter)) ++ nodes_in_reach (is_call_of kind) (reach_of (view_optional_over c.over)))
 call_passed kind c b e f =
     ap (λ (v : Bool). node_or v (view_call c) (nodes_below (is_call_of kind) (view_call c))) (ap (is_call_of kind) (view_call_is c) ∙ sym e ∙ f) ∙ ap (nodes_below (is_call_of kind)) (view_call_is c)

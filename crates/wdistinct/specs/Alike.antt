@@ -3,7 +3,7 @@ use Rattle.std.proofs.Common.{◌≡◌, true, Option, Some, None, refl, sym, ap
 use Rattle.std.specs.Hash.DefaultHasher as hasher
 use Rattle.std.specs.declared.hash.DefaultHasher.{DefaultHasher}
 use Rattle.wquery.specs.declared.frame.Frame.{Frame}
-use Rattle.wquery.specs.Tree.{Tree, NullWord, Numeral, Quoted, Field, Invoked, Negated, Signed, Joined, Compared, NullTest, Within, Among, Trees, NoTrees, MoreTrees, Links, NoLinks, Further, Given, Everything, These, Filter, Unfiltered, FilteredBy, Reach, ItsGroup, ThatWindow, OwnWindow, Keys, NoKeys, MoreKeys}
+use Rattle.wquery.specs.Tree.{Tree, NullWord, Numeral, Quoted, Field, Invoked, Negated, Signed, Joined, Compared, NullTest, Within, Among, Trees, NoTrees, MoreTrees, Links, NoLinks, Further, Given, Everything, These, Columns, Filter, Unfiltered, FilteredBy, Reach, ItsGroup, ThatWindow, OwnWindow, Keys, NoKeys, MoreKeys}
 use Rattle.wsame.specs.Bounds.{end_of}
 use Rattle.wsame.specs.Sameness.{is_same, comparison_number, mode_number, nulls_number, operator_number}
 use Rattle.wdistinct.specs.Sketch.{marked, flagged, named, bounded, framed, copied, ended, sketched, sketched_trees, sketched_links, sketched_given, sketched_filter, sketched_reach, sketched_keys, sketch_of}
@@ -39,6 +39,7 @@ mutual
   kept_given : (g : Given) → sketched_given (plain_given g) ≡ sketched_given g
   kept_given Everything = refl
   kept_given (These ts) = λ i s. kept_trees ts i (marked 1 s)
+  kept_given (Columns ts) = λ i s. kept_trees ts i (marked 2 s)
 
   kept_filter : (f : Filter) → sketched_filter (plain_filter f) ≡ sketched_filter f
   kept_filter Unfiltered = refl

@@ -1,10 +1,10 @@
 -- The calls of a SELECT that are computed apart from its expressions, each once: aggregates without OVER, and calls with
 -- OVER. (SQL, `<set function specification>` and `<window function>`.)
-use Rattle.std.specs.Prelude.{ℕ, Bool, true, false, ◌&&◌, not, List, [], ◌∷◌, ◌++◌, if◌then◌else◌, Option, Some, None, map}
+use Rattle.std.specs.Prelude.{ℕ, Bool, true, false, ◌&&◌, ◌||◌, not, List, [], ◌∷◌, ◌++◌, if◌then◌else◌, Option, Some, None, map}
 use Rattle.std.specs.List.{list_any}
 use Rattle.std.specs.Borrow.{Bor}
 use Rattle.wquery.specs.declared.expression.Call.{Call}
-use Rattle.wquery.specs.Tree.{Tree, NullWord, Numeral, Quoted, Field, Invoked, Negated, Signed, Joined, Compared, NullTest, Within, Among, Trees, NoTrees, MoreTrees, Links, NoLinks, Further, Given, Everything, These, Filter, Unfiltered, FilteredBy, Reach, ItsGroup, ThatWindow, OwnWindow, Keys, NoKeys, MoreKeys, KeyTree, Branch, own_window, view_call}
+use Rattle.wquery.specs.Tree.{Tree, NullWord, Numeral, Quoted, Field, Invoked, Negated, Signed, Joined, Compared, NullTest, Within, Among, Trees, NoTrees, MoreTrees, Links, NoLinks, Further, Given, Everything, These, Columns, Filter, Unfiltered, FilteredBy, Reach, ItsGroup, ThatWindow, OwnWindow, Keys, NoKeys, MoreKeys, KeyTree, Branch, own_window, view_call}
 use Rattle.wquery.specs.QueryTree.{Clauses, ItemTree, AllColumns, Computed, EntryTree}
 use Rattle.wscope.specs.declared.function.Function.{Function}
 use Rattle.wscope.specs.Functions.{function_of, is_aggregate}
@@ -18,17 +18,22 @@ has_over ItsGroup = false
 has_over (ThatWindow name) = true
 has_over (OwnWindow copied partition order frame) = true
 
+-- the columns of GROUPING
+abbrev pub is_grouping : Given → Bool
+is_grouping (Columns ts) = true
+is_grouping _ = false
+
 abbrev pub is_aggregate_function : Option Function → Bool
 is_aggregate_function None = false
 is_aggregate_function (Some f) = is_aggregate f
 
--- of aggregates without OVER, or of calls with OVER
-abbrev pub is_kind : CallKind → List ℕ → Reach → Bool
-is_kind Grouped name reach = not (has_over reach) && is_aggregate_function (function_of name)
-is_kind Windowed name reach = has_over reach
+-- of aggregates without OVER and GROUPING, or of calls with OVER
+abbrev pub is_kind : CallKind → List ℕ → Given → Reach → Bool
+is_kind Grouped name given reach = is_grouping given || (not (has_over reach) && is_aggregate_function (function_of name))
+is_kind Windowed name given reach = has_over reach
 
 abbrev pub is_call_of : CallKind → Tree → Bool
-is_call_of kind (Invoked name given filter reach) = is_kind kind name reach
+is_call_of kind (Invoked name given filter reach) = is_kind kind name given reach
 is_call_of kind _ = false
 
 -- the node where it is looked for, else what stands below it
@@ -64,6 +69,7 @@ abbrev mutual
   pub nodes_given : (Tree → Bool) → Given → List Tree
   nodes_given holds Everything = []
   nodes_given holds (These ts) = nodes_in_trees holds ts
+  nodes_given holds (Columns ts) = nodes_in_trees holds ts
 
   pub nodes_in_filter : (Tree → Bool) → Filter → List Tree
   nodes_in_filter holds Unfiltered = []

@@ -20,7 +20,7 @@ use Rattle.wquery.specs.declared.frame.FrameBound.{FrameBound}
 use Rattle.wquery.specs.declared.frame.FrameBound.TheVariants as bounds
 use Rattle.wquery.specs.declared.frame.FrameExclusion.{FrameExclusion}
 use Rattle.wquery.specs.declared.frame.FrameExclusion.TheVariants as exclusions
-use Rattle.wquery.specs.Tree.{Tree, NullWord, Numeral, Quoted, Field, Invoked, Negated, Signed, Joined, Compared, NullTest, Within, Among, Trees, NoTrees, MoreTrees, Links, NoLinks, Further, Given, Everything, These, Filter, Unfiltered, FilteredBy, Reach, ItsGroup, ThatWindow, OwnWindow, Keys, NoKeys, MoreKeys, same_kind}
+use Rattle.wquery.specs.Tree.{Tree, NullWord, Numeral, Quoted, Field, Invoked, Negated, Signed, Joined, Compared, NullTest, Within, Among, Trees, NoTrees, MoreTrees, Links, NoLinks, Further, Given, Everything, These, Columns, Filter, Unfiltered, FilteredBy, Reach, ItsGroup, ThatWindow, OwnWindow, Keys, NoKeys, MoreKeys, same_kind}
 use Rattle.wsame.specs.Bounds.{end_of}
 use Rattle.wsame.specs.Sameness.{is_same, are_same, are_same_links, are_same_given, is_same_filter, is_same_reach, are_same_keys, same_bool, same_bound, same_copied, same_frame, operator_number, comparison_number, nulls_number, mode_number, exclusion_number}
 
@@ -215,6 +215,7 @@ abbrev mutual
   pub plain_given : Given → Given
   plain_given Everything = Everything
   plain_given (These ts) = These (plain_trees ts)
+  plain_given (Columns ts) = Columns (plain_trees ts)
 
   pub plain_filter : Filter → Filter
   plain_filter Unfiltered = Unfiltered
@@ -284,6 +285,7 @@ mutual
   to_given : (g h : Given) → are_same_given g h ≡ true → plain_given g ≡ plain_given h
   to_given Everything Everything e = refl
   to_given (These ts) (These us) e = ap These (to_trees ts us e)
+  to_given (Columns ts) (Columns us) e = ap Columns (to_trees ts us e)
   to_given _ _ e = cc
 
   to_filter : (f g : Filter) → is_same_filter f g ≡ true → plain_filter f ≡ plain_filter g
@@ -341,6 +343,7 @@ mutual
   from_given : (g h : Given) → plain_given g ≡ plain_given h → are_same_given g h ≡ true
   from_given Everything Everything e = refl
   from_given (These ts) (These us) e = from_trees ts us (cc)
+  from_given (Columns ts) (Columns us) e = from_trees ts us (cc)
   from_given _ _ e = cc
 
   from_filter : (f g : Filter) → plain_filter f ≡ plain_filter g → is_same_filter f g ≡ true

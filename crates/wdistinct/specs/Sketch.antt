@@ -7,7 +7,7 @@ use Rattle.std.specs.Hash.DefaultHasher as hasher
 use Rattle.std.specs.declared.hash.DefaultHasher.{DefaultHasher}
 use Rattle.wquery.specs.declared.frame.Frame.{Frame}
 use Rattle.wquery.specs.declared.frame.FrameBound.{FrameBound}
-use Rattle.wquery.specs.Tree.{Tree, NullWord, Numeral, Quoted, Field, Invoked, Negated, Signed, Joined, Compared, NullTest, Within, Among, Trees, NoTrees, MoreTrees, Links, NoLinks, Further, Given, Everything, These, Filter, Unfiltered, FilteredBy, Reach, ItsGroup, ThatWindow, OwnWindow, Keys, NoKeys, MoreKeys, Branch, KeyTree}
+use Rattle.wquery.specs.Tree.{Tree, NullWord, Numeral, Quoted, Field, Invoked, Negated, Signed, Joined, Compared, NullTest, Within, Among, Trees, NoTrees, MoreTrees, Links, NoLinks, Further, Given, Everything, These, Columns, Filter, Unfiltered, FilteredBy, Reach, ItsGroup, ThatWindow, OwnWindow, Keys, NoKeys, MoreKeys, Branch, KeyTree}
 use Rattle.wsame.specs.Bounds.{place_of_bound, end_of}
 use Rattle.wsame.specs.Sameness.{comparison_number, exclusion_number, mode_number, nulls_number, offset_in, operator_number}
 
@@ -69,6 +69,7 @@ abbrev mutual
   pub sketched_given : Given → DefaultHasher → DefaultHasher
   sketched_given Everything s = marked 0 s
   sketched_given (These ts) s = sketched_trees ts (marked 1 s)
+  sketched_given (Columns ts) s = sketched_trees ts (marked 2 s)
 
   pub sketched_filter : Filter → DefaultHasher → DefaultHasher
   sketched_filter Unfiltered s = marked 0 s

@@ -6,7 +6,7 @@ ghost use Rattle.wquery.specs.QueryTree.{view_item, view_entry};
 ghost use Rattle.std.specs.Rc.{rc_str_bytes};
 ghost use Rattle.wscope.specs.Functions.{function_of as function_named};
 ghost use Rattle.wdistinct.specs.Clauses.{clauses_in};
-ghost use Rattle.wdistinct.specs.Calls.{group_calls as aggregates_of, window_calls as calls_over_windows, is_kind, is_call_of, is_aggregate_function as is_aggregate_of, has_over as has_reach, nodes_in, nodes_in_trees, nodes_in_links, nodes_in_branches, nodes_given, nodes_in_filter, nodes_in_reach, nodes_in_keys, nodes_in_option, nodes_in_items, nodes_in_entries, nodes_in_order, with_new, call_trees};
+ghost use Rattle.wdistinct.specs.Calls.{group_calls as aggregates_of, window_calls as calls_over_windows, is_kind, is_grouping as has_columns, is_call_of, is_aggregate_function as is_aggregate_of, has_over as has_reach, nodes_in, nodes_in_trees, nodes_in_links, nodes_in_branches, nodes_given, nodes_in_filter, nodes_in_reach, nodes_in_keys, nodes_in_option, nodes_in_items, nodes_in_entries, nodes_in_order, with_new, call_trees};
 ghost use Rattle.wdistinct.specs.Places.{calls_in};
 ghost use Rattle.wdistinct.specs.declared.calls.CallKind.TheVariants.{Grouped, Windowed};
 
@@ -18,7 +18,7 @@ use wscope::function_of;
 /// The calls that are computed apart from the expressions that they stand in.
 #[derive(Clone, Copy, Drop)]
 pub enum CallKind {
-    /// Aggregates without OVER.
+    /// Aggregates without OVER, and GROUPING.
     Grouped,
     /// Calls with OVER.
     Windowed,
@@ -44,11 +44,24 @@ fn has_over(over: &Option<Over>) -> bool
     }
 }
 
+#[tactic(auto, unfolding(wquery::specs::Tree::view_arguments, wquery::specs::Tree::view))]
+fn is_grouping(arguments: &Arguments) -> bool
+    ensures { result ≡ has_columns (view_arguments arguments.now) }
+{
+    match arguments {
+        Arguments::Star => false,
+        Arguments::Listed(_) => false,
+        Arguments::Columns(_) => true,
+    }
+}
+
 fn is_of(kind: CallKind, call: &Call) -> bool
-    ensures { result ≡ is_kind kind (rc_str_bytes call.now.name) (reach_of (view_optional_over call.now.over)) }
+    ensures { result ≡ is_kind kind (rc_str_bytes call.now.name) (view_arguments call.now.arguments) (reach_of (view_optional_over call.now.over)) }
 {
     match kind {
-        CallKind::Grouped => !has_over(&call.over) && is_aggregate(call),
+        CallKind::Grouped => {
+            is_grouping(&call.arguments) || (!has_over(&call.over) && is_aggregate(call))
+        }
         CallKind::Windowed => has_over(&call.over),
     }
 }
@@ -233,6 +246,7 @@ fn collect_arguments<'a>(
     match arguments {
         Arguments::Star => Ok(()),
         Arguments::Listed(list) => collect_listed(kind, calls, list.as_slice()),
+        Arguments::Columns(columns) => collect_listed(kind, calls, columns.as_slice()),
     }
 }
 

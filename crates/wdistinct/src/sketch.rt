@@ -280,6 +280,10 @@ fn sketch_arguments(state: &mut DefaultHasher, arguments: &Arguments)
             mark(state, 1);
             sketch_listed(state, list.as_slice());
         }
+        Arguments::Columns(columns) => {
+            mark(state, 2);
+            sketch_listed(state, columns.as_slice());
+        }
     }
 }
 

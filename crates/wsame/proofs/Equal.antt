@@ -16,7 +16,7 @@ use Rattle.wquery.specs.declared.expression.Expression.{Expression}
 use Rattle.wquery.specs.declared.expression.Expression.TheVariants as queries
 use Rattle.wquery.specs.declared.expression.Arguments.TheOpen as layer
 use Rattle.wquery.specs.declared.expression.Arguments.TheFolds.{fold-Arguments, fold-roll-Arguments, fold_out-Window}
-use Rattle.wquery.specs.Tree.{Tree, Invoked, Joined, Among, view_window, view_key, view_link, view_keys, same_kind, Given, These, Reach, KeyTree, Branch, WindowTree, Links, NoLinks, Further, linked, trees, views, view, view_call, view_arguments, view_optional, view_optional_over, filter_of, reach_of, arguments_step, expression_step, over_step, call_step, key_step, link_step, window_step}
+use Rattle.wquery.specs.Tree.{Tree, Invoked, Joined, Among, view_window, view_key, view_link, view_keys, same_kind, Given, These, Columns, Reach, KeyTree, Branch, WindowTree, Links, NoLinks, Further, linked, trees, views, view, view_call, view_arguments, view_optional, view_optional_over, filter_of, reach_of, arguments_step, expression_step, over_step, call_step, key_step, link_step, window_step}
 use Rattle.wsame.specs.Sameness.{is_same, are_same, are_same_links, are_same_given, is_same_filter, is_same_reach, is_same_branch, same_bool}
 use Rattle.wsame.proofs.Views.{view_call_is, view_of_call, view_of_chain, view_of_in}
 
@@ -88,6 +88,13 @@ view_of_listed v = ap (fold-Arguments Given Tree Reach Tree KeyTree Branch Windo
 
 pub same_listed_views : (a b : Arguments) (x y : Vec Expression Global) → a ≡ given.Listed x → b ≡ given.Listed y → are_same_given (view_arguments a) (view_arguments b) ≡ are_same (trees (views x.items)) (trees (views y.items))
 same_listed_views a b x y ea eb = ap (λ (e : Arguments). are_same_given (view_arguments e) (view_arguments b)) ea ∙ ap (λ (e : Arguments). are_same_given (view_arguments (given.Listed x)) (view_arguments e)) eb ∙ ap (λ (t : Given). are_same_given t (view_arguments (given.Listed y))) (view_of_listed x) ∙ ap (are_same_given (These (trees (views x.items)))) (view_of_listed y)
+
+view_of_columns : (v : Vec Expression Global) → view_arguments (given.Columns v) ≡ Columns (trees (views v.items))
+unfolding view_arguments view
+view_of_columns v = ap (fold-Arguments Given Tree Reach Tree KeyTree Branch WindowTree arguments_step expression_step over_step call_step key_step link_step window_step) (sym (given.rolls-Columns v)) ∙ fold-roll-Arguments Given Tree Reach Tree KeyTree Branch WindowTree arguments_step expression_step over_step call_step key_step link_step window_step (layer.Columns v)
+
+pub same_columns_views : (a b : Arguments) (x y : Vec Expression Global) → a ≡ given.Columns x → b ≡ given.Columns y → are_same_given (view_arguments a) (view_arguments b) ≡ are_same (trees (views x.items)) (trees (views y.items))
+same_columns_views a b x y ea eb = ap (λ (e : Arguments). are_same_given (view_arguments e) (view_arguments b)) ea ∙ ap (λ (e : Arguments). are_same_given (view_arguments (given.Columns x)) (view_arguments e)) eb ∙ ap (λ (t : Given). are_same_given t (view_arguments (given.Columns y))) (view_of_columns x) ∙ ap (are_same_given (Columns (trees (views x.items)))) (view_of_columns y)
 
 -- lists that end
 

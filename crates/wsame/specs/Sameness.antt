@@ -15,7 +15,7 @@ use Rattle.wquery.specs.declared.frame.FrameBound.{FrameBound}
 use Rattle.wquery.specs.declared.frame.FrameBound.TheVariants.{Preceding, Following}
 use Rattle.wquery.specs.declared.frame.FrameExclusion.{FrameExclusion}
 use Rattle.wquery.specs.declared.frame.FrameExclusion.TheVariants.{CurrentRow, Group, Ties, NoOthers}
-use Rattle.wquery.specs.Tree.{Tree, NullWord, Numeral, Quoted, Field, Invoked, Negated, Signed, Joined, Compared, NullTest, Within, Among, Trees, NoTrees, MoreTrees, Links, NoLinks, Further, Given, Everything, These, Filter, Unfiltered, FilteredBy, Reach, ItsGroup, ThatWindow, OwnWindow, Keys, NoKeys, MoreKeys, Branch, KeyTree, same_kind}
+use Rattle.wquery.specs.Tree.{Tree, NullWord, Numeral, Quoted, Field, Invoked, Negated, Signed, Joined, Compared, NullTest, Within, Among, Trees, NoTrees, MoreTrees, Links, NoLinks, Further, Given, Everything, These, Columns, Filter, Unfiltered, FilteredBy, Reach, ItsGroup, ThatWindow, OwnWindow, Keys, NoKeys, MoreKeys, Branch, KeyTree, same_kind}
 use Rattle.wsame.specs.Bounds.{place_of_bound, end_of}
 
 abbrev pub same_bool : Bool → Bool → Bool
@@ -108,6 +108,7 @@ abbrev mutual
   pub are_same_given : Given → Given → Bool
   are_same_given Everything Everything = true
   are_same_given (These ts) (These us) = are_same ts us
+  are_same_given (Columns ts) (Columns us) = are_same ts us
   are_same_given _ _ = false
 
   pub is_same_filter : Filter → Filter → Bool

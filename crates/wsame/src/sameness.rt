@@ -484,6 +484,9 @@ fn same_arguments(a: &Arguments, b: &Arguments) -> bool
     match (a, b) {
         (Arguments::Star, Arguments::Star) => true,
         (Arguments::Listed(x), Arguments::Listed(y)) => same_listed(x.as_slice(), y.as_slice()),
+        (Arguments::Columns(x), Arguments::Columns(y)) => {
+            same_listed(x.as_slice(), y.as_slice())
+        }
         _ => false,
     }
 }

@@ -1,7 +1,7 @@
 -- Looking for a node of an expression: a test says of each node whether it is found, whether to look below it, or
 -- whether it is closed to the look. (SQL, `<value expression>` and what "simply contains" means there.)
 use Rattle.std.specs.Prelude.{Bool, true, false, ◌||◌}
-use Rattle.wquery.specs.Tree.{Tree, NullWord, Numeral, Quoted, Field, Invoked, Negated, Signed, Joined, Compared, NullTest, Within, Among, Trees, NoTrees, MoreTrees, Links, NoLinks, Further, Given, Everything, These, Filter, Unfiltered, FilteredBy, Reach, ItsGroup, ThatWindow, OwnWindow, Keys, NoKeys, MoreKeys}
+use Rattle.wquery.specs.Tree.{Tree, NullWord, Numeral, Quoted, Field, Invoked, Negated, Signed, Joined, Compared, NullTest, Within, Among, Trees, NoTrees, MoreTrees, Links, NoLinks, Further, Given, Everything, These, Columns, Filter, Unfiltered, FilteredBy, Reach, ItsGroup, ThatWindow, OwnWindow, Keys, NoKeys, MoreKeys}
 use Rattle.wscope.specs.declared.look.Look.{Look}
 use Rattle.wscope.specs.declared.look.Look.TheVariants.{Found, Closed, Below}
 
@@ -38,6 +38,7 @@ abbrev mutual
   pub some_given : (Tree → Look) → Given → Bool
   some_given sees Everything = false
   some_given sees (These ts) = some_tree sees ts
+  some_given sees (Columns ts) = some_tree sees ts
 
   pub some_filter : (Tree → Look) → Filter → Bool
   some_filter sees Unfiltered = false

@@ -5,7 +5,7 @@ use Rattle.std.specs.List.{list_all}
 use Rattle.std.specs.Str.{bytes_eq}
 use Rattle.wquery.specs.declared.expression.ChainKind.{ChainKind}
 use Rattle.wquery.specs.declared.expression.ChainKind.TheVariants.{Disjunction, Conjunction, Sum, Product}
-use Rattle.wquery.specs.Tree.{Tree, NullWord, Numeral, Quoted, Field, Invoked, Negated, Signed, Joined, Compared, NullTest, Within, Among, Trees, NoTrees, MoreTrees, Given, Everything, These}
+use Rattle.wquery.specs.Tree.{Tree, NullWord, Numeral, Quoted, Field, Invoked, Negated, Signed, Joined, Compared, NullTest, Within, Among, Trees, NoTrees, MoreTrees, Given, Everything, These, Columns}
 use Rattle.wscope.specs.declared.function.Function.{Function}
 use Rattle.wscope.specs.declared.function.Function.TheVariants as functions
 use Rattle.wscope.specs.declared.data_type.DataType.{DataType}
@@ -77,6 +77,7 @@ abbrev mutual
   pub given_type : List Titled → ℕ → Given → DataType
   given_type cs n Everything = Null
   given_type cs n (These ts) = type_at cs n ts
+  given_type cs n (Columns ts) = Null
 
   pub type_at : List Titled → ℕ → Trees → DataType
   type_at cs n NoTrees = Null

@@ -117,6 +117,7 @@ fn any_in_arguments<T: NodeTest>(test: &T, arguments: &Arguments) -> bool
     match arguments {
         Arguments::Star => false,
         Arguments::Listed(list) => any_listed(test, list.as_slice()),
+        Arguments::Columns(columns) => any_listed(test, columns.as_slice()),
     }
 }
 

@@ -97,6 +97,7 @@ fn type_given(columns: &[SourceColumn], arguments: &Arguments, place: usize) -> 
     match arguments {
         Arguments::Star => DataType::Null,
         Arguments::Listed(list) => type_at_place(columns, list.as_slice(), place),
+        Arguments::Columns(_) => DataType::Null,
     }
 }
 

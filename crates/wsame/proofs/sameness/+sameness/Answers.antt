@@ -1,5 +1,5 @@
 use Rattle.std.proofs.Common.{◌≡◌, map, refl, ◌∙◌, sym, ap}
-use Rattle.wsame.proofs.Equal.{and_first, and_second, same_branches, same_calls, same_listed_views, same_from_front, ends, chain_same, chain_view, list_same, list_view, partition_is, order_is}
+use Rattle.wsame.proofs.Equal.{same_columns_views, and_first, and_second, same_branches, same_calls, same_listed_views, same_from_front, ends, chain_same, chain_view, list_same, list_view, partition_is, order_is}
 use Rattle.wquery.specs.Tree.{trees, view, views, keys, view_keys, view_window, view_link}
 use Rattle.wsame.specs.Sameness.{is_same, are_same, are_same_keys}
 use Rattle.wsame.proofs.sameness.+sameness.Goals as goal
@@ -58,6 +58,10 @@ same_orders-returns t c =
 pub same_arguments-returns-in-Listed-Listed : goal.same_arguments-returns-in-Listed-Listed
 same_arguments-returns-in-Listed-Listed t c =
     c.same_listed.ensures ∙ ap (λ x. are_same (trees (views x)) (trees (views c.as_slice-in-Listed-Listed.result.now))) c.as_slice.ensures.value ∙ ap (λ y. are_same (trees (views c.in-Listed-Listed.x.items)) (trees (views y))) c.as_slice-in-Listed-Listed.ensures.value ∙ sym (same_listed_views c.args.a.now c.args.b.now c.in-Listed-Listed.x c.in-Listed-Listed.y c.in-Listed-Listed.is-0 c.in-Listed-Listed.is-1)
+
+pub same_arguments-returns-in-Columns-Columns : goal.same_arguments-returns-in-Columns-Columns
+same_arguments-returns-in-Columns-Columns t c =
+    c.same_listed-in-Columns-Columns.ensures ∙ ap (λ x. are_same (trees (views x)) (trees (views c.as_slice-in-Columns-Columns-2.result.now))) c.as_slice-in-Columns-Columns.ensures.value ∙ ap (λ y. are_same (trees (views c.in-Columns-Columns.x.items)) (trees (views y))) c.as_slice-in-Columns-Columns-2.ensures.value ∙ sym (same_columns_views c.args.a.now c.args.b.now c.in-Columns-Columns.x c.in-Columns-Columns.y c.in-Columns-Columns.is-0 c.in-Columns-Columns.is-1)
 
 pub same_listed-returns : goal.same_listed-returns
 same_listed-returns t c =
