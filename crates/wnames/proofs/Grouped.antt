@@ -1,5 +1,5 @@
 -- Names of columns that come to a set.
-use Rattle.std.proofs.Common.{◌≡◌, ℕ, Bool, true, false, ◌||◌, cond, List, [], ◌∷◌, ◌++◌, refl, ap, sym, ◌∙◌, ◌+◌, ◌<◌, ◌≤◌, map, take, length, get_or}
+use Rattle.std.proofs.Common.{◌≡◌, ℕ, Bool, true, false, ◌||◌, cond, List, [], ◌∷◌, ◌++◌, refl, ap, sym, ◌∙◌, ◌+◌, ◌<◌, map, take, length, get_or}
 use Rattle.std.proofs.lemmas.List.Folds.{list_any-append}
 use Rattle.std.proofs.lemmas.Map.Text.{btree_set_updates_text}
 use Rattle.std.proofs.lemmas.Slice.Eq.{bytes_eq-Decides}
@@ -25,7 +25,6 @@ name_sym a b = by (bytes_eq a b) (bytes_eq b a) (bytes_eq-Decides a b) (bytes_eq
     by true s d e = sym (e.1 (sym (d.0 refl)))
     by false true d e = d.1 (sym (e.0 refl))
     by false false d e = refl
-
 
 or_cond : (b h : Bool) → cond b true h ≡ (h || (b || false))
 or_cond true true = refl

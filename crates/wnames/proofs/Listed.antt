@@ -1,6 +1,5 @@
 -- Arguments that are a list, and HAVING.
 use Rattle.std.proofs.Common.{◌≡◌, nat_le, Bool, ◌&&◌, ◌||◌, not, List, ap, sym, ◌∙◌, Option, Some, None}
-use Rattle.std.specs.List.{list_any}
 use Rattle.std.specs.declared.alloc.Global.{Global}
 use Rattle.std.specs.declared.boxed.Box.{Box}
 use Rattle.std.specs.declared.vec.Vec.{Vec}

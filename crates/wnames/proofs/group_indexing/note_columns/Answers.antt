@@ -4,8 +4,8 @@ use Rattle.wnames.proofs.Grouped.{adds_none, adds_one, adds_along}
 use Rattle.wnames.proofs.Nested.{map_whole}
 use Rattle.wnames.proofs.group_indexing.note_columns.Goals as goal
 
-pub columns-initially : goal.columns-initially
-columns-initially c = adds_none c.args.known.now
+pub columns-init : goal.columns-init
+columns-init c = adds_none c.args.known.now
 
 pub columns-preserved : goal.columns-preserved
 columns-preserved c = adds_one c.args.known.now c.columns.known c.note_column.new.known c.args.columns.now c.columns.column-index c.column-item.result c.columns-test.true c.column-item.is c.columns.invariant c.in_ok-note_column.ensures

@@ -5,8 +5,8 @@ use Rattle.wnames.proofs.Grouped.{adds_none, adds_next, adds_along}
 use Rattle.wnames.proofs.Nested.{flat_whole}
 use Rattle.wnames.proofs.group_indexing.note_entries.Goals as goal
 
-pub entries-initially : goal.entries-initially
-entries-initially c = adds_none c.args.known.now
+pub entries-init : goal.entries-init
+entries-init c = adds_none c.args.known.now
 
 pub entries-preserved : goal.entries-preserved
 entries-preserved c = adds_next (entry_columns) view_group_entry c.args.known.now c.entries.known c.note_entry.new.known c.args.entries.now c.entries.entry-index c.entry-item.result c.entries-test.true c.entry-item.is c.entries.invariant c.in_ok-note_entry.ensures
