@@ -22,4 +22,4 @@ mod sight;
 mod told;
 
 pub use grouping::group_rows;
-pub use laws::plain_keys;
+pub use laws::{plain_groups, plain_keys};
