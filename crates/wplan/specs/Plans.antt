@@ -1,4 +1,5 @@
--- What a resolved query says, wherever its parts lie in memory (<query specification>, <window clause>, <window function>).
+-- What a resolved query says, wherever its parts lie in memory (<query specification>, <group by clause>,
+-- <window clause>, <window function>).
 use Rattle.std.specs.Prelude.{ℕ, List, map, Option, Some, None}
 use Rattle.std.specs.Rc.{rc_str_bytes}
 use Rattle.wvalues.specs.declared.key.SortKey.{SortKey}
@@ -6,6 +7,8 @@ use Rattle.wvalues.specs.Meaning.{Meaning, meaning}
 use Rattle.wplan.specs.declared.expr.Expr.{Expr}
 use Rattle.wplan.specs.declared.resolved.AggregateFunction.{AggregateFunction}
 use Rattle.wplan.specs.declared.resolved.Aggregate.{Aggregate}
+use Rattle.wplan.specs.declared.resolved.GroupCall.{GroupCall}
+use Rattle.wplan.specs.declared.resolved.GroupCall.TheVariants as group_calls
 use Rattle.wplan.specs.declared.resolved.Grouping.{Grouping}
 use Rattle.wplan.specs.declared.resolved.SettledKey.{SettledKey}
 use Rattle.wplan.specs.declared.resolved.SettledFrame.{SettledFrame}
@@ -24,10 +27,18 @@ pub record AggregatePlan : Type 0 where
   pub argument : Formula
   pub filter : Option Formula
 
--- GROUP BY by the places of its columns in the source's row, the aggregates without OVER, and HAVING over the row of these and those
+-- what a group's row has behind its columns: an aggregate, or GROUPING of columns by their places in the source's row
+pub data GroupCallPlan : Type 0 where
+  GroupAggregate : AggregatePlan → GroupCallPlan
+  GroupingOf : List ℕ → GroupCallPlan
+
+-- The columns that GROUP BY names, each once in the order of first sight, by their places in the source's row; its sets of
+-- them; the calls whose answers stand behind the columns; and HAVING over the row of these and those. Without GROUP BY there
+-- is no column, and one set, the empty one
 pub record GroupingPlan : Type 0 where
   pub columns : List ℕ
-  pub aggregates : List AggregatePlan
+  pub sets : List (List ℕ)
+  pub calls : List GroupCallPlan
   pub having : Option Formula
 
 -- a key of an order
@@ -84,8 +95,12 @@ optional_formula (Some e) = Some (formula e)
 abbrev pub aggregate_plan : Aggregate → AggregatePlan
 aggregate_plan a = record { function = a.function; argument = formula a.argument; filter = optional_formula a.filter }
 
+abbrev pub group_call_plan : GroupCall → GroupCallPlan
+group_call_plan (group_calls.Aggregated a) = GroupAggregate (aggregate_plan a)
+group_call_plan (group_calls.GroupingOf columns) = GroupingOf columns.items
+
 abbrev pub grouping_plan : Grouping → GroupingPlan
-grouping_plan g = record { columns = g.columns.items; aggregates = map aggregate_plan g.aggregates.items; having = optional_formula g.having }
+grouping_plan g = record { columns = g.columns.items; sets = map (λ set. set.items) g.sets.items; calls = map group_call_plan g.calls.items; having = optional_formula g.having }
 
 abbrev pub optional_grouping : Option Grouping → Option GroupingPlan
 optional_grouping None = None

@@ -22,7 +22,7 @@ pub use cell::{Cell, EvalFault};
 pub use evaluating::eval;
 pub use expr::{Expr, Further};
 pub use resolved::{
-    Aggregate, AggregateFunction, CallOver, Grouping, Output, Resolved, Selection, SettledFrame,
-    SettledKey, SettledWindow, WindowFunction,
+    Aggregate, AggregateFunction, CallOver, GroupCall, Grouping, Output, Resolved, Selection,
+    SettledFrame, SettledKey, SettledWindow, WindowFunction,
 };
 pub use sameness::same_order;

@@ -23,13 +23,26 @@ pub struct Aggregate {
     pub filter: Option<Expr>,
 }
 
-/// GROUP BY and HAVING. The row of a group holds its columns and behind them its aggregates; HAVING is over that row.
+/// What the row of a group holds behind its columns.
+#[derive(Drop)]
+pub enum GroupCall {
+    /// An aggregate without OVER, over the rows of the group.
+    Aggregated(Aggregate),
+    /// GROUPING of columns, by their places in the source's row: the number whose bits, the last column's lowest, are 1
+    /// where the set of the group lacks that column.
+    GroupingOf(Vec<usize>),
+}
+
+/// GROUP BY and HAVING. The row of a group holds its columns and behind them what its calls answer; HAVING is over that
+/// row.
 #[derive(Drop)]
 pub struct Grouping {
-    /// The places of the columns in the source's row. Without any there is one group, of all rows.
+    /// The places of the columns in the source's row, each once, in the order in which GROUP BY first names them.
     pub columns: Vec<usize>,
-    /// The aggregates without OVER.
-    pub aggregates: Vec<Aggregate>,
+    /// The sets of these columns, each with its own groups. Without GROUP BY there is one, the empty one.
+    pub sets: Vec<Vec<usize>>,
+    /// The aggregates without OVER, and GROUPING.
+    pub calls: Vec<GroupCall>,
     pub having: Option<Expr>,
 }
 
