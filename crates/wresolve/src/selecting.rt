@@ -1,14 +1,14 @@
 //! SELECTs with each name and default settled.
 
 ghost use Rattle.std.specs.Prelude.{◌≡◌, [], ◌||◌, IfOk, map, length, Some, None, is_some, unwrap_or, if◌then◌else◌};
-ghost use Rattle.wquery.specs.GroupElements.{all_columns, view_element};
+ghost use Rattle.wquery.specs.GroupElements.{view_element};
 ghost use Rattle.wquery.specs.Tree.{view_key, view_optional};
 ghost use Rattle.wplan.specs.Formula.{formula};
 ghost use Rattle.wplan.specs.Plans.{group_call_plan, grouping_plan, optional_formula, optional_grouping, output_plan, key_plan, select_plan, window_plan, call_plan};
 ghost use Rattle.wscope.specs.Sources.{all_titled, written_out as items_written};
 ghost use Rattle.wscope.specs.Windows.{named_windows, settle_all as settled_entries};
 ghost use Rattle.wgroupby.specs.Held.{element_in};
-ghost use Rattle.wgroupby.specs.Sets.{query_sets as sets_of, with_unseen};
+ghost use Rattle.wgroupby.specs.Sets.{query_sets as sets_of};
 ghost use Rattle.wdistinct.specs.Calls.{call_trees};
 ghost use Rattle.wdistinct.specs.Clauses.{clauses_in};
 ghost use Rattle.wdistinct.specs.Places.{calls_in};

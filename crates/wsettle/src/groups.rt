@@ -2,7 +2,7 @@
 
 ghost use Rattle.std.specs.Prelude.{◌≡◌, IfOk, map};
 ghost use Rattle.wquery.specs.GroupElements.{view_columns, view_part, view_group_entry, view_element};
-ghost use Rattle.wquery.specs.Tree.{view, views, view_arguments, view_call, view_column, trees, Columns};
+ghost use Rattle.wquery.specs.Tree.{view, view_call, view_column, views};
 ghost use Rattle.wscope.specs.Sources.{all_titled};
 ghost use Rattle.wgroupby.specs.Held.{element_in, entry_in, lists_in};
 ghost use Rattle.wgroupby.specs.Rules.{element_by, entry_by};
