@@ -1,6 +1,5 @@
 -- A query that breaks no rule resolves to a sound one.
 use Rattle.std.proofs.Common.{◌≡◌, Bool, true, false, ◌&&◌, ℕ, suc, ◌+◌, ◌≤◌, List, [], ◌∷◌, ◌++◌, length, Option, Some, None, refl, ◌∙◌, ap, ap₂, arith}
-use Rattle.std.specs.Prelude.{if◌then◌else◌, nat_lt}
 use Rattle.std.specs.List.{list_all, list_any}
 use Rattle.std.proofs.lemmas.Bool.{or_parts}
 use Rattle.std.proofs.lemmas.List.{length-append}
@@ -18,7 +17,7 @@ use Rattle.wwindows.specs.Limits.{breaks_limits}
 use Rattle.wwindows.specs.Windows.{breaks_bounds, breaks_copies, breaks_entries, breaks_groups, breaks_ranges, breaks_window_names, copies_unknown, entry_is, is_over_unknown, lacks_range_key, reach_is, some_entry_after, windows_of}
 use Rattle.wrules.specs.declared.rule.Rule.{Rule}
 use Rattle.wrules.specs.declared.rule.Rule.TheVariants.{UnknownWindow, RepeatedWindow, WrongCopy, WrongBounds, UnorderedGroups, WrongRangeKey, ZeroCount, WrongPlace, OverLimit}
-use Rattle.wrules.specs.Rules.{depth, first_broken_rule, first_of, first_of_names, first_of_windows, judged, least, least_source, or_else}
+use Rattle.wrules.specs.Rules.{depth_rule, first_broken_rule, first_of, first_of_names, first_of_windows, judged, least, least_source, or_else, sets_rule}
 use Rattle.wplan.specs.Plans.{SelectPlan}
 use Rattle.wcalls.specs.Sound.{is_sound_window}
 use Rattle.wplanner.specs.Sound.{is_sound_call, is_sound_query, is_sound_select}
@@ -100,7 +99,7 @@ mutual
 
   source_sound : (d : Declaration) (s : SourceTree) → least_source d s ≡ None → list_all is_sound_select (resolved_source d s) ≡ true
   source_sound d (FromTable name alias) e = refl
-  source_sound d (FromQuery q alias) e = selects_sound d q e
+  source_sound d (FromQuery q alias) e = selects_sound d q (neither (least d q) (sets_rule q) e).0
 
 not_empty : (selects : List SelectPlan) (outermost : SelectPlan) → list_all is_sound_select (selects ++ (outermost ∷ [])) ≡ true → is_sound_query (selects ++ (outermost ∷ [])) ≡ true
 not_empty [] outermost e = e
@@ -108,7 +107,7 @@ not_empty (s ∷ ss) outermost e = e
 
 pub accepted_is_sound : (d : Declaration) (q : QueryTree) → first_broken_rule d q ≡ None → is_sound_query (resolved_query d q) ≡ true
 accepted_is_sound d (Selected c s) e =
-    not_empty (resolved_source d s) (select_made (origin_of d s).columns c) (selects_sound d (Selected c s) (neither (least d (Selected c s)) (if nat_lt 8 (depth (Selected c s)) then Some OverLimit else None) e).0)
+    not_empty (resolved_source d s) (select_made (origin_of d s).columns c) (selects_sound d (Selected c s) (neither (least d (Selected c s)) (or_else (depth_rule (Selected c s)) (sets_rule (Selected c s))) e).0)
 
 -- the same of what resolving answers
 pub resolved_is_sound : (d : Declaration) (q : QueryTree) (selects : List SelectPlan) → (first_broken_rule d q ≡ None) × (selects ≡ resolved_query d q) → is_sound_query selects ≡ true

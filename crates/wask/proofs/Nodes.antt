@@ -4,7 +4,7 @@ use Rattle.std.specs.Prelude.{if◌then◌else◌}
 use Rattle.std.specs.List.{list_all, list_any}
 use Rattle.std.proofs.lemmas.Bool.{or_parts, and_parts}
 use Rattle.std.proofs.lemmas.List.Folds.{list_all-append}
-use Rattle.wquery.specs.Tree.{Tree, NullWord, Numeral, Quoted, Field, Invoked, Negated, Signed, Joined, Compared, NullTest, Within, Among, Trees, NoTrees, MoreTrees, Links, NoLinks, Further, Given, Everything, These, Filter, Unfiltered, FilteredBy, Reach, ItsGroup, ThatWindow, OwnWindow, Keys, NoKeys, MoreKeys, KeyTree}
+use Rattle.wquery.specs.Tree.{Tree, NullWord, Numeral, Quoted, Field, Invoked, Negated, Signed, Joined, Compared, NullTest, Within, Among, Trees, NoTrees, MoreTrees, Links, NoLinks, Further, Given, Everything, These, Columns, Filter, Unfiltered, FilteredBy, Reach, ItsGroup, ThatWindow, OwnWindow, Keys, NoKeys, MoreKeys, KeyTree}
 use Rattle.wquery.specs.QueryTree.{Clauses, ItemTree, AllColumns, Computed}
 use Rattle.wsame.specs.Sameness.{is_same}
 use Rattle.wscope.specs.declared.look.Look.TheVariants.{Found, Below}
@@ -62,6 +62,7 @@ mutual
   in_given : (s r : Tree → Bool) (g : Given) → some_given (finds r) g ≡ false → list_all (is_kept s r) (nodes_given s g) ≡ true
   in_given s r Everything e = refl
   in_given s r (These ts) e = in_trees s r ts e
+  in_given s r (Columns ts) e = in_trees s r ts e
 
   in_filter : (s r : Tree → Bool) (f : Filter) → some_filter (finds r) f ≡ false → list_all (is_kept s r) (nodes_in_filter s f) ≡ true
   in_filter s r Unfiltered e = refl

@@ -5,7 +5,7 @@ use Rattle.std.specs.Str.{bytes_eq}
 use Rattle.std.specs.List.{list_all}
 use Rattle.std.proofs.lemmas.Bool.{and_parts, not-true, not-false, lt-ltb, le-leb}
 use Rattle.std.proofs.lemmas.List.{length-append}
-use Rattle.wquery.specs.Tree.{Tree, Numeral, Invoked, Trees, NoTrees, MoreTrees, Given, Everything, These, Filter, ItsGroup, ThatWindow, OwnWindow}
+use Rattle.wquery.specs.Tree.{Tree, Numeral, Invoked, Trees, NoTrees, MoreTrees, Given, Everything, These, Columns, Filter, ItsGroup, ThatWindow, OwnWindow}
 use Rattle.wscope.specs.declared.function.Function.{Function}
 use Rattle.wscope.specs.declared.function.Function.TheVariants as functions
 use Rattle.wscope.specs.Functions.{function_of}
@@ -38,8 +38,10 @@ second_counted (MoreTrees t ts) e = first_counted ts e
 function_sound : (l : Layout) (f : Option Function) (given : Given) (filter : Filter) → not (counts_some f given) ≡ false → is_sound_function (function_made l f given filter) ≡ true
 function_sound l (Some functions.Ntile) Everything filter e = refl
 function_sound l (Some functions.Ntile) (These ts) filter e = first_counted ts e
+function_sound l (Some functions.Ntile) (Columns ts) filter e = refl
 function_sound l (Some functions.NthValue) Everything filter e = refl
 function_sound l (Some functions.NthValue) (These ts) filter e = second_counted ts e
+function_sound l (Some functions.NthValue) (Columns ts) filter e = refl
 function_sound l f given filter e = refl
 
 call_sound : (l : Layout) (t : Tree) → is_zeroth t ≡ false → is_sound_function (call_function l t) ≡ true

@@ -29,7 +29,7 @@ is_aggregate_function (Some f) = is_aggregate f
 
 -- of aggregates without OVER and GROUPING, or of calls with OVER
 abbrev pub is_kind : CallKind → List ℕ → Given → Reach → Bool
-is_kind Grouped name given reach = is_grouping given || (not (has_over reach) && is_aggregate_function (function_of name))
+is_kind Grouped name given reach = not (has_over reach) && (is_grouping given || is_aggregate_function (function_of name))
 is_kind Windowed name given reach = has_over reach
 
 abbrev pub is_call_of : CallKind → Tree → Bool

@@ -60,7 +60,7 @@ fn is_of(kind: CallKind, call: &Call) -> bool
 {
     match kind {
         CallKind::Grouped => {
-            is_grouping(&call.arguments) || (!has_over(&call.over) && is_aggregate(call))
+            !has_over(&call.over) && (is_grouping(&call.arguments) || is_aggregate(call))
         }
         CallKind::Windowed => has_over(&call.over),
     }

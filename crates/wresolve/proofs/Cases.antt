@@ -8,12 +8,13 @@ use Rattle.wquery.specs.declared.frame.FrameBound.TheVariants as bounds
 use Rattle.wquery.specs.declared.frame.FrameExclusion.TheVariants as exclusions
 use Rattle.wquery.specs.declared.expression.NullOrder.TheVariants as nulls
 use Rattle.wquery.specs.declared.expression.Comparison.TheVariants.{Greater}
-use Rattle.wquery.specs.Tree.{Tree, Numeral, Field, Invoked, Compared, These, trees, Unfiltered, Reach, ItsGroup, ThatWindow, OwnWindow, NoKeys, MoreKeys, NoTrees}
+use Rattle.wquery.specs.GroupElements.{OneSet, Rollup}
+use Rattle.wquery.specs.Tree.{Tree, Numeral, Field, Invoked, Compared, These, Columns, trees, Unfiltered, Reach, ItsGroup, ThatWindow, OwnWindow, NoKeys, MoreKeys, NoTrees}
 use Rattle.wquery.specs.QueryTree.{Clauses, ItemTree, Computed, AllColumns, QueryTree, Selected, FromTable, FromQuery, EntryTree}
 use Rattle.wvalues.specs.Meaning.{Null, Int}
 use Rattle.wplan.specs.declared.resolved.AggregateFunction.TheVariants as aggregates
 use Rattle.wplan.specs.Formula as row
-use Rattle.wplan.specs.Plans.{KeyPlan, OutputPlan, WindowPlan, Rank, Lag, Aggregated}
+use Rattle.wplan.specs.Plans.{KeyPlan, OutputPlan, WindowPlan, Rank, Lag, Aggregated, GroupAggregate, GroupingOf}
 use Rattle.wresolve.specs.Selecting.{resolved_query, sort_key}
 
 abbrev declared : Declaration
@@ -83,9 +84,9 @@ named_window : resolved_query declared (from_sales (record (items_only (item (ov
 named_window = refl
 
 -- SELECT shop, sum(amount), rank() OVER (ORDER BY sum(amount) DESC) FROM sales GROUP BY shop HAVING sum(amount) > 5
-ranked_sums : resolved_query declared (from_sales (record (items_only (item shop ∷ item sum_of_amounts ∷ item (over (codes "rank") [] (OwnWindow None NoTrees (MoreKeys sum_of_amounts true None NoKeys) None)) ∷ [])) { grouping = shop ∷ []; having = Some (Compared Greater sum_of_amounts (Numeral 5)) })) ≡ record {
+ranked_sums : resolved_query declared (from_sales (record (items_only (item shop ∷ item sum_of_amounts ∷ item (over (codes "rank") [] (OwnWindow None NoTrees (MoreKeys sum_of_amounts true None NoKeys) None)) ∷ [])) { grouping = (OneSet (shop ∷ []) ∷ []) ∷ []; having = Some (Compared Greater sum_of_amounts (Numeral 5)) })) ≡ record {
   condition = None;
-  grouping = Some (record { columns = 1 ∷ []; aggregates = record { function = aggregates.Sum; argument = row.At 2; filter = None } ∷ []; having = Some (row.Compared Greater (row.At 1) (row.Constant (Int (pos 5)))) });
+  grouping = Some (record { columns = 1 ∷ []; sets = (1 ∷ []) ∷ []; calls = GroupAggregate (record { function = aggregates.Sum; argument = row.At 2; filter = None }) ∷ []; having = Some (row.Compared Greater (row.At 1) (row.Constant (Int (pos 5)))) });
   windows = whole_partition [] (key (row.At 1) ∷ []) ∷ [];
   calls = record { window = 0; function = Rank } ∷ [];
   items = output (codes "shop") (row.At 0) ∷ output (codes "sum") (row.At 1) ∷ output (codes "rank") (row.At 2) ∷ [];
@@ -94,6 +95,36 @@ ranked_sums : resolved_query declared (from_sales (record (items_only (item shop
   limit = None;
 } ∷ []
 ranked_sums = refl
+
+-- SELECT shop, grouping(day, shop) FROM sales GROUP BY ROLLUP (shop, day), shop HAVING grouping(day, shop) > 1; a column that
+-- stands there twice has one cell, GROUPING has one behind the columns
+abbrev grouping_of_both : Tree
+grouping_of_both = Invoked (codes "grouping") (Columns (trees (day ∷ shop ∷ []))) Unfiltered ItsGroup
+
+rolled_up : resolved_query declared (from_sales (record (items_only (item shop ∷ item grouping_of_both ∷ [])) { grouping = (Rollup ((shop ∷ []) ∷ (day ∷ []) ∷ []) ∷ []) ∷ (OneSet (shop ∷ []) ∷ []) ∷ []; having = Some (Compared Greater grouping_of_both (Numeral 1)) })) ≡ record {
+  condition = None;
+  grouping = Some (record { columns = 1 ∷ 0 ∷ []; sets = (1 ∷ 0 ∷ 1 ∷ []) ∷ (1 ∷ 1 ∷ []) ∷ (1 ∷ []) ∷ []; calls = GroupingOf (0 ∷ 1 ∷ []) ∷ []; having = Some (row.Compared Greater (row.At 2) (row.Constant (Int (pos 1)))) });
+  windows = [];
+  calls = [];
+  items = output (codes "shop") (row.At 0) ∷ output (codes "grouping") (row.At 2) ∷ [];
+  keys = [];
+  offset = 0;
+  limit = None;
+} ∷ []
+rolled_up = refl
+
+-- SELECT sum(amount) FROM sales; without GROUP BY there is one set, the empty one, and no column
+summed : resolved_query declared (from_sales (items_only (item sum_of_amounts ∷ []))) ≡ record {
+  condition = None;
+  grouping = Some (record { columns = []; sets = [] ∷ []; calls = GroupAggregate (record { function = aggregates.Sum; argument = row.At 2; filter = None }) ∷ []; having = None });
+  windows = [];
+  calls = [];
+  items = output (codes "sum") (row.At 0) ∷ [];
+  keys = [];
+  offset = 0;
+  limit = None;
+} ∷ []
+summed = refl
 
 -- SELECT *, day AS d FROM sales ORDER BY shop DESC, 4 DESC, d DESC LIMIT 2 OFFSET 1
 by_place : resolved_query declared (from_sales (record (items_only (AllColumns ∷ Computed day (Some (codes "d")) ∷ [])) { order = record { expression = shop; descending = true; nulls = None } ∷ record { expression = Numeral 4; descending = true; nulls = None } ∷ record { expression = column (codes "d"); descending = true; nulls = Some nulls.Last } ∷ []; limit = Some 2; offset = Some 1 })) ≡ record {

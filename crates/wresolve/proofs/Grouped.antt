@@ -1,8 +1,8 @@
--- A query has an aggregate without OVER where some is collected.
+-- A query has an aggregate without OVER, or GROUPING, where some is collected.
 use Rattle.std.proofs.Common.{◌≡◌, Bool, true, false, not, ◌&&◌, ◌||◌, List, [], ◌∷◌, ◌++◌, Option, Some, None, is_some, refl, sym, ap, ◌∙◌, ap₂, true≢false}
 use Rattle.std.specs.Prelude.{if◌then◌else◌}
 use Rattle.std.specs.List.{list_any}
-use Rattle.wquery.specs.Tree.{Tree, NullWord, Numeral, Quoted, Field, Invoked, Negated, Signed, Joined, Compared, NullTest, Within, Among, Trees, NoTrees, MoreTrees, Links, NoLinks, Further, Given, Everything, These, Filter, Unfiltered, FilteredBy, Reach, ItsGroup, ThatWindow, OwnWindow, Keys, NoKeys, MoreKeys, KeyTree, own_window}
+use Rattle.wquery.specs.Tree.{Tree, NullWord, Numeral, Quoted, Field, Invoked, Negated, Signed, Joined, Compared, NullTest, Within, Among, Trees, NoTrees, MoreTrees, Links, NoLinks, Further, Given, Everything, These, Columns, Filter, Unfiltered, FilteredBy, Reach, ItsGroup, ThatWindow, OwnWindow, Keys, NoKeys, MoreKeys, KeyTree, own_window}
 use Rattle.wquery.specs.QueryTree.{ItemTree, AllColumns, Computed, EntryTree}
 use Rattle.wsame.specs.Sameness.{is_same}
 use Rattle.wscope.specs.Functions.{function_of}
@@ -92,6 +92,7 @@ mutual
   in_given : (s r : Tree → Bool) (e : (t : Tree) → s t ≡ r t) (g : Given) → has_some (nodes_given s g) ≡ some_given (finds r) g
   in_given s r e Everything = refl
   in_given s r e (These ts) = in_trees s r e ts
+  in_given s r e (Columns ts) = in_trees s r e ts
 
   in_filter : (s r : Tree → Bool) (e : (t : Tree) → s t ≡ r t) (f : Filter) → has_some (nodes_in_filter s f) ≡ some_filter (finds r) f
   in_filter s r e Unfiltered = refl
@@ -106,14 +107,16 @@ mutual
   in_keys s r e NoKeys = refl
   in_keys s r e (MoreKeys t descending nulls more) = pair _ _ (nodes_in s t) (nodes_in_keys s more) (node s r t (e t) (below s r e t)) (in_keys s r e more)
 
--- the nodes that are aggregates without OVER
+-- the nodes that are aggregates without OVER, or GROUPING
 
 function_alike : (f : Option Function) → is_aggregate_function f ≡ is_aggregate_of f
 function_alike None = refl
 function_alike (Some f) = refl
 
 alike : (t : Tree) → is_call_of Grouped t ≡ is_group_call t
-alike (Invoked name given filter ItsGroup) = function_alike (function_of name)
+alike (Invoked name Everything filter ItsGroup) = function_alike (function_of name)
+alike (Invoked name (These ts) filter ItsGroup) = function_alike (function_of name)
+alike (Invoked name (Columns ts) filter ItsGroup) = refl
 alike (Invoked name given filter (ThatWindow w)) = refl
 alike (Invoked name given filter (OwnWindow copied partition order frame)) = refl
 alike NullWord = refl

@@ -2,6 +2,7 @@
 use Rattle.std.proofs.Common.{◌≡◌, ℕ, List, [], ◌∷◌, ◌++◌, Option, Some, None, map, ap, sym, ◌∙◌, append_assoc, if◌then◌else◌}
 use Rattle.wsegment.specs.Declaration.{Declaration}
 use Rattle.wquery.specs.declared.query.Query.{Query}
+use Rattle.wquery.specs.GroupElements.{Element, all_columns}
 use Rattle.wquery.specs.QueryTree.{Clauses, QueryTree, view_query, view_source, view_item}
 use Rattle.wquery.specs.Tree.{Tree}
 use Rattle.wscope.specs.Types.{Titled}
@@ -9,19 +10,22 @@ use Rattle.wscope.specs.Sources.{origin_of, answer_columns, answered}
 use Rattle.wplan.specs.Plans.{SelectPlan}
 use Rattle.wdistinct.specs.Calls.{group_calls, window_calls}
 use Rattle.wdistinct.specs.Clauses.{clauses_in}
+use Rattle.wgroupby.specs.Sets.{with_unseen}
 use Rattle.wsettle.specs.Resolving.{Layout}
-use Rattle.wresolve.specs.Selecting.{select_over, select_with, select_made, is_grouped, group_columns, resolved_query, resolved_source}
+use Rattle.wsettle.specs.Groups.{elements_made}
+use Rattle.wresolve.specs.Selecting.{select_over, select_with, select_made, is_grouped, resolved_query, resolved_source}
 use Rattle.wresolve.proofs.Views.{query_is}
 
 abbrev row : List Titled → List Tree → Option (List ℕ) → Layout
 row cs calls o = record { columns = cs; grouping = o; calls = calls }
 
 -- a SELECT over the parts that were found
-pub with_parts : (cs : List Titled) (c : Clauses) (g w all : List Tree) (ps : List ℕ) (p : SelectPlan) → all ≡ g ++ w → ps ≡ group_columns cs c → p ≡ select_over cs g w (row cs all (if is_grouped c g then Some ps else None)) c → p ≡ select_with cs c g w
-with_parts cs c g w all ps p ea ep h =
+pub with_parts : (cs : List Titled) (c : Clauses) (g w all : List Tree) (es : List (Element ℕ)) (ps : List ℕ) (p : SelectPlan) → all ≡ g ++ w → es ≡ elements_made cs c.grouping → ps ≡ with_unseen [] (all_columns es) → p ≡ select_over cs es g w (row cs all (if is_grouped c g then Some ps else None)) c → p ≡ select_with cs c g w
+with_parts cs c g w all es ps p ea ee ep h =
     h
-    ∙ ap (λ (x : List Tree). select_over cs g w (row cs x (if is_grouped c g then Some ps else None)) c) ea
-    ∙ ap (λ (x : List ℕ). select_over cs g w (row cs (g ++ w) (if is_grouped c g then Some x else None)) c) ep
+    ∙ ap (λ (x : List Tree). select_over cs es g w (row cs x (if is_grouped c g then Some ps else None)) c) ea
+    ∙ ap (λ (x : List ℕ). select_over cs es g w (row cs (g ++ w) (if is_grouped c g then Some x else None)) c) ep
+    ∙ ap (λ (x : List (Element ℕ)). select_over cs x g w (row cs (g ++ w) (if is_grouped c g then Some (with_unseen [] (all_columns x)) else None)) c) ee
 
 pub with_calls : (cs : List Titled) (c : Clauses) (g w : List Tree) (p : SelectPlan) → g ≡ group_calls c → w ≡ window_calls c → p ≡ select_with cs c g w → p ≡ select_made cs c
 with_calls cs c g w p eg ew h =

@@ -1,5 +1,5 @@
--- The SELECTs that a query stands for, with each name and default settled. (SQL, `<query specification>`, `<window
--- clause>`, `<window function>`; PostgreSQL, SELECT, ORDER BY Clause.)
+-- The SELECTs that a query stands for, with each name and default settled. (SQL, `<query specification>`, `<group by
+-- clause>`, `<window clause>`, `<window function>`; PostgreSQL, SELECT, ORDER BY Clause.)
 use Rattle.std.specs.Prelude.{ℕ, zero, suc, ◌-◌, Bool, true, false, ◌||◌, List, [], ◌∷◌, ◌++◌, map, length, Option, Some, None, is_some, if◌then◌else◌, unwrap_or}
 use Rattle.std.specs.Str.{bytes_eq}
 use Rattle.wsegment.specs.Declaration.{Declaration}
@@ -11,18 +11,21 @@ use Rattle.wquery.specs.declared.frame.FrameBound.TheVariants.{UnboundedPrecedin
 use Rattle.wquery.specs.declared.frame.FrameExclusion.{FrameExclusion}
 use Rattle.wquery.specs.declared.frame.FrameExclusion.TheVariants.{NoOthers}
 use Rattle.wquery.specs.Tree.{Tree, NullWord, Numeral, Field, Invoked, Trees, NoTrees, MoreTrees, Reach, ItsGroup, ThatWindow, OwnWindow, Keys, NoKeys, MoreKeys, KeyTree}
+use Rattle.wquery.specs.GroupElements.{Element, all_columns}
 use Rattle.wquery.specs.QueryTree.{Clauses, QueryTree, Selected, SourceTree, FromTable, FromQuery}
 use Rattle.wvalues.specs.declared.key.SortKey.{SortKey}
 use Rattle.wsame.specs.Bounds.{end_of}
-use Rattle.wscope.specs.Types.{Titled, place_named}
+use Rattle.wscope.specs.Types.{Titled}
 use Rattle.wscope.specs.Sources.{Shown, Placed, Spelled, ShownItem, written_out, origin_of}
 use Rattle.wscope.specs.Windows.{NamedWindow, Settled, settle, settle_all}
 use Rattle.wplan.specs.declared.resolved.SettledFrame.{SettledFrame}
 use Rattle.wplan.specs.Formula.{Formula, At}
 use Rattle.wplan.specs.Plans.{GroupingPlan, KeyPlan, WindowPlan, CallPlan, OutputPlan, SelectPlan}
+use Rattle.wgroupby.specs.Sets.{query_sets, with_unseen}
 use Rattle.wdistinct.specs.Calls.{group_calls, window_calls}
 use Rattle.wsettle.specs.Resolving.{Layout, source_row, cell_of, resolved, resolved_option}
-use Rattle.wsettle.specs.Functions.{aggregate_made, call_function}
+use Rattle.wsettle.specs.Functions.{call_function}
+use Rattle.wsettle.specs.Groups.{elements_made, group_call_made}
 
 -- windows
 
@@ -116,20 +119,16 @@ abbrev pub has_some : {X : Type 0} → List X → Bool
 has_some [] = false
 has_some (x ∷ xs) = true
 
-abbrev pub column_place : List Titled → Tree → ℕ
-column_place cs (Field qualifier name) = place_named cs name
-column_place cs _ = length cs
-
--- the places of GROUP BY's columns in the source's row
+-- the places in the source's row of the columns that GROUP BY names, each once, in the order of first sight
 abbrev pub group_columns : List Titled → Clauses → List ℕ
-group_columns cs c = map (column_place cs) c.grouping
+group_columns cs c = with_unseen [] (all_columns (elements_made cs c.grouping))
 
--- GROUP BY, HAVING, or an aggregate without OVER in the SELECT list, WINDOW or ORDER BY, of which these are all
+-- GROUP BY, HAVING, or an aggregate without OVER or GROUPING in the SELECT list, WINDOW or ORDER BY, of which these are all
 abbrev pub is_grouped : Clauses → List Tree → Bool
 is_grouped c grouped = has_some c.grouping || (is_some c.having || has_some grouped)
 
--- the row of windows, items and keys: the source's, or GROUP BY's columns and the aggregates; behind it what the calls
--- with OVER answer
+-- the row of windows, items and keys: the source's, or GROUP BY's columns and what the group's calls answer; behind it what
+-- the calls with OVER answer
 abbrev pub shown_row : List Titled → Clauses → List Tree → List Tree → Layout
 shown_row cs c grouped windowed = record { columns = cs; grouping = if is_grouped c grouped then Some (group_columns cs c) else None; calls = grouped ++ windowed }
 
@@ -160,21 +159,22 @@ key_shown items t = Spelled t
 abbrev pub order_made : Layout → List ShownItem → KeyTree → KeyPlan
 order_made l items k = key_made (shown_formula l (key_shown items k.expression)) k.descending k.nulls
 
--- GROUP BY where the row of windows, items and keys is a group's; the aggregates are over the source's row, HAVING over the
--- group's
-abbrev pub grouping_over : List Titled → List Tree → Layout → Clauses → Option (List ℕ) → Option GroupingPlan
-grouping_over cs grouped l c None = None
-grouping_over cs grouped l c (Some places) = Some (record { columns = places; aggregates = map (aggregate_made (source_row cs)) grouped; having = resolved_option l c.having })
+-- GROUP BY where the row of windows, items and keys is a group's; its sets are by places in the source's row, the aggregates
+-- and GROUPING are over the source's row, HAVING over the group's
+abbrev pub grouping_over : List Titled → List (Element ℕ) → List Tree → Layout → Clauses → Option (List ℕ) → Option GroupingPlan
+grouping_over cs elements grouped l c None = None
+grouping_over cs elements grouped l c (Some places) = Some (record { columns = places; sets = query_sets elements; calls = map (group_call_made (source_row cs)) grouped; having = resolved_option l c.having })
 
 -- those of WINDOW entries, used or not, and behind them those of calls
 abbrev pub windows_made : Layout → List NamedWindow → List Tree → List WindowPlan
 windows_made l ws windowed = entries_made l ws ++ own_windows l ws windowed
 
--- a SELECT over these columns, with these aggregates without OVER and these calls with OVER, whose items are over this row
-abbrev pub select_over : List Titled → List Tree → List Tree → Layout → Clauses → SelectPlan
-select_over cs grouped windowed l c = record {
+-- a SELECT over these columns, with these elements of GROUP BY, these aggregates without OVER and GROUPING, and these calls
+-- with OVER, whose items are over this row
+abbrev pub select_over : List Titled → List (Element ℕ) → List Tree → List Tree → Layout → Clauses → SelectPlan
+select_over cs elements grouped windowed l c = record {
   condition = resolved_option (source_row cs) c.condition;
-  grouping = grouping_over cs grouped l c l.grouping;
+  grouping = grouping_over cs elements grouped l c l.grouping;
   windows = windows_made l (settle_all [] c.windows) windowed;
   calls = calls_made l (settle_all [] c.windows) (length (settle_all [] c.windows)) windowed;
   items = map (output_made l) (written_out cs c.items);
@@ -185,7 +185,7 @@ select_over cs grouped windowed l c = record {
 
 -- the same over the row that these calls make
 abbrev pub select_with : List Titled → Clauses → List Tree → List Tree → SelectPlan
-select_with cs c grouped windowed = select_over cs grouped windowed (shown_row cs c grouped windowed) c
+select_with cs c grouped windowed = select_over cs (elements_made cs c.grouping) grouped windowed (shown_row cs c grouped windowed) c
 
 -- a SELECT over these columns
 abbrev pub select_made : List Titled → Clauses → SelectPlan

@@ -73,7 +73,7 @@ fn push_select(
 }
 
 /// The query with each name and default settled, whether or not it breaks a rule. A name that nothing has is a place that
-/// no row has.
+/// no row has. The sets of GROUP BY are all made, however many: `resolve` counts them before.
 pub fn resolved(alloc: Global, schema: &Schema, query: &Query) -> Result<Resolved, AllocError>
     ensures { IfOk result (λ resolved. plans resolved ≡ resolved_query schema.now (view_query query.now)) }
 {

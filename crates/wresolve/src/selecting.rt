@@ -1,54 +1,43 @@
 //! SELECTs with each name and default settled.
 
 ghost use Rattle.std.specs.Prelude.{◌≡◌, [], ◌||◌, IfOk, map, length, Some, None, is_some, unwrap_or, if◌then◌else◌};
-ghost use Rattle.wquery.specs.Tree.{view_key, view_column, view_optional};
+ghost use Rattle.wquery.specs.GroupElements.{view_element};
+ghost use Rattle.wquery.specs.Tree.{view_key, view_optional};
 ghost use Rattle.wplan.specs.Formula.{formula};
-ghost use Rattle.wplan.specs.Plans.{aggregate_plan, grouping_plan, optional_formula, optional_grouping, output_plan, key_plan, select_plan, window_plan, call_plan};
+ghost use Rattle.wplan.specs.Plans.{group_call_plan, grouping_plan, optional_formula, optional_grouping, output_plan, key_plan, select_plan, window_plan, call_plan};
 ghost use Rattle.wscope.specs.Sources.{all_titled, written_out as items_written};
 ghost use Rattle.wscope.specs.Windows.{named_windows, settle_all as settled_entries};
+ghost use Rattle.wgroupby.specs.Held.{element_in};
+ghost use Rattle.wgroupby.specs.Sets.{query_sets as sets_of};
 ghost use Rattle.wdistinct.specs.Calls.{call_trees};
 ghost use Rattle.wdistinct.specs.Clauses.{clauses_in};
 ghost use Rattle.wdistinct.specs.Places.{calls_in};
 ghost use Rattle.wsettle.specs.Resolving.{layout_of, row_calls, places_of, source_row, resolved_option};
-ghost use Rattle.wsettle.specs.Functions.{aggregate_made};
+ghost use Rattle.wsettle.specs.Groups.{group_call_made};
 ghost use Rattle.wresolve.specs.Shown.{shown_of, shown_item, shown_items};
-ghost use Rattle.wresolve.specs.Selecting.{column_place, output_made, order_made, shown_formula, grouping_over, windows_made, calls_made, has_some, is_grouped as is_grouped_query, select_over, select_with, select_made};
+ghost use Rattle.wresolve.specs.Selecting.{output_made, order_made, shown_formula, grouping_over, windows_made, calls_made, has_some, is_grouped as is_grouped_query, select_over, select_with, select_made};
 
 use crate::shown::{ShownOutput, ShownValue, key_value, written_out};
 use crate::windows::{build_calls, build_entries, push_own_windows, sort_key};
 use std::alloc::{AllocError, Global};
 use std::rc::RcStr;
 use wdistinct::{group_calls, window_calls};
-use wplan::{Aggregate, CallOver, Expr, Grouping, Output, Selection, SettledKey, SettledWindow};
-use wquery::{Call, Column, Key, Query};
-use wscope::{FullEntry, SourceColumn, place_named, settle_all};
-use wsettle::{RowCalls, RowLayout, build, build_aggregate, build_option};
+use wgroupby::{PlacedElement, group_columns, query_sets};
+use wplan::{CallOver, Expr, GroupCall, Grouping, Output, Selection, SettledKey, SettledWindow};
+use wquery::{Call, Key, Query};
+use wscope::{FullEntry, SourceColumn, settle_all};
+use wsettle::{RowCalls, RowLayout, build, build_elements, build_group_call, build_option};
 
-fn group_columns(
-    alloc: Global,
-    columns: &[SourceColumn],
-    grouping: &[Column],
-) -> Result<Vec<usize>, AllocError>
-    ensures { IfOk result (λ places. places.items ≡ map (column_place (all_titled columns.now)) (map view_column grouping.now)) }
-{
-    let mut places = Vec::with_capacity(alloc, grouping.len())?;
-    'grouping: for column in grouping {
-        let place = place_named(columns, column.name.as_str());
-        places.push(place)?;
-    }
-    Ok(places)
-}
-
-fn build_aggregates(
+fn build_group_calls(
     alloc: Global,
     layout: &RowLayout,
     calls: &[&Call],
-) -> Result<Vec<Aggregate>, AllocError>
-    ensures { IfOk result (λ made. map aggregate_plan made.items ≡ map (aggregate_made (layout_of layout.now)) (call_trees calls.now)) }
+) -> Result<Vec<GroupCall>, AllocError>
+    ensures { IfOk result (λ made. map group_call_plan made.items ≡ map (group_call_made (layout_of layout.now)) (call_trees calls.now)) }
 {
     let mut made = Vec::with_capacity(alloc, calls.len())?;
     'calls: for call in calls {
-        let next = build_aggregate(alloc, layout, call)?;
+        let next = build_group_call(alloc, layout, call)?;
         made.push(next)?;
     }
     Ok(made)
@@ -121,7 +110,7 @@ fn build_order(
 }
 
 fn is_grouped(query: &Query, grouped: &[&Call]) -> bool
-    ensures { result ≡ (has_some (map view_column query.now.grouping.items) || (is_some (view_optional query.now.having) || has_some (call_trees grouped.now))) }
+    ensures { result ≡ (has_some (map view_element query.now.grouping.items) || (is_some (view_optional query.now.having) || has_some (call_trees grouped.now))) }
 {
     !query.grouping.is_empty() || (query.having.is_some() || !grouped.is_empty())
 }
@@ -159,21 +148,24 @@ fn source_layout<'a, 'b, 'c>(
 fn build_grouping(
     alloc: Global,
     columns: &[SourceColumn],
+    elements: &[PlacedElement],
     places: &[usize],
     grouped: &[&Call],
     layout: &RowLayout,
     query: &Query,
 ) -> Result<Grouping, AllocError>
-    ensures { IfOk result (λ g. grouping_plan g ≡ record { columns = places.now; aggregates = map (aggregate_made (source_row (all_titled columns.now))) (call_trees grouped.now); having = resolved_option (layout_of layout.now) (view_optional query.now.having) }) }
+    ensures { IfOk result (λ g. grouping_plan g ≡ record { columns = places.now; sets = sets_of (map element_in elements.now); calls = map (group_call_made (source_row (all_titled columns.now))) (call_trees grouped.now); having = resolved_option (layout_of layout.now) (view_optional query.now.having) }) }
 {
     let none = RowCalls::none(alloc);
     let source = source_layout(columns, &none);
-    let aggregates = build_aggregates(alloc, &source, grouped)?;
+    let calls = build_group_calls(alloc, &source, grouped)?;
     let having = build_option(alloc, layout, &query.having)?;
+    let sets = query_sets(alloc, elements)?;
     let columns = places.to_vec(alloc)?;
     Ok(Grouping {
         columns,
-        aggregates,
+        sets,
+        calls,
         having,
     })
 }
@@ -181,16 +173,17 @@ fn build_grouping(
 fn build_optional_grouping(
     alloc: Global,
     columns: &[SourceColumn],
+    elements: &[PlacedElement],
     grouped: &[&Call],
     layout: &RowLayout,
     query: &Query,
 ) -> Result<Option<Grouping>, AllocError>
-    ensures { IfOk result (λ g. optional_grouping g ≡ grouping_over (all_titled columns.now) (call_trees grouped.now) (layout_of layout.now) (clauses_in query.now) (layout_of layout.now).grouping) }
+    ensures { IfOk result (λ g. optional_grouping g ≡ grouping_over (all_titled columns.now) (map element_in elements.now) (call_trees grouped.now) (layout_of layout.now) (clauses_in query.now) (layout_of layout.now).grouping) }
 {
     match layout.grouping {
         None => Ok(None),
         Some(places) => {
-            let grouping = build_grouping(alloc, columns, places, grouped, layout, query)?;
+            let grouping = build_grouping(alloc, columns, elements, places, grouped, layout, query)?;
             Ok(Some(grouping))
         }
     }
@@ -269,15 +262,16 @@ fn build_items(
 fn build_selection(
     alloc: Global,
     columns: &[SourceColumn],
+    elements: &[PlacedElement],
     grouped: &[&Call],
     windowed: &[&Call],
     layout: &RowLayout,
     query: &Query,
 ) -> Result<Selection, AllocError>
-    ensures { IfOk result (λ s. select_plan s ≡ select_over (all_titled columns.now) (call_trees grouped.now) (call_trees windowed.now) (layout_of layout.now) (clauses_in query.now)) }
+    ensures { IfOk result (λ s. select_plan s ≡ select_over (all_titled columns.now) (map element_in elements.now) (call_trees grouped.now) (call_trees windowed.now) (layout_of layout.now) (clauses_in query.now)) }
 {
     let condition = build_condition(alloc, columns, query)?;
-    let grouping = build_optional_grouping(alloc, columns, grouped, layout, query)?;
+    let grouping = build_optional_grouping(alloc, columns, elements, grouped, layout, query)?;
     let (windows, calls) = build_called(alloc, layout, windowed, query)?;
     let (items, keys) = build_items(alloc, columns, layout, query)?;
     Ok(Selection {
@@ -310,15 +304,16 @@ fn limit_of(query: &Query) -> Option<u128>
     }
 }
 
-// A SELECT over the row of these columns, calls and places of the group's columns.
+// A SELECT over the row of these columns, calls and places of the group's columns, with these elements of GROUP BY.
 fn build_over<'a>(
     alloc: Global,
     columns: &'a [SourceColumn],
     calls: &RowCalls,
+    elements: &[PlacedElement],
     places: &'a [usize],
     query: &'a Query,
 ) -> Result<Selection, AllocError>
-    ensures { IfOk result (λ s. select_plan s ≡ select_over (all_titled columns.now) (calls_in calls.now.grouped) (calls_in calls.now.windowed) (record { columns = all_titled columns.now; grouping = if is_grouped_query (clauses_in query.now) (calls_in calls.now.grouped) then Some places.now else None; calls = row_calls calls.now }) (clauses_in query.now)) }
+    ensures { IfOk result (λ s. select_plan s ≡ select_over (all_titled columns.now) (map element_in elements.now) (calls_in calls.now.grouped) (calls_in calls.now.windowed) (record { columns = all_titled columns.now; grouping = if is_grouped_query (clauses_in query.now) (calls_in calls.now.grouped) then Some places.now else None; calls = row_calls calls.now }) (clauses_in query.now)) }
 {
     let grouped = calls.grouped.listed(alloc)?;
     let windowed = calls.windowed.listed(alloc)?;
@@ -327,6 +322,7 @@ fn build_over<'a>(
     let selection = build_selection(
         alloc,
         columns,
+        elements,
         grouped.as_slice(),
         windowed.as_slice(),
         &layout,
@@ -343,8 +339,16 @@ fn build_with<'a>(
 ) -> Result<Selection, AllocError>
     ensures { IfOk result (λ s. select_plan s ≡ select_with (all_titled columns.now) (clauses_in query.now) (calls_in calls.now.grouped) (calls_in calls.now.windowed)) }
 {
-    let places = group_columns(alloc, columns, query.grouping.as_slice())?;
-    let selection = build_over(alloc, columns, calls, places.as_slice(), query)?;
+    let elements = build_elements(alloc, columns, query.grouping.as_slice())?;
+    let places = group_columns(alloc, elements.as_slice())?;
+    let selection = build_over(
+        alloc,
+        columns,
+        calls,
+        elements.as_slice(),
+        places.as_slice(),
+        query,
+    )?;
     Ok(selection)
 }
 

@@ -2,3 +2,4 @@ mod Views
 mod Placed
 mod FunctionFacts
 mod Made
+mod GroupFacts

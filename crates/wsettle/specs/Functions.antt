@@ -3,7 +3,7 @@
 use Rattle.std.specs.Prelude.{ℕ, zero, suc, pos, neg_ℤ, nat_lt, ◌^◌, true, Option, Some, None, if◌then◌else◌}
 use Rattle.std.specs.Borrow.{Bor}
 use Rattle.wquery.specs.declared.expression.Expression.{Expression}
-use Rattle.wquery.specs.Tree.{Tree, NullWord, Numeral, Quoted, Invoked, Signed, Trees, NoTrees, MoreTrees, Given, Everything, These, Filter, Unfiltered, FilteredBy, view}
+use Rattle.wquery.specs.Tree.{Tree, NullWord, Numeral, Quoted, Invoked, Signed, Trees, NoTrees, MoreTrees, Given, Everything, These, Columns, Filter, Unfiltered, FilteredBy, view}
 use Rattle.wvalues.specs.Meaning.{Meaning, Null, Int, Text}
 use Rattle.wscope.specs.declared.function.Function.{Function}
 use Rattle.wscope.specs.declared.function.Function.TheVariants as functions
@@ -20,9 +20,11 @@ tree_at n NoTrees = NullWord
 tree_at zero (MoreTrees t ts) = t
 tree_at (suc n) (MoreTrees t ts) = tree_at n ts
 
+-- the columns of GROUPING are no arguments
 abbrev pub argument : ℕ → Given → Tree
 argument n Everything = NullWord
 argument n (These ts) = tree_at n ts
+argument n (Columns ts) = NullWord
 
 -- an argument in memory
 abbrev pub tree_or_null : Option (Bor Expression) → Tree
@@ -55,6 +57,7 @@ aggregate_function (Some functions.Min) given = aggregates.Min
 aggregate_function (Some functions.Max) given = aggregates.Max
 aggregate_function f Everything = aggregates.CountRows
 aggregate_function f (These ts) = aggregates.Count
+aggregate_function f (Columns ts) = aggregates.Count
 
 abbrev pub aggregated : Layout → Option Function → Given → Filter → AggregatePlan
 aggregated l f given filter = record { function = aggregate_function f given; argument = resolved l (argument 0 given); filter = filter_made l filter }

@@ -1,2 +1,3 @@
 pub mod Resolving
 pub mod Functions
+pub mod Groups

@@ -30,6 +30,7 @@ fn argument_at(arguments: &Arguments, place: usize) -> Option<&Expression>
     match arguments {
         Arguments::Star => None,
         Arguments::Listed(list) => tree_of(list.as_slice(), place),
+        Arguments::Columns(_) => None,
     }
 }
 

@@ -22,6 +22,7 @@ fn count_function(arguments: &Arguments) -> AggregateFunction
     match arguments {
         Arguments::Star => AggregateFunction::CountRows,
         Arguments::Listed(_) => AggregateFunction::Count,
+        Arguments::Columns(_) => AggregateFunction::Count,
     }
 }
 
@@ -88,7 +89,7 @@ fn build_aggregated(
 }
 
 /// An aggregate.
-pub fn build_aggregate(
+pub(crate) fn build_aggregate(
     alloc: Global,
     layout: &RowLayout,
     call: &Call,

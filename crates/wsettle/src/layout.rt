@@ -10,7 +10,7 @@ use wdistinct::CallSet;
 use wquery::Call;
 use wscope::SourceColumn;
 
-/// The calls whose answers stand behind the cells of a row: aggregates without OVER, then calls with OVER.
+/// The calls whose answers stand behind the cells of a row: aggregates without OVER and GROUPING, then calls with OVER.
 #[derive(Drop)]
 pub struct RowCalls<'a> {
     pub grouped: CallSet<'a>,
