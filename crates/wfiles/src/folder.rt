@@ -39,7 +39,7 @@ pub trait Folder {
     /// What is counted of the calls.
     ghost counts: { Self → CallCounts };
 
-    /// Takes the folder's lock, for as long as the folder is open.
+    /// Takes the folder's lock, for as long as the folder is open. It may wait for another that has it.
     fn lock(&mut self) -> Result<(), Fault>
         requires { IsSound (counts self.old) }
         ensures calls { calls self.new ≡ Locked (is_ok result) ∷ calls self.old }

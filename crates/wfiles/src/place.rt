@@ -7,11 +7,11 @@ use crate::fault::Fault;
 use crate::files::read_if_there;
 use crate::folder::{Folder, Target};
 use crate::real::RealFolder;
-use crate::replacing::{NotReplaced, replace};
+use crate::replacing::{NotReplaced, path_in, replace};
 use crate::system::System;
 use std::alloc::Global;
 use std::fs::File;
-use std::rt::Files;
+use std::rt::{Clock, Files};
 
 /// A file that may be replaced: a plain one that may be written, found behind the links to it, or none yet. While this
 /// stands no other such program replaces a file of its folder.
@@ -30,25 +30,33 @@ fn folder_of(path: &str) -> &str {
     }
 }
 
-// The path of the file that is replaced.
+// The name of a path's file in that folder.
+fn name_of(path: &str) -> &str {
+    match path.rsplit_once('/') {
+        Some((_, name)) => name,
+        None => path,
+    }
+}
+
+// The path of the file that is replaced: where it is no link, it is as it was given, so that it may be of any length and stand
+// in a folder of any name.
 fn path_behind<R: Files<File = File> + AllocGlobal>(
     alloc: Global,
     system: &mut System<'_, R>,
     path: &str,
-    is_there: bool,
 ) -> Result<String, Fault>
     requires { IsSound system.old }
     ensures sound { OnOk result (IsSound system.new) }
     ensures cause { IfErr result (λ fault. HasCause fault system.new) }
 {
-    if is_there {
+    if system.is_link(path)? {
         return system.real_path(path);
     }
     system.grown(String::from_str(alloc, path))
 }
 
 // The folder of a path, whose lock this run holds from then on.
-fn locked_folder<R: Files<File = File> + AllocGlobal>(
+fn locked_folder<R: Files<File = File> + AllocGlobal + Clock + Eprint>(
     system: &mut System<'_, R>,
     path: &str,
 ) -> Result<File, Fault>
@@ -79,9 +87,9 @@ fn replace_locked<F: Folder>(
 }
 
 impl Place {
-    /// Where the file of a path stands. It waits until no other such program replaces a file of the folder; a folder that cannot
-    /// be locked is a write fault.
-    pub fn find<R: Files<File = File> + AllocGlobal>(
+    /// Where the file of a path stands. It waits until no other such program replaces a file of the folder, for a minute at most;
+    /// a folder that cannot be locked is a write fault.
+    pub fn find<R: Files<File = File> + AllocGlobal + Clock + Eprint>(
         alloc: Global,
         system: &mut System<'_, R>,
         path: &str,
@@ -90,9 +98,11 @@ impl Place {
         ensures sound { OnOk result (IsSound system.new) }
         ensures cause { IfErr result (λ fault. HasCause fault system.new) }
     {
-        let found = system.replaceable(path)?;
-        let path = path_behind(alloc, system, path, found.is_some())?;
-        let parent = system.grown(String::from_str(alloc, folder_of(path.as_str())))?;
+        system.replaceable(path)?;
+        let found = path_behind(alloc, system, path)?;
+        let parent = system.grown(String::from_str(alloc, folder_of(found.as_str())))?;
+        // spelled as new files are, so that the store is never taken for one
+        let path = system.grown(path_in(alloc, parent.as_str(), name_of(found.as_str())))?;
         let folder = locked_folder(system, parent.as_str())?;
         // as it is while no other run replaces it
         let access = system.replaceable(path.as_str())?;
@@ -121,7 +131,7 @@ impl Place {
 
     /// Puts these bytes in the place of the file's, whole, as `replace` does. At a fault the file is as it was, but where only the
     /// folder could not be brought to the disk: then it has the new bytes.
-    pub fn replace<R: Files<File = File> + AllocGlobal>(
+    pub fn replace<R: Files<File = File> + AllocGlobal + Clock + Eprint>(
         &self,
         alloc: Global,
         system: &mut System<'_, R>,

@@ -11,7 +11,7 @@ use crate::record::Record;
 use crate::system::System;
 use std::alloc::Global;
 use std::fs::File;
-use std::rt::Files;
+use std::rt::{Clock, Files};
 
 const LOCKED: u64 = 0;
 
@@ -73,7 +73,7 @@ impl<'s, 'a, R> RealFolder<'s, 'a, R> {
     }
 }
 
-impl<R: Files<File = File> + AllocGlobal> Folder for RealFolder<'_, '_, R> {
+impl<R: Files<File = File> + AllocGlobal + Clock + Eprint> Folder for RealFolder<'_, '_, R> {
     ghost calls = { λ f. f.trace.calls };
 
     ghost counts = { λ f. f.system };

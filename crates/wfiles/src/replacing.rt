@@ -38,8 +38,8 @@ fn is_new_name(name: &[u8]) -> bool
     }
 }
 
-// The path of a file in a folder.
-fn path_in(alloc: Global, folder: &str, name: &str) -> Result<String, AllocError>
+/// The path of a file in a folder.
+pub(crate) fn path_in(alloc: Global, folder: &str, name: &str) -> Result<String, AllocError>
     ensures { IfOk result (λ path. string_bytes path ≡ folder.now ++ 47 ∷ name.now) }
 {
     let mut path = String::from_str(alloc, folder)?;

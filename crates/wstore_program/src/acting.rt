@@ -8,7 +8,7 @@ ghost use Rattle.wfiles.specs.Calls.{HasCause, IsSound};
 
 use std::alloc::{AllocError, Global};
 use std::fs::File;
-use std::rt::Files;
+use std::rt::{Clock, Files};
 use wact::{Acted, act};
 use wcommand::{Choice, Paths};
 use wfiles::{Fault, Place, System, read_if_there, read_whole};
@@ -51,7 +51,7 @@ fn read_input<R: Files<File = File> + AllocGlobal>(
 
 // Puts the new store in its place, if the subcommand gives one. What another program has put there since the store was
 // read is not lost: the subcommand is then done again, on what stands there now.
-fn settle<R: Files<File = File> + AllocGlobal>(
+fn settle<R: Files<File = File> + AllocGlobal + Clock + Eprint>(
     alloc: Global,
     system: &mut System<'_, R>,
     choice: &Choice<'_>,
@@ -87,7 +87,7 @@ fn settle<R: Files<File = File> + AllocGlobal>(
 /// Reads the files of a subcommand, the table, the store, then CSV or OTHER, and replaces the store where it may have
 /// changed. A reply is that of the subcommand on bytes that were read. A fault comes only where a call failed or a growth
 /// was refused, and nothing else has failed then.
-pub fn perform<R: Files<File = File> + AllocGlobal>(
+pub fn perform<R: Files<File = File> + AllocGlobal + Clock + Eprint>(
     alloc: Global,
     system: &mut System<'_, R>,
     choice: &Choice<'_>,

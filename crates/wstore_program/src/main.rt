@@ -17,7 +17,7 @@ use std::env;
 use std::fs::File;
 use std::io::{ErrorKind, Write};
 use std::process::ExitCode;
-use std::rt::Files;
+use std::rt::{Clock, Files};
 use wcommand::{Choice, Paths, WordsFault, choose};
 use wfiles::{Fault, System};
 use wstore::{End, RunFault, run};
@@ -78,7 +78,7 @@ fn print<R, W: Write>(
 }
 
 // Runs a subcommand on its files, and prints its reply.
-fn run_on_files<R: Files<File = File> + Eprint + AllocGlobal, W: Write>(
+fn run_on_files<R: Files<File = File> + AllocGlobal + Clock + Eprint, W: Write>(
     rt: &R,
     system: &mut System<'_, R>,
     output: &mut W,
