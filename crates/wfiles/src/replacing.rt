@@ -226,6 +226,18 @@ pub enum NotReplaced {
     Unsynced(Fault),
 }
 
+impl NotReplaced {
+    /// The fault behind it.
+    pub fn fault(self) -> Fault
+        ensures { result ≡ fault_of self }
+    {
+        match self {
+            NotReplaced::Kept(fault) => fault,
+            NotReplaced::Unsynced(fault) => fault,
+        }
+    }
+}
+
 // Brings the folder to the disk, once the store is replaced.
 fn settle<F: Folder>(folder: &mut F) -> Result<(), NotReplaced>
     requires { IsSound (F.counts folder.old) }

@@ -1,5 +1,5 @@
 use Rattle.std.proofs.Common.{◌≡◌, ◌++◌, IsUtf8, chars, map, string_bytes, encode_utf8_all}
-use Rattle.core.specs.Str.Iter.{chars_rest}
+use Rattle.std.specs.Str.Iter.{chars_rest}
 use Rattle.wcommand.specs.ShownTexts.{shown}
 use Rattle.wcommand.proofs.choosing.text_shown.Given as goal
 
