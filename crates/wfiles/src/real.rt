@@ -40,8 +40,8 @@ impl<'s, 'a, R> RealFolder<'s, 'a, R> {
 
     /// The system with what was counted, and the calls that were made.
     pub(crate) fn ended(self) -> (System<'a, R>, Record)
-        ensures system { result.0 ≡ self.system }
-        ensures calls { result.1.calls ≡ self.trace.calls }
+        ensures system { result.0 ≡ self.entry.system }
+        ensures calls { result.1.calls ≡ self.entry.trace.calls }
     {
         (self.system.again(), self.trace)
     }
