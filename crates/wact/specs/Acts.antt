@@ -1,5 +1,5 @@
 -- What each subcommand does.
-use Rattle.std.specs.Prelude.{◌≡◌, ◌≢◌, ⊤, ℕ, List, Option, Some, None, Result, Ok, Err, IsOk, codes, map}
+use Rattle.std.specs.Prelude.{◌≡◌, ◌≢◌, ⊤, ℕ, List, Option, Some, None, Result, Ok, Err, IsOk, ◌≤◌, length, codes, map}
 use Rattle.std.specs.FinMap.{empty, entries}
 use Rattle.wvalues.specs.Names.{NameParts}
 use Rattle.wvalues.specs.NameReading.{ReadsName}
@@ -33,22 +33,22 @@ pub data OnName (origin number : List ℕ) (acted : Acted) (Does : NameParts →
   Named : (name : NameParts) → ReadsName origin number (Ok name) → Does name → OnName origin number acted Does
 
 -- a segment is taken, or its first fault is told
-pub data Takes (d : Declaration) (v : View) (csv : List ℕ) (acted : Acted) (name : NameParts) : Type 0 where
-  SegmentRefused : (fault : SegmentFault) → rows_of d csv ≡ Err fault → IsRefused acted (segment_text fault) → Takes d v csv acted name
-  Taken : IsOk (rows_of d csv) → IsStored d (join v (view_of_item (SegmentItem name csv))) acted (taken_text (taken_word (known_in v name) csv)) → Takes d v csv acted name
+pub data Takes (d : Declaration) (v : View) (old : Option (List ℕ)) (csv : List ℕ) (acted : Acted) (name : NameParts) : Type 0 where
+  SegmentRefused : (fault : SegmentFault) → rows_of d csv ≡ Err fault → IsRefused acted (segment_text fault) → Takes d v old csv acted name
+  Taken : IsOk (rows_of d csv) → IsStored d (join v (view_of_item (SegmentItem name csv))) old acted (taken_text (taken_word (known_in v name) csv)) → Takes d v old csv acted name
 
 -- a name is retired
-abbrev pub Retires : Declaration → View → Acted → NameParts → Type 0
-Retires d v acted name = IsStored d (join v (view_of_item (RetirementItem name))) acted (retired_text (retired_word (known_in v name)))
+abbrev pub Retires : Declaration → View → Option (List ℕ) → Acted → NameParts → Type 0
+Retires d v old acted name = IsStored d (join v (view_of_item (RetirementItem name))) old acted (retired_text (retired_word (known_in v name)))
 
 -- all names of an origin up to one are retired
-abbrev pub RetiresTo : Declaration → View → Acted → NameParts → Type 0
-RetiresTo d v acted name = IsStored d (join v (view_of_item (FloorItem name))) acted (retired_text (floor_word v name))
+abbrev pub RetiresTo : Declaration → View → Option (List ℕ) → Acted → NameParts → Type 0
+RetiresTo d v old acted name = IsStored d (join v (view_of_item (FloorItem name))) old acted (retired_text (floor_word v name))
 
 -- another store is joined, or its first fault is told
-pub data Joins (d : Declaration) (v : View) (other : List ℕ) (acted : Acted) : Type 0 where
-  OtherRefused : (fault : FileFault) → fault ≢ files.NoMemory → IsFault d other fault → IsRefused acted (file_text fault) → Joins d v other acted
-  Joined : (w : View) → IsFileOf d w other → IsStored d (join v w) acted (codes "ok\n") → Joins d v other acted
+pub data Joins (d : Declaration) (v : View) (old : Option (List ℕ)) (other : List ℕ) (acted : Acted) : Type 0 where
+  OtherRefused : (fault : FileFault) → fault ≢ files.NoMemory → IsFault d other fault → IsRefused acted (file_text fault) → Joins d v old other acted
+  Joined : (w : View) → IsFileOf d w other → IsStored d (join v w) old acted (codes "ok\n") → Joins d v old other acted
 
 -- the names are listed
 abbrev pub Lists : Declaration → View → Acted → Type 0
@@ -59,15 +59,15 @@ pub data Asks (d : Declaration) (v : View) (query : List ℕ) (acted : Acted) : 
   QueryRefused : (fault : AskFault) → fault ≢ queries.NoMemory → IsAnswer d v query (Err fault) → IsRefused acted (query_text fault) → Asks d v query acted
   Answered : (answer : List ℕ) → IsAnswer d v query (Ok answer) → IsAnswered acted answer → Asks d v query acted
 
--- what a subcommand does where the store's view is this
-abbrev pub ActsOn : Declaration → View → Choice → List ℕ → Acted → Type 0
-ActsOn d v choices.Session other acted = ⊥
-ActsOn d v (choices.Take paths origin number csv) other acted = OnName origin.now number.now acted (Takes d v other acted)
-ActsOn d v (choices.Retire paths origin number) other acted = OnName origin.now number.now acted (Retires d v acted)
-ActsOn d v (choices.Floor paths origin number) other acted = OnName origin.now number.now acted (RetiresTo d v acted)
-ActsOn d v (choices.Join paths path) other acted = Joins d v other acted
-ActsOn d v (choices.List paths) other acted = Lists d v acted
-ActsOn d v (choices.Ask paths query) other acted = Asks d v query.now acted
+-- what a subcommand does where the store has these bytes, if it is there, and this is its view
+abbrev pub ActsOn : Declaration → View → Choice → Option (List ℕ) → List ℕ → Acted → Type 0
+ActsOn d v choices.Session old other acted = ⊥
+ActsOn d v (choices.Take paths origin number csv) old other acted = OnName origin.now number.now acted (Takes d v old other acted)
+ActsOn d v (choices.Retire paths origin number) old other acted = OnName origin.now number.now acted (Retires d v old acted)
+ActsOn d v (choices.Floor paths origin number) old other acted = OnName origin.now number.now acted (RetiresTo d v old acted)
+ActsOn d v (choices.Join paths path) old other acted = Joins d v old other acted
+ActsOn d v (choices.List paths) old other acted = Lists d v acted
+ActsOn d v (choices.Ask paths query) old other acted = Asks d v query.now acted
 
 -- where it may find no memory then: a name that is none needs none, nor does another store before its declaration
 abbrev pub MayLackMemory : Declaration → Choice → List ℕ → Type 0
@@ -98,7 +98,7 @@ HasFault d (Some bytes) fault = IsFault d bytes fault
 -- where the table is read, the store is judged first, then the subcommand
 pub data ActsBy (d : Declaration) (choice : Choice) (store : Option (List ℕ)) (other : List ℕ) (acted : Acted) : Type 0 where
   StoreRefused : (fault : FileFault) → fault ≢ files.NoMemory → HasFault d store fault → IsRefused acted (file_text fault) → ActsBy d choice store other acted
-  Done : (v : View) → Knows d store v → ActsOn d v choice other acted → ActsBy d choice store other acted
+  Done : (v : View) → Knows d store v → ActsOn d v choice store other acted → ActsBy d choice store other acted
 
 -- where the declaration of the table is read, it is acted by it; else its fault is told
 abbrev pub ActsRead : Result Declaration SchemaFault → Choice → Option (List ℕ) → List ℕ → Acted → Type 0
@@ -110,3 +110,22 @@ pub record Acts (choice : Choice) (table : List ℕ) (store : Option (List ℕ))
   pub declared : Result Declaration SchemaFault
   pub reads : ReadsDeclaration table declared
   pub acts : ActsRead declared choice store other acted
+
+-- where it may find no memory once the table is read: in a store behind its declaration, in telling what is wrong with a segment of
+-- it, or then in the subcommand
+pub data MayLackBy (d : Declaration) (choice : Choice) (store : Option (List ℕ)) (other : List ℕ) : Type 0 where
+  InStore : HasFault d store files.NoMemory → MayLackBy d choice store other
+  InRefusal : (fault : SegmentFault) → HasFault d store (files.Segment fault) → MayLackBy d choice store other
+  InSubcommand : (v : View) → Knows d store v → MayLackMemory d choice other → MayLackBy d choice store other
+
+-- a declaration that is refused needs none
+abbrev pub MayLackRead : Result Declaration SchemaFault → Choice → Option (List ℕ) → List ℕ → Type 0
+MayLackRead (Ok d) choice store other = MayLackBy d choice store other
+MayLackRead (Err fault) choice store other = fault ≡ tables.NoMemory
+
+-- nor does one that is too long to be one
+pub record MayLack (choice : Choice) (table : List ℕ) (store : Option (List ℕ)) (other : List ℕ) : Type 0 where
+  pub declared : Result Declaration SchemaFault
+  pub reads : ReadsDeclaration table declared
+  pub short : length table ≤ 65536
+  pub lacks : MayLackRead declared choice store other

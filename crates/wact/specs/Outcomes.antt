@@ -1,5 +1,5 @@
 -- How a subcommand ends.
-use Rattle.std.specs.Prelude.{◌≡◌, ℕ, List, None, IsSomeAnd}
+use Rattle.std.specs.Prelude.{◌≡◌, ◌≢◌, ℕ, List, Option, None, Some, option_map}
 use Rattle.wsegment.specs.Declaration.{Declaration}
 use Rattle.wset.specs.Views.{View}
 use Rattle.wexchange.specs.Files.{file_of}
@@ -14,7 +14,13 @@ IsRefused acted text = (bytes_of acted.output ≡ text) × (acted.status ≡ 1) 
 abbrev pub IsAnswered : Acted → List ℕ → Type 0
 IsAnswered acted text = (bytes_of acted.output ≡ text) × (acted.status ≡ 0) × (acted.store ≡ None)
 
--- done: the text is printed, with status 0, and the new store is the file of this view
-abbrev pub IsStored : Declaration → View → Acted → List ℕ → Type 0
-IsStored d v acted text = (bytes_of acted.output ≡ text) × (acted.status ≡ 0)
-    × IsSomeAnd acted.store (λ store. store.items ≡ file_of d v)
+-- the store has these bytes from now on: a new one has them, where the old one has others or is none; or there is no new one, and the
+-- old one has them
+abbrev pub Becomes : Option (List ℕ) → List ℕ → Option (List ℕ) → Type 0
+Becomes old bytes None = old ≡ Some bytes
+Becomes old bytes (Some new) = (new ≡ bytes) × (old ≢ Some bytes)
+
+-- done: the text is printed, with status 0, and the store is the file of this view from now on
+abbrev pub IsStored : Declaration → View → Option (List ℕ) → Acted → List ℕ → Type 0
+IsStored d v old acted text = (bytes_of acted.output ≡ text) × (acted.status ≡ 0)
+    × Becomes old (file_of d v) (option_map (λ store. store.items) acted.store)

@@ -1,7 +1,7 @@
 //! What a subcommand gives.
-ghost use Rattle.std.specs.Prelude.{IfOk};
+ghost use Rattle.std.specs.Prelude.{IfOk, option_map};
 ghost use Rattle.wreplies.specs.Texts.{bytes_of};
-ghost use Rattle.wact.specs.Outcomes.{IsAnswered, IsRefused, IsStored};
+ghost use Rattle.wact.specs.Outcomes.{Becomes, IsAnswered, IsRefused, IsStored};
 
 use std::alloc::AllocError;
 use wreplies::Text;
@@ -20,7 +20,7 @@ pub struct Acted {
     pub output: Text,
     /// The exit status: 0 where it was done, 1 where it was refused.
     pub status: u8,
-    /// The bytes of the store from now on, where the subcommand may have changed it.
+    /// The bytes of the store from now on, where they are other than those that it had.
     pub store: Option<Vec<u8>>,
 }
 
@@ -46,14 +46,31 @@ pub(crate) fn answered(output: Text) -> Acted
     }
 }
 
-/// What is told, with the store that knows what the node does.
-pub(crate) fn stored(node: &Node, told: &'static [u8]) -> Result<Acted, AllocError>
-    ensures { IfOk result (λ acted. IsStored node.now.schema node.now.view acted told.now) }
+// The new bytes, where the old ones are others.
+fn changed(old: Option<&[u8]>, new: Vec<u8>) -> Option<Vec<u8>>
+    ensures { Becomes (option_map (λ bytes. bytes.now) old.entry) new.items (option_map (λ bytes. bytes.items) result) }
 {
-    let store = node.put()?;
+    let Some(bytes) = old else {
+        return Some(new);
+    };
+    if bytes == new.as_slice() {
+        return None;
+    }
+    Some(new)
+}
+
+/// What is told, with the store that knows what the node does, where the old one has other bytes.
+pub(crate) fn stored(
+    node: &Node,
+    old: Option<&[u8]>,
+    told: &'static [u8],
+) -> Result<Acted, AllocError>
+    ensures { IfOk result (λ acted. IsStored node.now.schema node.now.view (option_map (λ bytes. bytes.now) old.entry) acted told.now) }
+{
+    let new = node.put()?;
     Ok(Acted {
         output: Text::Fixed(told),
         status: DONE,
-        store: Some(store),
+        store: changed(old, new),
     })
 }

@@ -5,7 +5,7 @@ ghost use Rattle.wexchange.specs.Judging.{HasTable};
 ghost use Rattle.wreplies.specs.Spelling.{name_text};
 ghost use Rattle.wstore.specs.History.{AreName};
 ghost use Rattle.wact.specs.Outcomes.{IsAnswered, IsRefused};
-ghost use Rattle.wact.specs.Acts.{Acts, ActsBy, ActsOn, ActsRead, Asks, HasFault, Joins, Knows, Lists, MayLackMemory, OnName, Retires, RetiresTo, Takes};
+ghost use Rattle.wact.specs.Acts.{Acts, ActsBy, ActsOn, ActsRead, Asks, HasFault, Joins, Knows, Lists, MayLack, MayLackBy, MayLackMemory, MayLackRead, OnName, Retires, RetiresTo, Takes};
 
 use crate::acted::{Acted, answered, refused, stored};
 use std::alloc::{AllocError, Global};
@@ -20,30 +20,44 @@ use wstore::{AskFault, Node};
 use wvalues::{Name, NameFault};
 
 // Takes a segment under a name.
-fn take_under(alloc: Global, node: &mut Node, name: Name, csv: &[u8]) -> Result<Acted, AllocError>
-    ensures { IfOk result (λ acted. Takes node.old.schema node.old.view csv.now acted name) }
+fn take_under(
+    alloc: Global,
+    node: &mut Node,
+    old: Option<&[u8]>,
+    name: Name,
+    csv: &[u8],
+) -> Result<Acted, AllocError>
+    ensures { IfOk result (λ acted. Takes node.old.schema node.old.view (option_map (λ bytes. bytes.now) old.entry) csv.now acted name) }
 {
     match node.take(name, csv) {
-        Ok(word) => stored(node, taken(word)),
+        Ok(word) => stored(node, old, taken(word)),
         Err(SegmentFault::NoMemory) => Err(AllocError),
         Err(fault) => Ok(refused(refused_segment(alloc, fault)?)),
     }
 }
 
 // Retires a name.
-fn retire_name(node: &mut Node, name: Name) -> Result<Acted, AllocError>
-    ensures { IfOk result (λ acted. Retires node.old.schema node.old.view acted name) }
+fn retire_name(
+    node: &mut Node,
+    old: Option<&[u8]>,
+    name: Name,
+) -> Result<Acted, AllocError>
+    ensures { IfOk result (λ acted. Retires node.old.schema node.old.view (option_map (λ bytes. bytes.now) old.entry) acted name) }
 {
     let word = node.retire(name)?;
-    stored(node, retired(word))
+    stored(node, old, retired(word))
 }
 
 // Retires all names up to one.
-fn retire_to(node: &mut Node, name: Name) -> Result<Acted, AllocError>
-    ensures { IfOk result (λ acted. RetiresTo node.old.schema node.old.view acted name) }
+fn retire_to(
+    node: &mut Node,
+    old: Option<&[u8]>,
+    name: Name,
+) -> Result<Acted, AllocError>
+    ensures { IfOk result (λ acted. RetiresTo node.old.schema node.old.view (option_map (λ bytes. bytes.now) old.entry) acted name) }
 {
     let word = node.retire_to(name)?;
-    stored(node, retired(word))
+    stored(node, old, retired(word))
 }
 
 // The refusal of a name.
@@ -56,46 +70,62 @@ fn bad_name(fault: NameFault) -> Acted
 fn take(
     alloc: Global,
     node: &mut Node,
+    old: Option<&[u8]>,
     origin: &str,
     number: &str,
     csv: &[u8],
 ) -> Result<Acted, AllocError>
-    ensures does { IfOk result (λ acted. OnName origin.now number.now acted (Takes node.old.schema node.old.view csv.now acted)) }
+    ensures does { IfOk result (λ acted. OnName origin.now number.now acted (Takes node.old.schema node.old.view (option_map (λ bytes. bytes.now) old.entry) csv.now acted)) }
     ensures lacks { OnErr result (AreName origin.now number.now) }
 {
     match Name::read(origin.as_bytes(), number.as_bytes()) {
-        Ok(name) => take_under(alloc, node, name, csv),
+        Ok(name) => take_under(alloc, node, old, name, csv),
         Err(fault) => Ok(bad_name(fault)),
     }
 }
 
-fn retire(alloc: Global, node: &mut Node, origin: &str, number: &str) -> Result<Acted, AllocError>
-    ensures does { IfOk result (λ acted. OnName origin.now number.now acted (Retires node.old.schema node.old.view acted)) }
+fn retire(
+    node: &mut Node,
+    old: Option<&[u8]>,
+    origin: &str,
+    number: &str,
+) -> Result<Acted, AllocError>
+    ensures does { IfOk result (λ acted. OnName origin.now number.now acted (Retires node.old.schema node.old.view (option_map (λ bytes. bytes.now) old.entry) acted)) }
     ensures lacks { OnErr result (AreName origin.now number.now) }
 {
     match Name::read(origin.as_bytes(), number.as_bytes()) {
-        Ok(name) => retire_name(node, name),
+        Ok(name) => retire_name(node, old, name),
         Err(fault) => Ok(bad_name(fault)),
     }
 }
 
-fn floor(alloc: Global, node: &mut Node, origin: &str, number: &str) -> Result<Acted, AllocError>
-    ensures does { IfOk result (λ acted. OnName origin.now number.now acted (RetiresTo node.old.schema node.old.view acted)) }
+fn floor(
+    node: &mut Node,
+    old: Option<&[u8]>,
+    origin: &str,
+    number: &str,
+) -> Result<Acted, AllocError>
+    ensures does { IfOk result (λ acted. OnName origin.now number.now acted (RetiresTo node.old.schema node.old.view (option_map (λ bytes. bytes.now) old.entry) acted)) }
     ensures lacks { OnErr result (AreName origin.now number.now) }
 {
     match Name::read(origin.as_bytes(), number.as_bytes()) {
-        Ok(name) => retire_to(node, name),
+        Ok(name) => retire_to(node, old, name),
         Err(fault) => Ok(bad_name(fault)),
     }
 }
 
 // Joins what another store's file tells.
-fn join(alloc: Global, node: &mut Node, other: &[u8]) -> Result<Acted, AllocError>
-    ensures does { IfOk result (λ acted. Joins node.old.schema node.old.view other.now acted) }
+fn join(
+    alloc: Global,
+    node: &mut Node,
+    old: Option<&[u8]>,
+    other: &[u8],
+) -> Result<Acted, AllocError>
+    ensures does { IfOk result (λ acted. Joins node.old.schema node.old.view (option_map (λ bytes. bytes.now) old.entry) other.now acted) }
     ensures lacks { OnErr result (HasTable node.old.schema other.now) }
 {
     match node.get(other) {
-        Ok(()) => stored(node, b"ok\n"),
+        Ok(()) => stored(node, old, b"ok\n"),
         Err(FileFault::NoMemory) => Err(AllocError),
         Err(fault) => Ok(refused(refused_file(alloc, fault)?)),
     }
@@ -126,23 +156,24 @@ fn ask(alloc: Global, node: &Node, query: &str) -> Result<Acted, AllocError>
     }
 }
 
-// What a subcommand does on a node that knows the store.
+// What a subcommand does on a node that knows the store, which has these bytes, if it is there.
 fn act_on(
     alloc: Global,
     choice: &Choice<'_>,
     node: &mut Node,
+    old: Option<&[u8]>,
     other: &[u8],
 ) -> Result<Acted, AllocError>
     requires { choice.now ≢ Session }
-    ensures does { IfOk result (λ acted. ActsOn node.old.schema node.old.view choice.now other.now acted) }
+    ensures does { IfOk result (λ acted. ActsOn node.old.schema node.old.view choice.now (option_map (λ bytes. bytes.now) old.entry) other.now acted) }
     ensures lacks { OnErr result (MayLackMemory node.old.schema choice.now other.now) }
 {
     match *choice {
         Choice::Session => unreachable!(),
-        Choice::Take { origin, number, .. } => take(alloc, node, origin, number, other),
-        Choice::Retire { origin, number, .. } => retire(alloc, node, origin, number),
-        Choice::Floor { origin, number, .. } => floor(alloc, node, origin, number),
-        Choice::Join { .. } => join(alloc, node, other),
+        Choice::Take { origin, number, .. } => take(alloc, node, old, origin, number, other),
+        Choice::Retire { origin, number, .. } => retire(node, old, origin, number),
+        Choice::Floor { origin, number, .. } => floor(node, old, origin, number),
+        Choice::Join { .. } => join(alloc, node, old, other),
         Choice::List { .. } => list(alloc, node),
         Choice::Ask { query, .. } => ask(alloc, node, query),
     }
@@ -173,10 +204,11 @@ fn act_by(
     other: &[u8],
 ) -> Result<Acted, AllocError>
     requires { choice.now ≢ Session }
-    ensures { IfOk result (λ acted. ActsBy schema choice.now (option_map (λ bytes. bytes.now) store.entry) other.now acted) }
+    ensures acts { IfOk result (λ acted. ActsBy schema choice.now (option_map (λ bytes. bytes.now) store.entry) other.now acted) }
+    ensures lacks { OnErr result (MayLackBy schema choice.now (option_map (λ bytes. bytes.now) store.entry) other.now) }
 {
     match node_of(alloc, schema, store) {
-        Ok(mut node) => act_on(alloc, choice, &mut node, other),
+        Ok(mut node) => act_on(alloc, choice, &mut node, store, other),
         Err(FileFault::NoMemory) => Err(AllocError),
         Err(fault) => Ok(refused(refused_file(alloc, fault)?)),
     }
@@ -191,7 +223,8 @@ fn act_read(
     other: &[u8],
 ) -> Result<Acted, AllocError>
     requires { choice.now ≢ Session }
-    ensures { IfOk result (λ acted. ActsRead declared choice.now (option_map (λ bytes. bytes.now) store.entry) other.now acted) }
+    ensures acts { IfOk result (λ acted. ActsRead declared choice.now (option_map (λ bytes. bytes.now) store.entry) other.now acted) }
+    ensures lacks { OnErr result (MayLackRead declared choice.now (option_map (λ bytes. bytes.now) store.entry) other.now) }
 {
     match declared {
         Ok(schema) => act_by(alloc, choice, schema, store, other),
@@ -202,7 +235,8 @@ fn act_read(
 
 /// What the subcommand of a choice gives on the bytes of the table's file, of the store's file if there is one, and
 /// of CSV or OTHER, which are empty where the subcommand has none. The table is judged first, then the store, then the
-/// subcommand. At `AllocError` nothing is judged.
+/// subcommand. There is a new store only where the subcommand is done and the old one has other bytes than it is to have. At
+/// `AllocError` nothing is judged; what is refused at the table needs no memory.
 #[tactic(auto, using(crate::proofs::Outcomes::acts))]
 pub fn act(
     alloc: Global,
@@ -212,7 +246,8 @@ pub fn act(
     other: &[u8],
 ) -> Result<Acted, AllocError>
     requires { choice.now ≢ Session }
-    ensures { IfOk result (λ acted. Acts choice.now table.now (option_map (λ bytes. bytes.now) store.entry) other.now acted) }
+    ensures acts { IfOk result (λ acted. Acts choice.now table.now (option_map (λ bytes. bytes.now) store.entry) other.now acted) }
+    ensures lacks { OnErr result (MayLack choice.now table.now (option_map (λ bytes. bytes.now) store.entry) other.now) }
 {
     act_read(alloc, choice, Schema::read(alloc, table), store, other)
 }

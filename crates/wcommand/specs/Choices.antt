@@ -1,9 +1,10 @@
 -- What words choose: a subcommand with the values of its options and positionals, or help, or a refusal.
-use Rattle.std.specs.Prelude.{◌≡◌, ◌≢◌, ◌⊎◌, ⊤, Option, Some, None, List, [], Result, Ok, Err, codes}
+use Rattle.std.specs.Prelude.{◌≡◌, ◌≢◌, ◌⊎◌, ⊤, Option, Some, None, List, [], Result, Ok, Err, codes, string_bytes}
 use Rattle.clap.specs.Words.{IsAmong, Row, Text, fault_of, first_of, subcommand_of}
 use Rattle.clap.specs.declared.error.ErrorKind.{ErrorKind}
 use Rattle.clap.specs.declared.error.ErrorKind.TheVariants as kinds
 use Rattle.wcommand.specs.CommandSet.{command_set}
+use Rattle.wcommand.specs.ShownTexts.{IsShownText}
 use Rattle.wcommand.specs.declared.choice.Choice.{Choice}
 use Rattle.wcommand.specs.declared.choice.Choice.TheVariants as choices
 use Rattle.wcommand.specs.declared.choice.Paths.{Paths}
@@ -41,11 +42,12 @@ IsChoice (Some entered) choice = IsChoiceIn entered.0 entered.1 choice
 abbrev pub IsShown : ErrorKind → Type 0
 IsShown kind = (kind ≡ kinds.DisplayHelp) ⊎ (kind ≡ kinds.DisplayVersion)
 
--- an error of this kind may be told so: help as help, any other kind but want of memory as a refusal
+-- an error of this kind may be told so: help as help, any other kind but want of memory as a refusal, in a text without
+-- characters that a terminal would obey
 abbrev pub IsTold : ErrorKind → WordsFault → Type 0
 IsTold kind faults.NoMemory = ⊤
 IsTold kind (faults.Help text) = IsShown kind
-IsTold kind (faults.Refused text) = (kind ≢ kinds.OutOfMemory) × ¬ (IsShown kind)
+IsTold kind (faults.Refused text) = (kind ≢ kinds.OutOfMemory) × ¬ (IsShown kind) × IsShownText (string_bytes text)
 
 -- what words choose: where nothing is wrong with them, the subcommand that they enter; else something is told that is
 -- wrong with them, or that they ask for

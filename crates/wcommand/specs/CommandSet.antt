@@ -2,11 +2,12 @@
 -- definitions). What building adds (`--help`, `--version`, `help`, a positional's place) is `clap`'s own.
 use Rattle.std.specs.Prelude.{true, false, List, [], ◌∷◌, Some, codes}
 use Rattle.clap.specs.Words.{App, Rule, Shape, Text, new_rule}
+use Rattle.clap.specs.declared.builder.value_parser.ValueParser.TheVariants.{NonEmptyString}
 use Rattle.clap.specs.Simple.{new_shape}
 
--- `--name FILE`, which has to be given, once
+-- `--name FILE`, which has to be given, once, and is not empty
 abbrev pub option_rule : Text → Rule
-option_rule name = record (new_rule name) { long = Some name; value_names = 1; required = true }
+option_rule name = record (new_rule name) { long = Some name; value_names = 1; parser = Some NonEmptyString; required = true }
 
 -- a positional, which has to be given
 abbrev pub positional_rule : Text → Rule

@@ -2,3 +2,4 @@ pub mod CommandSet
 pub mod Choices
 pub mod Inputs
 pub mod Required
+pub mod ShownTexts

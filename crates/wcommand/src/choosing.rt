@@ -1,9 +1,10 @@
 //! From words to a choice.
-ghost use Rattle.std.specs.Prelude.{◌≡◌, map, true, IfErr};
+ghost use Rattle.std.specs.Prelude.{◌≡◌, map, chars, string_bytes, encode_utf8_all, true, IfErr, IfOk};
 ghost use Rattle.clap.specs.Words.{kind_of, takes};
 ghost use Rattle.wcommand.specs.CommandSet.{command_set};
 ghost use Rattle.wcommand.specs.declared.fault.WordsFault.TheVariants.{NoMemory};
 ghost use Rattle.wcommand.specs.Choices.{Chooses, IsTold};
+ghost use Rattle.wcommand.specs.ShownTexts.{shown};
 
 use crate::choice::Choice;
 use crate::command_set::command_set;
@@ -11,7 +12,31 @@ use crate::fault::WordsFault;
 use crate::values::choice_of;
 use clap::Error;
 use clap::error::ErrorKind;
-use std::alloc::Global;
+use std::alloc::{AllocError, Global};
+
+// A character as it is shown: one that a terminal would obey is replaced, but for a line feed.
+fn shown(c: char) -> char
+    ensures { result ≡ shown c }
+{
+    if c.is_control() && c != '\n' {
+        '\u{fffd}'
+    } else {
+        c
+    }
+}
+
+// A text as it is shown: words that are not understood may have any characters.
+fn text_shown(alloc: Global, text: &str) -> Result<String, AllocError>
+    ensures { IfOk result (λ told. string_bytes told ≡ encode_utf8_all (map shown (chars text.now))) }
+{
+    let mut told = String::new(alloc);
+    'characters: for c in text.chars() {
+        if let Err(fault) = told.push(shown(c)) {
+            return Err(fault);
+        }
+    }
+    Ok(told)
+}
 
 // What an error of the parse says.
 fn told(alloc: Global, error: &Error) -> WordsFault
@@ -23,10 +48,12 @@ fn told(alloc: Global, error: &Error) -> WordsFault
     let Ok(text) = format!(in alloc; "{error}") else {
         return WordsFault::NoMemory;
     };
-    if error.use_stderr() {
-        WordsFault::Refused(text)
-    } else {
-        WordsFault::Help(text)
+    if !error.use_stderr() {
+        return WordsFault::Help(text);
+    }
+    match text_shown(alloc, text.as_str()) {
+        Ok(text) => WordsFault::Refused(text),
+        Err(_) => WordsFault::NoMemory,
     }
 }
 

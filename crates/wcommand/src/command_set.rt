@@ -5,10 +5,11 @@ ghost use Rattle.clap.specs.declared.builder.command.Command.TheViews.{out-Comma
 ghost use Rattle.wcommand.specs.CommandSet.{ask_shape, command_set, floor_shape, join_shape, list_shape, option_rule, positional_rule, program_app, retire_shape, session_shape, take_shape, unversioned_app};
 
 use crate::help;
+use clap::builder::ValueParser;
 use clap::{Arg, Command};
 use std::alloc::{AllocError, Global};
 
-// `--name FILE`, which has to be given.
+// `--name FILE`, which has to be given. No path is empty.
 fn option<'a>(alloc: Global, name: &'a str, about: &'a str) -> Arg<'a>
     ensures rule { rule_of result ≡ option_rule name.entry.now }
     ensures local { result.global ≡ false }
@@ -17,6 +18,7 @@ fn option<'a>(alloc: Global, name: &'a str, about: &'a str) -> Arg<'a>
         .long(name)
         .required(true)
         .value_name("FILE")
+        .value_parser(ValueParser::NonEmptyString)
         .help(about)
 }
 

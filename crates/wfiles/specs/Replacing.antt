@@ -1,5 +1,5 @@
 -- What replacing a store does to it.
-use Rattle.std.specs.Prelude.{◌≡◌, ◌≢◌, ◌⊎◌, ⊤, ℕ, List, [], ◌∷◌, ◌++◌, Option, Some, Result, Ok, Err}
+use Rattle.std.specs.Prelude.{◌≡◌, ◌≢◌, ◌⊎◌, ⊤, ℕ, Bool, List, [], ◌∷◌, ◌++◌, Option, Some, Result, Ok, Err}
 use Rattle.wfiles.specs.Call.{Call}
 use Rattle.wfiles.specs.Call as calls
 use Rattle.wfiles.specs.Names.{IsOurs}
@@ -62,3 +62,7 @@ pub record Replaces (store bytes : List ℕ) (result : Result (Unit {0}) NotRepl
   pub own : ChangesOnlyOwn store since
   pub moments : AtEachMoment (LeavesOldOrNew store bytes old) since
   pub end : (d e : Disk) → Runs store old d since e → IsEnd store bytes result d e
+
+-- nothing is done but that the lock was tried for
+abbrev pub MayLock : List Call → List Call → Type 0
+MayLock old new = (new ≡ old) ⊎ ((done : Bool) × (new ≡ calls.Locked done ∷ old))

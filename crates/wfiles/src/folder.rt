@@ -1,6 +1,6 @@
 //! The calls on a folder that replacing a store makes.
 ghost use Rattle.std.specs.Prelude.{◌≡◌, ◌∷◌, List, IfOk, IfErr, OnOk, OnErr, is_ok, false, option_map};
-ghost use Rattle.wfiles.specs.Call.{Call, Locked, Found, Created, Permitted, Wrote, Synced, Moved, SyncedFolder, Removed};
+ghost use Rattle.wfiles.specs.Call.{Call, Found, Created, Permitted, Wrote, Synced, Moved, SyncedFolder, Removed};
 ghost use Rattle.wfiles.specs.Calls.{CallCounts, HasCause, IsSound};
 ghost use Rattle.wfiles.specs.declared.fault.Fault.TheVariants.{NoMemory};
 
@@ -38,13 +38,6 @@ pub trait Folder {
 
     /// What is counted of the calls.
     ghost counts: { Self → CallCounts };
-
-    /// Takes the folder's lock, for as long as the folder is open.
-    fn lock(&mut self) -> Result<(), Fault>
-        requires { IsSound (counts self.old) }
-        ensures calls { calls self.new ≡ Locked (is_ok result) ∷ calls self.old }
-        ensures sound { OnOk result (IsSound (counts self.new)) }
-        ensures cause { IfErr result (λ fault. HasCause fault (counts self.new)) };
 
     /// The fault of a growth that was refused.
     fn lacks_memory(&mut self) -> Fault

@@ -8,7 +8,7 @@
 //!   a theorem over the record of the calls, for every folder that does what `specs/Model.antt` says of them.
 //! - Asks: a system in which nothing has failed yet.
 //! - Leaves what the bytes mean to the program. What a real file holds, and which one a path leads to, no clause can say: each
-//!   method of `real.rt` notes the call that it makes, and its answer.
+//!   method of `real.rt` and of `Place` notes the call that it makes, and its answer.
 //!
 //! Read `specs/Model.antt`, then `specs/Replacing.antt` and `specs/Calls.antt`.
 #![tactic(auto)]
@@ -26,5 +26,6 @@ pub use fault::Fault;
 pub use files::{read_if_there, read_whole};
 pub use folder::{Access, Folder, Target};
 pub use place::Place;
+pub use record::Record;
 pub use replacing::{NotReplaced, replace};
 pub use system::System;

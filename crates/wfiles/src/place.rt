@@ -1,23 +1,28 @@
 //! Where a store stands, and how it is replaced there.
-ghost use Rattle.std.specs.Prelude.{IfErr, OnOk};
+ghost use Rattle.std.specs.Prelude.{◌≡◌, ◌∷◌, true, IfErr, IfOk, OnErr, OnOk, option_map, string_bytes};
+ghost use Rattle.wfiles.specs.Call.{Found, Locked};
 ghost use Rattle.wfiles.specs.Calls.{HasCause, IsSound};
-ghost use Rattle.wfiles.specs.Replacing.{fault_of};
+ghost use Rattle.wfiles.specs.Model.{IsLocked};
+ghost use Rattle.wfiles.specs.Replacing.{MayLock, Replaces, fault_of};
 
 use crate::fault::Fault;
 use crate::files::read_if_there;
-use crate::folder::{Folder, Target};
+use crate::folder::Target;
 use crate::real::RealFolder;
-use crate::replacing::{NotReplaced, replace};
+use crate::record::{FOUND, LOCKED, Record};
+use crate::replacing::{NotReplaced, path_in, replace};
 use crate::system::System;
 use std::alloc::Global;
 use std::fs::File;
-use std::rt::Files;
+use std::mem;
+use std::rt::{Clock, Files};
 
 /// A file that may be replaced: a plain one that may be written, found behind the links to it, or none yet. While this
 /// stands no other such program replaces a file of its folder.
 #[derive(Drop)]
 pub struct Place {
-    target: Target,
+    /// Where it stands.
+    pub target: Target,
     folder: File,
 }
 
@@ -30,80 +35,98 @@ fn folder_of(path: &str) -> &str {
     }
 }
 
-// The path of the file that is replaced.
+// The name of a path's file in that folder.
+fn name_of(path: &str) -> &str {
+    match path.rsplit_once('/') {
+        Some((_, name)) => name,
+        None => path,
+    }
+}
+
+// The path of the file that is replaced: where it is no link, it is as it was given, so that it may be of any length and stand
+// in a folder of any name.
 fn path_behind<R: Files<File = File> + AllocGlobal>(
     alloc: Global,
     system: &mut System<'_, R>,
     path: &str,
-    is_there: bool,
 ) -> Result<String, Fault>
     requires { IsSound system.old }
     ensures sound { OnOk result (IsSound system.new) }
     ensures cause { IfErr result (λ fault. HasCause fault system.new) }
 {
-    if is_there {
+    if system.is_link(path)? {
         return system.real_path(path);
     }
     system.grown(String::from_str(alloc, path))
 }
 
 // The folder of a path, whose lock this run holds from then on.
-fn locked_folder<R: Files<File = File> + AllocGlobal>(
+fn locked_folder<R: Files<File = File> + AllocGlobal + Clock + Eprint>(
     system: &mut System<'_, R>,
+    calls: &mut Record,
     path: &str,
 ) -> Result<File, Fault>
     requires { IsSound system.old }
+    ensures locked { OnOk result (calls.new.calls ≡ Locked true ∷ calls.old.calls) }
+    ensures missed { OnErr result (MayLock calls.old.calls calls.new.calls) }
     ensures sound { OnOk result (IsSound system.new) }
     ensures cause { IfErr result (λ fault. HasCause fault system.new) }
 {
     let folder = system.folder(path)?;
-    system.lock(&folder)?;
-    Ok(folder)
-}
-
-// Replaces the store of a folder whose lock this run took when it found the place: that it still has it, the record has to say.
-fn replace_locked<F: Folder>(
-    alloc: Global,
-    folder: &mut F,
-    target: &Target,
-    bytes: &[u8],
-) -> Result<(), NotReplaced>
-    requires { IsSound (F.counts folder.old) }
-    ensures sound { OnOk result (IsSound (F.counts folder.new)) }
-    ensures cause { IfErr result (λ fault. HasCause (fault_of fault) (F.counts folder.new)) }
-{
-    match folder.lock() {
-        Ok(()) => replace(alloc, folder, target, bytes),
-        Err(fault) => Err(NotReplaced::Kept(fault)),
+    match system.lock(&folder) {
+        Ok(()) => {
+            calls.note_call(LOCKED, true, &[], &[]);
+            Ok(folder)
+        }
+        Err(fault) => {
+            calls.note_call(LOCKED, false, &[], &[]);
+            Err(fault)
+        }
     }
 }
 
+// Where the file of a path stands, if it is a plain one or none yet.
+fn target_of<R: Files<File = File> + AllocGlobal>(
+    alloc: Global,
+    system: &mut System<'_, R>,
+    path: &str,
+) -> Result<Target, Fault>
+    requires { IsSound system.old }
+    ensures sound { OnOk result (IsSound system.new) }
+    ensures cause { IfErr result (λ fault. HasCause fault system.new) }
+{
+    let access = system.replaceable(path)?;
+    let found = path_behind(alloc, system, path)?;
+    let folder = system.grown(String::from_str(alloc, folder_of(found.as_str())))?;
+    // spelled as new files are, so that the store is never taken for one
+    let path = system.grown(path_in(alloc, folder.as_str(), name_of(found.as_str())))?;
+    Ok(Target {
+        path,
+        folder,
+        access,
+    })
+}
+
 impl Place {
-    /// Where the file of a path stands. It waits until no other such program replaces a file of the folder; a folder that cannot
-    /// be locked is a write fault.
-    pub fn find<R: Files<File = File> + AllocGlobal>(
+    /// Where the file of a path stands. It waits until no other such program replaces a file of the folder, for a minute at most;
+    /// a folder that cannot be locked is a write fault.
+    pub fn find<R: Files<File = File> + AllocGlobal + Clock + Eprint>(
         alloc: Global,
         system: &mut System<'_, R>,
+        calls: &mut Record,
         path: &str,
     ) -> Result<Place, Fault>
         requires { IsSound system.old }
+        ensures locked { OnOk result (calls.new.calls ≡ Locked true ∷ calls.old.calls) }
+        ensures missed { OnErr result (MayLock calls.old.calls calls.new.calls) }
         ensures sound { OnOk result (IsSound system.new) }
         ensures cause { IfErr result (λ fault. HasCause fault system.new) }
     {
-        let found = system.replaceable(path)?;
-        let path = path_behind(alloc, system, path, found.is_some())?;
-        let parent = system.grown(String::from_str(alloc, folder_of(path.as_str())))?;
-        let folder = locked_folder(system, parent.as_str())?;
+        let mut target = target_of(alloc, system, path)?;
+        let folder = locked_folder(system, calls, target.folder.as_str())?;
         // as it is while no other run replaces it
-        let access = system.replaceable(path.as_str())?;
-        Ok(Place {
-            target: Target {
-                path,
-                folder: parent,
-                access,
-            },
-            folder,
-        })
+        target.access = system.replaceable(target.path.as_str())?;
+        Ok(Place { target, folder })
     }
 
     /// The bytes of the file as it stands now.
@@ -111,12 +134,26 @@ impl Place {
         &self,
         alloc: Global,
         system: &mut System<'_, R>,
+        calls: &mut Record,
     ) -> Result<Option<Vec<u8>>, Fault>
         requires { IsSound system.old }
+        ensures found { IfOk result (λ held. calls.new.calls ≡ Found (string_bytes self.now.target.path) (option_map (λ bytes. bytes.items) held) ∷ calls.old.calls) }
+        ensures unread { OnErr result (calls.new.calls ≡ calls.old.calls) }
         ensures sound { OnOk result (IsSound system.new) }
         ensures cause { IfErr result (λ fault. HasCause fault system.new) }
     {
-        read_if_there(alloc, system, self.target.path.as_str())
+        let path = self.target.path.as_str();
+        match read_if_there(alloc, system, path) {
+            Ok(Some(bytes)) => {
+                calls.note_call(FOUND, true, path.as_bytes(), bytes.as_slice());
+                Ok(Some(bytes))
+            }
+            Ok(None) => {
+                calls.note_call(FOUND, false, path.as_bytes(), &[]);
+                Ok(None)
+            }
+            Err(fault) => Err(fault),
+        }
     }
 
     /// Puts these bytes in the place of the file's, whole, as `replace` does. At a fault the file is as it was, but where only the
@@ -125,19 +162,21 @@ impl Place {
         &self,
         alloc: Global,
         system: &mut System<'_, R>,
+        calls: &mut Record,
         bytes: &[u8],
-    ) -> Result<(), Fault>
-        requires { IsSound system.old }
+    ) -> Result<(), NotReplaced>
+        requires sound { IsSound system.old }
+        requires locked { IsLocked calls.old.calls }
+        ensures replaces { Replaces (string_bytes self.now.target.path) bytes.now result calls.old.calls calls.new.calls }
         ensures sound { OnOk result (IsSound system.new) }
-        ensures cause { IfErr result (λ fault. HasCause fault system.new) }
+        ensures cause { IfErr result (λ fault. HasCause (fault_of fault) system.new) }
     {
-        let mut folder = RealFolder::new(system.again(), &self.folder);
-        let replaced = replace_locked(alloc, &mut folder, &self.target, bytes);
-        *system = folder.system();
-        match replaced {
-            Ok(()) => Ok(()),
-            Err(NotReplaced::Kept(fault)) => Err(fault),
-            Err(NotReplaced::Unsynced(fault)) => Err(fault),
-        }
+        let trace = mem::replace(calls, Record::new());
+        let mut folder = RealFolder::new(system.again(), trace, &self.folder);
+        let replaced = replace(alloc, &mut folder, &self.target, bytes);
+        let (counted, noted) = folder.ended();
+        *system = counted;
+        *calls = noted;
+        replaced
     }
 }

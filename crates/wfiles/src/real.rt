@@ -7,29 +7,13 @@ ghost use Rattle.wfiles.specs.Calls.{HasCause, IsSound};
 use crate::fault::Fault;
 use crate::files::{read_if_there, read_names};
 use crate::folder::{Access, Folder};
-use crate::record::Record;
+use crate::record::{
+    CREATED, FOUND, MOVED, PERMITTED, REMOVED, Record, SYNCED, SYNCED_FOLDER, WROTE,
+};
 use crate::system::System;
 use std::alloc::Global;
 use std::fs::File;
 use std::rt::Files;
-
-const LOCKED: u64 = 0;
-
-const FOUND: u64 = 1;
-
-const CREATED: u64 = 2;
-
-const PERMITTED: u64 = 3;
-
-const WROTE: u64 = 4;
-
-const SYNCED: u64 = 5;
-
-const MOVED: u64 = 6;
-
-const SYNCED_FOLDER: u64 = 7;
-
-const REMOVED: u64 = 8;
 
 /// A folder of the operating system, and the new file that was made last.
 #[derive(Drop)]
@@ -41,23 +25,25 @@ pub(crate) struct RealFolder<'s, 'a, R> {
 }
 
 impl<'s, 'a, R> RealFolder<'s, 'a, R> {
-    /// An open folder, of which nothing is noted yet.
-    pub(crate) fn new(system: System<'a, R>, folder: &'s File) -> Self
-        ensures { result.system ≡ system.entry }
+    /// An open folder, on which these calls were made.
+    pub(crate) fn new(system: System<'a, R>, trace: Record, folder: &'s File) -> Self
+        ensures system { result.system ≡ system.entry }
+        ensures calls { result.trace.calls ≡ trace.calls }
     {
         RealFolder {
             system,
             folder,
             made: None,
-            trace: Record::new(),
+            trace,
         }
     }
 
-    /// The system, with what was counted.
-    pub(crate) fn system(&self) -> System<'a, R>
-        ensures { result ≡ self.now.system }
+    /// The system with what was counted, and the calls that were made.
+    pub(crate) fn ended(self) -> (System<'a, R>, Record)
+        ensures system { result.0 ≡ self.entry.system }
+        ensures calls { result.1.calls ≡ self.entry.trace.calls }
     {
-        self.system.again()
+        (self.system.again(), self.trace)
     }
 
     // Notes a call.
@@ -65,11 +51,7 @@ impl<'s, 'a, R> RealFolder<'s, 'a, R> {
         ensures calls { self.new.trace.calls ≡ call_of number is_done path.now bytes.now ∷ self.old.trace.calls }
         ensures system { self.new.system ≡ self.old.system }
     {
-        if is_done {
-            self.trace.note(&[number, 1], path, bytes);
-        } else {
-            self.trace.note(&[number, 0], path, bytes);
-        }
+        self.trace.note_call(number, is_done, path, bytes);
     }
 }
 
@@ -77,12 +59,6 @@ impl<R: Files<File = File> + AllocGlobal> Folder for RealFolder<'_, '_, R> {
     ghost calls = { λ f. f.trace.calls };
 
     ghost counts = { λ f. f.system };
-
-    fn lock(&mut self) -> Result<(), Fault> {
-        let taken = self.system.lock(self.folder);
-        self.note(LOCKED, taken.is_ok(), &[], &[]);
-        taken
-    }
 
     fn lacks_memory(&mut self) -> Fault {
         self.system.refused()

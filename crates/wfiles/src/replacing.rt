@@ -38,8 +38,8 @@ fn is_new_name(name: &[u8]) -> bool
     }
 }
 
-// The path of a file in a folder.
-fn path_in(alloc: Global, folder: &str, name: &str) -> Result<String, AllocError>
+/// The path of a file in a folder.
+pub(crate) fn path_in(alloc: Global, folder: &str, name: &str) -> Result<String, AllocError>
     ensures { IfOk result (λ path. string_bytes path ≡ folder.now ++ 47 ∷ name.now) }
 {
     let mut path = String::from_str(alloc, folder)?;
@@ -224,6 +224,18 @@ pub enum NotReplaced {
     Kept(Fault),
     /// The store has the new bytes, but its folder was not brought to the disk: a crash may leave what it might have left before.
     Unsynced(Fault),
+}
+
+impl NotReplaced {
+    /// The fault behind it.
+    pub fn fault(self) -> Fault
+        ensures { result ≡ fault_of self }
+    {
+        match self {
+            NotReplaced::Kept(fault) => fault,
+            NotReplaced::Unsynced(fault) => fault,
+        }
+    }
 }
 
 // Brings the folder to the disk, once the store is replaced.

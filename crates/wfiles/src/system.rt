@@ -9,11 +9,13 @@ ghost use Rattle.wfiles.specs.Calls.{GivesBytes, HasCause, IsSound};
 use crate::fault::Fault;
 use crate::folder::Access;
 use std::alloc::AllocError;
-use std::fs::{self, File, Metadata, OpenFile, OpenOptions, Permissions};
+use std::fs::{self, File, Metadata, OpenFile, OpenOptions, Permissions, TryLockError};
 use std::io::{self, ErrorKind, Read, Write};
 use std::marker::Model;
 use std::os::unix::fs::{MetadataExt, OpenOptionsExt, fchown};
-use std::rt::Files;
+use std::rt::{Clock, Files};
+use std::thread;
+use std::time::Duration;
 
 /// How often files are read at most.
 const MOST_READS: u64 = 1 << 40;
@@ -23,6 +25,15 @@ const OPEN_MODE: u32 = 0o666;
 
 /// The mode of a new file that nobody but its owner may read or write.
 const CLOSED_MODE: u32 = 0o600;
+
+/// How often the lock of a folder is tried for, a pause apart: for a minute.
+const LOCK_TRIES: u32 = 6_000;
+
+/// The milliseconds between two tries.
+const PAUSE: u64 = 10;
+
+/// The try before which it is told that the lock is waited for: after a second.
+const TOLD_TRY: u32 = 100;
 
 /// The files of a system, with the number of reads, of the calls that failed and of the growths that were refused.
 /// Nothing else can count a failure.
@@ -67,6 +78,22 @@ fn give(file: &File, owner: u32, group: u32, permissions: Permissions) -> io::Re
         fchown(file, Some(owner), Some(group))?;
     }
     file.set_permissions(permissions)
+}
+
+// Takes the lock of a folder. Where another program has it, this waits, says so after a second, and gives up after a minute.
+fn take_lock<R: Clock + Eprint>(rt: &R, folder: &File) -> io::Result<()> {
+    'tries: for number in 0..LOCK_TRIES {
+        match folder.try_lock() {
+            Ok(()) => return Ok(()),
+            Err(TryLockError::Error(error)) => return Err(error),
+            Err(TryLockError::WouldBlock) => {}
+        }
+        if number == TOLD_TRY {
+            let _ = eprintln!(rt; "waiting for another program that holds the lock of the store's folder");
+        }
+        thread::sleep(rt, Duration::from_millis(PAUSE));
+    }
+    Err(io::Error::from(ErrorKind::TimedOut))
 }
 
 impl<'a, R> System<'a, R> {
@@ -272,6 +299,19 @@ impl<R: Files<File = File> + AllocGlobal> System<'_, R> {
         }
     }
 
+    /// Whether a path leads to a link.
+    pub(crate) fn is_link(&mut self, path: &str) -> Result<bool, Fault>
+        requires { IsSound self.old }
+        ensures sound { OnOk result (IsSound self.new) }
+        ensures cause { IfErr result (λ fault. HasCause fault self.new) }
+    {
+        match fs::symlink_metadata(self.files, path) {
+            Ok(metadata) => Ok(metadata.is_symlink()),
+            Err(error) if error.kind() == ErrorKind::NotFound => Ok(false),
+            Err(error) => Err(self.write_failed(&error)),
+        }
+    }
+
     /// The path of a file behind all links.
     pub fn real_path(&mut self, path: &str) -> Result<String, Fault>
         requires { IsSound self.old }
@@ -353,18 +393,6 @@ impl<R: Files<File = File> + AllocGlobal> System<'_, R> {
         }
     }
 
-    /// Waits for the lock of a folder.
-    pub(crate) fn lock(&mut self, folder: &File) -> Result<(), Fault>
-        requires { IsSound self.old }
-        ensures sound { OnOk result (IsSound self.new) }
-        ensures cause { IfErr result (λ fault. HasCause fault self.new) }
-    {
-        match folder.lock() {
-            Ok(()) => Ok(()),
-            Err(error) => Err(self.write_failed(&error)),
-        }
-    }
-
     /// The names in a folder, to be read, each ended by a zero byte.
     pub(crate) fn names(&mut self, path: &str) -> Result<R::Dir, Fault>
         requires { IsSound self.old }
@@ -374,6 +402,21 @@ impl<R: Files<File = File> + AllocGlobal> System<'_, R> {
         match self.files.open_dir(path) {
             Ok(names) => Ok(names),
             Err(error) => Err(self.read_failed(&error)),
+        }
+    }
+}
+
+impl<R: Clock + Eprint> System<'_, R> {
+    /// Takes the lock of a folder. Where another program has it, this waits for a minute at most, and says so on standard error
+    /// after a second.
+    pub(crate) fn lock(&mut self, folder: &File) -> Result<(), Fault>
+        requires { IsSound self.old }
+        ensures sound { OnOk result (IsSound self.new) }
+        ensures cause { IfErr result (λ fault. HasCause fault self.new) }
+    {
+        match take_lock(self.files, folder) {
+            Ok(()) => Ok(()),
+            Err(error) => Err(self.write_failed(&error)),
         }
     }
 }

@@ -10,7 +10,8 @@ use Rattle.wstore.specs.declared.runs.End.{End}
 use Rattle.wstore.specs.declared.runs.End.TheVariants as ends
 use Rattle.wstore.specs.declared.runs.RunFault.{RunFault}
 use Rattle.wfiles.specs.Calls.{CallCounts, HasCause, IsSound}
-use Rattle.wstore_program.specs.Performing.{IsPerformed}
+use Rattle.wfiles.specs.Call.{Call}
+use Rattle.wstore_program.specs.Performing.{IsGivenUp, IsPerformed}
 use Rattle.wfiles.specs.declared.fault.Fault.{Fault}
 
 -- of a script
@@ -31,7 +32,7 @@ HasWordsStatus (words.Refused text) calls old new status = Keeps old new × (sta
 HasWordsStatus words.NoMemory calls old new status = Keeps old new × (status ≡ 3)
 
 -- of a subcommand on files: a fault with its cause, of which nothing is printed; or what the subcommand gives, printed, with its
--- status
-pub data HasFileStatus (choice : Choice) (calls : CallCounts) (old new : Option (List ℕ)) (status : ℕ) : Type 0 where
-  Failed : (fault : Fault) → HasCause fault calls → Keeps old new → status ≡ 3 → HasFileStatus choice calls old new status
-  Told : (acted : Acted) → IsPerformed choice acted → IsPrinted (bytes_of acted.output) acted.status calls old new status → HasFileStatus choice calls old new status
+-- status. What was done to the store the calls on its folder tell, before and after
+pub data HasFileStatus (choice : Choice) (counts : CallCounts) (before after : List Call) (old new : Option (List ℕ)) (status : ℕ) : Type 0 where
+  Failed : (fault : Fault) → HasCause fault counts → IsGivenUp choice fault before after → Keeps old new → status ≡ 3 → HasFileStatus choice counts before after old new status
+  Told : (acted : Acted) → IsPerformed choice acted before after → IsPrinted (bytes_of acted.output) acted.status counts old new status → HasFileStatus choice counts before after old new status

@@ -17,9 +17,9 @@ use std::env;
 use std::fs::File;
 use std::io::{ErrorKind, Write};
 use std::process::ExitCode;
-use std::rt::Files;
+use std::rt::{Clock, Files};
 use wcommand::{Choice, Paths, WordsFault, choose};
-use wfiles::{Fault, System};
+use wfiles::{Fault, Record, System};
 use wstore::{End, RunFault, run};
 use wvalues::Counted;
 
@@ -78,18 +78,19 @@ fn print<R, W: Write>(
 }
 
 // Runs a subcommand on its files, and prints its reply.
-fn run_on_files<R: Files<File = File> + Eprint + AllocGlobal, W: Write>(
+fn run_on_files<R: Files<File = File> + AllocGlobal + Clock + Eprint, W: Write>(
     rt: &R,
     system: &mut System<'_, R>,
+    calls: &mut Record,
     output: &mut W,
     choice: &Choice<'_>,
     paths: Paths<'_>,
 ) -> ExitCode
     requires choice { choice.now ≢ Session }
     requires sound { IsSound system.old }
-    ensures { HasFileStatus choice.now system.new (W.contents output.old) (W.contents output.new) (exit_status result) }
+    ensures { HasFileStatus choice.now system.new calls.old.calls calls.new.calls (W.contents output.old) (W.contents output.new) (exit_status result) }
 {
-    match perform(rt.alloc(), system, choice, paths) {
+    match perform(rt.alloc(), system, calls, choice, paths) {
         Ok(acted) => print(rt, system, output, acted.output.as_slice(), acted.status),
         Err(fault) => failed(rt, fault),
     }
@@ -118,10 +119,11 @@ fn tell<R, W: Write>(
 // Does what the words choose.
 fn run_words(rt: &HostRuntime, words: &[&str]) -> ExitCode {
     let mut system = System::new(rt);
+    let mut calls = Record::new();
     let mut output = rt.stdout();
     match choose(rt.alloc(), words) {
         Ok(choice) => match choice.paths() {
-            Some(paths) => run_on_files(rt, &mut system, &mut output, &choice, paths),
+            Some(paths) => run_on_files(rt, &mut system, &mut calls, &mut output, &choice, paths),
             None => run_session(rt),
         },
         Err(fault) => tell(rt, &mut system, &mut output, fault),
