@@ -7,3 +7,5 @@
 mod devices;
 #[cfg(test)]
 mod sets;
+#[cfg(test)]
+mod work;

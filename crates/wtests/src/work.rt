@@ -1,0 +1,93 @@
+//! How much work an answer takes: joins of the folds of frames, and orders of rows.
+
+use std::alloc::Global;
+use std::process::Abort;
+use std::test::*;
+use wask::accepted_is_sound;
+use wlexer::lex;
+use wparser::parse;
+use wplanner::{Table, execute};
+use wresolve::resolve;
+use wsegment::Schema;
+use wset::SegmentSet;
+use wvalues::Name;
+
+// How many rows there are: enough that a fold for each row of all rows would show.
+const ROWS: usize = 2000;
+
+// One shop sold one piece on one day, so many times.
+fn same_sales(alloc: Global) -> Result<SegmentSet, Fail> {
+    let schema = Schema::read(
+        alloc,
+        b"table sales\nday integer\nshop text\namount integer\n",
+    )?;
+    let mut bytes = Vec::from_slice(alloc, b"day,shop,amount\n")?;
+    for _ in 0..ROWS {
+        bytes.extend_from_slice(b"1,a,1\n")?;
+    }
+    let mut sales = SegmentSet::new(alloc, schema);
+    sales.take(Name::read(b"east", b"1")?, &bytes)?;
+    Ok(sales)
+}
+
+fn table_of(alloc: Global, sales: &SegmentSet, text: &[u8]) -> Result<Table, Fail> {
+    let tokens = lex(alloc, text)?;
+    let query = parse(alloc, &tokens)?;
+    let resolved = resolve(alloc, sales.schema(), &query)?;
+    accepted_is_sound();
+    let table = execute(alloc, sales, &resolved)?;
+    Ok(table)
+}
+
+// The work of an answer is no more than this: the joins of all folds, and the orders made.
+fn compare_work(rt: &impl Abort, table: &Table, joins: usize, orders: u64) {
+    assert_eq!(rt; table.rows(), ROWS);
+    assert!(rt; table.joins() <= joins as u64, "{} joins", table.joins());
+    assert_eq!(rt; table.orders(), orders);
+}
+
+// A frame that slides takes at most three joins a row, one that leaves out rows eight, and one of the whole partition is
+// folded once for all of its rows.
+#[test]
+fn folds_take_few_joins_a_row(rt: HostRuntime) -> Result<(), Fail> {
+    let sales = same_sales(rt.alloc())?;
+    let slides = table_of(
+        rt.alloc(),
+        &sales,
+        b"SELECT sum(amount) OVER (ORDER BY day ROWS 5 PRECEDING) FROM sales",
+    )?;
+    compare_work(&rt, &slides, 3 * ROWS, 1);
+    let leaves_out = table_of(
+        rt.alloc(),
+        &sales,
+        b"SELECT min(amount) OVER (ORDER BY day ROWS BETWEEN 900 PRECEDING AND 900 FOLLOWING EXCLUDE CURRENT ROW) FROM sales",
+    )?;
+    compare_work(&rt, &leaves_out, 8 * ROWS, 1);
+    let whole = table_of(
+        rt.alloc(),
+        &sales,
+        b"SELECT max(amount) OVER (PARTITION BY shop) FROM sales",
+    )?;
+    compare_work(&rt, &whole, ROWS, 1);
+    Ok(())
+}
+
+// Windows of the same partition values and keys share one order, whatever their frames; another key makes another, and
+// so does each ORDER BY.
+#[test]
+fn an_order_is_made_once(rt: HostRuntime) -> Result<(), Fail> {
+    let sales = same_sales(rt.alloc())?;
+    let shared = table_of(
+        rt.alloc(),
+        &sales,
+        b"SELECT rank() OVER (ORDER BY day), row_number() OVER (ORDER BY day ROWS 1 PRECEDING), lag(day) OVER w FROM sales WINDOW w AS (ORDER BY day)",
+    )?;
+    compare_work(&rt, &shared, 0, 1);
+    let two = table_of(
+        rt.alloc(),
+        &sales,
+        b"SELECT rank() OVER (ORDER BY day), rank() OVER (ORDER BY amount), rank() OVER (ORDER BY day) FROM sales ORDER BY shop",
+    )?;
+    compare_work(&rt, &two, 0, 3);
+    Ok(())
+}
