@@ -10,7 +10,7 @@ use Rattle.wquery.specs.declared.frame.FrameMode.TheVariants as modes
 use Rattle.wquery.specs.declared.frame.FrameBound.{FrameBound}
 use Rattle.wquery.specs.declared.frame.FrameBound.TheVariants as bounds
 use Rattle.wquery.specs.Tree.{Tree, NullWord, Numeral, Quoted, Field, Invoked, Signed, Joined, NoLinks, Further, Compared, Everything, These, Columns, trees, Unfiltered, FilteredBy, Reach, ItsGroup, ThatWindow, OwnWindow, NoKeys, MoreKeys, NoTrees, KeyTree}
-use Rattle.wquery.specs.GroupElements.{OneSet, Cube, Element}
+use Rattle.wquery.specs.GroupElements.{OneSet, Rollup, Cube, Element}
 use Rattle.wquery.specs.QueryTree.{Clauses, ItemTree, Computed, AllColumns, QueryTree, Selected, FromTable, FromQuery, EntryTree}
 use Rattle.wrules.specs.declared.rule.Rule.TheVariants.{UnknownTable, UnknownColumn, AmbiguousName, WrongCall, WrongType, MisplacedWindowCall, MisplacedAggregate, UngroupedColumn, WrongFilter, UnknownWindow, RepeatedWindow, WrongCopy, WrongBounds, UnorderedGroups, WrongRangeKey, ZeroCount, WrongPlace, OverLimit, TooManySets}
 use Rattle.wrules.specs.declared.rule.Rule.{Rule}
@@ -293,12 +293,18 @@ cube_of n = Cube (parts n) ∷ []
     parts zero = []
     parts (suc n) = (day ∷ []) ∷ parts n
 
--- CUBE of 6 and of 7, of 16 and of 17; a CUBE of 6 beside a column; ROLLUP of 16
+-- CUBE of 6 parts, of 7 and of 17; two CUBEs of 3, and these beside a ROLLUP
 six_cubed : judged (grouped (cube_of 6 ∷ [])) ≡ None
 six_cubed = refl
 
 seven_cubed : judged (grouped (cube_of 7 ∷ [])) ≡ Some TooManySets
 seven_cubed = refl
+
+twice_three_cubed : judged (grouped (cube_of 3 ∷ cube_of 3 ∷ [])) ≡ None
+twice_three_cubed = refl
+
+rolled_up_and_cubed : judged (grouped (cube_of 3 ∷ cube_of 3 ∷ (Rollup ((day ∷ []) ∷ []) ∷ []) ∷ [])) ≡ Some TooManySets
+rolled_up_and_cubed = refl
 
 seventeen_cubed : judged (grouped (cube_of 17 ∷ [])) ≡ Some OverLimit
 seventeen_cubed = refl
@@ -317,7 +323,7 @@ eight_deep_and_cubed = refl
 inner_sets : judged (derived (item (column (codes "dy")) ∷ []) (grouped (cube_of 7 ∷ []))) ≡ Some TooManySets
 inner_sets = refl
 
--- GROUPING in WHERE, without GROUP BY, of a column outside it, with an aggregate within
+-- GROUPING without GROUP BY, in WHERE, in an aggregate's argument, of a column outside GROUP BY, of 31 and of 32 columns
 abbrev grouping : List Tree → Tree
 grouping columns = Invoked (codes "grouping") (Columns (trees columns)) Unfiltered ItsGroup
 
@@ -326,3 +332,25 @@ grouping_alone = refl
 
 grouping_in_where : judged (from_sales (record (clauses (item day ∷ [])) { condition = Some (Compared Greater (grouping (day ∷ [])) (Numeral 0)) })) ≡ Some MisplacedAggregate
 grouping_in_where = refl
+
+abbrev by_day : Tree → QueryTree
+by_day t = from_sales (record (clauses (item t ∷ [])) { grouping = (OneSet (day ∷ []) ∷ []) ∷ [] })
+
+grouping_in_sum : judged (by_day (call (codes "sum") (grouping (day ∷ []) ∷ []) ItsGroup)) ≡ Some MisplacedAggregate
+grouping_in_sum = refl
+
+grouping_over_groups : judged (by_day (call (codes "sum") (grouping (day ∷ []) ∷ []) (unordered None))) ≡ None
+grouping_over_groups = refl
+
+grouping_of_another : judged (by_day (grouping (day ∷ shop ∷ []))) ≡ Some UngroupedColumn
+grouping_of_another = refl
+
+abbrev day_times : ℕ → List Tree
+day_times zero = []
+day_times (suc n) = day ∷ day_times n
+
+grouping_of_many : judged (by_day (grouping (day_times 31))) ≡ None
+grouping_of_many = refl
+
+grouping_of_too_many : judged (by_day (grouping (day_times 32))) ≡ Some WrongCall
+grouping_of_too_many = refl

@@ -1,5 +1,6 @@
 -- Windows of one name.
-use Rattle.std.proofs.Common.{◌≡◌, ℕ, zero, suc, ◌==◌, ◌<◌, ◌≤◌, ◌+◌, Bool, true, false, not, ◌||◌, List, [], ◌∷◌, ◌++◌, append_assoc, length, map, take, drop, get_or, refl, ap, sym, ◌∙◌, arith, Option, Some, None, if◌then◌else◌}
+use Rattle.std.proofs.Common.{◌≡◌, ℕ, zero, suc, ◌<◌, ◌+◌, Bool, true, false, not, ◌||◌, List, [], ◌∷◌, ◌++◌, append_assoc, length, map, take, drop, get_or, refl, ap, sym, ◌∙◌, arith, Option, Some, None, if◌then◌else◌}
+use Rattle.std.proofs.Math.Dec.{eqb-suc-suc, eqb-zero-suc}
 use Rattle.std.proofs.lemmas.List.{map-append, take_more}
 use Rattle.std.proofs.lemmas.List.Folds.{list_any-append}
 use Rattle.std.proofs.lemmas.Slice.Eq.{bytes_eq-Decides}
@@ -36,7 +37,7 @@ or_nothing false = refl
 
 place_further : (n : ℕ) (o : Option ℕ) → is_place (suc n) (further o) ≡ is_place n o
 place_further n None = refl
-place_further n (Some k) = refl
+place_further n (Some k) = eqb-suc-suc k n
 
 -- a window is the first of its name where none before it has the name
 pub first_is : (passed : List NamedWindow) (w : NamedWindow) (ws : List NamedWindow) → is_place (length passed) (place_of w.name (passed ++ w ∷ ws)) ≡ not (list_any (has_window_name w.name) passed)
@@ -44,7 +45,7 @@ first_is [] w ws = ap (λ (b : Bool). is_place 0 (if b then Some 0 else further 
 first_is (v ∷ vs) w ws = by (bytes_eq v.name w.name) (first_is vs w ws)
   where
     by : (b : Bool) → is_place (length vs) (place_of w.name (vs ++ w ∷ ws)) ≡ not (list_any (has_window_name w.name) vs) → is_place (suc (length vs)) (if b then Some 0 else further (place_of w.name (vs ++ w ∷ ws))) ≡ not (b || list_any (has_window_name w.name) vs)
-    by true behind = refl
+    by true behind = eqb-zero-suc (length vs)
     by false behind = place_further (length vs) (place_of w.name (vs ++ w ∷ ws)) ∙ behind
 
 -- the windows' names, one with another
@@ -157,3 +158,23 @@ repeats_step es i e h is =
     ap (λ (l : List FullEntry). repeats (named_windows (take i es)) (named_windows l)) (drop_next es i e h is)
     ∙ ap (λ (l : List NamedWindow). list_any (has_window_name e.name.now) (named_windows (take i es)) || repeats l (named_windows (drop (i + 1) es)))
     (sym (map-append named_window (take i es) (e ∷ [])) ∙ ap named_windows (sym more))
+
+not_first : (r any : Bool) → r ≡ not any → r ≡ false → any ≡ true
+not_first r true e n = refl
+not_first r false e n = let no : false ≡ true = sym n ∙ e in cc
+
+first_one : (r any : Bool) → r ≡ not any → r ≡ true → any ≡ false
+first_one r true e n = let no : true ≡ false = sym n ∙ e in cc
+first_one r false e n = refl
+
+-- where the window at a place is not the first of its name
+pub repeated : (es : List FullEntry) (i n : ℕ) (e : FullEntry) (r : Bool) → n ≡ i → i < length es → e ≡ get_or es i e → repeats [] (named_windows es) ≡ repeats (named_windows (take i es)) (named_windows (drop i es)) → r ≡ is_place n (place_of e.name.now (named_windows es)) → r ≡ false → true ≡ repeats [] (named_windows es)
+repeated es i n e r en h is so_far er nr =
+    sym (so_far ∙ repeats_step es i e h is
+    ∙ ap (λ (b : Bool). b || repeats (named_windows (take (i + 1) es)) (named_windows (drop (i + 1) es))) (not_first r (list_any (has_window_name e.name.now) (named_windows (take i es))) (er ∙ first_here es i n e en h is) nr))
+
+-- where it is
+pub passed_on : (es : List FullEntry) (i n : ℕ) (e : FullEntry) (r : Bool) → n ≡ i → i < length es → e ≡ get_or es i e → repeats [] (named_windows es) ≡ repeats (named_windows (take i es)) (named_windows (drop i es)) → r ≡ is_place n (place_of e.name.now (named_windows es)) → r ≡ true → repeats [] (named_windows es) ≡ repeats (named_windows (take (i + 1) es)) (named_windows (drop (i + 1) es))
+passed_on es i n e r en h is so_far er nr =
+    so_far ∙ repeats_step es i e h is
+    ∙ ap (λ (b : Bool). b || repeats (named_windows (take (i + 1) es)) (named_windows (drop (i + 1) es))) (first_one r (list_any (has_window_name e.name.now) (named_windows (take i es))) (er ∙ first_here es i n e en h is) nr)
