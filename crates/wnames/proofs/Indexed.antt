@@ -3,29 +3,23 @@ use Rattle.std.proofs.Common.{◌≡◌, ℕ, Bool, true, false, ◌||◌, not, 
 use Rattle.std.proofs.lemmas.List.{take_more, map-append, append-nil}
 use Rattle.std.proofs.Math.Numerals.{add-one}
 use Rattle.std.proofs.lemmas.List.Folds.{list_any-append}
-use Rattle.std.proofs.lemmas.Map.Text.{is_eq-slice_cmp, btree_set_updates_text}
+use Rattle.std.proofs.lemmas.Map.Text.{is_eq-slice_cmp}
 use Rattle.std.proofs.lemmas.Slice.Eq.{bytes_eq-Decides}
-use Rattle.std.specs.Bool.{Decides}
 use Rattle.std.specs.BTreeMap.{BTreeMap, IsEmpty, Updates, get}
 use Rattle.std.specs.Map.{lookup}
-use Rattle.std.specs.BTreeSet.{BTreeSet, contains_text}
-use Rattle.std.specs.BTreeSet as sets
 use Rattle.std.specs.Borrow.{Bor}
 use Rattle.std.specs.Cmp.Lexicographic.{slice_cmp}
 use Rattle.std.specs.List.{list_any}
 use Rattle.std.specs.Ordering.{is_eq, nat_cmp}
 use Rattle.std.specs.Rc.{rc_str_bytes}
 use Rattle.std.specs.Str.{bytes_eq}
-use Rattle.std.specs.String.{string_bytes, string_cmp}
 use Rattle.std.specs.declared.alloc.Global.{Global}
 use Rattle.std.specs.declared.rc.RcStr.{RcStr}
-use Rattle.std.specs.declared.string.String.{String}
-use Rattle.wquery.specs.declared.expression.Column.{Column}
 use Rattle.wquery.specs.declared.expression.Expression.{Expression}
 use Rattle.wquery.specs.declared.query.Item.{Item}
 use Rattle.wquery.specs.declared.query.Item.TheVariants as trees
 use Rattle.wquery.specs.QueryTree.{ItemTree, AllColumns, Computed, view_item}
-use Rattle.wquery.specs.Tree.{view, view_column, name_bytes}
+use Rattle.wquery.specs.Tree.{view, name_bytes}
 use Rattle.wscope.specs.Scope.{output_name}
 use Rattle.wscope.specs.Sources.{Shown, Placed, Spelled, ShownItem, all_titled, columns_from, written_out}
 use Rattle.wscope.specs.declared.source.SourceColumn.{SourceColumn}
@@ -33,7 +27,7 @@ use Rattle.wscope.specs.Types.{Titled, type_of}
 use Rattle.wnames.specs.declared.called.Called.{Called}
 use Rattle.wnames.specs.Names.{first_called, is_called, is_unlike, same_shown}
 use Rattle.wnames.specs.Outputs.{shown, first_of, first_or, is_told, IsIndex}
-use Rattle.wnames.specs.Places.{is_star, names}
+use Rattle.wnames.specs.Places.{is_star}
 use Rattle.wnames.specs.Texts.{by_text}
 use Rattle.wnames.proofs.Outputs.{or_else, or_else_none, some_first, first_split, star_first, star_any, written_append, called_more, other_more}
 
@@ -153,32 +147,6 @@ pub items_more : (xs : List Item) (i : ℕ) (x : Item) → i < length xs → x �
 items_more xs i x h e =
     let more : take (i + 1) xs ≡ take i xs ++ x ∷ [] = take_more xs i x h ∙ ap (λ (y : Item). take i xs ++ y ∷ []) (sym e) in
     sym (ap (map view_item) more ∙ map-append view_item (take i xs) (x ∷ []))
-
-name_sym : (a b : List ℕ) → bytes_eq a b ≡ bytes_eq b a
-name_sym a b = by (bytes_eq a b) (bytes_eq b a) (bytes_eq-Decides a b) (bytes_eq-Decides b a)
-  where
-    by : (r s : Bool) → Decides r (a ≡ b) → Decides s (b ≡ a) → r ≡ s
-    by true s d e = sym (e.1 (sym (d.0 refl)))
-    by false true d e = d.1 (sym (e.0 refl))
-    by false false d e = refl
-
-one_more : (q : List ℕ) (xs : List Column) (x : Column) → list_any (names q) (map view_column (xs ++ x ∷ [])) ≡ (list_any (names q) (map view_column xs) || (bytes_eq q (rc_str_bytes x.name) || false))
-one_more q xs x = ap (list_any (names q)) (map-append view_column xs (x ∷ [])) ∙ list_any-append (names q) (map view_column xs) (view_column x ∷ [])
-
-or_cond : (r h : Bool) → cond r true h ≡ (h || (r || false))
-or_cond true true = refl
-or_cond true false = refl
-or_cond false true = refl
-or_cond false false = refl
-
--- one more column of GROUP BY
-pub grouping_step : (old new : BTreeSet (String Global)) (name : String Global) (xs : List Column) (i : ℕ) (x : Column) → i < length xs → x ≡ get_or xs i x → string_bytes name ≡ rc_str_bytes x.name → sets.Updates string_cmp old new name true
-    → ((q : List ℕ) → contains_text old q ≡ list_any (names q) (map view_column (take i xs))) → (q : List ℕ) → contains_text new q ≡ list_any (names q) (map view_column (take (i + 1) xs))
-grouping_step old new name xs i x h e same u known q =
-    let more : take (i + 1) xs ≡ take i xs ++ x ∷ [] = take_more xs i x h ∙ ap (λ (y : Column). take i xs ++ y ∷ []) (sym e) in
-    let is_new : bytes_eq (string_bytes name) q ≡ bytes_eq q (rc_str_bytes x.name) = ap (λ (n : List ℕ). bytes_eq n q) same ∙ name_sym (rc_str_bytes x.name) q in
-    btree_set_updates_text (string_bytes name) old new true u q ∙ rw (is_new, known q) (or_cond (bytes_eq q (rc_str_bytes x.name)) (list_any (names q) (map view_column (take i xs))))
-    ∙ sym (ap (λ (ys : List Column). list_any (names q) (map view_column ys)) more ∙ one_more q (take i xs) x)
 
 pub found_some : (o : Option Called) → is_some o ≡ is_some (first_of o)
 found_some None = refl

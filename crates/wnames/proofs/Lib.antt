@@ -4,3 +4,5 @@ mod Typed
 mod Outputs
 mod Listed
 mod Indexed
+mod Nested
+mod Grouped

@@ -1,7 +1,7 @@
 -- The rules on what a call is given: Q13, Q18 and Q25. (SQL, `<window function>` and `<filter clause>`; PostgreSQL, Window
 -- Functions.)
-use Rattle.std.specs.Prelude.{ℕ, zero, suc, Bool, true, false, ◌&&◌, not, List, Option, Some, None}
-use Rattle.wquery.specs.Tree.{Tree, NullWord, Numeral, Quoted, Invoked, Signed, Trees, NoTrees, MoreTrees, Given, Everything, These, FilteredBy}
+use Rattle.std.specs.Prelude.{ℕ, zero, suc, Bool, true, false, ◌&&◌, not, nat_le, List, Option, Some, None}
+use Rattle.wquery.specs.Tree.{Tree, NullWord, Numeral, Quoted, Invoked, Signed, Trees, NoTrees, MoreTrees, Given, Everything, These, Columns, FilteredBy}
 use Rattle.wquery.specs.QueryTree.{Clauses}
 use Rattle.wscope.specs.declared.function.Function.{Function}
 use Rattle.wscope.specs.declared.function.Function.TheVariants as functions
@@ -41,9 +41,14 @@ are_literal functions.Lag ts = passes_at 1 is_number ts && passes_at 2 is_litera
 are_literal functions.Lead ts = passes_at 1 is_number ts && passes_at 2 is_literal ts
 are_literal _ ts = true
 
+-- the most columns of GROUPING
+abbrev pub most_grouping_columns : ℕ
+most_grouping_columns = 31
+
 -- a call of a function that is there, with as many arguments as it takes and literals where it takes them; `*` in count
--- alone
+-- alone; GROUPING of not too many columns
 abbrev pub is_well_given : Option Function → Given → Bool
+is_well_given f (Columns ts) = nat_le (count_trees ts) most_grouping_columns
 is_well_given None given = false
 is_well_given (Some f) Everything = is_count f
 is_well_given (Some f) (These ts) = takes f (count_trees ts) && are_literal f ts
@@ -62,6 +67,11 @@ is_aggregate_of (Some f) = is_aggregate f
 
 abbrev pub is_aggregate_name : List ℕ → Bool
 is_aggregate_name name = is_aggregate_of (function_of name)
+
+-- an aggregate, or GROUPING, which is none by its name alone
+abbrev pub is_group_function : List ℕ → Given → Bool
+is_group_function name (Columns ts) = true
+is_group_function name given = is_aggregate_name name
 
 abbrev pub is_bad_filter : Tree → Bool
 is_bad_filter (Invoked name given (FilteredBy t) reach) = not (is_aggregate_name name)

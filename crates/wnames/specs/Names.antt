@@ -4,6 +4,7 @@ use Rattle.std.specs.Prelude.{ℕ, suc, Bool, false, ◌||◌, ◌&&◌, ◌==�
 use Rattle.std.specs.List.{list_any}
 use Rattle.std.specs.Str.{bytes_eq}
 use Rattle.wquery.specs.Tree.{Tree, Field, KeyTree}
+use Rattle.wquery.specs.GroupElements.{all_columns}
 use Rattle.wquery.specs.QueryTree.{Clauses, QueryTree, Selected, SourceTree, FromTable, FromQuery}
 use Rattle.wsame.specs.Sameness.{is_same}
 use Rattle.wscope.specs.Types.{Titled, place_named}
@@ -32,7 +33,7 @@ is_misqualified alias _ = false
 -- Q10: FROM names another table than the declared one, or a qualifier is not the source's alias
 abbrev pub breaks_tables : List ℕ → List ℕ → List Titled → Clauses → SourceTree → Bool
 breaks_tables table alias cs c source =
-    names_other_table table source || (some_anywhere cs c (finds (is_misqualified alias)) || list_any (is_misqualified alias) c.grouping)
+    names_other_table table source || (some_anywhere cs c (finds (is_misqualified alias)) || list_any (is_misqualified alias) (all_columns c.grouping))
 
 -- a column that the source lacks
 abbrev pub is_missing : List Titled → Tree → Bool
@@ -41,7 +42,7 @@ is_missing cs _ = false
 
 -- Q11: a column that the source lacks
 abbrev pub breaks_columns : List Titled → Clauses → Bool
-breaks_columns cs c = some_anywhere cs c (finds (is_missing cs)) || list_any (is_missing cs) c.grouping
+breaks_columns cs c = some_anywhere cs c (finds (is_missing cs)) || list_any (is_missing cs) (all_columns c.grouping)
 
 -- how many columns have a name
 abbrev pub count_named : List ℕ → List Titled → ℕ
@@ -87,5 +88,5 @@ is_ambiguous_key cs items _ = false
 -- name, unless their expressions are equal
 abbrev pub breaks_ambiguity : List Titled → Clauses → Bool
 breaks_ambiguity cs c =
-    some_anywhere cs c (finds (is_ambiguous cs)) || (list_any (is_ambiguous cs) c.grouping
+    some_anywhere cs c (finds (is_ambiguous cs)) || (list_any (is_ambiguous cs) (all_columns c.grouping)
     || list_any (λ (k : KeyTree). is_ambiguous_key cs (written_out cs c.items) k.expression) c.order)

@@ -3,7 +3,7 @@ use Rattle.std.specs.Prelude.{Bool, true, false, ◌||◌, ◌&&◌, not, List, 
 use Rattle.std.specs.List.{list_any}
 use Rattle.wquery.specs.declared.expression.ChainKind.{ChainKind}
 use Rattle.wquery.specs.declared.expression.ChainKind.TheVariants.{Disjunction, Conjunction, Sum, Product}
-use Rattle.wquery.specs.Tree.{Tree, Invoked, Negated, Signed, Joined, Compared, Within, Among, Trees, NoTrees, MoreTrees, Links, NoLinks, Further, Given, Everything, These, Filter, Unfiltered, FilteredBy, Reach, ItsGroup, ThatWindow, OwnWindow, Keys, NoKeys, MoreKeys, KeyTree, own_window}
+use Rattle.wquery.specs.Tree.{Tree, Invoked, Negated, Signed, Joined, Compared, Within, Among, Trees, NoTrees, MoreTrees, Links, NoLinks, Further, Given, Everything, These, Columns, Filter, Unfiltered, FilteredBy, Reach, ItsGroup, ThatWindow, OwnWindow, Keys, NoKeys, MoreKeys, KeyTree, own_window}
 use Rattle.wquery.specs.QueryTree.{Clauses, ItemTree, AllColumns, Computed, EntryTree}
 use Rattle.wscope.specs.declared.function.Function.{Function}
 use Rattle.wscope.specs.declared.function.Function.TheVariants as functions
@@ -73,6 +73,7 @@ suits_function cs f ts = true
 
 abbrev pub are_typed : List Titled → Option Function → Given → Bool
 are_typed cs f Everything = true
+are_typed cs f (Columns ts) = true
 are_typed cs f (These ts) = all_trees (is_value cs) ts && suits_function cs f ts
 
 -- operands of another type than their operator or function takes

@@ -10,8 +10,9 @@ ghost use Rattle.wnames.specs.Names.{is_ambiguous_key as is_key_ambiguous, break
 ghost use Rattle.wnames.specs.Outputs.{HasOutputs};
 ghost use Rattle.wnames.specs.Indexes.{IsIndexOf};
 
+use crate::grouping::any_grouping;
 use crate::name_index::NameIndex;
-use crate::names::{Ambiguous, any_grouping};
+use crate::names::Ambiguous;
 use crate::output_names::OutputNames;
 use crate::walking::any_anywhere_by;
 use wquery::{Expression, Item, Key, Query};

@@ -1,13 +1,13 @@
 //! The rules on what a call is given.
 
-ghost use Rattle.std.specs.Prelude.{◌≡◌, ◌&&◌, Some};
+ghost use Rattle.std.specs.Prelude.{◌≡◌, ◌&&◌, nat_le, None, Some};
 ghost use Rattle.wquery.specs.Tree.{Tree, view, views, trees, view_call, view_arguments};
 ghost use Rattle.wquery.specs.QueryTree.{view_query};
 ghost use Rattle.wscope.specs.Functions.{takes as may_take};
 ghost use Rattle.wscope.specs.Scope.{clauses_of};
 ghost use Rattle.wscope.specs.Sources.{all_titled};
 ghost use Rattle.wscope.specs.Finding.{finds, count_trees};
-ghost use Rattle.wnames.specs.Calls.{is_count as is_count_function, passes_at, are_literal as are_literals, is_number as is_numeral, is_literal as is_constant, is_nonzero as is_some_number, is_well_given as suits_function, is_bad_call as is_bad, is_aggregate_name as is_name_of_aggregate, is_bad_filter, counts_some as is_some_count, is_zeroth as is_none_count, breaks_calls, breaks_filters, breaks_zeroths};
+ghost use Rattle.wnames.specs.Calls.{is_count as is_count_function, passes_at, are_literal as are_literals, is_number as is_numeral, is_literal as is_constant, is_nonzero as is_some_number, is_well_given as suits_function, is_bad_call as is_bad, is_aggregate_name as is_name_of_aggregate, is_group_function as is_function_of_group, most_grouping_columns, is_bad_filter, counts_some as is_some_count, is_zeroth as is_none_count, breaks_calls, breaks_filters, breaks_zeroths};
 
 use wquery::{Arguments, Call, Expression, Query};
 use wscope::{Function, Look, NodeTest, SourceColumn, any_anywhere, found_if, function_of};
@@ -103,6 +103,26 @@ fn is_count(function: Function) -> bool
     matches!(function, Function::Count)
 }
 
+/// The most columns of GROUPING.
+const MAX_GROUPING_COLUMNS: usize = 31;
+
+fn are_few(columns: &[Expression]) -> bool
+    ensures { result ≡ nat_le (count_trees (trees (views columns.now))) most_grouping_columns }
+{
+    columns.len() <= MAX_GROUPING_COLUMNS
+}
+
+#[tactic(auto, unfolding(wquery::specs::Tree::view_arguments, wquery::specs::Tree::view))]
+fn is_grouping_given(arguments: &Arguments) -> bool
+    ensures { result ≡ suits_function None (view_arguments arguments.now) }
+{
+    match arguments {
+        Arguments::Star => false,
+        Arguments::Listed(_) => false,
+        Arguments::Columns(columns) => are_few(columns.as_slice()),
+    }
+}
+
 #[tactic(auto, unfolding(wquery::specs::Tree::view_arguments, wquery::specs::Tree::view))]
 fn is_given(function: Function, arguments: &Arguments) -> bool
     ensures { result ≡ suits_function (Some function) (view_arguments arguments.now) }
@@ -110,6 +130,7 @@ fn is_given(function: Function, arguments: &Arguments) -> bool
     match arguments {
         Arguments::Star => is_count(function),
         Arguments::Listed(list) => is_list_given(function, list.as_slice()),
+        Arguments::Columns(columns) => are_few(columns.as_slice()),
     }
 }
 
@@ -117,7 +138,7 @@ fn is_well_given(function: Option<Function>, arguments: &Arguments) -> bool
     ensures { result ≡ suits_function function (view_arguments arguments.now) }
 {
     match function {
-        None => false,
+        None => is_grouping_given(arguments),
         Some(function) => is_given(function, arguments),
     }
 }
@@ -158,6 +179,18 @@ pub(crate) fn is_aggregate_name(name: &str) -> bool
     match function_of(name) {
         None => false,
         Some(function) => function.is_aggregate(),
+    }
+}
+
+/// Whether this is an aggregate, or GROUPING.
+#[tactic(auto, unfolding(wquery::specs::Tree::view_arguments, wquery::specs::Tree::view))]
+pub(crate) fn is_group_function(name: &str, arguments: &Arguments) -> bool
+    ensures { result ≡ is_function_of_group name.now (view_arguments arguments.now) }
+{
+    match arguments {
+        Arguments::Star => is_aggregate_name(name),
+        Arguments::Listed(_) => is_aggregate_name(name),
+        Arguments::Columns(_) => true,
     }
 }
 

@@ -1,7 +1,7 @@
 //! The rules of resolution on names, calls, types and groups.
 //!
 //! - Gives a walk for each of the rules Q10 to Q18 and Q25, the index of a query's names that three of them take, and the
-//!   words in which they are said: calls with OVER, aggregates without OVER, grouped queries.
+//!   words in which they are said: calls with OVER, aggregates without OVER and GROUPING, grouped queries.
 //! - Promises: each walk answers whether its rule is broken by the query over the columns of its source. Each rule is
 //!   one definition, judged under the premise that those before it hold.
 //! - Asks that an index is of the query and the columns that it is lent with. A walk takes no memory, an index that of its
@@ -9,8 +9,8 @@
 //!   is sought in it, in proportion to the logarithm of the number of names. No time depends on a hash.
 //! - Leaves the rules on windows and limits to `wwindows`, their order and derived tables to `wrules`.
 //!
-//! Read `specs/Names.antt`, `specs/Calls.antt`, `specs/Typing.antt` and `specs/Places.antt`, then `specs/Outputs.antt` and
-//! `specs/Indexes.antt`.
+//! Read `specs/Names.antt`, `specs/Calls.antt`, `specs/Typing.antt` and `specs/Places.antt`, then `specs/Outputs.antt`,
+//! `specs/Indexes.antt` and `specs/Groups.antt`.
 #![tactic(auto)]
 
 mod ambiguity;
@@ -19,6 +19,7 @@ mod calls;
 mod comparing;
 mod group_indexing;
 mod group_names;
+mod grouping;
 mod indexing;
 mod name_index;
 mod names;

@@ -1,7 +1,6 @@
 //! The rules on the names of tables and columns.
 
-ghost use Rattle.std.specs.Prelude.{◌≡◌, Bool, map};
-ghost use Rattle.std.specs.List.{list_any};
+ghost use Rattle.std.specs.Prelude.{◌≡◌, Bool};
 ghost use Rattle.wquery.specs.Tree.{Tree, view_column};
 ghost use Rattle.wquery.specs.QueryTree.{view_query, view_source};
 ghost use Rattle.wscope.specs.Scope.{clauses_of};
@@ -10,6 +9,7 @@ ghost use Rattle.wscope.specs.Finding.{finds};
 ghost use Rattle.wnames.specs.Names.{source_of, names_other_table as is_other_table, is_misqualified, is_missing, is_ambiguous, count_named, breaks_tables, breaks_columns};
 ghost use Rattle.wnames.specs.Indexes.{IsIndexOf};
 
+use crate::grouping::any_grouping;
 use crate::name_index::NameIndex;
 use crate::walking::any_anywhere_by;
 use wquery::{Column, Expression, Query, Source};
@@ -22,18 +22,6 @@ pub(crate) trait ColumnTest {
     /// Whether the rule is broken by this column.
     fn is_hit(&self, column: &Column) -> bool
         ensures { result ≡ holds self.now (view_column column.now) };
-}
-
-/// Whether some column of GROUP BY is hit.
-pub(crate) fn any_grouping<T: ColumnTest>(test: &T, grouping: &[Column]) -> bool
-    ensures { result ≡ list_any (T.holds test.now) (map view_column grouping.now) }
-{
-    'grouping: for column in grouping {
-        if test.is_hit(column) {
-            return true;
-        }
-    }
-    false
 }
 
 /// A column behind another name than the source's alias.

@@ -2,20 +2,21 @@
 
 ghost use Rattle.std.specs.Prelude.{◌≡◌, ◌&&◌, map, if◌then◌else◌};
 ghost use Rattle.std.specs.List.{list_any};
-ghost use Rattle.wquery.specs.Tree.{view, view_column, view_call};
+ghost use Rattle.wquery.specs.GroupElements.{all_columns, view_element};
+ghost use Rattle.wquery.specs.Tree.{view, view_call};
 ghost use Rattle.wquery.specs.QueryTree.{view_query, view_item};
 ghost use Rattle.wscope.specs.Scope.{clauses_of, some_shown, some_option};
 ghost use Rattle.wscope.specs.Sources.{all_titled};
 ghost use Rattle.wscope.specs.declared.look.Look.TheVariants.{Found, Below};
 ghost use Rattle.wscope.specs.Finding.{finds};
 ghost use Rattle.wnames.specs.Indexes.{IsIndexOf};
-ghost use Rattle.wnames.specs.Places.{is_window_call as is_call_over, is_misplaced_window_call as is_misplaced, is_group_call as is_call_of_group, is_nested_group_call as is_nested, names, sees_ungrouped, is_ungrouped_column as is_outside, is_star, names_ungrouped as names_outside, is_grouped as has_groups, breaks_window_places, breaks_aggregate_places, breaks_grouping};
+ghost use Rattle.wnames.specs.Places.{is_window_call as is_call_over, is_misplaced_window_call as is_misplaced, is_group_call as is_call_of_group, is_nested_group_call as is_nested, names, has_columns, sees_ungrouped, is_ungrouped_column as is_outside, is_star, names_ungrouped as names_outside, is_grouped as has_groups, breaks_window_places, breaks_aggregate_places, breaks_grouping};
 
-use crate::calls::is_aggregate_name;
+use crate::calls::is_group_function;
 use crate::group_names::GroupNames;
 use crate::name_index::NameIndex;
 use crate::walking::any_shown_by;
-use wquery::{Expression, Item, Query};
+use wquery::{Arguments, Expression, Item, Query};
 use wscope::{
     Look, NodeTest, SourceColumn, any_anywhere, any_below, any_in_entries, any_in_option,
     any_shown, found_if,
@@ -37,8 +38,8 @@ impl NodeTest for WindowCall {
     }
 }
 
-/// Whether it is an aggregate without OVER.
-#[tactic(auto, unfolding(wquery::specs::Tree::view, wquery::specs::Tree::view_call, wquery::specs::Tree::view_over))]
+/// Whether it is an aggregate without OVER, or GROUPING.
+#[tactic(auto, unfolding(wquery::specs::Tree::view, wquery::specs::Tree::view_call, wquery::specs::Tree::view_over, wquery::specs::Tree::view_arguments))]
 fn is_group_call(node: &Expression) -> bool
     ensures { result ≡ is_call_of_group (view node.now) }
 {
@@ -48,10 +49,10 @@ fn is_group_call(node: &Expression) -> bool
     if call.over.is_some() {
         return false;
     }
-    is_aggregate_name(call.name.as_str())
+    is_group_function(call.name.as_str(), &call.arguments)
 }
 
-/// An aggregate without OVER.
+/// An aggregate without OVER, or GROUPING.
 #[derive(Drop)]
 struct GroupCall;
 
@@ -63,7 +64,7 @@ impl NodeTest for GroupCall {
     }
 }
 
-#[tactic(auto, unfolding(wquery::specs::Tree::view, wquery::specs::Tree::view_call, wquery::specs::Tree::view_over))]
+#[tactic(auto, unfolding(wquery::specs::Tree::view, wquery::specs::Tree::view_call, wquery::specs::Tree::view_over, wquery::specs::Tree::view_arguments))]
 fn is_misplaced_window_call(node: &Expression) -> bool
     ensures { result ≡ is_misplaced (view node.now) }
 {
@@ -76,10 +77,11 @@ fn is_misplaced_window_call(node: &Expression) -> bool
     if call.over.is_some() {
         return false;
     }
-    !is_aggregate_name(call.name.as_str())
+    !is_group_function(call.name.as_str(), &call.arguments)
 }
 
-/// A call in whose arguments, FILTER or window a call with OVER stands, or one of no aggregate that has no OVER.
+/// A call in whose arguments, FILTER or window a call with OVER stands, or one that has no OVER and is neither of an
+/// aggregate nor GROUPING.
 #[derive(Drop)]
 struct MisplacedWindowCall;
 
@@ -108,7 +110,7 @@ pub fn misplaces_window_calls(columns: &[SourceColumn], query: &Query) -> bool
     any_anywhere(&MisplacedWindowCall, columns, query)
 }
 
-/// An aggregate without OVER, in whose arguments or FILTER another one stands.
+/// An aggregate without OVER, in whose arguments or FILTER another one, or GROUPING, stands.
 #[derive(Drop)]
 struct NestedGroupCall;
 
@@ -134,8 +136,8 @@ pub fn misplaces_aggregates(columns: &[SourceColumn], query: &Query) -> bool
     any_anywhere(&NestedGroupCall, columns, query)
 }
 
-/// Whether a query over these columns is grouped: by GROUP BY, HAVING, or an aggregate without OVER in the SELECT list,
-/// WINDOW or ORDER BY.
+/// Whether a query over these columns is grouped: by GROUP BY, HAVING, or an aggregate without OVER or GROUPING in the
+/// SELECT list, WINDOW or ORDER BY. (A query with GROUPING alone breaks Q17.)
 #[tactic(auto, unfolding(wquery::specs::QueryTree::view_query))]
 pub fn is_grouped(columns: &[SourceColumn], query: &Query) -> bool
     ensures { result ≡ has_groups (all_titled columns.now) (clauses_of (view_query query.now)) }
@@ -150,7 +152,7 @@ pub fn is_grouped(columns: &[SourceColumn], query: &Query) -> bool
 }
 
 fn look_at_column(grouping: &GroupNames, name: &str) -> Look
-    ensures { result ≡ if list_any (names name.now) (map view_column grouping.now.grouping.now) then Below else Found }
+    ensures { result ≡ if list_any (names name.now) (all_columns (map view_element grouping.now.grouping.now)) then Below else Found }
 {
     if grouping.has(name) {
         Look::Below
@@ -159,17 +161,31 @@ fn look_at_column(grouping: &GroupNames, name: &str) -> Look
     }
 }
 
-/// A column outside GROUP BY, not in arguments and FILTER of aggregates without OVER.
+/// Whether it is GROUPING.
+#[tactic(auto, unfolding(wquery::specs::Tree::view, wquery::specs::Tree::view_call, wquery::specs::Tree::view_arguments))]
+fn is_grouping_call(node: &Expression) -> bool
+    ensures { result ≡ has_columns (view node.now) }
+{
+    match node {
+        Expression::Call(call) => matches!(&call.arguments, Arguments::Columns(_)),
+        _ => false,
+    }
+}
+
+/// A column outside GROUP BY, one of GROUPING too, not in arguments and FILTER of aggregates without OVER.
 #[derive(Drop)]
 struct Ungrouped<'a, 'b> {
     grouping: &'a GroupNames<'b>,
 }
 
 impl<'a, 'b> NodeTest for Ungrouped<'a, 'b> {
-    ghost sees = { λ u. sees_ungrouped (map view_column u.grouping.now.grouping.now) };
+    ghost sees = { λ u. sees_ungrouped (all_columns (map view_element u.grouping.now.grouping.now)) };
 
     #[tactic(auto, unfolding(wquery::specs::Tree::view))]
     fn look(&self, node: &Expression) -> Look {
+        if is_grouping_call(node) {
+            return Look::Below;
+        }
         if is_group_call(node) {
             return Look::Closed;
         }
@@ -181,7 +197,7 @@ impl<'a, 'b> NodeTest for Ungrouped<'a, 'b> {
 }
 
 fn any_ungrouped_column(columns: &[SourceColumn], grouping: &GroupNames) -> bool
-    ensures { result ≡ list_any (is_outside (map view_column grouping.now.grouping.now)) (all_titled columns.now) }
+    ensures { result ≡ list_any (is_outside (all_columns (map view_element grouping.now.grouping.now))) (all_titled columns.now) }
 {
     'columns: for column in columns {
         if !grouping.has(column.name.as_str()) {
@@ -204,7 +220,7 @@ fn has_star(items: &[Item]) -> bool
 
 fn shows_ungrouped<'a>(names: &NameIndex<'a>, columns: &[SourceColumn], query: &'a Query) -> bool
     requires { IsIndexOf names.now (all_titled columns.now) (clauses_of (view_query query.now)) }
-    ensures { result ≡ some_shown (all_titled columns.now) (clauses_of (view_query query.now)) (sees_ungrouped (clauses_of (view_query query.now)).grouping) }
+    ensures { result ≡ some_shown (all_titled columns.now) (clauses_of (view_query query.now)) (sees_ungrouped (all_columns (clauses_of (view_query query.now)).grouping)) }
 {
     let test = Ungrouped {
         grouping: &names.grouping,
@@ -215,7 +231,7 @@ fn shows_ungrouped<'a>(names: &NameIndex<'a>, columns: &[SourceColumn], query: &
 #[tactic(auto, unfolding(wquery::specs::QueryTree::view_query))]
 fn has_ungrouped(names: &NameIndex, columns: &[SourceColumn], query: &Query) -> bool
     requires { IsIndexOf names.now (all_titled columns.now) (clauses_of (view_query query.now)) }
-    ensures { result ≡ some_option (sees_ungrouped (clauses_of (view_query query.now)).grouping) (clauses_of (view_query query.now)).having }
+    ensures { result ≡ some_option (sees_ungrouped (all_columns (clauses_of (view_query query.now)).grouping)) (clauses_of (view_query query.now)).having }
 {
     let test = Ungrouped {
         grouping: &names.grouping,
@@ -225,7 +241,7 @@ fn has_ungrouped(names: &NameIndex, columns: &[SourceColumn], query: &Query) -> 
 
 fn lacks_column(names: &NameIndex, columns: &[SourceColumn], query: &Query) -> bool
     requires { IsIndexOf names.now (all_titled columns.now) (clauses_of (view_query query.now)) }
-    ensures { result ≡ list_any (is_outside (clauses_of (view_query query.now)).grouping) (all_titled columns.now) }
+    ensures { result ≡ list_any (is_outside (all_columns (clauses_of (view_query query.now)).grouping)) (all_titled columns.now) }
 {
     any_ungrouped_column(columns, &names.grouping)
 }
@@ -233,7 +249,7 @@ fn lacks_column(names: &NameIndex, columns: &[SourceColumn], query: &Query) -> b
 #[tactic(auto, unfolding(wquery::specs::QueryTree::view_query))]
 fn stars_ungrouped(names: &NameIndex, columns: &[SourceColumn], query: &Query) -> bool
     requires { IsIndexOf names.now (all_titled columns.now) (clauses_of (view_query query.now)) }
-    ensures { result ≡ (list_any is_star (clauses_of (view_query query.now)).items && list_any (is_outside (clauses_of (view_query query.now)).grouping) (all_titled columns.now)) }
+    ensures { result ≡ (list_any is_star (clauses_of (view_query query.now)).items && list_any (is_outside (all_columns (clauses_of (view_query query.now)).grouping)) (all_titled columns.now)) }
 {
     if !has_star(query.items.as_slice()) {
         return false;

@@ -210,6 +210,7 @@ fn are_typed(columns: &[SourceColumn], function: Option<Function>, arguments: &A
     match arguments {
         Arguments::Star => true,
         Arguments::Listed(list) => is_list_typed(columns, function, list.as_slice()),
+        Arguments::Columns(_) => true,
     }
 }
 

@@ -9,9 +9,10 @@ use Rattle.wquery.specs.declared.frame.Frame.{Frame}
 use Rattle.wquery.specs.declared.frame.FrameMode.TheVariants as modes
 use Rattle.wquery.specs.declared.frame.FrameBound.{FrameBound}
 use Rattle.wquery.specs.declared.frame.FrameBound.TheVariants as bounds
-use Rattle.wquery.specs.Tree.{Tree, NullWord, Numeral, Quoted, Field, Invoked, Signed, Joined, NoLinks, Further, Compared, Everything, These, trees, Unfiltered, FilteredBy, Reach, ItsGroup, ThatWindow, OwnWindow, NoKeys, MoreKeys, NoTrees, KeyTree}
+use Rattle.wquery.specs.Tree.{Tree, NullWord, Numeral, Quoted, Field, Invoked, Signed, Joined, NoLinks, Further, Compared, Everything, These, Columns, trees, Unfiltered, FilteredBy, Reach, ItsGroup, ThatWindow, OwnWindow, NoKeys, MoreKeys, NoTrees, KeyTree}
+use Rattle.wquery.specs.GroupElements.{OneSet, Rollup, Cube, Element}
 use Rattle.wquery.specs.QueryTree.{Clauses, ItemTree, Computed, AllColumns, QueryTree, Selected, FromTable, FromQuery, EntryTree}
-use Rattle.wrules.specs.declared.rule.Rule.TheVariants.{UnknownTable, UnknownColumn, AmbiguousName, WrongCall, WrongType, MisplacedWindowCall, MisplacedAggregate, UngroupedColumn, WrongFilter, UnknownWindow, RepeatedWindow, WrongCopy, WrongBounds, UnorderedGroups, WrongRangeKey, ZeroCount, WrongPlace, OverLimit}
+use Rattle.wrules.specs.declared.rule.Rule.TheVariants.{UnknownTable, UnknownColumn, AmbiguousName, WrongCall, WrongType, MisplacedWindowCall, MisplacedAggregate, UngroupedColumn, WrongFilter, UnknownWindow, RepeatedWindow, WrongCopy, WrongBounds, UnorderedGroups, WrongRangeKey, ZeroCount, WrongPlace, OverLimit, TooManySets}
 use Rattle.wrules.specs.declared.rule.Rule.{Rule}
 use Rattle.wrules.specs.Rules.{first_broken_rule}
 
@@ -126,13 +127,13 @@ bare_rank : judged (select_one (call (codes "rank") [] ItsGroup)) ≡ Some Mispl
 bare_rank = refl
 
 -- SELECT * FROM sales GROUP BY day; SELECT sum(sum(amount)) FROM sales; SELECT sum(sum(amount)) OVER () .. GROUP BY shop
-starred_group : judged (from_sales (record (clauses (AllColumns ∷ [])) { grouping = day ∷ [] })) ≡ Some UngroupedColumn
+starred_group : judged (from_sales (record (clauses (AllColumns ∷ [])) { grouping = (OneSet (day ∷ []) ∷ []) ∷ [] })) ≡ Some UngroupedColumn
 starred_group = refl
 
 nested_sum : judged (select_one (call (codes "sum") (call (codes "sum") (amount ∷ []) ItsGroup ∷ []) ItsGroup)) ≡ Some MisplacedAggregate
 nested_sum = refl
 
-sum_of_sums : judged (from_sales (record (clauses (item (call (codes "sum") (call (codes "sum") (amount ∷ []) ItsGroup ∷ []) (unordered None)) ∷ [])) { grouping = shop ∷ [] })) ≡ None
+sum_of_sums : judged (from_sales (record (clauses (item (call (codes "sum") (call (codes "sum") (amount ∷ []) ItsGroup ∷ []) (unordered None)) ∷ [])) { grouping = (OneSet (shop ∷ []) ∷ []) ∷ [] })) ≡ None
 sum_of_sums = refl
 
 -- a FILTER with an aggregate: without OVER, and with OVER
@@ -280,3 +281,76 @@ sixteen_keys = refl
 
 seventeen_keys : judged (from_sales (record (clauses (item day ∷ [])) { order = days 17 })) ≡ Some OverLimit
 seventeen_keys = refl
+
+-- SELECT day FROM sales GROUP BY ..
+abbrev grouped : List (Element Tree) → QueryTree
+grouped elements = from_sales (record (clauses (item day ∷ [])) { grouping = elements })
+
+abbrev cube_of : ℕ → Element Tree
+cube_of n = Cube (parts n) ∷ []
+  where
+    parts : ℕ → List (List Tree)
+    parts zero = []
+    parts (suc n) = (day ∷ []) ∷ parts n
+
+-- CUBE of 6 parts, of 7 and of 17; two CUBEs of 3, and these beside a ROLLUP
+six_cubed : judged (grouped (cube_of 6 ∷ [])) ≡ None
+six_cubed = refl
+
+seven_cubed : judged (grouped (cube_of 7 ∷ [])) ≡ Some TooManySets
+seven_cubed = refl
+
+twice_three_cubed : judged (grouped (cube_of 3 ∷ cube_of 3 ∷ [])) ≡ None
+twice_three_cubed = refl
+
+rolled_up_and_cubed : judged (grouped (cube_of 3 ∷ cube_of 3 ∷ (Rollup ((day ∷ []) ∷ []) ∷ []) ∷ [])) ≡ Some TooManySets
+rolled_up_and_cubed = refl
+
+seventeen_cubed : judged (grouped (cube_of 17 ∷ [])) ≡ Some OverLimit
+seventeen_cubed = refl
+
+-- nine derived tables one in another with too many sets in the outermost query, and eight
+abbrev cubed_over : QueryTree → QueryTree
+cubed_over q = Selected (record (clauses (item day ∷ [])) { grouping = cube_of 7 ∷ [] }) (FromQuery q (codes "q"))
+
+nine_deep_and_cubed : judged (cubed_over (nested 8)) ≡ Some OverLimit
+nine_deep_and_cubed = refl
+
+eight_deep_and_cubed : judged (cubed_over (nested 7)) ≡ Some TooManySets
+eight_deep_and_cubed = refl
+
+-- a derived table's sets come before the names of the query over it
+inner_sets : judged (derived (item (column (codes "dy")) ∷ []) (grouped (cube_of 7 ∷ []))) ≡ Some TooManySets
+inner_sets = refl
+
+-- GROUPING without GROUP BY, in WHERE, in an aggregate's argument, of a column outside GROUP BY, of 31 and of 32 columns
+abbrev grouping : List Tree → Tree
+grouping columns = Invoked (codes "grouping") (Columns (trees columns)) Unfiltered ItsGroup
+
+grouping_alone : judged (select_one (grouping (day ∷ []))) ≡ Some UngroupedColumn
+grouping_alone = refl
+
+grouping_in_where : judged (from_sales (record (clauses (item day ∷ [])) { condition = Some (Compared Greater (grouping (day ∷ [])) (Numeral 0)) })) ≡ Some MisplacedAggregate
+grouping_in_where = refl
+
+abbrev by_day : Tree → QueryTree
+by_day t = from_sales (record (clauses (item t ∷ [])) { grouping = (OneSet (day ∷ []) ∷ []) ∷ [] })
+
+grouping_in_sum : judged (by_day (call (codes "sum") (grouping (day ∷ []) ∷ []) ItsGroup)) ≡ Some MisplacedAggregate
+grouping_in_sum = refl
+
+grouping_over_groups : judged (by_day (call (codes "sum") (grouping (day ∷ []) ∷ []) (unordered None))) ≡ None
+grouping_over_groups = refl
+
+grouping_of_another : judged (by_day (grouping (day ∷ shop ∷ []))) ≡ Some UngroupedColumn
+grouping_of_another = refl
+
+abbrev day_times : ℕ → List Tree
+day_times zero = []
+day_times (suc n) = day ∷ day_times n
+
+grouping_of_many : judged (by_day (grouping (day_times 31))) ≡ None
+grouping_of_many = refl
+
+grouping_of_too_many : judged (by_day (grouping (day_times 32))) ≡ Some WrongCall
+grouping_of_too_many = refl

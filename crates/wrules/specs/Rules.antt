@@ -6,7 +6,7 @@ use Rattle.wscope.specs.Types.{Titled, Origin}
 use Rattle.wscope.specs.Sources.{origin_of}
 use Rattle.wscope.specs.Windows.{NamedWindow}
 use Rattle.wrules.specs.declared.rule.Rule.{Rule}
-use Rattle.wrules.specs.declared.rule.Rule.TheVariants.{UnknownTable, UnknownColumn, AmbiguousName, WrongCall, WrongType, MisplacedWindowCall, MisplacedAggregate, UngroupedColumn, WrongFilter, UnknownWindow, RepeatedWindow, WrongCopy, WrongBounds, UnorderedGroups, WrongRangeKey, ZeroCount, WrongPlace, OverLimit}
+use Rattle.wrules.specs.declared.rule.Rule.TheVariants.{UnknownTable, UnknownColumn, AmbiguousName, WrongCall, WrongType, MisplacedWindowCall, MisplacedAggregate, UngroupedColumn, WrongFilter, UnknownWindow, RepeatedWindow, WrongCopy, WrongBounds, UnorderedGroups, WrongRangeKey, ZeroCount, WrongPlace, OverLimit, TooManySets}
 use Rattle.wnames.specs.Names.{breaks_tables, breaks_columns, breaks_ambiguity}
 use Rattle.wnames.specs.Calls.{breaks_calls, breaks_filters, breaks_zeroths}
 use Rattle.wnames.specs.Typing.{breaks_types}
@@ -14,6 +14,7 @@ use Rattle.wnames.specs.Places.{breaks_window_places, breaks_aggregate_places, b
 use Rattle.wwindows.specs.Windows.{windows_of, breaks_window_names, breaks_entries, breaks_copies, breaks_bounds, breaks_groups, breaks_ranges}
 use Rattle.wwindows.specs.Order.{breaks_places}
 use Rattle.wwindows.specs.Limits.{breaks_limits}
+use Rattle.wgroupby.specs.Rules.{breaks_sets}
 
 -- the number that a refusal prints
 abbrev pub number_of : Rule → ℕ
@@ -35,6 +36,7 @@ number_of WrongRangeKey = 24
 number_of ZeroCount = 25
 number_of WrongPlace = 26
 number_of OverLimit = 27
+number_of TooManySets = 28
 
 -- the first rule that is broken
 abbrev pub first_of : List (Rule × Bool) → Option Rule
@@ -69,14 +71,18 @@ least_broken table alias cs c source = or_else (first_of_names table alias cs c 
 abbrev pub judged : List ℕ → Origin → Clauses → SourceTree → Option Rule
 judged table o c s = least_broken table o.alias o.columns c s
 
+-- Q28: over 64 sets, counted before any is made
+abbrev pub sets_rule : QueryTree → Option Rule
+sets_rule (Selected c s) = if breaks_sets c.grouping then Some TooManySets else None
+
 abbrev mutual
-  -- the least rule that the query breaks, its depth aside; a derived table is judged first
+  -- the least rule that the query breaks, its depth and the number of its sets aside; a derived table is judged first
   pub least : Declaration → QueryTree → Option Rule
   least d (Selected c s) = or_else (least_source d s) (judged d.table (origin_of d s) c s)
 
   pub least_source : Declaration → SourceTree → Option Rule
   least_source d (FromTable name alias) = None
-  least_source d (FromQuery q alias) = least d q
+  least_source d (FromQuery q alias) = or_else (least d q) (sets_rule q)
 
 abbrev mutual
   -- how many derived tables stand one in another
@@ -87,6 +93,10 @@ abbrev mutual
   source_depth (FromTable name alias) = 0
   source_depth (FromQuery q alias) = suc (depth q)
 
--- the rule that refuses a whole query, if there is one; over 8 derived tables one in another break the last rule
+-- over 8 derived tables one in another
+abbrev pub depth_rule : QueryTree → Option Rule
+depth_rule q = if nat_lt 8 (depth q) then Some OverLimit else None
+
+-- the rule that refuses a whole query, if there is one. Its depth is a limit, so it is judged before the count of its sets
 abbrev pub first_broken_rule : Declaration → QueryTree → Option Rule
-first_broken_rule d q = or_else (least d q) (if nat_lt 8 (depth q) then Some OverLimit else None)
+first_broken_rule d q = or_else (least d q) (or_else (depth_rule q) (sets_rule q))

@@ -8,12 +8,13 @@ ghost use Rattle.wscope.specs.Sources.{all_titled, answered, origin_of};
 ghost use Rattle.wnames.specs.Indexes.{IsIndexOf};
 ghost use Rattle.wnames.specs.Names.{source_of};
 ghost use Rattle.wwindows.specs.Earlier.{windows_in};
-ghost use Rattle.wwindows.specs.Windows.{windows_of};
-ghost use Rattle.wrules.specs.Rules.{least_broken, first_of_names as first_on_names, first_of_windows as first_on_windows, least_source, depth, source_depth, first_broken_rule as least_rule};
-ghost use Rattle.wrules.specs.Judging.{JudgesQuery, JudgesSource};
+ghost use Rattle.wwindows.specs.Windows.{breaks_entries, windows_of};
+ghost use Rattle.wrules.specs.Rules.{least_broken, first_of_names as first_on_names, first_of_windows as first_on_windows, least_source, depth, source_depth, sets_rule as rule_on_sets, first_broken_rule as least_rule};
+ghost use Rattle.wrules.specs.Judging.{JudgesInner, JudgesQuery, JudgesSource};
 
 use crate::rule::Rule;
 use std::alloc::{AllocError, Global};
+use wgroupby::has_too_many_sets;
 use wnames::{
     NameIndex, calls_wrongly, counts_none, filters_wrongly, has_wrong_types, misplaces_aggregates,
     misplaces_window_calls, names_ambiguously, names_ungrouped_column, names_unknown_column,
@@ -77,15 +78,22 @@ fn first_of_names<'a>(
     None
 }
 
+fn repeats_entries(windows: &WindowIndex, query: &Query) -> bool
+    requires { windows_in windows.now ≡ windows_of (clauses_of (view_query query.now)) }
+    ensures { result ≡ breaks_entries (clauses_of (view_query query.now)).windows }
+{
+    repeats_windows(windows)
+}
+
 /// The first rule that is broken of those on windows, places and limits.
-#[tactic(auto, unfolding(wquery::specs::QueryTree::view_query))]
 fn first_of_windows(windows: &WindowIndex, columns: &[SourceColumn], query: &Query) -> Option<Rule>
+    requires { windows_in windows.now ≡ windows_of (clauses_of (view_query query.now)) }
     ensures { result ≡ first_on_windows (windows_in windows.now) (all_titled columns.now) (clauses_of (view_query query.now)) }
 {
     if names_unknown_window(windows, columns, query) {
         return Some(Rule::UnknownWindow);
     }
-    if repeats_windows(query.windows.as_slice()) {
+    if repeats_entries(windows, query) {
         return Some(Rule::RepeatedWindow);
     }
     if copies_wrongly(windows, columns, query) {
@@ -223,6 +231,30 @@ fn judge_over(
     }
 }
 
+// The rule on the number of sets, where it is broken.
+#[tactic(auto, unfolding(wquery::specs::QueryTree::view_query))]
+fn sets_rule(query: &Query) -> Option<Rule>
+    ensures { result ≡ rule_on_sets (view_query query.now) }
+{
+    if has_too_many_sets(query.grouping.as_slice()) {
+        return Some(Rule::TooManySets);
+    }
+    None
+}
+
+// The judgement of a derived table's query, its sets counted last.
+fn with_sets(judgement: Judgement, query: &Query) -> Judgement
+    ensures { (d : Declaration) → JudgesQuery d (view_query query.now) judgement → JudgesInner d (view_query query.now) result }
+{
+    match judgement {
+        Judgement::Broken(rule) => Judgement::Broken(rule),
+        Judgement::Columns(columns) => match sets_rule(query) {
+            Some(rule) => Judgement::Broken(rule),
+            None => Judgement::Columns(columns),
+        },
+    }
+}
+
 // Judges a query, each SELECT of it at most once.
 #[cycle(judging)]
 #[tactic(auto, unfolding(wquery::specs::QueryTree::view_query, wquery::specs::QueryTree::view_source))]
@@ -258,7 +290,10 @@ fn judge_source(
             let columns = declared_columns(alloc, schema)?;
             Ok(Judgement::Columns(columns))
         }
-        Source::Derived { query, .. } => judge(alloc, schema, query, judged),
+        Source::Derived { query, .. } => {
+            let judgement = judge(alloc, schema, query, judged)?;
+            Ok(with_sets(judgement, query))
+        }
     }
 }
 
@@ -276,8 +311,8 @@ fn is_deeper(query: &Query, most: u8) -> bool
     is_deeper(inner, most - 1)
 }
 
-/// The least rule that a query over the declared table breaks. Its derived table is judged first, and over 8 derived
-/// tables one in another come last of all.
+/// The least rule that a query over the declared table breaks. Its derived table is judged first; over 8 derived tables
+/// one in another and then over 64 sets come last of all.
 pub fn first_broken_rule(
     alloc: Global,
     schema: &Schema,
@@ -291,8 +326,7 @@ pub fn first_broken_rule(
         return Ok(Some(rule));
     }
     if is_deeper(query, 8) {
-        Ok(Some(Rule::OverLimit))
-    } else {
-        Ok(None)
+        return Ok(Some(Rule::OverLimit));
     }
+    Ok(sets_rule(query))
 }

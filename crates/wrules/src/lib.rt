@@ -1,10 +1,10 @@
 //! The least rule of resolution that a query breaks.
 //!
-//! - Gives the rules of resolution with their numbers, Q10 to Q27, and the least one that a query breaks.
-//! - Promises: the rule that is answered is the least one that is broken, a derived table being judged first and the
-//!   depth of derived tables last.
+//! - Gives the rules of resolution with their numbers, Q10 to Q28, and the least one that a query breaks.
+//! - Promises: the rule that is answered is the least one that is broken, a derived table being judged first, with the
+//!   number of its sets; of the outermost query the depth of derived tables and then the number of sets come last.
 //! - Asks nothing. Memory is asked for the columns of sources and for windows alone.
-//! - Leaves each rule to `wnames` and `wwindows`, what names stand for to `wscope`, and the form that execution reads to
+//! - Leaves each rule to `wnames`, `wwindows` and `wgroupby`, what names stand for to `wscope`, and the form that execution reads to
 //!   `wresolve`.
 //!
 //! Read `specs/Rules.antt`, then `specs/Judging.antt`.

@@ -43,10 +43,12 @@ pub enum Rule {
     WrongPlace,
     /// Q27: over 64 items, 32 windows, 16 entries in a list, or 8 derived tables one in another.
     OverLimit,
+    /// Q28: over 64 sets of GROUP BY.
+    TooManySets,
 }
 
 impl Rule {
-    /// The number that a refusal prints, 10 to 27.
+    /// The number that a refusal prints, 10 to 28.
     pub fn number(self) -> u8
         ensures { result ≡ number_of self }
     {
@@ -69,6 +71,7 @@ impl Rule {
             Rule::ZeroCount => 25,
             Rule::WrongPlace => 26,
             Rule::OverLimit => 27,
+            Rule::TooManySets => 28,
         }
     }
 }

@@ -1,3 +1,4 @@
 mod Counts
 mod Lists
 mod Placed
+mod Repeated

@@ -1,5 +1,6 @@
 -- WINDOW entries, found by name.
-use Rattle.std.specs.Prelude.{◌≡◌, ℕ, suc, List, [], ◌∷◌, Option, Some, None, take, if◌then◌else◌}
+use Rattle.std.specs.Prelude.{◌≡◌, ℕ, suc, ◌==◌, Bool, false, ◌||◌, List, [], ◌∷◌, ◌++◌, Option, Some, None, take, if◌then◌else◌}
+use Rattle.std.specs.List.{list_any}
 use Rattle.std.specs.BTreeMap.{BTreeMap, get_by_text}
 use Rattle.std.specs.Str.{bytes_eq}
 use Rattle.std.specs.declared.alloc.Global.{Global}
@@ -17,6 +18,19 @@ further (Some n) = Some (suc n)
 abbrev pub place_of : List ℕ → List NamedWindow → Option ℕ
 place_of name [] = None
 place_of name (w ∷ ws) = if bytes_eq w.name name then Some 0 else further (place_of name ws)
+
+-- whether a name was found at this place
+abbrev pub is_place : ℕ → Option ℕ → Bool
+is_place place None = false
+is_place place (Some n) = n == place
+
+abbrev pub has_window_name : List ℕ → NamedWindow → Bool
+has_window_name name w = bytes_eq w.name name
+
+-- a window has the name of one before it, where some of them are passed already
+abbrev pub repeats : List NamedWindow → List NamedWindow → Bool
+repeats passed [] = false
+repeats passed (w ∷ ws) = list_any (has_window_name w.name) passed || repeats (passed ++ w ∷ []) ws
 
 -- each name has the place of the first of these windows that has it
 abbrev pub ArePlaces : BTreeMap (String Global) ℕ → List NamedWindow → Type 0

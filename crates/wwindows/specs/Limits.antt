@@ -1,11 +1,12 @@
 -- The rule on limits: Q27.
 use Rattle.std.specs.Prelude.{ℕ, Bool, false, ◌||◌, ◌+◌, min, nat_lt, List, [], ◌∷◌, length}
 use Rattle.std.specs.List.{list_any}
-use Rattle.wquery.specs.Tree.{Tree, NullWord, Numeral, Quoted, Field, Invoked, Negated, Signed, Joined, Compared, NullTest, Within, Among, Trees, NoTrees, MoreTrees, Links, NoLinks, Further, Given, Everything, These, Filter, Unfiltered, FilteredBy, Reach, ItsGroup, ThatWindow, OwnWindow, Keys, NoKeys, MoreKeys, KeyTree, own_window}
+use Rattle.wquery.specs.Tree.{Tree, NullWord, Numeral, Quoted, Field, Invoked, Negated, Signed, Joined, Compared, NullTest, Within, Among, Trees, NoTrees, MoreTrees, Links, NoLinks, Further, Given, Everything, These, Columns, Filter, Unfiltered, FilteredBy, Reach, ItsGroup, ThatWindow, OwnWindow, Keys, NoKeys, MoreKeys, KeyTree, own_window}
 use Rattle.wquery.specs.QueryTree.{Clauses, ItemTree, AllColumns, Computed, EntryTree}
 use Rattle.wscope.specs.Types.{Titled}
 use Rattle.wscope.specs.Scope.{some_anywhere}
 use Rattle.wscope.specs.Finding.{finds, count_trees, count_keys}
+use Rattle.wgroupby.specs.Rules.{breaks_lists}
 use Rattle.wwindows.specs.Order.{count_items}
 use Rattle.wwindows.specs.Windows.{reach_is}
 
@@ -36,6 +37,7 @@ abbrev mutual
   pub over_given : Given → ℕ
   over_given Everything = 0
   over_given (These ts) = over_trees ts
+  over_given (Columns ts) = over_trees ts
 
   pub over_filter : Filter → ℕ
   over_filter Unfiltered = 0
@@ -87,10 +89,10 @@ has_long_list _ = false
 abbrev pub is_long_entry : EntryTree → Bool
 is_long_entry e = has_long_list (own_window e.window)
 
--- Q27: over 64 items after `*` is written out, over 32 windows, over 16 entries in one list of GROUP BY, PARTITION BY or
--- ORDER BY
+-- Q27: over 64 items after `*` is written out, over 32 windows, over 16 entries in one list of GROUP BY, each of its lists
+-- in parentheses for itself, of PARTITION BY or ORDER BY
 abbrev pub breaks_limits : List Titled → Clauses → Bool
 breaks_limits cs c =
     nat_lt most_items (count_items cs c.items) || (nat_lt most_windows (count_windows c)
-    || ((nat_lt most_entries (length c.grouping) || nat_lt most_entries (length c.order))
+    || ((breaks_lists c.grouping || nat_lt most_entries (length c.order))
     || (list_any is_long_entry c.windows || some_anywhere cs c (finds (reach_is has_long_list)))))

@@ -108,6 +108,7 @@ fn count_in_arguments(arguments: &Arguments) -> u32
     match arguments {
         Arguments::Star => 0,
         Arguments::Listed(list) => count_listed(list.as_slice()),
+        Arguments::Columns(columns) => count_listed(columns.as_slice()),
     }
 }
 

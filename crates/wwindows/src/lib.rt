@@ -5,9 +5,10 @@
 //! - Promises: each walk answers whether its rule is broken by the query over the columns of its source and its WINDOW
 //!   entries with what they copy, used or not. Each rule is one definition, judged under the premise that those before
 //!   it hold.
-//! - Asks nothing. A walk takes no memory, and time in proportion to the query, where a window is found by its name in the
-//!   logarithm of their number; repeated names are sought in the square of the number of WINDOW entries.
-//! - Leaves the rules on names, calls and types to `wnames`, their order and derived tables to `wrules`.
+//! - Asks nothing. A walk takes no memory, and time in proportion to the query, where a window is found by its name, and an
+//!   entry of a name that an earlier one has, in the logarithm of their number.
+//! - Leaves the rules on names, calls and types to `wnames`, the lengths of GROUP BY's lists and the number of its sets to
+//!   `wgroupby`, the order of all rules and derived tables to `wrules`.
 //!
 //! Read `specs/Windows.antt`, `specs/Order.antt` and `specs/Limits.antt`, then `specs/Indexes.antt` and `specs/Earlier.antt`.
 #![tactic(auto)]

@@ -7,12 +7,14 @@ ghost use Rattle.wquery.specs.QueryTree.{view_entry, view_query};
 ghost use Rattle.wscope.specs.Scope.{clauses_of};
 ghost use Rattle.wscope.specs.Sources.{all_titled};
 ghost use Rattle.wscope.specs.Finding.{count_trees, count_keys};
+ghost use Rattle.wgroupby.specs.Rules.{breaks_lists};
 ghost use Rattle.wwindows.specs.Order.{count_items as number_of_items};
 ghost use Rattle.wwindows.specs.Limits.{count_windows as number_of_windows, has_long_list as is_reach_long, is_long_entry as is_entry_long, breaks_limits, counted, most_entries, most_items, most_windows};
 
 use crate::counting::{count_in_items, count_in_order, plus};
 use crate::order::count_items;
 use crate::windows::{ReachTest, any_over};
+use wgroupby::has_long_list;
 use wquery::{Expression, Key, Over, Query, Window, WindowEntry};
 use wscope::SourceColumn;
 
@@ -22,7 +24,7 @@ const MAX_ITEMS: u128 = 64;
 /// The most WINDOW entries and windows of calls together.
 const MAX_WINDOWS: usize = 32;
 
-/// The most entries in one list of GROUP BY, PARTITION BY or ORDER BY.
+/// The most entries in one list of PARTITION BY or ORDER BY.
 const MAX_ENTRIES: usize = 16;
 
 fn are_many(list: &[Expression]) -> bool
@@ -101,9 +103,9 @@ fn has_many_items(columns: &[SourceColumn], query: &Query) -> bool
 
 #[tactic(auto, unfolding(wquery::specs::QueryTree::view_query))]
 fn has_long_clause(query: &Query) -> bool
-    ensures { result ≡ (nat_lt most_entries (length (clauses_of (view_query query.now)).grouping) || nat_lt most_entries (length (clauses_of (view_query query.now)).order)) }
+    ensures { result ≡ (breaks_lists (clauses_of (view_query query.now)).grouping || nat_lt most_entries (length (clauses_of (view_query query.now)).order)) }
 {
-    if query.grouping.len() > MAX_ENTRIES {
+    if has_long_list(query.grouping.as_slice()) {
         return true;
     }
     query.order.len() > MAX_ENTRIES

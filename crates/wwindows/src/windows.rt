@@ -1,15 +1,17 @@
 //! The rules on windows and what they copy.
 
-ghost use Rattle.std.specs.Prelude.{◌≡◌, ◌&&◌, Bool, Option, Some, map, take, not, is_some};
+ghost use Rattle.std.specs.Prelude.{◌≡◌, ◌&&◌, Bool, List, [], Option, Some, map, take, not, is_some};
 ghost use Rattle.std.specs.List.{list_any};
+ghost use Rattle.std.specs.Option.{option_copied};
 ghost use Rattle.wquery.specs.Tree.{Reach, keys, view_keys, trees, views, view_window, view_call, view_optional_over, reach_of};
-ghost use Rattle.wquery.specs.QueryTree.{view_query, view_entry};
+ghost use Rattle.wquery.specs.QueryTree.{EntryTree, view_query, view_entry};
 ghost use Rattle.wscope.specs.Scope.{clauses_of, some_anywhere};
 ghost use Rattle.wscope.specs.Sources.{all_titled};
-ghost use Rattle.wscope.specs.Windows.{Settled, window_named, or_none, named_windows, settled_window, settle_tree, lent_frame};
+ghost use Rattle.wscope.specs.Windows.{Settled, window_named, or_none, named_windows, settled_window, settle_all as settled_entries, settle_tree, lent_frame};
 ghost use Rattle.wscope.specs.Finding.{finds};
 ghost use Rattle.wwindows.specs.Earlier.{seen, windows_in};
-ghost use Rattle.wwindows.specs.Windows.{reach_is, some_entry_after, is_unknown_window as is_no_window, copies_unknown as copies_no_window, is_over_unknown as is_over_no_window, has_entry_name, breaks_entries, is_bad_copy as is_wrong_copy, copies_badly as is_copied_wrongly, is_over_bad_copy as is_over_wrong_copy, own_window_is, entry_is, has_keys, has_trees, some_window, breaks_window_names, breaks_copies};
+ghost use Rattle.wwindows.specs.Indexes.{is_place, place_of, repeats};
+ghost use Rattle.wwindows.specs.Windows.{reach_is, some_entry_after, is_unknown_window as is_no_window, copies_unknown as copies_no_window, is_over_unknown as is_over_no_window, breaks_entries, is_bad_copy as is_wrong_copy, copies_badly as is_copied_wrongly, is_over_bad_copy as is_over_wrong_copy, own_window_is, entry_is, has_keys, has_trees, some_window, breaks_window_names, breaks_copies};
 
 use crate::earlier::Earlier;
 use crate::finding::{find, find_copied, settle_over};
@@ -124,29 +126,41 @@ pub fn names_unknown_window(windows: &WindowIndex, columns: &[SourceColumn], que
     any_over(&UnknownWindow { windows }, columns, query)
 }
 
-fn is_entry_named(entries: &[WindowEntry], name: &str) -> bool
-    ensures { result ≡ list_any (has_entry_name name.now) (map view_entry entries.now) }
+fn is_found_at(found: Option<&usize>, place: usize) -> bool
+    ensures { result ≡ is_place place (option_copied found.entry) }
 {
+    match found {
+        None => false,
+        Some(first) => *first == place,
+    }
+}
+
+/// Whether no entry before this place has the name.
+fn is_first(windows: &WindowIndex, name: &str, place: usize) -> bool
+    ensures { result ≡ is_place place (place_of name.now (windows_in windows.now)) }
+{
+    is_found_at(windows.places.get(name), place)
+}
+
+fn repeats_names(windows: &WindowIndex, entries: &[FullEntry]) -> bool
+    requires { windows.now.entries.items ≡ entries.now }
+    ensures { result ≡ repeats [] (named_windows entries.now) }
+{
+    let mut place = 0;
     'entries: for entry in entries {
-        if entry.name.as_str() == name {
+        if !is_first(windows, entry.name, place) {
             return true;
         }
+        place += 1;
     }
     false
 }
 
-/// Q20.
-pub fn repeats_windows(entries: &[WindowEntry]) -> bool
-    ensures { result ≡ breaks_entries (map view_entry entries.now) }
+/// Q20, of the entries that were settled.
+pub fn repeats_windows(windows: &WindowIndex) -> bool
+    ensures { (entries : List EntryTree) → windows_in windows.now ≡ settled_entries [] entries → result ≡ breaks_entries entries }
 {
-    let mut place = 0;
-    'entries: for entry in entries {
-        place += 1;
-        if is_entry_named(&entries[place..], entry.name.as_str()) {
-            return true;
-        }
-    }
-    false
+    repeats_names(windows, windows.entries.as_slice())
 }
 
 /// Whether there is no key.
