@@ -1,14 +1,13 @@
 -- Groups by the order of first sight, and by their keys.
-use Rattle.std.proofs.Common.{◌≡◌, ℕ, ◌+◌, ◌<◌, ◌≤◌, ◌^◌, Bool, not, List, [], ◌∷◌, length, map, filter, get_or, slice_index_or, All, Ordering, sym, ap, subst, ◌∙◌, arith}
+use Rattle.std.proofs.Common.{◌≡◌, ℕ, ◌+◌, ◌<◌, ◌==◌, Bool, false, not, List, [], ◌∷◌, length, map, filter, get_or, All, Ordering, sym, ap, subst, ◌∙◌, arith}
 use Rattle.std.specs.Borrow.{Bor}
 use Rattle.std.specs.List.{list_any, AllByRecursion}
 use Rattle.std.specs.Ordering.{on}
-use Rattle.std.proofs.lemmas.Cmp.{on_total}
+use Rattle.std.proofs.lemmas.Bool.Decides.{nat_tests}
 use Rattle.std.proofs.lemmas.List.{length-map, get_or-map}
 use Rattle.std.proofs.lemmas.List.Elements.{All-get_or, All-from_recursion, recursion_from_All}
 use Rattle.wvalues.specs.declared.value.Value.{Value}
 use Rattle.wvalues.specs.Meaning.{Meaning, Null, meaning}
-use Rattle.wvalues.specs.OrderLaws.{keys_total}
 use Rattle.wvalues.specs.Order.{keys_cmp}
 use Rattle.wframe.specs.Places.{places}
 use Rattle.wframe.specs.Peers.{key_at}
@@ -19,23 +18,21 @@ use Rattle.wrows.specs.Laid.{row_seen, rows_seen}
 use Rattle.wrows.specs.Plain.{numbers_by}
 use Rattle.wrows.specs.Sorting.{ascending}
 use Rattle.wrows.proofs.RowFacts.{all_of_each, row_at, map-map, places_below, length-places}
-use Rattle.wframe.proofs.SortFacts.{length_sorted}
 use Rattle.waggregate.proofs.GroupFacts.{place_at_from}
-use Rattle.wgroup.specs.Grouping.{Group, agree, first_rows, group_cmp, group_key, group_of, groups_of}
+use Rattle.wgroup.specs.Grouping.{Group, SetColumns, agree, first_rows, group_cmp, group_key, group_of, groups_by, groups_of_set, set_columns, set_value}
 use Rattle.waggregate.specs.Grouped.{rows_of_group}
-use Rattle.wgroup.specs.Held.{groups_by}
 use Rattle.wgroup.specs.Sight.{first_of, key_in, members, same_row, slice_at}
-use Rattle.wgroup.proofs.ListFacts.{filter_same, any_same, map_same, all_implied, all_kept, below_all, at_places, filter_le}
+use Rattle.wgroup.proofs.ListFacts.{filter_same, any_same, map_same, all_implied, all_kept, below_all, at_places}
 use Rattle.wgroup.proofs.KeyFacts.{cells_agree}
 use Rattle.wrows.proofs.MoreSorting.{sorted_map, sorted_same}
 
-pub keys_wide : (columns : List ℕ) (rows : List (Bor (List Value))) → AllByRecursion (λ r. length (key_in columns (row_seen r)) ≡ length columns) rows
-keys_wide columns rows = all_of_each (λ r. length (key_in columns (row_seen r)) ≡ length columns) (λ r. length-map columns (λ c. slice_index_or (row_seen r) c Null)) rows
+pub keys_wide : (columns : SetColumns) (rows : List (Bor (List Value))) → AllByRecursion (λ r. length (key_in columns (row_seen r)) ≡ length columns) rows
+keys_wide columns rows = all_of_each (λ r. length (key_in columns (row_seen r)) ≡ length columns) (λ r. length-map columns (set_value (row_seen r))) rows
 
 pub firsts_below : (same : ℕ → ℕ → Bool) (n : ℕ) → AllByRecursion (λ i. i < n) (first_of same n)
 firsts_below same n = all_kept (λ i. i < n) (λ i. not (list_any (same i) (places i))) (places n) (places_below 0 n n (omega arith))
 
-module _ (columns : List ℕ) (rows : List (Bor (List Value))) (cells : List Value) (keyed : laid (length columns) (length rows) cells ≡ map (key_in columns) (rows_seen rows)) where
+module _ (set : List ℕ) (columns : SetColumns) (rows : List (Bor (List Value))) (cells : List Value) (keyed : laid (length columns) (length rows) cells ≡ map (key_in columns) (rows_seen rows)) where
   abbrev n : ℕ
   n = length rows
 
@@ -55,7 +52,7 @@ module _ (columns : List ℕ) (rows : List (Bor (List Value))) (cells : List Val
   slice_key i h = sym (row_at w n cells i h) ∙ key_of i h
 
   key_wide : (i : ℕ) → length (group_key columns told i) ≡ length columns
-  key_wide i = length-map columns (λ c. slice_index_or (key_at told i) c Null)
+  key_wide i = length-map columns (set_value (key_at told i))
 
   same_agrees : (i j : ℕ) → i < n → j < n → same_row w cells i j ≡ agree columns told i j
   same_agrees i j h k = cells_agree columns (slice_at w cells i) (slice_at w cells j) (group_key columns told i) (group_key columns told j) (slice_key i h) (slice_key j k) (key_wide i) (key_wide j)
@@ -94,12 +91,12 @@ module _ (columns : List ℕ) (rows : List (Bor (List Value))) (cells : List Val
         ∙ members_agree (first g) (first_below g h)
 
     abbrev group : ℕ → Group
-    group g = record { key = key_at (laid w count keys) g; rows = rows_of_group numbers g }
+    group g = record { set = set; key = key_at (laid w count keys) g; rows = rows_of_group numbers g }
 
-    group_here : (g : ℕ) → g < length firsts → group g ≡ group_of columns told (first g)
+    group_here : (g : ℕ) → g < length firsts → group g ≡ group_of set columns told (first g)
     group_here g h =
         let key : key_at (laid w count keys) g ≡ group_key columns told (first g) = ap (λ m. key_at (laid w m keys) g) are_so_many ∙ key_here g h in
-        let one : List Meaning → List ℕ → Group = λ k rs. record { key = k; rows = rs } in
+        let one : List Meaning → List ℕ → Group = λ k rs. record { set = set; key = k; rows = rs } in
         ap (λ k. one k (rows_of_group numbers g)) key ∙ ap (λ rs. one (group_key columns told (first g)) rs) (rows_here g h)
 
     abbrev by_key : ℕ → ℕ → Ordering
@@ -113,29 +110,23 @@ module _ (columns : List ℕ) (rows : List (Bor (List Value))) (cells : List Val
         ∙ sym (sorted_map by_key first (places (length firsts))) ∙ ap (sorted by_key) (at_places firsts 0 ∙ are_firsts ∙ firsts_agree)
 
     -- the groups in memory are those that are meant
-    pub are_groups : map group order ≡ groups_by columns told
+    pub are_groups : map group order ≡ groups_by set columns told
     are_groups =
-        map_same group (λ g. group_of columns told (first g)) order
-        (all_implied (λ g. g < length firsts) (λ g. group g ≡ group_of columns told (first g)) group_here order (recursion_from_All (λ i. i < length firsts) order below))
-        ∙ sym (map-map (group_of columns told) first order) ∙ ap (map (group_of columns told)) order_here
+        map_same group (λ g. group_of set columns told (first g)) order
+        (all_implied (λ g. g < length firsts) (λ g. group g ≡ group_of set columns told (first g)) group_here order (recursion_from_All (λ i. i < length firsts) order below))
+        ∙ sym (map-map (group_of set columns told) first order) ∙ ap (map (group_of set columns told)) order_here
 
--- without columns there is one group, and with columns there are those that agree
-pub without_columns : (columns : List ℕ) (rows : List (Bor (List Value))) (groups : List Group) → length columns ≡ 0 → groups ≡ record { key = []; rows = places (length rows) } ∷ [] → groups ≡ groups_of columns (rows_seen rows)
-without_columns [] rows groups h e =
-    let one : ℕ → List Group = λ n. record { key = []; rows = places n } ∷ [] in
+pub some_length : {X : Type 0} (xs : List X) → false ≡ (length xs == 0) → 0 < length xs
+some_length [] h = absurd (grind (arith, nat_tests))
+some_length (x ∷ xs) h = omega arith
+
+-- the groups of a set, which is empty or not
+pub of_no_columns : (columns set : List ℕ) (rows : List (Bor (List Value))) (groups : List Group) → length set ≡ 0 → groups ≡ record { set = []; key = map (λ c. Null) columns; rows = places (length rows) } ∷ [] → groups ≡ groups_of_set columns (rows_seen rows) set
+of_no_columns columns [] rows groups h e =
+    let one : ℕ → List Group = λ n. record { set = []; key = map (λ c. Null) columns; rows = places n } ∷ [] in
     e ∙ ap one (sym (length-map rows row_seen))
-without_columns (c ∷ cs) rows groups h e = absurd (omega arith)
+of_no_columns columns (c ∷ cs) rows groups h e = absurd (omega arith)
 
-pub with_columns : (columns : List ℕ) (rows : List Row) (groups : List Group) → 0 < length columns → groups ≡ groups_by columns rows → groups ≡ groups_of columns rows
-with_columns [] rows groups h e = absurd (omega arith)
-with_columns (c ∷ cs) rows groups h e = e
-
--- no more groups than rows
-pub groups_few : (columns : List ℕ) (rows : List Row) → length rows < 2 ^ 31 → length (groups_of columns rows) < 2 ^ 31
-groups_few [] rows h = omega arith
-groups_few (c ∷ cs) rows h =
-    let cmp = on (group_key (c ∷ cs) rows) (group_cmp (c ∷ cs)) in
-    let firsts = first_rows (c ∷ cs) rows in
-    let some : length firsts ≤ length (places (length rows)) = filter_le (λ i. not (list_any (agree (c ∷ cs) rows i) (places i))) (places (length rows)) in
-    let sorts : length (sorted cmp firsts) ≡ length firsts = length_sorted cmp (on_total (group_key (c ∷ cs) rows) (keys_total (ascending (c ∷ cs)))) firsts in
-    omega (arith, h, some, sorts, length-places 0 (length rows), length-map (sorted cmp firsts) (group_of (c ∷ cs) rows))
+pub of_columns : (columns set : List ℕ) (rows : List Row) (groups : List Group) → 0 < length set → groups ≡ groups_by set (set_columns columns set) rows → groups ≡ groups_of_set columns rows set
+of_columns columns [] rows groups h e = absurd (omega arith)
+of_columns columns (c ∷ cs) rows groups h e = e

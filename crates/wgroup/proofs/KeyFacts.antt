@@ -1,5 +1,5 @@
 -- Rows of cells are the same where their keys agree.
-use Rattle.std.proofs.Common.{◌≡◌, ℕ, ◌+◌, ◌<◌, ◌++◌, ◌&&◌, take, get_or, true, false, List, [], ◌∷◌, length, map, suc, Ordering, Less, Equal, Greater, refl, sym, ap, ◌∙◌, true≢false}
+use Rattle.std.proofs.Common.{◌≡◌, ℕ, ◌+◌, ◌<◌, ◌++◌, ◌&&◌, take, get_or, true, false, List, [], ◌∷◌, length, map, suc, Option, None, Ordering, Less, Equal, Greater, refl, sym, ap, ◌∙◌, true≢false}
 use Rattle.std.specs.Bool.{one_answer}
 use Rattle.std.specs.Ordering.{is_eq}
 use Rattle.std.specs.Cmp.Lexicographic.{pointwise, pointwise_decides}
@@ -12,7 +12,7 @@ use Rattle.wvalues.specs.Sameness.{same_meaning, meaning_decides}
 use Rattle.wvalues.specs.Order.{keys_cmp}
 use Rattle.wvalues.specs.OrderLaws.{keys_total, ties_are_same}
 use Rattle.wrows.specs.Sorting.{ascending}
-use Rattle.wgroup.specs.Grouping.{group_cmp}
+use Rattle.wgroup.specs.Grouping.{SetColumns, group_cmp}
 use Rattle.wgroup.specs.Sight.{same_cells}
 
 by_meaning : (xs ys : List Value) → same_cells xs ys ≡ pointwise same_meaning (map meaning xs) (map meaning ys)
@@ -21,7 +21,7 @@ by_meaning [] (y ∷ ys) = refl
 by_meaning (x ∷ xs) [] = refl
 by_meaning (x ∷ xs) (y ∷ ys) = ap (λ b. same_meaning (meaning x) (meaning y) && b) (by_meaning xs ys)
 
-pub length_ascending : (columns : List ℕ) → length (ascending columns) ≡ length columns
+pub length_ascending : {X : Type 0} (columns : List X) → length (ascending columns) ≡ length columns
 length_ascending [] = refl
 length_ascending (c ∷ cs) = ap suc (length_ascending cs)
 
@@ -41,12 +41,12 @@ cells_tie keys xs ys a b p q m n =
     by_meaning xs ys ∙ ap (λ x. pointwise same_meaning x (map meaning ys)) p ∙ ap (λ y. pointwise same_meaning a y) q
     ∙ one_answer (pointwise same_meaning a b) (is_eq (keys_cmp keys a b)) (pointwise_decides meaning_decides a b) (keys_decide keys a b m n)
 
-pub cells_agree : (columns : List ℕ) (xs ys : List Value) (a b : List Meaning) → map meaning xs ≡ a → map meaning ys ≡ b → length a ≡ length columns → length b ≡ length columns → same_cells xs ys ≡ is_eq (group_cmp columns a b)
+pub cells_agree : (columns : SetColumns) (xs ys : List Value) (a b : List Meaning) → map meaning xs ≡ a → map meaning ys ≡ b → length a ≡ length columns → length b ≡ length columns → same_cells xs ys ≡ is_eq (group_cmp columns a b)
 cells_agree columns xs ys a b p q m n =
     cells_tie (ascending columns) xs ys a b p q (m ∙ sym (length_ascending columns)) (n ∙ sym (length_ascending columns))
 
 -- an ascending key more
-pub ascending_made : (columns : List ℕ) (i : ℕ) (old new : List SortKey) → i < length columns → old ≡ ascending (take i columns) → new ≡ old ++ record { col = 0; desc = false; nulls_first = false } ∷ [] → new ≡ ascending (take (i + 1) columns)
+pub ascending_made : (columns : SetColumns) (i : ℕ) (old new : List SortKey) → i < length columns → old ≡ ascending (take i columns) → new ≡ old ++ record { col = 0; desc = false; nulls_first = false } ∷ [] → new ≡ ascending (take (i + 1) columns)
 ascending_made columns i old new h e f =
-    let key : ℕ → SortKey = λ x. record { col = 0; desc = false; nulls_first = false } in
-    f ∙ ap (λ l. l ++ key 0 ∷ []) e ∙ sym (map-append key (take i columns) (get_or columns i 0 ∷ [])) ∙ ap (map key) (sym (take_more columns i 0 h))
+    let key : Option ℕ → SortKey = λ x. record { col = 0; desc = false; nulls_first = false } in
+    f ∙ ap (λ l. l ++ key None ∷ []) e ∙ sym (map-append key (take i columns) (get_or columns i None ∷ [])) ∙ ap (map key) (sym (take_more columns i None h))

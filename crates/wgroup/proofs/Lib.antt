@@ -5,5 +5,9 @@ mod ListFacts
 mod KeyFacts
 mod OrderFacts
 mod GroupFacts
+mod SetFacts
 mod ColumnFacts
+mod BitFacts
 mod TellFacts
+mod Worked
+mod PlainFacts

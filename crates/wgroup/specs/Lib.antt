@@ -1,3 +1,4 @@
 pub mod Grouping
 pub mod Sight
 pub mod Held
+pub mod Laws

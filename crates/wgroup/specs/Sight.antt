@@ -1,12 +1,13 @@
 -- Rows by a test of whether two are the same, in the order of first sight, and rows of cells that are the same.
-use Rattle.std.specs.Prelude.{◌≡◌, ℕ, ◌*◌, ◌<◌, ◌≤◌, Bool, true, not, List, map, filter, take, drop, slice_index_or}
+use Rattle.std.specs.Prelude.{◌≡◌, ℕ, ◌*◌, ◌<◌, ◌≤◌, Bool, true, not, List, map, filter, take, drop}
 use Rattle.std.specs.List.{list_any}
 use Rattle.std.specs.Cmp.Lexicographic.{pointwise}
 use Rattle.wvalues.specs.declared.value.Value.{Value}
-use Rattle.wvalues.specs.Meaning.{Meaning, Null, meaning}
+use Rattle.wvalues.specs.Meaning.{Meaning, meaning}
 use Rattle.wvalues.specs.Sameness.{same_meaning}
 use Rattle.wframe.specs.Places.{places}
 use Rattle.wrows.specs.Columns.{Row}
+use Rattle.wgroup.specs.Grouping.{SetColumns, set_value}
 
 -- the rows, of n, with which no earlier row is the same
 abbrev pub first_of : (ℕ → ℕ → Bool) → ℕ → List ℕ
@@ -32,6 +33,6 @@ same_cells = pointwise (λ a b. same_meaning (meaning a) (meaning b))
 abbrev pub same_row : ℕ → List Value → ℕ → ℕ → Bool
 same_row width cells i j = same_cells (slice_at width cells i) (slice_at width cells j)
 
--- a row's values in some columns, null behind its end
-abbrev pub key_in : List ℕ → Row → List Meaning
-key_in columns row = map (λ c. slice_index_or row c Null) columns
+-- a row's values in the columns of a set, null behind its end
+abbrev pub key_in : SetColumns → Row → List Meaning
+key_in columns row = map (set_value row) columns

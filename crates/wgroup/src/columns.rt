@@ -1,59 +1,189 @@
-//! Aggregates of groups.
-ghost use Rattle.std.specs.Prelude.{◌≡◌, ◌<◌, ◌^◌, All, length, map, IfOk};
+//! What the calls of groups answer.
+ghost use Rattle.std.specs.Prelude.{◌≡◌, ◌<◌, ◌≤◌, ◌^◌, ◌+◌, ◌*◌, ◌++◌, All, length, map, min, option_map, if◌then◌else◌, IfOk, OnOk};
+ghost use Rattle.std.specs.List.{flat_map};
 ghost use Rattle.wvalues.specs.Meaning.{meaning};
-ghost use Rattle.wplan.specs.Plans.{aggregate_plan};
+ghost use Rattle.wplan.specs.Plans.{GroupAggregate, GroupingOf, aggregate_plan, group_call_plan};
+ghost use Rattle.waggregate.specs.Feeding.{feed_in};
+ghost use Rattle.wrows.specs.Columns.{in_range};
 ghost use Rattle.wrows.specs.Outcomes.{Gives, each};
 ghost use Rattle.wrows.specs.Laid.{rows_seen};
-ghost use Rattle.wgroup.specs.Held.{column_over, columns_in};
+ghost use Rattle.wgroupby.specs.Sets.{grouping_of};
+ghost use Rattle.wgroup.specs.Grouping.{grouping_answer};
+ghost use Rattle.wgroup.specs.Held.{all_groups, column_over, columns_in, set_answers, set_grouping};
 
 use crate::found::Groups;
-use std::alloc::Global;
-use waggregate::{aggregate_groups, feed_rows};
-use wplan::Aggregate;
+use crate::keys::is_among;
+use std::alloc::{AllocError, Global};
+use waggregate::{Feed, aggregate_groups, feed_rows};
+use wplan::{Aggregate, AggregateFunction, GroupCall};
 use wrows::AnswerFault;
-use wvalues::Value;
+use wvalues::{Value, Whole};
 
-// What an aggregate comes to over the rows of each group.
-fn column(
+// What an aggregate that is fed so comes to over the rows of each group of all sets.
+fn aggregate_answers(
     alloc: Global,
-    aggregate: &Aggregate,
-    rows: &[&[Value]],
-    groups: &Groups,
+    function: AggregateFunction,
+    feed: &Feed,
+    sets: &[Groups],
 ) -> Result<Vec<Value>, AnswerFault>
-    requires len { length groups.now.numbers.items ≡ length rows.now }
-    requires few { length rows.now < 2 ^ 31 }
-    ensures gives { Gives (λ column. map meaning column.items) result (column_over (rows_seen rows.now) groups.now.numbers.items groups.now.order.items (aggregate_plan aggregate.now)) }
-    ensures len { IfOk result (λ column. length column.items ≡ length groups.now.order.items) }
+    requires len { All (λ groups. length groups.numbers.items ≡ length feed.now.values.items) sets.now }
+    requires few { length feed.now.values.items < 2 ^ 31 }
+    ensures gives { Gives (λ column. map meaning column.items) result (in_range (flat_map (set_answers function (feed_in feed.now)) sets.now)) }
+    ensures len { IfOk result (λ column. length column.items ≡ length (all_groups sets.now)) }
 {
-    let feed = feed_rows(alloc, aggregate, rows)?;
-    let column = aggregate_groups(
-        alloc,
-        aggregate.function,
-        &feed,
-        &groups.numbers,
-        groups.count,
-        &groups.order,
-    )?;
+    let mut column = Vec::new(alloc);
+    for groups in sets {
+        let numbers = &groups.numbers;
+        let mut answers = aggregate_groups(
+            alloc,
+            function,
+            feed,
+            numbers,
+            groups.count,
+            &groups.order,
+        )?;
+        column.append(&mut answers)?;
+    }
     Ok(column)
 }
 
-/// What each aggregate comes to over the rows of each group, by the groups' keys, the first fault where there is one.
-#[tactic(auto, using(crate::proofs::ColumnFacts::columns_begin))]
-pub(crate) fn aggregate_columns(
+// What an aggregate comes to over the rows of each group of all sets.
+fn aggregate_column(
     alloc: Global,
-    aggregates: &[Aggregate],
+    aggregate: &Aggregate,
     rows: &[&[Value]],
-    groups: &Groups,
-) -> Result<Vec<Vec<Value>>, AnswerFault>
-    requires len { length groups.now.numbers.items ≡ length rows.now }
+    sets: &[Groups],
+) -> Result<Vec<Value>, AnswerFault>
+    requires len { All (λ groups. length groups.numbers.items ≡ length rows.now) sets.now }
     requires few { length rows.now < 2 ^ 31 }
-    ensures gives { Gives (λ columns. columns_in columns.items) result (each (column_over (rows_seen rows.now) groups.now.numbers.items groups.now.order.items) (map aggregate_plan aggregates.now)) }
-    ensures len { IfOk result (λ columns. All (λ column. length column.items ≡ length groups.now.order.items) columns.items) }
-    ensures count { IfOk result (λ columns. length columns.items ≡ length aggregates.now) }
+    ensures gives { Gives (λ column. map meaning column.items) result (column_over (rows_seen rows.now) sets.now (GroupAggregate (aggregate_plan aggregate.now))) }
+    ensures len { IfOk result (λ column. length column.items ≡ length (all_groups sets.now)) }
 {
-    let mut columns = Vec::with_capacity(alloc, aggregates.len())?;
-    for aggregate in aggregates {
-        columns.push(column(alloc, aggregate, rows, groups)?)?;
+    let feed = feed_rows(alloc, aggregate, rows)?;
+    let column = aggregate_answers(alloc, aggregate.function, &feed, sets)?;
+    Ok(column)
+}
+
+// The least number that is no whole number.
+const LIMIT: u128 = 1 << 95;
+
+// The number with one more bit, no further than the limit.
+fn with_bit(number: u128, bit: bool) -> u128
+    requires { number ≤ 2 ^ 95 }
+    ensures { result ≡ min (2 ^ 95) (number * 2 + (if bit then 1 else 0)) }
+{
+    let doubled = if bit { number * 2 + 1 } else { number * 2 };
+    if doubled < LIMIT { doubled } else { LIMIT }
+}
+
+// The bits of those columns that a set lacks, as a number, no further than the limit.
+#[tactic(auto, using(crate::proofs::BitFacts::bits_next))]
+fn grouping_number(set: &[usize], columns: &[usize]) -> u128
+    ensures { result ≡ min (2 ^ 95) (grouping_of set.now columns.now) }
+{
+    let mut number = 0;
+    for column in columns {
+        number = with_bit(number, !is_among(*column, set));
+    }
+    number
+}
+
+// GROUPING of columns on a group row of a set, if it is in range.
+fn grouping_value(set: &[usize], columns: &[usize]) -> Option<Value>
+    ensures { option_map meaning result ≡ grouping_answer columns.now set.now }
+{
+    let number = grouping_number(set, columns);
+    match Whole::new(number as i128) {
+        None => None,
+        Some(number) => Some(Value::Int(number)),
+    }
+}
+
+// A value for each group.
+fn copies(alloc: Global, value: &Value, order: &[usize]) -> Result<Vec<Value>, AllocError>
+    ensures value { IfOk result (λ column. map meaning column.items ≡ map (λ i. meaning value.now) order.now) }
+    ensures len { IfOk result (λ column. length column.items ≡ length order.now) }
+{
+    let mut column = Vec::new(alloc);
+    for _ in order {
+        column.push(value.duplicate()?)?;
+    }
+    Ok(column)
+}
+
+// GROUPING of columns for each group of a set.
+fn set_grouping(
+    alloc: Global,
+    columns: &[usize],
+    groups: &Groups,
+) -> Result<Vec<Value>, AnswerFault>
+    ensures gives { Gives (λ column. map meaning column.items) result (in_range (set_grouping columns.now groups.now)) }
+    ensures len { IfOk result (λ column. length column.items ≡ length groups.now.order.items) }
+{
+    if groups.order.is_empty() {
+        return Ok(Vec::new(alloc));
+    }
+    match grouping_value(&groups.set, columns) {
+        None => Err(AnswerFault::OutOfRange),
+        Some(value) => {
+            let column = copies(alloc, &value, &groups.order)?;
+            Ok(column)
+        }
+    }
+}
+
+// GROUPING of columns for each group of all sets.
+fn grouping_column(
+    alloc: Global,
+    columns: &[usize],
+    sets: &[Groups],
+) -> Result<Vec<Value>, AnswerFault>
+    ensures gives { Gives (λ column. map meaning column.items) result (in_range (flat_map (set_grouping columns.now) sets.now)) }
+    ensures len { IfOk result (λ column. length column.items ≡ length (all_groups sets.now)) }
+{
+    let mut column = Vec::new(alloc);
+    for groups in sets {
+        let mut answers = set_grouping(alloc, columns, groups)?;
+        column.append(&mut answers)?;
+    }
+    Ok(column)
+}
+
+// What a call answers for each group of all sets.
+fn column(
+    alloc: Global,
+    call: &GroupCall,
+    rows: &[&[Value]],
+    sets: &[Groups],
+) -> Result<Vec<Value>, AnswerFault>
+    requires len { All (λ groups. length groups.numbers.items ≡ length rows.now) sets.now }
+    requires few { length rows.now < 2 ^ 31 }
+    ensures gives { Gives (λ column. map meaning column.items) result (column_over (rows_seen rows.now) sets.now (group_call_plan call.now)) }
+    ensures len { IfOk result (λ column. length column.items ≡ length (all_groups sets.now)) }
+{
+    match call {
+        GroupCall::Aggregated(aggregate) => aggregate_column(alloc, aggregate, rows, sets),
+        GroupCall::GroupingOf(columns) => grouping_column(alloc, columns, sets),
+    }
+}
+
+/// What each call answers for each group of all sets, the first fault where there is one.
+#[tactic(auto, using(crate::proofs::ColumnFacts::columns_begin))]
+pub(crate) fn call_columns(
+    alloc: Global,
+    calls: &[GroupCall],
+    rows: &[&[Value]],
+    sets: &[Groups],
+) -> Result<Vec<Vec<Value>>, AnswerFault>
+    requires len { All (λ groups. length groups.numbers.items ≡ length rows.now) sets.now }
+    requires few { length rows.now < 2 ^ 31 }
+    ensures gives { Gives (λ columns. columns_in columns.items) result (each (column_over (rows_seen rows.now) sets.now) (map group_call_plan calls.now)) }
+    ensures len { IfOk result (λ columns. All (λ column. length column.items ≡ length (all_groups sets.now)) columns.items) }
+    ensures count { IfOk result (λ columns. length columns.items ≡ length calls.now) }
+{
+    let mut columns = Vec::with_capacity(alloc, calls.len())?;
+    for call in calls {
+        columns.push(column(alloc, call, rows, sets)?)?;
     }
     Ok(columns)
 }

@@ -15,7 +15,7 @@ use Rattle.wrows.specs.declared.fault.AnswerFault.TheVariants.{OutOfRange, TooMa
 use Rattle.wrows.specs.Outcomes.{◌>>=◌, each, unless}
 use Rattle.wrows.specs.Columns.{Row, beside, held_rows, holds_on, is_out_of_range, not_too_many}
 use Rattle.wrows.proofs.RowFacts.{length-places, map-taken, places_more}
-use Rattle.wgroup.specs.Grouping.{Group, aggregate_column, group_rows, groups_of}
+use Rattle.wgroup.specs.Grouping.{Group, call_column, group_rows, groups_of}
 use Rattle.wcalls.specs.Frames.{frame_of}
 use Rattle.wcalls.specs.Functions.{window_columns}
 use Rattle.wcalls.specs.Joins.{most_of_functions}
@@ -50,7 +50,7 @@ not_many {X = X} xs ys e = go (nat_lt 2147483647 (length xs)) refl e
 
 -- group rows are not too many
 pub groups_few : (g : GroupingPlan) (rows left : List Row) → group_rows g rows ≡ Ok left → length left < 2147483648
-groups_few g rows left e = go (not_too_many (groups_of g.columns rows)) refl e
+groups_few g rows left e = go (not_too_many (groups_of g.columns g.sets rows)) refl e
   where
     further : (groups : List Group) (r : Result (List (List Meaning)) AnswerFault) → (r >>= λ columns. held_rows g.having (beside (map (λ group. group.key) groups) columns)) ≡ Ok left → length left ≤ length groups
     further groups (Ok columns) h =
@@ -59,8 +59,8 @@ groups_few g rows left e = go (not_too_many (groups_of g.columns rows)) refl e
         omega (arith, held_short g.having (beside keys columns) left h, long)
     further groups (Err f) h = absurd (cc)
 
-    go : (r : Result (List Group) AnswerFault) → not_too_many (groups_of g.columns rows) ≡ r → (r >>= λ groups. each (aggregate_column rows groups) g.aggregates >>= λ columns. held_rows g.having (beside (map (λ group. group.key) groups) columns)) ≡ Ok left → length left < 2147483648
-    go (Ok groups) k h = omega (arith, (not_many (groups_of g.columns rows) groups k).1, further groups (each (aggregate_column rows groups) g.aggregates) h)
+    go : (r : Result (List Group) AnswerFault) → not_too_many (groups_of g.columns g.sets rows) ≡ r → (r >>= λ groups. each (call_column rows groups) g.calls >>= λ columns. held_rows g.having (beside (map (λ group. group.key) groups) columns)) ≡ Ok left → length left < 2147483648
+    go (Ok groups) k h = omega (arith, (not_many (groups_of g.columns g.sets rows) groups k).1, further groups (each (call_column rows groups) g.calls) h)
     go (Err f) k h = absurd (cc)
 
 -- the functions of one call more

@@ -1,6 +1,6 @@
 -- Queries on a small table: day, shop and amount, in four rows.
 use Rattle.std.specs.Fmt.{digits}
-use Rattle.std.proofs.Common.{◌≡◌, ℕ, pos, true, false, List, [], ◌∷◌, Some, None, Result, Ok, Err, codes, refl}
+use Rattle.std.proofs.Common.{◌≡◌, ℕ, pos, true, false, List, [], ◌∷◌, map, Some, None, Result, Ok, Err, codes, refl}
 use Rattle.wvalues.specs.Meaning.{Meaning, Null, Int, Text}
 use Rattle.wquery.specs.declared.expression.Operator.TheVariants.{Plus, Or}
 use Rattle.wquery.specs.declared.expression.Comparison.TheVariants.{Greater, GreaterOrEqual}
@@ -10,7 +10,7 @@ use Rattle.wquery.specs.declared.frame.FrameExclusion.TheVariants.{NoOthers, Tie
 use Rattle.wplan.specs.declared.resolved.SettledFrame.{SettledFrame}
 use Rattle.wplan.specs.declared.resolved.AggregateFunction.TheVariants.{CountRows, Sum, Max}
 use Rattle.wplan.specs.Formula.{Formula, Constant, At, Applied, Compared, Among, NoFormulas, MoreFormulas}
-use Rattle.wplan.specs.Plans.{AggregatePlan, KeyPlan, WindowPlan, FunctionPlan, OutputPlan, SelectPlan, RowNumber, Rank, Tile, Lag, Lead, NthValue, Aggregated}
+use Rattle.wplan.specs.Plans.{AggregatePlan, GroupCallPlan, GroupAggregate, GroupingOf, KeyPlan, WindowPlan, FunctionPlan, OutputPlan, SelectPlan, RowNumber, Rank, Tile, Lag, Lead, NthValue, Aggregated}
 use Rattle.wrows.specs.declared.fault.AnswerFault.{AnswerFault}
 use Rattle.wrows.specs.declared.fault.AnswerFault.TheVariants.{OutOfRange}
 use Rattle.wrows.specs.Outcomes.{◌>>=◌}
@@ -68,9 +68,13 @@ total t = record { function = Sum; argument = t; filter = None }
 abbrev rows_counted : AggregatePlan
 rows_counted = record { function = CountRows; argument = Constant Null; filter = None }
 
+-- groups by sets of some columns
+abbrev by_sets : List ℕ → List (List ℕ) → List GroupCallPlan → List OutputPlan → SelectPlan
+by_sets columns sets calls items = record (plain items) { grouping = Some (record { columns = columns; sets = sets; calls = calls; having = None }) }
+
 -- groups by some columns
 abbrev grouped : List ℕ → List AggregatePlan → List OutputPlan → SelectPlan
-grouped columns aggregates items = record (plain items) { grouping = Some (record { columns = columns; aggregates = aggregates; having = None }) }
+grouped columns aggregates items = by_sets columns (columns ∷ []) (map GroupAggregate aggregates) items
 
 -- one call over one window
 abbrev over : WindowPlan → FunctionPlan → List OutputPlan → SelectPlan
@@ -130,10 +134,51 @@ groups_ranked = refl
 
 -- HAVING leaves no group
 no_group_left :
-    printed (record (plain (named (codes "count") (At 0) ∷ [])) { grouping = Some (record { columns = []; aggregates = rows_counted ∷ []; having = Some (Compared Greater (At 0) (Constant (int 9))) }) } ∷ []) sales
+    printed (record (plain (named (codes "count") (At 0) ∷ [])) { grouping = Some (record { columns = []; sets = [] ∷ []; calls = GroupAggregate rows_counted ∷ []; having = Some (Compared Greater (At 0) (Constant (int 9))) }) } ∷ []) sales
     ≡ Ok (codes "count\n")
 unfolding digits
 no_group_left = refl
+
+-- sums of shops, and of all rows
+rollup_of_shops :
+    printed (by_sets (1 ∷ []) ((1 ∷ []) ∷ [] ∷ []) (GroupAggregate (total amount) ∷ GroupingOf (1 ∷ []) ∷ []) (named (codes "shop") (At 0) ∷ named (codes "sum") (At 1) ∷ named (codes "grouping") (At 2) ∷ []) ∷ []) sales
+    ≡ Ok (codes "shop,sum,grouping\na,30,0\nb,5,0\n,35,1\n")
+unfolding digits
+rollup_of_shops = refl
+
+-- each choice of day and shop
+cube_of_days :
+    printed (by_sets (0 ∷ 1 ∷ []) ((0 ∷ 1 ∷ []) ∷ (0 ∷ []) ∷ (1 ∷ []) ∷ [] ∷ []) (GroupAggregate rows_counted ∷ GroupingOf (0 ∷ 1 ∷ []) ∷ [])
+    (named (codes "day") (At 0) ∷ named (codes "shop") (At 1) ∷ named (codes "count") (At 2) ∷ named (codes "grouping") (At 3) ∷ []) ∷ []) sales
+    ≡ Ok (codes "day,shop,count,grouping\n1,a,1,0\n2,a,1,0\n2,b,1,0\n4,a,1,0\n1,,1,1\n2,,2,1\n4,,1,1\n,a,3,2\n,b,1,2\n,,4,3\n")
+unfolding digits
+cube_of_days = refl
+
+-- a null key is no column that the set lacks
+null_and_lacking :
+    printed (by_sets (2 ∷ []) ((2 ∷ []) ∷ [] ∷ []) (GroupAggregate rows_counted ∷ GroupingOf (2 ∷ []) ∷ []) (named (codes "amount") (At 0) ∷ named (codes "count") (At 1) ∷ named (codes "grouping") (At 2) ∷ []) ∷ []) sales
+    ≡ Ok (codes "amount,count,grouping\n5,1,0\n10,1,0\n20,1,0\n,1,0\n,4,1\n")
+unfolding digits
+null_and_lacking = refl
+
+-- of no rows the empty set has a group, and another set has none
+sets_of_no_rows : printed (by_sets (1 ∷ []) ((1 ∷ []) ∷ [] ∷ []) (GroupAggregate rows_counted ∷ []) (named (codes "shop") (At 0) ∷ named (codes "count") (At 1) ∷ []) ∷ []) [] ≡ Ok (codes "shop,count\n,0\n")
+unfolding digits
+sets_of_no_rows = refl
+
+no_group_of_no_rows : printed (grouped (1 ∷ []) (rows_counted ∷ []) (named (codes "shop") (At 0) ∷ named (codes "count") (At 1) ∷ []) ∷ []) [] ≡ Ok (codes "shop,count\n")
+unfolding digits
+no_group_of_no_rows = refl
+
+-- a rank within each set
+sets_ranked :
+    printed (record (by_sets (1 ∷ []) ((1 ∷ []) ∷ [] ∷ []) (GroupingOf (1 ∷ []) ∷ GroupAggregate (total amount) ∷ []) (named (codes "shop") (At 0) ∷ named (codes "rank") (At 3) ∷ [])) {
+      windows = record { partition = At 1 ∷ []; keys = down (At 2) ∷ []; frame = all_before } ∷ [];
+      calls = record { window = 0; function = Rank } ∷ [];
+    } ∷ []) sales
+    ≡ Ok (codes "shop,rank\na,1\nb,2\n,1\n")
+unfolding digits
+sets_ranked = refl
 
 abbrev greatest : Formula
 greatest = Constant (int 39614081257132168796771975167)

@@ -100,7 +100,7 @@ fn query_answer(
 ///
 /// Nothing is skipped: it is `OutOfRange` where a condition, an item, a key, an argument or a filter is so on any row
 /// that it is evaluated on, or a result is, whatever is left out, and `TooManyRows` where more than 2,147,483,647 rows are
-/// kept or groups made. Otherwise it answers the table, unless memory is refused.
+/// kept or groups of all sets together made. Otherwise it answers the table, unless memory is refused.
 ///
 /// The query is to be sound: it has a SELECT, each call is over one of its windows, an offset in RANGE has one key, there
 /// is a tile at least, and places count from 1. So is each one that `resolve` answers, since it breaks no rule.

@@ -27,7 +27,7 @@ pub enum AskFault {
     /// Q40: a number is not strictly between -2^95 and 2^95.
     #[error("a number is out of range")]
     OutOfRange,
-    /// Q41: more than 2,147,483,647 rows are kept, or groups made.
+    /// Q41: more than 2,147,483,647 rows are kept, or groups of all sets together made.
     #[error("there are too many rows")]
     TooManyRows,
     /// Memory was refused. It judges nothing.

@@ -7,6 +7,8 @@ use Rattle.wrows.specs.LaidRows.{laid}
 use Rattle.wrows.specs.Plain.{numbers_by}
 use Rattle.wrows.specs.Sorting.{ascending}
 use Rattle.waggregate.specs.Grouped.{rows_of_group}
+use Rattle.wrows.specs.Laid.{rows_seen}
+use Rattle.wgroup.specs.Grouping.{groups_by}
 use Rattle.wgroup.specs.Sight.{first_of, members, same_row}
 use Rattle.wgroup.proofs.KeyFacts.{length_ascending}
 use Rattle.wgroup.proofs.GroupFacts.{are_groups, firsts_below}
@@ -55,5 +57,5 @@ returns-clause-groups c =
     ∙ ap (λ k. numbers_by (ascending columns) (laid k m c.deref-5.result.now) m) (length_ascending columns)
     ∙ ap (λ xs. numbers_by (ascending columns) (laid w m xs) m) c.deref-5.ensures.value
     ∙ ap (λ k. numbers_by (ascending columns) (laid w k keys) k) count in
-    are_groups columns c.args.rows.now cells c.in_ok-cells.ensures.keys firsts order numbers keys c.len-2.result are_firsts are_lists are_keys
-    (c.len-2.ensures ∙ c.in_ok-sight.sight.firsts.ok.0) in_order (subst (λ k. All (λ i. i < k) order) count c.in_ok-order.ensures.below)
+    (are_groups c.in_ok-set.set.items columns c.args.rows.now cells c.in_ok-cells.ensures.keys firsts order numbers keys c.len-2.result are_firsts are_lists are_keys
+    (c.len-2.ensures ∙ c.in_ok-sight.sight.firsts.ok.0) in_order (subst (λ k. All (λ i. i < k) order) count c.in_ok-order.ensures.below)) ∙ ap (λ s. groups_by s columns (rows_seen c.args.rows.now)) c.in_ok-set.ensures.items
