@@ -183,7 +183,9 @@ fn build_optional_grouping(
     match layout.grouping {
         None => Ok(None),
         Some(places) => {
-            let grouping = build_grouping(alloc, columns, elements, places, grouped, layout, query)?;
+            let grouping = build_grouping(
+                alloc, columns, elements, places, grouped, layout, query,
+            )?;
             Ok(Some(grouping))
         }
     }
