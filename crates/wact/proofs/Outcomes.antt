@@ -1,15 +1,17 @@
 -- Facts of what was done carry over to facts of the answer.
-use Rattle.std.proofs.Common.{◌≡◌, ◌≢◌, ◌⊎◌, ◌∙◌, ℕ, List, Option, Some, inl, inr, Result, Ok, Err, IfOk, Bor, ap, option_map, subst, sym}
+use Rattle.std.proofs.Common.{◌≡◌, ◌≢◌, ◌⊎◌, ⊎_elim, ◌∙◌, ℕ, ◌<◌, ◌≤◌, Bool, true, false, true≢false, List, length, Option, Some, inl, inr, Result, Ok, Err, IfOk, OnErr, Bor, ap, option_map, subst, sym}
+use Rattle.std.proofs.lemmas.Bool.{cases_lt}
 use Rattle.std.specs.FinMap.{empty}
 use Rattle.wsegment.specs.Declaration.{Declaration}
 use Rattle.wsegment.specs.Spelling.{ReadsDeclaration}
 use Rattle.wsegment.specs.declared.schema_fault.SchemaFault.{SchemaFault}
+use Rattle.wsegment.specs.declared.schema_fault.SchemaFault.TheVariants as tables
 use Rattle.wset.specs.Views.{View, join}
 use Rattle.wexchange.specs.Judging.{IsFileOf}
 use Rattle.wact.specs.declared.acted.Acted.{Acted}
 use Rattle.wact.specs.Outcomes.{IsStored}
 use Rattle.wcommand.specs.declared.choice.Choice.{Choice}
-use Rattle.wact.specs.Acts.{Acts, ActsRead, Knows}
+use Rattle.wact.specs.Acts.{Acts, ActsRead, Knows, MayLack, MayLackRead}
 
 -- what follows from a value holds of an answer that is there
 pub if_ok : {A E : Type 0} {P Q : A → Type 0} (r : Result A E) → ((v : A) → P v → Q v) → IfOk r P → IfOk r Q
@@ -22,8 +24,8 @@ but_memory other (inl e) = absurd (other e)
 but_memory other (inr p) = p
 
 -- the file of one view is that of an equal one
-pub stored_as : (d d' : Declaration) (v v' : View) (acted : Acted) (text : List ℕ) → d' ≡ d → v' ≡ v → IsStored d' v' acted text → IsStored d v acted text
-stored_as d d' v v' acted text same_d same_v stored = subst (λ w. IsStored d w acted text) same_v (subst (λ e. IsStored e v' acted text) same_d stored)
+pub stored_as : (d d' : Declaration) (v v' : View) (old : Option (List ℕ)) (acted : Acted) (text : List ℕ) → d' ≡ d → v' ≡ v → IsStored d' v' old acted text → IsStored d v old acted text
+stored_as d d' v v' old acted text same_d same_v stored = subst (λ w. IsStored d w old acted text) same_v (subst (λ e. IsStored e v' old acted text) same_d stored)
 
 -- what a node that knew nothing has got from the store's file
 pub knows_told : (d d' : Declaration) (store : Option (Bor (List ℕ))) (bytes : Bor (List ℕ)) (v v' w : View) → store ≡ Some bytes → d' ≡ d → v' ≡ empty → IsFileOf d' w bytes.now → v ≡ join v' w
@@ -39,3 +41,30 @@ pub acts : {E : Type 0} (choice : Choice) (table : List ℕ) (store : Option (Li
     → IfOk r (λ acted. ActsRead declared choice store other acted) → IfOk r (λ acted. Acts choice table store other acted)
 acts choice table store other declared (Ok acted) reads done = record { declared = declared; reads = reads; acts = done }
 acts choice table store other declared (Err e) reads done = tt
+
+-- what follows of a want of memory
+pub on_err : {A E : Type 0} {P Q : Type 0} (r : Result A E) → (P → Q) → OnErr r P → OnErr r Q
+on_err (Ok v) f p = tt
+on_err (Err e) f p = f p
+
+is_memory : SchemaFault → Bool
+is_memory tables.NoMemory = true
+is_memory _ = false
+
+-- a declaration that is too long to be one is refused, and that needs no memory
+short_enough : (choice : Choice) (store : Option (List ℕ)) (other : List ℕ) (n : ℕ) (declared : Result Declaration SchemaFault) → (65536 < n → declared ≡ Err tables.Syntax)
+    → MayLackRead declared choice store other → n ≤ 65536
+short_enough choice store other n declared long lack = ⊎_elim
+    (λ more. absurd (true≢false (sym (ap is_memory (subst (λ r. MayLackRead r choice store other) (long more) lack)))))
+    (λ few. few)
+    (cases_lt 65536 n)
+
+-- where memory is wanting while the table is judged, or behind it
+pub lacks : {A E : Type 0} (choice : Choice) (table : List ℕ) (store : Option (List ℕ)) (other : List ℕ) (declared : Result Declaration SchemaFault) (r : Result A E) → ReadsDeclaration table declared
+    → (65536 < length table → declared ≡ Err tables.Syntax) → OnErr r (MayLackRead declared choice store other) → OnErr r (MayLack choice table store other)
+lacks choice table store other declared r reads long = on_err r (λ lack. record {
+  declared = declared;
+  reads = reads;
+  short = short_enough choice store other (length table) declared long lack;
+  lacks = lack;
+})

@@ -236,8 +236,8 @@ fn act_read(
 /// What the subcommand of a choice gives on the bytes of the table's file, of the store's file if there is one, and
 /// of CSV or OTHER, which are empty where the subcommand has none. The table is judged first, then the store, then the
 /// subcommand. There is a new store only where the subcommand is done and the old one has other bytes than it is to have. At
-/// `AllocError` nothing is judged; what is refused at the table needs no memory.
-#[tactic(auto, using(crate::proofs::Outcomes::acts))]
+/// `AllocError` nothing is judged: memory ran out while the table was read, or it is a declaration.
+#[tactic(auto, using(crate::proofs::Outcomes::acts, crate::proofs::Outcomes::lacks))]
 pub fn act(
     alloc: Global,
     choice: &Choice<'_>,
