@@ -1,8 +1,8 @@
 //! What the calls of groups answer.
-ghost use Rattle.std.specs.Prelude.{◌≡◌, ◌<◌, ◌≤◌, ◌^◌, ◌+◌, ◌*◌, ◌++◌, All, length, map, min, option_map, if◌then◌else◌, IfOk, OnOk};
+ghost use Rattle.std.specs.Prelude.{◌≡◌, ◌<◌, ◌≤◌, ◌^◌, ◌+◌, ◌*◌, All, length, map, min, option_map, if◌then◌else◌, IfOk};
 ghost use Rattle.std.specs.List.{flat_map};
 ghost use Rattle.wvalues.specs.Meaning.{meaning};
-ghost use Rattle.wplan.specs.Plans.{GroupAggregate, GroupingOf, aggregate_plan, group_call_plan};
+ghost use Rattle.wplan.specs.Plans.{GroupAggregate, aggregate_plan, group_call_plan};
 ghost use Rattle.waggregate.specs.Feeding.{feed_in};
 ghost use Rattle.wrows.specs.Columns.{in_range};
 ghost use Rattle.wrows.specs.Outcomes.{Gives, each};
