@@ -3,7 +3,6 @@ use Rattle.std.proofs.Common.{◌≡◌, List, ℕ, [], ◌∷◌, map, ap, sym,
 use Rattle.std.specs.declared.alloc.Global.{Global}
 use Rattle.std.specs.declared.vec.Vec.{Vec}
 use Rattle.std.specs.Rc.{rc_str_bytes}
-use Rattle.wquery.specs.declared.expression.Arguments.{Arguments}
 use Rattle.wquery.specs.declared.expression.Arguments.TheVariants as given
 use Rattle.wquery.specs.declared.expression.Arguments.TheOpen as layer
 use Rattle.wquery.specs.declared.expression.Arguments.TheFolds.{fold-Arguments, fold-roll-Arguments}
@@ -13,7 +12,7 @@ use Rattle.wquery.specs.Tree.{Tree, Given, Everything, These, Columns, Reach, Ke
 use Rattle.wsame.proofs.Views.{view_call_is}
 use Rattle.wscope.specs.Functions.{function_of}
 use Rattle.wscope.specs.Types.{Titled}
-use Rattle.wplan.specs.Plans.{GroupCallPlan, AggregatePlan, GroupAggregate, GroupingOf}
+use Rattle.wplan.specs.Plans.{AggregatePlan, GroupAggregate, GroupingOf}
 use Rattle.wsettle.specs.Resolving.{Layout}
 use Rattle.wsettle.specs.Functions.{aggregate_made, aggregated}
 use Rattle.wsettle.specs.Groups.{column_place, column_places, group_called, group_call_made}

@@ -10,7 +10,6 @@ use Rattle.wquery.specs.declared.expression.Call.{Call}
 use Rattle.wquery.specs.declared.expression.Link.{Link}
 use Rattle.wquery.specs.declared.expression.Expression.{Expression}
 use Rattle.wquery.specs.declared.expression.Expression.TheVariants as queries
-use Rattle.wquery.specs.declared.expression.Arguments.TheOpen as layer
 use Rattle.wquery.specs.Tree.{Tree, Branch, Links, NoLinks, Further as Longer, trees, views, linked, view, view_link, view_call}
 use Rattle.wplan.specs.declared.expr.Expr.{Expr}
 use Rattle.wplan.specs.declared.expr.Further.{Further}
