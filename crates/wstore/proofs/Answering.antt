@@ -1,7 +1,6 @@
 -- Commands that nodes answer.
-use Rattle.std.proofs.Common.{Bool, ◌≡◌, ◌≢◌, ℕ, ◌+◌, ◌<◌, ◌≤◌, length, List, [], ◌∷◌, ◌++◌, get_or, set, map, None, Some, Result, Ok, Err, IsOk, IfOk, IfErr, OnOk, OnErr, ◌⊎◌, refl, sym, ap, ◌∙◌, subst, inl, inr, cond, ◌==◌, append-nil, append_assoc, true, false}
+use Rattle.std.proofs.Common.{Bool, ◌≡◌, ◌≢◌, ℕ, ◌+◌, ◌<◌, ◌≤◌, length, List, [], ◌∷◌, ◌++◌, get_or, set, map, None, Some, Result, Ok, Err, IsOk, IfOk, IfErr, OnOk, OnErr, ◌⊎◌, refl, sym, ap, ◌∙◌, subst, inl, inr, cond, ◌==◌, append-nil, true, false}
 use Rattle.std.proofs.lemmas.List.{set-get_or}
-use Rattle.std.specs.List.{flat_map}
 use Rattle.std.specs.FinMap.{entries}
 use Rattle.wvalues.specs.Names.{NameParts}
 use Rattle.wvalues.specs.Meaning.{Meaning}
@@ -23,14 +22,13 @@ use Rattle.wstore.specs.Replies.{Reply, text_of, Took, Was, RefusedSegment, Name
 use Rattle.wreplies.specs.Spelling.{file_text, taken_text, retired_text, segment_text, names_text, answer_text, query_text}
 use Rattle.wstore.specs.History.{Step, Answers, NodeAnswers, file_if, declaration, declared_by, segment_reply, delivers, gets, puts, heard, drawn, held, is_put, known, slot_file}
 use Rattle.wask.specs.Answer.{IsAnswer}
-use Rattle.wexchange.specs.Forms.{line_of}
-use Rattle.wexchange.specs.declared.form.Form.TheVariants as forms
-use Rattle.wexchange.specs.Files.{file_of, head, record_text, table_text}
+use Rattle.wexchange.specs.Files.{file_of, head, table_text}
 use Rattle.wexchange.specs.declared.version.Version.{Version}
 use Rattle.wexchange.specs.declared.version.Version.TheVariants.{One, Two}
 use Rattle.wexchange.specs.Judging.{HasTable, HasBadSegment, IsFault, IsFileOf}
 use Rattle.wexchange.specs.declared.fault.FileFault.{FileFault}
 use Rattle.wexchange.specs.declared.fault.FileFault.TheVariants as files
+use Rattle.wexchange.proofs.Faults.{lacks_memory}
 use Rattle.wstore.specs.Nodes.{LearnsFile}
 use Rattle.wstore.specs.Standing.{KnowsThese, IsSound, Places, StandAt, AnswersAs, places}
 use Rattle.wstore.proofs.Soundness.{sound_segment, sound_retirement, sound_floor, slot_view}
@@ -44,13 +42,7 @@ read_reply (Err fault) v name bytes h = let wrong : false ≡ true = h in cc
 
 -- a file of which a content is refused has the declaration
 segment_has_table : (d : Declaration) (bytes : List ℕ) (fault : SegmentFault) → HasBadSegment d bytes fault → HasTable d bytes
-segment_has_table d bytes fault h =
-    let after = line_of (forms.Content h.name (length h.content)) ++ (10 ∷ (h.content ++ (10 ∷ h.after))) in
-    record {
-      version = h.version;
-      rest = flat_map record_text (entries h.view) ++ after;
-      bytes_are = h.stands.goes_on.bytes_are ∙ append_assoc (head h.version ++ table_text d) (flat_map record_text (entries h.view)) after;
-    }
+segment_has_table d bytes fault h = lacks_memory h.version d h.view _ bytes h.stands.goes_on
 
 -- a slot whose bytes have a declaration was put
 put_where : (d : Declaration) (b : Bool) (items : List Item) → HasTable d (file_if b d items) → b ≡ true
@@ -213,6 +205,7 @@ module _ (d : Declaration) (at : Places) (h : List Step) (n p : ℕ) (node : Nod
       by files.OtherSchema i t = told files.OtherSchema i (λ w. cc) t
       by (files.Segment fault) i t = told (files.Segment fault) i (λ w. cc) t
       by files.Trailing i t = told files.Trailing i (λ w. cc) t
+      by files.OtherDigest i t = told files.OtherDigest i (λ w. cc) t
       by files.NoMemory i t = quietly (Get slot n) NoMemory text (inr (put_where d (is_put h slot) (held h slot) i, refl)) t refl (record { delivers_none = λ m. refl; gets_none = λ m. refl; puts_none = λ k. refl; hears_none = λ m. refl })
 
   pub get_at : (slot q : ℕ) (bytes e : List ℕ) (told : Result (Unit {0}) FileFault) (new : NodeState) (text : List ℕ) → q + 1 ≡ slot → q < slot_count → bytes ≡ get_or at.slots q e → OnOk told (LearnsFile node bytes new) → IfErr told (λ fault. IsFault node.schema bytes fault) → OnErr told (new ≡ node) → text ≡ get_text told → AnswersAs d (places (set at.nodes p new) at.slots) h (Get slot n) text

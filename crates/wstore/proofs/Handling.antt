@@ -4,11 +4,11 @@ use Rattle.std.specs.List.{flat_map, AllByRecursion}
 use Rattle.std.specs.FinMap.{get}
 use Rattle.wlines.specs.Sent.{Sent, Says}
 use Rattle.wlines.proofs.Saying.{says_nothing, says_more}
+use Rattle.wvalues.specs.Names.{NameParts}
 use Rattle.wsegment.specs.Declaration.{Declaration}
 use Rattle.wset.specs.Views.{View, IsSettled, is_below, join, join_told}
 use Rattle.wset.specs.Items.{Item, SegmentItem, RetirementItem, FloorItem, view_of}
-use Rattle.wset.proofs.Joining.{join_laws, same_view, get-join}
-use Rattle.wset.proofs.Singles.{told_nothing}
+use Rattle.wset.proofs.Joining.{join_laws, same_view, get-join, with_none}
 use Rattle.wset.proofs.Union.{below-view_of, get-view_of}
 use Rattle.wexchange.specs.Messages.{IsMessage, IsOpen, IsBad, message_text}
 use Rattle.wstore.specs.Replies.{Line, TookLine, WasLine, FloorLine, RefusedLine, SpentLine, line_item, line_items, line_text, fed_text}
@@ -66,6 +66,14 @@ nothing_told old held = record {
   appends = says_nothing held;
   count_is = refl;
 }
+
+-- what is known of a name, where nothing of it is learned
+told_nothing : (v : View) (q : NameParts) → IsSettled v → cond (is_below v q || false) None (join_told (get v q) None) ≡ get v q
+told_nothing v q settled = by (is_below v q) refl
+  where
+    by : (b : Bool) → is_below v q ≡ b → cond (b || false) None (join_told (get v q) None) ≡ get v q
+    by true low = sym (settled q low)
+    by false low = sym (with_none (get v q))
 
 join_nothing : (v : View) → IsSettled v → v ≡ join v (view_of [])
 join_nothing v settled = same_view v (join v (view_of [])) (λ q. sym (

@@ -9,7 +9,7 @@ use Rattle.wsegment.specs.Spelling.{Spells, IsRefusedFor, ReadsDeclaration, repe
 use Rattle.wsegment.specs.declared.schema_fault.SchemaFault.{SchemaFault}
 use Rattle.wsegment.specs.declared.schema_fault.SchemaFault.TheVariants as tables
 use Rattle.wsegment.proofs.SpellingFacts.{spells-one}
-use Rattle.wexchange.proofs.FirstMessage.{same_front}
+use Rattle.wexchange.proofs.OneText.{same_front}
 use Rattle.wstore.specs.Commands.{Command, Declare, Take, Retire, RetireTo, Listing, Ask, Feed, Put, Get, IsForm, IsNode, IsSlot, IsPieceLength, IsAllowed, IsCommand, line_of, form_of, behind, spell, pair_words}
 use Rattle.wstore.specs.Replies.{Reply, Declared, RefusedTable, Took, Was, RefusedName, RefusedSegment, Names, Answered, RefusedQuery, Fed, Done, RefusedFile, NoMemory}
 use Rattle.wstore.specs.History.{Step, Answers, AnswersUnder, DeclareAnswers, declaration, declared_by, is_declared}

@@ -23,7 +23,7 @@ use Rattle.wstore.specs.Standing.{KnowsThese, IsSound, Listens, Places, StandAt,
 use Rattle.wplanner.specs.declared.fault.AskFault.TheVariants as queries
 use Rattle.wstore.specs.declared.request.Refusal.{Refusal}
 use Rattle.wstore.specs.declared.request.Refusal.TheVariants as refusals
-use Rattle.wstore.proofs.Soundness.{sound_nothing}
+use Rattle.wstore.proofs.Soundness.{nothing_known, sound_nothing}
 use Rattle.wstore.proofs.Standing.{IsQuiet, stand_quiet, untold, or_none, listens_still}
 use Rattle.wstore.specs.Sessions.{ClusterStands, IsSilent, Stands, Tells}
 use Rattle.wstore.specs.declared.session.Session.{Session}
@@ -78,7 +78,7 @@ fresh_stand d h c r k j is js declared quiet none unput silent = record {
   slot_number = length-replicate {A = List ℕ} j [] ∙ js;
   node = λ n x low.
       subst (KnowsThese d (known (record { command = c; reply = r } ∷ h) (n + 1))) (sym (get_or-replicate {A = NodeState} k n (fresh d) x (omega (arith, is))))
-      (record { schema_is = refl; view_is = sym (ap view_of (untold h c r (n + 1) (quiet.delivers_none (n + 1)) (quiet.gets_none (n + 1)) ∙ none (n + 1))) });
+      (record { schema_is = refl; view_is = nothing_known ∙ sym (ap view_of (untold h c r (n + 1) (quiet.delivers_none (n + 1)) (quiet.gets_none (n + 1)) ∙ none (n + 1))) });
   slot = λ n x low.
       get_or-replicate {A = List ℕ} j n [] x (omega (arith, js))
       ∙ sym (ap (λ b. file_if b d (held (record { command = c; reply = r } ∷ h) (n + 1))) (still_unput (n + 1)));
