@@ -47,7 +47,7 @@ pub on_err : {A E : Type 0} {P Q : Type 0} (r : Result A E) → (P → Q) → On
 on_err (Ok v) f p = tt
 on_err (Err e) f p = f p
 
-is_memory : SchemaFault → Bool
+abbrev is_memory : SchemaFault → Bool
 is_memory tables.NoMemory = true
 is_memory _ = false
 
