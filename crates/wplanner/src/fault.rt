@@ -21,7 +21,7 @@ pub enum AskFault {
     /// Q4: the tokens spell no query.
     #[error("the tokens spell no query")]
     Syntax,
-    /// Q10 to Q27: the least rule that the query breaks.
+    /// Q10 to Q28: the least rule that the query breaks.
     #[error("the query breaks rule {rule}")]
     Broken { rule: u8 },
     /// Q40: a number is not strictly between -2^95 and 2^95.
