@@ -18,3 +18,4 @@ pub mod Histories
 pub mod OneReading
 pub mod OneReply
 pub mod OneRun
+pub mod Orders
