@@ -1,5 +1,5 @@
 use Rattle.std.proofs.Common.{rules, option_map, subst}
-use Rattle.wact.specs.Acts.{ActsOn, Done, InRefusal, InStore, InSubcommand, MayLackMemory, StoreRefused}
+use Rattle.wact.specs.Acts.{ActsOn, Done, InSubcommand, MayLackMemory, StoreRefused}
 use Rattle.wact.proofs.Outcomes.{if_ok, on_err}
 use Rattle.wact.proofs.acting.act_by.Goals as goal
 
