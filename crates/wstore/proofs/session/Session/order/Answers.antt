@@ -1,6 +1,7 @@
 use Rattle.std.proofs.Common.{Some, subst}
 use Rattle.wstore.specs.Sessions.{ClusterStands}
-use Rattle.wstore.proofs.Orders.{lacks_so, whenever}
+use Rattle.wstore.proofs.Orders.{if_refused}
+use Rattle.wstore.proofs.Writing.{order_may_lack}
 use Rattle.wstore.proofs.session.Session.order.Goals as goal
 
 pub returns-clause-tells : goal.returns-clause-tells
@@ -10,5 +11,6 @@ returns-clause-tells c = λ h command order stands.
     record { reply = a.reply; answers = a.answers; text_is = a.text_is; stands = (s.0, a.stand) }
 
 pub returns-in_err-text-clause-lacks : goal.returns-in_err-text-clause-lacks
-returns-in_err-text-clause-lacks c = whenever c.from_residual.result (λ h command order stands.
-    lacks_so c.args.node c.args.order.now c.in-Some.cluster c.in_err-text.ensures.lacks h command order (subst (λ o. ClusterStands o h) c.in-Some.is stands))
+returns-in_err-text-clause-lacks c = if_refused c.from_residual.result _ (λ h command order stands.
+    let s : ClusterStands (Some c.in-Some.cluster) h = subst (λ o. ClusterStands o h) c.in-Some.is stands in
+    order_may_lack c.args.node c.args.order.now h command order (λ slot is. c.in_err-text.ensures.lacks slot s.0 h is s.1))
