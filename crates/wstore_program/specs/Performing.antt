@@ -1,5 +1,5 @@
 -- What a subcommand gives on files, and what is done to the store's.
-use Rattle.std.specs.Prelude.{◌≡◌, ◌⊎◌, ℕ, Bool, true, List, [], ◌∷◌, Option, None, Some, Result, Ok, Err, option_map}
+use Rattle.std.specs.Prelude.{◌≡◌, ℕ, true, List, [], ◌∷◌, Option, None, Some, Result, Ok, Err, option_map}
 use Rattle.wfiles.specs.Call.{Call, Found, Locked}
 use Rattle.wfiles.specs.Replacing.{MayLock, Replaces, fault_of}
 use Rattle.wfiles.specs.declared.fault.Fault.{Fault}
