@@ -37,11 +37,7 @@ fn take_under(
 }
 
 // Retires a name.
-fn retire_name(
-    node: &mut Node,
-    old: Option<&[u8]>,
-    name: Name,
-) -> Result<Acted, AllocError>
+fn retire_name(node: &mut Node, old: Option<&[u8]>, name: Name) -> Result<Acted, AllocError>
     ensures { IfOk result (λ acted. Retires node.old.schema node.old.view (option_map (λ bytes. bytes.now) old.entry) acted name) }
 {
     let word = node.retire(name)?;
@@ -49,11 +45,7 @@ fn retire_name(
 }
 
 // Retires all names up to one.
-fn retire_to(
-    node: &mut Node,
-    old: Option<&[u8]>,
-    name: Name,
-) -> Result<Acted, AllocError>
+fn retire_to(node: &mut Node, old: Option<&[u8]>, name: Name) -> Result<Acted, AllocError>
     ensures { IfOk result (λ acted. RetiresTo node.old.schema node.old.view (option_map (λ bytes. bytes.now) old.entry) acted name) }
 {
     let word = node.retire_to(name)?;

@@ -89,7 +89,9 @@ fn take_lock<R: Clock + Eprint>(rt: &R, folder: &File) -> io::Result<()> {
             Err(TryLockError::WouldBlock) => {}
         }
         if number == TOLD_TRY {
-            let _ = eprintln!(rt; "waiting for another program that holds the lock of the store's folder");
+            let _ = eprintln!(rt;
+                "waiting for another program that holds the lock of the store's folder"
+            );
         }
         thread::sleep(rt, Duration::from_millis(PAUSE));
     }

@@ -7,6 +7,6 @@ use Rattle.wstore.proofs.node.Node.ask.Goals as goal
 pub returns : goal.returns
 returns c =
     subst (λ (node : NodeState). MatchResult c.ask.result
-        (λ bytes. IsAnswer node.schema node.view c.args.text.now (Ok bytes.items))
-        (λ fault. (fault ≡ queries.NoMemory) ⊎ IsAnswer node.schema node.view c.args.text.now (Err fault)))
+    (λ bytes. IsAnswer node.schema node.view c.args.text.now (Ok bytes.items))
+    (λ fault. (fault ≡ queries.NoMemory) ⊎ IsAnswer node.schema node.view c.args.text.now (Err fault)))
     c.self.view_is c.ask.ensures
