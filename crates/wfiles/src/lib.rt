@@ -20,6 +20,8 @@ mod place;
 mod real;
 mod record;
 mod replacing;
+#[cfg(test)]
+mod simulated;
 mod system;
 
 pub use fault::Fault;
