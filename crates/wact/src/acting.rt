@@ -138,8 +138,8 @@ fn told(answer: Vec<u8>) -> Acted
     answered(Text::Made(answer))
 }
 
-fn ask(alloc: Global, node: &Node, query: &str) -> Result<Acted, AllocError>
-    ensures { IfOk result (λ acted. Asks node.now.schema node.now.view query.now acted) }
+fn ask(alloc: Global, node: &mut Node, query: &str) -> Result<Acted, AllocError>
+    ensures { IfOk result (λ acted. Asks node.old.schema node.old.view query.now acted) }
 {
     match node.ask(query.as_bytes()) {
         Ok(answer) => Ok(told(answer)),

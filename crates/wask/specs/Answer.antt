@@ -13,7 +13,7 @@ use Rattle.wplanner.specs.Parts.{TableParts}
 use Rattle.wplanner.specs.Answers.{table_answer}
 use Rattle.wplanner.specs.Printing.{table_text}
 use Rattle.wplanner.specs.Faults.{unanswered}
-use Rattle.wplanner.specs.Tables.{rows_of_set}
+use Rattle.wplanner.specs.Tables.{rows_of_view}
 use Rattle.wplanner.specs.declared.fault.AskFault.{AskFault}
 use Rattle.wplanner.specs.declared.fault.AskFault.TheVariants as faults
 use Rattle.wask.specs.Texts.{Reads, IsUnread}
@@ -34,7 +34,7 @@ unless_broken (Some rule) meant = Err (faults.Broken (number_of rule))
 
 -- what a query is answered under a declaration, on the rows of a view
 abbrev pub query_answer : Declaration → View → QueryTree → Result (List ℕ) AskFault
-query_answer d v query = unless_broken (first_broken_rule d query) (plan_answer (resolved_query d query) (rows_of_set (record { schema = d; view = v })))
+query_answer d v query = unless_broken (first_broken_rule d query) (plan_answer (resolved_query d query) (rows_of_view d v))
 
 -- what a text is answered: why it spells no query, else what its query is answered
 abbrev pub IsAnswer : Declaration → View → List ℕ → Result (List ℕ) AskFault → Type 0

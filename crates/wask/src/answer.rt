@@ -2,6 +2,7 @@
 ghost use Rattle.std.specs.Prelude.{◌≡◌, ◌⊎◌, true, Ok, Err, MatchResult};
 ghost use Rattle.wquery.specs.QueryTree.{view_query};
 ghost use Rattle.wask.specs.Texts.{IsRefused, Reads, lexical, syntactical};
+ghost use Rattle.wset.specs.Sets.{Becomes};
 ghost use Rattle.wplan.specs.Plans.{plans};
 ghost use Rattle.wplanner.specs.Sound.{is_sound_query};
 ghost use Rattle.wplanner.specs.Tables.{rows_of_set};
@@ -52,11 +53,12 @@ fn read(alloc: Global, text: &[u8]) -> Result<Query, AskFault>
 }
 
 // What a query with its names settled is answered on the rows of the set.
-fn executed(alloc: Global, set: &SegmentSet, query: &Resolved) -> Result<Vec<u8>, AskFault>
+fn executed(alloc: Global, set: &mut SegmentSet, query: &Resolved) -> Result<Vec<u8>, AskFault>
     requires { is_sound_query (plans query.now) ≡ true }
-    ensures { MatchResult result
-        (λ bytes. plan_answer (plans query.now) (rows_of_set set.now) ≡ Ok bytes.items)
-        (λ fault. (fault ≡ NoMemory) ⊎ (plan_answer (plans query.now) (rows_of_set set.now) ≡ Err fault)) }
+    ensures answer { MatchResult result
+        (λ bytes. plan_answer (plans query.now) (rows_of_set set.old) ≡ Ok bytes.items)
+        (λ fault. (fault ≡ NoMemory) ⊎ (plan_answer (plans query.now) (rows_of_set set.old) ≡ Err fault)) }
+    ensures same { Becomes set.old set.old.view set.new }
 {
     let table = execute(alloc, set, query)?;
     let bytes = print(alloc, &table)?;
@@ -64,10 +66,11 @@ fn executed(alloc: Global, set: &SegmentSet, query: &Resolved) -> Result<Vec<u8>
 }
 
 // What a query is answered on the rows of the set.
-fn answer(alloc: Global, set: &SegmentSet, query: &Query) -> Result<Vec<u8>, AskFault>
-    ensures { MatchResult result
-        (λ bytes. query_answer set.now.schema set.now.view (view_query query.now) ≡ Ok bytes.items)
-        (λ fault. (fault ≡ NoMemory) ⊎ (query_answer set.now.schema set.now.view (view_query query.now) ≡ Err fault)) }
+fn answer(alloc: Global, set: &mut SegmentSet, query: &Query) -> Result<Vec<u8>, AskFault>
+    ensures answer { MatchResult result
+        (λ bytes. query_answer set.old.schema set.old.view (view_query query.now) ≡ Ok bytes.items)
+        (λ fault. (fault ≡ NoMemory) ⊎ (query_answer set.old.schema set.old.view (view_query query.now) ≡ Err fault)) }
+    ensures same { Becomes set.old set.old.view set.new }
 {
     match resolve(alloc, set.schema(), query) {
         Err(ResolveFault::NoMemory) => Err(AskFault::NoMemory),
@@ -78,11 +81,13 @@ fn answer(alloc: Global, set: &SegmentSet, query: &Query) -> Result<Vec<u8>, Ask
     }
 }
 
-/// The bytes of the answer to a text on the rows of the set, or its first fault.
-pub fn ask(alloc: Global, set: &SegmentSet, text: &[u8]) -> Result<Vec<u8>, AskFault>
-    ensures { MatchResult result
-        (λ bytes. IsAnswer set.now.schema set.now.view text.now (Ok bytes.items))
-        (λ fault. (fault ≡ NoMemory) ⊎ IsAnswer set.now.schema set.now.view text.now (Err fault)) }
+/// The bytes of the answer to a text on the rows of the set, or its first fault. What the set knows stays as it is; runs of its
+/// segments may be kept besides.
+pub fn ask(alloc: Global, set: &mut SegmentSet, text: &[u8]) -> Result<Vec<u8>, AskFault>
+    ensures answer { MatchResult result
+        (λ bytes. IsAnswer set.old.schema set.old.view text.now (Ok bytes.items))
+        (λ fault. (fault ≡ NoMemory) ⊎ IsAnswer set.old.schema set.old.view text.now (Err fault)) }
+    ensures same { Becomes set.old set.old.view set.new }
 {
     let query = read(alloc, text)?;
     answer(alloc, set, &query)

@@ -1,8 +1,9 @@
 -- Rows in the order of a window: what is sorted so, what stands in order, and what is arranged.
-use Rattle.std.proofs.Common.{◌≡◌, ℕ, List, length, map, refl, sym, ap, ◌∙◌}
+use Rattle.std.proofs.Common.{◌≡◌, ◌<◌, ℕ, List, length, map, refl, sym, ap, ◌∙◌, arith}
 use Rattle.std.specs.List.{All}
 use Rattle.std.specs.Ordering.{on}
 use Rattle.std.proofs.lemmas.Cmp.{on_total}
+use Rattle.std.proofs.lemmas.List.Elements.{All-from_recursion, All-same}
 use Rattle.wvalues.specs.declared.key.SortKey.{SortKey}
 use Rattle.wvalues.specs.Meaning.{Meaning}
 use Rattle.wvalues.specs.Order.{keys_cmp}
@@ -23,7 +24,10 @@ use Rattle.wrows.proofs.ChainFacts.{sorted_chain}
 use Rattle.wcalls.specs.Windows.{Windowed}
 use Rattle.wcalls.specs.Arranged.{IsArranged}
 use Rattle.wcalls.specs.Ordered.{Ordered, both_cmp, in_order, numbers_in_order, ordered_by}
+use Rattle.wframe.proofs.SortFacts.{all_sorted, length_sorted}
+use Rattle.wrows.proofs.RowFacts.{places_below, length-places}
 use Rattle.wcalls.proofs.ArrangedFacts.{arranged_as}
+use Rattle.wcalls.proofs.WindowFacts.{whole_total}
 use Rattle.wcalls.proofs.PlaceFacts.{keys_ordered, same_ordered, same_within, values_ordered}
 
 -- what the frame is does not matter to the order
@@ -64,3 +68,13 @@ arranged_in w o all values keys frame e same values_listed values_by keys_listed
     (values_listed ∙ ap (λ (x : Ordered). x.values) e ∙ ap (map (key_at w.values)) (sym rows_are)) (values_by ∙ ap (λ (x : Ordered). x.value_order) e)
     (keys_listed ∙ ap (λ (x : Ordered). x.keys) e ∙ ap (map (key_at w.keys)) (sym rows_are)) (keys_by ∙ ap (λ (x : Ordered). x.order) e)
     order listed (framed ∙ same) tiles each
+
+-- each number in the order is that of a row, and there are as many
+pub numbers_below : (V : List (List Meaning)) (vo : List SortKey) (K : List (List Meaning)) (ko : List SortKey) (n : ℕ) (rows : List ℕ) → length V ≡ n → rows ≡ numbers_in_order V vo K ko → All (λ i. i < n) rows
+numbers_below V vo K ko n rows long is =
+    let cmp = both_cmp V vo K ko in
+    All-same (λ i. i < n) rows (sorted cmp (places (length V))) is
+    (All-from_recursion (λ i. i < n) (sorted cmp (places (length V))) (all_sorted cmp (whole_total (window_of V vo K ko)) (λ i. i < n) (places (length V)) (places_below 0 (length V) n (omega (arith, long)))))
+
+pub numbers_long : (V : List (List Meaning)) (vo : List SortKey) (K : List (List Meaning)) (ko : List SortKey) (n : ℕ) (rows : List ℕ) → length V ≡ n → rows ≡ numbers_in_order V vo K ko → length rows ≡ n
+numbers_long V vo K ko n rows long is = ap length is ∙ length_sorted (both_cmp V vo K ko) (whole_total (window_of V vo K ko)) (places (length V)) ∙ length-places 0 (length V) ∙ long

@@ -1,5 +1,5 @@
 -- The window that a plan says, and rows in its order, of what its partition values and keys come to.
-use Rattle.std.proofs.Common.{◌≡◌, ℕ, Bool, true, false, List, length, map, Result, Ok, Err, refl, sym, ap, ◌∙◌}
+use Rattle.std.proofs.Common.{◌≡◌, ℕ, Bool, true, false, List, [], length, map, Result, Ok, Err, refl, sym, ap, ◌∙◌}
 use Rattle.std.proofs.lemmas.List.{length-map}
 use Rattle.wvalues.specs.declared.key.SortKey.{SortKey}
 use Rattle.wvalues.specs.declared.value.Value.{Value}
@@ -18,7 +18,7 @@ use Rattle.wframe.proofs.SortFacts.{length_sorted}
 use Rattle.wcalls.specs.Frames as frames
 use Rattle.wcalls.specs.Windows.{Windowed, windowed}
 use Rattle.wframe.specs.Places.{places}
-use Rattle.wcalls.specs.Ordered.{Ordered, in_order, ordered_by, ordered_rows}
+use Rattle.wcalls.specs.Ordered.{Ordered, in_order, ordered_by, ordered_rows, window_numbers}
 use Rattle.wcalls.proofs.WindowFacts.{whole_cmp, whole_total}
 
 abbrev pub made : List (List Meaning) → List SortKey → List (List Meaning) → List SortKey → Frame → Windowed
@@ -113,3 +113,11 @@ module _ (rows : List Row) (plan : WindowPlan) where
       then_ok (of_keys (laid wv n values) (laid wk n keys)) (windowed rows plan) (λ w. Ok (in_order w)) (windowed_is (laid wv n values) (laid wk n keys) ev ek)
       ∙ ap Ok (same_order (laid wv n values) (laid (length vo) n values) (ascending plan.partition) vo (laid wk n keys) (laid (length ko) n keys) (map (λ k. k.order) plan.keys) ko
       (ap (λ w. laid w n values) lv) (sym ev_order) (ap (λ w. laid w n keys) lk) (sym ek_order))
+
+abbrev numbers_in : Result (List ℕ) AnswerFault → List ℕ
+numbers_in (Ok numbers) = numbers
+numbers_in (Err fault) = []
+
+-- the numbers of a window's rows are those of its order
+pub told_numbers : (rows : List Row) (plan : WindowPlan) (numbers : List ℕ) (order : Ordered) → window_numbers rows plan ≡ Ok numbers → ordered_rows rows plan ≡ Ok order → numbers ≡ order.rows
+told_numbers rows plan numbers order e f = ap numbers_in (sym e ∙ ap (λ r. r >>= λ (o : Ordered). Ok o.rows) f)

@@ -47,3 +47,7 @@ in_order w = ordered_by w.values w.value_order w.keys w.order
 -- rows in the order of the window that a plan says
 abbrev pub ordered_rows : List Row → WindowPlan → Result Ordered AnswerFault
 ordered_rows rows plan = windowed rows plan >>= λ w. Ok (in_order w)
+
+-- the numbers of rows in the order of the window that a plan says
+abbrev pub window_numbers : List Row → WindowPlan → Result (List ℕ) AnswerFault
+window_numbers rows plan = ordered_rows rows plan >>= λ o. Ok o.rows

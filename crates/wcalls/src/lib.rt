@@ -6,7 +6,8 @@
 //! - Asks: fewer than 2^31 rows, one key where RANGE has an offset, at least one tile, a place from 1 on.
 //! - Leaves frames to `wframe`, places to `wplaces`, aggregates to `waggregate`.
 //!
-//! Rows are put into the order of a window once, which serves each window of the same partition values and keys. Each
+//! Rows are put into the order of a window once, which serves each window of the same partition values and keys; where the
+//! numbers of the rows are told in it, nothing is sorted. Each
 //! function answers one partition after another there, and each answer is put at its row's number in the window's
 //! columns. A function that is no aggregate keeps a number at the row's number first, and its value is read from that, row
 //! after row: one list a function, whatever the number of partitions, and one of the values of an argument that is more than

@@ -1,5 +1,6 @@
 //! Rows in the order of a window.
-ghost use Rattle.std.specs.Prelude.{◌≡◌, ◌*◌, ◌+◌, ◌-◌, ◌<◌, ◌≤◌, ◌^◌, true, min, List, All, OnOk, OnErr, IfOk, IfSome, IsTrue, length, map};
+ghost use Rattle.std.specs.Prelude.{◌≡◌, ◌*◌, ◌+◌, ◌-◌, ◌<◌, ◌≤◌, ◌^◌, true, min, List, All, Ok, OnOk, OnErr, IfOk, IfSome, IsTrue, length, map};
+ghost use Rattle.std.specs.Ordering.{on};
 ghost use Rattle.wvalues.specs.declared.key.SortKey.{SortKey};
 ghost use Rattle.wvalues.specs.Meaning.{Meaning};
 ghost use Rattle.wvalues.specs.Order.{keys_cmp};
@@ -8,6 +9,7 @@ ghost use Rattle.wframe.specs.Codes.{TellApart};
 ghost use Rattle.wframe.specs.KeyRows.{key_lists, sort_keys};
 ghost use Rattle.wframe.specs.Offsets.{has_range_offset};
 ghost use Rattle.wframe.specs.Peers.{key_at};
+ghost use Rattle.wframe.specs.Sorting.{sorted};
 ghost use Rattle.wplan.specs.Plans.{window_plan};
 ghost use Rattle.wplan.specs.Sameness.{is_same_order};
 ghost use Rattle.wrows.specs.CodedRows.{AreRowCodes};
@@ -17,7 +19,7 @@ ghost use Rattle.wrows.specs.Laid.{rows_seen};
 ghost use Rattle.wrows.specs.Outcomes.{Gives};
 ghost use Rattle.wrows.specs.Plain.{numbers_by};
 ghost use Rattle.wcalls.specs.Arranged.{IsArranged};
-ghost use Rattle.wcalls.specs.Ordered.{in_order, ordered_by, ordered_rows};
+ghost use Rattle.wcalls.specs.Ordered.{in_order, numbers_in_order, ordered_by, ordered_rows, window_numbers};
 ghost use Rattle.wcalls.specs.RowOrders.{IsRowOrder};
 ghost use Rattle.wcalls.specs.Windows.{Windowed};
 
@@ -78,6 +80,31 @@ impl WindowOrder {
         let value_order = value_orders(alloc, &window.partition)?;
         let key_order = key_orders(alloc, &window.keys)?;
         let order = ordered_cells(alloc, values, value_order, keys, key_order, rows.len())?;
+        orders.add(1);
+        Ok(order)
+    }
+
+    /// Orders rows as a window does, where their numbers are told in its order: nothing is sorted. All its partition values
+    /// and keys are evaluated on every row, and `OutOfRange` where one is so on any. The order that is told counts among the
+    /// orders.
+    pub fn told(
+        alloc: Global,
+        window: &SettledWindow,
+        rows: &[&[Value]],
+        numbers: Vec<usize>,
+        orders: &mut Tally,
+    ) -> Result<WindowOrder, AnswerFault>
+        requires { window_numbers (rows_seen rows.now) (window_plan window.now) ≡ Ok numbers.items }
+        ensures order { Gives (λ order. order) result (ordered_rows (rows_seen rows.now) (window_plan window.now)) }
+        ensures made { OnOk result (orders.new ≡ min (orders.old + 1) (2 ^ 64 - 1)) }
+        ensures none { OnErr result (orders.new ≡ orders.old) }
+    {
+        let values = partition_cells(alloc, window, rows)?;
+        let keys = key_cells(alloc, window, rows)?;
+        let value_order = value_orders(alloc, &window.partition)?;
+        let key_order = key_orders(alloc, &window.keys)?;
+        let count = rows.len();
+        let order = told_cells(alloc, values, value_order, keys, key_order, count, numbers)?;
         orders.add(1);
         Ok(order)
     }
@@ -180,6 +207,45 @@ fn ordered_cells(
     })
 }
 
+// Rows in an order that is told, where the partition values and the keys of each are cells.
+fn told_cells(
+    alloc: Global,
+    values: Vec<Value>,
+    value_order: Vec<SortKey>,
+    keys: Vec<Value>,
+    key_order: Vec<SortKey>,
+    count: usize,
+    numbers: Vec<usize>,
+) -> Result<WindowOrder, AllocError>
+    requires values { length values.items ≡ count * length value_order.items }
+    requires keys { length keys.items ≡ count * length key_order.items }
+    requires order { numbers.items ≡ numbers_in_order (laid (length value_order.items) count values.items) value_order.items (laid (length key_order.items) count keys.items) key_order.items }
+    ensures { IfOk result (λ order. order ≡ ordered_by (laid (length value_order.items) count values.items) value_order.items (laid (length key_order.items) count keys.items) key_order.items) }
+{
+    let RowOrder {
+        rows,
+        value_codes,
+        key_codes,
+    } = told_order(
+        alloc,
+        &values,
+        &value_order,
+        &keys,
+        &key_order,
+        count,
+        numbers,
+    )?;
+    Ok(WindowOrder {
+        rows,
+        values,
+        value_order,
+        value_codes,
+        keys,
+        key_order,
+        key_codes,
+    })
+}
+
 // Rows that are told apart by codes, where there are some.
 fn told_apart<'a>(rows: KeyRows<'a>, codes: &'a Option<Vec<u32>>) -> KeyRows<'a>
     requires { IfSome codes.now (λ codes. TellApart (keys_cmp (sort_keys rows)) (key_lists rows) codes.items) }
@@ -236,6 +302,62 @@ fn row_order(
     }
     let by_key = numbers_in(alloc, keys, key_order, &key_codes, count)?;
     let rows = resorted_numbers(alloc, values, value_order, &value_codes, count, by_key)?;
+    let value_codes = codes_of(alloc, value_codes, &rows)?;
+    let key_codes = codes_of(alloc, key_codes, &rows)?;
+    Ok(RowOrder {
+        rows,
+        value_codes,
+        key_codes,
+    })
+}
+
+// Whether one of some cells is a text.
+fn has_text(cells: &[Value]) -> bool {
+    for cell in cells {
+        if let Value::Text(_) = cell {
+            return true;
+        }
+    }
+    false
+}
+
+// Codes for rows of one key that holds no text. Those of texts would have to be sorted, so texts are told apart by themselves.
+fn told_codes(
+    alloc: Global,
+    cells: &[Value],
+    keys: &[SortKey],
+    count: usize,
+) -> Result<Option<Vec<u32>>, AllocError>
+    requires { length cells.now ≡ count * length keys.now }
+    ensures { IfOk result (λ found. IfSome found (λ codes. AreRowCodes keys.now (laid (length keys.now) count cells.now) codes.items)) }
+{
+    if has_text(cells) {
+        return Ok(None);
+    }
+    let codes = row_codes(alloc, cells, keys, count)?;
+    Ok(codes)
+}
+
+// The order of rows that is told, with the codes of their partition values and of their keys there, where these are told
+// without sorting. The rows stand by partition values, then by keys, then by number.
+fn told_order(
+    alloc: Global,
+    values: &[Value],
+    value_order: &[SortKey],
+    keys: &[Value],
+    key_order: &[SortKey],
+    count: usize,
+    rows: Vec<usize>,
+) -> Result<RowOrder, AllocError>
+    requires values { length values.now ≡ count * length value_order.now }
+    requires keys { length keys.now ≡ count * length key_order.now }
+    requires order { rows.items ≡ sorted (on (key_at (laid (length value_order.now) count values.now)) (keys_cmp value_order.now)) (numbers_by key_order.now (laid (length key_order.now) count keys.now) count) }
+    requires below { All (λ i. i < count) rows.items }
+    requires len { length rows.items ≡ count }
+    ensures { IfOk result (IsRowOrder value_order.now (laid (length value_order.now) count values.now) key_order.now (laid (length key_order.now) count keys.now) count) }
+{
+    let key_codes = told_codes(alloc, keys, key_order, count)?;
+    let value_codes = told_codes(alloc, values, value_order, count)?;
     let value_codes = codes_of(alloc, value_codes, &rows)?;
     let key_codes = codes_of(alloc, key_codes, &rows)?;
     Ok(RowOrder {

@@ -20,7 +20,6 @@ mod place;
 mod real;
 mod record;
 mod replacing;
-#[cfg(test)]
 mod simulated;
 mod system;
 
@@ -30,4 +29,5 @@ pub use folder::{Access, Folder, Target};
 pub use place::Place;
 pub use record::Record;
 pub use replacing::{NotReplaced, replace};
+pub use simulated::{Disk, Entry, Simulated};
 pub use system::System;

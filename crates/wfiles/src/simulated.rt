@@ -1,37 +1,17 @@
-//! A folder in memory that does what `specs/Model.antt` says and stops at a call, and what a crash there leaves of a store.
+//! A folder in memory that does what `specs/Model.antt` says and stops at a call, and what a crash there leaves of it: for tests
+//! of what replaces files.
 ghost use Rattle.std.specs.Prelude.{◌≡◌, ◌∷◌, is_ok, IfErr, IfOk, OnOk};
 ghost use Rattle.wfiles.specs.Call.{call_of};
 ghost use Rattle.wfiles.specs.Calls.{HasCause, IsSound};
 ghost use Rattle.wfiles.specs.Model.{IsLocked};
 
 use crate::fault::Fault;
-use crate::folder::{Access, Folder, Target};
+use crate::folder::{Access, Folder};
 use crate::record::{
     CREATED, FOUND, LOCKED, MOVED, PERMITTED, REMOVED, Record, SYNCED, SYNCED_FOLDER, WROTE,
 };
-use crate::replacing::{NotReplaced, replace};
 use crate::system::System;
 use std::alloc::{AllocError, Global};
-use std::fs::Permissions;
-use std::os::unix::fs::PermissionsExt;
-use std::test::*;
-
-const STORE: &str = "d/store";
-
-// What a run that was killed has left.
-const LEFTOVER: &str = "d/.wstore-0";
-
-// A file of another program, whose name only begins as those of new files do.
-const OTHER: &str = "d/.wstore-0.csv";
-
-const OLD: Option<&[u8]> = Some(b"the old");
-
-const CUT: Option<&[u8]> = Some(b"the n");
-
-const NEW: &[u8] = b"the new bytes of the store";
-
-// More calls than a replacement makes.
-const MANY_CALLS: usize = 20;
 
 // The name of a path in a folder, if it begins as those of new files do.
 fn name_in<'p>(folder: &str, path: &'p str) -> Option<&'p str> {
@@ -56,31 +36,50 @@ impl Written {
     }
 }
 
-// A path, and the numbers of the files to which a crash may leave it leading, or to none: it leads to the last now.
+/// A path, and the files to which a crash may leave it leading.
 #[derive(Drop)]
-struct Name {
-    path: String,
+pub struct Entry {
+    /// The path.
+    pub path: String,
+    // the numbers of the files, or none: it leads to the last now
     left: Vec<Option<usize>>,
 }
 
-impl Name {
+impl Entry {
     fn file(&self) -> Option<usize> {
         *self.left.last()?
     }
 }
 
-// What the folder holds, and what a crash may leave of it.
+/// What a folder holds, and what a crash may leave of it.
 #[derive(Drop)]
-struct Disk {
+pub struct Disk {
     alloc: Global,
     files: Vec<Written>,
-    names: Vec<Name>,
+    entries: Vec<Entry>,
 }
 
 impl Disk {
+    /// An empty folder.
+    pub fn new(alloc: Global) -> Disk {
+        Disk {
+            alloc,
+            files: Vec::new(alloc),
+            entries: Vec::new(alloc),
+        }
+    }
+
+    /// Each path that led to a file.
+    pub fn entries(&self) -> &[Entry] {
+        self.entries.as_slice()
+    }
+
     fn file_of(&self, path: &str) -> Option<usize> {
-        let name = self.names.iter().find(|name| name.path.as_str() == path)?;
-        name.file()
+        let entry = self
+            .entries
+            .iter()
+            .find(|entry| entry.path.as_str() == path)?;
+        entry.file()
     }
 
     fn file_mut(&mut self, path: &str) -> Option<&mut Written> {
@@ -91,20 +90,21 @@ impl Disk {
     // Leads a path to a file or to none: a crash may leave it leading where it led.
     fn lead(&mut self, path: &str, file: Option<usize>) -> Result<(), AllocError> {
         let known = self
-            .names
+            .entries
             .iter()
-            .position(|name| name.path.as_str() == path);
-        if let Some(name) = known.and_then(|place| self.names.get_mut(place)) {
-            name.left.push(file)?;
+            .position(|entry| entry.path.as_str() == path);
+        if let Some(entry) = known.and_then(|place| self.entries.get_mut(place)) {
+            entry.left.push(file)?;
             return Ok(());
         }
         let path = String::from_str(self.alloc, path)?;
         let left = Vec::from_array(self.alloc, [None, file])?;
-        self.names.push(Name { path, left })?;
+        self.entries.push(Entry { path, left })?;
         Ok(())
     }
 
-    fn create(&mut self, path: &str) -> Result<bool, AllocError> {
+    /// Makes an empty file, and tells whether its path was free.
+    pub fn create(&mut self, path: &str) -> Result<bool, AllocError> {
         if self.file_of(path).is_some() {
             return Ok(false);
         }
@@ -116,7 +116,8 @@ impl Disk {
         Ok(true)
     }
 
-    fn write(&mut self, path: &str, bytes: &[u8]) -> bool {
+    /// Adds bytes at the end of a file, and tells whether there is one.
+    pub fn write(&mut self, path: &str, bytes: &[u8]) -> bool {
         let Some(file) = self.file_mut(path) else {
             return false;
         };
@@ -124,7 +125,8 @@ impl Disk {
         file.bytes.extend_from_slice(bytes).is_ok()
     }
 
-    fn sync(&mut self, path: &str) -> bool {
+    /// Brings a file to the disk, and tells whether there is one.
+    pub fn sync(&mut self, path: &str) -> bool {
         let Some(file) = self.file_mut(path) else {
             return false;
         };
@@ -132,7 +134,8 @@ impl Disk {
         true
     }
 
-    fn rename(&mut self, from: &str, to: &str) -> bool {
+    /// Moves a file over another, and tells whether there is one.
+    pub fn rename(&mut self, from: &str, to: &str) -> bool {
         let file = self.file_of(from);
         file.is_some() && self.lead(to, file).is_ok() && self.lead(from, None).is_ok()
     }
@@ -141,17 +144,18 @@ impl Disk {
         self.file_of(path).is_some() && self.lead(path, None).is_ok()
     }
 
-    fn sync_names(&mut self) {
-        for name in self.names.iter_mut() {
-            let last = name.left.len().saturating_sub(1);
-            name.left.drain(..last);
+    /// Brings the names to the disk.
+    pub fn sync_names(&mut self) {
+        for entry in self.entries.iter_mut() {
+            let last = entry.left.len().saturating_sub(1);
+            entry.left.drain(..last);
         }
     }
 
-    // What a crash may leave under a name: nothing, or bytes.
-    fn left(&self, name: &Name) -> Result<Vec<Option<&[u8]>>, AllocError> {
+    /// What a crash may leave under a path: nothing, or bytes.
+    pub fn left(&self, entry: &Entry) -> Result<Vec<Option<&[u8]>>, AllocError> {
         let mut left = Vec::new(self.alloc);
-        for file in name.left.iter() {
+        for file in entry.left.iter() {
             match file.and_then(|number| self.files.get(number)) {
                 Some(file) => file.push_left(&mut left)?,
                 None => left.push(None)?,
@@ -167,8 +171,8 @@ impl Disk {
 
     fn names(&self, alloc: Global, folder: &str) -> Result<Vec<String>, AllocError> {
         let mut names = Vec::new(alloc);
-        for name in self.names.iter().filter(|name| name.file().is_some()) {
-            if let Some(rest) = name_in(folder, name.path.as_str()) {
+        for entry in self.entries.iter().filter(|entry| entry.file().is_some()) {
+            if let Some(rest) = name_in(folder, entry.path.as_str()) {
                 names.push(String::from_str(alloc, rest)?)?;
             }
         }
@@ -176,9 +180,9 @@ impl Disk {
     }
 }
 
-// A folder whose machine stops at a call: that one and each later one is a fault, and does nothing.
+/// A folder whose machine stops at a call: that one and each later one is a fault, and does nothing.
 #[derive(Drop)]
-struct Simulated<'a> {
+pub struct Simulated<'a> {
     system: System<'a, ()>,
     trace: Record,
     disk: Disk,
@@ -186,8 +190,8 @@ struct Simulated<'a> {
 }
 
 impl<'a> Simulated<'a> {
-    // Its lock is held.
-    fn new(disk: Disk, calls_left: usize) -> Simulated<'a>
+    /// A folder that holds this, whose lock is held, and whose machine stops behind so many calls.
+    pub fn new(disk: Disk, calls_left: usize) -> Simulated<'a>
         ensures sound { IsSound result.system }
         ensures locked { IsLocked result.trace.calls }
     {
@@ -201,6 +205,12 @@ impl<'a> Simulated<'a> {
         }
     }
 
+    /// What it holds now.
+    pub fn disk(&self) -> &Disk {
+        &self.disk
+    }
+
+    // Whether the machine still runs at a call.
     fn runs(&mut self) -> bool
         ensures calls { self.new.trace.calls ≡ self.old.trace.calls }
         ensures system { self.new.system ≡ self.old.system }
@@ -305,135 +315,4 @@ impl Folder for Simulated<'_> {
             .note_call(REMOVED, is_removed, path.as_bytes(), &[]);
         is_removed
     }
-}
-
-// What stands in the folder before: the store, if there is one, whether its access is kept, and what an earlier run has left.
-#[derive(Clone, Copy)]
-struct Case {
-    old: Option<&'static [u8]>,
-    is_permitted: bool,
-    leftover: Option<&'static [u8]>,
-}
-
-impl Case {
-    fn disk(self, alloc: Global) -> Result<Disk, AllocError> {
-        let mut disk = Disk {
-            alloc,
-            files: Vec::new(alloc),
-            names: Vec::new(alloc),
-        };
-        let other = Some(OTHER.as_bytes());
-        for (path, held) in [(STORE, self.old), (LEFTOVER, self.leftover), (OTHER, other)] {
-            disk.lead(path, None)?;
-            if let Some(bytes) = held {
-                disk.create(path)?;
-                disk.write(path, bytes);
-                disk.sync(path);
-            }
-        }
-        disk.sync_names();
-        Ok(disk)
-    }
-
-    fn target(self, alloc: Global) -> Result<Target, AllocError> {
-        let access = Access {
-            owner: 7,
-            group: 8,
-            permissions: Permissions::from_mode(0o640),
-        };
-        Ok(Target {
-            path: String::from_str(alloc, STORE)?,
-            folder: String::from_str(alloc, "d")?,
-            access: self.is_permitted.then_some(access),
-        })
-    }
-
-    // Whether a path may hold this after a crash, where the replacement ended so.
-    fn allows(self, end: Result<(), NotReplaced>, path: &str, held: Option<&[u8]>) -> bool {
-        let is_old = held == self.old && end.is_err();
-        let is_new = held == Some(NEW) && !matches!(end, Err(NotReplaced::Kept(_)));
-        match path {
-            STORE => is_old || is_new,
-            OTHER => held == Some(OTHER.as_bytes()),
-            _ => path == LEFTOVER,
-        }
-    }
-}
-
-// How many states of a name a crash may leave, and how many of them are not allowed.
-#[derive(Drop)]
-struct Seen {
-    states: usize,
-    torn: usize,
-}
-
-impl Seen {
-    fn look(
-        &mut self,
-        disk: &Disk,
-        case: Case,
-        end: Result<(), NotReplaced>,
-    ) -> Result<(), AllocError> {
-        for name in disk.names.iter() {
-            let path = name.path.as_str();
-            let left = disk.left(name)?;
-            let allowed = left
-                .iter()
-                .filter(|held| case.allows(end, path, **held))
-                .count();
-            self.states = self.states.saturating_add(left.len());
-            self.torn = self.torn.saturating_add(left.len().saturating_sub(allowed));
-        }
-        Ok(())
-    }
-
-    // Replaces a store with the machine stopping at each call in turn, until it is done.
-    fn replace(&mut self, alloc: Global, case: Case) -> Result<(), AllocError> {
-        let target = case.target(alloc)?;
-        for stop in 0..MANY_CALLS {
-            let mut folder = Simulated::new(case.disk(alloc)?, stop);
-            let end = replace(alloc, &mut folder, &target, NEW);
-            self.look(&folder.disk, case, end)?;
-            if end.is_ok() {
-                return Ok(());
-            }
-        }
-        self.torn = self.torn.saturating_add(1);
-        Ok(())
-    }
-}
-
-#[test]
-fn no_crash_tears_a_store(rt: HostRuntime) -> Result<(), Fail> {
-    let mut seen = Seen { states: 0, torn: 0 };
-    for (old, is_permitted) in [(None, false), (OLD, false), (OLD, true)] {
-        for leftover in [None, CUT] {
-            let case = Case {
-                old,
-                is_permitted,
-                leftover,
-            };
-            seen.replace(rt.alloc(), case)?;
-        }
-    }
-    assert_eq!(rt; (seen.states, seen.torn), (351, 0));
-    Ok(())
-}
-
-// Each length at which the new bytes are cut is found, and the old bytes where it was told that the store has the new.
-#[test]
-fn a_rename_before_the_sync_tears_it(rt: HostRuntime) -> Result<(), Fail> {
-    let case = Case {
-        old: OLD,
-        is_permitted: false,
-        leftover: None,
-    };
-    let mut disk = case.disk(rt.alloc())?;
-    disk.create(LEFTOVER)?;
-    disk.write(LEFTOVER, NEW);
-    disk.rename(LEFTOVER, STORE);
-    let mut seen = Seen { states: 0, torn: 0 };
-    seen.look(&disk, case, Ok(()))?;
-    assert_eq!(rt; seen.torn, NEW.len() + 1);
-    Ok(())
 }

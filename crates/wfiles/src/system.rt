@@ -32,6 +32,9 @@ const LOCK_TRIES: u32 = 6_000;
 /// The milliseconds between two tries.
 const PAUSE: u64 = 10;
 
+/// What is told of a path that leads to no place for a file.
+const NO_PLACE: &str = "here stands no plain file that may be written, and none can be made";
+
 /// The try before which it is told that the lock is waited for: after a second.
 const TOLD_TRY: u32 = 100;
 
@@ -44,6 +47,8 @@ pub struct System<'a, R> {
     failed_reads: u64,
     failed_writes: u64,
     refused_growths: u64,
+    /// Why the last call that failed did, which is for people alone.
+    reason: Option<io::Error>,
 }
 
 impl<'a, R> Model for System<'a, R> {
@@ -109,6 +114,7 @@ impl<'a, R> System<'a, R> {
             failed_reads: 0,
             failed_writes: 0,
             refused_growths: 0,
+            reason: None,
         }
     }
 
@@ -122,7 +128,13 @@ impl<'a, R> System<'a, R> {
             failed_reads: self.failed_reads,
             failed_writes: self.failed_writes,
             refused_growths: self.refused_growths,
+            reason: self.reason,
         }
+    }
+
+    /// Why the last call that failed did, in the system's words, if one has.
+    pub fn reason(&self) -> Option<io::Error> {
+        self.reason
     }
 
     /// The fault of a growth that was refused.
@@ -161,6 +173,7 @@ impl<'a, R> System<'a, R> {
             return self.refused();
         }
         self.failed_reads += 1;
+        self.reason = Some(*error);
         Fault::Read
     }
 
@@ -174,16 +187,19 @@ impl<'a, R> System<'a, R> {
         if is_out_of_memory(error) {
             return self.refused();
         }
-        self.misplaced()
+        self.failed_writes += 1;
+        self.reason = Some(*error);
+        Fault::Write
     }
 
-    /// The fault of a path that leads to no place for a file, and of a call that wrote.
+    /// The fault of a path that leads to no place for a file.
     pub(crate) fn misplaced(&mut self) -> Fault
         requires { IsSound self.old }
         ensures fault { result ≡ Fault.Write }
         ensures cause { HasCause result self.new }
     {
         self.failed_writes += 1;
+        self.reason = Some(io::Error::other(NO_PLACE));
         Fault::Write
     }
 

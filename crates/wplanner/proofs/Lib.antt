@@ -3,6 +3,9 @@ mod TextLines
 mod Rows
 mod HeldFacts
 mod SourceFacts
+mod LiveFacts
+mod ColumnFacts
+mod NumberFacts
 mod PlanFacts
 pub mod CallFacts
 pub mod SelectFacts

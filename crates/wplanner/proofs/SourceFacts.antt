@@ -25,7 +25,7 @@ pub all_places : {X : Type 0} (d : X) (xs : List X) → map (λ j. get_or xs j d
 all_places d xs = at_places d xs 0 (length xs) (omega arith) ∙ take_all (length xs) xs (omega arith)
 
 -- the rows of a live name
-abbrev live_rows : Declaration → (NameParts × List ℕ) → List (List Meaning)
+abbrev pub live_rows : Declaration → (NameParts × List ℕ) → List (List Meaning)
 live_rows d (n, bytes) = content_rows d bytes
 
 cells_told : (n : NameParts) (k : ℕ) (rows : List (List Meaning)) → map (λ (r : TableRow). r.cells) (map (λ (r : ℕ × List Meaning). record { name = n; place = r.0; cells = r.1 }) (enumerate_from k rows)) ≡ rows
@@ -33,7 +33,7 @@ cells_told n k [] = refl
 cells_told n k (row ∷ rows) = ap (λ l. row ∷ l) (cells_told n (k + 1) rows)
 
 -- the rows of the table are those of the live names
-table_is : (d : Declaration) (all : List (NameParts × List ℕ)) → flat_map (live_rows d) all ≡ map (λ (r : TableRow). r.cells) (flat_map (segment_rows d) all)
+pub table_is : (d : Declaration) (all : List (NameParts × List ℕ)) → flat_map (live_rows d) all ≡ map (λ (r : TableRow). r.cells) (flat_map (segment_rows d) all)
 table_is d [] = refl
 table_is d ((n, bytes) ∷ all) =
     ap (λ l. l ++ flat_map (live_rows d) all) (sym (cells_told n 0 (content_rows d bytes)))

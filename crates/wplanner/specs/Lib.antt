@@ -4,6 +4,7 @@ pub mod ByWindow
 pub mod Parts
 pub mod Kept
 pub mod KeptOrders
+pub mod TableOrders
 pub mod Printing
 pub mod Faults
 pub mod Tables

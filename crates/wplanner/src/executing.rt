@@ -2,6 +2,7 @@
 ghost use Rattle.std.specs.Prelude.{◌≡◌, ◌<◌, true, IfOk, length, map};
 ghost use Rattle.std.specs.List.{list_all};
 ghost use Rattle.std.specs.Rc.{rc_str_bytes};
+ghost use Rattle.wset.specs.Sets.{Becomes};
 ghost use Rattle.wplan.specs.Plans.{plans, select_plan};
 ghost use Rattle.wrows.specs.Outcomes.{Gives};
 ghost use Rattle.wrows.specs.Laid.{rows_in};
@@ -70,12 +71,13 @@ fn output_names(alloc: Global, selects: &[Selection]) -> Result<Vec<RcStr>, Allo
 fn query_rows(
     alloc: Global,
     selects: &[Selection],
-    set: &SegmentSet,
+    set: &mut SegmentSet,
     work: &mut Work,
 ) -> Result<Cells, AnswerFault>
     requires { is_sound_query (map select_plan selects.now) ≡ true }
-    ensures rows { Gives rows_in result (answer_of (map select_plan selects.now) (rows_of_set set.now)) }
+    ensures rows { Gives rows_in result (answer_of (map select_plan selects.now) (rows_of_set set.old)) }
     ensures width { IfOk result (λ cells. cells.width ≡ width_of (map select_plan selects.now) 0) }
+    ensures same { Becomes set.old set.old.view set.new }
 {
     let cells = select_table_rows(alloc, &selects[0], set, work)?;
     answered(alloc, &selects[1..], cells, work)
@@ -85,10 +87,11 @@ fn query_rows(
 fn query_answer(
     alloc: Global,
     selects: &[Selection],
-    set: &SegmentSet,
+    set: &mut SegmentSet,
 ) -> Result<Table, AnswerFault>
     requires { is_sound_query (map select_plan selects.now) ≡ true }
-    ensures { Gives (λ table. table) result (table_answer (map select_plan selects.now) (rows_of_set set.now)) }
+    ensures answer { Gives (λ table. table) result (table_answer (map select_plan selects.now) (rows_of_set set.old)) }
+    ensures same { Becomes set.old set.old.view set.new }
 {
     let mut work = Work::new();
     let cells = query_rows(alloc, selects, set, &mut work)?;
@@ -102,11 +105,15 @@ fn query_answer(
 /// that it is evaluated on, or a result is, whatever is left out, and `TooManyRows` where more than 2,147,483,647 rows are
 /// kept or groups of all sets together made. Otherwise it answers the table, unless memory is refused.
 ///
+/// Where rows of the table are ordered by columns of it, for a window or for ORDER BY, and are not grouped, their order comes
+/// from runs that the segments keep. Runs that are missing are made, whatever is answered; what the set knows stays as it is.
+///
 /// The query is to be sound: it has a SELECT, each call is over one of its windows, an offset in RANGE has one key, there
 /// is a tile at least, and places count from 1. So is each one that `resolve` answers, since it breaks no rule.
-pub fn execute(alloc: Global, set: &SegmentSet, query: &Resolved) -> Result<Table, AskFault>
+pub fn execute(alloc: Global, set: &mut SegmentSet, query: &Resolved) -> Result<Table, AskFault>
     requires sound { is_sound_query (plans query.now) ≡ true }
-    ensures answered { Tells result (table_answer (plans query.now) (rows_of_set set.now)) }
+    ensures answered { Tells result (table_answer (plans query.now) (rows_of_set set.old)) }
+    ensures same { Becomes set.old set.old.view set.new }
 {
     let table = query_answer(alloc, query.selections.as_slice(), set)?;
     Ok(table)

@@ -13,12 +13,15 @@
 mod executing;
 mod fault;
 mod field;
+mod numbered;
 mod orders;
 mod parts;
 mod printing;
 mod selecting;
 mod source;
 mod table;
+mod table_orders;
+mod told;
 mod windows;
 mod work;
 

@@ -9,7 +9,9 @@ ghost use Rattle.wrows.specs.Laid.{rows_seen};
 ghost use Rattle.wrows.specs.Outcomes.{Gives};
 ghost use Rattle.wcalls.specs.Ordered.{ordered_rows};
 ghost use Rattle.wplanner.specs.KeptOrders.{AreOrdersOf, serves, with_shared};
+ghost use Rattle.wplanner.specs.TableOrders.{AreToldOf};
 
+use crate::told::{ToldOrder, take_told};
 use std::alloc::{AllocError, Global};
 use waggregate::Tally;
 use wcalls::{WindowOrder, share_order};
@@ -54,24 +56,46 @@ fn take_shared(kept: &mut Vec<KeptOrder>, window: &SettledWindow) -> Option<Wind
     }
 }
 
+// The rows in the order of a window, whose numbers are taken out where they are told. It counts among the orders.
+fn new_order(
+    alloc: Global,
+    window: &SettledWindow,
+    rows: &[&[Value]],
+    told: &mut Vec<ToldOrder>,
+    made: &mut Tally,
+) -> Result<WindowOrder, AnswerFault>
+    requires { AreToldOf (rows_seen rows.now) told.old.items }
+    ensures order { Gives (λ order. order) result (ordered_rows (rows_seen rows.now) (window_plan window.now)) }
+    ensures others { AreToldOf (rows_seen rows.now) told.new.items }
+    ensures made { made.new ≤ made.old + 1 }
+{
+    match take_told(told, window) {
+        Some(numbers) => WindowOrder::told(alloc, window, rows, numbers, made),
+        None => WindowOrder::new(alloc, window, rows, made),
+    }
+}
+
 /// The rows in the order of a window: a kept order that it shares, which is taken out, else a new one, which counts among
-/// the orders that are made.
+/// the orders.
 pub(crate) fn order_of(
     alloc: Global,
     window: &SettledWindow,
     rows: &[&[Value]],
     kept: &mut Vec<KeptOrder>,
+    told: &mut Vec<ToldOrder>,
     made: &mut Tally,
 ) -> Result<WindowOrder, AnswerFault>
-    requires { AreOrdersOf (rows_seen rows.now) kept.old.items }
+    requires kept { AreOrdersOf (rows_seen rows.now) kept.old.items }
+    requires told { AreToldOf (rows_seen rows.now) told.old.items }
     ensures order { Gives (λ order. order) result (ordered_rows (rows_seen rows.now) (window_plan window.now)) }
     ensures others { AreOrdersOf (rows_seen rows.now) kept.new.items }
+    ensures told { AreToldOf (rows_seen rows.now) told.new.items }
     ensures fewer { length kept.new.items ≤ length kept.old.items }
     ensures made { made.new ≤ made.old + (if list_any (serves window.now) kept.old.items then 0 else 1) }
 {
     match take_shared(kept, window) {
         Some(order) => Ok(order),
-        None => WindowOrder::new(alloc, window, rows, made),
+        None => new_order(alloc, window, rows, told, made),
     }
 }
 

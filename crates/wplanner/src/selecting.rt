@@ -1,27 +1,36 @@
 //! What one SELECT answers.
-ghost use Rattle.std.specs.Prelude.{◌≡◌, ◌<◌, ◌^◌, true, IfOk, length};
+ghost use Rattle.std.specs.Prelude.{◌≡◌, ◌<◌, ◌^◌, true, IfOk, IfSome, List, Ok, length};
+ghost use Rattle.wvalues.specs.Meaning.{Meaning};
 ghost use Rattle.wplan.specs.Plans.{grouping_plan, select_plan};
 ghost use Rattle.wrows.specs.Outcomes.{Gives};
 ghost use Rattle.wrows.specs.Columns.{beside};
 ghost use Rattle.wrows.specs.Laid.{rows_in, rows_seen};
 ghost use Rattle.wplanner.specs.Answers.{grouped_items, items_of, kept_items, left_items, select_of};
 ghost use Rattle.wplanner.specs.Sound.{is_sound_select};
+ghost use Rattle.wset.specs.Running.{live_rows};
+ghost use Rattle.wset.specs.Sets.{Becomes};
+ghost use Rattle.wplanner.specs.TableOrders.{AreTableOrders, AreTold, by_keys};
 ghost use Rattle.wplanner.specs.Tables.{rows_of_set};
 
+use crate::numbered::numbered_table_rows;
 use crate::parts::{item_values, key_orders, key_values};
 use crate::source::kept_table_rows;
+use crate::table_orders::{TableOrders, table_orders};
+use crate::told::{ToldOrders, told_orders};
 use crate::windows::{call_columns, window_answers};
 use crate::work::Work;
 use std::alloc::Global;
 use waggregate::Tally;
 use wgroup::group_rows;
 use wplan::{Grouping, Selection};
-use wrows::{AnswerFault, Asked, Cells, joined_items, kept_rows, lent_rows, ordered_items};
+use wrows::{
+    AnswerFault, Asked, Cells, joined_items, kept_rows, lent_rows, ordered_items, told_items,
+};
 use wset::SegmentSet;
 use wvalues::Value;
 
-// The rows that OFFSET and LIMIT ask for.
-fn asked_of(select: &Selection) -> Asked
+/// The rows that OFFSET and LIMIT ask for.
+pub(crate) fn asked_of(select: &Selection) -> Asked
     ensures offset { result.offset ≡ select.now.offset }
     ensures limit { result.limit ≡ select.now.limit }
 {
@@ -36,6 +45,22 @@ fn count_order(select: &Selection, orders: &mut Tally) {
     if !select.keys.is_empty() {
         orders.add(1);
     }
+}
+
+// The items of rows that have the values of some columns behind their cells, in an order that is told, and cut.
+fn told_items_of(
+    alloc: Global,
+    select: &Selection,
+    rows: &[&[Value]],
+    columns: &[&[Value]],
+    numbers: Vec<usize>,
+) -> Result<Cells, AnswerFault>
+    requires { by_keys (select_plan select.now).keys (rows_seen columns.now) (rows_seen rows.now) ≡ Ok numbers.items }
+    ensures rows { Gives rows_in result (items_of (select_plan select.now) (beside (rows_seen rows.now) (rows_seen columns.now))) }
+    ensures width { IfOk result (λ cells. cells.width ≡ length select.now.items.items) }
+{
+    let items = item_values(alloc, &select.items)?;
+    told_items(alloc, &items, numbers, asked_of(select), rows, columns)
 }
 
 // The items of some rows, in order and cut.
@@ -67,21 +92,59 @@ fn items_beside(
     joined_items(alloc, &items, &keys, &order, asked, rows, columns)
 }
 
+// The items of some rows, in order and cut, where the order may be told.
+fn items_by(
+    alloc: Global,
+    select: &Selection,
+    rows: &[&[Value]],
+    told: Option<Vec<usize>>,
+) -> Result<Cells, AnswerFault>
+    requires { IfSome told (λ numbers. (columns : List (List Meaning)) → by_keys (select_plan select.now).keys columns (rows_seen rows.now) ≡ Ok numbers.items) }
+    ensures rows { Gives rows_in result (items_of (select_plan select.now) (rows_seen rows.now)) }
+    ensures width { IfOk result (λ cells. cells.width ≡ length select.now.items.items) }
+{
+    match told {
+        Some(numbers) => told_items_of(alloc, select, rows, &[], numbers),
+        None => items_of(alloc, select, rows),
+    }
+}
+
+// The items of rows that have the values of some columns behind their cells, in order and cut, where the order may be told.
+fn items_beside_by(
+    alloc: Global,
+    select: &Selection,
+    rows: &[&[Value]],
+    columns: &[&[Value]],
+    told: Option<Vec<usize>>,
+) -> Result<Cells, AnswerFault>
+    requires { IfSome told (λ numbers. (columns : List (List Meaning)) → by_keys (select_plan select.now).keys columns (rows_seen rows.now) ≡ Ok numbers.items) }
+    ensures rows { Gives rows_in result (items_of (select_plan select.now) (beside (rows_seen rows.now) (rows_seen columns.now))) }
+    ensures width { IfOk result (λ cells. cells.width ≡ length select.now.items.items) }
+{
+    match told {
+        Some(numbers) => told_items_of(alloc, select, rows, columns, numbers),
+        None => items_beside(alloc, select, rows, columns),
+    }
+}
+
 // The items of rows with what the calls answer behind their cells.
 fn called_items(
     alloc: Global,
     select: &Selection,
     rows: &[&[Value]],
+    told: ToldOrders,
     work: &mut Work,
 ) -> Result<Cells, AnswerFault>
     requires sound { is_sound_select (select_plan select.now) ≡ true }
     requires few { length rows.now < 2 ^ 31 }
+    requires told { AreTold (rows_seen rows.now) (select_plan select.now).keys told }
     ensures rows { Gives rows_in result (left_items (select_plan select.now) (rows_seen rows.now)) }
     ensures width { IfOk result (λ cells. cells.width ≡ length select.now.items.items) }
 {
-    let answers = window_answers(alloc, &select.windows, &select.calls, rows, work)?;
+    let ToldOrders { windows, keys } = told;
+    let answers = window_answers(alloc, &select.windows, &select.calls, rows, windows, work)?;
     let columns = call_columns(alloc, &answers, &select.calls)?;
-    items_beside(alloc, select, rows, &columns)
+    items_beside_by(alloc, select, rows, &columns, keys)
 }
 
 // The items of the rows that are left, which are lent on where nothing calls for a window.
@@ -89,18 +152,20 @@ fn left_items(
     alloc: Global,
     select: &Selection,
     rows: &[&[Value]],
+    told: ToldOrders,
     work: &mut Work,
 ) -> Result<Cells, AnswerFault>
     requires sound { is_sound_select (select_plan select.now) ≡ true }
     requires few { length rows.now < 2 ^ 31 }
+    requires told { AreTold (rows_seen rows.now) (select_plan select.now).keys told }
     ensures rows { Gives rows_in result (left_items (select_plan select.now) (rows_seen rows.now)) }
     ensures width { IfOk result (λ cells. cells.width ≡ length select.now.items.items) }
 {
     count_order(select, &mut work.orders);
     if select.windows.is_empty() {
-        items_of(alloc, select, rows)
+        items_by(alloc, select, rows, told.keys)
     } else {
-        called_items(alloc, select, rows, work)
+        called_items(alloc, select, rows, told, work)
     }
 }
 
@@ -119,23 +184,25 @@ fn grouped_items(
 {
     let groups = group_rows(alloc, grouping, kept)?;
     let left = lent_rows(alloc, &groups)?;
-    left_items(alloc, select, &left, work)
+    left_items(alloc, select, &left, ToldOrders::none(alloc), work)
 }
 
-/// The items of the rows that WHERE keeps, or of their groups.
-pub(crate) fn kept_items(
+// The items of the rows that WHERE keeps, or of their groups.
+fn kept_items(
     alloc: Global,
     select: &Selection,
     kept: &[&[Value]],
+    told: ToldOrders,
     work: &mut Work,
 ) -> Result<Cells, AnswerFault>
     requires sound { is_sound_select (select_plan select.now) ≡ true }
     requires few { length kept.now < 2 ^ 31 }
+    requires told { AreTold (rows_seen kept.now) (select_plan select.now).keys told }
     ensures rows { Gives rows_in result (kept_items (select_plan select.now) (rows_seen kept.now)) }
     ensures width { IfOk result (λ cells. cells.width ≡ length select.now.items.items) }
 {
     match &select.grouping {
-        None => left_items(alloc, select, kept, work),
+        None => left_items(alloc, select, kept, told, work),
         Some(grouping) => grouped_items(alloc, select, grouping, kept, work),
     }
 }
@@ -152,11 +219,11 @@ pub(crate) fn select_rows(
     ensures width { IfOk result (λ cells. cells.width ≡ length select.now.items.items) }
 {
     let kept = kept_rows(alloc, &select.condition, rows)?;
-    kept_items(alloc, select, &kept, work)
+    kept_items(alloc, select, &kept, ToldOrders::none(alloc), work)
 }
 
-/// What one SELECT answers on the rows of the set's live segments.
-pub(crate) fn select_table_rows(
+// What one SELECT answers on the rows of the set's live segments, where no order of them is told.
+fn select_unordered(
     alloc: Global,
     select: &Selection,
     set: &SegmentSet,
@@ -167,5 +234,44 @@ pub(crate) fn select_table_rows(
     ensures width { IfOk result (λ cells. cells.width ≡ length select.now.items.items) }
 {
     let kept = kept_table_rows(alloc, &select.condition, set)?;
-    kept_items(alloc, select, &kept, work)
+    kept_items(alloc, select, &kept, ToldOrders::none(alloc), work)
+}
+
+// What one SELECT answers on the rows of the set's live segments, of which some orders are told.
+fn select_ordered(
+    alloc: Global,
+    select: &Selection,
+    set: &SegmentSet,
+    orders: TableOrders,
+    work: &mut Work,
+) -> Result<Cells, AnswerFault>
+    requires sound { is_sound_select (select_plan select.now) ≡ true }
+    requires orders { AreTableOrders (live_rows set.now) (select_plan select.now).keys orders }
+    ensures rows { Gives rows_in result (select_of (select_plan select.now) (rows_of_set set.now)) }
+    ensures width { IfOk result (λ cells. cells.width ≡ length select.now.items.items) }
+{
+    let kept = numbered_table_rows(alloc, &select.condition, set)?;
+    let told = told_orders(alloc, orders, &kept)?;
+    kept_items(alloc, select, &kept.rows, told, work)
+}
+
+/// What one SELECT answers on the rows of the set's live segments. Orders of them by columns are taken from the runs that the
+/// segments keep, and runs that are missing are made; nothing else of the set changes.
+pub(crate) fn select_table_rows(
+    alloc: Global,
+    select: &Selection,
+    set: &mut SegmentSet,
+    work: &mut Work,
+) -> Result<Cells, AnswerFault>
+    requires { is_sound_select (select_plan select.now) ≡ true }
+    ensures rows { Gives rows_in result (select_of (select_plan select.now) (rows_of_set set.old)) }
+    ensures width { IfOk result (λ cells. cells.width ≡ length select.now.items.items) }
+    ensures same { Becomes set.old set.old.view set.new }
+{
+    let orders = table_orders(alloc, select, set)?;
+    if orders.is_none() {
+        select_unordered(alloc, select, set, work)
+    } else {
+        select_ordered(alloc, select, set, orders, work)
+    }
 }

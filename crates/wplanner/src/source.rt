@@ -18,8 +18,11 @@ use wsegment::Segment;
 use wset::SegmentSet;
 use wvalues::Value;
 
-// Appends the rows of a segment, which stay where they lie.
-fn push_rows<'a>(rows: &mut Vec<&'a [Value]>, segment: &'a Segment) -> Result<(), AllocError>
+/// Appends the rows of a segment, which stay where they lie.
+pub(crate) fn push_rows<'a>(
+    rows: &mut Vec<&'a [Value]>,
+    segment: &'a Segment,
+) -> Result<(), AllocError>
     ensures { OnOk result (rows_seen rows.new.items ≡ rows_seen rows.old.items ++ segment.now.rows) }
 {
     rows.reserve(segment.rows())?;
@@ -40,8 +43,8 @@ fn table_rows(alloc: Global, set: &SegmentSet) -> Result<Vec<&[Value]>, AllocErr
     Ok(rows)
 }
 
-// Appends a row, if a condition is true on it.
-fn push_where<'a>(
+/// Appends a row, if a condition is true on it.
+pub(crate) fn push_where<'a>(
     held: &mut Vec<&'a [Value]>,
     condition: &Expr,
     row: &'a [Value],

@@ -34,3 +34,11 @@ abbrev pub is_text : Meaning → Bool
 is_text Null = false
 is_text (Int n) = false
 is_text (Text t) = true
+
+-- the numbers of all rows, in order. All keys are evaluated, on every row
+abbrev pub numbers_of : List Formula → List SortKey → List Row → Result (List ℕ) AnswerFault
+numbers_of keys order rows = lists_of keys rows >>= λ by. Ok (numbers_by order by (length rows))
+
+-- the items of the rows of these numbers. All items are evaluated, on every row
+abbrev pub items_at : List Formula → List ℕ → List Row → Result (List Row) AnswerFault
+items_at items numbers rows = lists_of items rows >>= λ told. Ok (map (key_at told) numbers)

@@ -1,5 +1,5 @@
 -- Kept rows, and the items of rows in order (<query specification>, <order by clause>, <result offset clause>, <fetch first clause>).
-use Rattle.std.specs.Prelude.{ℕ, List, map, length, take, drop, min, Option, Some, None, Result, Ok}
+use Rattle.std.specs.Prelude.{ℕ, ◌+◌, Bool, false, nat_le, List, map, length, take, drop, min, Option, Some, None, Result, Ok}
 use Rattle.wvalues.specs.declared.key.SortKey.{SortKey}
 use Rattle.wvalues.specs.Meaning.{Meaning}
 use Rattle.wframe.specs.Peers.{key_at}
@@ -22,6 +22,11 @@ at_most_limit (Some limit) n = min limit n
 abbrev pub cut : {X : Type 0} → ℕ → Option ℕ → List X → List X
 cut offset None rows = drop offset rows
 cut offset (Some limit) rows = take limit (drop offset rows)
+
+-- whether so few are asked for, with those left out first, that they are selected, without an order of all
+abbrev pub is_selected : ℕ → Option ℕ → Bool
+is_selected offset None = false
+is_selected offset (Some limit) = nat_le (offset + limit) 64
 
 -- the rows that a condition keeps, if they are not too many
 abbrev pub kept_of : Option Formula → List Row → Result (List Row) AnswerFault

@@ -1,16 +1,16 @@
 //! The items of rows, in order and cut.
-ghost use Rattle.std.specs.Prelude.{◌≡◌, ◌≤◌, ◌<◌, ◌+◌, ◌-◌, true, All, None, IfOk, length, map, min};
+ghost use Rattle.std.specs.Prelude.{◌≡◌, ◌≤◌, ◌<◌, ◌+◌, ◌-◌, true, All, None, IfOk, length, map, min, nat_le};
 ghost use Rattle.wplan.specs.Formula.{At};
 ghost use Rattle.wrows.specs.Outcomes.{Gives};
 ghost use Rattle.wrows.specs.Laid.{formulas_seen, rows_in, rows_seen};
 ghost use Rattle.wrows.specs.Columns.{beside};
-ghost use Rattle.wrows.specs.Plain.{at_most_limit, cut, ordered_of};
+ghost use Rattle.wrows.specs.Plain.{at_most_limit, cut, is_selected, ordered_of};
 ghost use Rattle.wrows.specs.Picked.{asked_of};
 
 use crate::cells::{Cells, gathered};
 use crate::copied::picked_rows;
 use crate::fault::AnswerFault;
-use crate::first::first_by_keys;
+use crate::first::{MOST_SELECTED, first_by_keys};
 use crate::listing::evaluated_lists;
 use crate::places::{picked_lists, places_of};
 use std::alloc::{AllocError, Global};
@@ -24,6 +24,27 @@ pub struct Asked {
     pub offset: u128,
     /// How many of the others are answered at most; all of them, where there is none.
     pub limit: Option<u128>,
+}
+
+impl Asked {
+    /// Whether the rows that are asked for, with those left out first, are so few that they are selected, without an order of
+    /// all rows.
+    pub fn is_selected(&self) -> bool
+        ensures { result ≡ is_selected self.now.offset self.now.limit }
+    {
+        match self.limit {
+            None => false,
+            Some(limit) => is_few(self.offset, limit),
+        }
+    }
+}
+
+// Whether so many rows, with those left out first, are selected one by one.
+fn is_few(offset: u128, limit: u128) -> bool
+    ensures { result ≡ nat_le (offset + limit) 64 }
+{
+    let most = MOST_SELECTED as u128;
+    offset <= most && limit <= most - offset
 }
 
 // How many rows are left out first.
@@ -58,8 +79,12 @@ fn asked_for(asked: Asked, count: usize) -> (usize, usize)
     (from, limited(asked.limit, count - from))
 }
 
-// The numbers that are asked for. Where none is left out first, the list is handed on.
-fn cut_numbers(alloc: Global, numbers: Vec<usize>, asked: Asked) -> Result<Vec<usize>, AllocError>
+/// The numbers that are asked for. Where none is left out first, the list is handed on.
+pub(crate) fn cut_numbers(
+    alloc: Global,
+    numbers: Vec<usize>,
+    asked: Asked,
+) -> Result<Vec<usize>, AllocError>
     ensures { IfOk result (λ taken. taken.items ≡ cut asked.offset asked.limit numbers.items) }
 {
     let (from, count) = asked_for(asked, numbers.len());

@@ -1,5 +1,5 @@
 -- How a segment is kept: its cells one row after another in the order of the table's columns.
-use Rattle.std.specs.Prelude.{◌≡◌, ◌*◌, ℕ, zero, suc, List, [], ◌∷◌, length, map, slice_index_or, take, drop, Result, Ok}
+use Rattle.std.specs.Prelude.{◌≡◌, ◌≤◌, ◌*◌, ℕ, zero, suc, List, [], ◌∷◌, length, map, slice_index_or, take, drop, Result, Ok}
 use Rattle.wvalues.specs.Meaning.{Meaning, Null, meaning}
 use Rattle.wvalues.specs.declared.value.Value.{Value}
 use Rattle.wsegment.specs.Outcome.{◌>>=◌}
@@ -31,6 +31,7 @@ content_of a = record {
   rows = rows_kept a.rows;
 }
 
--- all rows are there
+-- all rows are there, and not too many
 pub record IsKept (a : Inside) : Type 0 where
   pub filled : length a.rows.cells.items ≡ a.rows.count * a.rows.width
+  pub few : a.rows.count ≤ 1000000

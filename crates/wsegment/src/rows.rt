@@ -122,6 +122,7 @@ pub(crate) fn read_rows(
     ensures gives { Gives rows_kept result (in_order_of fields.now (rows_from (kinds_of (all_now header.now)) 1 (records_left reader.old))) }
     ensures filled { IfOk result (λ rows. length rows.cells.items ≡ rows.count * rows.width) }
     ensures width { IfOk result (λ rows. rows.width ≡ length fields.now) }
+    ensures few { IfOk result (λ rows. rows.count ≤ 1000000) }
 {
     let mut cells = Vec::new(alloc);
     let mut found = Vec::new(alloc);

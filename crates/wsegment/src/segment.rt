@@ -68,10 +68,11 @@ impl Segment {
         Ok(Segment { bytes, rows })
     }
 
-    /// How many rows it has.
+    /// How many rows it has, at most 1,000,000.
     #[tactic(auto, using(crate::proofs::KeptFacts::rows_counted))]
     pub fn rows(&self) -> usize
-        ensures { result ≡ length self.now.rows }
+        ensures count { result ≡ length self.now.rows }
+        ensures few { result ≤ 1000000 }
     {
         self.rows.count
     }

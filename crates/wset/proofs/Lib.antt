@@ -16,3 +16,5 @@ mod Walks
 mod Lows
 mod Origins
 mod KeptSets
+mod RunFacts
+mod LiveFacts

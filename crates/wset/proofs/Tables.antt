@@ -21,7 +21,7 @@ read_rows : (d : Declaration) (content : Content) → IsReadBy d content → con
 read_rows d content h = ap rows_or_none h.rows
 
 held_row_count : (d : Declaration) (h : Held) → IsHeldBy d h → row_count_of h ≡ known_row_count d (known_of h)
-held_row_count d (held.Live content) h = ap length (sym (read_rows d content h))
+held_row_count d (held.Live kept) h = ap length (sym (read_rows d kept.content h))
 held_row_count d held.Disputed h = refl
 held_row_count d held.Retired h = refl
 held_row_count d held.Floor h = refl
@@ -40,10 +40,10 @@ row_sum d [] all = refl
 row_sum d (e ∷ es) all = sum_by-cons (λ e. row_count_of e.held) e es ∙ by e.name e.held all.0 (row_sum d es all.1)
   where
     by : (n : NameParts) (h : Held) → IsHeldBy d h → sum_by (λ e. row_count_of e.held) es ≡ length (flat_map (segment_rows d) (filter_map live_of (known_entries es))) → row_count_of h + sum_by (λ e. row_count_of e.held) es ≡ length (flat_map (segment_rows d) (filter_map live_of ((n, known_of h) ∷ known_entries es)))
-    by n (held.Live content) h rest =
-        ap (λ m. m + sum_by (λ e. row_count_of e.held) es) (held_row_count d (held.Live content) h ∙ sym (length-segment_rows d n content.bytes))
-        ∙ ap (λ m. length (segment_rows d (n, content.bytes)) + m) rest
-        ∙ sym (length-append (segment_rows d (n, content.bytes)) _)
+    by n (held.Live kept) h rest =
+        ap (λ m. m + sum_by (λ e. row_count_of e.held) es) (held_row_count d (held.Live kept) h ∙ sym (length-segment_rows d n kept.content.bytes))
+        ∙ ap (λ m. length (segment_rows d (n, kept.content.bytes)) + m) rest
+        ∙ sym (length-append (segment_rows d (n, kept.content.bytes)) _)
     by n held.Disputed h rest = zero-add _ ∙ rest
     by n held.Retired h rest = zero-add _ ∙ rest
     by n held.Floor h rest = zero-add _ ∙ rest
@@ -59,7 +59,7 @@ read_lives d [] all = λ k e lt. absurd (omega arith)
 read_lives d (x ∷ es) all = by x.name x.held all.0 (read_lives d es all.1)
   where
     by : (n : NameParts) (h : Held) → IsHeldBy d h → All (λ e. IsOk (rows_of d e.1)) (filter_map live_of (known_entries es)) → All (λ e. IsOk (rows_of d e.1)) (filter_map live_of ((n, known_of h) ∷ known_entries es))
-    by n (held.Live content) h rest = ok_first d (n, content.bytes) (filter_map live_of (known_entries es)) (subst IsOk (sym h.rows) refl) rest
+    by n (held.Live kept) h rest = ok_first d (n, kept.content.bytes) (filter_map live_of (known_entries es)) (subst IsOk (sym h.rows) refl) rest
     by n held.Disputed h rest = rest
     by n held.Retired h rest = rest
     by n held.Floor h rest = rest

@@ -15,7 +15,7 @@ content_bytes [] = refl
 content_bytes (e ∷ es) = by e.name e.held (content_bytes es)
   where
     by : (n : _) (h : _) → map (λ e. (e.0, e.1.bytes)) (contents es) ≡ filter_map live_of (known_entries es) → map (λ e. (e.0, e.1.bytes)) (contents (record { name = n; held = h } ∷ es)) ≡ filter_map live_of ((n, known_of h) ∷ known_entries es)
-    by n (held.Live content) rest = ap (λ l. (n, content.bytes) ∷ l) rest
+    by n (held.Live kept) rest = ap (λ l. (n, kept.content.bytes) ∷ l) rest
     by n held.Disputed rest = rest
     by n held.Retired rest = rest
     by n held.Floor rest = rest
@@ -25,7 +25,7 @@ contents_read d [] all = tt
 contents_read d (e ∷ es) all = by e.name e.held all.0 (contents_read d es all.1)
   where
     by : (n : _) (h : _) → IsHeldBy d h → AllByRecursion (λ e. IsReadBy d e.1) (contents es) → AllByRecursion (λ e. IsReadBy d e.1) (contents (record { name = n; held = h } ∷ es))
-    by n (held.Live content) read rest = (read, rest)
+    by n (held.Live kept) read rest = (read, rest)
     by n held.Disputed read rest = rest
     by n held.Retired read rest = rest
     by n held.Floor read rest = rest

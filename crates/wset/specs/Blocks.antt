@@ -1,5 +1,5 @@
 -- Entries in blocks, one block after another.
-use Rattle.std.specs.Prelude.{◌≡◌, ◌<◌, ◌≤◌, ℕ, zero, suc, List, [], ◌∷◌, ◌++◌, ◌⊎◌, length, get_or, take, drop, not, Option, None, Some, if◌then◌else◌}
+use Rattle.std.specs.Prelude.{◌≡◌, ◌<◌, ◌≤◌, ℕ, zero, suc, List, [], ◌∷◌, ◌++◌, ◌+◌, ◌⊎◌, length, get_or, take, drop, not, Option, None, Some, if◌then◌else◌}
 use Rattle.std.specs.FinMap.{put}
 use Rattle.std.specs.List.{AllByRecursion, filter, list_all}
 use Rattle.std.specs.declared.cmp.Ordering.TheVariants.{Less}
@@ -50,6 +50,12 @@ AreBehind n es = AllByRecursion (λ e. name_cmp n e.0 ≡ Less) es
 -- the entries without those below a floor, unless all are
 abbrev pub trimmed : NameParts → List Entry → List Entry
 trimmed n es = if list_all (λ e. is_above e.name n) es then es else filter (λ e. not (is_above e.name n)) es
+
+-- a block more at the end, or more in the last: those before the last stay
+pub record IsGrown (old new : List (List Entry)) : Type 0 where
+  pub more : length old ≤ length new
+  pub long : length new ≤ length old + 1
+  pub front : (k : ℕ) → k < length old → take k new ≡ take k old
 
 -- no other block knows the name
 pub record IsHome (blocks : List (List Entry)) (n : NameParts) (k : ℕ) : Type 0 where

@@ -1,6 +1,7 @@
 -- How a declared view is stored, by which a proof tells such values apart.
-use Rattle.std.specs.Prelude.{◌≡◌, ℕ, List, Option, None, Some, refl}
-use Rattle.std.specs.Coded.{Coded, code_by, coded×, coded_ℕ, coded_list, coded_option}
+use Rattle.std.specs.Prelude.{◌≡◌, ℕ, Bool, List, Option, None, Some, refl}
+use Rattle.std.specs.Coded.{Coded, code_by, coded×, coded_ℕ, coded_list, coded_option, coded_bool}
+use Rattle.wvalues.specs.declared.key.SortKey.{SortKey}
 use Rattle.std.specs.FinMap as map
 use Rattle.wvalues.specs.Names.{coded_name}
 use Rattle.wsegment.specs.Declaration.{Declaration, coded_declaration}
@@ -34,7 +35,12 @@ coded_known =
 abbrev pub coded_view : Coded View
 coded_view = map.code coded_name coded_known
 
+abbrev pub coded_key : Coded SortKey
+coded_key =
+    code_by (ℕ × (Bool × Bool)) (coded× coded_ℕ (coded× coded_bool coded_bool))
+    (λ k. (k.col, (k.desc, k.nulls_first))) (λ p. record { col = p.0; desc = p.1.0; nulls_first = p.1.1 }) (λ _. refl)
+
 abbrev pub coded_declared_view : Coded DeclaredView
 coded_declared_view =
-    code_by (Declaration × View) (coded× coded_declaration coded_view)
-    (λ s. (s.schema, s.view)) (λ p. record { schema = p.0; view = p.1 }) (λ _. refl)
+    code_by (Declaration × (View × List (List (List SortKey)))) (coded× coded_declaration (coded× coded_view (coded_list (coded_list (coded_list coded_key)))))
+    (λ s. (s.schema, (s.view, s.orders))) (λ p. record { schema = p.0; view = p.1.0; orders = p.1.1 }) (λ _. refl)

@@ -8,21 +8,21 @@ use Rattle.wset.specs.declared.held.Held.TheVariants as held
 
 -- what is known of the name
 abbrev pub known_of : Held → Known
-known_of (held.Live content) = Live content.bytes
+known_of (held.Live kept) = Live kept.content.bytes
 known_of held.Disputed = Disputed
 known_of held.Retired = Retired
 known_of held.Floor = Floor
 
 -- the number of rows of the segment that is held
 abbrev pub row_count_of : Held → ℕ
-row_count_of (held.Live content) = length content.rows
+row_count_of (held.Live kept) = length kept.content.rows
 row_count_of held.Disputed = 0
 row_count_of held.Retired = 0
 row_count_of held.Floor = 0
 
 -- a segment that is held was read by the declaration
 abbrev pub IsHeldBy : Declaration → Held → Type 0
-IsHeldBy d (held.Live content) = IsReadBy d content
+IsHeldBy d (held.Live kept) = IsReadBy d kept.content
 IsHeldBy d held.Disputed = ⊤
 IsHeldBy d held.Retired = ⊤
 IsHeldBy d held.Floor = ⊤

@@ -10,6 +10,8 @@ pub mod Holding
 pub mod Entries
 pub mod Blocks
 pub mod Merging
+pub mod Running
+pub mod StoredBlocks
 pub mod Storing
 pub mod Lending
 pub mod Walking

@@ -9,7 +9,7 @@ use Rattle.wset.specs.declared.held.Held.TheVariants as held
 
 -- the name with its content, if it is live
 abbrev pub named_content : NameParts → Held → Option (NameParts × Content)
-named_content n (held.Live content) = Some (n, content)
+named_content n (held.Live kept) = Some (n, kept.content)
 named_content n held.Disputed = None
 named_content n held.Retired = None
 named_content n held.Floor = None

@@ -1,5 +1,5 @@
 //! Entries in blocks of a bounded size, so that an insert moves few of them.
-ghost use Rattle.std.specs.Prelude.{◌≡◌, ◌↔◌, ◌<◌, ◌≤◌, ◌++◌, ◌-◌, ◌^◌, [], ◌∷◌, ℕ, suc, IsOk, IsSome, IsTrue, List, true, false, length, take, drop, get_or, map, option_map, IfSome, IfOk, OnOk, OnErr};
+ghost use Rattle.std.specs.Prelude.{All, ◌≡◌, ◌↔◌, ◌<◌, ◌≤◌, ◌++◌, ◌+◌, ◌-◌, ◌^◌, [], ◌∷◌, ℕ, suc, IsOk, IsSome, IsTrue, List, true, false, length, take, drop, get_or, map, option_map, IfSome, IfOk, OnOk, OnErr};
 ghost use Rattle.std.specs.Option.{option_copied};
 ghost use Rattle.std.specs.List.{filter_map, list_all, list_any};
 ghost use Rattle.std.specs.FinMap.{find, put};
@@ -9,18 +9,19 @@ ghost use Rattle.wset.specs.Views.{Known as TheKnown, Floor, first_of as first_n
 ghost use Rattle.wset.specs.Holding.{IsHeldBy, known_of};
 ghost use Rattle.wset.specs.Lending.{AreBelow, AreOriginsBelow};
 ghost use Rattle.wset.specs.Entries.{AllHeldBy, AreSettled, IsRising, above_floor, first_from, known_entries, listing_of};
-ghost use Rattle.wset.specs.Blocks.{AreBehind, AreFilled, HasRoom, IsHome, IsOriginHome, first_of, flat, half, halved, longest, trimmed};
+ghost use Rattle.wset.specs.Running.{HeldHasRun, kept_in, plain_block};
+ghost use Rattle.wset.specs.Blocks.{AreBehind, AreFilled, HasRoom, IsGrown, IsHome, IsOriginHome, first_of, flat, half, halved, longest, trimmed};
 ghost use Rattle.wset.specs.declared.entries.Entry.{Entry as HeldEntry};
 
 use crate::entries::{
-    Entry, drop_under, first_from, floor_of, held_of, is_above, list_entries, put_entry,
-    share_entries,
+    Entry, drop_under, first_from, floor_of, held_of, is_above, list_entries, live_count,
+    make_runs, put_entry, share_entries,
 };
 use crate::held::Held;
 use crate::words::Listed;
 use std::alloc::{AllocError, Global};
 use std::marker::Model;
-use wvalues::Name;
+use wvalues::{Name, SortKey};
 
 /// The most entries of a block.
 const LONGEST: usize = 512;
@@ -28,22 +29,24 @@ const LONGEST: usize = 512;
 /// The entries of each half of a block that has the most.
 const HALF: usize = 256;
 
-/// From one entry to 512, in the order of their names. In a contract it is its entries.
+/// From one entry to 512, in the order of their names, and how many of them are live. In a contract it is its entries.
 #[derive(Drop)]
 pub(crate) struct Block {
     entries: Vec<Entry>,
+    live: usize,
 }
 
 impl Model for Block {
-    ghost use Rattle.std.specs.Prelude.{List, ◌<◌, ◌≤◌, length};
-    ghost use Rattle.wset.specs.Blocks.{longest};
+    ghost use Rattle.std.specs.Prelude.{List};
     ghost use Rattle.wset.specs.declared.entries.Entry.{Entry};
 
     ghost Value = { List Entry };
 
     ghost view = { λ b. b.entries.items };
 
-    ghost invariant = { λ b. (0 < length b.entries.items) × (length b.entries.items ≤ longest) };
+    ghost use Rattle.wset.specs.StoredBlocks.{IsBlock};
+
+    ghost invariant = { IsBlock };
 }
 
 impl Block {
@@ -53,7 +56,8 @@ impl Block {
         requires bounded { length entries.items ≤ longest }
         ensures { result ≡ entries.items }
     {
-        Block { entries }
+        let live = live_count(&entries);
+        Block { entries, live }
     }
 
     /// A block of the same entries.
@@ -74,6 +78,13 @@ impl Block {
         ensures bounded { length result.now ≤ longest }
     {
         self.entries.as_slice()
+    }
+
+    /// How many of its names are live.
+    pub(crate) fn live_count(&self) -> usize
+        ensures { result ≡ length (kept_in self.now) }
+    {
+        self.live
     }
 
     /// Whether it has the most entries that a block can have.
@@ -108,6 +119,16 @@ impl Block {
         ensures err { OnErr result (self.new ≡ self.old) }
     {
         put_entry(&mut self.entries, name, held)?;
+        self.live = live_count(&self.entries);
+        Ok(())
+    }
+
+    /// Makes the run of these keys of each segment that has none.
+    fn make_runs(&mut self, alloc: Global, keys: &[SortKey]) -> Result<(), AllocError>
+        ensures plain { plain_block self.new ≡ plain_block self.old }
+        ensures has { OnOk result (All (λ e. HeldHasRun keys.now e.held) self.new) }
+    {
+        make_runs(alloc, &mut self.entries, keys)?;
         Ok(())
     }
 
@@ -128,6 +149,7 @@ impl Block {
             return;
         }
         drop_under(&mut self.entries, floor);
+        self.live = live_count(&self.entries);
     }
 
     /// Whether the origin of its last name stands before this one.
@@ -147,7 +169,9 @@ impl Block {
         ensures ok { OnOk result (self.new ≡ self.old ++ entry ∷ []) }
         ensures err { OnErr result (self.new ≡ self.old) }
     {
+        let live = entry.live_count();
         self.entries.push(entry)?;
+        self.live += live;
         Ok(())
     }
 
@@ -167,6 +191,7 @@ impl Block {
         ensures { self.new ≡ take half self.old }
     {
         self.entries.truncate(HALF);
+        self.live = live_count(&self.entries);
     }
 
     /// Whether its last name stands before the name.
@@ -319,6 +344,7 @@ pub(crate) fn drop_all_under(blocks: &mut Vec<Block>, floor: &Name)
     requires { IsRising (flat blocks.old.items) }
     ensures known { known_entries (flat blocks.new.items) ≡ above_floor floor.now (known_entries (flat blocks.old.items)) }
     ensures read { (d : Declaration) → AllHeldBy d (flat blocks.old.items) → AllHeldBy d (flat blocks.new.items) }
+    ensures fewer { length blocks.new.items ≤ length blocks.old.items }
 {
     if blocks.is_empty() {
         return;
@@ -327,6 +353,26 @@ pub(crate) fn drop_all_under(blocks: &mut Vec<Block>, floor: &Name)
     let end = home(blocks, floor);
     trim_all(blocks, start, end, floor);
     blocks.retain(|block| !block.is_under(floor));
+}
+
+/// Puts a floor, and drops what is below it. Where it finds no memory no entry is changed.
+pub(crate) fn raise_in(
+    alloc: Global,
+    blocks: &mut Vec<Block>,
+    floor: Name,
+) -> Result<(), AllocError>
+    requires { IsRising (flat blocks.old.items) }
+    ensures ok { OnOk result
+        (known_entries (flat blocks.new.items)
+        ≡ above_floor floor (put name_cmp floor Floor (known_entries (flat blocks.old.items)))) }
+    ensures read { (d : Declaration) → AllHeldBy d (flat blocks.old.items) → AllHeldBy d (flat blocks.new.items) }
+    ensures err { OnErr result (flat blocks.new.items ≡ flat blocks.old.items) }
+    ensures few { length (flat blocks.new.items) ≤ length (put name_cmp floor Floor (known_entries (flat blocks.old.items))) }
+    ensures long { length blocks.new.items ≤ length blocks.old.items + 1 }
+{
+    put_in(alloc, blocks, floor, Held::Floor)?;
+    drop_all_under(blocks, &floor);
+    Ok(())
 }
 
 /// The number of the floor of an origin. A floor is the first of its origin, so that no block but the first that has a
@@ -376,6 +422,7 @@ fn roomy_home(alloc: Global, blocks: &mut Vec<Block>, name: &Name) -> Result<usi
     ensures home { IfOk result (λ k. IsHome blocks.new.items name.now k) }
     ensures room { IfOk result (λ k. (d : List HeldEntry) → HasRoom (get_or blocks.new.items k d) name.now) }
     ensures same { flat blocks.new.items ≡ flat blocks.old.items }
+    ensures long { length blocks.new.items ≤ length blocks.old.items + 1 }
     ensures filled { AreFilled half blocks.old.items → AreFilled half blocks.new.items }
 {
     let k = home(blocks, name);
@@ -419,6 +466,7 @@ fn begin(alloc: Global, blocks: &mut Vec<Block>, entry: Entry) -> Result<(), All
 fn append(alloc: Global, blocks: &mut Vec<Block>, entry: Entry) -> Result<(), AllocError>
     ensures ok { OnOk result (flat blocks.new.items ≡ flat blocks.old.items ++ entry ∷ []) }
     ensures err { OnErr result (blocks.new.items ≡ blocks.old.items) }
+    ensures grown { IsGrown blocks.old.items blocks.new.items }
     ensures filled { (n : ℕ) → n ≤ longest → AreFilled n blocks.old.items → AreFilled n blocks.new.items }
 {
     if end_full(blocks) {
@@ -441,6 +489,7 @@ fn put_home(blocks: &mut Vec<Block>, k: usize, name: Name, held: Held) -> Result
     ensures read { (d : Declaration)
         → AllHeldBy d (flat blocks.old.items) → IsHeldBy d held → AllHeldBy d (flat blocks.new.items) }
     ensures err { OnErr result (flat blocks.new.items ≡ flat blocks.old.items) }
+    ensures long { length blocks.new.items ≡ length blocks.old.items }
     ensures filled { AreFilled half blocks.old.items → AreFilled half blocks.new.items }
 {
     let block = &mut blocks[k];
@@ -462,6 +511,9 @@ pub(crate) fn put_in(
     ensures read { (d : Declaration)
         → AllHeldBy d (flat blocks.old.items) → IsHeldBy d held → AllHeldBy d (flat blocks.new.items) }
     ensures err { OnErr result (flat blocks.new.items ≡ flat blocks.old.items) }
+    ensures few { length (flat blocks.new.items) ≤ length (put name_cmp name (known_of held) (known_entries (flat blocks.old.items))) }
+    ensures long { length blocks.new.items ≤ length blocks.old.items + 1 }
+    ensures behind { AreBelow name (known_entries (flat blocks.old.items)) → IsGrown blocks.old.items blocks.new.items }
     ensures filled { AreFilled half blocks.old.items → AreFilled half blocks.new.items }
 {
     if end_before(blocks, &name) {
@@ -490,6 +542,21 @@ pub(crate) fn count_after(blocks: &[Block], count: usize, name: &Name) -> Result
         return Err(AllocError);
     }
     Ok(count + 1)
+}
+
+/// Makes the run of these keys of each segment that has none.
+pub(crate) fn make_in(
+    alloc: Global,
+    blocks: &mut Vec<Block>,
+    keys: &[SortKey],
+) -> Result<(), AllocError>
+    ensures plain { map plain_block blocks.new.items ≡ map plain_block blocks.old.items }
+    ensures has { OnOk result (All (All (λ e. HeldHasRun keys.now e.held)) blocks.new.items) }
+{
+    for i in 0..blocks.len() {
+        blocks[i].make_runs(alloc, keys)?;
+    }
+    Ok(())
 }
 
 /// The same entries, in one list.

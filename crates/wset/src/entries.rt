@@ -1,5 +1,5 @@
 //! Entries in the order of their names.
-ghost use Rattle.std.specs.Prelude.{not, true, false, ◌≢◌, ◌≡◌, ◌<◌, ◌≤◌, ◌++◌, length, map, option_map, IfSome, IfOk, IfErr, OnOk, OnErr};
+ghost use Rattle.std.specs.Prelude.{All, Some, [], ◌∷◌, slice_get, not, true, false, ◌≢◌, ◌≡◌, ◌<◌, ◌≤◌, ◌++◌, length, map, option_map, IfSome, IfOk, IfErr, OnOk, OnErr};
 ghost use Rattle.std.specs.List.{filter, filter_map, insert};
 ghost use Rattle.std.specs.Option.{option_copied};
 ghost use Rattle.std.specs.Ordering.{is_lt};
@@ -8,12 +8,14 @@ ghost use Rattle.wsegment.specs.Declaration.{Declaration};
 ghost use Rattle.wvalues.specs.Names.{name_cmp};
 ghost use Rattle.wset.specs.Views.{Known as TheKnown, Floor, first_of as first_number, floor_number, is_above, is_over, join_known};
 ghost use Rattle.wset.specs.Holding.{IsHeldBy, known_of};
+ghost use Rattle.wset.specs.Running.{HeldHasRun, kept_in, plain_block};
 ghost use Rattle.wset.specs.Entries.{AllHeldBy, IsGap, IsPlace, IsRising, above_floor, first_from, known_entries, known_entry, listing_of};
 
 use crate::held::Held;
+use crate::kept::Kept;
 use crate::words::Listed;
-use std::alloc::AllocError;
-use wvalues::Name;
+use std::alloc::{AllocError, Global};
+use wvalues::{Name, SortKey};
 
 /// Whether a floor is above a name: of its origin, with a greater number.
 pub(crate) fn is_above(name: &Name, floor: &Name) -> bool
@@ -47,6 +49,16 @@ impl Entry {
         ensures { result ≡ is_lt (name_cmp self.now.name name.now) }
     {
         self.name.cmp(name).is_lt()
+    }
+
+    /// One where its name is live, else none.
+    pub(crate) fn live_count(&self) -> usize
+        ensures { result ≡ length (kept_in (self.now ∷ [])) }
+    {
+        match self.held {
+            Held::Live(_) => 1,
+            Held::Disputed | Held::Retired | Held::Floor => 0,
+        }
     }
 
     /// Whether it is a floor.
@@ -192,6 +204,51 @@ pub(crate) fn floor_of(entries: &[Entry], origin: &[u8]) -> Option<u32>
         }
     }
     None
+}
+
+/// Makes the run of these keys of each segment that has none.
+pub(crate) fn make_runs(
+    alloc: Global,
+    entries: &mut Vec<Entry>,
+    keys: &[SortKey],
+) -> Result<(), AllocError>
+    ensures plain { plain_block entries.new.items ≡ plain_block entries.old.items }
+    ensures has { OnOk result (All (λ e. HeldHasRun keys.now e.held) entries.new.items) }
+{
+    for i in 0..entries.len() {
+        let entry = &mut entries[i];
+        entry.held.make(alloc, keys)?;
+    }
+    Ok(())
+}
+
+/// How many names are live.
+pub(crate) fn live_count(entries: &[Entry]) -> usize
+    ensures { result ≡ length (kept_in entries.now) }
+{
+    let mut count = 0;
+    'entries: for entry in entries {
+        if let Held::Live(_) = &entry.held {
+            count += 1;
+        }
+    }
+    count
+}
+
+/// The live name of a number, from 0 in the order of names, and what is kept of it.
+pub(crate) fn live_at(entries: &[Entry], number: usize) -> (Name, &Kept)
+    requires { number < length (kept_in entries.now) }
+    ensures { slice_get (kept_in entries.now) number ≡ Some (result.0, result.1.now) }
+{
+    let mut left = number;
+    'entries: for entry in entries {
+        match &entry.held {
+            Held::Live(kept) if left == 0 => return (entry.name, kept),
+            Held::Live(_) => left -= 1,
+            Held::Disputed | Held::Retired | Held::Floor => {}
+        }
+    }
+    unreachable!()
 }
 
 /// Puts each entry's name, status and number of rows behind others.

@@ -1,5 +1,6 @@
 //! What a set holds of a name.
-ghost use Rattle.std.specs.Prelude.{◌≡◌, false, IfOk};
+ghost use Rattle.std.specs.Prelude.{◌≡◌, false, IfOk, OnOk};
+ghost use Rattle.wset.specs.Running.{HeldHasRun, plain_held};
 ghost use Rattle.wset.specs.Views.{Live, join_known};
 ghost use Rattle.wset.specs.Sets.{IsReadBy};
 ghost use Rattle.wset.specs.Words.{status_of_known};
@@ -10,7 +11,8 @@ ghost use Rattle.wset.specs.Holding.{IsHeldBy, known_of, row_count_of};
 use crate::kept::Kept;
 use crate::known::Known;
 use crate::words::Status;
-use std::alloc::AllocError;
+use std::alloc::{AllocError, Global};
+use wvalues::SortKey;
 
 /// What is held of a name that is not unknown. The bytes of disputed and retired names are dropped.
 #[derive(Drop)]
@@ -25,8 +27,8 @@ pub(crate) enum Held {
 /// What two sets know together of a name that is live in both.
 fn contents_joined(ours: &Kept, theirs: &Kept) -> Result<Held, AllocError>
     ensures known { IfOk result
-        (λ held. known_of held ≡ join_known (Live ours.now.bytes) (Live theirs.now.bytes)) }
-    ensures read { IfOk result (λ held. (d : Declaration) → IsReadBy d ours.now → IsHeldBy d held) }
+        (λ held. known_of held ≡ join_known (Live ours.now.content.bytes) (Live theirs.now.content.bytes)) }
+    ensures read { IfOk result (λ held. (d : Declaration) → IsReadBy d ours.now.content → IsHeldBy d held) }
 {
     if ours.bytes() != theirs.bytes() {
         return Ok(Held::Disputed);
@@ -78,6 +80,17 @@ impl Held {
             (Held::Disputed, _) => false,
             (Held::Live(_), Held::Disputed) => true,
             (Held::Live(ours), Held::Live(theirs)) => ours.bytes() != theirs.bytes(),
+        }
+    }
+
+    /// Makes the run of these keys of a segment that has none.
+    pub(crate) fn make(&mut self, alloc: Global, keys: &[SortKey]) -> Result<(), AllocError>
+        ensures plain { plain_held self.new ≡ plain_held self.old }
+        ensures has { OnOk result (HeldHasRun keys.now self.new) }
+    {
+        match self {
+            Held::Live(kept) => kept.make(alloc, keys),
+            Held::Disputed | Held::Retired | Held::Floor => Ok(()),
         }
     }
 

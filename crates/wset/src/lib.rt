@@ -1,17 +1,20 @@
 //! What a node knows of each name: live, disputed or retired, by itself or by a floor of its origin.
 //!
 //! - Gives a set of segments under one declaration: it takes segments, retirements, floors and disputes,
-//!   joins what another set knows, lists the names, and lends what it knows in the order of names.
+//!   joins what another set knows, lists the names, lends what it knows in the order of names, and gives all
+//!   rows in the order of any keys, by runs of each segment that it keeps.
 //! - Promises: a set is a view, a finite map from names to what is known of them, a floor under its own name
 //!   and no name below it. Each call tells the whole view after it, at an error the one before. `take`,
 //!   `retire`, `retire_to`, `dispute` and `join` are joins of views, and joining is associative,
-//!   commutative and idempotent (`laws`). No block of a set holds more than 512 entries.
-//! - Asks: of `take_beside` alone, that both sets have one declaration.
-//! - Leaves reading to `wsegment`, files and streams to `wexchange`.
+//!   commutative and idempotent (`laws`). No block of a set holds more than 512 entries. `ordered` gives the one
+//!   list of the rows by keys, then by name and place, and leaves the view as it is; runs are no part of it.
+//! - Asks: of `take_beside`, that both sets have one declaration; of `live_at` and `has_run`, that there is such a
+//!   live name.
+//! - Leaves reading to `wsegment`, runs and their merge to `wruns`, files and streams to `wexchange`.
 //!
 //! Read `specs/Views.antt`, `specs/Items.antt`, `specs/Laws.antt`, `specs/Tables.antt`, then
-//! `specs/Words.antt`, `specs/Listing.antt`, `specs/Sets.antt` and `specs/Lending.antt`; the others
-//! say how a set is kept.
+//! `specs/Words.antt`, `specs/Listing.antt`, `specs/Sets.antt`, `specs/Lending.antt` and the first half of
+//! `specs/Running.antt`; the others say how a set is kept.
 #![tactic(auto)]
 
 mod blocks;
@@ -21,7 +24,9 @@ mod kept;
 mod known;
 pub mod laws;
 mod merge;
+mod running;
 mod set;
+mod starts;
 mod walk;
 mod words;
 

@@ -1,42 +1,50 @@
 //! A set of segments and retirements under one declaration.
-ghost use Rattle.std.specs.Prelude.{true, false, ◌≡◌, ◌≢◌, ◌↔◌, ◌⊎◌, ◌<◌, IsTrue, IfSome, is_some, length, map as list_map, option_map, Some, Ok, Err, IsOk, IfOk, IfErr, OnOk, OnErr};
+ghost use Rattle.std.specs.Prelude.{true, false, ◌≡◌, ◌≢◌, ◌↔◌, ◌⊎◌, ◌<◌, [], All, IsTrue, IfSome, is_some, length, map as list_map, option_map, slice_get, slice_index_or, Some, Ok, Err, IsOk, IfOk, IfErr, OnOk, OnErr};
 ghost use Rattle.std.specs.FinMap as map;
 ghost use Rattle.std.specs.Option.{option_copied};
 ghost use Rattle.wsegment.specs.Outcome.{Fails};
 ghost use Rattle.wsegment.specs.Rows.{rows_of};
-ghost use Rattle.wset.specs.Views.{Live, Disputed, Retired as Gone, Floor, IsSettled, floor_of, is_below, join, known_in};
+ghost use Rattle.wset.specs.Views.{Live, Disputed, Retired as Gone, Floor, IsSettled, floor_of, is_below, join, known_in, lives};
 ghost use Rattle.wset.specs.Items.{SegmentItem, RetirementItem, FloorItem, view_of_item};
 ghost use Rattle.wset.specs.Words.{floor_word, is_reached, retired_word, status_word, taken_word};
 ghost use Rattle.wset.specs.Listing.{listed};
-ghost use Rattle.wset.specs.Sets.{IsReadBy, LivesAreRead};
+ghost use Rattle.std.specs.List.{IsAmong};
+ghost use Rattle.wruns.specs.Refs.{refs_by};
+ghost use Rattle.wset.specs.Running.{live_rows};
+ghost use Rattle.wset.specs.Sets.{Becomes, IsReadBy, LivesAreRead};
 ghost use Rattle.wset.specs.Lending.{AreLivesOf, IsAbove, IsBehindOrigins, only_disputed};
 ghost use Rattle.wset.specs.Holding.{IsHeldBy, known_of};
 
 use crate::blocks::{
-    Block, count_after, drop_all_under, end_before, end_before_origin, entry_count, floor_in,
-    held_in, in_blocks, is_low, listing, put_in,
+    Block, count_after, end_before, end_before_origin, entry_count, floor_in, held_in, in_blocks,
+    is_low, listing, make_in,
 };
 use crate::held::Held;
 use crate::kept::Kept;
 use crate::merge::{joined, teaches};
+use crate::running::sources;
+use crate::starts::{live_count_in, live_in, put_counted, raise_counted, starts_of};
 use crate::walk::{Lives, Names};
 use crate::words::{JoinError, Listed, Retired, Status, TakeError, Taken};
 use std::alloc::{AllocError, Global};
 use std::marker::Model;
+use wruns::RowRef;
 use wsegment::{Schema, Segment, SegmentFault};
-use wvalues::Name;
+use wvalues::{Name, SortKey};
 
 /// What is known of each name, and the declaration by which all its segments were read.
 ///
-/// In a contract it is the declaration and the view. It keeps an entry for each floor and for each name above it
-/// that is not unknown, in the order of names and in blocks of at most 512, which are cut in two as they grow. A
-/// segment's bytes and cells are shared by all sets that know it, so a set that is new and then joins another is a
-/// cheap copy of it.
+/// In a contract it is the declaration, the view, and the keys of the runs that are kept of each live segment, in the order
+/// of names. It keeps an entry for each floor and for each name above it that is not unknown, in the order of names and in
+/// blocks of at most 512, which are cut in two as they grow, and beside the blocks how many live names stand before each. A
+/// segment's bytes and cells are shared by all sets that know it, and so are its runs, so a set that is new and then joins
+/// another is a cheap copy of it.
 #[derive(Drop)]
 pub struct SegmentSet {
     alloc: Global,
     schema: Schema,
     blocks: Vec<Block>,
+    starts: Vec<usize>,
     count: usize,
 }
 
@@ -57,7 +65,7 @@ impl Model for SegmentSet {
 
 /// A segment, if these are its bytes.
 fn with_bytes<'a>(kept: &'a Kept, bytes: &[u8]) -> Option<&'a Kept>
-    ensures known { IsTrue (is_some result) ↔ (kept.now.bytes ≡ bytes.now) }
+    ensures known { IsTrue (is_some result) ↔ (kept.now.content.bytes ≡ bytes.now) }
     ensures same { IfSome result (λ same. same.now ≡ kept.now) }
 {
     if kept.bytes() == bytes {
@@ -69,12 +77,13 @@ fn with_bytes<'a>(kept: &'a Kept, bytes: &[u8]) -> Option<&'a Kept>
 impl SegmentSet {
     /// A set that knows nothing, for segments of this declaration. It takes no memory.
     pub fn new(alloc: Global, schema: Schema) -> SegmentSet
-        ensures { result ≡ record { schema = schema; view = map.empty } }
+        ensures { result ≡ record { schema = schema; view = map.empty; orders = [] } }
     {
         SegmentSet {
             alloc,
             schema,
             blocks: Vec::new(alloc),
+            starts: Vec::new(alloc),
             count: 0,
         }
     }
@@ -100,8 +109,8 @@ impl SegmentSet {
     /// The segment of a name that is live with these bytes.
     fn known_segment(&self, name: &Name, bytes: &[u8]) -> Option<&Kept>
         ensures known { IsTrue (is_some result) ↔ (map.get self.now.view name.now ≡ Some (Live bytes.now)) }
-        ensures bytes { IfSome result (λ kept. kept.now.bytes ≡ bytes.now) }
-        ensures read { IfSome result (λ kept. IsReadBy self.now.schema kept.now) }
+        ensures bytes { IfSome result (λ kept. kept.now.content.bytes ≡ bytes.now) }
+        ensures read { IfSome result (λ kept. IsReadBy self.now.schema kept.now.content) }
         ensures settled { IsSettled self.now.view }
     {
         match self.held(name) {
@@ -127,21 +136,21 @@ impl SegmentSet {
         requires high { is_below self.old.view name ≡ false }
         requires marks { known_of held ≢ Floor }
         ensures ok { OnOk result
-            (self.new ≡ record self.old { view = map.insert self.old.view name (known_of held) }) }
+            (Becomes self.old (map.insert self.old.view name (known_of held)) self.new) }
         ensures err { OnErr result (self.new ≡ self.old) }
     {
         let count = count_after(&self.blocks, self.count, &name)?;
-        put_in(self.alloc, &mut self.blocks, name, held)?;
+        put_counted(self.alloc, &mut self.blocks, &mut self.starts, name, held)?;
         self.count = count;
         Ok(())
     }
 
     /// Takes bytes under this name that were read before.
     fn take_read(&mut self, name: Name, kept: Kept) -> Result<Taken, AllocError>
-        requires { IsReadBy self.old.schema kept }
-        ensures word { IfOk result (λ word. word ≡ taken_word (known_in self.old.view name) kept.bytes) }
-        ensures ok { let item = view_of_item (SegmentItem name kept.bytes) in
-            OnOk result (self.new ≡ record self.old { view = join self.old.view item }) }
+        requires { IsReadBy self.old.schema kept.content }
+        ensures word { IfOk result (λ word. word ≡ taken_word (known_in self.old.view name) kept.content.bytes) }
+        ensures ok { let item = view_of_item (SegmentItem name kept.content.bytes) in
+            OnOk result (Becomes self.old (join self.old.view item) self.new) }
         ensures err { OnErr result (self.new ≡ self.old) }
     {
         if self.known_segment(&name, kept.bytes()).is_some() {
@@ -171,7 +180,7 @@ impl SegmentSet {
     pub fn take(&mut self, name: Name, bytes: &[u8]) -> Result<Taken, TakeError>
         ensures word { IfOk result (λ word. word ≡ taken_word (known_in self.old.view name) bytes.now) }
         ensures ok { let item = view_of_item (SegmentItem name bytes.now) in
-            OnOk result (self.new ≡ record self.old { view = join self.old.view item }) }
+            OnOk result (Becomes self.old (join self.old.view item) self.new) }
         ensures read { OnOk result (IsOk (rows_of self.old.schema bytes.now)) }
         ensures refused { IfErr result (λ fault. Fails fault (rows_of self.old.schema bytes.now)) }
         ensures err { OnErr result (self.new ≡ self.old) }
@@ -198,7 +207,7 @@ impl SegmentSet {
         requires { self.old.schema ≡ known.now.schema }
         ensures word { IfOk result (λ word. word ≡ taken_word (known_in self.old.view name) bytes.now) }
         ensures ok { let item = view_of_item (SegmentItem name bytes.now) in
-            OnOk result (self.new ≡ record self.old { view = join self.old.view item }) }
+            OnOk result (Becomes self.old (join self.old.view item) self.new) }
         ensures read { OnOk result (IsOk (rows_of self.old.schema bytes.now)) }
         ensures refused { IfErr result (λ fault. Fails fault (rows_of self.old.schema bytes.now)) }
         ensures err { OnErr result (self.new ≡ self.old) }
@@ -215,7 +224,7 @@ impl SegmentSet {
     pub fn retire(&mut self, name: Name) -> Result<Retired, AllocError>
         ensures word { IfOk result (λ word. word ≡ retired_word (known_in self.old.view name)) }
         ensures ok { let item = view_of_item (RetirementItem name) in
-            OnOk result (self.new ≡ record self.old { view = join self.old.view item }) }
+            OnOk result (Becomes self.old (join self.old.view item) self.new) }
         ensures err { OnErr result (self.new ≡ self.old) }
         ensures same { known_in self.old.view name ≡ Some Gone → result ≡ Ok Retired.Same }
     {
@@ -249,7 +258,7 @@ impl SegmentSet {
     pub fn retire_to(&mut self, name: Name) -> Result<Retired, AllocError>
         ensures word { IfOk result (λ word. word ≡ floor_word self.old.view name) }
         ensures ok { let item = view_of_item (FloorItem name) in
-            OnOk result (self.new ≡ record self.old { view = join self.old.view item }) }
+            OnOk result (Becomes self.old (join self.old.view item) self.new) }
         ensures err { OnErr result (self.new ≡ self.old) }
         ensures same { is_reached self.old.view name ≡ true → result ≡ Ok Retired.Same }
     {
@@ -257,8 +266,7 @@ impl SegmentSet {
             return Ok(Retired::Same);
         }
         let _count = count_after(&self.blocks, self.count, &name)?;
-        put_in(self.alloc, &mut self.blocks, name, Held::Floor)?;
-        drop_all_under(&mut self.blocks, &name);
+        raise_counted(self.alloc, &mut self.blocks, &mut self.starts, name)?;
         self.count = entry_count(&self.blocks);
         Ok(Retired::New)
     }
@@ -313,7 +321,7 @@ impl SegmentSet {
     /// is as it was.
     pub fn dispute(&mut self, name: Name) -> Result<(), AllocError>
         ensures ok { OnOk result
-            (self.new ≡ record self.old { view = join self.old.view (only_disputed name) }) }
+            (Becomes self.old (join self.old.view (only_disputed name)) self.new) }
         ensures err { OnErr result (self.new ≡ self.old) }
         ensures same { (known_in self.old.view name ≡ Some Disputed) ⊎ (known_in self.old.view name ≡ Some Gone) → IsOk result }
     {
@@ -335,10 +343,11 @@ impl SegmentSet {
     ///
     /// A join that teaches nothing looks each of the other's names up, makes no list and takes no memory. Any other walks
     /// the names of both sets once, whatever the segments' sizes: it makes a list of the entries of each
-    /// set and one of both, some 64 bytes a name each, and puts the last into blocks of 512. Segments are
-    /// shared: none is read, and no byte or cell is copied.
+    /// set and one of both, some 64 bytes a name each, and puts the last into blocks of 512. Segments and
+    /// their runs are shared: none is read or made, and no byte or cell is copied. Of a segment that both have the runs of
+    /// this set stay.
     pub fn join(&mut self, other: &SegmentSet) -> Result<(), JoinError>
-        ensures ok { OnOk result (self.new ≡ record self.old { view = join self.old.view other.now.view }) }
+        ensures ok { OnOk result (Becomes self.old (join self.old.view other.now.view) self.new) }
         ensures same { OnOk result (self.old.schema ≡ other.now.schema) }
         ensures refused { result ≡ Err JoinError.OtherSchema → self.old.schema ≢ other.now.schema }
         ensures other { self.old.schema ≢ other.now.schema → result ≡ Err JoinError.OtherSchema }
@@ -358,9 +367,77 @@ impl SegmentSet {
         let Ok(blocks) = in_blocks(self.alloc, &entries) else {
             return Err(JoinError::NoMemory);
         };
+        let Ok(starts) = starts_of(self.alloc, &blocks) else {
+            return Err(JoinError::NoMemory);
+        };
         self.blocks = blocks;
+        self.starts = starts;
         self.count = names;
         Ok(())
+    }
+
+    /// Makes the run of these keys of each live segment that has none. Where it finds no memory the runs that were made so
+    /// far stay.
+    fn make_runs(&mut self, keys: &[SortKey]) -> Result<(), AllocError>
+        ensures same { Becomes self.old self.old.view self.new }
+        ensures has { OnOk result (All (λ orders. IsAmong orders keys.now) self.new.orders) }
+    {
+        make_in(self.alloc, &mut self.blocks, keys)?;
+        Ok(())
+    }
+
+    /// How many names are live. It takes constant time.
+    pub fn live_count(&self) -> usize
+        ensures count { result ≡ length (lives self.now.view) }
+        ensures orders { result ≡ length self.now.orders }
+    {
+        live_count_in(&self.blocks, &self.starts)
+    }
+
+    /// The i-th live name from 0, in the order of names, and its segment, which was read by the set's declaration. It is
+    /// found by a binary search among the blocks and a walk through one of them, of at most 512 entries, and takes no
+    /// memory.
+    pub fn live_at(&self, i: usize) -> (Name, &Segment)
+        requires { i < length (lives self.now.view) }
+        ensures known { slice_get (lives self.now.view) i ≡ Some (result.0, result.1.now.bytes) }
+        ensures read { IsReadBy self.now.schema result.1.now }
+    {
+        let (name, kept) = live_in(&self.blocks, &self.starts, i);
+        (name, kept.segment())
+    }
+
+    /// Whether the run of these keys is kept of the segment of `live_at(i)`. It takes the time of `live_at` and looks at the
+    /// keys of at most four runs, and takes no memory.
+    pub fn has_run(&self, i: usize, keys: &[SortKey]) -> bool
+        requires { i < length (lives self.now.view) }
+        ensures { IsTrue result ↔ IsAmong (slice_index_or self.now.orders i []) keys.now }
+    {
+        let (_, kept) = live_in(&self.blocks, &self.starts, i);
+        kept.has(keys)
+    }
+
+    /// The rows of all live segments, merged from their runs of these keys.
+    fn merged(&self, keys: &[SortKey]) -> Result<Vec<RowRef>, AllocError>
+        requires { All (λ orders. IsAmong orders keys.now) self.now.orders }
+        ensures { IfOk result (λ refs. refs.items ≡ refs_by keys.now (live_rows self.now)) }
+    {
+        let sources = sources(self.alloc, &self.blocks, keys)?;
+        wruns::ordered(self.alloc, keys, &sources)
+    }
+
+    /// The rows of all live segments by keys, then by name and place: `segment` of a row is the number of its segment for
+    /// `live_at`. A value that is not there, as no column has this number, is null.
+    ///
+    /// Each live segment has a run of these keys afterwards, by which the rows are found in order the next time; of five runs
+    /// of a segment the one that was made first is let go. What is known stays as it is, also where memory runs out: then
+    /// the runs that were made so far stay.
+    pub fn ordered(&mut self, keys: &[SortKey]) -> Result<Vec<RowRef>, AllocError>
+        ensures list { IfOk result (λ refs. refs.items ≡ refs_by keys.now (live_rows self.old)) }
+        ensures has { OnOk result (All (λ orders. IsAmong orders keys.now) self.new.orders) }
+        ensures same { Becomes self.old self.old.view self.new }
+    {
+        self.make_runs(keys)?;
+        self.merged(keys)
     }
 
     /// How a name stands.

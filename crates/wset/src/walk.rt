@@ -44,7 +44,7 @@ impl<'a> Walk<'a> {
     }
 
     /// Takes the first entry.
-    fn step(&mut self) -> Option<&'a Entry>
+    pub(crate) fn step(&mut self) -> Option<&'a Entry>
         ensures { MatchOption result ((self.old ≡ []) × (self.new ≡ [])) (λ entry. self.old ≡ entry.now ∷ self.new) }
     {
         if self.entries.is_empty() {

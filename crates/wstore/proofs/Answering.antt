@@ -1,7 +1,8 @@
 -- Commands that nodes answer.
-use Rattle.std.proofs.Common.{Bool, ◌≡◌, ◌≢◌, ℕ, ◌+◌, ◌<◌, ◌≤◌, length, List, [], ◌∷◌, ◌++◌, get_or, set, map, None, Some, Result, Ok, Err, IsOk, IfOk, IfErr, OnOk, OnErr, ◌⊎◌, refl, sym, ap, ◌∙◌, subst, inl, inr, cond, ◌==◌, append-nil, true, false}
+use Rattle.std.proofs.Common.{Bool, ◌≡◌, ◌≢◌, ℕ, ◌+◌, ◌<◌, ◌≤◌, length, List, [], ◌∷◌, ◌++◌, get_or, set, map, None, Some, Result, Ok, Err, Vec, Global, IsOk, IfOk, IfErr, OnOk, OnErr, ◌⊎◌, refl, sym, ap, ◌∙◌, subst, inl, inr, cond, ◌==◌, append-nil, true, false}
 use Rattle.std.proofs.lemmas.List.{set-get_or}
 use Rattle.std.specs.FinMap.{entries}
+use Rattle.std.specs.Result.{MatchResult}
 use Rattle.wvalues.specs.Names.{NameParts}
 use Rattle.wvalues.specs.Meaning.{Meaning}
 use Rattle.wvalues.specs.NameReading.{SpellsName}
@@ -18,7 +19,7 @@ use Rattle.wset.specs.declared.words.Taken.{Taken}
 use Rattle.wset.specs.declared.words.Retired.{Retired}
 use Rattle.wset.specs.declared.words.Listed.{Listed}
 use Rattle.wstore.specs.Commands.{Command, Take, Retire as Retiring, RetireTo as RetiringTo, Listing, Ask, Put, Get, longest_segment, longest_text, node_count, slot_count}
-use Rattle.wstore.specs.Replies.{Reply, text_of, Took, Was, RefusedSegment, Names, Answered, RefusedQuery, Done, RefusedFile, NoMemory, take_text, get_text}
+use Rattle.wstore.specs.Replies.{Reply, text_of, Took, Was, RefusedSegment, Names, Answered, RefusedQuery, Done, RefusedFile, NoMemory, take_text, ask_text, get_text}
 use Rattle.wreplies.specs.Spelling.{file_text, taken_text, retired_text, segment_text, names_text, answer_text, query_text}
 use Rattle.wstore.specs.History.{Step, Answers, NodeAnswers, file_if, declaration, declared_by, segment_reply, delivers, gets, puts, heard, drawn, held, is_put, known, slot_file}
 use Rattle.wask.specs.Answer.{IsAnswer}
@@ -55,6 +56,10 @@ put_where d false items h = absurd (empty h.version h.rest h.bytes_are)
     empty : (r : Version) (rest : List ℕ) → [] ≡ (head r ++ table_text d) ++ rest → ⊥
     empty One rest e = no_byte 87 _ e
     empty Two rest e = no_byte 87 _ e
+
+-- nodes of which one is put as it was are the same
+pub same_set : (nodes : List NodeState) (slots : List (List ℕ)) (p : ℕ) (node new : NodeState) → node ≡ get_or nodes p node → new ≡ node → places (set nodes p new) slots ≡ places nodes slots
+same_set nodes slots p node new is same = ap (λ l. places l slots) (ap (set nodes p) (same ∙ is) ∙ set-get_or nodes p node)
 
 abbrev judged : FileFault → Result View FileFault
 judged f = Err f
@@ -106,6 +111,9 @@ module _ (d : Declaration) (at : Places) (h : List Step) (n p : ℕ) (node : Nod
   same_nodes : (new : NodeState) → new ≡ node → set at.nodes p new ≡ at.nodes
   same_nodes new same = ap (set at.nodes p) (same ∙ is) ∙ set-get_or at.nodes p node
 
+  asked_at : (new : NodeState) (query text : List ℕ) → new ≡ node → AnswersAs d at h (Ask n query) text → AnswersAs d (places (set at.nodes p new) at.slots) h (Ask n query) text
+  asked_at new query text same answers = subst (λ nodes. AnswersAs d (places nodes at.slots) h (Ask n query) text) (sym (same_nodes new same)) answers
+
   pub take_at : (origin number bytes : List ℕ) (name : NameParts) (told : Result Taken SegmentFault) (new : NodeState) (text : List ℕ) → length bytes ≤ longest_segment → SpellsName origin number name → IfOk told (λ word. word ≡ taken_word (known_in node.view name) bytes) → OnOk told (new ≡ record node { view = join node.view (view_of_item (SegmentItem name bytes)) }) → OnOk told (IsOk (rows_of node.schema bytes)) → IfErr told (λ fault. Fails fault (rows_of node.schema bytes)) → OnErr told (new ≡ node) → text ≡ take_text told → AnswersAs d (places (set at.nodes p new) at.slots) h (Take n origin number bytes) text
   take_at origin number bytes name (Ok word) new text short named word_is new_is read fails same text_is = taken_at origin number bytes name new word text named read word_is new_is text_is
   take_at origin number bytes name (Err fault) new text short named word_is new_is read fails same text_is =
@@ -150,6 +158,10 @@ module _ (d : Declaration) (at : Places) (h : List Step) (n p : ℕ) (node : Nod
         (under d h (Ask n query) (RefusedQuery fault) stand.declared (here (Ask n query) (RefusedQuery fault) (Err fault, e, refl))) text_is refl
         (record { delivers_none = λ m. refl; gets_none = λ m. refl; puts_none = λ k. refl; hears_none = λ m. refl })
   ]
+
+  pub ask_at : (query : List ℕ) (told : Result (Vec ℕ Global) AskFault) (new : NodeState) (text : List ℕ) → length query ≤ longest_text → MatchResult told (λ bytes. IsAnswer node.schema node.view query (Ok bytes.items)) (λ fault. (fault ≡ queries.NoMemory) ⊎ IsAnswer node.schema node.view query (Err fault)) → new ≡ node → text ≡ ask_text told → AnswersAs d (places (set at.nodes p new) at.slots) h (Ask n query) text
+  ask_at query (Ok bytes) new text short answer same text_is = asked_at new query text same (answered_at query bytes.items text answer text_is)
+  ask_at query (Err fault) new text short answer same text_is = asked_at new query text same (unanswered_at query text fault short answer text_is)
 
   -- ---- slots
 

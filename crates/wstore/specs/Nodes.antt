@@ -2,12 +2,11 @@
 use Rattle.std.specs.Prelude.{◌≡◌, ℕ, Bool, List, [], ◌∷◌, ◌++◌, map, Option, None, Some, Result, Ok, Err, IsOk, ◌⊎◌, true, false, refl}
 use Rattle.std.specs.Coded.{Coded, code_by, coded×, coded_bool, coded_ℕ, coded_list}
 use Rattle.std.specs.List.{flat_map, AllByRecursion}
-use Rattle.wsegment.specs.Declaration.{Declaration}
+use Rattle.wsegment.specs.Declaration.{Declaration, coded_declaration}
 use Rattle.wsegment.specs.Rows.{rows_of}
 use Rattle.wset.specs.Views.{View, IsSettled, join, known_in}
 use Rattle.wset.specs.Items.{Item, SegmentItem, RetirementItem, FloorItem, view_of, view_of_item}
-use Rattle.wset.specs.Sets.{DeclaredView}
-use Rattle.wset.specs.Codes.{coded_declared_view}
+use Rattle.wset.specs.Codes.{coded_view}
 use Rattle.wset.specs.Words.{taken_word, retired_word, floor_word}
 use Rattle.wexchange.specs.Judging.{IsFileOf}
 use Rattle.wexchange.specs.Messages.{IsMessage, IsOpen, IsBad, message_text}
@@ -30,8 +29,8 @@ fresh_node d v = record { schema = d; view = v; held = []; is_bad = false }
 
 abbrev pub coded_node : Coded NodeState
 coded_node =
-    code_by (DeclaredView × (List ℕ × Bool)) (coded× coded_declared_view (coded× (coded_list coded_ℕ) coded_bool))
-    (λ n. (record { schema = n.schema; view = n.view }, (n.held, n.is_bad))) (λ p. record { schema = p.0.schema; view = p.0.view; held = p.1.0; is_bad = p.1.1 }) (λ _. refl)
+    code_by ((Declaration × View) × (List ℕ × Bool)) (coded× (coded× coded_declaration coded_view) (coded× (coded_list coded_ℕ) coded_bool))
+    (λ n. ((n.schema, n.view), (n.held, n.is_bad))) (λ p. record { schema = p.0.0; view = p.0.1; held = p.1.0; is_bad = p.1.1 }) (λ _. refl)
 
 -- the bytes are the file of a view, which is joined into that of the node
 pub record LearnsFile (old : NodeState) (bytes : List ℕ) (new : NodeState) : Type 0 where

@@ -1,6 +1,7 @@
 -- The replies to commands, and how each is spelled.
-use Rattle.std.specs.Prelude.{ℕ, Bool, true, false, List, [], ◌∷◌, ◌++◌, codes, length, Result, Ok, Err}
+use Rattle.std.specs.Prelude.{ℕ, Bool, true, false, List, [], ◌∷◌, ◌++◌, codes, length, Result, Ok, Err, Vec}
 use Rattle.std.specs.Fmt.{decimal}
+use Rattle.std.specs.Global.{Global}
 use Rattle.std.specs.List.{flat_map}
 use Rattle.wvalues.specs.Names.{NameParts}
 use Rattle.wvalues.specs.declared.name.NameFault.{NameFault}
@@ -91,6 +92,11 @@ text_of NoMemory = no_memory
 abbrev pub take_text : Result Taken SegmentFault → List ℕ
 take_text (Ok word) = taken_text word
 take_text (Err fault) = segment_text fault
+
+-- what a query came to
+abbrev pub ask_text : Result (Vec ℕ Global) AskFault → List ℕ
+ask_text (Ok bytes) = answer_text bytes.items
+ask_text (Err fault) = query_text fault
 
 -- what reading a slot came to
 abbrev pub get_text : Result (Unit {0}) FileFault → List ℕ

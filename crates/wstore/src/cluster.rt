@@ -8,7 +8,7 @@ ghost use Rattle.wvalues.specs.NameReading.{ReadsName};
 ghost use Rattle.wstore.specs.Commands.{Command as Spelled, Take, Retire as Retiring, RetireTo as RetiringTo, Listing, Ask, Put, Get, longest_segment, longest_text, node_count, slot_count};
 ghost use Rattle.wstore.specs.History.{Step, is_put};
 ghost use Rattle.wstore.specs.Nodes.{fresh_node};
-ghost use Rattle.wstore.specs.Replies.{get_text, take_text};
+ghost use Rattle.wstore.specs.Replies.{ask_text, get_text, take_text};
 ghost use Rattle.wreplies.specs.Texts.{bytes_of};
 
 use crate::feeding::feed_node;
@@ -22,6 +22,7 @@ use std::io::Write;
 use std::marker::Model;
 use wexchange::FileFault;
 use wlines::Outbox;
+use wplanner::AskFault;
 use wreplies::{Text, answer, names, refused_file, refused_query, refused_segment, retired, taken};
 use wsegment::{Schema, SegmentFault};
 use wset::{TakeError, Taken};
@@ -82,6 +83,22 @@ fn take_text(alloc: Global, told: Result<Taken, TakeError>) -> Result<Text, Allo
         Ok(word) => Ok(Text::Fixed(taken(word))),
         Err(fault) => {
             let text = refused_segment(alloc, fault)?;
+            Ok(text)
+        }
+    }
+}
+
+// What a query came to, as it is spelled.
+fn ask_text(alloc: Global, told: Result<Vec<u8>, AskFault>) -> Result<Text, AllocError>
+    ensures { IfOk result (λ text. bytes_of text ≡ ask_text told) }
+{
+    match told {
+        Ok(bytes) => {
+            let text = answer(alloc, &bytes)?;
+            Ok(text)
+        }
+        Err(fault) => {
+            let text = refused_query(alloc, fault)?;
             Ok(text)
         }
     }
@@ -175,19 +192,13 @@ impl Cluster {
     }
 
     /// Asks a node.
-    pub(crate) fn ask(&self, node: NodeNumber, text: &[u8]) -> Result<Text, AllocError>
-        ensures { IfOk result (λ reply. (d : Declaration) (h : List Step) → length text.now ≤ longest_text → StandAt d self.now h → AnswersAs d self.now h (Ask node text.now) (bytes_of reply)) }
+    pub(crate) fn ask(&mut self, node: NodeNumber, text: &[u8]) -> Result<Text, AllocError>
+        ensures answers { IfOk result (λ reply. (d : Declaration) (h : List Step) → length text.now ≤ longest_text → StandAt d self.old h → AnswersAs d self.new h (Ask node text.now) (bytes_of reply)) }
+        ensures same { self.new ≡ self.old }
     {
-        match self.node(node).ask(text) {
-            Ok(bytes) => {
-                let reply = answer(self.alloc, &bytes)?;
-                Ok(reply)
-            }
-            Err(fault) => {
-                let reply = refused_query(self.alloc, fault)?;
-                Ok(reply)
-            }
-        }
+        let place = node.place();
+        let told = self.nodes[place].ask(text);
+        ask_text(self.alloc, told)
     }
 
     /// Puts the exchange file of what a node knows into a slot. Later steps of the node do not reach it.

@@ -209,12 +209,13 @@ impl Node {
         self.set.list()
     }
 
-    /// The bytes of the answer to a query, or why there is none.
-    pub fn ask(&self, text: &[u8]) -> Result<Vec<u8>, AskFault>
-        ensures { MatchResult result
-            (λ bytes. IsAnswer self.now.schema self.now.view text.now (Ok bytes.items))
-            (λ fault. (fault ≡ AskFault.NoMemory) ⊎ IsAnswer self.now.schema self.now.view text.now (Err fault)) }
+    /// The bytes of the answer to a query, or why there is none. What the node knows stays as it is.
+    pub fn ask(&mut self, text: &[u8]) -> Result<Vec<u8>, AskFault>
+        ensures answer { MatchResult result
+            (λ bytes. IsAnswer self.old.schema self.old.view text.now (Ok bytes.items))
+            (λ fault. (fault ≡ AskFault.NoMemory) ⊎ IsAnswer self.old.schema self.old.view text.now (Err fault)) }
+        ensures same { self.new ≡ self.old }
     {
-        ask(self.alloc, &self.set, text)
+        ask(self.alloc, &mut self.set, text)
     }
 }

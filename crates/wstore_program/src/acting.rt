@@ -1,13 +1,13 @@
 //! A subcommand on its files.
-ghost use Rattle.std.specs.Prelude.{◌≡◌, ◌≢◌, [], IfOk, IfErr, OnOk, None, option_map, string_bytes};
-ghost use Rattle.wcommand.specs.Inputs.{input_of};
-ghost use Rattle.wcommand.specs.declared.choice.Choice.TheVariants.{Session};
+ghost use Rattle.std.specs.Prelude.{◌≡◌, [], true, IfOk, IfErr, OnOk, None, option_map, string_bytes};
+ghost use Rattle.wcommand.specs.Inputs.{input_of, is_act};
 ghost use Rattle.wact.specs.Acts.{Acts};
 ghost use Rattle.wstore_program.specs.Performing.{IsGivenUp, IsPerformed, Puts};
 ghost use Rattle.wfiles.specs.Calls.{HasCause, IsSound};
 ghost use Rattle.wfiles.specs.Model.{IsLocked};
 ghost use Rattle.wfiles.specs.Replacing.{fault_of};
 
+use crate::explaining::explain_refusal;
 use std::alloc::{AllocError, Global};
 use std::fs::File;
 use std::rt::{Clock, Files};
@@ -137,9 +137,9 @@ fn settle<R: Files<File = File> + AllocGlobal + Clock + Eprint>(
 /// a new one. A reply is that of the subcommand on bytes that were read: where there is a new store, on those that were read
 /// in its place while this run held the lock of its folder. A fault comes only where a call failed or a growth was refused,
 /// and nothing else has failed then; the store is as it was, or it has the new bytes and only its folder was not brought to
-/// the disk.
+/// the disk. A refusal is explained on standard error.
 pub fn perform<R: Files<File = File> + AllocGlobal + Clock + Eprint>(
-    alloc: Global,
+    rt: &R,
     system: &mut System<'_, R>,
     calls: &mut Record,
     choice: &Choice<'_>,
@@ -152,6 +152,7 @@ pub fn perform<R: Files<File = File> + AllocGlobal + Clock + Eprint>(
     ensures sound { OnOk result (IsSound system.new) }
     ensures cause { IfErr result (λ fault. HasCause fault system.new) }
 {
+    let alloc = rt.alloc();
     let table = read_whole(alloc, system, paths.table)?;
     let store = read_if_there(alloc, system, paths.store)?;
     let other = read_input(alloc, system, choice)?;
@@ -159,6 +160,7 @@ pub fn perform<R: Files<File = File> + AllocGlobal + Clock + Eprint>(
     let other = other.as_slice();
     let first = system.grown(acted(alloc, choice, table, &store, other))?;
     if first.store.is_none() {
+        explain_refusal(rt, choice, paths, table, &store, other, &first);
         return Ok(first);
     }
     settle(

@@ -1,7 +1,7 @@
 //! The program. Its words choose a subcommand on files, or a script from standard input.
 //!
 //! It ends with status 0 where all was done, 1 where a subcommand was refused, 2 at a bad script and at words that are
-//! not understood, and 3 at a fault, whose name it writes to standard error.
+//! not understood, and 3 at a fault, whose name and reason it writes to standard error. There it also explains a refusal.
 #![tactic(auto)]
 
 ghost use Rattle.std.specs.Prelude.{◌≡◌, ◌≢◌};
@@ -11,6 +11,7 @@ ghost use Rattle.wfiles.specs.Calls.{IsSound};
 ghost use Rattle.wstore_program.specs.Statuses.{HasFileStatus, HasWordsStatus, IsPrinted, script_status};
 
 mod acting;
+mod explaining;
 
 use acting::perform;
 use std::env;
@@ -32,12 +33,30 @@ const MISUNDERSTOOD: u8 = 2;
 /// The status of a fault.
 const FAILED: u8 = 3;
 
+// The status of a fault.
+fn fault_status() -> ExitCode
+    ensures { exit_status result ≡ 3 }
+{
+    ExitCode::from(FAILED)
+}
+
 // The status of a fault, whose name is written to standard error.
 fn failed(rt: &impl Eprint, fault: Fault) -> ExitCode
     ensures { exit_status result ≡ 3 }
 {
     let _ = eprintln!(rt; "{fault}");
-    ExitCode::from(FAILED)
+    fault_status()
+}
+
+// The status of a fault on files, whose name and reason are written to standard error.
+fn failed_on<R>(rt: &impl Eprint, system: &System<'_, R>, fault: Fault) -> ExitCode
+    ensures { exit_status result ≡ 3 }
+{
+    let Some(reason) = system.reason() else {
+        return failed(rt, fault);
+    };
+    let _ = eprintln!(rt; "{fault}: {reason}");
+    fault_status()
 }
 
 // The status of a script's end.
@@ -73,7 +92,7 @@ fn print<R, W: Write>(
 {
     match system.write(output, text) {
         Ok(()) => ExitCode::from(done),
-        Err(fault) => failed(rt, fault),
+        Err(fault) => failed_on(rt, system, fault),
     }
 }
 
@@ -90,9 +109,9 @@ fn run_on_files<R: Files<File = File> + AllocGlobal + Clock + Eprint, W: Write>(
     requires sound { IsSound system.old }
     ensures { HasFileStatus choice.now system.new calls.old.calls calls.new.calls (W.contents output.old) (W.contents output.new) (exit_status result) }
 {
-    match perform(rt.alloc(), system, calls, choice, paths) {
+    match perform(rt, system, calls, choice, paths) {
         Ok(acted) => print(rt, system, output, acted.output.as_slice(), acted.status),
-        Err(fault) => failed(rt, fault),
+        Err(fault) => failed_on(rt, system, fault),
     }
 }
 

@@ -93,32 +93,43 @@ impl Write for FaultyWriter {
     }
 }
 
-fn reader_of_script(most: usize, failing: usize) -> FaultyReader<'static> {
+fn reader_of_script(most: usize, failing: usize, kind: io::ErrorKind) -> FaultyReader<'static> {
     FaultyReader {
         left: SCRIPT,
         most,
         calls: 0,
         failing,
-        kind: io::ErrorKind::BrokenPipe,
+        kind,
     }
 }
 
-fn writer_to_memory(alloc: Global, most: usize, failing: usize) -> FaultyWriter {
+fn writer_to_memory(alloc: Global, most: usize, failing: usize, failure: Failure) -> FaultyWriter {
     FaultyWriter {
         taken: Vec::new(alloc),
         most,
         calls: 0,
         failing,
-        failure: Failure::Fault(io::ErrorKind::BrokenPipe),
+        failure,
     }
 }
 
+// The ways in which a call of a device fails; that it is interrupted is one.
+const KINDS: [io::ErrorKind; 2] = [io::ErrorKind::BrokenPipe, io::ErrorKind::Interrupted];
+
+const FAILURES: [Failure; 3] = [
+    Failure::Fault(io::ErrorKind::BrokenPipe),
+    Failure::Fault(io::ErrorKind::Interrupted),
+    Failure::TakesNothing,
+];
+
 #[test]
 fn one_byte_a_call(rt: HostRuntime) {
-    let mut input = Counted::new(reader_of_script(1, usize::MAX));
-    let mut output = Counted::new(writer_to_memory(rt.alloc(), 1, usize::MAX));
+    let mut input = Counted::new(reader_of_script(1, usize::MAX, KINDS[0]));
+    let writer = writer_to_memory(rt.alloc(), 1, usize::MAX, FAILURES[0]);
+    let mut output = Counted::new(writer);
     assert_eq!(rt; run(rt.alloc(), &mut input, &mut output), Ok(End::Done));
     assert_eq!(rt; input.reads(), 195);
+    assert_eq!(rt; (input.failures(), output.failures()), (0, 0));
     assert_eq!(rt; output.into_inner().taken.as_slice(), REPLIES);
 }
 
@@ -134,12 +145,19 @@ fn replies_to(read: usize) -> &'static [u8] {
 }
 
 // Fails each of this many reads in turn.
-fn compare_with_failing_reads(rt: &impl Abort, alloc: Global, most: usize, calls: usize) {
+fn compare_with_failing_reads(
+    rt: &impl Abort,
+    alloc: Global,
+    most: usize,
+    calls: usize,
+    kind: io::ErrorKind,
+) {
     for k in 0..calls {
-        let mut input = Counted::new(reader_of_script(most, k));
+        let mut input = Counted::new(reader_of_script(most, k, kind));
         let mut output = Counted::new(Vec::new(alloc));
         let end = run(alloc, &mut input, &mut output);
         assert_eq!(rt; end, Err(RunFault::Read), "at call {k}");
+        assert_eq!(rt; (input.failures(), output.failures()), (1, 0));
         assert_eq!(rt; input.into_inner().calls, k.saturating_add(1));
         let written = output.into_inner();
         assert_eq!(rt; written.as_slice(), replies_to(k.saturating_mul(most)));
@@ -148,17 +166,20 @@ fn compare_with_failing_reads(rt: &impl Abort, alloc: Global, most: usize, calls
 
 #[test]
 fn a_reader_that_fails(rt: HostRuntime) {
-    compare_with_failing_reads(&rt, rt.alloc(), 1, 195);
-    compare_with_failing_reads(&rt, rt.alloc(), usize::MAX, 2);
+    for kind in KINDS {
+        compare_with_failing_reads(&rt, rt.alloc(), 1, 195, kind);
+        compare_with_failing_reads(&rt, rt.alloc(), usize::MAX, 2, kind);
+    }
 }
 
-#[test]
-fn a_writer_that_fails(rt: HostRuntime) {
+// Fails each write of a byte in turn.
+fn compare_with_failing_writes(rt: &impl Abort, alloc: Global, failure: Failure) {
     for k in 0..REPLIES.len() {
         let mut input = Counted::new(SCRIPT);
-        let mut output = Counted::new(writer_to_memory(rt.alloc(), 1, k));
-        let end = run(rt.alloc(), &mut input, &mut output);
+        let mut output = Counted::new(writer_to_memory(alloc, 1, k, failure));
+        let end = run(alloc, &mut input, &mut output);
         assert_eq!(rt; end, Err(RunFault::Write), "at call {k}");
+        assert_eq!(rt; (input.failures(), output.failures()), (0, 1));
         let output = output.into_inner();
         assert_eq!(rt; output.calls, k.saturating_add(1));
         assert_eq!(rt; output.taken.as_slice(), &REPLIES[..k]);
@@ -166,11 +187,19 @@ fn a_writer_that_fails(rt: HostRuntime) {
 }
 
 #[test]
+fn a_writer_that_fails(rt: HostRuntime) {
+    for failure in FAILURES {
+        compare_with_failing_writes(&rt, rt.alloc(), failure);
+    }
+}
+
+#[test]
 fn a_writer_that_fails_at_a_whole_reply(rt: HostRuntime) {
     let mut before = 0;
     for (k, (_, end)) in ENDS.iter().enumerate() {
-        let mut input = Counted::new(reader_of_script(1, usize::MAX));
-        let mut output = Counted::new(writer_to_memory(rt.alloc(), usize::MAX, k));
+        let mut input = Counted::new(reader_of_script(1, usize::MAX, KINDS[0]));
+        let writer = writer_to_memory(rt.alloc(), usize::MAX, k, FAILURES[0]);
+        let mut output = Counted::new(writer);
         assert_eq!(rt;
             run(rt.alloc(), &mut input, &mut output),
             Err(RunFault::Write)
@@ -182,31 +211,21 @@ fn a_writer_that_fails_at_a_whole_reply(rt: HostRuntime) {
     }
 }
 
+// A script that is cut within a command ends with `bad script` behind whole replies.
 #[test]
-fn a_first_call_that_is_interrupted_or_takes_nothing(rt: HostRuntime) {
-    let mut first = reader_of_script(1, 0);
-    first.kind = io::ErrorKind::Interrupted;
-    let mut input = Counted::new(first);
-    let mut output = Counted::new(Vec::new(rt.alloc()));
-    assert_eq!(rt;
-        run(rt.alloc(), &mut input, &mut output),
-        Err(RunFault::Read)
-    );
-    assert!(rt; output.into_inner().is_empty());
-    let failures = [
-        Failure::Fault(io::ErrorKind::Interrupted),
-        Failure::TakesNothing,
-    ];
-    for failure in failures {
-        let mut input = Counted::new(SCRIPT);
-        let mut first = writer_to_memory(rt.alloc(), 1, 0);
-        first.failure = failure;
-        let mut output = Counted::new(first);
+fn a_script_that_is_cut(rt: HostRuntime) {
+    for k in 0..SCRIPT.len() {
+        let mut input = Counted::new(&SCRIPT[..k]);
+        let mut output = Counted::new(Vec::new(rt.alloc()));
+        let end = run(rt.alloc(), &mut input, &mut output);
+        let is_whole = k == 0 || ENDS.iter().any(|(command, _)| *command == k);
         assert_eq!(rt;
-            run(rt.alloc(), &mut input, &mut output),
-            Err(RunFault::Write)
+            end,
+            Ok(if is_whole { End::Done } else { End::Bad }),
+            "at {k}"
         );
-        assert_eq!(rt; output.failures(), 1);
-        assert!(rt; output.into_inner().taken.is_empty());
+        let bad: &[u8] = if is_whole { b"" } else { b"bad script\n" };
+        let written = output.into_inner();
+        assert_eq!(rt; written.strip_prefix(replies_to(k)), Some(bad), "at {k}");
     }
 }

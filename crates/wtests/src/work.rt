@@ -10,7 +10,7 @@ use wplanner::{Table, execute};
 use wresolve::resolve;
 use wsegment::Schema;
 use wset::SegmentSet;
-use wvalues::Name;
+use wvalues::{Name, SortKey};
 
 // How many rows there are: enough that a fold for each row of all rows would show.
 const ROWS: usize = 2000;
@@ -30,7 +30,7 @@ fn same_sales(alloc: Global) -> Result<SegmentSet, Fail> {
     Ok(sales)
 }
 
-fn table_of(alloc: Global, sales: &SegmentSet, text: &[u8]) -> Result<Table, Fail> {
+fn table_of(alloc: Global, sales: &mut SegmentSet, text: &[u8]) -> Result<Table, Fail> {
     let tokens = lex(alloc, text)?;
     let query = parse(alloc, &tokens)?;
     let resolved = resolve(alloc, sales.schema(), &query)?;
@@ -50,22 +50,22 @@ fn compare_work(rt: &impl Abort, table: &Table, joins: usize, orders: u64) {
 // folded once for all of its rows.
 #[test]
 fn folds_take_few_joins_a_row(rt: HostRuntime) -> Result<(), Fail> {
-    let sales = same_sales(rt.alloc())?;
+    let mut sales = same_sales(rt.alloc())?;
     let slides = table_of(
         rt.alloc(),
-        &sales,
+        &mut sales,
         b"SELECT sum(amount) OVER (ORDER BY day ROWS 5 PRECEDING) FROM sales",
     )?;
     compare_work(&rt, &slides, 3 * ROWS, 1);
     let leaves_out = table_of(
         rt.alloc(),
-        &sales,
+        &mut sales,
         b"SELECT min(amount) OVER (ORDER BY day ROWS BETWEEN 900 PRECEDING AND 900 FOLLOWING EXCLUDE CURRENT ROW) FROM sales",
     )?;
     compare_work(&rt, &leaves_out, 8 * ROWS, 1);
     let whole = table_of(
         rt.alloc(),
-        &sales,
+        &mut sales,
         b"SELECT max(amount) OVER (PARTITION BY shop) FROM sales",
     )?;
     compare_work(&rt, &whole, ROWS, 1);
@@ -76,18 +76,65 @@ fn folds_take_few_joins_a_row(rt: HostRuntime) -> Result<(), Fail> {
 // so does each ORDER BY.
 #[test]
 fn an_order_is_made_once(rt: HostRuntime) -> Result<(), Fail> {
-    let sales = same_sales(rt.alloc())?;
+    let mut sales = same_sales(rt.alloc())?;
     let shared = table_of(
         rt.alloc(),
-        &sales,
+        &mut sales,
         b"SELECT rank() OVER (ORDER BY day), row_number() OVER (ORDER BY day ROWS 1 PRECEDING), lag(day) OVER w FROM sales WINDOW w AS (ORDER BY day)",
     )?;
     compare_work(&rt, &shared, 0, 1);
     let two = table_of(
         rt.alloc(),
-        &sales,
+        &mut sales,
         b"SELECT rank() OVER (ORDER BY day), rank() OVER (ORDER BY amount), rank() OVER (ORDER BY day) FROM sales ORDER BY shop",
     )?;
     compare_work(&rt, &two, 0, 3);
+    Ok(())
+}
+
+// By a column, ascending, nulls last.
+fn by(col: usize) -> SortKey {
+    SortKey {
+        col,
+        desc: false,
+        nulls_first: false,
+    }
+}
+
+// Whether each live segment keeps the run of a key.
+fn have_run(sales: &SegmentSet, key: SortKey) -> bool {
+    let keys = [key];
+    for place in 0..sales.live_count() {
+        if !sales.has_run(place, &keys) {
+            return false;
+        }
+    }
+    true
+}
+
+// A query leaves the runs of its windows and of its ORDER BY, which the next one finds; of five orders the first is let go.
+#[test]
+fn queries_leave_runs(rt: HostRuntime) -> Result<(), Fail> {
+    let mut sales = same_sales(rt.alloc())?;
+    assert!(rt; !have_run(&sales, by(0)));
+    table_of(
+        rt.alloc(),
+        &mut sales,
+        b"SELECT day, sum(amount) OVER (ORDER BY day) FROM sales",
+    )?;
+    assert!(rt; have_run(&sales, by(0)));
+    assert!(rt; !have_run(&sales, by(2)));
+    let orders: [&[u8]; 4] = [
+        b"SELECT day FROM sales WHERE amount = 0 ORDER BY amount",
+        b"SELECT rank() OVER (PARTITION BY shop ORDER BY day) FROM sales",
+        b"SELECT day FROM sales ORDER BY day DESC",
+        b"SELECT day FROM sales ORDER BY shop",
+    ];
+    for text in &orders {
+        table_of(rt.alloc(), &mut sales, text)?;
+    }
+    assert!(rt; !have_run(&sales, by(0)));
+    assert!(rt; have_run(&sales, by(1)));
+    assert!(rt; have_run(&sales, by(2)));
     Ok(())
 }

@@ -8,7 +8,7 @@ loop-row-preserved c =
     let told = c.args.segment.now.rows in
     let old = rows_seen c.args.rows.now.items in
     let i = c.loop-row.row in
-    let within : i < length told = omega (arith, c.loop-row-test.true, c.rows-row-end.ensures) in
+    let within : i < length told = omega (arith, c.loop-row-test.true, c.rows-row-end.ensures.count) in
     ap rows_seen c.in_ok-push.ensures.items ∙ map-append row_seen c.loop-row.rows.items (_ ∷ [])
     ∙ ap (λ l. l ++ row_seen c.row.result ∷ []) c.loop-row.invariant
     ∙ append_assoc old (take i told) (row_seen c.row.result ∷ [])

@@ -38,6 +38,7 @@ loop-number-preserved c =
       so_far = window_told (rows_seen c.args.rows.now) calls ws (map rows_in c.loop-number.answers.items) (map rows_in c.push.new.self.items) c.loop-number.number w (rows_in c.in-Ok.columns) _ c.loop-number-test.true c.index-windows-number.is c.loop-number.invariant.so_far c.in-Ok.ensures.columns
           (ap (map rows_in) c.in_ok-push-in-Ok.ensures.items ∙ map-append rows_in c.loop-number.answers.items (_ ∷ []));
       kept = c.in-Ok.ensures.kept;
+      told = c.in-Ok.ensures.told;
       made = made_more _ c.args.work.now.orders c.loop-number.work.orders c.answers_over.new.work.orders c.loop-number.number c.loop-number.invariant.made c.in-Ok.ensures.made;
       joins = joins_told (length c.args.rows.now) calls ws c.loop-number.number w c.loop-number.work.joins c.answers_over.new.work.joins _ c.loop-number-test.true c.index-windows-number.is c.loop-number.invariant.joins c.in-Ok.ensures.joins;
     }

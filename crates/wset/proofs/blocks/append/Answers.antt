@@ -1,6 +1,7 @@
 use Rattle.std.proofs.Common.{◌≡◌, ◌∙◌, ◌++◌, ◌∷◌, [], ◌<◌, ◌-◌, suc, length, ap, subst, arith}
 use Rattle.wset.specs.Blocks.{flat}
 use Rattle.wset.proofs.Cutting.{filled_pushed, flat_begun, flat_grown}
+use Rattle.wset.proofs.LiveFacts.{grown_begun, grown_set}
 use Rattle.wset.proofs.blocks.append.Goals as goal
 
 pub returns-then-end_full-clause-ok : goal.returns-then-end_full-clause-ok
@@ -16,3 +17,12 @@ returns-clause-ok c =
 pub returns-clause-filled : goal.returns-clause-filled
 returns-clause-filled c n le filled =
     filled_pushed n c.args.blocks.now.items (c.len-last.result - 1) c.index_mut.result.now c.push.new.self c.args.entry c.index_mut.ensures.value c.in_ok-push.ensures.ok filled
+
+pub returns-then-end_full-clause-grown : goal.returns-then-end_full-clause-grown
+returns-then-end_full-clause-grown c = grown_begun c.args.blocks.now.items _ (c.args.entry ∷ []) c.in_ok-begin.ensures.ok
+
+pub returns-clause-grown : goal.returns-clause-grown
+returns-clause-grown c =
+    let some : 0 < length c.args.blocks.now.items = subst (λ bs. 0 < length bs) c.deref.ensures.value (c.end_full.ensures.some c.if-end_full.false) in
+    let end : suc (c.len-last.result - 1) ≡ length c.args.blocks.now.items = omega (arith, some, c.len-last.ensures) in
+    grown_set c.args.blocks.now.items (c.len-last.result - 1) c.push.new.self end

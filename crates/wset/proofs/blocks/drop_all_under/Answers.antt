@@ -1,4 +1,4 @@
-use Rattle.std.proofs.Common.{◌≡◌, ◌∙◌, List, [], ◌∷◌, suc, length, take, drop, refl, ap, subst, sym, not, arith, rules}
+use Rattle.std.proofs.Common.{◌≡◌, ◌∙◌, List, [], ◌∷◌, suc, length, map, take, drop, refl, ap, subst, sym, not, arith, rules}
 use Rattle.std.specs.List.{filter}
 use Rattle.std.proofs.lemmas.Fn.{filter_same}
 use Rattle.wvalues.specs.Names.{NameParts}
@@ -6,7 +6,9 @@ use Rattle.wset.specs.Views.{is_above}
 use Rattle.wset.specs.Entries.{AllHeldBy, above_floor, known_entries}
 use Rattle.wset.specs.Lending.{AreOriginsBelow}
 use Rattle.wset.specs.declared.entries.Entry.{Entry}
-use Rattle.wset.specs.Blocks.{AreBehind, flat}
+use Rattle.wset.specs.Blocks.{AreBehind, flat, trimmed}
+use Rattle.std.proofs.lemmas.List.{length-map}
+use Rattle.std.proofs.lemmas.List.Filters.{length-filter_both}
 use Rattle.wset.proofs.Lows.{flat_trimmed, held_filter, kept, known_filter, under}
 use Rattle.wset.proofs.blocks.drop_all_under.Goals as goal
 
@@ -40,3 +42,9 @@ returns-clause-read c d held =
     let kept_blocks = filter_same _ (λ b. not (under c.args.floor.now b)) _ (λ x b f called. search rules) _ _ c.retain.ensures.filtered in
     let all : flat c.retain.new.self.items ≡ kept c.args.floor.now (flat c.args.blocks.now.items) = ap flat (kept_blocks ∙ ap (filter (λ b. not (under c.args.floor.now b))) c.trim_all.ensures) ∙ flat_trimmed c.args.floor.now c.args.blocks.now.items in
     subst (AllHeldBy d) (sym all) (held_filter d (λ e. not (is_above e.name c.args.floor.now)) (flat c.args.blocks.now.items) held)
+
+pub returns-clause-fewer : goal.returns-clause-fewer
+returns-clause-fewer c =
+    let kept_blocks = filter_same _ (λ b. not (under c.args.floor.now b)) _ (λ x b f called. search rules) _ _ c.retain.ensures.filtered in
+    let all = kept_blocks ∙ ap (filter (λ b. not (under c.args.floor.now b))) c.trim_all.ensures in
+    omega (arith, ap length all, length-filter_both (λ b. not (under c.args.floor.now b)) (λ b. not (not (under c.args.floor.now b))) (λ b. refl) (map (trimmed c.args.floor.now) c.args.blocks.now.items), length-map c.args.blocks.now.items (trimmed c.args.floor.now))

@@ -1,8 +1,8 @@
-use Rattle.std.proofs.Common.{◌≡◌, ◌<◌, length, sym, ap, ◌∙◌, subst, rules}
+use Rattle.std.proofs.Common.{◌≡◌, ◌<◌, length, sym, ap, ◌∙◌, arith, subst, rules}
 use Rattle.wset.specs.Entries.{IsRising}
 use Rattle.wset.specs.Blocks.{IsHome}
 use Rattle.wset.proofs.BlockFacts.{rising_at}
-use Rattle.wset.proofs.Cutting.{cut_filled, cut_flat, cut_home_first, cut_home_later, cut_room_first, cut_room_later, cut_within}
+use Rattle.wset.proofs.Cutting.{cut_filled, cut_flat, cut_home_first, cut_home_later, cut_room_first, cut_room_later, cut_within, length_halved}
 use Rattle.wset.proofs.blocks.roomy_home.Goals as goal
 
 pub has_room-requires : goal.has_room-requires
@@ -62,3 +62,13 @@ returns-clause-filled c =
     let h = subst (λ bs. IsHome bs c.args.name.now c.home-k.result) c.deref.ensures.value c.home-k.ensures in
     cut_filled c.args.blocks.now.items c.cut.new.blocks.items c.args.name.now c.home-k.result c.index.result.now c.in_ok-cut.ensures.ok h.in_range c.requires.rising
     c.index.result.now c.index.ensures (c.has_room.ensures.full c.if-has_room.false)
+
+pub returns-then-ends_before-clause-long : goal.returns-then-ends_before-clause-long
+returns-then-ends_before-clause-long c =
+    let h = subst (λ bs. IsHome bs c.args.name.now c.home-k.result) c.deref.ensures.value c.home-k.ensures in
+    omega (arith, ap length c.in_ok-cut.ensures.ok, length_halved c.args.blocks.now.items c.home-k.result h.in_range)
+
+pub returns-clause-long : goal.returns-clause-long
+returns-clause-long c =
+    let h = subst (λ bs. IsHome bs c.args.name.now c.home-k.result) c.deref.ensures.value c.home-k.ensures in
+    omega (arith, ap length c.in_ok-cut.ensures.ok, length_halved c.args.blocks.now.items c.home-k.result h.in_range)

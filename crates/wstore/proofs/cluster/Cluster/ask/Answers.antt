@@ -1,14 +1,12 @@
-use Rattle.std.proofs.Common.{◌-◌, ◌∙◌, ap}
-use Rattle.wreplies.specs.Spelling.{answer_text}
-use Rattle.wstore.proofs.Answering.{answered_at, unanswered_at}
+use Rattle.std.proofs.Common.{subst, sym, ◌∙◌}
+use Rattle.wreplies.specs.Texts.{bytes_of}
+use Rattle.wstore.specs.Standing.{StandAt}
+use Rattle.wstore.proofs.Answering.{ask_at, same_set}
+use Rattle.wstore.proofs.Handling.{if_ok_then}
 use Rattle.wstore.proofs.cluster.Cluster.ask.Goals as goal
 
-pub returns-in_ok-reply-in-Ok : goal.returns-in_ok-reply-in-Ok
-returns-in_ok-reply-in-Ok c = λ d h short stand.
-    answered_at d _ h c.args.node (c.args.node - 1) c.node.result.now stand c.node.ensures.place c.node.ensures.in_range c.node.ensures.node
-    c.args.text.now c.in-Ok.bytes.items _ c.in-Ok.ensures (c.in_ok-reply-in-Ok.ensures ∙ ap answer_text c.deref.ensures.value)
-
-pub returns-in_ok-reply-in-Err : goal.returns-in_ok-reply-in-Err
-returns-in_ok-reply-in-Err c = λ d h short stand.
-    unanswered_at d _ h c.args.node (c.args.node - 1) c.node.result.now stand c.node.ensures.place c.node.ensures.in_range c.node.ensures.node
-    c.args.text.now _ c.in-Err.fault short c.in-Err.ensures c.in_ok-reply-in-Err.ensures.text
+pub returns-clause-answers : goal.returns-clause-answers
+returns-clause-answers c = if_ok_then c.ask_text.result _
+    (λ text is d h short told.
+    ask_at d _ h c.args.node c.place-place.result c.index_mut.result.now (subst (λ at. StandAt d at h) (sym c.self.view_is) told) c.place-place.ensures.place c.place-place.ensures.in_range c.index_mut.ensures.value
+    c.args.text.now c.ask-told.result c.ask-told.new.self (bytes_of text) short c.ask-told.ensures.answer c.ask-told.ensures.same (rw is at c.ask_text.ensures))

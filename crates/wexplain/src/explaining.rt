@@ -1,0 +1,165 @@
+//! Why a subcommand was refused.
+
+use crate::declaration::{explain_declaration, explain_name};
+use crate::exchange_file::explain_file;
+use crate::lines::{explained, push_file};
+use crate::query::explain_query;
+use crate::reply::{Refusal, refusal_of};
+use crate::segment::explain_segment;
+use crate::sentences::STREAM;
+use std::alloc::{AllocError, Global};
+use wexchange::{FileFault, read};
+use wplanner::AskFault;
+use wsegment::{Schema, SegmentFault};
+
+/// A file, as it was read, and what it is called.
+#[derive(Clone, Copy, Debug)]
+pub struct Input<'p, 'b> {
+    pub path: &'p str,
+    pub bytes: &'b [u8],
+}
+
+/// What a subcommand was given.
+#[derive(Clone, Copy, Debug)]
+pub struct Given<'p, 't, 's, 'w, 'o> {
+    /// The declaration of the table.
+    pub table: Input<'p, 't>,
+    /// The store, if there was one.
+    pub store: Option<Input<'p, 's>>,
+    /// The segment, or the delivery stream.
+    pub segment: Option<Input<'w, 'o>>,
+    /// The other store.
+    pub other: Option<Input<'w, 'o>>,
+    /// The words of a name.
+    pub origin: &'w str,
+    pub number: &'w str,
+    pub query: &'w str,
+}
+
+// Explains the fault of a segment.
+fn told_segment(
+    alloc: Global,
+    schema: &Schema,
+    given: &Given<'_, '_, '_, '_, '_>,
+    fault: SegmentFault,
+) -> Result<Option<String>, AllocError> {
+    let Some(segment) = given.segment else {
+        return Ok(None);
+    };
+    let text = explain_segment(alloc, segment.path, schema, segment.bytes, fault)?;
+    Ok(Some(text))
+}
+
+// Whether a store can be read.
+fn is_whole(alloc: Global, schema: &Schema, store: &Option<Input<'_, '_>>) -> bool {
+    match store {
+        Some(store) => read(alloc, schema, store.bytes).is_ok(),
+        None => true,
+    }
+}
+
+// Explains the fault of an exchange file.
+fn told_at(
+    alloc: Global,
+    path: &str,
+    schema: &Schema,
+    bytes: &[u8],
+    fault: FileFault,
+) -> Result<Option<String>, AllocError> {
+    let text = explain_file(alloc, path, schema, bytes, fault)?;
+    Ok(Some(text))
+}
+
+// Explains the fault of a store, which is judged first, or of the other one.
+fn told_file(
+    alloc: Global,
+    schema: &Schema,
+    given: &Given<'_, '_, '_, '_, '_>,
+    fault: FileFault,
+) -> Result<Option<String>, AllocError> {
+    if let Some(other) = given.other
+        && is_whole(alloc, schema, &given.store)
+    {
+        return told_at(alloc, other.path, schema, other.bytes, fault);
+    }
+    match given.store {
+        Some(store) => told_at(alloc, store.path, schema, store.bytes, fault),
+        None => Ok(None),
+    }
+}
+
+// Explains the fault of a query.
+fn told_query(
+    alloc: Global,
+    schema: &Schema,
+    given: &Given<'_, '_, '_, '_, '_>,
+    fault: AskFault,
+) -> Result<Option<String>, AllocError> {
+    let text = explain_query(alloc, schema, given.query.as_bytes(), fault)?;
+    Ok(Some(text))
+}
+
+// Explains what is wrong in a stream.
+fn told_stream(
+    alloc: Global,
+    given: &Given<'_, '_, '_, '_, '_>,
+) -> Result<Option<String>, AllocError> {
+    let mut below = String::new(alloc);
+    if let Some(stream) = given.segment {
+        push_file(&mut below, stream.path, "")?;
+    }
+    let text = explained(alloc, STREAM, below.as_str())?;
+    Ok(Some(text))
+}
+
+// Explains a refusal below a declaration that was read.
+fn told_by(
+    alloc: Global,
+    schema: &Schema,
+    given: &Given<'_, '_, '_, '_, '_>,
+    refusal: Refusal,
+) -> Result<Option<String>, AllocError> {
+    match refusal {
+        Refusal::Segment(fault) => told_segment(alloc, schema, given, fault),
+        Refusal::File(fault) => told_file(alloc, schema, given, fault),
+        Refusal::Query(fault) => told_query(alloc, schema, given, fault),
+        Refusal::Stream => told_stream(alloc, given),
+        _ => Ok(None),
+    }
+}
+
+// Explains a refusal of what a declaration is asked for.
+fn told_below(
+    alloc: Global,
+    given: &Given<'_, '_, '_, '_, '_>,
+    refusal: Refusal,
+) -> Result<Option<String>, AllocError> {
+    match Schema::read(alloc, given.table.bytes) {
+        Ok(schema) => told_by(alloc, &schema, given, refusal),
+        Err(_) => Ok(None),
+    }
+}
+
+/// Why a subcommand was refused that was given this and printed that. Nothing where it was not refused.
+pub fn explain(
+    alloc: Global,
+    reply: &[u8],
+    given: &Given<'_, '_, '_, '_, '_>,
+) -> Result<Option<String>, AllocError> {
+    let Some(refusal) = refusal_of(reply) else {
+        return Ok(None);
+    };
+    match refusal {
+        Refusal::Declaration(fault) => {
+            let table = given.table;
+            let text = explain_declaration(alloc, table.path, table.bytes, fault)?;
+            Ok(Some(text))
+        }
+        Refusal::Name(fault) => {
+            let origin = given.origin.as_bytes();
+            let text = explain_name(alloc, origin, given.number.as_bytes(), fault)?;
+            Ok(Some(text))
+        }
+        _ => told_below(alloc, given, refusal),
+    }
+}

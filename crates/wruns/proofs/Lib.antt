@@ -1,0 +1,9 @@
+mod OneList
+mod RefFacts
+mod RunFacts
+mod CutFacts
+mod TableFacts
+mod GroupFacts
+mod BlockFacts
+mod HeadFacts
+mod OrderingFacts

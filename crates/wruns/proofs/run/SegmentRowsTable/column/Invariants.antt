@@ -1,0 +1,7 @@
+use Rattle.std.proofs.Common.{◌≡◌, take}
+use Rattle.wsort.specs.CodedRows.{key_column, values_seen}
+use Rattle.wruns.proofs.run.SegmentRowsTable.column.Given as goal
+
+-- the values so far
+abbrev pub invariant-loop-row : goal.invariant-loop-row
+invariant-loop-row l = values_seen l.column.items ≡ key_column l.col (take l.row l.self.segment.now.rows)

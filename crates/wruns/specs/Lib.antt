@@ -1,0 +1,11 @@
+pub mod Runs
+pub mod Cuts
+pub mod RunInside
+pub mod Lists
+pub mod Refs
+pub mod Merging
+pub mod Grouping
+pub mod Heads
+pub mod KeptRuns
+pub mod KeptInside
+pub mod Orderings

@@ -1,0 +1,31 @@
+//! The rows of a segment in the order of keys that are plain columns, and of many segments as one list.
+//!
+//! - Gives runs, the runs that are kept of a segment, and the rows of several segments in order, from a run of each: `merge`
+//!   takes them row by row, `ordered` a group of equal keys at a time.
+//! - Promises: a run is the one list of its segment's rows by its keys and then by place, whoever kept it; rows of several
+//!   segments are the one list by keys, then by segment and place. What groups save is measured, not promised.
+//! - Asks: runs by the keys that the rows are put in order by.
+//! - Leaves names, sets and what is asked to `wset` and `wplanner`.
+//!
+//! Read `specs/Runs.antt`, `specs/Refs.antt`, then `specs/KeptRuns.antt`; `specs/Heads.antt` and `specs/Cuts.antt` say how
+//! groups stand for rows, and `specs/Orderings.antt` what an ordering is good for.
+#![tactic(auto)]
+
+mod cells;
+mod heads;
+mod kept;
+mod laws;
+mod merging;
+mod ordering;
+mod refs;
+mod run;
+mod segment_run;
+mod table;
+
+pub use kept::KeptRuns;
+pub use laws::{kept_rows_stay_in_order, runs_order_windows};
+pub use merging::merge;
+pub use ordering::ordered;
+pub use refs::RowRef;
+pub use run::{Run, sort_run};
+pub use segment_run::SegmentRun;

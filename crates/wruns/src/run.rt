@@ -1,0 +1,226 @@
+//! A segment's rows in the order of keys.
+ghost use Rattle.std.specs.Prelude.{◌≡◌, ◌<◌, ◌≤◌, ◌^◌, ◌+◌, [], ◌∷◌, true, All, IfOk, length, map, slice_index_or};
+ghost use Rattle.wvalues.specs.Meaning.{meaning, Null};
+ghost use Rattle.wruns.specs.Cuts.{between, cut, pieces_of, start_of, AreEnds, AreEndsOf};
+ghost use Rattle.wruns.specs.Grouping.{AreGrouped};
+ghost use Rattle.wruns.specs.Runs.{joined, keys_at, run_of, IsGroup, IsRunOf};
+
+use crate::cells::{cell_at, compare_rows};
+use crate::table::{Table, order_of};
+use std::alloc::{AllocError, Global};
+use std::marker::Model;
+use wsegment::Segment;
+use wvalues::{SortKey, Value};
+
+/// The places of a segment's rows by keys, and then by place, in groups of rows that share their keys. Each place takes 4
+/// bytes. Where groups end is kept if they have two rows or more on the average, and else each row is a group of its own.
+#[derive(Drop)]
+pub struct Run {
+    keys: Vec<SortKey>,
+    rows: Vec<u32>,
+    ends: Option<Vec<u32>>,
+}
+
+impl Model for Run {
+    ghost use Rattle.wruns.specs.Runs.{RunParts};
+
+    ghost Value = { RunParts };
+
+    ghost use Rattle.wruns.specs.RunInside.{parts_of, HasEnds};
+
+    ghost view = { parts_of };
+
+    ghost invariant = { HasEnds };
+}
+
+// Where the group of a number begins.
+fn start_of(ends: &[u32], group: usize) -> usize
+    requires { group ≤ length ends.now }
+    ensures { result ≡ start_of 0 ends.now group }
+{
+    if group == 0 {
+        0
+    } else {
+        ends[group - 1] as usize
+    }
+}
+
+// What stands from one place up to another.
+fn between(rows: &[u32], from: usize, to: usize) -> &[u32]
+    requires order { from ≤ to }
+    requires within { to ≤ length rows.now }
+    ensures { result.now ≡ between from to rows.now }
+{
+    &rows[from..to]
+}
+
+// A row alone.
+fn single(rows: &[u32], number: usize) -> &[u32]
+    requires { number < length rows.now }
+    ensures { result.now ≡ slice_index_or (map (λ x. x ∷ []) rows.now) number [] }
+{
+    between(rows, number, number + 1)
+}
+
+// The piece of a number, of rows that are cut at these ends.
+fn piece<'a>(rows: &'a [u32], ends: &[u32], number: usize) -> &'a [u32]
+    requires ends { AreEnds 0 ends.now (length rows.now) }
+    requires number { number < length ends.now }
+    ensures { result.now ≡ slice_index_or (cut 0 ends.now rows.now) number [] }
+{
+    between(rows, start_of(ends, number), ends[number] as usize)
+}
+
+impl Run {
+    /// The keys that it is ordered by.
+    pub fn keys(&self) -> &[SortKey]
+        ensures { result.now ≡ self.now.keys }
+    {
+        self.keys.as_slice()
+    }
+
+    /// The places of the rows, in order.
+    pub fn rows(&self) -> &[u32]
+        ensures { result.now ≡ joined self.now.groups }
+    {
+        self.rows.as_slice()
+    }
+
+    /// How many groups there are.
+    pub fn groups(&self) -> usize
+        ensures { result ≡ length self.now.groups }
+    {
+        match &self.ends {
+            None => self.rows.len(),
+            Some(ends) => ends.len(),
+        }
+    }
+
+    /// The places of the group of a number, from 0 on.
+    pub fn group(&self, number: usize) -> &[u32]
+        requires { number < length self.now.groups }
+        ensures { result.now ≡ slice_index_or self.now.groups number [] }
+    {
+        match &self.ends {
+            None => single(&self.rows, number),
+            Some(ends) => piece(&self.rows, ends, number),
+        }
+    }
+}
+
+// The rows of a segment.
+#[derive(Clone, Copy)]
+struct SegmentRows<'a> {
+    segment: &'a Segment,
+    null: &'a Value,
+    ghost missing: { meaning null.now ≡ Null },
+}
+
+impl<'a> Table for SegmentRows<'a> {
+    ghost rows = { λ t. t.segment.now.rows };
+
+    fn count(&self) -> usize {
+        self.segment.rows()
+    }
+
+    fn column(&self, alloc: Global, col: usize) -> Result<Vec<&Value>, AllocError> {
+        let mut column = Vec::with_capacity(alloc, self.segment.rows())?;
+        for row in 0..self.segment.rows() {
+            column.push(cell_at(self.segment, row, col, self.null))?;
+        }
+        Ok(column)
+    }
+}
+
+// Numbers of rows in 4 bytes each.
+fn narrowed(alloc: Global, order: &[usize]) -> Result<Vec<u32>, AllocError>
+    requires { All (λ i. i < 2 ^ 32) order.now }
+    ensures { IfOk result (λ rows. rows.items ≡ order.now) }
+{
+    let mut rows = Vec::with_capacity(alloc, order.len())?;
+    for row in order {
+        rows.push(*row as u32)?;
+    }
+    Ok(rows)
+}
+
+// Whether two rows share their keys.
+fn share_keys(table: &SegmentRows, keys: &[SortKey], a: u32, b: u32) -> bool
+    ensures { result ≡ true → keys_at keys.now table.now.segment.now.rows a ≡ keys_at keys.now table.now.segment.now.rows b }
+{
+    compare_rows(table.segment, keys, a as usize, b as usize, table.null).is_eq()
+}
+
+// Adds the row at a place to the group that begins with the first one, or ends that and begins another. It gives the place
+// where the group begins that has not ended.
+fn add_row(
+    table: &SegmentRows,
+    keys: &[SortKey],
+    rows: &[u32],
+    first: usize,
+    place: usize,
+    ends: &mut Vec<u32>,
+) -> Result<usize, AllocError>
+    requires few { length rows.now < 2 ^ 32 }
+    requires place { place < length rows.now }
+    requires grouped { AreGrouped keys.now table.now.segment.now.rows rows.now ends.old.items first place }
+    ensures { IfOk result (λ next. AreGrouped keys.now table.now.segment.now.rows rows.now ends.new.items next (place + 1)) }
+{
+    if share_keys(table, keys, rows[place], rows[first]) {
+        return Ok(first);
+    }
+    ends.push(place as u32)?;
+    Ok(place)
+}
+
+// Where the groups of rows in order end, if they have two rows or more on the average.
+fn group_ends(
+    alloc: Global,
+    table: &SegmentRows,
+    keys: &[SortKey],
+    rows: &[u32],
+) -> Result<Option<Vec<u32>>, AllocError>
+    requires { length rows.now < 2 ^ 32 }
+    ensures ends { IfOk result (λ found. AreEndsOf found rows.now) }
+    ensures groups { IfOk result (λ found. All (IsGroup keys.now table.now.segment.now.rows) (pieces_of found rows.now)) }
+{
+    if rows.is_empty() {
+        return Ok(None);
+    }
+    let mut ends = Vec::new(alloc);
+    let mut first = 0;
+    for place in 1..rows.len() {
+        first = add_row(table, keys, rows, first, place, &mut ends)?;
+        if ends.len() >= rows.len() / 2 {
+            return Ok(None);
+        }
+    }
+    ends.push(rows.len() as u32)?;
+    Ok(Some(ends))
+}
+
+// The places of a segment's rows by keys, and then by place.
+fn places_by(alloc: Global, table: &SegmentRows, keys: &[SortKey]) -> Result<Vec<u32>, AllocError>
+    ensures rows { IfOk result (λ rows. rows.items ≡ run_of keys.now table.now.segment.now.rows) }
+    ensures few { IfOk result (λ rows. length rows.items < 2 ^ 32) }
+{
+    let order = order_of(alloc, table, keys)?;
+    let rows = narrowed(alloc, &order)?;
+    Ok(rows)
+}
+
+/// The run of a segment by keys. A column that the rows do not have counts as null, and without keys the rows stand by place.
+/// Its one error is want of memory.
+pub fn sort_run(alloc: Global, segment: &Segment, keys: &[SortKey]) -> Result<Run, AllocError>
+    ensures keys { IfOk result (λ run. run.keys ≡ keys.now) }
+    ensures run { IfOk result (IsRunOf segment.now.rows) }
+{
+    let table = SegmentRows {
+        segment,
+        null: &Value::Null,
+    };
+    let rows = places_by(alloc, &table, keys)?;
+    let ends = group_ends(alloc, &table, keys, &rows)?;
+    let keys = Vec::from_slice(alloc, keys)?;
+    Ok(Run { keys, rows, ends })
+}

@@ -1,0 +1,194 @@
+-- Making runs leaves what is known as it is.
+use Rattle.std.proofs.Common.{◌≡◌, ℕ, zero, suc, ◌+◌, ◌<◌, ◌≤◌, List, [], ◌∷◌, ◌++◌, length, map, take, refl, sym, ap, subst, ◌∙◌, arith, get_or, slice_set, add-one, Option, Some, None}
+use Rattle.std.specs.Prelude.{All, T, ⊤, ◌^◌}
+use Rattle.std.specs.List.{AllByRecursion, IsAmong, filter_map}
+use Rattle.std.proofs.lemmas.List.{length-map, map-append}
+use Rattle.std.proofs.lemmas.List.Elements.{All-append, All-cons, All-nil, All-same, recursion_from_All}
+use Rattle.wvalues.specs.declared.key.SortKey.{SortKey}
+use Rattle.wvalues.specs.Names.{NameParts}
+use Rattle.wsegment.specs.Declaration.{Declaration}
+use Rattle.wsegment.specs.Rows.{Content}
+use Rattle.wset.specs.Views.{Known, Live, Disputed, Retired, Floor, live_of, lives}
+use Rattle.wset.specs.Sets.{Becomes, DeclaredView, IsReadBy}
+use Rattle.wset.specs.Tables.{content_rows, rows_or_none}
+use Rattle.wset.specs.Storing.{declared_view, IsOrderly}
+use Rattle.wset.specs.declared.set.SegmentSet.TheInside.{Inside}
+use Rattle.wset.proofs.Maps.{lives-view}
+use Rattle.wset.specs.Holding.{IsHeldBy, known_of}
+use Rattle.std.specs.FinMap.{is_sorted}
+use Rattle.wvalues.specs.Names.{name_cmp}
+use Rattle.wset.specs.Entries.{AllHeldBy, AreSettled, known_entry, known_entries}
+use Rattle.wset.specs.Blocks.{flat}
+use Rattle.wset.specs.Running.{AreStarts, HeldHasRun, kept_in, live_rows, orders_in, plain_block, plain_entry, plain_held, rows_in}
+use Rattle.wset.specs.declared.entries.Entry.{Entry}
+use Rattle.wset.specs.declared.held.Held.{Held}
+use Rattle.wset.specs.declared.held.Held.TheVariants as held
+
+-- what is written keeps what is seen of each element
+pub set_keeps : {X Y : Type 0} (f : X → Y) (xs : List X) (i : ℕ) (x k : X) → x ≡ get_or xs i x → f k ≡ f x → map f (slice_set xs i k) ≡ map f xs
+set_keeps f [] i x k is same = refl
+set_keeps f (y ∷ ys) zero x k is same = ap (λ z. z ∷ map f ys) (same ∙ ap f is)
+set_keeps f (y ∷ ys) (suc i) x k is same = ap (λ l. f y ∷ l) (set_keeps f ys i x k is same)
+
+take_set : {X : Type 0} (xs : List X) (i : ℕ) (k : X) → i < length xs → take (i + 1) (slice_set xs i k) ≡ take i xs ++ k ∷ []
+take_set [] i k lt = absurd (omega (arith, lt))
+take_set (y ∷ ys) zero k lt = refl
+take_set (y ∷ ys) (suc i) k lt = rw add-one (ap (λ l. y ∷ l) (rw add-one at (take_set ys i k (omega (arith, lt)))))
+
+pub all_more : {X : Type 0} (P : X → Type 0) (xs : List X) (i : ℕ) (k : X) → i < length xs → All P (take i xs) → P k → All P (take (i + 1) (slice_set xs i k))
+all_more P xs i k lt all here = All-same P (take (i + 1) (slice_set xs i k)) (take i xs ++ k ∷ []) (take_set xs i k lt) (All-append P (take i xs) (k ∷ []) all (All-cons P k [] here (All-nil P)))
+
+pub same_length : {X Y : Type 0} (f : X → Y) (a b : List X) → map f a ≡ map f b → length a ≡ length b
+same_length f a b e = sym (length-map a f) ∙ ap length e ∙ length-map b f
+
+pub length-set : {X : Type 0} (xs : List X) (i : ℕ) (k : X) → length (slice_set xs i k) ≡ length xs
+length-set [] i k = refl
+length-set (y ∷ ys) zero k = refl
+length-set (y ∷ ys) (suc i) k = ap suc (length-set ys i k)
+
+-- what is seen of all entries is what is seen of each block
+pub flat_plain : (xs ys : List (List Entry)) → map plain_block xs ≡ map plain_block ys → map plain_entry (flat xs) ≡ map plain_entry (flat ys)
+flat_plain [] [] e = refl
+flat_plain [] (y ∷ ys) e = absurd (cc)
+flat_plain (x ∷ xs) [] e = absurd (cc)
+flat_plain (x ∷ xs) (y ∷ ys) e =
+    let h : plain_block x ≡ plain_block y = cc in
+    let t : map plain_block xs ≡ map plain_block ys = cc in
+    map-append plain_entry x (flat xs) ∙ ap (λ l. l ++ map plain_entry (flat xs)) h ∙ ap (λ l. map plain_entry y ++ l) (flat_plain xs ys t) ∙ sym (map-append plain_entry y (flat ys))
+
+abbrev plain_live : NameParts × Option (Option (Option Content)) → Option Content
+plain_live (n, None) = None
+plain_live (n, Some None) = None
+plain_live (n, Some (Some None)) = None
+plain_live (n, Some (Some (Some c))) = Some c
+
+plain_count : (es : List Entry) → length (filter_map plain_live (map plain_entry es)) ≡ length (kept_in es)
+plain_count [] = refl
+plain_count (e ∷ es) = by e.name e.held (plain_count es)
+  where
+    by : (n : NameParts) (h : Held) → length (filter_map plain_live (map plain_entry es)) ≡ length (kept_in es) → length (filter_map plain_live ((n, plain_held h) ∷ map plain_entry es)) ≡ length (kept_in (record { name = n; held = h } ∷ es))
+    by n (held.Live kept) rest = ap suc rest
+    by n held.Disputed rest = rest
+    by n held.Retired rest = rest
+    by n held.Floor rest = rest
+
+-- as many names are live
+pub count_same : (a b : List Entry) → map plain_entry a ≡ map plain_entry b → length (kept_in a) ≡ length (kept_in b)
+count_same a b e = sym (plain_count a) ∙ ap (λ l. length (filter_map plain_live l)) e ∙ plain_count b
+
+take_plain : (xs ys : List (List Entry)) (k : ℕ) → map plain_block xs ≡ map plain_block ys → map plain_block (take k xs) ≡ map plain_block (take k ys)
+take_plain xs ys zero e = refl
+take_plain [] [] (suc k) e = refl
+take_plain [] (y ∷ ys) (suc k) e = absurd (cc)
+take_plain (x ∷ xs) [] (suc k) e = absurd (cc)
+take_plain (x ∷ xs) (y ∷ ys) (suc k) e =
+    let h : plain_block x ≡ plain_block y = cc in
+    let t : map plain_block xs ≡ map plain_block ys = cc in
+    ap (λ b. b ∷ map plain_block (take k xs)) h ∙ ap (λ l. plain_block y ∷ l) (take_plain xs ys k t)
+
+-- and the same numbers of them stand before each block
+pub starts_same : (xs ys : List (List Entry)) (starts : List ℕ) → map plain_block ys ≡ map plain_block xs → AreStarts xs starts → AreStarts ys starts
+starts_same xs ys starts e h k lt = h k lt ∙ sym (count_same (flat (take k ys)) (flat (take k xs)) (flat_plain (take k ys) (take k xs) (take_plain ys xs k e)))
+
+abbrev told : NameParts × Option (Option (Option Content)) → NameParts × Known
+told (n, None) = (n, Floor)
+told (n, Some None) = (n, Retired)
+told (n, Some (Some None)) = (n, Disputed)
+told (n, Some (Some (Some c))) = (n, Live c.bytes)
+
+told_entry : (n : NameParts) (h : Held) → told (n, plain_held h) ≡ (n, known_of h)
+told_entry n (held.Live kept) = refl
+told_entry n held.Disputed = refl
+told_entry n held.Retired = refl
+told_entry n held.Floor = refl
+
+told_entries : (es : List Entry) → map told (map plain_entry es) ≡ known_entries es
+told_entries [] = refl
+told_entries (e ∷ es) = ap (λ k. k ∷ map told (map plain_entry es)) (told_entry e.name e.held) ∙ ap (λ l. known_entry e ∷ l) (told_entries es)
+
+-- what is known is the same
+pub known_same : (a b : List Entry) → map plain_entry a ≡ map plain_entry b → known_entries a ≡ known_entries b
+known_same a b e = sym (told_entries a) ∙ ap (map told) e ∙ told_entries b
+
+abbrev IsPlainlyRead : Declaration → Option (Option (Option Content)) → Type 0
+IsPlainlyRead d None = ⊤
+IsPlainlyRead d (Some None) = ⊤
+IsPlainlyRead d (Some (Some None)) = ⊤
+IsPlainlyRead d (Some (Some (Some c))) = IsReadBy d c
+
+there : (d : Declaration) (h : Held) → IsHeldBy d h → IsPlainlyRead d (plain_held h)
+there d (held.Live kept) r = r
+there d held.Disputed r = r
+there d held.Retired r = r
+there d held.Floor r = r
+
+back : (d : Declaration) (h : Held) → IsPlainlyRead d (plain_held h) → IsHeldBy d h
+back d (held.Live kept) r = r
+back d held.Disputed r = r
+back d held.Retired r = r
+back d held.Floor r = r
+
+-- and was read by the same declaration
+pub read_same : (d : Declaration) (a b : List Entry) → map plain_entry a ≡ map plain_entry b → AllHeldBy d b → AllHeldBy d a
+read_same d [] b e all = tt
+read_same d (x ∷ xs) [] e all = absurd (cc)
+read_same d (x ∷ xs) (y ∷ ys) e all =
+    let h : plain_entry x ≡ plain_entry y = cc in
+    let t : map plain_entry xs ≡ map plain_entry ys = cc in
+    (back d x.held (subst (IsPlainlyRead d) (sym (ap (λ p. p.1) h)) (there d y.held all.0)), read_same d xs ys t all.1)
+
+-- a set that holds the same, with whatever runs, is as orderly
+pub orderly_same : (a b : Inside) → b.schema ≡ a.schema → b.count ≡ a.count → b.starts.items ≡ a.starts.items → map plain_block b.blocks.items ≡ map plain_block a.blocks.items → IsOrderly a → IsOrderly b
+orderly_same a b schema count starts plain h =
+    let bs = b.blocks.items in
+    let old = a.blocks.items in
+    let same = flat_plain bs old plain in
+    let known = known_same (flat bs) (flat old) same in
+    record {
+      rising = subst (λ es. T (is_sorted name_cmp es)) (sym known) h.rising;
+      settled = subst AreSettled (sym known) h.settled;
+      counted = count ∙ h.counted ∙ sym (same_length plain_entry (flat bs) (flat old) same);
+      few = subst (λ n. n < 2 ^ 64) (sym count) h.few;
+      read = subst (λ d. AllHeldBy d (flat bs)) (sym schema) (read_same a.schema (flat bs) (flat old) same h.read);
+      placed = ap length starts ∙ h.placed ∙ sym (same_length plain_block bs old plain);
+      starts = subst (AreStarts bs) (sym starts) (starts_same old bs a.starts.items plain h.starts);
+    }
+
+run_among : (keys : List SortKey) (es : List Entry) → AllByRecursion (λ e. HeldHasRun keys e.held) es → AllByRecursion (λ o. IsAmong o keys) (orders_in es)
+run_among keys [] all = tt
+run_among keys (e ∷ es) all = by e.name e.held all.0 (run_among keys es all.1)
+  where
+    by : (n : NameParts) (h : Held) → HeldHasRun keys h → AllByRecursion (λ o. IsAmong o keys) (orders_in es) → AllByRecursion (λ o. IsAmong o keys) (orders_in (record { name = n; held = h } ∷ es))
+    by n (held.Live kept) one rest = (one, rest)
+    by n held.Disputed one rest = rest
+    by n held.Retired one rest = rest
+    by n held.Floor one rest = rest
+
+all_flat : (P : Entry → Type 0) (bs : List (List Entry)) → AllByRecursion (All P) bs → All P (flat bs)
+all_flat P [] all = All-nil P
+all_flat P (b ∷ bs) all = All-append P b (flat bs) all.0 (all_flat P bs all.1)
+
+-- each live segment has the run
+pub all_have : (keys : List SortKey) (bs : List (List Entry)) → All (All (λ e. HeldHasRun keys e.held)) bs → AllByRecursion (λ o. IsAmong o keys) (orders_in (flat bs))
+all_have keys bs all =
+    run_among keys (flat bs) (recursion_from_All (λ e. HeldHasRun keys e.held) (flat bs) (all_flat (λ e. HeldHasRun keys e.held) bs (recursion_from_All (All (λ e. HeldHasRun keys e.held)) bs all)))
+
+-- the rows of entries are those of the live contents
+rows_told : (d : Declaration) (es : List Entry) → AllHeldBy d es → rows_in es ≡ map (λ e. content_rows d e.1) (filter_map live_of (known_entries es))
+rows_told d [] all = refl
+rows_told d (e ∷ es) all = by e.name e.held all.0 (rows_told d es all.1)
+  where
+    by : (n : NameParts) (h : Held) → IsHeldBy d h → rows_in es ≡ map (λ e. content_rows d e.1) (filter_map live_of (known_entries es)) → rows_in (record { name = n; held = h } ∷ es) ≡ map (λ e. content_rows d e.1) (filter_map live_of ((n, known_of h) ∷ known_entries es))
+    by n (held.Live kept) read rest = ap (λ r. r ∷ rows_in es) (sym (ap rows_or_none read.rows)) ∙ ap (λ l. content_rows d kept.content.bytes ∷ l) rest
+    by n held.Disputed read rest = rest
+    by n held.Retired read rest = rest
+    by n held.Floor read rest = rest
+
+pub rows_live : (a : Inside) (s : DeclaredView) → IsOrderly a → declared_view a ≡ s → rows_in (flat a.blocks.items) ≡ live_rows s
+rows_live a s h is =
+    rows_told a.schema (flat a.blocks.items) h.read ∙ ap (map (λ e. content_rows a.schema e.1)) (sym (lives-view (flat a.blocks.items) s.view h.rising (ap (λ (x : DeclaredView). x.view) is)))
+    ∙ ap (λ (x : DeclaredView). map (λ e. content_rows x.schema e.1) (lives s.view)) is
+
+-- a view that stays has the same rows
+pub live_same : (s t : DeclaredView) → Becomes s s.view t → live_rows t ≡ live_rows s
+live_same s t b = ap (λ d. map (λ e. content_rows d e.1) (lives t.view)) b.schema ∙ ap (λ v. map (λ e. content_rows s.schema e.1) (lives v)) b.view

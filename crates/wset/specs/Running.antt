@@ -1,0 +1,72 @@
+-- The segments of live names with their runs.
+use Rattle.std.specs.Prelude.{◌≡◌, ◌<◌, ◌≤◌, ⊤, ℕ, suc, List, get_or, length, map, take, Option, None, Some}
+use Rattle.std.specs.List.{IsAmong, filter_map}
+use Rattle.wvalues.specs.declared.key.SortKey.{SortKey}
+use Rattle.wvalues.specs.Names.{NameParts}
+use Rattle.wvalues.specs.Meaning.{Meaning}
+use Rattle.wsegment.specs.Rows.{Content}
+use Rattle.wruns.specs.KeptRuns.{KeptParts}
+use Rattle.wset.specs.Views.{lives}
+use Rattle.wset.specs.Tables.{content_rows}
+use Rattle.wset.specs.Sets.{DeclaredView}
+use Rattle.wset.specs.Blocks.{flat}
+use Rattle.wset.specs.declared.entries.Entry.{Entry}
+use Rattle.wset.specs.declared.held.Held.{Held}
+use Rattle.wset.specs.declared.held.Held.TheVariants as held
+
+-- the name with its segment and the runs of it, if it is live
+abbrev pub named_kept : NameParts → Held → Option (NameParts × KeptParts)
+named_kept n (held.Live kept) = Some (n, kept)
+named_kept n held.Disputed = None
+named_kept n held.Retired = None
+named_kept n held.Floor = None
+
+-- the live names with their segments and runs, in the order of names
+abbrev pub kept_in : List Entry → List (NameParts × KeptParts)
+kept_in es = filter_map (λ e. named_kept e.name e.held) es
+
+-- the keys of the runs of each live segment
+abbrev pub orders_in : List Entry → List (List (List SortKey))
+orders_in es = map (λ k. k.1.orders) (kept_in es)
+
+-- the rows of each live segment
+abbrev pub rows_in : List Entry → List (List (List Meaning))
+rows_in es = map (λ k. k.1.content.rows) (kept_in es)
+
+-- the rows of each live content, in the order of names
+abbrev pub live_rows : DeclaredView → List (List (List Meaning))
+live_rows s = map (λ e. content_rows s.schema e.1) (lives s.view)
+
+-- how many live names stand before a block
+abbrev pub lives_before : List (List Entry) → ℕ → ℕ
+lives_before blocks k = length (kept_in (flat (take k blocks)))
+
+-- these are the numbers of live names before the first blocks
+abbrev pub AreStarts : List (List Entry) → List ℕ → Type 0
+AreStarts blocks starts = (k : ℕ) → k < length starts → get_or starts k 0 ≡ lives_before blocks k
+
+-- the live name of a number is in a block
+pub record IsLiveHome (starts : List ℕ) (i k : ℕ) : Type 0 where
+  pub in_range : k < length starts
+  pub before : get_or starts k 0 ≤ i
+  pub behind : suc k < length starts → i < get_or starts (suc k) 0
+
+-- what is held, whatever runs are kept
+abbrev pub plain_held : Held → Option (Option (Option Content))
+plain_held (held.Live kept) = Some (Some (Some kept.content))
+plain_held held.Disputed = Some (Some None)
+plain_held held.Retired = Some None
+plain_held held.Floor = None
+
+abbrev pub plain_entry : Entry → NameParts × Option (Option (Option Content))
+plain_entry e = (e.name, plain_held e.held)
+
+abbrev pub plain_block : List Entry → List (NameParts × Option (Option (Option Content)))
+plain_block es = map plain_entry es
+
+-- a segment that is live has a run of these keys
+abbrev pub HeldHasRun : List SortKey → Held → Type 0
+HeldHasRun keys (held.Live kept) = IsAmong kept.orders keys
+HeldHasRun keys held.Disputed = ⊤
+HeldHasRun keys held.Retired = ⊤
+HeldHasRun keys held.Floor = ⊤

@@ -1,0 +1,84 @@
+//! Refusals, explained on standard error.
+
+use wact::Acted;
+use wcommand::{Choice, Paths};
+use wexplain::{Given, Input, explain};
+
+/// The status of a refusal.
+const REFUSED: u8 = 1;
+
+// The words of a name in a choice.
+fn name_of<'a>(choice: &Choice<'a>) -> (&'a str, &'a str) {
+    match *choice {
+        Choice::Take { origin, number, .. } => (origin, number),
+        Choice::Retire { origin, number, .. } => (origin, number),
+        Choice::Floor { origin, number, .. } => (origin, number),
+        _ => ("", ""),
+    }
+}
+
+// The query of a choice.
+fn query_of<'a>(choice: &Choice<'a>) -> &'a str {
+    match *choice {
+        Choice::Ask { query, .. } => query,
+        _ => "",
+    }
+}
+
+// CSV of a choice, with its bytes.
+fn segment_of<'w, 'o>(choice: &Choice<'w>, bytes: &'o [u8]) -> Option<Input<'w, 'o>> {
+    match *choice {
+        Choice::Take { csv, .. } => Some(Input { path: csv, bytes }),
+        _ => None,
+    }
+}
+
+// OTHER of a choice, with its bytes.
+fn other_of<'w, 'o>(choice: &Choice<'w>, bytes: &'o [u8]) -> Option<Input<'w, 'o>> {
+    match *choice {
+        Choice::Join { other, .. } => Some(Input { path: other, bytes }),
+        _ => None,
+    }
+}
+
+// The store, if there was one.
+fn store_of<'p, 's>(path: &'p str, bytes: &'s Option<Vec<u8>>) -> Option<Input<'p, 's>> {
+    match bytes {
+        Some(bytes) => Some(Input {
+            path,
+            bytes: bytes.as_slice(),
+        }),
+        None => None,
+    }
+}
+
+/// Writes why a subcommand was refused, on these bytes, to standard error; nothing where it was not.
+pub(crate) fn explain_refusal<R: AllocGlobal + Eprint>(
+    rt: &R,
+    choice: &Choice<'_>,
+    paths: Paths<'_>,
+    table: &[u8],
+    store: &Option<Vec<u8>>,
+    other: &[u8],
+    acted: &Acted,
+) {
+    if acted.status != REFUSED {
+        return;
+    }
+    let (origin, number) = name_of(choice);
+    let given = Given {
+        table: Input {
+            path: paths.table,
+            bytes: table,
+        },
+        store: store_of(paths.store, store),
+        segment: segment_of(choice, other),
+        other: other_of(choice, other),
+        origin,
+        number,
+        query: query_of(choice),
+    };
+    if let Ok(Some(text)) = explain(rt.alloc(), acted.output.as_slice(), &given) {
+        let _ = eprint!(rt; "{text}");
+    }
+}

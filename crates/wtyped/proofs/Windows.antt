@@ -1,0 +1,244 @@
+-- Windows that no rule refuses are well typed.
+use Rattle.std.proofs.Common.{◌≡◌, Bool, true, false, not, ◌&&◌, ◌||◌, ◌==◌, ℕ, ◌^◌, nat_lt, nat_le, List, [], ◌∷◌, ◌++◌, Option, Some, None, refl, sym, ap, ap₂, ◌∙◌, true≢false}
+use Rattle.std.specs.Prelude.{if◌then◌else◌}
+use Rattle.std.specs.List.{list_all, list_any}
+use Rattle.std.specs.Str.{bytes_eq}
+use Rattle.std.proofs.lemmas.Bool.{or_parts, and_parts, and_from, not-true, not-false, lt-ltb, le-leb, ltb-false, leb-false}
+use Rattle.wquery.specs.declared.frame.Frame.{Frame}
+use Rattle.wquery.specs.declared.frame.FrameMode.{FrameMode}
+use Rattle.wquery.specs.declared.frame.FrameMode.TheVariants.{Rows, Range, Groups}
+use Rattle.wquery.specs.declared.frame.FrameBound.{FrameBound}
+use Rattle.wquery.specs.declared.frame.FrameBound.TheVariants.{UnboundedPreceding, Preceding, CurrentRow, Following, UnboundedFollowing}
+use Rattle.wquery.specs.Tree.{Tree, Reach, ItsGroup, ThatWindow, OwnWindow, Keys, NoKeys, MoreKeys, keys, Trees, NoTrees, MoreTrees, trees, own_window}
+use Rattle.wquery.specs.QueryTree.{EntryTree}
+use Rattle.wsame.specs.Bounds.{end_of, place_of_bound}
+use Rattle.wscope.specs.declared.data_type.DataType.{DataType}
+use Rattle.wscope.specs.declared.data_type.DataType.TheVariants.{Integer, Text, Truth, Null}
+use Rattle.wscope.specs.Scope.{some_entry}
+use Rattle.wscope.specs.Seeking.{some_key, some_node, some_reach, some_tree}
+use Rattle.wscope.specs.Types as scope
+use Rattle.wscope.specs.Types.{Titled, type_of}
+use Rattle.wscope.specs.Windows.{NamedWindow, Settled, empty_window, keys_or, or_none, settle, settle_all, settle_tree, window_named}
+use Rattle.wnames.specs.Typing.{all_keys, all_trees, is_truth_entry, is_window_typed}
+use Rattle.wnames.specs.Typing as judged
+use Rattle.wwindows.specs.Windows as rules
+use Rattle.wwindows.specs.Windows.{entry_is, has_bad_bounds, has_bad_frame, has_range_key, is_long, is_text_type, lacks_groups, lacks_range_key, own_window_is, reach_is}
+use Rattle.wsettle.specs.Resolving.{Layout, resolved}
+use Rattle.wresolve.specs.Selecting.{entries_made, frame_made, keys_made, trees_made, window_made, window_of_reach}
+use Rattle.wtyped.specs.Plans.{are_bounds, are_keys, are_windows, bound_rank, has_keys, has_offset, is_any, is_frame, is_one_number, is_short, is_value, is_window, suits_keys}
+use Rattle.wtyped.specs.Typing.{formula_type, has, is_number}
+use Rattle.wtyped.proofs.Calls.{valued_as}
+use Rattle.wtyped.proofs.Formulas.{sees_misfit, typed}
+
+-- expressions and keys that fit a row and are values
+abbrev pub AreValues : Layout → List DataType → Trees → Type 0
+AreValues l ts us = (some_tree (sees_misfit l ts) us ≡ false) × (all_trees (judged.is_value l.columns) us ≡ true)
+
+abbrev pub AreKeys : Layout → List DataType → Keys → Type 0
+AreKeys l ts ks = (some_key (sees_misfit l ts) ks ≡ false) × (all_keys (judged.is_value l.columns) ks ≡ true)
+
+abbrev pub IsTyped : Layout → List DataType → Settled → Type 0
+IsTyped l ts w = AreValues l ts w.partition × AreKeys l ts w.order
+
+abbrev pub AreTyped : Layout → List DataType → List NamedWindow → Type 0
+AreTyped l ts [] = Unit {0}
+AreTyped l ts (w ∷ ws) = IsTyped l ts w.window × AreTyped l ts ws
+
+empty_typed : (l : Layout) (ts : List DataType) → IsTyped l ts empty_window
+empty_typed l ts = ((refl, refl), (refl, refl))
+
+named_typed : (l : Layout) (ts : List DataType) (ws : List NamedWindow) (name : List ℕ) → AreTyped l ts ws
+    → IsTyped l ts (or_none (window_named ws name))
+named_typed l ts [] name a = empty_typed l ts
+named_typed l ts (w ∷ ws) name a = go (bytes_eq w.name name) (named_typed l ts ws name a.1)
+  where
+    go : (b : Bool) → IsTyped l ts (or_none (window_named ws name))
+        → IsTyped l ts (or_none (if b then Some w.window else window_named ws name))
+    go true rest = a.0
+    go false rest = rest
+
+keys_typed : (l : Layout) (ts : List DataType) (own copied : Keys) → AreKeys l ts own → AreKeys l ts copied
+    → AreKeys l ts (keys_or own copied)
+keys_typed l ts NoKeys copied a b = b
+keys_typed l ts (MoreKeys t descending nulls more) copied a b = a
+
+pub settled_typed : (l : Layout) (ts : List DataType) (ws : List NamedWindow) (copied : Option (List ℕ)) (us : Trees) (ks : Keys)
+    (frame : Option Frame) → AreTyped l ts ws → AreValues l ts us → AreKeys l ts ks → IsTyped l ts (settle ws copied us ks frame)
+settled_typed l ts ws None us ks frame a u k = (u, k)
+settled_typed l ts ws (Some name) us ks frame a u k =
+    let n = named_typed l ts ws name a in (n.0, keys_typed l ts ks (or_none (window_named ws name)).order k n.1)
+
+behind_typed : (l : Layout) (ts : List DataType) (ws vs : List NamedWindow) → AreTyped l ts ws → AreTyped l ts vs → AreTyped l ts (ws ++ vs)
+behind_typed l ts [] vs a b = b
+behind_typed l ts (w ∷ ws) vs a b = (a.0, behind_typed l ts ws vs a.1 b)
+
+reach_values : (l : Layout) (ts : List DataType) (copied : Option (List ℕ)) (us : Trees) (ks : Keys) (frame : Option Frame)
+    → some_reach (sees_misfit l ts) (OwnWindow copied us ks frame) ≡ false
+    → is_window_typed l.columns (OwnWindow copied us ks frame) ≡ true → AreValues l ts us × AreKeys l ts ks
+reach_values l ts copied us ks frame e t =
+    let p = or_parts (some_tree (sees_misfit l ts) us) (some_key (sees_misfit l ts) ks) e in
+    let q = and_parts (all_trees (judged.is_value l.columns) us) (all_keys (judged.is_value l.columns) ks) t in ((p.0, q.0), (p.1, q.1))
+
+pub entries_typed : (l : Layout) (ts : List DataType) (ws : List NamedWindow) (es : List EntryTree) → AreTyped l ts ws
+    → some_entry (sees_misfit l ts) es ≡ false → list_any (is_truth_entry l.columns) es ≡ false → AreTyped l ts (settle_all ws es)
+entries_typed l ts ws [] a e f = a
+entries_typed l ts ws (x ∷ es) a e f =
+    let p = or_parts (some_reach (sees_misfit l ts) (own_window x.window)) (some_entry (sees_misfit l ts) es) e in
+    let q = or_parts (is_truth_entry l.columns x) (list_any (is_truth_entry l.columns) es) f in
+    let v = reach_values l ts x.window.copied (trees x.window.partition) (keys x.window.order) x.window.frame p.0 (not-false (is_window_typed l.columns (own_window x.window)) q.0) in
+    let w = settled_typed l ts ws x.window.copied (trees x.window.partition) (keys x.window.order) x.window.frame a v.0 v.1 in
+    entries_typed l ts (ws ++ (record { name = x.name; window = settle_tree ws x.window } ∷ [])) es (behind_typed l ts ws (record { name = x.name; window = settle_tree ws x.window } ∷ []) a (w, tt)) p.1 q.1
+
+-- values of a row
+
+value_made : (l : Layout) (ts : List DataType) (t : Tree) → some_node (sees_misfit l ts) t ≡ false → judged.is_value l.columns t ≡ true
+    → is_value ts (resolved l t) ≡ true
+value_made l ts t e v =
+    ap (has is_any) (valued_as (formula_type ts (resolved l t)) (type_of l.columns t) (typed l ts t e) (not-true (scope.is_truth (type_of l.columns t)) v))
+
+values_made : (l : Layout) (ts : List DataType) (us : Trees) → AreValues l ts us → list_all (is_value ts) (trees_made l us) ≡ true
+values_made l ts NoTrees a = refl
+values_made l ts (MoreTrees t us) a =
+    let p = or_parts (some_node (sees_misfit l ts) t) (some_tree (sees_misfit l ts) us) a.0 in
+    let q = and_parts (judged.is_value l.columns t) (all_trees (judged.is_value l.columns) us) a.1 in
+    and_from (is_value ts (resolved l t)) (list_all (is_value ts) (trees_made l us)) (value_made l ts t p.0 q.0) (values_made l ts us (p.1, q.1))
+
+order_made : (l : Layout) (ts : List DataType) (ks : Keys) → AreKeys l ts ks → are_keys ts (keys_made l ks) ≡ true
+order_made l ts NoKeys a = refl
+order_made l ts (MoreKeys t descending nulls more) a =
+    let p = or_parts (some_node (sees_misfit l ts) t) (some_key (sees_misfit l ts) more) a.0 in
+    let q = and_parts (judged.is_value l.columns t) (all_keys (judged.is_value l.columns) more) a.1 in
+    and_from (is_value ts (resolved l t)) (are_keys ts (keys_made l more)) (value_made l ts t p.0 q.0) (order_made l ts more (p.1, q.1))
+
+-- frames
+
+ranked : (b : FrameBound) → place_of_bound b ≡ bound_rank b
+ranked UnboundedPreceding = refl
+ranked (Preceding n) = refl
+ranked CurrentRow = refl
+ranked (Following n) = refl
+ranked UnboundedFollowing = refl
+
+starts : (b : FrameBound) → (place_of_bound b == 4) ≡ false → nat_lt (bound_rank b) 4 ≡ true
+starts UnboundedPreceding e = refl
+starts (Preceding n) e = refl
+starts CurrentRow e = refl
+starts (Following n) e = refl
+starts UnboundedFollowing e = absurd (true≢false e)
+
+ends : (b : FrameBound) → (place_of_bound b == 0) ≡ false → nat_lt 0 (bound_rank b) ≡ true
+ends UnboundedPreceding e = absurd (true≢false e)
+ends (Preceding n) e = refl
+ends CurrentRow e = refl
+ends (Following n) e = refl
+ends UnboundedFollowing e = refl
+
+rises : (a b : FrameBound) → nat_lt (place_of_bound b) (place_of_bound a) ≡ false → nat_le (bound_rank a) (bound_rank b) ≡ true
+rises a b e =
+    le-leb (bound_rank a) (bound_rank b) (ltb-false (bound_rank b) (bound_rank a) (ap₂ (λ x y. nat_lt x y) (sym (ranked b)) (sym (ranked a)) ∙ e))
+
+short : (b : FrameBound) → is_long b ≡ false → is_short b ≡ true
+short UnboundedPreceding e = refl
+short (Preceding n) e = lt-ltb n (2 ^ 63) (leb-false (2 ^ 63) n e)
+short CurrentRow e = refl
+short (Following n) e = lt-ltb n (2 ^ 63) (leb-false (2 ^ 63) n e)
+short UnboundedFollowing e = refl
+
+bounds : (a b : FrameBound)
+    → ((place_of_bound a == 4) || ((place_of_bound b == 0) || (nat_lt (place_of_bound b) (place_of_bound a) || (is_long a || is_long b)))) ≡ false → are_bounds a b ≡ true
+bounds a b e =
+    let p = or_parts (place_of_bound a == 4) ((place_of_bound b == 0) || (nat_lt (place_of_bound b) (place_of_bound a) || (is_long a || is_long b))) e in
+    let q = or_parts (place_of_bound b == 0) (nat_lt (place_of_bound b) (place_of_bound a) || (is_long a || is_long b)) p.1 in
+    let r = or_parts (nat_lt (place_of_bound b) (place_of_bound a)) (is_long a || is_long b) q.1 in
+    let s = or_parts (is_long a) (is_long b) r.1 in
+    and_from (nat_lt (bound_rank a) 4) (nat_lt 0 (bound_rank b) && (nat_le (bound_rank a) (bound_rank b) && (is_short a && is_short b))) (starts a p.0)
+    (and_from (nat_lt 0 (bound_rank b)) (nat_le (bound_rank a) (bound_rank b) && (is_short a && is_short b)) (ends b q.0)
+    (and_from (nat_le (bound_rank a) (bound_rank b)) (is_short a && is_short b) (rises a b r.0) (and_from (is_short a) (is_short b) (short a s.0) (short b s.1))))
+
+keyed : (l : Layout) (ks : Keys) → rules.has_keys ks ≡ true → has_keys (keys_made l ks) ≡ true
+keyed l NoKeys e = absurd (true≢false (sym e))
+keyed l (MoreKeys t descending nulls more) e = refl
+
+number_type : (t : DataType) → is_text_type t ≡ false → scope.is_truth t ≡ false → is_number t ≡ true
+number_type Integer e f = refl
+number_type Null e f = refl
+number_type Text e f = absurd (true≢false e)
+number_type Truth e f = absurd (true≢false f)
+
+one_key : (l : Layout) (ts : List DataType) (ks : Keys) → AreKeys l ts ks → has_range_key l.columns ks ≡ true
+    → is_one_number ts (keys_made l ks) ≡ true
+one_key l ts NoKeys a e = absurd (true≢false (sym e))
+one_key l ts (MoreKeys t descending nulls NoKeys) a e =
+    let p = or_parts (some_node (sees_misfit l ts) t) false a.0 in
+    let q = and_parts (judged.is_value l.columns t) true a.1 in
+    ap (has is_number) (typed l ts t p.0) ∙ number_type (type_of l.columns t) (not-true (is_text_type (type_of l.columns t)) e) (not-true (scope.is_truth (type_of l.columns t)) q.0)
+one_key l ts (MoreKeys t descending nulls (MoreKeys u down first more)) a e = absurd (true≢false (sym e))
+
+same_offset : (b : FrameBound) → has_offset b ≡ rules.is_offset b
+same_offset UnboundedPreceding = refl
+same_offset (Preceding n) = refl
+same_offset CurrentRow = refl
+same_offset (Following n) = refl
+same_offset UnboundedFollowing = refl
+
+asked : (offset one : Bool) → ((true && offset) && not one) ≡ false → (not offset || one) ≡ true
+asked false one e = refl
+asked true true e = refl
+asked true false e = absurd (true≢false e)
+
+implied : (a b c : Bool) → (b ≡ true → c ≡ true) → (not a || b) ≡ true → (not a || c) ≡ true
+implied true b c h e = h e
+implied false b c h e = refl
+
+suited : (l : Layout) (ts : List DataType) (ks : Keys) (mode : FrameMode) (offset : Bool) → AreKeys l ts ks
+    → (rules.is_groups mode && not (rules.has_keys ks)) ≡ false
+    → ((rules.is_range mode && offset) && not (has_range_key l.columns ks)) ≡ false → suits_keys ts (keys_made l ks) mode offset ≡ true
+suited l ts ks Rows offset a g r = refl
+suited l ts ks Groups offset a g r = keyed l ks (not-false (rules.has_keys ks) g)
+suited l ts ks Range offset a g r =
+    implied offset (has_range_key l.columns ks) (is_one_number ts (keys_made l ks)) (one_key l ts ks a) (asked offset (has_range_key l.columns ks) r)
+
+framed : (l : Layout) (ts : List DataType) (ks : Keys) (frame : Option Frame) → AreKeys l ts ks
+    → rules.in_frame frame has_bad_bounds ≡ false → rules.in_frame frame (λ f. rules.is_groups f.mode && not (rules.has_keys ks)) ≡ false
+    → rules.in_frame frame (λ f. (rules.is_range f.mode && (rules.is_offset f.start || rules.is_offset (end_of f))) && not (has_range_key l.columns ks)) ≡ false → is_frame ts (keys_made l ks) (frame_made frame) ≡ true
+framed l ts ks None a b g r = refl
+framed l ts ks (Some f) a b g r =
+    and_from (are_bounds f.start (end_of f)) (suits_keys ts (keys_made l ks) f.mode (has_offset f.start || has_offset (end_of f))) (bounds f.start (end_of f) b)
+    (ap (suits_keys ts (keys_made l ks) f.mode) (ap₂ (λ x y. x || y) (same_offset f.start) (same_offset (end_of f))) ∙ suited l ts ks f.mode (rules.is_offset f.start || rules.is_offset (end_of f)) a g r)
+
+-- what the rules on frames say of a window
+abbrev pub HasFrame : List Titled → Settled → Type 0
+HasFrame cs w = (has_bad_frame w ≡ false) × (lacks_groups w ≡ false) × (lacks_range_key cs w ≡ false)
+
+pub window_typed : (l : Layout) (ts : List DataType) (w : Settled) → IsTyped l ts w → HasFrame l.columns w
+    → is_window ts (window_made l w) ≡ true
+window_typed l ts w t f =
+    and_from (list_all (is_value ts) (trees_made l w.partition)) (are_keys ts (keys_made l w.order) && is_frame ts (keys_made l w.order) (frame_made w.frame)) (values_made l ts w.partition t.0)
+    (and_from (are_keys ts (keys_made l w.order)) (is_frame ts (keys_made l w.order) (frame_made w.frame)) (order_made l ts w.order t.1) (framed l ts w.order w.frame t.1 f.0 f.1 f.2))
+
+-- those of WINDOW entries
+pub named_windows : (l : Layout) (ts : List DataType) (ws : List NamedWindow) → AreTyped l ts ws
+    → list_any (entry_is has_bad_frame) ws ≡ false → list_any (entry_is lacks_groups) ws ≡ false
+    → list_any (entry_is (lacks_range_key l.columns)) ws ≡ false
+    → are_windows ts (entries_made l ws) ≡ true
+named_windows l ts [] a b g r = refl
+named_windows l ts (w ∷ ws) a b g r =
+    let p = or_parts (has_bad_frame w.window) (list_any (entry_is has_bad_frame) ws) b in
+    let q = or_parts (lacks_groups w.window) (list_any (entry_is lacks_groups) ws) g in
+    let s = or_parts (lacks_range_key l.columns w.window) (list_any (entry_is (lacks_range_key l.columns)) ws) r in
+    and_from (is_window ts (window_made l w.window)) (are_windows ts (entries_made l ws)) (window_typed l ts w.window a.0 (p.0, q.0, s.0)) (named_windows l ts ws a.1 p.1 q.1 s.1)
+
+-- those of calls
+abbrev pub OwnFrame : List NamedWindow → List Titled → Tree → Type 0
+OwnFrame ws cs t =
+    (reach_is (own_window_is ws has_bad_frame) t ≡ false) × (reach_is (own_window_is ws lacks_groups) t ≡ false) × (reach_is (own_window_is ws (lacks_range_key cs)) t ≡ false)
+
+pub own_typed : (l : Layout) (ts : List DataType) (ws : List NamedWindow) (reach : Reach) → AreTyped l ts ws
+    → some_reach (sees_misfit l ts) reach ≡ false → is_window_typed l.columns reach ≡ true
+    → own_window_is ws has_bad_frame reach ≡ false → own_window_is ws lacks_groups reach ≡ false
+    → own_window_is ws (lacks_range_key l.columns) reach ≡ false → are_windows ts (window_of_reach l ws reach) ≡ true
+own_typed l ts ws ItsGroup a e t b g r = refl
+own_typed l ts ws (ThatWindow window) a e t b g r = refl
+own_typed l ts ws (OwnWindow copied us ks frame) a e t b g r =
+    let v = reach_values l ts copied us ks frame e t in
+    and_from (is_window ts (window_made l (settle ws copied us ks frame))) true (window_typed l ts (settle ws copied us ks frame) (settled_typed l ts ws copied us ks frame a v.0 v.1) (b, g, r)) refl

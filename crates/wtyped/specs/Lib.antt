@@ -1,0 +1,9 @@
+pub mod Typing
+pub mod Exact
+pub mod Plans
+pub mod Shapes
+pub mod Laws
+pub mod Calls
+pub mod Scoped
+pub mod Spelled
+pub mod Bounded
