@@ -20,7 +20,7 @@ use wframe::{Partitions, frames_are_rows, stable_sorts_agree};
 use wplan::AggregateFunction;
 use wrows::AnswerFault;
 use wslide::{
-    Count, CountRows, Fold, Greatest, Least, Meter, PartialSum, Sum, counts_are_exact,
+    Count, CountRows, Extreme, Fold, Meter, PartialSum, Sum, counts_are_exact,
     picked_rows_feed_alike, places_are_least, push_window_folds, see_ranges, sums_are_exact,
 };
 use wvalues::Value;
@@ -74,16 +74,8 @@ impl<'a> ToldFold for Sum<'a> {
     }
 }
 
-impl<'a> ToldFold for Least<'a> {
-    ghost told = { λ least place. Some (value_or_null (meanings least.values.now) place) };
-
-    fn value(&self, part: Option<usize>) -> Result<Value, AnswerFault> {
-        value_at(self.values, part)
-    }
-}
-
-impl<'a> ToldFold for Greatest<'a> {
-    ghost told = { λ greatest place. Some (value_or_null (meanings greatest.values.now) place) };
+impl<'a> ToldFold for Extreme<'a> {
+    ghost told = { λ extreme place. Some (value_or_null (meanings extreme.values.now) place) };
 
     fn value(&self, part: Option<usize>) -> Result<Value, AnswerFault> {
         value_at(self.values, part)
@@ -170,11 +162,19 @@ fn push_picked(
             push_folds(alloc, &fold, rows, partitions, &mut meter, told, tally)
         }
         AggregateFunction::Min => {
-            let fold = Least { values, filter };
+            let fold = Extreme {
+                values,
+                filter,
+                greatest: false,
+            };
             push_folds(alloc, &fold, rows, partitions, &mut meter, told, tally)
         }
         AggregateFunction::Max => {
-            let fold = Greatest { values, filter };
+            let fold = Extreme {
+                values,
+                filter,
+                greatest: true,
+            };
             push_folds(alloc, &fold, rows, partitions, &mut meter, told, tally)
         }
     }

@@ -20,8 +20,8 @@ use wframe::stable_sorts_agree;
 use wplan::AggregateFunction;
 use wrows::AnswerFault;
 use wslide::{
-    Count, CountRows, Fold, Greatest, Least, Meter, Sum, counts_are_exact, places_are_least,
-    see_ranges, sums_are_exact,
+    Count, CountRows, Extreme, Fold, Meter, Sum, counts_are_exact, places_are_least, see_ranges,
+    sums_are_exact,
 };
 use wvalues::Value;
 
@@ -141,11 +141,19 @@ fn aggregate_values(
             fold_groups(alloc, &fold, &mut meter, groups, count, order)
         }
         AggregateFunction::Min => {
-            let fold = Least { values, filter };
+            let fold = Extreme {
+                values,
+                filter,
+                greatest: false,
+            };
             fold_groups(alloc, &fold, &mut meter, groups, count, order)
         }
         AggregateFunction::Max => {
-            let fold = Greatest { values, filter };
+            let fold = Extreme {
+                values,
+                filter,
+                greatest: true,
+            };
             fold_groups(alloc, &fold, &mut meter, groups, count, order)
         }
     }

@@ -8,7 +8,7 @@ use wframe::{
 };
 use wplaces::{dense_rank, first_value, lag, last_value, lead, nth_value, ntile, rank, row_number};
 use wreplies::Text;
-use wslide::{Count, Fold, Greatest, Least, Meter, Sum, frame_folds, most_is_small};
+use wslide::{Count, Extreme, Fold, Meter, Sum, frame_folds, most_is_small};
 use wvalues::{SortKey, Value, Whole};
 
 const BY_KEY: [SortKey; 1] = [SortKey {
@@ -138,11 +138,19 @@ fn folds_of(
             number_lines(alloc, &numbers)
         }
         Aggregate::Least => {
-            let least = Least { values, filter };
+            let least = Extreme {
+                values,
+                filter,
+                greatest: false,
+            };
             place_lines(alloc, &folds(alloc, values, exclusion, &least, &mut meter)?)
         }
         Aggregate::Greatest => {
-            let greatest = Greatest { values, filter };
+            let greatest = Extreme {
+                values,
+                filter,
+                greatest: true,
+            };
             place_lines(
                 alloc,
                 &folds(alloc, values, exclusion, &greatest, &mut meter)?,

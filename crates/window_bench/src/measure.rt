@@ -9,7 +9,7 @@ use std::alloc::{AllocError, Global};
 use std::rt::Clock;
 use std::time::{Duration, Instant};
 use wframe::{KeyRows, Partitions, are_in_order};
-use wslide::{Count, Fold, Greatest, Least, Meter, Sum, push_window_folds};
+use wslide::{Count, Extreme, Fold, Meter, Sum, push_window_folds};
 use wvalues::{SortKey, Value};
 
 /// The order of partition values, and of keys.
@@ -94,11 +94,21 @@ fn sum_of_folds(
             Ok(numbers.fold(0, i128::wrapping_add))
         }
         Aggregate::Least => {
-            let places = folds(alloc, &Least { values, filter }, rows, partitions, meter)?;
+            let least = Extreme {
+                values,
+                filter,
+                greatest: false,
+            };
+            let places = folds(alloc, &least, rows, partitions, meter)?;
             Ok(sum_at(values, &places))
         }
         Aggregate::Greatest => {
-            let places = folds(alloc, &Greatest { values, filter }, rows, partitions, meter)?;
+            let greatest = Extreme {
+                values,
+                filter,
+                greatest: true,
+            };
+            let places = folds(alloc, &greatest, rows, partitions, meter)?;
             Ok(sum_at(values, &places))
         }
     }

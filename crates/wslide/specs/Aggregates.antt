@@ -65,13 +65,15 @@ abbrev pub picked_tests : Option (List Bool) → List ℕ → Option (List Bool)
 picked_tests None rows = None
 picked_tests (Some tests) rows = Some (map (λ row. slice_index_or tests row false) rows)
 
--- numbers by size and texts by bytes
-abbrev pub by_value : Meaning → Meaning → Ordering
-by_value = key_cmp (record { col = 0; desc = false; nulls_first = false })
+-- numbers by size and texts by bytes, or the other way round
+abbrev pub by_value_in : Bool → Meaning → Meaning → Ordering
+by_value_in descending = key_cmp (record { col = 0; desc = descending; nulls_first = false })
 
--- the other way round
+abbrev pub by_value : Meaning → Meaning → Ordering
+by_value = by_value_in false
+
 abbrev pub by_value_descending : Meaning → Meaning → Ordering
-by_value_descending = key_cmp (record { col = 0; desc = true; nulls_first = false })
+by_value_descending = by_value_in true
 
 -- the list is cut at its least row, all of whose left rows that feed a value feed a greater one, and no right row a smaller one
 pub record IsLeastBetween (order : Meaning → Meaning → Ordering) (feed : ℕ → Meaning) (rows left : List ℕ) (least : ℕ) (right : List ℕ) : Type 0 where

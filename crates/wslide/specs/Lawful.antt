@@ -1,4 +1,4 @@
--- The joins of the four folds obey the laws of a fold.
+-- The joins of the folds obey the laws of a fold.
 use Rattle.std.specs.Prelude.{◌≡◌, ℕ, ℤ, pos, negsuc, neg_ℤ, ◌+ℤ◌, ◌-ℤ◌, ◌*ℤ◌, ◌<◌, ◌^◌, int_lt, List, Bool, true, false, Option, Some, None, length, if◌then◌else◌, refl}
 use Rattle.std.specs.Ordering.{is_lt, is_gt, ordering_reverse}
 use Rattle.std.specs.Cmp.{IsTotalOrder, upto, alike_right}
@@ -8,7 +8,7 @@ use Rattle.std.proofs.Common.{arith, sym, ap, ◌∙◌}
 use Rattle.std.proofs.lemmas.Int.{ints}
 use Rattle.wvalues.specs.Meaning.{Meaning}
 use Rattle.wvalues.specs.OrderLaws.{key_total}
-use Rattle.wslide.specs.Aggregates.{by_value, by_value_descending}
+use Rattle.wslide.specs.Aggregates.{by_value_in, by_value, by_value_descending}
 use Rattle.wslide.specs.Laws.{FoldLaws}
 use Rattle.wslide.specs.Counts.{IsCount, counts_joined}
 use Rattle.wslide.specs.Sums.{IsShort, IsSum, wrapped, sums_joined}
@@ -139,8 +139,11 @@ module _ {order : Meaning → Meaning → Ordering} (total : IsTotalOrder order)
       assoc = λ x y z hx hy hz. assoc x y z;
     }
 
+pub by_value_in_total : (descending : Bool) → IsTotalOrder (by_value_in descending)
+by_value_in_total descending = key_total (record { col = 0; desc = descending; nulls_first = false })
+
 pub by_value_total : IsTotalOrder by_value
-by_value_total = key_total (record { col = 0; desc = false; nulls_first = false })
+by_value_total = by_value_in_total false
 
 pub by_value_descending_total : IsTotalOrder by_value_descending
-by_value_descending_total = key_total (record { col = 0; desc = true; nulls_first = false })
+by_value_descending_total = by_value_in_total true

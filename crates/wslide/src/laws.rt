@@ -27,7 +27,7 @@ pub fn sums_are_exact()
     ensures { (feed : ℕ → Meaning) (rows : List ℕ) → count_of feed rows < 2 ^ 31 → All (λ row. IsInRange (feed row)) rows → rows_fold None sums_joined (λ row. sum_part (feed row)) rows ≡ sum_or_none feed rows }
 {}
 
-/// The folds of `Least` and `Greatest` are the places of the least and the greatest value, the leftmost of equal ones.
+/// The folds of `Extreme` are the places of the least and the greatest value, the leftmost of equal ones.
 pub fn places_are_least()
     ensures least { (values : List Meaning) (filter : Option (List Bool)) (rows : List ℕ) → IsLeast by_value (fed values filter) rows (rows_fold None (leasts_joined by_value values) (place_at values filter) rows) }
     ensures greatest { (values : List Meaning) (filter : Option (List Bool)) (rows : List ℕ) → IsLeast by_value_descending (fed values filter) rows (rows_fold None (leasts_joined by_value_descending values) (place_at values filter) rows) }

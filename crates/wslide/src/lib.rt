@@ -11,12 +11,11 @@
 
 mod count;
 mod excluded;
+mod extreme;
 mod filter;
 mod fold;
 mod frames;
-mod greatest;
 mod laws;
-mod least;
 mod meter;
 mod partial_sum;
 mod places;
@@ -29,14 +28,13 @@ mod tree;
 mod window;
 
 pub use count::{Count, CountRows};
+pub use extreme::Extreme;
 pub use fold::Fold;
 pub use frames::{FrameQueues, frame_folds, push_frame_folds};
-pub use greatest::Greatest;
 pub use laws::{
     counts_are_exact, height_is_least, most_is_small, most_of_few_rows, picked_rows_feed_alike,
     places_are_least, sums_are_exact,
 };
-pub use least::Least;
 pub use meter::Meter;
 pub use partial_sum::PartialSum;
 pub use plain::plain_folds;
