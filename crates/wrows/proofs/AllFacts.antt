@@ -1,11 +1,12 @@
 -- Rows that are asked for as they stand.
-use Rattle.std.proofs.Common.{◌≡◌, ℕ, false, List, [], ◌∷◌, length, map, Option, None, Ok, refl, ap, ◌∙◌, arith}
+use Rattle.std.proofs.Common.{◌≡◌, ℕ, false, List, [], ◌∷◌, length, map, Option, None, Result, Ok, Err, refl, sym, ap, ◌∙◌, arith}
 use Rattle.std.specs.List.{list_any}
 use Rattle.wvalues.specs.declared.key.SortKey.{SortKey}
 use Rattle.wvalues.specs.Meaning.{Meaning}
 use Rattle.wframe.specs.Peers.{key_at}
 use Rattle.wframe.specs.Places.{places}
 use Rattle.wplan.specs.Formula.{Formula}
+use Rattle.wrows.specs.declared.fault.AnswerFault.{AnswerFault}
 use Rattle.wrows.specs.declared.fault.AnswerFault.TheVariants.{OutOfRange}
 use Rattle.wrows.specs.Outcomes.{unless, ◌>>=◌}
 use Rattle.wrows.specs.Columns.{Row, is_out_of_range, lists_of}
@@ -26,12 +27,18 @@ no_lists rows = ap (λ b. unless b OutOfRange (map (λ row. []) rows)) (none_ref
 stay : (by told : List (List Meaning)) → ordered [] by told ≡ told
 stay by told = ap (map (key_at told)) (by_no_key [] by (places (length told)) 0 refl) ∙ all_rows told
 
-pub as_they_stand : (ts ks : List Formula) (order : List SortKey) (offset : ℕ) (limit : Option ℕ) (rows : List Row) (told : List (List Meaning)) → length ks ≡ length order → length order ≡ 0 → offset ≡ 0 → limit ≡ None → lists_of ts rows ≡ Ok told → ordered_of ts ks order offset limit rows ≡ Ok told
-as_they_stand ts [] [] offset limit rows told k o f l e =
-    then_ok told (lists_of ts rows) (λ told. lists_of [] rows >>= λ by. Ok (cut offset limit (ordered [] by told))) e
-    ∙ then_ok (map (λ row. []) rows) (lists_of [] rows) (λ by. Ok (cut offset limit (ordered [] by told))) (no_lists rows)
-    ∙ ap (λ n. Ok (cut n limit (ordered [] (map (λ row. []) rows) told))) f
-    ∙ ap (λ m. Ok (cut 0 m (ordered [] (map (λ row. []) rows) told))) l
-    ∙ ap Ok (stay (map (λ row. []) rows) told)
-as_they_stand ts (t ∷ ks) [] offset limit rows told k o f l e = absurd (omega arith)
-as_they_stand ts ks (key ∷ order) offset limit rows told k o f l e = absurd (omega arith)
+pub as_they_stand : (ts ks : List Formula) (order : List SortKey) (offset : ℕ) (limit : Option ℕ) (rows : List Row) → length ks ≡ length order → length order ≡ 0 → offset ≡ 0 → limit ≡ None → lists_of ts rows ≡ ordered_of ts ks order offset limit rows
+as_they_stand ts [] [] offset limit rows k o f l = go (lists_of ts rows)
+  where
+    keys : List (List Meaning)
+    keys = map (λ row. []) rows
+
+    go : (lists : Result (List (List Meaning)) AnswerFault) → lists ≡ (lists >>= λ told. lists_of [] rows >>= λ by. Ok (cut offset limit (ordered [] by told)))
+    go (Err fault) = refl
+    go (Ok told) = sym
+        (then_ok keys (lists_of [] rows) (λ by. Ok (cut offset limit (ordered [] by told))) (no_lists rows)
+        ∙ ap (λ n. Ok (cut n limit (ordered [] keys told))) f
+        ∙ ap (λ m. Ok (cut 0 m (ordered [] keys told))) l
+        ∙ ap Ok (stay keys told))
+as_they_stand ts (t ∷ ks) [] offset limit rows k o f l = absurd (omega arith)
+as_they_stand ts ks (key ∷ order) offset limit rows k o f l = absurd (omega arith)

@@ -1,18 +1,16 @@
 //! The items of rows, in order and cut.
-ghost use Rattle.std.specs.Prelude.{◌≡◌, ◌≤◌, ◌<◌, ◌+◌, ◌-◌, true, All, None, IfOk, length, map, min, nat_le};
-ghost use Rattle.wplan.specs.Formula.{At};
+ghost use Rattle.std.specs.Prelude.{◌≡◌, ◌≤◌, ◌<◌, ◌+◌, ◌-◌, true, All, None, IfOk, length, min, nat_le};
 ghost use Rattle.wrows.specs.Outcomes.{Gives};
 ghost use Rattle.wrows.specs.Laid.{formulas_seen, rows_in, rows_seen};
-ghost use Rattle.wrows.specs.Columns.{beside};
+ghost use Rattle.wrows.specs.Columns.{beside, lists_of};
 ghost use Rattle.wrows.specs.Plain.{at_most_limit, cut, is_selected, ordered_of};
 ghost use Rattle.wrows.specs.Picked.{asked_of};
 
-use crate::cells::{Cells, gathered};
-use crate::copied::picked_rows;
+use crate::cells::Cells;
 use crate::fault::AnswerFault;
 use crate::first::{MOST_SELECTED, first_by_keys};
-use crate::listing::evaluated_lists;
-use crate::places::{picked_lists, places_of};
+use crate::listing::told_lists;
+use crate::told::items_at;
 use std::alloc::{AllocError, Global};
 use wplan::Expr;
 use wvalues::{SortKey, Value};
@@ -131,65 +129,21 @@ fn asks_for_all(order: &[SortKey], asked: Asked) -> bool
     asked.limit.is_none()
 }
 
-// Items that are evaluated on every row, of the rows that are asked for.
-fn evaluated_items(
+// The items of all rows, as they stand.
+fn all_items(
     alloc: Global,
     items: &[&Expr],
-    keys: &[&Expr],
-    order: &[SortKey],
-    asked: Asked,
     rows: &[&[Value]],
     columns: &[&[Value]],
 ) -> Result<Cells, AnswerFault>
-    requires { length keys.now ≡ length order.now }
     ensures width { IfOk result (λ cells. cells.width ≡ length items.now) }
-    ensures rows { Gives rows_in result (ordered_of (formulas_seen items.now) (formulas_seen keys.now) order.now asked.offset asked.limit (beside (rows_seen rows.now) (rows_seen columns.now))) }
+    ensures rows { Gives rows_in result (lists_of (formulas_seen items.now) (beside (rows_seen rows.now) (rows_seen columns.now))) }
 {
-    let told = Cells {
-        cells: evaluated_lists(alloc, items, rows, columns)?,
+    let cells = told_lists(alloc, items, rows, columns)?;
+    Ok(Cells {
+        cells,
         width: items.len(),
         count: rows.len(),
-    };
-    if asks_for_all(order, asked) {
-        return Ok(told);
-    }
-    let numbers = asked_numbers(alloc, keys, order, asked, rows, columns)?;
-    let cells = gathered(alloc, &told.cells, told.width, told.count, &numbers)?;
-    Ok(Cells {
-        cells,
-        width: told.width,
-        count: numbers.len(),
-    })
-}
-
-// Items that are plain columns, read of the rows that are asked for alone: none of them can be out of range.
-fn plain_items(
-    alloc: Global,
-    places: &[usize],
-    keys: &[&Expr],
-    order: &[SortKey],
-    asked: Asked,
-    rows: &[&[Value]],
-    columns: &[&[Value]],
-) -> Result<Cells, AnswerFault>
-    requires { length keys.now ≡ length order.now }
-    ensures width { IfOk result (λ cells. cells.width ≡ length places.now) }
-    ensures rows { Gives rows_in result (ordered_of (map At places.now) (formulas_seen keys.now) order.now asked.offset asked.limit (beside (rows_seen rows.now) (rows_seen columns.now))) }
-{
-    let null = Value::Null;
-    if asks_for_all(order, asked) {
-        return Ok(Cells {
-            cells: picked_lists(alloc, places, rows, columns, &null)?,
-            width: places.len(),
-            count: rows.len(),
-        });
-    }
-    let numbers = asked_numbers(alloc, keys, order, asked, rows, columns)?;
-    let cells = picked_rows(alloc, rows, columns, &null, places, &numbers)?;
-    Ok(Cells {
-        cells,
-        width: places.len(),
-        count: numbers.len(),
     })
 }
 
@@ -210,11 +164,11 @@ pub fn joined_items(
     ensures width { IfOk result (λ cells. cells.width ≡ length items.now) }
     ensures rows { Gives rows_in result (ordered_of (formulas_seen items.now) (formulas_seen keys.now) order.now asked.offset asked.limit (beside (rows_seen rows.now) (rows_seen columns.now))) }
 {
-    let plain = places_of(alloc, items)?;
-    match plain {
-        Some(places) => plain_items(alloc, &places, keys, order, asked, rows, columns),
-        None => evaluated_items(alloc, items, keys, order, asked, rows, columns),
+    if asks_for_all(order, asked) {
+        return all_items(alloc, items, rows, columns);
     }
+    let numbers = asked_numbers(alloc, keys, order, asked, rows, columns)?;
+    items_at(alloc, items, &numbers, rows, columns)
 }
 
 /// The same of rows that have nothing behind their cells.
