@@ -1,5 +1,5 @@
 -- Numbers in one order, by partition values and then by keys: each partition is a span of it.
-use Rattle.std.proofs.Common.{◌≡◌, ℕ, zero, suc, ◌+◌, ◌-◌, ◌<◌, ◌≤◌, ◌==◌, Bool, true, false, cond, List, [], ◌∷◌, length, map, filter, take, drop, get_or, drop-cons, Ordering, Less, Equal, Greater, is_gt, is_eq, true≢false, refl, sym, ap, ◌∙◌, arith}
+use Rattle.std.proofs.Common.{◌≡◌, ℕ, zero, suc, ◌+◌, ◌-◌, ◌<◌, ◌≤◌, ◌==◌, Bool, true, false, cond, List, [], ◌∷◌, length, map, filter, take, drop, get_or, drop-cons, Ordering, Less, Equal, Greater, is_eq, true≢false, refl, sym, ap, ◌∙◌, arith}
 use Rattle.std.specs.Prelude.{slice_range}
 use Rattle.std.specs.List.{AllByRecursion, position_or_len}
 use Rattle.std.specs.Cmp.{IsTotalOrder}
@@ -13,11 +13,12 @@ use Rattle.wframe.specs.declared.frame.Span.{Span}
 use Rattle.wframe.specs.Peers.{key_at, are_peers}
 use Rattle.wframe.specs.Places.{places_from, places, is_in_span}
 use Rattle.wframe.specs.Partitions.{IsPartition}
-use Rattle.wframe.specs.Sorting.{inserted, sorted}
+use Rattle.wframe.specs.Sorting.{sorted}
 use Rattle.wcalls.specs.Windows.{Windowed, partition_rows}
 use Rattle.wframe.proofs.SortFacts.{tail_of}
 use Rattle.wcalls.proofs.FilterFacts.{filter_sorted}
 use Rattle.wrows.proofs.RowFacts.{filter-map}
+use Rattle.wrows.proofs.MoreSorting.{sorted_same}
 
 -- the elements at some places
 pub at_places : {X : Type 0} (d : X) (xs : List X) (a n : ℕ) → a + n ≤ length xs → map (λ j. get_or xs j d) (places_from a n) ≡ take n (drop a xs)
@@ -39,27 +40,6 @@ agree_from p q a zero h = refl
 agree_from p q a (suc n) h =
     ap (λ b. cond b (a ∷ filter p (places_from (a + 1) n)) (filter p (places_from (a + 1) n))) (h a (omega arith))
     ∙ ap (λ l. cond (q a) (a ∷ l) l) (agree_from p q (a + 1) n (λ j l. h j (omega arith)))
-
-module _ {X : Type 0} (cmp other : X → X → Ordering) (P : X → Type 0) (same : (x y : X) → P x → P y → cmp x y ≡ other x y) where
-  all_in : (x : X) (ys : List X) → P x → AllByRecursion P ys → AllByRecursion P (inserted cmp x ys)
-  all_in x [] h all = (h, tt)
-  all_in x (y ∷ ys) h all =
-      elim (is_gt (cmp x y)) as (λ b. AllByRecursion P (cond b (y ∷ inserted cmp x ys) (x ∷ y ∷ ys))) [ true ↦ (all.0, all_in x ys h all.1) | false ↦ (h, all) ]
-
-  all_sorted : (xs : List X) → AllByRecursion P xs → AllByRecursion P (sorted cmp xs)
-  all_sorted [] all = tt
-  all_sorted (x ∷ xs) all = all_in x (sorted cmp xs) all.0 (all_sorted xs all.1)
-
-  inserted_alike : (x : X) (ys : List X) → P x → AllByRecursion P ys → inserted cmp x ys ≡ inserted other x ys
-  inserted_alike x [] h all = refl
-  inserted_alike x (y ∷ ys) h all =
-      ap (λ o. cond (is_gt o) (y ∷ inserted cmp x ys) (x ∷ y ∷ ys)) (same x y h all.0)
-      ∙ ap (λ l. cond (is_gt (other x y)) (y ∷ l) (x ∷ y ∷ ys)) (inserted_alike x ys h all.1)
-
-  -- two orders that agree on the elements of a list sort it alike
-  pub sorted_alike : (xs : List X) → AllByRecursion P xs → sorted cmp xs ≡ sorted other xs
-  sorted_alike [] all = refl
-  sorted_alike (x ∷ xs) all = inserted_alike x (sorted cmp xs) all.0 (all_sorted xs all.1) ∙ ap (inserted other x) (sorted_alike xs all.1)
 
 passed : {X : Type 0} (p : X → Bool) (xs : List X) → AllByRecursion (λ x. p x ≡ true) (filter p xs)
 passed p [] = tt
@@ -133,7 +113,7 @@ module _ (w : Windowed) (order : List ℕ) (s : Span)
       span_is
       ∙ ap (filter in_part) is_sorted
       ∙ filter_sorted (whole_cmp w) (whole_total w) in_part (places (length w.values))
-      ∙ sorted_alike (whole_cmp w) (on (key_at w.keys) (keys_cmp w.order)) (λ x. in_part x ≡ true) by_keys (filter in_part (places (length w.values))) (passed in_part (places (length w.values)))
+      ∙ sorted_same (λ x. in_part x ≡ true) (whole_cmp w) (on (key_at w.keys) (keys_cmp w.order)) by_keys (filter in_part (places (length w.values))) (passed in_part (places (length w.values)))
       ∙ ap (sorted (on (key_at w.keys) (keys_cmp w.order)))
       (agree_from in_part (are_peers cv w.values (row i)) 0 (length w.values) (λ j k. ap is_eq (total.congr (key_at w.values (row s.from)) (key_at w.values (row i)) (key_at w.values j) tied)))
 

@@ -178,6 +178,35 @@ pub fn share_order(a: &SettledWindow, b: &SettledWindow) -> bool
     same_order(a, b)
 }
 
+// Rows in an order that was made of them, where the partition values and the keys of each are cells.
+fn kept_order(
+    order: RowOrder,
+    values: Vec<Value>,
+    value_order: Vec<SortKey>,
+    keys: Vec<Value>,
+    key_order: Vec<SortKey>,
+) -> WindowOrder
+    requires values { length values.items ≡ length order.rows.items * length value_order.items }
+    requires keys { length keys.items ≡ length order.rows.items * length key_order.items }
+    requires order { IsRowOrder value_order.items (laid (length value_order.items) (length order.rows.items) values.items) key_order.items (laid (length key_order.items) (length order.rows.items) keys.items) (length order.rows.items) order }
+    ensures { result ≡ ordered_by (laid (length value_order.items) (length order.rows.items) values.items) value_order.items (laid (length key_order.items) (length order.rows.items) keys.items) key_order.items }
+{
+    let RowOrder {
+        rows,
+        value_codes,
+        key_codes,
+    } = order;
+    WindowOrder {
+        rows,
+        values,
+        value_order,
+        value_codes,
+        keys,
+        key_order,
+        key_codes,
+    }
+}
+
 // Rows in order, where the partition values and the keys of each are cells.
 fn ordered_cells(
     alloc: Global,
@@ -191,20 +220,8 @@ fn ordered_cells(
     requires keys { length keys.items ≡ count * length key_order.items }
     ensures { IfOk result (λ order. order ≡ ordered_by (laid (length value_order.items) count values.items) value_order.items (laid (length key_order.items) count keys.items) key_order.items) }
 {
-    let RowOrder {
-        rows,
-        value_codes,
-        key_codes,
-    } = row_order(alloc, &values, &value_order, &keys, &key_order, count)?;
-    Ok(WindowOrder {
-        rows,
-        values,
-        value_order,
-        value_codes,
-        keys,
-        key_order,
-        key_codes,
-    })
+    let order = row_order(alloc, &values, &value_order, &keys, &key_order, count)?;
+    Ok(kept_order(order, values, value_order, keys, key_order))
 }
 
 // Rows in an order that is told, where the partition values and the keys of each are cells.
@@ -222,11 +239,7 @@ fn told_cells(
     requires order { numbers.items ≡ numbers_in_order (laid (length value_order.items) count values.items) value_order.items (laid (length key_order.items) count keys.items) key_order.items }
     ensures { IfOk result (λ order. order ≡ ordered_by (laid (length value_order.items) count values.items) value_order.items (laid (length key_order.items) count keys.items) key_order.items) }
 {
-    let RowOrder {
-        rows,
-        value_codes,
-        key_codes,
-    } = told_order(
+    let order = told_order(
         alloc,
         &values,
         &value_order,
@@ -235,15 +248,7 @@ fn told_cells(
         count,
         numbers,
     )?;
-    Ok(WindowOrder {
-        rows,
-        values,
-        value_order,
-        value_codes,
-        keys,
-        key_order,
-        key_codes,
-    })
+    Ok(kept_order(order, values, value_order, keys, key_order))
 }
 
 // Rows that are told apart by codes, where there are some.
