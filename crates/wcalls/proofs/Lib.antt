@@ -8,7 +8,7 @@ mod CallFacts
 mod PlainFacts
 mod CodeFacts
 mod CutFacts
-mod Listed
+pub mod Listed
 mod LentFacts
 mod ColumnFacts
 mod JoinFacts

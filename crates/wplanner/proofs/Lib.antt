@@ -9,5 +9,4 @@ mod NumberFacts
 mod PlanFacts
 pub mod CallFacts
 pub mod SelectFacts
-mod Listed
 mod Worked

@@ -2,7 +2,7 @@ use Rattle.std.proofs.Common.{◌++◌, ◌∷◌, [], map, sym, ap, ◌∙◌}
 use Rattle.std.specs.Rc.{rc_str_bytes}
 use Rattle.std.proofs.lemmas.List.{length-map, map-append}
 use Rattle.wplan.specs.Plans.{output_plan}
-use Rattle.wplanner.proofs.Listed.{listed_more, listed_all, listed_long}
+use Rattle.wcalls.proofs.Listed.{listed_more, listed_all, listed_long}
 use Rattle.wplanner.proofs.parts.item_names.Goals as goal
 
 pub loop-item-preserved : goal.loop-item-preserved

@@ -2,7 +2,7 @@ use Rattle.std.proofs.Common.{◌∷◌, [], sym, ap, ◌∙◌}
 use Rattle.wrows.specs.Laid.{formula_seen, formulas_seen}
 use Rattle.std.proofs.lemmas.List.{length-map, map-append}
 use Rattle.wplan.specs.Plans.{output_plan}
-use Rattle.wplanner.proofs.Listed.{listed_more, listed_all, listed_long}
+use Rattle.wcalls.proofs.Listed.{listed_more, listed_all, listed_long}
 use Rattle.wplanner.proofs.parts.item_values.Goals as goal
 
 pub loop-item-preserved : goal.loop-item-preserved

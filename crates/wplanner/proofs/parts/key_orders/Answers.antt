@@ -1,5 +1,5 @@
 use Rattle.wplan.specs.Plans.{key_plan}
-use Rattle.wplanner.proofs.Listed.{listed_more, listed_all, listed_long}
+use Rattle.wcalls.proofs.Listed.{listed_more, listed_all, listed_long}
 use Rattle.wplanner.proofs.parts.key_orders.Goals as goal
 
 pub loop-key-preserved : goal.loop-key-preserved
