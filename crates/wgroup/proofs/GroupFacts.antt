@@ -1,11 +1,11 @@
 -- Groups by the order of first sight, and by their keys.
-use Rattle.std.proofs.Common.{◌≡◌, ℕ, ◌+◌, ◌<◌, ◌==◌, Bool, false, not, List, [], ◌∷◌, length, map, filter, get_or, All, Ordering, sym, ap, subst, ◌∙◌, arith}
+use Rattle.std.proofs.Common.{◌≡◌, ℕ, ◌+◌, ◌<◌, ◌==◌, Bool, false, not, List, [], ◌∷◌, length, map, filter, get_or, All, Ordering, sym, ap, ◌∙◌, arith}
 use Rattle.std.specs.Borrow.{Bor}
 use Rattle.std.specs.List.{list_any, AllByRecursion}
 use Rattle.std.specs.Ordering.{on}
 use Rattle.std.proofs.lemmas.Bool.Decides.{nat_tests}
 use Rattle.std.proofs.lemmas.List.{length-map, get_or-map}
-use Rattle.std.proofs.lemmas.List.Elements.{All-get_or, All-from_recursion, recursion_from_All}
+use Rattle.std.proofs.lemmas.List.Elements.{recursion_from_All}
 use Rattle.wvalues.specs.declared.value.Value.{Value}
 use Rattle.wvalues.specs.Meaning.{Meaning, Null, meaning}
 use Rattle.wvalues.specs.Order.{keys_cmp}
@@ -29,10 +29,13 @@ use Rattle.wrows.proofs.MoreSorting.{sorted_map, sorted_same}
 pub keys_wide : (columns : SetColumns) (rows : List (Bor (List Value))) → AllByRecursion (λ r. length (key_in columns (row_seen r)) ≡ length columns) rows
 keys_wide columns rows = all_of_each (λ r. length (key_in columns (row_seen r)) ≡ length columns) (λ r. length-map columns (set_value (row_seen r))) rows
 
+pub group_keys_wide : (columns : SetColumns) (rows : List Row) (is : List ℕ) → AllByRecursion (λ i. length (group_key columns rows i) ≡ length columns) is
+group_keys_wide columns rows is = all_of_each (λ i. length (group_key columns rows i) ≡ length columns) (λ i. length-map columns (set_value (key_at rows i))) is
+
 pub firsts_below : (same : ℕ → ℕ → Bool) (n : ℕ) → AllByRecursion (λ i. i < n) (first_of same n)
 firsts_below same n = all_kept (λ i. i < n) (λ i. not (list_any (same i) (places i))) (places n) (places_below 0 n n (omega arith))
 
-module _ (set : List ℕ) (columns : SetColumns) (rows : List (Bor (List Value))) (cells : List Value) (keyed : laid (length columns) (length rows) cells ≡ map (key_in columns) (rows_seen rows)) where
+module _ (columns : SetColumns) (rows : List (Bor (List Value))) where
   abbrev n : ℕ
   n = length rows
 
@@ -45,50 +48,58 @@ module _ (set : List ℕ) (columns : SetColumns) (rows : List (Bor (List Value))
   long : length told ≡ length rows
   long = length-map rows row_seen
 
-  key_of : (i : ℕ) → i < n → key_at (laid w n cells) i ≡ group_key columns told i
-  key_of i h = ap (λ ks. get_or ks i []) keyed ∙ get_or-map (key_in columns) told i [] [] (omega (arith, long, h))
+  -- rows are the same by their cells where they agree
+  module _ (cells : List Value) (keyed : laid w n cells ≡ map (key_in columns) told) where
+    key_of : (i : ℕ) → i < n → key_at (laid w n cells) i ≡ group_key columns told i
+    key_of i h = ap (λ ks. get_or ks i []) keyed ∙ get_or-map (key_in columns) told i [] [] (omega (arith, long, h))
 
-  slice_key : (i : ℕ) → i < n → map meaning (slice_at w cells i) ≡ group_key columns told i
-  slice_key i h = sym (row_at w n cells i h) ∙ key_of i h
+    slice_key : (i : ℕ) → i < n → map meaning (slice_at w cells i) ≡ group_key columns told i
+    slice_key i h = sym (row_at w n cells i h) ∙ key_of i h
 
-  key_wide : (i : ℕ) → length (group_key columns told i) ≡ length columns
-  key_wide i = length-map columns (set_value (key_at told i))
+    key_wide : (i : ℕ) → length (group_key columns told i) ≡ length columns
+    key_wide i = length-map columns (set_value (key_at told i))
 
-  same_agrees : (i j : ℕ) → i < n → j < n → same_row w cells i j ≡ agree columns told i j
-  same_agrees i j h k = cells_agree columns (slice_at w cells i) (slice_at w cells j) (group_key columns told i) (group_key columns told j) (slice_key i h) (slice_key j k) (key_wide i) (key_wide j)
+    same_agrees : (i j : ℕ) → i < n → j < n → same_row w cells i j ≡ agree columns told i j
+    same_agrees i j h k = cells_agree columns (slice_at w cells i) (slice_at w cells j) (group_key columns told i) (group_key columns told j) (slice_key i h) (slice_key j k) (key_wide i) (key_wide j)
 
-  firsts_agree : first_of (same_row w cells) n ≡ first_rows columns told
-  firsts_agree =
-      filter_same (λ i. not (list_any (same_row w cells i) (places i))) (λ i. not (list_any (agree columns told i) (places i))) (places n)
-      (below_all (λ i. not (list_any (same_row w cells i) (places i)) ≡ not (list_any (agree columns told i) (places i))) n
-      (λ i h. ap not (any_same (same_row w cells i) (agree columns told i) (places i) (below_all (λ j. same_row w cells i j ≡ agree columns told i j) i (λ j k. same_agrees i j h (omega (arith, h, k)))))))
-      ∙ ap (λ m. filter (λ i. not (list_any (agree columns told i) (places i))) (places m)) (sym long)
+    pub firsts_agree : first_of (same_row w cells) n ≡ first_of (agree columns told) n
+    firsts_agree =
+        filter_same (λ i. not (list_any (same_row w cells i) (places i))) (λ i. not (list_any (agree columns told i) (places i))) (places n)
+        (below_all (λ i. not (list_any (same_row w cells i) (places i)) ≡ not (list_any (agree columns told i) (places i))) n
+        (λ i h. ap not (any_same (same_row w cells i) (agree columns told i) (places i) (below_all (λ j. same_row w cells i j ≡ agree columns told i j) i (λ j k. same_agrees i j h (omega (arith, h, k)))))))
 
-  members_agree : (i : ℕ) → i < n → members (same_row w cells) n i ≡ filter (agree columns told i) (places (length told))
-  members_agree i h =
-      filter_same (same_row w cells i) (agree columns told i) (places n) (below_all (λ j. same_row w cells i j ≡ agree columns told i j) n (λ j k. same_agrees i j h k))
-      ∙ ap (λ m. filter (agree columns told i) (places m)) (sym long)
+    members_same : (i : ℕ) → i < n → members (same_row w cells) n i ≡ members (agree columns told) n i
+    members_same i h = filter_same (same_row w cells i) (agree columns told i) (places n) (below_all (λ j. same_row w cells i j ≡ agree columns told i j) n (λ j k. same_agrees i j h k))
 
-  module _ (firsts order numbers : List ℕ) (keys : List Value) (count : ℕ)
-      (are_firsts : firsts ≡ first_of (same_row w cells) n) (are_lists : map (rows_of_group numbers) (places (length firsts)) ≡ map (members (same_row w cells) n) (first_of (same_row w cells) n))
-      (are_keys : laid w (length firsts) keys ≡ map (key_at (laid w n cells)) firsts) (are_so_many : count ≡ length firsts)
+    pub members_agree : map (members (same_row w cells) n) (first_of (same_row w cells) n) ≡ map (members (agree columns told) n) (first_of (agree columns told) n)
+    members_agree =
+        map_same (members (same_row w cells) n) (members (agree columns told) n) (first_of (same_row w cells) n)
+        (all_implied (λ i. i < n) (λ i. members (same_row w cells) n i ≡ members (agree columns told) n i) members_same (first_of (same_row w cells) n) (firsts_below (same_row w cells) n))
+        ∙ ap (map (members (agree columns told) n)) firsts_agree
+
+  firsts_told : first_of (agree columns told) n ≡ first_rows columns told
+  firsts_told = ap (λ m. filter (λ i. not (list_any (agree columns told i) (places i))) (places m)) (sym long)
+
+  members_told : (i : ℕ) → members (agree columns told) n i ≡ filter (agree columns told i) (places (length told))
+  members_told i = ap (λ m. filter (agree columns told i) (places m)) (sym long)
+
+  module _ (set firsts order numbers : List ℕ) (keys : List Value) (count : ℕ)
+      (are_firsts : firsts ≡ first_of (agree columns told) n) (are_lists : map (rows_of_group numbers) (places (length firsts)) ≡ map (members (agree columns told) n) (first_of (agree columns told) n))
+      (are_keys : laid w (length firsts) keys ≡ map (group_key columns told) firsts) (are_so_many : count ≡ length firsts)
       (in_order : order ≡ numbers_by (ascending columns) (laid w (length firsts) keys) (length firsts)) (below : All (λ i. i < length firsts) order) where
     abbrev first : ℕ → ℕ
     first g = get_or firsts g 0
 
-    first_below : (g : ℕ) → g < length firsts → first g < n
-    first_below g h = All-get_or (λ i. i < n) firsts g 0 h (All-from_recursion (λ i. i < n) firsts (subst (AllByRecursion (λ i. i < n)) (sym are_firsts) (firsts_below (same_row w cells) n)))
-
     key_here : (g : ℕ) → g < length firsts → key_at (laid w (length firsts) keys) g ≡ group_key columns told (first g)
-    key_here g h = ap (λ ks. get_or ks g []) are_keys ∙ get_or-map (key_at (laid w n cells)) firsts g 0 [] h ∙ key_of (first g) (first_below g h)
+    key_here g h = ap (λ ks. get_or ks g []) are_keys ∙ get_or-map (group_key columns told) firsts g 0 [] h
 
     rows_here : (g : ℕ) → g < length firsts → rows_of_group numbers g ≡ filter (agree columns told (first g)) (places (length told))
     rows_here g h =
         let room : g < length (places (length firsts)) = omega (arith, h, length-places 0 (length firsts)) in
         let zero_more : 0 + g ≡ g = omega arith in
         ap (rows_of_group numbers) (sym (place_at_from 0 (length firsts) g 0 h ∙ zero_more)) ∙ sym (get_or-map (rows_of_group numbers) (places (length firsts)) g 0 [] room)
-        ∙ ap (λ ls. get_or ls g []) (are_lists ∙ ap (map (members (same_row w cells) n)) (sym are_firsts)) ∙ get_or-map (members (same_row w cells) n) firsts g 0 [] h
-        ∙ members_agree (first g) (first_below g h)
+        ∙ ap (λ ls. get_or ls g []) (are_lists ∙ ap (map (members (agree columns told) n)) (sym are_firsts)) ∙ get_or-map (members (agree columns told) n) firsts g 0 [] h
+        ∙ members_told (first g)
 
     abbrev group : ℕ → Group
     group g = record { set = set; key = key_at (laid w count keys) g; rows = rows_of_group numbers g }
@@ -107,7 +118,7 @@ module _ (set : List ℕ) (columns : SetColumns) (rows : List (Bor (List Value))
         ap (map first) (in_order ∙ sorted_same (λ g. g < length firsts) (on (key_at (laid w (length firsts) keys)) (keys_cmp (ascending columns))) (on first by_key)
         (λ x y h k. ap (λ a. group_cmp columns a (key_at (laid w (length firsts) keys) y)) (key_here x h) ∙ ap (λ b. group_cmp columns (group_key columns told (first x)) b) (key_here y k))
         (places (length firsts)) (places_below 0 (length firsts) (length firsts) (omega arith)))
-        ∙ sym (sorted_map by_key first (places (length firsts))) ∙ ap (sorted by_key) (at_places firsts 0 ∙ are_firsts ∙ firsts_agree)
+        ∙ sym (sorted_map by_key first (places (length firsts))) ∙ ap (sorted by_key) (at_places firsts 0 ∙ are_firsts ∙ firsts_told)
 
     -- the groups in memory are those that are meant
     pub are_groups : map group order ≡ groups_by set columns told

@@ -30,7 +30,7 @@ from_eq Less h = absurd (true≢false (sym h))
 from_eq Equal h = refl
 from_eq Greater h = absurd (true≢false (sym h))
 
-keys_decide : (keys : List SortKey) (a b : List Meaning) → length a ≡ length keys → length b ≡ length keys → (is_eq (keys_cmp keys a b) ≡ true → a ≡ b) × (a ≡ b → is_eq (keys_cmp keys a b) ≡ true)
+pub keys_decide : (keys : List SortKey) (a b : List Meaning) → length a ≡ length keys → length b ≡ length keys → (is_eq (keys_cmp keys a b) ≡ true → a ≡ b) × (a ≡ b → is_eq (keys_cmp keys a b) ≡ true)
 keys_decide keys a b m n = (
   λ h. ties_are_same keys a b m n (from_eq (keys_cmp keys a b) h),
   λ e. ap (λ x. is_eq (keys_cmp keys a x)) (sym e) ∙ ap is_eq (tied_itself (keys_total keys) a),

@@ -53,7 +53,7 @@ places_above : (x a n : ℕ) → x < a → AllByRecursion (λ y. x < y) (places_
 places_above x a zero h = tt
 places_above x a (suc n) h = (h, places_above x (a + 1) n (omega (arith, h)))
 
-all_at : (P : ℕ → Type 0) (xs : List ℕ) (i : ℕ) → AllByRecursion P xs → i < length xs → P (get_or xs i 0)
+pub all_at : (P : ℕ → Type 0) (xs : List ℕ) (i : ℕ) → AllByRecursion P xs → i < length xs → P (get_or xs i 0)
 all_at P [] i all h = absurd (omega (arith, h))
 all_at P (x ∷ xs) zero all h = all.0
 all_at P (x ∷ xs) (suc i) all h = all_at P xs i all.1 (omega (arith, h))

@@ -1,5 +1,6 @@
 mod LeaderFacts
 mod SightFacts
+mod SeenFacts
 mod NumberFacts
 mod ListFacts
 mod KeyFacts
@@ -11,3 +12,4 @@ mod BitFacts
 mod TellFacts
 mod Worked
 mod PlainFacts
+mod CountFacts

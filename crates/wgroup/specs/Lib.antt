@@ -2,3 +2,4 @@ pub mod Grouping
 pub mod Sight
 pub mod Held
 pub mod Laws
+pub mod Counting

@@ -12,14 +12,17 @@
 #![tactic(auto)]
 
 mod columns;
+mod counting;
 mod found;
 mod grouping;
 mod groups;
 mod keys;
 mod laws;
 mod leaders;
+mod seen;
 mod sight;
 mod told;
 
+pub use counting::{counted_row, counts_rows};
 pub use grouping::group_rows;
 pub use laws::{plain_groups, plain_keys};
