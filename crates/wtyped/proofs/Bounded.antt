@@ -23,7 +23,7 @@ use Rattle.wwindows.specs.Windows.{breaks_bounds, breaks_copies, breaks_entries,
 use Rattle.wrules.specs.declared.rule.Rule.TheVariants.{UnknownWindow, RepeatedWindow, WrongCopy, WrongBounds, UnorderedGroups, WrongRangeKey, ZeroCount, WrongPlace, OverLimit, TooManySets}
 use Rattle.wrules.specs.Rules.{depth, depth_rule, first_of, first_of_names, first_of_windows, judged, least, least_source, or_else, sets_rule, source_depth}
 use Rattle.wgroupby.specs.Laws.{CountsSets}
-use Rattle.wgroupby.specs.Rules.{breaks_lists, breaks_sets, element_by, elements_by, entry_by}
+use Rattle.wgroupby.specs.Rules.{are_parts_long, breaks_lists, breaks_sets, element_by, elements_by, entry_by, is_element_long, is_entry_long, is_long}
 use Rattle.wgroupby.specs.Sets.{element_count, entry_count, query_sets, sets_count}
 use Rattle.wdistinct.specs.declared.calls.CallKind.TheVariants.{Windowed}
 use Rattle.wdistinct.specs.Calls.{group_calls, is_call_of, node_or, nodes_below, nodes_given, nodes_in, nodes_in_filter, nodes_in_items, nodes_in_keys, nodes_in_links, nodes_in_order, nodes_in_reach, nodes_in_trees, window_calls, with_new}
@@ -31,7 +31,7 @@ use Rattle.wsettle.specs.Groups.{column_place, elements_made}
 use Rattle.wsettle.specs.Resolving.{Layout}
 use Rattle.wresolve.specs.Selecting as made
 use Rattle.wresolve.specs.Selecting.{entries_made, keys_made, order_made, output_made, own_windows, resolved_query, resolved_source, select_made, select_over, trees_made, window_made, window_of_reach, windows_made}
-use Rattle.wtyped.specs.Bounded.{AcceptedIsBounded, has_few_entries, has_few_sets, is_bounded}
+use Rattle.wtyped.specs.Bounded.{AcceptedIsBounded, has_few_entries, has_few_sets, has_short_entries, has_short_grouping, has_short_lists, has_short_parts, is_bounded, is_short, is_short_query, is_short_source}
 use Rattle.wtyped.proofs.Alike.{is_listed}
 use Rattle.wtyped.proofs.Rows as rows
 use Rattle.wtyped.proofs.Rows.{row_of}
@@ -64,6 +64,39 @@ sets_few : CountsSets ℕ → (cs : List Titled) (c : Clauses) (b : Bool) → br
 sets_few count cs c false e = refl
 sets_few count cs c true e =
     few_of 64 (length (query_sets (elements_made cs c.grouping))) (sets_count c.grouping) (count (elements_made cs c.grouping) ∙ sets_same (column_place cs) c.grouping) e
+
+-- the lists of GROUP BY
+
+each_short : {X : Type 0} (long short : X → Bool) → ((x : X) → long x ≡ false → short x ≡ true) → (xs : List X)
+    → list_any long xs ≡ false → list_all short xs ≡ true
+each_short long short step [] e = refl
+each_short long short step (x ∷ xs) e =
+    let p = or_parts (long x) (list_any long xs) e in
+    and_from (short x) (list_all short xs) (step x p.0) (each_short long short step xs p.1)
+
+list_short : {X : Type 0} (xs : List X) → is_long xs ≡ false → is_short xs ≡ true
+list_short xs e = few 16 (length xs) e
+
+parts_short : (parts : List (List Tree)) → are_parts_long parts ≡ false → has_short_parts parts ≡ true
+parts_short parts e =
+    let p = or_parts (is_long parts) (list_any is_long parts) e in
+    and_from (is_short parts) (list_all is_short parts) (list_short parts p.0) (each_short is_long is_short list_short parts p.1)
+
+entry_short : (x : Entry Tree) → is_entry_long x ≡ false → has_short_lists x ≡ true
+entry_short (OneSet columns) e = list_short columns e
+entry_short (Rollup parts) e = parts_short parts e
+entry_short (Cube parts) e = parts_short parts e
+
+element_short : (x : Element Tree) → is_element_long x ≡ false → has_short_entries x ≡ true
+element_short x e =
+    let p = or_parts (is_long x) (list_any is_entry_long x) e in
+    and_from (is_short x) (list_all has_short_lists x) (list_short x p.0) (each_short is_entry_long has_short_lists entry_short x p.1)
+
+grouping_short : (c : Clauses) → breaks_lists c.grouping ≡ false → has_short_grouping c ≡ true
+grouping_short c e =
+    let p = or_parts (is_long c.grouping) (list_any is_element_long c.grouping) e in
+    and_from (is_short c.grouping) (list_all has_short_entries c.grouping) (list_short c.grouping p.0)
+    (each_short is_element_long has_short_entries element_short c.grouping p.1)
 
 -- the entries of windows
 
@@ -364,14 +397,34 @@ no_rule : (b : Bool) → (if b then Some TooManySets else None) ≡ None → b �
 no_rule true e = absurd (some_or_none TooManySets e)
 no_rule false e = refl
 
+no_limit_broken : (d : Declaration) (c : Clauses) (s : SourceTree) → judged d.table (origin_of d s) c s ≡ None
+    → breaks_limits (origin_of d s).columns c ≡ false
+no_limit_broken d c s e =
+    let o = origin_of d s in let ws = windows_of c in let cs = o.columns in
+    let n = neither (first_of_names d.table o.alias cs c s) (first_of_windows ws cs c) e in
+    limits_kept (breaks_window_names ws cs c) (breaks_entries c.windows) (breaks_copies ws cs c) (breaks_bounds ws cs c) (breaks_groups ws cs c) (breaks_ranges ws cs c) (breaks_zeroths cs c) (breaks_places cs c) (breaks_limits cs c) n.1
+
 one_select : CountsSets ℕ → (d : Declaration) (c : Clauses) (s : SourceTree) → judged d.table (origin_of d s) c s ≡ None
     → sets_rule (Selected c s) ≡ None → is_bounded (select_made (origin_of d s).columns c) ≡ true
 one_select count d c s e f =
-    let o = origin_of d s in let ws = windows_of c in let cs = o.columns in
-    let n = neither (first_of_names d.table o.alias cs c s) (first_of_windows ws cs c) e in
-    select_few count cs c (made.is_grouped c (group_calls c))
-    (limits_kept (breaks_window_names ws cs c) (breaks_entries c.windows) (breaks_copies ws cs c) (breaks_bounds ws cs c) (breaks_groups ws cs c) (breaks_ranges ws cs c) (breaks_zeroths cs c) (breaks_places cs c) (breaks_limits cs c) n.1)
-    (no_rule (breaks_sets c.grouping) f)
+    select_few count (origin_of d s).columns c (made.is_grouped c (group_calls c)) (no_limit_broken d c s e) (no_rule (breaks_sets c.grouping) f)
+
+no_long_list : (cs : List Titled) (c : Clauses) → breaks_limits cs c ≡ false → breaks_lists c.grouping ≡ false
+no_long_list cs c e =
+    let i = or_parts (nat_lt 64 (count_items cs c.items)) (nat_lt 32 (count_windows c) || ((breaks_lists c.grouping || nat_lt 16 (length c.order)) || (list_any is_long_entry c.windows || some_anywhere cs c (finds (reach_is has_long_list))))) e in
+    let w = or_parts (nat_lt 32 (count_windows c)) ((breaks_lists c.grouping || nat_lt 16 (length c.order)) || (list_any is_long_entry c.windows || some_anywhere cs c (finds (reach_is has_long_list)))) i.1 in
+    let k = or_parts (breaks_lists c.grouping || nat_lt 16 (length c.order)) (list_any is_long_entry c.windows || some_anywhere cs c (finds (reach_is has_long_list))) w.1 in
+    (or_parts (breaks_lists c.grouping) (nat_lt 16 (length c.order)) k.0).0
+
+mutual
+  query_short : (d : Declaration) (q : QueryTree) → least d q ≡ None → is_short_query q ≡ true
+  query_short d (Selected c s) e =
+      let n = neither (least_source d s) (judged d.table (origin_of d s) c s) e in
+      and_from (has_short_grouping c) (is_short_source s) (grouping_short c (no_long_list (origin_of d s).columns c (no_limit_broken d c s n.1))) (source_short d s n.0)
+
+  source_short : (d : Declaration) (s : SourceTree) → least_source d s ≡ None → is_short_source s ≡ true
+  source_short d (FromTable name alias) e = refl
+  source_short d (FromQuery q alias) e = query_short d q (neither (least d q) (sets_rule q) e).0
 
 mutual
   query_few : CountsSets ℕ → (d : Declaration) (q : QueryTree) → least d q ≡ None → sets_rule q ≡ None
@@ -410,4 +463,8 @@ pub accepted_is_bounded : CountsSets ℕ → AcceptedIsBounded
 accepted_is_bounded count d q e =
     let a = neither (least d q) (or_else (depth_rule q) (sets_rule q)) e in
     let b = neither (depth_rule q) (sets_rule q) a.1 in
-    (query_few count d q a.0 b.1, deep (length (resolved_query d q)) (depth q) (query_depth d q) (ltb-false 8 (depth q) (no_limit (nat_lt 8 (depth q)) b.0)))
+    record {
+      selects = query_few count d q a.0 b.1;
+      lists = query_short d q a.0;
+      depth = deep (length (resolved_query d q)) (depth q) (query_depth d q) (ltb-false 8 (depth q) (no_limit (nat_lt 8 (depth q)) b.0));
+    }

@@ -17,4 +17,9 @@ mod Scoped
 mod Spelled
 mod Bounded
 mod Accepted
+mod Lists
+mod Table
+mod Feeding
+mod Rowed
+mod Running
 mod Worked

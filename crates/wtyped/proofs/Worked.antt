@@ -1,6 +1,6 @@
 -- For each rule a query that breaks it and no other, of which a law says what does not hold: so none can be dropped. The
 -- places of the rules count from 10.
-use Rattle.std.proofs.Common.{◌≡◌, Bool, false, ℕ, ◌+◌, List, [], ◌∷◌, Option, Some, None, codes, refl, sym, true≢false, if◌then◌else◌}
+use Rattle.std.proofs.Common.{◌≡◌, Bool, true, false, ℕ, ◌+◌, List, [], ◌∷◌, Option, Some, None, codes, refl, sym, true≢false, if◌then◌else◌}
 use Rattle.std.proofs.Math.ListN.{replicate}
 use Rattle.std.specs.List.{list_all}
 use Rattle.wsegment.specs.Declaration.{Declaration}
@@ -27,7 +27,7 @@ use Rattle.wwindows.specs.Windows.{breaks_bounds, breaks_copies, breaks_entries,
 use Rattle.wgroupby.specs.Rules.{breaks_sets}
 use Rattle.wrules.specs.Rules.{first_broken_rule}
 use Rattle.wresolve.specs.Selecting.{resolved_query}
-use Rattle.wtyped.specs.Bounded.{is_bounded}
+use Rattle.wtyped.specs.Bounded.{is_bounded, is_short_query}
 use Rattle.wtyped.specs.Laws.{types_of}
 use Rattle.wtyped.specs.Plans.{query_types}
 use Rattle.wtyped.specs.Scoped.{DenotesQuery}
@@ -284,6 +284,29 @@ many_items_breaks = refl
 
 many_items_bounded : list_all is_bounded (resolved_query t many_items) ≡ false
 many_items_bounded = refl
+
+-- SELECT a FROM t GROUP BY a, .., a, with 17 elements
+abbrev many_elements : QueryTree
+many_elements = grouped (replicate 17 (OneSet (a ∷ []) ∷ []))
+
+many_elements_breaks : Breaks many_elements 27
+many_elements_breaks = refl
+
+many_elements_short : is_short_query many_elements ≡ false
+many_elements_short = refl
+
+-- SELECT a FROM t GROUP BY ROLLUP (a, (a, .., a)), with 17 columns in the inner parentheses: of its plan nothing is long
+abbrev many_columns : QueryTree
+many_columns = grouped ((Rollup ((a ∷ []) ∷ replicate 17 a ∷ []) ∷ []) ∷ [])
+
+many_columns_breaks : Breaks many_columns 27
+many_columns_breaks = refl
+
+many_columns_short : is_short_query many_columns ≡ false
+many_columns_short = refl
+
+many_columns_bounded : list_all is_bounded (resolved_query t many_columns) ≡ true
+many_columns_bounded = refl
 
 -- SELECT a FROM t GROUP BY CUBE (a, b, s), CUBE (a, b), ROLLUP (a, b)
 abbrev many_sets : QueryTree

@@ -7,3 +7,4 @@ pub mod Calls
 pub mod Scoped
 pub mod Spelled
 pub mod Bounded
+pub mod Running

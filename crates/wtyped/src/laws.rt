@@ -3,6 +3,7 @@ ghost use Rattle.wtyped.specs.Bounded.{AcceptedIsBounded};
 ghost use Rattle.wtyped.specs.Calls.{EqualIsOne};
 ghost use Rattle.wtyped.specs.Exact.{TypedIsExact};
 ghost use Rattle.wtyped.specs.Laws.{AcceptedIsTyped};
+ghost use Rattle.wtyped.specs.Running.{AcceptedRunsTyped};
 ghost use Rattle.wtyped.specs.Scoped.{AcceptedIsScoped};
 ghost use Rattle.wtyped.specs.Spelled.{SpelledIsShaped};
 
@@ -18,6 +19,13 @@ pub fn typed_is_exact()
 /// its row, each operand has a type that its operator takes, and the rows of its answer have the types of its columns.
 pub fn accepted_is_typed()
     ensures { AcceptedIsTyped }
+{}
+
+/// All that a query evaluates that no rule refuses, on the live rows of any set of the declaration, comes to what it does where
+/// nothing stands in for anything: on each row that a SELECT makes, kept or of a group, with what the calls answer behind its
+/// cells, and on those of derived tables. The rows of its answer have the types of its columns.
+pub fn accepted_runs_typed()
+    ensures { AcceptedRunsTyped }
 {}
 
 /// Equal expressions are one over a row, and equal calls one function over one window; so each is computed once.
@@ -37,8 +45,8 @@ pub fn spelled_is_shaped()
     ensures { SpelledIsShaped }
 {}
 
-/// A query that no rule refuses asks for at most 64 items and 64 sets of GROUP BY, 32 windows, 16 entries in each PARTITION BY
-/// and ORDER BY, and 8 derived tables one in another.
+/// A query that no rule refuses asks for at most 64 items and 64 sets of GROUP BY, 32 windows, 16 entries in each PARTITION BY,
+/// ORDER BY and list of GROUP BY, and 8 derived tables one in another.
 pub fn accepted_is_bounded()
     ensures { AcceptedIsBounded }
 {
