@@ -10,4 +10,5 @@ mod PlanFacts
 pub mod CallFacts
 pub mod SelectFacts
 mod Listed
+mod CountedFacts
 mod Worked
