@@ -5,10 +5,12 @@
 //! - Promises: the groups of a set stand behind those of the sets before it, in the order of their keys, nulls last; rows
 //!   are of one group where they agree on each column of the set, nulls included; the empty set has one group, also where
 //!   there is no row.
+//!   Few groups are found by a table, in which each key is looked for in few slots, so that no keys make it slow; many by
+//!   sorting. The row of a group whose rows are counted and no more is made of their number.
 //! - Asks: at most 2,147,483,647 rows.
 //! - Leaves aggregates to `waggregate` and expressions to `wplan`.
 //!
-//! Read `specs/Grouping.antt` and `specs/Laws.antt`, then `specs/Sight.antt` and `specs/Held.antt`.
+//! Read `specs/Grouping.antt` and `specs/Laws.antt`, then `specs/Sight.antt`, `specs/Held.antt` and `specs/Counting.antt`.
 #![tactic(auto)]
 
 mod columns;

@@ -9,4 +9,5 @@ mod NumberFacts
 mod PlanFacts
 pub mod CallFacts
 pub mod SelectFacts
+mod CountedFacts
 mod Worked

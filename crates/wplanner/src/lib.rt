@@ -10,6 +10,7 @@
 //! `specs/Printing.antt`.
 #![tactic(auto)]
 
+mod counting;
 mod executing;
 mod fault;
 mod field;

@@ -1,10 +1,11 @@
 //! What one SELECT answers.
-ghost use Rattle.std.specs.Prelude.{◌≡◌, ◌<◌, ◌^◌, true, IfOk, IfSome, List, Ok, length};
+ghost use Rattle.std.specs.Prelude.{◌≡◌, ◌<◌, ◌^◌, true, IfOk, IfSome, List, None, Ok, Some, length};
 ghost use Rattle.wvalues.specs.Meaning.{Meaning};
 ghost use Rattle.wplan.specs.Plans.{grouping_plan, select_plan};
 ghost use Rattle.wrows.specs.Outcomes.{Gives};
 ghost use Rattle.wrows.specs.Columns.{beside};
 ghost use Rattle.wrows.specs.Laid.{rows_in, rows_seen};
+ghost use Rattle.wgroup.specs.Counting.{CountsRows};
 ghost use Rattle.wplanner.specs.Answers.{grouped_items, items_of, kept_items, left_items, select_of};
 ghost use Rattle.wplanner.specs.Sound.{is_sound_select};
 ghost use Rattle.wset.specs.Running.{live_rows};
@@ -12,6 +13,7 @@ ghost use Rattle.wset.specs.Sets.{Becomes};
 ghost use Rattle.wplanner.specs.TableOrders.{AreTableOrders, AreTold, by_keys};
 ghost use Rattle.wplanner.specs.Tables.{rows_of_set};
 
+use crate::counting::{counted_grouping, kept_count};
 use crate::numbered::numbered_table_rows;
 use crate::parts::{item_values, key_orders, key_values};
 use crate::source::kept_table_rows;
@@ -21,7 +23,7 @@ use crate::windows::{call_columns, window_answers};
 use crate::work::Work;
 use std::alloc::Global;
 use waggregate::Tally;
-use wgroup::group_rows;
+use wgroup::{counted_row, group_rows};
 use wplan::{Grouping, Selection};
 use wrows::{
     AnswerFault, Asked, Cells, joined_items, kept_rows, lent_rows, ordered_items, told_items,
@@ -255,6 +257,27 @@ fn select_ordered(
     kept_items(alloc, select, &kept.rows, told, work)
 }
 
+// What one SELECT answers on the rows of the set's live segments, where it counts them and asks nothing else of them.
+fn select_counted(
+    alloc: Global,
+    select: &Selection,
+    grouping: &Grouping,
+    set: &SegmentSet,
+    work: &mut Work,
+) -> Result<Cells, AnswerFault>
+    requires sound { is_sound_select (select_plan select.now) ≡ true }
+    requires counts { CountsRows (grouping_plan grouping.now) }
+    requires all { (select_plan select.now).condition ≡ None }
+    requires own { (select_plan select.now).grouping ≡ Some (grouping_plan grouping.now) }
+    ensures rows { Gives rows_in result (select_of (select_plan select.now) (rows_of_set set.now)) }
+    ensures width { IfOk result (λ cells. cells.width ≡ length select.now.items.items) }
+{
+    let count = kept_count(set)?;
+    let groups = counted_row(alloc, grouping, count)?;
+    let left = lent_rows(alloc, &groups)?;
+    left_items(alloc, select, &left, ToldOrders::none(alloc), work)
+}
+
 /// What one SELECT answers on the rows of the set's live segments. Orders of them by columns are taken from the runs that the
 /// segments keep, and runs that are missing are made; nothing else of the set changes.
 pub(crate) fn select_table_rows(
@@ -268,6 +291,9 @@ pub(crate) fn select_table_rows(
     ensures width { IfOk result (λ cells. cells.width ≡ length select.now.items.items) }
     ensures same { Becomes set.old set.old.view set.new }
 {
+    if let Some(grouping) = counted_grouping(select) {
+        return select_counted(alloc, select, grouping, set, work);
+    }
     let orders = table_orders(alloc, select, set)?;
     if orders.is_none() {
         select_unordered(alloc, select, set, work)
