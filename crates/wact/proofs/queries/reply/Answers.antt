@@ -13,5 +13,5 @@ returns-in_ok-text-in-Err c =
     let told : (c.in-Err.fault ≡ NoMemory) ⊎ IsAnswer c.args.node.now.schema c.args.node.now.view c.args.query.now (Err c.in-Err.fault) = search rules in
     record {
       replies = record { answer = Err c.in-Err.fault; answers = but_memory other told; text_is = c.in_ok-text-in-Err.ensures.text; refused_is = refl };
-      same = refl;
+      same = c.in-Err.ensures.same;
     }
