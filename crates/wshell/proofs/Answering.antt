@@ -1,5 +1,5 @@
 -- What texts are told, one after the other.
-use Rattle.std.proofs.Common.{◌≡◌, ◌⊎◌, inl, inr, ◌∙◌, ◌||◌, ℕ, ◌+◌, ◌<◌, ◌≤◌, Bool, true, false, List, [], ◌∷◌, ◌++◌, length, take, min, Option, Result, Ok, Err, refl, sym, ap, subst, arith, append_assoc, append-nil, length-take}
+use Rattle.std.proofs.Common.{◌≡◌, ◌⊎◌, inl, inr, ◌∙◌, ◌||◌, ℕ, ◌+◌, ◌<◌, ◌≤◌, Bool, true, false, List, [], ◌∷◌, ◌++◌, length, take, min, Option, Result, Ok, Err, IfErr, OnErr, OnOk, refl, sym, ap, subst, arith, append_assoc, append-nil, length-take}
 use Rattle.std.specs.Prelude.{is_err}
 use Rattle.std.specs.List.{flat_map, list_any}
 use Rattle.std.specs.Io.KnownBytes.{Appends}
@@ -14,14 +14,38 @@ use Rattle.wset.specs.Views.{View}
 use Rattle.wask.specs.Answer.{IsAnswer}
 use Rattle.wplanner.specs.declared.fault.AskFault.{AskFault}
 use Rattle.wplanner.specs.declared.fault.AskFault.TheVariants as faults
-use Rattle.wact.specs.Queries.{next_reply_text, replies_text, reply_text}
+use Rattle.wvalues.specs.Counts.{Counts}
+use Rattle.wact.specs.Queries.{IsReply, next_reply_text, replies_text, reply_text}
+use Rattle.wshell.specs.declared.fault.ShellFault.{ShellFault}
+use Rattle.wshell.specs.declared.fault.ShellFault.TheVariants as ends
 use Rattle.wshell.specs.declared.telling.Told.{Told}
 use Rattle.wshell.specs.Pending.{room}
-use Rattle.wshell.specs.Telling.{Answered, Front, IsBlank, Passed, Tells, TellsOne, TellsPart, Unanswered, reply_behind}
+use Rattle.wshell.specs.Telling.{Answered, Front, HasTellCause, IsBlank, Passed, Tells, TellsOne, TellsPart, Unanswered, reply_behind}
 use Rattle.wshell.specs.Runs.{FrontSoFar, SoFar, has_any}
 
 abbrev Answer : Type 0
 Answer = Result (List ℕ) AskFault
+
+-- ---- what one text is told
+
+abbrev told_any : Bool → Told
+told_any b = record { is_any = true; is_refused = b }
+
+module _ (d : Declaration) (v : View) (text bytes : List ℕ) (old new : Option (List ℕ)) (told new_told : Told) (is_refused : Bool) (filled : ¬ (IsBlank text)) (reply : IsReply d v text bytes is_refused) where
+  pub replied_whole : {A : Type 0} (r : Result A ShellFault) → OnOk r (Appends old new (reply_behind told.is_any bytes) × (new_told ≡ record { is_any = true; is_refused = told.is_refused || is_refused }))
+      → OnOk r (TellsOne d v text old new told new_told)
+  replied_whole (Ok x) w =
+      Answered reply.answer filled reply.answers (subst (λ t. Appends old new (reply_behind told.is_any t)) reply.text_is w.0)
+      (w.1 ∙ ap (λ (b : Bool). told_any (told.is_refused || b)) reply.refused_is)
+  replied_whole (Err e) w = tt
+
+  pub replied_part : {A : Type 0} (r : Result A ShellFault) → OnErr r ((n : ℕ) × Appends old new (take n (reply_behind told.is_any bytes))) → OnErr r (TellsPart d v text old new told)
+  replied_part (Ok x) w = tt
+  replied_part (Err e) w = Front reply.answer w.0 filled reply.answers (subst (λ t. Appends old new (take w.0 (reply_behind told.is_any t))) reply.text_is w.1)
+
+pub reply_cause : {A W : Type 0} (r : Result A ShellFault) (output : Counts W) → OnErr r (output.failures ≡ 1) → IfErr r (λ e. e ≡ ends.Write) → IfErr r (λ fault. HasTellCause fault output)
+reply_cause (Ok x) output failed is = tt
+reply_cause {W = W} (Err e) output failed is = subst (λ (f : ShellFault). HasTellCause {W = W} f output) (sym is) failed
 
 -- ---- one text more
 
@@ -77,7 +101,7 @@ too_many : (n : ℕ) → 65536 < n → n ≤ 65536 → ⊥
 too_many n many few = omega (arith, many, few)
 
 long_answer : (d : Declaration) (v : View) (kept text : List ℕ) (answer : Answer) → 65536 < length kept → 65536 < length text → IsAnswer d v kept answer → IsAnswer d v text answer
-long_answer d v kept text (Ok bytes) m l is = absurd (too_many (length kept) m is.1.0.0.0)
+long_answer d v kept text (Ok bytes) m l is = absurd (too_many (length kept) m is.1.0.0)
 long_answer d v kept text (Err faults.NoMemory) m l is = absurd is
 long_answer d v kept text (Err faults.TooLong) m l is = inl l
 long_answer d v kept text (Err faults.NotUtf8) m l (inl is) = absurd (too_many (length kept) m is.0)
@@ -86,12 +110,12 @@ long_answer d v kept text (Err faults.Syntax) m l (inl is) = absurd (too_many (l
 long_answer d v kept text (Err (faults.Broken rule)) m l (inl is) = absurd is
 long_answer d v kept text (Err faults.OutOfRange) m l (inl is) = absurd is
 long_answer d v kept text (Err faults.TooManyRows) m l (inl is) = absurd is
-long_answer d v kept text (Err faults.NotUtf8) m l (inr is) = absurd (too_many (length kept) m is.1.0.0.0)
-long_answer d v kept text (Err (faults.At place)) m l (inr is) = absurd (too_many (length kept) m is.1.0.0.0)
-long_answer d v kept text (Err faults.Syntax) m l (inr is) = absurd (too_many (length kept) m is.1.0.0.0)
-long_answer d v kept text (Err (faults.Broken rule)) m l (inr is) = absurd (too_many (length kept) m is.1.0.0.0)
-long_answer d v kept text (Err faults.OutOfRange) m l (inr is) = absurd (too_many (length kept) m is.1.0.0.0)
-long_answer d v kept text (Err faults.TooManyRows) m l (inr is) = absurd (too_many (length kept) m is.1.0.0.0)
+long_answer d v kept text (Err faults.NotUtf8) m l (inr is) = absurd (too_many (length kept) m is.1.0.0)
+long_answer d v kept text (Err (faults.At place)) m l (inr is) = absurd (too_many (length kept) m is.1.0.0)
+long_answer d v kept text (Err faults.Syntax) m l (inr is) = absurd (too_many (length kept) m is.1.0.0)
+long_answer d v kept text (Err (faults.Broken rule)) m l (inr is) = absurd (too_many (length kept) m is.1.0.0)
+long_answer d v kept text (Err faults.OutOfRange) m l (inr is) = absurd (too_many (length kept) m is.1.0.0)
+long_answer d v kept text (Err faults.TooManyRows) m l (inr is) = absurd (too_many (length kept) m is.1.0.0)
 
 -- what is told of what is kept is told of the text
 told_whole : (d : Declaration) (v : View) (text : List ℕ) (old new : Option (List ℕ)) (told new_told : Told) → TellsOne d v (take room text) old new told new_told → TellsOne d v text old new told new_told

@@ -1,6 +1,7 @@
 -- A text without tokens.
-use Rattle.std.proofs.Common.{◌≡◌, ◌≢◌, ℕ, ◌<◌, ◌≤◌, ◌==◌, Bool, true, false, true≢false, List, [], ◌∷◌, length, map, Result, Ok, Err, refl, sym, ap, subst, arith}
+use Rattle.std.proofs.Common.{◌≡◌, ◌≢◌, suc, ℕ, ◌<◌, ◌≤◌, ◌==◌, ◌∙◌, Bool, true, false, true≢false, List, [], ◌∷◌, length, map, Result, Ok, Err, refl, sym, ap, subst, arith}
 use Rattle.std.specs.Prelude.{◌↔◌, IsTrue}
+use Rattle.std.proofs.lemmas.Bool.Decides.{nat_tests}
 use Rattle.wlexer.specs.Lexing.{HasFaultAt, Lexes}
 use Rattle.wlexer.specs.Token.{PlacedToken, placed}
 use Rattle.wlexer.specs.declared.fault.LexFault.{LexFault}
@@ -14,10 +15,26 @@ abbrev has : List PlacedToken → Bool
 has [] = false
 has (x ∷ xs) = true
 
+-- a text that was lexed is short and UTF-8
+pub lexed_text : {A : Type 0} (x : A) (text : List ℕ) → (Ok x ≡ Err lexing.TooLong) ↔ (65536 < length text) → (Ok x ≡ Err lexing.NotUtf8) ↔ ((length text ≤ 65536) × IsForeign text) → IsText text
+lexed_text {A} x text long foreign = (short, λ f. other lexing.NotUtf8 (foreign.1 (short, f)))
+  where
+    ok : Result A LexFault
+    ok = Ok x
+
+    other : (fault : LexFault) → ok ≢ Err fault
+    other fault e = cc
+
+    short : length text ≤ 65536
+    short = let not_long : ¬ (65536 < length text) = λ h. other lexing.TooLong (long.1 h) in omega (arith, not_long)
+
+some_is_not_none : (n : ℕ) → (suc n == 0) ≡ false
+some_is_not_none n = grind (arith, nat_tests)
+
 -- it is blank just where there are none
 pub blank_by_tokens : (text : List ℕ) (tokens : List Token) (b : Bool) → b ≡ (length tokens == 0) → IsText text → Lexes text (map placed tokens) → IsTrue b ↔ IsBlank text
-blank_by_tokens text [] b e is lexes = subst (λ t. IsTrue t ↔ IsBlank text) (sym e) ((λ _. record { is_text = is; none = lexes }), (λ _. tt))
-blank_by_tokens text (t ∷ ts) b e is lexes = subst (λ c. IsTrue c ↔ IsBlank text) (sym e) ((λ h. absurd h), (λ (blank : IsBlank text). absurd (true≢false (sym (ap has (one_list text [] (map placed (t ∷ ts)) blank.none lexes))))))
+blank_by_tokens text [] b e is lexes = subst (λ t. IsTrue t ↔ IsBlank text) (sym e) ((λ _. record { is_text = is; none = lexes }), (λ _. refl))
+blank_by_tokens text (t ∷ ts) b e is lexes = subst (λ c. IsTrue c ↔ IsBlank text) (sym (e ∙ some_is_not_none (length ts))) ((λ h. absurd (true≢false (sym h))), (λ (blank : IsBlank text). absurd (true≢false (sym (ap has (one_list text [] (map placed (t ∷ ts)) blank.none lexes))))))
 
 too_many : (n : ℕ) → 65536 < n → n ≤ 65536 → ⊥
 too_many n many few = omega (arith, many, few)
@@ -31,4 +48,7 @@ faulty_is_filled text (lexing.At place) other long foreign at blank = tokens_or_
 faulty_is_filled text lexing.NoMemory other long foreign at blank = other refl
 
 pub filled_is_false : (text : List ℕ) → ¬ (IsBlank text) → IsTrue false ↔ IsBlank text
-filled_is_false text filled = ((λ h. absurd h), (λ blank. absurd (filled blank)))
+filled_is_false text filled = ((λ h. absurd (true≢false (sym h))), (λ blank. absurd (filled blank)))
+
+pub not_blank : (text : List ℕ) (b : Bool) → IsTrue b ↔ IsBlank text → b ≡ false → ¬ (IsBlank text)
+not_blank text b told e blank = true≢false (sym (told.1 blank) ∙ e)

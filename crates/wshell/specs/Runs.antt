@@ -39,6 +39,17 @@ pub record RepliesBegun (d : Declaration) (v : View) (input output : List ℕ) :
   pub tells : Tells d v texts answers
   pub output_is : output ≡ take n (replies_text answers)
 
+-- of what was read of the input, each query that had ended was answered: none of its replies waits for more to be read
+pub record KeepsUp (d : Declaration) (v : View) (left new_left first contents : Option (List ℕ)) : Type 0 where
+  pub input : List ℕ
+  pub queries : List (List ℕ)
+  pub rest : List ℕ
+  pub answers : List (Result (List ℕ) AskFault)
+  pub consumes : Consumes left new_left input
+  pub splits : Splits input queries rest
+  pub tells : Tells d v queries answers
+  pub written : Appends first contents (replies_text answers)
+
 -- each fault has its cause, and nothing else has failed
 abbrev pub HasCause : {R W : Type 0} → ShellFault → Counts R → Counts W → Type 0
 HasCause faults.Read input output = ReadFailed input × IsSoundWriter output
@@ -82,11 +93,19 @@ pub record IsBegun (d : Declaration) (v : View) (first : Option (List ℕ)) (inp
   pub each : AllByRecursion IsEnded queries
   pub front : FrontSoFar d v queries first contents
 
--- the whole input was read, and stands so
-pub record TakesAll (d : Declaration) (v : View) (left new_left first contents : Option (List ℕ)) (pending : Kept) (told : Told) : Type 0 where
+-- whatever was told before these bytes of the input, it stands so behind them
+abbrev pub GoesOn : Declaration → View → List ℕ → Option (List ℕ) → Option (List ℕ) → Kept → Kept → Told → Told → Type 0
+GoesOn d v bytes old new pending new_pending told new_told =
+    (first : Option (List ℕ)) (input : List ℕ) → StandsBehind d v first input old pending told → StandsBehind d v first (input ++ bytes) new new_pending new_told
+
+-- or a front of the replies was written
+abbrev pub GivesUp : Declaration → View → List ℕ → Option (List ℕ) → Option (List ℕ) → Kept → Told → Type 0
+GivesUp d v bytes old new pending told = (first : Option (List ℕ)) (input : List ℕ) → StandsBehind d v first input old pending told → IsBegun d v first (input ++ bytes) new
+
+-- this much of the input was read, and it stands so behind it
+pub record StandsAfter (d : Declaration) (v : View) (left new_left first contents : Option (List ℕ)) (pending : Kept) (told : Told) : Type 0 where
   pub input : List ℕ
   pub consumes : Consumes left new_left input
-  pub end : IsAtEnd new_left
   pub stands : StandsBehind d v first input contents pending told
 
 -- a front of the input was read, of which a beginning of the replies was written

@@ -31,6 +31,10 @@ may_end modes.Outside = true
 may_end modes.Dash = true
 may_end _ = false
 
+-- behind a text that stands so the byte ends the query
+abbrev pub EndsAt : Mode → ℕ → Type 0
+EndsAt mode b = (b ≡ semicolon) × (may_end mode ≡ true)
+
 -- no query ends in it
 abbrev pub EndsNowhere : List ℕ → Type 0
 EndsNowhere text = (front more : List ℕ) → may_end (mode_of front) ≡ true → text ≢ front ++ (semicolon ∷ more)

@@ -1,9 +1,11 @@
 //! Reads an input to its end, and answers each of its queries as soon as it is whole.
-ghost use Rattle.std.specs.Prelude.{◌≡◌, ◌-◌, ◌<◌, ◌≤◌, ◌∷◌, ◌++◌, ℕ, List, [], length, take, Option, IfErr, IfOk, IfSome, OnErr, OnOk};
+ghost use Rattle.std.specs.Prelude.{◌≡◌, ◌-◌, ◌<◌, ◌≤◌, ◌∷◌, ℕ, List, [], length, take, IfErr, IfOk, IfSome, MatchBool, OnErr, OnOk};
 ghost use Rattle.std.specs.Io.KnownBytes.{Appends, Consumes, IsAtEnd, Keeps};
 ghost use Rattle.wlines.specs.Pending.{IsNew, IsSound, IsSoundWriter, ReadFailed, most_reads};
-ghost use Rattle.wshell.specs.Telling.{HasTellCause};
-ghost use Rattle.wshell.specs.Runs.{HasCause, IsBegun, Replies, RepliesBegun, StandsBehind, TakesAll, TakesFront};
+ghost use Rattle.wshell.specs.Splitting.{EndsAt};
+ghost use Rattle.wshell.specs.Pending.{IsPending};
+ghost use Rattle.wshell.specs.Telling.{HasTellCause, TellsOne, TellsPart};
+ghost use Rattle.wshell.specs.Runs.{GivesUp, GoesOn, HasCause, KeepsUp, Replies, RepliesBegun, StandsAfter, StandsBehind, TakesFront};
 
 use crate::fault::ShellFault;
 use crate::pending::Pending;
@@ -19,6 +21,36 @@ const BLOCK: usize = 65_536;
 /// How many reads a run may make.
 const MOST_READS: u64 = 1 << 40;
 
+// Whether a byte behind the text is the semicolon that ends the query.
+fn ends(pending: &Pending, byte: u8) -> bool
+    ensures { MatchBool result (EndsAt pending.now.mode byte) (¬ (EndsAt pending.now.mode byte)) }
+{
+    byte == b';' && pending.may_end()
+}
+
+// Answers the query that has ended, and begins the next one.
+fn end_query<W: Write>(
+    alloc: Global,
+    node: &mut Node,
+    output: &mut Counted<W>,
+    told: &mut Told,
+    pending: &mut Pending,
+) -> Result<(), ShellFault>
+    requires { IsSoundWriter output.old }
+    ensures same { node.new ≡ node.old }
+    ensures ok { OnOk result (TellsOne node.old.schema node.old.view pending.old.text (W.contents output.old.inner) (W.contents output.new.inner) told.old told.new) }
+    ensures empty { OnOk result (IsPending pending.new []) }
+    ensures sound { OnOk result (IsSoundWriter output.new) }
+    ensures part { OnErr result (TellsPart node.old.schema node.old.view pending.old.text (W.contents output.old.inner) (W.contents output.new.inner) told.old) }
+    ensures cause { IfErr result (λ fault. HasTellCause fault output.new) }
+{
+    if let Err(fault) = tell(alloc, node, output, told, pending.as_slice()) {
+        return Err(fault);
+    }
+    pending.clear();
+    Ok(())
+}
+
 // Takes the next byte of the input: it ends the query, which is answered then, or belongs to it.
 fn take_byte<W: Write>(
     alloc: Global,
@@ -30,19 +62,13 @@ fn take_byte<W: Write>(
 ) -> Result<(), ShellFault>
     requires { IsSoundWriter output.old }
     ensures same { node.new ≡ node.old }
-    ensures ok { OnOk result ((first : Option (List ℕ)) (input : List ℕ) → StandsBehind node.old.schema node.old.view first input (W.contents output.old.inner) pending.old told.old
-        → StandsBehind node.old.schema node.old.view first (input ++ byte ∷ []) (W.contents output.new.inner) pending.new told.new) }
+    ensures ok { OnOk result (GoesOn node.old.schema node.old.view (byte ∷ []) (W.contents output.old.inner) (W.contents output.new.inner) pending.old pending.new told.old told.new) }
     ensures sound { OnOk result (IsSoundWriter output.new) }
-    ensures part { OnErr result ((first : Option (List ℕ)) (input : List ℕ) → StandsBehind node.old.schema node.old.view first input (W.contents output.old.inner) pending.old told.old
-        → IsBegun node.old.schema node.old.view first (input ++ byte ∷ []) (W.contents output.new.inner)) }
+    ensures part { OnErr result (GivesUp node.old.schema node.old.view (byte ∷ []) (W.contents output.old.inner) (W.contents output.new.inner) pending.old told.old) }
     ensures cause { IfErr result (λ fault. HasTellCause fault output.new) }
 {
-    if byte == b';' && pending.may_end() {
-        if let Err(fault) = tell(alloc, node, output, told, pending.as_slice()) {
-            return Err(fault);
-        }
-        pending.clear();
-        return Ok(());
+    if ends(pending, byte) {
+        return end_query(alloc, node, output, told, pending);
     }
     pending.add(byte);
     Ok(())
@@ -59,11 +85,9 @@ fn take_block<W: Write>(
 ) -> Result<(), ShellFault>
     requires { IsSoundWriter output.old }
     ensures same { node.new ≡ node.old }
-    ensures ok { OnOk result ((first : Option (List ℕ)) (input : List ℕ) → StandsBehind node.old.schema node.old.view first input (W.contents output.old.inner) pending.old told.old
-        → StandsBehind node.old.schema node.old.view first (input ++ block.now) (W.contents output.new.inner) pending.new told.new) }
+    ensures ok { OnOk result (GoesOn node.old.schema node.old.view block.now (W.contents output.old.inner) (W.contents output.new.inner) pending.old pending.new told.old told.new) }
     ensures sound { OnOk result (IsSoundWriter output.new) }
-    ensures part { OnErr result ((first : Option (List ℕ)) (input : List ℕ) → StandsBehind node.old.schema node.old.view first input (W.contents output.old.inner) pending.old told.old
-        → IsBegun node.old.schema node.old.view first (input ++ block.now) (W.contents output.new.inner)) }
+    ensures part { OnErr result (GivesUp node.old.schema node.old.view block.now (W.contents output.old.inner) (W.contents output.new.inner) pending.old told.old) }
     ensures cause { IfErr result (λ fault. HasTellCause fault output.new) }
 {
     'bytes: for byte in block {
@@ -109,9 +133,12 @@ fn take_all<R: Read, W: Write>(
     requires output { IsSoundWriter output.old }
     requires stands { StandsBehind node.old.schema node.old.view (W.contents output.old.inner) [] (W.contents output.old.inner) pending.old told.old }
     ensures same { node.new ≡ node.old }
-    ensures ok { OnOk result (TakesAll node.old.schema node.old.view (R.remaining input.old.inner) (R.remaining input.new.inner) (W.contents output.old.inner) (W.contents output.new.inner) pending.new told.new) }
+    ensures ok { OnOk result (StandsAfter node.old.schema node.old.view (R.remaining input.old.inner) (R.remaining input.new.inner) (W.contents output.old.inner) (W.contents output.new.inner) pending.new told.new) }
+    ensures end { OnOk result (IsAtEnd (R.remaining input.new.inner)) }
     ensures sound { OnOk result (IsSound input.new × IsSoundWriter output.new) }
     ensures part { OnErr result (TakesFront node.old.schema node.old.view (R.remaining input.old.inner) (W.contents output.old.inner) (W.contents output.new.inner)) }
+    ensures read { IfErr result (λ fault. fault ≡ ShellFault.Read
+        → KeepsUp node.old.schema node.old.view (R.remaining input.old.inner) (R.remaining input.new.inner) (W.contents output.old.inner) (W.contents output.new.inner)) }
     ensures cause { IfErr result (λ fault. HasCause fault input.new output.new) }
 {
     let mut block = [0u8; BLOCK];
@@ -146,6 +173,9 @@ pub fn run<R: Read, W: Write>(
     // At a fault it is a beginning of them.
     ensures begun { OnErr result (IfSome (R.remaining input.old.inner) (λ bytes.
         (written : List ℕ) × Appends (W.contents output.old.inner) (W.contents output.new.inner) written × RepliesBegun node.old.schema node.old.view bytes written)) }
+    // Where a read fails, each query that ended in what was read before was answered: no reply waits for the next read.
+    ensures prompt { IfErr result (λ fault. fault ≡ ShellFault.Read
+        → KeepsUp node.old.schema node.old.view (R.remaining input.old.inner) (R.remaining input.new.inner) (W.contents output.old.inner) (W.contents output.new.inner)) }
     // A run that ends has seen no failure, and a fault has its cause.
     ensures sound { OnOk result (IsSound input.new × IsSoundWriter output.new) }
     ensures cause { IfErr result (λ fault. HasCause fault input.new output.new) }

@@ -1,7 +1,6 @@
-use Rattle.std.proofs.Common.{◌≡◌, ℕ, ◌-◌, List}
-use Rattle.std.specs.Io.KnownBytes.{Consumes}
+use Rattle.std.proofs.Common.{◌≡◌, ℕ, ◌-◌}
 use Rattle.wlines.specs.Pending.{IsSound, IsSoundWriter, most_reads}
-use Rattle.wshell.specs.Runs.{StandsBehind}
+use Rattle.wshell.specs.Runs.{StandsAfter}
 use Rattle.wshell.proofs.runs.take_all.Given as goal
 
 abbrev pub invariant-reads : goal.invariant-reads
@@ -9,9 +8,7 @@ invariant-reads g l = record {
   same : l.node ≡ l.initial.node;
   input_sound : IsSound l.input;
   output_sound : IsSoundWriter l.output;
-  bytes : List ℕ;
-  consumes : Consumes (g.R.Read.remaining l.initial.input.inner) (g.R.Read.remaining l.input.inner) bytes;
-  stands : StandsBehind l.initial.node.schema l.initial.node.view (g.W.Write.contents l.initial.output.inner) bytes (g.W.Write.contents l.output.inner) l.pending l.told;
+  after : StandsAfter l.initial.node.schema l.initial.node.view (g.R.Read.remaining l.initial.input.inner) (g.R.Read.remaining l.input.inner) (g.W.Write.contents l.initial.output.inner) (g.W.Write.contents l.output.inner) l.pending l.told;
 }
 
 abbrev pub decreases-reads : goal.decreases-reads
