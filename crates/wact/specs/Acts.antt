@@ -17,15 +17,14 @@ use Rattle.wset.specs.Words.{floor_word, retired_word, taken_word}
 use Rattle.wexchange.specs.Judging.{HasTable, IsFault, IsFileOf}
 use Rattle.wexchange.specs.declared.fault.FileFault.{FileFault}
 use Rattle.wexchange.specs.declared.fault.FileFault.TheVariants as files
-use Rattle.wask.specs.Answer.{IsAnswer}
 use Rattle.wstore.specs.History.{AreName}
-use Rattle.wreplies.specs.Spelling.{file_text, name_text, names_text, query_text, retired_text, segment_text, table_text, taken_text}
-use Rattle.wplanner.specs.declared.fault.AskFault.{AskFault}
-use Rattle.wplanner.specs.declared.fault.AskFault.TheVariants as queries
+use Rattle.wreplies.specs.Spelling.{file_text, name_text, names_text, retired_text, segment_text, table_text, taken_text}
 use Rattle.wcommand.specs.declared.choice.Choice.{Choice}
 use Rattle.wcommand.specs.declared.choice.Choice.TheVariants as choices
 use Rattle.wact.specs.declared.acted.Acted.{Acted}
 use Rattle.wact.specs.Outcomes.{IsAnswered, IsRefused, IsStored}
+use Rattle.wact.specs.Queries.{Asks}
+use Rattle.wact.specs.Streams.{Feeds}
 
 -- the words of a name are at fault, or they are those of a name with which this is done
 pub data OnName (origin number : List ℕ) (acted : Acted) (Does : NameParts → Type 0) : Type 0 where
@@ -54,11 +53,6 @@ pub data Joins (d : Declaration) (v : View) (old : Option (List ℕ)) (other : L
 abbrev pub Lists : Declaration → View → Acted → Type 0
 Lists d v acted = IsAnswered acted (names_text (map (listed d) (entries v)))
 
--- a query is answered by the bytes of its answer alone, or its first fault is told
-pub data Asks (d : Declaration) (v : View) (query : List ℕ) (acted : Acted) : Type 0 where
-  QueryRefused : (fault : AskFault) → fault ≢ queries.NoMemory → IsAnswer d v query (Err fault) → IsRefused acted (query_text fault) → Asks d v query acted
-  Answered : (answer : List ℕ) → IsAnswer d v query (Ok answer) → IsAnswered acted answer → Asks d v query acted
-
 -- what a subcommand does where the store has these bytes, if it is there, and this is its view
 abbrev pub ActsOn : Declaration → View → Choice → Option (List ℕ) → List ℕ → Acted → Type 0
 ActsOn d v choices.Session old other acted = ⊥
@@ -66,8 +60,10 @@ ActsOn d v (choices.Take paths origin number csv) old other acted = OnName origi
 ActsOn d v (choices.Retire paths origin number) old other acted = OnName origin.now number.now acted (Retires d v old acted)
 ActsOn d v (choices.Floor paths origin number) old other acted = OnName origin.now number.now acted (RetiresTo d v old acted)
 ActsOn d v (choices.Join paths path) old other acted = Joins d v old other acted
+ActsOn d v (choices.Feed paths path) old other acted = Feeds d v old other acted
 ActsOn d v (choices.List paths) old other acted = Lists d v acted
-ActsOn d v (choices.Ask paths query) old other acted = Asks d v query.now acted
+ActsOn d v (choices.Ask paths queries) old other acted = Asks d v (map (λ query. query.now) queries.items) acted
+ActsOn d v (choices.Shell paths) old other acted = ⊥
 
 -- where it may find no memory then: a name that is none needs none, nor does another store before its declaration
 abbrev pub MayLackMemory : Declaration → Choice → List ℕ → Type 0
@@ -76,8 +72,10 @@ MayLackMemory d (choices.Take paths origin number csv) other = AreName origin.no
 MayLackMemory d (choices.Retire paths origin number) other = AreName origin.now number.now
 MayLackMemory d (choices.Floor paths origin number) other = AreName origin.now number.now
 MayLackMemory d (choices.Join paths path) other = HasTable d other
+MayLackMemory d (choices.Feed paths path) other = ⊤
 MayLackMemory d (choices.List paths) other = ⊤
-MayLackMemory d (choices.Ask paths query) other = ⊤
+MayLackMemory d (choices.Ask paths queries) other = ⊤
+MayLackMemory d (choices.Shell paths) other = ⊥
 
 -- the bytes are the file of a view, which is joined into that of a store that knows nothing
 pub record Tells (d : Declaration) (bytes : List ℕ) (v : View) : Type 0 where

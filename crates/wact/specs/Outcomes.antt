@@ -1,5 +1,5 @@
 -- How a subcommand ends.
-use Rattle.std.specs.Prelude.{◌≡◌, ◌≢◌, ℕ, List, Option, None, Some, option_map}
+use Rattle.std.specs.Prelude.{◌≡◌, ◌≢◌, ℕ, Bool, if◌then◌else◌, List, Option, None, Some, option_map}
 use Rattle.wsegment.specs.Declaration.{Declaration}
 use Rattle.wset.specs.Views.{View}
 use Rattle.wexchange.specs.Files.{file_of}
@@ -13,6 +13,10 @@ IsRefused acted text = (bytes_of acted.output ≡ text) × (acted.status ≡ 1) 
 -- done: the text is printed, with status 0, and there is no new store
 abbrev pub IsAnswered : Acted → List ℕ → Type 0
 IsAnswered acted text = (bytes_of acted.output ≡ text) × (acted.status ≡ 0) × (acted.store ≡ None)
+
+-- the text is printed, with status 1 where something is refused and 0 where nothing is, and there is no new store
+abbrev pub IsReplied : Acted → List ℕ → Bool → Type 0
+IsReplied acted text is_refused = (bytes_of acted.output ≡ text) × (acted.status ≡ (if is_refused then 1 else 0)) × (acted.store ≡ None)
 
 -- the store has these bytes from now on: a new one has them, where the old one has others or is none; or there is no new one, and the
 -- old one has them

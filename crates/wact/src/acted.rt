@@ -1,7 +1,7 @@
 //! What a subcommand gives.
 ghost use Rattle.std.specs.Prelude.{IfOk, option_map};
 ghost use Rattle.wreplies.specs.Texts.{bytes_of};
-ghost use Rattle.wact.specs.Outcomes.{Becomes, IsAnswered, IsRefused, IsStored};
+ghost use Rattle.wact.specs.Outcomes.{Becomes, IsAnswered, IsRefused, IsReplied, IsStored};
 
 use std::alloc::AllocError;
 use wreplies::Text;
@@ -59,17 +59,24 @@ fn changed(old: Option<&[u8]>, new: Vec<u8>) -> Option<Vec<u8>>
     Some(new)
 }
 
+/// What is told of queries, with the status of a refusal where one of them is refused.
+pub(crate) fn replied(output: Text, is_refused: bool) -> Acted
+    ensures { IsReplied result (bytes_of output) is_refused }
+{
+    Acted {
+        output,
+        status: if is_refused { REFUSED } else { DONE },
+        store: None,
+    }
+}
+
 /// What is told, with the store that knows what the node does, where the old one has other bytes.
-pub(crate) fn stored(
-    node: &Node,
-    old: Option<&[u8]>,
-    told: &'static [u8],
-) -> Result<Acted, AllocError>
-    ensures { IfOk result (λ acted. IsStored node.now.schema node.now.view (option_map (λ bytes. bytes.now) old.entry) acted told.now) }
+pub(crate) fn stored(node: &Node, old: Option<&[u8]>, output: Text) -> Result<Acted, AllocError>
+    ensures { IfOk result (λ acted. IsStored node.now.schema node.now.view (option_map (λ bytes. bytes.now) old.entry) acted (bytes_of output)) }
 {
     let new = node.put()?;
     Ok(Acted {
-        output: Text::Fixed(told),
+        output,
         status: DONE,
         store: changed(old, new),
     })

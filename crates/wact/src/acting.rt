@@ -1,22 +1,25 @@
 //! Subcommands on bytes.
-ghost use Rattle.std.specs.Prelude.{◌≡◌, ◌≢◌, IfErr, IfOk, OnErr, option_map};
-ghost use Rattle.wcommand.specs.declared.choice.Choice.TheVariants.{Session};
+ghost use Rattle.std.specs.Prelude.{◌≡◌, true, IfOk, OnErr, option_map};
+ghost use Rattle.wcommand.specs.Inputs.{is_act};
 ghost use Rattle.wexchange.specs.Judging.{HasTable};
 ghost use Rattle.wreplies.specs.Spelling.{name_text};
 ghost use Rattle.wstore.specs.History.{AreName};
-ghost use Rattle.wact.specs.Outcomes.{IsAnswered, IsRefused};
-ghost use Rattle.wact.specs.Acts.{Acts, ActsBy, ActsOn, ActsRead, Asks, HasFault, Joins, Knows, Lists, MayLack, MayLackBy, MayLackMemory, MayLackRead, OnName, Retires, RetiresTo, Takes};
+ghost use Rattle.wact.specs.Delivering.{IsFresh};
+ghost use Rattle.wact.specs.Outcomes.{IsRefused};
+ghost use Rattle.wact.specs.Acts.{Acts, ActsBy, ActsOn, ActsRead, Joins, Lists, MayLack, MayLackBy, MayLackMemory, MayLackRead, OnName, Retires, RetiresTo, Takes};
 
 use crate::acted::{Acted, answered, refused, stored};
+use crate::feeding::feed;
+use crate::opening::node_of;
+use crate::queries::ask;
 use std::alloc::{AllocError, Global};
 use wcommand::Choice;
 use wexchange::FileFault;
 use wreplies::{
-    Text, names, refused_file, refused_name, refused_query, refused_segment, refused_table,
-    retired, taken,
+    Text, names, refused_file, refused_name, refused_segment, refused_table, retired, taken,
 };
 use wsegment::{Schema, SchemaFault, SegmentFault};
-use wstore::{AskFault, Node};
+use wstore::Node;
 use wvalues::{Name, NameFault};
 
 // Takes a segment under a name.
@@ -30,7 +33,7 @@ fn take_under(
     ensures { IfOk result (λ acted. Takes node.old.schema node.old.view (option_map (λ bytes. bytes.now) old.entry) csv.now acted name) }
 {
     match node.take(name, csv) {
-        Ok(word) => stored(node, old, taken(word)),
+        Ok(word) => stored(node, old, Text::Fixed(taken(word))),
         Err(SegmentFault::NoMemory) => Err(AllocError),
         Err(fault) => Ok(refused(refused_segment(alloc, fault)?)),
     }
@@ -41,7 +44,7 @@ fn retire_name(node: &mut Node, old: Option<&[u8]>, name: Name) -> Result<Acted,
     ensures { IfOk result (λ acted. Retires node.old.schema node.old.view (option_map (λ bytes. bytes.now) old.entry) acted name) }
 {
     let word = node.retire(name)?;
-    stored(node, old, retired(word))
+    stored(node, old, Text::Fixed(retired(word)))
 }
 
 // Retires all names up to one.
@@ -49,7 +52,7 @@ fn retire_to(node: &mut Node, old: Option<&[u8]>, name: Name) -> Result<Acted, A
     ensures { IfOk result (λ acted. RetiresTo node.old.schema node.old.view (option_map (λ bytes. bytes.now) old.entry) acted name) }
 {
     let word = node.retire_to(name)?;
-    stored(node, old, retired(word))
+    stored(node, old, Text::Fixed(retired(word)))
 }
 
 // The refusal of a name.
@@ -117,7 +120,7 @@ fn join(
     ensures lacks { OnErr result (HasTable node.old.schema other.now) }
 {
     match node.get(other) {
-        Ok(()) => stored(node, old, b"ok\n"),
+        Ok(()) => stored(node, old, Text::Fixed(b"ok\n")),
         Err(FileFault::NoMemory) => Err(AllocError),
         Err(fault) => Ok(refused(refused_file(alloc, fault)?)),
     }
@@ -131,23 +134,6 @@ fn list(alloc: Global, node: &Node) -> Result<Acted, AllocError>
     Ok(answered(text))
 }
 
-// What is told of a query that is answered.
-fn told(answer: Vec<u8>) -> Acted
-    ensures { IsAnswered result answer.items }
-{
-    answered(Text::Made(answer))
-}
-
-fn ask(alloc: Global, node: &mut Node, query: &str) -> Result<Acted, AllocError>
-    ensures { IfOk result (λ acted. Asks node.old.schema node.old.view query.now acted) }
-{
-    match node.ask(query.as_bytes()) {
-        Ok(answer) => Ok(told(answer)),
-        Err(AskFault::NoMemory) => Err(AllocError),
-        Err(fault) => Ok(refused(refused_query(alloc, fault)?)),
-    }
-}
-
 // What a subcommand does on a node that knows the store, which has these bytes, if it is there.
 fn act_on(
     alloc: Global,
@@ -156,34 +142,21 @@ fn act_on(
     old: Option<&[u8]>,
     other: &[u8],
 ) -> Result<Acted, AllocError>
-    requires { choice.now ≢ Session }
+    requires act { is_act choice.now ≡ true }
+    requires fresh { IsFresh node.old }
     ensures does { IfOk result (λ acted. ActsOn node.old.schema node.old.view choice.now (option_map (λ bytes. bytes.now) old.entry) other.now acted) }
     ensures lacks { OnErr result (MayLackMemory node.old.schema choice.now other.now) }
 {
     match *choice {
         Choice::Session => unreachable!(),
+        Choice::Shell { .. } => unreachable!(),
         Choice::Take { origin, number, .. } => take(alloc, node, old, origin, number, other),
         Choice::Retire { origin, number, .. } => retire(node, old, origin, number),
         Choice::Floor { origin, number, .. } => floor(node, old, origin, number),
         Choice::Join { .. } => join(alloc, node, old, other),
+        Choice::Feed { .. } => feed(alloc, node, old, other),
         Choice::List { .. } => list(alloc, node),
-        Choice::Ask { query, .. } => ask(alloc, node, query),
-    }
-}
-
-// A node that knows what the store's file tells.
-fn node_of(alloc: Global, schema: Schema, store: Option<&[u8]>) -> Result<Node, FileFault>
-    ensures declared { IfOk result (λ node. node.schema ≡ schema) }
-    ensures known { IfOk result (λ node. Knows schema (option_map (λ bytes. bytes.now) store.entry) node.view) }
-    ensures refused { IfErr result (λ fault. HasFault schema (option_map (λ bytes. bytes.now) store.entry) fault) }
-{
-    let mut node = Node::new(alloc, schema);
-    match store {
-        None => Ok(node),
-        Some(bytes) => match node.get(bytes) {
-            Ok(()) => Ok(node),
-            Err(fault) => Err(fault),
-        },
+        Choice::Ask { ref queries, .. } => ask(alloc, node, queries.as_slice()),
     }
 }
 
@@ -195,7 +168,7 @@ fn act_by(
     store: Option<&[u8]>,
     other: &[u8],
 ) -> Result<Acted, AllocError>
-    requires { choice.now ≢ Session }
+    requires { is_act choice.now ≡ true }
     ensures acts { IfOk result (λ acted. ActsBy schema choice.now (option_map (λ bytes. bytes.now) store.entry) other.now acted) }
     ensures lacks { OnErr result (MayLackBy schema choice.now (option_map (λ bytes. bytes.now) store.entry) other.now) }
 {
@@ -214,7 +187,7 @@ fn act_read(
     store: Option<&[u8]>,
     other: &[u8],
 ) -> Result<Acted, AllocError>
-    requires { choice.now ≢ Session }
+    requires { is_act choice.now ≡ true }
     ensures acts { IfOk result (λ acted. ActsRead declared choice.now (option_map (λ bytes. bytes.now) store.entry) other.now acted) }
     ensures lacks { OnErr result (MayLackRead declared choice.now (option_map (λ bytes. bytes.now) store.entry) other.now) }
 {
@@ -226,7 +199,7 @@ fn act_read(
 }
 
 /// What the subcommand of a choice gives on the bytes of the table's file, of the store's file if there is one, and
-/// of CSV or OTHER, which are empty where the subcommand has none. The table is judged first, then the store, then the
+/// of CSV, OTHER or STREAM, which are empty where the subcommand has none. The table is judged first, then the store, then the
 /// subcommand. There is a new store only where the subcommand is done and the old one has other bytes than it is to have. At
 /// `AllocError` nothing is judged: memory ran out while the table was read, or it is a declaration.
 #[tactic(auto, using(crate::proofs::Outcomes::acts, crate::proofs::Outcomes::lacks))]
@@ -237,7 +210,7 @@ pub fn act(
     store: Option<&[u8]>,
     other: &[u8],
 ) -> Result<Acted, AllocError>
-    requires { choice.now ≢ Session }
+    requires { is_act choice.now ≡ true }
     ensures acts { IfOk result (λ acted. Acts choice.now table.now (option_map (λ bytes. bytes.now) store.entry) other.now acted) }
     ensures lacks { OnErr result (MayLack choice.now table.now (option_map (λ bytes. bytes.now) store.entry) other.now) }
 {

@@ -13,6 +13,11 @@
 
 mod acted;
 mod acting;
+mod feeding;
+mod opening;
+mod queries;
 
 pub use acted::Acted;
 pub use acting::act;
+pub use opening::{Opened, open_store};
+pub use queries::{QueryReply, reply};

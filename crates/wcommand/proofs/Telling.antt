@@ -1,11 +1,12 @@
 -- What `choose` makes of a parse of the command set.
-use Rattle.std.proofs.Common.{◌≡◌, ◌∙◌, ◌⊎◌, ⊎_elim, inl, inr, Bool, true, false, refl, sym, ap, subst, true≢false, List, [], Option, Some, None, option_map}
+use Rattle.std.proofs.Common.{◌≡◌, ◌∙◌, ◌⊎◌, ⊎_elim, inl, inr, Bool, true, false, refl, sym, ap, subst, true≢false, List, [], Option, Some, None, option_map, Result, Ok, Err, IfErr, IfOk}
 use Rattle.clap.specs.Words.{App, HasKind, HasMatchesOf, IsAmong, Row, Text, fault_of, is_simple, is_simple_and_free, kind_of, subcommand_of, subcommand_rows_of, takes}
 use Rattle.clap.specs.declared.error.ErrorKind.{ErrorKind}
 use Rattle.clap.specs.declared.error.ErrorKind.TheVariants as kinds
 use Rattle.clap.proofs.OnLiterals.{clap_on_literals}
 use Rattle.wcommand.specs.CommandSet.{command_set}
-use Rattle.wcommand.specs.Choices.{IsTold}
+use Rattle.wcommand.specs.Choices.{Chooses, IsChoice, IsTold}
+use Rattle.wcommand.specs.declared.choice.Choice.{Choice}
 use Rattle.wcommand.specs.Required.{IsWhole}
 use Rattle.wcommand.specs.declared.fault.WordsFault.{WordsFault}
 use Rattle.wcommand.specs.declared.fault.WordsFault.TheVariants as faults
@@ -40,6 +41,12 @@ good_words app words m same none has = (
 
 pub whole_matches : (words : List Text) (m : _) → (fault_of command_set words ≡ []) × (subcommand_rows_of m ≡ subcommand_of command_set words) → IsWhole (subcommand_rows_of m)
 whole_matches words m good = subst IsWhole (sym good.1) (words_whole words good.0)
+
+-- what the matches of good words choose, if memory is found
+pub chosen_words : (words : List Text) (m : _) (r : Result Choice WordsFault) → (fault_of command_set words ≡ []) × (subcommand_rows_of m ≡ subcommand_of command_set words)
+    → IfOk r (λ choice. IsChoice (subcommand_rows_of m) choice) → IfErr r (λ fault. fault ≡ faults.NoMemory) → Chooses words r
+chosen_words words m (Ok choice) good is lacks = (good.0, subst (λ o. IsChoice o choice) good.1 is)
+chosen_words words m (Err fault) good is lacks = inl lacks
 
 -- an `Err` of the parse
 pub told_kind : (app : App) (words : List Text) (e : _) (fault : WordsFault) → app ≡ command_set → (is_simple_and_free app ≡ true → HasKind (fault_of app words) e) → IsTold (kind_of e) fault

@@ -150,8 +150,14 @@ each_whole name other = (
             (
               (λ t. (refl, λ rows h. h)),
               (
-                (λ t. absurd (not_help name other t)),
-                tt,
+                (λ t. (refl, λ rows h. h)),
+                (
+                  (λ t. (refl, λ rows h. h)),
+                  (
+                    (λ t. absurd (not_help name other t)),
+                    tt,
+                  ),
+                ),
               ),
             ),
           ),

@@ -1,6 +1,6 @@
 -- What words choose: a subcommand with the values of its options and positionals, or help, or a refusal.
-use Rattle.std.specs.Prelude.{◌≡◌, ◌≢◌, ◌⊎◌, ⊤, Option, Some, None, List, [], Result, Ok, Err, codes, string_bytes}
-use Rattle.clap.specs.Words.{IsAmong, Row, Text, fault_of, first_of, subcommand_of}
+use Rattle.std.specs.Prelude.{◌≡◌, ◌≢◌, ◌⊎◌, ⊤, Option, Some, None, List, [], Result, Ok, Err, codes, map, string_bytes}
+use Rattle.clap.specs.Words.{IsAmong, Row, Text, all_of, fault_of, first_of, subcommand_of}
 use Rattle.clap.specs.declared.error.ErrorKind.{ErrorKind}
 use Rattle.clap.specs.declared.error.ErrorKind.TheVariants as kinds
 use Rattle.wcommand.specs.CommandSet.{command_set}
@@ -14,6 +14,10 @@ use Rattle.wcommand.specs.declared.fault.WordsFault.TheVariants as faults
 -- the option or positional of this name has this value
 abbrev pub HasValue : List Row → Text → Text → Type 0
 HasValue rows name value = first_of name rows ≡ Some value
+
+-- the positional of this name has these values, in this order
+abbrev pub HasValues : List Row → Text → List Text → Type 0
+HasValues rows name values = all_of name rows ≡ Some values
 
 -- the table is the value of `--table`, the store that of `--store`
 abbrev pub HasPaths : List Row → Paths → Type 0
@@ -29,8 +33,11 @@ IsChoiceIn name rows (choices.Retire paths origin number) = (name ≡ codes "ret
 IsChoiceIn name rows (choices.Floor paths origin number) = (name ≡ codes "floor") × HasPaths rows paths
     × HasValue rows (codes "ORIGIN") origin.now × HasValue rows (codes "NUMBER") number.now
 IsChoiceIn name rows (choices.Join paths other) = (name ≡ codes "join") × HasPaths rows paths × HasValue rows (codes "OTHER") other.now
+IsChoiceIn name rows (choices.Feed paths stream) = (name ≡ codes "feed") × HasPaths rows paths × HasValue rows (codes "STREAM") stream.now
 IsChoiceIn name rows (choices.List paths) = (name ≡ codes "list") × HasPaths rows paths
-IsChoiceIn name rows (choices.Ask paths query) = (name ≡ codes "ask") × HasPaths rows paths × HasValue rows (codes "QUERY") query.now
+IsChoiceIn name rows (choices.Ask paths queries) = (name ≡ codes "ask") × HasPaths rows paths
+    × HasValues rows (codes "QUERY") (map (λ query. query.now) queries.items)
+IsChoiceIn name rows (choices.Shell paths) = (name ≡ codes "shell") × HasPaths rows paths
 
 -- where no subcommand stands the choice is the session
 abbrev pub IsChoice : Option (Text × List Row) → Choice → Type 0

@@ -3,6 +3,7 @@
 use Rattle.std.specs.Prelude.{true, false, List, [], ◌∷◌, Some, codes}
 use Rattle.clap.specs.Words.{App, Rule, Shape, Text, new_rule}
 use Rattle.clap.specs.declared.builder.value_parser.ValueParser.TheVariants.{NonEmptyString}
+use Rattle.clap.specs.Lexer.{usize_max}
 use Rattle.clap.specs.Simple.{new_shape}
 
 -- `--name FILE`, which has to be given, once, and is not empty
@@ -12,6 +13,10 @@ option_rule name = record (new_rule name) { long = Some name; value_names = 1; p
 -- a positional, which has to be given
 abbrev pub positional_rule : Text → Rule
 positional_rule name = record (new_rule name) { required = true }
+
+-- a positional, which has to be given once, and may be given any number of times
+abbrev pub repeated_rule : Text → Rule
+repeated_rule name = record (positional_rule name) { range = Some (record { start_inclusive = 1; end_inclusive = usize_max }) }
 
 -- a subcommand on a table and a store, with positionals
 abbrev pub shape_on_files : Text → List Rule → Shape
@@ -39,13 +44,21 @@ floor_shape = shape_on_files (codes "floor") (positional_rule (codes "ORIGIN") �
 abbrev pub join_shape : Shape
 join_shape = shape_on_files (codes "join") (positional_rule (codes "OTHER") ∷ [])
 
+-- `feed --table FILE --store FILE STREAM`
+abbrev pub feed_shape : Shape
+feed_shape = shape_on_files (codes "feed") (positional_rule (codes "STREAM") ∷ [])
+
 -- `list --table FILE --store FILE`
 abbrev pub list_shape : Shape
 list_shape = shape_on_files (codes "list") []
 
--- `ask --table FILE --store FILE QUERY`
+-- `ask --table FILE --store FILE QUERY..`
 abbrev pub ask_shape : Shape
-ask_shape = shape_on_files (codes "ask") (positional_rule (codes "QUERY") ∷ [])
+ask_shape = shape_on_files (codes "ask") (repeated_rule (codes "QUERY") ∷ [])
+
+-- `shell --table FILE --store FILE`
+abbrev pub shell_shape : Shape
+shell_shape = shape_on_files (codes "shell") []
 
 -- the program without its subcommands and its version: its words are those behind its name
 abbrev pub unversioned_app : App
@@ -60,7 +73,7 @@ program_app = record unversioned_app { top = record unversioned_app.top { has_ve
 
 -- the subcommands, in the order of the help
 abbrev pub subcommands : List Shape
-subcommands = session_shape ∷ take_shape ∷ retire_shape ∷ floor_shape ∷ join_shape ∷ list_shape ∷ ask_shape ∷ []
+subcommands = session_shape ∷ take_shape ∷ retire_shape ∷ floor_shape ∷ join_shape ∷ feed_shape ∷ list_shape ∷ ask_shape ∷ shell_shape ∷ []
 
 -- the program with its subcommands
 abbrev pub command_set : App

@@ -1,15 +1,17 @@
 //! From words to a choice.
 ghost use Rattle.std.specs.Prelude.{◌≡◌, map, chars, string_bytes, encode_utf8_all, true, IfErr, IfOk};
-ghost use Rattle.clap.specs.Words.{kind_of, takes};
+ghost use Rattle.clap.specs.Words.{kind_of, subcommand_rows_of, takes};
 ghost use Rattle.wcommand.specs.CommandSet.{command_set};
 ghost use Rattle.wcommand.specs.declared.fault.WordsFault.TheVariants.{NoMemory};
-ghost use Rattle.wcommand.specs.Choices.{Chooses, IsTold};
+ghost use Rattle.wcommand.specs.Choices.{Chooses, IsChoice, IsTold};
+ghost use Rattle.wcommand.specs.Required.{IsWhole};
 ghost use Rattle.wcommand.specs.ShownTexts.{shown};
 
 use crate::choice::Choice;
 use crate::command_set::command_set;
 use crate::fault::WordsFault;
 use crate::values::choice_of;
+use clap::ArgMatches;
 use clap::Error;
 use clap::error::ErrorKind;
 use std::alloc::{AllocError, Global};
@@ -57,6 +59,18 @@ fn told(alloc: Global, error: &Error) -> WordsFault
     }
 }
 
+// What the matches choose.
+fn chosen<'a>(alloc: Global, matches: &ArgMatches<'a>) -> Result<Choice<'a>, WordsFault>
+    requires { IsWhole (subcommand_rows_of matches.now) }
+    ensures choice { IfOk result (λ choice. IsChoice (subcommand_rows_of matches.now) choice) }
+    ensures lacks { IfErr result (λ fault. fault ≡ NoMemory) }
+{
+    match choice_of(alloc, matches) {
+        Ok(choice) => Ok(choice),
+        Err(_) => Err(WordsFault::NoMemory),
+    }
+}
+
 /// The subcommand that the words behind the program's name choose, with its values; `WordsFault::Help` where they ask
 /// for help or the version, `WordsFault::Refused` where they are not understood, and `WordsFault::NoMemory` alone may
 /// come in place of any of these.
@@ -68,7 +82,7 @@ pub fn choose<'a>(alloc: Global, words: &'a [&'a str]) -> Result<Choice<'a>, Wor
         return Err(WordsFault::NoMemory);
     };
     match command.try_get_matches_from(words) {
-        Ok(matches) => Ok(choice_of(&matches)),
+        Ok(matches) => chosen(alloc, &matches),
         Err(error) => Err(told(alloc, &error)),
     }
 }

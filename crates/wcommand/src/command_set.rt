@@ -2,7 +2,7 @@
 ghost use Rattle.std.specs.Prelude.{◌≡◌, IfOk, false, codes, true};
 ghost use Rattle.clap.specs.Words.{app_of, rule_of, shape_of, with_rule, new_app};
 ghost use Rattle.clap.specs.declared.builder.command.Command.TheViews.{out-Command as fields_of};
-ghost use Rattle.wcommand.specs.CommandSet.{ask_shape, command_set, floor_shape, join_shape, list_shape, option_rule, positional_rule, program_app, retire_shape, session_shape, take_shape, unversioned_app};
+ghost use Rattle.wcommand.specs.CommandSet.{ask_shape, command_set, feed_shape, floor_shape, join_shape, list_shape, option_rule, positional_rule, program_app, repeated_rule, retire_shape, session_shape, shell_shape, take_shape, unversioned_app};
 
 use crate::help;
 use clap::builder::ValueParser;
@@ -28,6 +28,14 @@ fn positional<'a>(alloc: Global, name: &'a str, about: &'a str) -> Arg<'a>
     ensures local { result.global ≡ false }
 {
     Arg::new(alloc, name).required(true).help(about)
+}
+
+// A positional, which has to be given, and may be given any number of times.
+fn repeated<'a>(alloc: Global, name: &'a str, about: &'a str) -> Arg<'a>
+    ensures rule { rule_of result ≡ repeated_rule name.entry.now }
+    ensures local { result.global ≡ false }
+{
+    positional(alloc, name, about).num_args(1..)
 }
 
 // A subcommand on a table and a store, before its positionals.
@@ -99,6 +107,18 @@ fn join<'a>(alloc: Global) -> Result<Command<'a>, AllocError>
     Ok(command)
 }
 
+fn feed<'a>(alloc: Global) -> Result<Command<'a>, AllocError>
+    ensures shape { IfOk result (λ c. shape_of c ≡ feed_shape) }
+    ensures local { IfOk result (λ c. (fields_of c).has_globals ≡ false) }
+{
+    let command = on_files(alloc, "feed", help::FEED, help::AFTER_FEED)?.arg(positional(
+        alloc,
+        "STREAM",
+        "The file or pipe of the stream",
+    ))?;
+    Ok(command)
+}
+
 fn list<'a>(alloc: Global) -> Result<Command<'a>, AllocError>
     ensures shape { IfOk result (λ c. shape_of c ≡ list_shape) }
     ensures local { IfOk result (λ c. (fields_of c).has_globals ≡ false) }
@@ -110,12 +130,19 @@ fn ask<'a>(alloc: Global) -> Result<Command<'a>, AllocError>
     ensures shape { IfOk result (λ c. shape_of c ≡ ask_shape) }
     ensures local { IfOk result (λ c. (fields_of c).has_globals ≡ false) }
 {
-    let command = on_files(alloc, "ask", help::ASK, help::AFTER_ASK)?.arg(positional(
+    let command = on_files(alloc, "ask", help::ASK, help::AFTER_ASK)?.arg(repeated(
         alloc,
         "QUERY",
         "A SELECT, as one word",
     ))?;
     Ok(command)
+}
+
+fn shell<'a>(alloc: Global) -> Result<Command<'a>, AllocError>
+    ensures shape { IfOk result (λ c. shape_of c ≡ shell_shape) }
+    ensures local { IfOk result (λ c. (fields_of c).has_globals ≡ false) }
+{
+    on_files(alloc, "shell", help::SHELL, help::AFTER_SHELL)
 }
 
 fn session<'a>(alloc: Global) -> Command<'a>
@@ -161,7 +188,9 @@ pub(crate) fn command_set<'a>(alloc: Global) -> Result<Command<'a>, AllocError>
         .subcommand(retire(alloc)?)?
         .subcommand(floor(alloc)?)?
         .subcommand(join(alloc)?)?
+        .subcommand(feed(alloc)?)?
         .subcommand(list(alloc)?)?
-        .subcommand(ask(alloc)?)?;
+        .subcommand(ask(alloc)?)?
+        .subcommand(shell(alloc)?)?;
     Ok(command)
 }

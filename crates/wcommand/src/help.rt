@@ -21,6 +21,7 @@ Examples:
   wstore take --table sales.table --store sales.wsx east 1 monday.csv
   wstore list --table sales.table --store sales.wsx
   wstore ask --table sales.table --store sales.wsx 'SELECT count(*) FROM sales'
+  wstore shell --table sales.table --store sales.wsx < report.sql
   wstore join --table sales.table --store sales.wsx west.wsx
 
 Exit status:
@@ -114,6 +115,25 @@ Example:
 
 Exit status: 0 done, 1 refused, 2 words, 3 a fault. A store is replaced whole, or is as it was.";
 
+pub(crate) const FEED: &str = "Handle the messages of a delivery stream, all of them or none";
+
+pub(crate) const AFTER_FEED: &str = "\
+STREAM is a file or a pipe, as /dev/stdin, of messages one behind the other: segments, retirements, and floors.
+  S ORIGIN NUMBER LENGTH    then a line feed, the LENGTH bytes of a CSV file, and a line feed
+  R ORIGIN NUMBER           then a line feed
+  U ORIGIN NUMBER           then a line feed
+The store is read once, and written once behind the last message.
+
+Prints a line for each message, what 'take', 'retire' or 'floor' prints, and then 'fed' and their number; or the first
+refusal alone, and then none of the messages counts:
+  refused   S1 to S9 a CSV file that is malformed, B1 a message that is malformed or cut
+
+Examples:
+  wstore feed --table sales.table --store sales.wsx monday.stream
+  cat *.stream | wstore feed --table sales.table --store sales.wsx /dev/stdin
+
+Exit status: 0 done, 1 refused, 2 words, 3 a fault. A store is replaced whole, or is as it was.";
+
 pub(crate) const LIST: &str = "List the names that the store knows";
 
 pub(crate) const AFTER_LIST: &str = "\
@@ -128,16 +148,34 @@ Example:
 
 Exit status: 0 done, 1 a table or a store is refused, 2 words, 3 a fault.";
 
-pub(crate) const ASK: &str = "Answer a query over the rows that count, as CSV";
+pub(crate) const ASK: &str = "Answer queries over the rows that count, as CSV";
 
 pub(crate) const AFTER_ASK: &str = "\
 QUERY is one SELECT over the table. Quote it, so that the shell hands it on as one word. One that may begin with
 a comment is given behind '--'. The answer's first line names its columns. Two stores that know the same answer
 the same bytes.
 
+Several queries are answered over the store that is read once, one answer behind the other, with an empty line between
+two. One that is refused has its refusal in the place of its answer, and the next goes on.
+
 Examples:
   wstore ask --table sales.table --store sales.wsx 'SELECT count(*) FROM sales'
   wstore ask --table sales.table --store sales.wsx -- \"$(cat report.sql)\" > report.csv
 
-Exit status: 0 answered, 1 refused (standard output has 'refused' and the rule that is broken), 2 words,
-3 a fault.";
+Exit status: 0 answered, 1 refused (standard output has 'refused' and the rule that is broken; of several queries one
+or more), 2 words, 3 a fault.";
+
+pub(crate) const SHELL: &str = "Answer the queries on standard input, each as soon as it is whole";
+
+pub(crate) const AFTER_SHELL: &str = "\
+A query ends with ';' outside quotes and comments, and the last one where the input ends. The store is read once,
+before the first query, and never written. Each answer is written before more is read, so a person, a pipe or a program
+that waits for it can go on. Between two answers stands an empty line. A query that is refused has its refusal in the
+place of its answer, and the next goes on. What has blanks and comments alone is passed over.
+
+Examples:
+  wstore shell --table sales.table --store sales.wsx
+  wstore shell --table sales.table --store sales.wsx < report.sql > report.csv
+
+Exit status: 0 answered, 1 refused (standard output has 'refused' and the rule that is broken, of one query or more,
+or of the table or the store), 2 words, 3 a fault, behind the answers before it.";

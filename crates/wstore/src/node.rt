@@ -179,8 +179,8 @@ impl Node {
         self.inbox.push(piece)
     }
 
-    /// How many bytes of the stream are held.
-    pub(crate) fn pending(&self) -> usize
+    /// How many bytes of the stream are held: those behind the last message that was handled.
+    pub fn pending(&self) -> usize
         ensures { result ≡ length self.now.held }
     {
         self.inbox.pending()

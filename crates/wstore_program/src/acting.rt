@@ -23,7 +23,7 @@ fn acted(
     store: &Option<Vec<u8>>,
     other: &[u8],
 ) -> Result<Acted, AllocError>
-    requires { choice.now ≢ Session }
+    requires { is_act choice.now ≡ true }
     ensures { IfOk result (λ acted. Acts choice.now table.now (option_map (λ bytes. bytes.items) store.now) other.now acted) }
 {
     match store {
@@ -32,7 +32,7 @@ fn acted(
     }
 }
 
-// The bytes of CSV or OTHER, of which there are none where the subcommand has no such file.
+// The bytes of CSV, OTHER or STREAM, of which there are none where the subcommand has no such file.
 fn read_input<R: Files<File = File> + AllocGlobal>(
     alloc: Global,
     system: &mut System<'_, R>,
@@ -60,7 +60,7 @@ fn acted_again<R>(
     other: &[u8],
     first: Acted,
 ) -> Result<Acted, Fault>
-    requires choice { choice.now ≢ Session }
+    requires choice { is_act choice.now ≡ true }
     requires first { Acts choice.now table.now (option_map (λ bytes. bytes.items) before.now) other.now first }
     requires sound { IsSound system.old }
     ensures acts { IfOk result (λ acted. Acts choice.now table.now (option_map (λ bytes. bytes.items) now.now) other.now acted) }
@@ -106,7 +106,7 @@ fn settle<R: Files<File = File> + AllocGlobal + Clock + Eprint>(
     other: &[u8],
     first: Acted,
 ) -> Result<Acted, Fault>
-    requires choice { choice.now ≢ Session }
+    requires choice { is_act choice.now ≡ true }
     requires input { input_of choice.now ≡ None → other.now ≡ [] }
     requires first { Acts choice.now table.now (option_map (λ bytes. bytes.items) store.now) other.now first }
     requires sound { IsSound system.old }
@@ -133,7 +133,7 @@ fn settle<R: Files<File = File> + AllocGlobal + Clock + Eprint>(
     }
 }
 
-/// Reads the files of a subcommand, the table, the store, then CSV or OTHER, and replaces the store where the subcommand gives
+/// Reads the files of a subcommand, the table, the store, then CSV, OTHER or STREAM, and replaces the store where the subcommand gives
 /// a new one. A reply is that of the subcommand on bytes that were read: where there is a new store, on those that were read
 /// in its place while this run held the lock of its folder. A fault comes only where a call failed or a growth was refused,
 /// and nothing else has failed then; the store is as it was, or it has the new bytes and only its folder was not brought to
@@ -145,7 +145,7 @@ pub fn perform<R: Files<File = File> + AllocGlobal + Clock + Eprint>(
     choice: &Choice<'_>,
     paths: Paths<'_>,
 ) -> Result<Acted, Fault>
-    requires choice { choice.now ≢ Session }
+    requires choice { is_act choice.now ≡ true }
     requires sound { IsSound system.old }
     ensures performed { IfOk result (λ acted. IsPerformed choice.now acted calls.old.calls calls.new.calls) }
     ensures given_up { IfErr result (λ fault. IsGivenUp choice.now fault calls.old.calls calls.new.calls) }

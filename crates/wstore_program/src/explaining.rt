@@ -17,11 +17,20 @@ fn name_of<'a>(choice: &Choice<'a>) -> (&'a str, &'a str) {
     }
 }
 
-// The query of a choice.
+// The query of a choice, where it has no other.
 fn query_of<'a>(choice: &Choice<'a>) -> &'a str {
-    match *choice {
-        Choice::Ask { query, .. } => query,
+    match choice {
+        Choice::Ask { queries, .. } if queries.len() == 1 => queries[0],
         _ => "",
+    }
+}
+
+// Whether what is printed is one refusal: of several queries and of a stream's messages it may be one of many.
+fn tells_one(choice: &Choice<'_>) -> bool {
+    match choice {
+        Choice::Ask { queries, .. } => queries.len() == 1,
+        Choice::Feed { .. } => false,
+        _ => true,
     }
 }
 
@@ -62,7 +71,7 @@ pub(crate) fn explain_refusal<R: AllocGlobal + Eprint>(
     other: &[u8],
     acted: &Acted,
 ) {
-    if acted.status != REFUSED {
+    if acted.status != REFUSED || !tells_one(choice) {
         return;
     }
     let (origin, number) = name_of(choice);

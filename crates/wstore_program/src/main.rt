@@ -4,16 +4,18 @@
 //! not understood, and 3 at a fault, whose name and reason it writes to standard error. There it also explains a refusal.
 #![tactic(auto)]
 
-ghost use Rattle.std.specs.Prelude.{◌≡◌, ◌≢◌};
+ghost use Rattle.std.specs.Prelude.{◌≡◌, true};
 ghost use Rattle.std.specs.Process.{exit_status};
-ghost use Rattle.wcommand.specs.declared.choice.Choice.TheVariants.{Session};
+ghost use Rattle.wcommand.specs.Inputs.{is_act};
 ghost use Rattle.wfiles.specs.Calls.{IsSound};
 ghost use Rattle.wstore_program.specs.Statuses.{HasFileStatus, HasWordsStatus, IsPrinted, script_status};
 
 mod acting;
 mod explaining;
+mod shelling;
 
 use acting::perform;
+use shelling::run_shell;
 use std::env;
 use std::fs::File;
 use std::io::{ErrorKind, Write};
@@ -105,7 +107,7 @@ fn run_on_files<R: Files<File = File> + AllocGlobal + Clock + Eprint, W: Write>(
     choice: &Choice<'_>,
     paths: Paths<'_>,
 ) -> ExitCode
-    requires choice { choice.now ≢ Session }
+    requires choice { is_act choice.now ≡ true }
     requires sound { IsSound system.old }
     ensures { HasFileStatus choice.now system.new calls.old.calls calls.new.calls (W.contents output.old) (W.contents output.new) (exit_status result) }
 {
@@ -135,6 +137,19 @@ fn tell<R, W: Write>(
     }
 }
 
+// Answers the queries on standard input.
+fn answer_input(
+    rt: &HostRuntime,
+    system: &mut System<'_, HostRuntime>,
+    paths: Paths<'_>,
+) -> ExitCode
+    requires { IsSound system.old }
+{
+    let mut input = Counted::new(rt.stdin());
+    let mut output = Counted::new(rt.stdout());
+    run_shell(rt, system, &mut input, &mut output, paths)
+}
+
 // Does what the words choose.
 fn run_words(rt: &HostRuntime, words: &[&str]) -> ExitCode {
     let mut system = System::new(rt);
@@ -142,8 +157,16 @@ fn run_words(rt: &HostRuntime, words: &[&str]) -> ExitCode {
     let mut output = rt.stdout();
     match choose(rt.alloc(), words) {
         Ok(choice) => match choice.paths() {
-            Some(paths) => run_on_files(rt, &mut system, &mut calls, &mut output, &choice, paths),
             None => run_session(rt),
+            Some(paths) if choice.is_act() => run_on_files(
+                rt,
+                &mut system,
+                &mut calls,
+                &mut output,
+                &choice,
+                paths,
+            ),
+            Some(paths) => answer_input(rt, &mut system, paths),
         },
         Err(fault) => tell(rt, &mut system, &mut output, fault),
     }

@@ -1,8 +1,0 @@
-use Rattle.std.proofs.Common.{rules, ap}
-use Rattle.wact.proofs.Outcomes.{knows_told}
-use Rattle.wact.proofs.acting.node_of.Goals as goal
-
-pub returns-in-Ok-clause-known : goal.returns-in-Ok-clause-known
-returns-in-Ok-clause-known c =
-    let learns = c.in-Ok.ensures.ok in
-    knows_told _ _ _ c.in-Some.bytes _ _ learns.view (search rules) (ap (λ n. n.schema) c.new-node.ensures) (ap (λ n. n.view) c.new-node.ensures) learns.file (ap (λ n. n.view) learns.new_is)

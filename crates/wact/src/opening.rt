@@ -1,0 +1,64 @@
+//! The node of a table and a store.
+ghost use Rattle.std.specs.Prelude.{◌≡◌, IfErr, IfOk, option_map};
+ghost use Rattle.wact.specs.Acts.{HasFault, Knows};
+ghost use Rattle.wact.specs.Delivering.{IsFresh};
+ghost use Rattle.wact.specs.Opening.{Opens, OpensBy};
+
+use std::alloc::{AllocError, Global};
+use wexchange::FileFault;
+use wreplies::{Text, refused_file, refused_table};
+use wsegment::{Schema, SchemaFault};
+use wstore::Node;
+
+/// What a table and a store open.
+#[derive(Drop)]
+pub enum Opened {
+    /// A node that knows what the store does.
+    Node(Node),
+    /// The table or the store is refused.
+    Refused(Text),
+}
+
+/// A node that knows what the store's file tells.
+pub(crate) fn node_of(
+    alloc: Global,
+    schema: Schema,
+    store: Option<&[u8]>,
+) -> Result<Node, FileFault>
+    ensures declared { IfOk result (λ node. node.schema ≡ schema) }
+    ensures known { IfOk result (λ node. Knows schema (option_map (λ bytes. bytes.now) store.entry) node.view) }
+    ensures fresh { IfOk result (λ node. IsFresh node) }
+    ensures refused { IfErr result (λ fault. HasFault schema (option_map (λ bytes. bytes.now) store.entry) fault) }
+{
+    let mut node = Node::new(alloc, schema);
+    match store {
+        None => Ok(node),
+        Some(bytes) => match node.get(bytes) {
+            Ok(()) => Ok(node),
+            Err(fault) => Err(fault),
+        },
+    }
+}
+
+// What a store opens where the table's declaration is read.
+fn open_by(alloc: Global, schema: Schema, store: Option<&[u8]>) -> Result<Opened, AllocError>
+    ensures { IfOk result (λ opened. OpensBy schema (option_map (λ bytes. bytes.now) store.entry) opened) }
+{
+    match node_of(alloc, schema, store) {
+        Ok(node) => Ok(Opened::Node(node)),
+        Err(FileFault::NoMemory) => Err(AllocError),
+        Err(fault) => Ok(Opened::Refused(refused_file(alloc, fault)?)),
+    }
+}
+
+/// The node of a store, of which the bytes of the table's file and of the store's are lent, if there is one. The table is
+/// judged first. `AllocError`: a growth was refused.
+pub fn open_store(alloc: Global, table: &[u8], store: Option<&[u8]>) -> Result<Opened, AllocError>
+    ensures { IfOk result (λ opened. Opens table.now (option_map (λ bytes. bytes.now) store.entry) opened) }
+{
+    match Schema::read(alloc, table) {
+        Ok(schema) => open_by(alloc, schema, store),
+        Err(SchemaFault::NoMemory) => Err(AllocError),
+        Err(fault) => Ok(Opened::Refused(Text::Fixed(refused_table(fault)))),
+    }
+}

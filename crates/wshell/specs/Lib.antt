@@ -1,0 +1,4 @@
+pub mod Splitting
+pub mod Pending
+pub mod Telling
+pub mod Runs

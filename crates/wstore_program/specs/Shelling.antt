@@ -1,0 +1,44 @@
+-- The status with which a shell ends, and what it has written then.
+use Rattle.std.specs.Prelude.{◌≡◌, ℕ, Bool, true, false, List, Option, Result, Ok, Err, take, IfSome, MatchResult}
+use Rattle.std.specs.Io.KnownBytes.{Appends, Keeps}
+use Rattle.wvalues.specs.Counts.{Counts}
+use Rattle.wreplies.specs.Texts.{bytes_of}
+use Rattle.wfiles.specs.Calls.{CallCounts, HasCause}
+use Rattle.wfiles.specs.declared.fault.Fault.{Fault}
+use Rattle.wact.specs.Opening.{Opens}
+use Rattle.wact.specs.declared.opening.Opened.{Opened}
+use Rattle.wact.specs.declared.opening.Opened.TheVariants as opens
+use Rattle.wstore.specs.Nodes.{NodeState}
+use Rattle.wreplies.specs.declared.text.Text.{Text}
+use Rattle.wshell.specs.Runs as runs
+use Rattle.wshell.specs.declared.fault.ShellFault.{ShellFault}
+
+-- of a shell's end: whether a query was refused, or a fault
+abbrev pub shell_status : Result Bool ShellFault → ℕ
+shell_status (Ok false) = 0
+shell_status (Ok true) = 1
+shell_status (Err fault) = 3
+
+-- it is what some bytes of a table and a store open
+pub record IsOpened (opened : Opened) : Type 0 where
+  pub table : List ℕ
+  pub store : Option (List ℕ)
+  pub opens : Opens table store opened
+
+-- a refusal is printed, or a front of it, and then the writer failed
+pub data IsRefusal (text : List ℕ) (old new : Option (List ℕ)) (failures status : ℕ) : Type 0 where
+  Printed : Appends old new text → status ≡ 1 → IsRefusal text old new failures status
+  Unwritten : (n : ℕ) → Appends old new (take n text) → failures ≡ 1 → status ≡ 3 → IsRefusal text old new failures status
+
+-- what a run on the queries of an input has written, where it ended so
+abbrev pub IsRun : {I W : Type 0} → NodeState → Option (List ℕ) → Counts I → Option (List ℕ) → Option (List ℕ) → Counts W → Result Bool ShellFault → Type 0
+IsRun node left input old new output (Ok is_refused) = IfSome left (λ bytes. (written : List ℕ) × Appends old new written × runs.Replies node.schema node.view bytes written is_refused)
+IsRun node left input old new output (Err fault) =
+    IfSome left (λ bytes. (written : List ℕ) × Appends old new written × runs.RepliesBegun node.schema node.view bytes written) × runs.HasCause fault input output
+
+-- the files are not read, and a fault has its cause; or the table or the store is refused; or the queries are answered on the node
+-- that they open
+pub data HasShellStatus {I W : Type 0} (counts : CallCounts) (left : Option (List ℕ)) (input : Counts I) (old new : Option (List ℕ)) (output : Counts W) (status : ℕ) : Type 0 where
+  Unread : (fault : Fault) → HasCause fault counts → Keeps old new → status ≡ 3 → HasShellStatus counts left input old new output status
+  Refused : (text : Text) → IsOpened (opens.Refused text) → IsRefusal (bytes_of text) old new output.failures status → HasShellStatus counts left input old new output status
+  Ran : (node : NodeState) (end : Result Bool ShellFault) → IsOpened (opens.Node node) → IsRun node left input old new output end → status ≡ shell_status end → HasShellStatus counts left input old new output status

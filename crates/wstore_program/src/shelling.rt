@@ -1,0 +1,92 @@
+//! A shell on the files of a table and a store.
+ghost use Rattle.std.specs.Prelude.{◌≡◌, IfErr, IfOk, OnOk};
+ghost use Rattle.std.specs.Process.{exit_status};
+ghost use Rattle.wfiles.specs.Calls.{HasCause, IsSound};
+ghost use Rattle.wlines.specs.Pending.{IsNew};
+ghost use Rattle.wstore_program.specs.Shelling.{HasShellStatus, IsOpened, IsRefusal, shell_status};
+
+use crate::{DONE, failed};
+use std::fs::File;
+use std::io::{Read, Write};
+use std::process::ExitCode;
+use std::rt::Files;
+use wact::{Opened, open_store};
+use wcommand::Paths;
+use wfiles::{Fault, System, read_if_there, read_whole};
+use wlines::write_reply;
+use wshell::{ShellFault, run};
+use wvalues::Counted;
+
+/// The status of a refusal.
+const REFUSED: u8 = 1;
+
+// What the files of a table and a store open.
+fn open_files<R: Files<File = File> + AllocGlobal>(
+    rt: &R,
+    system: &mut System<'_, R>,
+    paths: Paths<'_>,
+) -> Result<Opened, Fault>
+    requires { IsSound system.old }
+    ensures opened { IfOk result IsOpened }
+    ensures sound { OnOk result (IsSound system.new) }
+    ensures cause { IfErr result (λ fault. HasCause fault system.new) }
+{
+    let table = read_whole(rt.alloc(), system, paths.table)?;
+    match read_if_there(rt.alloc(), system, paths.store)? {
+        Some(store) => system.grown(open_store(
+            rt.alloc(),
+            table.as_slice(),
+            Some(store.as_slice()),
+        )),
+        None => system.grown(open_store(rt.alloc(), table.as_slice(), None)),
+    }
+}
+
+// The status of a shell's end.
+fn ended(rt: &impl Eprint, end: Result<bool, ShellFault>) -> ExitCode
+    ensures { exit_status result ≡ shell_status end }
+{
+    match end {
+        Ok(false) => ExitCode::from(DONE),
+        Ok(true) => ExitCode::from(REFUSED),
+        Err(ShellFault::Read) => failed(rt, Fault::Read),
+        Err(ShellFault::Write) => failed(rt, Fault::Write),
+        Err(ShellFault::NoMemory) => failed(rt, Fault::NoMemory),
+    }
+}
+
+// Prints the refusal of the table or the store.
+fn refuse<W: Write>(rt: &impl Eprint, output: &mut Counted<W>, text: &[u8]) -> ExitCode
+    requires { IsNew output.old }
+    ensures { IsRefusal text.now (W.contents output.old.inner) (W.contents output.new.inner) output.new.failures (exit_status result) }
+{
+    match write_reply(output, text) {
+        Ok(()) => ExitCode::from(REFUSED),
+        Err(_) => failed(rt, Fault::Write),
+    }
+}
+
+/// Reads the table and the store, and answers the queries of an input on what the store knows, or tells why the table or
+/// the store is refused. It ends with status 0 where each query was answered, 1 where one or the table or the store was
+/// refused, and 3 at a fault.
+pub(crate) fn run_shell<R: Files<File = File> + AllocGlobal + Eprint, I: Read, W: Write>(
+    rt: &R,
+    system: &mut System<'_, R>,
+    input: &mut Counted<I>,
+    output: &mut Counted<W>,
+    paths: Paths<'_>,
+) -> ExitCode
+    requires sound { IsSound system.old }
+    requires input { IsNew input.old }
+    requires output { IsNew output.old }
+    ensures { HasShellStatus system.new (I.remaining input.old.inner) input.new (W.contents output.old.inner) (W.contents output.new.inner) output.new (exit_status result) }
+{
+    match open_files(rt, system, paths) {
+        Ok(Opened::Node(node)) => {
+            let mut node = node;
+            ended(rt, run(rt.alloc(), &mut node, input, output))
+        }
+        Ok(Opened::Refused(text)) => refuse(rt, output, text.as_slice()),
+        Err(fault) => failed(rt, fault),
+    }
+}
