@@ -1,7 +1,7 @@
 -- Orders by plain columns: an order of all rows of the table, of which some are kept, tells the order of these.
 use Rattle.std.proofs.Common.{◌≡◌, ℕ, zero, suc, ◌+◌, ◌-◌, ◌<◌, ◌≤◌, ◌||◌, Bool, true, false, cond, List, [], ◌∷◌, ◌++◌, length, map, filter, get_or, Result, Ok, Err, Ordering, refl, sym, ap, ◌∙◌, subst, arith}
 use Rattle.std.specs.Prelude.{All, IfSome, Option, Some}
-use Rattle.std.specs.List.{AllByRecursion, flat_map, list_any}
+use Rattle.std.specs.List.{AllByRecursion, list_any}
 use Rattle.std.specs.Ordering.{is_gt, on, ordering_then, then_cmp}
 use Rattle.std.proofs.lemmas.List.{get_or-map, length-map, map-append}
 use Rattle.std.proofs.lemmas.List.Elements.{All-from_recursion, recursion_from_All}
@@ -32,7 +32,7 @@ use Rattle.wruns.specs.Runs.{joined, keys_at, row_keys, run_of}
 use Rattle.wruns.specs.declared.refs.RowRef.{RowRef}
 use Rattle.wcalls.specs.Frames as frames
 use Rattle.wcalls.specs.Windows.{Windowed, windowed}
-use Rattle.wcalls.specs.Ordered.{Ordered, both_cmp, in_order, numbers_in_order, ordered_rows, window_numbers}
+use Rattle.wcalls.specs.Ordered.{Ordered, both_cmp, in_order, ordered_rows}
 use Rattle.wplanner.specs.TableOrders.{AreColumns, IsOrderFor, IsRowOf, RowOrder, by_keys, by_window, direction}
 use Rattle.wplanner.proofs.SourceFacts.{all_places}
 

@@ -1,11 +1,13 @@
 -- The rows of segments on which a condition is true.
-use Rattle.std.proofs.Common.{◌≡◌, ℕ, ◌+◌, ◌<◌, ◌||◌, Bool, true, false, cond, List, [], ◌∷◌, ◌++◌, length, filter, take, get_or, append-nil, append_assoc, refl, sym, ap, ◌∙◌}
+use Rattle.std.proofs.Common.{◌≡◌, ℕ, ◌+◌, ◌<◌, ◌||◌, Bool, true, false, cond, List, [], ◌∷◌, ◌++◌, length, filter, take, get_or, append-nil, append_assoc, Result, Ok, refl, sym, ap, ◌∙◌}
 use Rattle.std.specs.List.{flat_map, list_any}
 use Rattle.std.proofs.lemmas.List.Elements.{filter-append, filter_more}
 use Rattle.std.proofs.lemmas.List.Folds.{list_any-append, list_any_more}
 use Rattle.wvalues.specs.Names.{NameParts}
 use Rattle.wsegment.specs.Rows.{Content}
+use Rattle.wrows.specs.declared.fault.AnswerFault.{AnswerFault}
 use Rattle.wrows.specs.Columns.{Row}
+use Rattle.wplanner.specs.Few.{GivesAtEnd}
 
 -- one row more of a segment
 pub in_range_more : (p : Row → Bool) (told : List Row) (i : ℕ) (row : Row) → i < length told → row ≡ get_or told i [] → list_any p (take i told) ≡ false → p row ≡ false → list_any p (take (i + 1) told) ≡ false
@@ -39,3 +41,8 @@ held_left p old now all segments left e is before more =
 pub fault_left : (p : Row → Bool) (all : List Row) (segments left : List (NameParts × Content)) (e : NameParts × Content) → segments ≡ e ∷ left → list_any p (rows_left segments) ≡ list_any p all → list_any p e.1.rows ≡ true → list_any p all ≡ true
 fault_left p all segments left e is before some =
     sym before ∙ ap (λ l. list_any p (rows_left l)) is ∙ list_any-append p e.1.rows (rows_left left) ∙ ap (λ b. b || list_any p (rows_left left)) some
+
+-- what is meant of a call that was done to the end
+pub at_end : (all : Bool) (meant : Result (Unit {0}) AnswerFault) → GivesAtEnd (Ok all) meant → all ≡ true → meant ≡ Ok (tt {0})
+at_end true meant gives whole = gives
+at_end false meant gives whole = absurd (cc)

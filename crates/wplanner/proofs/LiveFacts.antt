@@ -1,5 +1,5 @@
 -- The rows of live segments: as many values as the table has columns, and one after another the rows of the table.
-use Rattle.std.proofs.Common.{◌≡◌, ℕ, List, [], ◌∷◌, ◌++◌, length, map, cond, nat_lt, Bool, true, false, Result, Ok, Err, refl, sym, ap, ◌∙◌, subst}
+use Rattle.std.proofs.Common.{◌≡◌, ℕ, List, [], ◌∷◌, ◌++◌, length, map, cond, nat_lt, Bool, true, false, Result, Ok, Err, refl, sym, ap, ◌∙◌}
 use Rattle.std.specs.List.{AllByRecursion, flat_map}
 use Rattle.std.proofs.lemmas.List.{length-map}
 use Rattle.wvalues.specs.Names.{NameParts}
@@ -10,7 +10,7 @@ use Rattle.wsegment.specs.Header.{in_table_order, is_complete, kinds_of, named_e
 use Rattle.wsegment.specs.Outcome.{◌>>=◌}
 use Rattle.wsegment.specs.Rows.{Content, rows_of, rows_of_records, rows_under}
 use Rattle.wsegment.specs.declared.fault.SegmentFault.{SegmentFault}
-use Rattle.wsegment.specs.declared.fault.SegmentFault.TheVariants.{MissingColumn, NoHeader, TooLong}
+use Rattle.wsegment.specs.declared.fault.SegmentFault.TheVariants.{MissingColumn, TooLong}
 use Rattle.wset.specs.Lending.{AreLivesOf}
 use Rattle.wset.specs.Running.{live_rows}
 use Rattle.wset.specs.Sets.{Becomes, DeclaredView, IsReadBy}

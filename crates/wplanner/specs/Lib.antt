@@ -8,3 +8,4 @@ pub mod TableOrders
 pub mod Printing
 pub mod Faults
 pub mod Tables
+pub mod Few

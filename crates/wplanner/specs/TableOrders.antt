@@ -1,16 +1,12 @@
 -- Orders of the table's rows by columns, of which those rows are left that a condition keeps.
-use Rattle.std.specs.Prelude.{◌≡◌, ◌<◌, ◌+◌, ◌-◌, ◌^◌, ℕ, Bool, true, false, if◌then◌else◌, List, [], ◌∷◌, All, IfSome, filter, length, map, min, nat_lt, Option, Some, None, Result, Ok, option_map, slice_index_or, Vec}
+use Rattle.std.specs.Prelude.{◌≡◌, ◌<◌, ◌+◌, ◌-◌, ◌^◌, ℕ, Bool, true, false, if◌then◌else◌, List, [], ◌∷◌, All, IfSome, filter, length, map, min, nat_lt, Option, Some, None, Result, Ok, slice_index_or, Vec}
 use Rattle.std.specs.Borrow.{Bor}
 use Rattle.std.specs.Global.{Global}
-use Rattle.std.specs.Option.{is_some}
-use Rattle.std.specs.List.{AllByRecursion}
 use Rattle.wvalues.specs.declared.key.SortKey.{SortKey}
 use Rattle.wvalues.specs.Meaning.{Meaning}
-use Rattle.wvalues.specs.declared.value.Value.{Value}
 use Rattle.wplan.specs.declared.expr.Expr.{Expr, out-Expr}
-use Rattle.wplan.specs.declared.resolved.Selection.{Selection}
 use Rattle.wplan.specs.Formula.{At, Formula}
-use Rattle.wplan.specs.Plans.{KeyPlan, SelectPlan, WindowPlan, select_plan, window_plan}
+use Rattle.wplan.specs.Plans.{KeyPlan, WindowPlan, window_plan}
 use Rattle.wrows.specs.declared.fault.AnswerFault.{AnswerFault}
 use Rattle.wrows.specs.Columns.{Row, beside, holds_on}
 use Rattle.wrows.specs.Laid.{rows_seen}

@@ -1,12 +1,14 @@
 //! What one SELECT answers.
 ghost use Rattle.std.specs.Prelude.{◌≡◌, ◌<◌, ◌^◌, true, IfOk, IfSome, List, None, Ok, Some, length};
 ghost use Rattle.wvalues.specs.Meaning.{Meaning};
-ghost use Rattle.wplan.specs.Plans.{grouping_plan, select_plan};
+ghost use Rattle.wplan.specs.Plans.{grouping_plan, optional_formula, select_plan};
 ghost use Rattle.wrows.specs.Outcomes.{Gives};
 ghost use Rattle.wrows.specs.Columns.{beside};
 ghost use Rattle.wrows.specs.Laid.{rows_in, rows_seen};
+ghost use Rattle.wrows.specs.Plain.{kept_of};
 ghost use Rattle.wgroup.specs.Counting.{CountsRows};
 ghost use Rattle.wplanner.specs.Answers.{grouped_items, items_of, kept_items, left_items, select_of};
+ghost use Rattle.wplanner.specs.Few.{MayGive};
 ghost use Rattle.wplanner.specs.Sound.{is_sound_select};
 ghost use Rattle.wset.specs.Running.{live_rows};
 ghost use Rattle.wset.specs.Sets.{Becomes};
@@ -16,8 +18,8 @@ ghost use Rattle.wplanner.specs.Tables.{rows_of_set};
 use crate::counting::{counted_grouping, kept_count};
 use crate::numbered::numbered_table_rows;
 use crate::parts::{item_values, key_orders, key_values};
-use crate::source::kept_table_rows;
-use crate::table_orders::{TableOrders, table_orders};
+use crate::source::{few_table_rows, kept_table_rows};
+use crate::table_orders::{TableOrders, asks_for_orders, table_orders};
 use crate::told::{ToldOrders, told_orders};
 use crate::windows::{call_columns, window_answers};
 use crate::work::Work;
@@ -278,8 +280,84 @@ fn select_counted(
     left_items(alloc, select, &left, ToldOrders::none(alloc), work)
 }
 
+// What one SELECT answers on the rows of the set's live segments, whose orders are taken from runs.
+fn select_by_runs(
+    alloc: Global,
+    select: &Selection,
+    set: &mut SegmentSet,
+    work: &mut Work,
+) -> Result<Cells, AnswerFault>
+    requires { is_sound_select (select_plan select.now) ≡ true }
+    ensures rows { Gives rows_in result (select_of (select_plan select.now) (rows_of_set set.old)) }
+    ensures width { IfOk result (λ cells. cells.width ≡ length select.now.items.items) }
+    ensures same { Becomes set.old set.old.view set.new }
+{
+    let orders = table_orders(alloc, select, set)?;
+    if orders.is_none() {
+        select_unordered(alloc, select, set, work)
+    } else {
+        select_ordered(alloc, select, set, orders, work)
+    }
+}
+
+// The rows of the set's live segments that WHERE keeps, where these are few and orders of them are asked for.
+fn few_kept_rows<'a>(
+    alloc: Global,
+    select: &Selection,
+    set: &'a SegmentSet,
+) -> Result<Option<Vec<&'a [Value]>>, AnswerFault>
+    ensures { MayGive (λ kept. rows_seen kept.items) result (kept_of (optional_formula select.now.condition) (rows_of_set set.now)) }
+{
+    match &select.condition {
+        Some(condition) if asks_for_orders(select) => few_table_rows(alloc, condition, set),
+        _ => Ok(None),
+    }
+}
+
+// What one SELECT answers on the rows of the set's live segments, where WHERE keeps few of them: these are put in order by
+// themselves.
+fn select_few(
+    alloc: Global,
+    select: &Selection,
+    set: &SegmentSet,
+    work: &mut Work,
+) -> Result<Option<Cells>, AnswerFault>
+    requires { is_sound_select (select_plan select.now) ≡ true }
+    ensures rows { MayGive rows_in result (select_of (select_plan select.now) (rows_of_set set.now)) }
+    ensures width { IfOk result (λ found. IfSome found (λ cells. cells.width ≡ length select.now.items.items)) }
+{
+    let found = few_kept_rows(alloc, select, set)?;
+    match found {
+        None => Ok(None),
+        Some(kept) => {
+            let cells = kept_items(alloc, select, &kept, ToldOrders::none(alloc), work)?;
+            Ok(Some(cells))
+        }
+    }
+}
+
+// What one SELECT answers on the rows of the set's live segments, which are listed: few of them by themselves, else by runs.
+fn select_listed(
+    alloc: Global,
+    select: &Selection,
+    set: &mut SegmentSet,
+    work: &mut Work,
+) -> Result<Cells, AnswerFault>
+    requires { is_sound_select (select_plan select.now) ≡ true }
+    ensures rows { Gives rows_in result (select_of (select_plan select.now) (rows_of_set set.old)) }
+    ensures width { IfOk result (λ cells. cells.width ≡ length select.now.items.items) }
+    ensures same { Becomes set.old set.old.view set.new }
+{
+    let few = select_few(alloc, select, set, work)?;
+    match few {
+        Some(cells) => Ok(cells),
+        None => select_by_runs(alloc, select, set, work),
+    }
+}
+
 /// What one SELECT answers on the rows of the set's live segments. Orders of them by columns are taken from the runs that the
-/// segments keep, and runs that are missing are made; nothing else of the set changes.
+/// segments keep, and runs that are missing are made; nothing else of the set changes. Where WHERE keeps few rows these are put
+/// in order by themselves, and no run is made. Where it only counts them, no list of them is made.
 pub(crate) fn select_table_rows(
     alloc: Global,
     select: &Selection,
@@ -291,13 +369,8 @@ pub(crate) fn select_table_rows(
     ensures width { IfOk result (λ cells. cells.width ≡ length select.now.items.items) }
     ensures same { Becomes set.old set.old.view set.new }
 {
-    if let Some(grouping) = counted_grouping(select) {
-        return select_counted(alloc, select, grouping, set, work);
-    }
-    let orders = table_orders(alloc, select, set)?;
-    if orders.is_none() {
-        select_unordered(alloc, select, set, work)
-    } else {
-        select_ordered(alloc, select, set, orders, work)
+    match counted_grouping(select) {
+        Some(grouping) => select_counted(alloc, select, grouping, set, work),
+        None => select_listed(alloc, select, set, work),
     }
 }

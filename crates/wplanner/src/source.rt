@@ -1,5 +1,5 @@
 //! The table's rows, as the live segments of a set have them.
-ghost use Rattle.std.specs.Prelude.{◌≡◌, ◌∷◌, ◌++◌, [], if◌then◌else◌, IfOk, OnOk, Some, filter, map};
+ghost use Rattle.std.specs.Prelude.{◌≡◌, ◌∷◌, ◌++◌, [], if◌then◌else◌, true, IfOk, OnOk, Some, filter, map};
 ghost use Rattle.std.specs.List.{list_any};
 ghost use Rattle.wvalues.specs.Meaning.{meaning};
 ghost use Rattle.wplan.specs.Formula.{formula};
@@ -9,6 +9,7 @@ ghost use Rattle.wrows.specs.Columns.{held_rows, holds_on, is_out_of_range};
 ghost use Rattle.wrows.specs.Laid.{rows_seen};
 ghost use Rattle.wrows.specs.Outcomes.{Gives, unless};
 ghost use Rattle.wrows.specs.Plain.{kept_of};
+ghost use Rattle.wplanner.specs.Few.{GivesAtEnd, MayGive};
 ghost use Rattle.wplanner.specs.Tables.{rows_of_set};
 
 use std::alloc::{AllocError, Global};
@@ -17,6 +18,10 @@ use wrows::{AnswerFault, holds, not_too_many};
 use wsegment::Segment;
 use wset::SegmentSet;
 use wvalues::Value;
+
+/// A condition keeps few rows where there are at least so many of the table for each of them. To sort the kept rows then costs
+/// no more than to take them out of an order of all rows that is at hand, and less than to make one.
+const MANY_TIMES: usize = 4;
 
 /// Appends the rows of a segment, which stay where they lie.
 pub(crate) fn push_rows<'a>(
@@ -116,4 +121,74 @@ pub(crate) fn kept_table_rows<'a>(
 {
     let held = rows_held(alloc, condition, set)?;
     not_too_many(held)
+}
+
+// Appends the rows of a segment on which a condition is true, as long as no more than so many are held. It says whether it went
+// over all rows.
+fn push_few_where<'a>(
+    held: &mut Vec<&'a [Value]>,
+    condition: &Expr,
+    segment: &'a Segment,
+    most: usize,
+) -> Result<bool, AnswerFault>
+    ensures gives { GivesAtEnd result (unless (list_any (is_out_of_range (formula condition.now)) segment.now.rows) OutOfRange tt) }
+    ensures added { IfOk result (λ all. all ≡ true → rows_seen held.new.items ≡ rows_seen held.old.items ++ filter (holds_on (formula condition.now)) segment.now.rows) }
+{
+    for row in 0..segment.rows() {
+        if held.len() > most {
+            return Ok(false);
+        }
+        push_where(held, condition, segment.row(row))?;
+    }
+    Ok(true)
+}
+
+// The rows of all live segments on which a condition is true, in their order, where they are no more than so many: it ends with
+// none where more are held before the last row.
+fn few_rows_where<'a>(
+    alloc: Global,
+    condition: &Expr,
+    set: &'a SegmentSet,
+    most: usize,
+) -> Result<Option<Vec<&'a [Value]>>, AnswerFault>
+    ensures { MayGive (λ held. rows_seen held.items) result (held_rows (Some (formula condition.now)) (rows_of_set set.now)) }
+{
+    let mut held = Vec::new(alloc);
+    'segments: for (_, segment) in set.lives() {
+        let all = push_few_where(&mut held, condition, segment, most)?;
+        if !all {
+            return Ok(None);
+        }
+    }
+    Ok(Some(held))
+}
+
+// How many rows the live segments have.
+fn row_count(set: &SegmentSet) -> usize {
+    let mut count: usize = 0;
+    for (_, segment) in set.lives() {
+        count = count.saturating_add(segment.rows());
+    }
+    count
+}
+
+/// The rows of all live segments that a condition keeps, by name and then by place, where they are few among all of them; none
+/// where they are not, as soon as that is seen. They stay where they lie. The condition is evaluated on every row before rows
+/// are answered.
+pub(crate) fn few_table_rows<'a>(
+    alloc: Global,
+    condition: &Expr,
+    set: &'a SegmentSet,
+) -> Result<Option<Vec<&'a [Value]>>, AnswerFault>
+    ensures { MayGive (λ kept. rows_seen kept.items) result (kept_of (Some (formula condition.now)) (rows_of_set set.now)) }
+{
+    let most = row_count(set) / MANY_TIMES;
+    let found = few_rows_where(alloc, condition, set, most)?;
+    match found {
+        None => Ok(None),
+        Some(held) => {
+            let kept = not_too_many(held)?;
+            Ok(Some(kept))
+        }
+    }
 }

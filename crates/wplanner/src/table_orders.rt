@@ -206,6 +206,15 @@ fn is_left_out(select: &Selection, taken: usize) -> bool {
     select.keys.is_empty() || asked_of(select).is_selected() || taken >= MOST_ORDERS
 }
 
+/// Whether a SELECT over the table may ask for orders of its rows: for those of windows, or for that of ORDER BY where rows are
+/// not selected. Rows that are grouped are not ordered.
+pub(crate) fn asks_for_orders(select: &Selection) -> bool {
+    if select.grouping.is_some() {
+        return false;
+    }
+    !select.windows.is_empty() || !is_left_out(select, 0)
+}
+
 // The table's rows in the order of ORDER BY, where it is one by columns and taken from runs, behind so many orders of windows
 // that are.
 fn key_order(

@@ -3,6 +3,7 @@ mod RefFacts
 mod RunFacts
 mod CutFacts
 mod TableFacts
+mod SharedFacts
 mod GroupFacts
 mod BlockFacts
 mod HeadFacts

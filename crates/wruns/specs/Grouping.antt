@@ -1,7 +1,9 @@
--- Rows in order, as groups that have ended and one that has not.
-use Rattle.std.specs.Prelude.{◌≡◌, ◌<◌, ◌≤◌, ℕ, List, All, slice_index_or}
+-- Rows in order, as groups that have ended and one that has not, and codes that tell which rows share their keys.
+use Rattle.std.specs.Prelude.{◌≡◌, ◌<◌, ◌≤◌, ℕ, List, All, Vec, length, slice_index_or}
+use Rattle.std.specs.Global.{Global}
 use Rattle.wvalues.specs.declared.key.SortKey.{SortKey}
 use Rattle.wvalues.specs.Meaning.{Meaning}
+use Rattle.wsort.specs.CodedRows.{code_at}
 use Rattle.wruns.specs.Cuts.{cut, AreEnds}
 use Rattle.wruns.specs.Runs.{keys_at, IsGroup}
 
@@ -11,3 +13,11 @@ pub record AreGrouped (keys : List SortKey) (rows : List (List Meaning)) (xs : L
   pub groups : All (IsGroup keys rows) (cut 0 told xs)
   pub begun : first < place
   pub same : (k : ℕ) → first ≤ k → k < place → keys_at keys rows (slice_index_or xs k 0) ≡ keys_at keys rows (slice_index_or xs first 0)
+
+-- each list has one code for both rows
+abbrev pub HaveOneCode : ℕ → ℕ → List (Vec ℕ Global) → Type 0
+HaveOneCode a b = All (λ codes. code_at codes.items a ≡ code_at codes.items b)
+
+-- rows of which each list has one code share their keys
+abbrev pub TellShared : List SortKey → List (List Meaning) → List (Vec ℕ Global) → Type 0
+TellShared keys rows codes = (a b : ℕ) → a < length rows → b < length rows → HaveOneCode a b codes → keys_at keys rows a ≡ keys_at keys rows b

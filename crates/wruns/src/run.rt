@@ -2,11 +2,12 @@
 ghost use Rattle.std.specs.Prelude.{◌≡◌, ◌<◌, ◌≤◌, ◌^◌, ◌+◌, [], ◌∷◌, true, All, IfOk, length, map, slice_index_or};
 ghost use Rattle.wvalues.specs.Meaning.{meaning, Null};
 ghost use Rattle.wruns.specs.Cuts.{between, cut, pieces_of, start_of, AreEnds, AreEndsOf};
-ghost use Rattle.wruns.specs.Grouping.{AreGrouped};
+ghost use Rattle.wsort.specs.CodedRows.{code_at};
+ghost use Rattle.wruns.specs.Grouping.{AreGrouped, HaveOneCode, TellShared};
 ghost use Rattle.wruns.specs.Runs.{joined, keys_at, run_of, IsGroup, IsRunOf};
 
-use crate::cells::{cell_at, compare_rows};
-use crate::table::{Table, order_of};
+use crate::cells::cell_at;
+use crate::table::{Table, coded_order_of};
 use std::alloc::{AllocError, Global};
 use std::marker::Model;
 use wsegment::Segment;
@@ -144,18 +145,57 @@ fn narrowed(alloc: Global, order: &[usize]) -> Result<Vec<u32>, AllocError>
     Ok(rows)
 }
 
-// Whether two rows share their keys.
-fn share_keys(table: &SegmentRows, keys: &[SortKey], a: u32, b: u32) -> bool
-    ensures { result ≡ true → keys_at keys.now table.now.segment.now.rows a ≡ keys_at keys.now table.now.segment.now.rows b }
+// The code of a row, 0 where it has none.
+fn code_of(codes: &[u32], row: u32) -> u32
+    ensures { result ≡ code_at codes.now row }
 {
-    compare_rows(table.segment, keys, a as usize, b as usize, table.null).is_eq()
+    let row = row as usize;
+    if row < codes.len() { codes[row] } else { 0 }
+}
+
+// Whether two rows have one code.
+fn have_one_code(codes: &[u32], a: u32, b: u32) -> bool
+    ensures { result ≡ true → code_at codes.now a ≡ code_at codes.now b }
+{
+    code_of(codes, a) == code_of(codes, b)
+}
+
+// Whether two rows have one code in each list.
+fn share_codes(codes: &[Vec<u32>], a: u32, b: u32) -> bool
+    ensures { result ≡ true → HaveOneCode a b codes.now }
+{
+    for list in codes {
+        if !have_one_code(list, a, b) {
+            return false;
+        }
+    }
+    true
+}
+
+// A segment's rows beside codes: those of which each list has one code share their keys.
+#[derive(Clone, Copy)]
+struct KeyedRows<'a> {
+    segment: &'a Segment,
+    keys: &'a [SortKey],
+    codes: &'a [Vec<u32>],
+    ghost shared: { TellShared keys.now segment.now.rows codes.now },
+}
+
+// Whether two rows share their keys.
+fn share_keys(table: &KeyedRows, a: u32, b: u32) -> bool
+    ensures { result ≡ true → keys_at table.now.keys.now table.now.segment.now.rows a ≡ keys_at table.now.keys.now table.now.segment.now.rows b }
+{
+    let count = table.segment.rows();
+    if a as usize >= count || b as usize >= count {
+        return false;
+    }
+    share_codes(table.codes, a, b)
 }
 
 // Adds the row at a place to the group that begins with the first one, or ends that and begins another. It gives the place
 // where the group begins that has not ended.
 fn add_row(
-    table: &SegmentRows,
-    keys: &[SortKey],
+    table: &KeyedRows,
     rows: &[u32],
     first: usize,
     place: usize,
@@ -163,10 +203,10 @@ fn add_row(
 ) -> Result<usize, AllocError>
     requires few { length rows.now < 2 ^ 32 }
     requires place { place < length rows.now }
-    requires grouped { AreGrouped keys.now table.now.segment.now.rows rows.now ends.old.items first place }
-    ensures { IfOk result (λ next. AreGrouped keys.now table.now.segment.now.rows rows.now ends.new.items next (place + 1)) }
+    requires grouped { AreGrouped table.now.keys.now table.now.segment.now.rows rows.now ends.old.items first place }
+    ensures { IfOk result (λ next. AreGrouped table.now.keys.now table.now.segment.now.rows rows.now ends.new.items next (place + 1)) }
 {
-    if share_keys(table, keys, rows[place], rows[first]) {
+    if share_keys(table, rows[place], rows[first]) {
         return Ok(first);
     }
     ends.push(place as u32)?;
@@ -176,13 +216,12 @@ fn add_row(
 // Where the groups of rows in order end, if they have two rows or more on the average.
 fn group_ends(
     alloc: Global,
-    table: &SegmentRows,
-    keys: &[SortKey],
+    table: &KeyedRows,
     rows: &[u32],
 ) -> Result<Option<Vec<u32>>, AllocError>
     requires { length rows.now < 2 ^ 32 }
     ensures ends { IfOk result (λ found. AreEndsOf found rows.now) }
-    ensures groups { IfOk result (λ found. All (IsGroup keys.now table.now.segment.now.rows) (pieces_of found rows.now)) }
+    ensures groups { IfOk result (λ found. All (IsGroup table.now.keys.now table.now.segment.now.rows) (pieces_of found rows.now)) }
 {
     if rows.is_empty() {
         return Ok(None);
@@ -190,7 +229,7 @@ fn group_ends(
     let mut ends = Vec::new(alloc);
     let mut first = 0;
     for place in 1..rows.len() {
-        first = add_row(table, keys, rows, first, place, &mut ends)?;
+        first = add_row(table, rows, first, place, &mut ends)?;
         if ends.len() >= rows.len() / 2 {
             return Ok(None);
         }
@@ -199,14 +238,26 @@ fn group_ends(
     Ok(Some(ends))
 }
 
-// The places of a segment's rows by keys, and then by place.
-fn places_by(alloc: Global, table: &SegmentRows, keys: &[SortKey]) -> Result<Vec<u32>, AllocError>
-    ensures rows { IfOk result (λ rows. rows.items ≡ run_of keys.now table.now.segment.now.rows) }
-    ensures few { IfOk result (λ rows. length rows.items < 2 ^ 32) }
+// The places of a segment's rows by keys, and then by place, and where groups of them end, if these have two rows or more on the
+// average.
+fn grouped_places(
+    alloc: Global,
+    table: &SegmentRows,
+    keys: &[SortKey],
+) -> Result<(Vec<u32>, Option<Vec<u32>>), AllocError>
+    ensures rows { IfOk result (λ told. told.0.items ≡ run_of keys.now table.now.segment.now.rows) }
+    ensures ends { IfOk result (λ told. AreEndsOf told.1 told.0.items) }
+    ensures groups { IfOk result (λ told. All (IsGroup keys.now table.now.segment.now.rows) (pieces_of told.1 told.0.items)) }
 {
-    let order = order_of(alloc, table, keys)?;
-    let rows = narrowed(alloc, &order)?;
-    Ok(rows)
+    let order = coded_order_of(alloc, table, keys)?;
+    let rows = narrowed(alloc, &order.numbers)?;
+    let keyed = KeyedRows {
+        segment: table.segment,
+        keys,
+        codes: &order.codes,
+    };
+    let ends = group_ends(alloc, &keyed, &rows)?;
+    Ok((rows, ends))
 }
 
 /// The run of a segment by keys. A column that the rows do not have counts as null, and without keys the rows stand by place.
@@ -219,8 +270,7 @@ pub fn sort_run(alloc: Global, segment: &Segment, keys: &[SortKey]) -> Result<Ru
         segment,
         null: &Value::Null,
     };
-    let rows = places_by(alloc, &table, keys)?;
-    let ends = group_ends(alloc, &table, keys, &rows)?;
+    let (rows, ends) = grouped_places(alloc, &table, keys)?;
     let keys = Vec::from_slice(alloc, keys)?;
     Ok(Run { keys, rows, ends })
 }

@@ -112,7 +112,8 @@ fn have_run(sales: &SegmentSet, key: SortKey) -> bool {
     true
 }
 
-// A query leaves the runs of its windows and of its ORDER BY, which the next one finds; of five orders the first is let go.
+// A query leaves the runs of its windows and of its ORDER BY, which the next one finds; of five orders the first is let go. Where
+// WHERE keeps few rows, these are sorted, and no run is made.
 #[test]
 fn queries_leave_runs(rt: HostRuntime) -> Result<(), Fail> {
     let mut sales = same_sales(rt.alloc())?;
@@ -123,9 +124,14 @@ fn queries_leave_runs(rt: HostRuntime) -> Result<(), Fail> {
         b"SELECT day, sum(amount) OVER (ORDER BY day) FROM sales",
     )?;
     assert!(rt; have_run(&sales, by(0)));
+    table_of(
+        rt.alloc(),
+        &mut sales,
+        b"SELECT day FROM sales WHERE amount = 0 ORDER BY amount",
+    )?;
     assert!(rt; !have_run(&sales, by(2)));
     let orders: [&[u8]; 4] = [
-        b"SELECT day FROM sales WHERE amount = 0 ORDER BY amount",
+        b"SELECT day FROM sales WHERE amount = 1 ORDER BY amount",
         b"SELECT rank() OVER (PARTITION BY shop ORDER BY day) FROM sales",
         b"SELECT day FROM sales ORDER BY day DESC",
         b"SELECT day FROM sales ORDER BY shop",

@@ -4,7 +4,7 @@ use Rattle.wplan.specs.Plans.{optional_formula}
 use Rattle.wset.specs.Running.{live_rows}
 use Rattle.wruns.specs.Runs.{joined}
 use Rattle.wrows.specs.Laid.{row_seen, rows_seen}
-use Rattle.wplanner.specs.TableOrders.{AreNumbers, holds_by}
+use Rattle.wplanner.specs.TableOrders.{holds_by}
 use Rattle.wplanner.specs.Tables.{rows_of_set}
 use Rattle.wplanner.proofs.LiveFacts.{live_joined}
 use Rattle.wplanner.proofs.NumberFacts.{few_is, held_is}

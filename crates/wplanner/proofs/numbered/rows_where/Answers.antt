@@ -1,9 +1,7 @@
-use Rattle.std.proofs.Common.{◌≡◌, ◌++◌, ◌∷◌, [], List, Vec, Global, false, filter, length, map, append-nil, sym, ap, ◌∙◌, arith}
-use Rattle.std.specs.Borrow.{Bor}
+use Rattle.std.proofs.Common.{◌≡◌, ◌++◌, ◌∷◌, [], List, false, filter, length, map, append-nil, sym, ap, ◌∙◌, arith}
 use Rattle.std.specs.List.{flat_map, list_any}
 use Rattle.std.proofs.lemmas.List.{length-map}
 use Rattle.std.proofs.lemmas.Result.{err_from_is_err_and}
-use Rattle.wvalues.specs.declared.value.Value.{Value}
 use Rattle.wplan.specs.Formula.{formula}
 use Rattle.wset.specs.Running.{live_rows}
 use Rattle.wrows.specs.declared.fault.AnswerFault.TheVariants.{OutOfRange}

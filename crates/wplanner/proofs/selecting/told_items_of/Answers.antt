@@ -1,6 +1,6 @@
-use Rattle.std.proofs.Common.{List, Result, length, map, refl, sym, subst, ap, ◌∙◌}
+use Rattle.std.proofs.Common.{List, Result, length, map, refl, subst, ap, ◌∙◌}
 use Rattle.std.proofs.lemmas.List.{length-map}
-use Rattle.wplan.specs.Plans.{key_plan, output_plan, select_plan}
+use Rattle.wplan.specs.Plans.{output_plan, select_plan}
 use Rattle.wrows.specs.declared.fault.AnswerFault.{AnswerFault}
 use Rattle.wrows.specs.Outcomes.{Gives}
 use Rattle.wrows.specs.Columns.{Row, beside}

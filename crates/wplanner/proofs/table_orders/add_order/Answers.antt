@@ -1,5 +1,4 @@
-use Rattle.std.proofs.Common.{◌≡◌, Ok, List, Option, Some, Vec, Global, ◌∷◌, ◌++◌, [], length, sym, subst, ap, ◌∙◌}
-use Rattle.std.specs.Prelude.{All, IfSome}
+use Rattle.std.proofs.Common.{◌≡◌, Ok, List, Vec, Global, ◌∷◌, ◌++◌, [], length, ap, ◌∙◌}
 use Rattle.std.proofs.lemmas.List.Elements.{All-append, All-cons, All-nil, All-same}
 use Rattle.wvalues.specs.declared.key.SortKey.{SortKey}
 use Rattle.wplan.specs.Plans.{window_plan}

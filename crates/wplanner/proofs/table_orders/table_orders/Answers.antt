@@ -2,7 +2,6 @@ use Rattle.std.proofs.Common.{List, map, subst}
 use Rattle.std.specs.Prelude.{IfSome}
 use Rattle.wvalues.specs.Meaning.{Meaning}
 use Rattle.wplan.specs.Plans.{key_plan}
-use Rattle.wset.specs.Running.{live_rows}
 use Rattle.wplanner.specs.TableOrders.{IsOrderFor, by_keys}
 use Rattle.wplanner.proofs.LiveFacts.{live_same}
 use Rattle.wplanner.proofs.table_orders.table_orders.Goals as goal

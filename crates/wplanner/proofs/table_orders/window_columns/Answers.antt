@@ -1,4 +1,4 @@
-use Rattle.std.proofs.Common.{◌≡◌, ◌++◌, Ok, Vec, Global, map, subst, sym, ap, ◌∙◌}
+use Rattle.std.proofs.Common.{◌++◌, Ok, Vec, Global, map, subst, sym, ap, ◌∙◌}
 use Rattle.wvalues.specs.declared.key.SortKey.{SortKey}
 use Rattle.wplan.specs.Formula.{formula}
 use Rattle.wplan.specs.Plans.{KeyPlan, key_plan, window_plan}

@@ -2,7 +2,7 @@ use Rattle.std.proofs.Common.{map, sym, subst}
 use Rattle.wplan.specs.Plans.{key_plan}
 use Rattle.wplanner.specs.TableOrders.{AreTableOrders}
 use Rattle.wplanner.proofs.LiveFacts.{live_same}
-use Rattle.wplanner.proofs.selecting.select_table_rows.Goals as goal
+use Rattle.wplanner.proofs.selecting.select_by_runs.Goals as goal
 
 pub select_ordered-requires-clause-orders : goal.select_ordered-requires-clause-orders
 select_ordered-requires-clause-orders c =
