@@ -98,6 +98,14 @@ class Tally:
             self.failed += 1
             print(f"{name}: got {shown(got)}, wanted {shown(want)}", flush=True)
 
+    def report(self, name, wrong):
+        """Counts a case, of which it is told what is wrong, or None."""
+        if wrong is None:
+            self.passed += 1
+        else:
+            self.failed += 1
+            print(f"{name}: {wrong}", flush=True)
+
     def end(self):
         print(f"{self.passed} passed, {self.failed} failed")
         sys.exit(1 if self.failed or not self.passed else 0)
@@ -114,6 +122,18 @@ def runner(name):
     module = importlib.util.module_from_spec(importlib.util.spec_from_loader(name, loader))
     loader.exec_module(module)
     return module
+
+
+def answers_of(replies):
+    """Each answer's text, and the line where a query is not answered."""
+    while replies:
+        line, _, replies = replies.partition(b"\n")
+        word, _, length = line.partition(b" ")
+        if word == b"answer":
+            yield replies[: int(length)].decode()
+            replies = replies[int(length) :]
+        else:
+            yield line.decode()
 
 
 def written(program, script, seconds=60):
