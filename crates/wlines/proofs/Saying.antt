@@ -1,9 +1,12 @@
 -- What was said, in full or in part.
-use Rattle.std.proofs.Common.{◌≡◌, ℕ, List, [], ◌++◌, take, length, OnOk, OnErr, Result, Ok, Err, refl, sym, ap, ◌∙◌, subst, append_assoc, append-nil}
+use Rattle.std.proofs.Common.{◌≡◌, ℕ, List, [], ◌++◌, Option, take, length, OnOk, OnErr, Result, Ok, Err, refl, sym, ap, ◌∙◌, subst, append_assoc, append-nil}
 use lib.Seq.{take-append_seam}
 use Rattle.std.specs.Io.KnownBytes.{Appends}
 use Rattle.std.proofs.KnownBytes.{Appends-nil, Appends-trans}
-use Rattle.wlines.specs.Sent.{Sent, Says}
+use Rattle.wvalues.specs.Counts.{Counts}
+use Rattle.wlines.specs.Failing.{Leaves}
+use Rattle.wlines.specs.Sent.{Block, Sent, Waiting, Says, sent}
+use Rattle.wlines.specs.declared.fault.ReadFault.{ReadFault}
 
 pub says_nothing : (a : Sent) → Says a a []
 says_nothing a = record { written = []; appends = Appends-nil a.contents; whole = sym (append-nil a.waiting) }
@@ -21,6 +24,15 @@ says_behind a b c text p q = says_more a b c [] text p q
 
 pub says_still : (a b c : Sent) → Says a b [] → Says b c [] → Says a c []
 says_still a b c p q = says_more a b c [] [] p q
+
+-- one call behind another
+pub leaves_still : {A B R W : Type 0} (contents : W → Option (List ℕ)) (first : Result A ReadFault) (second : Result B ReadFault) (a b c : Waiting) (x y z : Counts W) (s t : Block) (i j : Counts R) → Leaves contents first a x s i b y → Leaves contents second b y t j c z → Leaves contents second a x t j c z
+leaves_still contents first second a b c x y z s t i j p q = record {
+  says = says_still (sent contents a x) (sent contents b y) (sent contents c z) p.says q.says;
+  owed = q.owed ∙ p.owed;
+  ready = q.ready;
+  fault = q.fault;
+}
 
 -- nothing is a front of any text
 pub says_front : (a b : Sent) (text : List ℕ) → Says a b [] → (n : ℕ) × Says a b (take n text)

@@ -1,9 +1,9 @@
 //! Reads lines and bodies from a source.
 ghost use Rattle.std.specs.Prelude.{◌≡◌, ◌≢◌, ℕ, ◌+◌, ◌<◌, ◌≤◌, List, [], length, true, false, vec_len, vec_capacity, IsTrue, IfOk, IfErr, OnOk};
 ghost use Rattle.std.specs.Io.KnownBytes.{Consumes, IsAtEnd};
-ghost use Rattle.wlines.specs.Failing.{HasFailed};
+ghost use Rattle.wlines.specs.Failing.{HasFailed, IsReady, Leaves};
 ghost use Rattle.wlines.specs.Pending.{left, budget, IsSound, IsSoundWriter};
-ghost use Rattle.wlines.specs.Sent.{IsUsed, Says, sent};
+ghost use Rattle.wlines.specs.Sent.{Says, sent};
 ghost use Rattle.wlines.specs.Reads.{LineReads, BodyReads, SkipReads, FeedReads, MovesFront};
 
 use crate::body::Body;
@@ -28,7 +28,7 @@ fn end_without_feed(line: &Line) -> LineEnd
 }
 
 /// Reads a line of at most 200 bytes, or finds that there is none. The line before it is answered.
-#[tactic(auto, using(crate::proofs::Saying::says_nothing, crate::proofs::Saying::says_still))]
+#[tactic(auto, using(crate::proofs::Saying::says_nothing, crate::proofs::Saying::says_still, crate::proofs::Saying::leaves_still))]
 pub fn read_line<R: Read, W: Write>(
     source: &mut Source,
     input: &mut Counted<R>,
@@ -41,9 +41,7 @@ pub fn read_line<R: Read, W: Write>(
     requires answered { outbox.old.is_answered ≡ true }
     ensures says { Says (sent W.contents outbox.old output.old) (sent W.contents outbox.new output.new) [] }
     ensures owes { IfOk result (λ end. end ≡ LineEnd.Whole → outbox.new.is_answered ≡ false) }
-    ensures input { OnOk result (IsSound input.new) }
-    ensures output { OnOk result (IsSoundWriter output.new) }
-    ensures used { OnOk result (IsUsed source.new) }
+    ensures ready { OnOk result (IsReady source.new input.new output.new) }
     ensures reads { IfOk result (λ end. LineReads end (left R.remaining source.old.held input.old) (left R.remaining source.new.held input.new) line.new) }
     ensures falls { IfOk result (λ end. end ≡ LineEnd.Whole → budget source.new.held input.new < budget source.old.held input.old) }
     ensures fault { IfErr result (λ fault. HasFailed fault input.new outbox.new output.new) }
@@ -83,7 +81,7 @@ fn take_piece(source: &mut Source, bytes: &mut Vec<u8>, len: usize)
 }
 
 // Adds bytes up to a length of len. It answers false where the input ends before.
-#[tactic(auto, using(crate::proofs::Saying::says_nothing, crate::proofs::Saying::says_still))]
+#[tactic(auto, using(crate::proofs::Saying::says_nothing, crate::proofs::Saying::says_still, crate::proofs::Saying::leaves_still))]
 fn fill<R: Read, W: Write>(
     source: &mut Source,
     input: &mut Counted<R>,
@@ -92,21 +90,14 @@ fn fill<R: Read, W: Write>(
     bytes: &mut Vec<u8>,
     len: usize,
 ) -> Result<bool, ReadFault>
-    requires input { IsSound input.old }
-    requires output { IsSoundWriter output.old }
-    requires used { IsUsed source.old }
+    requires ready { IsReady source.old input.old output.old }
     requires empty { bytes.old.items ≡ [] }
     requires room { len ≤ vec_capacity bytes.old }
-    ensures says { Says (sent W.contents outbox.old output.old) (sent W.contents outbox.new output.new) [] }
-    ensures owed { outbox.new.is_answered ≡ outbox.old.is_answered }
-    ensures input { OnOk result (IsSound input.new) }
-    ensures output { OnOk result (IsSoundWriter output.new) }
-    ensures used { OnOk result (IsUsed source.new) }
+    ensures leaves { Leaves W.contents result outbox.old output.old source.new input.new outbox.new output.new }
     ensures taken { OnOk result (Consumes (left R.remaining source.old.held input.old) (left R.remaining source.new.held input.new) bytes.new.items) }
     ensures whole { IfOk result (λ whole. IsTrue whole → length bytes.new.items ≡ len) }
     ensures end { IfOk result (λ whole. whole ≡ false → IsAtEnd (left R.remaining source.new.held input.new) × (length bytes.new.items < len)) }
     ensures falls { OnOk result (budget source.new.held input.new + length bytes.new.items ≤ budget source.old.held input.old) }
-    ensures fault { IfErr result (λ fault. HasFailed fault input.new outbox.new output.new) }
 {
     'pieces: while bytes.len() < len {
         if !source.top_up(input, outbox, output)? {
@@ -118,7 +109,7 @@ fn fill<R: Read, W: Write>(
 }
 
 // Skips this many bytes. It answers false where the input ends before.
-#[tactic(auto, using(crate::proofs::Saying::says_nothing, crate::proofs::Saying::says_still))]
+#[tactic(auto, using(crate::proofs::Saying::says_nothing, crate::proofs::Saying::says_still, crate::proofs::Saying::leaves_still))]
 fn skip<R: Read, W: Write>(
     source: &mut Source,
     input: &mut Counted<R>,
@@ -126,18 +117,11 @@ fn skip<R: Read, W: Write>(
     output: &mut Counted<W>,
     len: usize,
 ) -> Result<bool, ReadFault>
-    requires input { IsSound input.old }
-    requires output { IsSoundWriter output.old }
-    requires used { IsUsed source.old }
-    ensures says { Says (sent W.contents outbox.old output.old) (sent W.contents outbox.new output.new) [] }
-    ensures owed { outbox.new.is_answered ≡ outbox.old.is_answered }
-    ensures input { OnOk result (IsSound input.new) }
-    ensures output { OnOk result (IsSoundWriter output.new) }
-    ensures used { OnOk result (IsUsed source.new) }
+    requires ready { IsReady source.old input.old output.old }
+    ensures leaves { Leaves W.contents result outbox.old output.old source.new input.new outbox.new output.new }
     ensures whole { IfOk result (λ whole. IsTrue whole → (taken : List ℕ) × Consumes (left R.remaining source.old.held input.old) (left R.remaining source.new.held input.new) taken × (length taken ≡ len)) }
     ensures end { IfOk result (λ whole. whole ≡ false → (taken : List ℕ) × Consumes (left R.remaining source.old.held input.old) (left R.remaining source.new.held input.new) taken × IsAtEnd (left R.remaining source.new.held input.new) × (length taken < len)) }
     ensures falls { OnOk result (budget source.new.held input.new ≤ budget source.old.held input.old) }
-    ensures fault { IfErr result (λ fault. HasFailed fault input.new outbox.new output.new) }
 {
     let mut count = 0;
     'pieces: while count < len {
@@ -158,17 +142,10 @@ fn take_feed<R: Read, W: Write>(
     outbox: &mut Outbox,
     output: &mut Counted<W>,
 ) -> Result<bool, ReadFault>
-    requires input { IsSound input.old }
-    requires output { IsSoundWriter output.old }
-    requires used { IsUsed source.old }
-    ensures says { Says (sent W.contents outbox.old output.old) (sent W.contents outbox.new output.new) [] }
-    ensures owed { outbox.new.is_answered ≡ outbox.old.is_answered }
-    ensures input { OnOk result (IsSound input.new) }
-    ensures output { OnOk result (IsSoundWriter output.new) }
-    ensures used { OnOk result (IsUsed source.new) }
+    requires ready { IsReady source.old input.old output.old }
+    ensures leaves { Leaves W.contents result outbox.old output.old source.new input.new outbox.new output.new }
     ensures reads { IfOk result (λ found. FeedReads found (left R.remaining source.old.held input.old) (left R.remaining source.new.held input.new)) }
     ensures falls { IfOk result (λ found. IsTrue found → budget source.new.held input.new < budget source.old.held input.old) }
-    ensures fault { IfErr result (λ fault. HasFailed fault input.new outbox.new output.new) }
 {
     let next = source.next(input, outbox, output)?;
     let Some(byte) = next else {
@@ -179,7 +156,7 @@ fn take_feed<R: Read, W: Write>(
 
 /// Reads a body of this many bytes and the line feed behind it, and keeps none of it. It answers false where the
 /// body is malformed: the input ends inside it, or another byte than a line feed stands behind it.
-#[tactic(auto, using(crate::proofs::Saying::says_nothing, crate::proofs::Saying::says_still))]
+#[tactic(auto, using(crate::proofs::Saying::says_nothing, crate::proofs::Saying::says_still, crate::proofs::Saying::leaves_still))]
 pub fn skip_body<R: Read, W: Write>(
     source: &mut Source,
     input: &mut Counted<R>,
@@ -187,17 +164,10 @@ pub fn skip_body<R: Read, W: Write>(
     output: &mut Counted<W>,
     len: usize,
 ) -> Result<bool, ReadFault>
-    requires input { IsSound input.old }
-    requires output { IsSoundWriter output.old }
-    requires used { IsUsed source.old }
-    ensures says { Says (sent W.contents outbox.old output.old) (sent W.contents outbox.new output.new) [] }
-    ensures owed { outbox.new.is_answered ≡ outbox.old.is_answered }
-    ensures input { OnOk result (IsSound input.new) }
-    ensures output { OnOk result (IsSoundWriter output.new) }
-    ensures used { OnOk result (IsUsed source.new) }
+    requires ready { IsReady source.old input.old output.old }
+    ensures leaves { Leaves W.contents result outbox.old output.old source.new input.new outbox.new output.new }
     ensures reads { IfOk result (λ found. SkipReads found len (left R.remaining source.old.held input.old) (left R.remaining source.new.held input.new)) }
     ensures falls { IfOk result (λ found. IsTrue found → budget source.new.held input.new < budget source.old.held input.old) }
-    ensures fault { IfErr result (λ fault. HasFailed fault input.new outbox.new output.new) }
 {
     if !skip(source, input, outbox, output, len)? {
         return Ok(false);
@@ -207,7 +177,7 @@ pub fn skip_body<R: Read, W: Write>(
 }
 
 // Reads a body into bytes that have room for it.
-#[tactic(auto, using(crate::proofs::Saying::says_nothing, crate::proofs::Saying::says_still))]
+#[tactic(auto, using(crate::proofs::Saying::says_nothing, crate::proofs::Saying::says_still, crate::proofs::Saying::leaves_still))]
 fn read_into<R: Read, W: Write>(
     source: &mut Source,
     input: &mut Counted<R>,
@@ -216,19 +186,12 @@ fn read_into<R: Read, W: Write>(
     bytes: Vec<u8>,
     len: usize,
 ) -> Result<Body, ReadFault>
-    requires input { IsSound input.old }
-    requires output { IsSoundWriter output.old }
-    requires used { IsUsed source.old }
+    requires ready { IsReady source.old input.old output.old }
     requires empty { bytes.items ≡ [] }
     requires room { len ≤ vec_capacity bytes }
-    ensures says { Says (sent W.contents outbox.old output.old) (sent W.contents outbox.new output.new) [] }
-    ensures owed { outbox.new.is_answered ≡ outbox.old.is_answered }
-    ensures input { OnOk result (IsSound input.new) }
-    ensures output { OnOk result (IsSoundWriter output.new) }
-    ensures used { OnOk result (IsUsed source.new) }
+    ensures leaves { Leaves W.contents result outbox.old output.old source.new input.new outbox.new output.new }
     ensures reads { IfOk result (λ body. BodyReads body len (left R.remaining source.old.held input.old) (left R.remaining source.new.held input.new)) }
     ensures falls { IfOk result (λ body. body ≢ Body.Malformed → budget source.new.held input.new < budget source.old.held input.old) }
-    ensures fault { IfErr result (λ fault. HasFailed fault input.new outbox.new output.new) }
 {
     let mut bytes = bytes;
     if !fill(source, input, outbox, output, &mut bytes, len)? {
@@ -242,7 +205,7 @@ fn read_into<R: Read, W: Write>(
 
 /// Reads a body of this many bytes and the line feed behind it. A body that finds no memory is read to its end
 /// and dropped.
-#[tactic(auto, using(crate::proofs::Saying::says_nothing, crate::proofs::Saying::says_still))]
+#[tactic(auto, using(crate::proofs::Saying::says_nothing, crate::proofs::Saying::says_still, crate::proofs::Saying::leaves_still))]
 pub fn read_body<R: Read, W: Write>(
     alloc: Global,
     source: &mut Source,
@@ -251,17 +214,10 @@ pub fn read_body<R: Read, W: Write>(
     output: &mut Counted<W>,
     len: usize,
 ) -> Result<Body, ReadFault>
-    requires input { IsSound input.old }
-    requires output { IsSoundWriter output.old }
-    requires used { IsUsed source.old }
-    ensures says { Says (sent W.contents outbox.old output.old) (sent W.contents outbox.new output.new) [] }
-    ensures owed { outbox.new.is_answered ≡ outbox.old.is_answered }
-    ensures input { OnOk result (IsSound input.new) }
-    ensures output { OnOk result (IsSoundWriter output.new) }
-    ensures used { OnOk result (IsUsed source.new) }
+    requires ready { IsReady source.old input.old output.old }
+    ensures leaves { Leaves W.contents result outbox.old output.old source.new input.new outbox.new output.new }
     ensures reads { IfOk result (λ body. BodyReads body len (left R.remaining source.old.held input.old) (left R.remaining source.new.held input.new)) }
     ensures falls { IfOk result (λ body. body ≢ Body.Malformed → budget source.new.held input.new < budget source.old.held input.old) }
-    ensures fault { IfErr result (λ fault. HasFailed fault input.new outbox.new output.new) }
 {
     if let Ok(bytes) = Vec::with_capacity(alloc, len) {
         let body = read_into(source, input, outbox, output, bytes, len)?;

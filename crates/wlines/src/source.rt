@@ -39,8 +39,8 @@ impl Model for Source {
 }
 
 impl Source {
-    ghost use Rattle.wlines.specs.Failing.{HasFailed};
-    ghost use Rattle.wlines.specs.Sent.{IsUsed, Says, handed, sent};
+    ghost use Rattle.wlines.specs.Failing.{HasFailed, Leaves};
+    ghost use Rattle.wlines.specs.Sent.{Says, handed, sent};
 
     /// A source that holds nothing.
     pub fn new(alloc: Global) -> Result<Source, AllocError>
@@ -153,16 +153,11 @@ impl Source {
     ) -> Result<Option<u8>, ReadFault>
         requires input { IsSound input.old }
         requires output { IsSoundWriter output.old }
-        ensures says { Says (sent W.contents outbox.old output.old) (sent W.contents outbox.new output.new) [] }
-        ensures owed { outbox.new.is_answered ≡ outbox.old.is_answered }
-        ensures input { OnOk result (IsSound input.new) }
-        ensures output { OnOk result (IsSoundWriter output.new) }
-        ensures used { OnOk result (IsUsed self.new) }
+        ensures leaves { Leaves W.contents result outbox.old output.old self.new input.new outbox.new output.new }
         ensures some { IfOk result (λ o. IfSome o (λ b. Consumes (left R.remaining self.old.held input.old) (left R.remaining self.new.held input.new) (b ∷ []))) }
         ensures falls { IfOk result (λ o. IfSome o (λ _. budget self.new.held input.new < budget self.old.held input.old)) }
         ensures kept { IfOk result (λ o. IfNone o (Keeps (left R.remaining self.old.held input.old) (left R.remaining self.new.held input.new))) }
         ensures end { IfOk result (λ o. IfNone o (IsAtEnd (left R.remaining self.new.held input.new))) }
-        ensures fault { IfErr result (λ fault. HasFailed fault input.new outbox.new output.new) }
     {
         if !self.top_up(input, outbox, output)? {
             return Ok(None);

@@ -4,7 +4,7 @@ pub mod Union
 pub mod Later
 mod Finding
 mod Merging
-mod Singles
+pub mod Singles
 mod EntryFacts
 mod Settling
 mod Maps

@@ -16,14 +16,14 @@ use Rattle.wset.proofs.Union.{get-view_of, unnamed}
 abbrev pub IsSingle : View → NameParts → Known → Type 0
 IsSingle w n k = (q : NameParts) → get w q ≡ cond (same_name q n) (Some k) None
 
-segment_single : (n : NameParts) (bytes : List ℕ) → IsSingle (view_of_item (SegmentItem n bytes)) n (Live bytes)
+pub segment_single : (n : NameParts) (bytes : List ℕ) → IsSingle (view_of_item (SegmentItem n bytes)) n (Live bytes)
 segment_single n bytes q = get-view_of (SegmentItem n bytes ∷ []) q ∙ by (same_name q n) refl
   where
     by : (b : Bool) → same_name q n ≡ b → mark_of (SegmentItem n bytes ∷ []) q ≡ cond b (Some (Live bytes)) None
     by true e = rw e refl
     by false e = rw e refl
 
-retirement_single : (n : NameParts) → IsSingle (view_of_item (RetirementItem n)) n Retired
+pub retirement_single : (n : NameParts) → IsSingle (view_of_item (RetirementItem n)) n Retired
 retirement_single n q = get-view_of (RetirementItem n ∷ []) q ∙ by (same_name q n) refl
   where
     by : (b : Bool) → same_name q n ≡ b → mark_of (RetirementItem n ∷ []) q ≡ cond b (Some Retired) None

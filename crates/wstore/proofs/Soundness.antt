@@ -1,9 +1,8 @@
 -- What is known of names is sound: each is a name, and each content a segment.
-use Rattle.std.proofs.Common.{◌≡◌, ℕ, Bool, true, false, cond, ◌&&◌, ◌||◌, T, List, [], ◌∷◌, ◌++◌, length, Option, None, Some, IsOk, is_eq, nat_lt, refl, sym, ap, ◌∙◌, subst, arith, append-nil}
-use Rattle.std.proofs.lemmas.Bool.{or_from}
+use Rattle.std.proofs.Common.{◌≡◌, ℕ, Bool, true, false, cond, ◌||◌, T, List, [], ◌∷◌, ◌++◌, length, Option, None, Some, IsOk, is_eq, nat_lt, refl, sym, ap, ◌∙◌, subst, arith, append-nil}
 use Rattle.std.proofs.lemmas.Bool.Decides.{nat_tests}
 use Rattle.std.specs.List.{AllByRecursion}
-use Rattle.std.specs.Ordering.{is_lt, ordering_reverse}
+use Rattle.std.specs.Ordering.{ordering_reverse}
 use Rattle.std.specs.declared.cmp.Ordering.{Ordering}
 use Rattle.std.specs.declared.cmp.Ordering.TheVariants.{Less, Equal, Greater}
 use Rattle.std.specs.FinMap.Entries.{below_all}
@@ -11,16 +10,18 @@ use Rattle.std.specs.FinMap.{get, entries, find, is_sorted, get-entries, entries
 use Rattle.wvalues.specs.Names.{NameParts, IsName, name_cmp, names_total}
 use Rattle.wsegment.specs.Declaration.{Declaration}
 use Rattle.wsegment.specs.Rows.{rows_of}
-use Rattle.wset.specs.Views.{Known, Live, Disputed, Retired, Floor, View, is_above, is_below, same_name, same_bytes, join_known, join_told}
-use Rattle.wset.specs.Items.{Item, SegmentItem, RetirementItem, FloorItem, mark_of, view_of, view_of_item}
-use Rattle.wset.proofs.Floors.{exact_names, not_above_itself, same_name-true}
+use Rattle.wset.specs.Views.{Known, Live, Disputed, Retired, Floor, View, is_below, same_name, same_bytes, join_known, join_told}
+use Rattle.wset.specs.Items.{Item, SegmentItem, RetirementItem, FloorItem, view_of, view_of_item}
+use Rattle.wset.proofs.Floors.{exact_names, same_name-true}
 use Rattle.wset.proofs.Joining.{get-join, same_view}
-use Rattle.wset.proofs.Union.{get-view_of, unnamed, view_of_union}
+use Rattle.wset.proofs.Singles.{IsSingle, segment_single, retirement_single, floor_single}
+use Rattle.wset.proofs.Union.{get-view_of, view_of_union}
 use Rattle.wexchange.specs.Forms.{IsNumber}
 use Rattle.wexchange.specs.Files.{IsRecord, AreRecords, text_of}
 use Rattle.wexchange.specs.Judging.{IsFileOf}
 use Rattle.wexchange.specs.declared.version.Version.{Version}
 use Rattle.wexchange.specs.declared.version.Version.TheVariants.{One, Two}
+use Rattle.wexchange.proofs.OneJudgement.{first, second, less}
 use Rattle.wexchange.proofs.OneText.{one_text}
 use Rattle.wstore.specs.History.{file_if}
 use Rattle.wstore.specs.Standing.{IsSound}
@@ -86,33 +87,6 @@ fits d bytes ok = by (nat_lt 67108864 (length bytes)) refl
     by true e = absurd (refused true e refl)
     by false e = record { fits = grind (arith, nat_tests) }
 
--- of this name this alone is known, and of others nothing
-abbrev IsSingle : View → NameParts → Known → Type 0
-IsSingle w n k = (q : NameParts) → get w q ≡ cond (same_name q n) (Some k) None
-
-segment_single : (n : NameParts) (bytes : List ℕ) → IsSingle (view_of_item (SegmentItem n bytes)) n (Live bytes)
-segment_single n bytes q = get-view_of (SegmentItem n bytes ∷ []) q ∙ by (same_name q n) refl
-  where
-    by : (b : Bool) → same_name q n ≡ b → mark_of (SegmentItem n bytes ∷ []) q ≡ cond b (Some (Live bytes)) None
-    by true e = rw e refl
-    by false e = rw e refl
-
-retirement_single : (n : NameParts) → IsSingle (view_of_item (RetirementItem n)) n Retired
-retirement_single n q = get-view_of (RetirementItem n ∷ []) q ∙ by (same_name q n) refl
-  where
-    by : (b : Bool) → same_name q n ≡ b → mark_of (RetirementItem n ∷ []) q ≡ cond b (Some Retired) None
-    by true e = rw e refl
-    by false e = rw e refl
-
-floor_single : (n : NameParts) → IsSingle (view_of_item (FloorItem n)) n Floor
-floor_single n q = get-view_of (FloorItem n ∷ []) q ∙ by (is_above q n) refl (same_name q n) refl
-  where
-    by : (a : Bool) → is_above q n ≡ a → (b : Bool) → same_name q n ≡ b → cond (a || false) None (mark_of (FloorItem n ∷ []) q) ≡ cond b (Some Floor) None
-    by true over true same = absurd (not_above_itself n (ap (λ x. is_above x n) (sym (same_name-true q n same)) ∙ over))
-    by true over false same = refl
-    by false over true same = rw same refl
-    by false over false same = unnamed (FloorItem n ∷ []) q (or_from _ _ same refl) (or_from _ _ over refl)
-
 sound_single : (d : Declaration) (v : View) (m : NameParts) (j : Known) → IsSingle v m j → IsRecord d (m, j) → (q : NameParts) (k : Known) → get v q ≡ Some k → IsRecord d (q, k)
 sound_single d v m j single record_is q k e = by (same_name q m) refl (sym (single q) ∙ e)
   where
@@ -130,19 +104,6 @@ pub sound_floor : (d : Declaration) (m : NameParts) → IsName m → IsSound d (
 sound_floor d m name = sound_single d (view_of_item (FloorItem m)) m Floor (floor_single m) name
 
 -- ---- entry by entry
-
-first : (a b : Bool) → T (a && b) → T a
-first true b p = tt
-first false b p = absurd p
-
-second : (a b : Bool) → T (a && b) → T b
-second true b p = p
-second false b p = absurd p
-
-less : (o : Ordering) → T (is_lt o) → o ≡ Less
-less Less p = refl
-less Equal p = absurd p
-less Greater p = absurd p
 
 find_below : (x : NameParts) (es : List (NameParts × Known)) → T (below_all name_cmp x es) → find name_cmp x es ≡ None
 find_below x [] h = refl

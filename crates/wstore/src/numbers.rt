@@ -1,6 +1,6 @@
 //! The numbers of nodes and slots.
 ghost use Rattle.std.specs.Prelude.{◌≡◌, ◌+◌, ◌<◌, ◌↔◌, IsSome, IfSome};
-ghost use Rattle.wstore.specs.Commands.{IsNode, IsSlot, node_count, slot_count};
+ghost use Rattle.wstore.specs.Commands.{IsNumber};
 
 use std::marker::Model;
 
@@ -11,59 +11,21 @@ pub(crate) const NODES: u32 = 16;
 pub(crate) const SLOTS: u32 = 16;
 
 /// The number of a node, from 1.
-#[derive(Clone, Copy, Debug)]
-pub(crate) struct NodeNumber {
-    number: u32,
-}
-
-impl Model for NodeNumber {
-    ghost use Rattle.std.specs.Prelude.{ℕ};
-    ghost use Rattle.std.specs.Coded.{coded_ℕ};
-    ghost use Rattle.wstore.specs.Commands.{IsNode};
-
-    ghost Value = { ℕ };
-
-    ghost coded = { coded_ℕ };
-
-    ghost view = { λ n. n.number };
-
-    ghost invariant = { λ n. IsNode n.number };
-
-    ghost inverse = { λ n. record { number = n } };
-}
-
-impl NodeNumber {
-    /// The node of this number, if there is one.
-    pub(crate) fn new(number: u32) -> Option<NodeNumber>
-        ensures found { IsSome result ↔ IsNode number }
-        ensures value { IfSome result (λ node. node ≡ number) }
-    {
-        if 0 < number && number <= NODES {
-            Some(NodeNumber { number })
-        } else {
-            None
-        }
-    }
-
-    /// Its place among the nodes, from 0.
-    pub(crate) fn place(self) -> usize
-        ensures place { result + 1 ≡ self }
-        ensures in_range { result < node_count }
-    {
-        (self.number - 1) as usize
-    }
-}
+pub(crate) type NodeNumber = Number<NODES>;
 
 /// The number of a slot, from 1.
+pub(crate) type SlotNumber = Number<SLOTS>;
+
+/// The number of one of so many things, from 1.
 #[derive(Clone, Copy, Debug)]
-pub(crate) struct SlotNumber {
+pub(crate) struct Number<const COUNT: u32> {
     number: u32,
 }
 
-impl Model for SlotNumber {
+impl<const COUNT: u32> Model for Number<COUNT> {
     ghost use Rattle.std.specs.Prelude.{ℕ};
     ghost use Rattle.std.specs.Coded.{coded_ℕ};
-    ghost use Rattle.wstore.specs.Commands.{IsSlot};
+    ghost use Rattle.wstore.specs.Commands.{IsNumber};
 
     ghost Value = { ℕ };
 
@@ -71,28 +33,28 @@ impl Model for SlotNumber {
 
     ghost view = { λ n. n.number };
 
-    ghost invariant = { λ n. IsSlot n.number };
+    ghost invariant = { λ n. IsNumber COUNT n.number };
 
     ghost inverse = { λ n. record { number = n } };
 }
 
-impl SlotNumber {
-    /// The slot of this number, if there is one.
-    pub(crate) fn new(number: u32) -> Option<SlotNumber>
-        ensures found { IsSome result ↔ IsSlot number }
-        ensures value { IfSome result (λ slot. slot ≡ number) }
+impl<const COUNT: u32> Number<COUNT> {
+    /// The one of this number, if there is one.
+    pub(crate) fn new(number: u32) -> Option<Self>
+        ensures found { IsSome result ↔ IsNumber COUNT number }
+        ensures value { IfSome result (λ it. it ≡ number) }
     {
-        if 0 < number && number <= SLOTS {
-            Some(SlotNumber { number })
+        if 0 < number && number <= COUNT {
+            Some(Number { number })
         } else {
             None
         }
     }
 
-    /// Its place among the slots, from 0.
+    /// Its place among them, from 0.
     pub(crate) fn place(self) -> usize
-        ensures place { result + 1 ≡ self }
-        ensures in_range { result < slot_count }
+        ensures place { result + 1 ≡ self.entry }
+        ensures in_range { result < COUNT }
     {
         (self.number - 1) as usize
     }

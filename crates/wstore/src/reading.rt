@@ -1,9 +1,9 @@
 //! Reads commands.
 ghost use Rattle.std.specs.Prelude.{◌≡◌, ℕ, List, Option, Some, Ok, Err, [], ◌<◌, ◌≤◌, true, false, IfOk, IfErr, OnOk, OnSome};
 ghost use Rattle.std.specs.Io.KnownBytes.{Consumes};
-ghost use Rattle.wlines.specs.Failing.{HasFailed};
+ghost use Rattle.wlines.specs.Failing.{HasFailed, IsReady, Leaves};
 ghost use Rattle.wlines.specs.Pending.{left, budget, IsSound, IsSoundWriter};
-ghost use Rattle.wlines.specs.Sent.{IsUsed, Says, sent};
+ghost use Rattle.wlines.specs.Sent.{Says, sent};
 ghost use Rattle.wstore.specs.Requests.{BehindReads, FoundBehind, GoesOn, RequestReads, follows_declaration};
 
 use crate::header::{Header, read_header};
@@ -24,16 +24,10 @@ fn read_found<R: Read, W: Write>(
     output: &mut Counted<W>,
     header: &Header,
 ) -> Result<Option<Found>, ReadFault>
-    requires input { IsSound input.old }
-    requires output { IsSoundWriter output.old }
-    requires used { IsUsed source.old }
-    ensures says { Says (sent W.contents outbox.old output.old) (sent W.contents outbox.new output.new) [] }
-    ensures input { OnOk result (IsSound input.new) }
-    ensures output { OnOk result (IsSoundWriter output.new) }
-    ensures used { OnOk result (IsUsed source.new) }
+    requires ready { IsReady source.old input.old output.old }
+    ensures leaves { Leaves W.contents result outbox.old output.old source.new input.new outbox.new output.new }
     ensures reads { IfOk result (λ found. FoundBehind header.now found (left R.remaining source.old.held input.old) (left R.remaining source.new.held input.new)) }
     ensures falls { IfOk result (λ found. OnSome found (budget source.new.held input.new ≤ budget source.old.held input.old)) }
-    ensures fault { IfErr result (λ fault. HasFailed fault input.new outbox.new output.new) }
 {
     let Some(len) = header.body_length() else {
         return Ok(Some(Found::Nothing));
@@ -174,16 +168,10 @@ fn read_behind<R: Read, W: Write>(
     declared: bool,
     header: Header,
 ) -> Result<Request, ReadFault>
-    requires input { IsSound input.old }
-    requires output { IsSoundWriter output.old }
-    requires used { IsUsed source.old }
-    ensures says { Says (sent W.contents outbox.old output.old) (sent W.contents outbox.new output.new) [] }
-    ensures input { OnOk result (IsSound input.new) }
-    ensures output { OnOk result (IsSoundWriter output.new) }
-    ensures used { OnOk result (IsUsed source.new) }
+    requires ready { IsReady source.old input.old output.old }
+    ensures leaves { Leaves W.contents result outbox.old output.old source.new input.new outbox.new output.new }
     ensures reads { IfOk result (λ request. BehindReads request header declared (left R.remaining source.old.held input.old) (left R.remaining source.new.held input.new)) }
     ensures falls { IfOk result (λ request. GoesOn request → budget source.new.held input.new ≤ budget source.old.held input.old) }
-    ensures fault { IfErr result (λ fault. HasFailed fault input.new outbox.new output.new) }
 {
     if header.follows_declaration() != declared {
         return Ok(Request::Malformed);
@@ -208,9 +196,7 @@ pub(crate) fn read_command<R: Read, W: Write>(
     requires output { IsSoundWriter output.old }
     requires answered { outbox.old.is_answered ≡ true }
     ensures says { Says (sent W.contents outbox.old output.old) (sent W.contents outbox.new output.new) [] }
-    ensures input { OnOk result (IsSound input.new) }
-    ensures output { OnOk result (IsSoundWriter output.new) }
-    ensures used { OnOk result (IsUsed source.new) }
+    ensures ready { OnOk result (IsReady source.new input.new output.new) }
     ensures reads { IfOk result (λ request. RequestReads request declared (left R.remaining source.old.held input.old) (left R.remaining source.new.held input.new)) }
     ensures falls { IfOk result (λ request. GoesOn request → budget source.new.held input.new < budget source.old.held input.old) }
     ensures fault { IfErr result (λ fault. HasFailed fault input.new outbox.new output.new) }

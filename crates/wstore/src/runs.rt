@@ -2,7 +2,8 @@
 ghost use Rattle.std.specs.Prelude.{[], false, ◌≡◌, ℕ, ◌<◌, ◌≤◌, length, take, List, Some, None, IfOk, IfErr, OnOk, OnErr, IfSome, IsNone, is_some, true};
 ghost use Rattle.std.specs.Io.KnownBytes.{Appends};
 ghost use Rattle.wlines.specs.Pending.{left, budget, IsNew, IsSound, IsSoundWriter};
-ghost use Rattle.wlines.specs.Sent.{IsUsed, Says, sent};
+ghost use Rattle.wlines.specs.Failing.{IsReady};
+ghost use Rattle.wlines.specs.Sent.{Says, sent};
 ghost use Rattle.wstore.specs.Commands.{Command as Spelled, Declare, IsAllowed, longest_text};
 ghost use Rattle.wstore.specs.Requests.{IsCommandOf, IsFeedOf, IsOrderAt, IsRefusedAs, GoesOn, RequestReads};
 ghost use Rattle.wstore.specs.History.{Step, is_declared};
@@ -187,9 +188,7 @@ fn next_request<R: Read, W: Write>(
     requires output { IsSoundWriter output.old }
     requires answered { outbox.old.is_answered ≡ true }
     ensures says { Says (sent W.contents outbox.old output.old) (sent W.contents outbox.new output.new) [] }
-    ensures input { OnOk result (IsSound input.new) }
-    ensures output { OnOk result (IsSoundWriter output.new) }
-    ensures used { OnOk result (IsUsed source.new) }
+    ensures ready { OnOk result (IsReady source.new input.new output.new) }
     ensures reads { IfOk result (λ request. RequestReads request declared (left R.remaining source.old.held input.old) (left R.remaining source.new.held input.new)) }
     ensures falls { IfOk result (λ request. GoesOn request → budget source.new.held input.new < budget source.old.held input.old) }
     ensures fails { IfErr result (λ fault. (h : List Step) → StepFails fault h (left R.remaining source.old.held input.old) (sent W.contents outbox.old output.old) (sent W.contents outbox.new output.new)) }
@@ -216,9 +215,7 @@ fn step<R: Read, W: Write>(
     requires answered { outbox.old.is_answered ≡ true }
     ensures tells { IfOk result (λ end. (h : List Step) → Stands session.old h → StepTells end session.new h (left R.remaining source.old.held input.old) (left R.remaining source.new.held input.new) (sent W.contents outbox.old output.old) (sent W.contents outbox.new output.new)) }
     ensures answered { IfOk result (λ end. IsNone end → outbox.new.is_answered ≡ true) }
-    ensures used { OnOk result (IsUsed source.new) }
-    ensures input { OnOk result (IsSound input.new) }
-    ensures output { OnOk result (IsSoundWriter output.new) }
+    ensures ready { OnOk result (IsReady source.new input.new output.new) }
     ensures falls { IfOk result (λ end. IsNone end → budget source.new.held input.new < budget source.old.held input.old) }
     ensures fails { IfErr result (λ fault. (h : List Step) → Stands session.old h → StepFails fault h (left R.remaining source.old.held input.old) (sent W.contents outbox.old output.old) (sent W.contents outbox.new output.new)) }
     ensures cause { IfErr result (λ e. HasStepCause e input.new outbox.new output.new) }

@@ -15,11 +15,13 @@ pieces-preserved g c =
     let moved : length c.take_piece.new.bytes.items + length c.take_piece.new.source.held ≡ length c.pieces.bytes.items + length old =
     omega (arith, ap length m.kept_is, ap length m.held_is, length-append c.pieces.bytes.items (take m.n old), length-take m.n old, length-drop m.n old, m.within) in
     record {
-      sound = c.in_ok-top_up.ensures.input;
-      output = c.in_ok-top_up.ensures.output;
+      ready = record {
+        used = λ z. absurd (omega (arith, z, c.take_piece.ensures.used));
+        reader = c.in_ok-top_up.ensures.input;
+        writer = c.in_ok-top_up.ensures.output;
+      };
       says = says_still _ _ _ c.pieces.invariant.says c.top_up.ensures.says;
       owed = c.top_up.ensures.owed ∙ c.pieces.invariant.owed;
-      used = λ z. absurd (omega (arith, z, c.take_piece.ensures.used));
       room = c.take_piece.ensures.room;
       short = omega (arith, c.take_piece.ensures.within);
       taken = subst (Consumes a z) (sym m.kept_is) (piece_taken a (left g.R.Read.remaining c.pieces.source.held c.pieces.input) z d c.pieces.bytes.items m.n old c.take_piece.new.source.held c.pieces.invariant.taken c.in_ok-top_up.ensures.bytes refl m.held_is);

@@ -1,16 +1,15 @@
 use Rattle.std.proofs.Common.{◌≡◌, ◌+◌, ◌-◌, ◌≤◌, [], length, vec_len, vec_capacity}
 use Rattle.std.specs.Io.KnownBytes.{Consumes}
-use Rattle.wlines.specs.Pending.{left, budget, IsSound, IsSoundWriter}
-use Rattle.wlines.specs.Sent.{IsUsed, Says, sent}
+use Rattle.wlines.specs.Failing.{IsReady}
+use Rattle.wlines.specs.Pending.{left, budget}
+use Rattle.wlines.specs.Sent.{Says, sent}
 use Rattle.wlines.proofs.reading.fill.Given as goal
 
 abbrev pub invariant-pieces : goal.invariant-pieces
 invariant-pieces g l = record {
-  sound : IsSound l.input;
-  output : IsSoundWriter l.output;
+  ready : IsReady l.source l.input l.output;
   says : Says (sent g.W.Write.contents l.initial.outbox l.initial.output) (sent g.W.Write.contents l.outbox l.output) [];
   owed : l.outbox.is_answered ≡ l.initial.outbox.is_answered;
-  used : IsUsed l.source;
   room : l.len ≤ vec_capacity l.bytes;
   short : length l.bytes.items ≤ l.len;
   taken : Consumes (left g.R.Read.remaining l.initial.source.held l.initial.input) (left g.R.Read.remaining l.source.held l.input) l.bytes.items;

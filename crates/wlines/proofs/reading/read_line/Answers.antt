@@ -16,9 +16,9 @@ bytes-preserved g c =
       lacks = line_lacks line new byte c.push.ensures c.bytes.invariant.lacks c.if-byte-eq10.false;
       short = omega (arith, longer, not_full c.is_full.result (length line) c.if-is_full.false c.is_full.ensures.1 c.bytes.invariant.short);
       consumed = line_consumed _ _ _ line new byte c.push.ensures c.bytes.invariant.consumed given;
-      sound = c.in_ok-next.ensures.input;
-      output = c.in_ok-next.ensures.output;
-      says = says_still _ _ _ c.bytes.invariant.says c.next.ensures.says;
+      sound = c.in_ok-next.ensures.leaves.ready.reader;
+      output = c.in_ok-next.ensures.leaves.ready.writer;
+      says = says_still _ _ _ c.bytes.invariant.says c.next.ensures.leaves.says;
       falls = omega (arith, longer, less, c.bytes.invariant.falls);
     }
 

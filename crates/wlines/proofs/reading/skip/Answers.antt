@@ -17,11 +17,13 @@ pieces-preserved g c =
     let within : n ≤ length old = omega (arith, ap length c.held.ensures) in
     let size : length (t.0 ++ take n old) ≡ c.pieces.count + n = omega (arith, t.2, length-append t.0 (take n old), length-take n old) in
     record {
-      sound = c.in_ok-top_up.ensures.input;
-      output = c.in_ok-top_up.ensures.output;
+      ready = record {
+        used = λ z. absurd (omega (arith, z, some, ap (λ b. b.taken) handed_is, ap length c.held.ensures));
+        reader = c.in_ok-top_up.ensures.input;
+        writer = c.in_ok-top_up.ensures.output;
+      };
       says = says_still _ _ _ c.pieces.invariant.says c.top_up.ensures.says;
       owed = c.top_up.ensures.owed ∙ c.pieces.invariant.owed;
-      used = λ z. absurd (omega (arith, z, some, ap (λ b. b.taken) handed_is, ap length c.held.ensures));
       short = omega arith;
       taken = (t.0 ++ take n old, piece_taken a (left g.R.Read.remaining c.pieces.source.held c.pieces.input) z d t.0 n old c.advance.new.self.held t.1 c.in_ok-top_up.ensures.bytes refl (ap (λ b. b.held) handed_is), size);
       falls = omega (arith, ap (λ b. length b.held) handed_is, length-drop n old, c.in_ok-top_up.ensures.falls, c.pieces.invariant.falls);

@@ -9,8 +9,8 @@ commands-preserved g c =
     let tells = rw c.in-Ok-None.field-0-is at c.in-Ok-None.ensures.tells in
     let answered = rw c.in-Ok-None.field-0-is at c.in-Ok-None.ensures.answered in
     record {
-      input = c.in-Ok-None.ensures.input;
-      output = c.in-Ok-None.ensures.output;
+      input = c.in-Ok-None.ensures.ready.reader;
+      output = c.in-Ok-None.ensures.ready.writer;
       answered = answered refl;
       so_far = one_step_more c.commands.session c.step.new.session (left g.R.Read.remaining c.args.source.now.held c.args.input.now)
           (left g.R.Read.remaining c.commands.source.held c.commands.input) (left g.R.Read.remaining c.step.new.source.held c.step.new.input)
