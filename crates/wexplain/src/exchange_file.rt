@@ -27,8 +27,8 @@ fn behind_head(bytes: &[u8]) -> Option<&[u8]> {
     bytes.strip_prefix(OLD_HEAD)
 }
 
-// Adds a name.
-fn push_name(alloc: Global, text: &mut String, name: &Name) -> Result<(), AllocError> {
+/// Adds a name.
+pub(crate) fn push_name(alloc: Global, text: &mut String, name: &Name) -> Result<(), AllocError> {
     push_bytes(alloc, text, name.origin())?;
     text.push(' ')?;
     push_number(text, u64::from(name.number()))
@@ -42,8 +42,8 @@ fn first_line(bytes: &[u8]) -> &[u8] {
     }
 }
 
-// Adds where the rest of some bytes begins, and the line there.
-fn push_at(alloc: Global, text: &mut String, bytes: &[u8], rest: &[u8]) -> Result<(), AllocError> {
+/// Adds where the rest of some bytes begins, and the line there.
+pub(crate) fn push_at(alloc: Global, text: &mut String, bytes: &[u8], rest: &[u8]) -> Result<(), AllocError> {
     text.push_str("at byte ")?;
     push_number(text, bytes.len().saturating_sub(rest.len()) as u64)?;
     text.push_str(" stands ")?;
@@ -99,8 +99,8 @@ fn is_behind(item: &Item<'_>, last: &Option<Name>) -> bool {
     }
 }
 
-// Whether a record has a segment that is refused.
-fn is_refused(alloc: Global, schema: &Schema, item: &Item<'_>) -> bool {
+/// Whether a record has a segment that is refused.
+pub(crate) fn is_refused(alloc: Global, schema: &Schema, item: &Item<'_>) -> bool {
     match &item.form {
         Form::Content(_, _) => Segment::read(alloc, schema, item.body).is_err(),
         _ => false,

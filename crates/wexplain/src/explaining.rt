@@ -2,11 +2,10 @@
 
 use crate::declaration::{explain_declaration, explain_name};
 use crate::exchange_file::explain_file;
-use crate::lines::{explained, push_file};
 use crate::query::explain_query;
 use crate::reply::{Refusal, refusal_of};
 use crate::segment::explain_segment;
-use crate::sentences::STREAM;
+use crate::stream::{explain_delivery, explain_stream};
 use std::alloc::{AllocError, Global};
 use wexchange::{FileFault, read};
 use wplanner::AskFault;
@@ -26,8 +25,10 @@ pub struct Given<'p, 't, 's, 'w, 'o> {
     pub table: Input<'p, 't>,
     /// The store, if there was one.
     pub store: Option<Input<'p, 's>>,
-    /// The segment, or the delivery stream.
+    /// The segment.
     pub segment: Option<Input<'w, 'o>>,
+    /// The delivery stream.
+    pub stream: Option<Input<'w, 'o>>,
     /// The other store.
     pub other: Option<Input<'w, 'o>>,
     /// The words of a name.
@@ -36,13 +37,17 @@ pub struct Given<'p, 't, 's, 'w, 'o> {
     pub query: &'w str,
 }
 
-// Explains the fault of a segment.
+// Explains the fault of a segment, or of the first segment of a stream that has one.
 fn told_segment(
     alloc: Global,
     schema: &Schema,
     given: &Given<'_, '_, '_, '_, '_>,
     fault: SegmentFault,
 ) -> Result<Option<String>, AllocError> {
+    if let Some(stream) = given.stream {
+        let text = explain_delivery(alloc, stream.path, schema, stream.bytes, fault)?;
+        return Ok(Some(text));
+    }
     let Some(segment) = given.segment else {
         return Ok(None);
     };
@@ -102,13 +107,13 @@ fn told_query(
 // Explains what is wrong in a stream.
 fn told_stream(
     alloc: Global,
+    schema: &Schema,
     given: &Given<'_, '_, '_, '_, '_>,
 ) -> Result<Option<String>, AllocError> {
-    let mut below = String::new(alloc);
-    if let Some(stream) = given.segment {
-        push_file(&mut below, stream.path, "")?;
-    }
-    let text = explained(alloc, STREAM, below.as_str())?;
+    let Some(stream) = given.stream else {
+        return Ok(None);
+    };
+    let text = explain_stream(alloc, stream.path, schema, stream.bytes)?;
     Ok(Some(text))
 }
 
@@ -123,7 +128,7 @@ fn told_by(
         Refusal::Segment(fault) => told_segment(alloc, schema, given, fault),
         Refusal::File(fault) => told_file(alloc, schema, given, fault),
         Refusal::Query(fault) => told_query(alloc, schema, given, fault),
-        Refusal::Stream => told_stream(alloc, given),
+        Refusal::Stream => told_stream(alloc, schema, given),
         _ => Ok(None),
     }
 }

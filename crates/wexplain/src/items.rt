@@ -3,6 +3,9 @@
 use wlines::split_word;
 use wvalues::{Name, number_word};
 
+/// The most bytes of a segment.
+const MOST_BYTES: u32 = 67_108_864;
+
 /// The most bytes of a line.
 const LONGEST_LINE: usize = 200;
 
@@ -111,5 +114,14 @@ pub(crate) fn cut_item(bytes: &[u8]) -> Result<Item<'_>, &[u8]> {
             body: b"",
             rest,
         }),
+    }
+}
+
+/// The name of the segment in front of some bytes, where they end inside it or before its line feed.
+pub(crate) fn cut_short(bytes: &[u8]) -> Option<Name> {
+    let (line, rest) = cut_line(bytes)?;
+    match form_of(line)? {
+        Form::Content(name, len) if len <= MOST_BYTES && rest.len() <= len as usize => Some(name),
+        _ => None,
     }
 }

@@ -1,4 +1,4 @@
-//! What is wrong where a declaration, a name, a segment, an exchange file or a query is refused, for a person.
+//! What is wrong where a declaration, a name, a segment, a delivery stream, an exchange file or a query is refused, for a person.
 //!
 //! - Gives the sentence of each refusal, and explanations of one to three lines: the sentence, and where it can be told the
 //!   place, as the line of a query with a caret below it, or the row, the field and the value.
@@ -26,6 +26,7 @@ mod scene;
 mod segment;
 mod sentences;
 mod shown;
+mod stream;
 
 pub use declaration::{explain_declaration, explain_name};
 pub use exchange_file::explain_file;
