@@ -2,6 +2,7 @@
 
 use crate::case::{Call, Case, NodeCall, SetCall};
 use crate::failure::Failure;
+use crate::orders::{lists_of, orders_text};
 use crate::replies::{
     DONE, acted_text, answer_text, file_fault_text, file_of, reply_text, taken_text,
 };
@@ -15,6 +16,7 @@ use wplanner::{execute, print};
 use wreplies::{Text, names, retired};
 use wset::{JoinError, SegmentSet};
 use wstore::Node;
+use wvalues::SortKey;
 
 /// What a call is lent that was made before it.
 #[derive(Drop)]
@@ -22,6 +24,7 @@ pub enum Lent {
     Nothing,
     Set(SegmentSet),
     Query(Sound),
+    Keys(Vec<Vec<SortKey>>),
 }
 
 fn join(set: &mut SegmentSet, lent: &Lent) -> Result<Text, AllocError> {
@@ -52,6 +55,13 @@ fn execute_query(alloc: Global, set: &mut SegmentSet, lent: &Lent) -> Result<Tex
     }
 }
 
+fn order_rows(alloc: Global, set: &mut SegmentSet, lent: &Lent) -> Result<Text, AllocError> {
+    let Lent::Keys(lists) = lent else {
+        return Ok(Text::Fixed(b"no keys\n"));
+    };
+    orders_text(alloc, set, lists)
+}
+
 fn call_set(
     alloc: Global,
     set: &mut SegmentSet,
@@ -72,6 +82,7 @@ fn call_set(
         SetCall::Write => Ok(Text::Made(file_of(alloc, set)?)),
         SetCall::Read => read_file(alloc, set, text.as_bytes()),
         SetCall::Execute => execute_query(alloc, set, lent),
+        SetCall::Ordered => order_rows(alloc, set, lent),
     }
 }
 
@@ -131,6 +142,7 @@ impl Lent {
         match case.call {
             Call::Set(SetCall::Join) => Ok(Lent::Set(set_of(alloc, schema, case.other)?)),
             Call::Set(SetCall::Execute) => Ok(Lent::Query(Sound::read(alloc, schema, case.text)?)),
+            Call::Set(SetCall::Ordered) => Ok(Lent::Keys(lists_of(alloc, case.text)?)),
             _ => Ok(Lent::Nothing),
         }
     }

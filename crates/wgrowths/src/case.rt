@@ -21,6 +21,8 @@ pub enum SetCall {
     Read,
     /// TEXT, as a query that is resolved before.
     Execute,
+    /// By each list of keys that TEXT spells, one after the other.
+    Ordered,
 }
 
 /// A call on a node.
@@ -84,7 +86,7 @@ pub struct Case<'a> {
     pub store: &'a str,
     /// What the delivery stream holds.
     pub stream: &'a str,
-    /// The content, piece, file or query that the call is lent; of `choose` and `act` the words, one a line.
+    /// The content, piece, file, query or lists of keys that the call is lent; of `choose` and `act` the words, one a line.
     pub text: &'a str,
     /// The bytes of the other file: a store that is joined, or those of CSV or OTHER.
     pub other: &'a str,
@@ -131,6 +133,7 @@ fn plain_call(word: &str) -> Result<Call, Failure> {
         "write" => Ok(Call::Set(SetCall::Write)),
         "read" => Ok(Call::Set(SetCall::Read)),
         "execute" => Ok(Call::Set(SetCall::Execute)),
+        "ordered" => Ok(Call::Set(SetCall::Ordered)),
         "node-list" => Ok(Call::Node(NodeCall::List)),
         "put" => Ok(Call::Node(NodeCall::Put)),
         "get" => Ok(Call::Node(NodeCall::Get)),

@@ -11,6 +11,7 @@
 mod calls;
 mod case;
 mod failure;
+mod orders;
 mod replies;
 mod state;
 mod windows;

@@ -19,8 +19,11 @@ use wsegment::Schema;
 use wset::{Listed, SegmentSet};
 use wstore::Node;
 
-/// The query that shows the rows.
+/// The query that shows the rows as they lie.
 const ALL: &[u8] = b"SELECT * FROM sales";
+
+/// The query that shows the rows in the order of the first column, by the runs that are kept.
+const SORTED: &[u8] = b"SELECT * FROM sales ORDER BY 1";
 
 /// More messages than the stream of a case has.
 const MESSAGES: usize = 100;
@@ -128,14 +131,16 @@ impl State {
     fn push_set(&mut self, alloc: Global, text: &mut Vec<u8>) -> Result<(), AllocError> {
         push_file(text, file_of(alloc, &self.set))?;
         push_list(alloc, text, self.set.list())?;
-        push_text(text, answer_text(alloc, ask(alloc, &mut self.set, ALL)))
+        push_text(text, answer_text(alloc, ask(alloc, &mut self.set, ALL)))?;
+        push_text(text, answer_text(alloc, ask(alloc, &mut self.set, SORTED)))
     }
 
     // Adds the file of the node, its list and its rows.
     fn push_node(&mut self, alloc: Global, text: &mut Vec<u8>) -> Result<(), AllocError> {
         push_file(text, self.node.put())?;
         push_list(alloc, text, self.node.list())?;
-        push_text(text, answer_text(alloc, self.node.ask(ALL)))
+        push_text(text, answer_text(alloc, self.node.ask(ALL)))?;
+        push_text(text, answer_text(alloc, self.node.ask(SORTED)))
     }
 
     // Adds what the node tells of each message that it holds.

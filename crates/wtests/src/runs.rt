@@ -57,9 +57,8 @@ fn has(set: &SegmentSet, i: usize, col: usize) -> bool {
 
 // Whether each live segment has the run of a column.
 fn all_have(set: &SegmentSet, col: usize) -> bool {
-    let keys = [by(col)];
     for i in 0..set.live_count() {
-        if !set.has_run(i, &keys) {
+        if !has(set, i, col) {
             return false;
         }
     }
