@@ -10,7 +10,7 @@ use Rattle.wsegment.specs.declared.schema_fault.SchemaFault.{SchemaFault}
 use Rattle.wsegment.specs.declared.schema_fault.SchemaFault.TheVariants as tables
 use Rattle.wsegment.proofs.SpellingFacts.{spells-one}
 use Rattle.wexchange.proofs.OneText.{same_front}
-use Rattle.wstore.specs.Commands.{Command, Declare, Take, Retire, RetireTo, Listing, Ask, Feed, Put, Get, IsForm, IsNumber, IsPieceLength, IsAllowed, IsCommand, line_of, form_of, behind, spell, pair_words}
+use Rattle.wstore.specs.Commands.{Command, Declare, Take, Retire, RetireTo, Listing, Ask, Feed, Put, Get, IsForm, IsNode, IsSlot, IsPieceLength, IsAllowed, IsCommand, line_of, form_of, behind, spell, pair_words}
 use Rattle.wstore.specs.Replies.{Reply, Declared, RefusedTable, Took, Was, RefusedName, RefusedSegment, Names, Answered, RefusedQuery, Fed, Done, RefusedFile, NoMemory}
 use Rattle.wstore.specs.History.{Step, Answers, AnswersUnder, DeclareAnswers, declaration, declared_by, is_declared}
 use Rattle.wstore.specs.Runs.{Ran, asked}
@@ -29,8 +29,11 @@ behind_two a b c d xs ys e = cc
 one_number : (m n : ℕ) → m < 2 ^ 32 → n < 2 ^ 32 → decimal m ≡ decimal n → m ≡ n
 one_number m n h k e = decimal_injective m n (omega (arith, h)) (omega (arith, k)) e
 
-number_fits : (n : ℕ) → IsNumber 16 n → n < 2 ^ 32
-number_fits n h = omega (arith, h.high)
+node_fits : (n : ℕ) → IsNode n → n < 2 ^ 32
+node_fits n h = omega (arith, h.high)
+
+slot_fits : (n : ℕ) → IsSlot n → n < 2 ^ 32
+slot_fits n h = omega (arith, h.high)
 
 piece_fits : (n : ℕ) → IsPieceLength n → n < 2 ^ 32
 piece_fits n h = omega (arith, h.fits)
@@ -77,7 +80,7 @@ one_command (Declare a) (Put i s) xs ys h k l r = absurd (omega (arith, first_by
 one_command (Declare a) (Get s i) xs ys h k l r = absurd (omega (arith, first_byte 84 71 _ _ l))
 one_command (Take n o m a) (Declare b) xs ys h k l r = absurd (omega (arith, first_byte 83 84 _ _ l))
 one_command (Take n o m a) (Take i p j b) xs ys h k l r =
-    let node = one_front n i _ _ (number_fits n h.0) (number_fits i k.0) (behind_two 83 32 83 32 _ _ l) in
+    let node = one_front n i _ _ (node_fits n h.0) (node_fits i k.0) (behind_two 83 32 83 32 _ _ l) in
     let origin = one_word o p _ _ h.1 k.1 node.1 in
     let number = one_word m j _ _ h.2 k.2 origin.1 in
     let body = one_body a b xs ys (one_number (length a) (length b) h.3.fits k.3.fits number.1) r in
@@ -92,7 +95,7 @@ one_command (Take n o m a) (Get s i) xs ys h k l r = absurd (omega (arith, first
 one_command (Retire n o m) (Declare b) xs ys h k l r = absurd (omega (arith, first_byte 82 84 _ _ l))
 one_command (Retire n o m) (Take i p j b) xs ys h k l r = absurd (omega (arith, first_byte 82 83 _ _ l))
 one_command (Retire n o m) (Retire i p j) xs ys h k l r =
-    let node = one_front n i _ _ (number_fits n h.0) (number_fits i k.0) (behind_two 82 32 82 32 _ _ l) in
+    let node = one_front n i _ _ (node_fits n h.0) (node_fits i k.0) (behind_two 82 32 82 32 _ _ l) in
     let origin = one_word o p _ _ h.1 k.1 node.1 in
     (λ t. Retire (node.0 t) (origin.0 t) (origin.1 t), r)
 one_command (Retire n o m) (RetireTo i p j) xs ys h k l r = absurd (omega (arith, first_byte 82 85 _ _ l))
@@ -105,7 +108,7 @@ one_command (RetireTo n o m) (Declare b) xs ys h k l r = absurd (omega (arith, f
 one_command (RetireTo n o m) (Take i p j b) xs ys h k l r = absurd (omega (arith, first_byte 85 83 _ _ l))
 one_command (RetireTo n o m) (Retire i p j) xs ys h k l r = absurd (omega (arith, first_byte 85 82 _ _ l))
 one_command (RetireTo n o m) (RetireTo i p j) xs ys h k l r =
-    let node = one_front n i _ _ (number_fits n h.0) (number_fits i k.0) (behind_two 85 32 85 32 _ _ l) in
+    let node = one_front n i _ _ (node_fits n h.0) (node_fits i k.0) (behind_two 85 32 85 32 _ _ l) in
     let origin = one_word o p _ _ h.1 k.1 node.1 in
     (λ t. RetireTo (node.0 t) (origin.0 t) (origin.1 t), r)
 one_command (RetireTo n o m) (Listing i) xs ys h k l r = absurd (omega (arith, first_byte 85 76 _ _ l))
@@ -118,7 +121,7 @@ one_command (Listing n) (Take i p j b) xs ys h k l r = absurd (omega (arith, fir
 one_command (Listing n) (Retire i p j) xs ys h k l r = absurd (omega (arith, first_byte 76 82 _ _ l))
 one_command (Listing n) (RetireTo i p j) xs ys h k l r = absurd (omega (arith, first_byte 76 85 _ _ l))
 one_command (Listing n) (Listing i) xs ys h k l r =
-    (ap (λ x. Listing x) (one_number n i (number_fits n h) (number_fits i k) (behind_two 76 32 76 32 _ _ l)), r)
+    (ap (λ x. Listing x) (one_number n i (node_fits n h) (node_fits i k) (behind_two 76 32 76 32 _ _ l)), r)
 one_command (Listing n) (Ask i b) xs ys h k l r = absurd (omega (arith, first_byte 76 81 _ _ l))
 one_command (Listing n) (Feed i b) xs ys h k l r = absurd (omega (arith, first_byte 76 70 _ _ l))
 one_command (Listing n) (Put i s) xs ys h k l r = absurd (omega (arith, first_byte 76 80 _ _ l))
@@ -129,7 +132,7 @@ one_command (Ask n a) (Retire i p j) xs ys h k l r = absurd (omega (arith, first
 one_command (Ask n a) (RetireTo i p j) xs ys h k l r = absurd (omega (arith, first_byte 81 85 _ _ l))
 one_command (Ask n a) (Listing i) xs ys h k l r = absurd (omega (arith, first_byte 81 76 _ _ l))
 one_command (Ask n a) (Ask i b) xs ys h k l r =
-    let pair = one_pair n (length a) i (length b) (number_fits n h.0) h.1.fits (number_fits i k.0) k.1.fits (behind_two 81 32 81 32 _ _ l) in
+    let pair = one_pair n (length a) i (length b) (node_fits n h.0) h.1.fits (node_fits i k.0) k.1.fits (behind_two 81 32 81 32 _ _ l) in
     let body = one_body a b xs ys pair.1 r in
     (λ t. Ask (pair.0 t) (body.0 t), body.1)
 one_command (Ask n a) (Feed i b) xs ys h k l r = absurd (omega (arith, first_byte 81 70 _ _ l))
@@ -142,7 +145,7 @@ one_command (Feed n a) (RetireTo i p j) xs ys h k l r = absurd (omega (arith, fi
 one_command (Feed n a) (Listing i) xs ys h k l r = absurd (omega (arith, first_byte 70 76 _ _ l))
 one_command (Feed n a) (Ask i b) xs ys h k l r = absurd (omega (arith, first_byte 70 81 _ _ l))
 one_command (Feed n a) (Feed i b) xs ys h k l r =
-    let pair = one_pair n (length a) i (length b) (number_fits n h.0) (piece_fits (length a) h.1) (number_fits i k.0) (piece_fits (length b) k.1) (behind_two 70 32 70 32 _ _ l) in
+    let pair = one_pair n (length a) i (length b) (node_fits n h.0) (piece_fits (length a) h.1) (node_fits i k.0) (piece_fits (length b) k.1) (behind_two 70 32 70 32 _ _ l) in
     let body = one_body a b xs ys pair.1 r in
     (λ t. Feed (pair.0 t) (body.0 t), body.1)
 one_command (Feed n a) (Put i s) xs ys h k l r = absurd (omega (arith, first_byte 70 80 _ _ l))
@@ -155,7 +158,7 @@ one_command (Put n q) (Listing i) xs ys h k l r = absurd (omega (arith, first_by
 one_command (Put n q) (Ask i b) xs ys h k l r = absurd (omega (arith, first_byte 80 81 _ _ l))
 one_command (Put n q) (Feed i b) xs ys h k l r = absurd (omega (arith, first_byte 80 70 _ _ l))
 one_command (Put n q) (Put i s) xs ys h k l r =
-    let pair = one_pair n q i s (number_fits n h.0) (number_fits q h.1) (number_fits i k.0) (number_fits s k.1) (behind_two 80 32 80 32 _ _ l) in
+    let pair = one_pair n q i s (node_fits n h.0) (slot_fits q h.1) (node_fits i k.0) (slot_fits s k.1) (behind_two 80 32 80 32 _ _ l) in
     (λ t. Put (pair.0 t) (pair.1 t), r)
 one_command (Put n q) (Get s i) xs ys h k l r = absurd (omega (arith, first_byte 80 71 _ _ l))
 one_command (Get q n) (Declare b) xs ys h k l r = absurd (omega (arith, first_byte 71 84 _ _ l))
@@ -167,7 +170,7 @@ one_command (Get q n) (Ask i b) xs ys h k l r = absurd (omega (arith, first_byte
 one_command (Get q n) (Feed i b) xs ys h k l r = absurd (omega (arith, first_byte 71 70 _ _ l))
 one_command (Get q n) (Put i s) xs ys h k l r = absurd (omega (arith, first_byte 71 80 _ _ l))
 one_command (Get q n) (Get s i) xs ys h k l r =
-    let pair = one_pair q n s i (number_fits q h.0) (number_fits n h.1) (number_fits s k.0) (number_fits i k.1) (behind_two 71 32 71 32 _ _ l) in
+    let pair = one_pair q n s i (slot_fits q h.0) (node_fits n h.1) (slot_fits s k.0) (node_fits i k.1) (behind_two 71 32 71 32 _ _ l) in
     (λ t. Get (pair.0 t) (pair.1 t), r)
 
 spell_front : (d : Bool) (c e : Command) (xs ys : List ℕ) → IsCommand d c → IsCommand d e → spell c ++ xs ≡ spell e ++ ys → (c ≡ e) × (xs ≡ ys)

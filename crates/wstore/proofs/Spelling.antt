@@ -5,7 +5,7 @@ use Rattle.std.specs.Io.KnownBytes.{Consumes}
 use Rattle.std.proofs.KnownBytes.{Consumes-trans}
 use Rattle.wlines.specs.Words.{Lacks}
 use Rattle.wlines.specs.Reads.{HasNoLine}
-use Rattle.wstore.specs.Commands.{Form, DeclareForm, TakeForm, RetireForm, FloorForm, ListForm, AskForm, FeedForm, PutForm, GetForm, IsForm, IsNumber, Command, IsMalformed, IsShortDeclaration, line_of, form_of, behind, longest_line, spell}
+use Rattle.wstore.specs.Commands.{Form, DeclareForm, TakeForm, RetireForm, FloorForm, ListForm, AskForm, FeedForm, PutForm, GetForm, IsForm, IsNode, IsSlot, Command, IsMalformed, IsShortDeclaration, line_of, form_of, behind, longest_line, spell}
 use Rattle.wstore.specs.Headers.{IsHeaderOf}
 use Rattle.wstore.specs.Requests.{IsCommandOf, IsBadBehind, KeepsBody, Behind, BehindReads, ReadsCommand, RequestReads}
 use Rattle.wstore.specs.declared.header.Header.{Header}
@@ -26,21 +26,24 @@ spaced word rest k l = Lacks-append 10 word (32 ∷ rest) k (λ e. omega (arith,
 begun : (letter : ℕ) (rest : List ℕ) → letter ≢ 10 → Lacks 10 rest → Lacks 10 (letter ∷ 32 ∷ rest)
 begun letter rest ne k = (ne, ((λ e. omega (arith, e)), k))
 
-number_lacks : (n : ℕ) → IsNumber 16 n → Lacks 10 (decimal n)
-number_lacks n h = no_feed n (omega (arith, h.high))
+node_lacks : (n : ℕ) → IsNode n → Lacks 10 (decimal n)
+node_lacks n h = no_feed n (omega (arith, h.high))
+
+slot_lacks : (n : ℕ) → IsSlot n → Lacks 10 (decimal n)
+slot_lacks n h = no_feed n (omega (arith, h.high))
 
 -- a header line has no line feed in it
 pub line_lacks : (f : Form) → IsForm f → Lacks 10 (line_of f)
 line_lacks (DeclareForm len) h = begun 84 _ (λ e. omega (arith, e)) (no_feed len h.fits)
 line_lacks (TakeForm node origin number len) h =
-    begun 83 _ (λ e. omega (arith, e)) (spaced (decimal node) _ (number_lacks node h.0) (spaced origin _ h.1.no_lf (spaced number _ h.2.no_lf (no_feed len h.3.fits))))
-line_lacks (RetireForm node origin number) h = begun 82 _ (λ e. omega (arith, e)) (spaced (decimal node) _ (number_lacks node h.0) (spaced origin _ h.1.no_lf h.2.no_lf))
-line_lacks (FloorForm node origin number) h = begun 85 _ (λ e. omega (arith, e)) (spaced (decimal node) _ (number_lacks node h.0) (spaced origin _ h.1.no_lf h.2.no_lf))
-line_lacks (ListForm node) h = begun 76 _ (λ e. omega (arith, e)) (number_lacks node h)
-line_lacks (AskForm node len) h = begun 81 _ (λ e. omega (arith, e)) (spaced (decimal node) _ (number_lacks node h.0) (no_feed len h.1.fits))
-line_lacks (FeedForm node len) h = begun 70 _ (λ e. omega (arith, e)) (spaced (decimal node) _ (number_lacks node h.0) (no_feed len (omega (arith, h.1.fits))))
-line_lacks (PutForm node slot) h = begun 80 _ (λ e. omega (arith, e)) (spaced (decimal node) _ (number_lacks node h.0) (number_lacks slot h.1))
-line_lacks (GetForm slot node) h = begun 71 _ (λ e. omega (arith, e)) (spaced (decimal slot) _ (number_lacks slot h.0) (number_lacks node h.1))
+    begun 83 _ (λ e. omega (arith, e)) (spaced (decimal node) _ (node_lacks node h.0) (spaced origin _ h.1.no_lf (spaced number _ h.2.no_lf (no_feed len h.3.fits))))
+line_lacks (RetireForm node origin number) h = begun 82 _ (λ e. omega (arith, e)) (spaced (decimal node) _ (node_lacks node h.0) (spaced origin _ h.1.no_lf h.2.no_lf))
+line_lacks (FloorForm node origin number) h = begun 85 _ (λ e. omega (arith, e)) (spaced (decimal node) _ (node_lacks node h.0) (spaced origin _ h.1.no_lf h.2.no_lf))
+line_lacks (ListForm node) h = begun 76 _ (λ e. omega (arith, e)) (node_lacks node h)
+line_lacks (AskForm node len) h = begun 81 _ (λ e. omega (arith, e)) (spaced (decimal node) _ (node_lacks node h.0) (no_feed len h.1.fits))
+line_lacks (FeedForm node len) h = begun 70 _ (λ e. omega (arith, e)) (spaced (decimal node) _ (node_lacks node h.0) (no_feed len (omega (arith, h.1.fits))))
+line_lacks (PutForm node slot) h = begun 80 _ (λ e. omega (arith, e)) (spaced (decimal node) _ (node_lacks node h.0) (slot_lacks slot h.1))
+line_lacks (GetForm slot node) h = begun 71 _ (λ e. omega (arith, e)) (spaced (decimal slot) _ (slot_lacks slot h.0) (node_lacks node h.1))
 
 -- there is one way to cut at the first such byte
 cut_once : (c : ℕ) (a a' b b' : List ℕ) → Lacks c a → Lacks c a' → a ++ (c ∷ b) ≡ a' ++ (c ∷ b') → (a ≡ a') × (b ≡ b')

@@ -82,16 +82,13 @@ line_of (FeedForm node len) = 70 ∷ 32 ∷ pair_words node len
 line_of (PutForm node slot) = 80 ∷ 32 ∷ pair_words node slot
 line_of (GetForm slot node) = 71 ∷ 32 ∷ pair_words slot node
 
--- the number of one of so many things, from 1
-pub record IsNumber (count number : ℕ) : Type 0 where
-  pub low : 0 < number
-  pub high : number ≤ count
+pub record IsNode (node : ℕ) : Type 0 where
+  pub low : 0 < node
+  pub high : node ≤ node_count
 
-abbrev pub IsNode : ℕ → Type 0
-IsNode node = IsNumber node_count node
-
-abbrev pub IsSlot : ℕ → Type 0
-IsSlot slot = IsNumber slot_count slot
+pub record IsSlot (slot : ℕ) : Type 0 where
+  pub low : 0 < slot
+  pub high : slot ≤ slot_count
 
 -- the length of a body has 32 bits
 pub record IsLength (len : ℕ) : Type 0 where

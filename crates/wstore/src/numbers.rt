@@ -1,6 +1,6 @@
 //! The numbers of nodes and slots.
 ghost use Rattle.std.specs.Prelude.{◌≡◌, ◌+◌, ◌<◌, ◌↔◌, IsSome, IfSome};
-ghost use Rattle.wstore.specs.Commands.{IsNumber};
+ghost use Rattle.wstore.specs.Commands.{IsNode, IsSlot, node_count, slot_count};
 
 use std::marker::Model;
 
@@ -11,21 +11,15 @@ pub(crate) const NODES: u32 = 16;
 pub(crate) const SLOTS: u32 = 16;
 
 /// The number of a node, from 1.
-pub(crate) type NodeNumber = Number<NODES>;
-
-/// The number of a slot, from 1.
-pub(crate) type SlotNumber = Number<SLOTS>;
-
-/// The number of one of so many things, from 1.
 #[derive(Clone, Copy, Debug)]
-pub(crate) struct Number<const COUNT: u32> {
+pub(crate) struct NodeNumber {
     number: u32,
 }
 
-impl<const COUNT: u32> Model for Number<COUNT> {
+impl Model for NodeNumber {
     ghost use Rattle.std.specs.Prelude.{ℕ};
     ghost use Rattle.std.specs.Coded.{coded_ℕ};
-    ghost use Rattle.wstore.specs.Commands.{IsNumber};
+    ghost use Rattle.wstore.specs.Commands.{IsNode};
 
     ghost Value = { ℕ };
 
@@ -33,28 +27,72 @@ impl<const COUNT: u32> Model for Number<COUNT> {
 
     ghost view = { λ n. n.number };
 
-    ghost invariant = { λ n. IsNumber COUNT n.number };
+    ghost invariant = { λ n. IsNode n.number };
 
     ghost inverse = { λ n. record { number = n } };
 }
 
-impl<const COUNT: u32> Number<COUNT> {
-    /// The one of this number, if there is one.
-    pub(crate) fn new(number: u32) -> Option<Self>
-        ensures found { IsSome result ↔ IsNumber COUNT number }
-        ensures value { IfSome result (λ it. it ≡ number) }
+impl NodeNumber {
+    /// The node of this number, if there is one.
+    pub(crate) fn new(number: u32) -> Option<NodeNumber>
+        ensures found { IsSome result ↔ IsNode number }
+        ensures value { IfSome result (λ node. node ≡ number) }
     {
-        if 0 < number && number <= COUNT {
-            Some(Number { number })
+        if 0 < number && number <= NODES {
+            Some(NodeNumber { number })
         } else {
             None
         }
     }
 
-    /// Its place among them, from 0.
+    /// Its place among the nodes, from 0.
     pub(crate) fn place(self) -> usize
-        ensures place { result + 1 ≡ self.entry }
-        ensures in_range { result < COUNT }
+        ensures place { result + 1 ≡ self }
+        ensures in_range { result < node_count }
+    {
+        (self.number - 1) as usize
+    }
+}
+
+/// The number of a slot, from 1.
+#[derive(Clone, Copy, Debug)]
+pub(crate) struct SlotNumber {
+    number: u32,
+}
+
+impl Model for SlotNumber {
+    ghost use Rattle.std.specs.Prelude.{ℕ};
+    ghost use Rattle.std.specs.Coded.{coded_ℕ};
+    ghost use Rattle.wstore.specs.Commands.{IsSlot};
+
+    ghost Value = { ℕ };
+
+    ghost coded = { coded_ℕ };
+
+    ghost view = { λ n. n.number };
+
+    ghost invariant = { λ n. IsSlot n.number };
+
+    ghost inverse = { λ n. record { number = n } };
+}
+
+impl SlotNumber {
+    /// The slot of this number, if there is one.
+    pub(crate) fn new(number: u32) -> Option<SlotNumber>
+        ensures found { IsSome result ↔ IsSlot number }
+        ensures value { IfSome result (λ slot. slot ≡ number) }
+    {
+        if 0 < number && number <= SLOTS {
+            Some(SlotNumber { number })
+        } else {
+            None
+        }
+    }
+
+    /// Its place among the slots, from 0.
+    pub(crate) fn place(self) -> usize
+        ensures place { result + 1 ≡ self }
+        ensures in_range { result < slot_count }
     {
         (self.number - 1) as usize
     }
