@@ -7,10 +7,10 @@ use crate::items::{Form, Item, cut_item};
 use crate::lines::{explained, push_file, push_sentence};
 use crate::segment::{push_length, push_segment_place};
 use crate::sentences::{file_sentence, segment_sentence};
-use crate::shown::{push_bytes, push_number, push_value};
 use std::alloc::{AllocError, Global};
 use wexchange::FileFault;
 use wsegment::{Schema, Segment};
+use wshown::{push_bytes, push_number, push_value};
 use wvalues::Name;
 
 /// The first line of version 1.
