@@ -1,4 +1,4 @@
--- What an explanation begins with.
+-- What an explanation begins with, and when there is one.
 use Rattle.std.specs.Prelude.{◌≡◌, ℕ, ◌++◌, ◌∷◌, [], List, codes}
 use Rattle.wexplain.specs.declared.sentences.Sentence.{Sentence}
 
@@ -9,3 +9,7 @@ sentence_line sentence = sentence.label.now ++ (codes ": " ++ (sentence.words.no
 -- a text begins with a label
 abbrev pub IsLabelled : List ℕ → List ℕ → Type 0
 IsLabelled label text = (behind : List ℕ) × (text ≡ label ++ behind)
+
+-- a reply tells a refusal
+abbrev pub IsRefusal : List ℕ → Type 0
+IsRefusal reply = (rest : List ℕ) × (reply ≡ codes "refused " ++ rest)

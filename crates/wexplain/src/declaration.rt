@@ -6,11 +6,11 @@ ghost use Rattle.wexplain.specs.Labels.{name_label, table_label};
 use crate::lines::{explained, push_file};
 use crate::segment::push_length;
 use crate::sentences::{name_sentence, table_sentence};
-use crate::shown::{push_number, push_value};
 use std::alloc::{AllocError, Global};
 use std::collections::BTreeSet;
 use wlines::split_word;
 use wsegment::SchemaFault;
+use wshown::{push_number, push_value};
 use wvalues::NameFault;
 
 /// The most bytes of a declaration.

@@ -7,10 +7,10 @@ use crate::items::{Form, Item, cut_item};
 use crate::lines::{explained, push_file, push_sentence};
 use crate::segment::{push_length, push_segment_place};
 use crate::sentences::{file_sentence, segment_sentence};
-use crate::shown::{push_bytes, push_number, push_value};
 use std::alloc::{AllocError, Global};
 use wexchange::FileFault;
 use wsegment::{Schema, Segment};
+use wshown::{push_bytes, push_number, push_value};
 use wvalues::Name;
 
 /// The first line of version 1.
@@ -43,7 +43,12 @@ fn first_line(bytes: &[u8]) -> &[u8] {
 }
 
 /// Adds where the rest of some bytes begins, and the line there.
-pub(crate) fn push_at(alloc: Global, text: &mut String, bytes: &[u8], rest: &[u8]) -> Result<(), AllocError> {
+pub(crate) fn push_at(
+    alloc: Global,
+    text: &mut String,
+    bytes: &[u8],
+    rest: &[u8],
+) -> Result<(), AllocError> {
     text.push_str("at byte ")?;
     push_number(text, bytes.len().saturating_sub(rest.len()) as u64)?;
     text.push_str(" stands ")?;

@@ -1,4 +1,6 @@
 //! Why a subcommand was refused.
+ghost use Rattle.std.specs.Prelude.{IfOk, IfSome};
+ghost use Rattle.wexplain.specs.Explanations.{IsRefusal};
 
 use crate::declaration::{explain_declaration, explain_name};
 use crate::exchange_file::explain_file;
@@ -8,18 +10,17 @@ use crate::segment::explain_segment;
 use crate::stream::{explain_delivery, explain_stream};
 use std::alloc::{AllocError, Global};
 use wexchange::{FileFault, read};
-use wplanner::AskFault;
 use wsegment::{Schema, SegmentFault};
 
 /// A file, as it was read, and what it is called.
-#[derive(Clone, Copy, Debug)]
+#[derive(Clone, Copy)]
 pub struct Input<'p, 'b> {
     pub path: &'p str,
     pub bytes: &'b [u8],
 }
 
 /// What a subcommand was given.
-#[derive(Clone, Copy, Debug)]
+#[derive(Clone, Copy)]
 pub struct Given<'p, 't, 's, 'w, 'o> {
     /// The declaration of the table.
     pub table: Input<'p, 't>,
@@ -37,42 +38,12 @@ pub struct Given<'p, 't, 's, 'w, 'o> {
     pub query: &'w str,
 }
 
-// Explains the fault of a segment, or of the first segment of a stream that has one.
-fn told_segment(
-    alloc: Global,
-    schema: &Schema,
-    given: &Given<'_, '_, '_, '_, '_>,
-    fault: SegmentFault,
-) -> Result<Option<String>, AllocError> {
-    if let Some(stream) = given.stream {
-        let text = explain_delivery(alloc, stream.path, schema, stream.bytes, fault)?;
-        return Ok(Some(text));
-    }
-    let Some(segment) = given.segment else {
-        return Ok(None);
-    };
-    let text = explain_segment(alloc, segment.path, schema, segment.bytes, fault)?;
-    Ok(Some(text))
-}
-
 // Whether a store can be read.
 fn is_whole(alloc: Global, schema: &Schema, store: &Option<Input<'_, '_>>) -> bool {
     match store {
         Some(store) => read(alloc, schema, store.bytes).is_ok(),
         None => true,
     }
-}
-
-// Explains the fault of an exchange file.
-fn told_at(
-    alloc: Global,
-    path: &str,
-    schema: &Schema,
-    bytes: &[u8],
-    fault: FileFault,
-) -> Result<Option<String>, AllocError> {
-    let text = explain_file(alloc, path, schema, bytes, fault)?;
-    Ok(Some(text))
 }
 
 // Explains the fault of a store, which is judged first, or of the other one.
@@ -85,23 +56,30 @@ fn told_file(
     if let Some(other) = given.other
         && is_whole(alloc, schema, &given.store)
     {
-        return told_at(alloc, other.path, schema, other.bytes, fault);
+        return explain_file(alloc, other.path, schema, other.bytes, fault).map(Some);
     }
     match given.store {
-        Some(store) => told_at(alloc, store.path, schema, store.bytes, fault),
+        Some(store) => explain_file(alloc, store.path, schema, store.bytes, fault).map(Some),
         None => Ok(None),
     }
 }
 
-// Explains the fault of a query.
-fn told_query(
+// Explains the fault of a segment, or of the first segment of a stream that has one.
+fn told_segment(
     alloc: Global,
     schema: &Schema,
     given: &Given<'_, '_, '_, '_, '_>,
-    fault: AskFault,
+    fault: SegmentFault,
 ) -> Result<Option<String>, AllocError> {
-    let text = explain_query(alloc, schema, given.query.as_bytes(), fault)?;
-    Ok(Some(text))
+    if let Some(stream) = given.stream {
+        return explain_delivery(alloc, stream.path, schema, stream.bytes, fault).map(Some);
+    }
+    match given.segment {
+        Some(segment) => explain_segment(alloc, segment.path, schema, segment.bytes, fault).map(
+            Some,
+        ),
+        None => Ok(None),
+    }
 }
 
 // Explains what is wrong in a stream.
@@ -113,8 +91,7 @@ fn told_stream(
     let Some(stream) = given.stream else {
         return Ok(None);
     };
-    let text = explain_stream(alloc, stream.path, schema, stream.bytes)?;
-    Ok(Some(text))
+    explain_stream(alloc, stream.path, schema, stream.bytes).map(Some)
 }
 
 // Explains a refusal below a declaration that was read.
@@ -127,7 +104,9 @@ fn told_by(
     match refusal {
         Refusal::Segment(fault) => told_segment(alloc, schema, given, fault),
         Refusal::File(fault) => told_file(alloc, schema, given, fault),
-        Refusal::Query(fault) => told_query(alloc, schema, given, fault),
+        Refusal::Query(fault) => {
+            explain_query(alloc, schema, given.query.as_bytes(), fault).map(Some)
+        }
         Refusal::Stream => told_stream(alloc, schema, given),
         _ => Ok(None),
     }
@@ -145,26 +124,35 @@ fn told_below(
     }
 }
 
+// Explains a refusal.
+fn told(
+    alloc: Global,
+    refusal: Refusal,
+    given: &Given<'_, '_, '_, '_, '_>,
+) -> Result<Option<String>, AllocError> {
+    match refusal {
+        Refusal::Declaration(fault) => {
+            let table = given.table;
+            explain_declaration(alloc, table.path, table.bytes, fault).map(Some)
+        }
+        Refusal::Name(fault) => {
+            let origin = given.origin.as_bytes();
+            explain_name(alloc, origin, given.number.as_bytes(), fault).map(Some)
+        }
+        _ => told_below(alloc, given, refusal),
+    }
+}
+
 /// Why a subcommand was refused that was given this and printed that. Nothing where it was not refused.
 pub fn explain(
     alloc: Global,
     reply: &[u8],
     given: &Given<'_, '_, '_, '_, '_>,
-) -> Result<Option<String>, AllocError> {
-    let Some(refusal) = refusal_of(reply) else {
-        return Ok(None);
-    };
-    match refusal {
-        Refusal::Declaration(fault) => {
-            let table = given.table;
-            let text = explain_declaration(alloc, table.path, table.bytes, fault)?;
-            Ok(Some(text))
-        }
-        Refusal::Name(fault) => {
-            let origin = given.origin.as_bytes();
-            let text = explain_name(alloc, origin, given.number.as_bytes(), fault)?;
-            Ok(Some(text))
-        }
-        _ => told_below(alloc, given, refusal),
+) -> Result<Option<String>, AllocError>
+    ensures { IfOk result (λ answer. IfSome answer (λ _. IsRefusal reply.now)) }
+{
+    match refusal_of(reply) {
+        Some(refusal) => told(alloc, refusal, given),
+        None => Ok(None),
     }
 }

@@ -10,7 +10,7 @@ const MOST_BYTES: u32 = 67_108_864;
 const LONGEST_LINE: usize = 200;
 
 /// What a line says.
-#[derive(Clone, Copy, Debug)]
+#[derive(Clone, Copy)]
 pub(crate) enum Form {
     /// The declaration of the table has this many bytes.
     Table(u32),
@@ -25,7 +25,7 @@ pub(crate) enum Form {
 }
 
 /// A line with its body, which has no bytes where the line has none.
-#[derive(Clone, Copy, Debug)]
+#[derive(Clone, Copy)]
 pub(crate) struct Item<'a> {
     pub(crate) form: Form,
     pub(crate) body: &'a [u8],

@@ -3,29 +3,23 @@
 //! - Gives the sentence of each refusal, and explanations of one to three lines: the sentence, and where it can be told the
 //!   place, as the line of a query with a caret below it, or the row, the field and the value.
 //! - Promises: an explanation begins with what the refusal of its fault is called, that of a query which breaks a rule of
-//!   resolution aside. The words behind it and the places are tested, and not proved. Of what a user gave no control character
-//!   is shown as it is, and 60 characters of a value at most, which is tested too.
+//!   resolution aside, and there is none where nothing was refused. The words behind it and the places are tested, and not proved.
 //! - Asks: the fault that the same bytes were refused with; with another one it tells less, or a place that is none.
-//! - Leaves judging to the crates that refuse. It reads the bytes again, in time in proportion to them.
+//! - Leaves judging to the crates that refuse, places in a query to `wspots`, and how values are shown to `wshown`. It reads
+//!   the bytes again, in time in proportion to them.
 //!
-//! Read `specs/Labels.antt` and `specs/Explanations.antt`, then `src/sentences.rt` and `src/grammar.rt`.
+//! Read `specs/Labels.antt` and `specs/Explanations.antt`, then `src/sentences.rt` and `src/explaining.rt`.
 #![tactic(auto)]
 
 mod declaration;
 mod exchange_file;
 mod explaining;
-mod following;
-mod grammar;
 mod items;
 mod lines;
-mod names;
-mod outputs;
 mod query;
 mod reply;
-mod scene;
 mod segment;
 mod sentences;
-mod shown;
 mod stream;
 
 pub use declaration::{explain_declaration, explain_name};

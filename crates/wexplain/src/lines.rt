@@ -3,8 +3,8 @@ ghost use Rattle.std.specs.Prelude.{◌≡◌, ◌++◌, IfOk, OnOk, string_byte
 ghost use Rattle.wexplain.specs.Explanations.{IsLabelled, sentence_line};
 
 use crate::sentences::Sentence;
-use crate::shown::push_text;
 use std::alloc::{AllocError, Global};
+use wshown::push_text;
 
 /// Adds the line of a sentence.
 pub(crate) fn push_sentence(text: &mut String, sentence: Sentence) -> Result<(), AllocError>

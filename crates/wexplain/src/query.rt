@@ -3,105 +3,15 @@ ghost use Rattle.std.specs.Prelude.{ℕ, List, IfOk, string_bytes};
 ghost use Rattle.wexplain.specs.Explanations.{IsLabelled};
 ghost use Rattle.wexplain.specs.Labels.{HasQueryLabel};
 
-use crate::following::{Stop, follow};
 use crate::lines::explained;
-use crate::names::{Spot, find_name};
-use crate::scene::Written;
 use crate::segment::push_length;
 use crate::sentences::query_sentence;
-use crate::shown::{push_number, push_place};
 use std::alloc::{AllocError, Global};
-use wlexer::{Lexeme, Token, lex};
-use wparser::parse;
+use wlexer::lex;
 use wplanner::AskFault;
 use wsegment::Schema;
-
-// What is told of a token that cannot stand where it does.
-fn note_of(token: &Token) -> &'static str {
-    match &token.lexeme {
-        Lexeme::Keyword(_) => "a keyword: as a name it stands in double quotes",
-        _ => "",
-    }
-}
-
-// Where the last token ends.
-fn end_of(tokens: &[Token]) -> usize {
-    match tokens.last() {
-        Some(token) => token.to,
-        None => 0,
-    }
-}
-
-// Adds the place of a token, or the end.
-fn push_token(
-    alloc: Global,
-    text: &mut String,
-    query: &[u8],
-    tokens: &[Token],
-    number: usize,
-) -> Result<(), AllocError> {
-    match tokens.get(number) {
-        Some(token) => push_place(alloc, text, query, token.from, note_of(token)),
-        None => push_place(alloc, text, query, end_of(tokens), "the query ends here"),
-    }
-}
-
-// Adds the first token that cannot go on.
-fn push_stop(
-    alloc: Global,
-    text: &mut String,
-    query: &[u8],
-    tokens: &[Token],
-) -> Result<(), AllocError> {
-    let followed = follow(alloc, tokens)?;
-    match followed.stop {
-        Stop::Nowhere => Ok(()),
-        Stop::At(number) => push_token(alloc, text, query, tokens, number),
-        Stop::TooDeep(number) => match tokens.get(number) {
-            Some(token) => push_place(alloc, text, query, token.from, "nested over 64 deep"),
-            None => Ok(()),
-        },
-    }
-}
-
-// Adds the place of a name that breaks a rule.
-fn push_spot(
-    alloc: Global,
-    text: &mut String,
-    query: &[u8],
-    tokens: &[Token],
-    spot: &Spot,
-) -> Result<(), AllocError> {
-    match tokens.get(spot.token) {
-        Some(token) => push_place(alloc, text, query, token.from, spot.note.as_str()),
-        None => Ok(()),
-    }
-}
-
-// Adds the place where a rule is broken, where a name tells it.
-fn push_broken(
-    alloc: Global,
-    text: &mut String,
-    schema: &Schema,
-    query: &[u8],
-    tokens: &[Token],
-    rule: u8,
-) -> Result<(), AllocError> {
-    let Ok(parsed) = parse(alloc, tokens) else {
-        return Ok(());
-    };
-    let followed = follow(alloc, tokens)?;
-    let written = Written {
-        schema,
-        tokens,
-        marks: followed.marks.as_slice(),
-    };
-    let found = find_name(alloc, written, &parsed, rule)?;
-    match found {
-        Some(spot) => push_spot(alloc, text, query, tokens, &spot),
-        None => Ok(()),
-    }
-}
+use wshown::{push_number, push_place};
+use wspots::{push_breach, push_stop};
 
 // Adds where the tokens of a query have this fault.
 fn push_in_tokens(
@@ -117,7 +27,7 @@ fn push_in_tokens(
     match fault {
         AskFault::Syntax => push_stop(alloc, text, query, tokens.as_slice()),
         AskFault::Broken { rule } => {
-            push_broken(alloc, text, schema, query, tokens.as_slice(), rule)
+            push_breach(alloc, text, schema, query, tokens.as_slice(), rule)
         }
         _ => Ok(()),
     }

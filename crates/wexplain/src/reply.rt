@@ -1,4 +1,6 @@
 //! From what a refused subcommand has printed to what is wrong.
+ghost use Rattle.std.specs.Prelude.{IfSome};
+ghost use Rattle.wexplain.specs.Explanations.{IsRefusal};
 
 use wexchange::FileFault;
 use wlines::split_word;
@@ -7,7 +9,7 @@ use wsegment::{SchemaFault, SegmentFault};
 use wvalues::{NameFault, number_word};
 
 /// A refusal, as it was printed.
-#[derive(Clone, Copy, Debug)]
+#[derive(Clone, Copy)]
 pub(crate) enum Refusal {
     Declaration(SchemaFault),
     Name(NameFault),
@@ -115,9 +117,9 @@ fn name_fault(words: &[u8]) -> Option<NameFault> {
     }
 }
 
-/// The refusal that a reply tells, if it tells one.
-pub(crate) fn refusal_of(reply: &[u8]) -> Option<Refusal> {
-    let words = reply.strip_prefix(b"refused ")?.strip_suffix(b"\n")?;
+// What is refused in a line.
+fn refused(line: &[u8]) -> Option<Refusal> {
+    let words = line.strip_suffix(b"\n")?;
     match words.first()? {
         b'T' => table_fault(words).map(Refusal::Declaration),
         b'N' => name_fault(words).map(Refusal::Name),
@@ -126,5 +128,15 @@ pub(crate) fn refusal_of(reply: &[u8]) -> Option<Refusal> {
         b'Q' => query_fault(words).map(Refusal::Query),
         b'B' => Some(Refusal::Stream),
         _ => None,
+    }
+}
+
+/// The refusal that a reply tells, if it tells one.
+pub(crate) fn refusal_of(reply: &[u8]) -> Option<Refusal>
+    ensures { IfSome result (λ _. IsRefusal reply.now) }
+{
+    match reply.strip_prefix(b"refused ") {
+        Some(line) => refused(line),
+        None => None,
     }
 }

@@ -5,10 +5,10 @@ ghost use Rattle.wexplain.specs.Labels.{segment_label};
 
 use crate::lines::{explained, push_file};
 use crate::sentences::segment_sentence;
-use crate::shown::{push_bytes, push_number, push_value};
 use csv::{ByteRecord, Reader, ReaderBuilder};
 use std::alloc::{AllocError, Global};
 use wsegment::{Kind, Schema, SegmentFault};
+use wshown::{push_bytes, push_number, push_value};
 
 // Takes the next record, and says whether there was one.
 fn take_record(reader: &mut Reader<&[u8]>, record: &mut ByteRecord) -> bool {

@@ -8,7 +8,7 @@ use wsegment::{SchemaFault, SegmentFault};
 use wvalues::NameFault;
 
 /// What a refusal is called, and what it says in words of SQL or of the formats.
-#[derive(Clone, Copy, Debug, PartialEq, Eq)]
+#[derive(Clone, Copy)]
 pub struct Sentence {
     /// The letter and the number that a refusal prints.
     pub label: &'static str,

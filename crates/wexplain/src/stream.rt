@@ -8,9 +8,9 @@ use crate::items::{Form, Item, cut_item, cut_short};
 use crate::lines::{explained, push_file};
 use crate::segment::push_segment_place;
 use crate::sentences::{STREAM, segment_sentence};
-use crate::shown::push_number;
 use std::alloc::{AllocError, Global};
 use wsegment::{Schema, SegmentFault};
+use wshown::push_number;
 use wvalues::Name;
 
 /// The rest of a stream behind some messages.

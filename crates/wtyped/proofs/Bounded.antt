@@ -16,12 +16,11 @@ use Rattle.wscope.specs.Scope.{some_anywhere}
 use Rattle.wscope.specs.Sources.{origin_of, written_out}
 use Rattle.wscope.specs.Types.{Titled}
 use Rattle.wscope.specs.Windows.{NamedWindow, Settled, keys_or, or_none, settle, settle_all, settle_tree, window_named}
-use Rattle.wnames.specs.Calls.{breaks_zeroths}
 use Rattle.wwindows.specs.Limits.{breaks_limits, count_over, count_windows, has_long_list, is_long_entry, over_filter, over_given, over_items, over_keys, over_links, over_order, over_reach, over_trees}
-use Rattle.wwindows.specs.Order.{breaks_places, count_items}
-use Rattle.wwindows.specs.Windows.{breaks_bounds, breaks_copies, breaks_entries, breaks_groups, breaks_ranges, breaks_window_names, reach_is, windows_of}
-use Rattle.wrules.specs.declared.rule.Rule.TheVariants.{UnknownWindow, RepeatedWindow, WrongCopy, WrongBounds, UnorderedGroups, WrongRangeKey, ZeroCount, WrongPlace, OverLimit, TooManySets}
-use Rattle.wrules.specs.Rules.{depth, depth_rule, first_of, first_of_names, first_of_windows, judged, least, least_source, or_else, sets_rule, source_depth}
+use Rattle.wwindows.specs.Order.{count_items}
+use Rattle.wwindows.specs.Windows.{reach_is, windows_of}
+use Rattle.wrules.specs.declared.rule.Rule.TheVariants.{OverLimit, TooManySets}
+use Rattle.wrules.specs.Rules.{depth, depth_rule, first_of_names, first_of_windows, judged, least, least_source, or_else, sets_rule, source_depth}
 use Rattle.wgroupby.specs.Laws.{CountsSets}
 use Rattle.wgroupby.specs.Rules.{are_parts_long, breaks_lists, breaks_sets, element_by, elements_by, entry_by, is_element_long, is_entry_long, is_long}
 use Rattle.wgroupby.specs.Sets.{element_count, entry_count, query_sets, sets_count}
@@ -35,7 +34,7 @@ use Rattle.wtyped.specs.Bounded.{AcceptedIsBounded, has_few_entries, has_few_set
 use Rattle.wtyped.proofs.Alike.{is_listed}
 use Rattle.wtyped.proofs.Rows as rows
 use Rattle.wtyped.proofs.Rows.{row_of}
-use Rattle.wtyped.proofs.Rules.{neither, some_or_none}
+use Rattle.wtyped.proofs.Rules.{neither, some_or_none, windows_kept}
 use Rattle.wtyped.proofs.Scoped.{items_length}
 
 -- sets
@@ -361,20 +360,6 @@ windows_few l c e =
 
 -- one SELECT
 
-limits_kept : (names entries copies bounds groups ranges zeroths places limits : Bool)
-    → first_of ((UnknownWindow, names) ∷ (RepeatedWindow, entries) ∷ (WrongCopy, copies) ∷ (WrongBounds, bounds) ∷ (UnorderedGroups, groups) ∷ (WrongRangeKey, ranges) ∷ (ZeroCount, zeroths) ∷ (WrongPlace, places) ∷ (OverLimit, limits) ∷ []) ≡ None
-    → limits ≡ false
-limits_kept true b c d e f g h i none = absurd (some_or_none UnknownWindow none)
-limits_kept false true c d e f g h i none = absurd (some_or_none RepeatedWindow none)
-limits_kept false false true d e f g h i none = absurd (some_or_none WrongCopy none)
-limits_kept false false false true e f g h i none = absurd (some_or_none WrongBounds none)
-limits_kept false false false false true f g h i none = absurd (some_or_none UnorderedGroups none)
-limits_kept false false false false false true g h i none = absurd (some_or_none WrongRangeKey none)
-limits_kept false false false false false false true h i none = absurd (some_or_none ZeroCount none)
-limits_kept false false false false false false false true i none = absurd (some_or_none WrongPlace none)
-limits_kept false false false false false false false false true none = absurd (some_or_none OverLimit none)
-limits_kept false false false false false false false false false none = refl
-
 select_few : CountsSets ℕ → (cs : List Titled) (c : Clauses) (b : Bool) → breaks_limits cs c ≡ false → breaks_sets c.grouping ≡ false
     → is_bounded (select_over cs (elements_made cs c.grouping) (group_calls c) (window_calls c) (row_of cs c b) c) ≡ true
 select_few count cs c b e f =
@@ -402,7 +387,7 @@ no_limit_broken : (d : Declaration) (c : Clauses) (s : SourceTree) → judged d.
 no_limit_broken d c s e =
     let o = origin_of d s in let ws = windows_of c in let cs = o.columns in
     let n = neither (first_of_names d.table o.alias cs c s) (first_of_windows ws cs c) e in
-    limits_kept (breaks_window_names ws cs c) (breaks_entries c.windows) (breaks_copies ws cs c) (breaks_bounds ws cs c) (breaks_groups ws cs c) (breaks_ranges ws cs c) (breaks_zeroths cs c) (breaks_places cs c) (breaks_limits cs c) n.1
+    (windows_kept ws cs c n.1).limits
 
 one_select : CountsSets ℕ → (d : Declaration) (c : Clauses) (s : SourceTree) → judged d.table (origin_of d s) c s ≡ None
     → sets_rule (Selected c s) ≡ None → is_bounded (select_made (origin_of d s).columns c) ≡ true

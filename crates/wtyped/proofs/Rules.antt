@@ -35,7 +35,22 @@ pub neither : (a b : Option Rule) → or_else a b ≡ None → (a ≡ None) × (
 neither None b e = (refl, e)
 neither (Some rule) b e = absurd (some_or_none rule e)
 
+-- of a list of rules none is broken
+
+abbrev AreKept : List (Rule × Bool) → Type 0
+AreKept [] = Unit {0}
+AreKept (r ∷ rs) = (r.1 ≡ false) × AreKept rs
+
+none_first : (rule : Rule) (b : Bool) (rs : List (Rule × Bool)) → (if b then Some rule else first_of rs) ≡ None → (b ≡ false) × (first_of rs ≡ None)
+none_first rule true rs e = absurd (some_or_none rule e)
+none_first rule false rs e = (refl, e)
+
+are_kept : (rs : List (Rule × Bool)) → first_of rs ≡ None → AreKept rs
+are_kept [] e = tt
+are_kept (r ∷ rs) e = let k = none_first r.0 r.1 rs e in (k.0, are_kept rs k.1)
+
 pub record NamesKept (table alias : List ℕ) (cs : List Titled) (c : Clauses) (s : SourceTree) : Type 0 where
+  pub tables : breaks_tables table alias cs c s ≡ false
   pub columns : breaks_columns cs c ≡ false
   pub ambiguity : breaks_ambiguity cs c ≡ false
   pub calls : breaks_calls cs c ≡ false
@@ -43,49 +58,55 @@ pub record NamesKept (table alias : List ℕ) (cs : List Titled) (c : Clauses) (
   pub windows : breaks_window_places cs c ≡ false
   pub aggregates : breaks_aggregate_places cs c ≡ false
   pub grouping : breaks_grouping cs c ≡ false
-
-abbrev Seven : Bool → Bool → Bool → Bool → Bool → Bool → Bool → Type 0
-Seven a b c d e f g = (a ≡ false) × (b ≡ false) × (c ≡ false) × (d ≡ false) × (e ≡ false) × (f ≡ false) × (g ≡ false)
-
-first_names : (tables columns ambiguity calls types windows aggregates grouping filters : Bool)
-    → first_of ((UnknownTable, tables) ∷ (UnknownColumn, columns) ∷ (AmbiguousName, ambiguity) ∷ (WrongCall, calls) ∷ (WrongType, types) ∷ (MisplacedWindowCall, windows) ∷ (MisplacedAggregate, aggregates) ∷ (UngroupedColumn, grouping) ∷ (WrongFilter, filters) ∷ []) ≡ None
-    → Seven columns ambiguity calls types windows aggregates grouping
-first_names true b c d e f g h i none = absurd (some_or_none UnknownTable none)
-first_names false true c d e f g h i none = absurd (some_or_none UnknownColumn none)
-first_names false false true d e f g h i none = absurd (some_or_none AmbiguousName none)
-first_names false false false true e f g h i none = absurd (some_or_none WrongCall none)
-first_names false false false false true f g h i none = absurd (some_or_none WrongType none)
-first_names false false false false false true g h i none = absurd (some_or_none MisplacedWindowCall none)
-first_names false false false false false false true h i none = absurd (some_or_none MisplacedAggregate none)
-first_names false false false false false false false true i none = absurd (some_or_none UngroupedColumn none)
-first_names false false false false false false false false i none = (refl, refl, refl, refl, refl, refl, refl)
+  pub filters : breaks_filters cs c ≡ false
 
 pub names_kept : (table alias : List ℕ) (cs : List Titled) (c : Clauses) (s : SourceTree) → first_of_names table alias cs c s ≡ None
     → NamesKept table alias cs c s
 names_kept table alias cs c s e =
-    let k = first_names (breaks_tables table alias cs c s) (breaks_columns cs c) (breaks_ambiguity cs c) (breaks_calls cs c) (breaks_types cs c) (breaks_window_places cs c) (breaks_aggregate_places cs c) (breaks_grouping cs c) (breaks_filters cs c) e in
-    record { columns = k.0; ambiguity = k.1; calls = k.2; types = k.3; windows = k.4; aggregates = k.5; grouping = k.6 }
+    let k = are_kept (
+    (UnknownTable, breaks_tables table alias cs c s) ∷ (UnknownColumn, breaks_columns cs c) ∷ (AmbiguousName, breaks_ambiguity cs c) ∷ (WrongCall, breaks_calls cs c) ∷ (WrongType, breaks_types cs c)
+    ∷ (MisplacedWindowCall, breaks_window_places cs c) ∷ (MisplacedAggregate, breaks_aggregate_places cs c) ∷ (UngroupedColumn, breaks_grouping cs c) ∷ (WrongFilter, breaks_filters cs c) ∷ []) e in
+    let types = k.1.1.1.1 in
+    record {
+      tables = k.0;
+      columns = k.1.0;
+      ambiguity = k.1.1.0;
+      calls = k.1.1.1.0;
+      types = types.0;
+      windows = types.1.0;
+      aggregates = types.1.1.0;
+      grouping = types.1.1.1.0;
+      filters = types.1.1.1.1.0;
+    }
 
-abbrev Four : Bool → Bool → Bool → Bool → Type 0
-Four a b c d = (a ≡ false) × (b ≡ false) × (c ≡ false) × (d ≡ false)
+pub record WindowsKept (ws : List NamedWindow) (cs : List Titled) (c : Clauses) : Type 0 where
+  pub names : breaks_window_names ws cs c ≡ false
+  pub entries : breaks_entries c.windows ≡ false
+  pub copies : breaks_copies ws cs c ≡ false
+  pub bounds : breaks_bounds ws cs c ≡ false
+  pub groups : breaks_groups ws cs c ≡ false
+  pub ranges : breaks_ranges ws cs c ≡ false
+  pub zeroths : breaks_zeroths cs c ≡ false
+  pub places : breaks_places cs c ≡ false
+  pub limits : breaks_limits cs c ≡ false
 
-first_windows : (names entries copies bounds groups ranges zeroths places limits : Bool)
-    → first_of ((UnknownWindow, names) ∷ (RepeatedWindow, entries) ∷ (WrongCopy, copies) ∷ (WrongBounds, bounds) ∷ (UnorderedGroups, groups) ∷ (WrongRangeKey, ranges) ∷ (ZeroCount, zeroths) ∷ (WrongPlace, places) ∷ (OverLimit, limits) ∷ []) ≡ None
-    → Four bounds groups ranges places
-first_windows true b c d e f g h i none = absurd (some_or_none UnknownWindow none)
-first_windows false true c d e f g h i none = absurd (some_or_none RepeatedWindow none)
-first_windows false false true d e f g h i none = absurd (some_or_none WrongCopy none)
-first_windows false false false true e f g h i none = absurd (some_or_none WrongBounds none)
-first_windows false false false false true f g h i none = absurd (some_or_none UnorderedGroups none)
-first_windows false false false false false true g h i none = absurd (some_or_none WrongRangeKey none)
-first_windows false false false false false false true h i none = absurd (some_or_none ZeroCount none)
-first_windows false false false false false false false true i none = absurd (some_or_none WrongPlace none)
-first_windows false false false false false false false false i none = (refl, refl, refl, refl)
-
-pub windows_kept : (ws : List NamedWindow) (cs : List Titled) (c : Clauses) → first_of_windows ws cs c ≡ None
-    → Four (breaks_bounds ws cs c) (breaks_groups ws cs c) (breaks_ranges ws cs c) (breaks_places cs c)
+pub windows_kept : (ws : List NamedWindow) (cs : List Titled) (c : Clauses) → first_of_windows ws cs c ≡ None → WindowsKept ws cs c
 windows_kept ws cs c e =
-    first_windows (breaks_window_names ws cs c) (breaks_entries c.windows) (breaks_copies ws cs c) (breaks_bounds ws cs c) (breaks_groups ws cs c) (breaks_ranges ws cs c) (breaks_zeroths cs c) (breaks_places cs c) (breaks_limits cs c) e
+    let k = are_kept (
+    (UnknownWindow, breaks_window_names ws cs c) ∷ (RepeatedWindow, breaks_entries c.windows) ∷ (WrongCopy, breaks_copies ws cs c) ∷ (WrongBounds, breaks_bounds ws cs c) ∷ (UnorderedGroups, breaks_groups ws cs c)
+    ∷ (WrongRangeKey, breaks_ranges ws cs c) ∷ (ZeroCount, breaks_zeroths cs c) ∷ (WrongPlace, breaks_places cs c) ∷ (OverLimit, breaks_limits cs c) ∷ []) e in
+    let groups = k.1.1.1.1 in
+    record {
+      names = k.0;
+      entries = k.1.0;
+      copies = k.1.1.0;
+      bounds = k.1.1.1.0;
+      groups = groups.0;
+      ranges = groups.1.0;
+      zeroths = groups.1.1.0;
+      places = groups.1.1.1.0;
+      limits = groups.1.1.1.1.0;
+    }
 
 -- a node that some rule refuses
 abbrev pub is_bad : List Titled → Tree → Bool
@@ -213,8 +234,8 @@ kept table alias cs c s e f shaped =
       entry_windows = v2.0;
       condition_groups = g.0;
       grouping = n.grouping;
-      bounds = w.0;
-      groups = w.1;
-      ranges = w.2;
-      places = w.3;
+      bounds = w.bounds;
+      groups = w.groups;
+      ranges = w.ranges;
+      places = w.places;
     }

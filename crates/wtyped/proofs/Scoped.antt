@@ -21,22 +21,18 @@ use Rattle.wscope.specs.Types.{Origin, Titled, place_named}
 use Rattle.wscope.specs.Windows.{NamedWindow, Settled, or_none, settle_all, settle_tree, window_named}
 use Rattle.wnames.specs.Calls.{are_literal, breaks_calls, breaks_filters, breaks_zeroths, counts_some, is_bad_call, is_bad_filter, is_number, is_well_given, is_zeroth, passes_at}
 use Rattle.wnames.specs.Calls as judged
-use Rattle.wnames.specs.Names.{breaks_ambiguity, breaks_columns, breaks_tables, count_named, first_called, is_ambiguous, is_ambiguous_key, is_column_at, is_misqualified, is_missing, is_other, is_unlike, names_other_table, same_shown}
-use Rattle.wnames.specs.Places.{breaks_aggregate_places, breaks_grouping, breaks_window_places}
-use Rattle.wnames.specs.Typing.{breaks_types}
-use Rattle.wwindows.specs.Limits.{breaks_limits}
-use Rattle.wwindows.specs.Order.{breaks_places, count_items, is_bad_place, is_behind_signs}
+use Rattle.wnames.specs.Names.{count_named, first_called, is_ambiguous, is_ambiguous_key, is_column_at, is_misqualified, is_missing, is_other, is_unlike, names_other_table, same_shown}
+use Rattle.wwindows.specs.Order.{count_items, is_bad_place, is_behind_signs}
 use Rattle.wwindows.specs.Windows.{breaks_bounds, breaks_copies, breaks_entries, breaks_groups, breaks_ranges, breaks_window_names, copies_badly, copies_unknown, is_bad_copy, is_over_bad_copy, is_over_unknown, is_unknown_window, reach_is, some_entry_after, windows_of}
 use Rattle.wwindows.specs.Windows as windows
-use Rattle.wrules.specs.declared.rule.Rule.TheVariants.{UnknownTable, UnknownColumn, AmbiguousName, WrongCall, WrongType, MisplacedWindowCall, MisplacedAggregate, UngroupedColumn, WrongFilter, UnknownWindow, RepeatedWindow, WrongCopy, WrongBounds, UnorderedGroups, WrongRangeKey, ZeroCount, WrongPlace, OverLimit}
-use Rattle.wrules.specs.Rules.{depth_rule, first_of, first_of_names, first_of_windows, judged as rules_judged, least, least_source, or_else, sets_rule}
+use Rattle.wrules.specs.Rules.{depth_rule, first_of_names, first_of_windows, judged as rules_judged, least, least_source, or_else, sets_rule}
 use Rattle.wplan.specs.Formula.{At}
 use Rattle.wsettle.specs.Resolving.{Layout, cell_of, resolved}
 use Rattle.wresolve.specs.Selecting.{called_or, key_shown, shown_formula}
 use Rattle.wtyped.specs.Scoped.{AcceptedIsScoped, AreEntries, AreOneValue, Denotes, DenotesClauses, DenotesColumn, DenotesGroup, DenotesKey, DenotesName, DenotesOrder, DenotesQuery, DenotesSource, InEntries, InFilter, InGiven, InItems, InKeys, InLinks, InList, InOption, InReach, Inside, InTrees, Throughout, are_none, copies, is_alias, is_called, is_constant, is_filtered, is_form, is_known_call, is_known_window, is_none, places_of}
 use Rattle.wtyped.proofs.Equal as equal
 use Rattle.wtyped.proofs.Items.{items_called}
-use Rattle.wtyped.proofs.Rules.{anywhere, neither, some_or_none}
+use Rattle.wtyped.proofs.Rules.{anywhere, names_kept, neither, windows_kept}
 
 -- what holds of each node in which nothing is found holds throughout
 
@@ -589,59 +585,25 @@ order_denoted o ws is (k ∷ ks) p a e =
 
 -- the rules
 
-abbrev Five : Bool → Bool → Bool → Bool → Bool → Type 0
-Five a b c d e = (a ≡ false) × (b ≡ false) × (c ≡ false) × (d ≡ false) × (e ≡ false)
-
-first_names : (tables columns ambiguity calls types windows aggregates grouping filters : Bool)
-    → first_of ((UnknownTable, tables) ∷ (UnknownColumn, columns) ∷ (AmbiguousName, ambiguity) ∷ (WrongCall, calls) ∷ (WrongType, types) ∷ (MisplacedWindowCall, windows) ∷ (MisplacedAggregate, aggregates) ∷ (UngroupedColumn, grouping) ∷ (WrongFilter, filters) ∷ []) ≡ None
-    → Five tables columns ambiguity calls filters
-first_names true b c d e f g h i none = absurd (some_or_none UnknownTable none)
-first_names false true c d e f g h i none = absurd (some_or_none UnknownColumn none)
-first_names false false true d e f g h i none = absurd (some_or_none AmbiguousName none)
-first_names false false false true e f g h i none = absurd (some_or_none WrongCall none)
-first_names false false false false true f g h i none = absurd (some_or_none WrongType none)
-first_names false false false false false true g h i none = absurd (some_or_none MisplacedWindowCall none)
-first_names false false false false false false true h i none = absurd (some_or_none MisplacedAggregate none)
-first_names false false false false false false false true i none = absurd (some_or_none UngroupedColumn none)
-first_names false false false false false false false false true none = absurd (some_or_none WrongFilter none)
-first_names false false false false false false false false false none = (refl, refl, refl, refl, refl)
-
-abbrev FiveToo : Bool → Bool → Bool → Bool → Bool → Type 0
-FiveToo a b c d e = (a ≡ false) × (b ≡ false) × (c ≡ false) × (d ≡ false) × (e ≡ false)
-
-first_windows : (names entries copies bounds groups ranges zeroths places limits : Bool)
-    → first_of ((UnknownWindow, names) ∷ (RepeatedWindow, entries) ∷ (WrongCopy, copies) ∷ (WrongBounds, bounds) ∷ (UnorderedGroups, groups) ∷ (WrongRangeKey, ranges) ∷ (ZeroCount, zeroths) ∷ (WrongPlace, places) ∷ (OverLimit, limits) ∷ []) ≡ None
-    → FiveToo names entries copies zeroths places
-first_windows true b c d e f g h i none = absurd (some_or_none UnknownWindow none)
-first_windows false true c d e f g h i none = absurd (some_or_none RepeatedWindow none)
-first_windows false false true d e f g h i none = absurd (some_or_none WrongCopy none)
-first_windows false false false true e f g h i none = absurd (some_or_none WrongBounds none)
-first_windows false false false false true f g h i none = absurd (some_or_none UnorderedGroups none)
-first_windows false false false false false true g h i none = absurd (some_or_none WrongRangeKey none)
-first_windows false false false false false false true h i none = absurd (some_or_none ZeroCount none)
-first_windows false false false false false false false true i none = absurd (some_or_none WrongPlace none)
-first_windows false false false false false false false false i none = (refl, refl, refl, refl, refl)
-
 clauses_denoted : (d : Declaration) (o : Origin) (c : Clauses) (s : SourceTree) → rules_judged d.table o c s ≡ None
     → DenotesClauses o (windows_of c) c × (names_other_table d.table s ≡ false)
 clauses_denoted d o c s e =
     let ws = windows_of c in let cs = o.columns in
     let n = neither (first_of_names d.table o.alias cs c s) (first_of_windows ws cs c) e in
-    let k = first_names (breaks_tables d.table o.alias cs c s) (breaks_columns cs c) (breaks_ambiguity cs c) (breaks_calls cs c) (breaks_types cs c) (breaks_window_places cs c) (breaks_aggregate_places cs c) (breaks_grouping cs c) (breaks_filters cs c) n.0 in
-    let w = first_windows (breaks_window_names ws cs c) (breaks_entries c.windows) (breaks_copies ws cs c) (breaks_bounds ws cs c) (breaks_groups ws cs c) (breaks_ranges ws cs c) (breaks_zeroths cs c) (breaks_places cs c) (breaks_limits cs c) n.1 in
-    let tables = or_parts (names_other_table d.table s) (some_anywhere cs c (finds (is_misqualified o.alias)) || list_any (is_misqualified o.alias) (all_columns c.grouping)) k.0 in
+    let k = names_kept d.table o.alias cs c s n.0 in let w = windows_kept ws cs c n.1 in
+    let tables = or_parts (names_other_table d.table s) (some_anywhere cs c (finds (is_misqualified o.alias)) || list_any (is_misqualified o.alias) (all_columns c.grouping)) k.tables in
     let aliases = or_parts (some_anywhere cs c (finds (is_misqualified o.alias))) (list_any (is_misqualified o.alias) (all_columns c.grouping)) tables.1 in
-    let missing = or_parts (some_anywhere cs c (finds (is_missing cs))) (list_any (is_missing cs) (all_columns c.grouping)) k.1 in
-    let ambiguous = or_parts (some_anywhere cs c (finds (is_ambiguous cs))) (list_any (is_ambiguous cs) (all_columns c.grouping) || list_any (λ (x : KeyTree). is_ambiguous_key cs (written_out cs c.items) x.expression) c.order) k.2 in
+    let missing = or_parts (some_anywhere cs c (finds (is_missing cs))) (list_any (is_missing cs) (all_columns c.grouping)) k.columns in
+    let ambiguous = or_parts (some_anywhere cs c (finds (is_ambiguous cs))) (list_any (is_ambiguous cs) (all_columns c.grouping) || list_any (λ (x : KeyTree). is_ambiguous_key cs (written_out cs c.items) x.expression) c.order) k.ambiguity in
     let twice = or_parts (list_any (is_ambiguous cs) (all_columns c.grouping)) (list_any (λ (x : KeyTree). is_ambiguous_key cs (written_out cs c.items) x.expression) c.order) ambiguous.1 in
-    let unknown = or_parts (some_entry_after ws 0 copies_unknown c.windows) (some_anywhere cs c (finds (reach_is (is_over_unknown ws)))) w.0 in
-    let badly = or_parts (some_entry_after ws 0 copies_badly c.windows) (some_anywhere cs c (finds (reach_is (is_over_bad_copy ws)))) w.2 in
+    let unknown = or_parts (some_entry_after ws 0 copies_unknown c.windows) (some_anywhere cs c (finds (reach_is (is_over_unknown ws)))) w.names in
+    let badly = or_parts (some_entry_after ws 0 copies_badly c.windows) (some_anywhere cs c (finds (reach_is (is_over_bad_copy ws)))) w.copies in
     let all = anywhere cs c (is_misqualified o.alias) (λ n. is_missing cs n || (is_ambiguous cs n || (is_bad_call n || (is_zeroth n || (is_bad_filter n || (reach_is (is_over_unknown ws) n || reach_is (is_over_bad_copy ws) n)))))) aliases.0
     (anywhere cs c (is_missing cs) (λ n. is_ambiguous cs n || (is_bad_call n || (is_zeroth n || (is_bad_filter n || (reach_is (is_over_unknown ws) n || reach_is (is_over_bad_copy ws) n))))) missing.0
     (anywhere cs c (is_ambiguous cs) (λ n. is_bad_call n || (is_zeroth n || (is_bad_filter n || (reach_is (is_over_unknown ws) n || reach_is (is_over_bad_copy ws) n)))) ambiguous.0
-    (anywhere cs c is_bad_call (λ n. is_zeroth n || (is_bad_filter n || (reach_is (is_over_unknown ws) n || reach_is (is_over_bad_copy ws) n))) k.3
-    (anywhere cs c is_zeroth (λ n. is_bad_filter n || (reach_is (is_over_unknown ws) n || reach_is (is_over_bad_copy ws) n)) w.3
-    (anywhere cs c is_bad_filter (λ n. reach_is (is_over_unknown ws) n || reach_is (is_over_bad_copy ws) n) k.4
+    (anywhere cs c is_bad_call (λ n. is_zeroth n || (is_bad_filter n || (reach_is (is_over_unknown ws) n || reach_is (is_over_bad_copy ws) n))) k.calls
+    (anywhere cs c is_zeroth (λ n. is_bad_filter n || (reach_is (is_over_unknown ws) n || reach_is (is_over_bad_copy ws) n)) w.zeroths
+    (anywhere cs c is_bad_filter (λ n. reach_is (is_over_unknown ws) n || reach_is (is_over_bad_copy ws) n) k.filters
     (anywhere cs c (reach_is (is_over_unknown ws)) (reach_is (is_over_bad_copy ws)) unknown.1 badly.1)))))) in
     let r = is_undenoted o ws in let f = finds r in
     let a = or_parts (some_shown cs c f) (some_option f c.condition || some_option f c.having) all in
@@ -654,8 +616,8 @@ clauses_denoted d o c s e =
         grouping = groups_denoted o (all_columns c.grouping) aliases.1 missing.1 twice.0;
         having = in_option r (Denotes o ws) (denoted o ws) c.having h.1;
         windows = in_entries r (Denotes o ws) (denoted o ws) c.windows g.0;
-        entries = entries_known ws 0 [] c.windows refl refl (all_fresh c.windows) w.1 unknown.0 badly.0;
-        order = order_denoted o ws c.items c.order w.4 twice.1 g.1;
+        entries = entries_known ws 0 [] c.windows refl refl (all_fresh c.windows) w.entries unknown.0 badly.0;
+        order = order_denoted o ws c.items c.order w.places twice.1 g.1;
       },
       tables.0,
     )

@@ -1,14 +1,14 @@
 //! Where in a query the name stands that breaks a rule.
 
-use crate::grammar::Role;
 use crate::scene::{Named, Scene, Written, has_filter, has_over, is_wrong_key, name_at};
-use crate::shown::{push_number, push_text};
 use std::alloc::{AllocError, Global};
+use wgrammar::Role;
 use wlexer::Token;
 use wquery::{Query, Source};
 use wscope::{
     Function, SourceColumn, declared_columns, function_of, has_column, output_columns, place_named,
 };
+use wshown::{push_number, push_text};
 
 /// More SELECTs than can stand one in another.
 const MOST_QUERIES: usize = 66;

@@ -1,10 +1,9 @@
 //! A SELECT in its text, and the names in it.
 
-use crate::following::Mark;
-use crate::grammar::Role;
 use crate::outputs::Outputs;
 use std::alloc::{AllocError, Global};
 use std::collections::BTreeMap;
+use wgrammar::{Mark, Role};
 use wlexer::{Keyword, Lexeme, Symbol, Token};
 use wquery::{Query, Source};
 use wscope::SourceColumn;

@@ -1,69 +1,10 @@
-//! Bytes that a user gave, as they are shown on a terminal.
+//! A place in a query, below its line.
 
-use itoa::Buffer;
+use crate::values::{MOST_SHOWN, push_character};
 use std::alloc::{AllocError, Global};
-use std::fmt::Write;
 
-/// The most characters of a line, a value or a list that are shown.
-const MOST_SHOWN: usize = 60;
-
-/// The most of them that stand before a caret.
+/// The most characters of a line that stand before a caret.
 const SHOWN_BEFORE: usize = 30;
-
-// Whether a terminal shows nothing for a character, or turns what stands beside it.
-fn is_hidden(c: char) -> bool {
-    match c {
-        '\u{ad}' => true,
-        '\u{200b}'..='\u{200f}' => true,
-        '\u{2028}'..='\u{202e}' => true,
-        '\u{2060}'..='\u{206f}' => true,
-        '\u{feff}' => true,
-        _ => false,
-    }
-}
-
-/// Adds a character, by its number where a terminal would obey it or hide it.
-pub(crate) fn push_shown(text: &mut String, c: char) -> Result<(), AllocError> {
-    if c.is_control() || is_hidden(c) {
-        let number = u32::from(c);
-        write!(text, "\\u{{{number:x}}}")?;
-        return Ok(());
-    }
-    text.push(c)
-}
-
-/// Adds a text as it is shown, cut behind its first characters.
-pub(crate) fn push_text(text: &mut String, value: &str) -> Result<(), AllocError> {
-    let mut left = MOST_SHOWN;
-    'characters: for c in value.chars() {
-        if left == 0 {
-            return text.push_str("..");
-        }
-        push_shown(text, c)?;
-        left -= 1;
-    }
-    Ok(())
-}
-
-/// Adds bytes as they are shown, cut behind their first characters. Those that are not UTF-8 are replaced.
-pub(crate) fn push_bytes(alloc: Global, text: &mut String, value: &[u8]) -> Result<(), AllocError> {
-    let most = value.len().min(4 * MOST_SHOWN + 4);
-    let shown = String::from_utf8_lossy(alloc, &value[..most])?;
-    push_text(text, shown.as_str())
-}
-
-/// Adds a value between quotes, cut behind its first characters.
-pub(crate) fn push_value(alloc: Global, text: &mut String, value: &[u8]) -> Result<(), AllocError> {
-    text.push('"')?;
-    push_bytes(alloc, text, value)?;
-    text.push('"')
-}
-
-/// Adds a number.
-pub(crate) fn push_number(text: &mut String, number: u64) -> Result<(), AllocError> {
-    let mut buffer = Buffer::new();
-    text.push_str(buffer.format(number))
-}
 
 // Where the line of a place begins.
 fn line_start(bytes: &[u8], place: usize) -> usize {
@@ -94,7 +35,7 @@ fn push_of_line(text: &mut String, c: char) -> Result<(), AllocError> {
     if c == '\t' || c == '\u{c}' {
         return text.push(' ');
     }
-    push_shown(text, c)
+    push_character(text, c)
 }
 
 // How many characters begin before a byte of a line.
@@ -175,7 +116,7 @@ fn push_line(
 }
 
 /// Adds the line of a query in which a place stands, and below it a caret with a note behind. A place counts bytes from 0.
-pub(crate) fn push_place(
+pub fn push_place(
     alloc: Global,
     text: &mut String,
     query: &[u8],

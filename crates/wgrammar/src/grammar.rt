@@ -1,12 +1,13 @@
 //! The grammar as a table, row by row: what stands for what, by the first token.
 //!
-//! By its first token alone it is settled which row a rule is written out by, so a text is followed without a step back.
+//! By its first token alone it is settled which row a rule is written out by, so a text is followed without a step back. The
+//! rows stand in the order of their rules, so those of a rule are found by a binary search.
 
 use wlexer::{Keyword, Symbol};
 
 /// What a name in a query is, by where it stands.
-#[derive(Clone, Copy, Debug, PartialEq, Eq)]
-pub(crate) enum Role {
+#[derive(Clone, Copy, PartialEq, Eq)]
+pub enum Role {
     /// A column, what stands before its dot, or a function.
     Word,
     /// The table behind FROM.
@@ -67,8 +68,8 @@ pub(crate) struct Row {
     pub(crate) parts: &'static [Part],
 }
 
-/// A rule of the grammar.
-#[derive(Clone, Copy, Debug, PartialEq, Eq)]
+/// A rule of the grammar. Rows stand in this order.
+#[derive(Clone, Copy, PartialEq, Eq)]
 pub(crate) enum Rule {
     Query,
     Semicolon,
@@ -208,7 +209,8 @@ pub(crate) static ROWS: [Row; 159] = [
     row!(ItemAlias: [As] => [As] (Token Name)),
     row!(ItemAlias: (Token Name) => (Token Name)),
     row!(ItemAlias: _ =>),
-    row!(Source: {OpenParenthesis} => {OpenParenthesis} (Mark QueryBegins) (Mark Deeper) Query (Mark Shallower) (Mark QueryEnds) {CloseParenthesis} DerivedAlias),
+    row!(Source: {OpenParenthesis} => {OpenParenthesis} (Mark QueryBegins) (Mark Deeper) Query (Mark Shallower) (Mark QueryEnds)
+        {CloseParenthesis} DerivedAlias),
     row!(Source: (Token Name) => (Name Table) SourceAlias),
     row!(DerivedAlias: [As] => [As] (Name Alias)),
     row!(DerivedAlias: (Token Name) => (Name Alias)),

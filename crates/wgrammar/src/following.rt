@@ -16,17 +16,17 @@ const MOST_PARTS: usize = 256;
 
 /// A name of a query, or an end of a key of its ORDER BY.
 #[derive(Clone, Copy)]
-pub(crate) struct Mark {
-    pub(crate) role: Role,
+pub struct Mark {
+    pub role: Role,
     /// The number of the token, from 0.
-    pub(crate) token: usize,
+    pub token: usize,
     /// How many derived tables stand around it.
-    pub(crate) level: usize,
+    pub level: usize,
 }
 
-/// Where tokens cannot be followed any further.
+/// Where tokens cannot be followed any further as a query.
 #[derive(Clone, Copy)]
-pub(crate) enum Stop {
+pub enum Stop {
     /// They are a query.
     Nowhere,
     /// At the token of this number, or at the end.
@@ -37,10 +37,10 @@ pub(crate) enum Stop {
 
 /// What was followed.
 #[derive(Drop)]
-pub(crate) struct Followed {
-    pub(crate) stop: Stop,
+pub struct Followed {
+    pub stop: Stop,
     /// The names up to there, in the order of the text.
-    pub(crate) marks: Vec<Mark>,
+    pub marks: Vec<Mark>,
 }
 
 /// The way through the tokens.
@@ -77,10 +77,18 @@ fn comes_first(kind: Kind, tokens: &[Token]) -> bool {
     }
 }
 
+// The rows of a rule, and those behind them.
+fn rows_from(rule: Rule) -> &'static [Row] {
+    let first = ROWS.partition_point(|row| (row.rule as u8) < rule as u8);
+    ROWS.get(first..).unwrap_or(&[])
+}
+
 // The row by which a rule is written out before these tokens, if one fits.
 fn row_for(rule: Rule, tokens: &[Token]) -> Option<&'static Row> {
-    ROWS.iter()
-        .find(|row| row.rule == rule && comes_first(row.first, tokens))
+    rows_from(rule)
+        .iter()
+        .take_while(|row| row.rule == rule)
+        .find(|row| comes_first(row.first, tokens))
 }
 
 impl<'a> Way<'a> {
@@ -183,7 +191,7 @@ impl<'a> Way<'a> {
 }
 
 /// Follows tokens as a query, as far as they can be.
-pub(crate) fn follow(alloc: Global, tokens: &[Token]) -> Result<Followed, AllocError> {
+pub fn follow(alloc: Global, tokens: &[Token]) -> Result<Followed, AllocError> {
     let mut way = Way {
         rest: tokens,
         token: 0,

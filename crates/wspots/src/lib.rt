@@ -1,0 +1,17 @@
+//! Where in the text of a query it stops being one, and where a name stands that breaks a rule.
+//!
+//! - Gives the line of the query, with a caret below the first token behind which no query goes on, or below the first name
+//!   that breaks a rule, in the innermost SELECT that has one.
+//! - Promises: it is safe and total. That these are the places is tested, and not proved.
+//! - Asks: the tokens of the query. Where no name tells how a rule is broken, nothing is told.
+//! - Leaves judging to `wparser` and `wrules`, and following the tokens to `wgrammar`.
+//!
+//! Read `src/places.rt`, then `src/names.rt` and `src/scene.rt`.
+#![tactic(auto)]
+
+mod names;
+mod outputs;
+mod places;
+mod scene;
+
+pub use places::{push_breach, push_stop};

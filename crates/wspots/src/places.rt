@@ -1,0 +1,98 @@
+//! Where in a query's text something is wrong.
+
+use crate::names::{Spot, find_name};
+use crate::scene::Written;
+use std::alloc::{AllocError, Global};
+use wgrammar::{Stop, follow};
+use wlexer::{Lexeme, Token};
+use wparser::parse;
+use wsegment::Schema;
+use wshown::push_place;
+
+// What is told of a token that cannot stand where it does.
+fn note_of(token: &Token) -> &'static str {
+    match &token.lexeme {
+        Lexeme::Keyword(_) => "a keyword: as a name it stands in double quotes",
+        _ => "",
+    }
+}
+
+// Where the last token ends.
+fn end_of(tokens: &[Token]) -> usize {
+    match tokens.last() {
+        Some(token) => token.to,
+        None => 0,
+    }
+}
+
+// Adds the place of a token, or the end.
+fn push_token(
+    alloc: Global,
+    text: &mut String,
+    query: &[u8],
+    tokens: &[Token],
+    number: usize,
+) -> Result<(), AllocError> {
+    match tokens.get(number) {
+        Some(token) => push_place(alloc, text, query, token.from, note_of(token)),
+        None => push_place(alloc, text, query, end_of(tokens), "the query ends here"),
+    }
+}
+
+/// Adds the first token of a query behind which no query goes on, if there is one: its line with a caret below it.
+pub fn push_stop(
+    alloc: Global,
+    text: &mut String,
+    query: &[u8],
+    tokens: &[Token],
+) -> Result<(), AllocError> {
+    let followed = follow(alloc, tokens)?;
+    match followed.stop {
+        Stop::Nowhere => Ok(()),
+        Stop::At(number) => push_token(alloc, text, query, tokens, number),
+        Stop::TooDeep(number) => match tokens.get(number) {
+            Some(token) => push_place(alloc, text, query, token.from, "nested over 64 deep"),
+            None => Ok(()),
+        },
+    }
+}
+
+// Adds the place of a name that breaks a rule.
+fn push_spot(
+    alloc: Global,
+    text: &mut String,
+    query: &[u8],
+    tokens: &[Token],
+    spot: &Spot,
+) -> Result<(), AllocError> {
+    match tokens.get(spot.token) {
+        Some(token) => push_place(alloc, text, query, token.from, spot.note.as_str()),
+        None => Ok(()),
+    }
+}
+
+/// Adds where a query breaks a rule of this number, 10 to 28, where a name tells it: its line with a caret below the name, and what
+/// is meant there.
+pub fn push_breach(
+    alloc: Global,
+    text: &mut String,
+    schema: &Schema,
+    query: &[u8],
+    tokens: &[Token],
+    rule: u8,
+) -> Result<(), AllocError> {
+    let Ok(parsed) = parse(alloc, tokens) else {
+        return Ok(());
+    };
+    let followed = follow(alloc, tokens)?;
+    let written = Written {
+        schema,
+        tokens,
+        marks: followed.marks.as_slice(),
+    };
+    let found = find_name(alloc, written, &parsed, rule)?;
+    match found {
+        Some(spot) => push_spot(alloc, text, query, tokens, &spot),
+        None => Ok(()),
+    }
+}
