@@ -1,4 +1,4 @@
-use Rattle.std.proofs.Common.{List, Vec, Global, Option, Result, Ok, map, length, sym, ap, ◌∙◌}
+use Rattle.std.proofs.Common.{List, Vec, Global, Result, Ok, map, length, sym, ap, ◌∙◌}
 use Rattle.std.specs.List.{flat_map}
 use Rattle.std.proofs.lemmas.Result.{err_from_is_err_and}
 use Rattle.wvalues.specs.Meaning.{Meaning, meaning}
