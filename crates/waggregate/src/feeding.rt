@@ -1,19 +1,20 @@
 //! What aggregates are fed.
-ghost use Rattle.std.specs.Prelude.{◌≡◌, length, map, IfOk, Some, option_map};
+ghost use Rattle.std.specs.Prelude.{◌≡◌, length, map, IfOk, IfSome, IsTrue, Ok, Some, option_map};
 ghost use Rattle.std.specs.Option.{ForSome};
-ghost use Rattle.wvalues.specs.Meaning.{meaning};
-ghost use Rattle.wplan.specs.Formula.{formula};
+ghost use Rattle.wvalues.specs.Meaning.{Null, meaning};
+ghost use Rattle.wframe.specs.Cells.{meanings};
+ghost use Rattle.wplan.specs.Formula.{At, Constant, formula};
 ghost use Rattle.wplan.specs.Plans.{aggregate_plan, optional_formula};
-ghost use Rattle.wrows.specs.Columns.{column_of, filter_of};
+ghost use Rattle.wrows.specs.Columns.{column_of, filter_of, value_on};
 ghost use Rattle.wrows.specs.Outcomes.{Gives};
 ghost use Rattle.wrows.specs.Laid.{rows_seen};
 ghost use Rattle.waggregate.specs.Aggregating.{feed_of};
 ghost use Rattle.waggregate.specs.Feeding.{feed_in};
 
 use crate::feed::Feed;
-use std::alloc::Global;
+use std::alloc::{AllocError, Global};
 use wplan::{Aggregate, Expr};
-use wrows::{AnswerFault, holds, lists};
+use wrows::{AnswerFault, holds, lists, place_of};
 use wvalues::Value;
 
 // Whether a condition is true on each row.
@@ -28,8 +29,8 @@ fn tests(alloc: Global, condition: &Expr, rows: &[&[Value]]) -> Result<Vec<bool>
     Ok(tests)
 }
 
-// Whether a filter is true on each row, if there is one.
-fn filter(
+/// Whether a filter is true on each row, if there is one, `OutOfRange` where it is so on any.
+pub fn filter_rows(
     alloc: Global,
     condition: &Option<Expr>,
     rows: &[&[Value]],
@@ -46,14 +47,93 @@ fn filter(
     }
 }
 
-// The value of an expression on each row.
-fn column(alloc: Global, expr: &Expr, rows: &[&[Value]]) -> Result<Vec<Value>, AnswerFault>
+/// The value of an argument on each row, `OutOfRange` where it is so on any.
+pub fn argument_values(
+    alloc: Global,
+    expr: &Expr,
+    rows: &[&[Value]],
+) -> Result<Vec<Value>, AnswerFault>
     ensures gives { Gives (λ column. map meaning column.items) result (column_of (formula expr.now) (rows_seen rows.now)) }
     ensures len { IfOk result (λ column. length column.items ≡ length rows.now) }
 {
     let exprs = [expr];
     let cells = lists(alloc, &exprs, rows)?;
     Ok(cells)
+}
+
+// A row's value at a place, if the row goes so far.
+fn cell_at(row: &[Value], place: usize) -> Option<&Value>
+    ensures { IfSome result (λ value. meaning value.now ≡ value_on (At place) (map meaning row.now)) }
+{
+    if place < row.len() {
+        Some(&row[place])
+    } else {
+        None
+    }
+}
+
+// The value at a place of each row, lent from where it lies, if all rows go so far.
+fn column_at<'a>(
+    alloc: Global,
+    place: usize,
+    rows: &[&'a [Value]],
+) -> Result<Option<Vec<&'a Value>>, AllocError>
+    ensures value { IfOk result (λ lent. IfSome lent (λ values. column_of (At place) (rows_seen rows.now) ≡ Ok (meanings values.items))) }
+    ensures len { IfOk result (λ lent. IfSome lent (λ values. length values.items ≡ length rows.now)) }
+{
+    let mut values = Vec::with_capacity(alloc, rows.len())?;
+    for row in rows {
+        let Some(value) = cell_at(row, place) else {
+            return Ok(None);
+        };
+        values.push(value)?;
+    }
+    Ok(Some(values))
+}
+
+/// The value of an argument on each row, lent from where it lies, where the argument is a plain column, which cannot be out of
+/// range.
+pub fn lent_argument<'a>(
+    alloc: Global,
+    expr: &Expr,
+    rows: &[&'a [Value]],
+) -> Result<Option<Vec<&'a Value>>, AllocError>
+    ensures value { IfOk result (λ lent. IfSome lent (λ values. column_of (formula expr.now) (rows_seen rows.now) ≡ Ok (meanings values.items))) }
+    ensures len { IfOk result (λ lent. IfSome lent (λ values. length values.items ≡ length rows.now)) }
+{
+    let Some(place) = place_of(expr) else {
+        return Ok(None);
+    };
+    let lent = column_at(alloc, place, rows)?;
+    Ok(lent)
+}
+
+/// Whether an argument is NULL, as that of `count(*)` is.
+#[tactic(auto, unfolding(wplan::specs::Formula::formula))]
+pub fn is_null(expr: &Expr) -> bool
+    ensures { IsTrue result → formula expr.now ≡ Constant Null }
+{
+    match expr {
+        Expr::Null => true,
+        _ => false,
+    }
+}
+
+/// A null for each row, lent from one.
+pub fn lent_nulls<'a>(
+    alloc: Global,
+    null: &'a Value,
+    rows: &[&[Value]],
+) -> Result<Vec<&'a Value>, AllocError>
+    requires { meaning null.now ≡ Null }
+    ensures value { IfOk result (λ nulls. column_of (Constant Null) (rows_seen rows.now) ≡ Ok (meanings nulls.items)) }
+    ensures len { IfOk result (λ nulls. length nulls.items ≡ length rows.now) }
+{
+    let mut nulls = Vec::with_capacity(alloc, rows.len())?;
+    for _ in rows {
+        nulls.push(null)?;
+    }
+    Ok(nulls)
 }
 
 /// What an aggregate is fed by each row. The argument is evaluated also where the filter is not true, and `OutOfRange`
@@ -66,7 +146,7 @@ pub fn feed_rows(
     ensures gives { Gives feed_in result (feed_of (aggregate_plan aggregate.now) (rows_seen rows.now)) }
     ensures len { IfOk result (λ feed. length feed.values.items ≡ length rows.now) }
 {
-    let values = column(alloc, &aggregate.argument, rows)?;
-    let filter = filter(alloc, &aggregate.filter, rows)?;
+    let values = argument_values(alloc, &aggregate.argument, rows)?;
+    let filter = filter_rows(alloc, &aggregate.filter, rows)?;
     Ok(Feed { values, filter })
 }

@@ -9,10 +9,8 @@ ghost use Rattle.wrows.specs.Columns.{in_range};
 ghost use Rattle.wrows.specs.Outcomes.{Gives};
 ghost use Rattle.waggregate.specs.Aggregating as aggregating;
 ghost use Rattle.waggregate.specs.Aggregating.{aggregate_of};
-ghost use Rattle.waggregate.specs.Feeding.{feed_in};
 ghost use Rattle.waggregate.specs.Grouped.{rows_of_group};
 
-use crate::feed::Feed;
 use crate::folding::{ToldFold, push_values};
 use crate::picking::lent;
 use std::alloc::{AllocError, Global};
@@ -100,8 +98,22 @@ fn fold_groups<F: ToldFold>(
     Ok(told)
 }
 
-// What an aggregate that is fed these values comes to over the rows of each group, `OutOfRange` where a result is so.
-fn aggregate_values(
+/// Values, lent, in their order.
+pub fn lent_values<'a>(alloc: Global, values: &'a [Value]) -> Result<Vec<&'a Value>, AllocError>
+    ensures value { IfOk result (λ lent. meanings lent.items ≡ map meaning values.now) }
+    ensures len { IfOk result (λ lent. length lent.items ≡ length values.now) }
+{
+    let mut lent = Vec::with_capacity(alloc, values.len())?;
+    for value in values {
+        lent.push(value)?;
+    }
+    Ok(lent)
+}
+
+/// What an aggregate that is fed these values comes to over the rows of each group, `OutOfRange` where a result is so.
+/// `groups` has the number of each row's group, of so many groups, and `order` the groups that are answered, in their
+/// order. The rows are gone through as often for many groups as for one.
+pub fn aggregate_groups(
     alloc: Global,
     function: AggregateFunction,
     values: &[&Value],
@@ -157,39 +169,4 @@ fn aggregate_values(
             fold_groups(alloc, &fold, &mut meter, groups, count, order)
         }
     }
-}
-
-// Values, lent, in their order.
-fn lent_values<'a>(alloc: Global, values: &'a [Value]) -> Result<Vec<&'a Value>, AllocError>
-    ensures value { IfOk result (λ lent. meanings lent.items ≡ map meaning values.now) }
-    ensures len { IfOk result (λ lent. length lent.items ≡ length values.now) }
-{
-    let mut lent = Vec::with_capacity(alloc, values.len())?;
-    for value in values {
-        lent.push(value)?;
-    }
-    Ok(lent)
-}
-
-/// What an aggregate comes to over the rows of each group, `OutOfRange` where a result is so. `groups` has the number of
-/// each row's group, of so many groups, and `order` the groups that are answered, in their order. The rows are gone
-/// through as often for many groups as for one.
-pub fn aggregate_groups(
-    alloc: Global,
-    function: AggregateFunction,
-    feed: &Feed,
-    groups: &[usize],
-    count: usize,
-    order: &[usize],
-) -> Result<Vec<Value>, AnswerFault>
-    requires rows { length groups.now ≡ length feed.now.values.items }
-    requires below { All (λ g. g < count) groups.now }
-    requires ordered { All (λ g. g < count) order.now }
-    requires few { length groups.now < 2 ^ 31 }
-    ensures gives { Gives (λ column. map meaning column.items) result (in_range (map (λ g. aggregate_of function (feed_in feed.now) (rows_of_group groups.now g)) order.now)) }
-    ensures len { IfOk result (λ column. length column.items ≡ length order.now) }
-{
-    let values = lent_values(alloc, &feed.values)?;
-    let filter = &feed.filter;
-    aggregate_values(alloc, function, &values, filter, groups, count, order)
 }

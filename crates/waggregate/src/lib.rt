@@ -20,7 +20,7 @@ mod picking;
 mod tally;
 
 pub use feed::Feed;
-pub use feeding::feed_rows;
+pub use feeding::{argument_values, feed_rows, filter_rows, is_null, lent_argument, lent_nulls};
 pub use folding::push_frame_aggregates;
-pub use grouped::aggregate_groups;
+pub use grouped::{aggregate_groups, lent_values};
 pub use tally::Tally;

@@ -1,10 +1,13 @@
 //! What the calls of groups answer.
-ghost use Rattle.std.specs.Prelude.{◌≡◌, ◌<◌, ◌≤◌, ◌^◌, ◌+◌, ◌*◌, All, length, map, min, option_map, if◌then◌else◌, IfOk};
+ghost use Rattle.std.specs.Prelude.{◌≡◌, ◌<◌, ◌≤◌, ◌^◌, ◌+◌, ◌*◌, All, length, map, min, option_map, if◌then◌else◌, IfOk, Ok};
+ghost use Rattle.std.specs.Option.{ForSome};
 ghost use Rattle.std.specs.List.{flat_map};
-ghost use Rattle.wvalues.specs.Meaning.{meaning};
+ghost use Rattle.wvalues.specs.Meaning.{Null, meaning};
 ghost use Rattle.wplan.specs.Plans.{GroupAggregate, aggregate_plan, group_call_plan};
-ghost use Rattle.waggregate.specs.Feeding.{feed_in};
-ghost use Rattle.wrows.specs.Columns.{in_range};
+ghost use Rattle.waggregate.specs.Feeding.{fed_by};
+ghost use Rattle.wrows.specs.Columns.{column_of, in_range};
+ghost use Rattle.wframe.specs.Cells.{meanings};
+ghost use Rattle.wplan.specs.Formula.{Constant, formula};
 ghost use Rattle.wrows.specs.Outcomes.{Gives, each};
 ghost use Rattle.wrows.specs.Laid.{rows_seen};
 ghost use Rattle.wgroupby.specs.Sets.{grouping_of};
@@ -14,7 +17,9 @@ ghost use Rattle.wgroup.specs.Held.{all_groups, column_over, columns_in, set_ans
 use crate::found::Groups;
 use crate::keys::is_among;
 use std::alloc::{AllocError, Global};
-use waggregate::{Feed, aggregate_groups, feed_rows};
+use waggregate::{
+    aggregate_groups, argument_values, filter_rows, is_null, lent_argument, lent_nulls, lent_values,
+};
 use wplan::{Aggregate, AggregateFunction, GroupCall};
 use wrows::AnswerFault;
 use wvalues::{Value, Whole};
@@ -23,12 +28,14 @@ use wvalues::{Value, Whole};
 fn aggregate_answers(
     alloc: Global,
     function: AggregateFunction,
-    feed: &Feed,
+    values: &[&Value],
+    filter: &Option<Vec<bool>>,
     sets: &[Groups],
 ) -> Result<Vec<Value>, AnswerFault>
-    requires len { All (λ groups. length groups.numbers.items ≡ length feed.now.values.items) sets.now }
-    requires few { length feed.now.values.items < 2 ^ 31 }
-    ensures gives { Gives (λ column. map meaning column.items) result (in_range (flat_map (set_answers function (feed_in feed.now)) sets.now)) }
+    requires len { All (λ groups. length groups.numbers.items ≡ length values.now) sets.now }
+    requires tests { ForSome filter.now (λ tests. length tests.items ≡ length values.now) }
+    requires few { length values.now < 2 ^ 31 }
+    ensures gives { Gives (λ column. map meaning column.items) result (in_range (flat_map (set_answers function (fed_by values.now filter.now)) sets.now)) }
     ensures len { IfOk result (λ column. length column.items ≡ length (all_groups sets.now)) }
 {
     let mut column = Vec::new(alloc);
@@ -37,7 +44,8 @@ fn aggregate_answers(
         let mut answers = aggregate_groups(
             alloc,
             function,
-            feed,
+            values,
+            filter,
             numbers,
             groups.count,
             &groups.order,
@@ -47,7 +55,61 @@ fn aggregate_answers(
     Ok(column)
 }
 
-// What an aggregate comes to over the rows of each group of all sets.
+// What an aggregate whose argument has these values comes to over the rows of each group of all sets.
+fn fed_column(
+    alloc: Global,
+    aggregate: &Aggregate,
+    rows: &[&[Value]],
+    values: &[&Value],
+    sets: &[Groups],
+) -> Result<Vec<Value>, AnswerFault>
+    requires values { column_of (formula aggregate.now.argument) (rows_seen rows.now) ≡ Ok (meanings values.now) }
+    requires wide { length values.now ≡ length rows.now }
+    requires len { All (λ groups. length groups.numbers.items ≡ length rows.now) sets.now }
+    requires few { length rows.now < 2 ^ 31 }
+    ensures gives { Gives (λ column. map meaning column.items) result (column_over (rows_seen rows.now) sets.now (GroupAggregate (aggregate_plan aggregate.now))) }
+    ensures len { IfOk result (λ column. length column.items ≡ length (all_groups sets.now)) }
+{
+    let filter = filter_rows(alloc, &aggregate.filter, rows)?;
+    aggregate_answers(alloc, aggregate.function, values, &filter, sets)
+}
+
+// What an aggregate comes to over the rows of each group of all sets, with its argument evaluated on every row.
+fn evaluated_column(
+    alloc: Global,
+    aggregate: &Aggregate,
+    rows: &[&[Value]],
+    sets: &[Groups],
+) -> Result<Vec<Value>, AnswerFault>
+    requires len { All (λ groups. length groups.numbers.items ≡ length rows.now) sets.now }
+    requires few { length rows.now < 2 ^ 31 }
+    ensures gives { Gives (λ column. map meaning column.items) result (column_over (rows_seen rows.now) sets.now (GroupAggregate (aggregate_plan aggregate.now))) }
+    ensures len { IfOk result (λ column. length column.items ≡ length (all_groups sets.now)) }
+{
+    let cells = argument_values(alloc, &aggregate.argument, rows)?;
+    let values = lent_values(alloc, &cells)?;
+    fed_column(alloc, aggregate, rows, &values, sets)
+}
+
+// What an aggregate of NULL, as `count(*)` is one, comes to over the rows of each group of all sets.
+fn null_column(
+    alloc: Global,
+    aggregate: &Aggregate,
+    rows: &[&[Value]],
+    sets: &[Groups],
+) -> Result<Vec<Value>, AnswerFault>
+    requires null { formula aggregate.now.argument ≡ Constant Null }
+    requires len { All (λ groups. length groups.numbers.items ≡ length rows.now) sets.now }
+    requires few { length rows.now < 2 ^ 31 }
+    ensures gives { Gives (λ column. map meaning column.items) result (column_over (rows_seen rows.now) sets.now (GroupAggregate (aggregate_plan aggregate.now))) }
+    ensures len { IfOk result (λ column. length column.items ≡ length (all_groups sets.now)) }
+{
+    let null = Value::Null;
+    let values = lent_nulls(alloc, &null, rows)?;
+    fed_column(alloc, aggregate, rows, &values, sets)
+}
+
+// What an aggregate comes to over the rows of each group of all sets. A plain column is read where it lies.
 fn aggregate_column(
     alloc: Global,
     aggregate: &Aggregate,
@@ -59,9 +121,14 @@ fn aggregate_column(
     ensures gives { Gives (λ column. map meaning column.items) result (column_over (rows_seen rows.now) sets.now (GroupAggregate (aggregate_plan aggregate.now))) }
     ensures len { IfOk result (λ column. length column.items ≡ length (all_groups sets.now)) }
 {
-    let feed = feed_rows(alloc, aggregate, rows)?;
-    let column = aggregate_answers(alloc, aggregate.function, &feed, sets)?;
-    Ok(column)
+    if is_null(&aggregate.argument) {
+        return null_column(alloc, aggregate, rows, sets);
+    }
+    let lent = lent_argument(alloc, &aggregate.argument, rows)?;
+    match lent {
+        Some(values) => fed_column(alloc, aggregate, rows, &values, sets),
+        None => evaluated_column(alloc, aggregate, rows, sets),
+    }
 }
 
 // The least number that is no whole number.

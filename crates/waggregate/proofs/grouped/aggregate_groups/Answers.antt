@@ -1,8 +1,53 @@
-use Rattle.std.proofs.Common.{map, refl, ap, ◌∙◌}
-use Rattle.wvalues.specs.Meaning.{meaning}
+use Rattle.std.proofs.Common.{map, sym, ap, ◌∙◌}
 use Rattle.wframe.specs.Cells.{meanings}
-use Rattle.waggregate.specs.Feeding.{feed_in}
+use Rattle.wslide.specs.Aggregates.{by_value, by_value_descending, tests}
+use Rattle.wslide.specs.Lawful.{by_value_total, by_value_descending_total}
+use Rattle.waggregate.specs.Aggregating.{aggregate_of}
+use Rattle.waggregate.specs.Grouped.{rows_of_group}
+use Rattle.waggregate.proofs.GroupFacts.{given_alike, rows_told, values_told, sums_told, firsts_told}
 use Rattle.waggregate.proofs.grouped.aggregate_groups.Goals as goal
 
-pub returns-clause-gives : goal.returns-clause-gives
-returns-clause-gives c = c.aggregate_values.ensures.gives (feed_in c.args.feed.now) (ap meanings c.deref-2.ensures.value ∙ c.in_ok-values.ensures.value ∙ ap (map meaning) c.deref.ensures.value) refl
+pub returns-in-CountRows-clause-gives : goal.returns-in-CountRows-clause-gives
+returns-in-CountRows-clause-gives c = λ feed valued tested.
+    let groups = c.args.groups.now in
+    let order = c.args.order.now in
+    given_alike c.fold_groups.result _ _
+    (rows_told groups order c.requires.few feed (meanings c.args.values.now) (tests c.lent-filter.result) valued (c.lent-filter.ensures.value ∙ tested) c.counts_are_exact.ensures.rows
+    ∙ ap (λ f. map (λ g. aggregate_of f feed (rows_of_group groups g)) order) (sym c.in-CountRows.is))
+    c.fold_groups.ensures.gives
+
+pub returns-in-Count-clause-gives : goal.returns-in-Count-clause-gives
+returns-in-Count-clause-gives c = λ feed valued tested.
+    let groups = c.args.groups.now in
+    let order = c.args.order.now in
+    given_alike c.fold_groups-in-Count.result _ _
+    (values_told groups order c.requires.few feed (meanings c.args.values.now) (tests c.lent-filter.result) valued (c.lent-filter.ensures.value ∙ tested) c.counts_are_exact.ensures.values
+    ∙ ap (λ f. map (λ g. aggregate_of f feed (rows_of_group groups g)) order) (sym c.in-Count.is))
+    c.fold_groups-in-Count.ensures.gives
+
+pub returns-in-Sum-clause-gives : goal.returns-in-Sum-clause-gives
+returns-in-Sum-clause-gives c = λ feed valued tested.
+    let groups = c.args.groups.now in
+    let order = c.args.order.now in
+    given_alike c.fold_groups-in-Sum.result _ _
+    (sums_told groups order c.requires.few feed (meanings c.args.values.now) (tests c.lent-filter.result) valued (c.lent-filter.ensures.value ∙ tested) c.sums_are_exact.ensures (c.see_ranges.ensures.fed (tests c.lent-filter.result))
+    ∙ ap (λ f. map (λ g. aggregate_of f feed (rows_of_group groups g)) order) (sym c.in-Sum.is))
+    c.fold_groups-in-Sum.ensures.gives
+
+pub returns-in-Min-clause-gives : goal.returns-in-Min-clause-gives
+returns-in-Min-clause-gives c = λ feed valued tested.
+    let groups = c.args.groups.now in
+    let order = c.args.order.now in
+    given_alike c.fold_groups-in-Min.result _ _
+    (firsts_told groups order c.requires.few feed (meanings c.args.values.now) (tests c.lent-filter.result) valued (c.lent-filter.ensures.value ∙ tested) c.stable_sorts_agree.ensures.first by_value by_value_total c.places_are_least.ensures.least
+    ∙ ap (λ f. map (λ g. aggregate_of f feed (rows_of_group groups g)) order) (sym c.in-Min.is))
+    c.fold_groups-in-Min.ensures.gives
+
+pub returns-in-Max-clause-gives : goal.returns-in-Max-clause-gives
+returns-in-Max-clause-gives c = λ feed valued tested.
+    let groups = c.args.groups.now in
+    let order = c.args.order.now in
+    given_alike c.fold_groups-in-Max.result _ _
+    (firsts_told groups order c.requires.few feed (meanings c.args.values.now) (tests c.lent-filter.result) valued (c.lent-filter.ensures.value ∙ tested) c.stable_sorts_agree.ensures.first by_value_descending by_value_descending_total c.places_are_least.ensures.greatest
+    ∙ ap (λ f. map (λ g. aggregate_of f feed (rows_of_group groups g)) order) (sym c.in-Max.is))
+    c.fold_groups-in-Max.ensures.gives
