@@ -1,7 +1,6 @@
 -- An input that is read and answered.
-use Rattle.std.proofs.Common.{◌≡◌, ◌⊎◌, inl, inr, ◌∙◌, ℕ, suc, ◌+◌, ◌<◌, Bool, true, false, List, [], ◌∷◌, ◌++◌, take, drop, take-append-drop, get_or, length, Option, Some, None, IfSome, Result, Ok, Err, OnOk, OnErr, refl, sym, ap, subst, arith, append_assoc, append-nil}
-use Rattle.std.specs.Prelude.{is_err}
-use Rattle.std.specs.List.{flat_map, list_any, AllByRecursion}
+use Rattle.std.proofs.Common.{◌≡◌, ◌⊎◌, inl, inr, ◌∙◌, ℕ, suc, ◌+◌, ◌<◌, false, List, [], ◌∷◌, ◌++◌, take, drop, take-append-drop, get_or, length, Option, Some, None, IfSome, Result, Ok, Err, OnOk, OnErr, refl, sym, ap, subst, arith, append_assoc, append-nil}
+use Rattle.std.specs.List.{flat_map}
 use Rattle.std.specs.Io.KnownBytes.{Appends, Consumes, IsAtEnd, Keeps}
 use Rattle.std.proofs.KnownBytes.{Appends-nil, Consumes-kept, Consumes-nil, Consumes-trans}
 use Rattle.std.proofs.lemmas.List.{take_all}
@@ -11,11 +10,11 @@ use Rattle.wset.specs.Views.{View}
 use Rattle.wstore.specs.Nodes.{NodeState}
 use Rattle.wact.specs.Queries.{replies_text}
 use Rattle.wshell.specs.declared.telling.Told.{Told}
-use Rattle.wshell.specs.Splitting.{EndsAt, IsEnded, Splits, ended, may_end, mode_of, semicolon}
+use Rattle.wshell.specs.Splitting.{EndsAt, Splits, ended, may_end}
 use Rattle.wshell.specs.Pending.{IsPending, Kept}
 use Rattle.wshell.specs.declared.fault.ShellFault.{ShellFault}
 use Rattle.wshell.specs.Telling.{TellsOne, TellsPart}
-use Rattle.wshell.specs.Runs.{All, Begins, First, FrontSoFar, GivesUp, GoesOn, IsBegun, KeepsUp, Replies, RepliesBegun, SoFar, StandsAfter, StandsBehind, TakesFront}
+use Rattle.wshell.specs.Runs.{All, First, FrontSoFar, GivesUp, GoesOn, IsBegun, KeepsUp, Replies, RepliesBegun, SoFar, StandsAfter, StandsBehind, TakesFront}
 use Rattle.wshell.proofs.Splitting.{splits_add, splits_end, splits_nothing}
 use Rattle.wshell.proofs.Answering.{nothing_told, one_more, one_part}
 

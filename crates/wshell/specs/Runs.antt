@@ -1,7 +1,7 @@
 -- What a run writes.
 use Rattle.std.specs.Prelude.{◌≡◌, ℕ, Bool, false, true, List, [], ◌∷◌, ◌++◌, take, Option, Result, is_err}
 use Rattle.std.specs.List.{flat_map, list_any, AllByRecursion}
-use Rattle.std.specs.Io.KnownBytes.{Appends, Consumes, IsAtEnd}
+use Rattle.std.specs.Io.KnownBytes.{Appends, Consumes}
 use Rattle.wvalues.specs.Counts.{Counts}
 use Rattle.wlines.specs.Pending.{IsSound, IsSoundWriter, ReadFailed}
 use Rattle.wsegment.specs.Declaration.{Declaration}
@@ -11,7 +11,7 @@ use Rattle.wact.specs.Queries.{replies_text}
 use Rattle.wshell.specs.declared.fault.ShellFault.{ShellFault}
 use Rattle.wshell.specs.declared.fault.ShellFault.TheVariants as faults
 use Rattle.wshell.specs.declared.telling.Told.{Told}
-use Rattle.wshell.specs.Splitting.{EndsNowhere, IsEnded, Splits, ended}
+use Rattle.wshell.specs.Splitting.{IsEnded, Splits, ended}
 use Rattle.wshell.specs.Pending.{IsPending, Kept}
 use Rattle.wshell.specs.Telling.{Tells}
 

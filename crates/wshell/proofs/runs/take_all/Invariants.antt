@@ -1,4 +1,4 @@
-use Rattle.std.proofs.Common.{◌≡◌, ℕ, ◌-◌}
+use Rattle.std.proofs.Common.{◌≡◌, ◌-◌}
 use Rattle.wlines.specs.Pending.{IsSound, IsSoundWriter, most_reads}
 use Rattle.wshell.specs.Runs.{StandsAfter}
 use Rattle.wshell.proofs.runs.take_all.Given as goal
