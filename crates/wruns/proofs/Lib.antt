@@ -1,6 +1,6 @@
 mod OneList
 mod RefFacts
-mod RunFacts
+pub mod RunFacts
 mod CutFacts
 mod TableFacts
 mod SharedFacts

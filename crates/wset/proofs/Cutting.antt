@@ -1,5 +1,5 @@
 -- Blocks that are cut in two, filled, and begun.
-use Rattle.std.proofs.Common.{◌≡◌, ◌∙◌, ◌+◌, ◌<◌, ◌≤◌, ◌++◌, Bool, true, false, cond, ℕ, zero, suc, List, [], ◌∷◌, length, get_or, set, take, drop, Option, is_some, option_map, refl, sym, ap, subst, arith, append_assoc, length-append, ◌-◌}
+use Rattle.std.proofs.Common.{◌≡◌, ◌∙◌, ◌+◌, ◌<◌, ◌≤◌, ◌++◌, Bool, true, false, cond, ℕ, zero, suc, List, [], ◌∷◌, length, get_or, set, take, drop, Option, is_some, option_map, refl, sym, ap, subst, arith, append_assoc, length-append}
 use Rattle.std.proofs.lemmas.List.{append-nil, take-append-drop}
 use Rattle.std.specs.Borrow.{Bor}
 use Rattle.std.specs.List.{insert}
@@ -7,10 +7,9 @@ use Rattle.std.specs.Option.{option_copied}
 use Rattle.std.specs.FinMap.Entries.{length-put}
 use Rattle.std.specs.FinMap.{find, put}
 use Rattle.wvalues.specs.Names.{NameParts, name_cmp, names_total}
-use Rattle.wset.specs.Views.{Known}
 use Rattle.wset.specs.Lending.{AreBelow}
 use Rattle.wset.specs.Holding.{known_of}
-use Rattle.wset.specs.Entries.{IsRising, known_entry, known_entries}
+use Rattle.wset.specs.Entries.{IsRising, known_entries}
 use Rattle.wset.specs.Blocks.{AreBehind, AreFilled, HasRoom, IsHome, flat, half, halved, longest}
 use Rattle.wset.specs.declared.entries.Entry.{Entry}
 use Rattle.wset.specs.declared.held.Held.{Held}

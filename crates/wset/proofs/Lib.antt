@@ -17,4 +17,5 @@ mod Lows
 mod Origins
 mod KeptSets
 mod RunFacts
+mod KeptOrderFacts
 mod LiveFacts

@@ -1,5 +1,5 @@
 -- The live names of entries in blocks.
-use Rattle.std.proofs.Common.{◌≡◌, ℕ, zero, suc, ◌+◌, ◌-◌, ◌<◌, ◌≤◌, List, [], ◌∷◌, ◌++◌, ◌^◌, Bool, true, false, cond, is_some, nat_lt, length, map, take, drop, get_or, set, slice_get, refl, sym, ap, subst, ◌∙◌, arith, Some, below_more, length-append}
+use Rattle.std.proofs.Common.{◌≡◌, ℕ, zero, suc, ◌+◌, ◌-◌, ◌<◌, ◌≤◌, List, [], ◌∷◌, ◌++◌, ◌^◌, Bool, true, false, cond, is_some, nat_lt, length, map, take, drop, get_or, set, slice_get, refl, sym, ap, subst, ◌∙◌, arith, Some, None, IfSome, below_more, length-append}
 use Rattle.std.proofs.lemmas.List.{get_or-take, get_or_append_left, length-map, length-take, take-append-le, take-set-le}
 use Rattle.std.proofs.Math.Seq.{get_or-append_seam, take-length}
 use Rattle.std.proofs.lemmas.Bool.{ltb-false, ltb-true}
@@ -15,7 +15,8 @@ use Rattle.wset.specs.Sets.{DeclaredView, IsReadBy}
 use Rattle.wset.specs.Holding.{IsHeldBy, known_of}
 use Rattle.wset.specs.Entries.{AllHeldBy, AreSettled, IsRising, above_floor, known_entries}
 use Rattle.wset.specs.Blocks.{IsGrown, flat}
-use Rattle.wset.specs.Running.{AreStarts, IsLiveHome, kept_in, lives_before, named_kept}
+use Rattle.wset.specs.KeptOrders.{IsOrderOf}
+use Rattle.wset.specs.Running.{AreStarts, IsLiveHome, kept_in, lives_before, rows_in}
 use Rattle.wset.specs.Storing.{declared_view, IsOrderly}
 use Rattle.wset.specs.declared.set.SegmentSet.TheInside.{Inside}
 use Rattle.wset.specs.declared.entries.Entry.{Entry}
@@ -209,8 +210,8 @@ few_dropped es fs gs n put_is is = omega (arith, length-known_entries gs, ap len
 
 -- ---- a set whose blocks were cut
 
-pub orderly_flat : (a b : Inside) → b.schema ≡ a.schema → b.count ≡ a.count → flat b.blocks.items ≡ flat a.blocks.items → length b.starts.items ≡ length b.blocks.items → AreStarts b.blocks.items b.starts.items → IsOrderly a → IsOrderly b
-orderly_flat a b schema count same placed starts h = record {
+pub orderly_flat : (a b : Inside) → b.schema ≡ a.schema → b.count ≡ a.count → flat b.blocks.items ≡ flat a.blocks.items → length b.starts.items ≡ length b.blocks.items → AreStarts b.blocks.items b.starts.items → b.order ≡ None → IsOrderly a → IsOrderly b
+orderly_flat a b schema count same placed starts none h = record {
   rising = subst IsRising (sym same) h.rising;
   settled = subst (λ es. AreSettled (known_entries es)) (sym same) h.settled;
   counted = count ∙ h.counted ∙ ap length (sym same);
@@ -218,6 +219,7 @@ orderly_flat a b schema count same placed starts h = record {
   read = subst (λ d. AllHeldBy d (flat b.blocks.items)) (sym schema) (subst (AllHeldBy a.schema) (sym same) h.read);
   placed = placed;
   starts = starts;
+  ordered = subst (λ o. IfSome o (IsOrderOf (rows_in (flat b.blocks.items)))) (sym none) tt;
 }
 
 -- ---- counting the live names before each block

@@ -1,5 +1,5 @@
 -- The block where an origin begins: its floor is there or nowhere, and no block before it changes as names of the origin are dropped.
-use Rattle.std.proofs.Common.{◌≡◌, ℕ, zero, suc, ◌<◌, ◌≤◌, ◌+◌, ◌++◌, ◌⊎◌, Bool, true, false, cond, not, T, List, [], ◌∷◌, length, map, get_or, take, drop, Option, None, Some, refl, sym, ap, ◌∙◌, subst, arith, append_assoc, ⊎_elim}
+use Rattle.std.proofs.Common.{◌≡◌, ℕ, zero, suc, ◌<◌, ◌≤◌, ◌+◌, ◌++◌, Bool, true, false, cond, not, T, List, [], ◌∷◌, length, map, get_or, take, drop, Option, None, Some, refl, sym, ap, ◌∙◌, subst, arith, ⊎_elim}
 use Rattle.std.proofs.lemmas.Bool.{or_left, or_right, and_parts, and_from}
 use Rattle.std.proofs.lemmas.Cmp.{tied_itself}
 use Rattle.std.proofs.lemmas.List.{take-append-drop}
@@ -14,7 +14,7 @@ use Rattle.wvalues.specs.Names.{NameParts, name_cmp, names_total}
 use Rattle.wset.specs.Views.{Known, Live, Disputed, Retired, Floor, first_of as first_of_numbers, floor_number, is_above, is_over, same_bytes}
 use Rattle.wset.specs.Lending.{AreOriginsBelow}
 use Rattle.wset.specs.Holding.{known_of}
-use Rattle.wset.specs.Entries.{AreSettled, IsRising, known_entries, known_entry}
+use Rattle.wset.specs.Entries.{AreSettled, IsRising, known_entries}
 use Rattle.wset.specs.Blocks.{AreBehind, IsOriginHome, flat, trimmed}
 use Rattle.wset.specs.declared.entries.Entry.{Entry}
 use Rattle.wset.proofs.BlockFacts.{flat_at, flat_more, rising_from, rising_to}

@@ -1,6 +1,6 @@
 -- Making runs leaves what is known as it is.
-use Rattle.std.proofs.Common.{◌≡◌, ℕ, zero, suc, ◌+◌, ◌<◌, ◌≤◌, List, [], ◌∷◌, ◌++◌, length, map, take, refl, sym, ap, subst, ◌∙◌, arith, get_or, slice_set, add-one, Option, Some, None}
-use Rattle.std.specs.Prelude.{All, T, ⊤, ◌^◌}
+use Rattle.std.proofs.Common.{◌≡◌, ℕ, zero, suc, ◌+◌, ◌<◌, List, [], ◌∷◌, ◌++◌, length, map, take, refl, sym, ap, subst, ◌∙◌, arith, get_or, slice_set, add-one, Option, Some, None}
+use Rattle.std.specs.Prelude.{All, IfSome, T, ⊤, ◌^◌}
 use Rattle.std.specs.List.{AllByRecursion, IsAmong, filter_map}
 use Rattle.std.proofs.lemmas.List.{length-map, map-append}
 use Rattle.std.proofs.lemmas.List.Elements.{All-append, All-cons, All-nil, All-same, recursion_from_All}
@@ -19,6 +19,7 @@ use Rattle.std.specs.FinMap.{is_sorted}
 use Rattle.wvalues.specs.Names.{name_cmp}
 use Rattle.wset.specs.Entries.{AllHeldBy, AreSettled, known_entry, known_entries}
 use Rattle.wset.specs.Blocks.{flat}
+use Rattle.wset.specs.KeptOrders.{IsOrderOf}
 use Rattle.wset.specs.Running.{AreStarts, HeldHasRun, kept_in, live_rows, orders_in, plain_block, plain_entry, plain_held, rows_in}
 use Rattle.wset.specs.declared.entries.Entry.{Entry}
 use Rattle.wset.specs.declared.held.Held.{Held}
@@ -137,9 +138,23 @@ read_same d (x ∷ xs) (y ∷ ys) e all =
     let t : map plain_entry xs ≡ map plain_entry ys = cc in
     (back d x.held (subst (IsPlainlyRead d) (sym (ap (λ p. p.1) h)) (there d y.held all.0)), read_same d xs ys t all.1)
 
+plain_rows : (es : List Entry) → map (λ c. c.rows) (filter_map plain_live (map plain_entry es)) ≡ rows_in es
+plain_rows [] = refl
+plain_rows (e ∷ es) = by e.name e.held (plain_rows es)
+  where
+    by : (n : NameParts) (h : Held) → map (λ c. c.rows) (filter_map plain_live (map plain_entry es)) ≡ rows_in es → map (λ c. c.rows) (filter_map plain_live ((n, plain_held h) ∷ map plain_entry es)) ≡ rows_in (record { name = n; held = h } ∷ es)
+    by n (held.Live kept) rest = ap (λ l. kept.content.rows ∷ l) rest
+    by n held.Disputed rest = rest
+    by n held.Retired rest = rest
+    by n held.Floor rest = rest
+
+-- the rows are the same
+rows_same : (a b : List Entry) → map plain_entry a ≡ map plain_entry b → rows_in a ≡ rows_in b
+rows_same a b e = sym (plain_rows a) ∙ ap (λ l. map (λ c. c.rows) (filter_map plain_live l)) e ∙ plain_rows b
+
 -- a set that holds the same, with whatever runs, is as orderly
-pub orderly_same : (a b : Inside) → b.schema ≡ a.schema → b.count ≡ a.count → b.starts.items ≡ a.starts.items → map plain_block b.blocks.items ≡ map plain_block a.blocks.items → IsOrderly a → IsOrderly b
-orderly_same a b schema count starts plain h =
+pub orderly_same : (a b : Inside) → b.schema ≡ a.schema → b.count ≡ a.count → b.starts.items ≡ a.starts.items → b.order ≡ a.order → map plain_block b.blocks.items ≡ map plain_block a.blocks.items → IsOrderly a → IsOrderly b
+orderly_same a b schema count starts order plain h =
     let bs = b.blocks.items in
     let old = a.blocks.items in
     let same = flat_plain bs old plain in
@@ -152,6 +167,7 @@ orderly_same a b schema count starts plain h =
       read = subst (λ d. AllHeldBy d (flat bs)) (sym schema) (read_same a.schema (flat bs) (flat old) same h.read);
       placed = ap length starts ∙ h.placed ∙ sym (same_length plain_block bs old plain);
       starts = subst (AreStarts bs) (sym starts) (starts_same old bs a.starts.items plain h.starts);
+      ordered = subst (λ o. IfSome o (IsOrderOf (rows_in (flat bs)))) (sym order) (subst (λ l. IfSome a.order (IsOrderOf l)) (sym (rows_same (flat bs) (flat old) same)) h.ordered);
     }
 
 run_among : (keys : List SortKey) (es : List Entry) → AllByRecursion (λ e. HeldHasRun keys e.held) es → AllByRecursion (λ o. IsAmong o keys) (orders_in es)

@@ -1,5 +1,5 @@
 -- A set whose view is changed, by what it keeps.
-use Rattle.std.proofs.Common.{◌≡◌, List, Option, None, Some, IfSome, refl, ap, ◌∙◌, subst}
+use Rattle.std.proofs.Common.{◌≡◌, List, Option, None, Some, IfSome, refl, ap, ◌∙◌}
 use Rattle.std.specs.Borrow.{Bor}
 use Rattle.wsegment.specs.Declaration.{Declaration}
 use Rattle.wset.specs.Views.{View}

@@ -1,10 +1,11 @@
 -- How a set is kept.
-use Rattle.std.specs.Prelude.{◌≡◌, ◌<◌, ◌^◌, length}
+use Rattle.std.specs.Prelude.{◌≡◌, ◌<◌, ◌^◌, length, IfSome}
 use Rattle.std.specs.FinMap.{from_sorted}
 use Rattle.wset.specs.Sets.{DeclaredView}
 use Rattle.wset.specs.Entries.{AllHeldBy, AreSettled, IsRising, known_entries}
 use Rattle.wset.specs.Blocks.{flat}
-use Rattle.wset.specs.Running.{AreStarts, orders_in}
+use Rattle.wset.specs.KeptOrders.{IsOrderOf}
+use Rattle.wset.specs.Running.{AreStarts, orders_in, rows_in}
 use Rattle.wset.specs.declared.set.SegmentSet.TheInside.{Inside}
 
 -- the view of the entries, under the declaration
@@ -12,7 +13,7 @@ abbrev pub declared_view : Inside → DeclaredView
 declared_view s = record { schema = s.schema; view = from_sorted (known_entries (flat s.blocks.items)); orders = orders_in (flat s.blocks.items) }
 
 -- the names rise, none is below a floor, they are counted by a number of 64 bits, each segment was read by the
--- declaration, and the live names before each block are counted
+-- declaration, the live names before each block are counted, and an order that is kept is that of the rows that are live
 pub record IsOrderly (s : Inside) : Type 0 where
   pub rising : IsRising (flat s.blocks.items)
   pub settled : AreSettled (known_entries (flat s.blocks.items))
@@ -21,3 +22,4 @@ pub record IsOrderly (s : Inside) : Type 0 where
   pub read : AllHeldBy s.schema (flat s.blocks.items)
   pub placed : length s.starts.items ≡ length s.blocks.items
   pub starts : AreStarts s.blocks.items s.starts.items
+  pub ordered : IfSome s.order (IsOrderOf (rows_in (flat s.blocks.items)))

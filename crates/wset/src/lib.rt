@@ -21,6 +21,7 @@ mod blocks;
 mod entries;
 mod held;
 mod kept;
+mod kept_order;
 mod known;
 pub mod laws;
 mod merge;

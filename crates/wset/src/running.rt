@@ -49,3 +49,15 @@ pub(crate) fn sources<'a>(
     }
     Ok(sources)
 }
+
+/// Whether there are several runs, of more than one group for two rows, so that to merge them again would cost about what sorting
+/// costs.
+pub(crate) fn cost_much(sources: &[SegmentRun]) -> bool {
+    let mut groups: usize = 0;
+    let mut rows: usize = 0;
+    for source in sources {
+        groups = groups.saturating_add(source.run().groups());
+        rows = rows.saturating_add(source.run().rows().len());
+    }
+    sources.len() > 1 && groups > rows / 2
+}

@@ -21,8 +21,9 @@ use crate::blocks::{
 };
 use crate::held::Held;
 use crate::kept::Kept;
+use crate::kept_order::{KeptOrder, is_by, order_kept, unpacked};
 use crate::merge::{joined, teaches};
-use crate::running::sources;
+use crate::running::{cost_much, sources};
 use crate::starts::{live_count_in, live_in, put_counted, raise_counted, starts_of};
 use crate::walk::{Lives, Names};
 use crate::words::{JoinError, Listed, Retired, Status, TakeError, Taken};
@@ -46,6 +47,7 @@ pub struct SegmentSet {
     blocks: Vec<Block>,
     starts: Vec<usize>,
     count: usize,
+    order: Option<KeptOrder>,
 }
 
 impl Model for SegmentSet {
@@ -85,6 +87,7 @@ impl SegmentSet {
             blocks: Vec::new(alloc),
             starts: Vec::new(alloc),
             count: 0,
+            order: None,
         }
     }
 
@@ -140,6 +143,7 @@ impl SegmentSet {
         ensures err { OnErr result (self.new ≡ self.old) }
     {
         let count = count_after(&self.blocks, self.count, &name)?;
+        self.order = None;
         put_counted(self.alloc, &mut self.blocks, &mut self.starts, name, held)?;
         self.count = count;
         Ok(())
@@ -266,6 +270,7 @@ impl SegmentSet {
             return Ok(Retired::Same);
         }
         let _count = count_after(&self.blocks, self.count, &name)?;
+        self.order = None;
         raise_counted(self.alloc, &mut self.blocks, &mut self.starts, name)?;
         self.count = entry_count(&self.blocks);
         Ok(Retired::New)
@@ -370,6 +375,7 @@ impl SegmentSet {
         let Ok(starts) = starts_of(self.alloc, &blocks) else {
             return Err(JoinError::NoMemory);
         };
+        self.order = None;
         self.blocks = blocks;
         self.starts = starts;
         self.count = names;
@@ -416,20 +422,60 @@ impl SegmentSet {
         kept.has(keys)
     }
 
-    /// The rows of all live segments, merged from their runs of these keys.
-    fn merged(&self, keys: &[SortKey]) -> Result<Vec<RowRef>, AllocError>
+    /// The rows of all live segments by these keys, if their order is kept.
+    fn kept_rows(&self, keys: &[SortKey]) -> Result<Option<Vec<RowRef>>, AllocError>
+        ensures { IfOk result (λ found. IfSome found (λ refs. refs.items ≡ refs_by keys.now (live_rows self.now))) }
+    {
+        let Some(order) = &self.order else {
+            return Ok(None);
+        };
+        if !is_by(order, keys) {
+            return Ok(None);
+        }
+        let rows = unpacked(self.alloc, order)?;
+        Ok(Some(rows))
+    }
+
+    /// The rows of all live segments, merged from their runs of these keys, and whether that cost much.
+    fn merged(&self, keys: &[SortKey]) -> Result<(Vec<RowRef>, bool), AllocError>
         requires { All (λ orders. IsAmong orders keys.now) self.now.orders }
-        ensures { IfOk result (λ refs. refs.items ≡ refs_by keys.now (live_rows self.now)) }
+        ensures { IfOk result (λ told. told.0.items ≡ refs_by keys.now (live_rows self.now)) }
     {
         let sources = sources(self.alloc, &self.blocks, keys)?;
-        wruns::ordered(self.alloc, keys, &sources)
+        let rows = wruns::ordered(self.alloc, keys, &sources)?;
+        Ok((rows, cost_much(&sources)))
+    }
+
+    /// Keeps the order of the rows of all live segments by these keys.
+    fn keep_order(&mut self, keys: &[SortKey], rows: &[RowRef]) -> Result<(), AllocError>
+        requires { rows.now ≡ refs_by keys.now (live_rows self.old) }
+        ensures { self.new ≡ self.old }
+    {
+        let order = order_kept(self.alloc, keys, rows)?;
+        self.order = order;
+        Ok(())
+    }
+
+    /// The rows of all live segments, merged from their runs of these keys. Where that costs much, and there are several segments,
+    /// the order is kept in the place of the one before.
+    fn merge(&mut self, keys: &[SortKey]) -> Result<Vec<RowRef>, AllocError>
+        requires { All (λ orders. IsAmong orders keys.now) self.old.orders }
+        ensures list { IfOk result (λ refs. refs.items ≡ refs_by keys.now (live_rows self.old)) }
+        ensures same { self.new ≡ self.old }
+    {
+        let (rows, many) = self.merged(keys)?;
+        if many {
+            self.keep_order(keys, &rows)?;
+        }
+        Ok(rows)
     }
 
     /// The rows of all live segments by keys, then by name and place: `segment` of a row is the number of its segment for
     /// `live_at`. A value that is not there, as no column has this number, is null.
     ///
     /// Each live segment has a run of these keys afterwards, by which the rows are found in order the next time; of five runs
-    /// of a segment the one that was made first is let go. What is known stays as it is, also where memory runs out: then
+    /// of a segment the one that was made first is let go. Where several segments have many different keys the order is kept, too,
+    /// in the place of the one before, until what is known changes: 4 bytes a row. What is known stays as it is, also where memory runs out: then
     /// the runs that were made so far stay.
     pub fn ordered(&mut self, keys: &[SortKey]) -> Result<Vec<RowRef>, AllocError>
         ensures list { IfOk result (λ refs. refs.items ≡ refs_by keys.now (live_rows self.old)) }
@@ -437,7 +483,11 @@ impl SegmentSet {
         ensures same { Becomes self.old self.old.view self.new }
     {
         self.make_runs(keys)?;
-        self.merged(keys)
+        let kept = self.kept_rows(keys)?;
+        match kept {
+            Some(rows) => Ok(rows),
+            None => self.merge(keys),
+        }
     }
 
     /// How a name stands.

@@ -1,4 +1,4 @@
-use Rattle.std.proofs.Common.{◌≡◌, ◌<◌, length, sym, ap, ◌∙◌, arith, take_all}
+use Rattle.std.proofs.Common.{◌<◌, length, sym, ◌∙◌, arith, take_all}
 use Rattle.std.specs.Prelude.{All}
 use Rattle.std.proofs.lemmas.List.Elements.{All-same}
 use Rattle.wset.specs.Running.{HeldHasRun, plain_block}

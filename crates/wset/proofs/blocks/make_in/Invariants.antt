@@ -1,4 +1,4 @@
-use Rattle.std.proofs.Common.{◌≡◌, map, take, length}
+use Rattle.std.proofs.Common.{◌≡◌, map, take}
 use Rattle.std.specs.Prelude.{All}
 use Rattle.wset.specs.Running.{HeldHasRun, plain_block}
 use Rattle.wset.proofs.blocks.make_in.Given as goal

@@ -1,4 +1,4 @@
-use Rattle.std.proofs.Common.{◌≡◌, ◌<◌, ◌+◌, ◌-◌, ◌/◌, ◌∙◌, suc, [], length, get_or, sym, subst, arith, rules, inl, inr}
+use Rattle.std.proofs.Common.{◌<◌, ◌+◌, ◌-◌, ◌/◌, ◌∙◌, [], length, sym, subst, arith, inl, inr}
 use Rattle.wset.specs.Lending.{AreOriginsBelow}
 use Rattle.wset.specs.Entries.{known_entries}
 use Rattle.wset.proofs.Cutting.{block_at}

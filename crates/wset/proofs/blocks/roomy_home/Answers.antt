@@ -1,4 +1,4 @@
-use Rattle.std.proofs.Common.{◌≡◌, ◌<◌, length, sym, ap, ◌∙◌, arith, subst, rules}
+use Rattle.std.proofs.Common.{◌<◌, length, sym, ap, arith, subst, rules}
 use Rattle.wset.specs.Entries.{IsRising}
 use Rattle.wset.specs.Blocks.{IsHome}
 use Rattle.wset.proofs.BlockFacts.{rising_at}

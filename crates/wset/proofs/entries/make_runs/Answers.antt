@@ -1,7 +1,6 @@
-use Rattle.std.proofs.Common.{◌≡◌, ◌<◌, length, map, sym, ap, ◌∙◌, arith, take_all}
-use Rattle.std.specs.Prelude.{All}
+use Rattle.std.proofs.Common.{◌<◌, length, sym, ap, ◌∙◌, arith, take_all}
 use Rattle.std.proofs.lemmas.List.Elements.{All-same}
-use Rattle.wset.specs.Running.{HeldHasRun, plain_block, plain_entry}
+use Rattle.wset.specs.Running.{HeldHasRun, plain_entry}
 use Rattle.wset.specs.declared.entries.Entry.{Entry}
 use Rattle.wset.proofs.RunFacts.{all_more, same_length, set_keeps}
 use Rattle.wset.proofs.entries.make_runs.Goals as goal

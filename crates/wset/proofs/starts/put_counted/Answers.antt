@@ -1,5 +1,5 @@
 use Rattle.std.proofs.Common.{◌≤◌, ◌<◌, ◌^◌, ◌∙◌, ap, arith, length, subst, sym, take}
-use Rattle.wset.specs.Blocks.{IsGrown, flat}
+use Rattle.wset.specs.Blocks.{flat}
 use Rattle.wset.specs.Entries.{known_entries}
 use Rattle.wset.specs.Lending.{AreBelow}
 use Rattle.wset.specs.Running.{AreStarts}

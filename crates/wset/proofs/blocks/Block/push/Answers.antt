@@ -1,4 +1,4 @@
-use Rattle.std.proofs.Common.{◌≡◌, ◌∙◌, ◌+◌, ◌++◌, ◌∷◌, ◌<◌, ◌^◌, [], ap, arith, length, length-append, rules, sym}
+use Rattle.std.proofs.Common.{◌+◌, ◌∷◌, ◌<◌, ◌^◌, [], ap, arith, length, length-append, rules}
 use Rattle.wset.specs.Running.{kept_in}
 use Rattle.wset.proofs.LiveFacts.{kept_few, length_kept}
 use Rattle.wset.proofs.blocks.Block.push.Goals as goal

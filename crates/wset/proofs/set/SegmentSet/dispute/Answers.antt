@@ -1,4 +1,4 @@
-use Rattle.std.proofs.Common.{◌≡◌, OnOk, subst}
+use Rattle.std.proofs.Common.{OnOk, subst}
 use Rattle.wset.proofs.Singles.{dispute_settled, dispute_other}
 use Rattle.wset.specs.Sets.{Becomes}
 use Rattle.wset.proofs.Sets.{same_view}

@@ -1,5 +1,5 @@
 use Rattle.std.proofs.Common.{◌≡◌, sym, ap, subst, ◌∙◌}
-use Rattle.std.specs.Prelude.{All, IfOk}
+use Rattle.std.specs.Prelude.{All}
 use Rattle.std.specs.List.{IsAmong}
 use Rattle.std.proofs.lemmas.List.Elements.{recursion_from_All}
 use Rattle.wruns.specs.Merging.{rows_seen}
@@ -18,4 +18,4 @@ sources-requires c =
 pub returns : goal.returns
 returns c =
     let rows = ap rows_seen c.deref-2.ensures.value ∙ c.in_ok-sources.ensures.rows ∙ ap (λ b. rows_in (flat b)) c.deref.ensures.value ∙ rows_live c.self.inside c.args.self.now c.self.invariant c.self.view_is in
-    subst (λ l. IfOk c.ordered.result (λ refs. refs.items ≡ refs_by c.args.keys.now l)) rows c.ordered.ensures
+    c.in_ok-rows.ensures ∙ ap (refs_by c.args.keys.now) rows

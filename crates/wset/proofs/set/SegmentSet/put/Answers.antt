@@ -20,6 +20,7 @@ invariant_of-self-2 c = record {
   few = omega arith;
   placed = c.put_counted.ensures.placed;
   starts = c.put_counted.ensures.starts;
+  ordered = tt;
   read = c.put_counted.ensures.read _ c.self.invariant.read (subst (λ s. IsHeldBy s.schema c.args.held) (sym c.self.view_is) c.requires.read);
 }
 
@@ -32,4 +33,4 @@ returns-clause-ok c =
     (view_put (flat c.self.inside.blocks.items) (flat c.put_counted.new.blocks.items) c.args.name (known_of c.args.held) c.self.invariant.rising c.in_ok-put_counted.ensures.ok)
 
 pub invariant_of-self : goal.invariant_of-self
-invariant_of-self c = orderly_flat c.self.inside _ refl refl c.in_err-put_counted.ensures.err c.put_counted.ensures.placed c.put_counted.ensures.starts c.self.invariant
+invariant_of-self c = orderly_flat c.self.inside _ refl refl c.in_err-put_counted.ensures.err c.put_counted.ensures.placed c.put_counted.ensures.starts refl c.self.invariant

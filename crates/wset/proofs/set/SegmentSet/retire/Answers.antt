@@ -1,4 +1,3 @@
-use Rattle.std.proofs.Common.{◌∙◌}
 use Rattle.wset.proofs.Singles.{retire_known, retire_other}
 use Rattle.wset.proofs.Sets.{same_view, then_view}
 use Rattle.wset.proofs.set.SegmentSet.retire.Goals as goal

@@ -35,6 +35,7 @@ invariant_of-self-2 c =
       few = omega arith;
       placed = c.raise_counted.ensures.placed;
       starts = c.raise_counted.ensures.starts;
+      ordered = tt;
       read = c.raise_counted.ensures.read _ c.self.invariant.read;
     }
 
@@ -49,4 +50,4 @@ returns-clause-ok c =
     (view_floor es gs c.args.name c.self.invariant.rising c.self.invariant.settled high known)
 
 pub invariant_of-self : goal.invariant_of-self
-invariant_of-self c = orderly_flat c.self.inside _ refl refl c.in_err-raise_counted.ensures.err c.raise_counted.ensures.placed c.raise_counted.ensures.starts c.self.invariant
+invariant_of-self c = orderly_flat c.self.inside _ refl refl c.in_err-raise_counted.ensures.err c.raise_counted.ensures.placed c.raise_counted.ensures.starts refl c.self.invariant

@@ -1,0 +1,15 @@
+-- An order of the rows of all live segments that is kept.
+use Rattle.std.specs.Prelude.{◌≡◌, ◌<◌, ◌/◌, ◌%◌, ℕ, List, map}
+use Rattle.wvalues.specs.Meaning.{Meaning}
+use Rattle.wruns.specs.Refs.{refs_by}
+use Rattle.wruns.specs.declared.refs.RowRef.{RowRef}
+use Rattle.wset.specs.declared.kept_order.KeptOrder.{KeptOrder}
+
+-- the row of a number
+abbrev pub unpacked : ℕ → ℕ → RowRef
+unpacked width number = record { segment = number / width; row = number % width }
+
+-- it is the one list of these rows by its keys
+pub record IsOrderOf (rows : List (List (List Meaning))) (order : KeptOrder) : Type 0 where
+  pub wide : 0 < order.width
+  pub list : map (unpacked order.width) order.rows.items ≡ refs_by order.keys.items rows
