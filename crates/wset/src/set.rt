@@ -474,9 +474,9 @@ impl SegmentSet {
     /// `live_at`. A value that is not there, as no column has this number, is null.
     ///
     /// Each live segment has a run of these keys afterwards, by which the rows are found in order the next time; of five runs
-    /// of a segment the one that was made first is let go. Where several segments have many different keys the order is kept, too,
-    /// in the place of the one before, until what is known changes: 4 bytes a row. What is known stays as it is, also where memory runs out: then
-    /// the runs that were made so far stay.
+    /// of a segment the one that was made first is let go. Where several segments have many different keys the order is kept,
+    /// too, in the place of the one before, until what is known changes: 4 bytes a row. What is known stays as it is, also where
+    /// memory runs out: then the runs that were made so far stay.
     pub fn ordered(&mut self, keys: &[SortKey]) -> Result<Vec<RowRef>, AllocError>
         ensures list { IfOk result (λ refs. refs.items ≡ refs_by keys.now (live_rows self.old)) }
         ensures has { OnOk result (All (λ orders. IsAmong orders keys.now) self.new.orders) }
