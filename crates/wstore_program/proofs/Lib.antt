@@ -1,2 +1,2 @@
 pub mod Performed
-pub mod Shelling
+pub mod Shells

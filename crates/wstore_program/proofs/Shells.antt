@@ -9,6 +9,7 @@ use Rattle.wact.specs.declared.opening.Opened.{Opened}
 use Rattle.wstore.specs.Nodes.{NodeState}
 use Rattle.wshell.specs.Runs as runs
 use Rattle.wshell.specs.declared.fault.ShellFault.{ShellFault}
+use Rattle.wshell.specs.declared.fault.ShellFault.TheVariants as ends
 use Rattle.wstore_program.specs.Shelling.{IsOpened, IsRun}
 
 -- what is opened on bytes that were read
@@ -18,9 +19,9 @@ opened table store (Ok o) result opens same none = subst (λ r. IfOk r IsOpened)
 opened table store (Err e) result opens same none = subst (λ r. IfOk r IsOpened) (sym none) tt
 
 -- how a run ended
-pub run_outcome : {I W : Type 0} (node : NodeState) (left : Option (List ℕ)) (input : Counts I) (old new : Option (List ℕ)) (output : Counts W) (end : Result Bool ShellFault)
+pub run_outcome : {I W : Type 0} (node : NodeState) (left new_left : Option (List ℕ)) (input : Counts I) (old new : Option (List ℕ)) (output : Counts W) (end : Result Bool ShellFault)
     → IfOk end (λ is_refused. IfSome left (λ bytes. (written : List ℕ) × Appends old new written × runs.Replies node.schema node.view bytes written is_refused))
     → OnErr end (IfSome left (λ bytes. (written : List ℕ) × Appends old new written × runs.RepliesBegun node.schema node.view bytes written))
-    → IfErr end (λ fault. runs.HasCause fault input output) → IsRun node left input old new output end
-run_outcome node left input old new output (Ok is_refused) replies begun cause = replies
-run_outcome node left input old new output (Err fault) replies begun cause = (begun, cause)
+    → IfErr end (λ fault. fault ≡ ends.Read → runs.KeepsUp node.schema node.view left new_left old new) → IfErr end (λ fault. runs.HasCause fault input output) → IsRun node left new_left input old new output end
+run_outcome node left new_left input old new output (Ok is_refused) replies begun prompt cause = replies
+run_outcome node left new_left input old new output (Err fault) replies begun prompt cause = (begun, prompt, cause)

@@ -12,6 +12,7 @@ use Rattle.wstore.specs.Nodes.{NodeState}
 use Rattle.wreplies.specs.declared.text.Text.{Text}
 use Rattle.wshell.specs.Runs as runs
 use Rattle.wshell.specs.declared.fault.ShellFault.{ShellFault}
+use Rattle.wshell.specs.declared.fault.ShellFault.TheVariants as faults
 
 -- of a shell's end: whether a query was refused, or a fault
 abbrev pub shell_status : Result Bool ShellFault → ℕ
@@ -30,15 +31,23 @@ pub data IsRefusal (text : List ℕ) (old new : Option (List ℕ)) (failures sta
   Printed : Appends old new text → status ≡ 1 → IsRefusal text old new failures status
   Unwritten : (n : ℕ) → Appends old new (take n text) → failures ≡ 1 → status ≡ 3 → IsRefusal text old new failures status
 
--- what a run on the queries of an input has written, where it ended so
-abbrev pub IsRun : {I W : Type 0} → NodeState → Option (List ℕ) → Counts I → Option (List ℕ) → Option (List ℕ) → Counts W → Result Bool ShellFault → Type 0
-IsRun node left input old new output (Ok is_refused) = IfSome left (λ bytes. (written : List ℕ) × Appends old new written × runs.Replies node.schema node.view bytes written is_refused)
-IsRun node left input old new output (Err fault) =
-    IfSome left (λ bytes. (written : List ℕ) × Appends old new written × runs.RepliesBegun node.schema node.view bytes written) × runs.HasCause fault input output
+-- what a run on the queries of an input has written, where it ended so; where a read failed, no reply waited for it
+abbrev pub IsRun : {I W : Type 0} → NodeState → Option (List ℕ) → Option (List ℕ) → Counts I → Option (List ℕ) → Option (List ℕ) → Counts W → Result Bool ShellFault → Type 0
+IsRun node left new_left input old new output (Ok is_refused) = IfSome left (λ bytes. (written : List ℕ) × Appends old new written × runs.Replies node.schema node.view bytes written is_refused)
+IsRun node left new_left input old new output (Err fault) =
+    IfSome left (λ bytes. (written : List ℕ) × Appends old new written × runs.RepliesBegun node.schema node.view bytes written)
+    × (fault ≡ faults.Read → runs.KeepsUp node.schema node.view left new_left old new)
+    × runs.HasCause fault input output
+
+-- a node answers the queries of an input
+pub record Answers {I W : Type 0} (node : NodeState) (left new_left : Option (List ℕ)) (input : Counts I) (old new : Option (List ℕ)) (output : Counts W) (status : ℕ) : Type 0 where
+  pub end : Result Bool ShellFault
+  pub ran : IsRun node left new_left input old new output end
+  pub status_is : status ≡ shell_status end
 
 -- the files are not read, and a fault has its cause; or the table or the store is refused; or the queries are answered on the node
 -- that they open
-pub data HasShellStatus {I W : Type 0} (counts : CallCounts) (left : Option (List ℕ)) (input : Counts I) (old new : Option (List ℕ)) (output : Counts W) (status : ℕ) : Type 0 where
-  Unread : (fault : Fault) → HasCause fault counts → Keeps old new → status ≡ 3 → HasShellStatus counts left input old new output status
-  Refused : (text : Text) → IsOpened (opens.Refused text) → IsRefusal (bytes_of text) old new output.failures status → HasShellStatus counts left input old new output status
-  Ran : (node : NodeState) (end : Result Bool ShellFault) → IsOpened (opens.Node node) → IsRun node left input old new output end → status ≡ shell_status end → HasShellStatus counts left input old new output status
+pub data HasShellStatus {I W : Type 0} (counts : CallCounts) (left new_left : Option (List ℕ)) (input : Counts I) (old new : Option (List ℕ)) (output : Counts W) (status : ℕ) : Type 0 where
+  Unread : (fault : Fault) → HasCause fault counts → Keeps old new → status ≡ 3 → HasShellStatus counts left new_left input old new output status
+  Refused : (text : Text) → IsOpened (opens.Refused text) → IsRefusal (bytes_of text) old new output.failures status → HasShellStatus counts left new_left input old new output status
+  Ran : (node : NodeState) → IsOpened (opens.Node node) → Answers node left new_left input old new output status → HasShellStatus counts left new_left input old new output status

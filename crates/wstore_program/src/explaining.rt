@@ -25,11 +25,10 @@ fn query_of<'a>(choice: &Choice<'a>) -> &'a str {
     }
 }
 
-// Whether what is printed is one refusal: of several queries and of a stream's messages it may be one of many.
+// Whether what is printed is one refusal: of several queries it may be one of many.
 fn tells_one(choice: &Choice<'_>) -> bool {
     match choice {
         Choice::Ask { queries, .. } => queries.len() == 1,
-        Choice::Feed { .. } => false,
         _ => true,
     }
 }
@@ -38,6 +37,17 @@ fn tells_one(choice: &Choice<'_>) -> bool {
 fn segment_of<'w, 'o>(choice: &Choice<'w>, bytes: &'o [u8]) -> Option<Input<'w, 'o>> {
     match *choice {
         Choice::Take { csv, .. } => Some(Input { path: csv, bytes }),
+        _ => None,
+    }
+}
+
+// STREAM of a choice, with its bytes.
+fn stream_of<'w, 'o>(choice: &Choice<'w>, bytes: &'o [u8]) -> Option<Input<'w, 'o>> {
+    match *choice {
+        Choice::Feed { stream, .. } => Some(Input {
+            path: stream,
+            bytes,
+        }),
         _ => None,
     }
 }
@@ -82,6 +92,7 @@ pub(crate) fn explain_refusal<R: AllocGlobal + Eprint>(
         },
         store: store_of(paths.store, store),
         segment: segment_of(choice, other),
+        stream: stream_of(choice, other),
         other: other_of(choice, other),
         origin,
         number,

@@ -1,11 +1,13 @@
 //! A shell on the files of a table and a store.
-ghost use Rattle.std.specs.Prelude.{◌≡◌, IfErr, IfOk, OnOk};
+ghost use Rattle.std.specs.Prelude.{◌≡◌, IfErr, IfOk, OnOk, option_map};
 ghost use Rattle.std.specs.Process.{exit_status};
 ghost use Rattle.wfiles.specs.Calls.{HasCause, IsSound};
 ghost use Rattle.wlines.specs.Pending.{IsNew};
-ghost use Rattle.wstore_program.specs.Shelling.{HasShellStatus, IsOpened, IsRefusal, shell_status};
+ghost use Rattle.wact.specs.Opening.{Opens};
+ghost use Rattle.wstore_program.specs.Shelling.{Answers, HasShellStatus, IsOpened, IsRefusal, shell_status};
 
-use crate::{DONE, failed};
+use crate::{DONE, failed, failed_on};
+use std::alloc::{AllocError, Global};
 use std::fs::File;
 use std::io::{Read, Write};
 use std::process::ExitCode;
@@ -15,10 +17,21 @@ use wcommand::Paths;
 use wfiles::{Fault, System, read_if_there, read_whole};
 use wlines::write_reply;
 use wshell::{ShellFault, run};
+use wstore::Node;
 use wvalues::Counted;
 
 /// The status of a refusal.
 const REFUSED: u8 = 1;
+
+// What the bytes of a table and a store open.
+fn opened(alloc: Global, table: &[u8], store: &Option<Vec<u8>>) -> Result<Opened, AllocError>
+    ensures { IfOk result (λ opened. Opens table.now (option_map (λ bytes. bytes.items) store.now) opened) }
+{
+    match store {
+        Some(bytes) => open_store(alloc, table, Some(bytes.as_slice())),
+        None => open_store(alloc, table, None),
+    }
+}
 
 // What the files of a table and a store open.
 fn open_files<R: Files<File = File> + AllocGlobal>(
@@ -31,15 +44,10 @@ fn open_files<R: Files<File = File> + AllocGlobal>(
     ensures sound { OnOk result (IsSound system.new) }
     ensures cause { IfErr result (λ fault. HasCause fault system.new) }
 {
-    let table = read_whole(rt.alloc(), system, paths.table)?;
-    match read_if_there(rt.alloc(), system, paths.store)? {
-        Some(store) => system.grown(open_store(
-            rt.alloc(),
-            table.as_slice(),
-            Some(store.as_slice()),
-        )),
-        None => system.grown(open_store(rt.alloc(), table.as_slice(), None)),
-    }
+    let alloc = rt.alloc();
+    let table = read_whole(alloc, system, paths.table)?;
+    let store = read_if_there(alloc, system, paths.store)?;
+    system.grown(opened(alloc, table.as_slice(), &store))
 }
 
 // The status of a shell's end.
@@ -66,6 +74,22 @@ fn refuse<W: Write>(rt: &impl Eprint, output: &mut Counted<W>, text: &[u8]) -> E
     }
 }
 
+// Answers the queries of an input on what a node knows.
+fn answer<R: AllocGlobal + Eprint, I: Read, W: Write>(
+    rt: &R,
+    node: Node,
+    input: &mut Counted<I>,
+    output: &mut Counted<W>,
+) -> ExitCode
+    requires input { IsNew input.old }
+    requires output { IsNew output.old }
+    ensures { Answers node (I.remaining input.old.inner) (I.remaining input.new.inner) input.new (W.contents output.old.inner) (W.contents output.new.inner) output.new (exit_status result) }
+{
+    let mut node = node;
+    let end = run(rt.alloc(), &mut node, input, output);
+    ended(rt, end)
+}
+
 /// Reads the table and the store, and answers the queries of an input on what the store knows, or tells why the table or
 /// the store is refused. It ends with status 0 where each query was answered, 1 where one or the table or the store was
 /// refused, and 3 at a fault.
@@ -79,14 +103,11 @@ pub(crate) fn run_shell<R: Files<File = File> + AllocGlobal + Eprint, I: Read, W
     requires sound { IsSound system.old }
     requires input { IsNew input.old }
     requires output { IsNew output.old }
-    ensures { HasShellStatus system.new (I.remaining input.old.inner) input.new (W.contents output.old.inner) (W.contents output.new.inner) output.new (exit_status result) }
+    ensures { HasShellStatus system.new (I.remaining input.old.inner) (I.remaining input.new.inner) input.new (W.contents output.old.inner) (W.contents output.new.inner) output.new (exit_status result) }
 {
     match open_files(rt, system, paths) {
-        Ok(Opened::Node(node)) => {
-            let mut node = node;
-            ended(rt, run(rt.alloc(), &mut node, input, output))
-        }
+        Ok(Opened::Node(node)) => answer(rt, node, input, output),
         Ok(Opened::Refused(text)) => refuse(rt, output, text.as_slice()),
-        Err(fault) => failed(rt, fault),
+        Err(fault) => failed_on(rt, system, fault),
     }
 }
