@@ -39,7 +39,7 @@ pub record RepliesBegun (d : Declaration) (v : View) (input output : List ℕ) :
   pub tells : Tells d v texts answers
   pub output_is : output ≡ take n (replies_text answers)
 
--- of what was read of the input, each query that had ended was answered: none of its replies waits for more to be read
+-- of what was read of the input, each query that had ended was answered, and its reply written
 pub record KeepsUp (d : Declaration) (v : View) (left new_left first contents : Option (List ℕ)) : Type 0 where
   pub input : List ℕ
   pub queries : List (List ℕ)

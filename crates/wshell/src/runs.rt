@@ -173,7 +173,7 @@ pub fn run<R: Read, W: Write>(
     // At a fault it is a beginning of them.
     ensures begun { OnErr result (IfSome (R.remaining input.old.inner) (λ bytes.
         (written : List ℕ) × Appends (W.contents output.old.inner) (W.contents output.new.inner) written × RepliesBegun node.old.schema node.old.view bytes written)) }
-    // Where a read fails, each query that ended in what was read before was answered: no reply waits for the next read.
+    // Where a read fails, each query that ended in what was read before was answered, and its reply written.
     ensures prompt { IfErr result (λ fault. fault ≡ ShellFault.Read
         → KeepsUp node.old.schema node.old.view (R.remaining input.old.inner) (R.remaining input.new.inner) (W.contents output.old.inner) (W.contents output.new.inner)) }
     // A run that ends has seen no failure, and a fault has its cause.
