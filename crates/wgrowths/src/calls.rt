@@ -126,7 +126,7 @@ fn call_words(alloc: Global, case: &Case<'_>, is_done: bool) -> Result<Text, All
         Err(WordsFault::Help(text)) => return Ok(Text::Made(text.into_bytes())),
         Err(WordsFault::Refused(text)) => return Ok(Text::Made(text.into_bytes())),
     };
-    if !is_done || choice.paths().is_none() {
+    if !is_done || !choice.is_act() {
         return Ok(DONE);
     }
     let table = case.table.as_bytes();
