@@ -11,9 +11,8 @@ use crate::choice::Choice;
 use crate::command_set::command_set;
 use crate::fault::WordsFault;
 use crate::values::choice_of;
-use clap::ArgMatches;
-use clap::Error;
 use clap::error::ErrorKind;
+use clap::{ArgMatches, Error};
 use std::alloc::{AllocError, Global};
 
 // A character as it is shown: one that a terminal would obey is replaced, but for a line feed.
