@@ -1,6 +1,6 @@
 //! Stores that subcommands make, put in the place of others in a simulated folder whose machine stops at each call in turn.
-ghost use Rattle.std.specs.Prelude.{◌≢◌};
-ghost use Rattle.wcommand.specs.declared.choice.Choice.TheVariants.{Session};
+ghost use Rattle.std.specs.Prelude.{◌≡◌, true};
+ghost use Rattle.wcommand.specs.Inputs.{is_act};
 
 use std::alloc::{AllocError, Global};
 use std::fs::Permissions;
@@ -45,7 +45,7 @@ const MANY_CALLS: usize = 20;
 
 // What a subcommand gives on the bytes of a store.
 fn acted(alloc: Global, choice: &Choice<'_>, store: Option<&[u8]>) -> Result<Acted, AllocError>
-    requires { choice.now ≢ Session }
+    requires { is_act choice.now ≡ true }
 {
     act(alloc, choice, TABLE, store, CSV)
 }
