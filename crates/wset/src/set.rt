@@ -37,9 +37,9 @@ use wvalues::{Name, SortKey};
 ///
 /// In a contract it is the declaration, the view, and the keys of the runs that are kept of each live segment, in the order
 /// of names. It keeps an entry for each floor and for each name above it that is not unknown, in the order of names and in
-/// blocks of at most 512, which are cut in two as they grow, and beside the blocks how many live names stand before each. A
-/// segment's bytes and cells are shared by all sets that know it, and so are its runs, so a set that is new and then joins
-/// another is a cheap copy of it.
+/// blocks of at most 512, which are cut in two as they grow, and beside the blocks how many live names stand before each, and
+/// at most one order of the rows of all live segments. A segment's bytes and cells are shared by all sets that know it, and so
+/// are its runs, so a set that is new and then joins another is a cheap copy of it.
 #[derive(Drop)]
 pub struct SegmentSet {
     alloc: Global,
