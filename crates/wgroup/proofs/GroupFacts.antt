@@ -1,5 +1,5 @@
 -- Groups by the order of first sight, and by their keys.
-use Rattle.std.proofs.Common.{◌≡◌, ℕ, ◌+◌, ◌<◌, ◌==◌, Bool, false, not, List, [], ◌∷◌, length, map, filter, get_or, All, Ordering, sym, ap, ◌∙◌, arith}
+use Rattle.std.proofs.Common.{◌≡◌, ℕ, ◌<◌, ◌==◌, true, false, not, List, [], ◌∷◌, length, map, filter, get_or, All, Ordering, sym, ap, ◌∙◌, arith}
 use Rattle.std.specs.Borrow.{Bor}
 use Rattle.std.specs.List.{list_any, AllByRecursion}
 use Rattle.std.specs.Ordering.{on}
@@ -17,13 +17,15 @@ use Rattle.wrows.specs.LaidRows.{laid}
 use Rattle.wrows.specs.Laid.{row_seen, rows_seen}
 use Rattle.wrows.specs.Plain.{numbers_by}
 use Rattle.wrows.specs.Sorting.{ascending}
-use Rattle.wrows.proofs.RowFacts.{all_of_each, row_at, map-map, places_below, length-places}
-use Rattle.waggregate.proofs.GroupFacts.{place_at_from}
+use Rattle.wrows.proofs.RowFacts.{all_of_each, row_at, map-map, places_below}
 use Rattle.wgroup.specs.Grouping.{Group, SetColumns, agree, first_rows, group_cmp, group_key, group_of, groups_by, groups_of_set, set_columns, set_value}
 use Rattle.waggregate.specs.Grouped.{rows_of_group}
-use Rattle.wgroup.specs.Sight.{first_of, key_in, members, same_row, slice_at}
-use Rattle.wgroup.proofs.ListFacts.{filter_same, any_same, map_same, all_implied, all_kept, below_all, at_places}
+use Rattle.wgroup.specs.Sight.{IsSight, first_of, key_in, same_row, slice_at}
+use Rattle.wgroup.proofs.ListFacts.{map_same, all_implied, at_places}
 use Rattle.wgroup.proofs.KeyFacts.{cells_agree}
+use Rattle.wgroup.proofs.SeenFacts.{agree_equiv}
+use Rattle.wgroup.proofs.SightFacts.{rows_numbered}
+use Rattle.wgroup.proofs.CoarserFacts.{sights_agree}
 use Rattle.wrows.proofs.MoreSorting.{sorted_map, sorted_same}
 
 pub keys_wide : (columns : SetColumns) (rows : List (Bor (List Value))) → AllByRecursion (λ r. length (key_in columns (row_seen r)) ≡ length columns) rows
@@ -31,9 +33,6 @@ keys_wide columns rows = all_of_each (λ r. length (key_in columns (row_seen r))
 
 pub group_keys_wide : (columns : SetColumns) (rows : List Row) (is : List ℕ) → AllByRecursion (λ i. length (group_key columns rows i) ≡ length columns) is
 group_keys_wide columns rows is = all_of_each (λ i. length (group_key columns rows i) ≡ length columns) (λ i. length-map columns (set_value (key_at rows i))) is
-
-pub firsts_below : (same : ℕ → ℕ → Bool) (n : ℕ) → AllByRecursion (λ i. i < n) (first_of same n)
-firsts_below same n = all_kept (λ i. i < n) (λ i. not (list_any (same i) (places i))) (places n) (places_below 0 n n (omega arith))
 
 module _ (columns : SetColumns) (rows : List (Bor (List Value))) where
   abbrev n : ℕ
@@ -62,29 +61,14 @@ module _ (columns : SetColumns) (rows : List (Bor (List Value))) where
     same_agrees : (i j : ℕ) → i < n → j < n → same_row w cells i j ≡ agree columns told i j
     same_agrees i j h k = cells_agree columns (slice_at w cells i) (slice_at w cells j) (group_key columns told i) (group_key columns told j) (slice_key i h) (slice_key j k) (key_wide i) (key_wide j)
 
-    pub firsts_agree : first_of (same_row w cells) n ≡ first_of (agree columns told) n
-    firsts_agree =
-        filter_same (λ i. not (list_any (same_row w cells i) (places i))) (λ i. not (list_any (agree columns told i) (places i))) (places n)
-        (below_all (λ i. not (list_any (same_row w cells i) (places i)) ≡ not (list_any (agree columns told i) (places i))) n
-        (λ i h. ap not (any_same (same_row w cells i) (agree columns told i) (places i) (below_all (λ j. same_row w cells i j ≡ agree columns told i j) i (λ j k. same_agrees i j h (omega (arith, h, k)))))))
-
-    members_same : (i : ℕ) → i < n → members (same_row w cells) n i ≡ members (agree columns told) n i
-    members_same i h = filter_same (same_row w cells i) (agree columns told i) (places n) (below_all (λ j. same_row w cells i j ≡ agree columns told i j) n (λ j k. same_agrees i j h k))
-
-    pub members_agree : map (members (same_row w cells) n) (first_of (same_row w cells) n) ≡ map (members (agree columns told) n) (first_of (agree columns told) n)
-    members_agree =
-        map_same (members (same_row w cells) n) (members (agree columns told) n) (first_of (same_row w cells) n)
-        (all_implied (λ i. i < n) (λ i. members (same_row w cells) n i ≡ members (agree columns told) n i) members_same (first_of (same_row w cells) n) (firsts_below (same_row w cells) n))
-        ∙ ap (map (members (agree columns told) n)) firsts_agree
+    pub rows_agree : (firsts numbers : List ℕ) → IsSight (same_row w cells) n firsts numbers → IsSight (agree columns told) n firsts numbers
+    rows_agree = sights_agree (same_row w cells) (agree columns told) n same_agrees
 
   firsts_told : first_of (agree columns told) n ≡ first_rows columns told
   firsts_told = ap (λ m. filter (λ i. not (list_any (agree columns told i) (places i))) (places m)) (sym long)
 
-  members_told : (i : ℕ) → members (agree columns told) n i ≡ filter (agree columns told i) (places (length told))
-  members_told i = ap (λ m. filter (agree columns told i) (places m)) (sym long)
-
   module _ (set firsts order numbers : List ℕ) (keys : List Value) (count : ℕ)
-      (are_firsts : firsts ≡ first_of (agree columns told) n) (are_lists : map (rows_of_group numbers) (places (length firsts)) ≡ map (members (agree columns told) n) (first_of (agree columns told) n))
+      (sight : IsSight (agree columns told) n firsts numbers)
       (are_keys : laid w (length firsts) keys ≡ map (group_key columns told) firsts) (are_so_many : count ≡ length firsts)
       (in_order : order ≡ numbers_by (ascending columns) (laid w (length firsts) keys) (length firsts)) (below : All (λ i. i < length firsts) order) where
     abbrev first : ℕ → ℕ
@@ -94,12 +78,7 @@ module _ (columns : SetColumns) (rows : List (Bor (List Value))) where
     key_here g h = ap (λ ks. get_or ks g []) are_keys ∙ get_or-map (group_key columns told) firsts g 0 [] h
 
     rows_here : (g : ℕ) → g < length firsts → rows_of_group numbers g ≡ filter (agree columns told (first g)) (places (length told))
-    rows_here g h =
-        let room : g < length (places (length firsts)) = omega (arith, h, length-places 0 (length firsts)) in
-        let zero_more : 0 + g ≡ g = omega arith in
-        ap (rows_of_group numbers) (sym (place_at_from 0 (length firsts) g 0 h ∙ zero_more)) ∙ sym (get_or-map (rows_of_group numbers) (places (length firsts)) g 0 [] room)
-        ∙ ap (λ ls. get_or ls g []) (are_lists ∙ ap (map (members (agree columns told) n)) (sym are_firsts)) ∙ get_or-map (members (agree columns told) n) firsts g 0 [] h
-        ∙ members_told (first g)
+    rows_here g h = rows_numbered (agree columns told) (agree_equiv columns told) n firsts numbers sight g h ∙ ap (λ m. filter (agree columns told (first g)) (places m)) (sym long)
 
     abbrev group : ℕ → Group
     group g = record { set = set; key = key_at (laid w count keys) g; rows = rows_of_group numbers g }
@@ -118,7 +97,7 @@ module _ (columns : SetColumns) (rows : List (Bor (List Value))) where
         ap (map first) (in_order ∙ sorted_same (λ g. g < length firsts) (on (key_at (laid w (length firsts) keys)) (keys_cmp (ascending columns))) (on first by_key)
         (λ x y h k. ap (λ a. group_cmp columns a (key_at (laid w (length firsts) keys) y)) (key_here x h) ∙ ap (λ b. group_cmp columns (group_key columns told (first x)) b) (key_here y k))
         (places (length firsts)) (places_below 0 (length firsts) (length firsts) (omega arith)))
-        ∙ sym (sorted_map by_key first (places (length firsts))) ∙ ap (sorted by_key) (at_places firsts 0 ∙ are_firsts ∙ firsts_told)
+        ∙ sym (sorted_map by_key first (places (length firsts))) ∙ ap (sorted by_key) (at_places firsts 0 ∙ sight.are_firsts ∙ firsts_told)
 
     -- the groups in memory are those that are meant
     pub are_groups : map group order ≡ groups_by set columns told
@@ -130,6 +109,9 @@ module _ (columns : SetColumns) (rows : List (Bor (List Value))) where
 pub some_length : {X : Type 0} (xs : List X) → false ≡ (length xs == 0) → 0 < length xs
 some_length [] h = absurd (grind (arith, nat_tests))
 some_length (x ∷ xs) h = omega arith
+
+pub no_length : {X : Type 0} (xs : List X) → (length xs == 0) ≡ true → length xs ≡ 0
+no_length xs h = grind (arith, nat_tests)
 
 -- the groups of a set, which is empty or not
 pub of_no_columns : (columns set : List ℕ) (rows : List (Bor (List Value))) (groups : List Group) → length set ≡ 0 → groups ≡ record { set = []; key = map (λ c. Null) columns; rows = places (length rows) } ∷ [] → groups ≡ groups_of_set columns (rows_seen rows) set

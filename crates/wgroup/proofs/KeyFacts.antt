@@ -1,10 +1,10 @@
 -- Rows of cells are the same where their keys agree.
-use Rattle.std.proofs.Common.{◌≡◌, ℕ, ◌+◌, ◌<◌, ◌++◌, ◌&&◌, take, get_or, true, false, List, [], ◌∷◌, length, map, suc, Option, None, Ordering, Less, Equal, Greater, refl, sym, ap, ◌∙◌, true≢false}
+use Rattle.std.proofs.Common.{◌≡◌, ℕ, ◌+◌, ◌<◌, ◌++◌, ◌&&◌, take, get_or, true, false, List, [], ◌∷◌, length, map, suc, cond, Option, Some, None, Ordering, Less, Equal, Greater, refl, sym, ap, ◌∙◌, true≢false}
 use Rattle.std.specs.Bool.{one_answer}
 use Rattle.std.specs.Ordering.{is_eq}
 use Rattle.std.specs.Cmp.Lexicographic.{pointwise, pointwise_decides}
 use Rattle.std.proofs.lemmas.Cmp.{tied_itself}
-use Rattle.std.proofs.lemmas.List.{map-append, take_more}
+use Rattle.std.proofs.lemmas.List.{length-map, map-append, take_more}
 use Rattle.wvalues.specs.declared.value.Value.{Value}
 use Rattle.wvalues.specs.declared.key.SortKey.{SortKey}
 use Rattle.wvalues.specs.Meaning.{Meaning, meaning}
@@ -12,7 +12,8 @@ use Rattle.wvalues.specs.Sameness.{same_meaning, meaning_decides}
 use Rattle.wvalues.specs.Order.{keys_cmp}
 use Rattle.wvalues.specs.OrderLaws.{keys_total, ties_are_same}
 use Rattle.wrows.specs.Sorting.{ascending}
-use Rattle.wgroup.specs.Grouping.{SetColumns, group_cmp}
+use Rattle.wgroupby.specs.Sets.{is_among}
+use Rattle.wgroup.specs.Grouping.{SetColumns, group_cmp, set_columns}
 use Rattle.wgroup.specs.Sight.{same_cells}
 
 by_meaning : (xs ys : List Value) → same_cells xs ys ≡ pointwise same_meaning (map meaning xs) (map meaning ys)
@@ -50,3 +51,6 @@ pub ascending_made : (columns : SetColumns) (i : ℕ) (old new : List SortKey) �
 ascending_made columns i old new h e f =
     let key : Option ℕ → SortKey = λ x. record { col = 0; desc = false; nulls_first = false } in
     f ∙ ap (λ l. l ++ key None ∷ []) e ∙ sym (map-append key (take i columns) (get_or columns i None ∷ [])) ∙ ap (map key) (sym (take_more columns i None h))
+
+pub columns_long : (columns set : List ℕ) → length (set_columns columns set) ≡ length columns
+columns_long columns set = length-map columns (λ c. cond (is_among c set) (Some c) None)

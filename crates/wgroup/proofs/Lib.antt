@@ -1,6 +1,7 @@
 mod LeaderFacts
 mod SightFacts
 mod SeenFacts
+mod CoarserFacts
 mod NumberFacts
 mod ListFacts
 mod KeyFacts

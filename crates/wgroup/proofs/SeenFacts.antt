@@ -27,7 +27,7 @@ module _ (columns : SetColumns) (rows : List Row) where
   key_wide : (i : ℕ) → length (group_key columns rows i) ≡ length (ascending columns)
   key_wide i = length-map columns (set_value (key_at rows i)) ∙ sym (length_ascending columns)
 
-  agree_decides : (i j : ℕ) → Decides (agree columns rows i j) (group_key columns rows i ≡ group_key columns rows j)
+  pub agree_decides : (i j : ℕ) → Decides (agree columns rows i j) (group_key columns rows i ≡ group_key columns rows j)
   agree_decides i j = keys_decide (ascending columns) (group_key columns rows i) (group_key columns rows j) (key_wide i) (key_wide j)
 
   -- rows that have the same values in the columns agree on them

@@ -1,6 +1,6 @@
 -- Rows by a test of whether two are the same, in the order of first sight, and rows of cells that are the same.
 use Rattle.std.specs.Prelude.{◌≡◌, ℕ, ◌*◌, ◌<◌, ◌≤◌, Bool, true, not, List, map, filter, take, drop, get_or, Option, Some, None}
-use Rattle.std.specs.List.{list_all, list_any}
+use Rattle.std.specs.List.{list_all, list_any, position_or_len}
 use Rattle.std.specs.Cmp.Lexicographic.{pointwise}
 use Rattle.wvalues.specs.declared.value.Value.{Value}
 use Rattle.wvalues.specs.Meaning.{Meaning, meaning}
@@ -18,9 +18,18 @@ pub record IsFirst (same : ℕ → ℕ → Bool) (n row first : ℕ) : Type 0 wh
   pub alike : same row first ≡ true
   pub least : (i : ℕ) → i < n → same row i ≡ true → first ≤ i
 
--- the rows, of n, that are the same as this one
-abbrev pub members : (ℕ → ℕ → Bool) → ℕ → ℕ → List ℕ
-members same n i = filter (same i) (places n)
+-- the numbers of the rows' groups: the place of a row's first row among all
+abbrev pub group_numbers : (ℕ → ℕ → Bool) → ℕ → List ℕ
+group_numbers same n = map (λ i. position_or_len (same i) (first_of same n)) (places n)
+
+-- the first rows, of n, and the number of each row's group
+pub record IsSight (same : ℕ → ℕ → Bool) (n : ℕ) (firsts numbers : List ℕ) : Type 0 where
+  pub are_firsts : firsts ≡ first_of same n
+  pub are_numbers : numbers ≡ group_numbers same n
+
+-- rows that are the same in one way are so in the other
+abbrev pub IsCoarser : (ℕ → ℕ → Bool) → (ℕ → ℕ → Bool) → Type 0
+IsCoarser fine coarse = (i j : ℕ) → fine i j ≡ true → coarse i j ≡ true
 
 -- the cells of a row of this width
 abbrev pub slice_at : ℕ → List Value → ℕ → List Value

@@ -15,6 +15,7 @@
 
 mod columns;
 mod counting;
+mod finer;
 mod found;
 mod grouping;
 mod groups;

@@ -3,16 +3,14 @@
 //! A row's key is looked for in few slots of a table, from that of its hash on, and where it is in none of them it is compared
 //! with all keys that were seen. So a table is right whatever hashes are, and where it would be slow it is given up: where
 //! there are many groups, or where keys are pushed out of their slots again and again.
-ghost use Rattle.std.specs.Prelude.{◌≡◌, ◌<◌, true, false, All, get_or, length, map, IfOk, IfSome};
+ghost use Rattle.std.specs.Prelude.{◌≡◌, ◌<◌, true, false, get_or, length, map, IfOk, IfSome};
 ghost use Rattle.std.specs.List.{list_any};
 ghost use Rattle.std.specs.Option.{IfNone};
 ghost use Rattle.wvalues.specs.Meaning.{Null, meaning};
 ghost use Rattle.wvalues.specs.Sameness.{same_meaning};
-ghost use Rattle.wframe.specs.Places.{places};
 ghost use Rattle.wrows.specs.Laid.{rows_seen};
-ghost use Rattle.waggregate.specs.Grouped.{rows_of_group};
 ghost use Rattle.wgroup.specs.Grouping.{agree, set_value};
-ghost use Rattle.wgroup.specs.Sight.{first_of, has_same_key, leader_in, members};
+ghost use Rattle.wgroup.specs.Sight.{IsSight, has_same_key, leader_in};
 
 use crate::keys::cells_at;
 use crate::sight::{Sight, note, number_of};
@@ -247,10 +245,7 @@ fn tabled_groups(
     null: &Value,
 ) -> Result<Option<Sight>, AllocError>
     requires { meaning null.now ≡ Null }
-    ensures firsts { IfOk result (λ seen. IfSome seen (λ sight. sight.firsts.items ≡ first_of (agree columns.now (rows_seen rows.now)) (length rows.now))) }
-    ensures rows { IfOk result (λ seen. IfSome seen (λ sight. map (rows_of_group sight.numbers.items) (places (length sight.firsts.items)) ≡ map (members (agree columns.now (rows_seen rows.now)) (length rows.now)) (first_of (agree columns.now (rows_seen rows.now)) (length rows.now)))) }
-    ensures below { IfOk result (λ seen. IfSome seen (λ sight. All (λ g. g < length sight.firsts.items) sight.numbers.items)) }
-    ensures len { IfOk result (λ seen. IfSome seen (λ sight. length sight.numbers.items ≡ length rows.now)) }
+    ensures { IfOk result (λ seen. IfSome seen (λ sight. IsSight (agree columns.now (rows_seen rows.now)) (length rows.now) sight.firsts.items sight.numbers.items)) }
 {
     let mut slots = vec![in alloc; EMPTY; SLOTS]?;
     let mut looks = 0;
@@ -276,10 +271,7 @@ pub(crate) fn seen_groups(
     columns: &[Option<usize>],
     rows: &[&[Value]],
 ) -> Result<Option<Sight>, AllocError>
-    ensures firsts { IfOk result (λ seen. IfSome seen (λ sight. sight.firsts.items ≡ first_of (agree columns.now (rows_seen rows.now)) (length rows.now))) }
-    ensures rows { IfOk result (λ seen. IfSome seen (λ sight. map (rows_of_group sight.numbers.items) (places (length sight.firsts.items)) ≡ map (members (agree columns.now (rows_seen rows.now)) (length rows.now)) (first_of (agree columns.now (rows_seen rows.now)) (length rows.now)))) }
-    ensures below { IfOk result (λ seen. IfSome seen (λ sight. All (λ g. g < length sight.firsts.items) sight.numbers.items)) }
-    ensures len { IfOk result (λ seen. IfSome seen (λ sight. length sight.numbers.items ≡ length rows.now)) }
+    ensures { IfOk result (λ seen. IfSome seen (λ sight. IsSight (agree columns.now (rows_seen rows.now)) (length rows.now) sight.firsts.items sight.numbers.items)) }
 {
     if rows.len() < FEWEST_ROWS {
         return Ok(None);
