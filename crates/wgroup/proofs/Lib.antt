@@ -2,6 +2,10 @@ mod LeaderFacts
 mod SightFacts
 mod SeenFacts
 mod CoarserFacts
+mod TotalFacts
+mod PartFacts
+mod AnswerFacts
+mod MadeFacts
 mod NumberFacts
 mod ListFacts
 mod KeyFacts

@@ -1,5 +1,5 @@
 -- Groups in memory, and aggregates over their rows.
-use Rattle.std.specs.Prelude.{ℕ, ◌+◌, ◌++◌, List, map, Option, Result}
+use Rattle.std.specs.Prelude.{ℕ, ◌+◌, ◌++◌, List, map, slice_index_or, Option, Some, None, Result}
 use Rattle.std.specs.List.{flat_map}
 use Rattle.std.specs.declared.alloc.Global.{Global}
 use Rattle.std.specs.declared.vec.Vec.{Vec}
@@ -13,6 +13,7 @@ use Rattle.wrows.specs.LaidRows.{laid}
 use Rattle.waggregate.specs.Aggregating.{aggregate_of, feed_of, Feed}
 use Rattle.waggregate.specs.Grouped.{rows_of_group}
 use Rattle.wgroup.specs.declared.found.Groups as memory
+use Rattle.wgroup.specs.declared.found.FinerSet as made
 use Rattle.wplan.specs.Plans.{GroupCallPlan, GroupAggregate, GroupingOf}
 use Rattle.wgroup.specs.Grouping.{Group, grouping_answer}
 use Rattle.wplan.specs.declared.resolved.AggregateFunction.{AggregateFunction}
@@ -21,9 +22,17 @@ use Rattle.wplan.specs.declared.resolved.AggregateFunction.{AggregateFunction}
 abbrev pub columns_in : List (Vec Value Global) → List (List Meaning)
 columns_in = map (λ column. map meaning column.items)
 
+-- the number of each row's group, by that of its finer group where there is one
+abbrev pub by_row : List ℕ → Option made.FinerSet → List ℕ
+by_row numbers None = numbers
+by_row numbers (Some finer) = map (λ i. slice_index_or finer.numbers.items i 0) numbers
+
+abbrev pub row_numbers : memory.Groups → List ℕ
+row_numbers g = by_row g.numbers.value.items g.finer
+
 -- a group in memory by its number in the order of first sight, and all of a set by their keys
 abbrev pub group_in : memory.Groups → ℕ → Group
-group_in g i = record { set = g.set.items; key = key_at (laid g.width g.count g.keys.items) i; rows = rows_of_group g.numbers.items i }
+group_in g i = record { set = g.set.items; key = key_at (laid g.width g.count g.keys.items) i; rows = rows_of_group (row_numbers g) i }
 
 abbrev pub groups_in : memory.Groups → List Group
 groups_in g = map (group_in g) g.order.items
@@ -34,7 +43,7 @@ all_groups = flat_map groups_in
 
 -- an aggregate that is fed so, for each group of a set, by the numbers of the rows' groups
 abbrev pub set_answers : AggregateFunction → Feed → memory.Groups → List (Option Meaning)
-set_answers function feed g = map (λ i. aggregate_of function feed (rows_of_group g.numbers.items i)) g.order.items
+set_answers function feed g = map (λ i. aggregate_of function feed (rows_of_group (row_numbers g) i)) g.order.items
 
 -- GROUPING of columns for each group of a set
 abbrev pub set_grouping : List ℕ → memory.Groups → List (Option Meaning)

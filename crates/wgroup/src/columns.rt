@@ -1,5 +1,5 @@
 //! What the calls of groups answer.
-ghost use Rattle.std.specs.Prelude.{◌≡◌, ◌<◌, ◌≤◌, ◌^◌, ◌+◌, ◌*◌, All, length, map, min, option_map, if◌then◌else◌, IfOk, Ok};
+ghost use Rattle.std.specs.Prelude.{◌≡◌, ◌<◌, ◌≤◌, ◌^◌, ◌+◌, ◌*◌, All, length, map, min, option_map, take, if◌then◌else◌, IfOk, Ok, Some};
 ghost use Rattle.std.specs.Option.{ForSome};
 ghost use Rattle.std.specs.List.{flat_map};
 ghost use Rattle.wvalues.specs.Meaning.{Null, meaning};
@@ -12,9 +12,12 @@ ghost use Rattle.wrows.specs.Outcomes.{Gives, each};
 ghost use Rattle.wrows.specs.Laid.{rows_seen};
 ghost use Rattle.wgroupby.specs.Sets.{grouping_of};
 ghost use Rattle.wgroup.specs.Grouping.{grouping_answer};
+ghost use Rattle.waggregate.specs.Aggregating as aggregating;
+ghost use Rattle.wgroup.specs.Finer.{AreAnswered, AreMade, IsMade, IsMadeOf, function_of_parts};
 ghost use Rattle.wgroup.specs.Held.{all_groups, column_over, columns_in, set_answers, set_grouping};
 
-use crate::found::Groups;
+use crate::found::{FinerSet, Groups};
+use crate::groups::items_at;
 use crate::keys::is_among;
 use std::alloc::{AllocError, Global};
 use waggregate::{
@@ -24,6 +27,102 @@ use wplan::{Aggregate, AggregateFunction, GroupCall};
 use wrows::AnswerFault;
 use wvalues::{Value, Whole};
 
+// What puts answers for parts of groups together.
+fn function_of_parts(function: AggregateFunction) -> AggregateFunction
+    ensures { result ≡ function_of_parts function }
+{
+    match function {
+        AggregateFunction::CountRows => AggregateFunction::Sum,
+        AggregateFunction::Count => AggregateFunction::Sum,
+        AggregateFunction::Sum => AggregateFunction::Sum,
+        AggregateFunction::Min => AggregateFunction::Min,
+        AggregateFunction::Max => AggregateFunction::Max,
+    }
+}
+
+// What an aggregate comes to over the rows of each group of a set, by what it comes to on each group of a finer set.
+fn answers_of_parts(
+    alloc: Global,
+    function: AggregateFunction,
+    parts: &[Value],
+    set: &Groups,
+    finer: &FinerSet,
+    groups: &Groups,
+) -> Result<Vec<Value>, AnswerFault>
+    requires made { IsMadeOf set.now finer.now.numbers.items groups.now }
+    requires finer { groups.now.finer ≡ Some finer.now }
+    requires len { length parts.now ≡ length set.now.order.items }
+    requires few { length groups.now.numbers.value.items < 2 ^ 31 }
+    ensures gives { (feed : aggregating.Feed) → in_range (set_answers function feed set.now) ≡ Ok (map meaning parts.now) → Gives (λ column. map meaning column.items) result (in_range (set_answers function feed groups.now)) }
+    ensures len { IfOk result (λ column. length column.items ≡ length groups.now.order.items) }
+{
+    let values = lent_values(alloc, parts)?;
+    let numbers = items_at(alloc, &finer.numbers, &set.order)?;
+    let function = function_of_parts(function);
+    aggregate_groups(
+        alloc,
+        function,
+        &values,
+        &None,
+        &numbers,
+        groups.count,
+        &groups.order,
+    )
+}
+
+// What an aggregate that is fed so comes to over the rows of each group of a set, where it was answered for the sets before.
+fn group_answers(
+    alloc: Global,
+    function: AggregateFunction,
+    values: &[&Value],
+    filter: &Option<Vec<bool>>,
+    sets: &[Groups],
+    answered: &[Vec<Value>],
+    groups: &Groups,
+) -> Result<Vec<Value>, AnswerFault>
+    requires made { IsMade (take (length answered.now) sets.now) groups.now }
+    requires answered { AreAnswered function (fed_by values.now filter.now) sets.now answered.now }
+    requires len { length groups.now.numbers.value.items ≡ length values.now }
+    requires tests { ForSome filter.now (λ tests. length tests.items ≡ length values.now) }
+    requires few { length values.now < 2 ^ 31 }
+    ensures gives { Gives (λ column. map meaning column.items) result (in_range (set_answers function (fed_by values.now filter.now) groups.now)) }
+    ensures len { IfOk result (λ column. length column.items ≡ length groups.now.order.items) }
+{
+    match &groups.finer {
+        None => aggregate_groups(
+            alloc,
+            function,
+            values,
+            filter,
+            &groups.numbers,
+            groups.count,
+            &groups.order,
+        ),
+        Some(finer) => {
+            let place = finer.place;
+            answers_of_parts(
+                alloc,
+                function,
+                &answered[place],
+                &sets[place],
+                finer,
+                groups,
+            )
+        }
+    }
+}
+
+// Lists, one behind the other.
+fn joined(alloc: Global, lists: Vec<Vec<Value>>) -> Result<Vec<Value>, AllocError>
+    ensures { IfOk result (λ column. map meaning column.items ≡ flat_map (λ list. map meaning list.items) lists.items) }
+{
+    let mut column = Vec::new(alloc);
+    for mut list in lists {
+        column.append(&mut list)?;
+    }
+    Ok(column)
+}
+
 // What an aggregate that is fed so comes to over the rows of each group of all sets.
 fn aggregate_answers(
     alloc: Global,
@@ -32,26 +131,19 @@ fn aggregate_answers(
     filter: &Option<Vec<bool>>,
     sets: &[Groups],
 ) -> Result<Vec<Value>, AnswerFault>
-    requires len { All (λ groups. length groups.numbers.items ≡ length values.now) sets.now }
+    requires made { AreMade sets.now }
+    requires len { All (λ groups. length groups.numbers.value.items ≡ length values.now) sets.now }
     requires tests { ForSome filter.now (λ tests. length tests.items ≡ length values.now) }
     requires few { length values.now < 2 ^ 31 }
     ensures gives { Gives (λ column. map meaning column.items) result (in_range (flat_map (set_answers function (fed_by values.now filter.now)) sets.now)) }
     ensures len { IfOk result (λ column. length column.items ≡ length (all_groups sets.now)) }
 {
-    let mut column = Vec::new(alloc);
+    let mut answered = Vec::with_capacity(alloc, sets.len())?;
     for groups in sets {
-        let numbers = &groups.numbers;
-        let mut answers = aggregate_groups(
-            alloc,
-            function,
-            values,
-            filter,
-            numbers,
-            groups.count,
-            &groups.order,
-        )?;
-        column.append(&mut answers)?;
+        let answers = group_answers(alloc, function, values, filter, sets, &answered, groups)?;
+        answered.push(answers)?;
     }
+    let column = joined(alloc, answered)?;
     Ok(column)
 }
 
@@ -65,7 +157,8 @@ fn fed_column(
 ) -> Result<Vec<Value>, AnswerFault>
     requires values { column_of (formula aggregate.now.argument) (rows_seen rows.now) ≡ Ok (meanings values.now) }
     requires wide { length values.now ≡ length rows.now }
-    requires len { All (λ groups. length groups.numbers.items ≡ length rows.now) sets.now }
+    requires made { AreMade sets.now }
+    requires len { All (λ groups. length groups.numbers.value.items ≡ length rows.now) sets.now }
     requires few { length rows.now < 2 ^ 31 }
     ensures gives { Gives (λ column. map meaning column.items) result (column_over (rows_seen rows.now) sets.now (GroupAggregate (aggregate_plan aggregate.now))) }
     ensures len { IfOk result (λ column. length column.items ≡ length (all_groups sets.now)) }
@@ -81,7 +174,8 @@ fn evaluated_column(
     rows: &[&[Value]],
     sets: &[Groups],
 ) -> Result<Vec<Value>, AnswerFault>
-    requires len { All (λ groups. length groups.numbers.items ≡ length rows.now) sets.now }
+    requires made { AreMade sets.now }
+    requires len { All (λ groups. length groups.numbers.value.items ≡ length rows.now) sets.now }
     requires few { length rows.now < 2 ^ 31 }
     ensures gives { Gives (λ column. map meaning column.items) result (column_over (rows_seen rows.now) sets.now (GroupAggregate (aggregate_plan aggregate.now))) }
     ensures len { IfOk result (λ column. length column.items ≡ length (all_groups sets.now)) }
@@ -99,7 +193,8 @@ fn null_column(
     sets: &[Groups],
 ) -> Result<Vec<Value>, AnswerFault>
     requires null { formula aggregate.now.argument ≡ Constant Null }
-    requires len { All (λ groups. length groups.numbers.items ≡ length rows.now) sets.now }
+    requires made { AreMade sets.now }
+    requires len { All (λ groups. length groups.numbers.value.items ≡ length rows.now) sets.now }
     requires few { length rows.now < 2 ^ 31 }
     ensures gives { Gives (λ column. map meaning column.items) result (column_over (rows_seen rows.now) sets.now (GroupAggregate (aggregate_plan aggregate.now))) }
     ensures len { IfOk result (λ column. length column.items ≡ length (all_groups sets.now)) }
@@ -116,7 +211,8 @@ fn aggregate_column(
     rows: &[&[Value]],
     sets: &[Groups],
 ) -> Result<Vec<Value>, AnswerFault>
-    requires len { All (λ groups. length groups.numbers.items ≡ length rows.now) sets.now }
+    requires made { AreMade sets.now }
+    requires len { All (λ groups. length groups.numbers.value.items ≡ length rows.now) sets.now }
     requires few { length rows.now < 2 ^ 31 }
     ensures gives { Gives (λ column. map meaning column.items) result (column_over (rows_seen rows.now) sets.now (GroupAggregate (aggregate_plan aggregate.now))) }
     ensures len { IfOk result (λ column. length column.items ≡ length (all_groups sets.now)) }
@@ -223,7 +319,8 @@ fn column(
     rows: &[&[Value]],
     sets: &[Groups],
 ) -> Result<Vec<Value>, AnswerFault>
-    requires len { All (λ groups. length groups.numbers.items ≡ length rows.now) sets.now }
+    requires made { AreMade sets.now }
+    requires len { All (λ groups. length groups.numbers.value.items ≡ length rows.now) sets.now }
     requires few { length rows.now < 2 ^ 31 }
     ensures gives { Gives (λ column. map meaning column.items) result (column_over (rows_seen rows.now) sets.now (group_call_plan call.now)) }
     ensures len { IfOk result (λ column. length column.items ≡ length (all_groups sets.now)) }
@@ -242,7 +339,8 @@ pub(crate) fn call_columns(
     rows: &[&[Value]],
     sets: &[Groups],
 ) -> Result<Vec<Vec<Value>>, AnswerFault>
-    requires len { All (λ groups. length groups.numbers.items ≡ length rows.now) sets.now }
+    requires made { AreMade sets.now }
+    requires len { All (λ groups. length groups.numbers.value.items ≡ length rows.now) sets.now }
     requires few { length rows.now < 2 ^ 31 }
     ensures gives { Gives (λ columns. columns_in columns.items) result (each (column_over (rows_seen rows.now) sets.now) (map group_call_plan calls.now)) }
     ensures len { IfOk result (λ columns. All (λ column. length column.items ≡ length (all_groups sets.now)) columns.items) }

@@ -31,7 +31,7 @@ returns-in_err-filter-clause-gives c =
     (then_refused {X = Feed} (λ feed. feed) view fault (filters >>= fed) told (then_refused {Y = Feed} seen (λ feed. feed) fault filters fed c.in_err-filter.ensures.gives)))
 
 pub aggregate_answers-requires-clause-len : goal.aggregate_answers-requires-clause-len
-aggregate_answers-requires-clause-len c = subst (λ n. All (λ (groups : memory.Groups). length groups.numbers.items ≡ n) c.args.sets.now) (sym c.requires.wide) c.requires.len
+aggregate_answers-requires-clause-len c = subst (λ n. All (λ (groups : memory.Groups). length groups.numbers.value.items ≡ n) c.args.sets.now) (sym c.requires.wide) c.requires.len
 
 pub aggregate_answers-requires-clause-tests : goal.aggregate_answers-requires-clause-tests
 aggregate_answers-requires-clause-tests c = subst (λ n. ForSome c.in_ok-filter.filter (λ tests. length tests.items ≡ n)) (sym c.requires.wide) c.in_ok-filter.ensures.len

@@ -1,31 +1,29 @@
-use Rattle.std.proofs.Common.{◌≡◌, ◌*◌, ◌<◌, ℕ, length, map, All, subst, sym, ap, ◌∙◌}
+use Rattle.std.proofs.Common.{◌≡◌, ◌*◌, ◌<◌, ℕ, length, map, All, subst, refl, sym, ap, ◌∙◌}
 use Rattle.wframe.specs.Peers.{key_at}
 use Rattle.wrows.specs.LaidRows.{laid}
 use Rattle.wrows.specs.Plain.{numbers_by}
 use Rattle.wrows.specs.Sorting.{ascending}
 use Rattle.wrows.specs.Laid.{rows_seen}
 use Rattle.waggregate.specs.Grouped.{rows_of_group}
-use Rattle.wgroup.specs.Grouping.{Group, SetColumns, agree, group_key, groups_by, set_columns}
-use Rattle.wgroup.specs.Sight.{IsSight}
+use Rattle.wgroup.specs.Grouping.{Group, SetColumns, group_key, groups_by, set_columns}
+use Rattle.wgroup.specs.Held.{by_row}
+use Rattle.std.specs.Ordering.{on}
+use Rattle.wvalues.specs.Order.{keys_cmp}
+use Rattle.wframe.specs.Places.{places}
+use Rattle.wframe.specs.Sorting.{sorted}
 use Rattle.wgroup.proofs.KeyFacts.{columns_long, length_ascending}
 use Rattle.wgroup.proofs.GroupFacts.{are_groups}
-use Rattle.wgroup.proofs.SeenFacts.{agree_equiv}
-use Rattle.wgroup.proofs.SightFacts.{as_many_numbers, numbers_below}
 use Rattle.wgroup.proofs.groups.keyed_groups.Goals as goal
 
 pub invariant_of-result-clause-laid : goal.invariant_of-result-clause-laid
 invariant_of-result-clause-laid c =
     let columns = c.args.columns.now in
     let wide : length c.deref-2.result.now ≡ length columns = ap length (c.deref-2.ensures.value ∙ c.in_ok-kept.ensures) ∙ columns_long columns c.args.set.now in
-    let count : c.len-count.result ≡ length c.args.sight.firsts.items = c.len-count.ensures ∙ c.args.sight.firsts.ok.0 in
+    let count : c.len-count.result ≡ length c.args.firsts.items = c.len-count.ensures ∙ c.args.firsts.ok.0 in
     c.in_ok-keys.ensures.laid ∙ ap (λ m. m * length c.deref-2.result.now) (ap length c.deref-3.ensures.value ∙ sym count) ∙ ap (λ w. c.len-count.result * w) wide
 
-pub invariant_of-result-clause-numbered : goal.invariant_of-result-clause-numbered
-invariant_of-result-clause-numbered c =
-    let same = agree (set_columns c.args.columns.now c.args.set.now) (rows_seen c.args.rows.now) in
-    let count : c.len-count.result ≡ length c.args.sight.firsts.items = c.len-count.ensures ∙ c.args.sight.firsts.ok.0 in
-    subst (λ m. All (λ i. i < m) c.args.sight.numbers.items) (sym count)
-    (numbers_below same (agree_equiv (set_columns c.args.columns.now c.args.set.now) (rows_seen c.args.rows.now)) (length c.args.rows.now) c.args.sight.firsts.items c.args.sight.numbers.items c.requires)
+pub invariant_of-result-clause-below : goal.invariant_of-result-clause-below
+invariant_of-result-clause-below c = subst (λ m. All (λ i. i < m) c.in_ok-order.order.items) (c.len.ensures ∙ sym c.len-count.ensures) c.in_ok-order.ensures.below
 
 pub returns-clause-groups : goal.returns-clause-groups
 returns-clause-groups c =
@@ -33,14 +31,14 @@ returns-clause-groups c =
     let told = rows_seen rows in
     let kept : SetColumns = set_columns c.args.columns.now c.args.set.now in
     let w = length kept in
-    let firsts = c.args.sight.firsts.items in
-    let numbers = c.args.sight.numbers.items in
+    let firsts = c.args.firsts.items in
+    let numbers = by_row c.args.numbers.value.items c.args.finer in
     let keys = c.in_ok-keys.keys.items in
     let order = c.in_ok-order.order.items in
     let m = c.len.result in
     let by = c.deref-2.result.now in
-    let count : m ≡ length firsts = c.len.ensures ∙ c.args.sight.firsts.ok.0 in
-    let so_many : c.len-count.result ≡ length firsts = c.len-count.ensures ∙ c.args.sight.firsts.ok.0 in
+    let count : m ≡ length firsts = c.len.ensures ∙ c.args.firsts.ok.0 in
+    let so_many : c.len-count.result ≡ length firsts = c.len-count.ensures ∙ c.args.firsts.ok.0 in
     let columns : by ≡ kept = c.deref-2.ensures.value ∙ c.in_ok-kept.ensures in
     let are_keys : laid w (length firsts) keys ≡ map (group_key kept told) firsts
     = ap (λ k. laid (length k) (length firsts) keys) (sym columns) ∙ ap (λ f. laid (length by) (length f) keys) (sym c.deref-3.ensures.value) ∙ c.in_ok-keys.ensures.keys
@@ -56,12 +54,16 @@ returns-clause-groups c =
     ∙ are_groups kept rows c.in_ok-set.set.items firsts order numbers keys c.len-count.result c.requires are_keys so_many in_order (subst (λ k. All (λ i. i < k) order) count c.in_ok-order.ensures.below)
     ∙ ap (λ s. groups_by s kept told) c.in_ok-set.ensures.items
 
-pub returns-clause-len : goal.returns-clause-len
-returns-clause-len c =
-    as_many_numbers (agree (set_columns c.args.columns.now c.args.set.now) (rows_seen c.args.rows.now)) (length c.args.rows.now) c.args.sight.firsts.items c.args.sight.numbers.items c.requires
-
-pub returns-clause-seen : goal.returns-clause-seen
-returns-clause-seen c = λ some.
-    let rows = rows_seen c.args.rows.now in
-    let kept = subst (λ s. IsSight (agree (set_columns c.args.columns.now s) rows) (length c.args.rows.now) c.args.sight.firsts.items c.args.sight.numbers.items) (sym c.in_ok-set.ensures.items) c.requires in
-    record { are_firsts = c.few_firsts.ensures some ∙ kept.are_firsts; are_numbers = kept.are_numbers }
+pub returns-clause-keyed : goal.returns-clause-keyed
+returns-clause-keyed c =
+    let so_many : c.len-count.result ≡ length c.args.firsts.items = c.len-count.ensures ∙ c.args.firsts.ok.0 in
+    let by = c.deref-5.result.now in
+    let keys = laid (length by) c.len.result c.deref-4.result.now in
+    record {
+      of_set = c.in_ok-set.ensures.items;
+      kept = c.kept_firsts-firsts.ensures;
+      numbered = refl;
+      of_finer = refl;
+      as_many = so_many;
+      ordered = (on (key_at keys) (keys_cmp by), c.in_ok-order.ensures.order ∙ ap (λ n. sorted (on (key_at keys) (keys_cmp by)) (places n)) (c.len.ensures ∙ sym c.len-count.ensures));
+    }
