@@ -6,7 +6,7 @@ use Rattle.wgroup.specs.Grouping.{Group}
 use Rattle.waggregate.specs.Grouped.{rows_of_group}
 use Rattle.wgroup.specs.Finer.{IsMadeOf, MadeFrom}
 use Rattle.wgroup.proofs.NumberFacts.{all_in_one, are_equal, zero_at, zeros_below}
-use Rattle.wgroup.proofs.groups.all_groups.Goals as goal
+use Rattle.wgroup.proofs.groups.all_rows_of_groups.Goals as goal
 
 pub returns-clause-groups : goal.returns-clause-groups
 returns-clause-groups c =
