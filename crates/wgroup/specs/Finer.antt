@@ -19,7 +19,7 @@ use Rattle.wgroup.specs.declared.found.Groups as memory
 use Rattle.wgroup.specs.declared.found.FinerSet as made
 use Rattle.wgroup.specs.Grouping.{agree, set_columns}
 use Rattle.wgroup.specs.Sight.{IsSight}
-use Rattle.wgroup.specs.Held.{set_answers}
+use Rattle.wgroup.specs.Held.{row_numbers, set_answers}
 
 -- whether all columns of a set are among others
 abbrev pub is_part : List ℕ → List ℕ → Bool
@@ -36,7 +36,7 @@ IsOrdered order n = (cmp : ℕ → ℕ → Ordering) × (order ≡ sorted cmp (p
 -- what groups are made of, by their keys
 pub record IsKeyed (set firsts numbers : List ℕ) (finer : Option made.FinerSet) (g : memory.Groups) : Type 0 where
   pub of_set : g.set.items ≡ set
-  pub kept : 0 < length g.firsts.items → (g.firsts.items ≡ firsts) × (finer ≡ None)
+  pub kept : 0 < length g.firsts.items → g.firsts.items ≡ firsts
   pub numbered : g.numbers.value.items ≡ numbers
   pub of_finer : g.finer ≡ finer
   pub as_many : g.count ≡ length firsts
@@ -52,11 +52,11 @@ pub record IsBase (g : memory.Groups) : Type 0 where
 
 -- the groups of rows that agree on the columns of a set, with the first row of each
 pub record IsKept (columns : List ℕ) (rows : List (Bor (List Value))) (g : memory.Groups) : Type 0 where
-  pub base : IsBase g
-  pub sight : IsSight (agree (set_columns columns g.set.items) (rows_seen rows)) (length rows) g.firsts.items g.numbers.value.items
+  pub base : g.finer ≡ None → IsBase g
+  pub sight : IsSight (agree (set_columns columns g.set.items) (rows_seen rows)) (length rows) g.firsts.items (row_numbers g)
   pub as_many : g.count ≡ length g.firsts.items
 
--- where first rows are kept, they are those of groups of rows
+-- where first rows are kept, they are those of such groups
 abbrev pub IsSeen : List ℕ → List (Bor (List Value)) → memory.Groups → Type 0
 IsSeen columns rows g = 0 < length g.firsts.items → IsKept columns rows g
 
@@ -84,6 +84,20 @@ MadeFrom earlier g (Some finer) = IsMadeOfOne earlier finer g
 
 abbrev pub IsMade : List memory.Groups → memory.Groups → Type 0
 IsMade earlier g = MadeFrom earlier g g.finer
+
+-- what numbers groups have that are made of groups
+abbrev pub IsLinked : memory.Groups → Type 0
+IsLinked g = (finer : made.FinerSet) → g.finer ≡ Some finer → (All (λ i. i < g.count) finer.numbers.items) × (All (λ i. i < length finer.numbers.items) g.numbers.value.items)
+
+-- what groups are made of that are made of a set's groups: of these, or of those that these are made of
+abbrev pub IsJoined : ℕ → List ℕ → Option made.FinerSet → made.FinerSet → Type 0
+IsJoined place numbers None joined = (joined.place ≡ place) × (joined.numbers.items ≡ numbers)
+IsJoined place numbers (Some finer) joined = (joined.place ≡ finer.place) × (joined.numbers.items ≡ map (λ i. slice_index_or numbers i 0) finer.numbers.items)
+
+-- the place of the set, made of rows, that a set's groups are made of
+abbrev pub base_place : ℕ → Option made.FinerSet → ℕ
+base_place place None = place
+base_place place (Some finer) = finer.place
 
 -- each set's groups are made so
 abbrev pub AreMade : List memory.Groups → Type 0

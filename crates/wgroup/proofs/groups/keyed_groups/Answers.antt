@@ -61,7 +61,7 @@ returns-clause-keyed c =
     let keys = laid (length by) c.len.result c.deref-4.result.now in
     record {
       of_set = c.in_ok-set.ensures.items;
-      kept = c.kept_firsts-firsts.ensures;
+      kept = c.few_firsts-firsts.ensures;
       numbered = refl;
       of_finer = refl;
       as_many = so_many;
