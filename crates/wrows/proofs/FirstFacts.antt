@@ -1,6 +1,6 @@
 -- The first rows by keys, wherever these lie, and what is asked for among them.
 use Rattle.std.proofs.Common.{◌≡◌, ℕ, ◌+◌, ◌-◌, ◌<◌, ◌≤◌, List, [], length, map, take, min, Option, Result, Ok, Err, sym, ap, ◌∙◌, arith}
-use Rattle.std.specs.Prelude.{All}
+use Rattle.std.specs.Prelude.{All, IfSome, Some, None}
 use Rattle.std.specs.Ordering.{on}
 use Rattle.std.proofs.lemmas.List.{get_or-map}
 use Rattle.wvalues.specs.declared.key.SortKey.{SortKey}
@@ -79,3 +79,8 @@ module _ (order : List SortKey) (offset : ℕ) (limit : Option ℕ) (n from coun
     asked_refused view other OutOfRange e = asked_is ∙ refused_by (lists_of keys all) OutOfRange (firsts_are ∙ e)
     asked_refused view other TooManyRows e = asked_is ∙ refused_by (lists_of keys all) TooManyRows (firsts_are ∙ e)
     asked_refused view other NoMemory e = tt
+
+-- what is found is what is meant
+pub found_is : {V : Type 0} (items : V → List ℕ) (found : Option V) (first : List ℕ) (meant : Result (List ℕ) AnswerFault) → IfSome found (λ v. items v ≡ first) → meant ≡ Ok first → IfSome found (λ v. meant ≡ Ok (items v))
+found_is items None first meant h e = tt
+found_is items (Some v) first meant h e = e ∙ ap Ok (sym h)

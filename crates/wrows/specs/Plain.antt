@@ -26,7 +26,7 @@ cut offset (Some limit) rows = take limit (drop offset rows)
 -- whether so few are asked for, with those left out first, that they are selected, without an order of all
 abbrev pub is_selected : ℕ → Option ℕ → Bool
 is_selected offset None = false
-is_selected offset (Some limit) = nat_le (offset + limit) 64
+is_selected offset (Some limit) = nat_le (offset + limit) 1024
 
 -- the rows that a condition keeps, if they are not too many
 abbrev pub kept_of : Option Formula → List Row → Result (List Row) AnswerFault

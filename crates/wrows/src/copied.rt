@@ -15,11 +15,15 @@ use wvalues::Value;
 /// How many rows are read before they are copied, so few that a cache holds them until then.
 const BATCH: usize = 256;
 
-// Whether a value is a text.
+// Whether a value is a text. Its length is looked at, which stands beside the count of its owners, so that both are near when it
+// is copied.
 fn is_text(value: &Value) -> bool
     ensures { result ≡ is_text (meaning value.now) }
 {
-    matches!(value, Value::Text(_))
+    match value {
+        Value::Text(text) => text.as_str().len() < usize::MAX,
+        Value::Null | Value::Int(_) => false,
+    }
 }
 
 // Whether one of the rows of these numbers has a text at a place. Each is read, whatever was found before.

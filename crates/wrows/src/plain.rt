@@ -37,9 +37,9 @@ impl Asked {
     }
 }
 
-// Whether so many rows, with those left out first, are selected one by one.
+// Whether so many rows, with those left out first, are selected.
 fn is_few(offset: u128, limit: u128) -> bool
-    ensures { result ≡ nat_le (offset + limit) 64 }
+    ensures { result ≡ nat_le (offset + limit) 1024 }
 {
     let most = MOST_SELECTED as u128;
     offset <= most && limit <= most - offset

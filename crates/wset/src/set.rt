@@ -446,18 +446,20 @@ impl SegmentSet {
         Ok((rows, cost_much(&sources)))
     }
 
-    /// Keeps the order of the rows of all live segments by these keys.
-    fn keep_order(&mut self, keys: &[SortKey], rows: &[RowRef]) -> Result<(), AllocError>
+    /// Keeps the order of the rows of all live segments by these keys in the place of the one before, which is let go first. Where
+    /// it finds no memory none is kept.
+    fn keep_order(&mut self, keys: &[SortKey], rows: &[RowRef])
         requires { rows.now ≡ refs_by keys.now (live_rows self.old) }
         ensures { self.new ≡ self.old }
     {
-        let order = order_kept(self.alloc, keys, rows)?;
-        self.order = order;
-        Ok(())
+        self.order = None;
+        if let Ok(order) = order_kept(self.alloc, keys, rows) {
+            self.order = order;
+        }
     }
 
     /// The rows of all live segments, merged from their runs of these keys. Where that costs much, and there are several segments,
-    /// the order is kept in the place of the one before.
+    /// the order is kept in the place of the one before, if there is memory for it.
     fn merge(&mut self, keys: &[SortKey]) -> Result<Vec<RowRef>, AllocError>
         requires { All (λ orders. IsAmong orders keys.now) self.old.orders }
         ensures list { IfOk result (λ refs. refs.items ≡ refs_by keys.now (live_rows self.old)) }
@@ -465,7 +467,7 @@ impl SegmentSet {
     {
         let (rows, many) = self.merged(keys)?;
         if many {
-            self.keep_order(keys, &rows)?;
+            self.keep_order(keys, &rows);
         }
         Ok(rows)
     }
@@ -475,8 +477,9 @@ impl SegmentSet {
     ///
     /// Each live segment has a run of these keys afterwards, by which the rows are found in order the next time; of five runs
     /// of a segment the one that was made first is let go. Where several segments have many different keys the order is kept,
-    /// too, in the place of the one before, until what is known changes: 4 bytes a row. What is known stays as it is, also where
-    /// memory runs out: then the runs that were made so far stay.
+    /// too, in the place of the one before, until what is known changes: 4 bytes a row; where memory runs out for that alone,
+    /// none is kept. What is known stays as it is, also where memory runs out before the rows are found: then the runs that were
+    /// made so far stay.
     pub fn ordered(&mut self, keys: &[SortKey]) -> Result<Vec<RowRef>, AllocError>
         ensures list { IfOk result (λ refs. refs.items ≡ refs_by keys.now (live_rows self.old)) }
         ensures has { OnOk result (All (λ orders. IsAmong orders keys.now) self.new.orders) }

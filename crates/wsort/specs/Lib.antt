@@ -7,3 +7,4 @@ pub mod CodedRows
 pub mod Dealt
 pub mod Foretold
 pub mod Ranks
+pub mod Selected

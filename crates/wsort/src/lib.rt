@@ -11,7 +11,8 @@
 //! - Leaves: what keys come to on a row, to `wrows`.
 //!
 //! Read `specs/Columns.antt`, `specs/LaidRows.antt` and `specs/Ordered.antt`; `specs/Codes.antt`, `specs/Bases.antt`,
-//! `specs/CodedRows.antt`, `specs/Foretold.antt` and `specs/Ranks.antt` say what is sorted, and `specs/Dealt.antt` how.
+//! `specs/CodedRows.antt`, `specs/Foretold.antt` and `specs/Ranks.antt` say what is sorted, `specs/Dealt.antt` how, and
+//! `specs/Selected.antt` where the first rows are found.
 #![tactic(auto)]
 
 mod cells;

@@ -15,4 +15,4 @@ pub loop-row-preserved : goal.loop-row-preserved
 loop-row-preserved c =
     let line = line-of field_text meaning c.row.result.now (get_or c.args.table.now.rows c.loop-row.row []) c.row.ensures.values in
     lines-more c.args.table.now.rows c.loop-row.row (get_or c.args.table.now.rows c.loop-row.row []) (line_text (map text_field c.args.table.now.names)) c.loop-row.bytes.items (line_text (map (λ value. field_text (meaning value)) c.row.result.now)) c.push_line-in-loop-row.new.bytes.items
-    (omega (arith, c.loop-row-test.true, c.rows-row-end.ensures)) refl c.loop-row.invariant line c.in_ok-push_line-2.ensures
+    (omega (arith, c.loop-row-test.true, c.rows-row-end.ensures)) refl c.loop-row.invariant line (c.in_ok-push_line-2.ensures ∙ ap (λ front. front ++ line_text (map (λ value. field_text (meaning value)) c.row.result.now)) c.in_ok-look_ahead.ensures)

@@ -1,4 +1,4 @@
-use Rattle.std.proofs.Common.{◌≡◌, Ok, length, map, sym, ap, ◌∙◌}
+use Rattle.std.proofs.Common.{Ok, length, map, sym, ap, ◌∙◌}
 use Rattle.wframe.specs.Peers.{key_at}
 use Rattle.wsort.specs.LaidRows.{laid}
 use Rattle.wrows.specs.Laid.{formulas_seen, rows_seen}

@@ -1,9 +1,8 @@
-use Rattle.std.proofs.Common.{◌≡◌, ◌<◌, Ok, length, map, sym, ap, ◌∙◌}
+use Rattle.std.proofs.Common.{◌<◌, Ok, length, map, sym, ap, ◌∙◌}
 use Rattle.std.proofs.lemmas.List.Elements.{recursion_from_All}
 use Rattle.wframe.specs.Peers.{key_at}
 use Rattle.wframe.specs.Places.{places}
 use Rattle.wplan.specs.Formula.{At}
-use Rattle.wsort.specs.LaidRows.{laid}
 use Rattle.wrows.specs.Laid.{rows_seen}
 use Rattle.wrows.specs.Columns.{beside, lists_of}
 use Rattle.wrows.specs.Picked.{picked}
