@@ -1,3 +1,9 @@
-mod Links
+pub mod Links
 mod TypeFacts
 mod Answered
+mod WrittenOut
+mod Indexed
+mod Made
+pub mod Nested
+pub mod Grouped
+mod Placed

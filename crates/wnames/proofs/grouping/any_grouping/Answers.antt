@@ -1,7 +1,7 @@
 use Rattle.std.proofs.Common.{◌∙◌}
 use Rattle.std.specs.List.{flat_map}
 use Rattle.wquery.specs.GroupElements.{entry_columns, view_element}
-use Rattle.wnames.proofs.Nested.{nested_any}
+use Rattle.wscope.proofs.Nested.{nested_any}
 use Rattle.wnames.proofs.grouping.any_grouping.Goals as goal
 
 pub returns : goal.returns

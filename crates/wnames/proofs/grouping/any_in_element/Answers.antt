@@ -1,7 +1,7 @@
 use Rattle.std.proofs.Common.{◌∙◌, ap}
 use Rattle.std.specs.List.{list_any}
 use Rattle.wquery.specs.GroupElements.{entry_columns, view_group_entry}
-use Rattle.wnames.proofs.Nested.{nested_any}
+use Rattle.wscope.proofs.Nested.{nested_any}
 use Rattle.wnames.proofs.grouping.any_in_element.Goals as goal
 
 pub returns : goal.returns

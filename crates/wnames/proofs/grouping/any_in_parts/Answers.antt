@@ -1,6 +1,6 @@
 use Rattle.std.proofs.Common.{◌∙◌}
 use Rattle.wquery.specs.GroupElements.{view_part}
-use Rattle.wnames.proofs.Nested.{nested_any}
+use Rattle.wscope.proofs.Nested.{nested_any}
 use Rattle.wnames.proofs.grouping.any_in_parts.Goals as goal
 
 pub returns : goal.returns
