@@ -12,7 +12,6 @@
 #![tactic(auto)]
 
 mod calls;
-mod grouping;
 mod groups;
 mod names;
 mod types;

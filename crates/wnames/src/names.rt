@@ -3,23 +3,42 @@
 ghost use Rattle.std.specs.Prelude.{◌≡◌, Bool, map};
 ghost use Rattle.std.specs.List.{list_any};
 ghost use Rattle.wquery.specs.Tree.{KeyTree, Tree, view, view_column, view_key};
+ghost use Rattle.wquery.specs.GroupElements.{all_columns};
 ghost use Rattle.wquery.specs.QueryTree.{view_source};
 ghost use Rattle.wscope.specs.Scoped.{scope_clauses, scope_columns, scope_source};
 ghost use Rattle.wscope.specs.Sources.{all_titled, written_out};
 ghost use Rattle.wscope.specs.Finding.{finds};
+ghost use Rattle.wscope.specs.Groups.{lent_columns};
 ghost use Rattle.wnames.specs.Names.{names_other_table as is_other_table, is_misqualified, is_missing, is_ambiguous, count_named, is_ambiguous_key as is_key_ambiguous, breaks_tables, breaks_columns, breaks_ambiguity};
 
-use crate::grouping::any_grouping;
 use wquery::{Column, Expression, Key, Source};
 use wscope::{Look, NodeTest, Scope, SourceColumn, any_anywhere, found_if, has_column};
 
 /// A test of the columns that a query names.
-pub(crate) trait ColumnTest {
+trait ColumnTest {
     ghost holds: { Self → Tree → Bool };
 
     /// Whether the rule is broken by this column.
     fn is_hit(&self, column: &Column) -> bool
         ensures { result ≡ holds self.now (view_column column.now) };
+}
+
+fn any_hit<T: ColumnTest>(test: &T, columns: &[&Column]) -> bool
+    ensures { result ≡ list_any (T.holds test.now) (lent_columns columns.now) }
+{
+    'columns: for column in columns {
+        if test.is_hit(column) {
+            return true;
+        }
+    }
+    false
+}
+
+/// Whether the rule is broken by some column that GROUP BY names.
+fn any_grouping<T: ColumnTest>(test: &T, scope: &Scope) -> bool
+    ensures { result ≡ list_any (T.holds test.now) (all_columns (scope_clauses scope.now).grouping) }
+{
+    any_hit(test, scope.grouped.as_slice())
 }
 
 /// A column behind another name than the source's alias.
@@ -136,7 +155,7 @@ pub fn names_unknown_table(scope: &Scope) -> bool
     if any_anywhere(&test, scope) {
         return true;
     }
-    any_grouping(&test, scope.query.grouping.as_slice())
+    any_grouping(&test, scope)
 }
 
 /// Q11.
@@ -149,7 +168,7 @@ pub fn names_unknown_column(scope: &Scope) -> bool
     if any_anywhere(&test, scope) {
         return true;
     }
-    any_grouping(&test, scope.query.grouping.as_slice())
+    any_grouping(&test, scope)
 }
 
 #[tactic(auto, unfolding(wquery::specs::Tree::view))]
@@ -193,9 +212,9 @@ pub fn names_ambiguously(scope: &Scope) -> bool
     if any_anywhere(&test, scope) {
         return true;
     }
-    let query = scope.query;
-    if any_grouping(&test, query.grouping.as_slice()) {
+    if any_grouping(&test, scope) {
         return true;
     }
+    let query = scope.query;
     any_ambiguous_key(scope, query.order.as_slice())
 }

@@ -4,6 +4,5 @@ mod Answered
 mod WrittenOut
 mod Indexed
 mod Made
-pub mod Nested
 pub mod Grouped
 mod Placed

@@ -18,7 +18,7 @@ mod earlier;
 mod finding;
 mod full_window;
 mod function;
-mod group_indexing;
+mod grouping;
 mod indexing;
 mod look;
 mod names;

@@ -12,7 +12,7 @@ ghost use Rattle.wscope.specs.Outputs.{is_told};
 ghost use Rattle.wscope.specs.Scoped.{IsSettled, scope_clauses, scope_columns};
 
 use crate::called::Called;
-use crate::group_indexing::group_names;
+use crate::grouping::{column_names, grouped_columns};
 use crate::indexing::output_index;
 use crate::scope::Scope;
 use crate::seeking::{NodeTest, any_in_window, any_node};
@@ -46,7 +46,8 @@ impl<'a> Scope<'a> {
         ensures settled { IfOk result IsSettled }
     {
         let outputs = output_index(alloc, columns, query.items.as_slice())?;
-        let grouping = group_names(alloc, query.grouping.as_slice())?;
+        let grouped = grouped_columns(alloc, query.grouping.as_slice())?;
+        let grouping = column_names(alloc, grouped.as_slice())?;
         let windows = WindowIndex::new(alloc, query.windows.as_slice())?;
         Ok(Scope {
             table,
@@ -55,6 +56,7 @@ impl<'a> Scope<'a> {
             query,
             windows,
             outputs,
+            grouped,
             grouping,
         })
     }
