@@ -1,4 +1,3 @@
-pub mod Clauses
 pub mod Calls
 pub mod Sketch
 pub mod Places

@@ -5,7 +5,7 @@ ghost use Rattle.wquery.specs.Tree.{Tree, view, view_over, view_window, view_cal
 ghost use Rattle.wquery.specs.QueryTree.{view_item, view_entry};
 ghost use Rattle.std.specs.Rc.{rc_str_bytes};
 ghost use Rattle.wscope.specs.Functions.{function_of as function_named};
-ghost use Rattle.wdistinct.specs.Clauses.{clauses_in};
+ghost use Rattle.wscope.specs.Clauses.{clauses_in};
 ghost use Rattle.wdistinct.specs.Calls.{group_calls as aggregates_of, window_calls as calls_over_windows, is_kind, is_grouping as has_columns, is_call_of, is_aggregate_function as is_aggregate_of, has_over as has_reach, nodes_in, nodes_in_trees, nodes_in_links, nodes_in_branches, nodes_given, nodes_in_filter, nodes_in_reach, nodes_in_keys, nodes_in_option, nodes_in_items, nodes_in_entries, nodes_in_order, with_new, call_trees};
 ghost use Rattle.wdistinct.specs.Places.{calls_in};
 ghost use Rattle.wdistinct.specs.declared.calls.CallKind.TheVariants.{Grouped, Windowed};

@@ -9,7 +9,8 @@ use Rattle.wquery.specs.declared.expression.Arguments.TheOpen as layer
 use Rattle.wquery.specs.declared.expression.Arguments.TheFolds.{fold-Expression, fold-roll-Expression}
 use Rattle.wquery.specs.Tree.{Tree, Field, Given, Reach, KeyTree, Branch, WindowTree, name_bytes, view, arguments_step, expression_step, over_step, call_step, key_step, link_step, window_step}
 use Rattle.wscope.specs.declared.look.Look.TheVariants.{Found, Below}
-use Rattle.wnames.specs.Places.{names, sees_ungrouped}
+use Rattle.wscope.specs.Called.{names}
+use Rattle.wnames.specs.Groups.{sees_ungrouped}
 
 view_of_column : (c : Column) → view (queries.Column c) ≡ Field (name_bytes c.qualifier) (rc_str_bytes c.name)
 unfolding view

@@ -1,8 +1,4 @@
 mod Given
 mod Fields
 mod Typed
-mod Outputs
 mod Listed
-mod Indexed
-mod Nested
-mod Grouped

@@ -1,4 +1,4 @@
--- Arguments that are a list, and HAVING.
+-- Arguments that are a list.
 use Rattle.std.proofs.Common.{◌≡◌, nat_le, Bool, ◌&&◌, ◌||◌, not, List, ap, sym, ◌∙◌, Option, Some, None}
 use Rattle.std.specs.declared.alloc.Global.{Global}
 use Rattle.std.specs.declared.boxed.Box.{Box}
@@ -9,19 +9,13 @@ use Rattle.wquery.specs.declared.expression.Arguments.TheOpen as layer
 use Rattle.wquery.specs.declared.expression.Arguments.TheFolds.{fold-Arguments, fold-roll-Arguments}
 use Rattle.wquery.specs.declared.expression.Expression.{Expression}
 use Rattle.wquery.specs.declared.expression.Expression.TheVariants as queries
-use Rattle.wquery.specs.declared.query.Query.{Query, out-Query}
-use Rattle.wquery.specs.declared.query.Source.TheFolds.{fold_out-Query}
-use Rattle.wquery.specs.GroupElements.{Element, all_columns}
-use Rattle.wquery.specs.QueryTree.{QueryTree, SourceTree, source_step, query_step, view_query}
-use Rattle.wquery.specs.Tree.{Tree, Trees, These, Columns, Given, Reach, KeyTree, Branch, WindowTree, trees, views, view, view_arguments, view_optional, arguments_step, expression_step, over_step, call_step, key_step, link_step, window_step}
+use Rattle.wquery.specs.Tree.{Tree, Trees, These, Columns, Given, Reach, KeyTree, Branch, WindowTree, trees, views, view, view_arguments, arguments_step, expression_step, over_step, call_step, key_step, link_step, window_step}
 use Rattle.wscope.specs.declared.function.Function.{Function}
 use Rattle.wscope.specs.Finding.{count_trees}
 use Rattle.wscope.specs.Functions.{takes}
-use Rattle.wscope.specs.Scope.{clauses_of, some_option}
 use Rattle.wscope.specs.Types.{Titled}
 use Rattle.wnames.specs.Calls.{are_literal, is_well_given, most_grouping_columns}
-use Rattle.wnames.specs.Places.{sees_ungrouped}
-use Rattle.wnames.specs.Typing.{all_trees, is_value, is_integer, is_text, suits_function, are_typed, is_ill_typed}
+use Rattle.wnames.specs.Types.{all_trees, is_value, is_integer, is_text, suits_function, are_typed, is_ill_typed}
 use Rattle.wsame.proofs.Views.{view_of_in}
 
 view_of_listed : (v : Vec Expression Global) → view_arguments (given.Listed v) ≡ These (trees (views v.items))
@@ -48,12 +42,6 @@ columns_given a f v us r ea eu er =
 pub listed_typed : (cs : List Titled) (a : Arguments) (f : Option Function) (v : Vec Expression Global) (us : List Expression) (r : Bool) → a ≡ given.Listed v → us ≡ v.items → r ≡ (all_trees (is_value cs) (trees (views us)) && suits_function cs f (trees (views us))) → r ≡ are_typed cs f (view_arguments a)
 listed_typed cs a f v us r ea eu er =
     er ∙ ap (λ (zs : List Expression). all_trees (is_value cs) (trees (views zs)) && suits_function cs f (trees (views zs))) eu ∙ sym (ap (λ (x : Arguments). are_typed cs f (view_arguments x)) ea ∙ ap (are_typed cs f) (view_of_listed v))
-
-pub ungrouped_having : (q : Query) (g : List (Element Tree)) (r : Bool) → g ≡ (clauses_of (view_query q)).grouping → r ≡ some_option (sees_ungrouped (all_columns g)) (view_optional (out-Query q).having) → r ≡ some_option (sees_ungrouped (all_columns (clauses_of (view_query q)).grouping)) (clauses_of (view_query q)).having
-unfolding view_query
-ungrouped_having q g r eg er =
-    er ∙ ap (λ (t : QueryTree). some_option (sees_ungrouped (all_columns g)) (clauses_of t).having) (sym (fold_out-Query SourceTree QueryTree source_step query_step q))
-    ∙ ap (λ (gs : List (Element Tree)). some_option (sees_ungrouped (all_columns gs)) (clauses_of (view_query q)).having) eg
 
 pub typed_in : (cs : List Titled) (e d : Expression) (n : Bool) (x : Box Expression Global) (v : Vec Expression Global) (us : List Expression) (r : Bool) → e ≡ queries.In n x v → d ≡ x.value → us ≡ v.items → r ≡ not ((is_integer cs (view d) && all_trees (is_integer cs) (trees (views us))) || (is_text cs (view d) && all_trees (is_text cs) (trees (views us)))) → r ≡ is_ill_typed cs (view e)
 typed_in cs e d n x v us r is ed eu er =

@@ -11,7 +11,7 @@ use Rattle.wsame.proofs.Views.{view_call_is}
 use Rattle.wscope.specs.declared.function.Function.{Function}
 use Rattle.wscope.specs.Functions.{function_of}
 use Rattle.wscope.specs.Types.{Titled, type_of, agree}
-use Rattle.wnames.specs.Typing.{all_links, are_typed, is_filter_typed, is_window_typed, is_ill_typed, has_fit_default}
+use Rattle.wnames.specs.Types.{all_links, are_typed, is_filter_typed, is_window_typed, is_ill_typed, has_fit_default}
 
 -- the operands of a chain, from the first to the last
 abbrev pub all_branches : (Tree → Bool) → List Branch → Bool

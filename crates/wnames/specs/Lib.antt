@@ -1,8 +1,4 @@
 pub mod Names
-pub mod Texts
-pub mod Outputs
-pub mod Indexes
-pub mod Groups
 pub mod Calls
-pub mod Typing
-pub mod Places
+pub mod Types
+pub mod Groups

@@ -1,20 +1,16 @@
 -- The rules on names: Q10, Q11 and Q12. (SQL, `<table reference>` and `<column reference>`; PostgreSQL, SELECT, ORDER BY
 -- Clause.)
-use Rattle.std.specs.Prelude.{ℕ, suc, Bool, false, ◌||◌, ◌&&◌, ◌==◌, not, nat_lt, List, [], ◌∷◌, Option, Some, None, if◌then◌else◌}
+use Rattle.std.specs.Prelude.{ℕ, suc, Bool, false, ◌||◌, not, nat_lt, List, [], ◌∷◌, Option, Some, None, if◌then◌else◌}
 use Rattle.std.specs.List.{list_any}
 use Rattle.std.specs.Str.{bytes_eq}
 use Rattle.wquery.specs.Tree.{Tree, Field, KeyTree}
 use Rattle.wquery.specs.GroupElements.{all_columns}
-use Rattle.wquery.specs.QueryTree.{Clauses, QueryTree, Selected, SourceTree, FromTable, FromQuery}
-use Rattle.wsame.specs.Sameness.{is_same}
-use Rattle.wscope.specs.Types.{Titled, place_named}
+use Rattle.wquery.specs.QueryTree.{Clauses, SourceTree, FromTable, FromQuery}
+use Rattle.wscope.specs.Types.{Titled}
 use Rattle.wscope.specs.Scope.{some_anywhere, has_name}
-use Rattle.wscope.specs.Sources.{Shown, Placed, Spelled, ShownItem, written_out}
+use Rattle.wscope.specs.Called.{first_called, is_unlike}
+use Rattle.wscope.specs.Sources.{ShownItem, written_out}
 use Rattle.wscope.specs.Finding.{finds}
-
--- the source of a query
-abbrev pub source_of : QueryTree → SourceTree
-source_of (Selected c s) = s
 
 -- FROM names another table than the declared one
 abbrev pub names_other_table : List ℕ → SourceTree → Bool
@@ -53,31 +49,6 @@ count_named name (c ∷ cs) = if has_name name c then suc (count_named name cs) 
 abbrev pub is_ambiguous : List Titled → Tree → Bool
 is_ambiguous cs (Field qualifier name) = nat_lt 1 (count_named name cs)
 is_ambiguous cs _ = false
-
--- whether an expression is the column at a place
-abbrev pub is_column_at : List Titled → ℕ → Tree → Bool
-is_column_at cs place (Field qualifier name) = place_named cs name == place
-is_column_at cs place _ = false
-
--- whether two items have one expression, a column being its place
-abbrev pub same_shown : List Titled → Shown → Shown → Bool
-same_shown cs (Placed p) (Placed q) = p == q
-same_shown cs (Placed p) (Spelled t) = is_column_at cs p t
-same_shown cs (Spelled t) (Placed p) = is_column_at cs p t
-same_shown cs (Spelled t) (Spelled u) = is_same t u
-
-abbrev pub is_called : List ℕ → ShownItem → Bool
-is_called name i = bytes_eq i.name name
-
--- the first item of an output name
-abbrev pub first_called : List ℕ → List ShownItem → Option Shown
-first_called name [] = None
-first_called name (i ∷ is) = if is_called name i then Some i.shown else first_called name is
-
--- an item of this name with another expression
-abbrev pub is_unlike : List Titled → List ℕ → Option Shown → ShownItem → Bool
-is_unlike cs name None i = false
-is_unlike cs name (Some first) i = is_called name i && not (same_shown cs first i.shown)
 
 -- a bare name that two items have as output name, with two expressions
 abbrev pub is_ambiguous_key : List Titled → List ShownItem → Tree → Bool

@@ -1,16 +1,14 @@
-//! The rules on what a call is given.
+//! The rules on what a call is given: Q13, Q18 and Q25.
 
 ghost use Rattle.std.specs.Prelude.{◌≡◌, ◌&&◌, nat_le, None, Some};
 ghost use Rattle.wquery.specs.Tree.{Tree, view, views, trees, view_call, view_arguments};
-ghost use Rattle.wquery.specs.QueryTree.{view_query};
 ghost use Rattle.wscope.specs.Functions.{takes as may_take};
-ghost use Rattle.wscope.specs.Scope.{clauses_of};
-ghost use Rattle.wscope.specs.Sources.{all_titled};
+ghost use Rattle.wscope.specs.Scoped.{scope_clauses, scope_columns};
 ghost use Rattle.wscope.specs.Finding.{finds, count_trees};
 ghost use Rattle.wnames.specs.Calls.{is_count as is_count_function, passes_at, are_literal as are_literals, is_number as is_numeral, is_literal as is_constant, is_nonzero as is_some_number, is_well_given as suits_function, is_bad_call as is_bad, is_aggregate_name as is_name_of_aggregate, is_group_function as is_function_of_group, most_grouping_columns, is_bad_filter, counts_some as is_some_count, is_zeroth as is_none_count, breaks_calls, breaks_filters, breaks_zeroths};
 
-use wquery::{Arguments, Call, Expression, Query};
-use wscope::{Function, Look, NodeTest, SourceColumn, any_anywhere, found_if, function_of};
+use wquery::{Arguments, Call, Expression};
+use wscope::{Function, Look, NodeTest, Scope, any_anywhere, found_if, function_of};
 
 #[tactic(auto, unfolding(wquery::specs::Tree::view))]
 fn is_number(expression: &Expression) -> bool
@@ -166,10 +164,10 @@ impl NodeTest for BadCall {
 }
 
 /// Q13.
-pub fn calls_wrongly(columns: &[SourceColumn], query: &Query) -> bool
-    ensures { result ≡ breaks_calls (all_titled columns.now) (clauses_of (view_query query.now)) }
+pub fn calls_wrongly(scope: &Scope) -> bool
+    ensures { result ≡ breaks_calls (scope_columns scope.now) (scope_clauses scope.now) }
 {
-    any_anywhere(&BadCall, columns, query)
+    any_anywhere(&BadCall, scope)
 }
 
 /// Whether this is the name of an aggregate.
@@ -214,10 +212,10 @@ impl NodeTest for BadFilter {
 }
 
 /// Q18.
-pub fn filters_wrongly(columns: &[SourceColumn], query: &Query) -> bool
-    ensures { result ≡ breaks_filters (all_titled columns.now) (clauses_of (view_query query.now)) }
+pub fn filters_wrongly(scope: &Scope) -> bool
+    ensures { result ≡ breaks_filters (scope_columns scope.now) (scope_clauses scope.now) }
 {
-    any_anywhere(&BadFilter, columns, query)
+    any_anywhere(&BadFilter, scope)
 }
 
 #[tactic(auto, unfolding(wquery::specs::Tree::view_arguments, wquery::specs::Tree::view))]
@@ -257,8 +255,8 @@ impl NodeTest for Zeroth {
 }
 
 /// Q25.
-pub fn counts_none(columns: &[SourceColumn], query: &Query) -> bool
-    ensures { result ≡ breaks_zeroths (all_titled columns.now) (clauses_of (view_query query.now)) }
+pub fn counts_none(scope: &Scope) -> bool
+    ensures { result ≡ breaks_zeroths (scope_columns scope.now) (scope_clauses scope.now) }
 {
-    any_anywhere(&Zeroth, columns, query)
+    any_anywhere(&Zeroth, scope)
 }

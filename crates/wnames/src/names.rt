@@ -1,27 +1,44 @@
-//! The rules on the names of tables and columns.
+//! The rules on names: Q10, Q11 and Q12.
 
-ghost use Rattle.std.specs.Prelude.{◌≡◌, Bool};
-ghost use Rattle.wquery.specs.Tree.{Tree, view_column};
-ghost use Rattle.wquery.specs.QueryTree.{view_query, view_source};
-ghost use Rattle.wscope.specs.Scope.{clauses_of};
-ghost use Rattle.wscope.specs.Sources.{all_titled};
+ghost use Rattle.std.specs.Prelude.{◌≡◌, Bool, map};
+ghost use Rattle.std.specs.List.{list_any};
+ghost use Rattle.wquery.specs.Tree.{KeyTree, Tree, view, view_column, view_key};
+ghost use Rattle.wquery.specs.GroupElements.{all_columns};
+ghost use Rattle.wquery.specs.QueryTree.{view_source};
+ghost use Rattle.wscope.specs.Scoped.{scope_clauses, scope_columns, scope_source};
+ghost use Rattle.wscope.specs.Sources.{all_titled, written_out};
 ghost use Rattle.wscope.specs.Finding.{finds};
-ghost use Rattle.wnames.specs.Names.{source_of, names_other_table as is_other_table, is_misqualified, is_missing, is_ambiguous, count_named, breaks_tables, breaks_columns};
-ghost use Rattle.wnames.specs.Indexes.{IsIndexOf};
+ghost use Rattle.wscope.specs.Groups.{lent_columns};
+ghost use Rattle.wnames.specs.Names.{names_other_table as is_other_table, is_misqualified, is_missing, is_ambiguous, count_named, is_ambiguous_key as is_key_ambiguous, breaks_tables, breaks_columns, breaks_ambiguity};
 
-use crate::grouping::any_grouping;
-use crate::name_index::NameIndex;
-use crate::walking::any_anywhere_by;
-use wquery::{Column, Expression, Query, Source};
-use wscope::{Look, NodeTest, SourceColumn, any_anywhere, found_if, has_column};
+use wquery::{Column, Expression, Key, Source};
+use wscope::{Look, NodeTest, Scope, SourceColumn, any_anywhere, found_if, has_column};
 
 /// A test of the columns that a query names.
-pub(crate) trait ColumnTest {
+trait ColumnTest {
     ghost holds: { Self → Tree → Bool };
 
     /// Whether the rule is broken by this column.
     fn is_hit(&self, column: &Column) -> bool
         ensures { result ≡ holds self.now (view_column column.now) };
+}
+
+fn any_hit<T: ColumnTest>(test: &T, columns: &[&Column]) -> bool
+    ensures { result ≡ list_any (T.holds test.now) (lent_columns columns.now) }
+{
+    'columns: for column in columns {
+        if test.is_hit(column) {
+            return true;
+        }
+    }
+    false
+}
+
+/// Whether the rule is broken by some column that GROUP BY names.
+fn any_grouping<T: ColumnTest>(test: &T, scope: &Scope) -> bool
+    ensures { result ≡ list_any (T.holds test.now) (all_columns (scope_clauses scope.now).grouping) }
+{
+    any_hit(test, scope.grouped.as_slice())
 }
 
 /// A column behind another name than the source's alias.
@@ -81,8 +98,8 @@ impl<'a> NodeTest for Missing<'a> {
 
 /// A column whose name two columns have.
 #[derive(Drop)]
-pub(crate) struct Ambiguous<'a> {
-    pub(crate) columns: &'a [SourceColumn],
+struct Ambiguous<'a> {
+    columns: &'a [SourceColumn],
 }
 
 fn count_of_name(columns: &[SourceColumn], name: &str) -> usize
@@ -128,38 +145,76 @@ fn names_other_table(table: &str, source: &Source) -> bool
 }
 
 /// Q10.
-#[tactic(auto, unfolding(wquery::specs::QueryTree::view_query, wquery::specs::QueryTree::view_source))]
-pub fn names_unknown_table(
-    table: &str,
-    alias: &str,
-    columns: &[SourceColumn],
-    query: &Query,
-) -> bool
-    ensures { result ≡ breaks_tables table.now alias.now (all_titled columns.now) (clauses_of (view_query query.now)) (source_of (view_query query.now)) }
+pub fn names_unknown_table(scope: &Scope) -> bool
+    ensures { result ≡ breaks_tables scope.now.table.now scope.now.alias.now (scope_columns scope.now) (scope_clauses scope.now) (scope_source scope.now) }
 {
-    if names_other_table(table, &query.source) {
+    if names_other_table(scope.table, &scope.query.source) {
         return true;
     }
-    let test = Misqualified { alias };
-    if any_anywhere(&test, columns, query) {
+    let test = Misqualified { alias: scope.alias };
+    if any_anywhere(&test, scope) {
         return true;
     }
-    any_grouping(&test, query.grouping.as_slice())
+    any_grouping(&test, scope)
 }
 
 /// Q11.
-#[tactic(auto, unfolding(wquery::specs::QueryTree::view_query))]
-pub fn names_unknown_column<'a>(
-    names: &NameIndex<'a>,
-    columns: &[SourceColumn],
-    query: &'a Query,
-) -> bool
-    requires { IsIndexOf names.now (all_titled columns.now) (clauses_of (view_query query.now)) }
-    ensures { result ≡ breaks_columns (all_titled columns.now) (clauses_of (view_query query.now)) }
+pub fn names_unknown_column(scope: &Scope) -> bool
+    ensures { result ≡ breaks_columns (scope_columns scope.now) (scope_clauses scope.now) }
 {
-    let test = Missing { columns };
-    if any_anywhere_by(&test, &names.outputs, columns, query) {
+    let test = Missing {
+        columns: scope.columns,
+    };
+    if any_anywhere(&test, scope) {
         return true;
     }
-    any_grouping(&test, query.grouping.as_slice())
+    any_grouping(&test, scope)
+}
+
+#[tactic(auto, unfolding(wquery::specs::Tree::view))]
+fn is_ambiguous_name<'a>(scope: &Scope<'a>, key: &'a Expression) -> bool
+    ensures { result ≡ is_key_ambiguous (scope_columns scope.now) (written_out (scope_columns scope.now) (scope_clauses scope.now).items) (view key.now) }
+{
+    match key {
+        Expression::Column(column) => match &column.qualifier {
+            Some(_) => false,
+            None => scope.has_ambiguous_output(column.name.as_str()),
+        },
+        _ => false,
+    }
+}
+
+#[tactic(auto, unfolding(wquery::specs::Tree::view, wquery::specs::Tree::view_key))]
+fn is_ambiguous_key<'a>(scope: &Scope<'a>, key: &'a Key) -> bool
+    ensures { result ≡ is_key_ambiguous (scope_columns scope.now) (written_out (scope_columns scope.now) (scope_clauses scope.now).items) (view_key key.now).expression }
+{
+    is_ambiguous_name(scope, &key.expression)
+}
+
+fn any_ambiguous_key<'a>(scope: &Scope<'a>, order: &'a [Key]) -> bool
+    ensures { result ≡ list_any (λ (k : KeyTree). is_key_ambiguous (scope_columns scope.now) (written_out (scope_columns scope.now) (scope_clauses scope.now).items) k.expression) (map view_key order.now) }
+{
+    'keys: for key in order {
+        if is_ambiguous_key(scope, key) {
+            return true;
+        }
+    }
+    false
+}
+
+/// Q12.
+pub fn names_ambiguously(scope: &Scope) -> bool
+    ensures { result ≡ breaks_ambiguity (scope_columns scope.now) (scope_clauses scope.now) }
+{
+    let test = Ambiguous {
+        columns: scope.columns,
+    };
+    if any_anywhere(&test, scope) {
+        return true;
+    }
+    if any_grouping(&test, scope) {
+        return true;
+    }
+    let query = scope.query;
+    any_ambiguous_key(scope, query.order.as_slice())
 }

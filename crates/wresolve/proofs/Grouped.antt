@@ -13,7 +13,7 @@ use Rattle.wscope.specs.Scope.{is_output, some_entry, some_item, some_sort}
 use Rattle.wscope.specs.Seeking.{found_or, some_below, some_node, some_tree, some_link, some_given, some_filter, some_reach, some_key}
 use Rattle.wscope.specs.Types.{Titled}
 use Rattle.wnames.specs.Calls.{is_aggregate_of}
-use Rattle.wnames.specs.Places.{is_group_call}
+use Rattle.wnames.specs.Groups.{is_group_call}
 use Rattle.wdistinct.specs.declared.calls.CallKind.TheVariants.{Grouped}
 use Rattle.wdistinct.specs.Calls.{is_aggregate_function, is_call_of, node_or, nodes_below, nodes_given, nodes_in, nodes_in_entries, nodes_in_filter, nodes_in_items, nodes_in_keys, nodes_in_links, nodes_in_option, nodes_in_order, nodes_in_reach, nodes_in_trees, with_new}
 use Rattle.wresolve.specs.Laws.{GroupedAlike}

@@ -3,7 +3,7 @@ use Rattle.std.proofs.Common.{◌≡◌}
 use Rattle.wquery.specs.declared.query.Query.{Query}
 use Rattle.wquery.specs.declared.query.Source.TheFolds.{fold_out-Query}
 use Rattle.wquery.specs.QueryTree.{QueryTree, Selected, SourceTree, view_query, view_source, source_step, query_step}
-use Rattle.wdistinct.specs.Clauses.{clauses_in}
+use Rattle.wscope.specs.Clauses.{clauses_in}
 
 pub query_is : (q : Query) → view_query q ≡ Selected (clauses_in q) (view_source q.source)
 unfolding view_query view_source

@@ -5,8 +5,8 @@ use Rattle.wquery.specs.QueryTree.{QueryTree}
 use Rattle.wplan.specs.declared.resolved.Resolved.{Resolved}
 use Rattle.wplan.specs.Plans.{plans}
 use Rattle.wrules.specs.Rules.{first_broken_rule}
-use Rattle.wresolve.specs.declared.resolve_query.ResolveFault.{ResolveFault}
-use Rattle.wresolve.specs.declared.resolve_query.ResolveFault.TheVariants.{Broken, NoMemory}
+use Rattle.wresolve.specs.declared.resolve_fault.ResolveFault.{ResolveFault}
+use Rattle.wresolve.specs.declared.resolve_fault.ResolveFault.TheVariants.{Broken, NoMemory}
 use Rattle.wresolve.specs.Selecting.{resolved_query}
 
 -- the SELECTs that the query stands for, where it breaks no rule, or the least rule that it breaks, unless memory was refused

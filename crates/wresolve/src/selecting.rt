@@ -6,11 +6,13 @@ ghost use Rattle.wquery.specs.Tree.{view_key, view_optional};
 ghost use Rattle.wplan.specs.Formula.{formula};
 ghost use Rattle.wplan.specs.Plans.{group_call_plan, grouping_plan, optional_formula, optional_grouping, output_plan, key_plan, select_plan, window_plan, call_plan};
 ghost use Rattle.wscope.specs.Sources.{all_titled, written_out as items_written};
-ghost use Rattle.wscope.specs.Windows.{named_windows, settle_all as settled_entries};
+ghost use Rattle.wscope.specs.Earlier.{windows_in};
+ghost use Rattle.wscope.specs.Scoped.{IsSettled, scope_clauses, scope_columns};
+ghost use Rattle.wscope.specs.Windows.{settle_all as settled_entries};
 ghost use Rattle.wgroupby.specs.Held.{element_in};
 ghost use Rattle.wgroupby.specs.Sets.{query_sets as sets_of};
 ghost use Rattle.wdistinct.specs.Calls.{call_trees};
-ghost use Rattle.wdistinct.specs.Clauses.{clauses_in};
+ghost use Rattle.wscope.specs.Clauses.{clauses_in};
 ghost use Rattle.wdistinct.specs.Places.{calls_in};
 ghost use Rattle.wsettle.specs.Resolving.{layout_of, row_calls, places_of, source_row, resolved_option};
 ghost use Rattle.wsettle.specs.Groups.{group_call_made};
@@ -25,7 +27,7 @@ use wdistinct::{group_calls, window_calls};
 use wgroupby::{PlacedElement, group_columns, query_sets};
 use wplan::{CallOver, Expr, GroupCall, Grouping, Output, Selection, SettledKey, SettledWindow};
 use wquery::{Call, Key, Query};
-use wscope::{FullEntry, SourceColumn, settle_all};
+use wscope::{Scope, SourceColumn, WindowIndex};
 use wsettle::{RowCalls, RowLayout, build, build_elements, build_group_call, build_option};
 
 fn build_group_calls(
@@ -147,19 +149,18 @@ fn source_layout<'a, 'b, 'c>(
 
 fn build_grouping(
     alloc: Global,
-    columns: &[SourceColumn],
+    scope: &Scope,
     elements: &[PlacedElement],
     places: &[usize],
     grouped: &[&Call],
     layout: &RowLayout,
-    query: &Query,
 ) -> Result<Grouping, AllocError>
-    ensures { IfOk result (λ g. grouping_plan g ≡ record { columns = places.now; sets = sets_of (map element_in elements.now); calls = map (group_call_made (source_row (all_titled columns.now))) (call_trees grouped.now); having = resolved_option (layout_of layout.now) (view_optional query.now.having) }) }
+    ensures { IfOk result (λ g. grouping_plan g ≡ record { columns = places.now; sets = sets_of (map element_in elements.now); calls = map (group_call_made (source_row (scope_columns scope.now))) (call_trees grouped.now); having = resolved_option (layout_of layout.now) (scope_clauses scope.now).having }) }
 {
     let none = RowCalls::none(alloc);
-    let source = source_layout(columns, &none);
+    let source = source_layout(scope.columns, &none);
     let calls = build_group_calls(alloc, &source, grouped)?;
-    let having = build_option(alloc, layout, &query.having)?;
+    let having = build_option(alloc, layout, &scope.query.having)?;
     let sets = query_sets(alloc, elements)?;
     let columns = places.to_vec(alloc)?;
     Ok(Grouping {
@@ -172,20 +173,17 @@ fn build_grouping(
 
 fn build_optional_grouping(
     alloc: Global,
-    columns: &[SourceColumn],
+    scope: &Scope,
     elements: &[PlacedElement],
     grouped: &[&Call],
     layout: &RowLayout,
-    query: &Query,
 ) -> Result<Option<Grouping>, AllocError>
-    ensures { IfOk result (λ g. optional_grouping g ≡ grouping_over (all_titled columns.now) (map element_in elements.now) (call_trees grouped.now) (layout_of layout.now) (clauses_in query.now) (layout_of layout.now).grouping) }
+    ensures { IfOk result (λ g. optional_grouping g ≡ grouping_over (scope_columns scope.now) (map element_in elements.now) (call_trees grouped.now) (layout_of layout.now) (scope_clauses scope.now) (layout_of layout.now).grouping) }
 {
     match layout.grouping {
         None => Ok(None),
         Some(places) => {
-            let grouping = build_grouping(
-                alloc, columns, elements, places, grouped, layout, query,
-            )?;
+            let grouping = build_grouping(alloc, scope, elements, places, grouped, layout)?;
             Ok(Some(grouping))
         }
     }
@@ -194,12 +192,12 @@ fn build_optional_grouping(
 fn build_windows(
     alloc: Global,
     layout: &RowLayout,
-    entries: &[FullEntry],
+    entries: &WindowIndex,
     windowed: &[&Call],
 ) -> Result<Vec<SettledWindow>, AllocError>
-    ensures { IfOk result (λ made. map window_plan made.items ≡ windows_made (layout_of layout.now) (named_windows entries.now) (call_trees windowed.now)) }
+    ensures { IfOk result (λ made. map window_plan made.items ≡ windows_made (layout_of layout.now) (windows_in entries.now) (call_trees windowed.now)) }
 {
-    let mut windows = build_entries(alloc, layout, entries)?;
+    let mut windows = build_entries(alloc, layout, entries.entries.as_slice())?;
     push_own_windows(alloc, layout, entries, &mut windows, windowed)?;
     Ok(windows)
 }
@@ -207,55 +205,52 @@ fn build_windows(
 fn build_window_calls(
     alloc: Global,
     layout: &RowLayout,
-    entries: &[FullEntry],
+    entries: &WindowIndex,
     windowed: &[&Call],
 ) -> Result<Vec<CallOver>, AllocError>
-    ensures { IfOk result (λ made. map call_plan made.items ≡ calls_made (layout_of layout.now) (named_windows entries.now) (length (named_windows entries.now)) (call_trees windowed.now)) }
+    ensures { IfOk result (λ made. map call_plan made.items ≡ calls_made (layout_of layout.now) (windows_in entries.now) (length (windows_in entries.now)) (call_trees windowed.now)) }
 {
-    build_calls(alloc, layout, entries, entries.len(), windowed)
+    let first = entries.entries.as_slice().len();
+    build_calls(alloc, layout, entries, first, windowed)
 }
 
 // The condition of a SELECT, over a row of its source.
-fn build_condition(
-    alloc: Global,
-    columns: &[SourceColumn],
-    query: &Query,
-) -> Result<Option<Expr>, AllocError>
-    ensures { IfOk result (λ made. optional_formula made ≡ resolved_option (source_row (all_titled columns.now)) (clauses_in query.now).condition) }
+fn build_condition(alloc: Global, scope: &Scope) -> Result<Option<Expr>, AllocError>
+    ensures { IfOk result (λ made. optional_formula made ≡ resolved_option (source_row (scope_columns scope.now)) (scope_clauses scope.now).condition) }
 {
     let none = RowCalls::none(alloc);
-    let source = source_layout(columns, &none);
-    let condition = build_option(alloc, &source, &query.condition)?;
+    let source = source_layout(scope.columns, &none);
+    let condition = build_option(alloc, &source, &scope.query.condition)?;
     Ok(condition)
 }
 
 // The windows of a SELECT, and the calls over them.
 fn build_called(
     alloc: Global,
+    scope: &Scope,
     layout: &RowLayout,
     windowed: &[&Call],
-    query: &Query,
 ) -> Result<(Vec<SettledWindow>, Vec<CallOver>), AllocError>
-    ensures windows { IfOk result (λ made. map window_plan made.0.items ≡ windows_made (layout_of layout.now) (settled_entries [] (clauses_in query.now).windows) (call_trees windowed.now)) }
-    ensures calls { IfOk result (λ made. map call_plan made.1.items ≡ calls_made (layout_of layout.now) (settled_entries [] (clauses_in query.now).windows) (length (settled_entries [] (clauses_in query.now).windows)) (call_trees windowed.now)) }
+    requires { IsSettled scope.now }
+    ensures windows { IfOk result (λ made. map window_plan made.0.items ≡ windows_made (layout_of layout.now) (settled_entries [] (scope_clauses scope.now).windows) (call_trees windowed.now)) }
+    ensures calls { IfOk result (λ made. map call_plan made.1.items ≡ calls_made (layout_of layout.now) (settled_entries [] (scope_clauses scope.now).windows) (length (settled_entries [] (scope_clauses scope.now).windows)) (call_trees windowed.now)) }
 {
-    let entries = settle_all(alloc, query.windows.as_slice())?;
-    let windows = build_windows(alloc, layout, entries.as_slice(), windowed)?;
-    let calls = build_window_calls(alloc, layout, entries.as_slice(), windowed)?;
+    let windows = build_windows(alloc, layout, &scope.windows, windowed)?;
+    let calls = build_window_calls(alloc, layout, &scope.windows, windowed)?;
     Ok((windows, calls))
 }
 
 // The items of a SELECT, and the keys of its order.
 fn build_items(
     alloc: Global,
-    columns: &[SourceColumn],
+    scope: &Scope,
     layout: &RowLayout,
-    query: &Query,
 ) -> Result<(Vec<Output>, Vec<SettledKey>), AllocError>
-    ensures items { IfOk result (λ made. map output_plan made.0.items ≡ map (output_made (layout_of layout.now)) (items_written (all_titled columns.now) (clauses_in query.now).items)) }
-    ensures keys { IfOk result (λ made. map key_plan made.1.items ≡ map (order_made (layout_of layout.now) (items_written (all_titled columns.now) (clauses_in query.now).items)) (clauses_in query.now).order) }
+    ensures items { IfOk result (λ made. map output_plan made.0.items ≡ map (output_made (layout_of layout.now)) (items_written (scope_columns scope.now) (scope_clauses scope.now).items)) }
+    ensures keys { IfOk result (λ made. map key_plan made.1.items ≡ map (order_made (layout_of layout.now) (items_written (scope_columns scope.now) (scope_clauses scope.now).items)) (scope_clauses scope.now).order) }
 {
-    let shown = written_out(alloc, columns, query.items.as_slice())?;
+    let query = scope.query;
+    let shown = written_out(alloc, scope.columns, query.items.as_slice())?;
     let items = build_outputs(alloc, layout, shown.as_slice())?;
     let keys = build_order(alloc, layout, shown.as_slice(), query.order.as_slice())?;
     Ok((items, keys))
@@ -263,19 +258,19 @@ fn build_items(
 
 fn build_selection(
     alloc: Global,
-    columns: &[SourceColumn],
+    scope: &Scope,
     elements: &[PlacedElement],
     grouped: &[&Call],
     windowed: &[&Call],
     layout: &RowLayout,
-    query: &Query,
 ) -> Result<Selection, AllocError>
-    ensures { IfOk result (λ s. select_plan s ≡ select_over (all_titled columns.now) (map element_in elements.now) (call_trees grouped.now) (call_trees windowed.now) (layout_of layout.now) (clauses_in query.now)) }
+    requires { IsSettled scope.now }
+    ensures { IfOk result (λ s. select_plan s ≡ select_over (scope_columns scope.now) (map element_in elements.now) (call_trees grouped.now) (call_trees windowed.now) (layout_of layout.now) (scope_clauses scope.now)) }
 {
-    let condition = build_condition(alloc, columns, query)?;
-    let grouping = build_optional_grouping(alloc, columns, elements, grouped, layout, query)?;
-    let (windows, calls) = build_called(alloc, layout, windowed, query)?;
-    let (items, keys) = build_items(alloc, columns, layout, query)?;
+    let condition = build_condition(alloc, scope)?;
+    let grouping = build_optional_grouping(alloc, scope, elements, grouped, layout)?;
+    let (windows, calls) = build_called(alloc, scope, layout, windowed)?;
+    let (items, keys) = build_items(alloc, scope, layout)?;
     Ok(Selection {
         condition,
         grouping,
@@ -283,8 +278,8 @@ fn build_selection(
         calls,
         items,
         keys,
-        offset: offset_of(query),
-        limit: limit_of(query),
+        offset: offset_of(scope.query),
+        limit: limit_of(scope.query),
     })
 }
 
@@ -307,65 +302,50 @@ fn limit_of(query: &Query) -> Option<u128>
 }
 
 // A SELECT over the row of these columns, calls and places of the group's columns, with these elements of GROUP BY.
-fn build_over<'a>(
+fn build_over(
     alloc: Global,
-    columns: &'a [SourceColumn],
+    scope: &Scope,
     calls: &RowCalls,
     elements: &[PlacedElement],
-    places: &'a [usize],
-    query: &'a Query,
+    places: &[usize],
 ) -> Result<Selection, AllocError>
-    ensures { IfOk result (λ s. select_plan s ≡ select_over (all_titled columns.now) (map element_in elements.now) (calls_in calls.now.grouped) (calls_in calls.now.windowed) (record { columns = all_titled columns.now; grouping = if is_grouped_query (clauses_in query.now) (calls_in calls.now.grouped) then Some places.now else None; calls = row_calls calls.now }) (clauses_in query.now)) }
+    requires { IsSettled scope.now }
+    ensures { IfOk result (λ s. select_plan s ≡ select_over (scope_columns scope.now) (map element_in elements.now) (calls_in calls.now.grouped) (calls_in calls.now.windowed) (record { columns = scope_columns scope.now; grouping = if is_grouped_query (scope_clauses scope.now) (calls_in calls.now.grouped) then Some places.now else None; calls = row_calls calls.now }) (scope_clauses scope.now)) }
 {
     let grouped = calls.grouped.listed(alloc)?;
     let windowed = calls.windowed.listed(alloc)?;
-    let grouping = places_if(is_grouped(query, grouped.as_slice()), places);
-    let layout = row_layout(columns, grouping, calls);
+    let grouping = places_if(is_grouped(scope.query, grouped.as_slice()), places);
+    let layout = row_layout(scope.columns, grouping, calls);
     let selection = build_selection(
         alloc,
-        columns,
+        scope,
         elements,
         grouped.as_slice(),
         windowed.as_slice(),
         &layout,
-        query,
     )?;
     Ok(selection)
 }
 
-fn build_with<'a>(
-    alloc: Global,
-    columns: &'a [SourceColumn],
-    calls: &RowCalls,
-    query: &'a Query,
-) -> Result<Selection, AllocError>
-    ensures { IfOk result (λ s. select_plan s ≡ select_with (all_titled columns.now) (clauses_in query.now) (calls_in calls.now.grouped) (calls_in calls.now.windowed)) }
+fn build_with(alloc: Global, scope: &Scope, calls: &RowCalls) -> Result<Selection, AllocError>
+    requires { IsSettled scope.now }
+    ensures { IfOk result (λ s. select_plan s ≡ select_with (scope_columns scope.now) (scope_clauses scope.now) (calls_in calls.now.grouped) (calls_in calls.now.windowed)) }
 {
-    let elements = build_elements(alloc, columns, query.grouping.as_slice())?;
+    let elements = build_elements(alloc, scope.columns, scope.query.grouping.as_slice())?;
     let places = group_columns(alloc, elements.as_slice())?;
-    let selection = build_over(
-        alloc,
-        columns,
-        calls,
-        elements.as_slice(),
-        places.as_slice(),
-        query,
-    )?;
+    let selection = build_over(alloc, scope, calls, elements.as_slice(), places.as_slice())?;
     Ok(selection)
 }
 
-/// A SELECT over the columns of its source.
-pub(crate) fn build_select<'a>(
-    alloc: Global,
-    columns: &'a [SourceColumn],
-    query: &'a Query,
-) -> Result<Selection, AllocError>
-    ensures { IfOk result (λ s. select_plan s ≡ select_made (all_titled columns.now) (clauses_in query.now)) }
+/// The SELECT of a scope.
+pub(crate) fn build_select(alloc: Global, scope: &Scope) -> Result<Selection, AllocError>
+    requires { IsSettled scope.now }
+    ensures { IfOk result (λ s. select_plan s ≡ select_made (scope_columns scope.now) (scope_clauses scope.now)) }
 {
     let calls = RowCalls {
-        grouped: group_calls(alloc, query)?,
-        windowed: window_calls(alloc, query)?,
+        grouped: group_calls(alloc, scope.query)?,
+        windowed: window_calls(alloc, scope.query)?,
     };
-    let selection = build_with(alloc, columns, &calls, query)?;
+    let selection = build_with(alloc, scope, &calls)?;
     Ok(selection)
 }

@@ -4,6 +4,7 @@ ghost use Rattle.std.specs.Prelude.{◌≡◌, ◌++◌, ◌<◌, ◌^◌, IfOk,
 ghost use Rattle.wquery.specs.Tree.{view_over, view_optional_over, reach_of, view_call, view_key, view_keys, views, trees, keys};
 ghost use Rattle.wplan.specs.Formula.{formula};
 ghost use Rattle.wplan.specs.Plans.{key_plan, window_plan, call_plan};
+ghost use Rattle.wscope.specs.Earlier.{windows_in};
 ghost use Rattle.wscope.specs.Windows.{named_windows, settled_window};
 ghost use Rattle.wdistinct.specs.Calls.{call_trees};
 ghost use Rattle.wsettle.specs.Resolving.{layout_of, resolved};
@@ -16,7 +17,7 @@ use wquery::{
     Call, Expression, Frame, FrameBound, FrameExclusion, FrameMode, Key, NullOrder, Over,
 };
 use wsame::frame_end;
-use wscope::{FullEntry, FullWindow, settle};
+use wscope::{Earlier, FullEntry, FullWindow, WindowIndex};
 use wsettle::{RowLayout, build, build_function, build_listed};
 use wvalues::SortKey;
 
@@ -152,16 +153,20 @@ pub(crate) fn build_entries(
 fn push_window_over(
     alloc: Global,
     layout: &RowLayout,
-    entries: &[FullEntry],
+    entries: &WindowIndex,
     windows: &mut Vec<SettledWindow>,
     over: &Over,
 ) -> Result<(), AllocError>
-    ensures { OnOk result (map window_plan windows.new.items ≡ map window_plan windows.old.items ++ window_of_reach (layout_of layout.now) (named_windows entries.now) (view_over over.now)) }
+    ensures { OnOk result (map window_plan windows.new.items ≡ map window_plan windows.old.items ++ window_of_reach (layout_of layout.now) (windows_in entries.now) (view_over over.now)) }
 {
     match over {
         Over::Named(_) => Ok(()),
         Over::Windowed(window) => {
-            let window = settle(entries, window);
+            let earlier = Earlier {
+                index: entries,
+                before: None,
+            };
+            let window = earlier.settled(window);
             let made = build_window(alloc, layout, &window)?;
             windows.push(made)?;
             Ok(())
@@ -172,11 +177,11 @@ fn push_window_over(
 fn push_optional_window(
     alloc: Global,
     layout: &RowLayout,
-    entries: &[FullEntry],
+    entries: &WindowIndex,
     windows: &mut Vec<SettledWindow>,
     over: &Option<Over>,
 ) -> Result<(), AllocError>
-    ensures { OnOk result (map window_plan windows.new.items ≡ map window_plan windows.old.items ++ window_of_reach (layout_of layout.now) (named_windows entries.now) (reach_of (view_optional_over over.now))) }
+    ensures { OnOk result (map window_plan windows.new.items ≡ map window_plan windows.old.items ++ window_of_reach (layout_of layout.now) (windows_in entries.now) (reach_of (view_optional_over over.now))) }
 {
     match over {
         None => Ok(()),
@@ -187,11 +192,11 @@ fn push_optional_window(
 fn push_own_window(
     alloc: Global,
     layout: &RowLayout,
-    entries: &[FullEntry],
+    entries: &WindowIndex,
     windows: &mut Vec<SettledWindow>,
     call: &Call,
 ) -> Result<(), AllocError>
-    ensures { OnOk result (map window_plan windows.new.items ≡ map window_plan windows.old.items ++ own_window (layout_of layout.now) (named_windows entries.now) (view_call call.now)) }
+    ensures { OnOk result (map window_plan windows.new.items ≡ map window_plan windows.old.items ++ own_window (layout_of layout.now) (windows_in entries.now) (view_call call.now)) }
 {
     push_optional_window(alloc, layout, entries, windows, &call.over)
 }
@@ -200,11 +205,11 @@ fn push_own_window(
 pub(crate) fn push_own_windows(
     alloc: Global,
     layout: &RowLayout,
-    entries: &[FullEntry],
+    entries: &WindowIndex,
     windows: &mut Vec<SettledWindow>,
     calls: &[&Call],
 ) -> Result<(), AllocError>
-    ensures { OnOk result (map window_plan windows.new.items ≡ map window_plan windows.old.items ++ windows_of_calls (layout_of layout.now) (named_windows entries.now) (call_trees calls.now)) }
+    ensures { OnOk result (map window_plan windows.new.items ≡ map window_plan windows.old.items ++ windows_of_calls (layout_of layout.now) (windows_in entries.now) (call_trees calls.now)) }
 {
     'calls: for call in calls {
         push_own_window(alloc, layout, entries, windows, call)?;
@@ -226,18 +231,18 @@ fn window_place(entries: &[FullEntry], name: &str) -> usize
 }
 
 #[tactic(auto, unfolding(wquery::specs::Tree::view_over, wquery::specs::Tree::view_window))]
-fn place_of_over(entries: &[FullEntry], next: usize, over: &Option<Over>) -> usize
-    ensures { result ≡ place_of_reach (named_windows entries.now) next (reach_of (view_optional_over over.now)) }
+fn place_of_over(entries: &WindowIndex, next: usize, over: &Option<Over>) -> usize
+    ensures { result ≡ place_of_reach (windows_in entries.now) next (reach_of (view_optional_over over.now)) }
 {
     match over {
         None => next,
-        Some(Over::Named(name)) => window_place(entries, name.as_str()),
+        Some(Over::Named(name)) => window_place(entries.entries.as_slice(), name.as_str()),
         Some(Over::Windowed(_)) => next,
     }
 }
 
-fn place_over(entries: &[FullEntry], next: usize, call: &Call) -> usize
-    ensures { result ≡ place_of_call (named_windows entries.now) next (view_call call.now) }
+fn place_over(entries: &WindowIndex, next: usize, call: &Call) -> usize
+    ensures { result ≡ place_of_call (windows_in entries.now) next (view_call call.now) }
 {
     place_of_over(entries, next, &call.over)
 }
@@ -262,11 +267,11 @@ fn has_own_window(call: &Call) -> bool
 fn build_call(
     alloc: Global,
     layout: &RowLayout,
-    entries: &[FullEntry],
+    entries: &WindowIndex,
     next: usize,
     call: &Call,
 ) -> Result<CallOver, AllocError>
-    ensures { IfOk result (λ c. call_plan c ≡ record { window = place_of_call (named_windows entries.now) next (view_call call.now); function = function_of_call (layout_of layout.now) (view_call call.now) }) }
+    ensures { IfOk result (λ c. call_plan c ≡ record { window = place_of_call (windows_in entries.now) next (view_call call.now); function = function_of_call (layout_of layout.now) (view_call call.now) }) }
 {
     let function = build_function(alloc, layout, call)?;
     Ok(CallOver {
@@ -279,12 +284,12 @@ fn build_call(
 pub(crate) fn build_calls(
     alloc: Global,
     layout: &RowLayout,
-    entries: &[FullEntry],
+    entries: &WindowIndex,
     first: usize,
     calls: &[&Call],
 ) -> Result<Vec<CallOver>, AllocError>
     requires { first < 2 ^ 63 }
-    ensures { IfOk result (λ made. map call_plan made.items ≡ calls_made (layout_of layout.now) (named_windows entries.now) first (call_trees calls.now)) }
+    ensures { IfOk result (λ made. map call_plan made.items ≡ calls_made (layout_of layout.now) (windows_in entries.now) first (call_trees calls.now)) }
 {
     let mut made = Vec::with_capacity(alloc, calls.len())?;
     let mut next = first;

@@ -9,8 +9,8 @@ use Rattle.wrules.specs.declared.rule.Rule.{Rule}
 use Rattle.wrules.specs.declared.rule.Rule.TheVariants.{UnknownTable, UnknownColumn, AmbiguousName, WrongCall, WrongType, MisplacedWindowCall, MisplacedAggregate, UngroupedColumn, WrongFilter, UnknownWindow, RepeatedWindow, WrongCopy, WrongBounds, UnorderedGroups, WrongRangeKey, ZeroCount, WrongPlace, OverLimit, TooManySets}
 use Rattle.wnames.specs.Names.{breaks_tables, breaks_columns, breaks_ambiguity}
 use Rattle.wnames.specs.Calls.{breaks_calls, breaks_filters, breaks_zeroths}
-use Rattle.wnames.specs.Typing.{breaks_types}
-use Rattle.wnames.specs.Places.{breaks_window_places, breaks_aggregate_places, breaks_grouping}
+use Rattle.wnames.specs.Types.{breaks_types}
+use Rattle.wnames.specs.Groups.{breaks_window_places, breaks_aggregate_places, breaks_grouping}
 use Rattle.wwindows.specs.Windows.{windows_of, breaks_window_names, breaks_entries, breaks_copies, breaks_bounds, breaks_groups, breaks_ranges}
 use Rattle.wwindows.specs.Order.{breaks_places}
 use Rattle.wwindows.specs.Limits.{breaks_limits}

@@ -1,17 +1,18 @@
 //! The least rule of resolution that a query breaks.
 //!
-//! - Gives the rules of resolution with their numbers, Q10 to Q28, and the least one that a query breaks.
-//! - Promises: the rule that is answered is the least one that is broken, a derived table being judged first, with the
-//!   number of its sets; of the outermost query the depth of derived tables and then the number of sets come last.
-//! - Asks nothing. Memory is asked for the columns of sources and for windows alone.
-//! - Leaves each rule to `wnames`, `wwindows` and `wgroupby`, what names stand for to `wscope`, and the form that execution reads to
-//!   `wresolve`.
+//! - Gives the rules of resolution with their numbers, Q10 to Q28, and the least one that a SELECT breaks.
+//! - Promises: the rule that is answered is the least one that is broken, the number of sets last. The least rule of a whole
+//!   query is a definition: a derived table is judged first; of the outermost query the depth of derived tables comes behind
+//!   all rules but that on the number of sets.
+//! - Asks of a scope that it is settled, as each one is that is made. No memory is asked for.
+//! - Leaves each rule to `wnames`, `wwindows` and `wgroupby`, what names stand for to `wscope`, and the way through derived
+//!   tables and the form that execution reads to `wresolve`.
 //!
-//! Read `specs/Rules.antt`, then `specs/Judging.antt`.
+//! Read `specs/Rules.antt`.
 #![tactic(auto)]
 
 mod judging;
 mod rule;
 
-pub use judging::first_broken_rule;
+pub use judging::{broken_rule, depth_rule};
 pub use rule::Rule;

@@ -1,14 +1,11 @@
--- The columns that `*` brings into an answer, and the keys of a window that has its own.
-use Rattle.std.proofs.Common.{◌≡◌, ℕ, suc, ◌==◌, false, List, [], ◌∷◌, refl, ap, ◌∙◌, map, length}
+-- The columns that `*` brings into an answer.
+use Rattle.std.proofs.Common.{◌≡◌, ℕ, suc, List, [], ◌∷◌, refl, ap, ◌∙◌, map}
 use Rattle.std.proofs.lemmas.List.{append-nil}
 use Rattle.wquery.specs.declared.query.Item.{Item}
 use Rattle.wquery.specs.declared.query.Item.TheVariants as items
-use Rattle.wquery.specs.declared.expression.Key.{Key}
 use Rattle.wquery.specs.QueryTree.{AllColumns, view_item}
-use Rattle.wquery.specs.Tree.{keys, view_keys}
 use Rattle.wscope.specs.Sources.{answered, answered_column, columns_from, derived_column}
 use Rattle.wscope.specs.Types.{Titled}
-use Rattle.wscope.specs.Windows.{keys_or}
 
 columns_answered : (n : ℕ) (cs : List Titled) → map answered_column (columns_from n cs) ≡ map derived_column cs
 columns_answered n [] = refl
@@ -19,7 +16,3 @@ star_answered cs = ap (map answered_column) (append-nil (columns_from 0 cs)) ∙
 
 pub item_answered : (cs : List Titled) (i : Item) → i ≡ items.All → answered cs (view_item i ∷ []) ≡ map derived_column cs
 item_answered cs i e = ap (λ (x : Item). answered cs (view_item x ∷ [])) e ∙ star_answered cs
-
-pub own_keys : (own copied : List Key) → (length own == 0) ≡ false → keys (view_keys own) ≡ keys_or (keys (view_keys own)) (keys (view_keys copied))
-own_keys [] copied e = cc
-own_keys (k ∷ ks) copied e = refl

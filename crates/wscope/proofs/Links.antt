@@ -18,11 +18,11 @@ abbrev pub some_branch : (Tree → Look) → List Branch → Bool
 some_branch sees [] = false
 some_branch sees (b ∷ bs) = some_node sees b.operand || some_branch sees bs
 
-or_false : (a : Bool) → a || false ≡ a
+pub or_false : (a : Bool) → a || false ≡ a
 or_false true = refl
 or_false false = refl
 
-or_assoc : (a b c : Bool) → (a || b) || c ≡ a || (b || c)
+pub or_assoc : (a b c : Bool) → (a || b) || c ≡ a || (b || c)
 or_assoc true b c = refl
 or_assoc false b c = refl
 

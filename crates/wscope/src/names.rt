@@ -1,16 +1,15 @@
 //! Names of columns and of items.
 
-ghost use Rattle.std.specs.Prelude.{◌≡◌, ◌≤◌, List, map, length};
+ghost use Rattle.std.specs.Prelude.{◌≡◌, ◌≤◌, length};
 ghost use Rattle.std.specs.List.{list_any};
-ghost use Rattle.wquery.specs.QueryTree.{view_item};
 ghost use Rattle.wquery.specs.Tree.{view, name_bytes};
-ghost use Rattle.wscope.specs.Scope.{has_name, own_name as name_of_own, output_name as name_of_output, item_has_name};
+ghost use Rattle.wscope.specs.Scope.{has_name, own_name as name_of_own, output_name as name_of_output};
 ghost use Rattle.wscope.specs.Sources.{all_titled};
-ghost use Rattle.wscope.specs.Types.{Titled, place_named as place_of_name};
+ghost use Rattle.wscope.specs.Types.{place_named as place_of_name};
 
 use crate::source::SourceColumn;
 use std::rc::RcStr;
-use wquery::{Expression, Item};
+use wquery::Expression;
 
 /// Whether a column has this name.
 pub fn has_column(columns: &[SourceColumn], name: &str) -> bool
@@ -59,26 +58,4 @@ pub fn output_name<'a>(expression: &'a Expression, alias: &'a Option<RcStr>) -> 
         Some(name) => name.as_str(),
         None => own_name(expression),
     }
-}
-
-fn item_is_called(item: &Item, name: &str, is_column: bool) -> bool
-    ensures { (cs : List Titled) → is_column ≡ list_any (has_name name.now) cs → result ≡ item_has_name cs name.now (view_item item.now) }
-{
-    match item {
-        Item::All => is_column,
-        Item::Value { expression, alias } => output_name(expression, alias) == name,
-    }
-}
-
-/// Whether some item has this output name, where `*` has the names of all columns.
-pub(crate) fn names_item(columns: &[SourceColumn], items: &[Item], name: &str) -> bool
-    ensures { result ≡ list_any (item_has_name (all_titled columns.now) name.now) (map view_item items.now) }
-{
-    let is_column = has_column(columns, name);
-    'items: for item in items {
-        if item_is_called(item, name, is_column) {
-            return true;
-        }
-    }
-    false
 }

@@ -1,37 +1,83 @@
-//! Windows with what they copy, found.
+//! WINDOW entries, found by name, and windows with what they copy.
 
-ghost use Rattle.std.specs.Prelude.{◌≡◌, map, [], IfOk};
-ghost use Rattle.wquery.specs.Tree.{view_window, keys, view_keys};
+ghost use Rattle.std.specs.Prelude.{◌≡◌, ◌++◌, ◌∷◌, [], ℕ, List, Some, map, take, length, IfOk, OnOk};
+ghost use Rattle.std.specs.Option.{option_copied};
 ghost use Rattle.wquery.specs.QueryTree.{view_entry};
-ghost use Rattle.wscope.specs.Windows.{settle_tree, settle_all as settled_entries, keys_or, window_named, or_none, named_windows, settled_window, optional_window, lent_frame};
+ghost use Rattle.wquery.specs.Tree.{keys, view_keys, view_window};
+ghost use Rattle.wscope.specs.Windows.{NamedWindow, Settled, keys_or, lent_frame, named_window, named_windows, optional_window, or_none, settle_tree, settle_all as settled_entries, settled_window, window_named};
+ghost use Rattle.wscope.specs.Earlier.{seen, windows_in};
+ghost use Rattle.wscope.specs.Indexes.{ArePlaces, copied_from, place_of, settled_over, up_to};
 
+use crate::earlier::Earlier;
 use crate::full_window::{FullEntry, FullWindow};
+use crate::window_index::WindowIndex;
 use std::alloc::{AllocError, Global};
+use std::collections::BTreeMap;
 use wquery::{Frame, Key, Window, WindowEntry};
 
-/// The first window of this name.
-pub fn find_window<'a>(windows: &[FullEntry<'a>], name: &str) -> Option<FullWindow<'a>>
-    ensures { optional_window result ≡ window_named (named_windows windows.now) name.now }
+fn window_below<'a>(
+    entries: &[FullEntry<'a>],
+    place: usize,
+    before: usize,
+) -> Option<FullWindow<'a>>
+    ensures { (name : List ℕ) → place_of name (named_windows entries.now) ≡ Some place → optional_window result ≡ window_named (take before (named_windows entries.now)) name }
 {
-    'windows: for entry in windows {
-        if entry.name == name {
-            return Some(entry.window);
-        }
+    if place >= before {
+        return None;
     }
-    None
+    if place >= entries.len() {
+        return None;
+    }
+    let entry = &entries[place];
+    Some(entry.window)
 }
 
-fn window_or_none<'a>(windows: &[FullEntry<'a>], name: &str) -> FullWindow<'a>
-    ensures { settled_window result ≡ or_none (window_named (named_windows windows.now) name.now) }
+fn window_of<'a>(entries: &[FullEntry<'a>], place: usize) -> Option<FullWindow<'a>>
+    ensures { (name : List ℕ) → place_of name (named_windows entries.now) ≡ Some place → optional_window result ≡ window_named (named_windows entries.now) name }
 {
-    match find_window(windows, name) {
-        Some(window) => window,
-        None => FullWindow {
-            partition: &[],
-            order: &[],
-            frame: None,
-        },
+    if place >= entries.len() {
+        return None;
     }
+    let entry = &entries[place];
+    Some(entry.window)
+}
+
+fn window_at<'a>(
+    entries: &[FullEntry<'a>],
+    place: usize,
+    before: Option<usize>,
+) -> Option<FullWindow<'a>>
+    ensures { (name : List ℕ) → place_of name (named_windows entries.now) ≡ Some place → optional_window result ≡ window_named (up_to before (named_windows entries.now)) name }
+{
+    match before {
+        None => window_of(entries, place),
+        Some(before) => window_below(entries, place, before),
+    }
+}
+
+fn window_found<'a>(
+    entries: &[FullEntry<'a>],
+    found: Option<&usize>,
+    before: Option<usize>,
+) -> Option<FullWindow<'a>>
+    ensures { (name : List ℕ) → option_copied found.entry ≡ place_of name (named_windows entries.now) → optional_window result ≡ window_named (up_to before (named_windows entries.now)) name }
+{
+    match found {
+        None => None,
+        Some(place) => window_at(entries, *place, before),
+    }
+}
+
+fn find_in<'a>(
+    entries: &[FullEntry<'a>],
+    places: &BTreeMap<String, usize>,
+    before: Option<usize>,
+    name: &str,
+) -> Option<FullWindow<'a>>
+    requires { ArePlaces places.now (named_windows entries.now) }
+    ensures { optional_window result ≡ window_named (up_to before (named_windows entries.now)) name.now }
+{
+    window_found(entries, places.get(name), before)
 }
 
 fn own_keys_or<'a>(own: &'a [Key], copied: &'a [Key]) -> &'a [Key]
@@ -49,10 +95,23 @@ fn own_frame<'a>(frame: &'a Option<Frame>) -> Option<&'a Frame>
     }
 }
 
-/// A window with what it copies from earlier ones.
+fn or_empty<'a>(found: Option<FullWindow<'a>>) -> FullWindow<'a>
+    ensures { settled_window result ≡ or_none (optional_window found.entry) }
+{
+    match found {
+        Some(window) => window,
+        None => FullWindow {
+            partition: &[],
+            order: &[],
+            frame: None,
+        },
+    }
+}
+
+// A window over the one that it copies, if it names one.
 #[tactic(auto, unfolding(wquery::specs::Tree::view_window, wquery::specs::Tree::view, wquery::specs::Tree::view_key))]
-pub fn settle<'a>(earlier: &[FullEntry<'a>], window: &'a Window) -> FullWindow<'a>
-    ensures { settled_window result ≡ settle_tree (named_windows earlier.now) (view_window window.now) }
+fn settle_over<'a>(found: Option<FullWindow<'a>>, window: &'a Window) -> FullWindow<'a>
+    ensures { settled_window result ≡ settled_over (optional_window found.entry) (view_window window.now) }
 {
     let frame = own_frame(&window.frame);
     let Some(name) = &window.copied else {
@@ -62,7 +121,8 @@ pub fn settle<'a>(earlier: &[FullEntry<'a>], window: &'a Window) -> FullWindow<'
             frame,
         };
     };
-    let copied = window_or_none(earlier, name.as_str());
+    let _name = name.as_str();
+    let copied = or_empty(found);
     FullWindow {
         partition: copied.partition,
         order: own_keys_or(window.order.as_slice(), copied.order),
@@ -70,20 +130,110 @@ pub fn settle<'a>(earlier: &[FullEntry<'a>], window: &'a Window) -> FullWindow<'
     }
 }
 
-/// The WINDOW entries with what they copy, each from the entries before it.
-pub fn settle_all<'a>(
+// Gives a name its place, if no earlier window has it.
+fn add_place(
     alloc: Global,
-    entries: &'a [WindowEntry],
-) -> Result<Vec<FullEntry<'a>>, AllocError>
-    ensures { IfOk result (λ windows. named_windows windows.items ≡ settled_entries [] (map view_entry entries.now)) }
+    places: &mut BTreeMap<String, usize>,
+    name: &str,
+    place: usize,
+) -> Result<(), AllocError>
+    ensures { (ws : List NamedWindow) (window : Settled) → place ≡ length ws → ArePlaces places.old ws → OnOk result (ArePlaces places.new (ws ++ record { name = name.now; window = window } ∷ [])) }
 {
-    let mut windows = Vec::with_capacity(alloc, entries.len())?;
-    'entries: for entry in entries {
-        let window = settle(windows.as_slice(), &entry.window);
-        windows.push(FullEntry {
-            name: entry.name.as_str(),
-            window,
-        })?;
+    if places.contains_key(name) {
+        return Ok(());
     }
-    Ok(windows)
+    let key = String::from_str(alloc, name)?;
+    places.insert(key, place)?;
+    Ok(())
+}
+
+#[tactic(auto, unfolding(wquery::specs::Tree::view_window))]
+fn copied_of<'a>(
+    entries: &[FullEntry<'a>],
+    places: &BTreeMap<String, usize>,
+    window: &Window,
+) -> Option<FullWindow<'a>>
+    requires { ArePlaces places.now (named_windows entries.now) }
+    ensures { optional_window result ≡ copied_from (named_windows entries.now) (view_window window.now).copied }
+{
+    match &window.copied {
+        None => None,
+        Some(name) => find_in(entries, places, None, name.as_str()),
+    }
+}
+
+fn settle_entry<'a>(
+    entries: &[FullEntry<'a>],
+    places: &BTreeMap<String, usize>,
+    entry: &'a WindowEntry,
+) -> FullEntry<'a>
+    requires { ArePlaces places.now (named_windows entries.now) }
+    ensures { named_window result ≡ record { name = (view_entry entry.now).name; window = settle_tree (named_windows entries.now) (view_entry entry.now).window } }
+{
+    let found = copied_of(entries, places, &entry.window);
+    let window = settle_over(found, &entry.window);
+    FullEntry {
+        name: entry.name.as_str(),
+        window,
+    }
+}
+
+impl<'a> WindowIndex<'a> {
+    /// The WINDOW entries with what they copy, each from the entries before it.
+    pub(crate) fn new(
+        alloc: Global,
+        entries: &'a [WindowEntry],
+    ) -> Result<WindowIndex<'a>, AllocError>
+        ensures { IfOk result (λ made. windows_in made ≡ settled_entries [] (map view_entry entries.now)) }
+    {
+        let mut made = Vec::with_capacity(alloc, entries.len())?;
+        let mut places = BTreeMap::new(alloc);
+        'entries: for entry in entries {
+            let next = settle_entry(made.as_slice(), &places, entry);
+            add_place(alloc, &mut places, next.name, made.len())?;
+            made.push(next)?;
+        }
+        Ok(WindowIndex {
+            entries: made,
+            places,
+        })
+    }
+
+    /// The entries before a place.
+    pub fn before<'b>(&'b self, place: usize) -> Earlier<'a, 'b>
+        ensures { seen result ≡ take place (windows_in self.now) }
+    {
+        Earlier {
+            index: self,
+            before: Some(place),
+        }
+    }
+}
+
+impl<'a, 'b> Earlier<'a, 'b> {
+    /// The first of these windows that has this name.
+    pub fn find(self, name: &str) -> Option<FullWindow<'a>>
+        ensures { optional_window result ≡ window_named (seen self.entry) name.now }
+    {
+        let index = self.index;
+        find_in(index.entries.as_slice(), &index.places, self.before, name)
+    }
+
+    #[tactic(auto, unfolding(wquery::specs::Tree::view_window))]
+    fn find_copied(self, window: &Window) -> Option<FullWindow<'a>>
+        ensures { optional_window result ≡ copied_from (seen self.entry) (view_window window.now).copied }
+    {
+        match &window.copied {
+            None => None,
+            Some(name) => self.find(name.as_str()),
+        }
+    }
+
+    /// A window with what it copies from these.
+    pub fn settled(self, window: &'a Window) -> FullWindow<'a>
+        ensures { settled_window result ≡ settle_tree (seen self.entry) (view_window window.now) }
+    {
+        let found = self.find_copied(window);
+        settle_over(found, window)
+    }
 }

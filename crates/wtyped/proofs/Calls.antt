@@ -9,6 +9,7 @@ use Rattle.wquery.specs.Tree.{Tree, NullWord, Numeral, Quoted, Field, Invoked, S
 use Rattle.wquery.specs.GroupElements.{all_columns}
 use Rattle.wquery.specs.QueryTree.{Clauses}
 use Rattle.wvalues.specs.Meaning as meanings
+use Rattle.wscope.specs.Called.{names}
 use Rattle.wscope.specs.declared.data_type.DataType.{DataType}
 use Rattle.wscope.specs.declared.data_type.DataType.TheVariants.{Integer, Text, Truth, Null}
 use Rattle.wscope.specs.declared.function.Function.{Function}
@@ -20,8 +21,8 @@ use Rattle.wscope.specs.Seeking.{found_or, some_below, some_filter, some_given, 
 use Rattle.wscope.specs.Types as scope
 use Rattle.wscope.specs.Types.{Titled, agree, call_type, fits_integer, given_type, type_at, type_of, type_or}
 use Rattle.wnames.specs.Calls.{are_literal, is_aggregate_of, is_bad_call, is_literal, is_number, is_well_given, passes_at}
-use Rattle.wnames.specs.Places.{is_group_call, names, sees_ungrouped}
-use Rattle.wnames.specs.Typing.{all_trees, are_typed, has_fit_default, is_filter_typed, is_ill_typed, is_integer, is_value, is_window_typed, suits_function}
+use Rattle.wnames.specs.Groups.{is_group_call, sees_ungrouped}
+use Rattle.wnames.specs.Types.{all_trees, are_typed, has_fit_default, is_filter_typed, is_ill_typed, is_integer, is_value, is_window_typed, suits_function}
 use Rattle.wgroupby.specs.Sets.{is_among}
 use Rattle.wsettle.specs.Resolving.{Layout, resolved, source_row}
 use Rattle.wsettle.specs.Functions.{aggregated, argument, call_function, filter_made, function_made, literal_of, tree_at}

@@ -8,12 +8,12 @@ use Rattle.std.proofs.lemmas.Bool.{and_parts, or_left, or_parts, or_right, not-f
 use Rattle.std.proofs.lemmas.List.Folds.{list_all-append, list_any-append}
 use Rattle.wquery.specs.GroupElements.{Entry, Element, OneSet, Rollup, Cube, all_columns, entry_columns}
 use Rattle.wquery.specs.Tree.{Tree, Field}
+use Rattle.wscope.specs.Called.{names}
 use Rattle.wscope.specs.declared.data_type.DataType.{DataType}
 use Rattle.wscope.specs.declared.data_type.DataType.TheVariants as types
 use Rattle.wscope.specs.Scope.{has_name}
 use Rattle.wscope.specs.Types.{Titled, place_named, type_named}
 use Rattle.wnames.specs.Names.{is_missing}
-use Rattle.wnames.specs.Places.{names}
 use Rattle.wgroupby.specs.Rules.{element_by, elements_by, entry_by}
 use Rattle.wgroupby.specs.Sets.{is_among, with_unseen}
 use Rattle.wsettle.specs.Groups.{column_place, elements_made}

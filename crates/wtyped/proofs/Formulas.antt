@@ -17,7 +17,7 @@ use Rattle.wscope.specs.declared.look.Look.TheVariants.{Found, Closed, Below}
 use Rattle.wscope.specs.Seeking.{found_or, some_below, some_link, some_node, some_tree}
 use Rattle.wscope.specs.Types as scope
 use Rattle.wscope.specs.Types.{Titled, agree, chain_type, fits_integer, fits_text, type_of}
-use Rattle.wnames.specs.Typing.{all_links, all_trees, is_ill_typed, is_integer, is_text, suits}
+use Rattle.wnames.specs.Types.{all_links, all_trees, is_ill_typed, is_integer, is_text, suits}
 use Rattle.wplan.specs.Formula.{Formula}
 use Rattle.wsettle.specs.Resolving.{Layout, resolved, resolved_links, resolved_trees}
 use Rattle.wtyped.specs.Typing.{beside, beside_all, common, constant_type, formula_type, gives, has, is_number, is_truth, judged, takes, valued, where_holds}

@@ -9,6 +9,7 @@ use Rattle.std.proofs.lemmas.List.Folds.{list_any-append}
 use Rattle.wquery.specs.GroupElements.{all_columns}
 use Rattle.wquery.specs.QueryTree.{Clauses, ItemTree, AllColumns, Computed}
 use Rattle.wquery.specs.Tree.{Tree, Numeral, Field, KeyTree}
+use Rattle.wscope.specs.Called.{is_star, names}
 use Rattle.wscope.specs.declared.data_type.DataType.{DataType}
 use Rattle.wscope.specs.declared.data_type.DataType.TheVariants.{Integer, Text, Truth, Null}
 use Rattle.wscope.specs.Scope.{has_name, is_output, item_has_name, output_name, some_item, some_sort}
@@ -18,9 +19,9 @@ use Rattle.wscope.specs.Sources.{Shown, Placed, Spelled, ShownItem, answered, an
 use Rattle.wscope.specs.Types as scope
 use Rattle.wscope.specs.Types.{Titled, place_named, type_named, type_of}
 use Rattle.wnames.specs.Names.{count_named, is_ambiguous}
-use Rattle.wnames.specs.Places.{is_star, is_ungrouped_column, names}
-use Rattle.wnames.specs.Typing as judged
-use Rattle.wnames.specs.Typing.{is_truth_item, is_truth_key}
+use Rattle.wnames.specs.Groups.{is_ungrouped_column}
+use Rattle.wnames.specs.Types as judged
+use Rattle.wnames.specs.Types.{is_truth_item, is_truth_key}
 use Rattle.wdistinct.specs.Calls.{group_calls, window_calls}
 use Rattle.wsettle.specs.Resolving.{Layout, cell_in, resolved}
 use Rattle.wresolve.specs.Selecting as made

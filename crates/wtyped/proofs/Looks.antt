@@ -4,6 +4,7 @@ use Rattle.std.specs.Prelude.{if◌then◌else◌}
 use Rattle.std.specs.List.{list_any}
 use Rattle.std.proofs.lemmas.Bool.{or_parts, or_right, or_left, not-false}
 use Rattle.wquery.specs.Tree.{Tree, Field, Invoked, Given, Everything, These, Columns, Filter, Reach, ItsGroup, ThatWindow, OwnWindow}
+use Rattle.wscope.specs.Called.{names}
 use Rattle.wscope.specs.declared.data_type.DataType.{DataType}
 use Rattle.wscope.specs.declared.function.Function.{Function}
 use Rattle.wscope.specs.declared.look.Look.{Look}
@@ -15,7 +16,7 @@ use Rattle.wscope.specs.Seeking.{some_below}
 use Rattle.wscope.specs.Types.{Titled}
 use Rattle.wnames.specs.Calls.{is_aggregate_of, is_bad_call, is_group_function}
 use Rattle.wnames.specs.Names.{is_missing}
-use Rattle.wnames.specs.Places.{is_group_call, is_misplaced_window_call, is_nested_group_call, is_over, is_window_call, names, sees_ungrouped}
+use Rattle.wnames.specs.Groups.{is_group_call, is_misplaced_window_call, is_nested_group_call, is_over, is_window_call, sees_ungrouped}
 use Rattle.wdistinct.specs.declared.calls.CallKind.TheVariants.{Grouped, Windowed}
 use Rattle.wdistinct.specs.Calls.{has_over, is_aggregate_function, is_call_of}
 use Rattle.wsettle.specs.Resolving.{Layout}

@@ -7,6 +7,7 @@ use Rattle.std.proofs.lemmas.List.Folds.{list_any-append}
 use Rattle.wquery.specs.GroupElements.{Element, all_columns}
 use Rattle.wquery.specs.QueryTree.{Clauses}
 use Rattle.wquery.specs.Tree.{Tree, Field, Invoked, Given, Everything, These, Columns, Filter, Reach, ItsGroup, ThatWindow, OwnWindow}
+use Rattle.wscope.specs.Called.{is_star, names}
 use Rattle.wscope.specs.declared.data_type.DataType.{DataType}
 use Rattle.wscope.specs.declared.look.Look.{Look}
 use Rattle.wscope.specs.declared.look.Look.TheVariants.{Found, Closed, Below}
@@ -14,8 +15,8 @@ use Rattle.wscope.specs.Finding.{finds}
 use Rattle.wscope.specs.Scope.{has_name, some_anywhere, some_entry, some_item, some_option, some_shown, some_sort}
 use Rattle.wscope.specs.Seeking.{found_or, some_below, some_node}
 use Rattle.wscope.specs.Types.{Titled, place_named, type_named, type_of}
-use Rattle.wnames.specs.Places as judged
-use Rattle.wnames.specs.Places.{is_group_call, is_misplaced_window_call, is_star, is_ungrouped_column, is_window_call, names, names_ungrouped, sees_ungrouped}
+use Rattle.wnames.specs.Groups as judged
+use Rattle.wnames.specs.Groups.{is_group_call, is_misplaced_window_call, is_ungrouped_column, is_window_call, names_ungrouped, sees_ungrouped}
 use Rattle.wdistinct.specs.declared.calls.CallKind.TheVariants.{Grouped, Windowed}
 use Rattle.wdistinct.specs.Calls.{group_calls, is_call_of, nodes_below, window_calls}
 use Rattle.wdistinct.specs.Places.{place_of_same}

@@ -14,8 +14,8 @@ use Rattle.wscope.specs.Types.{Titled}
 use Rattle.wscope.specs.Windows.{NamedWindow}
 use Rattle.wnames.specs.Calls.{breaks_calls, breaks_filters, breaks_zeroths, is_bad_call}
 use Rattle.wnames.specs.Names.{breaks_ambiguity, breaks_columns, breaks_tables, is_ambiguous, is_ambiguous_key, is_missing}
-use Rattle.wnames.specs.Places.{breaks_aggregate_places, breaks_grouping, breaks_window_places, is_group_call, is_misplaced_window_call, is_nested_group_call, is_window_call}
-use Rattle.wnames.specs.Typing.{breaks_types, is_ill_typed, is_no_condition, is_truth_entry, is_truth_item, is_truth_key}
+use Rattle.wnames.specs.Groups.{breaks_aggregate_places, breaks_grouping, breaks_window_places, is_group_call, is_misplaced_window_call, is_nested_group_call, is_window_call}
+use Rattle.wnames.specs.Types.{breaks_types, is_ill_typed, is_no_condition, is_truth_entry, is_truth_item, is_truth_key}
 use Rattle.wscope.specs.Sources.{written_out}
 use Rattle.wwindows.specs.Limits.{breaks_limits}
 use Rattle.wwindows.specs.Order.{breaks_places}

@@ -9,6 +9,7 @@ use Rattle.wsegment.specs.Declaration.{Declaration}
 use Rattle.wquery.specs.GroupElements.{all_columns}
 use Rattle.wquery.specs.QueryTree.{Clauses, QueryTree, Selected, SourceTree, FromTable, FromQuery, ItemTree, AllColumns, Computed, EntryTree}
 use Rattle.wquery.specs.Tree.{Tree, NullWord, Numeral, Quoted, Field, Invoked, Negated, Signed, Joined, Compared, NullTest, Within, Among, Trees, NoTrees, MoreTrees, Links, NoLinks, Further, Given, Everything, These, Columns, Filter, Unfiltered, FilteredBy, Reach, ItsGroup, ThatWindow, OwnWindow, Keys, NoKeys, MoreKeys, KeyTree, own_window}
+use Rattle.wscope.specs.Called.{first_called, is_column_at, is_unlike, same_shown}
 use Rattle.wscope.specs.declared.function.Function.{Function}
 use Rattle.wscope.specs.declared.function.Function.TheVariants as functions
 use Rattle.wscope.specs.declared.look.Look.TheVariants.{Found, Below}
@@ -21,7 +22,7 @@ use Rattle.wscope.specs.Types.{Origin, Titled, place_named}
 use Rattle.wscope.specs.Windows.{NamedWindow, Settled, or_none, settle_all, settle_tree, window_named}
 use Rattle.wnames.specs.Calls.{are_literal, breaks_calls, breaks_filters, breaks_zeroths, counts_some, is_bad_call, is_bad_filter, is_number, is_well_given, is_zeroth, passes_at}
 use Rattle.wnames.specs.Calls as judged
-use Rattle.wnames.specs.Names.{count_named, first_called, is_ambiguous, is_ambiguous_key, is_column_at, is_misqualified, is_missing, is_other, is_unlike, names_other_table, same_shown}
+use Rattle.wnames.specs.Names.{count_named, is_ambiguous, is_ambiguous_key, is_misqualified, is_missing, is_other, names_other_table}
 use Rattle.wwindows.specs.Order.{count_items, is_bad_place, is_behind_signs}
 use Rattle.wwindows.specs.Windows.{breaks_bounds, breaks_copies, breaks_entries, breaks_groups, breaks_ranges, breaks_window_names, copies_badly, copies_unknown, is_bad_copy, is_over_bad_copy, is_over_unknown, is_unknown_window, reach_is, some_entry_after, windows_of}
 use Rattle.wwindows.specs.Windows as windows

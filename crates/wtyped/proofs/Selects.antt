@@ -17,8 +17,8 @@ use Rattle.wscope.specs.Seeking.{found_or, some_below, some_filter, some_node, s
 use Rattle.wscope.specs.Types as scope
 use Rattle.wscope.specs.Types.{Titled, place_named, type_named, type_of}
 use Rattle.wscope.specs.Windows.{NamedWindow}
-use Rattle.wnames.specs.Places.{is_group_call, is_window_call, sees_ungrouped}
-use Rattle.wnames.specs.Typing.{is_no_condition}
+use Rattle.wnames.specs.Groups.{is_group_call, is_window_call, sees_ungrouped}
+use Rattle.wnames.specs.Types.{is_no_condition}
 use Rattle.wwindows.specs.Windows.{own_window_is, reach_is, windows_of, has_bad_frame, lacks_groups, lacks_range_key, entry_is}
 use Rattle.wdistinct.specs.declared.calls.CallKind.TheVariants.{Grouped, Windowed}
 use Rattle.wdistinct.specs.Calls.{group_calls, is_call_of, window_calls}

@@ -19,8 +19,8 @@ use Rattle.wscope.specs.Seeking.{some_key, some_node, some_reach, some_tree}
 use Rattle.wscope.specs.Types as scope
 use Rattle.wscope.specs.Types.{Titled, type_of}
 use Rattle.wscope.specs.Windows.{NamedWindow, Settled, empty_window, keys_or, or_none, settle, settle_all, settle_tree, window_named}
-use Rattle.wnames.specs.Typing.{all_keys, all_trees, is_truth_entry, is_window_typed}
-use Rattle.wnames.specs.Typing as judged
+use Rattle.wnames.specs.Types.{all_keys, all_trees, is_truth_entry, is_window_typed}
+use Rattle.wnames.specs.Types as judged
 use Rattle.wwindows.specs.Windows as rules
 use Rattle.wwindows.specs.Windows.{entry_is, has_bad_bounds, has_bad_frame, has_range_key, is_long, is_text_type, lacks_groups, lacks_range_key, own_window_is, reach_is}
 use Rattle.wsettle.specs.Resolving.{Layout, resolved}

@@ -19,8 +19,8 @@ use Rattle.wscope.specs.declared.data_type.DataType.TheVariants.{Integer, Text}
 use Rattle.wscope.specs.Sources.{answer_columns, declared_columns, origin_of}
 use Rattle.wnames.specs.Calls.{breaks_calls, breaks_filters, breaks_zeroths}
 use Rattle.wnames.specs.Names.{breaks_ambiguity, breaks_columns, breaks_tables}
-use Rattle.wnames.specs.Places.{breaks_aggregate_places, breaks_grouping, breaks_window_places}
-use Rattle.wnames.specs.Typing.{breaks_types}
+use Rattle.wnames.specs.Groups.{breaks_aggregate_places, breaks_grouping, breaks_window_places}
+use Rattle.wnames.specs.Types.{breaks_types}
 use Rattle.wwindows.specs.Limits.{breaks_limits}
 use Rattle.wwindows.specs.Order.{breaks_places}
 use Rattle.wwindows.specs.Windows.{breaks_bounds, breaks_copies, breaks_entries, breaks_groups, breaks_ranges, breaks_window_names, windows_of}

@@ -1,4 +1,3 @@
 mod Counts
 mod Lists
-mod Placed
 mod Repeated

@@ -10,30 +10,16 @@ use Rattle.std.specs.Str.{bytes_eq}
 use Rattle.wquery.specs.QueryTree.{EntryTree}
 use Rattle.wscope.specs.declared.full_window.FullEntry.{FullEntry}
 use Rattle.wscope.specs.Windows.{NamedWindow, named_window, named_windows, settle_all, settle_tree}
-use Rattle.wwindows.specs.Indexes.{further, has_window_name, is_place, place_of, repeats}
+use Rattle.wscope.specs.Indexes.{further, has_window_name, is_place, place_of, repeats}
+use Rattle.wscope.proofs.Grouped.{name_sym}
+use Rattle.wscope.proofs.Links.{or_assoc, or_false}
 use Rattle.wwindows.specs.Windows.{breaks_entries, has_entry_name}
-
-name_sym : (a b : List ℕ) → bytes_eq a b ≡ bytes_eq b a
-name_sym a b = by (bytes_eq a b) (bytes_eq b a) (bytes_eq-Decides a b) (bytes_eq-Decides b a)
-  where
-    by : (r s : Bool) → Decides r (a ≡ b) → Decides s (b ≡ a) → r ≡ s
-    by true s d e = sym (e.1 (sym (d.0 refl)))
-    by false true d e = d.1 (sym (e.0 refl))
-    by false false d e = refl
-
-or_apart : (a b c : Bool) → ((a || b) || c) ≡ (a || (b || c))
-or_apart true b c = refl
-or_apart false b c = refl
 
 or_turned : (a b : Bool) → (a || b) ≡ (b || a)
 or_turned true true = refl
 or_turned true false = refl
 or_turned false true = refl
 or_turned false false = refl
-
-or_nothing : (a : Bool) → (a || false) ≡ a
-or_nothing true = refl
-or_nothing false = refl
 
 place_further : (n : ℕ) (o : Option ℕ) → is_place (suc n) (further o) ≡ is_place n o
 place_further n None = refl
@@ -80,7 +66,7 @@ none_passed (w ∷ ws) = none_passed ws
 
 mixed : (a b c d : Bool) → (a || ((b || c) || d)) ≡ ((a || b) || (c || d))
 mixed true b c d = refl
-mixed false b c d = or_apart b c d
+mixed false b c d = or_assoc b c d
 
 -- a window repeats one that is passed, or two behind them are of one name
 repeats_are : (passed ws : List NamedWindow) → repeats passed ws ≡ (list_any (λ (v : NamedWindow). list_any (has_window_name v.name) passed) ws || among (names_of ws))
@@ -88,7 +74,7 @@ repeats_are passed [] = refl
 repeats_are passed (w ∷ ws) =
     let seen : NamedWindow → Bool = λ v. list_any (has_window_name v.name) passed in
     let step : (v : NamedWindow) → list_any (has_window_name v.name) (passed ++ w ∷ []) ≡ (seen v || bytes_eq w.name v.name) =
-    λ v. list_any-append (has_window_name v.name) passed (w ∷ []) ∙ ap (λ (b : Bool). seen v || b) (or_nothing (bytes_eq w.name v.name)) in
+    λ v. list_any-append (has_window_name v.name) passed (w ∷ []) ∙ ap (λ (b : Bool). seen v || b) (or_false (bytes_eq w.name v.name)) in
     let whole : list_any (λ (v : NamedWindow). list_any (has_window_name v.name) (passed ++ w ∷ [])) ws ≡ (list_any seen ws || list_any (bytes_eq w.name) (names_of ws)) =
     any_same (λ (v : NamedWindow). list_any (has_window_name v.name) (passed ++ w ∷ [])) (λ v. seen v || bytes_eq w.name v.name) step ws ∙ any_or seen (λ v. bytes_eq w.name v.name) ws
     ∙ ap (λ (b : Bool). list_any seen ws || b) (any_named w.name ws) in

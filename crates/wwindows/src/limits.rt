@@ -1,11 +1,10 @@
-//! The rule on limits.
+//! The rule on limits: Q27.
 
 ghost use Rattle.std.specs.Prelude.{◌≡◌, ◌||◌, ◌+◌, ℕ, map, length, nat_lt};
 ghost use Rattle.std.specs.List.{list_any};
 ghost use Rattle.wquery.specs.Tree.{trees, views, keys, view_keys, view_window, own_window};
-ghost use Rattle.wquery.specs.QueryTree.{view_entry, view_query};
-ghost use Rattle.wscope.specs.Scope.{clauses_of};
-ghost use Rattle.wscope.specs.Sources.{all_titled};
+ghost use Rattle.wquery.specs.QueryTree.{view_entry};
+ghost use Rattle.wscope.specs.Scoped.{scope_clauses, scope_columns};
 ghost use Rattle.wscope.specs.Finding.{count_trees, count_keys};
 ghost use Rattle.wgroupby.specs.Rules.{breaks_lists};
 ghost use Rattle.wwindows.specs.Order.{count_items as number_of_items};
@@ -15,8 +14,8 @@ use crate::counting::{count_in_items, count_in_order, plus};
 use crate::order::count_items;
 use crate::windows::{ReachTest, any_over};
 use wgroupby::has_long_list;
-use wquery::{Expression, Key, Over, Query, Window, WindowEntry};
-use wscope::SourceColumn;
+use wquery::{Expression, Key, Over, Window, WindowEntry};
+use wscope::Scope;
 
 /// The most items, `*` written out.
 const MAX_ITEMS: u128 = 64;
@@ -83,10 +82,10 @@ fn exceeds_windows(entries: usize, in_items: u32, in_order: u32) -> bool
     entries as u32 + plus(in_items, in_order) > MAX_WINDOWS as u32
 }
 
-#[tactic(auto, unfolding(wquery::specs::QueryTree::view_query))]
-fn has_many_windows(query: &Query) -> bool
-    ensures { result ≡ nat_lt most_windows (number_of_windows (clauses_of (view_query query.now))) }
+fn has_many_windows(scope: &Scope) -> bool
+    ensures { result ≡ nat_lt most_windows (number_of_windows (scope_clauses scope.now)) }
 {
+    let query = scope.query;
     exceeds_windows(
         query.windows.len(),
         count_in_items(query.items.as_slice()),
@@ -94,17 +93,16 @@ fn has_many_windows(query: &Query) -> bool
     )
 }
 
-#[tactic(auto, unfolding(wquery::specs::QueryTree::view_query))]
-fn has_many_items(columns: &[SourceColumn], query: &Query) -> bool
-    ensures { result ≡ nat_lt most_items (number_of_items (all_titled columns.now) (clauses_of (view_query query.now)).items) }
+fn has_many_items(scope: &Scope) -> bool
+    ensures { result ≡ nat_lt most_items (number_of_items (scope_columns scope.now) (scope_clauses scope.now).items) }
 {
-    count_items(columns, query.items.as_slice()) > MAX_ITEMS
+    count_items(scope.columns, scope.query.items.as_slice()) > MAX_ITEMS
 }
 
-#[tactic(auto, unfolding(wquery::specs::QueryTree::view_query))]
-fn has_long_clause(query: &Query) -> bool
-    ensures { result ≡ (breaks_lists (clauses_of (view_query query.now)).grouping || nat_lt most_entries (length (clauses_of (view_query query.now)).order)) }
+fn has_long_clause(scope: &Scope) -> bool
+    ensures { result ≡ (breaks_lists (scope_clauses scope.now).grouping || nat_lt most_entries (length (scope_clauses scope.now).order)) }
 {
+    let query = scope.query;
     if has_long_list(query.grouping.as_slice()) {
         return true;
     }
@@ -112,21 +110,20 @@ fn has_long_clause(query: &Query) -> bool
 }
 
 /// Q27, but for the depth of derived tables.
-#[tactic(auto, unfolding(wquery::specs::QueryTree::view_query))]
-pub fn exceeds_limits(columns: &[SourceColumn], query: &Query) -> bool
-    ensures { result ≡ breaks_limits (all_titled columns.now) (clauses_of (view_query query.now)) }
+pub fn exceeds_limits(scope: &Scope) -> bool
+    ensures { result ≡ breaks_limits (scope_columns scope.now) (scope_clauses scope.now) }
 {
-    if has_many_items(columns, query) {
+    if has_many_items(scope) {
         return true;
     }
-    if has_many_windows(query) {
+    if has_many_windows(scope) {
         return true;
     }
-    if has_long_clause(query) {
+    if has_long_clause(scope) {
         return true;
     }
-    if any_long_entry(query.windows.as_slice()) {
+    if any_long_entry(scope.query.windows.as_slice()) {
         return true;
     }
-    any_over(&LongList, columns, query)
+    any_over(&LongList, scope)
 }

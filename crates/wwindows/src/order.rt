@@ -1,15 +1,15 @@
-//! The rule on numbers and literals in the query's ORDER BY.
+//! The rule on numbers and literals in the query's ORDER BY: Q26.
 
 ghost use Rattle.std.specs.Prelude.{◌≡◌, map};
 ghost use Rattle.std.specs.List.{list_any};
 ghost use Rattle.wquery.specs.Tree.{view, view_key, KeyTree};
-ghost use Rattle.wquery.specs.QueryTree.{view_item, view_query};
-ghost use Rattle.wscope.specs.Scope.{clauses_of};
+ghost use Rattle.wquery.specs.QueryTree.{view_item};
+ghost use Rattle.wscope.specs.Scoped.{scope_clauses, scope_columns};
 ghost use Rattle.wscope.specs.Sources.{all_titled};
 ghost use Rattle.wwindows.specs.Order.{count_items as number_of_items, is_behind_signs, is_bad_place, breaks_places};
 
-use wquery::{Expression, Item, Key, Query};
-use wscope::SourceColumn;
+use wquery::{Expression, Item, Key};
+use wscope::{Scope, SourceColumn};
 
 /// How many items there are when `*` is written out.
 pub(crate) fn count_items(columns: &[SourceColumn], items: &[Item]) -> u128
@@ -71,10 +71,10 @@ fn any_bad_place(count: u128, order: &[Key]) -> bool
 }
 
 /// Q26.
-#[tactic(auto, unfolding(wquery::specs::QueryTree::view_query))]
-pub fn has_wrong_place(columns: &[SourceColumn], query: &Query) -> bool
-    ensures { result ≡ breaks_places (all_titled columns.now) (clauses_of (view_query query.now)) }
+pub fn has_wrong_place(scope: &Scope) -> bool
+    ensures { result ≡ breaks_places (scope_columns scope.now) (scope_clauses scope.now) }
 {
-    let count = count_items(columns, query.items.as_slice());
+    let query = scope.query;
+    let count = count_items(scope.columns, query.items.as_slice());
     any_bad_place(count, query.order.as_slice())
 }

@@ -1,23 +1,27 @@
-//! The rules on windows and what they copy.
+//! The rules on windows, what they copy and their frames: Q19 to Q24.
 
-ghost use Rattle.std.specs.Prelude.{◌≡◌, ◌&&◌, Bool, List, [], Option, Some, map, take, not, is_some};
+ghost use Rattle.std.specs.Prelude.{◌≡◌, ◌&&◌, ◌||◌, Bool, List, [], Option, Some, map, not, is_some};
 ghost use Rattle.std.specs.List.{list_any};
 ghost use Rattle.std.specs.Option.{option_copied};
-ghost use Rattle.wquery.specs.Tree.{Reach, keys, view_keys, trees, views, view_window, view_call, view_optional_over, reach_of};
-ghost use Rattle.wquery.specs.QueryTree.{EntryTree, view_query, view_entry};
-ghost use Rattle.wscope.specs.Scope.{clauses_of, some_anywhere};
-ghost use Rattle.wscope.specs.Sources.{all_titled};
-ghost use Rattle.wscope.specs.Windows.{Settled, window_named, or_none, named_windows, settled_window, settle_all as settled_entries, settle_tree, lent_frame};
+ghost use Rattle.wquery.specs.Tree.{Reach, keys, view_key, view_keys, trees, views, view_window, view_call, view_optional_over, reach_of};
+ghost use Rattle.wquery.specs.QueryTree.{view_entry};
+ghost use Rattle.wsame.specs.Bounds.{end_of};
+ghost use Rattle.wscope.specs.Earlier.{seen, windows_in};
 ghost use Rattle.wscope.specs.Finding.{finds};
-ghost use Rattle.wwindows.specs.Earlier.{seen, windows_in};
-ghost use Rattle.wwindows.specs.Indexes.{is_place, place_of, repeats};
-ghost use Rattle.wwindows.specs.Windows.{reach_is, some_entry_after, is_unknown_window as is_no_window, copies_unknown as copies_no_window, is_over_unknown as is_over_no_window, breaks_entries, is_bad_copy as is_wrong_copy, copies_badly as is_copied_wrongly, is_over_bad_copy as is_over_wrong_copy, own_window_is, entry_is, has_keys, has_trees, some_window, breaks_window_names, breaks_copies};
+ghost use Rattle.wscope.specs.Indexes.{is_place, place_of, repeats};
+ghost use Rattle.wscope.specs.Scope.{some_anywhere};
+ghost use Rattle.wscope.specs.Scoped.{IsSettled, scope_clauses, scope_columns};
+ghost use Rattle.wscope.specs.Sources.{all_titled};
+ghost use Rattle.wscope.specs.Types.{type_of as type_in};
+ghost use Rattle.wscope.specs.Windows.{Settled, window_named, or_none, named_windows, settled_window, settle_tree, lent_frame};
+ghost use Rattle.wwindows.specs.Windows.{reach_is, some_entry_after, is_unknown_window as is_no_window, copies_unknown as copies_no_window, is_over_unknown as is_over_no_window, breaks_entries, is_bad_copy as is_wrong_copy, copies_badly as is_copied_wrongly, is_over_bad_copy as is_over_wrong_copy, own_window_is, entry_is, has_keys, has_trees, some_window, breaks_window_names, breaks_copies, is_long as is_long_bound, is_offset as is_offset_bound, has_bad_bounds as are_bad_bounds, has_bad_frame, lacks_groups, is_groups, is_range, is_text_type as is_type_of_texts, has_range_key as is_range_key, lacks_range_key, breaks_bounds, breaks_groups, breaks_ranges};
 
-use crate::earlier::Earlier;
-use crate::finding::{find, find_copied, settle_over};
-use crate::window_index::WindowIndex;
-use wquery::{Expression, Frame, Key, Over, Query, Window, WindowEntry};
-use wscope::{FullEntry, FullWindow, Look, NodeTest, SourceColumn, any_anywhere, found_if};
+use wquery::{Expression, Frame, FrameBound, FrameMode, Key, Over, Window, WindowEntry};
+use wsame::{bound_place, frame_end};
+use wscope::{
+    DataType, Earlier, FullEntry, FullWindow, Look, NodeTest, Scope, SourceColumn, WindowIndex,
+    any_anywhere, found_if, type_of,
+};
 
 /// A test of what stands behind OVER.
 pub(crate) trait ReachTest {
@@ -47,26 +51,16 @@ impl<'a, T: ReachTest> NodeTest for CallOver<'a, T> {
 }
 
 /// Whether the OVER of some call of the query is hit.
-pub(crate) fn any_over<T: ReachTest>(test: &T, columns: &[SourceColumn], query: &Query) -> bool
-    ensures { result ≡ some_anywhere (all_titled columns.now) (clauses_of (view_query query.now)) (finds (reach_is (T.holds test.now))) }
+pub(crate) fn any_over<T: ReachTest>(test: &T, scope: &Scope) -> bool
+    ensures { result ≡ some_anywhere (scope_columns scope.now) (scope_clauses scope.now) (finds (reach_is (T.holds test.now))) }
 {
-    any_anywhere(&CallOver { test }, columns, query)
-}
-
-/// The windows of the entries before a place.
-fn before<'a, 'b>(windows: &'b WindowIndex<'a>, place: usize) -> Earlier<'a, 'b>
-    ensures { seen result ≡ take place (windows_in windows.now) }
-{
-    Earlier {
-        index: windows,
-        before: Some(place),
-    }
+    any_anywhere(&CallOver { test }, scope)
 }
 
 fn is_unknown_window(windows: Earlier, name: &str) -> bool
     ensures { result ≡ is_no_window (seen windows.entry) (Some name.now) }
 {
-    find(windows, name).is_none()
+    windows.find(name).is_none()
 }
 
 #[tactic(auto, unfolding(wquery::specs::Tree::view_window))]
@@ -103,7 +97,7 @@ fn any_entry_unknown(windows: &WindowIndex, entries: &[WindowEntry]) -> bool
 {
     let mut place = 0;
     'entries: for entry in entries {
-        if copies_unknown(before(windows, place), &entry.window) {
+        if copies_unknown(windows.before(place), &entry.window) {
             return true;
         }
         place += 1;
@@ -112,18 +106,17 @@ fn any_entry_unknown(windows: &WindowIndex, entries: &[WindowEntry]) -> bool
 }
 
 /// Q19.
-#[tactic(auto, unfolding(wquery::specs::QueryTree::view_query))]
-pub fn names_unknown_window(windows: &WindowIndex, columns: &[SourceColumn], query: &Query) -> bool
-    ensures { result ≡ breaks_window_names (windows_in windows.now) (all_titled columns.now) (clauses_of (view_query query.now)) }
+pub fn names_unknown_window(scope: &Scope) -> bool
+    ensures { result ≡ breaks_window_names (windows_in scope.now.windows) (scope_columns scope.now) (scope_clauses scope.now) }
 {
-    if any_entry_unknown(windows, query.windows.as_slice()) {
+    if any_entry_unknown(&scope.windows, scope.query.windows.as_slice()) {
         return true;
     }
     let windows = Earlier {
-        index: windows,
+        index: &scope.windows,
         before: None,
     };
-    any_over(&UnknownWindow { windows }, columns, query)
+    any_over(&UnknownWindow { windows }, scope)
 }
 
 fn is_found_at(found: Option<&usize>, place: usize) -> bool
@@ -156,15 +149,16 @@ fn repeats_names(windows: &WindowIndex, entries: &[FullEntry]) -> bool
     false
 }
 
-/// Q20, of the entries that were settled.
-pub fn repeats_windows(windows: &WindowIndex) -> bool
-    ensures { (entries : List EntryTree) → windows_in windows.now ≡ settled_entries [] entries → result ≡ breaks_entries entries }
+/// Q20.
+pub fn repeats_windows(scope: &Scope) -> bool
+    requires { IsSettled scope.now }
+    ensures { result ≡ breaks_entries (scope_clauses scope.now).windows }
 {
-    repeats_names(windows, windows.entries.as_slice())
+    repeats_names(&scope.windows, scope.windows.entries.as_slice())
 }
 
 /// Whether there is no key.
-pub(crate) fn is_unordered(order: &[Key]) -> bool
+fn is_unordered(order: &[Key]) -> bool
     ensures { result ≡ not (has_keys (keys (view_keys order.now))) }
 {
     order.is_empty()
@@ -173,7 +167,7 @@ pub(crate) fn is_unordered(order: &[Key]) -> bool
 fn has_order(windows: Earlier, name: &str) -> bool
     ensures { result ≡ has_keys (or_none (window_named (seen windows.entry) name.now)).order }
 {
-    match find(windows, name) {
+    match windows.find(name) {
         None => false,
         Some(window) => !is_unordered(window.order),
     }
@@ -191,7 +185,7 @@ fn is_framed(frame: Option<&Frame>) -> bool
 fn has_frame(windows: Earlier, name: &str) -> bool
     ensures { result ≡ is_some (or_none (window_named (seen windows.entry) name.now)).frame }
 {
-    match find(windows, name) {
+    match windows.find(name) {
         None => false,
         Some(window) => is_framed(window.frame),
     }
@@ -263,7 +257,7 @@ fn any_entry_bad(windows: &WindowIndex, entries: &[WindowEntry]) -> bool
 {
     let mut place = 0;
     'entries: for entry in entries {
-        if copies_badly(before(windows, place), &entry.window) {
+        if copies_badly(windows.before(place), &entry.window) {
             return true;
         }
         place += 1;
@@ -272,18 +266,17 @@ fn any_entry_bad(windows: &WindowIndex, entries: &[WindowEntry]) -> bool
 }
 
 /// Q21.
-#[tactic(auto, unfolding(wquery::specs::QueryTree::view_query))]
-pub fn copies_wrongly(windows: &WindowIndex, columns: &[SourceColumn], query: &Query) -> bool
-    ensures { result ≡ breaks_copies (windows_in windows.now) (all_titled columns.now) (clauses_of (view_query query.now)) }
+pub fn copies_wrongly(scope: &Scope) -> bool
+    ensures { result ≡ breaks_copies (windows_in scope.now.windows) (scope_columns scope.now) (scope_clauses scope.now) }
 {
-    if any_entry_bad(windows, query.windows.as_slice()) {
+    if any_entry_bad(&scope.windows, scope.query.windows.as_slice()) {
         return true;
     }
     let windows = Earlier {
-        index: windows,
+        index: &scope.windows,
         before: None,
     };
-    any_over(&BadCopy { windows }, columns, query)
+    any_over(&BadCopy { windows }, scope)
 }
 
 /// A test of a window with what it copies.
@@ -298,9 +291,7 @@ pub(crate) trait WindowTest {
 fn is_window_hit<T: WindowTest>(test: &T, windows: Earlier, window: &Window) -> bool
     ensures { result ≡ T.holds test.now (settle_tree (seen windows.entry) (view_window window.now)) }
 {
-    let found = find_copied(windows, window);
-    let settled = settle_over(found, window);
-    test.is_hit(settled)
+    test.is_hit(windows.settled(window))
 }
 
 /// The windows of calls that are hit.
@@ -341,20 +332,163 @@ fn any_entry<T: WindowTest>(test: &T, windows: &WindowIndex) -> bool
 }
 
 /// Whether some window of the query is hit, used or not.
-pub(crate) fn any_window<T: WindowTest>(
-    test: &T,
-    windows: &WindowIndex,
-    columns: &[SourceColumn],
-    query: &Query,
-) -> bool
-    ensures { result ≡ some_window (windows_in windows.now) (all_titled columns.now) (clauses_of (view_query query.now)) (T.holds test.now) }
+fn any_window<T: WindowTest>(test: &T, scope: &Scope) -> bool
+    ensures { result ≡ some_window (windows_in scope.now.windows) (scope_columns scope.now) (scope_clauses scope.now) (T.holds test.now) }
 {
-    if any_entry(test, windows) {
+    if any_entry(test, &scope.windows) {
         return true;
     }
     let windows = Earlier {
-        index: windows,
+        index: &scope.windows,
         before: None,
     };
-    any_over(&OwnWindow { windows, test }, columns, query)
+    any_over(&OwnWindow { windows, test }, scope)
+}
+
+fn is_long(bound: &FrameBound) -> bool
+    ensures { result ≡ is_long_bound bound.now }
+{
+    match bound {
+        FrameBound::Preceding(n) => n.get() >= 1 << 63,
+        FrameBound::Following(n) => n.get() >= 1 << 63,
+        _ => false,
+    }
+}
+
+/// A start behind all rows, an end before all rows, an end of an earlier kind than the start, or an offset of 2^63 or
+/// more.
+fn has_bad_bounds(frame: &Frame) -> bool
+    ensures { result ≡ are_bad_bounds frame.now }
+{
+    let last = frame_end(frame);
+    let start = bound_place(&frame.start);
+    let end = bound_place(&last);
+    if start == 4 {
+        return true;
+    }
+    if end == 0 {
+        return true;
+    }
+    if end < start {
+        return true;
+    }
+    if is_long(&frame.start) {
+        return true;
+    }
+    is_long(&last)
+}
+
+/// A frame with bounds that go wrong.
+#[derive(Drop)]
+struct BadBounds;
+
+impl WindowTest for BadBounds {
+    ghost holds = { λ _. has_bad_frame };
+
+    fn is_hit(&self, window: FullWindow) -> bool {
+        match window.frame {
+            None => false,
+            Some(frame) => has_bad_bounds(frame),
+        }
+    }
+}
+
+/// Q22.
+pub fn bounds_wrongly(scope: &Scope) -> bool
+    ensures { result ≡ breaks_bounds (windows_in scope.now.windows) (scope_columns scope.now) (scope_clauses scope.now) }
+{
+    any_window(&BadBounds, scope)
+}
+
+fn counts_groups(frame: &Frame) -> bool
+    ensures { result ≡ is_groups frame.now.mode }
+{
+    matches!(frame.mode, FrameMode::Groups)
+}
+
+/// GROUPS without ORDER BY.
+#[derive(Drop)]
+struct UnorderedGroups;
+
+impl WindowTest for UnorderedGroups {
+    ghost holds = { λ _. lacks_groups };
+
+    fn is_hit(&self, window: FullWindow) -> bool {
+        match window.frame {
+            None => false,
+            Some(frame) => counts_groups(frame) && is_unordered(window.order),
+        }
+    }
+}
+
+/// Q23.
+pub fn has_unordered_groups(scope: &Scope) -> bool
+    ensures { result ≡ breaks_groups (windows_in scope.now.windows) (scope_columns scope.now) (scope_clauses scope.now) }
+{
+    any_window(&UnorderedGroups, scope)
+}
+
+fn is_offset(bound: &FrameBound) -> bool
+    ensures { result ≡ is_offset_bound bound.now }
+{
+    matches!(bound, FrameBound::Preceding(_) | FrameBound::Following(_))
+}
+
+fn is_text_type(data_type: DataType) -> bool
+    ensures { result ≡ is_type_of_texts data_type }
+{
+    matches!(data_type, DataType::Text)
+}
+
+#[tactic(auto, unfolding(wquery::specs::Tree::view_key, wquery::specs::Tree::view))]
+fn is_number_key(columns: &[SourceColumn], key: &Key) -> bool
+    ensures { result ≡ not (is_type_of_texts (type_in (all_titled columns.now) (view_key key.now).expression)) }
+{
+    !is_text_type(type_of(columns, &key.expression))
+}
+
+/// Exactly one key, which is no text.
+fn has_range_key(columns: &[SourceColumn], order: &[Key]) -> bool
+    ensures { result ≡ is_range_key (all_titled columns.now) (keys (view_keys order.now)) }
+{
+    if order.len() != 1 {
+        return false;
+    }
+    is_number_key(columns, &order[0])
+}
+
+/// RANGE with an offset and without exactly one key that is no text.
+#[derive(Drop)]
+struct WrongRangeKey<'a> {
+    columns: &'a [SourceColumn],
+}
+
+fn has_range_offset(frame: &Frame) -> bool
+    ensures { result ≡ (is_range frame.now.mode && (is_offset_bound frame.now.start || is_offset_bound (end_of frame.now))) }
+{
+    if !matches!(frame.mode, FrameMode::Range) {
+        return false;
+    }
+    is_offset(&frame.start) || is_offset(&frame_end(frame))
+}
+
+impl<'a> WindowTest for WrongRangeKey<'a> {
+    ghost holds = { λ w. lacks_range_key (all_titled w.columns.now) };
+
+    fn is_hit(&self, window: FullWindow) -> bool {
+        match window.frame {
+            None => false,
+            Some(frame) => has_range_offset(frame) && !has_range_key(self.columns, window.order),
+        }
+    }
+}
+
+/// Q24.
+pub fn has_wrong_range_key(scope: &Scope) -> bool
+    ensures { result ≡ breaks_ranges (windows_in scope.now.windows) (scope_columns scope.now) (scope_clauses scope.now) }
+{
+    let test = WrongRangeKey {
+        columns: scope.columns,
+    };
+    any_window(&test, scope)
 }

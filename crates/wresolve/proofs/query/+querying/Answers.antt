@@ -1,17 +1,21 @@
-use Rattle.std.proofs.Common.{◌++◌, [], ◌∷◌, map, ap, ◌∙◌}
-use Rattle.wscope.specs.Sources.{all_titled, answered}
-use Rattle.wplan.specs.Plans.{select_plan}
-use Rattle.wdistinct.specs.Clauses.{clauses_in}
-use Rattle.wresolve.specs.Selecting.{select_made}
-use Rattle.wresolve.proofs.Queried.{query_answers, query_pushed}
+use Rattle.std.proofs.Common.{ap, subst, sym, ◌∙◌, None}
+use Rattle.wquery.specs.declared.query.Query.{Query}
+use Rattle.wquery.specs.QueryTree.{view_query, view_source}
+use Rattle.wscope.specs.Sources.{all_titled}
+use Rattle.wresolve.specs.Judging.{ResolvesQuery, ResolvesSource, plans_made}
+use Rattle.wresolve.proofs.Queried.{derived_is, fault_source}
 use Rattle.wresolve.proofs.query.+querying.Goals as goal
 
-pub push_query-returns-clause-columns : goal.push_query-returns-clause-columns
-push_query-returns-clause-columns t c =
-    query_answers c.args.schema.now c.args.query.now (all_titled c.in_ok-columns.columns.items) (all_titled c.in_ok-answered.answered.items) c.in_ok-columns.ensures.columns
-    (c.in_ok-answered.ensures ∙ ap (λ xs. answered (all_titled xs) (clauses_in c.args.query.now).items) c.as_slice-2.ensures.value)
+pub push_query-returns-in-Err-clause-answer : goal.push_query-returns-in-Err-clause-answer
+push_query-returns-in-Err-clause-answer t c =
+    fault_source c.args.schema.now c.args.last c.args.query.now (plans_made c.args.made.now) (plans_made c.push_source.new.made) c.push_source.result c.in-Err.fault c.in-Err.is c.push_source.ensures.answer
 
-pub push_query-returns-clause-selections : goal.push_query-returns-clause-selections
-push_query-returns-clause-selections t c =
-    query_pushed c.args.schema.now c.args.query.now (all_titled c.in_ok-columns.columns.items) (map select_plan c.args.selections.now.items) (map select_plan c.push_source.new.selections.items) (map select_plan c.push_select.new.selections.items) c.in_ok-columns.ensures.columns c.in_ok-columns.ensures.selections
-    (c.in_ok-push_select.ensures ∙ ap (λ xs. map select_plan c.push_source.new.selections.items ++ (select_made (all_titled xs) (clauses_in c.args.query.now) ∷ [])) c.as_slice.ensures.value)
+pub push_query-returns-in-Ok-clause-answer : goal.push_query-returns-in-Ok-clause-answer
+push_query-returns-in-Ok-clause-answer t c =
+    let h = subst (ResolvesSource c.args.schema.now (view_source c.args.query.now.source) (plans_made c.args.made.now) (plans_made c.push_source.new.made)) c.in-Ok.is c.push_source.ensures.answer in
+    c.push_over.ensures.answer (plans_made c.args.made.now) h.0 (ap all_titled c.as_slice.ensures.value ∙ h.1) h.2
+
+pub push_source-returns-in-Derived-clause-answer : goal.push_source-returns-in-Derived-clause-answer
+push_source-returns-in-Derived-clause-answer t c =
+    derived_is c.args.schema.now c.args.source.now c.in-Derived.query c.in-Derived.alias (plans_made c.args.made.now) (plans_made c.push_query.new.made) c.push_query.result c.in-Derived.is
+    (subst (λ (q : Query). ResolvesQuery c.args.schema.now None (view_query q) (plans_made c.args.made.now) (plans_made c.push_query.new.made) c.push_query.result) c.deref.ensures c.push_query.ensures.answer)

@@ -1,5 +1,5 @@
 use Rattle.std.proofs.Common.{◌∙◌, sym}
-use Rattle.wscope.proofs.Answered.{own_keys}
+use Rattle.wscope.proofs.Placed.{own_keys}
 use Rattle.wscope.proofs.settling.own_keys_or.Goals as goal
 
 pub returns-else-is_empty : goal.returns-else-is_empty

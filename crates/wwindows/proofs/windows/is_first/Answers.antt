@@ -1,5 +1,5 @@
 use Rattle.std.proofs.Common.{ap, ◌∙◌}
-use Rattle.wwindows.specs.Indexes.{is_place}
+use Rattle.wscope.specs.Indexes.{is_place}
 use Rattle.wwindows.proofs.windows.is_first.Goals as goal
 
 pub returns : goal.returns

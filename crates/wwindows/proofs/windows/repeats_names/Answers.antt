@@ -1,7 +1,7 @@
 use Rattle.std.proofs.Common.{◌+◌, List, ap, ◌∙◌}
 use Rattle.wscope.specs.declared.full_window.FullEntry.{FullEntry}
 use Rattle.wscope.specs.Windows.{named_windows}
-use Rattle.wwindows.specs.Indexes.{is_place, place_of}
+use Rattle.wscope.specs.Indexes.{is_place, place_of}
 use Rattle.wwindows.proofs.Repeated.{passed_on, repeated}
 use Rattle.wwindows.proofs.windows.repeats_names.Goals as goal
 

@@ -1,6 +1,6 @@
 use Rattle.std.proofs.Common.{◌≡◌, [], take, drop}
 use Rattle.wscope.specs.Windows.{named_windows}
-use Rattle.wwindows.specs.Indexes.{repeats}
+use Rattle.wscope.specs.Indexes.{repeats}
 use Rattle.wwindows.proofs.windows.repeats_names.Given as goal
 
 abbrev pub invariant-entries : goal.invariant-entries

@@ -1,0 +1,387 @@
+//! The rule on types: Q14.
+
+ghost use Rattle.std.specs.Prelude.{◌≡◌, ◌||◌, ◌&&◌, not, map, [], ◌∷◌};
+ghost use Rattle.std.specs.List.{list_any};
+ghost use Rattle.wquery.specs.declared.expression.ChainKind.{ChainKind};
+ghost use Rattle.wquery.specs.Tree.{Tree, view, views, trees, keys, view_keys, view_key, view_link, linked, NoLinks, view_call, view_arguments, view_optional, view_optional_over, view_window, filter_of, reach_of, own_window};
+ghost use Rattle.wquery.specs.QueryTree.{view_item, view_entry};
+ghost use Rattle.wscope.specs.Scoped.{scope_clauses, scope_columns};
+ghost use Rattle.wscope.specs.Sources.{all_titled};
+ghost use Rattle.wscope.specs.Types.{is_truth as is_truth_type, fits_integer as suits_integer, fits_text as suits_text, agree as do_agree};
+ghost use Rattle.wscope.specs.Finding.{finds};
+ghost use Rattle.wnames.specs.Types.{is_condition as is_truth, is_value as is_no_truth, is_integer as is_of_integers, is_text as is_of_texts, all_trees, all_links, all_keys, suits as is_suited, is_window_typed as has_typed_window, is_filter_typed as has_typed_filter, has_fit_default as is_default_fit, suits_function as are_suited, are_typed as are_arguments_typed, is_ill_typed as is_wrong, is_no_condition as is_other, is_truth_item as has_truth, is_truth_key as is_key_of_truth, is_truth_entry as is_entry_of_truth, breaks_types};
+
+use wquery::{Arguments, Call, ChainKind, Expression, Item, Key, Link, Over, Window, WindowEntry};
+use wscope::{
+    DataType, Function, Look, NodeTest, Scope, SourceColumn, any_anywhere, found_if, function_of,
+    type_of,
+};
+
+fn fits_integer(data_type: DataType) -> bool
+    ensures { result ≡ suits_integer data_type }
+{
+    matches!(data_type, DataType::Integer | DataType::Null)
+}
+
+fn fits_text(data_type: DataType) -> bool
+    ensures { result ≡ suits_text data_type }
+{
+    matches!(data_type, DataType::Text | DataType::Null)
+}
+
+fn is_truth_of(data_type: DataType) -> bool
+    ensures { result ≡ is_truth_type data_type }
+{
+    matches!(data_type, DataType::Truth)
+}
+
+fn agree_two(a: DataType, b: DataType) -> bool
+    ensures { result ≡ do_agree (a ∷ b ∷ []) }
+{
+    if fits_integer(a) && fits_integer(b) {
+        return true;
+    }
+    fits_text(a) && fits_text(b)
+}
+
+fn agree_three(a: DataType, b: DataType, c: DataType) -> bool
+    ensures { result ≡ do_agree (a ∷ b ∷ c ∷ []) }
+{
+    if fits_integer(a) && fits_integer(b) && fits_integer(c) {
+        return true;
+    }
+    fits_text(a) && fits_text(b) && fits_text(c)
+}
+
+fn is_condition(columns: &[SourceColumn], e: &Expression) -> bool
+    ensures { result ≡ is_truth (all_titled columns.now) (view e.now) }
+{
+    is_truth_of(type_of(columns, e))
+}
+
+fn is_value(columns: &[SourceColumn], e: &Expression) -> bool
+    ensures { result ≡ is_no_truth (all_titled columns.now) (view e.now) }
+{
+    !is_truth_of(type_of(columns, e))
+}
+
+fn is_integer(columns: &[SourceColumn], e: &Expression) -> bool
+    ensures { result ≡ is_of_integers (all_titled columns.now) (view e.now) }
+{
+    fits_integer(type_of(columns, e))
+}
+
+fn is_text(columns: &[SourceColumn], e: &Expression) -> bool
+    ensures { result ≡ is_of_texts (all_titled columns.now) (view e.now) }
+{
+    fits_text(type_of(columns, e))
+}
+
+fn all_values(columns: &[SourceColumn], list: &[Expression]) -> bool
+    ensures { result ≡ all_trees (is_no_truth (all_titled columns.now)) (trees (views list.now)) }
+{
+    'list: for e in list {
+        if !is_value(columns, e) {
+            return false;
+        }
+    }
+    true
+}
+
+fn all_integers(columns: &[SourceColumn], list: &[Expression]) -> bool
+    ensures { result ≡ all_trees (is_of_integers (all_titled columns.now)) (trees (views list.now)) }
+{
+    'list: for e in list {
+        if !is_integer(columns, e) {
+            return false;
+        }
+    }
+    true
+}
+
+fn all_texts(columns: &[SourceColumn], list: &[Expression]) -> bool
+    ensures { result ≡ all_trees (is_of_texts (all_titled columns.now)) (trees (views list.now)) }
+{
+    'list: for e in list {
+        if !is_text(columns, e) {
+            return false;
+        }
+    }
+    true
+}
+
+#[tactic(auto, unfolding(wquery::specs::Tree::view_key, wquery::specs::Tree::view))]
+fn all_key_values(columns: &[SourceColumn], order: &[Key]) -> bool
+    ensures { result ≡ all_keys (is_no_truth (all_titled columns.now)) (keys (view_keys order.now)) }
+{
+    'keys: for key in order {
+        if !is_value(columns, &key.expression) {
+            return false;
+        }
+    }
+    true
+}
+
+fn suits(columns: &[SourceColumn], kind: ChainKind, e: &Expression) -> bool
+    ensures { result ≡ is_suited (all_titled columns.now) kind (view e.now) }
+{
+    match kind {
+        ChainKind::Disjunction => is_condition(columns, e),
+        ChainKind::Conjunction => is_condition(columns, e),
+        ChainKind::Sum => is_integer(columns, e),
+        ChainKind::Product => is_integer(columns, e),
+    }
+}
+
+fn all_suit(columns: &[SourceColumn], kind: ChainKind, links: &[Link]) -> bool
+    ensures { result ≡ all_links (is_suited (all_titled columns.now) kind) (linked NoLinks (map view_link links.now)) }
+{
+    'links: for link in links {
+        if !suits(columns, kind, &link.operand) {
+            return false;
+        }
+    }
+    true
+}
+
+#[tactic(auto, unfolding(wquery::specs::Tree::view_window, wquery::specs::Tree::view, wquery::specs::Tree::view_key))]
+fn is_window_typed(columns: &[SourceColumn], window: &Window) -> bool
+    ensures { result ≡ has_typed_window (all_titled columns.now) (own_window (view_window window.now)) }
+{
+    all_values(columns, window.partition.as_slice())
+        && all_key_values(columns, window.order.as_slice())
+}
+
+#[tactic(auto, unfolding(wquery::specs::Tree::view_over, wquery::specs::Tree::view_window))]
+fn is_over_typed(columns: &[SourceColumn], over: &Option<Over>) -> bool
+    ensures { result ≡ has_typed_window (all_titled columns.now) (reach_of (view_optional_over over.now)) }
+{
+    match over {
+        None => true,
+        Some(Over::Named(_)) => true,
+        Some(Over::Windowed(window)) => is_window_typed(columns, window),
+    }
+}
+
+fn is_filter_typed(columns: &[SourceColumn], filter: &Option<Expression>) -> bool
+    ensures { result ≡ has_typed_filter (all_titled columns.now) (filter_of (view_optional filter.now)) }
+{
+    match filter {
+        None => true,
+        Some(e) => is_condition(columns, e),
+    }
+}
+
+fn has_fit_default(columns: &[SourceColumn], list: &[Expression]) -> bool
+    ensures { result ≡ is_default_fit (all_titled columns.now) (trees (views list.now)) }
+{
+    if list.len() < 3 {
+        return true;
+    }
+    agree_two(type_of(columns, &list[0]), type_of(columns, &list[2]))
+}
+
+fn suits_function(columns: &[SourceColumn], function: Option<Function>, list: &[Expression]) -> bool
+    ensures { result ≡ are_suited (all_titled columns.now) function (trees (views list.now)) }
+{
+    match function {
+        Some(Function::Sum) => all_integers(columns, list),
+        Some(Function::Lag) => has_fit_default(columns, list),
+        Some(Function::Lead) => has_fit_default(columns, list),
+        _ => true,
+    }
+}
+
+fn is_list_typed(columns: &[SourceColumn], function: Option<Function>, list: &[Expression]) -> bool
+    ensures { result ≡ (all_trees (is_no_truth (all_titled columns.now)) (trees (views list.now)) && are_suited (all_titled columns.now) function (trees (views list.now))) }
+{
+    if !all_values(columns, list) {
+        return false;
+    }
+    suits_function(columns, function, list)
+}
+
+#[tactic(auto, unfolding(wquery::specs::Tree::view_arguments, wquery::specs::Tree::view))]
+fn are_typed(columns: &[SourceColumn], function: Option<Function>, arguments: &Arguments) -> bool
+    ensures { result ≡ are_arguments_typed (all_titled columns.now) function (view_arguments arguments.now) }
+{
+    match arguments {
+        Arguments::Star => true,
+        Arguments::Listed(list) => is_list_typed(columns, function, list.as_slice()),
+        Arguments::Columns(_) => true,
+    }
+}
+
+fn is_one_false(a: bool, b: bool, c: bool) -> bool
+    ensures { result ≡ not (a && (b && c)) }
+{
+    !(a && (b && c))
+}
+
+fn is_ill_typed_call(columns: &[SourceColumn], call: &Call) -> bool
+    ensures { result ≡ is_wrong (all_titled columns.now) (view_call call.now) }
+{
+    let function = function_of(call.name.as_str());
+    is_one_false(
+        are_typed(columns, function, &call.arguments),
+        is_filter_typed(columns, &call.filter),
+        is_over_typed(columns, &call.over),
+    )
+}
+
+fn is_ill_typed_chain(
+    columns: &[SourceColumn],
+    kind: ChainKind,
+    first: &Expression,
+    links: &[Link],
+) -> bool
+    ensures { result ≡ not (is_suited (all_titled columns.now) kind (view first.now) && all_links (is_suited (all_titled columns.now) kind) (linked NoLinks (map view_link links.now))) }
+{
+    if !suits(columns, kind, first) {
+        return true;
+    }
+    !all_suit(columns, kind, links)
+}
+
+fn is_ill_typed_list(columns: &[SourceColumn], operand: &Expression, list: &[Expression]) -> bool
+    ensures { result ≡ not ((is_of_integers (all_titled columns.now) (view operand.now) && all_trees (is_of_integers (all_titled columns.now)) (trees (views list.now))) || (is_of_texts (all_titled columns.now) (view operand.now) && all_trees (is_of_texts (all_titled columns.now)) (trees (views list.now)))) }
+{
+    if is_integer(columns, operand) && all_integers(columns, list) {
+        return false;
+    }
+    !(is_text(columns, operand) && all_texts(columns, list))
+}
+
+#[tactic(auto, unfolding(wquery::specs::Tree::view, wquery::specs::Tree::view_call, wquery::specs::Tree::view_link))]
+fn is_ill_typed(columns: &[SourceColumn], e: &Expression) -> bool
+    ensures { result ≡ is_wrong (all_titled columns.now) (view e.now) }
+{
+    match e {
+        Expression::Null => false,
+        Expression::Number(_) => false,
+        Expression::Text(_) => false,
+        Expression::Column(_) => false,
+        Expression::Call(call) => is_ill_typed_call(columns, call),
+        Expression::Not(operand) => !is_condition(columns, operand),
+        Expression::Sign { operand, .. } => !is_integer(columns, operand),
+        Expression::Chain { kind, first, links } => {
+            is_ill_typed_chain(columns, *kind, first, links.as_slice())
+        }
+        Expression::Compare { left, right, .. } => {
+            !agree_two(type_of(columns, left), type_of(columns, right))
+        }
+        Expression::IsNull { .. } => false,
+        Expression::Between {
+            operand,
+            low,
+            high,
+            ..
+        } => !agree_three(
+            type_of(columns, operand),
+            type_of(columns, low),
+            type_of(columns, high),
+        ),
+        Expression::In { operand, list, .. } => {
+            is_ill_typed_list(columns, operand, list.as_slice())
+        }
+    }
+}
+
+/// Operands of another type than their operator or function takes.
+#[derive(Drop)]
+struct IllTyped<'a> {
+    columns: &'a [SourceColumn],
+}
+
+impl<'a> NodeTest for IllTyped<'a> {
+    ghost sees = { λ t. finds (is_wrong (all_titled t.columns.now)) };
+
+    fn look(&self, node: &Expression) -> Look {
+        found_if(is_ill_typed(self.columns, node))
+    }
+}
+
+fn is_no_condition(columns: &[SourceColumn], condition: &Option<Expression>) -> bool
+    ensures { result ≡ is_other (all_titled columns.now) (view_optional condition.now) }
+{
+    match condition {
+        None => false,
+        Some(e) => !is_condition(columns, e),
+    }
+}
+
+fn is_truth_item(columns: &[SourceColumn], item: &Item) -> bool
+    ensures { result ≡ has_truth (all_titled columns.now) (view_item item.now) }
+{
+    match item {
+        Item::All => false,
+        Item::Value { expression, .. } => !is_value(columns, expression),
+    }
+}
+
+fn any_truth_item(columns: &[SourceColumn], items: &[Item]) -> bool
+    ensures { result ≡ list_any (has_truth (all_titled columns.now)) (map view_item items.now) }
+{
+    'items: for item in items {
+        if is_truth_item(columns, item) {
+            return true;
+        }
+    }
+    false
+}
+
+fn any_truth_entry(columns: &[SourceColumn], entries: &[WindowEntry]) -> bool
+    ensures { result ≡ list_any (is_entry_of_truth (all_titled columns.now)) (map view_entry entries.now) }
+{
+    'entries: for entry in entries {
+        if !is_window_typed(columns, &entry.window) {
+            return true;
+        }
+    }
+    false
+}
+
+#[tactic(auto, unfolding(wquery::specs::Tree::view_key, wquery::specs::Tree::view))]
+fn is_truth_key<'a>(scope: &Scope<'a>, key: &'a Key) -> bool
+    ensures { result ≡ is_key_of_truth (scope_columns scope.now) (scope_clauses scope.now).items (view_key key.now) }
+{
+    if is_value(scope.columns, &key.expression) {
+        return false;
+    }
+    !scope.is_output(&key.expression)
+}
+
+fn any_truth_key<'a>(scope: &Scope<'a>, order: &'a [Key]) -> bool
+    ensures { result ≡ list_any (is_key_of_truth (scope_columns scope.now) (scope_clauses scope.now).items) (map view_key order.now) }
+{
+    'keys: for key in order {
+        if is_truth_key(scope, key) {
+            return true;
+        }
+    }
+    false
+}
+
+/// Q14.
+pub fn has_wrong_types(scope: &Scope) -> bool
+    ensures { result ≡ breaks_types (scope_columns scope.now) (scope_clauses scope.now) }
+{
+    let columns = scope.columns;
+    let query = scope.query;
+    if any_anywhere(&IllTyped { columns }, scope) {
+        return true;
+    }
+    if is_no_condition(columns, &query.condition) {
+        return true;
+    }
+    if is_no_condition(columns, &query.having) {
+        return true;
+    }
+    if any_truth_item(columns, query.items.as_slice()) {
+        return true;
+    }
+    if any_truth_entry(columns, query.windows.as_slice()) {
+        return true;
+    }
+    any_truth_key(scope, query.order.as_slice())
+}
