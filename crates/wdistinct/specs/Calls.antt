@@ -4,10 +4,11 @@ use Rattle.std.specs.Prelude.{ℕ, Bool, true, false, ◌&&◌, ◌||◌, not, L
 use Rattle.std.specs.List.{list_any}
 use Rattle.std.specs.Borrow.{Bor}
 use Rattle.wquery.specs.declared.expression.Call.{Call}
-use Rattle.wquery.specs.Tree.{Tree, NullWord, Numeral, Quoted, Field, Invoked, Negated, Signed, Joined, Compared, NullTest, Within, Among, Trees, NoTrees, MoreTrees, Links, NoLinks, Further, Given, Everything, These, Columns, Filter, Unfiltered, FilteredBy, Reach, ItsGroup, ThatWindow, OwnWindow, Keys, NoKeys, MoreKeys, KeyTree, Branch, own_window, view_call}
+use Rattle.wquery.specs.Tree.{Tree, Invoked, Trees, Links, Given, Columns, Filter, Reach, ItsGroup, ThatWindow, OwnWindow, Keys, KeyTree, Branch, own_window, view_call}
 use Rattle.wquery.specs.QueryTree.{Clauses, ItemTree, AllColumns, Computed, EntryTree}
 use Rattle.wscope.specs.declared.function.Function.{Function}
 use Rattle.wscope.specs.Functions.{function_of, is_aggregate}
+use Rattle.wscope.specs.Seeking.{Findings, found, found_below, found_trees, found_links, found_given, found_filter, found_reach, found_keys}
 use Rattle.wsame.specs.Sameness.{is_same}
 use Rattle.wdistinct.specs.declared.calls.CallKind.{CallKind}
 use Rattle.wdistinct.specs.declared.calls.CallKind.TheVariants.{Grouped, Windowed}
@@ -42,51 +43,33 @@ node_or true t below = t ∷ []
 node_or false t below = below
 
 -- The nodes that are looked for, from the first to the last. Below one that is found none is looked for
-abbrev mutual
-  pub nodes_below : (Tree → Bool) → Tree → List Tree
-  nodes_below holds NullWord = []
-  nodes_below holds (Numeral n) = []
-  nodes_below holds (Quoted text) = []
-  nodes_below holds (Field qualifier name) = []
-  nodes_below holds (Invoked name given filter reach) = nodes_given holds given ++ (nodes_in_filter holds filter ++ nodes_in_reach holds reach)
-  nodes_below holds (Negated t) = node_or (holds t) t (nodes_below holds t)
-  nodes_below holds (Signed minus t) = node_or (holds t) t (nodes_below holds t)
-  nodes_below holds (Joined kind t links) = node_or (holds t) t (nodes_below holds t) ++ nodes_in_links holds links
-  nodes_below holds (Compared comparison l r) = node_or (holds l) l (nodes_below holds l) ++ node_or (holds r) r (nodes_below holds r)
-  nodes_below holds (NullTest negated t) = node_or (holds t) t (nodes_below holds t)
-  nodes_below holds (Within negated t l h) =
-      node_or (holds t) t (nodes_below holds t) ++ (node_or (holds l) l (nodes_below holds l) ++ node_or (holds h) h (nodes_below holds h))
-  nodes_below holds (Among negated t list) = node_or (holds t) t (nodes_below holds t) ++ nodes_in_trees holds list
-
-  pub nodes_in_trees : (Tree → Bool) → Trees → List Tree
-  nodes_in_trees holds NoTrees = []
-  nodes_in_trees holds (MoreTrees t ts) = node_or (holds t) t (nodes_below holds t) ++ nodes_in_trees holds ts
-
-  pub nodes_in_links : (Tree → Bool) → Links → List Tree
-  nodes_in_links holds NoLinks = []
-  nodes_in_links holds (Further front operator t) = nodes_in_links holds front ++ node_or (holds t) t (nodes_below holds t)
-
-  pub nodes_given : (Tree → Bool) → Given → List Tree
-  nodes_given holds Everything = []
-  nodes_given holds (These ts) = nodes_in_trees holds ts
-  nodes_given holds (Columns ts) = nodes_in_trees holds ts
-
-  pub nodes_in_filter : (Tree → Bool) → Filter → List Tree
-  nodes_in_filter holds Unfiltered = []
-  nodes_in_filter holds (FilteredBy t) = node_or (holds t) t (nodes_below holds t)
-
-  pub nodes_in_reach : (Tree → Bool) → Reach → List Tree
-  nodes_in_reach holds ItsGroup = []
-  nodes_in_reach holds (ThatWindow name) = []
-  nodes_in_reach holds (OwnWindow copied partition order frame) = nodes_in_trees holds partition ++ nodes_in_keys holds order
-
-  pub nodes_in_keys : (Tree → Bool) → Keys → List Tree
-  nodes_in_keys holds NoKeys = []
-  nodes_in_keys holds (MoreKeys t descending nulls more) = node_or (holds t) t (nodes_below holds t) ++ nodes_in_keys holds more
+abbrev pub picking : (Tree → Bool) → Findings (List Tree)
+picking holds = record { none = []; both = λ xs ys. xs ++ ys; at = λ t below. node_or (holds t) t below }
 
 -- of an expression
 abbrev pub nodes_in : (Tree → Bool) → Tree → List Tree
-nodes_in holds t = node_or (holds t) t (nodes_below holds t)
+nodes_in holds t = found (picking holds) t
+
+abbrev pub nodes_below : (Tree → Bool) → Tree → List Tree
+nodes_below holds t = found_below (picking holds) t
+
+abbrev pub nodes_in_trees : (Tree → Bool) → Trees → List Tree
+nodes_in_trees holds ts = found_trees (picking holds) ts
+
+abbrev pub nodes_in_links : (Tree → Bool) → Links → List Tree
+nodes_in_links holds links = found_links (picking holds) links
+
+abbrev pub nodes_given : (Tree → Bool) → Given → List Tree
+nodes_given holds given = found_given (picking holds) given
+
+abbrev pub nodes_in_filter : (Tree → Bool) → Filter → List Tree
+nodes_in_filter holds filter = found_filter (picking holds) filter
+
+abbrev pub nodes_in_reach : (Tree → Bool) → Reach → List Tree
+nodes_in_reach holds reach = found_reach (picking holds) reach
+
+abbrev pub nodes_in_keys : (Tree → Bool) → Keys → List Tree
+nodes_in_keys holds keys = found_keys (picking holds) keys
 
 -- of the operands behind the first of a chain
 abbrev pub nodes_in_branches : (Tree → Bool) → List Branch → List Tree

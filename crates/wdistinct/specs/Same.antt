@@ -36,19 +36,19 @@ joint false b h k = h
 
 -- marks
 
-numbers : (m n : ℕ) → nat_eq m n ≡ true → m ≡ n
-numbers m n = (unsigned_Decides m n).0
+pub equal_numbers : (m n : ℕ) → nat_eq m n ≡ true → m ≡ n
+equal_numbers m n = (unsigned_Decides m n).0
 
 one_number : (m n : ℕ) → m ≡ n → nat_eq m n ≡ true
 one_number m n = (unsigned_Decides m n).1
 
-names : (a b : List ℕ) → bytes_eq a b ≡ true → a ≡ b
-names a b = (bytes_decides a b).0
+pub equal_names : (a b : List ℕ) → bytes_eq a b ≡ true → a ≡ b
+equal_names a b = (bytes_decides a b).0
 
 one_name : (a b : List ℕ) → a ≡ b → bytes_eq a b ≡ true
 one_name a b = (bytes_decides a b).1
 
-flags : (a b : Bool) → same_bool a b ≡ true → a ≡ b
+pub flags : (a b : Bool) → same_bool a b ≡ true → a ≡ b
 flags true b h = sym h
 flags false true h = cc
 flags false false h = refl
@@ -58,7 +58,7 @@ one_flag true b h = sym h
 one_flag false true h = cc
 one_flag false false h = refl
 
-kinds : (a b : ChainKind) → same_kind a b ≡ true → a ≡ b
+pub kinds : (a b : ChainKind) → same_kind a b ≡ true → a ≡ b
 kinds Disjunction Disjunction h = refl
 kinds Conjunction Conjunction h = refl
 kinds Sum Sum h = refl
@@ -72,7 +72,7 @@ one_kind Sum Sum h = refl
 one_kind Product Product h = refl
 one_kind _ _ h = cc
 
-operators : (a b : Operator) → nat_eq (operator_number a) (operator_number b) ≡ true → a ≡ b
+pub operators : (a b : Operator) → nat_eq (operator_number a) (operator_number b) ≡ true → a ≡ b
 operators Or Or h = refl
 operators And And h = refl
 operators Plus Plus h = refl
@@ -80,7 +80,7 @@ operators Minus Minus h = refl
 operators Times Times h = refl
 operators _ _ h = cc
 
-comparisons : (a b : Comparison) → nat_eq (comparison_number a) (comparison_number b) ≡ true → a ≡ b
+pub comparisons : (a b : Comparison) → nat_eq (comparison_number a) (comparison_number b) ≡ true → a ≡ b
 comparisons Equal Equal h = refl
 comparisons NotEqual NotEqual h = refl
 comparisons Less Less h = refl
@@ -89,7 +89,7 @@ comparisons Greater Greater h = refl
 comparisons GreaterOrEqual GreaterOrEqual h = refl
 comparisons _ _ h = cc
 
-nulls : (a b : Option NullOrder) → nat_eq (nulls_number a) (nulls_number b) ≡ true → a ≡ b
+pub nulls : (a b : Option NullOrder) → nat_eq (nulls_number a) (nulls_number b) ≡ true → a ≡ b
 nulls None None h = refl
 nulls (Some First) (Some First) h = refl
 nulls (Some Last) (Some Last) h = refl
@@ -102,17 +102,17 @@ nulls (Some Last) (Some First) h = cc
 
 -- frames
 
-modes : (a b : FrameMode) → nat_eq (mode_number a) (mode_number b) ≡ true → a ≡ b
+pub modes : (a b : FrameMode) → nat_eq (mode_number a) (mode_number b) ≡ true → a ≡ b
 modes Rows Rows h = refl
 modes Range Range h = refl
 modes Groups Groups h = refl
 modes _ _ h = cc
 
-bounds_one : (a b : FrameBound) → same_bound a b ≡ true → a ≡ b
+pub bounds_one : (a b : FrameBound) → same_bound a b ≡ true → a ≡ b
 bounds_one bounds.UnboundedPreceding bounds.UnboundedPreceding h = refl
-bounds_one (bounds.Preceding m) (bounds.Preceding n) h = ap bounds.Preceding (numbers m n h)
+bounds_one (bounds.Preceding m) (bounds.Preceding n) h = ap bounds.Preceding (equal_numbers m n h)
 bounds_one bounds.CurrentRow bounds.CurrentRow h = refl
-bounds_one (bounds.Following m) (bounds.Following n) h = ap bounds.Following (numbers m n h)
+bounds_one (bounds.Following m) (bounds.Following n) h = ap bounds.Following (equal_numbers m n h)
 bounds_one bounds.UnboundedFollowing bounds.UnboundedFollowing h = refl
 bounds_one _ _ h = cc
 
@@ -175,9 +175,9 @@ from_frame (Some f) (Some g) h =
 from_frame None (Some g) h = cc
 from_frame (Some f) None h = cc
 
-to_copied : (a b : Option (List ℕ)) → same_copied a b ≡ true → a ≡ b
+pub to_copied : (a b : Option (List ℕ)) → same_copied a b ≡ true → a ≡ b
 to_copied None None h = refl
-to_copied (Some a) (Some b) h = ap Some (names a b h)
+to_copied (Some a) (Some b) h = ap Some (equal_names a b h)
 to_copied None (Some b) h = cc
 to_copied (Some a) None h = cc
 
@@ -233,14 +233,14 @@ abbrev mutual
 mutual
   pub to : (t u : Tree) → is_same t u ≡ true → plain t ≡ plain u
   to NullWord NullWord h = refl
-  to (Numeral m) (Numeral n) h = ap Numeral (numbers m n h)
-  to (Quoted a) (Quoted b) h = ap Quoted (names a b h)
-  to (Field p a) (Field q b) h = ap (Field None) (names a b h)
+  to (Numeral m) (Numeral n) h = ap Numeral (equal_numbers m n h)
+  to (Quoted a) (Quoted b) h = ap Quoted (equal_names a b h)
+  to (Field p a) (Field q b) h = ap (Field None) (equal_names a b h)
   to (Invoked a g f r) (Invoked b h k q) e =
       let x = both (bytes_eq a b) (are_same_given g h && (is_same_filter f k && is_same_reach r q)) e in
       let y = both (are_same_given g h) (is_same_filter f k && is_same_reach r q) x.1 in
       let z = both (is_same_filter f k) (is_same_reach r q) y.1 in
-      λ i. Invoked (names a b x.0 i) (to_given g h y.0 i) (to_filter f k z.0 i) (to_reach r q z.1 i)
+      λ i. Invoked (equal_names a b x.0 i) (to_given g h y.0 i) (to_filter f k z.0 i) (to_reach r q z.1 i)
   to (Negated t) (Negated u) h = ap Negated (to t u h)
   to (Signed a t) (Signed b u) h =
       let x = both (same_bool a b) (is_same t u) h in
@@ -295,7 +295,7 @@ mutual
 
   to_reach : (r q : Reach) → is_same_reach r q ≡ true → plain_reach r ≡ plain_reach q
   to_reach ItsGroup ItsGroup h = refl
-  to_reach (ThatWindow a) (ThatWindow b) h = ap ThatWindow (names a b h)
+  to_reach (ThatWindow a) (ThatWindow b) h = ap ThatWindow (equal_names a b h)
   to_reach (OwnWindow a ts ks f) (OwnWindow b us js g) h =
       let x = both (same_copied a b) (are_same ts us && (are_same_keys ks js && same_frame f g)) h in
       let y = both (are_same ts us) (are_same_keys ks js && same_frame f g) x.1 in

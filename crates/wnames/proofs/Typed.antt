@@ -2,15 +2,15 @@
 use Rattle.std.proofs.Common.{◌≡◌, ℕ, suc, ◌+◌, ◌<◌, ◌≤◌, Bool, true, false, ◌&&◌, not, List, [], ◌∷◌, length, get_or, drop, map, refl, ap, sym, ◌∙◌, arith, add-one, Option}
 use Rattle.std.proofs.Math.Seq.{drop-cons}
 use Rattle.std.specs.Rc.{rc_str_bytes}
-use Rattle.wquery.specs.declared.expression.Arguments.TheFolds.{fold_out-Link}
 use Rattle.wquery.specs.declared.expression.Call.{Call}
 use Rattle.wquery.specs.declared.expression.Expression.{Expression}
 use Rattle.wquery.specs.declared.expression.Link.{Link}
-use Rattle.wquery.specs.Tree.{Tree, Given, Reach, KeyTree, Branch, WindowTree, Links, Further, linked, trees, views, view, view_call, view_link, view_arguments, view_optional, view_optional_over, filter_of, reach_of, arguments_step, expression_step, over_step, call_step, key_step, link_step, window_step}
+use Rattle.wquery.specs.Tree.{Tree, Branch, Links, Further, linked, trees, views, view, view_call, view_link, view_arguments, view_optional, view_optional_over, filter_of, reach_of}
 use Rattle.wsame.proofs.Views.{view_call_is}
 use Rattle.wscope.specs.declared.function.Function.{Function}
 use Rattle.wscope.specs.Functions.{function_of}
 use Rattle.wscope.specs.Types.{Titled, type_of, agree}
+use Rattle.wscope.proofs.Links.{link_operand}
 use Rattle.wnames.specs.Types.{all_links, are_typed, is_filter_typed, is_window_typed, is_ill_typed, has_fit_default}
 
 -- the operands of a chain, from the first to the last
@@ -29,16 +29,9 @@ and_assoc false b c = refl
 pub and_second : (a b : Bool) → a ≡ true → (a && b) ≡ b
 and_second a b e = rw e refl
 
-pub and_first : (a b : Bool) → a ≡ false → (a && b) ≡ false
-and_first a b e = rw e refl
-
 pub all_linked : (holds : Tree → Bool) (front : Links) (bs : List Branch) → all_links holds (linked front bs) ≡ (all_links holds front && all_branches holds bs)
 all_linked holds front [] = sym (and_true (all_links holds front))
 all_linked holds front (b ∷ bs) = all_linked holds (Further front b.operator b.operand) bs ∙ and_assoc (all_links holds front) (holds b.operand) (all_branches holds bs)
-
-link_operand : (l : Link) → (view_link l).operand ≡ view l.operand
-unfolding view_link view
-link_operand l = ap (λ (b : Branch). b.operand) (fold_out-Link Given Tree Reach Tree KeyTree Branch WindowTree arguments_step expression_step over_step call_step key_step link_step window_step l)
 
 pub branch_step : (holds : Tree → Bool) (ls : List Link) (i : ℕ) (l : Link) → i < length ls → l ≡ get_or ls i l → all_branches holds (map view_link (drop i ls)) ≡ (holds (view l.operand) && all_branches holds (map view_link (drop (i + 1) ls)))
 branch_step holds ls i l h e =

@@ -1,7 +1,5 @@
 -- Queries that are resolved, by computation.
 use Rattle.std.proofs.Common.{◌≡◌, ℕ, true, false, List, [], ◌∷◌, Some, None, refl, codes, pos}
-use Rattle.wsegment.specs.Declaration.{Declaration}
-use Rattle.wsegment.specs.declared.kind.Kind.TheVariants as kinds
 use Rattle.wquery.specs.declared.frame.Frame.{Frame}
 use Rattle.wquery.specs.declared.frame.FrameMode.TheVariants as modes
 use Rattle.wquery.specs.declared.frame.FrameBound.TheVariants as bounds
@@ -9,46 +7,20 @@ use Rattle.wquery.specs.declared.frame.FrameExclusion.TheVariants as exclusions
 use Rattle.wquery.specs.declared.expression.NullOrder.TheVariants as nulls
 use Rattle.wquery.specs.declared.expression.Comparison.TheVariants.{Greater}
 use Rattle.wquery.specs.GroupElements.{OneSet, Rollup}
-use Rattle.wquery.specs.Tree.{Tree, Numeral, Field, Invoked, Compared, These, Columns, trees, Unfiltered, Reach, ItsGroup, ThatWindow, OwnWindow, NoKeys, MoreKeys, NoTrees}
-use Rattle.wquery.specs.QueryTree.{Clauses, ItemTree, Computed, AllColumns, QueryTree, Selected, FromTable, FromQuery, EntryTree}
+use Rattle.wquery.specs.Tree.{Tree, Numeral, Invoked, Compared, Columns, trees, Unfiltered, ItsGroup, ThatWindow, OwnWindow, NoKeys, MoreKeys, NoTrees}
+use Rattle.wquery.specs.QueryTree.{Clauses, Computed, AllColumns, QueryTree, Selected, FromQuery, EntryTree}
 use Rattle.wvalues.specs.Meaning.{Null, Int}
 use Rattle.wplan.specs.declared.resolved.AggregateFunction.TheVariants as aggregates
 use Rattle.wplan.specs.Formula as row
 use Rattle.wplan.specs.Plans.{KeyPlan, OutputPlan, WindowPlan, Rank, Lag, Aggregated, GroupAggregate, GroupingOf}
+use Rattle.wrules.proofs.Worked.{declared, column, day, shop, amount, call as over, clauses, item, from_sales}
 use Rattle.wresolve.specs.Selecting.{resolved_query, sort_key}
 
-abbrev declared : Declaration
-declared = record { table = codes "sales"; columns = record { name = codes "day"; kind = kinds.Integer } ∷ record { name = codes "shop"; kind = kinds.Text } ∷ record { name = codes "amount"; kind = kinds.Integer } ∷ [] }
-
-abbrev column : List ℕ → Tree
-column name = Field None name
-
 abbrev call : List ℕ → List Tree → Tree
-call name arguments = Invoked name (These (trees arguments)) Unfiltered ItsGroup
-
-abbrev over : List ℕ → List Tree → Reach → Tree
-over name arguments reach = Invoked name (These (trees arguments)) Unfiltered reach
-
-abbrev items_only : List ItemTree → Clauses
-items_only items = record { items = items; condition = None; grouping = []; having = None; windows = []; order = []; limit = None; offset = None }
-
-abbrev item : Tree → ItemTree
-item t = Computed t None
-
-abbrev from_sales : Clauses → QueryTree
-from_sales c = Selected c (FromTable (codes "sales") None)
+call name arguments = over name arguments ItsGroup
 
 abbrev derived : Clauses → QueryTree → QueryTree
 derived c q = Selected c (FromQuery q (codes "q"))
-
-abbrev day : Tree
-day = column (codes "day")
-
-abbrev shop : Tree
-shop = column (codes "shop")
-
-abbrev amount : Tree
-amount = column (codes "amount")
 
 abbrev sum_of_amounts : Tree
 sum_of_amounts = call (codes "sum") (amount ∷ [])
@@ -71,7 +43,7 @@ abbrev entries : List EntryTree
 entries = record { name = codes "w"; window = record { copied = None; partition = []; order = record { expression = day; descending = true; nulls = None } ∷ []; frame = Some two_rows } }
     ∷ record { name = codes "v"; window = record { copied = None; partition = shop ∷ []; order = []; frame = None } } ∷ []
 
-named_window : resolved_query declared (from_sales (record (items_only (item (over (codes "sum") (amount ∷ []) (ThatWindow (codes "w"))) ∷ [])) { windows = entries })) ≡ record {
+named_window : resolved_query declared (from_sales (record (clauses (item (over (codes "sum") (amount ∷ []) (ThatWindow (codes "w"))) ∷ [])) { windows = entries })) ≡ record {
   condition = None;
   grouping = None;
   windows = record { partition = []; keys = key (row.At 0) ∷ []; frame = record { mode = modes.Rows; start = bounds.Preceding 2; end = bounds.CurrentRow; exclusion = exclusions.NoOthers } } ∷ whole_partition (row.At 1 ∷ []) [] ∷ [];
@@ -84,7 +56,7 @@ named_window : resolved_query declared (from_sales (record (items_only (item (ov
 named_window = refl
 
 -- SELECT shop, sum(amount), rank() OVER (ORDER BY sum(amount) DESC) FROM sales GROUP BY shop HAVING sum(amount) > 5
-ranked_sums : resolved_query declared (from_sales (record (items_only (item shop ∷ item sum_of_amounts ∷ item (over (codes "rank") [] (OwnWindow None NoTrees (MoreKeys sum_of_amounts true None NoKeys) None)) ∷ [])) { grouping = (OneSet (shop ∷ []) ∷ []) ∷ []; having = Some (Compared Greater sum_of_amounts (Numeral 5)) })) ≡ record {
+ranked_sums : resolved_query declared (from_sales (record (clauses (item shop ∷ item sum_of_amounts ∷ item (over (codes "rank") [] (OwnWindow None NoTrees (MoreKeys sum_of_amounts true None NoKeys) None)) ∷ [])) { grouping = (OneSet (shop ∷ []) ∷ []) ∷ []; having = Some (Compared Greater sum_of_amounts (Numeral 5)) })) ≡ record {
   condition = None;
   grouping = Some (record { columns = 1 ∷ []; sets = (1 ∷ []) ∷ []; calls = GroupAggregate (record { function = aggregates.Sum; argument = row.At 2; filter = None }) ∷ []; having = Some (row.Compared Greater (row.At 1) (row.Constant (Int (pos 5)))) });
   windows = whole_partition [] (key (row.At 1) ∷ []) ∷ [];
@@ -101,7 +73,7 @@ ranked_sums = refl
 abbrev grouping_of_both : Tree
 grouping_of_both = Invoked (codes "grouping") (Columns (trees (day ∷ shop ∷ []))) Unfiltered ItsGroup
 
-rolled_up : resolved_query declared (from_sales (record (items_only (item shop ∷ item grouping_of_both ∷ [])) { grouping = (Rollup ((shop ∷ []) ∷ (day ∷ []) ∷ []) ∷ []) ∷ (OneSet (shop ∷ []) ∷ []) ∷ []; having = Some (Compared Greater grouping_of_both (Numeral 1)) })) ≡ record {
+rolled_up : resolved_query declared (from_sales (record (clauses (item shop ∷ item grouping_of_both ∷ [])) { grouping = (Rollup ((shop ∷ []) ∷ (day ∷ []) ∷ []) ∷ []) ∷ (OneSet (shop ∷ []) ∷ []) ∷ []; having = Some (Compared Greater grouping_of_both (Numeral 1)) })) ≡ record {
   condition = None;
   grouping = Some (record { columns = 1 ∷ 0 ∷ []; sets = (1 ∷ 0 ∷ 1 ∷ []) ∷ (1 ∷ 1 ∷ []) ∷ (1 ∷ []) ∷ []; calls = GroupingOf (0 ∷ 1 ∷ []) ∷ []; having = Some (row.Compared Greater (row.At 2) (row.Constant (Int (pos 1)))) });
   windows = [];
@@ -114,7 +86,7 @@ rolled_up : resolved_query declared (from_sales (record (items_only (item shop �
 rolled_up = refl
 
 -- SELECT sum(amount) FROM sales; without GROUP BY there is one set, the empty one, and no column
-summed : resolved_query declared (from_sales (items_only (item sum_of_amounts ∷ []))) ≡ record {
+summed : resolved_query declared (from_sales (clauses (item sum_of_amounts ∷ []))) ≡ record {
   condition = None;
   grouping = Some (record { columns = []; sets = [] ∷ []; calls = GroupAggregate (record { function = aggregates.Sum; argument = row.At 2; filter = None }) ∷ []; having = None });
   windows = [];
@@ -127,7 +99,7 @@ summed : resolved_query declared (from_sales (items_only (item sum_of_amounts �
 summed = refl
 
 -- SELECT *, day AS d FROM sales ORDER BY shop DESC, 4 DESC, d DESC LIMIT 2 OFFSET 1
-by_place : resolved_query declared (from_sales (record (items_only (AllColumns ∷ Computed day (Some (codes "d")) ∷ [])) { order = record { expression = shop; descending = true; nulls = None } ∷ record { expression = Numeral 4; descending = true; nulls = None } ∷ record { expression = column (codes "d"); descending = true; nulls = Some nulls.Last } ∷ []; limit = Some 2; offset = Some 1 })) ≡ record {
+by_place : resolved_query declared (from_sales (record (clauses (AllColumns ∷ Computed day (Some (codes "d")) ∷ [])) { order = record { expression = shop; descending = true; nulls = None } ∷ record { expression = Numeral 4; descending = true; nulls = None } ∷ record { expression = column (codes "d"); descending = true; nulls = Some nulls.Last } ∷ []; limit = Some 2; offset = Some 1 })) ≡ record {
   condition = None;
   grouping = None;
   windows = [];
@@ -140,7 +112,7 @@ by_place : resolved_query declared (from_sales (record (items_only (AllColumns �
 by_place = refl
 
 -- SELECT lag(day) OVER () FROM (SELECT day FROM sales ORDER BY day DESC LIMIT 2) AS q
-lagged : resolved_query declared (derived (items_only (item (over (codes "lag") (day ∷ []) (OwnWindow None NoTrees NoKeys None)) ∷ [])) (from_sales (record (items_only (item day ∷ [])) { order = record { expression = day; descending = true; nulls = None } ∷ []; limit = Some 2 })))
+lagged : resolved_query declared (derived (clauses (item (over (codes "lag") (day ∷ []) (OwnWindow None NoTrees NoKeys None)) ∷ [])) (from_sales (record (clauses (item day ∷ [])) { order = record { expression = day; descending = true; nulls = None } ∷ []; limit = Some 2 })))
     ≡ record {
       condition = None;
       grouping = None;

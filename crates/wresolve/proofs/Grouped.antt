@@ -2,7 +2,7 @@
 use Rattle.std.proofs.Common.{◌≡◌, Bool, true, false, not, ◌&&◌, ◌||◌, List, [], ◌∷◌, ◌++◌, Option, Some, None, is_some, refl, sym, ap, ◌∙◌, ap₂, true≢false}
 use Rattle.std.specs.Prelude.{if◌then◌else◌}
 use Rattle.std.specs.List.{list_any}
-use Rattle.wquery.specs.Tree.{Tree, NullWord, Numeral, Quoted, Field, Invoked, Negated, Signed, Joined, Compared, NullTest, Within, Among, Trees, NoTrees, MoreTrees, Links, NoLinks, Further, Given, Everything, These, Columns, Filter, Unfiltered, FilteredBy, Reach, ItsGroup, ThatWindow, OwnWindow, Keys, NoKeys, MoreKeys, KeyTree, own_window}
+use Rattle.wquery.specs.Tree.{Tree, Numeral, Field, Invoked, Everything, These, Columns, ItsGroup, ThatWindow, OwnWindow, KeyTree, own_window}
 use Rattle.wquery.specs.QueryTree.{ItemTree, AllColumns, Computed, EntryTree}
 use Rattle.wsame.specs.Sameness.{is_same}
 use Rattle.wscope.specs.Functions.{function_of}
@@ -10,14 +10,14 @@ use Rattle.wscope.specs.declared.function.Function.{Function}
 use Rattle.wscope.specs.declared.look.Look.TheVariants.{Found, Below}
 use Rattle.wscope.specs.Finding.{finds}
 use Rattle.wscope.specs.Scope.{is_output, some_entry, some_item, some_sort}
-use Rattle.wscope.specs.Seeking.{found_or, some_below, some_node, some_tree, some_link, some_given, some_filter, some_reach, some_key}
+use Rattle.wscope.specs.Seeking.{found_or, seeking, some_below, some_node}
 use Rattle.wscope.specs.Types.{Titled}
+use Rattle.wscope.proofs.Related.{Relates, related, related_reach}
 use Rattle.wnames.specs.Calls.{is_aggregate_of}
-use Rattle.wnames.specs.Groups.{is_group_call}
+use Rattle.wnames.specs.Groups.{has_some, is_group_call}
 use Rattle.wdistinct.specs.declared.calls.CallKind.TheVariants.{Grouped}
-use Rattle.wdistinct.specs.Calls.{is_aggregate_function, is_call_of, node_or, nodes_below, nodes_given, nodes_in, nodes_in_entries, nodes_in_filter, nodes_in_items, nodes_in_keys, nodes_in_links, nodes_in_option, nodes_in_order, nodes_in_reach, nodes_in_trees, with_new}
+use Rattle.wdistinct.specs.Calls.{is_aggregate_function, is_call_of, node_or, nodes_below, nodes_in, nodes_in_entries, nodes_in_items, nodes_in_option, nodes_in_order, nodes_in_reach, picking, with_new}
 use Rattle.wresolve.specs.Laws.{GroupedAlike}
-use Rattle.wresolve.specs.Selecting.{has_some}
 
 -- of two lists, and of one that is made longer
 
@@ -63,48 +63,8 @@ node : (s r : Tree → Bool) (t : Tree) → s t ≡ r t → has_some (nodes_belo
 node s r t e below =
     at (s t) t (nodes_below s t) ∙ ap₂ (λ (b x : Bool). found_or (if b then Found else Below) x) e below
 
-mutual
-  below : (s r : Tree → Bool) (e : (t : Tree) → s t ≡ r t) (t : Tree) → has_some (nodes_below s t) ≡ some_below (finds r) t
-  below s r e NullWord = refl
-  below s r e (Numeral n) = refl
-  below s r e (Quoted text) = refl
-  below s r e (Field qualifier name) = refl
-  below s r e (Invoked name given filter reach) =
-      pair _ _ (nodes_given s given) (nodes_in_filter s filter ++ nodes_in_reach s reach) (in_given s r e given) (pair _ _ (nodes_in_filter s filter) (nodes_in_reach s reach) (in_filter s r e filter) (in_reach s r e reach))
-  below s r e (Negated t) = node s r t (e t) (below s r e t)
-  below s r e (Signed minus t) = node s r t (e t) (below s r e t)
-  below s r e (Joined kind t links) = pair _ _ (nodes_in s t) (nodes_in_links s links) (node s r t (e t) (below s r e t)) (in_links s r e links)
-  below s r e (Compared comparison a b) = pair _ _ (nodes_in s a) (nodes_in s b) (node s r a (e a) (below s r e a)) (node s r b (e b) (below s r e b))
-  below s r e (NullTest negated t) = node s r t (e t) (below s r e t)
-  below s r e (Within negated t l h) =
-      pair _ _ (nodes_in s t) (nodes_in s l ++ nodes_in s h) (node s r t (e t) (below s r e t)) (pair _ _ (nodes_in s l) (nodes_in s h) (node s r l (e l) (below s r e l)) (node s r h (e h) (below s r e h)))
-  below s r e (Among negated t list) = pair _ _ (nodes_in s t) (nodes_in_trees s list) (node s r t (e t) (below s r e t)) (in_trees s r e list)
-
-  in_trees : (s r : Tree → Bool) (e : (t : Tree) → s t ≡ r t) (ts : Trees) → has_some (nodes_in_trees s ts) ≡ some_tree (finds r) ts
-  in_trees s r e NoTrees = refl
-  in_trees s r e (MoreTrees t ts) = pair _ _ (nodes_in s t) (nodes_in_trees s ts) (node s r t (e t) (below s r e t)) (in_trees s r e ts)
-
-  in_links : (s r : Tree → Bool) (e : (t : Tree) → s t ≡ r t) (ls : Links) → has_some (nodes_in_links s ls) ≡ some_link (finds r) ls
-  in_links s r e NoLinks = refl
-  in_links s r e (Further front operator t) = pair _ _ (nodes_in_links s front) (nodes_in s t) (in_links s r e front) (node s r t (e t) (below s r e t))
-
-  in_given : (s r : Tree → Bool) (e : (t : Tree) → s t ≡ r t) (g : Given) → has_some (nodes_given s g) ≡ some_given (finds r) g
-  in_given s r e Everything = refl
-  in_given s r e (These ts) = in_trees s r e ts
-  in_given s r e (Columns ts) = in_trees s r e ts
-
-  in_filter : (s r : Tree → Bool) (e : (t : Tree) → s t ≡ r t) (f : Filter) → has_some (nodes_in_filter s f) ≡ some_filter (finds r) f
-  in_filter s r e Unfiltered = refl
-  in_filter s r e (FilteredBy t) = node s r t (e t) (below s r e t)
-
-  in_reach : (s r : Tree → Bool) (e : (t : Tree) → s t ≡ r t) (w : Reach) → has_some (nodes_in_reach s w) ≡ some_reach (finds r) w
-  in_reach s r e ItsGroup = refl
-  in_reach s r e (ThatWindow name) = refl
-  in_reach s r e (OwnWindow copied partition order frame) = pair _ _ (nodes_in_trees s partition) (nodes_in_keys s order) (in_trees s r e partition) (in_keys s r e order)
-
-  in_keys : (s r : Tree → Bool) (e : (t : Tree) → s t ≡ r t) (ks : Keys) → has_some (nodes_in_keys s ks) ≡ some_key (finds r) ks
-  in_keys s r e NoKeys = refl
-  in_keys s r e (MoreKeys t descending nulls more) = pair _ _ (nodes_in s t) (nodes_in_keys s more) (node s r t (e t) (below s r e t)) (in_keys s r e more)
+listed : (s r : Tree → Bool) → ((t : Tree) → s t ≡ r t) → Relates (λ xs x y. has_some xs ≡ x) (picking s) (seeking (finds r)) (seeking (finds r))
+listed s r e = record { none = refl; both = λ xs xs' x x' y y' a b. pair x x' xs xs' a b; at = λ t below. node s r t (e t) below }
 
 -- the nodes that are aggregates without OVER, or GROUPING
 
@@ -112,26 +72,16 @@ function_alike : (f : Option Function) → is_aggregate_function f ≡ is_aggreg
 function_alike None = refl
 function_alike (Some f) = refl
 
-alike : (t : Tree) → is_call_of Grouped t ≡ is_group_call t
+pub alike : (t : Tree) → is_call_of Grouped t ≡ is_group_call t
 alike (Invoked name Everything filter ItsGroup) = function_alike (function_of name)
 alike (Invoked name (These ts) filter ItsGroup) = function_alike (function_of name)
 alike (Invoked name (Columns ts) filter ItsGroup) = refl
 alike (Invoked name given filter (ThatWindow w)) = refl
 alike (Invoked name given filter (OwnWindow copied partition order frame)) = refl
-alike NullWord = refl
-alike (Numeral n) = refl
-alike (Quoted text) = refl
-alike (Field qualifier name) = refl
-alike (Negated t) = refl
-alike (Signed minus t) = refl
-alike (Joined kind t links) = refl
-alike (Compared comparison l r) = refl
-alike (NullTest negated t) = refl
-alike (Within negated t l h) = refl
-alike (Among negated t list) = refl
+alike _ = refl
 
 expression : (t : Tree) → has_some (nodes_in (is_call_of Grouped) t) ≡ some_node (finds is_group_call) t
-expression t = node (is_call_of Grouped) is_group_call t (alike t) (below (is_call_of Grouped) is_group_call alike t)
+expression t = related _ (picking (is_call_of Grouped)) (seeking (finds is_group_call)) (seeking (finds is_group_call)) (listed (is_call_of Grouped) is_group_call alike) t
 
 -- the parts of a query
 
@@ -143,7 +93,7 @@ in_items (Computed t alias ∷ items) = pair _ _ (nodes_in (is_call_of Grouped) 
 in_entries : (es : List EntryTree) → has_some (nodes_in_entries (is_call_of Grouped) es) ≡ some_entry (finds is_group_call) es
 in_entries [] = refl
 in_entries (e ∷ es) =
-    pair _ _ (nodes_in_reach (is_call_of Grouped) (own_window e.window)) (nodes_in_entries (is_call_of Grouped) es) (in_reach (is_call_of Grouped) is_group_call alike (own_window e.window)) (in_entries es)
+    pair _ _ (nodes_in_reach (is_call_of Grouped) (own_window e.window)) (nodes_in_entries (is_call_of Grouped) es) (related_reach _ (picking (is_call_of Grouped)) (seeking (finds is_group_call)) (seeking (finds is_group_call)) (listed (is_call_of Grouped) is_group_call alike) (own_window e.window)) (in_entries es)
 
 -- below a key that stands for an item there is no call
 and_false : (b : Bool) → false ≡ (not b && false)

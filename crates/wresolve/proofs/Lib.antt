@@ -3,4 +3,4 @@ mod Placed
 mod Listed
 mod Queried
 mod Cases
-mod Grouped
+pub mod Grouped

@@ -15,6 +15,7 @@ use Rattle.wquery.specs.GroupElements.{Element, all_columns}
 use Rattle.wquery.specs.QueryTree.{Clauses, QueryTree, Selected, SourceTree, FromTable, FromQuery}
 use Rattle.wvalues.specs.declared.key.SortKey.{SortKey}
 use Rattle.wsame.specs.Bounds.{end_of}
+use Rattle.wnames.specs.Groups.{has_some}
 use Rattle.wscope.specs.Types.{Titled}
 use Rattle.wscope.specs.Sources.{Shown, Placed, Spelled, ShownItem, written_out, origin_of}
 use Rattle.wscope.specs.Windows.{NamedWindow, Settled, settle, settle_all}
@@ -114,10 +115,6 @@ calls_made l ws next (t ∷ ts) =
     record { window = place_over ws next t; function = call_function l t } ∷ calls_made l ws (if has_own_window t then suc next else next) ts
 
 -- one SELECT
-
-abbrev pub has_some : {X : Type 0} → List X → Bool
-has_some [] = false
-has_some (x ∷ xs) = true
 
 -- the places in the source's row of the columns that GROUP BY names, each once, in the order of first sight
 abbrev pub group_columns : List Titled → Clauses → List ℕ

@@ -17,7 +17,8 @@ ghost use Rattle.wdistinct.specs.Places.{calls_in};
 ghost use Rattle.wsettle.specs.Resolving.{layout_of, row_calls, places_of, source_row, resolved_option};
 ghost use Rattle.wsettle.specs.Groups.{group_call_made};
 ghost use Rattle.wresolve.specs.Shown.{shown_of, shown_item, shown_items};
-ghost use Rattle.wresolve.specs.Selecting.{output_made, order_made, shown_formula, grouping_over, windows_made, calls_made, has_some, is_grouped as is_grouped_query, select_over, select_with, select_made};
+ghost use Rattle.wnames.specs.Groups.{has_some};
+ghost use Rattle.wresolve.specs.Selecting.{output_made, order_made, shown_formula, grouping_over, windows_made, calls_made, is_grouped as is_grouped_query, select_over, select_with, select_made};
 
 use crate::shown::{ShownOutput, ShownValue, key_value, written_out};
 use crate::windows::{build_calls, build_entries, push_own_windows, sort_key};

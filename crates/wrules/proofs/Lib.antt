@@ -1,2 +1,2 @@
 mod Judged
-mod Worked
+pub mod Worked

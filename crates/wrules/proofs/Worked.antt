@@ -16,22 +16,22 @@ use Rattle.wrules.specs.declared.rule.Rule.TheVariants.{UnknownTable, UnknownCol
 use Rattle.wrules.specs.declared.rule.Rule.{Rule}
 use Rattle.wrules.specs.Rules.{first_broken_rule}
 
-abbrev declared : Declaration
+abbrev pub declared : Declaration
 declared = record { table = codes "sales"; columns = record { name = codes "day"; kind = kinds.Integer } ∷ record { name = codes "shop"; kind = kinds.Text } ∷ record { name = codes "amount"; kind = kinds.Integer } ∷ [] }
 
-abbrev column : List ℕ → Tree
+abbrev pub column : List ℕ → Tree
 column name = Field None name
 
-abbrev day : Tree
+abbrev pub day : Tree
 day = column (codes "day")
 
-abbrev shop : Tree
+abbrev pub shop : Tree
 shop = column (codes "shop")
 
-abbrev amount : Tree
+abbrev pub amount : Tree
 amount = column (codes "amount")
 
-abbrev call : List ℕ → List Tree → Reach → Tree
+abbrev pub call : List ℕ → List Tree → Reach → Tree
 call name arguments reach = Invoked name (These (trees arguments)) Unfiltered reach
 
 abbrev count_all : Reach → Tree
@@ -49,16 +49,16 @@ by key f = OwnWindow None NoTrees (MoreKeys key false None NoKeys) f
 abbrev unordered : Option Frame → Reach
 unordered f = OwnWindow None NoTrees NoKeys f
 
-abbrev clauses : List ItemTree → Clauses
+abbrev pub clauses : List ItemTree → Clauses
 clauses items = record { items = items; condition = None; grouping = []; having = None; windows = []; order = []; limit = None; offset = None }
 
-abbrev item : Tree → ItemTree
+abbrev pub item : Tree → ItemTree
 item t = Computed t None
 
 abbrev named : Tree → List ℕ → ItemTree
 named t alias = Computed t (Some alias)
 
-abbrev from_sales : Clauses → QueryTree
+abbrev pub from_sales : Clauses → QueryTree
 from_sales c = Selected c (FromTable (codes "sales") None)
 
 abbrev select : List ItemTree → QueryTree

@@ -1,4 +1,5 @@
 pub mod Links
+pub mod Related
 mod TypeFacts
 mod Answered
 mod WrittenOut

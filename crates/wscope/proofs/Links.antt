@@ -1,16 +1,11 @@
 -- Chains whose operands are looked through from the first to the last, and the parts of a call.
-use Rattle.std.proofs.Common.{◌≡◌, ℕ, suc, ◌+◌, ◌<◌, Bool, true, false, ◌||◌, List, [], ◌∷◌, refl, ◌∙◌, ap, sym, map, drop, length, get_or, add-one, Option, Some, None}
-use Rattle.std.specs.Rc.{rc_str_bytes}
-use Rattle.std.specs.declared.rc.RcStr.{RcStr}
-use Rattle.std.specs.declared.alloc.Global.{Global}
-use Rattle.wquery.specs.declared.expression.Arguments.{Arguments}
-use Rattle.wquery.specs.declared.expression.Expression.{Expression}
-use Rattle.wquery.specs.declared.expression.Over.{Over}
+use Rattle.std.proofs.Common.{◌≡◌, ℕ, suc, ◌+◌, ◌<◌, Bool, true, false, ◌||◌, List, [], ◌∷◌, refl, ◌∙◌, ap, sym, map, drop, length, get_or, add-one}
 use Rattle.std.proofs.Math.Seq.{drop-cons}
 use Rattle.wquery.specs.declared.expression.Call.{Call}
 use Rattle.wquery.specs.declared.expression.Link.{Link}
-use Rattle.wquery.specs.declared.expression.Arguments.TheFolds.{fold_out-Link, fold_out-Call}
-use Rattle.wquery.specs.Tree.{Tree, Invoked, Given, Reach, KeyTree, Branch, WindowTree, Links, Further, linked, view, view_link, view_call, view_arguments, view_over, view_optional, view_optional_over, filter_of, reach_of, arguments_step, expression_step, over_step, call_step, key_step, link_step, window_step}
+use Rattle.wquery.specs.declared.expression.Arguments.TheFolds.{fold_out-Link}
+use Rattle.wquery.specs.Tree.{Tree, Given, Reach, KeyTree, Branch, WindowTree, Links, Further, linked, view, view_link, view_call, view_arguments, view_over, view_optional, view_optional_over, filter_of, reach_of, arguments_step, expression_step, over_step, call_step, key_step, link_step, window_step}
+use Rattle.wsame.proofs.Views.{view_call_is}
 use Rattle.wscope.specs.declared.look.Look.{Look}
 use Rattle.wscope.specs.Seeking.{some_node, some_below, some_link, some_given, some_filter, some_reach}
 
@@ -43,19 +38,6 @@ link_operand l = ap (λ (b : Branch). b.operand) (fold_out-Link Given Tree Reach
 pub branch_step : (sees : Tree → Look) (ls : List Link) (i : ℕ) (l : Link) → i < length ls → l ≡ get_or ls i l → some_branch sees (map view_link (drop i ls)) ≡ (some_node sees (view l.operand) || some_branch sees (map view_link (drop (i + 1) ls)))
 branch_step sees ls i l h e =
     rw (add-one, drop-cons ls i l) (ap (λ (t : Tree). some_node sees t || some_branch sees (map view_link (drop (suc i) ls))) (ap (λ (x : Link). (view_link x).operand) (sym e) ∙ link_operand l))
-
-abbrev call_parts : RcStr Global → Arguments → Option Expression → Option Over → Type 0
-call_parts n a f o = view_call (record { name = n; arguments = a; filter = f; over = o }) ≡ Invoked (rc_str_bytes n) (view_arguments a) (filter_of (view_optional f)) (reach_of (view_optional_over o))
-
-by_fold : (n : RcStr Global) (a : Arguments) (f : Option Expression) (o : Option Over) → call_parts n a f o
-unfolding view_call view_arguments view_over view
-by_fold n a None None = fold_out-Call Given Tree Reach Tree KeyTree Branch WindowTree arguments_step expression_step over_step call_step key_step link_step window_step (record { name = n; arguments = a; filter = None; over = None })
-by_fold n a None (Some o) = fold_out-Call Given Tree Reach Tree KeyTree Branch WindowTree arguments_step expression_step over_step call_step key_step link_step window_step (record { name = n; arguments = a; filter = None; over = Some o })
-by_fold n a (Some f) None = fold_out-Call Given Tree Reach Tree KeyTree Branch WindowTree arguments_step expression_step over_step call_step key_step link_step window_step (record { name = n; arguments = a; filter = Some f; over = None })
-by_fold n a (Some f) (Some o) = fold_out-Call Given Tree Reach Tree KeyTree Branch WindowTree arguments_step expression_step over_step call_step key_step link_step window_step (record { name = n; arguments = a; filter = Some f; over = Some o })
-
-pub view_call_is : (c : Call) → view_call c ≡ Invoked (rc_str_bytes c.name) (view_arguments c.arguments) (filter_of (view_optional c.filter)) (reach_of (view_optional_over c.over))
-view_call_is c = by_fold c.name c.arguments c.filter c.over
 
 pub some_in_call : (sees : Tree → Look) (c : Call) → some_below sees (view_call c) ≡ (some_given sees (view_arguments c.arguments) || (some_filter sees (filter_of (view_optional c.filter)) || some_reach sees (reach_of (view_optional_over c.over))))
 some_in_call sees c = ap (some_below sees) (view_call_is c)

@@ -1,9 +1,62 @@
--- Looking for a node of an expression: a test says of each node whether it is found, whether to look below it, or
--- whether it is closed to the look. (SQL, `<value expression>` and what "simply contains" means there.)
+-- The nodes of an expression, each with those below it, in the order of the text, and looking for some of them: a test says
+-- of each node whether it is found, whether to look below it, or whether it is closed to the look. (SQL, `<value
+-- expression>` and what "simply contains" means there.)
 use Rattle.std.specs.Prelude.{Bool, true, false, ◌||◌}
 use Rattle.wquery.specs.Tree.{Tree, NullWord, Numeral, Quoted, Field, Invoked, Negated, Signed, Joined, Compared, NullTest, Within, Among, Trees, NoTrees, MoreTrees, Links, NoLinks, Further, Given, Everything, These, Columns, Filter, Unfiltered, FilteredBy, Reach, ItsGroup, ThatWindow, OwnWindow, Keys, NoKeys, MoreKeys}
 use Rattle.wscope.specs.declared.look.Look.{Look}
 use Rattle.wscope.specs.declared.look.Look.TheVariants.{Found, Closed, Below}
+
+-- what nodes come to: none of them, some and then those behind them, and one with what those below it come to
+pub record Findings {ℓ} (M : Type ℓ) : Type ℓ where
+  pub none : M
+  pub both : M → M → M
+  pub at : Tree → M → M
+
+-- The one enumeration of nodes: what those below a node come to
+abbrev mutual
+  pub found_below {ℓ} : {M : Type ℓ} → Findings M → Tree → M
+  found_below f NullWord = f.none
+  found_below f (Numeral n) = f.none
+  found_below f (Quoted text) = f.none
+  found_below f (Field qualifier name) = f.none
+  found_below f (Invoked name given filter reach) = f.both (found_given f given) (f.both (found_filter f filter) (found_reach f reach))
+  found_below f (Negated t) = f.at t (found_below f t)
+  found_below f (Signed minus t) = f.at t (found_below f t)
+  found_below f (Joined kind t links) = f.both (f.at t (found_below f t)) (found_links f links)
+  found_below f (Compared comparison l r) = f.both (f.at l (found_below f l)) (f.at r (found_below f r))
+  found_below f (NullTest negated t) = f.at t (found_below f t)
+  found_below f (Within negated t l h) = f.both (f.at t (found_below f t)) (f.both (f.at l (found_below f l)) (f.at h (found_below f h)))
+  found_below f (Among negated t list) = f.both (f.at t (found_below f t)) (found_trees f list)
+
+  pub found_trees {ℓ} : {M : Type ℓ} → Findings M → Trees → M
+  found_trees f NoTrees = f.none
+  found_trees f (MoreTrees t ts) = f.both (f.at t (found_below f t)) (found_trees f ts)
+
+  pub found_links {ℓ} : {M : Type ℓ} → Findings M → Links → M
+  found_links f NoLinks = f.none
+  found_links f (Further front operator t) = f.both (found_links f front) (f.at t (found_below f t))
+
+  pub found_given {ℓ} : {M : Type ℓ} → Findings M → Given → M
+  found_given f Everything = f.none
+  found_given f (These ts) = found_trees f ts
+  found_given f (Columns ts) = found_trees f ts
+
+  pub found_filter {ℓ} : {M : Type ℓ} → Findings M → Filter → M
+  found_filter f Unfiltered = f.none
+  found_filter f (FilteredBy t) = f.at t (found_below f t)
+
+  pub found_reach {ℓ} : {M : Type ℓ} → Findings M → Reach → M
+  found_reach f ItsGroup = f.none
+  found_reach f (ThatWindow name) = f.none
+  found_reach f (OwnWindow copied partition order frame) = f.both (found_trees f partition) (found_keys f order)
+
+  pub found_keys {ℓ} : {M : Type ℓ} → Findings M → Keys → M
+  found_keys f NoKeys = f.none
+  found_keys f (MoreKeys t descending nulls more) = f.both (f.at t (found_below f t)) (found_keys f more)
+
+-- what an expression and the nodes below it come to
+abbrev pub found {ℓ} : {M : Type ℓ} → Findings M → Tree → M
+found f t = f.at t (found_below f t)
 
 -- found here, or else below
 abbrev pub found_or : Look → Bool → Bool
@@ -11,48 +64,32 @@ found_or Found below = true
 found_or Closed below = false
 found_or Below below = below
 
-abbrev mutual
-  -- some node below this one is found
-  pub some_below : (Tree → Look) → Tree → Bool
-  some_below sees NullWord = false
-  some_below sees (Numeral n) = false
-  some_below sees (Quoted text) = false
-  some_below sees (Field qualifier name) = false
-  some_below sees (Invoked name given filter reach) = some_given sees given || (some_filter sees filter || some_reach sees reach)
-  some_below sees (Negated t) = found_or (sees t) (some_below sees t)
-  some_below sees (Signed minus t) = found_or (sees t) (some_below sees t)
-  some_below sees (Joined kind t links) = found_or (sees t) (some_below sees t) || some_link sees links
-  some_below sees (Compared comparison l r) = found_or (sees l) (some_below sees l) || found_or (sees r) (some_below sees r)
-  some_below sees (NullTest negated t) = found_or (sees t) (some_below sees t)
-  some_below sees (Within negated t l h) = found_or (sees t) (some_below sees t) || (found_or (sees l) (some_below sees l) || found_or (sees h) (some_below sees h))
-  some_below sees (Among negated t list) = found_or (sees t) (some_below sees t) || some_tree sees list
-
-  pub some_tree : (Tree → Look) → Trees → Bool
-  some_tree sees NoTrees = false
-  some_tree sees (MoreTrees t ts) = found_or (sees t) (some_below sees t) || some_tree sees ts
-
-  pub some_link : (Tree → Look) → Links → Bool
-  some_link sees NoLinks = false
-  some_link sees (Further front operator t) = some_link sees front || found_or (sees t) (some_below sees t)
-
-  pub some_given : (Tree → Look) → Given → Bool
-  some_given sees Everything = false
-  some_given sees (These ts) = some_tree sees ts
-  some_given sees (Columns ts) = some_tree sees ts
-
-  pub some_filter : (Tree → Look) → Filter → Bool
-  some_filter sees Unfiltered = false
-  some_filter sees (FilteredBy t) = found_or (sees t) (some_below sees t)
-
-  pub some_reach : (Tree → Look) → Reach → Bool
-  some_reach sees ItsGroup = false
-  some_reach sees (ThatWindow name) = false
-  some_reach sees (OwnWindow copied partition order frame) = some_tree sees partition || some_key sees order
-
-  pub some_key : (Tree → Look) → Keys → Bool
-  some_key sees NoKeys = false
-  some_key sees (MoreKeys t descending nulls more) = found_or (sees t) (some_below sees t) || some_key sees more
+-- whether a node is found
+abbrev pub seeking : (Tree → Look) → Findings Bool
+seeking sees = record { none = false; both = λ a b. a || b; at = λ t below. found_or (sees t) below }
 
 -- some node of the expression is found
 abbrev pub some_node : (Tree → Look) → Tree → Bool
-some_node sees t = found_or (sees t) (some_below sees t)
+some_node sees t = found (seeking sees) t
+
+-- some node below this one
+abbrev pub some_below : (Tree → Look) → Tree → Bool
+some_below sees t = found_below (seeking sees) t
+
+abbrev pub some_tree : (Tree → Look) → Trees → Bool
+some_tree sees ts = found_trees (seeking sees) ts
+
+abbrev pub some_link : (Tree → Look) → Links → Bool
+some_link sees links = found_links (seeking sees) links
+
+abbrev pub some_given : (Tree → Look) → Given → Bool
+some_given sees given = found_given (seeking sees) given
+
+abbrev pub some_filter : (Tree → Look) → Filter → Bool
+some_filter sees filter = found_filter (seeking sees) filter
+
+abbrev pub some_reach : (Tree → Look) → Reach → Bool
+some_reach sees reach = found_reach (seeking sees) reach
+
+abbrev pub some_key : (Tree → Look) → Keys → Bool
+some_key sees keys = found_keys (seeking sees) keys

@@ -3,7 +3,6 @@ use Rattle.std.proofs.Common.{◌≡◌, Bool, true, false, ◌&&◌, ◌||◌, 
 use Rattle.std.specs.Prelude.{if◌then◌else◌}
 use Rattle.std.specs.List.{list_all, list_any}
 use Rattle.std.specs.Str.{bytes_eq}
-use Rattle.std.specs.Cmp.Lexicographic.{bytes_decides}
 use Rattle.std.proofs.lemmas.Bool.{and_parts, or_left, or_right}
 use Rattle.std.proofs.lemmas.List.Folds.{list_all-append, list_any-append}
 use Rattle.wquery.specs.declared.expression.ChainKind.{ChainKind}
@@ -15,11 +14,8 @@ use Rattle.wscope.specs.Functions.{function_of}
 use Rattle.wscope.specs.Types.{Titled, call_type, chain_type, given_type, type_at, type_named, type_of}
 use Rattle.wdistinct.specs.Calls.{with_new}
 use Rattle.wdistinct.specs.Places.{place_of_same}
-use Rattle.wdistinct.specs.Same.{same_equiv}
+use Rattle.wdistinct.specs.Same.{equal_names, same_equiv}
 use Rattle.wtyped.specs.Typing as row
-
-names : (a b : List ℕ) → bytes_eq a b ≡ true → a ≡ b
-names a b = (bytes_decides a b).0
 
 kinds : (a b : ChainKind) → same_kind a b ≡ true → chain_type a ≡ chain_type b
 kinds Disjunction Disjunction e = refl
@@ -33,11 +29,11 @@ mutual
   same_type cs NullWord NullWord e = refl
   same_type cs (Numeral m) (Numeral n) e = refl
   same_type cs (Quoted a) (Quoted b) e = refl
-  same_type cs (Field p a) (Field q b) e = ap (type_named cs) (names a b e)
+  same_type cs (Field p a) (Field q b) e = ap (type_named cs) (equal_names a b e)
   same_type cs (Invoked a g f r) (Invoked b h k q) e =
       let x = and_parts (bytes_eq a b) (are_same_given g h && (is_same_filter f k && is_same_reach r q)) e in
       let y = and_parts (are_same_given g h) (is_same_filter f k && is_same_reach r q) x.1 in
-      λ i. call_type (function_of (names a b x.0 i)) (same_given cs zero g h y.0 i) (same_given cs (suc (suc zero)) g h y.0 i)
+      λ i. call_type (function_of (equal_names a b x.0 i)) (same_given cs zero g h y.0 i) (same_given cs (suc (suc zero)) g h y.0 i)
   same_type cs (Negated t) (Negated u) e = refl
   same_type cs (Signed a t) (Signed b u) e = refl
   same_type cs (Joined a t ts) (Joined b u us) e = kinds a b (and_parts (same_kind a b) (is_same t u && are_same_links ts us) e).0

@@ -10,13 +10,15 @@ use Rattle.wsegment.specs.Declaration.{Declaration}
 use Rattle.wquery.specs.declared.frame.Frame.{Frame}
 use Rattle.wquery.specs.GroupElements.{Element, Entry, OneSet, Rollup, Cube}
 use Rattle.wquery.specs.QueryTree.{Clauses, QueryTree, Selected, SourceTree, FromTable, FromQuery, ItemTree, AllColumns, Computed, EntryTree}
-use Rattle.wquery.specs.Tree.{Tree, NullWord, Numeral, Quoted, Field, Invoked, Negated, Signed, Joined, Compared, NullTest, Within, Among, Trees, NoTrees, MoreTrees, Links, NoLinks, Further, Given, Everything, These, Columns, Filter, Unfiltered, FilteredBy, Reach, ItsGroup, ThatWindow, OwnWindow, Keys, NoKeys, MoreKeys, KeyTree, keys, trees}
+use Rattle.wquery.specs.Tree.{Tree, Invoked, Trees, NoTrees, MoreTrees, Reach, ItsGroup, ThatWindow, OwnWindow, Keys, NoKeys, MoreKeys, KeyTree, keys, trees}
 use Rattle.wscope.specs.Finding.{count_keys, count_trees, finds}
 use Rattle.wscope.specs.Scope.{some_anywhere}
+use Rattle.wscope.specs.Seeking.{found_below}
 use Rattle.wscope.specs.Sources.{origin_of, written_out}
 use Rattle.wscope.specs.Types.{Titled}
 use Rattle.wscope.specs.Windows.{NamedWindow, Settled, keys_or, or_none, settle, settle_all, settle_tree, window_named}
-use Rattle.wwindows.specs.Limits.{breaks_limits, count_over, count_windows, has_long_list, is_long_entry, over_filter, over_given, over_items, over_keys, over_links, over_order, over_reach, over_trees}
+use Rattle.wscope.proofs.Related.{Relates, related}
+use Rattle.wwindows.specs.Limits.{breaks_limits, count_over, count_windows, counting, has_long_list, has_own, is_long_entry, over_items, over_order, with_own}
 use Rattle.wwindows.specs.Order.{count_items}
 use Rattle.wwindows.specs.Windows.{reach_is, windows_of}
 use Rattle.wrules.specs.declared.rule.Rule.TheVariants.{OverLimit, TooManySets}
@@ -25,7 +27,7 @@ use Rattle.wgroupby.specs.Laws.{CountsSets}
 use Rattle.wgroupby.specs.Rules.{are_parts_long, breaks_lists, breaks_sets, element_by, elements_by, entry_by, is_element_long, is_entry_long, is_long}
 use Rattle.wgroupby.specs.Sets.{element_count, entry_count, query_sets, sets_count}
 use Rattle.wdistinct.specs.declared.calls.CallKind.TheVariants.{Windowed}
-use Rattle.wdistinct.specs.Calls.{group_calls, is_call_of, node_or, nodes_below, nodes_given, nodes_in, nodes_in_filter, nodes_in_items, nodes_in_keys, nodes_in_links, nodes_in_order, nodes_in_reach, nodes_in_trees, window_calls, with_new}
+use Rattle.wdistinct.specs.Calls.{group_calls, is_call_of, node_or, nodes_below, nodes_in, nodes_in_items, nodes_in_order, picking, window_calls, with_new}
 use Rattle.wsettle.specs.Groups.{column_place, elements_made}
 use Rattle.wsettle.specs.Resolving.{Layout}
 use Rattle.wresolve.specs.Selecting as made
@@ -230,92 +232,48 @@ both xs ys m n a b = at_most (owns xs) (owns ys) m n (owns (xs ++ ys)) (m + n) (
 nothing : 0 ≤ 0
 nothing = omega arith
 
-within_call : (a b c : ℕ) → 1 + 0 ≤ a + (b + (1 + c))
-within_call a b c = omega arith
-
 some_or_more : (n : ℕ) → 0 + 0 ≤ n
 some_or_more n = omega arith
 
-own_within : (t : Tree) → own_count t + 0 ≤ count_over t
-own_within (Invoked name given filter ItsGroup) = some_or_more (count_over (Invoked name given filter ItsGroup))
-own_within (Invoked name given filter (ThatWindow window)) = some_or_more (count_over (Invoked name given filter (ThatWindow window)))
-own_within (Invoked name given filter (OwnWindow copied partition order frame)) =
-    within_call (over_given given) (over_filter filter) (over_trees partition + over_keys order)
-own_within t = some_or_more (count_over t)
+own_or_more : (own below : ℕ) → own + 0 ≤ own + below
+own_or_more own below = omega arith
 
-at_node : (t : Tree) → owns (nodes_below (is_call_of Windowed) t) ≤ count_over t → owns (nodes_in (is_call_of Windowed) t) ≤ count_over t
-at_node t rest = go (is_call_of Windowed t)
+own_within : (t : Tree) (below : ℕ) → own_count t + 0 ≤ with_own t below
+own_within (Invoked name given filter ItsGroup) below = own_or_more 0 below
+own_within (Invoked name given filter (ThatWindow window)) below = own_or_more 0 below
+own_within (Invoked name given filter (OwnWindow copied partition order frame)) below = own_or_more 1 below
+own_within t below = some_or_more below
+
+more_on : (m n below : ℕ) → n ≤ below → n ≤ m + below
+more_on m n below e = omega (arith, e)
+
+below_within : (t : Tree) (n below : ℕ) → n ≤ below → n ≤ with_own t below
+below_within (Invoked name given filter reach) n below e = more_on (has_own reach) n below e
+below_within t n below e = e
+
+at_node : (t : Tree) (below : ℕ) → owns (nodes_below (is_call_of Windowed) t) ≤ below → owns (nodes_in (is_call_of Windowed) t) ≤ with_own t below
+at_node t below rest = go (is_call_of Windowed t)
   where
-    go : (b : Bool) → owns (node_or b t (nodes_below (is_call_of Windowed) t)) ≤ count_over t
-    go true = own_within t
-    go false = rest
+    go : (b : Bool) → owns (node_or b t (nodes_below (is_call_of Windowed) t)) ≤ with_own t below
+    go true = own_within t below
+    go false = below_within t (owns (nodes_below (is_call_of Windowed) t)) below rest
 
-one_on : (n m : ℕ) → n ≤ m → n ≤ 1 + m
-one_on n m e = omega (arith, e)
+owned : Relates (λ xs m n. owns xs ≤ m) (picking (is_call_of Windowed)) counting counting
+owned = record { none = nothing; both = λ xs ys m n k l a b. both xs ys m n a b; at = λ t rest. at_node t (found_below counting t) rest }
 
-mutual
-  below : (t : Tree) → owns (nodes_below (is_call_of Windowed) t) ≤ count_over t
-  below NullWord = nothing
-  below (Numeral n) = nothing
-  below (Quoted text) = nothing
-  below (Field qualifier name) = nothing
-  below (Invoked name given filter reach) =
-      both (nodes_given (is_call_of Windowed) given) (nodes_in_filter (is_call_of Windowed) filter ++ nodes_in_reach (is_call_of Windowed) reach) (over_given given) (over_filter filter + over_reach reach) (in_given given)
-      (both (nodes_in_filter (is_call_of Windowed) filter) (nodes_in_reach (is_call_of Windowed) reach) (over_filter filter) (over_reach reach) (in_filter filter) (in_reach reach))
-  below (Negated t) = at_node t (below t)
-  below (Signed minus t) = at_node t (below t)
-  below (Joined kind t links) =
-      both (nodes_in (is_call_of Windowed) t) (nodes_in_links (is_call_of Windowed) links) (count_over t) (over_links links) (at_node t (below t)) (in_links links)
-  below (Compared comparison t u) =
-      both (nodes_in (is_call_of Windowed) t) (nodes_in (is_call_of Windowed) u) (count_over t) (count_over u) (at_node t (below t)) (at_node u (below u))
-  below (NullTest negated t) = at_node t (below t)
-  below (Within negated t u v) =
-      both (nodes_in (is_call_of Windowed) t) (nodes_in (is_call_of Windowed) u ++ nodes_in (is_call_of Windowed) v) (count_over t) (count_over u + count_over v) (at_node t (below t))
-      (both (nodes_in (is_call_of Windowed) u) (nodes_in (is_call_of Windowed) v) (count_over u) (count_over v) (at_node u (below u)) (at_node v (below v)))
-  below (Among negated t list) =
-      both (nodes_in (is_call_of Windowed) t) (nodes_in_trees (is_call_of Windowed) list) (count_over t) (over_trees list) (at_node t (below t)) (in_trees list)
-
-  in_trees : (ts : Trees) → owns (nodes_in_trees (is_call_of Windowed) ts) ≤ over_trees ts
-  in_trees NoTrees = nothing
-  in_trees (MoreTrees t ts) =
-      both (nodes_in (is_call_of Windowed) t) (nodes_in_trees (is_call_of Windowed) ts) (count_over t) (over_trees ts) (at_node t (below t)) (in_trees ts)
-
-  in_links : (ls : Links) → owns (nodes_in_links (is_call_of Windowed) ls) ≤ over_links ls
-  in_links NoLinks = nothing
-  in_links (Further front operator t) =
-      both (nodes_in_links (is_call_of Windowed) front) (nodes_in (is_call_of Windowed) t) (over_links front) (count_over t) (in_links front) (at_node t (below t))
-
-  in_given : (g : Given) → owns (nodes_given (is_call_of Windowed) g) ≤ over_given g
-  in_given Everything = nothing
-  in_given (These ts) = in_trees ts
-  in_given (Columns ts) = in_trees ts
-
-  in_filter : (f : Filter) → owns (nodes_in_filter (is_call_of Windowed) f) ≤ over_filter f
-  in_filter Unfiltered = nothing
-  in_filter (FilteredBy t) = at_node t (below t)
-
-  in_reach : (r : Reach) → owns (nodes_in_reach (is_call_of Windowed) r) ≤ over_reach r
-  in_reach ItsGroup = nothing
-  in_reach (ThatWindow name) = nothing
-  in_reach (OwnWindow copied partition order frame) =
-      one_on (owns (nodes_in_trees (is_call_of Windowed) partition ++ nodes_in_keys (is_call_of Windowed) order)) (over_trees partition + over_keys order)
-      (both (nodes_in_trees (is_call_of Windowed) partition) (nodes_in_keys (is_call_of Windowed) order) (over_trees partition) (over_keys order) (in_trees partition) (in_keys order))
-
-  in_keys : (ks : Keys) → owns (nodes_in_keys (is_call_of Windowed) ks) ≤ over_keys ks
-  in_keys NoKeys = nothing
-  in_keys (MoreKeys t descending nulls more) =
-      both (nodes_in (is_call_of Windowed) t) (nodes_in_keys (is_call_of Windowed) more) (count_over t) (over_keys more) (at_node t (below t)) (in_keys more)
+in_tree : (t : Tree) → owns (nodes_in (is_call_of Windowed) t) ≤ count_over t
+in_tree t = related _ (picking (is_call_of Windowed)) counting counting owned t
 
 in_items : (is : List ItemTree) → owns (nodes_in_items (is_call_of Windowed) is) ≤ over_items is
 in_items [] = nothing
 in_items (AllColumns ∷ is) = in_items is
 in_items (Computed t alias ∷ is) =
-    both (nodes_in (is_call_of Windowed) t) (nodes_in_items (is_call_of Windowed) is) (count_over t) (over_items is) (at_node t (below t)) (in_items is)
+    both (nodes_in (is_call_of Windowed) t) (nodes_in_items (is_call_of Windowed) is) (count_over t) (over_items is) (in_tree t) (in_items is)
 
 in_order : (ks : List KeyTree) → owns (nodes_in_order (is_call_of Windowed) ks) ≤ over_order ks
 in_order [] = nothing
 in_order (k ∷ ks) =
-    both (nodes_in (is_call_of Windowed) k.expression) (nodes_in_order (is_call_of Windowed) ks) (count_over k.expression) (over_order ks) (at_node k.expression (below k.expression)) (in_order ks)
+    both (nodes_in (is_call_of Windowed) k.expression) (nodes_in_order (is_call_of Windowed) ks) (count_over k.expression) (over_order ks) (in_tree k.expression) (in_order ks)
 
 kept_step : (f t m n x : ℕ) → m ≤ x + n → x ≤ f + t → m ≤ f + (t + n)
 kept_step f t m n x a b = omega (arith, a, b)

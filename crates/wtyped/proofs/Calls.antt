@@ -130,12 +130,8 @@ sum_argument cs Everything e = refl
 sum_argument cs (These us) e = integer_at cs 0 us (and_parts (all_trees (is_value cs) us) (all_trees (is_integer cs) us) e).1
 sum_argument cs (Columns us) e = refl
 
-truth_has : (t : DataType) → scope.is_truth t ≡ true → row.is_truth t ≡ true
-truth_has Truth e = refl
-truth_has _ e = absurd (true≢false (sym e))
-
-pub condition : (o : Option DataType) (t : DataType) → o ≡ Some t → scope.is_truth t ≡ true → has row.is_truth o ≡ true
-condition o t e s = ap (has row.is_truth) e ∙ truth_has t s
+pub condition : (o : Option DataType) (t : DataType) → o ≡ Some t → scope.is_truth t ≡ true → has scope.is_truth o ≡ true
+condition o t e s = ap (has scope.is_truth) e ∙ s
 
 is_filter : (l : Layout) (ts : List DataType) (filter : Filter) → some_filter (sees_misfit l ts) filter ≡ false
     → is_filter_typed l.columns filter ≡ true → is_condition ts (filter_made l filter) ≡ true

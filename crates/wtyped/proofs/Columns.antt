@@ -3,7 +3,6 @@ use Rattle.std.proofs.Common.{◌≡◌, Bool, true, false, ◌&&◌, ◌||◌, 
 use Rattle.std.specs.Prelude.{if◌then◌else◌}
 use Rattle.std.specs.List.{flat_map, list_all, list_any}
 use Rattle.std.specs.Str.{bytes_eq}
-use Rattle.std.specs.Cmp.Lexicographic.{bytes_decides}
 use Rattle.std.proofs.lemmas.Bool.{and_parts, or_left, or_parts, or_right, not-false, eq-eqb, eqb-true}
 use Rattle.std.proofs.lemmas.List.Folds.{list_all-append, list_any-append}
 use Rattle.wquery.specs.GroupElements.{Entry, Element, OneSet, Rollup, Cube, all_columns, entry_columns}
@@ -22,9 +21,8 @@ use Rattle.wtyped.specs.Laws.{types_of}
 use Rattle.wtyped.specs.Plans.{is_any, types_at, with_type}
 use Rattle.wtyped.specs.Shapes.{is_field}
 use Rattle.wtyped.specs.Typing.{has, type_at}
-
-one_name : (a b : List ℕ) → bytes_eq a b ≡ true → a ≡ b
-one_name a b = (bytes_decides a b).0
+use Rattle.std.proofs.lemmas.List.{append-nil}
+use Rattle.wdistinct.specs.Same as equality
 
 -- a column of the source that is there
 pub plain_cell : (cs : List Titled) (name : List ℕ) (more : List DataType) → list_any (has_name name) cs ≡ true
@@ -140,7 +138,7 @@ named_among cs name [] e = absurd (true≢false (sym e))
 named_among cs name (t ∷ ts) e = go (names name t) (λ f. named_among cs name ts f) refl e
   where
     here : (u : Tree) → names name u ≡ true → (column_place cs u == place_named cs name) ≡ true
-    here (Field qualifier other) same = eq-eqb _ _ (ap (place_named cs) (sym (one_name name other same)))
+    here (Field qualifier other) same = eq-eqb _ _ (ap (place_named cs) (sym (equality.equal_names name other same)))
     here _ same = absurd (true≢false (sym same))
 
     go : (b : Bool) → (list_any (names name) ts ≡ true → is_among (place_named cs name) (map (column_place cs) ts) ≡ true)
@@ -151,13 +149,9 @@ named_among cs name (t ∷ ts) e = go (names name t) (λ f. named_among cs name 
     go false rest same f =
         or_right (column_place cs t == place_named cs name) (is_among (place_named cs name) (map (column_place cs) ts)) (rest f)
 
-append_none : (ts : List DataType) → ts ++ [] ≡ ts
-append_none [] = refl
-append_none (t ∷ ts) = ap (λ us. t ∷ us) (append_none ts)
-
 pub source_cell : (cs : List Titled) (name : List ℕ) → list_any (has_name name) cs ≡ true
     → type_at (place_named cs name) (types_of cs) ≡ Some (type_named cs name)
-source_cell cs name e = ap (type_at (place_named cs name)) (sym (append_none (types_of cs))) ∙ plain_cell cs name [] e
+source_cell cs name e = ap (type_at (place_named cs name)) (sym (append-nil (types_of cs))) ∙ plain_cell cs name [] e
 
 -- columns that are there have cells
 pub columns_there : (cs : List Titled) (columns : List Tree) → list_all is_field columns ≡ true → list_any (is_missing cs) columns ≡ false

@@ -1,21 +1,9 @@
 -- Equal expressions are one over a row, and equal calls one function over one window.
 use Rattle.std.proofs.Common.{◌≡◌, Bool, true, false, ◌&&◌, ℕ, zero, suc, ◌+◌, List, [], ◌∷◌, Option, Some, None, refl, sym, ap, ap₂, ◌∙◌, true≢false}
 use Rattle.std.specs.Prelude.{nat_eq, if◌then◌else◌}
-use Rattle.std.specs.Cmp.{unsigned_Decides}
-use Rattle.std.specs.Cmp.Lexicographic.{bytes_decides}
 use Rattle.std.specs.Str.{bytes_eq}
 use Rattle.std.proofs.lemmas.Bool.{and_parts}
-use Rattle.wquery.specs.declared.expression.Operator.{Operator}
-use Rattle.wquery.specs.declared.expression.Operator.TheVariants.{Or, And, Plus, Minus, Times}
-use Rattle.wquery.specs.declared.expression.Comparison.{Comparison}
-use Rattle.wquery.specs.declared.expression.Comparison.TheVariants.{Equal, NotEqual, Less, LessOrEqual, Greater, GreaterOrEqual}
-use Rattle.wquery.specs.declared.expression.NullOrder.{NullOrder}
-use Rattle.wquery.specs.declared.expression.NullOrder.TheVariants.{First, Last}
 use Rattle.wquery.specs.declared.frame.Frame.{Frame}
-use Rattle.wquery.specs.declared.frame.FrameMode.{FrameMode}
-use Rattle.wquery.specs.declared.frame.FrameMode.TheVariants.{Rows, Range, Groups}
-use Rattle.wquery.specs.declared.frame.FrameBound.{FrameBound}
-use Rattle.wquery.specs.declared.frame.FrameBound.TheVariants.{UnboundedPreceding, Preceding, CurrentRow, Following, UnboundedFollowing}
 use Rattle.wquery.specs.declared.frame.FrameExclusion.{FrameExclusion}
 use Rattle.wquery.specs.declared.frame.FrameExclusion.TheVariants as exclusions
 use Rattle.wquery.specs.Tree.{Tree, NullWord, Numeral, Quoted, Field, Invoked, Negated, Signed, Joined, Compared, NullTest, Within, Among, Trees, NoTrees, MoreTrees, Links, NoLinks, Further, Given, Everything, These, Columns, Filter, Unfiltered, FilteredBy, Reach, ItsGroup, ThatWindow, OwnWindow, Keys, NoKeys, MoreKeys, same_kind}
@@ -27,70 +15,17 @@ use Rattle.wscope.specs.Functions.{function_of}
 use Rattle.wscope.specs.Types.{Titled, place_named}
 use Rattle.wscope.specs.Windows.{NamedWindow, keys_or, or_none, settle, window_named}
 use Rattle.wdistinct.specs.Places.{place_of_same}
-use Rattle.wdistinct.specs.Same.{same_equiv}
+use Rattle.wdistinct.specs.Same.{same_equiv, equal_numbers, equal_names, flags, operators, comparisons, nulls, modes, bounds_one, to_copied}
 use Rattle.wvalues.specs.Meaning.{Meaning}
 use Rattle.wplan.specs.Formula as row
-use Rattle.wplan.specs.Formula.{Formula, Formulas}
+use Rattle.wplan.specs.Formula.{Formula}
 use Rattle.wplan.specs.Plans as plans
-use Rattle.wplan.specs.Plans.{AggregatePlan, FunctionPlan, GroupCallPlan, KeyPlan, WindowPlan}
+use Rattle.wplan.specs.Plans.{FunctionPlan, WindowPlan}
 use Rattle.wsettle.specs.Functions.{aggregate_function, aggregated, argument, call_function, filter_made, function_made, literal_of, number_or, tree_at}
 use Rattle.wsettle.specs.Groups.{column_place, column_places, group_call_made, group_called}
 use Rattle.wsettle.specs.Resolving.{Layout, cell_of, literal, resolved, resolved_links, resolved_trees, width}
 use Rattle.wresolve.specs.Selecting.{frame_made, key_made, keys_made, or_no_others, own_window, place_of_reach, place_over, trees_made, window_made, window_of_reach, window_place}
 use Rattle.wtyped.specs.Calls.{EqualIsOne}
-
-numbers : (m n : ℕ) → nat_eq m n ≡ true → m ≡ n
-numbers m n = (unsigned_Decides m n).0
-
-names : (a b : List ℕ) → bytes_eq a b ≡ true → a ≡ b
-names a b = (bytes_decides a b).0
-
-flags : (a b : Bool) → same_bool a b ≡ true → a ≡ b
-flags true b e = sym e
-flags false true e = absurd (true≢false (sym e))
-flags false false e = refl
-
-operators : (a b : Operator) → nat_eq (operator_number a) (operator_number b) ≡ true → a ≡ b
-operators Or Or e = refl
-operators And And e = refl
-operators Plus Plus e = refl
-operators Minus Minus e = refl
-operators Times Times e = refl
-operators _ _ e = absurd (true≢false (sym e))
-
-comparisons : (a b : Comparison) → nat_eq (comparison_number a) (comparison_number b) ≡ true → a ≡ b
-comparisons Equal Equal e = refl
-comparisons NotEqual NotEqual e = refl
-comparisons Less Less e = refl
-comparisons LessOrEqual LessOrEqual e = refl
-comparisons Greater Greater e = refl
-comparisons GreaterOrEqual GreaterOrEqual e = refl
-comparisons _ _ e = absurd (true≢false (sym e))
-
-orders : (a b : Option NullOrder) → nat_eq (nulls_number a) (nulls_number b) ≡ true → a ≡ b
-orders None None e = refl
-orders (Some First) (Some First) e = refl
-orders (Some Last) (Some Last) e = refl
-orders None (Some First) e = absurd (true≢false (sym e))
-orders None (Some Last) e = absurd (true≢false (sym e))
-orders (Some First) None e = absurd (true≢false (sym e))
-orders (Some Last) None e = absurd (true≢false (sym e))
-orders (Some First) (Some Last) e = absurd (true≢false (sym e))
-orders (Some Last) (Some First) e = absurd (true≢false (sym e))
-
-modes : (a b : FrameMode) → nat_eq (mode_number a) (mode_number b) ≡ true → a ≡ b
-modes Rows Rows e = refl
-modes Range Range e = refl
-modes Groups Groups e = refl
-modes _ _ e = absurd (true≢false (sym e))
-
-bounds : (a b : FrameBound) → same_bound a b ≡ true → a ≡ b
-bounds UnboundedPreceding UnboundedPreceding e = refl
-bounds (Preceding m) (Preceding n) e = ap Preceding (numbers m n e)
-bounds CurrentRow CurrentRow e = refl
-bounds (Following m) (Following n) e = ap Following (numbers m n e)
-bounds UnboundedFollowing UnboundedFollowing e = refl
-bounds _ _ e = absurd (true≢false (sym e))
 
 exclusion : (a b : Option FrameExclusion) → nat_eq (exclusion_number a) (exclusion_number b) ≡ true → or_no_others a ≡ or_no_others b
 exclusion None None e = refl
@@ -108,13 +43,8 @@ frames (Some f) (Some g) e =
     let a = and_parts (nat_eq (mode_number f.mode) (mode_number g.mode)) (same_bound f.start g.start && (same_bound (end_of f) (end_of g) && nat_eq (exclusion_number f.exclusion) (exclusion_number g.exclusion))) e in
     let b = and_parts (same_bound f.start g.start) (same_bound (end_of f) (end_of g) && nat_eq (exclusion_number f.exclusion) (exclusion_number g.exclusion)) a.1 in
     let c = and_parts (same_bound (end_of f) (end_of g)) (nat_eq (exclusion_number f.exclusion) (exclusion_number g.exclusion)) b.1 in
-    λ i. record { mode = modes f.mode g.mode a.0 i; start = bounds f.start g.start b.0 i; end = bounds (end_of f) (end_of g) c.0 i; exclusion = exclusion f.exclusion g.exclusion c.1 i }
+    λ i. record { mode = modes f.mode g.mode a.0 i; start = bounds_one f.start g.start b.0 i; end = bounds_one (end_of f) (end_of g) c.0 i; exclusion = exclusion f.exclusion g.exclusion c.1 i }
 frames _ _ e = absurd (true≢false (sym e))
-
-copies : (a b : Option (List ℕ)) → same_copied a b ≡ true → a ≡ b
-copies None None e = refl
-copies (Some a) (Some b) e = ap Some (names a b e)
-copies _ _ e = absurd (true≢false (sym e))
 
 -- places among calls
 
@@ -130,9 +60,9 @@ places (c ∷ cs) t u e = ap₂ (λ (b : Bool) (n : ℕ). if b then zero else su
 mutual
   pub values : (l : Layout) (t u : Tree) → is_same t u ≡ true → resolved l t ≡ resolved l u
   values l NullWord NullWord e = refl
-  values l (Numeral m) (Numeral n) e = ap (λ (x : ℕ). row.Constant (literal x)) (numbers m n e)
-  values l (Quoted a) (Quoted b) e = ap (λ (x : List ℕ). resolved l (Quoted x)) (names a b e)
-  values l (Field p a) (Field q b) e = ap (λ (x : List ℕ). row.At (cell_of l (place_named l.columns x))) (names a b e)
+  values l (Numeral m) (Numeral n) e = ap (λ (x : ℕ). row.Constant (literal x)) (equal_numbers m n e)
+  values l (Quoted a) (Quoted b) e = ap (λ (x : List ℕ). resolved l (Quoted x)) (equal_names a b e)
+  values l (Field p a) (Field q b) e = ap (λ (x : List ℕ). row.At (cell_of l (place_named l.columns x))) (equal_names a b e)
   values l (Invoked a g f r) (Invoked b h k q) e =
       ap (λ (n : ℕ). row.At (width l + n)) (places l.calls (Invoked a g f r) (Invoked b h k q) e)
   values l (Negated t) (Negated u) e = ap row.Negation (values l t u e)
@@ -188,7 +118,7 @@ keys l (MoreKeys t a m ts) (MoreKeys u b n us) e =
     let x = and_parts (is_same t u) (same_bool a b && (nat_eq (nulls_number m) (nulls_number n) && are_same_keys ts us)) e in
     let y = and_parts (same_bool a b) (nat_eq (nulls_number m) (nulls_number n) && are_same_keys ts us) x.1 in
     let z = and_parts (nat_eq (nulls_number m) (nulls_number n)) (are_same_keys ts us) y.1 in
-    λ i. key_made (values l t u x.0 i) (flags a b y.0 i) (orders m n z.0 i) ∷ keys l ts us z.1 i
+    λ i. key_made (values l t u x.0 i) (flags a b y.0 i) (nulls m n z.0 i) ∷ keys l ts us z.1 i
 keys l _ _ e = absurd (true≢false (sym e))
 
 own_or : (l : Layout) (ts us copied : Keys) → are_same_keys ts us ≡ true → keys_made l (keys_or ts copied) ≡ keys_made l (keys_or us copied)
@@ -210,13 +140,13 @@ own_reach l ws (OwnWindow v ts ks m) (OwnWindow w us js n) e =
     let p = and_parts (same_copied v w) (are_same ts us && (are_same_keys ks js && same_frame m n)) e in
     let q = and_parts (are_same ts us) (are_same_keys ks js && same_frame m n) p.1 in
     let r = and_parts (are_same_keys ks js) (same_frame m n) q.1 in
-    ap (λ (o : WindowPlan). o ∷ []) (ap (λ (c : Option (List ℕ)). window_made l (settle ws c ts ks m)) (copies v w p.0) ∙ settled l ws w ts us ks js m n q.0 r.0 r.1)
+    ap (λ (o : WindowPlan). o ∷ []) (ap (λ (c : Option (List ℕ)). window_made l (settle ws c ts ks m)) (to_copied v w p.0) ∙ settled l ws w ts us ks js m n q.0 r.0 r.1)
 own_reach l ws _ _ e = absurd (true≢false (sym e))
 
 place_reach : (ws : List NamedWindow) (next : ℕ) (r q : Reach) → is_same_reach r q ≡ true
     → place_of_reach ws next r ≡ place_of_reach ws next q
 place_reach ws next ItsGroup ItsGroup e = refl
-place_reach ws next (ThatWindow v) (ThatWindow w) e = ap (window_place ws) (names v w e)
+place_reach ws next (ThatWindow v) (ThatWindow w) e = ap (window_place ws) (equal_names v w e)
 place_reach ws next (OwnWindow v ts ks m) (OwnWindow w us js n) e = refl
 place_reach ws next _ _ e = absurd (true≢false (sym e))
 
@@ -233,7 +163,7 @@ shares a b g h f k r q e =
     let x = and_parts (bytes_eq a b) (are_same_given g h && (is_same_filter f k && is_same_reach r q)) e in
     let y = and_parts (are_same_given g h) (is_same_filter f k && is_same_reach r q) x.1 in
     let z = and_parts (is_same_filter f k) (is_same_reach r q) y.1 in
-    record { name = names a b x.0; given = y.0; filter = z.0; reach = z.1 }
+    record { name = equal_names a b x.0; given = y.0; filter = z.0; reach = z.1 }
 
 own : (l : Layout) (ws : List NamedWindow) (t u : Tree) → is_same t u ≡ true → own_window l ws t ≡ own_window l ws u
 own l ws (Invoked a g f r) (Invoked b h k q) e = own_reach l ws r q (shares a b g h f k r q e).reach
@@ -262,21 +192,21 @@ argument_same n (Columns ts) (Columns us) e = refl
 argument_same n _ _ e = absurd (true≢false (sym e))
 
 number_same : (d : ℕ) (t u : Tree) → is_same t u ≡ true → number_or d t ≡ number_or d u
-number_same d (Numeral m) (Numeral n) e = numbers m n e
+number_same d (Numeral m) (Numeral n) e = equal_numbers m n e
 number_same d (Numeral m) u e = absurd (true≢false (sym e))
 number_same d t (Numeral n) e = absurd (true≢false (sym e))
 number_same d t u e = refl
 
 signed_same : (a : Bool) (t u : Tree) → is_same t u ≡ true → literal_of (Signed a t) ≡ literal_of (Signed a u)
 signed_same false t u e = refl
-signed_same true (Numeral m) (Numeral n) e = ap (λ (x : ℕ). literal_of (Signed true (Numeral x))) (numbers m n e)
+signed_same true (Numeral m) (Numeral n) e = ap (λ (x : ℕ). literal_of (Signed true (Numeral x))) (equal_numbers m n e)
 signed_same true (Numeral m) u e = absurd (true≢false (sym e))
 signed_same true t (Numeral n) e = absurd (true≢false (sym e))
 signed_same true t u e = refl
 
 literal_same : (t u : Tree) → is_same t u ≡ true → literal_of t ≡ literal_of u
-literal_same (Numeral m) (Numeral n) e = ap literal (numbers m n e)
-literal_same (Quoted a) (Quoted b) e = ap (λ (x : List ℕ). literal_of (Quoted x)) (names a b e)
+literal_same (Numeral m) (Numeral n) e = ap literal (equal_numbers m n e)
+literal_same (Quoted a) (Quoted b) e = ap (λ (x : List ℕ). literal_of (Quoted x)) (equal_names a b e)
 literal_same (Signed a t) (Signed b u) e =
     let x = and_parts (same_bool a b) (is_same t u) e in ap (λ (c : Bool). literal_of (Signed c t)) (flags a b x.0) ∙ signed_same b t u x.1
 literal_same (Numeral m) u e = absurd (true≢false (sym e))
@@ -349,7 +279,7 @@ calls l t (Invoked b h k q) e = absurd (true≢false (sym e))
 calls l t u e = refl
 
 column_same : (cs : List Titled) (t u : Tree) → is_same t u ≡ true → column_place cs t ≡ column_place cs u
-column_same cs (Field p a) (Field q b) e = ap (place_named cs) (names a b e)
+column_same cs (Field p a) (Field q b) e = ap (place_named cs) (equal_names a b e)
 column_same cs (Field p a) u e = absurd (true≢false (sym e))
 column_same cs t (Field q b) e = absurd (true≢false (sym e))
 column_same cs t u e = refl

@@ -15,16 +15,12 @@ use Rattle.wscope.specs.declared.data_type.DataType.TheVariants as types
 use Rattle.wplan.specs.Formula.{Formula, Constant, At, Negation, Signed, Applied, Compared, NullTest, Within, Among, Formulas, NoFormulas, MoreFormulas}
 use Rattle.wplan.specs.Values as values
 use Rattle.wplan.specs.Values.{Outcome, Held, Judged, TooLarge, after, apply, is_among, is_null, on_numbers, ranged, truth_of, turned, value_in, value_of}
-use Rattle.wtyped.specs.Typing.{beside, beside_all, constant_type, formula_type, gives, has, is_number, is_truth, takes, type_at, valued}
-use Rattle.wtyped.specs.Exact.{TypedIsExact, applied, are_of, between, cell_at, comes_as, compared, exact_among, exact_value, is_of, joined, made_of, of_numbers, of_truth, of_truths, signed, told}
+use Rattle.wscope.specs.Types.{is_truth}
+use Rattle.wtyped.specs.Typing.{beside, beside_all, constant_type, formula_type, gives, has, is_number, takes, type_at, valued}
+use Rattle.wtyped.specs.Exact.{TypedIsExact, applied, are_of, between, cell_at, comes_as, compared, exact_among, exact_value, is_of, joined, made_of, of_numbers, of_truth, of_truths, signed, outcome_of}
 use Rattle.wtyped.proofs.Types as found
-use Rattle.wtyped.proofs.Types.{common_family, common_fits, family, fits, is_it_truth, number_fits}
-
-none_some : (t : DataType) → None ≡ Some t → ⊥
-none_some t e = cc
-
-some_is : (a b : DataType) → Some a ≡ Some b → a ≡ b
-some_is a b e = cc
+use Rattle.wtyped.proofs.Types.{common_family, common_fits, family, fits, number_fits}
+use Rattle.wtyped.proofs.Lists.{none_some, some_is}
 
 -- an outcome that is there, and of a type
 abbrev Says : DataType → Option Outcome → Outcome → Type 0
@@ -144,9 +140,9 @@ self_fits types.Truth t f = absurd (true≢false (sym f))
 self_fits types.Null t f = absurd (true≢false (sym f))
 
 comparison : (k : DataType) (c : Comparison) (v w : Outcome) → fits k k ≡ true → comes_as k v ≡ true → comes_as k w ≡ true
-    → Says types.Truth (made_of (Some v) (λ x. made_of (Some w) (λ y. told (compared c x y))))
+    → Says types.Truth (made_of (Some v) (λ x. made_of (Some w) (λ y. outcome_of (compared c x y))))
     (after v (λ x. after w (λ y. Judged (values.compared c (value_in x) (value_in y)))))
-comparison k c (Held m) (Held n) f d e = (ap told (one k c m n d e), refl)
+comparison k c (Held m) (Held n) f d e = (ap outcome_of (one k c m n d e), refl)
 comparison k c (Held m) TooLarge f d e = (refl, refl)
 comparison k c TooLarge w f d e = (refl, refl)
 comparison k c (Judged t) w f d e = absurd (no_truth k k t f d)
@@ -154,10 +150,10 @@ comparison k c (Held m) (Judged t) f d e = absurd (no_truth k k t f e)
 
 range : (k : DataType) (negated : Bool) (v w z : Outcome) → fits k k ≡ true → comes_as k v ≡ true → comes_as k w ≡ true
     → comes_as k z ≡ true
-    → Says types.Truth (made_of (Some v) (λ a. made_of (Some w) (λ b. made_of (Some z) (λ c. made_of (told (between a b c)) (of_truth (turned negated))))))
+    → Says types.Truth (made_of (Some v) (λ a. made_of (Some w) (λ b. made_of (Some z) (λ c. made_of (outcome_of (between a b c)) (of_truth (turned negated))))))
     (after v (λ a. after w (λ b. after z (λ c. Judged (turned negated (values.between (value_in a) (value_in b) (value_in c)))))))
 range k negated (Held m) (Held n) (Held o) f d e g =
-    (ap₂ (λ s t. made_of (told (joined truths.both s t)) (of_truth (turned negated))) (one k GreaterOrEqual m n d e) (one k LessOrEqual m o d g), refl)
+    (ap₂ (λ s t. made_of (outcome_of (joined truths.both s t)) (of_truth (turned negated))) (one k GreaterOrEqual m n d e) (one k LessOrEqual m o d g), refl)
 range k negated (Held m) (Held n) TooLarge f d e g = (refl, refl)
 range k negated (Held m) TooLarge z f d e g = (refl, refl)
 range k negated TooLarge w z f d e g = (refl, refl)
@@ -251,19 +247,19 @@ mutual
       let b = exactly ts row g q.type r q.is in
       of_type (gives o) t _ _ is.1 (with_two (applied o) (gives o) _ _ (value_of row f) (value_of row g) _ a.0 b.0 (operator o p.type q.type (value_of row f) (value_of row g) p.passes q.passes a.1 b.1))
   exactly ts row (Compared c f g) t r e =
-      let is = found.told (beside (formula_type ts f) (formula_type ts g)) t e in
+      let is = found.is_judged (beside (formula_type ts f) (formula_type ts g)) t e in
       let p = found.parts (formula_type ts f) (formula_type ts g) is.0.type is.0.is in
       let k = common_fits (family is.0.type) p.left p.right is.0.type (common_family p.left p.right is.0.type p.one) p.one in
       let a = exactly ts row f p.left r p.is_left in
       let b = exactly ts row g p.right r p.is_right in
-      of_type types.Truth t _ _ is.1 (with_two (λ x y. told (compared c x y)) types.Truth _ _ (value_of row f) (value_of row g) _ a.0 b.0
+      of_type types.Truth t _ _ is.1 (with_two (λ x y. outcome_of (compared c x y)) types.Truth _ _ (value_of row f) (value_of row g) _ a.0 b.0
       (comparison (family is.0.type) c (value_of row f) (value_of row g) (self_fits (family is.0.type) p.left k.0) (widened (family is.0.type) p.left (value_of row f) k.0 a.1) (widened (family is.0.type) p.right (value_of row g) k.1 b.1)))
   exactly ts row (NullTest negated f) t r e =
-      let is = found.told (formula_type ts f) t e in
+      let is = found.is_judged (formula_type ts f) t e in
       let s = exactly ts row f is.0.type r is.0.is in
       of_type types.Truth t _ _ is.1 (with_one _ types.Truth _ (value_of row f) _ s.0 (null_test negated (value_of row f)))
   exactly ts row (Within negated f low high) t r e =
-      let is = found.told (beside (beside (formula_type ts f) (formula_type ts low)) (formula_type ts high)) t e in
+      let is = found.is_judged (beside (beside (formula_type ts f) (formula_type ts low)) (formula_type ts high)) t e in
       let p = found.parts (beside (formula_type ts f) (formula_type ts low)) (formula_type ts high) is.0.type is.0.is in
       let q = found.parts (formula_type ts f) (formula_type ts low) p.left p.is_left in
       let k = common_fits (family is.0.type) p.left p.right is.0.type (common_family p.left p.right is.0.type p.one) p.one in
@@ -271,10 +267,10 @@ mutual
       let a = exactly ts row f q.left r q.is_left in
       let b = exactly ts row low q.right r q.is_right in
       let c = exactly ts row high p.right r p.is_right in
-      of_type types.Truth t _ _ is.1 (with_three (λ x y z. made_of (told (between x y z)) (of_truth (turned negated))) types.Truth _ _ _ (value_of row f) (value_of row low) (value_of row high) _ a.0 b.0 c.0
+      of_type types.Truth t _ _ is.1 (with_three (λ x y z. made_of (outcome_of (between x y z)) (of_truth (turned negated))) types.Truth _ _ _ (value_of row f) (value_of row low) (value_of row high) _ a.0 b.0 c.0
       (range (family is.0.type) negated (value_of row f) (value_of row low) (value_of row high) (self_fits (family is.0.type) p.left k.0) (widened (family is.0.type) q.left (value_of row f) j.0 a.1) (widened (family is.0.type) q.right (value_of row low) j.1 b.1) (widened (family is.0.type) p.right (value_of row high) k.1 c.1)))
   exactly ts row (Among negated f list) t r e =
-      let is = found.told (beside_all ts (valued (formula_type ts f)) list) t e in
+      let is = found.is_judged (beside_all ts (valued (formula_type ts f)) list) t e in
       let k = found.all_valued ts (valued (formula_type ts f)) list (found.valued_is (formula_type ts f)) is.0.type is.0.is in
       let p = found.all_fit ts (valued (formula_type ts f)) list (family is.0.type) is.0.type k is.0.is in
       let a = exactly ts row f p.type r (found.valued_family (formula_type ts f) p.type p.is).0 in

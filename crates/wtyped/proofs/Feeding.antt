@@ -25,9 +25,10 @@ use Rattle.waggregate.specs.Aggregating.{Feed, fed_values, feed_of, first_or_nul
 use Rattle.wtyped.specs.Exact.{are_of, comes_as, is_of}
 use Rattle.wtyped.specs.Plans.{aggregate_of, aggregate_type, is_any, is_condition, is_value, unless_wrong}
 use Rattle.wtyped.specs.Running.{Evaluation, IsExact, IsExactOn, aggregate_on, all_of, condition_on, on_each, suits}
-use Rattle.wtyped.specs.Typing.{formula_type, is_number, is_truth, valued}
+use Rattle.wscope.specs.Types.{is_truth}
+use Rattle.wtyped.specs.Typing.{formula_type, is_number, valued}
 use Rattle.wtyped.proofs.Exactly.{typed_is_exact}
-use Rattle.wtyped.proofs.Lists.{at_or, each_mapped, filtered_all, mapped_all, sorted_all, then_any, then_ok, unless_ok}
+use Rattle.wtyped.proofs.Lists.{at_or, each_mapped, filtered_all, mapped_all, none_some, some_is, sorted_all, then_any, then_ok, unless_ok}
 use Rattle.wtyped.proofs.Types as found
 use Rattle.wtyped.proofs.Types.{Passes, has_type}
 
@@ -44,12 +45,6 @@ is_nullable t = is_of t Null
 
 abbrev pub AreNullable : List DataType → Type 0
 AreNullable ts = list_all is_nullable ts ≡ true
-
-none_some : (t : DataType) → None ≡ Some t → ⊥
-none_some t e = cc
-
-some_is : (t u : DataType) → Some t ≡ Some u → t ≡ u
-some_is t u e = cc
 
 -- expressions
 

@@ -15,12 +15,11 @@ use Rattle.wscope.specs.declared.data_type.DataType.TheVariants.{Integer, Text, 
 use Rattle.wscope.specs.declared.look.Look.{Look}
 use Rattle.wscope.specs.declared.look.Look.TheVariants.{Found, Closed, Below}
 use Rattle.wscope.specs.Seeking.{found_or, some_below, some_link, some_node, some_tree}
-use Rattle.wscope.specs.Types as scope
-use Rattle.wscope.specs.Types.{Titled, agree, chain_type, fits_integer, fits_text, type_of}
+use Rattle.wscope.specs.Types.{Titled, agree, chain_type, fits_integer, fits_text, type_of, is_truth}
 use Rattle.wnames.specs.Types.{all_links, all_trees, is_ill_typed, is_integer, is_text, suits}
 use Rattle.wplan.specs.Formula.{Formula}
 use Rattle.wsettle.specs.Resolving.{Layout, resolved, resolved_links, resolved_trees}
-use Rattle.wtyped.specs.Typing.{beside, beside_all, common, constant_type, formula_type, gives, has, is_number, is_truth, judged, takes, valued, where_holds}
+use Rattle.wtyped.specs.Typing.{beside, beside_all, common, constant_type, formula_type, gives, has, is_number, judged, takes, valued, where_holds}
 use Rattle.wtyped.specs.Shapes.{are_links, are_of_kind, is_misshapen}
 use Rattle.wtyped.proofs.Types.{Passes, fits, has_type}
 
@@ -84,7 +83,7 @@ shut_look true x e = refl
 shut_look false x e = absurd (true≢false e)
 
 -- the rule on types and the types of rows mean one thing
-truth_is : (t : DataType) → scope.is_truth t ≡ true → t ≡ Truth
+truth_is : (t : DataType) → is_truth t ≡ true → t ≡ Truth
 truth_is Truth e = refl
 truth_is _ e = absurd (true≢false (sym e))
 
@@ -94,8 +93,8 @@ number_is Null e = refl
 number_is _ e = absurd (true≢false (sym e))
 
 abbrev suits_type : ChainKind → DataType → Bool
-suits_type Disjunction t = scope.is_truth t
-suits_type Conjunction t = scope.is_truth t
+suits_type Disjunction t = is_truth t
+suits_type Conjunction t = is_truth t
 suits_type Sum t = fits_integer t
 suits_type Product t = fits_integer t
 
@@ -111,35 +110,35 @@ chain_suits Conjunction = refl
 chain_suits Sum = refl
 chain_suits Product = refl
 
-truths : (o : Option DataType) (t : DataType) → o ≡ Some t → scope.is_truth t ≡ true → o ≡ Some Truth
+truths : (o : Option DataType) (t : DataType) → o ≡ Some t → is_truth t ≡ true → o ≡ Some Truth
 truths o t e s = e ∙ ap Some (truth_is t s)
 
-numbers : (o : Option DataType) (t : DataType) → o ≡ Some t → fits_integer t ≡ true → has is_number o ≡ true
-numbers o t e s = ap (has is_number) e ∙ number_is t s
+holds_number : (o : Option DataType) (t : DataType) → o ≡ Some t → fits_integer t ≡ true → has is_number o ≡ true
+holds_number o t e s = ap (has is_number) e ∙ number_is t s
 
-negated : (o : Option DataType) (t : DataType) → o ≡ Some t → scope.is_truth t ≡ true → where_holds (has is_truth o) Truth ≡ Some Truth
+negated : (o : Option DataType) (t : DataType) → o ≡ Some t → is_truth t ≡ true → where_holds (has is_truth o) Truth ≡ Some Truth
 negated o t e s = ap (λ (x : Option DataType). where_holds (has is_truth x) Truth) (truths o t e s)
 
 signed : (o : Option DataType) (t : DataType) → o ≡ Some t → fits_integer t ≡ true → where_holds (has is_number o) Integer ≡ Some Integer
-signed o t e s = ap (λ (b : Bool). where_holds b Integer) (numbers o t e s)
+signed o t e s = ap (λ (b : Bool). where_holds b Integer) (holds_number o t e s)
 
-both_truths : (o p : Option DataType) (a b : DataType) → o ≡ Some a → p ≡ Some b → scope.is_truth a ≡ true → scope.is_truth b ≡ true
+both_truths : (o p : Option DataType) (a b : DataType) → o ≡ Some a → p ≡ Some b → is_truth a ≡ true → is_truth b ≡ true
     → where_holds (has is_truth o && has is_truth p) Truth ≡ Some Truth
 both_truths o p a b e f s t =
     ap₂ (λ (x y : Option DataType). where_holds (has is_truth x && has is_truth y) Truth) (truths o a e s) (truths p b f t)
 
-both_numbers : (o p : Option DataType) (a b : DataType) → o ≡ Some a → p ≡ Some b → fits_integer a ≡ true → fits_integer b ≡ true
+both_numerals : (o p : Option DataType) (a b : DataType) → o ≡ Some a → p ≡ Some b → fits_integer a ≡ true → fits_integer b ≡ true
     → where_holds (has is_number o && has is_number p) Integer ≡ Some Integer
-both_numbers o p a b e f s t = ap₂ (λ (x y : Bool). where_holds (x && y) Integer) (numbers o a e s) (numbers p b f t)
+both_numerals o p a b e f s t = ap₂ (λ (x y : Bool). where_holds (x && y) Integer) (holds_number o a e s) (holds_number p b f t)
 
 applied : (operator : Operator) (kind : ChainKind) (o p : Option DataType) (a b : DataType) → same_kind (chain_kind operator) kind ≡ true
     → o ≡ Some a → p ≡ Some b → suits_type kind a ≡ true → suits_type kind b ≡ true
     → where_holds (has (takes operator) o && has (takes operator) p) (gives operator) ≡ Some (chain_type kind)
 applied Or Disjunction o p a b k e f s t = both_truths o p a b e f s t
 applied And Conjunction o p a b k e f s t = both_truths o p a b e f s t
-applied Plus Sum o p a b k e f s t = both_numbers o p a b e f s t
-applied Minus Sum o p a b k e f s t = both_numbers o p a b e f s t
-applied Times Product o p a b k e f s t = both_numbers o p a b e f s t
+applied Plus Sum o p a b k e f s t = both_numerals o p a b e f s t
+applied Minus Sum o p a b k e f s t = both_numerals o p a b e f s t
+applied Times Product o p a b k e f s t = both_numerals o p a b e f s t
 applied _ _ o p a b k e f s t = absurd (true≢false (sym k))
 
 -- types that agree have one in common
@@ -258,7 +257,7 @@ mutual
       cell_typed l ts (Invoked name given filter reach) (shut_look (is_typed_cell l ts (Invoked name given filter reach)) (some_below (sees_misfit l ts) (Invoked name given filter reach)) e)
   typed l ts (Negated t) e =
       let o = open_look (is_unfit l.columns (Negated t)) (some_node (sees_misfit l ts) t) e in
-      negated (formula_type ts (resolved l t)) (type_of l.columns t) (typed l ts t o.1) (not-false (scope.is_truth (type_of l.columns t)) (or_parts (is_ill_typed l.columns (Negated t)) false o.0).0)
+      negated (formula_type ts (resolved l t)) (type_of l.columns t) (typed l ts t o.1) (not-false (is_truth (type_of l.columns t)) (or_parts (is_ill_typed l.columns (Negated t)) false o.0).0)
   typed l ts (Signed minus t) e =
       let o = open_look (is_unfit l.columns (Signed minus t)) (some_node (sees_misfit l ts) t) e in
       signed (formula_type ts (resolved l t)) (type_of l.columns t) (typed l ts t o.1) (not-false (fits_integer (type_of l.columns t)) (or_parts (is_ill_typed l.columns (Signed minus t)) false o.0).0)

@@ -15,7 +15,7 @@ use Rattle.wscope.specs.declared.data_type.DataType.TheVariants.{Integer, Text, 
 use Rattle.wscope.specs.Scope.{has_name, is_output, item_has_name, output_name, some_item, some_sort}
 use Rattle.wscope.specs.Seeking.{some_node}
 use Rattle.wscope.specs.Sources as sources
-use Rattle.wscope.specs.Sources.{Shown, Placed, Spelled, ShownItem, answered, answered_column, columns_from, written_out}
+use Rattle.wscope.specs.Sources.{Shown, Spelled, ShownItem, answered_column, columns_from, written_out}
 use Rattle.wscope.specs.Types as scope
 use Rattle.wscope.specs.Types.{Titled, place_named, type_named, type_of}
 use Rattle.wnames.specs.Names.{count_named, is_ambiguous}
@@ -35,6 +35,8 @@ use Rattle.wtyped.proofs.Formulas.{sees_misfit, typed}
 use Rattle.wtyped.proofs.Rows.{all_cells, column_cell, first_cells, row_of}
 use Rattle.wtyped.proofs.Rows as rows
 use Rattle.wtyped.proofs.Rules as rules
+use Rattle.wtyped.proofs.Lists.{some_is}
+use Rattle.std.proofs.lemmas.List.{append-nil}
 
 -- an item that has its type and is a value
 abbrev pub IsShown : Layout → List DataType → ShownItem → Type 0
@@ -82,10 +84,6 @@ at_length : (pre rest : List Titled) (c : Titled) (more : List DataType)
     → type_at (length pre) (types_of (pre ++ c ∷ rest) ++ more) ≡ Some c.type
 at_length [] rest c more = refl
 at_length (x ∷ pre) rest c more = at_length pre rest c more
-
-append_none : (ts : List DataType) → ts ++ [] ≡ ts
-append_none [] = refl
-append_none (t ∷ ts) = ap (λ us. t ∷ us) (append_none ts)
 
 one_more : (n : ℕ) → 0 < suc n
 one_more n = omega arith
@@ -145,9 +143,6 @@ abbrev pub IsStarred : List Titled → Clauses → Bool → List Titled → Type
 IsStarred cs c false all = Unit {0}
 IsStarred cs c true all = list_any (is_ungrouped_column (all_columns c.grouping)) all ≡ false
 
-some_is : (a b : DataType) → Some a ≡ Some b → a ≡ b
-some_is a b e = cc
-
 there_is : (pre rest : List Titled) (x : Titled) → list_any (has_name x.name) (pre ++ x ∷ rest) ≡ true
 there_is pre rest x =
     list_any-append (has_name x.name) pre (x ∷ rest) ∙ or_right (list_any (has_name x.name) pre) (list_any (has_name x.name) (x ∷ rest)) (or_left (has_name x.name x) (list_any (has_name x.name) rest) ((bytes_decides x.name x.name).1 refl))
@@ -161,7 +156,7 @@ star_cell c true more pre rest x clear starred =
     let named = not-false (list_any (names x.name) (all_columns c.grouping)) (or_parts (is_ungrouped_column (all_columns c.grouping) x) (list_any (is_ungrouped_column (all_columns c.grouping)) rest) starred).0 in
     let place = own_place pre rest x (one_column cs (all_columns c.grouping) x.name clear named) in
     let there = there_is pre rest x in
-    let type = some_is (type_named cs x.name) x.type (sym (source_cell cs x.name there) ∙ ap (λ (n : ℕ). type_at n (types_of cs)) place ∙ ap (type_at (length pre)) (sym (append_none (types_of cs))) ∙ at_length pre rest x []) in
+    let type = some_is (type_named cs x.name) x.type (sym (source_cell cs x.name there) ∙ ap (λ (n : ℕ). type_at n (types_of cs)) place ∙ ap (type_at (length pre)) (sym (append-nil (types_of cs))) ∙ at_length pre rest x []) in
     ap (λ (n : ℕ). type_at (cell_in (row_of cs c true).grouping n) (first_cells cs c true ++ more)) (sym place) ∙ column_cell cs c true more x.name there named ∙ ap Some type
 
 star_at : (cs : List Titled) (c : Clauses) (b : Bool) (more : List DataType) (pre rest : List Titled) (x : Titled) → pre ++ x ∷ rest ≡ cs

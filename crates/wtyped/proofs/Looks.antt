@@ -1,25 +1,24 @@
 -- The looks at expressions over the row of windows, items and keys, and over the source's row.
-use Rattle.std.proofs.Common.{◌≡◌, Bool, true, false, not, ◌&&◌, ◌||◌, ℕ, List, Option, Some, None, refl, sym, ap, ◌∙◌, true≢false}
+use Rattle.std.proofs.Common.{◌≡◌, Bool, true, false, not, ◌&&◌, ◌||◌, ℕ, List, Option, refl, sym, ap, ◌∙◌, true≢false}
 use Rattle.std.specs.Prelude.{if◌then◌else◌}
 use Rattle.std.specs.List.{list_any}
 use Rattle.std.proofs.lemmas.Bool.{or_parts, or_right, or_left, not-false}
 use Rattle.wquery.specs.Tree.{Tree, Field, Invoked, Given, Everything, These, Columns, Filter, Reach, ItsGroup, ThatWindow, OwnWindow}
 use Rattle.wscope.specs.Called.{names}
 use Rattle.wscope.specs.declared.data_type.DataType.{DataType}
-use Rattle.wscope.specs.declared.function.Function.{Function}
 use Rattle.wscope.specs.declared.look.Look.{Look}
 use Rattle.wscope.specs.declared.look.Look.TheVariants.{Found, Closed, Below}
 use Rattle.wscope.specs.Finding.{finds}
-use Rattle.wscope.specs.Functions.{function_of}
 use Rattle.wscope.specs.Scope.{has_name}
 use Rattle.wscope.specs.Seeking.{some_below}
 use Rattle.wscope.specs.Types.{Titled}
-use Rattle.wnames.specs.Calls.{is_aggregate_of, is_bad_call, is_group_function}
+use Rattle.wnames.specs.Calls.{is_bad_call, is_group_function}
 use Rattle.wnames.specs.Names.{is_missing}
 use Rattle.wnames.specs.Groups.{is_group_call, is_misplaced_window_call, is_nested_group_call, is_over, is_window_call, sees_ungrouped}
 use Rattle.wdistinct.specs.declared.calls.CallKind.TheVariants.{Grouped, Windowed}
-use Rattle.wdistinct.specs.Calls.{has_over, is_aggregate_function, is_call_of}
+use Rattle.wdistinct.specs.Calls.{has_over, is_call_of}
 use Rattle.wsettle.specs.Resolving.{Layout}
+use Rattle.wresolve.proofs.Grouped as grouped
 use Rattle.wtyped.proofs.Formulas.{find, is_typed_cell, is_unfit, sees_misfit, shut}
 use Rattle.wtyped.proofs.Rules.{is_bad}
 use Rattle.wtyped.proofs.Walks.{covers, sees_failed, unless_passed}
@@ -194,18 +193,10 @@ outer name given filter ItsGroup e g =
 outer name given filter (ThatWindow window) e g = (refl, refl)
 outer name given filter (OwnWindow copied partition order frame) e g = (refl, refl)
 
-function_alike : (f : Option Function) → is_aggregate_function f ≡ is_aggregate_of f
-function_alike None = refl
-function_alike (Some f) = refl
-
 -- aggregates without OVER and GROUPING, as they are listed and as they are judged
 pub alike : (name : List ℕ) (given : Given) (filter : Filter) (reach : Reach)
     → is_call_of Grouped (Invoked name given filter reach) ≡ is_group_call (Invoked name given filter reach)
-alike name Everything filter ItsGroup = function_alike (function_of name)
-alike name (These ts) filter ItsGroup = function_alike (function_of name)
-alike name (Columns ts) filter ItsGroup = refl
-alike name given filter (ThatWindow window) = refl
-alike name given filter (OwnWindow copied partition order frame) = refl
+alike name given filter reach = grouped.alike (Invoked name given filter reach)
 
 -- columns that are there have their cells, where each has one
 pub plain_column : (l : Layout) (ts : List DataType)

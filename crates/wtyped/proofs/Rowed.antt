@@ -19,7 +19,7 @@ use Rattle.wplan.specs.Plans.{GroupCallPlan, GroupAggregate, GroupingOf, Groupin
 use Rattle.wrows.specs.declared.fault.AnswerFault.{AnswerFault}
 use Rattle.wrows.specs.declared.fault.AnswerFault.TheVariants.{OutOfRange, TooManyRows}
 use Rattle.wrows.specs.Columns as columns
-use Rattle.wrows.specs.Columns.{Row, beside, column_of, filter_of, held_rows, holds_on, is_out_of_range, lists_of, not_too_many, value_at}
+use Rattle.wrows.specs.Columns.{Row, beside, column_of, held_rows, holds_on, is_out_of_range, lists_of, not_too_many, value_at}
 use Rattle.wrows.specs.Outcomes.{◌>>=◌, each}
 use Rattle.wrows.specs.Plain.{cut, kept_of, ordered}
 use Rattle.wsort.specs.Ordered.{numbers_by}
@@ -34,15 +34,9 @@ use Rattle.wtyped.specs.Plans.{call_types, function_type, group_call_type, group
 use Rattle.wtyped.specs.Typing.{beside as common_of, common, constant_type, formula_type, type_at, valued}
 use Rattle.wtyped.proofs.Exactly.{typed_is_exact}
 use Rattle.wtyped.proofs.Feeding.{AllOf, AreNullable, Each, as_type, cell_typed, column_typed, folded_typed, in_range_typed, is_aggregate_nullable, is_nullable, number_typed, value_is}
-use Rattle.wtyped.proofs.Lists.{at_below, at_or, dropped_all, each_flat, each_mapped, filtered_all, mapped_all, places_all, sorted_all, taken_all, then_any, then_ok, unless_ok}
+use Rattle.wtyped.proofs.Lists.{at_below, at_or, dropped_all, each_flat, each_mapped, filtered_all, mapped_all, none_some, places_all, some_is, sorted_all, taken_all, then_any, then_ok, unless_ok}
 use Rattle.wtyped.proofs.Types as found
-use Rattle.wtyped.proofs.Types.{Beside, parts}
-
-none_some : {X : Type 0} (x : X) → None ≡ Some x → ⊥
-none_some x e = cc
-
-some_is : {X : Type 0} (x y : X) → Some x ≡ Some y → x ≡ y
-some_is x y e = cc
+use Rattle.wtyped.proofs.Types.{parts}
 
 -- types one after another
 
@@ -268,23 +262,23 @@ counts_typed : (w : Windowed) (u : DataType) (count : ℕ → ℕ) → types.Int
 counts_typed w u count e =
     each_mapped (is_of u) (λ i. Int (pos (count i))) (places (length w.values)) (λ i. as_type types.Integer u (Int (pos (count i))) e refl)
 
-told_typed : (t : DataType) (w : Windowed) (values : List Meaning) (default : Meaning) (told : ℕ → Option ℕ) (i : ℕ) → is_nullable t ≡ true
+at_place_typed : (t : DataType) (w : Windowed) (values : List Meaning) (default : Meaning) (at_place : ℕ → Option ℕ) (i : ℕ) → is_nullable t ≡ true
     → Each t values → is_of t default ≡ true
-    → is_of t (unwrap_or (option_map (λ place. value_at values (row_at w i place)) (told i)) default) ≡ true
-told_typed t w values default told i n e d = go (told i)
+    → is_of t (unwrap_or (option_map (λ place. value_at values (row_at w i place)) (at_place i)) default) ≡ true
+at_place_typed t w values default at_place i n e d = go (at_place i)
   where
     go : (o : Option ℕ) → is_of t (unwrap_or (option_map (λ place. value_at values (row_at w i place)) o) default) ≡ true
     go None = d
     go (Some place) = at_or (is_of t) values (row_at w i place) Null e n
 
 -- values of a type, each as one of a wider type, or a default
-values_typed : (ts : List DataType) (rows : List Row) (w : Windowed) (f : Formula) (default : Meaning) (told : ℕ → Option ℕ) (t u : DataType)
+values_typed : (ts : List DataType) (rows : List Row) (w : Windowed) (f : Formula) (default : Meaning) (at_place : ℕ → Option ℕ) (t u : DataType)
     → formula_type ts f ≡ Some t → is_nullable t ≡ true → is_nullable u ≡ true → ((m : Meaning) → is_of t m ≡ true → is_of u m ≡ true)
-    → is_of u default ≡ true → AllOf ts rows → IfOk (values_told w f rows default told) (Each u)
-values_typed ts rows w f default told t u e n v wide d a =
-    then_ok (column_of f rows) (λ values. Ok (each_row w (λ i. unwrap_or (option_map (λ place. value_at values (row_at w i place)) (told i)) default))) (Each t) (Each u) (column_typed ts f t rows e n a)
-    (λ values h. each_mapped (is_of u) (λ i. unwrap_or (option_map (λ place. value_at values (row_at w i place)) (told i)) default) (places (length w.values))
-    (λ i. told_typed u w values default told i v (widened t u values wide h) d))
+    → is_of u default ≡ true → AllOf ts rows → IfOk (values_told w f rows default at_place) (Each u)
+values_typed ts rows w f default at_place t u e n v wide d a =
+    then_ok (column_of f rows) (λ values. Ok (each_row w (λ i. unwrap_or (option_map (λ place. value_at values (row_at w i place)) (at_place i)) default))) (Each t) (Each u) (column_typed ts f t rows e n a)
+    (λ values h. each_mapped (is_of u) (λ i. unwrap_or (option_map (λ place. value_at values (row_at w i place)) (at_place i)) default) (places (length w.values))
+    (λ i. at_place_typed u w values default at_place i v (widened t u values wide h) d))
   where
     widened : (t u : DataType) (values : List Meaning) → ((m : Meaning) → is_of t m ≡ true → is_of u m ≡ true) → Each t values → Each u values
     widened t u [] wide h = refl
@@ -347,16 +341,16 @@ moved_is ts f default u e =
       wide = subst (λ (t : DataType). Widens p.left t u) (sym (some_is (constant_type default) p.right p.is_right)) (common_wide p.left p.right u p.one);
     }
 
-moved_typed : (ts : List DataType) (rows : List Row) (w : Windowed) (f : Formula) (default : Meaning) (told : ℕ → Option ℕ) (u : DataType)
-    → common_of (formula_type ts f) (Some (constant_type default)) ≡ Some u → AllOf ts rows → IfOk (values_told w f rows default told) (Each u)
-moved_typed ts rows w f default told u e a =
+moved_typed : (ts : List DataType) (rows : List Row) (w : Windowed) (f : Formula) (default : Meaning) (at_place : ℕ → Option ℕ) (u : DataType)
+    → common_of (formula_type ts f) (Some (constant_type default)) ≡ Some u → AllOf ts rows → IfOk (values_told w f rows default at_place) (Each u)
+moved_typed ts rows w f default at_place u e a =
     let m = moved_is ts f default u e in
-    values_typed ts rows w f default told m.type u m.is m.wide.is_left m.wide.nullable m.wide.left (m.wide.right default (constant_typed default)) a
+    values_typed ts rows w f default at_place m.type u m.is m.wide.is_left m.wide.nullable m.wide.left (m.wide.right default (constant_typed default)) a
 
-plain_typed : (ts : List DataType) (rows : List Row) (w : Windowed) (f : Formula) (told : ℕ → Option ℕ) (u : DataType)
-    → valued (formula_type ts f) ≡ Some u → AllOf ts rows → IfOk (values_told w f rows Null told) (Each u)
-plain_typed ts rows w f told u e a =
-    let v = value_is (formula_type ts f) u e in values_typed ts rows w f Null told u u v.is v.nullable v.nullable (λ m h. h) v.nullable a
+plain_typed : (ts : List DataType) (rows : List Row) (w : Windowed) (f : Formula) (at_place : ℕ → Option ℕ) (u : DataType)
+    → valued (formula_type ts f) ≡ Some u → AllOf ts rows → IfOk (values_told w f rows Null at_place) (Each u)
+plain_typed ts rows w f at_place u e a =
+    let v = value_is (formula_type ts f) u e in values_typed ts rows w f Null at_place u u v.is v.nullable v.nullable (λ m h. h) v.nullable a
 
 function_typed : (ts : List DataType) (rows : List Row) (w : Windowed) → AllOf ts rows → (f : FunctionPlan) (u : DataType) → function_type ts f ≡ Some u
     → IfOk (function_column rows w f) (Each u)
@@ -441,10 +435,10 @@ row_typed ts row a (i ∷ is) us e =
     ap (λ (x : List DataType). are_of x (map (λ t. columns.value_on t row) (map (λ (o : OutputPlan). o.value) (i ∷ is)))) f.whole
     ∙ and_from (is_of f.type (columns.value_on i.value row)) (are_of f.rest (map (λ t. columns.value_on t row) (map (λ (o : OutputPlan). o.value) is))) (s.wide (columns.value_on i.value row) (cell_typed ts i.value s.type row s.is s.is_nullable a)) (row_typed ts row a is f.rest f.rest_is)
 
-ordered_typed : (us : List DataType) (order : List SortKey) (by told : List Row) → AllOf us told → AllOf us (ordered order by told)
-ordered_typed us order by told a =
-    mapped_all (is_below told) (are_of us) (key_at told) (numbers_by order by (length told)) (λ i l. at_below (are_of us) told i [] a (ltb-true i (length told) l))
-    (sorted_all (is_below told) (on (key_at by) (keys_cmp order)) (places (length told)) (all_below told))
+ordered_typed : (us : List DataType) (order : List SortKey) (by shown : List Row) → AllOf us shown → AllOf us (ordered order by shown)
+ordered_typed us order by shown a =
+    mapped_all (is_below shown) (are_of us) (key_at shown) (numbers_by order by (length shown)) (λ i l. at_below (are_of us) shown i [] a (ltb-true i (length shown) l))
+    (sorted_all (is_below shown) (on (key_at by) (keys_cmp order)) (places (length shown)) (all_below shown))
 
 cut_typed : (us : List DataType) (offset : ℕ) (limit : Option ℕ) (rows : List Row) → AllOf us rows → AllOf us (cut offset limit rows)
 cut_typed us offset None rows a = dropped_all (are_of us) offset rows a
@@ -456,8 +450,8 @@ items_typed ts s rows us a e =
     let items : List Formula = map (λ (o : OutputPlan). o.value) s.items in
     let keys : List Formula = map (λ (k : KeyPlan). k.value) s.keys in
     let order : List SortKey = map (λ (k : KeyPlan). k.order) s.keys in
-    then_ok (lists_of items rows) (λ told. lists_of keys rows >>= λ by. Ok (cut s.offset s.limit (ordered order by told))) (AllOf us) (AllOf us)
+    then_ok (lists_of items rows) (λ shown. lists_of keys rows >>= λ by. Ok (cut s.offset s.limit (ordered order by shown))) (AllOf us) (AllOf us)
     (unless_ok (list_any (λ row. list_any (λ t. is_out_of_range t row) items) rows) OutOfRange (map (λ row. map (λ t. columns.value_on t row) items) rows) (AllOf us)
     (mapped_all (are_of ts) (are_of us) (λ row. map (λ t. columns.value_on t row) items) rows (λ row h. row_typed ts row h s.items us (sym (item_types_by ts s.items) ∙ e)) a))
-    (λ told h. then_any (lists_of keys rows) (λ by. Ok (cut s.offset s.limit (ordered order by told))) (AllOf us)
-    (λ by. cut_typed us s.offset s.limit (ordered order by told) (ordered_typed us order by told h)))
+    (λ shown h. then_any (lists_of keys rows) (λ by. Ok (cut s.offset s.limit (ordered order by shown))) (AllOf us)
+    (λ by. cut_typed us s.offset s.limit (ordered order by shown) (ordered_typed us order by shown h)))

@@ -4,7 +4,7 @@ use Rattle.std.specs.Prelude.{if◌then◌else◌}
 use Rattle.std.specs.List.{list_all, list_any}
 use Rattle.std.proofs.lemmas.Bool.{or_parts, or_from, or_right}
 use Rattle.std.proofs.lemmas.List.Folds.{list_any-append}
-use Rattle.wquery.specs.GroupElements.{Element, all_columns}
+use Rattle.wquery.specs.GroupElements.{all_columns}
 use Rattle.wquery.specs.QueryTree.{Clauses}
 use Rattle.wquery.specs.Tree.{Tree, Field, Invoked, Given, Everything, These, Columns, Filter, Reach, ItsGroup, ThatWindow, OwnWindow}
 use Rattle.wscope.specs.Called.{is_star, names}
@@ -16,7 +16,7 @@ use Rattle.wscope.specs.Scope.{has_name, some_anywhere, some_entry, some_item, s
 use Rattle.wscope.specs.Seeking.{found_or, some_below, some_node}
 use Rattle.wscope.specs.Types.{Titled, place_named, type_named, type_of}
 use Rattle.wnames.specs.Groups as judged
-use Rattle.wnames.specs.Groups.{is_group_call, is_misplaced_window_call, is_ungrouped_column, is_window_call, names_ungrouped, sees_ungrouped}
+use Rattle.wnames.specs.Groups.{is_group_call, is_ungrouped_column, is_window_call, names_ungrouped, sees_ungrouped}
 use Rattle.wdistinct.specs.declared.calls.CallKind.TheVariants.{Grouped, Windowed}
 use Rattle.wdistinct.specs.Calls.{group_calls, is_call_of, nodes_below, window_calls}
 use Rattle.wdistinct.specs.Places.{place_of_same}
@@ -30,10 +30,11 @@ use Rattle.wtyped.proofs.Columns.{cells, cells_length, group_cell, group_places,
 use Rattle.wtyped.proofs.Formulas.{cell_typed, is_typed_cell, sees_misfit, typed_cell}
 use Rattle.wtyped.proofs.Listings.{group_kept, group_listed, sees_group_unlisted, sees_window_unlisted, window_kept, window_listed}
 use Rattle.wtyped.proofs.Looks as looks
-use Rattle.wtyped.proofs.Looks.{closed_if, group_look, sees_column, sees_shown}
+use Rattle.wtyped.proofs.Looks.{group_look, sees_column, sees_shown}
 use Rattle.wtyped.proofs.Rules.{is_bad}
 use Rattle.wtyped.proofs.Rules as rules
 use Rattle.wtyped.proofs.Walks.{Covers, Kept, Shut, entries, expression, items, listed_parts, parts_below, sorts}
+use Rattle.std.proofs.lemmas.List.{append-nil}
 
 -- the row, where the query is grouped or not
 abbrev pub row_of : List Titled → Clauses → Bool → Layout
@@ -75,14 +76,10 @@ pub column_typed : (cs : List Titled) (c : Clauses) (b : Bool) (more : List Data
 column_typed cs c b more q name e g =
     typed_cell (row_of cs c b) (first_cells cs c b ++ more) (Field q name) (column_cell cs c b more name e g)
 
-append_none : (ts : List DataType) → ts ++ [] ≡ ts
-append_none [] = refl
-append_none (t ∷ ts) = ap (λ us. t ∷ us) (append_none ts)
-
 pub source_typed : (cs : List Titled) (q : Option (List ℕ)) (name : List ℕ) → list_any (has_name name) cs ≡ true
     → is_typed_cell (source_row cs) (types_of cs) (Field q name) ≡ true
 source_typed cs q name e =
-    typed_cell (source_row cs) (types_of cs) (Field q name) (ap (type_at (place_named cs name)) (sym (append_none (types_of cs))) ∙ plain_cell cs name [] e)
+    typed_cell (source_row cs) (types_of cs) (Field q name) (ap (type_at (place_named cs name)) (sym (append-nil (types_of cs))) ∙ plain_cell cs name [] e)
 
 -- calls
 
@@ -105,7 +102,7 @@ group_call_cell : (cs : List Titled) (c : Clauses) (b : Bool) (t : Tree) → is_
 group_call_cell cs c b t e =
     at_width cs c b (map (type_of cs) (group_calls c)) (place_of_same (group_calls c ++ window_calls c) t)
     ∙ ap (λ n. type_at n (map (type_of cs) (group_calls c))) (first_same (group_calls c) (window_calls c) t e)
-    ∙ ap (type_at (place_of_same (group_calls c) t)) (sym (append_none (map (type_of cs) (group_calls c))))
+    ∙ ap (type_at (place_of_same (group_calls c) t)) (sym (append-nil (map (type_of cs) (group_calls c))))
     ∙ listed_type cs (group_calls c) t [] e
 
 map_behind : (cs : List Titled) (gs ws : List Tree) → map (type_of cs) (gs ++ ws) ≡ map (type_of cs) gs ++ map (type_of cs) ws
@@ -118,7 +115,7 @@ window_call_cell cs c b t e =
     let place = place_of_same (group_calls c ++ window_calls c) t in
     ap (type_at (width (row_of cs c b) + place)) (append_assoc (first_cells cs c b) (map (type_of cs) (group_calls c)) (map (type_of cs) (window_calls c)) ∙ ap (λ ts. first_cells cs c b ++ ts) (sym (map_behind cs (group_calls c) (window_calls c))))
     ∙ at_width cs c b (map (type_of cs) (group_calls c ++ window_calls c)) place
-    ∙ ap (type_at place) (sym (append_none (map (type_of cs) (group_calls c ++ window_calls c))))
+    ∙ ap (type_at place) (sym (append-nil (map (type_of cs) (group_calls c ++ window_calls c))))
     ∙ listed_type cs (group_calls c ++ window_calls c) t [] (list_any-append (λ (u : Tree). is_same u t) (group_calls c) (window_calls c) ∙ or_right (is_listed (group_calls c) t) (is_listed (window_calls c) t) e)
 
 pub group_call_typed : (cs : List Titled) (c : Clauses) (b : Bool) (name : List ℕ) (given : Given) (filter : Filter) (reach : Reach)
@@ -164,22 +161,18 @@ is_windowed_call (Invoked name given filter (ThatWindow window)) e = refl
 is_windowed_call (Invoked name given filter (OwnWindow copied partition order frame)) e = refl
 is_windowed_call _ e = absurd (true≢false (sym e))
 
-none_such : (ts : List Tree) → list_all (λ (t : Tree). false) ts ≡ true → made.has_some ts ≡ false
+none_such : (ts : List Tree) → list_all (λ (t : Tree). false) ts ≡ true → judged.has_some ts ≡ false
 none_such [] e = refl
 none_such (t ∷ ts) e = absurd (true≢false (sym e))
 
 no_group_call : (cs : List Titled) (c : Clauses) → some_shown cs c (finds is_group_call) ≡ false → is_some c.having ≡ false
-    → made.has_some (group_calls c) ≡ false
+    → judged.has_some (group_calls c) ≡ false
 no_group_call cs c e h =
     none_such (group_calls c) (group_kept cs c (finds is_group_call) (λ n. false) (never (is_call_of Grouped) is_group_call (λ n. false) is_grouped_call) (open_finds (is_call_of Grouped) is_group_call (λ n. false)) e (no_option c.having h))
   where
     no_option : (t : Option Tree) → is_some t ≡ false → some_option (finds is_group_call) t ≡ false
     no_option None f = refl
     no_option (Some t) f = absurd (true≢false f)
-
-same_some : (es : List (Element Tree)) → judged.has_some es ≡ made.has_some es
-same_some [] = refl
-same_some (e ∷ es) = refl
 
 three_ways : (x y z w : Bool) → (w ≡ false → y ≡ false → z ≡ false) → (x || (y || z)) ≡ true → (x || (y || w)) ≡ true
 three_ways true y z w h e = refl
@@ -189,8 +182,7 @@ three_ways false false z false h e = absurd (true≢false (sym e ∙ h refl refl
 
 judged_grouped : (cs : List Titled) (c : Clauses) → made.is_grouped c (group_calls c) ≡ true → judged.is_grouped cs c ≡ true
 judged_grouped cs c e =
-    ap (λ (x : Bool). x || (is_some c.having || some_shown cs c (finds is_group_call))) (same_some c.grouping)
-    ∙ three_ways (made.has_some c.grouping) (is_some c.having) (made.has_some (group_calls c)) (some_shown cs c (finds is_group_call)) (no_group_call cs c) e
+    three_ways (judged.has_some c.grouping) (is_some c.having) (judged.has_some (group_calls c)) (some_shown cs c (finds is_group_call)) (no_group_call cs c) e
 
 pub is_named_so : (cs : List Titled) (c : Clauses) → rules.Kept cs c → made.is_grouped c (group_calls c) ≡ true
     → names_ungrouped cs c ≡ false
@@ -379,9 +371,9 @@ group_columns_named cs c k e =
 -- a query that is not grouped has no aggregates
 pub no_groups : (cs : List Titled) (c : Clauses) → made.is_grouped c (group_calls c) ≡ false → group_calls c ≡ []
 no_groups cs c e =
-    nothing (group_calls c) (or_parts (is_some c.having) (made.has_some (group_calls c)) (or_parts (made.has_some c.grouping) (is_some c.having || made.has_some (group_calls c)) e).1).1
+    nothing (group_calls c) (or_parts (is_some c.having) (judged.has_some (group_calls c)) (or_parts (judged.has_some c.grouping) (is_some c.having || judged.has_some (group_calls c)) e).1).1
   where
-    nothing : (ts : List Tree) → made.has_some ts ≡ false → ts ≡ []
+    nothing : (ts : List Tree) → judged.has_some ts ≡ false → ts ≡ []
     nothing [] f = refl
     nothing (t ∷ ts) f = absurd (true≢false f)
 

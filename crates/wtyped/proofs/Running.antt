@@ -24,16 +24,10 @@ use Rattle.wtyped.specs.Running.{AcceptedRunsTyped, Evaluation, IsExact, after, 
 use Rattle.wtyped.specs.Typing.{formula_type, type_at, valued}
 use Rattle.wtyped.proofs.Accepted.{accepted_is_typed}
 use Rattle.wtyped.proofs.Feeding.{AllOf, AreNullable, aggregate_exact, condition_exact, exact_rows, is_nullable, some_value_exact, suits_value, value_exact}
-use Rattle.wtyped.proofs.Lists.{behind_each, flat_each, mapped_each, then_ok}
+use Rattle.wtyped.proofs.Lists.{behind_each, flat_each, mapped_each, none_some, some_is, then_ok}
 use Rattle.wtyped.proofs.Rowed as rowed
-use Rattle.wtyped.proofs.Rowed.{Both, Columns, First, beside_typed, both_types, first_of_types}
+use Rattle.wtyped.proofs.Rowed.{Columns, beside_typed, both_types, first_of_types}
 use Rattle.wtyped.proofs.Table.{table_typed}
-
-none_some : {X : Type 0} (x : X) → None ≡ Some x → ⊥
-none_some x e = cc
-
-some_is : {X : Type 0} (x y : X) → Some x ≡ Some y → x ≡ y
-some_is x y e = cc
 
 abbrev AreExact : List Evaluation → Type 0
 AreExact es = AllByRecursion IsExact es

@@ -8,105 +8,51 @@ use Rattle.std.proofs.lemmas.Bool.{or_parts, or_from, and_parts, and_from, not-f
 use Rattle.wsegment.specs.Declaration.{Declaration}
 use Rattle.wquery.specs.GroupElements.{all_columns}
 use Rattle.wquery.specs.QueryTree.{Clauses, QueryTree, Selected, SourceTree, FromTable, FromQuery, ItemTree, AllColumns, Computed, EntryTree}
-use Rattle.wquery.specs.Tree.{Tree, NullWord, Numeral, Quoted, Field, Invoked, Negated, Signed, Joined, Compared, NullTest, Within, Among, Trees, NoTrees, MoreTrees, Links, NoLinks, Further, Given, Everything, These, Columns, Filter, Unfiltered, FilteredBy, Reach, ItsGroup, ThatWindow, OwnWindow, Keys, NoKeys, MoreKeys, KeyTree, own_window}
+use Rattle.wquery.specs.Tree.{Tree, NullWord, Numeral, Quoted, Field, Invoked, Signed, Trees, NoTrees, MoreTrees, Given, Everything, These, Columns, Filter, Unfiltered, FilteredBy, Reach, ItsGroup, ThatWindow, OwnWindow, Keys, NoKeys, MoreKeys, KeyTree, own_window}
 use Rattle.wscope.specs.Called.{first_called, is_column_at, is_unlike, same_shown}
 use Rattle.wscope.specs.declared.function.Function.{Function}
 use Rattle.wscope.specs.declared.function.Function.TheVariants as functions
-use Rattle.wscope.specs.declared.look.Look.TheVariants.{Found, Below}
 use Rattle.wscope.specs.Finding.{count_trees, finds}
 use Rattle.wscope.specs.Functions.{function_of, is_aggregate}
 use Rattle.wscope.specs.Scope.{has_name, is_output, some_anywhere, some_entry, some_item, some_option, some_shown, some_sort}
-use Rattle.wscope.specs.Seeking.{found_or, some_below, some_node, some_tree, some_link, some_given, some_filter, some_reach, some_key}
+use Rattle.wscope.specs.Seeking.{seeking, some_below, some_node, some_reach}
+use Rattle.wscope.proofs.Related.{Relates, related, related_reach}
 use Rattle.wscope.specs.Sources.{Shown, Placed, Spelled, ShownItem, columns_from, origin_of, written_out}
 use Rattle.wscope.specs.Types.{Origin, Titled, place_named}
 use Rattle.wscope.specs.Windows.{NamedWindow, Settled, or_none, settle_all, settle_tree, window_named}
-use Rattle.wnames.specs.Calls.{are_literal, breaks_calls, breaks_filters, breaks_zeroths, counts_some, is_bad_call, is_bad_filter, is_number, is_well_given, is_zeroth, passes_at}
+use Rattle.wnames.specs.Calls.{counts_some, is_bad_call, is_bad_filter, is_number, is_well_given, is_zeroth, passes_at}
 use Rattle.wnames.specs.Calls as judged
 use Rattle.wnames.specs.Names.{count_named, is_ambiguous, is_ambiguous_key, is_misqualified, is_missing, is_other, names_other_table}
 use Rattle.wwindows.specs.Order.{count_items, is_bad_place, is_behind_signs}
-use Rattle.wwindows.specs.Windows.{breaks_bounds, breaks_copies, breaks_entries, breaks_groups, breaks_ranges, breaks_window_names, copies_badly, copies_unknown, is_bad_copy, is_over_bad_copy, is_over_unknown, is_unknown_window, reach_is, some_entry_after, windows_of}
+use Rattle.wwindows.specs.Windows.{breaks_entries, copies_badly, copies_unknown, is_over_bad_copy, is_over_unknown, reach_is, some_entry_after, windows_of}
 use Rattle.wwindows.specs.Windows as windows
 use Rattle.wrules.specs.Rules.{depth_rule, first_of_names, first_of_windows, judged as rules_judged, least, least_source, or_else, sets_rule}
 use Rattle.wplan.specs.Formula.{At}
 use Rattle.wsettle.specs.Resolving.{Layout, cell_of, resolved}
 use Rattle.wresolve.specs.Selecting.{called_or, key_shown, shown_formula}
-use Rattle.wtyped.specs.Scoped.{AcceptedIsScoped, AreEntries, AreOneValue, Denotes, DenotesClauses, DenotesColumn, DenotesGroup, DenotesKey, DenotesName, DenotesOrder, DenotesQuery, DenotesSource, InEntries, InFilter, InGiven, InItems, InKeys, InLinks, InList, InOption, InReach, Inside, InTrees, Throughout, are_none, copies, is_alias, is_called, is_constant, is_filtered, is_form, is_known_call, is_known_window, is_none, places_of}
+use Rattle.wtyped.specs.Scoped.{AcceptedIsScoped, AreEntries, AreOneValue, Denotes, DenotesClauses, DenotesColumn, DenotesGroup, DenotesKey, DenotesName, DenotesOrder, DenotesQuery, DenotesSource, InEntries, InItems, InList, InOption, InReach, Throughout, are_none, copies, is_alias, is_called, is_constant, is_filtered, is_form, is_known_call, is_known_window, is_none, places_of, holding}
 use Rattle.wtyped.proofs.Equal as equal
 use Rattle.wtyped.proofs.Items.{items_called}
 use Rattle.wtyped.proofs.Rules.{anywhere, names_kept, neither, windows_kept}
+use Rattle.wtyped.proofs.Walks.{open_find}
 
 -- what holds of each node in which nothing is found holds throughout
-
-open_find : (b x : Bool) → found_or (if b then Found else Below) x ≡ false → (b ≡ false) × (x ≡ false)
-open_find true x e = absurd (true≢false e)
-open_find false x e = (refl, e)
 
 abbrev Says : (Tree → Bool) → (Tree → Type 0) → Type 0
 Says r P = (n : Tree) → r n ≡ false → P n
 
-mutual
-  inside : (r : Tree → Bool) (P : Tree → Type 0) → Says r P → (t : Tree) → some_below (finds r) t ≡ false → Inside P t
-  inside r P h NullWord e = tt
-  inside r P h (Numeral n) e = tt
-  inside r P h (Quoted text) e = tt
-  inside r P h (Field qualifier name) e = tt
-  inside r P h (Invoked name given filter reach) e =
-      let p = or_parts (some_given (finds r) given) (some_filter (finds r) filter || some_reach (finds r) reach) e in
-      let q = or_parts (some_filter (finds r) filter) (some_reach (finds r) reach) p.1 in
-      (in_given r P h given p.0, in_filter r P h filter q.0, in_reach r P h reach q.1)
-  inside r P h (Negated t) e = let o = open_find (r t) (some_below (finds r) t) e in (h t o.0, inside r P h t o.1)
-  inside r P h (Signed minus t) e = let o = open_find (r t) (some_below (finds r) t) e in (h t o.0, inside r P h t o.1)
-  inside r P h (Joined kind t links) e =
-      let p = or_parts (some_node (finds r) t) (some_link (finds r) links) e in
-      let o = open_find (r t) (some_below (finds r) t) p.0 in (h t o.0, inside r P h t o.1, in_links r P h links p.1)
-  inside r P h (Compared comparison t u) e =
-      let p = or_parts (some_node (finds r) t) (some_node (finds r) u) e in
-      let o = open_find (r t) (some_below (finds r) t) p.0 in let i = open_find (r u) (some_below (finds r) u) p.1 in (h t o.0, inside r P h t o.1, h u i.0, inside r P h u i.1)
-  inside r P h (NullTest negated t) e = let o = open_find (r t) (some_below (finds r) t) e in (h t o.0, inside r P h t o.1)
-  inside r P h (Within negated t u v) e =
-      let p = or_parts (some_node (finds r) t) (some_node (finds r) u || some_node (finds r) v) e in
-      let q = or_parts (some_node (finds r) u) (some_node (finds r) v) p.1 in
-      let o = open_find (r t) (some_below (finds r) t) p.0 in let i = open_find (r u) (some_below (finds r) u) q.0 in let j = open_find (r v) (some_below (finds r) v) q.1 in
-      (h t o.0, inside r P h t o.1, h u i.0, inside r P h u i.1, h v j.0, inside r P h v j.1)
-  inside r P h (Among negated t list) e =
-      let p = or_parts (some_node (finds r) t) (some_tree (finds r) list) e in
-      let o = open_find (r t) (some_below (finds r) t) p.0 in (h t o.0, inside r P h t o.1, in_trees r P h list p.1)
+all_inside : (r : Tree → Bool) (P : Tree → Type 0) → Says r P → Relates (λ x X Y. x ≡ false → X) (seeking (finds r)) (holding P) (holding P)
+all_inside r P h = record {
+  none = λ e. tt;
+  both = λ x x' X X' Y Y' f g e. let p = or_parts x x' e in (f p.0, g p.1);
+  at = λ t rest e. let o = open_find (r t) (some_below (finds r) t) e in (h t o.0, rest o.1);
+}
 
-  in_trees : (r : Tree → Bool) (P : Tree → Type 0) → Says r P → (ts : Trees) → some_tree (finds r) ts ≡ false → InTrees P ts
-  in_trees r P h NoTrees e = tt
-  in_trees r P h (MoreTrees t ts) e =
-      let p = or_parts (some_node (finds r) t) (some_tree (finds r) ts) e in
-      let o = open_find (r t) (some_below (finds r) t) p.0 in (h t o.0, inside r P h t o.1, in_trees r P h ts p.1)
-
-  in_links : (r : Tree → Bool) (P : Tree → Type 0) → Says r P → (ls : Links) → some_link (finds r) ls ≡ false → InLinks P ls
-  in_links r P h NoLinks e = tt
-  in_links r P h (Further front operator t) e =
-      let p = or_parts (some_link (finds r) front) (some_node (finds r) t) e in
-      let o = open_find (r t) (some_below (finds r) t) p.1 in (in_links r P h front p.0, h t o.0, inside r P h t o.1)
-
-  in_given : (r : Tree → Bool) (P : Tree → Type 0) → Says r P → (g : Given) → some_given (finds r) g ≡ false → InGiven P g
-  in_given r P h Everything e = tt
-  in_given r P h (These ts) e = in_trees r P h ts e
-  in_given r P h (Columns ts) e = in_trees r P h ts e
-
-  in_filter : (r : Tree → Bool) (P : Tree → Type 0) → Says r P → (f : Filter) → some_filter (finds r) f ≡ false → InFilter P f
-  in_filter r P h Unfiltered e = tt
-  in_filter r P h (FilteredBy t) e = let o = open_find (r t) (some_below (finds r) t) e in (h t o.0, inside r P h t o.1)
-
-  in_reach : (r : Tree → Bool) (P : Tree → Type 0) → Says r P → (o : Reach) → some_reach (finds r) o ≡ false → InReach P o
-  in_reach r P h ItsGroup e = tt
-  in_reach r P h (ThatWindow name) e = tt
-  in_reach r P h (OwnWindow copied partition order frame) e =
-      let p = or_parts (some_tree (finds r) partition) (some_key (finds r) order) e in (in_trees r P h partition p.0, in_keys r P h order p.1)
-
-  in_keys : (r : Tree → Bool) (P : Tree → Type 0) → Says r P → (ks : Keys) → some_key (finds r) ks ≡ false → InKeys P ks
-  in_keys r P h NoKeys e = tt
-  in_keys r P h (MoreKeys t descending nulls more) e =
-      let p = or_parts (some_node (finds r) t) (some_key (finds r) more) e in
-      let o = open_find (r t) (some_below (finds r) t) p.0 in (h t o.0, inside r P h t o.1, in_keys r P h more p.1)
+in_reach : (r : Tree → Bool) (P : Tree → Type 0) → Says r P → (o : Reach) → some_reach (finds r) o ≡ false → InReach P o
+in_reach r P h o = related_reach _ (seeking (finds r)) (holding P) (holding P) (all_inside r P h) o
 
 throughout : (r : Tree → Bool) (P : Tree → Type 0) → Says r P → (t : Tree) → some_node (finds r) t ≡ false → Throughout P t
-throughout r P h t e = let o = open_find (r t) (some_below (finds r) t) e in (h t o.0, inside r P h t o.1)
+throughout r P h t = related _ (seeking (finds r)) (holding P) (holding P) (all_inside r P h) t
 
 in_items : (r : Tree → Bool) (P : Tree → Type 0) → Says r P → (is : List ItemTree) → some_item (finds r) is ≡ false → InItems P is
 in_items r P h [] e = tt

@@ -10,12 +10,11 @@ use Rattle.wquery.specs.QueryTree.{Clauses}
 use Rattle.wquery.specs.Tree.{Tree, Invoked, Trees, Given, Everything, These, Columns, Filter, Reach, ItsGroup, ThatWindow, OwnWindow}
 use Rattle.wscope.specs.declared.data_type.DataType.{DataType}
 use Rattle.wscope.specs.declared.look.Look.{Look}
-use Rattle.wscope.specs.declared.look.Look.TheVariants.{Found, Below}
 use Rattle.wscope.specs.Finding.{finds}
 use Rattle.wscope.specs.Scope.{some_anywhere, some_option}
 use Rattle.wscope.specs.Seeking.{found_or, some_below, some_filter, some_node, some_reach, some_tree}
 use Rattle.wscope.specs.Types as scope
-use Rattle.wscope.specs.Types.{Titled, place_named, type_named, type_of}
+use Rattle.wscope.specs.Types.{Titled, type_of}
 use Rattle.wscope.specs.Windows.{NamedWindow}
 use Rattle.wnames.specs.Groups.{is_group_call, is_window_call, sees_ungrouped}
 use Rattle.wnames.specs.Types.{is_no_condition}
@@ -27,7 +26,7 @@ use Rattle.wsettle.specs.Resolving.{Layout, resolved, resolved_option, source_ro
 use Rattle.wsettle.specs.Functions.{call_function}
 use Rattle.wsettle.specs.Groups.{column_places, elements_made, group_call_made}
 use Rattle.wresolve.specs.Selecting as made
-use Rattle.wresolve.specs.Selecting.{called_or, calls_made, entries_made, grouping_over, has_own_window, item_at, key_shown, order_made, output_made, own_windows, select_made, select_over, shown_formula, windows_made}
+use Rattle.wresolve.specs.Selecting.{calls_made, entries_made, grouping_over, has_own_window, own_windows, windows_made}
 use Rattle.wgroupby.specs.Sets.{is_among}
 use Rattle.wtyped.specs.Laws.{types_of}
 use Rattle.wtyped.specs.Plans.{are_windows, call_types, function_type, group_call_type, group_call_types, is_condition, is_having, is_window, row_types, with_type, with_types}
@@ -35,16 +34,17 @@ use Rattle.wtyped.specs.Typing.{formula_type}
 use Rattle.wtyped.specs.Shapes.{are_fields, is_bare}
 use Rattle.wtyped.proofs.Alike.{is_listed}
 use Rattle.wtyped.proofs.Calls as calls
-use Rattle.wtyped.proofs.Calls.{Fits, valued_as}
+use Rattle.wtyped.proofs.Calls.{Fits}
 use Rattle.wtyped.proofs.Columns.{cells_there, group_places, groups_there}
 use Rattle.wtyped.proofs.Formulas.{sees_misfit, typed}
 use Rattle.wtyped.proofs.Looks as looks
 use Rattle.wtyped.proofs.Rows as rows
-use Rattle.wtyped.proofs.Rows.{all_cells, first_cells, group_cells, has_none, row_of, sees_row}
+use Rattle.wtyped.proofs.Rows.{group_cells, has_none, row_of, sees_row}
 use Rattle.wtyped.proofs.Rules.{is_bad}
 use Rattle.wtyped.proofs.Rules as rules
-use Rattle.wtyped.proofs.Walks.{parts_below}
+use Rattle.wtyped.proofs.Walks.{open_find, parts_below}
 use Rattle.wtyped.proofs.Windows as windows
+use Rattle.std.proofs.lemmas.List.{append-nil}
 
 -- conditions
 
@@ -55,10 +55,6 @@ condition_typed l ts (Some t) e f =
     calls.condition (formula_type ts (resolved l t)) (type_of l.columns t) (typed l ts t e) (not-false (scope.is_truth (type_of l.columns t)) f)
 
 -- looks that find nothing
-
-open_find : (b x : Bool) → found_or (if b then Found else Below) x ≡ false → (b ≡ false) × (x ≡ false)
-open_find true x e = absurd (true≢false e)
-open_find false x e = (refl, e)
 
 -- aggregates
 
@@ -120,14 +116,10 @@ group_types cs c (t ∷ ts) s e f =
 abbrev grouping_of : List Titled → Clauses → Bool → Option GroupingPlan
 grouping_of cs c b = grouping_over cs (elements_made cs c.grouping) (group_calls c) (row_of cs c b) c (row_of cs c b).grouping
 
-append_none : (ts : List DataType) → ts ++ [] ≡ ts
-append_none [] = refl
-append_none (t ∷ ts) = ap (λ us. t ∷ us) (append_none ts)
-
 pub row_typed : (cs : List Titled) (c : Clauses) (b : Bool) → rules.Kept cs c → made.is_grouped c (group_calls c) ≡ b
     → row_types (types_of cs) (grouping_of cs c b) ≡ Some (group_cells cs c b)
 row_typed cs c false k e =
-    ap Some (sym (append_none (types_of cs)) ∙ ap (λ (gs : List Tree). types_of cs ++ map (type_of cs) gs) (sym (rows.no_groups cs c e)))
+    ap Some (sym (append-nil (types_of cs)) ∙ ap (λ (gs : List Tree). types_of cs ++ map (type_of cs) gs) (sym (rows.no_groups cs c e)))
 row_typed cs c true k e =
     ap₂ (λ x y. with_types x y) (cells_there (group_places cs c.grouping) (types_of cs) (groups_there cs c.grouping k.fields k.columns))
     (group_types cs c (group_calls c) (rows.are_group_calls cs c k) (rows.group_sources cs c k) (rows.group_columns_named cs c k e))

@@ -1,5 +1,5 @@
 -- What is read from a text has the shapes of the grammar.
-use Rattle.std.proofs.Common.{◌≡◌, Bool, true, false, not, ◌&&◌, ◌||◌, ℕ, zero, suc, nat_lt, ◌^◌, List, [], ◌∷◌, ◌++◌, map, Option, Some, None, refl, sym, subst, ap, ap₂, ◌∙◌, true≢false}
+use Rattle.std.proofs.Common.{◌≡◌, Bool, true, false, not, ◌&&◌, ◌||◌, ℕ, zero, suc, nat_lt, ◌^◌, List, [], ◌∷◌, ◌++◌, map, Option, Some, None, refl, sym, subst, ap, ap₂, ◌∙◌}
 use Rattle.std.specs.Prelude.{if◌then◌else◌}
 use Rattle.std.specs.List.{flat_map, list_all, list_any}
 use Rattle.std.proofs.lemmas.Bool.{or_parts, or_from, and_from, not-false, lt-ltb}
@@ -31,6 +31,8 @@ use Rattle.wscope.specs.Scope.{some_entry, some_item, some_option}
 use Rattle.wscope.specs.Seeking.{found_or, some_node, some_tree, some_link, some_given, some_filter, some_reach, some_key}
 use Rattle.wtyped.specs.Shapes.{are_fields, are_links, are_of_kind, is_field, is_given, is_key_misshapen, is_misshapen, is_shaped, is_shaped_source}
 use Rattle.wtyped.specs.Spelled.{SpelledIsShaped}
+use Rattle.wtyped.proofs.Walks.{open_find}
+use Rattle.wdistinct.specs.Same.{kinds}
 
 -- tokens whose numbers are short enough
 abbrev IsShort : TokenMeaning → Type 0
@@ -155,20 +157,9 @@ self_kind Conjunction = refl
 self_kind Sum = refl
 self_kind Product = refl
 
-same_kind_is : (k j : ChainKind) → same_kind k j ≡ true → k ≡ j
-same_kind_is Disjunction Disjunction e = refl
-same_kind_is Conjunction Conjunction e = refl
-same_kind_is Sum Sum e = refl
-same_kind_is Product Product e = refl
-same_kind_is _ _ e = absurd (true≢false (sym e))
-
 linked : (k : ChainKind) (links : Links) → are_links k links ≡ true → are_of_kind k links ≡ true
 linked k NoLinks e = refl
 linked k (Further front operator t) e = e
-
-open_find : (b x : Bool) → found_or (if b then Found else Below) x ≡ false → (b ≡ false) × (x ≡ false)
-open_find true x e = absurd (true≢false e)
-open_find false x e = (refl, e)
 
 make_find : (b x : Bool) → b ≡ false → x ≡ false → found_or (if b then Found else Below) x ≡ false
 make_find true x e f = e
@@ -189,7 +180,7 @@ joined_more k j f links operator o same e a b =
     let p = open_find (not (are_links j links)) (some_node (finds is_misshapen) f || some_link (finds is_misshapen) links) a in
     let q = or_parts (some_node (finds is_misshapen) f) (some_link (finds is_misshapen) links) p.1 in
     make_find (not (are_of_kind j links && same_kind (chain_kind operator) j)) (some_node (finds is_misshapen) f || (some_link (finds is_misshapen) links || some_node (finds is_misshapen) o))
-    (ap not (and_from (are_of_kind j links) (same_kind (chain_kind operator) j) (linked j links (not-false (are_links j links) p.0)) (same_operator operator j (e ∙ sym (same_kind_is j k same)))))
+    (ap not (and_from (are_of_kind j links) (same_kind (chain_kind operator) j) (linked j links (not-false (are_links j links) p.0)) (same_operator operator j (e ∙ sym (kinds j k same)))))
     (or_from (some_node (finds is_misshapen) f) (some_link (finds is_misshapen) links || some_node (finds is_misshapen) o) q.0 (or_from (some_link (finds is_misshapen) links) (some_node (finds is_misshapen) o) q.1 b))
 
 lengthened_fine : (k : ChainKind) (t : Tree) (operator : Operator) (o : Tree) → is_chain k t ≡ true → chain_kind operator ≡ k → Fine t

@@ -3,7 +3,9 @@ use Rattle.std.proofs.Common.{◌≡◌, Bool, true, false, List, Option, Some, 
 use Rattle.wscope.specs.declared.data_type.DataType.{DataType}
 use Rattle.wscope.specs.declared.data_type.DataType.TheVariants.{Integer, Text, Truth, Null}
 use Rattle.wplan.specs.Formula.{Formulas, NoFormulas, MoreFormulas}
-use Rattle.wtyped.specs.Typing.{beside, beside_all, common, formula_type, has, is_number, is_truth, judged, valued, where_holds}
+use Rattle.wscope.specs.Types.{is_truth}
+use Rattle.wtyped.specs.Typing.{beside, beside_all, common, formula_type, has, is_number, judged, valued, where_holds}
+use Rattle.wtyped.proofs.Lists.{some_is}
 
 -- where a type is, there is one
 pub record Passes (p : DataType → Bool) (o : Option DataType) : Type 0 where
@@ -19,9 +21,9 @@ pub held : (b : Bool) (u t : DataType) → where_holds b u ≡ Some t → (b ≡
 held true u t e = (refl, cc)
 held false u t e = cc
 
-pub told : (o : Option DataType) (t : DataType) → judged o ≡ Some t → Passes (λ u. true) o × (Truth ≡ t)
-told None t e = cc
-told (Some u) t e = (record { type = u; is = refl; passes = refl }, cc)
+pub is_judged : (o : Option DataType) (t : DataType) → judged o ≡ Some t → Passes (λ u. true) o × (Truth ≡ t)
+is_judged None t e = cc
+is_judged (Some u) t e = (record { type = u; is = refl; passes = refl }, cc)
 
 pub record Beside (o p : Option DataType) (c : DataType) : Type 0 where
   pub left : DataType
@@ -57,9 +59,6 @@ pub is_it_truth : (t : DataType) → is_truth t ≡ true → Truth ≡ t
 is_it_truth Truth e = refl
 is_it_truth _ e = absurd (true≢false (sym e))
 
-is_it : (a b : DataType) → Some a ≡ Some b → a ≡ b
-is_it a b e = cc
-
 null_fits : (k t : DataType) → fits k t ≡ true → fits k Null ≡ true
 null_fits Integer t e = refl
 null_fits Text t e = refl
@@ -80,21 +79,21 @@ common_fits k Null Text c f e = let is : Text ≡ c = cc in let fit : fits k Tex
 common_fits k _ _ c f e = cc
 
 pub common_family : (a b c : DataType) → common a b ≡ Some c → fits (family c) c ≡ true
-common_family Integer Integer c e = ap (λ (t : DataType). fits (family t) t) (sym (is_it Integer c e))
-common_family Integer Null c e = ap (λ (t : DataType). fits (family t) t) (sym (is_it Integer c e))
-common_family Text Text c e = ap (λ (t : DataType). fits (family t) t) (sym (is_it Text c e))
-common_family Text Null c e = ap (λ (t : DataType). fits (family t) t) (sym (is_it Text c e))
-common_family Null Integer c e = ap (λ (t : DataType). fits (family t) t) (sym (is_it Integer c e))
-common_family Null Text c e = ap (λ (t : DataType). fits (family t) t) (sym (is_it Text c e))
-common_family Null Null c e = ap (λ (t : DataType). fits (family t) t) (sym (is_it Null c e))
+common_family Integer Integer c e = ap (λ (t : DataType). fits (family t) t) (sym (some_is Integer c e))
+common_family Integer Null c e = ap (λ (t : DataType). fits (family t) t) (sym (some_is Integer c e))
+common_family Text Text c e = ap (λ (t : DataType). fits (family t) t) (sym (some_is Text c e))
+common_family Text Null c e = ap (λ (t : DataType). fits (family t) t) (sym (some_is Text c e))
+common_family Null Integer c e = ap (λ (t : DataType). fits (family t) t) (sym (some_is Integer c e))
+common_family Null Text c e = ap (λ (t : DataType). fits (family t) t) (sym (some_is Text c e))
+common_family Null Null c e = ap (λ (t : DataType). fits (family t) t) (sym (some_is Null c e))
 common_family _ _ c e = cc
 
 -- a value's type fits its family
 pub valued_family : (o : Option DataType) (t : DataType) → valued o ≡ Some t → (o ≡ Some t) × (fits (family t) t ≡ true)
 valued_family None t e = cc
-valued_family (Some Integer) t e = (e, ap (λ (u : DataType). fits (family u) u) (sym (is_it Integer t e)))
-valued_family (Some Text) t e = (e, ap (λ (u : DataType). fits (family u) u) (sym (is_it Text t e)))
-valued_family (Some Null) t e = (e, ap (λ (u : DataType). fits (family u) u) (sym (is_it Null t e)))
+valued_family (Some Integer) t e = (e, ap (λ (u : DataType). fits (family u) u) (sym (some_is Integer t e)))
+valued_family (Some Text) t e = (e, ap (λ (u : DataType). fits (family u) u) (sym (some_is Text t e)))
+valued_family (Some Null) t e = (e, ap (λ (u : DataType). fits (family u) u) (sym (some_is Null t e)))
 valued_family (Some Truth) t e = cc
 
 abbrev pub IsValued : Option DataType → Type 0

@@ -25,7 +25,7 @@ use Rattle.wwindows.specs.Windows as rules
 use Rattle.wwindows.specs.Windows.{entry_is, has_bad_bounds, has_bad_frame, has_range_key, is_long, is_text_type, lacks_groups, lacks_range_key, own_window_is, reach_is}
 use Rattle.wsettle.specs.Resolving.{Layout, resolved}
 use Rattle.wresolve.specs.Selecting.{entries_made, frame_made, keys_made, trees_made, window_made, window_of_reach}
-use Rattle.wtyped.specs.Plans.{are_bounds, are_keys, are_windows, bound_rank, has_keys, has_offset, is_any, is_frame, is_one_number, is_short, is_value, is_window, suits_keys}
+use Rattle.wtyped.specs.Plans.{are_bounds, are_keys, are_windows, has_keys, has_offset, is_any, is_frame, is_one_number, is_short, is_value, is_window, suits_keys}
 use Rattle.wtyped.specs.Typing.{formula_type, has, is_number}
 use Rattle.wtyped.proofs.Calls.{valued_as}
 use Rattle.wtyped.proofs.Formulas.{sees_misfit, typed}
@@ -112,30 +112,23 @@ order_made l ts (MoreKeys t descending nulls more) a =
 
 -- frames
 
-ranked : (b : FrameBound) → place_of_bound b ≡ bound_rank b
-ranked UnboundedPreceding = refl
-ranked (Preceding n) = refl
-ranked CurrentRow = refl
-ranked (Following n) = refl
-ranked UnboundedFollowing = refl
-
-starts : (b : FrameBound) → (place_of_bound b == 4) ≡ false → nat_lt (bound_rank b) 4 ≡ true
+starts : (b : FrameBound) → (place_of_bound b == 4) ≡ false → nat_lt (place_of_bound b) 4 ≡ true
 starts UnboundedPreceding e = refl
 starts (Preceding n) e = refl
 starts CurrentRow e = refl
 starts (Following n) e = refl
 starts UnboundedFollowing e = absurd (true≢false e)
 
-ends : (b : FrameBound) → (place_of_bound b == 0) ≡ false → nat_lt 0 (bound_rank b) ≡ true
+ends : (b : FrameBound) → (place_of_bound b == 0) ≡ false → nat_lt 0 (place_of_bound b) ≡ true
 ends UnboundedPreceding e = absurd (true≢false e)
 ends (Preceding n) e = refl
 ends CurrentRow e = refl
 ends (Following n) e = refl
 ends UnboundedFollowing e = refl
 
-rises : (a b : FrameBound) → nat_lt (place_of_bound b) (place_of_bound a) ≡ false → nat_le (bound_rank a) (bound_rank b) ≡ true
+rises : (a b : FrameBound) → nat_lt (place_of_bound b) (place_of_bound a) ≡ false → nat_le (place_of_bound a) (place_of_bound b) ≡ true
 rises a b e =
-    le-leb (bound_rank a) (bound_rank b) (ltb-false (bound_rank b) (bound_rank a) (ap₂ (λ x y. nat_lt x y) (sym (ranked b)) (sym (ranked a)) ∙ e))
+    le-leb (place_of_bound a) (place_of_bound b) (ltb-false (place_of_bound b) (place_of_bound a) e)
 
 short : (b : FrameBound) → is_long b ≡ false → is_short b ≡ true
 short UnboundedPreceding e = refl
@@ -151,9 +144,9 @@ bounds a b e =
     let q = or_parts (place_of_bound b == 0) (nat_lt (place_of_bound b) (place_of_bound a) || (is_long a || is_long b)) p.1 in
     let r = or_parts (nat_lt (place_of_bound b) (place_of_bound a)) (is_long a || is_long b) q.1 in
     let s = or_parts (is_long a) (is_long b) r.1 in
-    and_from (nat_lt (bound_rank a) 4) (nat_lt 0 (bound_rank b) && (nat_le (bound_rank a) (bound_rank b) && (is_short a && is_short b))) (starts a p.0)
-    (and_from (nat_lt 0 (bound_rank b)) (nat_le (bound_rank a) (bound_rank b) && (is_short a && is_short b)) (ends b q.0)
-    (and_from (nat_le (bound_rank a) (bound_rank b)) (is_short a && is_short b) (rises a b r.0) (and_from (is_short a) (is_short b) (short a s.0) (short b s.1))))
+    and_from (nat_lt (place_of_bound a) 4) (nat_lt 0 (place_of_bound b) && (nat_le (place_of_bound a) (place_of_bound b) && (is_short a && is_short b))) (starts a p.0)
+    (and_from (nat_lt 0 (place_of_bound b)) (nat_le (place_of_bound a) (place_of_bound b) && (is_short a && is_short b)) (ends b q.0)
+    (and_from (nat_le (place_of_bound a) (place_of_bound b)) (is_short a && is_short b) (rises a b r.0) (and_from (is_short a) (is_short b) (short a s.0) (short b s.1))))
 
 keyed : (l : Layout) (ks : Keys) → rules.has_keys ks ≡ true → has_keys (keys_made l ks) ≡ true
 keyed l NoKeys e = absurd (true≢false (sym e))

@@ -81,19 +81,19 @@ tests (Selected c source) =
     breaks_tables t.table o.alias cs c source ∷ breaks_columns cs c ∷ breaks_ambiguity cs c ∷ breaks_calls cs c ∷ breaks_types cs c ∷ breaks_window_places cs c ∷ breaks_aggregate_places cs c ∷ breaks_grouping cs c
     ∷ breaks_filters cs c ∷ breaks_window_names ws cs c ∷ breaks_entries c.windows ∷ breaks_copies ws cs c ∷ breaks_bounds ws cs c ∷ breaks_groups ws cs c ∷ breaks_ranges ws cs c ∷ breaks_zeroths cs c ∷ breaks_places cs c ∷ breaks_limits cs c ∷ breaks_sets c.grouping ∷ []
 
--- the numbers from this one on of those that are true
-abbrev numbers : ℕ → List Bool → List ℕ
-numbers n [] = []
-numbers n (b ∷ bs) = if b then n ∷ numbers (n + 1) bs else numbers (n + 1) bs
+-- the places, from this one on, of those that are true
+abbrev places_true : ℕ → List Bool → List ℕ
+places_true n [] = []
+places_true n (b ∷ bs) = if b then n ∷ places_true (n + 1) bs else places_true (n + 1) bs
 
 abbrev Breaks : QueryTree → ℕ → Type 0
-Breaks q n = numbers 10 (tests q) ≡ n ∷ []
+Breaks q n = places_true 10 (tests q) ≡ n ∷ []
 
 abbrev typed : QueryTree → Option (List DataType)
 typed q = query_types (Some (types_of (declared_columns t.columns))) (resolved_query t q)
 
-abbrev told : QueryTree → Option (List DataType)
-told q = Some (types_of (answer_columns t q))
+abbrev shown_types_of : QueryTree → Option (List DataType)
+shown_types_of q = Some (types_of (answer_columns t q))
 
 -- one that breaks none
 accepted : first_broken_rule t (select a) ≡ None
@@ -142,8 +142,8 @@ column_for_literal_breaks = refl
 column_for_literal_typed : typed column_for_literal ≡ Some (Text ∷ [])
 column_for_literal_typed = refl
 
-column_for_literal_told : told column_for_literal ≡ Some (Integer ∷ [])
-column_for_literal_told = refl
+column_for_literal_answer : shown_types_of column_for_literal ≡ Some (Integer ∷ [])
+column_for_literal_answer = refl
 
 -- SELECT a + s FROM t
 abbrev sum_of_text : QueryTree

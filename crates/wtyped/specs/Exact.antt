@@ -92,9 +92,9 @@ compared c (Held Null) (Held m) = Some (judged c None)
 compared c (Held m) (Held Null) = Some (judged c None)
 compared c _ _ = None
 
-abbrev pub told : Option Truth → Option Outcome
-told None = None
-told (Some t) = Some (Judged t)
+abbrev pub outcome_of : Option Truth → Option Outcome
+outcome_of None = None
+outcome_of (Some t) = Some (Judged t)
 
 abbrev pub joined : (Truth → Truth → Truth) → Option Truth → Option Truth → Option Truth
 joined f (Some a) (Some b) = Some (f a b)
@@ -111,17 +111,17 @@ abbrev mutual
   exact_value row (Negation f) = made_of (exact_value row f) (of_truth opposite)
   exact_value row (Signed minus f) = made_of (exact_value row f) (signed minus)
   exact_value row (Applied operator f g) = made_of (exact_value row f) (λ x. made_of (exact_value row g) (λ y. applied operator x y))
-  exact_value row (Compared c f g) = made_of (exact_value row f) (λ x. made_of (exact_value row g) (λ y. told (compared c x y)))
+  exact_value row (Compared c f g) = made_of (exact_value row f) (λ x. made_of (exact_value row g) (λ y. outcome_of (compared c x y)))
   exact_value row (NullTest negated f) = made_of (exact_value row f) (λ x. Some (Judged (turned negated (is_null x))))
   exact_value row (Within negated f low high) =
       made_of (exact_value row f) (λ x. made_of (exact_value row low) (λ y. made_of (exact_value row high) (λ z.
-      made_of (told (between x y z)) (of_truth (turned negated)))))
+      made_of (outcome_of (between x y z)) (of_truth (turned negated)))))
   exact_value row (Among negated f list) =
       made_of (exact_value row f) (λ x. made_of (exact_among row x (Some No) list) (of_truth (turned negated)))
 
   -- `x = a OR x = b OR ..`, joined to what was found so far
   pub exact_among : List Meaning → Outcome → Option Truth → Formulas → Option Outcome
-  exact_among row x found NoFormulas = told found
+  exact_among row x found NoFormulas = outcome_of found
   exact_among row x found (MoreFormulas f fs) =
       made_of (exact_value row f) (λ y. exact_among row x (joined either found (compared Equal x y)) fs)
 

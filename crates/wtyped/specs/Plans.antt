@@ -6,7 +6,7 @@ use Rattle.std.specs.List.{list_all}
 use Rattle.wquery.specs.declared.frame.FrameMode.{FrameMode}
 use Rattle.wquery.specs.declared.frame.FrameMode.TheVariants.{Rows, Range, Groups}
 use Rattle.wquery.specs.declared.frame.FrameBound.{FrameBound}
-use Rattle.wquery.specs.declared.frame.FrameBound.TheVariants.{UnboundedPreceding, Preceding, CurrentRow, Following, UnboundedFollowing}
+use Rattle.wquery.specs.declared.frame.FrameBound.TheVariants.{Preceding, Following}
 use Rattle.wscope.specs.declared.data_type.DataType.{DataType}
 use Rattle.wscope.specs.declared.data_type.DataType.TheVariants.{Integer, Text, Truth, Null}
 use Rattle.wgroupby.specs.Sets.{is_among}
@@ -15,7 +15,9 @@ use Rattle.wplan.specs.declared.resolved.AggregateFunction.TheVariants.{CountRow
 use Rattle.wplan.specs.declared.resolved.SettledFrame.{SettledFrame}
 use Rattle.wplan.specs.Formula.{Formula}
 use Rattle.wplan.specs.Plans.{AggregatePlan, GroupCallPlan, GroupAggregate, GroupingOf, GroupingPlan, KeyPlan, WindowPlan, FunctionPlan, RowNumber, Rank, DenseRank, Tile, Lag, Lead, FirstValue, LastValue, NthValue, Aggregated, CallPlan, OutputPlan, SelectPlan}
-use Rattle.wtyped.specs.Typing.{beside, constant_type, formula_type, has, is_number, is_truth, type_at, valued, where_holds}
+use Rattle.wsame.specs.Bounds.{place_of_bound}
+use Rattle.wscope.specs.Types.{is_truth}
+use Rattle.wtyped.specs.Typing.{beside, constant_type, formula_type, has, is_number, type_at, valued, where_holds}
 
 abbrev pub with_type : Option DataType → Option (List DataType) → Option (List DataType)
 with_type (Some t) (Some ts) = Some (t ∷ ts)
@@ -86,14 +88,6 @@ is_having ts (Some g) = is_condition ts g.having
 abbrev pub are_keys : List DataType → List KeyPlan → Bool
 are_keys ts ks = list_all (λ (k : KeyPlan). is_value ts k.value) ks
 
--- the place of a bound in the order in which the standard lists them
-abbrev pub bound_rank : FrameBound → ℕ
-bound_rank UnboundedPreceding = 0
-bound_rank (Preceding n) = 1
-bound_rank CurrentRow = 2
-bound_rank (Following n) = 3
-bound_rank UnboundedFollowing = 4
-
 -- offsets are below 2^63
 abbrev pub is_short : FrameBound → Bool
 is_short (Preceding n) = nat_lt n (2 ^ 63)
@@ -108,8 +102,8 @@ has_offset _ = false
 -- a frame starts before the last bound, ends behind the first, and does not end at an earlier kind of bound than it starts
 abbrev pub are_bounds : FrameBound → FrameBound → Bool
 are_bounds start end =
-    nat_lt (bound_rank start) 4
-    && (nat_lt 0 (bound_rank end) && (nat_le (bound_rank start) (bound_rank end) && (is_short start && is_short end)))
+    nat_lt (place_of_bound start) 4
+    && (nat_lt 0 (place_of_bound end) && (nat_le (place_of_bound start) (place_of_bound end) && (is_short start && is_short end)))
 
 abbrev pub is_one_number : List DataType → List KeyPlan → Bool
 is_one_number ts (k ∷ []) = has is_number (formula_type ts k.value)

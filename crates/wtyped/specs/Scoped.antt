@@ -4,7 +4,7 @@
 use Rattle.std.specs.Prelude.{◌≡◌, ℕ, suc, Bool, true, false, not, ◌&&◌, nat_lt, nat_le, List, [], ◌∷◌, ◌++◌, length, Option, Some, None, is_some, if◌then◌else◌}
 use Rattle.std.specs.List.{list_any}
 use Rattle.std.specs.Str.{bytes_eq}
-use Rattle.wquery.specs.Tree.{Tree, NullWord, Numeral, Quoted, Field, Invoked, Negated, Signed, Joined, Compared, NullTest, Within, Among, Trees, NoTrees, MoreTrees, Links, NoLinks, Further, Given, Everything, These, Columns, Filter, Unfiltered, FilteredBy, Reach, ItsGroup, ThatWindow, OwnWindow, Keys, NoKeys, MoreKeys, KeyTree, own_window}
+use Rattle.wquery.specs.Tree.{Tree, NullWord, Numeral, Quoted, Field, Invoked, Signed, Trees, NoTrees, MoreTrees, Given, Everything, These, Columns, Filter, Unfiltered, FilteredBy, Reach, ItsGroup, ThatWindow, OwnWindow, Keys, NoKeys, MoreKeys, KeyTree, own_window}
 use Rattle.wquery.specs.GroupElements.{all_columns}
 use Rattle.wquery.specs.QueryTree.{Clauses, QueryTree, Selected, SourceTree, FromTable, FromQuery, ItemTree, AllColumns, Computed, EntryTree}
 use Rattle.wsegment.specs.Declaration.{Declaration}
@@ -12,6 +12,7 @@ use Rattle.wscope.specs.declared.function.Function.{Function}
 use Rattle.wscope.specs.declared.function.Function.TheVariants as functions
 use Rattle.wscope.specs.Finding.{count_trees}
 use Rattle.wscope.specs.Functions.{function_of}
+use Rattle.wscope.specs.Seeking.{Findings, found, found_reach}
 use Rattle.wscope.specs.Sources.{ShownItem, origin_of, written_out}
 use Rattle.wscope.specs.Types.{Origin, Titled, place_named}
 use Rattle.wscope.specs.Windows.{NamedWindow, Settled, settle_all, settle_tree, window_named}
@@ -20,51 +21,17 @@ use Rattle.wsettle.specs.Resolving.{Layout}
 use Rattle.wresolve.specs.Selecting.{key_shown, shown_formula}
 use Rattle.wrules.specs.Rules.{first_broken_rule}
 
+-- what is said of each expression that stands in another
+abbrev pub holding : (Tree → Type 0) → Findings (Type 0)
+holding P = record { none = Unit {0}; both = λ X Y. X × Y; at = λ t X. P t × X }
+
+-- of each that stands in a window
+abbrev pub InReach : (Tree → Type 0) → Reach → Type 0
+InReach P reach = found_reach (holding P) reach
+
 -- of an expression and of each that stands in it
-
-abbrev mutual
-  pub Inside : (Tree → Type 0) → Tree → Type 0
-  Inside P NullWord = Unit {0}
-  Inside P (Numeral n) = Unit {0}
-  Inside P (Quoted text) = Unit {0}
-  Inside P (Field qualifier name) = Unit {0}
-  Inside P (Invoked name given filter reach) = InGiven P given × InFilter P filter × InReach P reach
-  Inside P (Negated t) = P t × Inside P t
-  Inside P (Signed minus t) = P t × Inside P t
-  Inside P (Joined kind t links) = P t × Inside P t × InLinks P links
-  Inside P (Compared comparison t u) = P t × Inside P t × P u × Inside P u
-  Inside P (NullTest negated t) = P t × Inside P t
-  Inside P (Within negated t u v) = P t × Inside P t × P u × Inside P u × P v × Inside P v
-  Inside P (Among negated t list) = P t × Inside P t × InTrees P list
-
-  pub InTrees : (Tree → Type 0) → Trees → Type 0
-  InTrees P NoTrees = Unit {0}
-  InTrees P (MoreTrees t ts) = P t × Inside P t × InTrees P ts
-
-  pub InLinks : (Tree → Type 0) → Links → Type 0
-  InLinks P NoLinks = Unit {0}
-  InLinks P (Further front operator t) = InLinks P front × P t × Inside P t
-
-  pub InGiven : (Tree → Type 0) → Given → Type 0
-  InGiven P Everything = Unit {0}
-  InGiven P (These ts) = InTrees P ts
-  InGiven P (Columns ts) = InTrees P ts
-
-  pub InFilter : (Tree → Type 0) → Filter → Type 0
-  InFilter P Unfiltered = Unit {0}
-  InFilter P (FilteredBy t) = P t × Inside P t
-
-  pub InReach : (Tree → Type 0) → Reach → Type 0
-  InReach P ItsGroup = Unit {0}
-  InReach P (ThatWindow name) = Unit {0}
-  InReach P (OwnWindow copied partition order frame) = InTrees P partition × InKeys P order
-
-  pub InKeys : (Tree → Type 0) → Keys → Type 0
-  InKeys P NoKeys = Unit {0}
-  InKeys P (MoreKeys t descending nulls more) = P t × Inside P t × InKeys P more
-
 abbrev pub Throughout : (Tree → Type 0) → Tree → Type 0
-Throughout P t = P t × Inside P t
+Throughout P t = found (holding P) t
 
 -- columns
 

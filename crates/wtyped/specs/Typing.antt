@@ -8,6 +8,7 @@ use Rattle.wvalues.specs.Meaning as meanings
 use Rattle.wvalues.specs.Meaning.{Meaning}
 use Rattle.wscope.specs.declared.data_type.DataType.{DataType}
 use Rattle.wscope.specs.declared.data_type.DataType.TheVariants.{Integer, Text, Truth, Null}
+use Rattle.wscope.specs.Types.{is_truth}
 use Rattle.wplan.specs.Formula.{Formula, Constant, At, Negation, Signed, Applied, Compared, NullTest, Within, Among, Formulas, NoFormulas, MoreFormulas}
 
 -- of the cell at a place, counted from 0
@@ -26,10 +27,6 @@ constant_type (meanings.Text bytes) = Text
 abbrev pub has : (DataType → Bool) → Option DataType → Bool
 has passes None = false
 has passes (Some t) = passes t
-
-abbrev pub is_truth : DataType → Bool
-is_truth Truth = true
-is_truth _ = false
 
 -- an integer, or null in its place
 abbrev pub is_number : DataType → Bool

@@ -1,3 +1,3 @@
-mod Counts
+mod OwnWindows
 mod Lists
 mod Repeated

@@ -1,56 +1,32 @@
 -- The rule on limits: Q27.
 use Rattle.std.specs.Prelude.{ℕ, Bool, false, ◌||◌, ◌+◌, min, nat_lt, List, [], ◌∷◌, length}
 use Rattle.std.specs.List.{list_any}
-use Rattle.wquery.specs.Tree.{Tree, NullWord, Numeral, Quoted, Field, Invoked, Negated, Signed, Joined, Compared, NullTest, Within, Among, Trees, NoTrees, MoreTrees, Links, NoLinks, Further, Given, Everything, These, Columns, Filter, Unfiltered, FilteredBy, Reach, ItsGroup, ThatWindow, OwnWindow, Keys, NoKeys, MoreKeys, KeyTree, own_window}
+use Rattle.wquery.specs.Tree.{Tree, Invoked, Reach, ItsGroup, ThatWindow, OwnWindow, KeyTree, own_window}
 use Rattle.wquery.specs.QueryTree.{Clauses, ItemTree, AllColumns, Computed, EntryTree}
 use Rattle.wscope.specs.Types.{Titled}
 use Rattle.wscope.specs.Scope.{some_anywhere}
 use Rattle.wscope.specs.Finding.{finds, count_trees, count_keys}
+use Rattle.wscope.specs.Seeking.{Findings, found}
 use Rattle.wgroupby.specs.Rules.{breaks_lists}
 use Rattle.wwindows.specs.Order.{count_items}
 use Rattle.wwindows.specs.Windows.{reach_is}
 
-abbrev mutual
-  -- how often OVER stands with parentheses in an expression
-  pub count_over : Tree → ℕ
-  count_over NullWord = 0
-  count_over (Numeral n) = 0
-  count_over (Quoted text) = 0
-  count_over (Field qualifier name) = 0
-  count_over (Invoked name given filter reach) = over_given given + (over_filter filter + over_reach reach)
-  count_over (Negated t) = count_over t
-  count_over (Signed minus t) = count_over t
-  count_over (Joined kind t links) = count_over t + over_links links
-  count_over (Compared comparison l r) = count_over l + count_over r
-  count_over (NullTest negated t) = count_over t
-  count_over (Within negated t l h) = count_over t + (count_over l + count_over h)
-  count_over (Among negated t list) = count_over t + over_trees list
+-- one, of a call over a window of its own
+abbrev pub has_own : Reach → ℕ
+has_own ItsGroup = 0
+has_own (ThatWindow name) = 0
+has_own (OwnWindow copied partition order frame) = 1
 
-  pub over_trees : Trees → ℕ
-  over_trees NoTrees = 0
-  over_trees (MoreTrees t ts) = count_over t + over_trees ts
+abbrev pub with_own : Tree → ℕ → ℕ
+with_own (Invoked name given filter reach) below = has_own reach + below
+with_own _ below = below
 
-  pub over_links : Links → ℕ
-  over_links NoLinks = 0
-  over_links (Further front operator t) = over_links front + count_over t
+abbrev pub counting : Findings ℕ
+counting = record { none = 0; both = λ m n. m + n; at = λ t below. with_own t below }
 
-  pub over_given : Given → ℕ
-  over_given Everything = 0
-  over_given (These ts) = over_trees ts
-  over_given (Columns ts) = over_trees ts
-
-  pub over_filter : Filter → ℕ
-  over_filter Unfiltered = 0
-  over_filter (FilteredBy t) = count_over t
-
-  pub over_reach : Reach → ℕ
-  over_reach ItsGroup = 0
-  over_reach (ThatWindow name) = 0
-  over_reach (OwnWindow copied partition order frame) = 1 + (over_trees partition + over_keys order)
-
-  pub over_keys : Keys → ℕ
-  over_keys NoKeys = 0
-  over_keys (MoreKeys t descending nulls more) = count_over t + over_keys more
+-- how often OVER stands with parentheses in an expression
+abbrev pub count_over : Tree → ℕ
+count_over t = found counting t
 
 abbrev pub over_items : List ItemTree → ℕ
 over_items [] = 0

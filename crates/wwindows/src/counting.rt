@@ -3,7 +3,8 @@
 ghost use Rattle.std.specs.Prelude.{◌≡◌, ◌+◌, map, [], ◌∷◌};
 ghost use Rattle.wquery.specs.Tree.{view, view_over, view_window, view_call, view_key, view_link, view_arguments, view_optional, view_optional_over, filter_of, reach_of, trees, views, keys, view_keys, own_window, linked, NoLinks};
 ghost use Rattle.wquery.specs.QueryTree.{view_item};
-ghost use Rattle.wwindows.specs.Limits.{count_over as over_in, over_trees, over_links, over_given, over_filter, over_reach, over_keys, over_items, over_order, counted};
+ghost use Rattle.wscope.specs.Seeking.{found_below, found_trees, found_links, found_given, found_filter, found_reach, found_keys};
+ghost use Rattle.wwindows.specs.Limits.{count_over as over_in, has_own, counting, over_items, over_order, counted};
 
 use wquery::{Arguments, Call, Expression, Item, Key, Link, Over, Window};
 
@@ -55,7 +56,7 @@ fn count_over(e: &Expression) -> u32
 
 #[cycle(counting)]
 fn count_listed(list: &[Expression]) -> u32
-    ensures { result ≡ counted (over_trees (trees (views list.now))) }
+    ensures { result ≡ counted (found_trees counting (trees (views list.now))) }
 {
     let mut count = 0;
     'list: for e in list {
@@ -67,7 +68,7 @@ fn count_listed(list: &[Expression]) -> u32
 #[cycle(counting)]
 #[tactic(auto, unfolding(wquery::specs::Tree::view_link, wquery::specs::Tree::view))]
 fn count_in_links(links: &[Link]) -> u32
-    ensures { result ≡ counted (over_links (linked NoLinks (map view_link links.now))) }
+    ensures { result ≡ counted (found_links counting (linked NoLinks (map view_link links.now))) }
 {
     let mut count = 0;
     'links: for link in links {
@@ -79,7 +80,7 @@ fn count_in_links(links: &[Link]) -> u32
 #[cycle(counting)]
 #[tactic(auto, unfolding(wquery::specs::Tree::view_key, wquery::specs::Tree::view))]
 fn count_in_keys(order: &[Key]) -> u32
-    ensures { result ≡ counted (over_keys (keys (view_keys order.now))) }
+    ensures { result ≡ counted (found_keys counting (keys (view_keys order.now))) }
 {
     let mut count = 0;
     'keys: for key in order {
@@ -91,19 +92,18 @@ fn count_in_keys(order: &[Key]) -> u32
 #[cycle(counting)]
 #[tactic(auto, unfolding(wquery::specs::Tree::view_window, wquery::specs::Tree::view, wquery::specs::Tree::view_key))]
 fn count_in_window(window: &Window) -> u32
-    ensures { result ≡ counted (over_reach (own_window (view_window window.now))) }
+    ensures { result ≡ counted (found_reach counting (own_window (view_window window.now))) }
 {
-    let within = plus(
+    plus(
         count_listed(window.partition.as_slice()),
         count_in_keys(window.order.as_slice()),
-    );
-    plus(1, within)
+    )
 }
 
 #[cycle(counting)]
 #[tactic(auto, unfolding(wquery::specs::Tree::view_arguments, wquery::specs::Tree::view))]
 fn count_in_arguments(arguments: &Arguments) -> u32
-    ensures { result ≡ counted (over_given (view_arguments arguments.now)) }
+    ensures { result ≡ counted (found_given counting (view_arguments arguments.now)) }
 {
     match arguments {
         Arguments::Star => 0,
@@ -114,7 +114,7 @@ fn count_in_arguments(arguments: &Arguments) -> u32
 
 #[cycle(counting)]
 fn count_in_filter(filter: &Option<Expression>) -> u32
-    ensures { result ≡ counted (over_filter (filter_of (view_optional filter.now))) }
+    ensures { result ≡ counted (found_filter counting (filter_of (view_optional filter.now))) }
 {
     match filter {
         None => 0,
@@ -125,12 +125,24 @@ fn count_in_filter(filter: &Option<Expression>) -> u32
 #[cycle(counting)]
 #[tactic(auto, unfolding(wquery::specs::Tree::view_over, wquery::specs::Tree::view_window))]
 fn count_in_over(over: &Option<Over>) -> u32
-    ensures { result ≡ counted (over_reach (reach_of (view_optional_over over.now))) }
+    ensures { result ≡ counted (found_reach counting (reach_of (view_optional_over over.now))) }
 {
     match over {
         None => 0,
         Some(Over::Named(_)) => 0,
         Some(Over::Windowed(window)) => count_in_window(window),
+    }
+}
+
+/// One for a call over a window of its own, none for another.
+#[tactic(auto, unfolding(wquery::specs::Tree::view_over, wquery::specs::Tree::view_window))]
+fn count_own(over: &Option<Over>) -> u32
+    ensures { result ≡ has_own (reach_of (view_optional_over over.now)) }
+{
+    match over {
+        None => 0,
+        Some(Over::Named(_)) => 0,
+        Some(Over::Windowed(_)) => 1,
     }
 }
 
@@ -141,7 +153,8 @@ fn count_in_call(call: &Call) -> u32
     let arguments = count_in_arguments(&call.arguments);
     let filter = count_in_filter(&call.filter);
     let over = count_in_over(&call.over);
-    plus(arguments, plus(filter, over))
+    let own = count_own(&call.over);
+    plus(own, plus(arguments, plus(filter, over)))
 }
 
 fn count_in_item(item: &Item) -> u32

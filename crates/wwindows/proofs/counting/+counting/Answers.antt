@@ -1,12 +1,12 @@
 use Rattle.std.proofs.Common.{◌∙◌, ◌+◌, ℕ, ap, map, arith}
 use Rattle.wquery.specs.Tree.{view_link, NoLinks}
 use Rattle.wwindows.specs.Limits.{counted}
-use Rattle.wwindows.proofs.Counts.{all_counted, next_counted, over_linked, branch_counted, call_counted, chain_counted, in_counted, no_trees, no_links, no_keys}
+use Rattle.wwindows.proofs.OwnWindows.{all_counted, next_counted, over_linked, branch_counted, call_counted, chain_counted, in_counted, no_trees, no_links, no_keys}
 use Rattle.wwindows.proofs.counting.+counting.Goals as goal
 
 pub count_in_call-returns : goal.count_in_call-returns
 count_in_call-returns t c =
-    call_counted c.args.call.now c.count_in_arguments-arguments.result c.count_in_filter-filter.result c.count_in_over-over.result c.plus.result c.plus-2.result c.count_in_arguments-arguments.ensures c.count_in_filter-filter.ensures c.count_in_over-over.ensures c.plus.ensures c.plus-2.ensures
+    call_counted c.args.call.now c.count_in_arguments-arguments.result c.count_in_filter-filter.result c.count_in_over-over.result c.count_own-own.result c.plus.result c.plus-2.result c.plus-3.result c.count_in_arguments-arguments.ensures c.count_in_filter-filter.ensures c.count_in_over-over.ensures c.count_own-own.ensures c.plus.ensures c.plus-2.ensures c.plus-3.ensures
 
 pub count_over-returns-in-Chain : goal.count_over-returns-in-Chain
 count_over-returns-in-Chain t c =

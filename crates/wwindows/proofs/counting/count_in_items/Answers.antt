@@ -1,4 +1,4 @@
-use Rattle.wwindows.proofs.Counts.{all_counted, no_items}
+use Rattle.wwindows.proofs.OwnWindows.{all_counted, no_items}
 use Rattle.wwindows.proofs.counting.count_in_items.Goals as goal
 
 pub returns : goal.returns
