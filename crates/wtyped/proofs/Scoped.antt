@@ -41,7 +41,7 @@ use Rattle.wtyped.proofs.Walks.{open_find}
 abbrev Says : (Tree → Bool) → (Tree → Type 0) → Type 0
 Says r P = (n : Tree) → r n ≡ false → P n
 
-all_inside : (r : Tree → Bool) (P : Tree → Type 0) → Says r P → Relates (λ x X Y. x ≡ false → X) (seeking (finds r)) (holding P) (holding P)
+all_inside : (r : Tree → Bool) (P : Tree → Type 0) → Says r P → Relates (λ (x : Bool) (X Y : Type 0). x ≡ false → X) (seeking (finds r)) (holding P) (holding P)
 all_inside r P h = record {
   none = λ e. tt;
   both = λ x x' X X' Y Y' f g e. let p = or_parts x x' e in (f p.0, g p.1);
