@@ -86,7 +86,7 @@ fn push_group(
 /// Adds, for each row, the number of its group of peers, and for each group where it ends, counted on from `first`. Groups are
 /// numbered on from those that are there.
 ///
-/// Each row is compared with the first of its peers alone, and with the first of the peers before.
+/// Rows are compared with the first of their peers alone, and few of many that are peers.
 pub fn push_peers(
     numbers: &mut Vec<usize>,
     ends: &mut Vec<usize>,
