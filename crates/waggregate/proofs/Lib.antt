@@ -5,3 +5,4 @@ pub mod FrameFacts
 pub mod WindowFacts
 pub mod PickedFacts
 pub mod GroupFacts
+pub mod PutFacts

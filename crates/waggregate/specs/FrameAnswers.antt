@@ -13,6 +13,7 @@ use Rattle.wrows.specs.declared.fault.AnswerFault.{AnswerFault}
 use Rattle.wrows.specs.declared.fault.AnswerFault.TheVariants.{OutOfRange}
 use Rattle.wrows.specs.Outcomes.{Gives, unless}
 use Rattle.waggregate.specs.Aggregating.{Feed, aggregate_of}
+use Rattle.waggregate.specs.Put.{put_all}
 
 -- what the rows of these numbers feed, in that order
 pub record IsPicked (feed : Feed) (rows : List ℕ) (values : List Meaning) (filter : Option (List Bool)) : Type 0 where
@@ -44,3 +45,8 @@ told_or_out_of_range (Some m) = Ok m
 pub record Appends (results : List (Option Meaning)) (outcome : Result (Unit {0}) AnswerFault) (old new : List Value) : Type 0 where
   pub gives : Gives {X = Unit {0}} {Y = Unit {0}} (λ u. u) outcome (unless (list_any is_none results) OutOfRange (tt {0}))
   pub added : OnOk outcome (map meaning new ≡ map meaning old ++ values_or_null results)
+
+-- what a call comes to that puts the values of results at the numbers of rows: it is out of range where one of them is so
+pub record Puts (results : List (Option Meaning)) (rows : List ℕ) (outcome : Result (Unit {0}) AnswerFault) (old new : List Value) : Type 0 where
+  pub gives : Gives {X = Unit {0}} {Y = Unit {0}} (λ u. u) outcome (unless (list_any is_none results) OutOfRange (tt {0}))
+  pub put : OnOk outcome (map meaning new ≡ put_all (map meaning old) rows (values_or_null results))

@@ -2,3 +2,4 @@ pub mod Aggregating
 pub mod Feeding
 pub mod FrameAnswers
 pub mod Grouped
+pub mod Put

@@ -4,16 +4,13 @@ ghost use Rattle.std.specs.Option.{ForSome};
 ghost use Rattle.wvalues.specs.Meaning.{Null, meaning};
 ghost use Rattle.wframe.specs.Cells.{meanings};
 ghost use Rattle.wplan.specs.Formula.{At, Constant, formula};
-ghost use Rattle.wplan.specs.Plans.{aggregate_plan, optional_formula};
+ghost use Rattle.wplan.specs.Plans.{optional_formula};
 ghost use Rattle.wrows.specs.Columns.{column_of, filter_of, value_on};
 ghost use Rattle.wrows.specs.Outcomes.{Gives};
 ghost use Rattle.wrows.specs.Laid.{rows_seen};
-ghost use Rattle.waggregate.specs.Aggregating.{feed_of};
-ghost use Rattle.waggregate.specs.Feeding.{feed_in};
 
-use crate::feed::Feed;
 use std::alloc::{AllocError, Global};
-use wplan::{Aggregate, Expr};
+use wplan::Expr;
 use wrows::{AnswerFault, holds, lists, place_of};
 use wvalues::Value;
 
@@ -134,19 +131,4 @@ pub fn lent_nulls<'a>(
         nulls.push(null)?;
     }
     Ok(nulls)
-}
-
-/// What an aggregate is fed by each row. The argument is evaluated also where the filter is not true, and `OutOfRange`
-/// where either is so on any row.
-pub fn feed_rows(
-    alloc: Global,
-    aggregate: &Aggregate,
-    rows: &[&[Value]],
-) -> Result<Feed, AnswerFault>
-    ensures gives { Gives feed_in result (feed_of (aggregate_plan aggregate.now) (rows_seen rows.now)) }
-    ensures len { IfOk result (λ feed. length feed.values.items ≡ length rows.now) }
-{
-    let values = argument_values(alloc, &aggregate.argument, rows)?;
-    let filter = filter_rows(alloc, &aggregate.filter, rows)?;
-    Ok(Feed { values, filter })
 }

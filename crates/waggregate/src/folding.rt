@@ -1,19 +1,18 @@
 //! Aggregates over frames.
-ghost use Rattle.std.specs.Prelude.{◌≡◌, ◌≤◌, ◌<◌, ◌+◌, ◌-◌, ◌^◌, ℕ, OnOk, min, List, All, Option, Some, length, map, option_map, pos};
+ghost use Rattle.std.specs.Prelude.{◌≡◌, ◌≤◌, ◌<◌, ◌+◌, ◌-◌, ◌^◌, OnOk, min, List, All, Option, Some, drop, length, map, option_map, pos, slice_index_or};
 ghost use Rattle.std.specs.Option.{ForSome};
-ghost use Rattle.wvalues.specs.Meaning.{Int, Meaning, meaning};
+ghost use Rattle.wvalues.specs.Meaning.{Int, Meaning, Null, meaning};
 ghost use Rattle.wframe.specs.Cells.{meanings};
 ghost use Rattle.wslide.specs.Frames.{folds_of_partitions, most_by_queues};
 ghost use Rattle.wslide.specs.Leasts.{IsPlace};
 ghost use Rattle.wrows.specs.Outcomes.{Gives};
 ghost use Rattle.waggregate.specs.Aggregating as aggregating;
 ghost use Rattle.waggregate.specs.Aggregating.{sum_answer, value_or_null};
-ghost use Rattle.waggregate.specs.Feeding.{feed_in};
-ghost use Rattle.waggregate.specs.FrameAnswers.{Appends, IsPicked, told_or_out_of_range, window_answers};
+ghost use Rattle.waggregate.specs.FrameAnswers.{Appends, IsPicked, Puts, told_or_out_of_range, window_answers};
+ghost use Rattle.waggregate.specs.Put.{put_all};
 
 use crate::answers::{count_value, sum_value};
-use crate::feed::Feed;
-use crate::picking::{filter_of, lent, values_of};
+use crate::picking::lent;
 use crate::tally::Tally;
 use std::alloc::Global;
 use wframe::{Partitions, frames_are_rows, stable_sorts_agree};
@@ -97,45 +96,81 @@ pub(crate) fn push_values<F: ToldFold>(
     Ok(())
 }
 
-// Appends the value of the fold of each row's frame, one partition after another, `OutOfRange` where one is so. The joins
-// that the meter counts are told to the tally.
-fn push_folds<F: ToldFold>(
+// Puts a value at the number of the row at a place, if there is such a row.
+fn put_at(column: &mut [Value], rows: &[usize], place: usize, value: Value)
+    requires { All (λ i. i < length column.old) rows.now }
+    ensures put { (values : List Meaning) → place < length values → meaning value ≡ slice_index_or values place Null → put_all (map meaning column.new) (drop (place + 1) rows.now) (drop (place + 1) values) ≡ put_all (map meaning column.old) (drop place rows.now) (drop place values) }
+    ensures len { length column.new ≡ length column.old }
+{
+    if place < rows.len() {
+        column[rows[place]] = value;
+    }
+}
+
+// Puts the values of some parts, each at the number of its row, `OutOfRange` where one is so.
+fn put_values<F: ToldFold>(
+    column: &mut [Value],
+    rows: &[usize],
+    fold: &F,
+    parts: &[F::Part],
+) -> Result<(), AnswerFault>
+    requires parts { All (F.is_part fold.now) parts.now }
+    requires below { All (λ i. i < length column.old) rows.now }
+    ensures { Puts (map (F.told fold.now) parts.now) rows.now result column.old column.new }
+{
+    for place in 0..parts.len() {
+        let value = fold.value(parts[place])?;
+        put_at(column, rows, place, value);
+    }
+    Ok(())
+}
+
+// Puts the value of the fold of each row's frame at the number of the row, `OutOfRange` where one is so. The joins that the
+// meter counts are told to the tally.
+fn put_folds<F: ToldFold>(
     alloc: Global,
     fold: &F,
-    rows: usize,
+    rows: &[usize],
     partitions: &Partitions,
     meter: &mut F::Meter,
-    told: &mut Vec<Value>,
+    column: &mut [Value],
     tally: &mut Tally,
 ) -> Result<(), AnswerFault>
     requires rows { length partitions.now.keys ≡ F.rows fold.now }
     requires few { F.rows fold.now < 2 ^ 31 }
     requires fresh { F.count meter.old ≡ 0 }
-    ensures answers { Appends (map (F.told fold.now) (folds_of_partitions (F.neutral fold.now) (F.joined fold.now) (F.part_at fold.now) partitions.now)) result told.old.items told.new.items }
+    requires below { All (λ i. i < length column.old) rows.now }
+    ensures answers { Puts (map (F.told fold.now) (folds_of_partitions (F.neutral fold.now) (F.joined fold.now) (F.part_at fold.now) partitions.now)) rows.now result column.old column.new }
     ensures tallied { OnOk result (tally.new ≡ min (tally.old + F.count meter.new) (2 ^ 64 - 1)) }
     ensures joins { tally.new ≤ tally.old + most_by_queues partitions.now.frame.exclusion (F.rows fold.now) }
 {
-    let mut parts = Vec::with_capacity(alloc, rows)?;
+    let mut parts = Vec::with_capacity(alloc, rows.len())?;
     push_window_folds(alloc, &mut parts, fold, partitions, meter)?;
     tally.add(fold.joins(meter));
-    push_values(told, fold, &parts)
+    put_values(column, rows, fold, &parts)
 }
 
-// Appends what an aggregate comes to over the frame of each row of a window, of whose rows the columns stand in its order.
-fn push_picked(
+/// Puts what an aggregate comes to over the frame of each row of a window at the number of the row, where `values` and `filter`
+/// are what the rows feed, in the window's order, and `rows` has their numbers in that order. It is `OutOfRange` where a result
+/// is so.
+///
+/// The tally rises by the joins that the folds take: at most three for each row, and eight where the frame clause excludes rows.
+pub fn put_frame_aggregates(
     alloc: Global,
     function: AggregateFunction,
     values: &[&Value],
     filter: &Option<Vec<bool>>,
+    rows: &[usize],
     partitions: &Partitions,
-    told: &mut Vec<Value>,
+    column: &mut [Value],
     tally: &mut Tally,
 ) -> Result<(), AnswerFault>
     requires values { length values.now ≡ length partitions.now.keys }
     requires len { ForSome filter.now (λ tests. length tests.items ≡ length values.now) }
     requires few { length values.now < 2 ^ 31 }
+    requires below { All (λ i. i < length column.old) rows.now }
     ensures joins { tally.new ≤ tally.old + most_by_queues partitions.now.frame.exclusion (length values.now) }
-    ensures answers { (feed : aggregating.Feed) (rows : List ℕ) → IsPicked feed rows (meanings values.now) (option_map (λ tests. tests.items) filter.now) → Appends (window_answers function feed partitions.now rows) result told.old.items told.new.items }
+    ensures answers { (feed : aggregating.Feed) → IsPicked feed rows.now (meanings values.now) (option_map (λ tests. tests.items) filter.now) → Puts (window_answers function feed partitions.now rows.now) rows.now result column.old column.new }
 {
     // Laws, which do nothing.
     frames_are_rows();
@@ -144,22 +179,25 @@ fn push_picked(
     sums_are_exact();
     places_are_least();
     stable_sorts_agree();
-    let rows = values.len();
     let filter = lent(filter);
     let mut meter = Meter::new();
     match function {
         AggregateFunction::CountRows => {
-            let fold = CountRows { rows, filter };
-            push_folds(alloc, &fold, rows, partitions, &mut meter, told, tally)
+            let count = values.len();
+            let fold = CountRows {
+                rows: count,
+                filter,
+            };
+            put_folds(alloc, &fold, rows, partitions, &mut meter, column, tally)
         }
         AggregateFunction::Count => {
             let fold = Count { values, filter };
-            push_folds(alloc, &fold, rows, partitions, &mut meter, told, tally)
+            put_folds(alloc, &fold, rows, partitions, &mut meter, column, tally)
         }
         AggregateFunction::Sum => {
             see_ranges(values);
             let fold = Sum { values, filter };
-            push_folds(alloc, &fold, rows, partitions, &mut meter, told, tally)
+            put_folds(alloc, &fold, rows, partitions, &mut meter, column, tally)
         }
         AggregateFunction::Min => {
             let fold = Extreme {
@@ -167,7 +205,7 @@ fn push_picked(
                 filter,
                 greatest: false,
             };
-            push_folds(alloc, &fold, rows, partitions, &mut meter, told, tally)
+            put_folds(alloc, &fold, rows, partitions, &mut meter, column, tally)
         }
         AggregateFunction::Max => {
             let fold = Extreme {
@@ -175,32 +213,7 @@ fn push_picked(
                 filter,
                 greatest: true,
             };
-            push_folds(alloc, &fold, rows, partitions, &mut meter, told, tally)
+            put_folds(alloc, &fold, rows, partitions, &mut meter, column, tally)
         }
     }
-}
-
-/// Appends what an aggregate comes to over the frame of each row of a window, one partition after another. `rows` has the
-/// numbers of the window's rows in that order. It is `OutOfRange` where a result is so.
-///
-/// What the rows feed is picked once, in their order. The tally rises by the joins that the folds take: at most three for
-/// each row, and eight where the frame clause excludes rows.
-pub fn push_frame_aggregates(
-    alloc: Global,
-    function: AggregateFunction,
-    feed: &Feed,
-    rows: &[usize],
-    partitions: &Partitions,
-    told: &mut Vec<Value>,
-    tally: &mut Tally,
-) -> Result<(), AnswerFault>
-    requires len { length rows.now ≡ length partitions.now.keys }
-    requires below { All (λ i. i < length feed.now.values.items) rows.now }
-    requires few { length rows.now < 2 ^ 31 }
-    ensures joins { tally.new ≤ tally.old + most_by_queues partitions.now.frame.exclusion (length rows.now) }
-    ensures answers { Appends (window_answers function (feed_in feed.now) partitions.now rows.now) result told.old.items told.new.items }
-{
-    let values = values_of(alloc, &feed.values, rows)?;
-    let filter = filter_of(alloc, &feed.filter, rows)?;
-    push_picked(alloc, function, &values, &filter, partitions, told, tally)
 }

@@ -8,19 +8,18 @@
 //! - Asks: fewer than 2^31 rows.
 //! - Leaves expressions to `wplan`, frames to `wframe` and their folds to `wslide`.
 //!
-//! Read `specs/Aggregating.antt`, then `specs/Feeding.antt`, `specs/Grouped.antt` and `specs/FrameAnswers.antt`.
+//! Read `specs/Aggregating.antt`, then `specs/Feeding.antt`, `specs/Grouped.antt`, `specs/Put.antt` and `specs/FrameAnswers.antt`.
 #![tactic(auto)]
 
 mod answers;
-mod feed;
 mod feeding;
 mod folding;
 mod grouped;
 mod picking;
 mod tally;
 
-pub use feed::Feed;
-pub use feeding::{argument_values, feed_rows, filter_rows, is_null, lent_argument, lent_nulls};
-pub use folding::push_frame_aggregates;
+pub use feeding::{argument_values, filter_rows, is_null, lent_argument, lent_nulls};
+pub use folding::put_frame_aggregates;
 pub use grouped::{aggregate_groups, lent_values};
+pub use picking::{filter_of, values_of};
 pub use tally::Tally;

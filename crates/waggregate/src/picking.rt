@@ -1,7 +1,6 @@
 //! What the rows of a partition feed, in its order.
 ghost use Rattle.std.specs.Prelude.{◌≡◌, ◌<◌, ℕ, All, IfOk, length, map, option_map, slice_index_or, false};
 ghost use Rattle.std.specs.Option.{ForSome};
-ghost use Rattle.wvalues.specs.Meaning.{meaning};
 ghost use Rattle.wframe.specs.Cells.{meanings};
 ghost use Rattle.wslide.specs.Aggregates.{picked_values, picked_tests, tests};
 
@@ -21,8 +20,8 @@ fn tests_of(alloc: Global, tests: &[bool], rows: &[usize]) -> Result<Vec<bool>, 
     Ok(picked)
 }
 
-/// Whether a filter is true on some rows, if there is one.
-pub(crate) fn filter_of(
+/// Whether a filter is true on the rows of these numbers, if there is one.
+pub fn filter_of(
     alloc: Global,
     filter: &Option<Vec<bool>>,
     rows: &[usize],
@@ -40,19 +39,19 @@ pub(crate) fn filter_of(
     }
 }
 
-/// The values of some rows.
-pub(crate) fn values_of<'a>(
+/// The values of the rows of these numbers, of which those of all rows are lent.
+pub fn values_of<'a>(
     alloc: Global,
-    values: &'a [Value],
+    values: &[&'a Value],
     rows: &[usize],
 ) -> Result<Vec<&'a Value>, AllocError>
     requires { All (λ i. i < length values.now) rows.now }
-    ensures value { IfOk result (λ picked. meanings picked.items ≡ picked_values (map meaning values.now) rows.now) }
+    ensures value { IfOk result (λ picked. meanings picked.items ≡ picked_values (meanings values.now) rows.now) }
     ensures len { IfOk result (λ picked. length picked.items ≡ length rows.now) }
 {
     let mut picked = Vec::with_capacity(alloc, rows.len())?;
     for row in rows {
-        picked.push(&values[*row])?;
+        picked.push(values[*row])?;
     }
     Ok(picked)
 }

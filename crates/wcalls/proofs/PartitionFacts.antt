@@ -1,6 +1,6 @@
 -- Calls that tell a value for each row of each partition, and answers that are put by number.
 use Rattle.std.proofs.Common.{◌≡◌, ℕ, ◌+◌, ◌<◌, List, [], ◌∷◌, ◌++◌, length, map, drop, Some, Ok, refl, sym, ap, ◌∙◌, arith, subst}
-use Rattle.std.specs.Prelude.{slice_range, unwrap_or}
+use Rattle.std.specs.Prelude.{OnOk, Result, Err, slice_range, unwrap_or}
 use Rattle.std.specs.List.{flat_map, list_any}
 use Rattle.std.specs.Option.{is_none}
 use Rattle.std.proofs.Math.ListN.{drop_of_length-le}
@@ -9,15 +9,16 @@ use Rattle.wvalues.specs.Meaning.{Meaning, Null}
 use Rattle.wframe.specs.declared.frame.Span.{Span}
 use Rattle.wframe.specs.Partition.{Partition, Partitioned, partition_of}
 use Rattle.wframe.specs.Places.{places, span_at, Tiles}
+use Rattle.wrows.specs.declared.fault.AnswerFault.{AnswerFault}
 use Rattle.wrows.specs.declared.fault.AnswerFault.TheVariants.{OutOfRange}
-use Rattle.wrows.specs.Outcomes.{unless}
+use Rattle.wrows.specs.Outcomes.{Gives, unless}
 use Rattle.wrows.proofs.RowFacts.{map-map, length-places}
 use Rattle.wcalls.specs.Windows.{Windowed, partition_at, partition_rows, place_at}
 use Rattle.wcalls.specs.Calls.{each_row}
 use Rattle.wcalls.specs.Arranged.{IsArranged, Answer, answer_on, answered}
 use Rattle.wcalls.proofs.Answering.{answer_values, window_answers, HasEachOnce}
-use Rattle.wcalls.specs.Put.{put_all}
-use Rattle.wcalls.proofs.ArrangedFacts.{all_answers, any_of_rows, each_once, rows_long, slice_on, sliced_alike, window_is}
+use Rattle.waggregate.specs.Put.{put_all}
+use Rattle.wcalls.proofs.ArrangedFacts.{all_answers, any_of_rows, each_once, refused_answers, rows_long, slice_on, sliced_alike, window_is}
 use Rattle.wcalls.proofs.CallFacts.{all_there}
 use Rattle.wcalls.proofs.PutFacts.{put_append, put_each}
 
@@ -40,6 +41,13 @@ answers_put w rows all arranged answer cells told new long h same is =
     let of = answer_on w answer in
     all_answers (each_row w of) new (list_any is_none (window_answers answer all rows)) (sym (any_of_rows w rows all of arranged) ∙ ap (list_any is_none) (sym (window_is w rows all arranged answer))) h
     (is ∙ ap (put_all cells rows) same ∙ put_on w rows all arranged answer cells long ∙ sym (map-map (λ r. unwrap_or r Null) of (places (length w.values))))
+
+-- a column of answers that are put by number, or a refusal
+pub answers_given : (w : Windowed) (rows : List ℕ) (all : Partitioned) → IsArranged w rows all → (answer : Answer) (cells new : List Meaning) → length cells ≡ length rows
+    → (outcome : Result (Unit {0}) AnswerFault) → Gives {X = Unit {0}} {Y = Unit {0}} (λ u. u) outcome (unless (list_any is_none (window_answers answer all rows)) OutOfRange (tt {0}))
+    → OnOk outcome (new ≡ put_all cells rows (answer_values (window_answers answer all rows))) → Gives {X = Unit {0}} (λ u. new) outcome (answered w answer)
+answers_given w rows all arranged answer cells new long (Ok u) h put = answers_put w rows all arranged answer cells (answer_values (window_answers answer all rows)) new long h refl put
+answers_given w rows all arranged answer cells new long (Err fault) h put = refused_answers (λ (u : Unit {0}). new) fault w rows all arranged answer h
 
 module _ (told : Partition → List ℕ → ℕ → Meaning) (all : Partitioned) (rows : List ℕ) where
   -- what is told for the rows of a partition

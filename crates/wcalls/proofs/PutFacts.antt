@@ -7,7 +7,7 @@ use Rattle.wvalues.specs.Meaning.{Meaning, Null}
 use Rattle.wframe.specs.Places.{places_from, places}
 use Rattle.wrows.proofs.RowFacts.{length-places}
 use Rattle.wcalls.proofs.Answering.{HasEachOnce}
-use Rattle.wcalls.specs.Put.{put_all}
+use Rattle.waggregate.specs.Put.{put_all}
 use Rattle.wcalls.proofs.ArrangedFacts.{pointwise}
 use Rattle.wcalls.proofs.WindowFacts.{all_places}
 
@@ -22,18 +22,6 @@ pub put_long : (cells : List Meaning) (r : List ℕ) (v : List Meaning) → leng
 put_long cells [] v = refl
 put_long cells (p ∷ r) [] = refl
 put_long cells (p ∷ r) (x ∷ v) = put_long (set cells p x) r v ∙ length-set cells p x
-
--- one value more, of cells that each stand for a value
-pub put_next : {X : Type 0} (meant : X → Meaning) (rows : List ℕ) (values : List Meaning) (k : ℕ) (cells new : List X) (value : X) (end : List Meaning) → k < length rows → k < length values → new ≡ set cells (get_or rows k 0) value → meant value ≡ get_or values k Null
-    → put_all (map meant cells) (drop k rows) (drop k values) ≡ end → put_all (map meant new) (drop (k + 1) rows) (drop (k + 1) values) ≡ end
-put_next meant rows values k cells new value end h l written is so_far =
-    let r = get_or rows k 0 in
-    ap (λ c. put_all (map meant c) (drop (k + 1) rows) (drop (k + 1) values)) written
-    ∙ ap (λ c. put_all c (drop (k + 1) rows) (drop (k + 1) values)) (map-set meant cells r value)
-    ∙ ap (λ m. put_all (set (map meant cells) r m) (drop (k + 1) rows) (drop (k + 1) values)) is
-    ∙ sym (at_drop_more (λ l. put_all (map meant cells) l (get_or values k Null ∷ drop (k + 1) values)) rows k 0 h)
-    ∙ sym (at_drop_more (put_all (map meant cells) (drop k rows)) values k Null l)
-    ∙ so_far
 
 place_is : (a n k d : ℕ) → k < n → get_or (places_from a n) k d ≡ a + k
 place_is a zero k d h = absurd (omega arith)

@@ -5,7 +5,6 @@ pub mod Functions
 pub mod Sound
 pub mod Lent
 pub mod Seen
-pub mod Put
 pub mod Kept
 pub mod Arranged
 pub mod Ordered

@@ -1,56 +1,141 @@
 //! Aggregates with OVER.
-ghost use Rattle.std.specs.Prelude.{◌≡◌, ◌≤◌, ◌+◌, length, map};
-ghost use Rattle.wvalues.specs.Meaning.{meaning};
+ghost use Rattle.std.specs.Prelude.{◌≡◌, ◌<◌, ◌≤◌, ◌+◌, All, IfOk, Ok, length, map, option_map};
+ghost use Rattle.std.specs.Option.{ForSome};
+ghost use Rattle.wvalues.specs.Meaning.{Null, meaning};
+ghost use Rattle.wframe.specs.Cells.{meanings};
+ghost use Rattle.wslide.specs.Aggregates.{picked_values};
 ghost use Rattle.wslide.specs.Frames.{most_by_queues};
+ghost use Rattle.wplan.specs.Formula.{Constant, formula};
 ghost use Rattle.wplan.specs.Plans.{aggregate_plan, Aggregated};
+ghost use Rattle.wrows.specs.Columns.{column_of};
 ghost use Rattle.wrows.specs.Outcomes.{Gives};
 ghost use Rattle.wrows.specs.Laid.{rows_seen};
+ghost use Rattle.waggregate.specs.Aggregating as aggregating;
 ghost use Rattle.waggregate.specs.Aggregating.{aggregate_of};
-ghost use Rattle.waggregate.specs.Feeding.{feed_in};
-ghost use Rattle.waggregate.specs.FrameAnswers.{frame_numbers};
+ghost use Rattle.waggregate.specs.FrameAnswers.{IsPicked, frame_numbers};
 ghost use Rattle.wcalls.specs.Windows.{Windowed};
 ghost use Rattle.wcalls.specs.Functions.{function_column};
 ghost use Rattle.wcalls.specs.Arranged.{answered, IsArranged};
 
 use crate::arranged::ArrangedRows;
-use crate::calls::put_values;
-use std::alloc::Global;
-use waggregate::{Feed, Tally, feed_rows, push_frame_aggregates};
+use std::alloc::{AllocError, Global};
+use waggregate::{
+    Tally, argument_values, filter_of, filter_rows, is_null, lent_argument, lent_nulls,
+    lent_values, put_frame_aggregates, values_of,
+};
 use wplan::{Aggregate, AggregateFunction};
 use wrows::AnswerFault;
 use wvalues::Value;
 
-// Puts an aggregate over the frame of each row, at the row's number, where `feed` has what each row feeds it.
+// Puts an aggregate over the frame of each row, at the row's number, where the values and the filter are what the rows feed it
+// in the window's order.
 fn put_aggregates(
     alloc: Global,
     function: AggregateFunction,
-    feed: &Feed,
+    values: &[&Value],
+    filter: &Option<Vec<bool>>,
     arranged: &ArrangedRows,
     column: &mut [Value],
     tally: &mut Tally,
 ) -> Result<(), AnswerFault>
-    requires fed { length feed.now.values.items ≡ length arranged.now.order.now }
+    requires fed { length values.now ≡ length arranged.now.order.now }
+    requires tests { ForSome filter.now (λ tests. length tests.items ≡ length values.now) }
     requires room { length column.old ≡ length arranged.now.order.now }
     ensures joins { tally.new ≤ tally.old + most_by_queues arranged.now.partitions.now.frame.exclusion (length arranged.now.order.now) }
-    ensures column { (w : Windowed) → IsArranged w arranged.now.order.now arranged.now.partitions.now → Gives (λ _. map meaning column.new) result (answered w (λ p rows place. aggregate_of function (feed_in feed.now) (frame_numbers p rows place))) }
+    ensures column { (w : Windowed) (feed : aggregating.Feed) → IsArranged w arranged.now.order.now arranged.now.partitions.now → IsPicked feed arranged.now.order.now (meanings values.now) (option_map (λ tests. tests.items) filter.now) → Gives (λ _. map meaning column.new) result (answered w (λ p rows place. aggregate_of function feed (frame_numbers p rows place))) }
 {
-    // It says that the partitions leave no row out.
-    let _ = arranged.partitions.count();
-    let mut told = Vec::with_capacity(alloc, arranged.order.len())?;
-    push_frame_aggregates(
+    put_frame_aggregates(
         alloc,
         function,
-        feed,
+        values,
+        filter,
         arranged.order,
         arranged.partitions,
-        &mut told,
+        column,
         tally,
-    )?;
-    put_values(arranged.order, &told, column)?;
-    Ok(())
+    )
 }
 
-/// Puts the column of an aggregate, by the numbers of the rows. The tally rises by the joins that it takes.
+// Values of rows in another order. The list that they are picked from is let go.
+fn picked<'a>(
+    alloc: Global,
+    values: Vec<&'a Value>,
+    rows: &[usize],
+) -> Result<Vec<&'a Value>, AllocError>
+    requires { All (λ i. i < length values.items) rows.now }
+    ensures value { IfOk result (λ picked. meanings picked.items ≡ picked_values (meanings values.entry.items) rows.now) }
+    ensures len { IfOk result (λ picked. length picked.items ≡ length rows.now) }
+{
+    let picked = values_of(alloc, &values, rows)?;
+    Ok(picked)
+}
+
+// Puts the column of an aggregate whose argument has these values, by the numbers of the rows.
+fn fed_column(
+    alloc: Global,
+    aggregate: &Aggregate,
+    values: Vec<&Value>,
+    arranged: &ArrangedRows,
+    column: &mut [Value],
+    tally: &mut Tally,
+) -> Result<(), AnswerFault>
+    requires values { column_of (formula aggregate.now.argument) (rows_seen arranged.now.rows.now) ≡ Ok (meanings values.items) }
+    requires wide { length values.items ≡ length arranged.now.rows.now }
+    requires room { length column.old ≡ length arranged.now.order.now }
+    ensures joins { tally.new ≤ tally.old + most_by_queues arranged.now.partitions.now.frame.exclusion (length arranged.now.order.now) }
+    ensures column { (w : Windowed) → IsArranged w arranged.now.order.now arranged.now.partitions.now → Gives (λ _. map meaning column.new) result (function_column (rows_seen arranged.now.rows.now) w (Aggregated (aggregate_plan aggregate.now))) }
+{
+    let tests = filter_rows(alloc, &aggregate.filter, arranged.rows)?;
+    let filter = filter_of(alloc, &tests, arranged.order)?;
+    let values = picked(alloc, values, arranged.order)?;
+    put_aggregates(
+        alloc,
+        aggregate.function,
+        &values,
+        &filter,
+        arranged,
+        column,
+        tally,
+    )
+}
+
+// Puts the column of an aggregate, by the numbers of the rows, with its argument evaluated on every row.
+fn evaluated_column(
+    alloc: Global,
+    aggregate: &Aggregate,
+    arranged: &ArrangedRows,
+    column: &mut [Value],
+    tally: &mut Tally,
+) -> Result<(), AnswerFault>
+    requires { length column.old ≡ length arranged.now.order.now }
+    ensures joins { tally.new ≤ tally.old + most_by_queues arranged.now.partitions.now.frame.exclusion (length arranged.now.order.now) }
+    ensures column { (w : Windowed) → IsArranged w arranged.now.order.now arranged.now.partitions.now → Gives (λ _. map meaning column.new) result (function_column (rows_seen arranged.now.rows.now) w (Aggregated (aggregate_plan aggregate.now))) }
+{
+    let cells = argument_values(alloc, &aggregate.argument, arranged.rows)?;
+    let values = lent_values(alloc, &cells)?;
+    fed_column(alloc, aggregate, values, arranged, column, tally)
+}
+
+// Puts the column of an aggregate of NULL, as `count(*)` is one, by the numbers of the rows.
+fn null_column(
+    alloc: Global,
+    aggregate: &Aggregate,
+    arranged: &ArrangedRows,
+    column: &mut [Value],
+    tally: &mut Tally,
+) -> Result<(), AnswerFault>
+    requires null { formula aggregate.now.argument ≡ Constant Null }
+    requires room { length column.old ≡ length arranged.now.order.now }
+    ensures joins { tally.new ≤ tally.old + most_by_queues arranged.now.partitions.now.frame.exclusion (length arranged.now.order.now) }
+    ensures column { (w : Windowed) → IsArranged w arranged.now.order.now arranged.now.partitions.now → Gives (λ _. map meaning column.new) result (function_column (rows_seen arranged.now.rows.now) w (Aggregated (aggregate_plan aggregate.now))) }
+{
+    let null = Value::Null;
+    let values = lent_nulls(alloc, &null, arranged.rows)?;
+    fed_column(alloc, aggregate, values, arranged, column, tally)
+}
+
+/// Puts the column of an aggregate, by the numbers of the rows. A plain column is read where it lies. The tally rises by the
+/// joins that it takes.
 pub(crate) fn aggregated_column(
     alloc: Global,
     aggregate: &Aggregate,
@@ -62,6 +147,12 @@ pub(crate) fn aggregated_column(
     ensures joins { tally.new ≤ tally.old + most_by_queues arranged.now.partitions.now.frame.exclusion (length arranged.now.order.now) }
     ensures column { (w : Windowed) → IsArranged w arranged.now.order.now arranged.now.partitions.now → Gives (λ _. map meaning column.new) result (function_column (rows_seen arranged.now.rows.now) w (Aggregated (aggregate_plan aggregate.now))) }
 {
-    let feed = feed_rows(alloc, aggregate, arranged.rows)?;
-    put_aggregates(alloc, aggregate.function, &feed, arranged, column, tally)
+    if is_null(&aggregate.argument) {
+        return null_column(alloc, aggregate, arranged, column, tally);
+    }
+    let lent = lent_argument(alloc, &aggregate.argument, arranged.rows)?;
+    match lent {
+        Some(values) => fed_column(alloc, aggregate, values, arranged, column, tally),
+        None => evaluated_column(alloc, aggregate, arranged, column, tally),
+    }
 }

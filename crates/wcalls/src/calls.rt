@@ -6,7 +6,7 @@ ghost use Rattle.wframe.specs.Places.{places};
 ghost use Rattle.wcalls.specs.Windows.{Windowed, partition_at, partition_rows, place_at};
 ghost use Rattle.wcalls.specs.Calls.{each_row};
 ghost use Rattle.wcalls.specs.Arranged.{IsArranged};
-ghost use Rattle.wcalls.specs.Put.{put_all};
+ghost use Rattle.waggregate.specs.Put.{put_all};
 
 use crate::arranged::ArrangedRows;
 use std::alloc::{AllocError, Global};
@@ -31,23 +31,6 @@ pub(crate) fn put_at<T: Drop>(column: &mut [T], rows: &[usize], place: usize, va
     ensures { column.new ≡ set column.old (slice_index_or rows.now place 0) value }
 {
     column[rows[place]] = value;
-}
-
-/// Puts values, each at the number of its row.
-pub(crate) fn put_values(
-    rows: &[usize],
-    values: &[Value],
-    column: &mut [Value],
-) -> Result<(), AllocError>
-    requires len { length values.now ≡ length rows.now }
-    requires below { All (λ i. i < length column.old) rows.now }
-    ensures { OnOk result (map meaning column.new ≡ put_all (map meaning column.old) rows.now (map meaning values.now)) }
-{
-    for place in 0..rows.len() {
-        let value = values[place].duplicate()?;
-        put_at(column, rows, place, value);
-    }
-    Ok(())
 }
 
 /// A call with OVER that has a value for each row of a partition and is never out of range.

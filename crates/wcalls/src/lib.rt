@@ -14,7 +14,7 @@
 //! a plain column.
 //!
 //! Read `specs/Frames.antt`, `specs/Windows.antt`, `specs/Calls.antt` and `specs/Functions.antt`, then
-//! `specs/Ordered.antt`, `specs/Arranged.antt`, `specs/Put.antt`, `specs/Kept.antt` and `specs/Seen.antt`; `specs/Sound.antt`
+//! `specs/Ordered.antt`, `specs/Arranged.antt`, `specs/Kept.antt` and `specs/Seen.antt`; `specs/Sound.antt`
 //! says what is asked.
 #![tactic(auto)]
 

@@ -1,5 +1,5 @@
 -- Partitions one after another.
-use Rattle.std.proofs.Common.{◌≡◌, ℕ, ◌+◌, ◌-◌, ◌<◌, ◌≤◌, true, false, not, List, [], ◌∷◌, ◌++◌, length, drop, get_or, sym, ap, ◌∙◌, refl, arith, subst}
+use Rattle.std.proofs.Common.{◌≡◌, ℕ, ◌+◌, ◌-◌, ◌<◌, ◌≤◌, ◌⊎◌, inl, inr, true, false, not, List, [], ◌∷◌, ◌++◌, length, drop, get_or, sym, ap, ◌∙◌, refl, arith, subst}
 use Rattle.std.specs.Ordering.{is_lt, is_gt, is_eq}
 use Rattle.std.specs.Cmp.{IsTotalOrder}
 use Rattle.std.specs.declared.cmp.Ordering.{Ordering}
@@ -14,6 +14,8 @@ use Rattle.wframe.specs.Partitions.{IsPartition}
 use Rattle.wframe.specs.Places.{Tiles, is_in_span}
 use Rattle.wframe.specs.Peers.{key_at, AreOrdered, AreOrderedWithin, is_before, is_upto}
 use Rattle.wframe.specs.Cuts.{CutsAt}
+use Rattle.wframe.specs.PeerGroups.{HoldsEnd}
+use Rattle.std.proofs.lemmas.Bool.{cases_lt}
 use Rattle.wframe.proofs.CutFacts.{upto_lt, cut_found, end_cut}
 use Rattle.wframe.proofs.OrderFacts.{gt_is_lt}
 
@@ -47,6 +49,26 @@ module _ {R : List Meaning → List Meaning → Ordering} (o : IsTotalOrder R) (
 
   pub end_found : (first place : ℕ) → first < length keys → place < length keys → ((j : ℕ) → j < place → is_upto R keys first j ≡ true) → is_upto R keys first place ≡ false → CutsAt (length keys) (is_upto R keys first) place
   end_found first place hf hp before here = cut_found (length keys) (is_upto R keys) first place (end_cut o (length keys) (key_at keys) (key_at keys) ordered ordered) hf hp before here
+
+  -- a row that is equal to another one is not after its peers
+  pub equal_upto : (first place : ℕ) → is_eq (R (key_at keys first) (key_at keys place)) ≡ true → is_upto R keys first place ≡ true
+  equal_upto first place same = by (R (key_at keys first) (key_at keys place)) same
+    where
+      by : (r : Ordering) → is_eq r ≡ true → not (is_lt r) ≡ true
+      by Less e = cc
+      by Equal e = refl
+      by Greater e = cc
+
+  -- where no place lies between, the end is found
+  pub held_end : (first : ℕ) (s : Span) → first < length keys → HoldsEnd R keys first s → s.to ≤ s.from + 1 → CutsAt (length keys) (is_upto R keys first) s.to
+  held_end first s hf held near = by (cases_lt s.to (length keys))
+    where
+      before : (j : ℕ) → j < s.to → is_upto R keys first j ≡ true
+      before j l = let within = held.within in let some = held.some in (end_cut o (length keys) (key_at keys) (key_at keys) ordered ordered).down first j s.from hf (omega (arith, near, l)) (omega (arith, within, some)) held.passed
+
+      by : (s.to < length keys) ⊎ (length keys ≤ s.to) → CutsAt (length keys) (is_upto R keys first) s.to
+      by (inl h) = end_found first s.to hf h before (held.others h)
+      by (inr h) = record { within = held.within; passed = before; others = λ j l k. absurd (omega (arith, h, l, k)) }
 
   -- where the peers of one row end, those of the next begin
   pub next_before : (i c : ℕ) → i < length keys → CutsAt (length keys) (is_upto R keys i) c → c < length keys → CutsAt (length keys) (is_before R keys c) c

@@ -1,7 +1,8 @@
 -- Groups of peers, numbered one after another.
-use Rattle.std.specs.Prelude.{◌≡◌, ℕ, ◌+◌, ◌<◌, ◌≤◌, List, ◌∷◌, length, slice_index}
+use Rattle.std.specs.Prelude.{◌≡◌, ℕ, ◌+◌, ◌<◌, ◌≤◌, true, false, List, ◌∷◌, length, slice_index}
 use Rattle.std.specs.declared.cmp.Ordering.{Ordering}
 use Rattle.wvalues.specs.Meaning.{Meaning}
+use Rattle.wframe.specs.declared.frame.Span.{Span}
 use Rattle.wframe.specs.Peers.{is_before, is_upto}
 use Rattle.wframe.specs.Cuts.{CutsFrom}
 
@@ -22,3 +23,11 @@ pub record AreGroups (cmp : List Meaning → List Meaning → Ordering) (keys : 
   pub next : (i : ℕ) → i < upto → slice_index ends (slice_index numbers (first + i)) < first + upto → slice_index numbers (slice_index ends (slice_index numbers (first + i))) ≡ slice_index numbers (first + i) + 1
   pub done : (i : ℕ) → i < upto → slice_index ends (slice_index numbers (first + i)) ≡ first + upto → slice_index numbers (first + i) + 1 ≡ length ends
   pub long : first + upto ≤ length numbers
+
+-- the rows that agree with a row, which is the first of them, end behind the span's first place and at its end at the latest
+pub record HoldsEnd (cmp : List Meaning → List Meaning → Ordering) (keys : List (List Meaning)) (first : ℕ) (s : Span) : Type 0 where
+  pub begun : first ≤ s.from
+  pub some : s.from < s.to
+  pub within : s.to ≤ length keys
+  pub passed : is_upto cmp keys first s.from ≡ true
+  pub others : s.to < length keys → is_upto cmp keys first s.to ≡ false

@@ -3,28 +3,64 @@ ghost use Rattle.wvalues.specs.Order.{keys_cmp};
 ghost use Rattle.wframe.specs.KeyRows.{key_lists, sort_keys, AreInOrder};
 ghost use Rattle.wframe.specs.Peers.{is_before, is_upto};
 ghost use Rattle.wframe.specs.Cuts.{CutsAt, BeginsWith};
-ghost use Rattle.wframe.specs.PeerGroups.{AreGroups, begins_of};
+ghost use Rattle.wframe.specs.PeerGroups.{AreGroups, HoldsEnd, begins_of};
 
+use crate::frame::Span;
 use crate::key_rows::KeyRows;
 use std::alloc::AllocError;
 
+// A row that agrees with the first of some rows, and behind it one that does not, or the place behind the last row. The steps
+// from row to row double.
+fn end_bounds(rows: &KeyRows, first: usize) -> Span
+    requires ordered { AreInOrder rows.now }
+    requires first { first < length (key_lists rows.now) }
+    ensures { HoldsEnd (keys_cmp (sort_keys rows.now)) (key_lists rows.now) first result }
+{
+    let count = rows.count();
+    let mut from = first;
+    while from - first + 1 < count - from {
+        let place = from + (from - first + 1);
+        if !rows.agree(first, place) {
+            return Span { from, to: place };
+        }
+        from = place;
+    }
+    Span { from, to: count }
+}
+
+// Where the rows that agree with a row end, between two places.
+fn end_between(rows: &KeyRows, first: usize, bounds: Span) -> usize
+    requires ordered { AreInOrder rows.now }
+    requires first { first < length (key_lists rows.now) }
+    requires bounds { HoldsEnd (keys_cmp (sort_keys rows.now)) (key_lists rows.now) first bounds }
+    ensures { CutsAt (length (key_lists rows.now)) (is_upto (keys_cmp (sort_keys rows.now)) (key_lists rows.now) first) result }
+{
+    let mut from = bounds.from;
+    let mut to = bounds.to;
+    while 1 < to - from {
+        let middle = from + (to - from) / 2;
+        if rows.agree(first, middle) {
+            from = middle;
+        } else {
+            to = middle;
+        }
+    }
+    to
+}
+
 /// Where the rows that agree with a row end, which is the first of them. Without keys all agree.
+///
+/// It looks at rows in steps that double, and then halves the last step, so it compares few of many rows that agree.
 pub fn agreeing_end(rows: &KeyRows, first: usize) -> usize
     requires ordered { AreInOrder rows.now }
     requires first { first < length (key_lists rows.now) }
     requires before { CutsAt (length (key_lists rows.now)) (is_before (keys_cmp (sort_keys rows.now)) (key_lists rows.now) first) first }
     ensures { CutsAt (length (key_lists rows.now)) (is_upto (keys_cmp (sort_keys rows.now)) (key_lists rows.now) first) result }
 {
-    let count = rows.count();
     if rows.keys().is_empty() {
-        return count;
+        return rows.count();
     }
-    for place in first + 1..count {
-        if !rows.agree(first, place) {
-            return place;
-        }
-    }
-    count
+    end_between(rows, first, end_bounds(rows, first))
 }
 
 // Adds a group of so many rows, which ends at a place: for each row the group's number, and for the group its end.
@@ -50,7 +86,7 @@ fn push_group(
 /// Adds, for each row, the number of its group of peers, and for each group where it ends, counted on from `first`. Groups are
 /// numbered on from those that are there.
 ///
-/// Each row is compared with the first of its peers alone, and with the first of the peers before.
+/// Rows are compared with the first of their peers alone, and few of many that are peers.
 pub fn push_peers(
     numbers: &mut Vec<usize>,
     ends: &mut Vec<usize>,

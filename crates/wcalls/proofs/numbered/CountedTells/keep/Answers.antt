@@ -3,7 +3,8 @@ use Rattle.std.proofs.lemmas.List.{length-map, length-set}
 use Rattle.wvalues.specs.Meaning.{Meaning, Int}
 use Rattle.wframe.specs.Places.{places}
 use Rattle.wrows.proofs.RowFacts.{length-places}
-use Rattle.wcalls.proofs.PutFacts.{put_next, told_at}
+use Rattle.waggregate.proofs.PutFacts.{put_next}
+use Rattle.wcalls.proofs.PutFacts.{told_at}
 use Rattle.wcalls.proofs.numbered.CountedTells.keep.Goals as goal
 
 pub loop-place-preserved : goal.loop-place-preserved

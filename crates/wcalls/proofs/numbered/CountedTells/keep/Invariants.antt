@@ -1,7 +1,7 @@
 use Rattle.std.proofs.Common.{◌≡◌, ◌+◌, ℕ, pos, length, map, drop}
 use Rattle.wvalues.specs.Meaning.{Meaning, Int}
 use Rattle.wframe.specs.Places.{places}
-use Rattle.wcalls.specs.Put.{put_all}
+use Rattle.waggregate.specs.Put.{put_all}
 use Rattle.wcalls.proofs.numbered.CountedTells.keep.Given as goal
 
 abbrev pub invariant-loop-place : goal.invariant-loop-place

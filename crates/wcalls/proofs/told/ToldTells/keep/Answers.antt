@@ -6,7 +6,8 @@ use Rattle.wrows.proofs.RowFacts.{length-places}
 use Rattle.wcalls.specs.Arranged.{told_value}
 use Rattle.wcalls.specs.Kept.{number_told, value_of_number}
 use Rattle.wcalls.specs.Seen.{values_seen}
-use Rattle.wcalls.proofs.PutFacts.{put_next, told_at}
+use Rattle.waggregate.proofs.PutFacts.{put_next}
+use Rattle.wcalls.proofs.PutFacts.{told_at}
 use Rattle.wcalls.proofs.told.ToldTells.keep.Goals as goal
 
 told_kept : (values : List Meaning) (rows : List ℕ) (default : Meaning) (place : Option ℕ) → value_of_number values default (number_told rows place) ≡ told_value values rows default place

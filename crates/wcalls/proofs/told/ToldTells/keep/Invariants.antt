@@ -4,7 +4,7 @@ use Rattle.wframe.specs.Places.{places}
 use Rattle.wcalls.specs.Arranged.{told_value}
 use Rattle.wcalls.specs.Kept.{value_of_number}
 use Rattle.wcalls.specs.Seen.{values_seen}
-use Rattle.wcalls.specs.Put.{put_all}
+use Rattle.waggregate.specs.Put.{put_all}
 use Rattle.wcalls.proofs.told.ToldTells.keep.Given as goal
 
 abbrev pub invariant-loop-place : goal.invariant-loop-place
