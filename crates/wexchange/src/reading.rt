@@ -408,21 +408,15 @@ fn read_behind(
     ensures view { IfOk result (λ set. IsFileOf known.now.schema set.view bytes.now) }
     ensures fault { IfErr result (λ fault. IsFault known.now.schema bytes.now fault) }
 {
-    let Ok(schema) = known.schema().copy() else {
+    let Ok(set) = known.like(alloc) else {
         return Err(FileFault::NoMemory);
     };
-    read_records(
-        version,
-        bytes,
-        SegmentSet::new(alloc, schema),
-        known,
-        records,
-    )
+    read_records(version, bytes, set, known, records)
 }
 
 /// The set whose file the bytes are, or where it has no floor its text in version 1, under the declaration of a set that
 /// is known, or their first fault from left to right. A content that the known set has live under its name is compared
-/// with it and shared. The digest of a file of version 2 is taken where all before it is right.
+/// with it and shared; others are judged, and their cells are made unless the known set is lazy. The digest of a file of version 2 is taken where all before it is right.
 pub fn read_beside(alloc: Global, known: &SegmentSet, bytes: &[u8]) -> Result<SegmentSet, FileFault>
     ensures view { IfOk result (λ set. IsFileOf known.now.schema set.view bytes.now) }
     ensures schema { IfOk result (λ set. set.schema ≡ known.now.schema) }

@@ -116,7 +116,7 @@ fn write_record<W: Write>(
     ensures failed { OnErr result (output.new.failures ≡ 1) }
 {
     match known {
-        Known::Live(segment) => write_content(output, hasher, name, segment.bytes()),
+        Known::Live(judged) => write_content(output, hasher, name, judged.bytes()),
         Known::Disputed => write_mark(output, hasher, b"D ", name),
         Known::Retired => write_mark(output, hasher, b"R ", name),
         Known::Floor => write_mark(output, hasher, b"U ", name),

@@ -18,8 +18,7 @@ use std::alloc::{AllocError, Global};
 use wplan::Expr;
 use wrows::{AnswerFault, not_too_many};
 use wruns::RowRef;
-use wsegment::Segment;
-use wset::SegmentSet;
+use wset::{Kept, SegmentSet};
 use wvalues::Value;
 
 /// The number of a row that is left out.
@@ -67,12 +66,13 @@ fn push_rows_numbered<'a>(
     held: &mut Vec<&'a [Value]>,
     numbers: &mut Vec<u32>,
     condition: &Expr,
-    segment: &'a Segment,
+    kept: &'a Kept,
 ) -> Result<(), AnswerFault>
-    ensures gives { Gives (λ u. u) result (unless (list_any (is_out_of_range (formula condition.now)) segment.now.rows) OutOfRange tt) }
-    ensures added { OnOk result (rows_seen held.new.items ≡ rows_seen held.old.items ++ filter (holds_on (formula condition.now)) segment.now.rows) }
-    ensures numbered { OnOk result (numbers.new.items ≡ numbers.old.items ++ numbers_kept (holds_on (formula condition.now)) (length held.old.items) segment.now.rows) }
+    ensures gives { Gives (λ u. u) result (unless (list_any (is_out_of_range (formula condition.now)) kept.now.content.rows) OutOfRange tt) }
+    ensures added { OnOk result (rows_seen held.new.items ≡ rows_seen held.old.items ++ filter (holds_on (formula condition.now)) kept.now.content.rows) }
+    ensures numbered { OnOk result (numbers.new.items ≡ numbers.old.items ++ numbers_kept (holds_on (formula condition.now)) (length held.old.items) kept.now.content.rows) }
 {
+    let segment = kept.segment()?;
     numbers.reserve(segment.rows())?;
     for row in 0..segment.rows() {
         push_numbered(held, numbers, condition, segment.row(row))?;

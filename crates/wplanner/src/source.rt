@@ -15,8 +15,7 @@ ghost use Rattle.wplanner.specs.Tables.{rows_of_set};
 use std::alloc::{AllocError, Global};
 use wplan::Expr;
 use wrows::{AnswerFault, holds, not_too_many};
-use wsegment::Segment;
-use wset::SegmentSet;
+use wset::{Kept, SegmentSet};
 use wvalues::Value;
 
 /// A condition keeps few rows where there are at least so many of the table for each of them. To sort the kept rows then costs
@@ -24,12 +23,10 @@ use wvalues::Value;
 const MANY_TIMES: usize = 4;
 
 /// Appends the rows of a segment, which stay where they lie.
-pub(crate) fn push_rows<'a>(
-    rows: &mut Vec<&'a [Value]>,
-    segment: &'a Segment,
-) -> Result<(), AllocError>
-    ensures { OnOk result (rows_seen rows.new.items ≡ rows_seen rows.old.items ++ segment.now.rows) }
+pub(crate) fn push_rows<'a>(rows: &mut Vec<&'a [Value]>, kept: &'a Kept) -> Result<(), AllocError>
+    ensures { OnOk result (rows_seen rows.new.items ≡ rows_seen rows.old.items ++ kept.now.content.rows) }
 {
+    let segment = kept.segment()?;
     rows.reserve(segment.rows())?;
     for row in 0..segment.rows() {
         rows.push(segment.row(row))?;
@@ -67,11 +64,12 @@ pub(crate) fn push_where<'a>(
 fn push_rows_where<'a>(
     held: &mut Vec<&'a [Value]>,
     condition: &Expr,
-    segment: &'a Segment,
+    kept: &'a Kept,
 ) -> Result<(), AnswerFault>
-    ensures gives { Gives (λ u. u) result (unless (list_any (is_out_of_range (formula condition.now)) segment.now.rows) OutOfRange tt) }
-    ensures added { OnOk result (rows_seen held.new.items ≡ rows_seen held.old.items ++ filter (holds_on (formula condition.now)) segment.now.rows) }
+    ensures gives { Gives (λ u. u) result (unless (list_any (is_out_of_range (formula condition.now)) kept.now.content.rows) OutOfRange tt) }
+    ensures added { OnOk result (rows_seen held.new.items ≡ rows_seen held.old.items ++ filter (holds_on (formula condition.now)) kept.now.content.rows) }
 {
+    let segment = kept.segment()?;
     for row in 0..segment.rows() {
         push_where(held, condition, segment.row(row))?;
     }
@@ -128,12 +126,13 @@ pub(crate) fn kept_table_rows<'a>(
 fn push_few_where<'a>(
     held: &mut Vec<&'a [Value]>,
     condition: &Expr,
-    segment: &'a Segment,
+    kept: &'a Kept,
     most: usize,
 ) -> Result<bool, AnswerFault>
-    ensures gives { GivesAtEnd result (unless (list_any (is_out_of_range (formula condition.now)) segment.now.rows) OutOfRange tt) }
-    ensures added { IfOk result (λ all. all ≡ true → rows_seen held.new.items ≡ rows_seen held.old.items ++ filter (holds_on (formula condition.now)) segment.now.rows) }
+    ensures gives { GivesAtEnd result (unless (list_any (is_out_of_range (formula condition.now)) kept.now.content.rows) OutOfRange tt) }
+    ensures added { IfOk result (λ all. all ≡ true → rows_seen held.new.items ≡ rows_seen held.old.items ++ filter (holds_on (formula condition.now)) kept.now.content.rows) }
 {
+    let segment = kept.segment()?;
     for row in 0..segment.rows() {
         if held.len() > most {
             return Ok(false);

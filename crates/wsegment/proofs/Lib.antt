@@ -16,4 +16,5 @@ pub mod JudgementFacts
 pub mod OnLiterals
 pub mod TableFacts
 pub mod Worked
+pub mod JudgingFacts
 mod TextFacts

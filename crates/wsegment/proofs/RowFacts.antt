@@ -49,7 +49,7 @@ order-more fields x (Ok xs) = refl
 order-more fields x (Err fault) = refl
 
 -- the row behind so many, and then the others
-rows-behind : (ks : List Kind) (n : ℕ) (left rest : List (List (List ℕ))) (r : List (List ℕ)) → n ≤ 1000000 → left ≡ r ∷ rest → rows_from ks (n + 1) left ≡ (row_behind n ks r >>= λ x. rows_from ks (n + 1 + 1) rest >>= λ xs. Ok (x ∷ xs))
+pub rows-behind : (ks : List Kind) (n : ℕ) (left rest : List (List (List ℕ))) (r : List (List ℕ)) → n ≤ 1000000 → left ≡ r ∷ rest → rows_from ks (n + 1) left ≡ (row_behind n ks r >>= λ x. rows_from ks (n + 1 + 1) rest >>= λ xs. Ok (x ∷ xs))
 unfolding rows_from
 rows-behind ks n left rest r few e = by (n == 1000000) refl
   where

@@ -1,11 +1,13 @@
 -- The rows of a segment, by what was found out about its bytes.
 use Rattle.std.proofs.Common.{◌≡◌, ◌∙◌, ◌<◌, ◌≤◌, ◌⊎◌, inl, inr, true, false, ℕ, List, [], ◌∷◌, length, map, Result, Some, Ok, Err, refl, sym, ap}
 use Rattle.std.proofs.lemmas.Bool.{le-ltb, lt-ltb}
+use Rattle.std.proofs.lemmas.List.{length-map}
 use Rattle.csv.specs.Reading.{default_config, records, strip_bom}
 use Rattle.wvalues.specs.Meaning.{Meaning}
 use Rattle.wsegment.specs.Cells.{rows_from}
 use Rattle.wsegment.specs.Declaration.{Declaration, Described}
 use Rattle.wsegment.specs.Header.{field_of, in_table_order, is_complete, kinds_of, named_each}
+use Rattle.wsegment.specs.Judging.{counted}
 use Rattle.wsegment.specs.Kept.{in_order_of}
 use Rattle.wsegment.specs.Outcome.{◌>>=◌, Fails}
 use Rattle.wsegment.specs.Rows.{rows_of, rows_of_records, rows_under}
@@ -75,3 +77,32 @@ pub all-rows : (d : Declaration) (bytes : List ℕ) (header : List (List ℕ)) (
     → named_each d.columns [] header ≡ Ok found → is_complete d.columns found ≡ true → map Some fields ≡ map (field_of found) d.columns → in_order_of fields (rows_from (kinds_of found) 1 below) ≡ Ok rows
     → rows_of d bytes ≡ Ok rows
 all-rows d bytes header below found fields rows h p complete e all = rows-ordered d bytes header below found fields h p complete e ∙ all
+
+pub stop-missing : (d : Declaration) (bytes : List ℕ) (header : List (List ℕ)) (below : List (List (List ℕ))) (found : List Described) → IsHeaded d bytes header below
+    → named_each d.columns [] header ≡ Ok found → is_complete d.columns found ≡ false → rows_of d bytes ≡ Err faults.MissingColumn
+unfolding rows_under
+stop-missing d bytes header below found h p missing = go-header d bytes header below found h p ∙ rw missing refl
+
+-- in whatever order their cells stand, rows are as many
+counted-each : (f : List Meaning → List Meaning) (read : Result (List (List Meaning)) SegmentFault) → counted (read >>= λ rows. Ok (map f rows)) ≡ counted read
+counted-each f (Ok rows) = ap (λ (n : ℕ). Ok n) (length-map rows f)
+counted-each f (Err fault) = refl
+
+refused-each : (fault : SegmentFault) (f : List Meaning → List Meaning) (read : Result (List (List Meaning)) SegmentFault) → Fails fault (counted read) → Fails fault (read >>= λ rows. Ok (map f rows))
+refused-each fault f read (inl memory) = inl memory
+refused-each fault f (Ok rows) (inr e) = cc e
+refused-each fault f (Err other) (inr e) = let same : other ≡ fault = cc in inr (ap (λ (g : SegmentFault). Err g) same)
+
+-- the number of rows, and a fault of the rows that are counted
+pub rows-counted : (d : Declaration) (bytes : List ℕ) (header : List (List ℕ)) (below : List (List (List ℕ))) (found : List Described) → IsHeaded d bytes header below
+    → named_each d.columns [] header ≡ Ok found → is_complete d.columns found ≡ true → counted (rows_of d bytes) ≡ counted (rows_from (kinds_of found) 1 below)
+unfolding rows_under
+rows-counted d bytes header below found h p complete =
+    ap (λ (read : Result (List (List Meaning)) SegmentFault). counted read) (go-header d bytes header below found h p)
+    ∙ rw complete (counted-each (in_table_order d.columns found) (rows_from (kinds_of found) 1 below))
+
+pub stop-counted : (fault : SegmentFault) (d : Declaration) (bytes : List ℕ) (header : List (List ℕ)) (below : List (List (List ℕ))) (found : List Described) → IsHeaded d bytes header below
+    → named_each d.columns [] header ≡ Ok found → is_complete d.columns found ≡ true → Fails fault (counted (rows_from (kinds_of found) 1 below)) → Fails fault (rows_of d bytes)
+unfolding rows_under
+stop-counted fault d bytes header below found h p complete failed =
+    rw (go-header d bytes header below found h p, complete) (refused-each fault (in_table_order d.columns found) (rows_from (kinds_of found) 1 below) failed)

@@ -1,4 +1,4 @@
--- How a segment is kept: its cells one row after another in the order of the table's columns.
+-- How a segment is kept: its cells one row after another in the order of the table's columns, beside what was judged.
 use Rattle.std.specs.Prelude.{◌≡◌, ◌≤◌, ◌*◌, ℕ, zero, suc, List, [], ◌∷◌, length, map, slice_index_or, take, drop, Result, Ok}
 use Rattle.wvalues.specs.Meaning.{Meaning, Null, meaning}
 use Rattle.wvalues.specs.declared.value.Value.{Value}
@@ -26,12 +26,13 @@ in_order_of fields read = read >>= λ rows. Ok (map (cells_at fields) rows)
 
 abbrev pub content_of : Inside → Content
 content_of a = record {
-  bytes = a.bytes.items;
+  bytes = a.judged.value.bytes;
   columns = a.rows.width;
   rows = rows_kept a.rows;
 }
 
--- all rows are there, and not too many
+-- all rows are there, and not too many, and they are those of what was judged
 pub record IsKept (a : Inside) : Type 0 where
   pub filled : length a.rows.cells.items ≡ a.rows.count * a.rows.width
   pub few : a.rows.count ≤ 1000000
+  pub same : content_of a ≡ a.judged.value

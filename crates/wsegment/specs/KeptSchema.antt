@@ -6,8 +6,8 @@ use Rattle.wsegment.specs.Spelling.{IsDeclaration}
 use Rattle.wsegment.specs.declared.schema.Schema.TheInside.{Inside}
 
 abbrev pub declaration_of : Inside → Declaration
-declaration_of a = record { table = string_bytes a.table; columns = a.columns.items }
+declaration_of a = record { table = string_bytes a.declared.value.table; columns = a.declared.value.columns.items }
 
 pub record IsKept (a : Inside) : Type 0 where
-  pub text : a.text.items ≡ declaration_text (declaration_of a)
+  pub text : a.declared.value.text.items ≡ declaration_text (declaration_of a)
   pub declared : IsDeclaration (declaration_of a)

@@ -9,3 +9,5 @@ pub mod Kept
 pub mod Progress
 pub mod KeptSchema
 pub mod Table
+pub mod Judging
+pub mod KeptJudged

@@ -14,9 +14,9 @@ use std::alloc::Global;
 use std::str;
 use wvalues::{Value, Whole};
 
-// The 64-bit number that a text spells.
+/// The 64-bit number that a text spells.
 #[tactic(auto, using(crate::proofs::IntegerFacts::parsed))]
-fn integer(text: &str) -> Option<i64>
+pub(crate) fn integer(text: &str) -> Option<i64>
     ensures { result ≡ integer_of text.now }
 {
     text.parse::<i64>().ok()

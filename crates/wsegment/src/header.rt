@@ -1,5 +1,5 @@
 //! The header: the column of each field, and the field of each column.
-ghost use Rattle.std.specs.Prelude.{◌≡◌, ◌<◌, [], All, Ok, Some, IfOk, length, map, option_map, position, MatchResult, true, false, ◌⊎◌};
+ghost use Rattle.std.specs.Prelude.{◌≡◌, ◌<◌, [], All, Ok, Some, IfOk, length, map, option_map, is_some, position, MatchResult, true, false, ◌⊎◌};
 ghost use Rattle.std.specs.List.{find, list_any};
 ghost use Rattle.std.specs.Str.{bytes_eq};
 ghost use Rattle.csv.specs.Records.{fields_of};
@@ -93,4 +93,18 @@ pub(crate) fn column_fields(
         fields.push(field)?;
     }
     Ok(fields)
+}
+
+// Whether a column has a field.
+fn has_field(header: &[&Column], column: &Column) -> bool
+    ensures { result ≡ is_some (field_of (all_now header.now) column.now) }
+{
+    field_of(header, column).is_some()
+}
+
+/// Whether each column has a field.
+pub(crate) fn is_complete(columns: &[Column], header: &[&Column]) -> bool
+    ensures { result ≡ is_complete columns.now (all_now header.now) }
+{
+    columns.iter().all(|column| has_field(header, column))
 }

@@ -11,14 +11,12 @@ ghost use Rattle.wsegment.specs.Progress.{IsReading, records_left};
 use crate::cell::cell;
 use crate::column::Column;
 use crate::fault::SegmentFault;
+use crate::judging::MAX_ROWS;
 use crate::records::take_record;
 use crate::texts::Texts;
 use csv::{ByteRecord, Reader};
 use std::alloc::{AllocError, Global};
 use wvalues::Value;
-
-/// The most rows of a segment.
-const MAX_ROWS: u32 = 1_000_000;
 
 /// Rows of cells in the order of the table's columns, one row after another.
 #[derive(Debug, Drop)]

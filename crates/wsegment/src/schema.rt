@@ -9,6 +9,7 @@ use crate::schema_fault::SchemaFault;
 use crate::spelling::{columns_of, has_repeated, table_at};
 use std::alloc::{AllocError, Global};
 use std::marker::Model;
+use std::rc::Rc;
 
 /// The most bytes of a declaration.
 const MAX_BYTES: usize = 65_536;
@@ -16,12 +17,18 @@ const MAX_BYTES: usize = 65_536;
 /// The most columns of a table.
 const MAX_COLUMNS: usize = 64;
 
-/// A table's name and its 1 to 64 columns, whose names differ, with the one text that declares them.
+/// What a text declares, with this text.
+#[derive(Debug, Drop)]
+pub(crate) struct Declared {
+    pub(crate) text: Vec<u8>,
+    pub(crate) table: String,
+    pub(crate) columns: Vec<Column>,
+}
+
+/// A table's name and its 1 to 64 columns, whose names differ, with the one text that declares them. Its copies share them.
 #[derive(Debug, Drop)]
 pub struct Schema {
-    text: Vec<u8>,
-    table: String,
-    columns: Vec<Column>,
+    declared: Rc<Declared>,
 }
 
 impl Model for Schema {
@@ -64,29 +71,30 @@ impl Schema {
             return Err(SchemaFault::ColumnCount);
         }
         let text = Vec::from_slice(alloc, bytes)?;
-        Ok(Schema {
+        let declared = Declared {
             text,
             table,
             columns,
-        })
+        };
+        let Ok(declared) = Rc::new(alloc, declared) else {
+            return Err(SchemaFault::NoMemory);
+        };
+        Ok(Schema { declared })
     }
 
-    /// An equal schema.
+    /// An equal schema. It shares all with this one, and takes no memory.
     pub fn copy(&self) -> Result<Schema, AllocError>
         ensures { IfOk result (λ copied. copied ≡ self.now) }
     {
-        Ok(Schema {
-            text: self.text.clone()?,
-            table: self.table.clone()?,
-            columns: self.columns.clone()?,
-        })
+        let declared = self.declared.clone()?;
+        Ok(Schema { declared })
     }
 
     /// Whether another schema declares the same table.
     pub fn is_same(&self, other: &Schema) -> bool
         ensures { IsTrue result ↔ (self.now ≡ other.now) }
     {
-        self.text == other.text
+        self.text() == other.text()
     }
 
     /// The text of the declaration. `Schema::read` of it gives the schema again.
@@ -94,14 +102,14 @@ impl Schema {
         ensures text { result.now ≡ declaration_text self.now }
         ensures well_formed { IsDeclaration self.now }
     {
-        self.text.as_slice()
+        self.declared.as_ref().text.as_slice()
     }
 
     /// The table's name.
     pub fn table(&self) -> &str
         ensures { result.now ≡ self.now.table }
     {
-        self.table.as_str()
+        self.declared.as_ref().table.as_str()
     }
 
     /// The columns, in the order of the declaration.
@@ -109,7 +117,7 @@ impl Schema {
         ensures columns { result.now ≡ self.now.columns }
         ensures well_formed { IsDeclaration self.now }
     {
-        self.columns.as_slice()
+        self.declared.as_ref().columns.as_slice()
     }
 
     /// The place of the column of this name, counted from 0.
@@ -117,6 +125,8 @@ impl Schema {
         ensures place { result ≡ place_of name.now self.now.columns }
         ensures in_range { IfSome result (λ place. place < length self.now.columns) }
     {
-        self.columns.iter().position(|column| column.name() == name)
+        self.columns()
+            .iter()
+            .position(|column| column.name() == name)
     }
 }

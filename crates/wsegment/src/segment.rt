@@ -1,26 +1,26 @@
 //! A segment: rows of the table with the bytes that they were read from.
-ghost use Rattle.std.specs.Prelude.{◌≡◌, ◌+◌, ◌*◌, ◌<◌, ◌≤◌, [], Err, IfOk, drop, length, map, slice_index_or, take};
+ghost use Rattle.std.specs.Prelude.{◌≡◌, ◌+◌, ◌*◌, ◌<◌, ◌≤◌, [], Ok, Err, IfOk, drop, length, map, slice_index_or, take};
 ghost use Rattle.wvalues.specs.Meaning.{meaning};
+ghost use Rattle.wsegment.specs.Kept.{rows_kept};
 ghost use Rattle.wsegment.specs.Outcome.{Gives};
 ghost use Rattle.wsegment.specs.Rows.{cell, rows_of};
 
 use crate::fault::SegmentFault;
 use crate::header::{column_fields, header_columns};
+use crate::judged::{Judged, MAX_BYTES};
 use crate::records::{reader_of, take_header};
 use crate::rows::{Rows, read_rows};
 use crate::schema::Schema;
-use std::alloc::Global;
+use std::alloc::{AllocError, Global};
 use std::marker::Model;
+use std::rc::Rc;
 use wvalues::Value;
 
-/// The most bytes of a segment.
-const MAX_BYTES: usize = 67_108_864;
-
-/// The typed rows of some bytes, with these bytes. Rows and columns are counted from 0 here, and columns stand
-/// in the order of the table.
+/// The typed rows of some bytes, beside these bytes as they were judged, which it may share. Rows and columns are counted from 0
+/// here, and columns stand in the order of the table.
 #[derive(Debug, Drop)]
 pub struct Segment {
-    bytes: Vec<u8>,
+    judged: Rc<Judged>,
     rows: Rows,
 }
 
@@ -45,6 +45,26 @@ fn part(cells: &[Value], row: usize, width: usize) -> &[Value]
     &cells[start..start + width]
 }
 
+// The typed rows of these bytes, or their first fault.
+fn read_cells(alloc: Global, schema: &Schema, bytes: &[u8]) -> Result<Rows, SegmentFault>
+    ensures rows { Gives rows_kept result (rows_of schema.now bytes.now) }
+    ensures filled { IfOk result (λ rows. length rows.cells.items ≡ rows.count * rows.width) }
+    ensures columns { IfOk result (λ rows. rows.width ≡ length schema.now.columns) }
+    ensures few { IfOk result (λ rows. rows.count ≤ 1000000) }
+    ensures long { 67108864 < length bytes.now → result ≡ Err SegmentFault.TooLong }
+{
+    if bytes.len() > MAX_BYTES {
+        return Err(SegmentFault::TooLong);
+    }
+    let mut reader = reader_of(alloc, bytes)?;
+    let first = take_header(alloc, &mut reader)?;
+    let columns = schema.columns();
+    let header = header_columns(alloc, columns, &first)?;
+    let fields = column_fields(alloc, columns, &header)?;
+    let rows = read_rows(alloc, &mut reader, &header, &fields)?;
+    Ok(rows)
+}
+
 impl Segment {
     /// The typed rows of these bytes, or their first fault. Their number is judged first, without memory, then the header from left
     /// to right, then whether a column is missing, then row by row whether there are too many, the row's length, and
@@ -55,17 +75,30 @@ impl Segment {
         ensures columns { IfOk result (λ segment. segment.columns ≡ length schema.now.columns) }
         ensures long { 67108864 < length bytes.now → result ≡ Err SegmentFault.TooLong }
     {
-        if bytes.len() > MAX_BYTES {
-            return Err(SegmentFault::TooLong);
-        }
-        let mut reader = reader_of(alloc, bytes)?;
-        let first = take_header(alloc, &mut reader)?;
-        let columns = schema.columns();
-        let header = header_columns(alloc, columns, &first)?;
-        let fields = column_fields(alloc, columns, &header)?;
-        let rows = read_rows(alloc, &mut reader, &header, &fields)?;
-        let bytes = Vec::from_slice(alloc, bytes)?;
-        Ok(Segment { bytes, rows })
+        let rows = read_cells(alloc, schema, bytes)?;
+        let judged = Judged::kept(alloc, schema, bytes, rows.count)?;
+        let Ok(judged) = Rc::new(alloc, judged) else {
+            return Err(SegmentFault::NoMemory);
+        };
+        Ok(Segment { judged, rows })
+    }
+
+    /// The typed rows of bytes that were judged, which it shares. They have no fault: only memory may run out.
+    pub fn of(alloc: Global, judged: &Rc<Judged>) -> Result<Segment, AllocError>
+        ensures { IfOk result (λ segment. segment ≡ judged.now.value) }
+    {
+        let Ok(rows) = read_cells(alloc, judged.schema(), judged.bytes()) else {
+            return Err(AllocError);
+        };
+        let judged = judged.clone()?;
+        Ok(Segment { judged, rows })
+    }
+
+    /// The bytes that it was read from, as they were judged.
+    pub fn judged(&self) -> &Rc<Judged>
+        ensures { result.now.value ≡ self.now }
+    {
+        &self.judged
     }
 
     /// How many rows it has, at most 1,000,000.
@@ -81,7 +114,7 @@ impl Segment {
     pub fn bytes(&self) -> &[u8]
         ensures { result.now ≡ self.now.bytes }
     {
-        self.bytes.as_slice()
+        self.judged.bytes()
     }
 
     /// The values of a row, counted from 0, in the order of the table's columns.

@@ -31,6 +31,12 @@ set_keeps f [] i x k is same = refl
 set_keeps f (y ∷ ys) zero x k is same = ap (λ z. z ∷ map f ys) (same ∙ ap f is)
 set_keeps f (y ∷ ys) (suc i) x k is same = ap (λ l. f y ∷ l) (set_keeps f ys i x k is same)
 
+-- an element that is written as it was
+pub set_same : {X : Type 0} (xs : List X) (i : ℕ) (x k : X) → x ≡ get_or xs i x → k ≡ x → slice_set xs i k ≡ xs
+set_same [] i x k is same = refl
+set_same (y ∷ ys) zero x k is same = ap (λ z. z ∷ ys) (same ∙ is)
+set_same (y ∷ ys) (suc i) x k is same = ap (λ l. y ∷ l) (set_same ys i x k is same)
+
 take_set : {X : Type 0} (xs : List X) (i : ℕ) (k : X) → i < length xs → take (i + 1) (slice_set xs i k) ≡ take i xs ++ k ∷ []
 take_set [] i k lt = absurd (omega (arith, lt))
 take_set (y ∷ ys) zero k lt = refl

@@ -11,6 +11,7 @@ pub mod Entries
 pub mod Blocks
 pub mod Merging
 pub mod Running
+pub mod Cells
 pub mod KeptOrders
 pub mod StoredBlocks
 pub mod Storing

@@ -15,7 +15,7 @@ ghost use Rattle.wset.specs.declared.entries.Entry.{Entry as HeldEntry};
 
 use crate::entries::{
     Entry, drop_under, first_from, floor_of, held_of, is_above, list_entries, live_count,
-    make_runs, put_entry, share_entries,
+    make_cells, make_runs, put_entry, share_entries,
 };
 use crate::held::Held;
 use crate::words::Listed;
@@ -129,6 +129,14 @@ impl Block {
         ensures has { OnOk result (All (λ e. HeldHasRun keys.now e.held) self.new) }
     {
         make_runs(alloc, &mut self.entries, keys)?;
+        Ok(())
+    }
+
+    /// Makes the cells of each segment that has none.
+    fn make_cells(&mut self, alloc: Global) -> Result<(), AllocError>
+        ensures { self.new ≡ self.old }
+    {
+        make_cells(alloc, &mut self.entries)?;
         Ok(())
     }
 
@@ -555,6 +563,16 @@ pub(crate) fn make_in(
 {
     for i in 0..blocks.len() {
         blocks[i].make_runs(alloc, keys)?;
+    }
+    Ok(())
+}
+
+/// Makes the cells of each segment that has none.
+pub(crate) fn make_cells_in(alloc: Global, blocks: &mut Vec<Block>) -> Result<(), AllocError>
+    ensures { blocks.new.items ≡ blocks.old.items }
+{
+    for i in 0..blocks.len() {
+        blocks[i].make_cells(alloc)?;
     }
     Ok(())
 }

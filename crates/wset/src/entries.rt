@@ -222,6 +222,17 @@ pub(crate) fn make_runs(
     Ok(())
 }
 
+/// Makes the cells of each segment that has none.
+pub(crate) fn make_cells(alloc: Global, entries: &mut Vec<Entry>) -> Result<(), AllocError>
+    ensures { entries.new.items ≡ entries.old.items }
+{
+    for i in 0..entries.len() {
+        let entry = &mut entries[i];
+        entry.held.make_cells(alloc)?;
+    }
+    Ok(())
+}
+
 /// How many names are live.
 pub(crate) fn live_count(entries: &[Entry]) -> usize
     ensures { result ≡ length (kept_in entries.now) }

@@ -94,12 +94,22 @@ impl Held {
         }
     }
 
+    /// Makes the cells of a segment that has none.
+    pub(crate) fn make_cells(&mut self, alloc: Global) -> Result<(), AllocError>
+        ensures { self.new ≡ self.old }
+    {
+        match self {
+            Held::Live(kept) => kept.make_cells(alloc),
+            Held::Disputed | Held::Retired | Held::Floor => Ok(()),
+        }
+    }
+
     /// The number of rows of the segment, and none where there is no segment.
     pub(crate) fn rows(&self) -> usize
         ensures { result ≡ row_count_of self.now }
     {
         match self {
-            Held::Live(kept) => kept.segment().rows(),
+            Held::Live(kept) => kept.rows(),
             Held::Disputed | Held::Retired | Held::Floor => 0,
         }
     }
@@ -109,7 +119,7 @@ impl Held {
         ensures { told_of result ≡ known_of self.now }
     {
         match self {
-            Held::Live(kept) => Known::Live(kept.segment()),
+            Held::Live(kept) => Known::Live(kept.judged()),
             Held::Disputed => Known::Disputed,
             Held::Retired => Known::Retired,
             Held::Floor => Known::Floor,

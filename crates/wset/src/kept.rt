@@ -1,72 +1,113 @@
-//! A live name's segment, as one set keeps it.
-ghost use Rattle.std.specs.Prelude.{◌≡◌, ◌↔◌, ◌++◌, ◌∷◌, [], IfOk, IfSome, IsTrue, OnErr, OnOk, is_some};
+//! A live name's content, as one set keeps it.
+ghost use Rattle.std.specs.Prelude.{◌≡◌, ◌↔◌, ◌≤◌, ◌++◌, ◌∷◌, [], IfOk, IfSome, IsTrue, OnErr, OnOk, is_some, length};
 ghost use Rattle.std.specs.List.{IsAmong};
 ghost use Rattle.circular_buffer.specs.Buffer.{keep_last};
+ghost use Rattle.wset.specs.Cells.{parts_of};
 
+use crate::cells::Cells;
 use std::alloc::{AllocError, Global};
 use std::marker::Model;
 use std::rc::Rc;
 use wruns::{KeptRuns, SegmentRun};
-use wsegment::Segment;
+use wsegment::{Judged, Segment};
 use wvalues::SortKey;
 
-/// A segment and the runs that are kept of it, shared by the sets that know it until one of them makes a run more. It is
-/// one pointer, so that an entry stays small. In a contract it is the segment's content, and the keys of the runs.
+/// A live name's content, as one set keeps it: the bytes as they were judged, the cells, where they are made, and the runs that are
+/// kept of them. It is shared by the sets that know it until one of them makes cells or a run. It is one pointer, so that an entry
+/// stays small. In a contract it is the segment's content, and the keys of the runs: which cells are made is no part of it.
 #[derive(Drop)]
-pub(crate) struct Kept {
-    runs: Rc<KeptRuns>,
+pub struct Kept {
+    cells: Rc<Cells>,
 }
 
 impl Model for Kept {
     ghost use Rattle.wruns.specs.KeptRuns.{KeptParts};
+    ghost use Rattle.wset.specs.Cells.{parts_of};
 
     ghost Value = { KeptParts };
 
-    ghost view = { λ kept. kept.runs.value };
+    ghost view = { λ kept. parts_of kept.cells.value };
 }
 
 impl Kept {
     /// A segment that no other set knows yet.
     pub(crate) fn new(alloc: Global, segment: Segment) -> Result<Kept, AllocError>
-        ensures content { IfOk result (λ kept. kept.content ≡ segment) }
-        ensures orders { IfOk result (λ kept. kept.orders ≡ []) }
+        ensures { IfOk result (λ kept. kept ≡ record { content = segment; orders = [] }) }
     {
         let Ok(segment) = Rc::new(alloc, segment) else {
             return Err(AllocError);
         };
-        Kept::of(alloc, KeptRuns::new(alloc, segment))
+        Kept::of(alloc, Cells::Made(KeptRuns::new(alloc, segment)))
     }
 
-    /// A segment with these runs.
-    fn of(alloc: Global, runs: KeptRuns) -> Result<Kept, AllocError>
-        ensures { IfOk result (λ kept. kept ≡ runs) }
+    /// What was judged, of which no cell is made.
+    pub(crate) fn unmade(alloc: Global, judged: Rc<Judged>) -> Result<Kept, AllocError>
+        ensures { IfOk result (λ kept. kept ≡ record { content = judged.value; orders = [] }) }
     {
-        let Ok(runs) = Rc::new(alloc, runs) else {
+        Kept::of(alloc, Cells::Unmade(judged))
+    }
+
+    /// A content that is kept so.
+    fn of(alloc: Global, cells: Cells) -> Result<Kept, AllocError>
+        ensures { IfOk result (λ kept. kept ≡ parts_of cells) }
+    {
+        let Ok(cells) = Rc::new(alloc, cells) else {
             return Err(AllocError);
         };
-        Ok(Kept { runs })
+        Ok(Kept { cells })
     }
 
-    /// The segment.
-    pub(crate) fn segment(&self) -> &Segment
+    /// The segment, if its cells are made: `AllocError` where they are not, for want of memory or since nobody asked for them by
+    /// `SegmentSet::make`.
+    pub fn segment(&self) -> Result<&Segment, AllocError>
+        ensures { IfOk result (λ segment. segment.now ≡ self.now.content) }
+    {
+        match self.cells.as_ref().segment() {
+            Some(segment) => Ok(segment),
+            None => Err(AllocError),
+        }
+    }
+
+    /// What was judged.
+    pub(crate) fn judged(&self) -> &Judged
         ensures { result.now ≡ self.now.content }
     {
-        self.runs.as_ref().segment()
+        self.cells.as_ref().judged()
+    }
+
+    /// How many rows it has. No cell is made for that.
+    pub fn rows(&self) -> usize
+        ensures count { result ≡ length self.now.content.rows }
+        ensures few { result ≤ 1000000 }
+    {
+        self.judged().rows()
     }
 
     /// The segment's bytes.
     pub(crate) fn bytes(&self) -> &[u8]
         ensures { result.now ≡ self.now.content.bytes }
     {
-        self.segment().bytes()
+        self.judged().bytes()
     }
 
-    /// The same segment and runs for another set. Nothing of them is copied.
+    /// The same for another set. Nothing of it is copied.
     pub(crate) fn share(&self) -> Result<Kept, AllocError>
         ensures { IfOk result (λ kept. kept ≡ self.now) }
     {
-        let runs = self.runs.clone()?;
-        Ok(Kept { runs })
+        let cells = self.cells.clone()?;
+        Ok(Kept { cells })
+    }
+
+    /// Makes the cells, if they are not made. Other sets keep what they have. Where it finds no memory nothing is changed.
+    pub(crate) fn make_cells(&mut self, alloc: Global) -> Result<(), AllocError>
+        ensures { self.new ≡ self.old }
+    {
+        if self.segment().is_ok() {
+            return Ok(());
+        }
+        let runs = self.cells.as_ref().made(alloc)?;
+        *self = Kept::of(alloc, Cells::Made(runs))?;
+        Ok(())
     }
 
     /// The same segment with the run of these keys besides.
@@ -76,9 +117,9 @@ impl Kept {
         ensures made { (IsAmong self.now.orders keys.now → ⊥)
             → IfOk result (λ kept. kept.orders ≡ keep_last 4 (self.now.orders ++ keys.now ∷ [])) }
     {
-        let mut runs = self.runs.as_ref().share()?;
+        let mut runs = self.cells.as_ref().made(alloc)?;
         runs.make(keys)?;
-        Kept::of(alloc, runs)
+        Kept::of(alloc, Cells::Made(runs))
     }
 
     /// Makes the run of these keys, if it is not kept; of five runs the one that was made first is let go. Other sets keep
@@ -102,7 +143,7 @@ impl Kept {
     pub(crate) fn has(&self, keys: &[SortKey]) -> bool
         ensures { IsTrue result ↔ IsAmong self.now.orders keys.now }
     {
-        self.runs.as_ref().find(keys).is_some()
+        self.cells.as_ref().source(keys).is_some()
     }
 
     /// The segment with its run of these keys, if it is kept.
@@ -111,6 +152,6 @@ impl Kept {
         ensures keys { IfSome result (λ s. s.run.now.keys ≡ keys.now) }
         ensures segment { IfSome result (λ s. s.segment.now ≡ self.now.content) }
     {
-        self.runs.as_ref().source(keys)
+        self.cells.as_ref().source(keys)
     }
 }

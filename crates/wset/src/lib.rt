@@ -18,6 +18,7 @@
 #![tactic(auto)]
 
 mod blocks;
+mod cells;
 mod entries;
 mod held;
 mod kept;
@@ -31,6 +32,7 @@ mod starts;
 mod walk;
 mod words;
 
+pub use kept::Kept;
 pub use known::Known;
 pub use set::SegmentSet;
 pub use walk::{Lives, Names};

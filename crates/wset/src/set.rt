@@ -17,7 +17,7 @@ ghost use Rattle.wset.specs.Holding.{IsHeldBy, known_of};
 
 use crate::blocks::{
     Block, count_after, end_before, end_before_origin, entry_count, floor_in, held_in, in_blocks,
-    is_low, listing, make_in,
+    is_low, listing, make_cells_in, make_in,
 };
 use crate::held::Held;
 use crate::kept::Kept;
@@ -29,8 +29,9 @@ use crate::walk::{Lives, Names};
 use crate::words::{JoinError, Listed, Retired, Status, TakeError, Taken};
 use std::alloc::{AllocError, Global};
 use std::marker::Model;
+use std::rc::Rc;
 use wruns::RowRef;
-use wsegment::{Schema, Segment, SegmentFault};
+use wsegment::{Judged, Schema, Segment, SegmentFault};
 use wvalues::{Name, SortKey};
 
 /// What is known of each name, and the declaration by which all its segments were read.
@@ -40,6 +41,10 @@ use wvalues::{Name, SortKey};
 /// blocks of at most 512, which are cut in two as they grow, and beside the blocks how many live names stand before each, and
 /// at most one order of the rows of all live segments. A segment's bytes and cells are shared by all sets that know it, and so
 /// are its runs, so a set that is new and then joins another is a cheap copy of it.
+///
+/// An eager set (`new`) makes the cells of a segment as it takes it, for queries that are to come; a lazy one (`lazy`) makes none
+/// before it is told to by `make` or asked for an order. What is shared with another set has the cells that that one made, so who
+/// needs them calls `make`, whatever the set.
 #[derive(Drop)]
 pub struct SegmentSet {
     alloc: Global,
@@ -48,6 +53,7 @@ pub struct SegmentSet {
     starts: Vec<usize>,
     count: usize,
     order: Option<KeptOrder>,
+    is_lazy: bool,
 }
 
 impl Model for SegmentSet {
@@ -77,8 +83,22 @@ fn with_bytes<'a>(kept: &'a Kept, bytes: &[u8]) -> Option<&'a Kept>
 }
 
 impl SegmentSet {
-    /// A set that knows nothing, for segments of this declaration. It takes no memory.
+    /// A set that knows nothing, for segments of this declaration. It takes no memory. It makes the cells of a segment as it takes it.
     pub fn new(alloc: Global, schema: Schema) -> SegmentSet
+        ensures { result ≡ record { schema = schema; view = map.empty; orders = [] } }
+    {
+        SegmentSet::empty(alloc, schema, false)
+    }
+
+    /// The same, but it judges what it takes, and makes no cells before `make` or `ordered`.
+    pub fn lazy(alloc: Global, schema: Schema) -> SegmentSet
+        ensures { result ≡ record { schema = schema; view = map.empty; orders = [] } }
+    {
+        SegmentSet::empty(alloc, schema, true)
+    }
+
+    /// A set that knows nothing, and makes cells as it takes segments, unless it is lazy.
+    fn empty(alloc: Global, schema: Schema, is_lazy: bool) -> SegmentSet
         ensures { result ≡ record { schema = schema; view = map.empty; orders = [] } }
     {
         SegmentSet {
@@ -88,7 +108,16 @@ impl SegmentSet {
             starts: Vec::new(alloc),
             count: 0,
             order: None,
+            is_lazy,
         }
+    }
+
+    /// A set that knows nothing, for segments of the same declaration, which is lazy where this one is. It takes no memory.
+    pub fn like(&self, alloc: Global) -> Result<SegmentSet, AllocError>
+        ensures { IfOk result (λ set. set ≡ record { schema = self.now.schema; view = map.empty; orders = [] }) }
+    {
+        let schema = self.schema.copy()?;
+        Ok(SegmentSet::empty(alloc, schema, self.is_lazy))
     }
 
     /// The declaration that `new` was handed, by which each live segment was read.
@@ -178,6 +207,34 @@ impl SegmentSet {
         }
     }
 
+    /// Reads bytes: all their cells, or in a lazy set no more than whether they are a segment.
+    fn read(&self, bytes: &[u8]) -> Result<Kept, SegmentFault>
+        ensures read { IfOk result (λ kept. IsReadBy self.now.schema kept.content) }
+        ensures bytes { IfOk result (λ kept. kept.content.bytes ≡ bytes.now) }
+        ensures refused { IfErr result (λ fault. Fails fault (rows_of self.now.schema bytes.now)) }
+    {
+        if self.is_lazy {
+            return self.judge(bytes);
+        }
+        let segment = Segment::read(self.alloc, &self.schema, bytes)?;
+        let kept = Kept::new(self.alloc, segment)?;
+        Ok(kept)
+    }
+
+    /// Reads bytes without their cells.
+    fn judge(&self, bytes: &[u8]) -> Result<Kept, SegmentFault>
+        ensures read { IfOk result (λ kept. IsReadBy self.now.schema kept.content) }
+        ensures bytes { IfOk result (λ kept. kept.content.bytes ≡ bytes.now) }
+        ensures refused { IfErr result (λ fault. Fails fault (rows_of self.now.schema bytes.now)) }
+    {
+        let judged = Judged::read(self.alloc, &self.schema, bytes)?;
+        let Ok(judged) = Rc::new(self.alloc, judged) else {
+            return Err(SegmentFault::NoMemory);
+        };
+        let kept = Kept::unmade(self.alloc, judged)?;
+        Ok(kept)
+    }
+
     /// Takes a segment: these bytes under this name. The bytes are read first, whatever is known of the
     /// name, unless it is live with these bytes, which were read before: that takes no memory. Where they
     /// are refused, or memory runs out, the set is as it was.
@@ -193,10 +250,38 @@ impl SegmentSet {
         if self.known_segment(&name, bytes).is_some() {
             return Ok(Taken::Same);
         }
-        let segment = Segment::read(self.alloc, &self.schema, bytes)?;
-        let kept = Kept::new(self.alloc, segment)?;
+        let kept = self.read(bytes)?;
         let taken = self.take_read(name, kept)?;
         Ok(taken)
+    }
+
+    /// Takes a segment of which the bytes were judged by the set's declaration, and shares them: what `take` does, but they are not
+    /// judged again. Where memory runs out the set is as it was.
+    pub fn take_judged(&mut self, name: Name, judged: &Rc<Judged>) -> Result<Taken, AllocError>
+        requires { IsReadBy self.old.schema judged.now.value }
+        ensures word { IfOk result (λ word. word ≡ taken_word (known_in self.old.view name) judged.now.value.bytes) }
+        ensures ok { let item = view_of_item (SegmentItem name judged.now.value.bytes) in
+            OnOk result (Becomes self.old (join self.old.view item) self.new) }
+        ensures err { OnErr result (self.new ≡ self.old) }
+        ensures same { known_in self.old.view name ≡ Some (Live judged.now.value.bytes) → result ≡ Ok Taken.Same }
+    {
+        if self.known_segment(&name, judged.bytes()).is_some() {
+            return Ok(Taken::Same);
+        }
+        let kept = self.kept_of(judged)?;
+        let taken = self.take_read(name, kept)?;
+        Ok(taken)
+    }
+
+    /// What was judged, as the set keeps it.
+    fn kept_of(&self, judged: &Rc<Judged>) -> Result<Kept, AllocError>
+        ensures { IfOk result (λ kept. kept ≡ record { content = judged.now.value; orders = [] }) }
+    {
+        if self.is_lazy {
+            return Kept::unmade(self.alloc, judged.clone()?);
+        }
+        let segment = Segment::of(self.alloc, judged)?;
+        Kept::new(self.alloc, segment)
     }
 
     /// Takes a segment beside another set of the same declaration, which does not change: what `take`
@@ -400,16 +485,15 @@ impl SegmentSet {
         live_count_in(&self.blocks, &self.starts)
     }
 
-    /// The i-th live name from 0, in the order of names, and its segment, which was read by the set's declaration. It is
+    /// The i-th live name from 0, in the order of names, and its content, which was read by the set's declaration. It is
     /// found by a binary search among the blocks and a walk through one of them, of at most 512 entries, and takes no
     /// memory.
-    pub fn live_at(&self, i: usize) -> (Name, &Segment)
+    pub fn live_at(&self, i: usize) -> (Name, &Kept)
         requires { i < length (lives self.now.view) }
-        ensures known { slice_get (lives self.now.view) i ≡ Some (result.0, result.1.now.bytes) }
-        ensures read { IsReadBy self.now.schema result.1.now }
+        ensures known { slice_get (lives self.now.view) i ≡ Some (result.0, result.1.now.content.bytes) }
+        ensures read { IsReadBy self.now.schema result.1.now.content }
     {
-        let (name, kept) = live_in(&self.blocks, &self.starts, i);
-        (name, kept.segment())
+        live_in(&self.blocks, &self.starts, i)
     }
 
     /// Whether the run of these keys is kept of the segment of `live_at(i)`. It takes the time of `live_at` and looks at the
@@ -550,7 +634,16 @@ impl SegmentSet {
         end_before_origin(&self.blocks, name)
     }
 
-    /// Each live name and its segment, in the order of names, in one pass.
+    /// Makes the cells of each live segment that has none. Where it finds no memory those that were made so far stay. What a
+    /// contract sees of the set stays as it is.
+    pub fn make(&mut self) -> Result<(), AllocError>
+        ensures { self.new ≡ self.old }
+    {
+        make_cells_in(self.alloc, &mut self.blocks)?;
+        Ok(())
+    }
+
+    /// Each live name and its content, in the order of names, in one pass.
     #[tactic(auto, using(crate::proofs::KeptSets::lives_known, crate::proofs::KeptSets::lives_read))]
     pub fn lives(&self) -> Lives<'_>
         ensures { AreLivesOf self.now result }

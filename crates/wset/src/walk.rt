@@ -9,10 +9,10 @@ ghost use Rattle.wset.specs.Walking.{contents};
 use crate::blocks::Block;
 use crate::entries::Entry;
 use crate::held::Held;
+use crate::kept::Kept;
 use crate::known::Known;
 use std::iter::Iterator;
 use std::marker::Model;
-use wsegment::Segment;
 use wvalues::Name;
 
 /// The entries of blocks that a walk has before it. In a contract it is their list.
@@ -100,7 +100,7 @@ impl<'a> Iterator for Names<'a> {
     }
 }
 
-/// Each live name and its segment, in the order of names. In a contract it is the list of those that are left. The
+/// Each live name and its content, in the order of names. In a contract it is the list of those that are left. The
 /// whole walk takes a step for each name that is not unknown, and no memory.
 #[derive(Drop)]
 pub struct Lives<'a> {
@@ -130,16 +130,16 @@ impl<'a> Lives<'a> {
 }
 
 impl<'a> Iterator for Lives<'a> {
-    type Item = (Name, &'a Segment);
+    type Item = (Name, &'a Kept);
 
-    ghost next_gives = { YieldsFirstBy (λ item. (item.0, item.1.now)) (λ left. left) };
+    ghost next_gives = { YieldsFirstBy (λ item. (item.0, item.1.now.content)) (λ left. left) };
 
     ghost remaining = { item_count (λ left. left) };
 
-    fn next(&mut self) -> Option<(Name, &'a Segment)> {
+    fn next(&mut self) -> Option<(Name, &'a Kept)> {
         'walk: while let Some(entry) = self.walk.step() {
             if let Held::Live(kept) = &entry.held {
-                return Some((entry.name, kept.segment()));
+                return Some((entry.name, kept));
             }
         }
         None

@@ -18,15 +18,15 @@ pub returns-in_err-push_numbered-clause-gives : goal.returns-in_err-push_numbere
 returns-in_err-push_numbered-clause-gives c =
     let p = err_from_is_err_and c.from_residual-in_err-push_numbered.result c.from_residual-in_err-push_numbered.ensures.1 in
     let t = formula c.args.condition.now in
-    let told = c.args.segment.now.rows in
+    let told = c.in_ok-segment.segment.now.rows in
     let within : c.loop-row.row < length told = omega (arith, c.loop-row-test.true, c.rows-row-end.ensures.count) in
-    rw (p.1, p.2) (refused (λ u. u) c.in_err-push_numbered.field-0.0 _ (list_any (is_out_of_range t) told) tt c.in_err-push_numbered.ensures.gives
+    rw (p.1, p.2, ← c.in_ok-segment.ensures) (refused (λ u. u) c.in_err-push_numbered.field-0.0 _ (list_any (is_out_of_range t) told) tt c.in_err-push_numbered.ensures.gives
     (λ here. list_any_at (is_out_of_range t) told c.loop-row.row [] within (ap (is_out_of_range t) (sym c.row.ensures.values) ∙ here)))
 
 pub loop-row-preserved : goal.loop-row-preserved
 loop-row-preserved c =
     let t = formula c.args.condition.now in
-    let told = c.args.segment.now.rows in
+    let told = c.in_ok-segment.segment.now.rows in
     let i = c.loop-row.row in
     let within : i < length told = omega (arith, c.loop-row-test.true, c.rows-row-end.ensures.count) in
     record {
@@ -39,20 +39,20 @@ loop-row-preserved c =
 pub returns-clause-gives : goal.returns-clause-gives
 returns-clause-gives c =
     let t = formula c.args.condition.now in
-    let told = c.args.segment.now.rows in
+    let told = c.in_ok-segment.segment.now.rows in
     let all : take c.loop-row.row told ≡ told = take_all c.loop-row.row told (omega (arith, c.loop-row-test.false, c.rows-row-end.ensures.count)) in
-    ap (λ b. unless b OutOfRange tt) (ap (list_any (is_out_of_range t)) (sym all) ∙ c.loop-row.invariant.in_range)
+    rw (← c.in_ok-segment.ensures) (ap (λ b. unless b OutOfRange tt) (ap (list_any (is_out_of_range t)) (sym all) ∙ c.loop-row.invariant.in_range))
 
 pub returns-clause-added : goal.returns-clause-added
 returns-clause-added c =
     let t = formula c.args.condition.now in
-    let told = c.args.segment.now.rows in
+    let told = c.in_ok-segment.segment.now.rows in
     let all : take c.loop-row.row told ≡ told = take_all c.loop-row.row told (omega (arith, c.loop-row-test.false, c.rows-row-end.ensures.count)) in
-    c.loop-row.invariant.so_far ∙ ap (λ l. rows_seen c.args.held.now.items ++ filter (holds_on t) l) all
+    rw (← c.in_ok-segment.ensures) (c.loop-row.invariant.so_far ∙ ap (λ l. rows_seen c.args.held.now.items ++ filter (holds_on t) l) all)
 
 pub returns-clause-numbered : goal.returns-clause-numbered
 returns-clause-numbered c =
     let t = formula c.args.condition.now in
-    let told = c.args.segment.now.rows in
+    let told = c.in_ok-segment.segment.now.rows in
     let all : take c.loop-row.row told ≡ told = take_all c.loop-row.row told (omega (arith, c.loop-row-test.false, c.rows-row-end.ensures.count)) in
-    c.loop-row.invariant.numbered ∙ ap (λ l. c.args.numbers.now.items ++ numbers_kept (holds_on t) (length c.args.held.now.items) l) all
+    rw (← c.in_ok-segment.ensures) (c.loop-row.invariant.numbered ∙ ap (λ l. c.args.numbers.now.items ++ numbers_kept (holds_on t) (length c.args.held.now.items) l) all)

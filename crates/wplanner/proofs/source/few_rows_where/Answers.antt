@@ -37,7 +37,7 @@ segments-preserved c =
     let t = formula c.args.condition.now in
     let all = rows_of_set c.args.set.now in
     record {
-      in_range = in_range_left (is_out_of_range t) all _ _ _ c.in-Some.ensures.steps c.segments.invariant.in_range (ok_is_false (list_any (is_out_of_range t) c.in-Some.segment.now.rows) tt tt (at_end c.in_ok-all.all _ c.in_ok-all.ensures.gives c.if-not-all.false));
+      in_range = in_range_left (is_out_of_range t) all _ _ _ c.in-Some.ensures.steps c.segments.invariant.in_range (ok_is_false (list_any (is_out_of_range t) c.in-Some.segment.now.content.rows) tt tt (at_end c.in_ok-all.all _ c.in_ok-all.ensures.gives c.if-not-all.false));
       so_far = held_left (holds_on t) (rows_seen c.segments.held.items) _ all _ _ _ c.in-Some.ensures.steps c.segments.invariant.so_far (c.in_ok-all.ensures.added c.if-not-all.false);
     }
 

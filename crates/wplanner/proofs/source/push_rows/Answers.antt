@@ -5,7 +5,7 @@ use Rattle.wplanner.proofs.source.push_rows.Goals as goal
 
 pub loop-row-preserved : goal.loop-row-preserved
 loop-row-preserved c =
-    let told = c.args.segment.now.rows in
+    let told = c.in_ok-segment.segment.now.rows in
     let old = rows_seen c.args.rows.now.items in
     let i = c.loop-row.row in
     let within : i < length told = omega (arith, c.loop-row-test.true, c.rows-row-end.ensures.count) in

@@ -53,4 +53,4 @@ returns-clause-only c =
     let once : repeats_name d.columns ≡ false = sym (rw c.deref.ensures.value at c.in_ok-is_repeated.ensures) ∙ c.if-is_repeated.false in
     let some : 0 < length d.columns = search rules in
     let few : length d.columns ≤ 64 = search rules in
-    only c.args.bytes.now (Ok d) (declared d c.args.bytes.now c.if-bytes-gt-MAX_BYTES.false table.0 columns.0 (rw (← columns.1) table.1) once some few)
+    rw c.in-Ok.ensures.ok (only c.args.bytes.now (Ok d) (declared d c.args.bytes.now c.if-bytes-gt-MAX_BYTES.false table.0 columns.0 (rw (← columns.1) table.1) once some few))
