@@ -1,23 +1,17 @@
 -- What a delivery stream delivers, all of it or nothing.
-use Rattle.std.specs.Prelude.{◌≡◌, ◌≢◌, ℕ, List, [], ◌∷◌, ◌++◌, length, codes, Option, Err, IsOk, false}
+use Rattle.std.specs.Prelude.{◌≡◌, ℕ, List, [], ◌∷◌, ◌++◌, length, codes, Option, false}
 use Rattle.std.specs.List.{flat_map, AllByRecursion}
-use Rattle.wvalues.specs.Names.{NameParts}
 use Rattle.wsegment.specs.Declaration.{Declaration}
-use Rattle.wsegment.specs.Rows.{rows_of}
 use Rattle.wsegment.specs.declared.fault.SegmentFault.{SegmentFault}
 use Rattle.wset.specs.Items.{FloorItem, Item, RetirementItem, SegmentItem, view_of_item}
 use Rattle.wset.specs.Views.{View, join, known_in}
 use Rattle.wset.specs.Words.{floor_word, retired_word, taken_word}
-use Rattle.wexchange.specs.Messages.{IsBad, IsMessage, IsOpen, message_text}
+use Rattle.wexchange.specs.Messages.{message_text}
+use Rattle.wbatch.specs.Streams.{EndsInside, IsDelivered, MeetsBad, MeetsSegment}
 use Rattle.wreplies.specs.Spelling.{retired_text, segment_text, taken_text}
 use Rattle.wstore.specs.Replies.{fed_text}
 use Rattle.wact.specs.declared.acted.Acted.{Acted}
 use Rattle.wact.specs.Outcomes.{IsRefused, IsStored}
-
--- a message that can be delivered: a segment is one that the declaration reads
-abbrev pub IsDelivered : Declaration → Item → Type 0
-IsDelivered d (SegmentItem name bytes) = IsMessage (SegmentItem name bytes) × IsOk (rows_of d bytes)
-IsDelivered d item = IsMessage item
 
 -- the view behind items that were delivered one after the other
 abbrev pub delivered_view : View → List Item → View
@@ -34,35 +28,6 @@ line_text v (FloorItem name) = retired_text (floor_word v name)
 abbrev pub lines_text : View → List Item → List ℕ
 lines_text v [] = []
 lines_text v (item ∷ items) = line_text v item ++ lines_text (join v (view_of_item item)) items
-
--- behind messages that can be delivered stands a segment that has a fault
-pub record MeetsSegment (d : Declaration) (stream : List ℕ) (fault : SegmentFault) : Type 0 where
-  pub items : List Item
-  pub name : NameParts
-  pub bytes : List ℕ
-  pub more : List ℕ
-  pub each : AllByRecursion (IsDelivered d) items
-  pub is : IsMessage (SegmentItem name bytes)
-  pub stream_is : stream ≡ flat_map message_text items ++ (message_text (SegmentItem name bytes) ++ more)
-  pub has_fault : rows_of d bytes ≡ Err fault
-
--- behind messages that can be delivered stands what is no message, whatever follows it
-pub record MeetsBad (d : Declaration) (stream : List ℕ) : Type 0 where
-  pub items : List Item
-  pub rest : List ℕ
-  pub more : List ℕ
-  pub each : AllByRecursion (IsDelivered d) items
-  pub stream_is : stream ≡ flat_map message_text items ++ (rest ++ more)
-  pub bad : IsBad rest
-
--- behind messages that can be delivered the stream ends inside one
-pub record EndsInside (d : Declaration) (stream : List ℕ) : Type 0 where
-  pub items : List Item
-  pub rest : List ℕ
-  pub each : AllByRecursion (IsDelivered d) items
-  pub stream_is : stream ≡ flat_map message_text items ++ rest
-  pub is_open : IsOpen rest
-  pub some : rest ≢ []
 
 -- a stream is its messages, which are delivered one after the other and told in lines, and then their number; or the first of
 -- them that has a fault is told, and nothing is delivered

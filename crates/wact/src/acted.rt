@@ -24,8 +24,8 @@ pub struct Acted {
     pub store: Option<Vec<u8>>,
 }
 
-/// A refusal.
-pub(crate) fn refused(output: Text) -> Acted
+/// A refusal: this is printed, with status 1, and there is no new store.
+pub fn refused(output: Text) -> Acted
     ensures { IsRefused result (bytes_of output) }
 {
     Acted {

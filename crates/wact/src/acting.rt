@@ -4,7 +4,6 @@ ghost use Rattle.wcommand.specs.Inputs.{is_act};
 ghost use Rattle.wexchange.specs.Judging.{HasTable};
 ghost use Rattle.wreplies.specs.Spelling.{name_text};
 ghost use Rattle.wstore.specs.History.{AreName};
-ghost use Rattle.wact.specs.Delivering.{IsFresh};
 ghost use Rattle.wact.specs.Outcomes.{IsRefused};
 ghost use Rattle.wact.specs.Acts.{Acts, ActsBy, ActsOn, ActsRead, Joins, Lists, MayLack, MayLackBy, MayLackMemory, MayLackRead, OnName, Retires, RetiresTo, Takes};
 
@@ -142,8 +141,7 @@ fn act_on(
     old: Option<&[u8]>,
     other: &[u8],
 ) -> Result<Acted, AllocError>
-    requires act { is_act choice.now ≡ true }
-    requires fresh { IsFresh node.old }
+    requires { is_act choice.now ≡ true }
     ensures does { IfOk result (λ acted. ActsOn node.old.schema node.old.view choice.now (option_map (λ bytes. bytes.now) old.entry) other.now acted) }
     ensures lacks { OnErr result (MayLackMemory node.old.schema choice.now other.now) }
 {

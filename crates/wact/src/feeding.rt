@@ -1,210 +1,164 @@
-//! Feeds a node a delivery stream.
-ghost use Rattle.std.specs.Prelude.{◌≡◌, ◌<◌, ◌≤◌, ◌++◌, ◌+◌, [], decimal, false, length, true, option_map, IfErr, IfOk, OnOk};
-ghost use Rattle.wexchange.specs.Messages.{IsOpen};
+//! Feeds a store the deliveries of a stream.
+ghost use Rattle.std.specs.Prelude.{◌≡◌, ◌++◌, ◌∷◌, [], None, Ok, false, map, option_map, IfErr, IfOk, OnErr, OnOk};
+ghost use Rattle.std.specs.List.{AllByRecursion};
+ghost use Rattle.wsegment.specs.Spelling.{ReadsDeclaration};
+ghost use Rattle.wset.specs.Items.{SegmentItem, view_of_item};
+ghost use Rattle.wset.specs.Sets.{IsReadBy};
+ghost use Rattle.wset.specs.Views.{join, known_in};
+ghost use Rattle.wset.specs.Words.{taken_word};
+ghost use Rattle.wbatch.specs.Batches.{stream_of};
+ghost use Rattle.wbatch.specs.Deliveries.{IsReady, item_of};
+ghost use Rattle.wbatch.specs.Streams.{IsUndelivered};
+ghost use Rattle.wcommand.specs.declared.choice.Choice.{Choice};
 ghost use Rattle.wstore.specs.Replies.{fed_text};
-ghost use Rattle.wact.specs.Outcomes.{IsStored};
+ghost use Rattle.wact.specs.Acts.{Acts};
+ghost use Rattle.wact.specs.Delivering.{Delivers, IsFeed, IsToldUndelivered};
 ghost use Rattle.wact.specs.Streams.{Feeds};
-ghost use Rattle.wact.specs.Delivering.{AddsLine, Delivers, DeliversAll, IsFresh, IsLine, IsStop, IsToldUndelivered, IsUndelivered, Stops};
 
 use crate::acted::{Acted, refused, stored};
+use crate::opening::{Opened, open_store};
 use itoa::Buffer;
 use std::alloc::{AllocError, Global};
+use std::rc::Rc;
+use wbatch::{Batch, Delivery, Stop};
 use wreplies::{Text, refused_segment, retired, taken};
-use wsegment::SegmentFault;
-use wstore::{Node, Reply};
+use wsegment::Segment as Judged;
+use wset::Taken;
+use wstore::Node;
+use wvalues::Name;
 
-/// How many bytes of a stream a node is handed at once.
-const BLOCK: usize = 65_536;
-
-/// The lines that messages are told, and the number of these messages.
-#[derive(Drop)]
-struct Lines {
-    text: Vec<u8>,
-    count: usize,
-}
-
-/// Why the messages of a stream are not delivered.
-#[derive(Clone, Copy)]
-enum Undelivered {
-    /// A segment has this fault.
-    Segment(SegmentFault),
-    /// What stands next is no message, or the stream ends inside one.
-    Stream,
-    /// A growth was refused.
-    NoMemory,
-}
-
-// The line of what a message is told, or why it stops the stream.
-fn line_of(reply: Reply) -> Result<&'static [u8], Undelivered>
-    ensures { IsLine reply result }
+// Takes a segment that was judged by the node's declaration.
+fn take_judged(node: &mut Node, name: Name, judged: &Rc<Judged>) -> Result<Taken, AllocError>
+    requires { IsReadBy node.old.schema judged.now.value }
+    ensures word { IfOk result (λ word. word ≡ taken_word (known_in node.old.view name) judged.now.value.bytes) }
+    ensures ok { OnOk result (node.new ≡ record node.old { view = join node.old.view (view_of_item (SegmentItem name judged.now.value.bytes)) }) }
+    ensures err { OnErr result (node.new ≡ node.old) }
 {
-    match reply {
-        Reply::Taken(word) => Ok(taken(word)),
-        Reply::Retired(word) => Ok(retired(word)),
-        Reply::Refused(fault) => Err(Undelivered::Segment(fault)),
-        Reply::NoMemory => Err(Undelivered::NoMemory),
+    match node.take(name, judged.as_ref().bytes()) {
+        Ok(word) => Ok(word),
+        Err(_) => Err(AllocError),
     }
 }
 
-// Adds a line.
-fn add_line(lines: &mut Lines, line: &[u8]) -> Result<(), Undelivered>
-    requires { lines.old.count < 18446744073709551615 }
-    ensures text { OnOk result (lines.new.text.items ≡ lines.old.text.items ++ line.now) }
-    ensures count { OnOk result (lines.new.count ≡ lines.old.count + 1) }
-    ensures lacks { IfErr result (λ reason. reason ≡ Undelivered.NoMemory) }
+// Delivers an item. It answers the line of what it is told.
+fn deliver(node: &mut Node, delivery: &Delivery) -> Result<&'static [u8], AllocError>
+    requires { IsReady node.old.schema delivery.now }
+    ensures { IfOk result (λ line. Delivers (item_of delivery.now ∷ []) node.old node.new [] line.now) }
 {
-    if lines.text.extend_from_slice(line).is_err() {
-        return Err(Undelivered::NoMemory);
-    }
-    lines.count += 1;
-    Ok(())
-}
-
-// Adds the line of what a message is told.
-fn add_reply(lines: &mut Lines, reply: Reply) -> Result<(), Undelivered>
-    requires { lines.old.count < 18446744073709551615 }
-    ensures adds { OnOk result (AddsLine reply lines.old.text.items lines.new.text.items lines.old.count lines.new.count) }
-    ensures stops { IfErr result (IsStop reply) }
-{
-    match line_of(reply) {
-        Ok(line) => add_line(lines, line),
-        Err(reason) => Err(reason),
-    }
-}
-
-// Handles the next message, if it is whole, and adds its line. It answers whether none is.
-fn deliver_next(node: &mut Node, lines: &mut Lines) -> Result<bool, Undelivered>
-    requires good { node.old.is_bad ≡ false }
-    requires room { lines.old.count + length node.old.held ≤ 18446744073709551615 }
-    ensures more { IfOk result (λ is_end. is_end ≡ false → Delivers node.old node.new lines.old.text.items lines.new.text.items lines.old.count lines.new.count) }
-    ensures falls { IfOk result (λ is_end. is_end ≡ false → length node.new.held < length node.old.held) }
-    ensures end { IfOk result (λ is_end. is_end ≡ true → IsOpen node.old.held × (node.new ≡ node.old) × (lines.new ≡ lines.old)) }
-    ensures stops { IfErr result (Stops node.old.schema node.old.held) }
-{
-    let reply = match node.next_reply() {
-        Ok(Some(reply)) => reply,
-        Ok(None) => return Ok(true),
-        Err(_) => return Err(Undelivered::Stream),
-    };
-    match add_reply(lines, reply) {
-        Ok(()) => Ok(false),
-        Err(reason) => Err(reason),
-    }
-}
-
-// Handles the messages that are whole, and adds the line of each.
-fn deliver_whole(node: &mut Node, lines: &mut Lines) -> Result<(), Undelivered>
-    requires good { node.old.is_bad ≡ false }
-    requires room { lines.old.count + length node.old.held ≤ 18446744073709551615 }
-    ensures ok { OnOk result (Delivers node.old node.new lines.old.text.items lines.new.text.items lines.old.count lines.new.count × IsOpen node.new.held) }
-    ensures stops { IfErr result (Stops node.old.schema node.old.held) }
-{
-    'messages: loop {
-        let is_end = match deliver_next(node, lines) {
-            Ok(is_end) => is_end,
-            Err(reason) => return Err(reason),
-        };
-        if is_end {
-            return Ok(());
+    match delivery {
+        Delivery::Segment(name, judged) => {
+            let word = take_judged(node, *name, judged)?;
+            Ok(taken(word))
+        }
+        Delivery::Retirement(name) => {
+            let word = node.retire(*name)?;
+            Ok(retired(word))
+        }
+        Delivery::Floor(name) => {
+            let word = node.retire_to(*name)?;
+            Ok(retired(word))
         }
     }
 }
 
-// Hands a node the next bytes of a stream, and handles the messages that are whole then.
-fn deliver_block(node: &mut Node, block: &[u8], lines: &mut Lines) -> Result<(), Undelivered>
-    requires good { node.old.is_bad ≡ false }
-    requires room { lines.old.count + length (node.old.held ++ block.now) ≤ 18446744073709551615 }
-    ensures ok { OnOk result (Delivers (record node.old { held = node.old.held ++ block.now }) node.new lines.old.text.items lines.new.text.items lines.old.count lines.new.count × IsOpen node.new.held) }
-    ensures stops { IfErr result (Stops node.old.schema (node.old.held ++ block.now)) }
+// Delivers an item, and adds its line.
+fn deliver_next(node: &mut Node, delivery: &Delivery, text: &mut Vec<u8>) -> Result<(), AllocError>
+    requires { IsReady node.old.schema delivery.now }
+    ensures { OnOk result (Delivers (item_of delivery.now ∷ []) node.old node.new text.old.items text.new.items) }
 {
-    match node.feed(block) {
-        Ok(()) => deliver_whole(node, lines),
-        Err(_) => Err(Undelivered::NoMemory),
-    }
+    let line = deliver(node, delivery)?;
+    text.extend_from_slice(line)
 }
 
-// The next block of a stream, and what stands behind it.
-fn cut(left: &[u8]) -> (&[u8], &[u8])
-    requires { 0 < length left.now }
-    ensures whole { result.0.now ++ result.1.now ≡ left.now }
-    ensures less { length result.1.now < length left.now }
+// Delivers items one after the other, and adds the line of each.
+fn deliver_all(
+    node: &mut Node,
+    deliveries: &[Delivery],
+    text: &mut Vec<u8>,
+) -> Result<(), AllocError>
+    requires { AllByRecursion (IsReady node.old.schema) deliveries.now }
+    ensures { OnOk result (Delivers (map item_of deliveries.now) node.old node.new text.old.items text.new.items) }
 {
-    left.split_at(left.len().min(BLOCK))
-}
-
-// Hands a node a stream block by block, so that it holds no more of it than a message and a block.
-fn deliver_blocks(node: &mut Node, stream: &[u8], lines: &mut Lines) -> Result<(), Undelivered>
-    requires fresh { IsFresh node.old }
-    requires empty { lines.old.text.items ≡ [] }
-    requires none { lines.old.count ≡ 0 }
-    ensures ok { OnOk result (Delivers (record node.old { held = stream.now }) node.new lines.old.text.items lines.new.text.items lines.old.count lines.new.count × IsOpen node.new.held) }
-    ensures stops { IfErr result (Stops node.old.schema stream.now) }
-{
-    let _most = stream.len();
-    let mut left = stream;
-    'cuts: while !left.is_empty() {
-        let (block, behind) = cut(left);
-        match deliver_block(node, block, lines) {
-            Ok(()) => {}
-            Err(reason) => return Err(reason),
-        }
-        left = behind;
+    for delivery in deliveries {
+        deliver_next(node, delivery, text)?;
     }
     Ok(())
 }
 
-// Delivers all messages of a stream, and answers their lines.
-fn deliver_all(alloc: Global, node: &mut Node, stream: &[u8]) -> Result<Lines, Undelivered>
-    requires { IsFresh node.old }
-    ensures ok { IfOk result (λ lines. DeliversAll node.old stream.now node.new lines.text.items lines.count) }
-    ensures stops { IfErr result (IsUndelivered node.old.schema stream.now) }
+// Adds the number of messages behind their lines.
+fn add_count(text: &mut Vec<u8>, count: usize) -> Result<(), AllocError>
+    ensures { OnOk result (text.new.items ≡ text.old.items ++ fed_text count false) }
 {
-    let mut lines = Lines {
-        text: Vec::new(alloc),
-        count: 0,
-    };
-    match deliver_blocks(node, stream, &mut lines) {
-        Ok(()) => {}
-        Err(reason) => return Err(reason),
-    }
-    if node.pending() > 0 {
-        return Err(Undelivered::Stream);
-    }
-    Ok(lines)
-}
-
-// The lines of messages, and behind them their number.
-fn fed(lines: Lines) -> Result<Vec<u8>, AllocError>
-    ensures { IfOk result (λ text. text.items ≡ lines.text.items ++ fed_text lines.count false) }
-{
-    let mut text = lines.text;
     let mut buffer = Buffer::new();
     text.extend_from_slice(b"fed ")?;
-    text.extend_from_slice(buffer.format(lines.count).as_bytes())?;
-    text.push(b'\n')?;
-    Ok(text)
+    text.extend_from_slice(buffer.format(count).as_bytes())?;
+    text.push(b'\n')
 }
 
-// What is told of a stream that is not delivered.
-fn refusal(alloc: Global, reason: Undelivered) -> Result<Acted, AllocError>
+/// What feeding a stream gives that is not delivered. Nothing of it is stored. `AllocError`: memory ran out while it was read, or a
+/// growth was refused.
+pub fn undelivered(alloc: Global, reason: Stop) -> Result<Acted, AllocError>
     ensures { IfOk result (IsToldUndelivered reason) }
 {
     match reason {
-        Undelivered::Segment(fault) => {
+        Stop::Segment(fault) => {
             let text = refused_segment(alloc, fault)?;
             Ok(refused(text))
         }
-        Undelivered::Stream => Ok(refused(Text::Fixed(b"refused B1\n"))),
-        Undelivered::NoMemory => Err(AllocError),
+        Stop::Bad => Ok(refused(Text::Fixed(b"refused B1\n"))),
+        Stop::NoMemory => Err(AllocError),
     }
 }
 
-// What is told of a stream that is delivered, and the store of the node that was told it.
-fn delivered(node: &Node, old: Option<&[u8]>, lines: Lines) -> Result<Acted, AllocError>
-    ensures { IfOk result (λ acted. IsStored node.now.schema node.now.view (option_map (λ bytes. bytes.now) old.entry) acted (lines.text.items ++ fed_text lines.count false)) }
+/// What feeding a stream gives on a node that knows the store, which has these bytes, if it is there. The batch was filled from
+/// the whole stream, under the declaration of the node. `AllocError`: a growth was refused.
+pub fn feed_node(
+    alloc: Global,
+    node: &mut Node,
+    store: Option<&[u8]>,
+    batch: &Batch,
+) -> Result<Acted, AllocError>
+    requires declared { batch.now.schema ≡ node.old.schema }
+    requires whole { batch.now.held ≡ [] }
+    ensures { IfOk result (λ acted. Feeds node.old.schema node.old.view (option_map (λ bytes. bytes.now) store.entry) (stream_of batch.now) acted) }
 {
-    let text = fed(lines)?;
-    stored(node, old, Text::Made(text))
+    let deliveries = batch.deliveries();
+    let mut text = Vec::new(alloc);
+    deliver_all(node, deliveries, &mut text)?;
+    add_count(&mut text, deliveries.len())?;
+    stored(node, store, Text::Made(text))
+}
+
+/// What feeding a stream gives on the bytes of the table's file and of the store's, if there is one. The batch was filled from
+/// the whole stream, under this table's declaration. `AllocError`: a growth was refused.
+pub fn feed_store(
+    alloc: Global,
+    table: &[u8],
+    store: Option<&[u8]>,
+    batch: &Batch,
+) -> Result<Acted, AllocError>
+    requires declared { ReadsDeclaration table.now (Ok batch.now.schema) }
+    requires whole { batch.now.held ≡ [] }
+    ensures { IfOk result (λ acted. (choice : Choice) → IsFeed choice → Acts choice table.now (option_map (λ bytes. bytes.now) store.entry) (stream_of batch.now) acted) }
+{
+    match open_store(alloc, table, store)? {
+        Opened::Node(mut node) => feed_node(alloc, &mut node, store, batch),
+        Opened::Refused(text) => Ok(refused(text)),
+    }
+}
+
+// Fills a batch from a whole stream.
+fn fill(batch: &mut Batch, stream: &[u8]) -> Result<(), Stop>
+    requires new { batch.old ≡ record { schema = batch.old.schema; items = []; held = []; stopped = None } }
+    ensures schema { batch.new.schema ≡ batch.old.schema }
+    ensures whole { OnOk result (batch.new.held ≡ []) }
+    ensures stream { OnOk result (stream_of batch.new ≡ stream.now) }
+    ensures stops { IfErr result (IsUndelivered batch.old.schema stream.now) }
+{
+    match batch.push(stream) {
+        Ok(()) => batch.end(),
+        Err(reason) => Err(reason),
+    }
 }
 
 /// Delivers all messages of a stream to a node, or tells the first of them that has a fault. Of a stream that is not
@@ -215,11 +169,12 @@ pub(crate) fn feed(
     old: Option<&[u8]>,
     stream: &[u8],
 ) -> Result<Acted, AllocError>
-    requires { IsFresh node.old }
     ensures { IfOk result (λ acted. Feeds node.old.schema node.old.view (option_map (λ bytes. bytes.now) old.entry) stream.now acted) }
 {
-    match deliver_all(alloc, node, stream) {
-        Ok(lines) => delivered(node, old, lines),
-        Err(reason) => refusal(alloc, reason),
+    let schema = node.schema().copy()?;
+    let mut batch = Batch::new(alloc, schema);
+    match fill(&mut batch, stream) {
+        Ok(()) => feed_node(alloc, node, old, &batch),
+        Err(reason) => undelivered(alloc, reason),
     }
 }

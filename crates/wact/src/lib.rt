@@ -17,7 +17,8 @@ mod feeding;
 mod opening;
 mod queries;
 
-pub use acted::Acted;
+pub use acted::{Acted, refused};
 pub use acting::act;
+pub use feeding::{feed_node, feed_store, undelivered};
 pub use opening::{Opened, open_store};
 pub use queries::{QueryReply, reply};

@@ -1,7 +1,6 @@
 //! The node of a table and a store.
 ghost use Rattle.std.specs.Prelude.{◌≡◌, IfErr, IfOk, option_map};
 ghost use Rattle.wact.specs.Acts.{HasFault, Knows};
-ghost use Rattle.wact.specs.Delivering.{IsFresh};
 ghost use Rattle.wact.specs.Opening.{Opens, OpensBy};
 
 use std::alloc::{AllocError, Global};
@@ -27,7 +26,6 @@ pub(crate) fn node_of(
 ) -> Result<Node, FileFault>
     ensures declared { IfOk result (λ node. node.schema ≡ schema) }
     ensures known { IfOk result (λ node. Knows schema (option_map (λ bytes. bytes.now) store.entry) node.view) }
-    ensures fresh { IfOk result (λ node. IsFresh node) }
     ensures refused { IfErr result (λ fault. HasFault schema (option_map (λ bytes. bytes.now) store.entry) fault) }
 {
     let mut node = Node::new(alloc, schema);

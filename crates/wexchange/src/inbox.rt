@@ -155,8 +155,15 @@ impl Inbox {
         self.step = advance(&self.bytes, &mut self.start, &mut self.is_bad);
     }
 
-    // What was handed out last.
-    fn handed(&self) -> Result<Option<Message<'_>>, BadStream>
+    /// The bytes that are held, as many as `pending` says.
+    pub fn rest(&self) -> &[u8]
+        ensures { result.now ≡ self.now.held }
+    {
+        &self.bytes[self.start..]
+    }
+
+    /// What was handed out last, once more. Nothing was since a push.
+    pub fn handed(&self) -> Result<Option<Message<'_>>, BadStream>
         ensures { IsHanded self.now.handed result }
     {
         lend(&self.bytes, &self.step)

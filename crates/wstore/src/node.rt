@@ -202,6 +202,13 @@ impl Node {
         }
     }
 
+    /// The declaration of the node's table.
+    pub fn schema(&self) -> &Schema
+        ensures { result.now ≡ self.now.schema }
+    {
+        self.set.schema()
+    }
+
     /// Each name that is not unknown, in the order of names.
     pub fn list(&self) -> Result<Vec<Listed>, AllocError>
         ensures { IfOk result (λ all. all.items ≡ list_map (listed self.now.schema) (map.entries self.now.view)) }

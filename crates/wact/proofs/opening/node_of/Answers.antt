@@ -6,8 +6,3 @@ pub returns-in-Ok-clause-known : goal.returns-in-Ok-clause-known
 returns-in-Ok-clause-known c =
     let learns = c.in-Ok.ensures.ok in
     knows_told _ _ _ c.in-Some.bytes _ _ learns.view (search rules) (ap (λ n. n.schema) c.new-node.ensures) (ap (λ n. n.view) c.new-node.ensures) learns.file (ap (λ n. n.view) learns.new_is)
-
-pub returns-in-Ok-clause-fresh : goal.returns-in-Ok-clause-fresh
-returns-in-Ok-clause-fresh c =
-    let learns = c.in-Ok.ensures.ok in
-    (ap (λ n. n.held) learns.new_is ∙ ap (λ n. n.held) c.new-node.ensures, ap (λ n. n.is_bad) learns.new_is ∙ ap (λ n. n.is_bad) c.new-node.ensures)

@@ -1,0 +1,28 @@
+-- What a batch stands for.
+use Rattle.std.specs.Prelude.{◌≡◌, ℕ, List, Option, None, false}
+use Rattle.std.specs.List.{AllByRecursion}
+use Rattle.wsegment.specs.Declaration.{Declaration}
+use Rattle.wset.specs.Items.{Item}
+use Rattle.wexchange.specs.Inboxes.{Inbox}
+use Rattle.wexchange.specs.Messages.{IsOpen}
+use Rattle.wbatch.specs.Deliveries.{IsReady}
+use Rattle.wbatch.specs.Streams.{stream_text}
+use Rattle.wbatch.specs.declared.delivery.Delivery.{Delivery}
+use Rattle.wbatch.specs.declared.stop.Stop.{Stop}
+
+-- the declaration, the items in order, the bytes behind the messages of these, and why no more come, if none do
+pub record Filled : Type 0 where
+  pub schema : Declaration
+  pub items : List Item
+  pub held : List ℕ
+  pub stopped : Option Stop
+
+-- the stream that it was filled from
+abbrev pub stream_of : Filled → List ℕ
+stream_of batch = stream_text batch.items batch.held
+
+-- each delivery can be delivered, and where it goes on what is held may become a message
+pub record IsKept (d : Declaration) (deliveries : List Delivery) (inbox : Inbox) (stopped : Option Stop) : Type 0 where
+  pub ready : AllByRecursion (IsReady d) deliveries
+  pub unfinished : stopped ≡ None → IsOpen inbox.held
+  pub good : stopped ≡ None → inbox.is_bad ≡ false

@@ -1,0 +1,62 @@
+-- A stream that is fed to a store.
+use Rattle.std.proofs.Common.{◌≡◌, ◌∙◌, refl, sym, ap, subst, ℕ, true, false, List, [], Option, None, Ok, is_some}
+use Rattle.wsegment.specs.Declaration.{Declaration}
+use Rattle.wsegment.specs.Spelling.{ReadsDeclaration}
+use Rattle.wstore.specs.Nodes.{NodeState}
+use Rattle.wbatch.specs.Batches.{Filled, stream_of}
+use Rattle.wbatch.specs.declared.stop.Stop.{Stop}
+use Rattle.wbatch.specs.declared.stop.Stop.TheVariants as stops
+use Rattle.wcommand.specs.declared.choice.Choice.{Choice}
+use Rattle.wcommand.specs.declared.choice.Choice.TheVariants as choices
+use Rattle.wcommand.specs.Inputs.{is_act}
+use Rattle.wfiles.specs.Call.{Call}
+use Rattle.wreplies.specs.Texts.{bytes_of}
+use Rattle.wreplies.specs.declared.text.Text.{Text}
+use Rattle.wact.specs.declared.acted.Acted.{Acted}
+use Rattle.wact.specs.declared.opening.Opened.TheVariants as opens
+use Rattle.wact.specs.Acts.{Acts}
+use Rattle.wact.specs.Delivering.{IsFeed, IsToldUndelivered}
+use Rattle.wact.specs.Opening.{Opens, TableRead, TableRefused}
+use Rattle.wact.specs.Outcomes.{IsRefused}
+use Rattle.wact.specs.Streams.{Feeds}
+use Rattle.wact.proofs.Delivering.{acts_opened, acts_refused, feeds_refused}
+use Rattle.wstore_program.specs.Feeding.{IsRefusedStream}
+use Rattle.wstore_program.specs.Performing.{IsPerformed}
+use Rattle.wstore_program.proofs.Performed.{feed_input, untouched}
+
+-- feeding is done in one act
+pub feed_acts : (choice : Choice) → IsFeed choice → is_act choice ≡ true
+feed_acts choices.Session is = absurd is
+feed_acts (choices.Take paths origin number csv) is = refl
+feed_acts (choices.Retire paths origin number) is = refl
+feed_acts (choices.Floor paths origin number) is = refl
+feed_acts (choices.Join paths path) is = refl
+feed_acts (choices.Feed paths path) is = refl
+feed_acts (choices.List paths) is = refl
+feed_acts (choices.Ask paths queries) is = refl
+feed_acts (choices.Shell paths) is = absurd is
+
+-- the declaration of the node that is opened is the table's
+pub declared_by : (d : Declaration) (table : List ℕ) (store : Option (List ℕ)) (node : NodeState) → Opens table store (opens.Node node) → d ≡ node.schema → ReadsDeclaration table (Ok d)
+declared_by d table store node (TableRead e reads by) same = subst (λ f. ReadsDeclaration table (Ok f)) (sym (same ∙ by.0)) reads
+declared_by d table store node (TableRefused fault reads refused) same = absurd refused
+
+-- a table or a store that is refused
+pub refused_open : (choice : Choice) (table : List ℕ) (store : Option (List ℕ)) (text : Text) (acted : Acted) (calls : List Call) → IsFeed choice → Opens table store (opens.Refused text) → IsRefused acted (bytes_of text)
+    → IsPerformed choice acted calls calls
+refused_open choice table store text acted calls is opened told =
+    untouched choice acted table store [] calls (feed_input choice is) (acts_refused choice table store [] text acted opened told) (ap is_some told.2)
+
+-- what is told of a stream that is refused stores nothing
+stores_nothing : (reason : Stop) (acted : Acted) → IsToldUndelivered reason acted → is_some acted.store ≡ false
+stores_nothing (stops.Segment fault) acted told = ap is_some told.2
+stores_nothing stops.Bad acted told = ap is_some told.2
+stores_nothing stops.NoMemory acted told = absurd told
+
+-- a stream that is refused
+pub refused_stream : (choice : Choice) (table : List ℕ) (store : Option (List ℕ)) (node : NodeState) (d : Declaration) (reason : Stop) (acted : Acted) (calls : List Call) → IsFeed choice → Opens table store (opens.Node node)
+    → d ≡ node.schema → IsRefusedStream d reason → IsToldUndelivered reason acted → IsPerformed choice acted calls calls
+refused_stream choice table store node d reason acted calls is opened same why told =
+    let feeds : Feeds node.schema node.view store why.stream acted =
+    subst (λ e. Feeds e node.view store why.stream acted) same (feeds_refused {E = Unit {0}} d node.view store why.stream reason (Ok acted) why.undelivered told) in
+    untouched choice acted table store why.stream calls (feed_input choice is) (acts_opened choice table store why.stream node acted opened is feeds) (stores_nothing reason acted told)
