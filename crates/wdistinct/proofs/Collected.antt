@@ -4,11 +4,9 @@ use Rattle.std.proofs.Math.Seq.{drop-cons}
 use Rattle.std.proofs.lemmas.List.{append-nil}
 use Rattle.std.specs.Rc.{rc_str_bytes}
 use Rattle.wquery.specs.declared.expression.Call.{Call}
-use Rattle.wquery.specs.declared.expression.Window.{Window, out-Window}
 use Rattle.wquery.specs.declared.query.WindowEntry.{WindowEntry}
 use Rattle.wquery.specs.QueryTree.{view_entry}
-use Rattle.wquery.specs.declared.expression.Arguments.TheFolds.{fold_out-Window}
-use Rattle.wquery.specs.Tree.{Tree, Given, Reach, KeyTree, Branch, WindowTree, Links, Further, linked, own_window, view, view_key, view_call, view_window, views, view_keys, view_arguments, view_optional, view_optional_over, filter_of, reach_of, arguments_step, expression_step, over_step, call_step, key_step, link_step, window_step}
+use Rattle.wquery.specs.Tree.{Tree, Branch, Links, Further, linked, own_window, view_call, view_window, view_arguments, view_optional, view_optional_over, filter_of, reach_of}
 use Rattle.wsame.proofs.Views.{view_call_is}
 use Rattle.wdistinct.specs.declared.calls.CallKind.{CallKind}
 use Rattle.wdistinct.specs.Calls.{is_kind, is_call_of, node_or, nodes_in, nodes_below, nodes_in_links, nodes_in_branches, nodes_given, nodes_in_entries, nodes_in_filter, nodes_in_reach}
@@ -17,14 +15,6 @@ pub nodes_in_linked : (holds : Tree → Bool) (front : Links) (bs : List Branch)
 nodes_in_linked holds front [] = sym (append-nil (nodes_in_links holds front))
 nodes_in_linked holds front (b ∷ bs) =
     nodes_in_linked holds (Further front b.operator b.operand) bs ∙ append_assoc (nodes_in_links holds front) (nodes_in holds b.operand) (nodes_in_branches holds bs)
-
-pub partition_is : (w : Window) → (view_window w).partition ≡ views (out-Window w).partition.items
-unfolding view_window view
-partition_is w = ap (λ (x : WindowTree). x.partition) (fold_out-Window Given Tree Reach Tree KeyTree Branch WindowTree arguments_step expression_step over_step call_step key_step link_step window_step w)
-
-pub order_is : (w : Window) → (view_window w).order ≡ view_keys (out-Window w).order.items
-unfolding view_window view_key
-order_is w = ap (λ (x : WindowTree). x.order) (fold_out-Window Given Tree Reach Tree KeyTree Branch WindowTree arguments_step expression_step over_step call_step key_step link_step window_step w)
 
 -- one after another
 pub appended : (old mid new xs ys : List Tree) → mid ≡ old ++ xs → new ≡ mid ++ ys → new ≡ old ++ (xs ++ ys)

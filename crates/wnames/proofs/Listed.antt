@@ -5,30 +5,21 @@ use Rattle.std.specs.declared.boxed.Box.{Box}
 use Rattle.std.specs.declared.vec.Vec.{Vec}
 use Rattle.wquery.specs.declared.expression.Arguments.{Arguments}
 use Rattle.wquery.specs.declared.expression.Arguments.TheVariants as given
-use Rattle.wquery.specs.declared.expression.Arguments.TheOpen as layer
-use Rattle.wquery.specs.declared.expression.Arguments.TheFolds.{fold-Arguments, fold-roll-Arguments}
 use Rattle.wquery.specs.declared.expression.Expression.{Expression}
 use Rattle.wquery.specs.declared.expression.Expression.TheVariants as queries
-use Rattle.wquery.specs.Tree.{Tree, Trees, These, Columns, Given, Reach, KeyTree, Branch, WindowTree, trees, views, view, view_arguments, arguments_step, expression_step, over_step, call_step, key_step, link_step, window_step}
+use Rattle.wquery.specs.Tree.{Trees, Columns, Given, trees, views, view, view_arguments}
 use Rattle.wscope.specs.declared.function.Function.{Function}
 use Rattle.wscope.specs.Finding.{count_trees}
 use Rattle.wscope.specs.Functions.{takes}
 use Rattle.wscope.specs.Types.{Titled}
 use Rattle.wnames.specs.Calls.{are_literal, is_well_given, most_grouping_columns}
 use Rattle.wnames.specs.Types.{all_trees, is_value, is_integer, is_text, suits_function, are_typed, is_ill_typed}
+use Rattle.wsame.proofs.Equal.{view_of_listed, view_of_columns}
 use Rattle.wsame.proofs.Views.{view_of_in}
-
-view_of_listed : (v : Vec Expression Global) → view_arguments (given.Listed v) ≡ These (trees (views v.items))
-unfolding view_arguments view
-view_of_listed v = ap (fold-Arguments Given Tree Reach Tree KeyTree Branch WindowTree arguments_step expression_step over_step call_step key_step link_step window_step) (sym (given.rolls-Listed v)) ∙ fold-roll-Arguments Given Tree Reach Tree KeyTree Branch WindowTree arguments_step expression_step over_step call_step key_step link_step window_step (layer.Listed v)
 
 pub listed_given : (a : Arguments) (f : Function) (v : Vec Expression Global) (us : List Expression) (r : Bool) → a ≡ given.Listed v → us ≡ v.items → r ≡ (takes f (count_trees (trees (views us))) && are_literal f (trees (views us))) → r ≡ is_well_given (Some f) (view_arguments a)
 listed_given a f v us r ea eu er =
     er ∙ ap (λ (zs : List Expression). takes f (count_trees (trees (views zs))) && are_literal f (trees (views zs))) eu ∙ sym (ap (λ (x : Arguments). is_well_given (Some f) (view_arguments x)) ea ∙ ap (is_well_given (Some f)) (view_of_listed v))
-
-view_of_columns : (v : Vec Expression Global) → view_arguments (given.Columns v) ≡ Columns (trees (views v.items))
-unfolding view_arguments view
-view_of_columns v = ap (fold-Arguments Given Tree Reach Tree KeyTree Branch WindowTree arguments_step expression_step over_step call_step key_step link_step window_step) (sym (given.rolls-Columns v)) ∙ fold-roll-Arguments Given Tree Reach Tree KeyTree Branch WindowTree arguments_step expression_step over_step call_step key_step link_step window_step (layer.Columns v)
 
 -- GROUPING of not too many columns, whether or not there is a function of its name
 given_columns : (f : Option Function) (g : Given) (ts : Trees) → g ≡ Columns ts → is_well_given f g ≡ nat_le (count_trees ts) most_grouping_columns

@@ -1,11 +1,12 @@
 -- Types of the parts of a call and of a chain.
-use Rattle.std.proofs.Common.{◌≡◌, ℕ, suc, ◌+◌, ◌<◌, ◌≤◌, Bool, true, false, ◌&&◌, not, List, [], ◌∷◌, length, get_or, drop, map, refl, ap, sym, ◌∙◌, arith, add-one, Option}
+use Rattle.std.proofs.Common.{◌≡◌, ℕ, suc, ◌+◌, ◌<◌, ◌≤◌, Bool, true, ◌&&◌, not, List, [], ◌∷◌, length, get_or, drop, map, refl, ap, sym, ◌∙◌, arith, add-one, Option}
 use Rattle.std.proofs.Math.Seq.{drop-cons}
 use Rattle.std.specs.Rc.{rc_str_bytes}
 use Rattle.wquery.specs.declared.expression.Call.{Call}
 use Rattle.wquery.specs.declared.expression.Expression.{Expression}
 use Rattle.wquery.specs.declared.expression.Link.{Link}
 use Rattle.wquery.specs.Tree.{Tree, Branch, Links, Further, linked, trees, views, view, view_call, view_link, view_arguments, view_optional, view_optional_over, filter_of, reach_of}
+use Rattle.wsame.proofs.Equal.{and_true, and_assoc}
 use Rattle.wsame.proofs.Views.{view_call_is}
 use Rattle.wscope.specs.declared.function.Function.{Function}
 use Rattle.wscope.specs.Functions.{function_of}
@@ -17,17 +18,6 @@ use Rattle.wnames.specs.Types.{all_links, are_typed, is_filter_typed, is_window_
 abbrev pub all_branches : (Tree → Bool) → List Branch → Bool
 all_branches holds [] = true
 all_branches holds (b ∷ bs) = holds b.operand && all_branches holds bs
-
-and_true : (a : Bool) → (a && true) ≡ a
-and_true true = refl
-and_true false = refl
-
-and_assoc : (a b c : Bool) → ((a && b) && c) ≡ (a && (b && c))
-and_assoc true b c = refl
-and_assoc false b c = refl
-
-pub and_second : (a b : Bool) → a ≡ true → (a && b) ≡ b
-and_second a b e = rw e refl
 
 pub all_linked : (holds : Tree → Bool) (front : Links) (bs : List Branch) → all_links holds (linked front bs) ≡ (all_links holds front && all_branches holds bs)
 all_linked holds front [] = sym (and_true (all_links holds front))

@@ -26,7 +26,7 @@ and_second a b e = rw e refl
 pub and_first : (a b : Bool) → a ≡ false → (a && b) ≡ false
 and_first a b e = rw e refl
 
-and_true : (a : Bool) → (a && true) ≡ a
+pub and_true : (a : Bool) → (a && true) ≡ a
 and_true true = refl
 and_true false = refl
 
@@ -34,7 +34,7 @@ and_false : (a : Bool) → (a && false) ≡ false
 and_false true = refl
 and_false false = refl
 
-and_assoc : (a b c : Bool) → ((a && b) && c) ≡ (a && (b && c))
+pub and_assoc : (a b c : Bool) → ((a && b) && c) ≡ (a && (b && c))
 and_assoc true b c = refl
 and_assoc false b c = refl
 
@@ -73,23 +73,23 @@ same_from_front xs ys = same_linked NoLinks NoLinks xs ys refl
 pub same_calls : (a b : Call) → is_same (view_call a) (view_call b) ≡ (bytes_eq (rc_str_bytes a.name) (rc_str_bytes b.name) && (are_same_given (view_arguments a.arguments) (view_arguments b.arguments) && (is_same_filter (filter_of (view_optional a.filter)) (filter_of (view_optional b.filter)) && is_same_reach (reach_of (view_optional_over a.over)) (reach_of (view_optional_over b.over)))))
 same_calls a b = ap (λ (t : Tree). is_same t (view_call b)) (view_call_is a) ∙ ap (is_same (Invoked (rc_str_bytes a.name) (view_arguments a.arguments) (filter_of (view_optional a.filter)) (reach_of (view_optional_over a.over)))) (view_call_is b)
 
-abbrev told : Call → Tree
-told c = Invoked (rc_str_bytes c.name) (view_arguments c.arguments) (filter_of (view_optional c.filter)) (reach_of (view_optional_over c.over))
+abbrev call_tree : Call → Tree
+call_tree c = Invoked (rc_str_bytes c.name) (view_arguments c.arguments) (filter_of (view_optional c.filter)) (reach_of (view_optional_over c.over))
 
-pub call_view : (e : Expression) (d : Call) (x : Box Call Global) → e ≡ queries.Call x → d ≡ x.value → view e ≡ told d
+pub call_view : (e : Expression) (d : Call) (x : Box Call Global) → e ≡ queries.Call x → d ≡ x.value → view e ≡ call_tree d
 call_view e d x is at = ap view is ∙ view_of_call x ∙ ap view_call (sym at) ∙ view_call_is d
 
-pub call_same : (e : Expression) (x : Box Call Global) (d call : Call) (r : Bool) → e ≡ queries.Call x → d ≡ x.value → r ≡ is_same (view_call d) (view_call call) → r ≡ is_same (view e) (told call)
-call_same e x d call r is at same = same ∙ ap (is_same (view_call d)) (view_call_is call) ∙ ap (λ (t : Tree). is_same t (told call)) (ap view_call at ∙ sym (ap view is ∙ view_of_call x))
+pub call_same : (e : Expression) (x : Box Call Global) (d call : Call) (r : Bool) → e ≡ queries.Call x → d ≡ x.value → r ≡ is_same (view_call d) (view_call call) → r ≡ is_same (view e) (call_tree call)
+call_same e x d call r is at same = same ∙ ap (is_same (view_call d)) (view_call_is call) ∙ ap (λ (t : Tree). is_same t (call_tree call)) (ap view_call at ∙ sym (ap view is ∙ view_of_call x))
 
-view_of_listed : (v : Vec Expression Global) → view_arguments (given.Listed v) ≡ These (trees (views v.items))
+pub view_of_listed : (v : Vec Expression Global) → view_arguments (given.Listed v) ≡ These (trees (views v.items))
 unfolding view_arguments view
 view_of_listed v = ap (fold-Arguments Given Tree Reach Tree KeyTree Branch WindowTree arguments_step expression_step over_step call_step key_step link_step window_step) (sym (given.rolls-Listed v)) ∙ fold-roll-Arguments Given Tree Reach Tree KeyTree Branch WindowTree arguments_step expression_step over_step call_step key_step link_step window_step (layer.Listed v)
 
 pub same_listed_views : (a b : Arguments) (x y : Vec Expression Global) → a ≡ given.Listed x → b ≡ given.Listed y → are_same_given (view_arguments a) (view_arguments b) ≡ are_same (trees (views x.items)) (trees (views y.items))
 same_listed_views a b x y ea eb = ap (λ (e : Arguments). are_same_given (view_arguments e) (view_arguments b)) ea ∙ ap (λ (e : Arguments). are_same_given (view_arguments (given.Listed x)) (view_arguments e)) eb ∙ ap (λ (t : Given). are_same_given t (view_arguments (given.Listed y))) (view_of_listed x) ∙ ap (are_same_given (These (trees (views x.items)))) (view_of_listed y)
 
-view_of_columns : (v : Vec Expression Global) → view_arguments (given.Columns v) ≡ Columns (trees (views v.items))
+pub view_of_columns : (v : Vec Expression Global) → view_arguments (given.Columns v) ≡ Columns (trees (views v.items))
 unfolding view_arguments view
 view_of_columns v = ap (fold-Arguments Given Tree Reach Tree KeyTree Branch WindowTree arguments_step expression_step over_step call_step key_step link_step window_step) (sym (given.rolls-Columns v)) ∙ fold-roll-Arguments Given Tree Reach Tree KeyTree Branch WindowTree arguments_step expression_step over_step call_step key_step link_step window_step (layer.Columns v)
 

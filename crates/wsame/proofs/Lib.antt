@@ -1,2 +1,2 @@
 pub mod Views
-mod Equal
+pub mod Equal

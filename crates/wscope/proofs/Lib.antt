@@ -1,7 +1,7 @@
 pub mod Links
 pub mod Related
 mod TypeFacts
-mod Answered
+mod StarColumns
 mod WrittenOut
 mod Indexed
 mod Made

@@ -4,7 +4,7 @@ use Rattle.std.proofs.Math.Seq.{drop-cons}
 use Rattle.wquery.specs.declared.expression.Call.{Call}
 use Rattle.wquery.specs.declared.expression.Link.{Link}
 use Rattle.wquery.specs.declared.expression.Arguments.TheFolds.{fold_out-Link}
-use Rattle.wquery.specs.Tree.{Tree, Given, Reach, KeyTree, Branch, WindowTree, Links, Further, linked, view, view_link, view_call, view_arguments, view_over, view_optional, view_optional_over, filter_of, reach_of, arguments_step, expression_step, over_step, call_step, key_step, link_step, window_step}
+use Rattle.wquery.specs.Tree.{Tree, Given, Reach, KeyTree, Branch, WindowTree, Links, Further, linked, view, view_link, view_call, view_arguments, view_optional, view_optional_over, filter_of, reach_of, arguments_step, expression_step, over_step, call_step, key_step, link_step, window_step}
 use Rattle.wsame.proofs.Views.{view_call_is}
 use Rattle.wscope.specs.declared.look.Look.{Look}
 use Rattle.wscope.specs.Seeking.{some_node, some_below, some_link, some_given, some_filter, some_reach}

@@ -9,6 +9,7 @@ use Rattle.wquery.specs.declared.expression.Arguments.TheFolds.{fold-Arguments, 
 use Rattle.wquery.specs.declared.expression.Call.{Call}
 use Rattle.wquery.specs.declared.expression.Expression.{Expression}
 use Rattle.wquery.specs.Tree.{Tree, Given, Everything, These, Columns, Reach, KeyTree, Branch, WindowTree, trees, views, view, view_call, view_arguments, view_optional, filter_of, arguments_step, expression_step, over_step, call_step, key_step, link_step, window_step}
+use Rattle.wsame.proofs.Equal.{view_of_listed, view_of_columns}
 use Rattle.wsame.proofs.Views.{view_call_is}
 use Rattle.wscope.specs.Functions.{function_of}
 use Rattle.wscope.specs.Types.{Titled}
@@ -16,14 +17,6 @@ use Rattle.wplan.specs.Plans.{AggregatePlan, GroupAggregate, GroupingOf}
 use Rattle.wsettle.specs.Resolving.{Layout}
 use Rattle.wsettle.specs.Functions.{aggregate_made, aggregated}
 use Rattle.wsettle.specs.Groups.{column_place, column_places, group_called, group_call_made}
-
-view_of_columns : (v : Vec Expression Global) → view_arguments (given.Columns v) ≡ Columns (trees (views v.items))
-unfolding view_arguments view
-view_of_columns v = ap (fold-Arguments Given Tree Reach Tree KeyTree Branch WindowTree arguments_step expression_step over_step call_step key_step link_step window_step) (sym (given.rolls-Columns v)) ∙ fold-roll-Arguments Given Tree Reach Tree KeyTree Branch WindowTree arguments_step expression_step over_step call_step key_step link_step window_step (layer.Columns v)
-
-view_of_listed : (v : Vec Expression Global) → view_arguments (given.Listed v) ≡ These (trees (views v.items))
-unfolding view_arguments view
-view_of_listed v = ap (fold-Arguments Given Tree Reach Tree KeyTree Branch WindowTree arguments_step expression_step over_step call_step key_step link_step window_step) (sym (given.rolls-Listed v)) ∙ fold-roll-Arguments Given Tree Reach Tree KeyTree Branch WindowTree arguments_step expression_step over_step call_step key_step link_step window_step (layer.Listed v)
 
 places_are : (cs : List Titled) (ts : List Tree) → map (column_place cs) ts ≡ column_places cs (trees ts)
 places_are cs [] = refl

@@ -3,7 +3,7 @@
 ghost use Rattle.std.specs.Prelude.{◌≡◌, ◌+◌, map, [], ◌∷◌};
 ghost use Rattle.wquery.specs.Tree.{view, view_over, view_window, view_call, view_key, view_link, view_arguments, view_optional, view_optional_over, filter_of, reach_of, trees, views, keys, view_keys, own_window, linked, NoLinks};
 ghost use Rattle.wquery.specs.QueryTree.{view_item};
-ghost use Rattle.wscope.specs.Seeking.{found_below, found_trees, found_links, found_given, found_filter, found_reach, found_keys};
+ghost use Rattle.wscope.specs.Seeking.{found_trees, found_links, found_given, found_filter, found_reach, found_keys};
 ghost use Rattle.wwindows.specs.Limits.{count_over as over_in, has_own, counting, over_items, over_order, counted};
 
 use wquery::{Arguments, Call, Expression, Item, Key, Link, Over, Window};

@@ -1,8 +1,9 @@
 use Rattle.std.proofs.Common.{◌≡◌, ◌++◌, List, map, ap, sym, ◌∙◌, append_assoc}
 use Rattle.wquery.specs.Tree.{Tree, view, views, view_keys, view_link, view_window, view_arguments, view_optional, view_optional_over, filter_of, reach_of, trees, keys, linked, NoLinks}
 use Rattle.wdistinct.specs.Calls.{call_trees, is_call_of, nodes_in, nodes_in_trees, nodes_in_links, nodes_in_keys, nodes_given, nodes_in_filter, nodes_in_reach}
+use Rattle.wsame.proofs.Equal.{partition_is, order_is}
 use Rattle.wdistinct.proofs.NodeFacts.{two_appended, chain_nodes, compare_nodes, between_nodes, in_nodes}
-use Rattle.wdistinct.proofs.Collected.{appended, call_found, call_passed, nodes_in_linked, partition_is, order_is}
+use Rattle.wdistinct.proofs.Collected.{appended, call_found, call_passed, nodes_in_linked}
 use Rattle.wdistinct.proofs.calls.+collecting.Goals as goal
 
 pub collect_links-returns : goal.collect_links-returns

@@ -1,7 +1,7 @@
 use Rattle.std.proofs.Common.{map, sym, ◌∙◌}
-use Rattle.std.proofs.lemmas.Bool.{and_left}
 use Rattle.wquery.specs.Tree.{view_link, NoLinks}
-use Rattle.wnames.proofs.Typed.{all_linked, branch_step, and_second}
+use Rattle.wsame.proofs.Equal.{and_first, and_second}
+use Rattle.wnames.proofs.Typed.{all_linked, branch_step}
 use Rattle.wnames.proofs.types.all_suit.Goals as goal
 
 pub links-init : goal.links-init
@@ -13,4 +13,4 @@ links-preserved c =
 
 pub returns-then-not-suits : goal.returns-then-not-suits
 returns-then-not-suits c =
-    sym (c.links.invariant ∙ branch_step _ _ _ c.link-item.result c.links-test.true c.link-item.is ∙ and_left _ _ (sym c.suits.ensures ∙ c.if-not-suits.true))
+    sym (c.links.invariant ∙ branch_step _ _ _ c.link-item.result c.links-test.true c.link-item.is ∙ and_first _ _ (sym c.suits.ensures ∙ c.if-not-suits.true))

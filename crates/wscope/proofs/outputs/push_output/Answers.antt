@@ -1,7 +1,7 @@
 use Rattle.std.proofs.Common.{◌≡◌, ◌++◌, List, IfOk, subst, sym}
 use Rattle.wscope.specs.Sources.{all_titled}
 use Rattle.wscope.specs.Types.{Titled}
-use Rattle.wscope.proofs.Answered.{item_answered}
+use Rattle.wscope.proofs.StarColumns.{item_answered}
 use Rattle.wscope.proofs.outputs.push_output.Goals as goal
 
 pub returns-in-All : goal.returns-in-All
