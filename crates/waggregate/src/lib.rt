@@ -21,5 +21,5 @@ mod tally;
 pub use feeding::{argument_values, filter_rows, is_null, lent_argument, lent_nulls};
 pub use folding::put_frame_aggregates;
 pub use grouped::{aggregate_groups, lent_values};
-pub use picking::{filter_of, values_of};
+pub use picking::{copied_values, filter_of};
 pub use tally::Tally;

@@ -1,6 +1,7 @@
 //! What the rows of a partition feed, in its order.
 ghost use Rattle.std.specs.Prelude.{◌≡◌, ◌<◌, ℕ, All, IfOk, length, map, option_map, slice_index_or, false};
 ghost use Rattle.std.specs.Option.{ForSome};
+ghost use Rattle.wvalues.specs.Meaning.{meaning};
 ghost use Rattle.wframe.specs.Cells.{meanings};
 ghost use Rattle.wslide.specs.Aggregates.{picked_values, picked_tests, tests};
 
@@ -39,21 +40,22 @@ pub fn filter_of(
     }
 }
 
-/// The values of the rows of these numbers, of which those of all rows are lent.
-pub fn values_of<'a>(
+/// Copies of the values of the rows of these numbers, in that order, of which those of all rows are lent. Rows that follow each
+/// other in an order lie far apart, and what is read often is read side by side.
+pub fn copied_values(
     alloc: Global,
-    values: &[&'a Value],
+    values: &[&Value],
     rows: &[usize],
-) -> Result<Vec<&'a Value>, AllocError>
+) -> Result<Vec<Value>, AllocError>
     requires { All (λ i. i < length values.now) rows.now }
-    ensures value { IfOk result (λ picked. meanings picked.items ≡ picked_values (meanings values.now) rows.now) }
-    ensures len { IfOk result (λ picked. length picked.items ≡ length rows.now) }
+    ensures value { IfOk result (λ copied. map meaning copied.items ≡ picked_values (meanings values.now) rows.now) }
+    ensures len { IfOk result (λ copied. length copied.items ≡ length rows.now) }
 {
-    let mut picked = Vec::with_capacity(alloc, rows.len())?;
+    let mut copied = Vec::with_capacity(alloc, rows.len())?;
     for row in rows {
-        picked.push(values[*row])?;
+        copied.push(values[*row].duplicate()?)?;
     }
-    Ok(picked)
+    Ok(copied)
 }
 
 /// A filter, lent.

@@ -20,8 +20,8 @@ ghost use Rattle.wcalls.specs.Arranged.{answered, IsArranged};
 use crate::arranged::ArrangedRows;
 use std::alloc::{AllocError, Global};
 use waggregate::{
-    Tally, argument_values, filter_of, filter_rows, is_null, lent_argument, lent_nulls,
-    lent_values, put_frame_aggregates, values_of,
+    Tally, argument_values, copied_values, filter_of, filter_rows, is_null, lent_argument,
+    lent_nulls, lent_values, put_frame_aggregates,
 };
 use wplan::{Aggregate, AggregateFunction};
 use wrows::AnswerFault;
@@ -56,18 +56,14 @@ fn put_aggregates(
     )
 }
 
-// Values of rows in another order. The list that they are picked from is let go.
-fn picked<'a>(
-    alloc: Global,
-    values: Vec<&'a Value>,
-    rows: &[usize],
-) -> Result<Vec<&'a Value>, AllocError>
+// Copies of the values of rows in another order. The list that they are copied from is let go.
+fn copied(alloc: Global, values: Vec<&Value>, rows: &[usize]) -> Result<Vec<Value>, AllocError>
     requires { All (λ i. i < length values.items) rows.now }
-    ensures value { IfOk result (λ picked. meanings picked.items ≡ picked_values (meanings values.entry.items) rows.now) }
-    ensures len { IfOk result (λ picked. length picked.items ≡ length rows.now) }
+    ensures value { IfOk result (λ copied. map meaning copied.items ≡ picked_values (meanings values.entry.items) rows.now) }
+    ensures len { IfOk result (λ copied. length copied.items ≡ length rows.now) }
 {
-    let picked = values_of(alloc, &values, rows)?;
-    Ok(picked)
+    let copied = copied_values(alloc, &values, rows)?;
+    Ok(copied)
 }
 
 // Puts the column of an aggregate whose argument has these values, by the numbers of the rows.
@@ -87,7 +83,8 @@ fn fed_column(
 {
     let tests = filter_rows(alloc, &aggregate.filter, arranged.rows)?;
     let filter = filter_of(alloc, &tests, arranged.order)?;
-    let values = picked(alloc, values, arranged.order)?;
+    let cells = copied(alloc, values, arranged.order)?;
+    let values = lent_values(alloc, &cells)?;
     put_aggregates(
         alloc,
         aggregate.function,

@@ -38,4 +38,4 @@ returns-clause-column c w arranged =
     let feed : Feed = record { values = values; filter = option_map (λ tests. tests.items) c.in_ok-tests.tests } in
     subst (Gives view c.put_aggregates.result)
     (sym (ap (λ r. (r >>= λ values. filters >>= λ filter. Ok (record { values = values; filter = filter })) >>= told) c.requires.values ∙ ap (λ r. (r >>= fed) >>= told) c.in_ok-tests.ensures.gives))
-    (c.put_aggregates.ensures.column w feed arranged (record { picked = ap meanings c.deref.ensures.value ∙ c.in_ok-values.ensures.value; tested = c.in_ok-filter.ensures.value }))
+    (c.put_aggregates.ensures.column w feed arranged (record { picked = ap meanings c.deref-2.ensures.value ∙ c.in_ok-values.ensures.value ∙ ap (map meaning) c.deref.ensures.value ∙ c.in_ok-cells.ensures.value; tested = c.in_ok-filter.ensures.value }))

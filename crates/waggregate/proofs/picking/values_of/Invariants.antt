@@ -1,7 +1,0 @@
-use Rattle.std.proofs.Common.{◌≡◌, map, take, get_or}
-use Rattle.wvalues.specs.Meaning.{Null}
-use Rattle.wframe.specs.Cells.{meanings}
-use Rattle.waggregate.proofs.picking.values_of.Given as goal
-
-abbrev pub invariant-loop-row : goal.invariant-loop-row
-invariant-loop-row l = meanings l.picked.items ≡ map (λ i. get_or (meanings l.values) i Null) (take l.row-index l.rows)
