@@ -52,7 +52,7 @@ fn read(alloc: Global, text: &[u8]) -> Result<Query, AskFault>
     }
 }
 
-// What a query with its names settled is answered on the rows of the set.
+// What a query with its names settled is answered on the rows of the set, of which the cells are made first.
 fn executed(alloc: Global, set: &mut SegmentSet, query: &Resolved) -> Result<Vec<u8>, AskFault>
     requires { is_sound_query (plans query.now) ≡ true }
     ensures answer { MatchResult result
@@ -60,6 +60,7 @@ fn executed(alloc: Global, set: &mut SegmentSet, query: &Resolved) -> Result<Vec
         (λ fault. (fault ≡ NoMemory) ⊎ (plan_answer (plans query.now) (rows_of_set set.old) ≡ Err fault)) }
     ensures same { Becomes set.old set.old.view set.new }
 {
+    set.make()?;
     let table = execute(alloc, set, query)?;
     let bytes = print(alloc, &table)?;
     Ok(bytes)
@@ -81,8 +82,8 @@ fn answer(alloc: Global, set: &mut SegmentSet, query: &Query) -> Result<Vec<u8>,
     }
 }
 
-/// The bytes of the answer to a text on the rows of the set, or its first fault. What the set knows stays as it is; runs of its
-/// segments may be kept besides.
+/// The bytes of the answer to a text on the rows of the set, or its first fault. What the set knows stays as it is; cells of its
+/// segments may be made, and runs kept besides.
 pub fn ask(alloc: Global, set: &mut SegmentSet, text: &[u8]) -> Result<Vec<u8>, AskFault>
     ensures answer { MatchResult result
         (λ bytes. IsAnswer set.old.schema set.old.view text.now (Ok bytes.items))

@@ -5,6 +5,7 @@ ghost use Rattle.wsegment.specs.Outcome.{Fails};
 ghost use Rattle.wsegment.specs.Rows.{rows_of};
 ghost use Rattle.wset.specs.Views.{join, known_in};
 ghost use Rattle.wset.specs.Items.{SegmentItem, RetirementItem, FloorItem, view_of_item};
+ghost use Rattle.wset.specs.Sets.{IsReadBy};
 ghost use Rattle.wset.specs.Words.{floor_word, retired_word, taken_word};
 ghost use Rattle.wset.specs.Listing.{listed};
 ghost use Rattle.wexchange.specs.Files.{file_of};
@@ -15,9 +16,10 @@ ghost use Rattle.wask.specs.Answer.{IsAnswer};
 
 use std::alloc::{AllocError, Global};
 use std::marker::Model;
+use std::rc::Rc;
 use wask::{AskFault, ask};
 use wexchange::{BadStream, FileFault, Inbox, Message, PushFault, read_beside, write};
-use wsegment::{Schema, SegmentFault};
+use wsegment::{Judged, Schema, SegmentFault};
 use wset::{Listed, Retired, SegmentSet, TakeError, Taken};
 use wvalues::{Counted, Name};
 
@@ -92,7 +94,7 @@ fn floor_message(set: &mut SegmentSet, name: Name) -> Reply
 }
 
 impl Node {
-    /// A node that knows nothing. It takes no memory.
+    /// A node that knows nothing. It takes no memory. It makes the cells of a segment as it takes it, for queries that are to come.
     pub fn new(alloc: Global, schema: Schema) -> Node
         ensures { result ≡ fresh_node schema map.empty }
     {
@@ -101,6 +103,24 @@ impl Node {
             set: SegmentSet::new(alloc, schema),
             inbox: Inbox::new(alloc),
         }
+    }
+
+    /// The same, but it judges what it takes, and makes no cells before it is asked.
+    pub fn lazy(alloc: Global, schema: Schema) -> Node
+        ensures { result ≡ fresh_node schema map.empty }
+    {
+        Node {
+            alloc,
+            set: SegmentSet::lazy(alloc, schema),
+            inbox: Inbox::new(alloc),
+        }
+    }
+
+    /// The declaration.
+    pub fn schema(&self) -> &Schema
+        ensures { result.now ≡ self.now.schema }
+    {
+        self.set.schema()
     }
 
     /// Takes a segment, as `SegmentSet::take` does. One that is live with these bytes needs no memory.
@@ -114,6 +134,19 @@ impl Node {
         ensures lacks { OnErr result (MayNeedMemory self.old.view (SegmentItem name bytes.now)) }
     {
         self.set.take(name, bytes)
+    }
+
+    /// Takes a segment of which the bytes were judged by the node's declaration, as `SegmentSet::take_judged` does. One that is live
+    /// with these bytes needs no memory.
+    #[tactic(auto, using(crate::proofs::Lacking::err_needs, crate::proofs::Lacking::on_err_needs))]
+    pub fn take_judged(&mut self, name: Name, judged: &Rc<Judged>) -> Result<Taken, AllocError>
+        requires { IsReadBy self.old.schema judged.now.value }
+        ensures word { IfOk result (λ word. word ≡ taken_word (known_in self.old.view name) judged.now.value.bytes) }
+        ensures ok { OnOk result (self.new ≡ record self.old { view = join self.old.view (view_of_item (SegmentItem name judged.now.value.bytes)) }) }
+        ensures err { OnErr result (self.new ≡ self.old) }
+        ensures lacks { OnErr result (MayNeedMemory self.old.view (SegmentItem name judged.now.value.bytes)) }
+    {
+        self.set.take_judged(name, judged)
     }
 
     /// Retires a name, as `SegmentSet::retire` does. One that is retired needs no memory.
@@ -216,7 +249,8 @@ impl Node {
         self.set.list()
     }
 
-    /// The bytes of the answer to a query, or why there is none. What the node knows stays as it is.
+    /// The bytes of the answer to a query, or why there is none. What the node knows stays as it is; cells of its segments are made
+    /// where they are missing.
     pub fn ask(&mut self, text: &[u8]) -> Result<Vec<u8>, AskFault>
         ensures answer { MatchResult result
             (λ bytes. IsAnswer self.old.schema self.old.view text.now (Ok bytes.items))
