@@ -3,29 +3,14 @@ use Rattle.std.specs.Prelude.{◌≡◌, ℕ, List, Option, None, Some, Result, 
 use Rattle.wsegment.specs.Declaration.{Declaration}
 use Rattle.wset.specs.Views.{View}
 use Rattle.wquery.specs.QueryTree.{QueryTree}
-use Rattle.wplan.specs.Plans.{SelectPlan}
-use Rattle.wrows.specs.Columns.{Row}
-use Rattle.wrows.specs.declared.fault.AnswerFault.{AnswerFault}
 use Rattle.wrules.specs.declared.rule.Rule.{Rule}
 use Rattle.wrules.specs.Rules.{first_broken_rule, number_of}
 use Rattle.wresolve.specs.Selecting.{resolved_query}
-use Rattle.wplanner.specs.Parts.{TableParts}
-use Rattle.wplanner.specs.Answers.{table_answer}
-use Rattle.wplanner.specs.Printing.{table_text}
-use Rattle.wplanner.specs.Faults.{unanswered}
+pub use Rattle.wplanner.specs.Texts.{plan_answer, printed}
 use Rattle.wplanner.specs.Tables.{rows_of_view}
 use Rattle.wplanner.specs.declared.fault.AskFault.{AskFault}
 use Rattle.wplanner.specs.declared.fault.AskFault.TheVariants as faults
 use Rattle.wask.specs.Texts.{Reads, IsUnread}
-
--- the bytes of a table, or why there is none
-abbrev pub printed : Result TableParts AnswerFault → Result (List ℕ) AskFault
-printed (Ok table) = Ok (table_text table.names table.rows)
-printed (Err fault) = Err (unanswered fault)
-
--- what a query with its names settled is answered on some rows
-abbrev pub plan_answer : List SelectPlan → List Row → Result (List ℕ) AskFault
-plan_answer plans rows = printed (table_answer plans rows)
 
 -- the first broken rule, else what is meant
 abbrev pub unless_broken : Option Rule → Result (List ℕ) AskFault → Result (List ℕ) AskFault

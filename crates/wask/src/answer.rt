@@ -1,19 +1,15 @@
 //! The way of a text: tokens, query, plan, table, bytes.
-ghost use Rattle.std.specs.Prelude.{◌≡◌, ◌⊎◌, true, Ok, Err, MatchResult};
+ghost use Rattle.std.specs.Prelude.{◌≡◌, ◌⊎◌, Ok, Err, MatchResult};
 ghost use Rattle.wquery.specs.QueryTree.{view_query};
 ghost use Rattle.wask.specs.Texts.{IsRefused, Reads, lexical, syntactical};
 ghost use Rattle.wset.specs.Sets.{Becomes};
-ghost use Rattle.wplan.specs.Plans.{plans};
-ghost use Rattle.wplanner.specs.Sound.{is_sound_query};
-ghost use Rattle.wplanner.specs.Tables.{rows_of_set};
 ghost use Rattle.wplanner.specs.declared.fault.AskFault.TheVariants.{NoMemory};
-ghost use Rattle.wask.specs.Answer.{IsAnswer, plan_answer, query_answer};
+ghost use Rattle.wask.specs.Answer.{IsAnswer, query_answer};
 
 use std::alloc::Global;
 use wlexer::{LexFault, lex};
 use wparser::{ParseFault, parse};
-use wplan::Resolved;
-use wplanner::{AskFault, execute, print};
+use wplanner::{AskFault, answer_text};
 use wquery::Query;
 use wresolve::{ResolveFault, resolve};
 use wset::SegmentSet;
@@ -52,21 +48,7 @@ fn read(alloc: Global, text: &[u8]) -> Result<Query, AskFault>
     }
 }
 
-// What a query with its names settled is answered on the rows of the set, of which the cells are made first.
-fn executed(alloc: Global, set: &mut SegmentSet, query: &Resolved) -> Result<Vec<u8>, AskFault>
-    requires { is_sound_query (plans query.now) ≡ true }
-    ensures answer { MatchResult result
-        (λ bytes. plan_answer (plans query.now) (rows_of_set set.old) ≡ Ok bytes.items)
-        (λ fault. (fault ≡ NoMemory) ⊎ (plan_answer (plans query.now) (rows_of_set set.old) ≡ Err fault)) }
-    ensures same { Becomes set.old set.old.view set.new }
-{
-    set.make()?;
-    let table = execute(alloc, set, query)?;
-    let bytes = print(alloc, &table)?;
-    Ok(bytes)
-}
-
-// What a query is answered on the rows of the set.
+// What a query is answered on the rows of the set, of which the cells are made first.
 fn answer(alloc: Global, set: &mut SegmentSet, query: &Query) -> Result<Vec<u8>, AskFault>
     ensures answer { MatchResult result
         (λ bytes. query_answer set.old.schema set.old.view (view_query query.now) ≡ Ok bytes.items)
@@ -78,7 +60,10 @@ fn answer(alloc: Global, set: &mut SegmentSet, query: &Query) -> Result<Vec<u8>,
         Err(ResolveFault::Broken(rule)) => Err(AskFault::Broken {
             rule: rule.number(),
         }),
-        Ok(resolved) => executed(alloc, set, &resolved),
+        Ok(resolved) => {
+            set.make()?;
+            answer_text(alloc, set, &resolved)
+        }
     }
 }
 

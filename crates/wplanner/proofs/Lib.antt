@@ -1,5 +1,3 @@
-mod Lines
-mod TextLines
 mod Rows
 mod HeldFacts
 mod SourceFacts
@@ -7,6 +5,7 @@ mod LiveFacts
 mod ColumnFacts
 mod NumberFacts
 mod PlanFacts
+mod LentFacts
 pub mod CallFacts
 pub mod SelectFacts
 mod CountedFacts

@@ -1,10 +1,13 @@
 -- Rows that are laid out one after another.
-use Rattle.std.proofs.Common.{◌≡◌, ◌∙◌, ◌+◌, ◌*◌, ◌<◌, ◌≤◌, ℕ, zero, suc, List, [], drop, take, get_or, length, map, refl, ap, arith}
+use Rattle.std.proofs.Common.{◌≡◌, ◌∙◌, ◌+◌, ◌*◌, ◌<◌, ◌≤◌, ℕ, zero, suc, List, [], ◌∷◌, drop, take, get_or, length, map, refl, sym, ap, arith}
 use Rattle.std.proofs.Math.Nat.{mul-le-mul_right}
-use Rattle.std.proofs.lemmas.List.{drop-drop}
+use Rattle.std.proofs.lemmas.List.{drop-drop, length-drop, length-map, length-take-le}
 use Rattle.wvalues.specs.declared.value.Value.{Value}
-use Rattle.wvalues.specs.Meaning.{meaning}
+use Rattle.wvalues.specs.Meaning.{Meaning, Null, meaning}
+use Rattle.wframe.specs.Places.{places}
+use Rattle.wprinted.specs.Printing.{values_at}
 use Rattle.wrows.specs.LaidRows.{laid}
+use Rattle.wplanner.proofs.SourceFacts.{all_places}
 
 pub length-laid : (width n : ℕ) (cells : List Value) → length (laid width n cells) ≡ n
 length-laid width zero cells = refl
@@ -23,3 +26,15 @@ pub row-within : (width n row : ℕ) → row < n → row * width + width ≤ n *
 row-within width n row h =
     let next : row + 1 ≤ n = omega arith in
     omega (arith, mul-le-mul_right width next)
+
+-- the values at all places are the row
+pub laid-values : (width n : ℕ) (cells : List Value) → length cells ≡ n * width → map (values_at (places width)) (laid width n cells) ≡ laid width n cells
+laid-values width zero cells e = refl
+laid-values width (suc n) cells e =
+    let row : List Meaning = map meaning (take width cells) in
+    let some : width ≤ length cells = omega (arith, e) in
+    let long : length row ≡ width = length-map (take width cells) meaning ∙ length-take-le width cells some in
+    let rest : length (drop width cells) ≡ n * width = omega (arith, length-drop width cells, e) in
+    let here : values_at (places width) row ≡ row = ap (λ k. values_at (places k) row) (sym long) ∙ all_places Null row in
+    ap (λ r. r ∷ map (values_at (places width)) (laid width n (drop width cells))) here
+    ∙ ap (λ l. row ∷ l) (laid-values width n (drop width cells) rest)

@@ -16,7 +16,7 @@ use Rattle.wrows.specs.declared.fault.AnswerFault.TheVariants.{OutOfRange}
 use Rattle.wrows.specs.Outcomes.{◌>>=◌}
 use Rattle.wrows.specs.Columns.{Row}
 use Rattle.wplanner.specs.Answers.{answer_of, table_answer}
-use Rattle.wplanner.specs.Printing.{table_text}
+use Rattle.wprinted.specs.Printing.{table_text}
 
 abbrev int : ℕ → Meaning
 int n = Int (pos n)

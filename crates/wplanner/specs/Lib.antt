@@ -5,7 +5,8 @@ pub mod Parts
 pub mod Kept
 pub mod KeptOrders
 pub mod TableOrders
-pub mod Printing
+pub mod Lent
+pub mod Texts
 pub mod Faults
 pub mod Tables
 pub mod Few

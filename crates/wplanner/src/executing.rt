@@ -1,5 +1,5 @@
 //! Answers resolved queries.
-ghost use Rattle.std.specs.Prelude.{◌≡◌, ◌<◌, true, IfOk, length, map};
+ghost use Rattle.std.specs.Prelude.{◌≡◌, ◌<◌, ◌⊎◌, ◌∷◌, [], true, Err, IfOk, IfSome, MatchResult, Ok, length, map};
 ghost use Rattle.std.specs.List.{list_all};
 ghost use Rattle.std.specs.Rc.{rc_str_bytes};
 ghost use Rattle.wset.specs.Sets.{Becomes};
@@ -7,11 +7,16 @@ ghost use Rattle.wplan.specs.Plans.{plans, select_plan};
 ghost use Rattle.wrows.specs.Outcomes.{Gives};
 ghost use Rattle.wrows.specs.Laid.{rows_in};
 ghost use Rattle.wplanner.specs.Answers.{answer_of, names_of, select_of, table_answer, width_of};
+ghost use Rattle.wplanner.specs.Lent.{IsLent};
 ghost use Rattle.wplanner.specs.Sound.{is_sound_query, is_sound_select};
 ghost use Rattle.wplanner.specs.Tables.{rows_of_set, Tells};
+ghost use Rattle.wplanner.specs.Texts.{plan_answer};
+ghost use Rattle.wplanner.specs.declared.fault.AskFault.TheVariants.{NoMemory};
 
 use crate::fault::AskFault;
+use crate::lent::{lent_places, lent_text};
 use crate::parts::item_names;
+use crate::printing::print;
 use crate::selecting::{select_rows, select_table_rows};
 use crate::table::Table;
 use crate::work::Work;
@@ -117,4 +122,73 @@ pub fn execute(alloc: Global, set: &mut SegmentSet, query: &Resolved) -> Result<
 {
     let table = query_answer(alloc, query.selections.as_slice(), set)?;
     Ok(table)
+}
+
+// The bytes of what a query answers as a table.
+fn printed_answer(
+    alloc: Global,
+    set: &mut SegmentSet,
+    query: &Resolved,
+) -> Result<Vec<u8>, AskFault>
+    requires { is_sound_query (plans query.now) ≡ true }
+    ensures answer { MatchResult result
+        (λ bytes. plan_answer (plans query.now) (rows_of_set set.old) ≡ Ok bytes.items)
+        (λ fault. (fault ≡ NoMemory) ⊎ (plan_answer (plans query.now) (rows_of_set set.old) ≡ Err fault)) }
+    ensures same { Becomes set.old set.old.view set.new }
+{
+    let table = execute(alloc, set, query)?;
+    let bytes = print(alloc, &table)?;
+    Ok(bytes)
+}
+
+// The SELECT of a query that is one alone.
+fn one_select(selects: &[Selection]) -> Option<&Selection>
+    ensures { IfSome result (λ select. map select_plan selects.now ≡ select_plan select.now ∷ []) }
+{
+    if selects.len() == 1 {
+        Some(&selects[0])
+    } else {
+        None
+    }
+}
+
+// The bytes of what one SELECT answers, whose items are the columns at some places.
+fn lent_answer(
+    alloc: Global,
+    set: &mut SegmentSet,
+    select: &Selection,
+    places: &[usize],
+) -> Result<Vec<u8>, AskFault>
+    requires sound { is_sound_select (select_plan select.now) ≡ true }
+    requires lent { IsLent (select_plan select.now) places.now }
+    ensures answer { MatchResult result
+        (λ bytes. plan_answer (select_plan select.now ∷ []) (rows_of_set set.old) ≡ Ok bytes.items)
+        (λ fault. (fault ≡ NoMemory) ⊎ (plan_answer (select_plan select.now ∷ []) (rows_of_set set.old) ≡ Err fault)) }
+    ensures same { Becomes set.old set.old.view set.new }
+{
+    let bytes = lent_text(alloc, select, places, set)?;
+    Ok(bytes)
+}
+
+/// The bytes of the answer of a query, as `print` makes them of the table that `execute` answers, or its fault. Where the query
+/// is one SELECT whose items are plain columns, the rows are printed where they lie, and no table is made.
+pub fn answer_text(
+    alloc: Global,
+    set: &mut SegmentSet,
+    query: &Resolved,
+) -> Result<Vec<u8>, AskFault>
+    requires sound { is_sound_query (plans query.now) ≡ true }
+    ensures answer { MatchResult result
+        (λ bytes. plan_answer (plans query.now) (rows_of_set set.old) ≡ Ok bytes.items)
+        (λ fault. (fault ≡ NoMemory) ⊎ (plan_answer (plans query.now) (rows_of_set set.old) ≡ Err fault)) }
+    ensures same { Becomes set.old set.old.view set.new }
+{
+    match one_select(&query.selections) {
+        None => printed_answer(alloc, set, query),
+        Some(select) => match lent_places(alloc, select) {
+            Err(_) => Err(AskFault::NoMemory),
+            Ok(None) => printed_answer(alloc, set, query),
+            Ok(Some(places)) => lent_answer(alloc, set, select, &places),
+        },
+    }
 }

@@ -13,7 +13,7 @@
 mod counting;
 mod executing;
 mod fault;
-mod field;
+mod lent;
 mod numbered;
 mod orders;
 mod parts;
@@ -26,7 +26,7 @@ mod told;
 mod windows;
 mod work;
 
-pub use executing::execute;
+pub use executing::{answer_text, execute};
 pub use fault::AskFault;
 pub use printing::print;
 pub use table::Table;

@@ -1,12 +1,14 @@
 //! The parts of a SELECT, each in a list of its own.
-ghost use Rattle.std.specs.Prelude.{◌≡◌, IfOk, length, map};
+ghost use Rattle.std.specs.Prelude.{◌≡◌, IfOk, IfSome, length, map};
 ghost use Rattle.std.specs.Rc.{rc_str_bytes};
+ghost use Rattle.wplan.specs.Formula.{At};
 ghost use Rattle.wplan.specs.Plans.{key_plan, output_plan};
 ghost use Rattle.wrows.specs.Laid.{formulas_seen};
 
 use std::alloc::{AllocError, Global};
 use std::rc::RcStr;
 use wplan::{Expr, Output, SettledKey};
+use wrows::place_of;
 use wvalues::SortKey;
 
 /// The values of items.
@@ -55,4 +57,18 @@ pub(crate) fn key_orders(alloc: Global, keys: &[SettledKey]) -> Result<Vec<SortK
         orders.push(key.order)?;
     }
     Ok(orders)
+}
+
+/// The places of items, where each is a plain column.
+pub(crate) fn item_places(alloc: Global, items: &[Output]) -> Result<Option<Vec<usize>>, AllocError>
+    ensures { IfOk result (λ found. IfSome found (λ places. map (λ o. o.value) (map output_plan items.now) ≡ map At places.items)) }
+{
+    let mut places = Vec::with_capacity(alloc, items.len())?;
+    for item in items {
+        let Some(place) = place_of(&item.value) else {
+            return Ok(None);
+        };
+        places.push(place)?;
+    }
+    Ok(Some(places))
 }

@@ -301,7 +301,7 @@ fn select_by_runs(
 }
 
 // The rows of the set's live segments that WHERE keeps, where these are few and orders of them are asked for.
-fn few_kept_rows<'a>(
+pub(crate) fn few_kept_rows<'a>(
     alloc: Global,
     select: &Selection,
     set: &'a SegmentSet,

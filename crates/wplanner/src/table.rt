@@ -1,14 +1,16 @@
 //! The table of an answer.
-ghost use Rattle.std.specs.Prelude.{◌≡◌, ◌+◌, ◌<◌, ◌≤◌, [], drop, length, map, slice_index_or, take, vec_len};
+ghost use Rattle.std.specs.Prelude.{◌≡◌, ◌+◌, ◌<◌, ◌≤◌, [], IfOk, drop, length, map, slice_index_or, take, vec_len};
 ghost use Rattle.std.specs.Rc.{rc_str_bytes};
 ghost use Rattle.wvalues.specs.Meaning.{meaning};
+ghost use Rattle.wprinted.specs.Printing.{values_at};
 ghost use Rattle.wrows.specs.Laid.{rows_in};
 ghost use Rattle.wplanner.specs.Parts.{value_at};
 
 use crate::work::Work;
+use std::alloc::{AllocError, Global};
 use std::marker::Model;
 use std::rc::RcStr;
-use wrows::Cells;
+use wrows::{Cells, numbers};
 use wvalues::Value;
 
 /// Output names, and rows with a value under each name. Rows and columns are counted from 0.
@@ -80,6 +82,14 @@ impl Table {
         ensures { map rc_str_bytes result.now ≡ self.now.names }
     {
         self.names.as_slice()
+    }
+
+    /// The numbers of its columns.
+    pub(crate) fn places(&self, alloc: Global) -> Result<Vec<usize>, AllocError>
+        ensures { IfOk result (λ places. map (values_at places.items) self.now.rows ≡ self.now.rows) }
+    {
+        let places = numbers(alloc, self.names.len())?;
+        Ok(places)
     }
 
     /// The values of a row.

@@ -5,7 +5,7 @@ use Rattle.std.proofs.lemmas.List.{append-nil, take_more}
 use Rattle.std.proofs.lemmas.Simd.{map-map}
 use Rattle.std.specs.List.{flat_map}
 use Rattle.wvalues.specs.Meaning.{Meaning}
-use Rattle.wplanner.specs.Printing.{field_text, line_text}
+use Rattle.wprinted.specs.Printing.{field_text, line_text}
 
 -- the line of some fields that stand for these texts or values
 pub line-of : {T X : Type 0} (print : X → List ℕ) (view : T → X) (fields : List T) (seen : List X) → map view fields ≡ seen → line_text (map (λ field. print (view field)) fields) ≡ line_text (map print seen)

@@ -1,0 +1,57 @@
+//! Rows that are looked at before they are printed.
+ghost use Rattle.std.specs.Prelude.{◌≡◌, OnOk};
+ghost use Rattle.wvalues.specs.Meaning.{Null, meaning};
+
+use crate::rows::{Rows, cell_at};
+use std::alloc::AllocError;
+use wvalues::Value;
+
+/// How many rows are looked at before they are printed, so few that a cache holds their texts until then.
+const BATCH: usize = 256;
+
+// The bytes that a cell's text takes, but for most of its quotes.
+fn room_for(cell: &Value) -> usize {
+    match cell {
+        Value::Text(text) => {
+            let bytes = text.as_str().as_bytes();
+            bytes
+                .len()
+                .saturating_add((bytes.first() == Some(&b'"')) as usize)
+        }
+        Value::Null | Value::Int(_) => 0,
+    }
+}
+
+// The bytes that the texts of a row at some places take, but for most of their quotes.
+fn room_for_row(cells: &[Value], null: &Value, places: &[usize]) -> usize
+    requires { meaning null.now ≡ Null }
+{
+    let mut room: usize = 0;
+    for place in places {
+        room = room.saturating_add(room_for(cell_at(cells, null, *place)));
+    }
+    room
+}
+
+/// Makes room for the texts of a row and of those behind it that are looked at with it. Nothing is done between one text and the
+/// next, so that the processor has many of them on their way from memory at once, and finds them near when they are printed.
+pub(crate) fn look_ahead<R: Rows>(
+    bytes: &mut Vec<u8>,
+    rows: &R,
+    null: &Value,
+    places: &[usize],
+    row: usize,
+) -> Result<(), AllocError>
+    requires { meaning null.now ≡ Null }
+    ensures { OnOk result (bytes.new.items ≡ bytes.old.items) }
+{
+    if row % BATCH != 0 {
+        return Ok(());
+    }
+    let end = rows.count().min(row.saturating_add(BATCH));
+    let mut room: usize = 0;
+    for next in row..end {
+        room = room.saturating_add(room_for_row(rows.row(next), null, places));
+    }
+    bytes.reserve(room)
+}

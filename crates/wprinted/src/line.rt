@@ -1,0 +1,121 @@
+//! A line that is written from its last byte to its first, in room that is there already.
+ghost use Rattle.std.specs.Prelude.{◌≡◌, ◌≤◌, ◌++◌, ◌∷◌, IfSome, drop, if◌then◌else◌, length, map};
+ghost use Rattle.std.specs.Fmt.{signed_decimal};
+ghost use Rattle.wvalues.specs.Meaning.{Null, meaning};
+ghost use Rattle.wprinted.specs.Printing.{comma, field_text, line_text, text_field, values_at};
+
+use crate::field::needs_quotes;
+use crate::rows::cell_at;
+use itoa::write_digits;
+use wvalues::Value;
+
+/// How many bytes a line has room for. Longer ones are written otherwise.
+pub(crate) const LINE: usize = 256;
+
+/// The most digits of a number of 64 bits.
+const DIGITS: usize = 20;
+
+// Writes a number so that it ends before a place, and answers where it begins. None where it has no room, or is too long.
+fn write_number(number: i128, line: &mut [u8], end: usize) -> Option<usize>
+    requires { end ≤ length line.old }
+    ensures written { IfSome result (λ start. drop start line.new ≡ signed_decimal number ++ drop end line.old) }
+    ensures within { IfSome result (λ start. start ≤ end) }
+    ensures room { length line.new ≡ length line.old }
+{
+    let size = number.unsigned_abs();
+    if end <= DIGITS || size > u64::MAX as u128 {
+        return None;
+    }
+    let start = write_digits(size as u64, line, end);
+    if number >= 0 {
+        return Some(start);
+    }
+    line[start - 1] = b'-';
+    Some(start - 1)
+}
+
+// Writes a text so that it ends before a place, and answers where it begins. None where it has no room, or stands in quotes.
+fn write_text(text: &[u8], line: &mut [u8], end: usize) -> Option<usize>
+    requires { end ≤ length line.old }
+    ensures written { IfSome result (λ start. drop start line.new ≡ text_field text.now ++ drop end line.old) }
+    ensures within { IfSome result (λ start. start ≤ end) }
+    ensures room { length line.new ≡ length line.old }
+{
+    if text.len() > end || needs_quotes(text) {
+        return None;
+    }
+    let start = end - text.len();
+    line[start..end].copy_from_slice(text);
+    Some(start)
+}
+
+// Writes a value so that it ends before a place, and answers where it begins, if it can.
+fn write_value(value: &Value, line: &mut [u8], end: usize) -> Option<usize>
+    requires { end ≤ length line.old }
+    ensures written { IfSome result (λ start. drop start line.new ≡ field_text (meaning value.now) ++ drop end line.old) }
+    ensures within { IfSome result (λ start. start ≤ end) }
+    ensures room { length line.new ≡ length line.old }
+{
+    match value {
+        Value::Null => Some(end),
+        Value::Int(number) => write_number(number.get(), line, end),
+        Value::Text(text) => write_text(text.as_str().as_bytes(), line, end),
+    }
+}
+
+// Writes a byte before a place, and answers where it stands, if it can.
+fn write_byte(byte: u8, line: &mut [u8], end: usize) -> Option<usize>
+    requires { end ≤ length line.old }
+    ensures written { IfSome result (λ start. drop start line.new ≡ byte ∷ drop end line.old) }
+    ensures within { IfSome result (λ start. start ≤ end) }
+    ensures room { length line.new ≡ length line.old }
+{
+    if end == 0 {
+        return None;
+    }
+    line[end - 1] = byte;
+    Some(end - 1)
+}
+
+// Writes a value before a line that begins at a place, with a comma between where the line has a field already.
+fn write_field(value: &Value, is_last: bool, line: &mut [u8], end: usize) -> Option<usize>
+    requires { end ≤ length line.old }
+    ensures written { IfSome result (λ start. drop start line.new ≡ field_text (meaning value.now) ++ (if is_last then drop end line.old else (comma ∷ drop end line.old))) }
+    ensures within { IfSome result (λ start. start ≤ end) }
+    ensures room { length line.new ≡ length line.old }
+{
+    if is_last {
+        return write_value(value, line, end);
+    }
+    let Some(comma) = write_byte(b',', line, end) else {
+        return None;
+    };
+    write_value(value, line, comma)
+}
+
+/// Writes the line of a row's values at some places, and answers where it begins. None where it has no room, or has a value
+/// that stands in quotes or has more than 64 bits.
+pub(crate) fn write_line(
+    cells: &[Value],
+    null: &Value,
+    places: &[usize],
+    line: &mut [u8],
+) -> Option<usize>
+    requires { meaning null.now ≡ Null }
+    ensures written { IfSome result (λ start. drop start line.new ≡ line_text (map field_text (values_at places.now (map meaning cells.now)))) }
+    ensures within { IfSome result (λ start. start ≤ length line.new) }
+{
+    let Some(mut at) = write_byte(b'\n', line, line.len()) else {
+        return None;
+    };
+    let mut left = places.len();
+    while left > 0 {
+        let is_last = left == places.len();
+        left -= 1;
+        match write_field(cell_at(cells, null, places[left]), is_last, line, at) {
+            None => return None,
+            Some(start) => at = start,
+        }
+    }
+    Some(at)
+}

@@ -1,0 +1,102 @@
+//! The bytes of an answer.
+ghost use Rattle.std.specs.Prelude.{◌≡◌, ◌++◌, IfOk, OnOk, map};
+ghost use Rattle.std.specs.List.{flat_map};
+ghost use Rattle.std.specs.Rc.{rc_str_bytes};
+ghost use Rattle.wvalues.specs.Meaning.{Null, meaning};
+ghost use Rattle.wprinted.specs.Printing.{field_text, line_text, table_text, text_field, values_at};
+
+use crate::ahead::look_ahead;
+use crate::field::{push_text, push_value};
+use crate::line::{LINE, write_line};
+use crate::rows::{Rows, cell_at};
+use std::alloc::{AllocError, Global};
+use std::rc::RcStr;
+use wvalues::Value;
+
+// Adds the header line.
+fn push_names(bytes: &mut Vec<u8>, names: &[RcStr]) -> Result<(), AllocError>
+    ensures { OnOk result (bytes.new.items ≡ bytes.old.items ++ line_text (map (λ name. text_field (rc_str_bytes name)) names.now)) }
+{
+    for (i, name) in names.iter().enumerate() {
+        if i > 0 {
+            bytes.push(b',')?;
+        }
+        push_text(bytes, name.as_str().as_bytes())?;
+    }
+    bytes.push(b'\n')?;
+    Ok(())
+}
+
+// Adds the line of a row's values at some places, value by value.
+fn push_values(
+    bytes: &mut Vec<u8>,
+    cells: &[Value],
+    null: &Value,
+    places: &[usize],
+) -> Result<(), AllocError>
+    requires { meaning null.now ≡ Null }
+    ensures { OnOk result (bytes.new.items ≡ bytes.old.items ++ line_text (map field_text (values_at places.now (map meaning cells.now)))) }
+{
+    for (i, place) in places.iter().enumerate() {
+        if i > 0 {
+            bytes.push(b',')?;
+        }
+        push_value(bytes, cell_at(cells, null, *place))?;
+    }
+    bytes.push(b'\n')?;
+    Ok(())
+}
+
+// Adds the line of a row's values at some places, which is written beside first, if it can be.
+fn push_row(
+    bytes: &mut Vec<u8>,
+    cells: &[Value],
+    null: &Value,
+    places: &[usize],
+    line: &mut [u8],
+) -> Result<(), AllocError>
+    requires { meaning null.now ≡ Null }
+    ensures { OnOk result (bytes.new.items ≡ bytes.old.items ++ line_text (map field_text (values_at places.now (map meaning cells.now)))) }
+{
+    match write_line(cells, null, places, line) {
+        Some(start) => bytes.extend_from_slice(&line[start..]),
+        None => push_values(bytes, cells, null, places),
+    }
+}
+
+// Adds the lines of the values of all rows at some places.
+fn push_rows<R: Rows>(
+    bytes: &mut Vec<u8>,
+    rows: &R,
+    null: &Value,
+    places: &[usize],
+) -> Result<(), AllocError>
+    requires { meaning null.now ≡ Null }
+    ensures { OnOk result (bytes.new.items ≡ bytes.old.items ++ flat_map (λ row. line_text (map field_text row)) (map (values_at places.now) (R.rows rows.now))) }
+{
+    let mut line = [0u8; LINE];
+    for row in 0..rows.count() {
+        look_ahead(bytes, rows, null, places, row)?;
+        push_row(bytes, rows.row(row), null, places, &mut line)?;
+    }
+    Ok(())
+}
+
+/// The bytes of an answer: the header line with the output names, then one line a row with its values at some places. Fields
+/// are parted by commas, and each line ends in LF. A null is an empty field and an empty text is `""`; a text stands in quotes
+/// just where it is empty or holds a comma, a quote, CR or LF, and quotes inside are doubled. A number is a plain decimal, with
+/// `-` where it is negative. The one error is that memory was refused.
+pub fn print_rows<R: Rows>(
+    alloc: Global,
+    names: &[RcStr],
+    places: &[usize],
+    rows: &R,
+) -> Result<Vec<u8>, AllocError>
+    ensures { IfOk result (λ bytes. bytes.items ≡ table_text (map rc_str_bytes names.now) (map (values_at places.now) (R.rows rows.now))) }
+{
+    let mut bytes = Vec::new(alloc);
+    push_names(&mut bytes, names)?;
+    let null = Value::Null;
+    push_rows(&mut bytes, rows, &null, places)?;
+    Ok(bytes)
+}
