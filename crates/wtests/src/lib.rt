@@ -1,5 +1,5 @@
 //! Tests of what no script of the program shows: readers and writers that fail, rows in order before they are asked for, a join
-//! that no file asks for, how much work an answer takes, and what a crash leaves of a store.
+//! that no file asks for, cells that are made late, how much work an answer takes, and what a crash leaves of a store.
 //!
 //! What is compared was typed from the formats.
 #![tactic(auto)]
@@ -8,6 +8,8 @@
 mod crashes;
 #[cfg(test)]
 mod devices;
+#[cfg(test)]
+mod lazy;
 #[cfg(test)]
 mod merges;
 #[cfg(test)]
