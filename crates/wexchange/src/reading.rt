@@ -416,7 +416,8 @@ fn read_behind(
 
 /// The set whose file the bytes are, or where it has no floor its text in version 1, under the declaration of a set that
 /// is known, or their first fault from left to right. A content that the known set has live under its name is compared
-/// with it and shared; others are judged, and their cells are made unless the known set is lazy. The digest of a file of version 2 is taken where all before it is right.
+/// with it and shared; others are judged, and their cells are made unless the known set is lazy. The digest of a file of
+/// version 2 is taken where all before it is right.
 pub fn read_beside(alloc: Global, known: &SegmentSet, bytes: &[u8]) -> Result<SegmentSet, FileFault>
     ensures view { IfOk result (λ set. IsFileOf known.now.schema set.view bytes.now) }
     ensures schema { IfOk result (λ set. set.schema ≡ known.now.schema) }
