@@ -21,6 +21,7 @@ use Rattle.wrows.proofs.KeyFacts.{by_no_key}
 use Rattle.wrows.proofs.RowFacts.{map-cut, map-map, then_ok, then_refused}
 use Rattle.wplanner.specs.Answers.{items_of, left_items, left_rows, select_of}
 use Rattle.wplanner.specs.Faults.{unanswered}
+use Rattle.wplanner.specs.Few.{MayGive}
 use Rattle.wplanner.specs.Lent.{IsLent, text_in}
 use Rattle.wplanner.specs.Sound.{is_sound_select}
 use Rattle.wplanner.specs.TableOrders.{by_keys}
@@ -138,6 +139,10 @@ module _ (s : SelectPlan) (ps : List ℕ) (lent : IsLent s ps) where
   pub kept_fails : {X Y : Type 0} (view : X → List Row) (whole : Y → List ℕ) (fault : AnswerFault) (rows : List Row) → Gives view (Err fault) (kept_of s.condition rows) → Gives whole (Err fault) (text_in s (select_of s rows))
   kept_fails view whole fault rows refused =
       then_refused (λ (r : List Row). r) whole fault (select_of s rows) _ (then_refused view (λ (r : List Row). r) fault (kept_of s.condition rows) left refused)
+
+-- what is left in where there is something
+pub may_some : {X Y : Type 0} (view : X → Y) (found : Option X) (x : X) (meant : Result Y AnswerFault) → found ≡ Some x → MayGive view (Ok found) meant → meant ≡ Ok (view x)
+may_some {X} {Y} view found x meant is gives = let P : Option X → Type 0 = λ o. MayGive view (Ok o) meant in subst P is gives
 
 -- a query that is one SELECT
 pub one_is : (ss : List Selection) (d : Selection) → length ss ≡ 1 → map select_plan ss ≡ select_plan (get_or ss 0 d) ∷ []

@@ -116,7 +116,7 @@ impl Node {
         }
     }
 
-    /// The declaration.
+    /// The declaration of the node's table.
     pub fn schema(&self) -> &Schema
         ensures { result.now ≡ self.now.schema }
     {
@@ -233,13 +233,6 @@ impl Node {
             Ok(Some(Message::Retire(name))) => Ok(Some(retire_message(&mut self.set, *name))),
             Ok(Some(Message::RetireTo(name))) => Ok(Some(floor_message(&mut self.set, *name))),
         }
-    }
-
-    /// The declaration of the node's table.
-    pub fn schema(&self) -> &Schema
-        ensures { result.now ≡ self.now.schema }
-    {
-        self.set.schema()
     }
 
     /// Each name that is not unknown, in the order of names.

@@ -1,4 +1,4 @@
-use Rattle.std.proofs.Common.{◌≡◌, Bool, List, Vec, Global, Option, Result, Ok, Err, map, option_map, subst, sym, ap, ◌∙◌}
+use Rattle.std.proofs.Common.{Bool, List, Vec, Global, Option, Result, Ok, Err, map, option_map, subst, sym, ap, ◌∙◌}
 use Rattle.std.proofs.lemmas.Result.{err_from_is_err_and}
 use Rattle.wvalues.specs.Meaning.{Meaning, meaning}
 use Rattle.wframe.specs.Cells.{meanings}

@@ -1,0 +1,9 @@
+use Rattle.std.proofs.Common.{Vec, Global, ℕ, ◌∙◌}
+use Rattle.std.proofs.lemmas.Result.{err_from_is_err_and}
+use Rattle.wplan.specs.Plans.{select_plan}
+use Rattle.wplanner.specs.Tables.{rows_of_set}
+use Rattle.wplanner.proofs.LentFacts.{plan_fails, plan_is}
+use Rattle.wplanner.proofs.executing.lent_answer.Goals as goal
+
+pub returns-clause-answer : goal.returns-clause-answer
+returns-clause-answer c = plan_is (select_plan c.args.select.now) (rows_of_set c.args.set.now) c.in_ok-bytes.bytes.items c.in_ok-bytes.ensures.text
