@@ -9,7 +9,7 @@ ghost use Rattle.wact.specs.Acts.{Acts, ActsBy, ActsOn, ActsRead, Joins, Lists, 
 
 use crate::acted::{Acted, answered, refused, stored};
 use crate::feeding::feed;
-use crate::opening::node_of;
+use crate::opening::{Purpose, node_of};
 use crate::queries::ask;
 use std::alloc::{AllocError, Global};
 use wcommand::Choice;
@@ -158,6 +158,14 @@ fn act_on(
     }
 }
 
+// What a subcommand opens a node for.
+fn purpose_of(choice: &Choice<'_>) -> Purpose {
+    match choice {
+        Choice::Ask { .. } => Purpose::Asking,
+        _ => Purpose::Telling,
+    }
+}
+
 // What a subcommand does where the table's declaration is read.
 fn act_by(
     alloc: Global,
@@ -170,7 +178,7 @@ fn act_by(
     ensures acts { IfOk result (λ acted. ActsBy schema choice.now (option_map (λ bytes. bytes.now) store.entry) other.now acted) }
     ensures lacks { OnErr result (MayLackBy schema choice.now (option_map (λ bytes. bytes.now) store.entry) other.now) }
 {
-    match node_of(alloc, schema, store) {
+    match node_of(alloc, schema, store, purpose_of(choice)) {
         Ok(mut node) => act_on(alloc, choice, &mut node, store, other),
         Err(FileFault::NoMemory) => Err(AllocError),
         Err(fault) => Ok(refused(refused_file(alloc, fault)?)),

@@ -16,38 +16,22 @@ ghost use Rattle.wact.specs.Delivering.{Delivers, IsFeed, IsToldUndelivered};
 ghost use Rattle.wact.specs.Streams.{Feeds};
 
 use crate::acted::{Acted, refused, stored};
-use crate::opening::{Opened, open_store};
+use crate::opening::{Opened, Purpose, open_store};
 use itoa::Buffer;
 use std::alloc::{AllocError, Global};
-use std::rc::Rc;
 use wbatch::{Batch, Delivery, Stop};
 use wreplies::{Text, refused_segment, retired, taken};
-use wsegment::Segment as Judged;
-use wset::Taken;
 use wstore::Node;
-use wvalues::Name;
-
-// Takes a segment that was judged by the node's declaration.
-fn take_judged(node: &mut Node, name: Name, judged: &Rc<Judged>) -> Result<Taken, AllocError>
-    requires { IsReadBy node.old.schema judged.now.value }
-    ensures word { IfOk result (λ word. word ≡ taken_word (known_in node.old.view name) judged.now.value.bytes) }
-    ensures ok { OnOk result (node.new ≡ record node.old { view = join node.old.view (view_of_item (SegmentItem name judged.now.value.bytes)) }) }
-    ensures err { OnErr result (node.new ≡ node.old) }
-{
-    match node.take(name, judged.as_ref().bytes()) {
-        Ok(word) => Ok(word),
-        Err(_) => Err(AllocError),
-    }
-}
 
 // Delivers an item. It answers the line of what it is told.
+#[tactic(auto, using(crate::proofs::Delivering::delivers_one))]
 fn deliver(node: &mut Node, delivery: &Delivery) -> Result<&'static [u8], AllocError>
     requires { IsReady node.old.schema delivery.now }
     ensures { IfOk result (λ line. Delivers (item_of delivery.now ∷ []) node.old node.new [] line.now) }
 {
     match delivery {
         Delivery::Segment(name, judged) => {
-            let word = take_judged(node, *name, judged)?;
+            let word = node.take_judged(*name, judged)?;
             Ok(taken(word))
         }
         Delivery::Retirement(name) => {
@@ -62,6 +46,7 @@ fn deliver(node: &mut Node, delivery: &Delivery) -> Result<&'static [u8], AllocE
 }
 
 // Delivers an item, and adds its line.
+#[tactic(auto, using(crate::proofs::Delivering::delivers_behind))]
 fn deliver_next(node: &mut Node, delivery: &Delivery, text: &mut Vec<u8>) -> Result<(), AllocError>
     requires { IsReady node.old.schema delivery.now }
     ensures { OnOk result (Delivers (item_of delivery.now ∷ []) node.old node.new text.old.items text.new.items) }
@@ -92,7 +77,8 @@ fn add_count(text: &mut Vec<u8>, count: usize) -> Result<(), AllocError>
     let mut buffer = Buffer::new();
     text.extend_from_slice(b"fed ")?;
     text.extend_from_slice(buffer.format(count).as_bytes())?;
-    text.push(b'\n')
+    text.push(b'\n')?;
+    Ok(())
 }
 
 /// What feeding a stream gives that is not delivered. Nothing of it is stored. `AllocError`: memory ran out while it was read, or a
@@ -141,7 +127,7 @@ pub fn feed_store(
     requires whole { batch.now.held ≡ [] }
     ensures { IfOk result (λ acted. (choice : Choice) → IsFeed choice → Acts choice table.now (option_map (λ bytes. bytes.now) store.entry) (stream_of batch.now) acted) }
 {
-    match open_store(alloc, table, store)? {
+    match open_store(alloc, table, store, Purpose::Telling)? {
         Opened::Node(mut node) => feed_node(alloc, &mut node, store, batch),
         Opened::Refused(text) => Ok(refused(text)),
     }

@@ -20,5 +20,5 @@ mod queries;
 pub use acted::{Acted, refused};
 pub use acting::act;
 pub use feeding::{feed_node, feed_store, undelivered};
-pub use opening::{Opened, open_store};
+pub use opening::{Opened, Purpose, open_store};
 pub use queries::{QueryReply, reply};

@@ -1,5 +1,7 @@
 //! The node of a table and a store.
 ghost use Rattle.std.specs.Prelude.{◌≡◌, IfErr, IfOk, option_map};
+ghost use Rattle.std.specs.FinMap as map;
+ghost use Rattle.wstore.specs.Nodes.{fresh_node};
 ghost use Rattle.wact.specs.Acts.{HasFault, Knows};
 ghost use Rattle.wact.specs.Opening.{Opens, OpensBy};
 
@@ -18,17 +20,37 @@ pub enum Opened {
     Refused(Text),
 }
 
+/// What a node is opened for. What it answers does not depend on that.
+#[derive(Clone, Copy, Debug, PartialEq, Eq)]
+pub enum Purpose {
+    /// Queries are asked of it, so the cells of a segment are made as it is read.
+    Asking,
+    /// It is told something, or lists what it knows, for which no cell is made.
+    Telling,
+}
+
+// A node that knows nothing.
+fn empty_node(alloc: Global, schema: Schema, purpose: Purpose) -> Node
+    ensures { result ≡ fresh_node schema map.empty }
+{
+    match purpose {
+        Purpose::Asking => Node::new(alloc, schema),
+        Purpose::Telling => Node::lazy(alloc, schema),
+    }
+}
+
 /// A node that knows what the store's file tells.
 pub(crate) fn node_of(
     alloc: Global,
     schema: Schema,
     store: Option<&[u8]>,
+    purpose: Purpose,
 ) -> Result<Node, FileFault>
     ensures declared { IfOk result (λ node. node.schema ≡ schema) }
     ensures known { IfOk result (λ node. Knows schema (option_map (λ bytes. bytes.now) store.entry) node.view) }
     ensures refused { IfErr result (λ fault. HasFault schema (option_map (λ bytes. bytes.now) store.entry) fault) }
 {
-    let mut node = Node::new(alloc, schema);
+    let mut node = empty_node(alloc, schema, purpose);
     match store {
         None => Ok(node),
         Some(bytes) => match node.get(bytes) {
@@ -39,10 +61,15 @@ pub(crate) fn node_of(
 }
 
 // What a store opens where the table's declaration is read.
-fn open_by(alloc: Global, schema: Schema, store: Option<&[u8]>) -> Result<Opened, AllocError>
+fn open_by(
+    alloc: Global,
+    schema: Schema,
+    store: Option<&[u8]>,
+    purpose: Purpose,
+) -> Result<Opened, AllocError>
     ensures { IfOk result (λ opened. OpensBy schema (option_map (λ bytes. bytes.now) store.entry) opened) }
 {
-    match node_of(alloc, schema, store) {
+    match node_of(alloc, schema, store, purpose) {
         Ok(node) => Ok(Opened::Node(node)),
         Err(FileFault::NoMemory) => Err(AllocError),
         Err(fault) => Ok(Opened::Refused(refused_file(alloc, fault)?)),
@@ -51,11 +78,16 @@ fn open_by(alloc: Global, schema: Schema, store: Option<&[u8]>) -> Result<Opened
 
 /// The node of a store, of which the bytes of the table's file and of the store's are lent, if there is one. The table is
 /// judged first. `AllocError`: a growth was refused.
-pub fn open_store(alloc: Global, table: &[u8], store: Option<&[u8]>) -> Result<Opened, AllocError>
+pub fn open_store(
+    alloc: Global,
+    table: &[u8],
+    store: Option<&[u8]>,
+    purpose: Purpose,
+) -> Result<Opened, AllocError>
     ensures { IfOk result (λ opened. Opens table.now (option_map (λ bytes. bytes.now) store.entry) opened) }
 {
     match Schema::read(alloc, table) {
-        Ok(schema) => open_by(alloc, schema, store),
+        Ok(schema) => open_by(alloc, schema, store, purpose),
         Err(SchemaFault::NoMemory) => Err(AllocError),
         Err(fault) => Ok(Opened::Refused(Text::Fixed(refused_table(fault)))),
     }

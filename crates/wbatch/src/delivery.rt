@@ -11,7 +11,7 @@ use crate::stop::Stop;
 use std::alloc::Global;
 use std::rc::Rc;
 use wexchange::Message;
-use wsegment::{Schema, Segment as Judged, SegmentFault};
+use wsegment::{Judged, Schema, SegmentFault};
 use wvalues::Name;
 
 /// What a message of a delivery stream delivers.

@@ -11,7 +11,7 @@ use std::fs::File;
 use std::io::{Read, Write};
 use std::process::ExitCode;
 use std::rt::Files;
-use wact::Opened;
+use wact::{Opened, Purpose};
 use wcommand::Paths;
 use wfiles::{Fault, System, read_if_there, read_whole};
 use wlines::write_reply;
@@ -36,7 +36,7 @@ fn open_files<R: Files<File = File> + AllocGlobal>(
     let alloc = rt.alloc();
     let table = read_whole(alloc, system, paths.table)?;
     let store = read_if_there(alloc, system, paths.store)?;
-    system.grown(opened(alloc, table.as_slice(), &store))
+    system.grown(opened(alloc, table.as_slice(), &store, Purpose::Asking))
 }
 
 // The status of a shell's end.
