@@ -71,13 +71,15 @@ delivers_more xs ys a b c t u w x y = record {
 }
 
 -- the next of the items
-pub delivers_next : (ds : List Delivery) (i : ℕ) (other : Delivery) (a b c : NodeState) (t u w : List ℕ) → i < length ds → Delivers (map item_of (take i ds)) a b t u → Delivers (item_of (get_or ds i other) ∷ []) b c u w
+pub delivers_next : (ds : List Delivery) (i : ℕ) (x : Delivery) (a b c : NodeState) (t u w : List ℕ) → i < length ds → x ≡ get_or ds i x → Delivers (map item_of (take i ds)) a b t u → Delivers (item_of x ∷ []) b c u w
     → Delivers (map item_of (take (i + 1) ds)) a c t w
-delivers_next ds i other a b c t u w more first last =
+delivers_next ds i x a b c t u w more is first last =
     let next : i + 1 ≡ suc i = omega arith in
-    let items : map item_of (take i ds) ++ item_of (get_or ds i other) ∷ [] ≡ map item_of (take (i + 1) ds) =
-    sym (map-append item_of (take i ds) (get_or ds i other ∷ [])) ∙ ap (map item_of) (sym (take-suc ds i other more) ∙ ap (λ n. take n ds) (sym next)) in
-    subst (λ l. Delivers l a c t w) items (delivers_more (map item_of (take i ds)) (item_of (get_or ds i other) ∷ []) a b c t u w first last)
+    let items : map item_of (take i ds) ++ item_of x ∷ [] ≡ map item_of (take (i + 1) ds) =
+    ap (λ y. map item_of (take i ds) ++ item_of y ∷ []) is
+    ∙ sym (map-append item_of (take i ds) (get_or ds i x ∷ []))
+    ∙ ap (map item_of) (sym (take-suc ds i x more) ∙ ap (λ n. take n ds) (sym next)) in
+    subst (λ l. Delivers l a c t w) items (delivers_more (map item_of (take i ds)) (item_of x ∷ []) a b c t u w first last)
 
 -- ---- what is told
 

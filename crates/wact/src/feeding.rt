@@ -41,6 +41,7 @@ fn take_judged(node: &mut Node, name: Name, judged: &Rc<Judged>) -> Result<Taken
 }
 
 // Delivers an item. It answers the line of what it is told.
+#[tactic(auto, using(crate::proofs::Delivering::delivers_one))]
 fn deliver(node: &mut Node, delivery: &Delivery) -> Result<&'static [u8], AllocError>
     requires { IsReady node.old.schema delivery.now }
     ensures { IfOk result (λ line. Delivers (item_of delivery.now ∷ []) node.old node.new [] line.now) }
@@ -62,6 +63,7 @@ fn deliver(node: &mut Node, delivery: &Delivery) -> Result<&'static [u8], AllocE
 }
 
 // Delivers an item, and adds its line.
+#[tactic(auto, using(crate::proofs::Delivering::delivers_behind))]
 fn deliver_next(node: &mut Node, delivery: &Delivery, text: &mut Vec<u8>) -> Result<(), AllocError>
     requires { IsReady node.old.schema delivery.now }
     ensures { OnOk result (Delivers (item_of delivery.now ∷ []) node.old node.new text.old.items text.new.items) }
@@ -92,7 +94,8 @@ fn add_count(text: &mut Vec<u8>, count: usize) -> Result<(), AllocError>
     let mut buffer = Buffer::new();
     text.extend_from_slice(b"fed ")?;
     text.extend_from_slice(buffer.format(count).as_bytes())?;
-    text.push(b'\n')
+    text.push(b'\n')?;
+    Ok(())
 }
 
 /// What feeding a stream gives that is not delivered. Nothing of it is stored. `AllocError`: memory ran out while it was read, or a

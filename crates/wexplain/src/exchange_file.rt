@@ -56,12 +56,7 @@ pub(crate) fn push_byte(
 }
 
 // Adds where the rest of some bytes begins, and the line there.
-fn push_at(
-    alloc: Global,
-    text: &mut String,
-    bytes: &[u8],
-    rest: &[u8],
-) -> Result<(), AllocError> {
+fn push_at(alloc: Global, text: &mut String, bytes: &[u8], rest: &[u8]) -> Result<(), AllocError> {
     let before = bytes.len().saturating_sub(rest.len());
     push_byte(alloc, text, before as u64, rest)
 }

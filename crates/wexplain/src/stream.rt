@@ -58,12 +58,7 @@ fn push_refused(
 }
 
 // Adds where the rest of a stream, behind so many bytes, can be read no more.
-fn push_stop(
-    alloc: Global,
-    text: &mut String,
-    before: u64,
-    rest: &[u8],
-) -> Result<(), AllocError> {
+fn push_stop(alloc: Global, text: &mut String, before: u64, rest: &[u8]) -> Result<(), AllocError> {
     if let Some(name) = cut_short(rest) {
         push_name(alloc, text, &name)?;
         return text.push_str(": the stream ends inside it");

@@ -1,9 +1,12 @@
 -- A stream that is fed to a store.
-use Rattle.std.proofs.Common.{◌≡◌, ◌∙◌, refl, sym, ap, subst, ℕ, true, false, List, [], Option, None, Ok, is_some}
+use Rattle.std.proofs.Common.{◌≡◌, ◌∙◌, ◌⊎◌, inl, inr, refl, sym, ap, subst, ℕ, true, false, List, [], ◌++◌, Option, None, Some, Ok, is_some, append-nil}
+use Rattle.std.specs.Io.KnownBytes.{Consumes}
+use Rattle.std.proofs.KnownBytes.{Consumes-nil, Consumes-trans}
 use Rattle.wsegment.specs.Declaration.{Declaration}
 use Rattle.wsegment.specs.Spelling.{ReadsDeclaration}
 use Rattle.wstore.specs.Nodes.{NodeState}
 use Rattle.wbatch.specs.Batches.{Filled, stream_of}
+use Rattle.wbatch.specs.Streams.{IsUndelivered, Stops}
 use Rattle.wbatch.specs.declared.stop.Stop.{Stop}
 use Rattle.wbatch.specs.declared.stop.Stop.TheVariants as stops
 use Rattle.wcommand.specs.declared.choice.Choice.{Choice}
@@ -20,9 +23,53 @@ use Rattle.wact.specs.Opening.{Opens, TableRead, TableRefused}
 use Rattle.wact.specs.Outcomes.{IsRefused}
 use Rattle.wact.specs.Streams.{Feeds}
 use Rattle.wact.proofs.Delivering.{acts_opened, acts_refused, feeds_refused}
-use Rattle.wstore_program.specs.Feeding.{IsRefusedStream}
+use Rattle.wstore_program.specs.Feeding.{IsRefusedStream, RefusesRead}
 use Rattle.wstore_program.specs.Performing.{IsPerformed}
 use Rattle.wstore_program.proofs.Performed.{feed_input, untouched}
+
+-- ---- reading it
+
+-- nothing was read
+pub read_nothing : (left : Option (List ℕ)) (read : List ℕ) → read ≡ [] → Consumes left left read
+read_nothing left read none = subst (Consumes left left) (sym none) (Consumes-nil left)
+
+-- a block more
+pub read_more : (left mid new : Option (List ℕ)) (read block all : List ℕ) → Consumes left mid read → Consumes mid new block → all ≡ read ++ block → Consumes left new all
+read_more left mid new read block all p q e = subst (Consumes left new) (sym e) (Consumes-trans left mid new read block p q)
+
+-- what stops a stream, where it goes on
+pub goes_on_to : (stopped : Option Stop) (reason : Stop) (P : Type 0) → stopped ≡ None → (stopped ≡ Some reason) ⊎ P → P
+goes_on_to stopped reason P goes_on (inl e) = absurd (some_none (sym e ∙ goes_on))
+  where
+    some_none : Some reason ≡ None → ⊥
+    some_none f = cc
+goes_on_to stopped reason P goes_on (inr p) = p
+
+-- what stops a stream refuses it
+pub stops_undelivered : (d : Declaration) (stream : List ℕ) (reason : Stop) → Stops d stream reason → IsUndelivered d stream reason
+stops_undelivered d stream (stops.Segment fault) m = m
+stops_undelivered d stream stops.Bad m = inl m
+stops_undelivered d stream stops.NoMemory m = tt
+
+-- it is refused in a block
+pub refused_in_block : (d : Declaration) (left mid new : Option (List ℕ)) (read block : List ℕ) (stopped : Option Stop) (reason : Stop) → Consumes left mid read → Consumes mid new block → stopped ≡ None
+    → (stopped ≡ Some reason) ⊎ Stops d (read ++ block) reason → RefusesRead d left new reason
+refused_in_block d left mid new read block stopped reason p q goes_on why = record {
+  stream = read ++ block;
+  consumes = Consumes-trans left mid new read block p q;
+  undelivered = stops_undelivered d (read ++ block) reason (goes_on_to stopped reason (Stops d (read ++ block) reason) goes_on why);
+}
+
+-- it is refused at its end
+pub refused_at_end : (d e : Declaration) (left mid new : Option (List ℕ)) (read none : List ℕ) (stopped : Option Stop) (reason : Stop) → e ≡ d → Consumes left mid read → Consumes mid new none → none ≡ [] → stopped ≡ None
+    → (stopped ≡ Some reason) ⊎ IsUndelivered e read reason → RefusesRead d left new reason
+refused_at_end d e left mid new read none stopped reason same p q nothing goes_on why = record {
+  stream = read;
+  consumes = subst (Consumes left new) (ap (λ l. read ++ l) nothing ∙ append-nil read) (Consumes-trans left mid new read none p q);
+  undelivered = subst (λ f. IsUndelivered f read reason) same (goes_on_to stopped reason (IsUndelivered e read reason) goes_on why);
+}
+
+-- ---- feeding it
 
 -- feeding is done in one act
 pub feed_acts : (choice : Choice) → IsFeed choice → is_act choice ≡ true

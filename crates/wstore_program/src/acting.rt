@@ -8,7 +8,7 @@ ghost use Rattle.wact.specs.Delivering.{IsFeed, IsToldUndelivered};
 ghost use Rattle.wact.specs.Opening.{Opens};
 ghost use Rattle.wact.specs.Streams.{Feeds};
 ghost use Rattle.wact.specs.declared.opening.Opened.TheVariants as opens;
-ghost use Rattle.wcommand.specs.declared.choice.Choice.{Choice};
+ghost use Rattle.wcommand.specs.declared.choice.Choice as choices;
 ghost use Rattle.wstore_program.specs.Feeding.{IsGiven, given_bytes};
 ghost use Rattle.wstore_program.specs.Performing.{IsGivenUp, IsPerformed, Puts};
 ghost use Rattle.wfiles.specs.Calls.{HasCause, IsSound};
@@ -54,7 +54,7 @@ fn fed_to(
 ) -> Result<Acted, AllocError>
     requires declared { ReadsDeclaration table.now (Ok batch.now.schema) }
     requires whole { batch.now.held ≡ [] }
-    ensures { IfOk result (λ acted. (choice : Choice) → IsFeed choice → Acts choice table.now (option_map (λ bytes. bytes.items) store.now) (stream_of batch.now) acted) }
+    ensures { IfOk result (λ acted. (choice : choices.Choice) → IsFeed choice → Acts choice table.now (option_map (λ bytes. bytes.items) store.now) (stream_of batch.now) acted) }
 {
     match store {
         Some(bytes) => feed_store(alloc, table, Some(bytes.as_slice()), batch),
@@ -74,7 +74,7 @@ fn acted(
     requires given { IsGiven choice.now table.now given.now }
     ensures { IfOk result (λ acted. Acts choice.now table.now (option_map (λ bytes. bytes.items) store.now) (given_bytes given.now) acted) }
 {
-    match given {
+    match *given {
         Given::Bytes(bytes) => acted_on(alloc, choice, table, store, bytes),
         Given::Batch(batch) => fed_to(alloc, table, store, batch),
     }

@@ -62,7 +62,11 @@ fn store_of<'p, 's>(path: &'p str, bytes: &'s Option<Vec<u8>>) -> Option<Input<'
 }
 
 // Writes why something was refused that was given this and printed that, if it was.
-fn write_explanation<R: AllocGlobal + Eprint>(rt: &R, acted: &Acted, given: &Given<'_, '_, '_, '_, '_>) {
+fn write_explanation<R: AllocGlobal + Eprint>(
+    rt: &R,
+    acted: &Acted,
+    given: &Given<'_, '_, '_, '_, '_>,
+) {
     if acted.status != REFUSED {
         return;
     }

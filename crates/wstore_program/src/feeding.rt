@@ -1,7 +1,8 @@
 //! A delivery stream, read in blocks into a batch.
-ghost use Rattle.std.specs.Prelude.{◌≡◌, [], None, IfOk, IfErr, IfNone, IfSome, OnOk};
+ghost use Rattle.std.specs.Prelude.{◌≡◌, ◌⊎◌, [], None, Some, IfOk, IfErr, IfNone, IfSome, OnOk};
 ghost use Rattle.std.specs.Io.KnownBytes.{Consumes, IsAtEnd};
 ghost use Rattle.wbatch.specs.Batches.{stream_of};
+ghost use Rattle.wbatch.specs.Streams.{IsUndelivered};
 ghost use Rattle.wfiles.specs.Calls.{HasCause, IsSound};
 ghost use Rattle.wstore_program.specs.Feeding.{IsRefusedStream, RefusesRead};
 
@@ -13,6 +14,17 @@ use wfiles::{Fault, System};
 
 /// The bytes of a stream that are read at once.
 const BLOCK: usize = 65_536;
+
+// Why a stream that ends here is refused, if it is.
+fn ended(batch: &Batch) -> Option<Stop>
+    ensures whole { IfNone result (batch.now.held ≡ []) }
+    ensures refused { IfSome result (λ reason. (batch.now.stopped ≡ Some reason) ⊎ IsUndelivered batch.now.schema (stream_of batch.now) reason) }
+{
+    match batch.end() {
+        Ok(()) => None,
+        Err(reason) => Some(reason),
+    }
+}
 
 // Fills a batch with what a reader has left, and answers why it is refused, if it is: no more is read then.
 fn fill<R, T: Read>(
@@ -38,7 +50,7 @@ fn fill<R, T: Read>(
             Err(fault) => return Err(fault),
         };
         if count == 0 {
-            return Ok(batch.end().err());
+            return Ok(ended(batch));
         }
         if let Err(reason) = batch.push(&block[..count]) {
             return Ok(Some(reason));
