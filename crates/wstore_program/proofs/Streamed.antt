@@ -1,7 +1,7 @@
 -- A stream that is fed to a store.
-use Rattle.std.proofs.Common.{◌≡◌, ◌∙◌, ◌⊎◌, inl, inr, refl, sym, ap, subst, ℕ, true, false, List, [], ◌++◌, Option, None, Some, Ok, is_some, append-nil}
+use Rattle.std.proofs.Common.{◌≡◌, ◌∙◌, ◌⊎◌, inl, inr, refl, sym, ap, subst, ℕ, true, false, List, [], ◌++◌, Option, None, Some, Ok, is_some}
 use Rattle.std.specs.Io.KnownBytes.{Consumes}
-use Rattle.std.proofs.KnownBytes.{Consumes-nil, Consumes-trans}
+use Rattle.std.proofs.KnownBytes.{Consumes-trans}
 use Rattle.wsegment.specs.Declaration.{Declaration}
 use Rattle.wsegment.specs.Spelling.{ReadsDeclaration}
 use Rattle.wstore.specs.Nodes.{NodeState}
@@ -29,14 +29,6 @@ use Rattle.wstore_program.proofs.Performed.{feed_input, untouched}
 
 -- ---- reading it
 
--- nothing was read
-pub read_nothing : (left : Option (List ℕ)) (read : List ℕ) → read ≡ [] → Consumes left left read
-read_nothing left read none = subst (Consumes left left) (sym none) (Consumes-nil left)
-
--- a block more
-pub read_more : (left mid new : Option (List ℕ)) (read block all : List ℕ) → Consumes left mid read → Consumes mid new block → all ≡ read ++ block → Consumes left new all
-read_more left mid new read block all p q e = subst (Consumes left new) (sym e) (Consumes-trans left mid new read block p q)
-
 -- what stops a stream, where it goes on
 pub goes_on_to : (stopped : Option Stop) (reason : Stop) (P : Type 0) → stopped ≡ None → (stopped ≡ Some reason) ⊎ P → P
 goes_on_to stopped reason P goes_on (inl e) = absurd (some_none (sym e ∙ goes_on))
@@ -52,21 +44,13 @@ stops_undelivered d stream stops.Bad m = inl m
 stops_undelivered d stream stops.NoMemory m = tt
 
 -- it is refused in a block
-pub refused_in_block : (d : Declaration) (left mid new : Option (List ℕ)) (read block : List ℕ) (stopped : Option Stop) (reason : Stop) → Consumes left mid read → Consumes mid new block → stopped ≡ None
-    → (stopped ≡ Some reason) ⊎ Stops d (read ++ block) reason → RefusesRead d left new reason
-refused_in_block d left mid new read block stopped reason p q goes_on why = record {
+pub refused_in_block : (d e : Declaration) (left mid new : Option (List ℕ)) (read block : List ℕ) (stopped : Option Stop) (reason : Stop) → e ≡ d → Consumes left mid read → Consumes mid new block → stopped ≡ None
+    → (stopped ≡ Some reason) ⊎ Stops e (read ++ block) reason → RefusesRead d left new reason
+refused_in_block d e left mid new read block stopped reason same p q goes_on why = record {
   stream = read ++ block;
   consumes = Consumes-trans left mid new read block p q;
-  undelivered = stops_undelivered d (read ++ block) reason (goes_on_to stopped reason (Stops d (read ++ block) reason) goes_on why);
-}
-
--- it is refused at its end
-pub refused_at_end : (d e : Declaration) (left mid new : Option (List ℕ)) (read none : List ℕ) (stopped : Option Stop) (reason : Stop) → e ≡ d → Consumes left mid read → Consumes mid new none → none ≡ [] → stopped ≡ None
-    → (stopped ≡ Some reason) ⊎ IsUndelivered e read reason → RefusesRead d left new reason
-refused_at_end d e left mid new read none stopped reason same p q nothing goes_on why = record {
-  stream = read;
-  consumes = subst (Consumes left new) (ap (λ l. read ++ l) nothing ∙ append-nil read) (Consumes-trans left mid new read none p q);
-  undelivered = subst (λ f. IsUndelivered f read reason) same (goes_on_to stopped reason (IsUndelivered e read reason) goes_on why);
+  undelivered =
+      subst (λ f. IsUndelivered f (read ++ block) reason) same (stops_undelivered e (read ++ block) reason (goes_on_to stopped reason (Stops e (read ++ block) reason) goes_on why));
 }
 
 -- ---- feeding it
