@@ -1,3 +1,2 @@
 pub mod Performed
-pub mod Streamed
 pub mod Shells

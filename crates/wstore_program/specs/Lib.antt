@@ -1,4 +1,3 @@
-pub mod Feeding
 pub mod Performing
 pub mod Statuses
 pub mod Shelling
