@@ -42,17 +42,23 @@ fn first_line(bytes: &[u8]) -> &[u8] {
     }
 }
 
-/// Adds where the rest of some bytes begins, and the line there.
-pub(crate) fn push_at(
+/// Adds how many bytes stand before the rest of some, and the line there.
+pub(crate) fn push_byte(
     alloc: Global,
     text: &mut String,
-    bytes: &[u8],
+    before: u64,
     rest: &[u8],
 ) -> Result<(), AllocError> {
     text.push_str("at byte ")?;
-    push_number(text, bytes.len().saturating_sub(rest.len()) as u64)?;
+    push_number(text, before)?;
     text.push_str(" stands ")?;
     push_value(alloc, text, first_line(rest))
+}
+
+// Adds where the rest of some bytes begins, and the line there.
+fn push_at(alloc: Global, text: &mut String, bytes: &[u8], rest: &[u8]) -> Result<(), AllocError> {
+    let before = bytes.len().saturating_sub(rest.len());
+    push_byte(alloc, text, before as u64, rest)
 }
 
 // Adds the first line of the declaration in a file that the table's own has not.
@@ -104,8 +110,8 @@ fn is_behind(item: &Item<'_>, last: &Option<Name>) -> bool {
     }
 }
 
-/// Whether a record has a segment that is refused.
-pub(crate) fn is_refused(alloc: Global, schema: &Schema, item: &Item<'_>) -> bool {
+// Whether a record has a segment that is refused.
+fn is_refused(alloc: Global, schema: &Schema, item: &Item<'_>) -> bool {
     match &item.form {
         Form::Content(_, _) => Segment::read(alloc, schema, item.body).is_err(),
         _ => false,

@@ -9,6 +9,7 @@ use crate::reply::{Refusal, refusal_of};
 use crate::segment::explain_segment;
 use crate::stream::{explain_delivery, explain_stream};
 use std::alloc::{AllocError, Global};
+use wbatch::Place;
 use wexchange::{FileFault, read};
 use wsegment::{Schema, SegmentFault};
 
@@ -17,6 +18,13 @@ use wsegment::{Schema, SegmentFault};
 pub struct Input<'p, 'b> {
     pub path: &'p str,
     pub bytes: &'b [u8],
+}
+
+/// A delivery stream: what it is called, and where in it something is refused.
+#[derive(Clone, Copy)]
+pub struct Stream<'p, 'b> {
+    pub path: &'p str,
+    pub place: Place<'b>,
 }
 
 /// What a subcommand was given.
@@ -29,7 +37,7 @@ pub struct Given<'p, 't, 's, 'w, 'o> {
     /// The segment.
     pub segment: Option<Input<'w, 'o>>,
     /// The delivery stream.
-    pub stream: Option<Input<'w, 'o>>,
+    pub stream: Option<Stream<'w, 'o>>,
     /// The other store.
     pub other: Option<Input<'w, 'o>>,
     /// The words of a name.
@@ -72,7 +80,7 @@ fn told_segment(
     fault: SegmentFault,
 ) -> Result<Option<String>, AllocError> {
     if let Some(stream) = given.stream {
-        return explain_delivery(alloc, stream.path, schema, stream.bytes, fault).map(Some);
+        return explain_delivery(alloc, stream.path, schema, &stream.place, fault).map(Some);
     }
     match given.segment {
         Some(segment) => explain_segment(alloc, segment.path, schema, segment.bytes, fault).map(
@@ -85,13 +93,12 @@ fn told_segment(
 // Explains what is wrong in a stream.
 fn told_stream(
     alloc: Global,
-    schema: &Schema,
     given: &Given<'_, '_, '_, '_, '_>,
 ) -> Result<Option<String>, AllocError> {
     let Some(stream) = given.stream else {
         return Ok(None);
     };
-    explain_stream(alloc, stream.path, schema, stream.bytes).map(Some)
+    explain_stream(alloc, stream.path, &stream.place).map(Some)
 }
 
 // Explains a refusal below a declaration that was read.
@@ -107,7 +114,7 @@ fn told_by(
         Refusal::Query(fault) => {
             explain_query(alloc, schema, given.query.as_bytes(), fault).map(Some)
         }
-        Refusal::Stream => told_stream(alloc, schema, given),
+        Refusal::Stream => told_stream(alloc, given),
         _ => Ok(None),
     }
 }

@@ -6,7 +6,8 @@
 //!   resolution aside, and there is none where nothing was refused. The words behind it and the places are tested, and not proved.
 //! - Asks: the fault that the same bytes were refused with; with another one it tells less, or a place that is none.
 //! - Leaves judging to the crates that refuse, places in a query to `wspots`, and how values are shown to `wshown`. It reads
-//!   the bytes again, in time in proportion to them.
+//!   the bytes again, in time in proportion to them; of a delivery stream it is lent the one message, or the bytes, at which it
+//!   stopped.
 //!
 //! Read `specs/Labels.antt` and `specs/Explanations.antt`, then `src/sentences.rt` and `src/explaining.rt`.
 #![tactic(auto)]
@@ -24,7 +25,7 @@ mod stream;
 
 pub use declaration::{explain_declaration, explain_name};
 pub use exchange_file::explain_file;
-pub use explaining::{Given, Input, explain};
+pub use explaining::{Given, Input, Stream, explain};
 pub use query::explain_query;
 pub use segment::explain_segment;
 pub use sentences::{

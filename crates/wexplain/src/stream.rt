@@ -3,62 +3,21 @@ ghost use Rattle.std.specs.Prelude.{IfOk, string_bytes};
 ghost use Rattle.wexplain.specs.Explanations.{IsLabelled};
 ghost use Rattle.wexplain.specs.Labels.{segment_label};
 
-use crate::exchange_file::{is_refused, push_at, push_name};
-use crate::items::{Form, Item, cut_item, cut_short};
+use crate::exchange_file::{push_byte, push_name};
+use crate::items::{cut_item, cut_short};
 use crate::lines::{explained, push_file};
 use crate::segment::push_segment_place;
 use crate::sentences::{STREAM, segment_sentence};
 use std::alloc::{AllocError, Global};
+use wbatch::{Place, Stands};
 use wsegment::{Schema, SegmentFault};
 use wshown::push_number;
 use wvalues::Name;
 
-/// The rest of a stream behind some messages.
-#[derive(Clone, Copy)]
-struct Behind<'a> {
-    /// How many messages stand before it, and one more.
-    number: u64,
-    rest: &'a [u8],
-}
-
-// Whether a line in front of some bytes is that of a message.
-fn is_message(bytes: &[u8], form: &Form) -> bool {
-    match form {
-        Form::Content(_, _) => true,
-        Form::Known(_) => bytes.starts_with(b"R "),
-        Form::Floor(_) => true,
-        _ => false,
-    }
-}
-
-// The message in front of some bytes, if it can be delivered.
-fn delivered<'a>(alloc: Global, schema: &Schema, bytes: &'a [u8]) -> Option<Item<'a>> {
-    match cut_item(bytes) {
-        Ok(item) if is_message(bytes, &item.form) && !is_refused(alloc, schema, &item) => {
-            Some(item)
-        }
-        _ => None,
-    }
-}
-
-// What stands behind the messages that can be delivered.
-fn behind_delivered<'a>(alloc: Global, schema: &Schema, stream: &'a [u8]) -> Behind<'a> {
-    let mut number = 1u64;
-    let mut rest = stream;
-    'messages: for _ in 0..stream.len() {
-        let Some(item) = delivered(alloc, schema, rest) else {
-            break 'messages;
-        };
-        number = number.saturating_add(1);
-        rest = item.rest;
-    }
-    Behind { number, rest }
-}
-
-// Adds which message of a stream it is.
-fn push_message(text: &mut String, number: u64) -> Result<(), AllocError> {
+// Adds which message of a stream it is, from 1.
+fn push_message(text: &mut String, place: &Place<'_>) -> Result<(), AllocError> {
     text.push_str("message ")?;
-    push_number(text, number)?;
+    push_number(text, (place.messages as u64).saturating_add(1))?;
     text.push_str(", ")
 }
 
@@ -86,50 +45,42 @@ fn push_refused(
     alloc: Global,
     text: &mut String,
     schema: &Schema,
-    stream: &[u8],
+    place: &Place<'_>,
     fault: SegmentFault,
 ) -> Result<(), AllocError> {
-    let behind = behind_delivered(alloc, schema, stream);
-    let Ok(item) = cut_item(behind.rest) else {
-        return Ok(());
-    };
-    if let Form::Content(name, _) = &item.form {
-        push_message(text, behind.number)?;
-        return push_named(alloc, text, schema, name, item.body, fault);
+    match place.stands {
+        Stands::Segment(name, bytes) => {
+            push_message(text, place)?;
+            push_named(alloc, text, schema, name, bytes, fault)
+        }
+        Stands::Rest(_) => Ok(()),
     }
-    Ok(())
 }
 
-// Adds where the rest of a stream can be read no more.
-fn push_stop(
-    alloc: Global,
-    text: &mut String,
-    stream: &[u8],
-    rest: &[u8],
-) -> Result<(), AllocError> {
+// Adds where the rest of a stream, behind so many bytes, can be read no more.
+fn push_stop(alloc: Global, text: &mut String, before: u64, rest: &[u8]) -> Result<(), AllocError> {
     if let Some(name) = cut_short(rest) {
         push_name(alloc, text, &name)?;
         return text.push_str(": the stream ends inside it");
     }
     match cut_item(rest) {
-        Ok(_) => push_at(alloc, text, stream, rest),
-        Err(place) => push_at(alloc, text, stream, place),
+        Ok(_) => push_byte(alloc, text, before, rest),
+        Err(place) => {
+            let read = rest.len().saturating_sub(place.len()) as u64;
+            push_byte(alloc, text, before.saturating_add(read), place)
+        }
     }
 }
 
 // Adds which message is none, and where.
-fn push_bad(
-    alloc: Global,
-    text: &mut String,
-    schema: &Schema,
-    stream: &[u8],
-) -> Result<(), AllocError> {
-    let behind = behind_delivered(alloc, schema, stream);
-    if behind.rest.is_empty() {
-        return Ok(());
+fn push_bad(alloc: Global, text: &mut String, place: &Place<'_>) -> Result<(), AllocError> {
+    match place.stands {
+        Stands::Rest(rest) if !rest.is_empty() => {
+            push_message(text, place)?;
+            push_stop(alloc, text, place.bytes, rest)
+        }
+        _ => Ok(()),
     }
-    push_message(text, behind.number)?;
-    push_stop(alloc, text, stream, behind.rest)
 }
 
 /// Why a segment of a delivery stream is refused: the sentence of the fault, and a line with what the bytes are called, the
@@ -138,15 +89,15 @@ pub(crate) fn explain_delivery(
     alloc: Global,
     file: &str,
     schema: &Schema,
-    stream: &[u8],
+    place: &Place<'_>,
     fault: SegmentFault,
 ) -> Result<String, AllocError>
     ensures { IfOk result (λ text. IsLabelled (segment_label fault) (string_bytes text)) }
 {
-    let mut place = String::new(alloc);
-    push_refused(alloc, &mut place, schema, stream, fault)?;
+    let mut told = String::new(alloc);
+    push_refused(alloc, &mut told, schema, place, fault)?;
     let mut below = String::new(alloc);
-    push_file(&mut below, file, place.as_str())?;
+    push_file(&mut below, file, told.as_str())?;
     explained(alloc, segment_sentence(fault), below.as_str())
 }
 
@@ -155,12 +106,11 @@ pub(crate) fn explain_delivery(
 pub(crate) fn explain_stream(
     alloc: Global,
     file: &str,
-    schema: &Schema,
-    stream: &[u8],
+    place: &Place<'_>,
 ) -> Result<String, AllocError> {
-    let mut place = String::new(alloc);
-    push_bad(alloc, &mut place, schema, stream)?;
+    let mut told = String::new(alloc);
+    push_bad(alloc, &mut told, place)?;
     let mut below = String::new(alloc);
-    push_file(&mut below, file, place.as_str())?;
+    push_file(&mut below, file, told.as_str())?;
     explained(alloc, STREAM, below.as_str())
 }

@@ -1,2 +1,3 @@
 pub mod Performed
+pub mod Streamed
 pub mod Shells

@@ -8,6 +8,11 @@ use Rattle.wfiles.specs.declared.fault.Fault.{Fault}
 use Rattle.wfiles.specs.declared.replacing.NotReplaced.{NotReplaced}
 use Rattle.wact.specs.declared.acted.Acted.{Acted}
 use Rattle.wact.specs.Acts.{Acts}
+use Rattle.wact.specs.Delivering.{IsFeed}
+use Rattle.wcommand.specs.declared.choice.Choice.TheVariants as choices
+use Rattle.wstore_program.specs.declared.given.Given.{Given}
+use Rattle.wstore_program.specs.declared.given.Given.TheVariants as givens
+use Rattle.wstore_program.specs.Feeding.{IsGiven, given_bytes}
 use Rattle.wstore_program.specs.Performing.{IsGivenUp, IsPerformed, NotPut, Put, Puts, Untouched, new_store, read_locked}
 
 -- the lock, then the reading
@@ -35,6 +40,23 @@ not_put choice acted table held other path old locked read new why fault acts l 
 none_mapped : {A B : Type 0} (f : A → B) (o : Option A) → is_some o ≡ false → option_map f o ≡ None
 none_mapped f None e = refl
 none_mapped f (Some v) e = absurd (true≢false e)
+
+-- a stream is given
+pub feed_input : {A : Type 0} (choice : Choice) → IsFeed choice → input_of choice ≡ None → A
+feed_input choices.Session is none = absurd is
+feed_input (choices.Take paths origin number csv) is none = absurd is
+feed_input (choices.Retire paths origin number) is none = absurd is
+feed_input (choices.Floor paths origin number) is none = absurd is
+feed_input (choices.Join paths path) is none = absurd is
+feed_input (choices.Feed paths path) is none = absurd cc
+feed_input (choices.List paths) is none = absurd is
+feed_input (choices.Ask paths queries) is none = absurd is
+feed_input (choices.Shell paths) is none = absurd is
+
+-- what is given is nothing where the subcommand has no such file
+pub given_nothing : (choice : Choice) (table : List ℕ) (given : Given) → IsGiven choice table given → input_of choice ≡ None → given_bytes given ≡ []
+given_nothing choice table (givens.Bytes bytes) is none = is none
+given_nothing choice table (givens.Batch batch) is none = feed_input choice is.0 none
 
 -- there is no new store
 pub untouched : (choice : Choice) (acted : Acted) (table : List ℕ) (held : Option (List ℕ)) (other : List ℕ) (calls : List Call) → (input_of choice ≡ None → other ≡ []) → Acts choice table held other acted

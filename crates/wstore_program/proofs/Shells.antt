@@ -1,9 +1,8 @@
 -- What a shell gives on the files that it reads.
-use Rattle.std.proofs.Common.{◌≡◌, ℕ, Bool, List, Option, Result, Ok, Err, IfOk, IfErr, OnErr, IfSome, subst, sym}
+use Rattle.std.proofs.Common.{◌≡◌, ℕ, Bool, List, Option, Result, Ok, Err, IfOk, IfErr, OnErr, IfSome}
 use Rattle.std.specs.Io.KnownBytes.{Appends}
 use Rattle.wvalues.specs.Counts.{Counts}
 use Rattle.wfiles.specs.declared.fault.Fault.{Fault}
-use Rattle.wfiles.specs.declared.fault.Fault.TheVariants as faults
 use Rattle.wact.specs.Opening.{Opens}
 use Rattle.wact.specs.declared.opening.Opened.{Opened}
 use Rattle.wstore.specs.Nodes.{NodeState}
@@ -13,10 +12,9 @@ use Rattle.wshell.specs.declared.fault.ShellFault.TheVariants as ends
 use Rattle.wstore_program.specs.Shelling.{IsOpened, IsRun}
 
 -- what is opened on bytes that were read
-pub opened : {E : Type 0} (table : List ℕ) (store : Option (List ℕ)) (made : Result Opened E) (result : Result Opened Fault) → IfOk made (λ o. Opens table store o) → IfOk made (λ o. result ≡ Ok o) → OnErr made (result ≡ Err faults.NoMemory)
-    → IfOk result IsOpened
-opened table store (Ok o) result opens same none = subst (λ r. IfOk r IsOpened) (sym same) (record { table = table; store = store; opens = opens })
-opened table store (Err e) result opens same none = subst (λ r. IfOk r IsOpened) (sym none) tt
+pub opened : (table : List ℕ) (store : Option (List ℕ)) (result : Result Opened Fault) → IfOk result (λ o. Opens table store o) → IfOk result IsOpened
+opened table store (Ok o) opens = record { table = table; store = store; opens = opens }
+opened table store (Err fault) opens = opens
 
 -- how a run ended
 pub run_outcome : {I W : Type 0} (node : NodeState) (left new_left : Option (List ℕ)) (input : Counts I) (old new : Option (List ℕ)) (output : Counts W) (end : Result Bool ShellFault)

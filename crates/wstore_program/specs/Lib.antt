@@ -1,3 +1,4 @@
+pub mod Feeding
 pub mod Performing
 pub mod Statuses
 pub mod Shelling

@@ -1,22 +1,35 @@
 //! A subcommand on its files.
-ghost use Rattle.std.specs.Prelude.{◌≡◌, [], true, IfOk, IfErr, OnOk, None, option_map, string_bytes};
+ghost use Rattle.std.specs.Prelude.{◌≡◌, [], Ok, true, IfOk, IfErr, IfNone, IfSome, OnOk, None, Some, option_map, string_bytes};
+ghost use Rattle.wsegment.specs.Spelling.{ReadsDeclaration};
+ghost use Rattle.wbatch.specs.Batches.{stream_of};
 ghost use Rattle.wcommand.specs.Inputs.{input_of, is_act};
 ghost use Rattle.wact.specs.Acts.{Acts};
+ghost use Rattle.wact.specs.Delivering.{IsFeed, IsToldUndelivered};
+ghost use Rattle.wact.specs.Opening.{Opens};
+ghost use Rattle.wact.specs.Streams.{Feeds};
+ghost use Rattle.wact.specs.declared.opening.Opened.TheVariants as opens;
+ghost use Rattle.wcommand.specs.declared.choice.Choice as choices;
+ghost use Rattle.wstore_program.specs.Feeding.{IsGiven, given_bytes};
 ghost use Rattle.wstore_program.specs.Performing.{IsGivenUp, IsPerformed, Puts};
 ghost use Rattle.wfiles.specs.Calls.{HasCause, IsSound};
 ghost use Rattle.wfiles.specs.Model.{IsLocked};
 ghost use Rattle.wfiles.specs.Replacing.{fault_of};
 
-use crate::explaining::explain_refusal;
+use crate::explaining::{explain_refusal, explain_stream};
+use crate::feeding::fill_from;
+use crate::given::Given;
+use crate::opening::opened;
 use std::alloc::{AllocError, Global};
 use std::fs::File;
 use std::rt::{Clock, Files};
-use wact::{Acted, act};
+use wact::{Acted, Opened, Purpose, act, feed_node, feed_store, refused, undelivered};
+use wbatch::{Batch, Stop};
 use wcommand::{Choice, Paths};
 use wfiles::{Fault, NotReplaced, Place, Record, System, read_if_there, read_whole};
+use wstore::Node;
 
 // What the subcommand gives on these bytes.
-fn acted(
+fn acted_on(
     alloc: Global,
     choice: &Choice<'_>,
     table: &[u8],
@@ -32,7 +45,42 @@ fn acted(
     }
 }
 
-// The bytes of CSV, OTHER or STREAM, of which there are none where the subcommand has no such file.
+// What feeding gives on a store with these bytes.
+fn fed_to(
+    alloc: Global,
+    table: &[u8],
+    store: &Option<Vec<u8>>,
+    batch: &Batch,
+) -> Result<Acted, AllocError>
+    requires declared { ReadsDeclaration table.now (Ok batch.now.schema) }
+    requires whole { batch.now.held ≡ [] }
+    ensures { IfOk result (λ acted. (choice : choices.Choice) → IsFeed choice → Acts choice table.now (option_map (λ bytes. bytes.items) store.now) (stream_of batch.now) acted) }
+{
+    match store {
+        Some(bytes) => feed_store(alloc, table, Some(bytes.as_slice()), batch),
+        None => feed_store(alloc, table, None, batch),
+    }
+}
+
+// What the subcommand gives on this.
+fn acted(
+    alloc: Global,
+    choice: &Choice<'_>,
+    table: &[u8],
+    store: &Option<Vec<u8>>,
+    given: &Given<'_>,
+) -> Result<Acted, AllocError>
+    requires act { is_act choice.now ≡ true }
+    requires given { IsGiven choice.now table.now given.now }
+    ensures { IfOk result (λ acted. Acts choice.now table.now (option_map (λ bytes. bytes.items) store.now) (given_bytes given.now) acted) }
+{
+    match *given {
+        Given::Bytes(bytes) => acted_on(alloc, choice, table, store, bytes),
+        Given::Batch(batch) => fed_to(alloc, table, store, batch),
+    }
+}
+
+// The bytes of CSV or OTHER, of which there are none where the subcommand has no such file.
 fn read_input<R: Files<File = File> + AllocGlobal>(
     alloc: Global,
     system: &mut System<'_, R>,
@@ -57,20 +105,21 @@ fn acted_again<R>(
     table: &[u8],
     before: &Option<Vec<u8>>,
     now: &Option<Vec<u8>>,
-    other: &[u8],
+    given: &Given<'_>,
     first: Acted,
 ) -> Result<Acted, Fault>
     requires choice { is_act choice.now ≡ true }
-    requires first { Acts choice.now table.now (option_map (λ bytes. bytes.items) before.now) other.now first }
+    requires given { IsGiven choice.now table.now given.now }
+    requires first { Acts choice.now table.now (option_map (λ bytes. bytes.items) before.now) (given_bytes given.now) first }
     requires sound { IsSound system.old }
-    ensures acts { IfOk result (λ acted. Acts choice.now table.now (option_map (λ bytes. bytes.items) now.now) other.now acted) }
+    ensures acts { IfOk result (λ acted. Acts choice.now table.now (option_map (λ bytes. bytes.items) now.now) (given_bytes given.now) acted) }
     ensures sound { OnOk result (IsSound system.new) }
     ensures cause { IfErr result (λ fault. HasCause fault system.new) }
 {
     if now == before {
         return Ok(first);
     }
-    system.grown(acted(alloc, choice, table, now, other))
+    system.grown(acted(alloc, choice, table, now, given))
 }
 
 // Puts the new store in its place, if the subcommand gives one on the bytes that were read there.
@@ -103,12 +152,12 @@ fn settle<R: Files<File = File> + AllocGlobal + Clock + Eprint>(
     path: &str,
     table: &[u8],
     store: &Option<Vec<u8>>,
-    other: &[u8],
+    given: &Given<'_>,
     first: Acted,
 ) -> Result<Acted, Fault>
     requires choice { is_act choice.now ≡ true }
-    requires input { input_of choice.now ≡ None → other.now ≡ [] }
-    requires first { Acts choice.now table.now (option_map (λ bytes. bytes.items) store.now) other.now first }
+    requires given { IsGiven choice.now table.now given.now }
+    requires first { Acts choice.now table.now (option_map (λ bytes. bytes.items) store.now) (given_bytes given.now) first }
     requires sound { IsSound system.old }
     ensures performed { IfOk result (λ acted. IsPerformed choice.now acted calls.old.calls calls.new.calls) }
     ensures given_up { IfErr result (λ fault. IsGivenUp choice.now fault calls.old.calls calls.new.calls) }
@@ -123,7 +172,7 @@ fn settle<R: Files<File = File> + AllocGlobal + Clock + Eprint>(
         Ok(now) => now,
         Err(fault) => return Err(fault),
     };
-    let last = match acted_again(alloc, system, choice, table, store, &now, other, first) {
+    let last = match acted_again(alloc, system, choice, table, store, &now, given, first) {
         Ok(last) => last,
         Err(fault) => return Err(fault),
     };
@@ -133,8 +182,272 @@ fn settle<R: Files<File = File> + AllocGlobal + Clock + Eprint>(
     }
 }
 
+// Puts the new store in its place, if the subcommand gave one on the store that was read.
+fn finish<R: Files<File = File> + AllocGlobal + Clock + Eprint>(
+    alloc: Global,
+    system: &mut System<'_, R>,
+    calls: &mut Record,
+    choice: &Choice<'_>,
+    path: &str,
+    table: &[u8],
+    store: &Option<Vec<u8>>,
+    given: &Given<'_>,
+    first: Acted,
+) -> Result<Acted, Fault>
+    requires choice { is_act choice.now ≡ true }
+    requires given { IsGiven choice.now table.now given.now }
+    requires first { Acts choice.now table.now (option_map (λ bytes. bytes.items) store.now) (given_bytes given.now) first }
+    requires sound { IsSound system.old }
+    ensures performed { IfOk result (λ acted. IsPerformed choice.now acted calls.old.calls calls.new.calls) }
+    ensures given_up { IfErr result (λ fault. IsGivenUp choice.now fault calls.old.calls calls.new.calls) }
+    ensures sound { OnOk result (IsSound system.new) }
+    ensures cause { IfErr result (λ fault. HasCause fault system.new) }
+{
+    if first.store.is_none() {
+        return Ok(first);
+    }
+    settle(
+        alloc, system, calls, choice, path, table, store, given, first,
+    )
+}
+
+// Does a subcommand on the bytes of CSV or OTHER.
+fn perform_on_bytes<R: Files<File = File> + AllocGlobal + Clock + Eprint>(
+    rt: &R,
+    system: &mut System<'_, R>,
+    calls: &mut Record,
+    choice: &Choice<'_>,
+    paths: Paths<'_>,
+    table: &[u8],
+    store: &Option<Vec<u8>>,
+) -> Result<Acted, Fault>
+    requires choice { is_act choice.now ≡ true }
+    requires sound { IsSound system.old }
+    ensures performed { IfOk result (λ acted. IsPerformed choice.now acted calls.old.calls calls.new.calls) }
+    ensures given_up { IfErr result (λ fault. IsGivenUp choice.now fault calls.old.calls calls.new.calls) }
+    ensures sound { OnOk result (IsSound system.new) }
+    ensures cause { IfErr result (λ fault. HasCause fault system.new) }
+{
+    let alloc = rt.alloc();
+    let other = read_input(alloc, system, choice)?;
+    let other = other.as_slice();
+    let first = system.grown(acted_on(alloc, choice, table, store, other))?;
+    explain_refusal(rt, choice, paths, table, store, other, &first);
+    finish(
+        alloc,
+        system,
+        calls,
+        choice,
+        paths.store,
+        table,
+        store,
+        &Given::Bytes(other),
+        first,
+    )
+}
+
+// What feeding gives on the node of the store that was read, if memory is there.
+fn fed_on(
+    alloc: Global,
+    node: Node,
+    store: &Option<Vec<u8>>,
+    batch: &Batch,
+) -> Result<Acted, AllocError>
+    requires declared { batch.now.schema ≡ node.schema }
+    requires whole { batch.now.held ≡ [] }
+    ensures { IfOk result (λ acted. Feeds node.schema node.view (option_map (λ bytes. bytes.items) store.now) (stream_of batch.now) acted) }
+{
+    let mut node = node;
+    match store {
+        Some(bytes) => feed_node(alloc, &mut node, Some(bytes.as_slice()), batch),
+        None => feed_node(alloc, &mut node, None, batch),
+    }
+}
+
+// What feeding gives on the node of the store that was read.
+fn fed<R>(
+    alloc: Global,
+    system: &mut System<'_, R>,
+    node: Node,
+    store: &Option<Vec<u8>>,
+    batch: &Batch,
+) -> Result<Acted, Fault>
+    requires declared { batch.now.schema ≡ node.schema }
+    requires whole { batch.now.held ≡ [] }
+    requires sound { IsSound system.old }
+    ensures feeds { IfOk result (λ acted. Feeds node.schema node.view (option_map (λ bytes. bytes.items) store.now) (stream_of batch.now) acted) }
+    ensures sound { OnOk result (IsSound system.new) }
+    ensures cause { IfErr result (λ fault. HasCause fault system.new) }
+{
+    system.grown(fed_on(alloc, node, store, batch))
+}
+
+// Delivers a batch to the node of the store that was read, and replaces the store where that gives a new one.
+fn deliver<R: Files<File = File> + AllocGlobal + Clock + Eprint>(
+    alloc: Global,
+    system: &mut System<'_, R>,
+    calls: &mut Record,
+    choice: &Choice<'_>,
+    path: &str,
+    table: &[u8],
+    store: &Option<Vec<u8>>,
+    node: Node,
+    batch: &Batch,
+) -> Result<Acted, Fault>
+    requires choice { IsFeed choice.now }
+    requires opens { Opens table.now (option_map (λ bytes. bytes.items) store.now) (opens.Node node) }
+    requires declared { batch.now.schema ≡ node.schema }
+    requires whole { batch.now.held ≡ [] }
+    requires sound { IsSound system.old }
+    ensures performed { IfOk result (λ acted. IsPerformed choice.now acted calls.old.calls calls.new.calls) }
+    ensures given_up { IfErr result (λ fault. IsGivenUp choice.now fault calls.old.calls calls.new.calls) }
+    ensures sound { OnOk result (IsSound system.new) }
+    ensures cause { IfErr result (λ fault. HasCause fault system.new) }
+{
+    let first = match fed(alloc, system, node, store, batch) {
+        Ok(first) => first,
+        Err(fault) => return Err(fault),
+    };
+    finish(
+        alloc,
+        system,
+        calls,
+        choice,
+        path,
+        table,
+        store,
+        &Given::Batch(batch),
+        first,
+    )
+}
+
+// What is told of a stream that is refused.
+fn refuse_stream<R: AllocGlobal + Eprint>(
+    rt: &R,
+    system: &mut System<'_, R>,
+    stream: &str,
+    paths: Paths<'_>,
+    table: &[u8],
+    batch: &Batch,
+    reason: Stop,
+) -> Result<Acted, Fault>
+    requires { IsSound system.old }
+    ensures told { IfOk result (IsToldUndelivered reason) }
+    ensures sound { OnOk result (IsSound system.new) }
+    ensures cause { IfErr result (λ fault. HasCause fault system.new) }
+{
+    let acted = system.grown(undelivered(rt.alloc(), reason))?;
+    explain_stream(rt, stream, paths, table, batch, &acted);
+    Ok(acted)
+}
+
+// Feeds a stream to the node of the store that was read.
+fn feed_from<R: Files<File = File> + AllocGlobal + Clock + Eprint>(
+    rt: &R,
+    system: &mut System<'_, R>,
+    calls: &mut Record,
+    choice: &Choice<'_>,
+    paths: Paths<'_>,
+    table: &[u8],
+    store: &Option<Vec<u8>>,
+    stream: &str,
+    node: Node,
+) -> Result<Acted, Fault>
+    requires choice { IsFeed choice.now }
+    requires opens { Opens table.now (option_map (λ bytes. bytes.items) store.now) (opens.Node node) }
+    requires sound { IsSound system.old }
+    ensures performed { IfOk result (λ acted. IsPerformed choice.now acted calls.old.calls calls.new.calls) }
+    ensures given_up { IfErr result (λ fault. IsGivenUp choice.now fault calls.old.calls calls.new.calls) }
+    ensures sound { OnOk result (IsSound system.new) }
+    ensures cause { IfErr result (λ fault. HasCause fault system.new) }
+{
+    let alloc = rt.alloc();
+    let schema = system.grown(node.schema().copy())?;
+    let mut batch = Batch::new(alloc, schema);
+    if let Some(reason) = fill_from(system, stream, &mut batch)? {
+        return refuse_stream(rt, system, stream, paths, table, &batch, reason);
+    }
+    deliver(
+        alloc,
+        system,
+        calls,
+        choice,
+        paths.store,
+        table,
+        store,
+        node,
+        &batch,
+    )
+}
+
+// Feeds a stream.
+fn perform_feed<R: Files<File = File> + AllocGlobal + Clock + Eprint>(
+    rt: &R,
+    system: &mut System<'_, R>,
+    calls: &mut Record,
+    choice: &Choice<'_>,
+    paths: Paths<'_>,
+    table: &[u8],
+    store: &Option<Vec<u8>>,
+    stream: &str,
+) -> Result<Acted, Fault>
+    requires choice { IsFeed choice.now }
+    requires sound { IsSound system.old }
+    ensures performed { IfOk result (λ acted. IsPerformed choice.now acted calls.old.calls calls.new.calls) }
+    ensures given_up { IfErr result (λ fault. IsGivenUp choice.now fault calls.old.calls calls.new.calls) }
+    ensures sound { OnOk result (IsSound system.new) }
+    ensures cause { IfErr result (λ fault. HasCause fault system.new) }
+{
+    match opened(rt.alloc(), system, table, store, Purpose::Telling) {
+        Ok(Opened::Node(node)) => feed_from(
+            rt, system, calls, choice, paths, table, store, stream, node,
+        ),
+        Ok(Opened::Refused(text)) => {
+            let acted = refused(text);
+            explain_refusal(rt, choice, paths, table, store, &[], &acted);
+            Ok(acted)
+        }
+        Err(fault) => Err(fault),
+    }
+}
+
+// The stream of a choice that feeds.
+fn stream_of_feed<'a>(choice: &Choice<'a>) -> Option<&'a str>
+    ensures feeds { IfSome result (λ stream. IsFeed choice.now × (input_of choice.now ≡ Some stream)) }
+    ensures other { IfNone result (IsFeed choice.now → ⊥) }
+{
+    match *choice {
+        Choice::Feed { stream, .. } => Some(stream),
+        _ => None,
+    }
+}
+
+// Does a subcommand on the table and the store that were read.
+fn perform_on<R: Files<File = File> + AllocGlobal + Clock + Eprint>(
+    rt: &R,
+    system: &mut System<'_, R>,
+    calls: &mut Record,
+    choice: &Choice<'_>,
+    paths: Paths<'_>,
+    table: &[u8],
+    store: &Option<Vec<u8>>,
+) -> Result<Acted, Fault>
+    requires choice { is_act choice.now ≡ true }
+    requires sound { IsSound system.old }
+    ensures performed { IfOk result (λ acted. IsPerformed choice.now acted calls.old.calls calls.new.calls) }
+    ensures given_up { IfErr result (λ fault. IsGivenUp choice.now fault calls.old.calls calls.new.calls) }
+    ensures sound { OnOk result (IsSound system.new) }
+    ensures cause { IfErr result (λ fault. HasCause fault system.new) }
+{
+    match stream_of_feed(choice) {
+        Some(stream) => perform_feed(rt, system, calls, choice, paths, table, store, stream),
+        None => perform_on_bytes(rt, system, calls, choice, paths, table, store),
+    }
+}
+
 /// Reads the files of a subcommand, the table, the store, then CSV, OTHER or STREAM, and replaces the store where the subcommand gives
-/// a new one. A reply is that of the subcommand on bytes that were read: where there is a new store, on those that were read
+/// a new one. A stream is read in blocks, once the table and the store are judged, to its end or to the first message that cannot be
+/// delivered. A reply is that of the subcommand on bytes that were read: where there is a new store, on those that were read
 /// in its place while this run held the lock of its folder. A fault comes only where a call failed or a growth was refused,
 /// and nothing else has failed then; the store is as it was, or it has the new bytes and only its folder was not brought to
 /// the disk. A refusal is explained on standard error.
@@ -155,23 +468,6 @@ pub fn perform<R: Files<File = File> + AllocGlobal + Clock + Eprint>(
     let alloc = rt.alloc();
     let table = read_whole(alloc, system, paths.table)?;
     let store = read_if_there(alloc, system, paths.store)?;
-    let other = read_input(alloc, system, choice)?;
     let table = table.as_slice();
-    let other = other.as_slice();
-    let first = system.grown(acted(alloc, choice, table, &store, other))?;
-    if first.store.is_none() {
-        explain_refusal(rt, choice, paths, table, &store, other, &first);
-        return Ok(first);
-    }
-    settle(
-        alloc,
-        system,
-        calls,
-        choice,
-        paths.store,
-        table,
-        &store,
-        other,
-        first,
-    )
+    perform_on(rt, system, calls, choice, paths, table, &store)
 }

@@ -1,8 +1,9 @@
 //! Refusals, explained on standard error.
 
 use wact::Acted;
+use wbatch::Batch;
 use wcommand::{Choice, Paths};
-use wexplain::{Given, Input, explain};
+use wexplain::{Given, Input, Stream, explain};
 
 /// The status of a refusal.
 const REFUSED: u8 = 1;
@@ -41,17 +42,6 @@ fn segment_of<'w, 'o>(choice: &Choice<'w>, bytes: &'o [u8]) -> Option<Input<'w, 
     }
 }
 
-// STREAM of a choice, with its bytes.
-fn stream_of<'w, 'o>(choice: &Choice<'w>, bytes: &'o [u8]) -> Option<Input<'w, 'o>> {
-    match *choice {
-        Choice::Feed { stream, .. } => Some(Input {
-            path: stream,
-            bytes,
-        }),
-        _ => None,
-    }
-}
-
 // OTHER of a choice, with its bytes.
 fn other_of<'w, 'o>(choice: &Choice<'w>, bytes: &'o [u8]) -> Option<Input<'w, 'o>> {
     match *choice {
@@ -71,6 +61,20 @@ fn store_of<'p, 's>(path: &'p str, bytes: &'s Option<Vec<u8>>) -> Option<Input<'
     }
 }
 
+// Writes why something was refused that was given this and printed that, if it was.
+fn write_explanation<R: AllocGlobal + Eprint>(
+    rt: &R,
+    acted: &Acted,
+    given: &Given<'_, '_, '_, '_, '_>,
+) {
+    if acted.status != REFUSED {
+        return;
+    }
+    if let Ok(Some(text)) = explain(rt.alloc(), acted.output.as_slice(), given) {
+        let _ = eprint!(rt; "{text}");
+    }
+}
+
 /// Writes why a subcommand was refused, on these bytes, to standard error; nothing where it was not.
 pub(crate) fn explain_refusal<R: AllocGlobal + Eprint>(
     rt: &R,
@@ -81,7 +85,7 @@ pub(crate) fn explain_refusal<R: AllocGlobal + Eprint>(
     other: &[u8],
     acted: &Acted,
 ) {
-    if acted.status != REFUSED || !tells_one(choice) {
+    if !tells_one(choice) {
         return;
     }
     let (origin, number) = name_of(choice);
@@ -92,13 +96,39 @@ pub(crate) fn explain_refusal<R: AllocGlobal + Eprint>(
         },
         store: store_of(paths.store, store),
         segment: segment_of(choice, other),
-        stream: stream_of(choice, other),
+        stream: None,
         other: other_of(choice, other),
         origin,
         number,
         query: query_of(choice),
     };
-    if let Ok(Some(text)) = explain(rt.alloc(), acted.output.as_slice(), &given) {
-        let _ = eprint!(rt; "{text}");
-    }
+    write_explanation(rt, acted, &given);
+}
+
+/// Writes why a stream was refused under this table, where the batch stopped that was filled from it, to standard error.
+pub(crate) fn explain_stream<R: AllocGlobal + Eprint>(
+    rt: &R,
+    stream: &str,
+    paths: Paths<'_>,
+    table: &[u8],
+    batch: &Batch,
+    acted: &Acted,
+) {
+    let given = Given {
+        table: Input {
+            path: paths.table,
+            bytes: table,
+        },
+        store: None,
+        segment: None,
+        stream: Some(Stream {
+            path: stream,
+            place: batch.place(),
+        }),
+        other: None,
+        origin: "",
+        number: "",
+        query: "",
+    };
+    write_explanation(rt, acted, &given);
 }

@@ -12,6 +12,9 @@ ghost use Rattle.wstore_program.specs.Statuses.{HasFileStatus, HasWordsStatus, I
 
 mod acting;
 mod explaining;
+mod feeding;
+mod given;
+mod opening;
 mod shelling;
 
 use acting::perform;

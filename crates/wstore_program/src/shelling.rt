@@ -1,18 +1,17 @@
 //! A shell on the files of a table and a store.
-ghost use Rattle.std.specs.Prelude.{◌≡◌, IfErr, IfOk, OnOk, option_map};
+ghost use Rattle.std.specs.Prelude.{◌≡◌, IfErr, IfOk, OnOk};
 ghost use Rattle.std.specs.Process.{exit_status};
 ghost use Rattle.wfiles.specs.Calls.{HasCause, IsSound};
 ghost use Rattle.wlines.specs.Pending.{IsNew};
-ghost use Rattle.wact.specs.Opening.{Opens};
 ghost use Rattle.wstore_program.specs.Shelling.{Answers, HasShellStatus, IsOpened, IsRefusal, shell_status};
 
+use crate::opening::opened;
 use crate::{DONE, failed, failed_on};
-use std::alloc::{AllocError, Global};
 use std::fs::File;
 use std::io::{Read, Write};
 use std::process::ExitCode;
 use std::rt::Files;
-use wact::{Opened, Purpose, open_store};
+use wact::{Opened, Purpose};
 use wcommand::Paths;
 use wfiles::{Fault, System, read_if_there, read_whole};
 use wlines::write_reply;
@@ -22,16 +21,6 @@ use wvalues::Counted;
 
 /// The status of a refusal.
 const REFUSED: u8 = 1;
-
-// What the bytes of a table and a store open.
-fn opened(alloc: Global, table: &[u8], store: &Option<Vec<u8>>) -> Result<Opened, AllocError>
-    ensures { IfOk result (λ opened. Opens table.now (option_map (λ bytes. bytes.items) store.now) opened) }
-{
-    match store {
-        Some(bytes) => open_store(alloc, table, Some(bytes.as_slice()), Purpose::Asking),
-        None => open_store(alloc, table, None, Purpose::Asking),
-    }
-}
 
 // What the files of a table and a store open.
 fn open_files<R: Files<File = File> + AllocGlobal>(
@@ -47,7 +36,7 @@ fn open_files<R: Files<File = File> + AllocGlobal>(
     let alloc = rt.alloc();
     let table = read_whole(alloc, system, paths.table)?;
     let store = read_if_there(alloc, system, paths.store)?;
-    system.grown(opened(alloc, table.as_slice(), &store))
+    opened(alloc, system, table.as_slice(), &store, Purpose::Asking)
 }
 
 // The status of a shell's end.

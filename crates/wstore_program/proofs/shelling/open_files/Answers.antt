@@ -2,4 +2,4 @@ use Rattle.wstore_program.proofs.Shells.{opened}
 use Rattle.wstore_program.proofs.shelling.open_files.Goals as goal
 
 pub returns-clause-opened : goal.returns-clause-opened
-returns-clause-opened g c = opened _ _ c.opened.result c.grown.result c.opened.ensures c.grown.ensures.made c.grown.ensures.refused
+returns-clause-opened g c = opened _ _ c.opened.result c.opened.ensures.opens
