@@ -38,12 +38,12 @@ fn row_at<'a>(segment: &'a Segment, row: usize) -> &'a [Value]
 }
 
 // The row that a reference tells, without values where there is no such row.
-fn row_told<'a>(segments: &[&'a Segment], told: &RowRef) -> &'a [Value]
-    ensures { map meaning result.now ≡ row_told (segments_seen segments.now) told.now }
+fn row_told<'a>(segments: &[&'a Segment], reference: &RowRef) -> &'a [Value]
+    ensures { map meaning result.now ≡ row_told (segments_seen segments.now) reference.now }
 {
-    let segment = told.segment as usize;
+    let segment = reference.segment as usize;
     if segment < segments.len() {
-        row_at(segments[segment], told.row as usize)
+        row_at(segments[segment], reference.row as usize)
     } else {
         &[]
     }
@@ -58,8 +58,8 @@ fn rows_told<'a>(
     ensures { IfOk result (λ rows. rows_seen rows.items ≡ map (row_told (segments_seen segments.now)) refs.now) }
 {
     let mut rows = Vec::with_capacity(alloc, refs.len())?;
-    for told in refs {
-        rows.push(row_told(segments, told))?;
+    for reference in refs {
+        rows.push(row_told(segments, reference))?;
     }
     Ok(rows)
 }
