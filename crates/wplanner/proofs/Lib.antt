@@ -4,6 +4,7 @@ mod SourceFacts
 mod LiveFacts
 mod ColumnFacts
 mod NumberFacts
+mod ReferenceFacts
 mod PlanFacts
 mod LentFacts
 pub mod CallFacts

@@ -61,7 +61,7 @@ start_at n (rows ∷ more) (suc s) h =
     start_at (n + length rows) more s (omega arith) ∙ omega (arith, long)
 
 -- a row of a segment is one of all
-row_below : (segments : List (List Row)) (s row : ℕ) → s < length segments → row < length (get_or segments s []) → length (joined (take s segments)) + row < length (joined segments)
+pub row_below : (segments : List (List Row)) (s row : ℕ) → s < length segments → row < length (get_or segments s []) → length (joined (take s segments)) + row < length (joined segments)
 row_below [] s row h k = absurd (omega arith)
 row_below (rows ∷ more) zero row h k = omega (arith, k, length-append rows (joined more))
 row_below (rows ∷ more) (suc s) row h k =
@@ -74,11 +74,11 @@ starts_append n (rows ∷ front) rest =
     let e : n + length rows + length (joined front) ≡ n + length (rows ++ joined front) = omega (arith, long) in
     ap (λ l. n ∷ l) (starts_append (n + length rows) front rest ∙ ap (λ k. starts_from (n + length rows) front ++ starts_from k rest) e)
 
-all_filtered : (rows : List Row) → filter (holds_by None) rows ≡ rows
+pub all_filtered : (rows : List Row) → filter (holds_by None) rows ≡ rows
 all_filtered [] = refl
 all_filtered (row ∷ rows) = ap (λ l. row ∷ l) (all_filtered rows)
 
-length_taken : {X : Type 0} (n : ℕ) (xs : List X) → n ≤ length xs → length (take n xs) ≡ n
+pub length_taken : {X : Type 0} (n : ℕ) (xs : List X) → n ≤ length xs → length (take n xs) ≡ n
 length_taken zero xs h = refl
 length_taken (suc n) [] h = absurd (omega arith)
 length_taken (suc n) (x ∷ xs) h = ap suc (length_taken n xs (omega arith))

@@ -5,6 +5,7 @@ pub mod Parts
 pub mod Kept
 pub mod KeptOrders
 pub mod TableOrders
+pub mod Referenced
 pub mod Lent
 pub mod Texts
 pub mod Faults

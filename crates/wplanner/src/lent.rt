@@ -1,5 +1,5 @@
 //! The text of what a SELECT answers whose items are plain columns, which is printed of the rows where they lie.
-ghost use Rattle.std.specs.Prelude.{◌≡◌, ◌≤◌, [], true, IfOk, IfSome, Ok, map, min};
+ghost use Rattle.std.specs.Prelude.{◌≡◌, ◌≤◌, [], true, IfOk, IfSome, None, Ok, map, min};
 ghost use Rattle.wvalues.specs.Meaning.{meaning};
 ghost use Rattle.wframe.specs.Peers.{key_at};
 ghost use Rattle.wplan.specs.Plans.{select_plan};
@@ -13,11 +13,12 @@ ghost use Rattle.wplanner.specs.Answers.{items_of, select_of};
 ghost use Rattle.wplanner.specs.Few.{MayGive};
 ghost use Rattle.wplanner.specs.Lent.{IsLent, text_in};
 ghost use Rattle.wplanner.specs.Sound.{is_sound_select};
-ghost use Rattle.wplanner.specs.TableOrders.{AreTableOrders, by_keys};
+ghost use Rattle.wplanner.specs.TableOrders.{AreTableOrders, IsOrderFor, by_keys};
 ghost use Rattle.wplanner.specs.Tables.{rows_of_set};
 
 use crate::numbered::numbered_table_rows;
 use crate::parts::{item_names, item_places, key_orders, key_values};
+use crate::referenced::referenced_rows;
 use crate::selecting::{asked_of, few_kept_rows};
 use crate::source::kept_table_rows;
 use crate::table_orders::{TableOrders, table_orders};
@@ -26,6 +27,7 @@ use std::alloc::{AllocError, Global};
 use wplan::Selection;
 use wprinted::{LentRows, print_rows};
 use wrows::{AnswerFault, lists, sorted_numbers};
+use wruns::RowRef;
 use wset::SegmentSet;
 use wvalues::Value;
 
@@ -192,6 +194,45 @@ fn unordered_text(
     rows_text(alloc, select, places, &kept)
 }
 
+// The text of all rows, whose order is told by references.
+fn referenced_text(
+    alloc: Global,
+    select: &Selection,
+    places: &[usize],
+    set: &SegmentSet,
+    refs: &[RowRef],
+) -> Result<Vec<u8>, AnswerFault>
+    requires lent { IsLent (select_plan select.now) places.now }
+    requires sound { is_sound_select (select_plan select.now) ≡ true }
+    requires all { (select_plan select.now).condition ≡ None }
+    requires order { IsOrderFor (live_rows set.now) (by_keys (select_plan select.now).keys []) refs.now }
+    ensures { Gives (λ bytes. bytes.items) result (text_in (select_plan select.now) (select_of (select_plan select.now) (rows_of_set set.now))) }
+{
+    let rows = referenced_rows(alloc, set, refs)?;
+    let bytes = text_of(alloc, select, places, &rows)?;
+    Ok(bytes)
+}
+
+// The text of all rows, whose order may be told by references.
+fn all_text(
+    alloc: Global,
+    select: &Selection,
+    places: &[usize],
+    set: &SegmentSet,
+    orders: &TableOrders,
+) -> Result<Vec<u8>, AnswerFault>
+    requires lent { IsLent (select_plan select.now) places.now }
+    requires sound { is_sound_select (select_plan select.now) ≡ true }
+    requires all { (select_plan select.now).condition ≡ None }
+    requires orders { AreTableOrders (live_rows set.now) (select_plan select.now).keys orders.now }
+    ensures { Gives (λ bytes. bytes.items) result (text_in (select_plan select.now) (select_of (select_plan select.now) (rows_of_set set.now))) }
+{
+    match &orders.keys {
+        None => unordered_text(alloc, select, places, set),
+        Some(refs) => referenced_text(alloc, select, places, set, refs),
+    }
+}
+
 // The text of the rows that WHERE keeps, whose order may be told by that of all rows.
 fn told_text(
     alloc: Global,
@@ -205,6 +246,9 @@ fn told_text(
     requires orders { AreTableOrders (live_rows set.now) (select_plan select.now).keys orders }
     ensures { Gives (λ bytes. bytes.items) result (text_in (select_plan select.now) (select_of (select_plan select.now) (rows_of_set set.now))) }
 {
+    if select.condition.is_none() {
+        return all_text(alloc, select, places, set, &orders);
+    }
     let kept = numbered_table_rows(alloc, &select.condition, set)?;
     let told = told_orders(alloc, orders, &kept)?;
     match &told.keys {

@@ -18,6 +18,7 @@ mod numbered;
 mod orders;
 mod parts;
 mod printing;
+mod referenced;
 mod selecting;
 mod source;
 mod table;
