@@ -8,5 +8,6 @@ mod PlanFacts
 mod LentFacts
 pub mod CallFacts
 pub mod SelectFacts
+mod BesideFacts
 mod CountedFacts
 mod Worked

@@ -6,6 +6,7 @@ pub mod Kept
 pub mod KeptOrders
 pub mod TableOrders
 pub mod Lent
+pub mod Beside
 pub mod Texts
 pub mod Faults
 pub mod Tables

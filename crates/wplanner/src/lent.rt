@@ -29,8 +29,8 @@ use wrows::{AnswerFault, lists, sorted_numbers};
 use wset::SegmentSet;
 use wvalues::Value;
 
-// As many as are asked for, of so many.
-fn at_most(asked: u128, count: usize) -> usize
+/// As many as are asked for, of so many.
+pub(crate) fn at_most(asked: u128, count: usize) -> usize
     ensures value { result ≡ min asked count }
     ensures within { result ≤ count }
 {
@@ -41,8 +41,8 @@ fn at_most(asked: u128, count: usize) -> usize
     }
 }
 
-// How many rows are left of so many, where there may be a limit.
-fn limited(limit: Option<u128>, count: usize) -> usize
+/// How many rows are left of so many, where there may be a limit.
+pub(crate) fn limited(limit: Option<u128>, count: usize) -> usize
     ensures value { result ≡ at_most_limit limit count }
     ensures within { result ≤ count }
 {
