@@ -130,7 +130,7 @@ at_row width [] i all h = absurd (omega arith)
 at_row width (row ∷ rows) zero all h = all.0
 at_row width (row ∷ rows) (suc i) all h = at_row width rows i all.1 (omega arith)
 
-beside_long : (rows : List Row) (columns : List (List Meaning)) → length (beside rows columns) ≡ length rows
+pub beside_long : (rows : List Row) (columns : List (List Meaning)) → length (beside rows columns) ≡ length rows
 beside_long rows columns = length-map (places (length rows)) (λ i. key_at rows i ++ map (λ column. value_at column i) columns) ∙ length-places 0 (length rows)
 
 -- what stands behind the cells of rows plays no part in orders by columns

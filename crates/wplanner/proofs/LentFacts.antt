@@ -46,7 +46,7 @@ module _ (ps : List ℕ) where
   values_of_all [] = refl
   values_of_all (row ∷ rows) = ap (λ r. r ∷ map (λ row. map (λ t. value_on t row) (map At ps)) rows) (map-map (λ t. value_on t row) At ps) ∙ ap (λ l. values_at ps row ∷ l) (values_of_all rows)
 
-  plain_lists : (rows : List Row) → lists_of (map At ps) rows ≡ Ok (map (values_at ps) rows)
+  pub plain_lists : (rows : List Row) → lists_of (map At ps) rows ≡ Ok (map (values_at ps) rows)
   plain_lists rows =
       ap (λ b. unless b OutOfRange (map (λ row. map (λ t. value_on t row) (map At ps)) rows)) (none_at_fault rows)
       ∙ ap Ok (values_of_all rows)

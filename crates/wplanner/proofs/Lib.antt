@@ -9,5 +9,6 @@ mod PlanFacts
 mod LentFacts
 pub mod CallFacts
 pub mod SelectFacts
+mod BesideFacts
 mod CountedFacts
 mod Worked

@@ -7,6 +7,7 @@ pub mod KeptOrders
 pub mod TableOrders
 pub mod Referenced
 pub mod Lent
+pub mod Beside
 pub mod Texts
 pub mod Faults
 pub mod Tables

@@ -31,8 +31,8 @@ use wruns::RowRef;
 use wset::SegmentSet;
 use wvalues::Value;
 
-// As many as are asked for, of so many.
-fn at_most(asked: u128, count: usize) -> usize
+/// As many as are asked for, of so many.
+pub(crate) fn at_most(asked: u128, count: usize) -> usize
     ensures value { result ≡ min asked count }
     ensures within { result ≤ count }
 {
@@ -43,8 +43,8 @@ fn at_most(asked: u128, count: usize) -> usize
     }
 }
 
-// How many rows are left of so many, where there may be a limit.
-fn limited(limit: Option<u128>, count: usize) -> usize
+/// How many rows are left of so many, where there may be a limit.
+pub(crate) fn limited(limit: Option<u128>, count: usize) -> usize
     ensures value { result ≡ at_most_limit limit count }
     ensures within { result ≤ count }
 {

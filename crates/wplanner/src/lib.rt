@@ -10,6 +10,7 @@
 //! `specs/Printing.antt`.
 #![tactic(auto)]
 
+mod beside;
 mod counting;
 mod executing;
 mod fault;

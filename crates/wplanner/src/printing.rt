@@ -4,8 +4,7 @@ ghost use Rattle.wprinted.specs.Printing.{table_text};
 
 use crate::table::Table;
 use std::alloc::{AllocError, Global};
-use wprinted::{Rows, print_rows};
-use wvalues::Value;
+use wprinted::{Row, Rows, print_rows};
 
 impl Rows for Table {
     ghost rows = { λ table. table.rows };
@@ -14,8 +13,12 @@ impl Rows for Table {
         self.rows()
     }
 
-    fn row(&self, number: usize) -> &[Value] {
-        self.row(number)
+    fn row(&self, number: usize) -> Row<'_> {
+        Row {
+            cells: self.row(number),
+            columns: &[],
+            number,
+        }
     }
 }
 

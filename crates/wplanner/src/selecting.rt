@@ -151,8 +151,8 @@ fn called_items(
     items_beside_by(alloc, select, rows, &columns, keys)
 }
 
-// The items of the rows that are left, which are lent on where nothing calls for a window.
-fn left_items(
+/// The items of the rows that are left, which are lent on where nothing calls for a window.
+pub(crate) fn left_items(
     alloc: Global,
     select: &Selection,
     rows: &[&[Value]],

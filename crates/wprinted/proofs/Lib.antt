@@ -1,3 +1,4 @@
 mod Lines
 mod TextLines
 mod BackLines
+mod BesideFacts

@@ -2,7 +2,8 @@
 ghost use Rattle.std.specs.Prelude.{◌≡◌, OnOk};
 ghost use Rattle.wvalues.specs.Meaning.{Null, meaning};
 
-use crate::rows::{Rows, cell_at};
+use crate::row::{Row, value_at};
+use crate::rows::Rows;
 use std::alloc::AllocError;
 use wvalues::Value;
 
@@ -23,12 +24,12 @@ fn room_for(cell: &Value) -> usize {
 }
 
 // The bytes that the texts of a row at some places take, but for most of their quotes.
-fn room_for_row(cells: &[Value], null: &Value, places: &[usize]) -> usize
+fn room_for_row(row: &Row, null: &Value, places: &[usize]) -> usize
     requires { meaning null.now ≡ Null }
 {
     let mut room: usize = 0;
     for place in places {
-        room = room.saturating_add(room_for(cell_at(cells, null, *place)));
+        room = room.saturating_add(room_for(value_at(&*row, null, *place)));
     }
     room
 }
@@ -51,7 +52,7 @@ pub(crate) fn look_ahead<R: Rows>(
     let end = rows.count().min(row.saturating_add(BATCH));
     let mut room: usize = 0;
     for next in row..end {
-        room = room.saturating_add(room_for_row(rows.row(next), null, places));
+        room = room.saturating_add(room_for_row(&rows.row(next), null, places));
     }
     bytes.reserve(room)
 }

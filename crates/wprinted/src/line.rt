@@ -2,10 +2,11 @@
 ghost use Rattle.std.specs.Prelude.{◌≡◌, ◌≤◌, ◌++◌, ◌∷◌, IfSome, drop, if◌then◌else◌, length, map};
 ghost use Rattle.std.specs.Fmt.{signed_decimal};
 ghost use Rattle.wvalues.specs.Meaning.{Null, meaning};
+ghost use Rattle.wprinted.specs.Beside.{values_of};
 ghost use Rattle.wprinted.specs.Printing.{comma, field_text, line_text, text_field, values_at};
 
 use crate::field::needs_quotes;
-use crate::rows::cell_at;
+use crate::row::{Row, value_at};
 use itoa::write_digits;
 use wvalues::Value;
 
@@ -96,13 +97,13 @@ fn write_field(value: &Value, is_last: bool, line: &mut [u8], end: usize) -> Opt
 /// Writes the line of a row's values at some places, and answers where it begins. None where it has no room, or has a value
 /// that stands in quotes or has more than 64 bits.
 pub(crate) fn write_line(
-    cells: &[Value],
+    row: &Row,
     null: &Value,
     places: &[usize],
     line: &mut [u8],
 ) -> Option<usize>
     requires { meaning null.now ≡ Null }
-    ensures written { IfSome result (λ start. drop start line.new ≡ line_text (map field_text (values_at places.now (map meaning cells.now)))) }
+    ensures written { IfSome result (λ start. drop start line.new ≡ line_text (map field_text (values_at places.now (values_of row.now)))) }
     ensures within { IfSome result (λ start. start ≤ length line.new) }
 {
     let Some(mut at) = write_byte(b'\n', line, line.len()) else {
@@ -112,7 +113,7 @@ pub(crate) fn write_line(
     while left > 0 {
         let is_last = left == places.len();
         left -= 1;
-        match write_field(cell_at(cells, null, places[left]), is_last, line, at) {
+        match write_field(value_at(&*row, null, places[left]), is_last, line, at) {
             None => return None,
             Some(start) => at = start,
         }

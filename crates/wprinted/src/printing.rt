@@ -3,12 +3,14 @@ ghost use Rattle.std.specs.Prelude.{◌≡◌, ◌++◌, IfOk, OnOk, map};
 ghost use Rattle.std.specs.List.{flat_map};
 ghost use Rattle.std.specs.Rc.{rc_str_bytes};
 ghost use Rattle.wvalues.specs.Meaning.{Null, meaning};
+ghost use Rattle.wprinted.specs.Beside.{values_of};
 ghost use Rattle.wprinted.specs.Printing.{field_text, line_text, table_text, text_field, values_at};
 
 use crate::ahead::look_ahead;
 use crate::field::{push_text, push_value};
 use crate::line::{LINE, write_line};
-use crate::rows::{Rows, cell_at};
+use crate::row::{Row, value_at};
+use crate::rows::Rows;
 use std::alloc::{AllocError, Global};
 use std::rc::RcStr;
 use wvalues::Value;
@@ -30,18 +32,18 @@ fn push_names(bytes: &mut Vec<u8>, names: &[RcStr]) -> Result<(), AllocError>
 // Adds the line of a row's values at some places, value by value.
 fn push_values(
     bytes: &mut Vec<u8>,
-    cells: &[Value],
+    row: &Row,
     null: &Value,
     places: &[usize],
 ) -> Result<(), AllocError>
     requires { meaning null.now ≡ Null }
-    ensures { OnOk result (bytes.new.items ≡ bytes.old.items ++ line_text (map field_text (values_at places.now (map meaning cells.now)))) }
+    ensures { OnOk result (bytes.new.items ≡ bytes.old.items ++ line_text (map field_text (values_at places.now (values_of row.now)))) }
 {
     for (i, place) in places.iter().enumerate() {
         if i > 0 {
             bytes.push(b',')?;
         }
-        push_value(bytes, cell_at(cells, null, *place))?;
+        push_value(bytes, value_at(&*row, null, *place))?;
     }
     bytes.push(b'\n')?;
     Ok(())
@@ -50,17 +52,17 @@ fn push_values(
 // Adds the line of a row's values at some places, which is written beside first, if it can be.
 fn push_row(
     bytes: &mut Vec<u8>,
-    cells: &[Value],
+    row: &Row,
     null: &Value,
     places: &[usize],
     line: &mut [u8],
 ) -> Result<(), AllocError>
     requires { meaning null.now ≡ Null }
-    ensures { OnOk result (bytes.new.items ≡ bytes.old.items ++ line_text (map field_text (values_at places.now (map meaning cells.now)))) }
+    ensures { OnOk result (bytes.new.items ≡ bytes.old.items ++ line_text (map field_text (values_at places.now (values_of row.now)))) }
 {
-    match write_line(cells, null, places, line) {
+    match write_line(row, null, places, line) {
         Some(start) => bytes.extend_from_slice(&line[start..]),
-        None => push_values(bytes, cells, null, places),
+        None => push_values(bytes, row, null, places),
     }
 }
 
@@ -77,7 +79,7 @@ fn push_rows<R: Rows>(
     let mut line = [0u8; LINE];
     for row in 0..rows.count() {
         look_ahead(bytes, rows, null, places, row)?;
-        push_row(bytes, rows.row(row), null, places, &mut line)?;
+        push_row(bytes, &rows.row(row), null, places, &mut line)?;
     }
     Ok(())
 }

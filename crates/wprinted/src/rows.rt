@@ -1,7 +1,9 @@
 //! Rows that are printed.
 ghost use Rattle.std.specs.Prelude.{◌≡◌, ◌<◌, [], List, length, map, slice_index_or};
-ghost use Rattle.wvalues.specs.Meaning.{Meaning, Null, meaning};
+ghost use Rattle.wvalues.specs.Meaning.{Meaning, meaning};
+ghost use Rattle.wprinted.specs.Beside.{rows_at, rows_from, seen, values_of};
 
+use crate::row::Row;
 use wvalues::Value;
 
 /// Rows of values, by number.
@@ -13,10 +15,10 @@ pub trait Rows {
     fn count(&self) -> usize
         ensures { result ≡ length (rows self.now) };
 
-    /// The values of a row.
-    fn row(&self, number: usize) -> &[Value]
+    /// A row.
+    fn row(&self, number: usize) -> Row<'_>
         requires { number < length (rows self.now) }
-        ensures { map meaning result.now ≡ slice_index_or (rows self.now) number [] };
+        ensures { values_of result ≡ slice_index_or (rows self.now) number [] };
 }
 
 /// Rows that stay where they lie.
@@ -26,25 +28,79 @@ pub struct LentRows<'a> {
 }
 
 impl<'a> Rows for LentRows<'a> {
-    ghost rows = { λ lent. map (λ row. map meaning row.now) lent.rows.now };
+    ghost rows = { λ lent. seen lent.rows.now };
 
     fn count(&self) -> usize {
         self.rows.len()
     }
 
-    fn row(&self, number: usize) -> &[Value] {
-        self.rows[number]
+    fn row(&self, number: usize) -> Row<'_> {
+        Row {
+            cells: self.rows[number],
+            columns: &[],
+            number,
+        }
     }
 }
 
-/// The value of a row at a place, a null where it has no such place.
-pub(crate) fn cell_at<'a>(cells: &'a [Value], null: &'a Value, place: usize) -> &'a Value
-    requires { meaning null.now ≡ Null }
-    ensures { meaning result.now ≡ slice_index_or (map meaning cells.now) place Null }
+/// Rows as they stand, with what some columns have for each behind its cells: so many of them, from one on.
+#[derive(Clone, Copy)]
+pub struct RowsBeside<'a> {
+    pub rows: &'a [&'a [Value]],
+    pub columns: &'a [&'a [Value]],
+    pub from: usize,
+    pub count: usize,
+}
+
+impl<'a> Rows for RowsBeside<'a> {
+    ghost rows = { λ beside. rows_from (seen beside.rows.now) (seen beside.columns.now) beside.from beside.count };
+
+    fn count(&self) -> usize {
+        self.count.min(self.rows.len().saturating_sub(self.from))
+    }
+
+    fn row(&self, number: usize) -> Row<'_> {
+        let number = self.from + number;
+        Row {
+            cells: self.rows[number],
+            columns: self.columns,
+            number,
+        }
+    }
+}
+
+/// The rows of some numbers, with what some columns have for each behind its cells. A number of no row has no cells of its own.
+#[derive(Clone, Copy)]
+pub struct PickedRows<'a> {
+    pub rows: &'a [&'a [Value]],
+    pub columns: &'a [&'a [Value]],
+    pub numbers: &'a [usize],
+}
+
+// The cells of the row of a number, none where there is no such row.
+fn cells_at<'a>(rows: &'a [&'a [Value]], number: usize) -> &'a [Value]
+    ensures { map meaning result.now ≡ slice_index_or (seen rows.now) number [] }
 {
-    if place < cells.len() {
-        &cells[place]
+    if number < rows.len() {
+        rows[number]
     } else {
-        null
+        &[]
+    }
+}
+
+impl<'a> Rows for PickedRows<'a> {
+    ghost rows = { λ picked. rows_at (seen picked.rows.now) (seen picked.columns.now) picked.numbers.now };
+
+    fn count(&self) -> usize {
+        self.numbers.len()
+    }
+
+    fn row(&self, number: usize) -> Row<'_> {
+        let number = self.numbers[number];
+        Row {
+            cells: cells_at(self.rows, number),
+            columns: self.columns,
+            number,
+        }
     }
 }

@@ -2,7 +2,7 @@ use Rattle.std.proofs.Common.{◌∙◌, ◌++◌, map, sym, ap}
 use Rattle.std.specs.List.{flat_map}
 use Rattle.std.specs.Rc.{rc_str_bytes}
 use Rattle.std.proofs.lemmas.Simd.{map-map}
-use Rattle.wprinted.specs.Printing.{field_text, line_text, text_field, values_at}
+use Rattle.wprinted.specs.Printing.{line_text, text_field, values_at}
 use Rattle.wprinted.proofs.TextLines.{row_line}
 use Rattle.wprinted.proofs.printing.print_rows.Goals as goal
 
