@@ -1,5 +1,5 @@
 -- The text of a SELECT over windows, from its rows and the columns of what its calls answer.
-use Rattle.std.proofs.Common.{◌≡◌, ℕ, zero, suc, ◌+◌, ◌-◌, ◌<◌, List, [], ◌∷◌, drop, get_or, length, map, min, take, Option, None, Some, Result, Ok, Err, true, refl, sym, ap, ◌∙◌, subst, arith}
+use Rattle.std.proofs.Common.{◌≡◌, ℕ, zero, suc, ◌+◌, ◌-◌, ◌<◌, List, [], ◌∷◌, drop, get_or, length, map, min, take, Option, Result, Ok, Err, true, refl, sym, ap, ◌∙◌, subst, arith}
 use Rattle.std.specs.List.{AllByRecursion, range_with_len}
 use Rattle.std.proofs.lemmas.List.{get_or-map, length-map}
 use Rattle.std.proofs.lemmas.List.Elements.{recursion_from_All}
@@ -9,7 +9,7 @@ use Rattle.wframe.specs.Peers.{key_at}
 use Rattle.wframe.specs.Places.{places, places_from}
 use Rattle.wplan.specs.Formula.{At, Formula}
 use Rattle.wplan.specs.Plans.{KeyPlan, SelectPlan}
-use Rattle.wprinted.specs.Beside.{rows_beside, rows_from}
+use Rattle.wprinted.specs.Beside.{rows_from}
 use Rattle.wprinted.specs.Printing.{table_text, values_at}
 use Rattle.wrows.specs.declared.fault.AnswerFault.{AnswerFault}
 use Rattle.wrows.specs.Outcomes.{◌>>=◌, Gives}

@@ -1,8 +1,8 @@
 //! Rows that are looked at before they are printed.
-ghost use Rattle.std.specs.Prelude.{◌≡◌, OnOk};
+ghost use Rattle.std.specs.Prelude.{◌≡◌, ◌≤◌, OnOk, length};
 ghost use Rattle.wvalues.specs.Meaning.{Null, meaning};
 
-use crate::row::{Row, value_at};
+use crate::row::value_at;
 use crate::rows::Rows;
 use std::alloc::AllocError;
 use wvalues::Value;
@@ -23,19 +23,21 @@ fn room_for(cell: &Value) -> usize {
     }
 }
 
-// The bytes that the texts of a row at some places take, but for most of their quotes.
-fn room_for_row(row: &Row, null: &Value, places: &[usize]) -> usize
-    requires { meaning null.now ≡ Null }
+// The bytes that the texts of some rows at a place take, but for most of their quotes.
+fn room_at<R: Rows>(rows: &R, null: &Value, place: usize, from: usize, end: usize) -> usize
+    requires null { meaning null.now ≡ Null }
+    requires within { end ≤ length (R.rows rows.now) }
 {
     let mut room: usize = 0;
-    for place in places {
-        room = room.saturating_add(room_for(value_at(&*row, null, *place)));
+    for next in from..end {
+        room = room.saturating_add(room_for(value_at(&rows.row(next), null, place)));
     }
     room
 }
 
-/// Makes room for the texts of a row and of those behind it that are looked at with it. Nothing is done between one text and the
-/// next, so that the processor has many of them on their way from memory at once, and finds them near when they are printed.
+/// Makes room for the texts of a row and of those behind it that are looked at with it, a place of all of them after another.
+/// Nothing is done between one value and the next, so that the processor has many of them on their way from memory at once, and
+/// finds them near when they are printed.
 pub(crate) fn look_ahead<R: Rows>(
     bytes: &mut Vec<u8>,
     rows: &R,
@@ -51,8 +53,8 @@ pub(crate) fn look_ahead<R: Rows>(
     }
     let end = rows.count().min(row.saturating_add(BATCH));
     let mut room: usize = 0;
-    for next in row..end {
-        room = room.saturating_add(room_for_row(&rows.row(next), null, places));
+    for place in places {
+        room = room.saturating_add(room_at(rows, null, *place, row, end));
     }
     bytes.reserve(room)
 }
