@@ -1,7 +1,7 @@
 -- What the calls of a run that replaces a store may lead to.
 use Rattle.std.specs.Prelude.{⊤, is_ok}
 use Rattle.std.proofs.Common.{◌≡◌, ◌≢◌, ◌⊎◌, inl, inr, ⊎_elim, ℕ, Bool, true, false, List, [], ◌∷◌, ◌++◌, Option, None, Some, Result, Ok, Err, IfErr, refl, sym, ◌∙◌, ap, subst, rules, option_map}
-use Rattle.wfiles.specs.Call.{Call, Locked, Found, Created, Permitted, Wrote, Synced, Moved, SyncedFolder, Removed}
+use Rattle.wfiles.specs.Call.{Call, Locked, Found, Created, Permitted, Wrote, Synced, Moved, SyncedFolder, Removed, Began}
 use Rattle.wfiles.specs.Model.{Disk, IsAmong, holds, IsLeft, Leaves, MayHold, LeadsTo, IsSameFile, IsSameName, IsSame, Creates, Writes, Syncs, Renames, SyncsFolder, Removes, IsLocked, IsOwn, Others, Runs}
 use Rattle.wfiles.specs.Replacing.{AtEachMoment, LeavesOldOrNew, ChangesOnlyOwn, IsKept, IsUnsynced, Replaces}
 use Rattle.wfiles.specs.declared.fault.Fault.{Fault}
@@ -114,6 +114,7 @@ locked_on [] base held = held
 locked_on (Locked true ∷ cs) base held = tt
 locked_on (Locked false ∷ cs) base held = locked_on cs base held
 locked_on (Found name bytes ∷ cs) base held = locked_on cs base held
+locked_on (Began name bytes ∷ cs) base held = locked_on cs base held
 locked_on (Created name done ∷ cs) base held = locked_on cs base held
 locked_on (Permitted name done ∷ cs) base held = locked_on cs base held
 locked_on (Wrote name bytes done ∷ cs) base held = locked_on cs base held

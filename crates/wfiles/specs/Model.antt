@@ -123,6 +123,7 @@ pub record Removes (name : List ℕ) (d e : Disk) : Type 0 where
 abbrev pub Does : Call → Disk → Disk → Type 0
 Does (calls.Locked done) d e = e ≡ d
 Does (calls.Found name held) d e = (e ≡ d) × (held ≡ holds d name)
+Does (calls.Began name bytes) d e = e ≡ d
 Does (calls.Created name true) d e = Creates name d e
 Does (calls.Created name false) d e = e ≡ d
 Does (calls.Permitted name done) d e = e ≡ d

@@ -1,9 +1,13 @@
-//! Files, read and replaced whole.
-ghost use Rattle.std.specs.Prelude.{IfOk, IfErr, OnOk};
+//! Files, read whole.
+ghost use Rattle.std.specs.Prelude.{◌≡◌, ◌∷◌, Some, IfOk, IfErr, OnOk, OnErr, option_map};
 ghost use Rattle.std.specs.Io.KnownBytes.{Consumes, IsAtEnd};
+ghost use Rattle.wfiles.specs.Call.{Found};
 ghost use Rattle.wfiles.specs.Calls.{HasCause, IsSound};
+ghost use Rattle.wfiles.specs.Reading.{MayBegin, ReadsMore, read_more, read_to_end};
 
 use crate::fault::Fault;
+use crate::reading::Reading;
+use crate::record::Record;
 use crate::system::System;
 use std::alloc::{AllocError, Global};
 use std::fs::File;
@@ -14,21 +18,23 @@ use std::str;
 /// The bytes that are read at once.
 const BLOCK: usize = 65_536;
 
-// All that the reader has left.
+// All that a reading has left.
 fn read_rest<R, T: Read>(
     alloc: Global,
     system: &mut System<'_, R>,
-    reader: &mut T,
+    reading: &mut Reading<T>,
 ) -> Result<Vec<u8>, Fault>
     requires { IsSound system.old }
-    ensures bytes { IfOk result (λ bytes. Consumes (T.remaining reader.old) (T.remaining reader.new) bytes.items × IsAtEnd (T.remaining reader.new)) }
+    ensures bytes { IfOk result (λ bytes. Consumes (T.remaining reading.old.reader) (T.remaining reading.new.reader) bytes.items × IsAtEnd (T.remaining reading.new.reader)) }
+    ensures noted { IfOk result (λ bytes. reading.new.calls ≡ read_to_end (read_more bytes.items reading.old.calls)) }
+    ensures begun { OnErr result (ReadsMore reading.old.calls reading.new.calls) }
     ensures sound { OnOk result (IsSound system.new) }
     ensures cause { IfErr result (λ fault. HasCause fault system.new) }
 {
     let mut bytes = Vec::new(alloc);
     let mut block = [0u8; BLOCK];
     'reads: loop {
-        let count = match system.read(reader, &mut block) {
+        let count = match reading.read(system, &mut block) {
             Ok(Some(count)) => count,
             Ok(None) => continue,
             Err(fault) => return Err(fault),
@@ -42,36 +48,66 @@ fn read_rest<R, T: Read>(
     }
 }
 
+// All that a reading of a file has left. The record is given back.
+fn read_file<R>(
+    alloc: Global,
+    system: &mut System<'_, R>,
+    calls: &mut Record,
+    reading: Reading<File>,
+) -> Result<Vec<u8>, Fault>
+    requires { IsSound system.old }
+    ensures found { IfOk result (λ bytes. calls.new.calls ≡ read_to_end (read_more bytes.items reading.calls)) }
+    ensures begun { OnErr result (ReadsMore reading.calls calls.new.calls) }
+    ensures sound { OnOk result (IsSound system.new) }
+    ensures cause { IfErr result (λ fault. HasCause fault system.new) }
+{
+    let mut reading = reading;
+    let bytes = read_rest(alloc, system, &mut reading);
+    *calls = reading.ended();
+    bytes
+}
+
 /// The bytes of a file, or `None` where there is none.
 pub fn read_if_there<R: Files<File = File> + AllocGlobal>(
     alloc: Global,
     system: &mut System<'_, R>,
+    calls: &mut Record,
     path: &str,
 ) -> Result<Option<Vec<u8>>, Fault>
     requires { IsSound system.old }
+    ensures found { IfOk result (λ held. calls.new.calls ≡ Found path.now (option_map (λ bytes. bytes.items) held) ∷ calls.old.calls) }
+    ensures begun { OnErr result (MayBegin path.now calls.old.calls calls.new.calls) }
     ensures sound { OnOk result (IsSound system.new) }
     ensures cause { IfErr result (λ fault. HasCause fault system.new) }
 {
-    let Some(mut file) = system.open_if_there(path)? else {
-        return Ok(None);
+    let reading = match Reading::open_if_there(system, calls, path) {
+        Ok(Some(reading)) => reading,
+        Ok(None) => return Ok(None),
+        Err(fault) => return Err(fault),
     };
-    let bytes = read_rest(alloc, system, &mut file)?;
-    Ok(Some(bytes))
+    match read_file(alloc, system, calls, reading) {
+        Ok(bytes) => Ok(Some(bytes)),
+        Err(fault) => Err(fault),
+    }
 }
 
 /// The bytes of a file that has to be there.
 pub fn read_whole<R: Files<File = File> + AllocGlobal>(
     alloc: Global,
     system: &mut System<'_, R>,
+    calls: &mut Record,
     path: &str,
 ) -> Result<Vec<u8>, Fault>
     requires { IsSound system.old }
+    ensures found { IfOk result (λ bytes. calls.new.calls ≡ Found path.now (Some bytes.items) ∷ calls.old.calls) }
+    ensures begun { OnErr result (MayBegin path.now calls.old.calls calls.new.calls) }
     ensures sound { OnOk result (IsSound system.new) }
     ensures cause { IfErr result (λ fault. HasCause fault system.new) }
 {
-    let mut file = system.open(path)?;
-    let bytes = read_rest(alloc, system, &mut file)?;
-    Ok(bytes)
+    match Reading::open(system, calls, path) {
+        Ok(reading) => read_file(alloc, system, calls, reading),
+        Err(fault) => Err(fault),
+    }
 }
 
 // Those of the names that begin as the names of new files do. Each ends in a zero byte.
@@ -97,7 +133,8 @@ pub(crate) fn read_names<R: Files<File = File> + AllocGlobal>(
     ensures sound { OnOk result (IsSound system.new) }
     ensures cause { IfErr result (λ fault. HasCause fault system.new) }
 {
-    let mut folder = system.names(path)?;
-    let names = read_rest(alloc, system, &mut folder)?;
+    let folder = system.names(path)?;
+    let mut reading = Reading::begun(folder, Record::new(), path);
+    let names = read_rest(alloc, system, &mut reading)?;
     system.grown(new_names(alloc, names.as_slice()))
 }

@@ -1,6 +1,6 @@
 //! The calls on a folder that replacing a store makes.
-ghost use Rattle.std.specs.Prelude.{◌≡◌, ◌∷◌, List, IfOk, IfErr, OnOk, OnErr, is_ok, false, option_map};
-ghost use Rattle.wfiles.specs.Call.{Call, Found, Created, Permitted, Wrote, Synced, Moved, SyncedFolder, Removed};
+ghost use Rattle.std.specs.Prelude.{◌≡◌, ◌∷◌, List, IfOk, IfErr, OnOk, OnErr, is_ok, false};
+ghost use Rattle.wfiles.specs.Call.{Call, Created, Permitted, Wrote, Synced, Moved, SyncedFolder, Removed};
 ghost use Rattle.wfiles.specs.Calls.{CallCounts, HasCause, IsSound};
 ghost use Rattle.wfiles.specs.declared.fault.Fault.TheVariants.{NoMemory};
 
@@ -57,14 +57,6 @@ pub trait Folder {
     fn names(&mut self, alloc: Global, folder: &str) -> Result<Vec<String>, Fault>
         requires { IsSound (counts self.old) }
         ensures calls { calls self.new ≡ calls self.old }
-        ensures sound { OnOk result (IsSound (counts self.new)) }
-        ensures cause { IfErr result (λ fault. HasCause fault (counts self.new)) };
-
-    /// The bytes of a file, or `None` where there is none.
-    fn read(&mut self, alloc: Global, path: &str) -> Result<Option<Vec<u8>>, Fault>
-        requires { IsSound (counts self.old) }
-        ensures found { IfOk result (λ held. calls self.new ≡ Found path.now (option_map (λ bytes. bytes.items) held) ∷ calls self.old) }
-        ensures calls { OnErr result (calls self.new ≡ calls self.old) }
         ensures sound { OnOk result (IsSound (counts self.new)) }
         ensures cause { IfErr result (λ fault. HasCause fault (counts self.new)) };
 

@@ -3,13 +3,14 @@ ghost use Rattle.std.specs.Prelude.{◌≡◌, ◌∷◌, true, IfErr, IfOk, OnE
 ghost use Rattle.wfiles.specs.Call.{Found, Locked};
 ghost use Rattle.wfiles.specs.Calls.{HasCause, IsSound};
 ghost use Rattle.wfiles.specs.Model.{IsLocked};
+ghost use Rattle.wfiles.specs.Reading.{MayBegin};
 ghost use Rattle.wfiles.specs.Replacing.{MayLock, Replaces, fault_of};
 
 use crate::fault::Fault;
 use crate::files::read_if_there;
 use crate::folder::Target;
 use crate::real::RealFolder;
-use crate::record::{FOUND, LOCKED, Record};
+use crate::record::{LOCKED, Record};
 use crate::replacing::{NotReplaced, path_in, replace};
 use crate::system::System;
 use std::alloc::Global;
@@ -138,22 +139,11 @@ impl Place {
     ) -> Result<Option<Vec<u8>>, Fault>
         requires { IsSound system.old }
         ensures found { IfOk result (λ held. calls.new.calls ≡ Found (string_bytes self.now.target.path) (option_map (λ bytes. bytes.items) held) ∷ calls.old.calls) }
-        ensures unread { OnErr result (calls.new.calls ≡ calls.old.calls) }
+        ensures begun { OnErr result (MayBegin (string_bytes self.now.target.path) calls.old.calls calls.new.calls) }
         ensures sound { OnOk result (IsSound system.new) }
         ensures cause { IfErr result (λ fault. HasCause fault system.new) }
     {
-        let path = self.target.path.as_str();
-        match read_if_there(alloc, system, path) {
-            Ok(Some(bytes)) => {
-                calls.note_call(FOUND, true, path.as_bytes(), bytes.as_slice());
-                Ok(Some(bytes))
-            }
-            Ok(None) => {
-                calls.note_call(FOUND, false, path.as_bytes(), &[]);
-                Ok(None)
-            }
-            Err(fault) => Err(fault),
-        }
+        read_if_there(alloc, system, calls, self.target.path.as_str())
     }
 
     /// Puts these bytes in the place of the file's, whole, as `replace` does. At a fault the file is as it was, but where only the

@@ -5,11 +5,9 @@ ghost use Rattle.wfiles.specs.Call.{call_of};
 ghost use Rattle.wfiles.specs.Calls.{HasCause, IsSound};
 
 use crate::fault::Fault;
-use crate::files::{read_if_there, read_names};
+use crate::files::read_names;
 use crate::folder::{Access, Folder};
-use crate::record::{
-    CREATED, FOUND, MOVED, PERMITTED, REMOVED, Record, SYNCED, SYNCED_FOLDER, WROTE,
-};
+use crate::record::{CREATED, MOVED, PERMITTED, REMOVED, Record, SYNCED, SYNCED_FOLDER, WROTE};
 use crate::system::System;
 use std::alloc::Global;
 use std::fs::File;
@@ -70,20 +68,6 @@ impl<R: Files<File = File> + AllocGlobal> Folder for RealFolder<'_, '_, R> {
 
     fn names(&mut self, alloc: Global, folder: &str) -> Result<Vec<String>, Fault> {
         read_names(alloc, &mut self.system, folder)
-    }
-
-    fn read(&mut self, alloc: Global, path: &str) -> Result<Option<Vec<u8>>, Fault> {
-        match read_if_there(alloc, &mut self.system, path) {
-            Ok(Some(bytes)) => {
-                self.note(FOUND, true, path.as_bytes(), bytes.as_slice());
-                Ok(Some(bytes))
-            }
-            Ok(None) => {
-                self.note(FOUND, false, path.as_bytes(), &[]);
-                Ok(None)
-            }
-            Err(fault) => Err(fault),
-        }
     }
 
     fn create_new(&mut self, path: &str, is_closed: bool) -> Result<bool, Fault> {

@@ -1,7 +1,7 @@
-//! The calls that were made on a folder, in a list that only clauses read.
+//! The calls that were made on files and folders, in a list that only clauses read.
 ghost use Rattle.std.specs.Prelude.{◌≡◌, List, [], ◌∷◌};
 ghost use Rattle.std.specs.Borrow.{ftrue};
-ghost use Rattle.wfiles.specs.Call.{Call, call_of, noted};
+ghost use Rattle.wfiles.specs.Call.{Call, call_of, noted, read_on};
 
 use std::marker::{Model, PhantomData};
 
@@ -23,7 +23,10 @@ pub(crate) const SYNCED_FOLDER: u64 = 7;
 
 pub(crate) const REMOVED: u64 = 8;
 
-/// The calls on the folder of a store, the newest first. It takes no room: only clauses read it, and only this crate adds to it.
+pub(crate) const BEGAN: u64 = 9;
+
+/// The calls that read files, and those on the folder of a store, the newest first. It takes no room: only clauses read it, and only
+/// this crate adds to it.
 #[derive(Drop)]
 pub struct Record {
     marker: PhantomData<u8>,
@@ -45,7 +48,7 @@ impl Record {
     }
 
     pub(crate) fn note(&mut self, _numbers: &[u64], _name: &[u8], _bytes: &[u8])
-        ensures { self.new.calls ≡ noted _numbers.now _name.now _bytes.now ∷ self.old.calls }
+        ensures { self.new.calls ≡ noted _numbers.now _name.now _bytes.now self.old.calls }
     {}
 
     /// Notes a call, by its number.
@@ -53,9 +56,16 @@ impl Record {
         ensures { self.new.calls ≡ call_of number is_done path.now bytes.now ∷ self.old.calls }
     {
         if is_done {
-            self.note(&[number, 1], path, bytes);
+            self.note(&[number, 1, 0], path, bytes);
         } else {
-            self.note(&[number, 0], path, bytes);
+            self.note(&[number, 0, 0], path, bytes);
         }
+    }
+
+    /// Notes that a read of the file that the newest call began to read gave these bytes, none at its end.
+    pub(crate) fn note_read(&mut self, block: &[u8])
+        ensures { self.new.calls ≡ read_on block.now self.old.calls }
+    {
+        self.note(&[0, 0, 1], &[], block);
     }
 }

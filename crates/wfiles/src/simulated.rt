@@ -8,7 +8,7 @@ ghost use Rattle.wfiles.specs.Model.{IsLocked};
 use crate::fault::Fault;
 use crate::folder::{Access, Folder};
 use crate::record::{
-    CREATED, FOUND, LOCKED, MOVED, PERMITTED, REMOVED, Record, SYNCED, SYNCED_FOLDER, WROTE,
+    CREATED, LOCKED, MOVED, PERMITTED, REMOVED, Record, SYNCED, SYNCED_FOLDER, WROTE,
 };
 use crate::system::System;
 use std::alloc::{AllocError, Global};
@@ -164,11 +164,6 @@ impl Disk {
         Ok(left)
     }
 
-    fn holds(&self, path: &str) -> Option<&[u8]> {
-        let file = self.file_of(path)?;
-        Some(self.files.get(file)?.bytes.as_slice())
-    }
-
     fn names(&self, alloc: Global, folder: &str) -> Result<Vec<String>, AllocError> {
         let mut names = Vec::new(alloc);
         for entry in self.entries.iter().filter(|entry| entry.file().is_some()) {
@@ -254,20 +249,6 @@ impl Folder for Simulated<'_> {
             return Err(self.system.misplaced());
         }
         self.system.grown(self.disk.names(alloc, folder))
-    }
-
-    fn read(&mut self, alloc: Global, path: &str) -> Result<Option<Vec<u8>>, Fault> {
-        if !self.runs() {
-            return Err(self.system.misplaced());
-        }
-        let Some(held) = self.disk.holds(path) else {
-            self.trace.note_call(FOUND, false, path.as_bytes(), &[]);
-            return Ok(None);
-        };
-        let bytes = self.system.grown(Vec::from_slice(alloc, held))?;
-        self.trace
-            .note_call(FOUND, true, path.as_bytes(), bytes.as_slice());
-        Ok(Some(bytes))
     }
 
     fn create_new(&mut self, path: &str, _is_closed: bool) -> Result<bool, Fault> {

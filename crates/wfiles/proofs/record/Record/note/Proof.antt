@@ -52,7 +52,7 @@ module _ {M : Type 1} {𝓤 : Ura M} (𝓛 : Logic 𝓤) (at_mem : Memory → SP
   x = (record { ref_ptr = (b, o); ghost_name = γ; now = h }, (k, (s, (z, tt))))
 
   abbrev h' : Record
-  h' = record { marker = h.marker; calls = noted k.now s.now z.now ∷ h.calls }
+  h' = record { marker = h.marker; calls = noted k.now s.now z.now h.calls }
 
   abbrev at : List Val × (List Val × (List Val × (List Val × Unit {0})))
   at = (vptr b o ∷ [], (slice_val k.ref_ptr (length k.now) ∷ [], (slice_val s.ref_ptr (length s.now) ∷ [], (slice_val z.ref_ptr (length z.now) ∷ [], tt))))

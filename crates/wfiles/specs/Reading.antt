@@ -1,0 +1,31 @@
+-- What is noted while a file is read in blocks: one call, which grows with each read.
+use Rattle.std.specs.Prelude.{◌≡◌, ◌⊎◌, ℕ, List, ◌∷◌, ◌++◌, Option, None, Some, take}
+use Rattle.wfiles.specs.Call.{Call, Began, Found, read_on}
+
+-- a reader, and the calls that were made, the newest of which is its own
+pub record Readings (T : Type 0) : Type 0 where
+  pub reader : T
+  pub calls : List Call
+
+-- more bytes were read of the file that the newest call began to read
+abbrev pub read_more : List ℕ → List Call → List Call
+read_more block (Began name bytes ∷ cs) = Began name (bytes ++ block) ∷ cs
+read_more block cs = cs
+
+-- that file was read to its end
+abbrev pub read_to_end : List Call → List Call
+read_to_end (Began name bytes ∷ cs) = Found name (Some bytes) ∷ cs
+read_to_end cs = cs
+
+-- some bytes more were read of it
+abbrev pub ReadsMore : List Call → List Call → Type 0
+ReadsMore old new = (bytes : List ℕ) × (new ≡ read_more bytes old)
+
+-- a read is noted that gave the first bytes of the block, none at the end; or it was interrupted and gave none
+abbrev pub NotesBytes : List Call → List Call → List ℕ → Option ℕ → Type 0
+NotesBytes old new block None = new ≡ old
+NotesBytes old new block (Some n) = new ≡ read_on (take n block) old
+
+-- the file of a name was not read, or only its first bytes were
+abbrev pub MayBegin : List ℕ → List Call → List Call → Type 0
+MayBegin name old new = (new ≡ old) ⊎ ((bytes : List ℕ) × (new ≡ Began name bytes ∷ old))
