@@ -1,20 +1,31 @@
 -- What a shell gives on the files that it reads.
-use Rattle.std.proofs.Common.{◌≡◌, ℕ, Bool, List, Option, Result, Ok, Err, IfOk, IfErr, OnErr, IfSome}
+use Rattle.std.proofs.Common.{◌≡◌, ℕ, Bool, List, [], ◌∷◌, Option, Some, Result, Ok, Err, IfOk, IfErr, OnErr, IfSome, subst, ap, ◌∙◌}
 use Rattle.std.specs.Io.KnownBytes.{Appends}
 use Rattle.wvalues.specs.Counts.{Counts}
+use Rattle.wfiles.specs.Call.{Call, Found}
 use Rattle.wfiles.specs.declared.fault.Fault.{Fault}
+use Rattle.wcommand.specs.declared.choice.Paths.{Paths}
 use Rattle.wact.specs.Opening.{Opens}
 use Rattle.wact.specs.declared.opening.Opened.{Opened}
 use Rattle.wstore.specs.Nodes.{NodeState}
 use Rattle.wshell.specs.Runs as runs
 use Rattle.wshell.specs.declared.fault.ShellFault.{ShellFault}
 use Rattle.wshell.specs.declared.fault.ShellFault.TheVariants as ends
+use Rattle.wstore_program.specs.Performing.{OnlyReads}
 use Rattle.wstore_program.specs.Shelling.{IsOpened, IsRun}
 
--- what is opened on bytes that were read
-pub opened : (table : List ℕ) (store : Option (List ℕ)) (result : Result Opened Fault) → IfOk result (λ o. Opens table store o) → IfOk result IsOpened
-opened table store (Ok o) opens = record { table = table; store = store; opens = opens }
-opened table store (Err fault) opens = opens
+-- what is opened on the files that were read
+pub opened : (paths : Paths) (lent table : List ℕ) (store : Option (List ℕ)) (old first read : List Call) (result : Result Opened Fault) → lent ≡ table → first ≡ Found paths.table.now (Some table) ∷ old
+    → read ≡ Found paths.store.now store ∷ first → IfOk result (λ o. Opens lent store o) → IfOk result (λ o. IsOpened paths o old read)
+opened paths lent table store old first read (Ok o) same t s opens =
+    record { table = table; store = store; read = s ∙ ap (λ cs. Found paths.store.now store ∷ cs) t; opens = subst (λ (bytes : List ℕ). Opens bytes store o) same opens }
+opened paths lent table store old first read (Err fault) same t s opens = tt
+
+-- or there was no memory to open it
+pub unopened : {A : Type 0} (paths : Paths) (table : List ℕ) (store : Option (List ℕ)) (old first read : List Call) (result : Result A Fault) → first ≡ Found paths.table.now (Some table) ∷ old → read ≡ Found paths.store.now store ∷ first
+    → OnErr result (OnlyReads old read)
+unopened paths table store old first read (Ok o) t s = tt
+unopened paths table store old first read (Err fault) t s = record { since = Found paths.store.now store ∷ Found paths.table.now (Some table) ∷ []; is = s ∙ ap (λ cs. Found paths.store.now store ∷ cs) t; readings = tt }
 
 -- how a run ended
 pub run_outcome : {I W : Type 0} (node : NodeState) (left new_left : Option (List ℕ)) (input : Counts I) (old new : Option (List ℕ)) (output : Counts W) (end : Result Bool ShellFault)

@@ -1,28 +1,33 @@
 -- A stream that is fed to a store.
-use Rattle.std.proofs.Common.{◌≡◌, ◌∙◌, ◌⊎◌, inl, inr, sym, ap, subst, ℕ, false, List, [], ◌++◌, Option, None, Some, Result, Ok, Err, IfOk, is_some}
-use Rattle.std.specs.Io.KnownBytes.{Consumes}
+use Rattle.std.proofs.Common.{◌≡◌, ◌≢◌, ◌∙◌, ◌⊎◌, inl, inr, refl, sym, ap, subst, ℕ, ◌≤◌, true, false, List, [], ◌∷◌, ◌++◌, length, take, append-nil, Option, None, Some, Result, Ok, Err, IfOk, IfErr, IfSome, IfNone, is_some}
+use Rattle.std.specs.Io.KnownBytes.{Consumes, IsAtEnd}
 use Rattle.std.proofs.KnownBytes.{Consumes-trans}
 use Rattle.wsegment.specs.Declaration.{Declaration}
+use Rattle.wsegment.specs.Spelling.{ReadsDeclaration}
 use Rattle.wstore.specs.Nodes.{NodeState}
+use Rattle.wbatch.specs.Batches.{Filled, stream_of}
 use Rattle.wbatch.specs.Streams.{IsUndelivered, Stops}
 use Rattle.wbatch.specs.declared.stop.Stop.{Stop}
 use Rattle.wbatch.specs.declared.stop.Stop.TheVariants as stops
 use Rattle.wcommand.specs.declared.choice.Choice.{Choice}
-use Rattle.wfiles.specs.Call.{Call}
+use Rattle.wcommand.specs.declared.choice.Choice.TheVariants as choices
+use Rattle.wcommand.specs.Inputs.{is_act}
+use Rattle.wfiles.specs.Call.{Call, Began, Found, read_on}
+use Rattle.wfiles.specs.Reading.{read_more, read_to_end}
 use Rattle.wfiles.specs.declared.fault.Fault.{Fault}
+use Rattle.wfiles.proofs.Noting.{found_whole, reads_end, reads_on}
 use Rattle.wreplies.specs.Texts.{bytes_of}
 use Rattle.wreplies.specs.declared.text.Text.{Text}
 use Rattle.wact.specs.declared.acted.Acted.{Acted}
 use Rattle.wact.specs.declared.opening.Opened.TheVariants as opens
-use Rattle.wact.specs.Acts.{Acts}
 use Rattle.wact.specs.Delivering.{IsFeed, IsToldUndelivered}
-use Rattle.wact.specs.Opening.{Opens}
+use Rattle.wact.specs.Opening.{Opens, TableRead, TableRefused}
 use Rattle.wact.specs.Outcomes.{IsRefused}
 use Rattle.wact.specs.Streams.{Feeds}
 use Rattle.wact.proofs.Delivering.{acts_opened, acts_refused, feeds_refused}
-use Rattle.wstore_program.specs.Feeding.{IsRefusedStream, RefusesRead}
-use Rattle.wstore_program.specs.Performing.{IsPerformed}
-use Rattle.wstore_program.proofs.Performed.{feed_input, untouched}
+use Rattle.wstore_program.specs.Feeding.{AtEnd, ByAll, ByFront, InFront, IsRefusedStream, RefusesRead}
+use Rattle.wstore_program.specs.Performing.{All, Front, Input, IsDone, IsUndone, Nothing, OnlyReads, Settles, Unready, input_path}
+use Rattle.wstore_program.proofs.Performed.{untouched}
 
 -- ---- reading it
 
@@ -41,22 +46,69 @@ stops_undelivered d stream stops.Bad m = inl m
 stops_undelivered d stream stops.NoMemory m = tt
 
 -- it is refused in a block
-pub refused_in_block : (d e : Declaration) (left mid new : Option (List ℕ)) (read block : List ℕ) (stopped : Option Stop) (reason : Stop) → e ≡ d → Consumes left mid read → Consumes mid new block → stopped ≡ None
-    → (stopped ≡ Some reason) ⊎ Stops e (read ++ block) reason → RefusesRead d left new reason
-refused_in_block d e left mid new read block stopped reason same p q goes_on why = record {
-  stream = read ++ block;
-  consumes = Consumes-trans left mid new read block p q;
-  undelivered =
-      subst (λ f. IsUndelivered f (read ++ block) reason) same (stops_undelivered e (read ++ block) reason (goes_on_to stopped reason (Stops e (read ++ block) reason) goes_on why));
-}
+pub refused_in_block : (n : ℕ) (block : List ℕ) (d e : Declaration) (left mid new_left : Option (List ℕ)) (read : List ℕ) (stopped : Option Stop) (reason : Stop) (old before new : List Call) → e ≡ d → Consumes left mid read
+    → Consumes mid new_left (take n block) → stopped ≡ None → (stopped ≡ Some reason) ⊎ Stops e (read ++ take n block) reason → n ≢ 0 → n ≤ length block → before ≡ read_more read old → new ≡ read_on (take n block) before
+    → RefusesRead d left new_left old new reason
+refused_in_block n block d e left mid new_left read stopped reason old before new same p q goes_on why some bound noted is =
+    InFront (read ++ take n block) (Consumes-trans left mid new_left read (take n block) p q)
+    (subst (λ f. Stops f (read ++ take n block) reason) same (goes_on_to stopped reason (Stops e (read ++ take n block) reason) goes_on why))
+    (reads_on n block read old before new some bound noted is)
+
+-- it is refused at its end
+pub refused_at_end : (n : ℕ) (block : List ℕ) (d e : Declaration) (left mid new_left : Option (List ℕ)) (read : List ℕ) (stopped : Option Stop) (r : Option Stop) (old before new : List Call) → e ≡ d → Consumes left mid read
+    → Consumes mid new_left (take n block) → IsAtEnd new_left → stopped ≡ None → IfSome r (λ reason. (stopped ≡ Some reason) ⊎ IsUndelivered e read reason) → n ≡ 0 → before ≡ read_more read old → new ≡ read_on (take n block) before
+    → IfSome r (RefusesRead d left new_left old new)
+refused_at_end n block d e left mid new_left read stopped None old before new same p q end goes_on why none noted is = tt
+refused_at_end n block d e left mid new_left read stopped (Some reason) old before new same p q end goes_on why none noted is =
+    AtEnd read (subst (Consumes left new_left) (ap (λ n. read ++ take n block) none ∙ append-nil read) (Consumes-trans left mid new_left read (take n block) p q)) end
+    (subst (λ f. IsUndelivered f read reason) same (goes_on_to stopped reason (IsUndelivered e read reason) goes_on why)) (reads_end n block read old before new none noted is)
+
+-- and where it is not, it is noted whole
+pub noted_at_end : (n : ℕ) (block read : List ℕ) (r : Option Stop) (old before new : List Call) → n ≡ 0 → before ≡ read_more read old → new ≡ read_on (take n block) before → IfNone r (new ≡ read_to_end (read_more read old))
+noted_at_end n block read None old before new none noted is = reads_end n block read old before new none noted is
+noted_at_end n block read (Some reason) old before new none noted is = tt
+
+-- it is refused under its path
+pub refused_under : (d : Declaration) (path : List ℕ) (left new_left : Option (List ℕ)) (old begun read new : List Call) (r : Result (Option Stop) Fault) → begun ≡ Began path [] ∷ old → new ≡ read
+    → IfOk r (λ stopped. IfSome stopped (RefusesRead d left new_left begun read)) → IfOk r (λ stopped. IfSome stopped (IsRefusedStream d path old new))
+refused_under d path left new_left old begun read new (Err fault) is same why = tt
+refused_under d path left new_left old begun read new (Ok None) is same why = tt
+refused_under d path left new_left old begun read new (Ok (Some reason)) is same (InFront front consumes stops reads) = ByFront front stops (same ∙ reads ∙ ap (read_more front) is)
+refused_under d path left new_left old begun read new (Ok (Some reason)) is same (AtEnd stream consumes end undelivered reads) = ByAll stream undelivered (found_whole path stream old begun new is (same ∙ reads))
+
+-- only files were read where it is refused
+pub refused_reads : (d : Declaration) (path : List ℕ) (old new : List Call) (reason : Stop) → IsRefusedStream d path old new reason → OnlyReads old new
+refused_reads d path old new reason (ByFront front stops is) = record { since = Began path front ∷ []; is = is; readings = tt }
+refused_reads d path old new reason (ByAll stream undelivered is) = record { since = Found path (Some stream) ∷ []; is = is; readings = tt }
 
 -- ---- feeding it
 
+-- feeding is done in one act
+pub feed_acts : (choice : Choice) → IsFeed choice → is_act choice ≡ true
+feed_acts choices.Session is = absurd is
+feed_acts (choices.Take paths origin number csv) is = refl
+feed_acts (choices.Retire paths origin number) is = refl
+feed_acts (choices.Floor paths origin number) is = refl
+feed_acts (choices.Join paths path) is = refl
+feed_acts (choices.Feed paths path) is = refl
+feed_acts (choices.List paths) is = refl
+feed_acts (choices.Ask paths queries) is = refl
+feed_acts (choices.Shell paths) is = absurd is
+
+-- the declaration of the node that is opened is the table's
+pub declared_by : (d : Declaration) (table : List ℕ) (store : Option (List ℕ)) (node : NodeState) → Opens table store (opens.Node node) → d ≡ node.schema → ReadsDeclaration table (Ok d)
+declared_by d table store node (TableRead e reads by) same = subst (λ f. ReadsDeclaration table (Ok f)) (sym (same ∙ by.0)) reads
+declared_by d table store node (TableRefused fault reads refused) same = absurd refused
+
 -- a table or a store that is refused
 pub refused_open : (choice : Choice) (table : List ℕ) (store : Option (List ℕ)) (text : Text) (acted : Acted) (calls : List Call) → IsFeed choice → Opens table store (opens.Refused text) → IsRefused acted (bytes_of text)
-    → IsPerformed choice acted calls calls
-refused_open choice table store text acted calls is opened told =
-    untouched choice acted table store [] calls (feed_input choice is) (acts_refused choice table store [] text acted opened told) (ap is_some told.2)
+    → IsDone choice table store acted calls calls
+refused_open choice table store text acted calls is opened told = record {
+  other = [];
+  read = calls;
+  input = Nothing text is opened refl refl;
+  settles = untouched choice acted table store [] calls (acts_refused choice table store [] text acted opened told) (ap is_some told.2);
+}
 
 -- what is told of a stream that is refused stores nothing
 stores_nothing : (reason : Stop) (acted : Acted) → IsToldUndelivered reason acted → is_some acted.store ≡ false
@@ -64,16 +116,43 @@ stores_nothing (stops.Segment fault) acted told = ap is_some told.2
 stores_nothing stops.Bad acted told = ap is_some told.2
 stores_nothing stops.NoMemory acted told = absurd told
 
--- a stream that is refused
-refused_stream : (choice : Choice) (table : List ℕ) (store : Option (List ℕ)) (node : NodeState) (d : Declaration) (reason : Stop) (acted : Acted) (calls : List Call) → IsFeed choice → Opens table store (opens.Node node)
-    → d ≡ node.schema → IsRefusedStream d reason → IsToldUndelivered reason acted → IsPerformed choice acted calls calls
-refused_stream choice table store node d reason acted calls is opened same why told =
-    let feeds : Feeds node.schema node.view store why.stream acted =
-    subst (λ e. Feeds e node.view store why.stream acted) same (feeds_refused {E = Unit {0}} d node.view store why.stream reason (Ok acted) why.undelivered told) in
-    untouched choice acted table store why.stream calls (feed_input choice is) (acts_opened choice table store why.stream node acted opened is feeds) (stores_nothing reason acted told)
+-- and it is no want of memory
+is_told : (reason : Stop) (acted : Acted) → IsToldUndelivered reason acted → reason ≢ stops.NoMemory
+is_told (stops.Segment fault) acted told = λ e. cc
+is_told stops.Bad acted told = λ e. cc
+is_told stops.NoMemory acted told = absurd told
 
--- what is answered then
-pub stream_refused : (choice : Choice) (table : List ℕ) (store : Option (List ℕ)) (node : NodeState) (d : Declaration) (reason : Stop) (result : Result Acted Fault) (calls : List Call) → IsFeed choice
-    → Opens table store (opens.Node node) → d ≡ node.schema → IsRefusedStream d reason → IfOk result (IsToldUndelivered reason) → IfOk result (λ acted. IsPerformed choice acted calls calls)
-stream_refused choice table store node d reason (Ok acted) calls is opened same why told = refused_stream choice table store node d reason acted calls is opened same why told
-stream_refused choice table store node d reason (Err fault) calls is opened same why told = told
+-- what is told of it is what feeding it gives
+told_feeds : (choice : Choice) (table : List ℕ) (store : Option (List ℕ)) (node : NodeState) (d : Declaration) (stream : List ℕ) (reason : Stop) (acted : Acted) (calls : List Call) → IsFeed choice → Opens table store (opens.Node node)
+    → d ≡ node.schema → IsUndelivered d stream reason → IsToldUndelivered reason acted → Settles choice table store stream acted calls calls
+told_feeds choice table store node d stream reason acted calls is opened same why told =
+    let feeds : Feeds node.schema node.view store stream acted =
+    subst (λ e. Feeds e node.view store stream acted) same (feeds_refused {E = Unit {0}} d node.view store stream reason (Ok acted) why told) in
+    untouched choice acted table store stream calls (acts_opened choice table store stream node acted opened is feeds) (stores_nothing reason acted told)
+
+-- a stream that is refused
+pub refused_stream : (choice : Choice) (table : List ℕ) (store : Option (List ℕ)) (node : NodeState) (d : Declaration) (path : List ℕ) (reason : Stop) (acted : Acted) (old new : List Call) → IsFeed choice → input_path choice ≡ Some path
+    → Opens table store (opens.Node node) → d ≡ node.schema → IsRefusedStream d path old new reason → IsToldUndelivered reason acted → IsDone choice table store acted old new
+refused_stream choice table store node d path reason acted old new is named opened same (ByFront front stops read) told = record {
+  other = front;
+  read = new;
+  input = Front path d reason is named read (declared_by d table store node opened same) stops (is_told reason acted told);
+  settles = told_feeds choice table store node d front reason acted new is opened same (stops_undelivered d front reason stops) told;
+}
+refused_stream choice table store node d path reason acted old new is named opened same (ByAll stream undelivered read) told = record {
+  other = stream;
+  read = new;
+  input = All (Input path named read);
+  settles = told_feeds choice table store node d stream reason acted new is opened same undelivered told;
+}
+
+-- as it was told, or there was no memory to tell it
+pub told_refused : (choice : Choice) (table : List ℕ) (store : Option (List ℕ)) (node : NodeState) (d : Declaration) (path : List ℕ) (reason : Stop) (r : Result Acted Fault) (old new : List Call) → IsFeed choice
+    → input_path choice ≡ Some path → Opens table store (opens.Node node) → d ≡ node.schema → IsRefusedStream d path old new reason → IfOk r (IsToldUndelivered reason) → IfOk r (λ acted. IsDone choice table store acted old new)
+told_refused choice table store node d path reason (Err fault) old new is named opened same why told = tt
+told_refused choice table store node d path reason (Ok acted) old new is named opened same why told = refused_stream choice table store node d path reason acted old new is named opened same why told
+
+pub untold_refused : (choice : Choice) (table : List ℕ) (store : Option (List ℕ)) (d : Declaration) (path : List ℕ) (reason : Stop) (r : Result Acted Fault) (old new : List Call) → IsRefusedStream d path old new reason
+    → IfErr r (λ fault. IsUndone choice table store fault old new)
+untold_refused choice table store d path reason (Ok acted) old new why = tt
+untold_refused choice table store d path reason (Err fault) old new why = Unready (refused_reads d path old new reason why)

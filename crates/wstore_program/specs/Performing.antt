@@ -1,13 +1,62 @@
--- What a subcommand gives on files, and what is done to the store's.
-use Rattle.std.specs.Prelude.{◌≡◌, ℕ, true, List, [], ◌∷◌, Option, None, Some, Result, Ok, Err, option_map}
-use Rattle.wfiles.specs.Call.{Call, Found, Locked}
+-- What a subcommand gives on the files that its words name, and what is done to the store's.
+use Rattle.std.specs.Prelude.{◌≡◌, ◌≢◌, ⊤, ℕ, true, List, [], ◌∷◌, ◌++◌, Option, None, Some, Result, Ok, Err, option_map}
+use Rattle.wsegment.specs.Declaration.{Declaration}
+use Rattle.wsegment.specs.Spelling.{ReadsDeclaration}
+use Rattle.wbatch.specs.Streams.{Stops}
+use Rattle.wbatch.specs.declared.stop.Stop.{Stop}
+use Rattle.wbatch.specs.declared.stop.Stop.TheVariants as stops
+use Rattle.wfiles.specs.Call.{Call, Began, Found, Locked}
+use Rattle.wfiles.specs.Reading.{MayBegin}
 use Rattle.wfiles.specs.Replacing.{MayLock, Replaces, fault_of}
 use Rattle.wfiles.specs.declared.fault.Fault.{Fault}
 use Rattle.wfiles.specs.declared.replacing.NotReplaced.{NotReplaced}
 use Rattle.wcommand.specs.declared.choice.Choice.{Choice}
-use Rattle.wcommand.specs.Inputs.{input_of}
+use Rattle.wcommand.specs.declared.choice.Paths.{Paths}
+use Rattle.wcommand.specs.Inputs.{input_of, paths_of}
+use Rattle.wreplies.specs.declared.text.Text.{Text}
 use Rattle.wact.specs.declared.acted.Acted.{Acted}
+use Rattle.wact.specs.declared.opening.Opened.TheVariants as opens
 use Rattle.wact.specs.Acts.{Acts}
+use Rattle.wact.specs.Delivering.{IsFeed}
+use Rattle.wact.specs.Opening.{Opens}
+
+-- ---- what is read
+
+-- the table and the store were read, under the paths that the words name: the table has these bytes, and the store these, if it is there
+abbrev pub read_files : Paths → List ℕ → Option (List ℕ) → List Call → List Call
+read_files paths table store old = Found paths.store.now store ∷ Found paths.table.now (Some table) ∷ old
+
+-- the path of CSV, OTHER or STREAM
+abbrev pub input_path : Choice → Option (List ℕ)
+input_path choice = option_map (λ path. path.now) (input_of choice)
+
+-- CSV, OTHER or STREAM is read whole, and has these bytes; where the choice has none, they are none, and nothing is read
+pub data ReadsWhole (choice : Choice) (other : List ℕ) (old new : List Call) : Type 0 where
+  NoInput : input_of choice ≡ None → other ≡ [] → new ≡ old → ReadsWhole choice other old new
+  Input : (path : List ℕ) → input_path choice ≡ Some path → new ≡ Found path (Some other) ∷ old → ReadsWhole choice other old new
+
+-- what is read of CSV, OTHER or STREAM behind the table and the store: all of it; or of a stream its first bytes alone, where they are
+-- not delivered whatever follows them, or nothing, where the table or the store is refused
+pub data ReadsInput (choice : Choice) (table : List ℕ) (store : Option (List ℕ)) (other : List ℕ) (old new : List Call) : Type 0 where
+  All : ReadsWhole choice other old new → ReadsInput choice table store other old new
+  Front : (path : List ℕ) (d : Declaration) (reason : Stop) → IsFeed choice → input_path choice ≡ Some path → new ≡ Began path other ∷ old → ReadsDeclaration table (Ok d) → Stops d other reason → reason ≢ stops.NoMemory
+      → ReadsInput choice table store other old new
+  Nothing : (text : Text) → IsFeed choice → Opens table store (opens.Refused text) → other ≡ [] → new ≡ old → ReadsInput choice table store other old new
+
+-- these calls read files, or began to
+abbrev pub AreReadings : List Call → Type 0
+AreReadings [] = ⊤
+AreReadings (Found name held ∷ cs) = AreReadings cs
+AreReadings (Began name bytes ∷ cs) = AreReadings cs
+AreReadings (c ∷ cs) = ⊥
+
+-- nothing was done but to read files
+pub record OnlyReads (old new : List Call) : Type 0 where
+  pub since : List Call
+  pub is : new ≡ since ++ old
+  pub readings : AreReadings since
+
+-- ---- what becomes of the store
 
 -- the bytes of the new store, if there is one
 abbrev pub new_store : Acted → Option (List ℕ)
@@ -22,26 +71,45 @@ abbrev pub Puts : List ℕ → Option (List ℕ) → Result (Unit {0}) NotReplac
 Puts path None result old new = (result ≡ Ok tt) × (new ≡ old)
 Puts path (Some bytes) result old new = Replaces path bytes result old new
 
--- what becomes of the store's file: without a new store it is not touched; a new one is put in the place of the very bytes on which
--- the subcommand was done
-pub data Settles (store : Option (List ℕ)) (acted : Acted) (old new : List Call) : Type 0 where
-  Untouched : new_store acted ≡ None → new ≡ old → Settles store acted old new
-  Put : (path : List ℕ) → Puts path (new_store acted) (Ok tt) (read_locked path store old) new → Settles store acted old new
+-- it is what the subcommand gives on this table and input, and on the store that was read, whose file is not touched where there is
+-- no new store; or on the store that was found under the lock, in whose place the new one is put
+pub data Settles (choice : Choice) (table : List ℕ) (store : Option (List ℕ)) (other : List ℕ) (acted : Acted) (old new : List Call) : Type 0 where
+  Untouched : Acts choice table store other acted → new_store acted ≡ None → new ≡ old → Settles choice table store other acted old new
+  Put : (path : List ℕ) (held : Option (List ℕ)) → Acts choice table held other acted → Puts path (new_store acted) (Ok tt) (read_locked path held old) new → Settles choice table store other acted old new
 
--- it is what the subcommand gives on some bytes of the table and the store, and of CSV or OTHER where it has one; no other
--- subcommand has bytes there
+-- the store is not touched: nothing is done, or the lock is tried for, or the store is read under it, or not to its end; or the new
+-- store that the subcommand gives on the bytes that were found there is not put in its place, or may not stay there
+pub data IsUnsettled (choice : Choice) (table other : List ℕ) (fault : Fault) (old new : List Call) : Type 0 where
+  Unlocked : MayLock old new → IsUnsettled choice table other fault old new
+  Unfound : (path : List ℕ) → MayBegin path (Locked true ∷ old) new → IsUnsettled choice table other fault old new
+  Unchanged : (path : List ℕ) (held : Option (List ℕ)) → new ≡ read_locked path held old → IsUnsettled choice table other fault old new
+  NotPut : (held : Option (List ℕ)) (acted : Acted) (path : List ℕ) (why : NotReplaced) → Acts choice table held other acted → fault ≡ fault_of why
+      → Puts path (new_store acted) (Err why) (read_locked path held old) new → IsUnsettled choice table other fault old new
+
+-- ---- the whole subcommand
+
+-- what is done once the table and the store are read
+pub record IsDone (choice : Choice) (table : List ℕ) (store : Option (List ℕ)) (acted : Acted) (old new : List Call) : Type 0 where
+  pub other : List ℕ
+  pub read : List Call
+  pub input : ReadsInput choice table store other old read
+  pub settles : Settles choice table store other acted read new
+
+-- what is done then at a fault: the input is not read to its end, or there is no memory behind it; or the store is not replaced
+pub data IsUndone (choice : Choice) (table : List ℕ) (store : Option (List ℕ)) (fault : Fault) (old new : List Call) : Type 0 where
+  Unready : OnlyReads old new → IsUndone choice table store fault old new
+  Unsettled : (other : List ℕ) (read : List Call) → ReadsInput choice table store other old read → IsUnsettled choice table other fault read new → IsUndone choice table store fault old new
+
+-- it is what the subcommand gives on the bytes of the table, the store and the input that the words name, as they were read there
 pub record IsPerformed (choice : Choice) (acted : Acted) (old new : List Call) : Type 0 where
+  pub paths : Paths
+  pub named : paths_of choice ≡ Some paths
   pub table : List ℕ
   pub store : Option (List ℕ)
-  pub other : List ℕ
-  pub no_input : input_of choice ≡ None → other ≡ []
-  pub acts : Acts choice table store other acted
-  pub settles : Settles store acted old new
+  pub done : IsDone choice table store acted (read_files paths table store old) new
 
--- it is given up before the store is touched: nothing is done, or the lock is tried for, or the store is read; or the new store that
--- the subcommand gives on the bytes that were read is not put in its place, or may not stay there
+-- it is given up before the store is touched, while files are read or behind that; or the new store is not put in its place, or may
+-- not stay there
 pub data IsGivenUp (choice : Choice) (fault : Fault) (old new : List Call) : Type 0 where
-  Unlocked : MayLock old new → IsGivenUp choice fault old new
-  Unchanged : (path : List ℕ) (held : Option (List ℕ)) → new ≡ read_locked path held old → IsGivenUp choice fault old new
-  NotPut : (table : List ℕ) (held : Option (List ℕ)) (other : List ℕ) (acted : Acted) (path : List ℕ) (why : NotReplaced) → Acts choice table held other acted → fault ≡ fault_of why
-      → Puts path (new_store acted) (Err why) (read_locked path held old) new → IsGivenUp choice fault old new
+  Unread : OnlyReads old new → IsGivenUp choice fault old new
+  Undone : (paths : Paths) (table : List ℕ) (store : Option (List ℕ)) → paths_of choice ≡ Some paths → IsUndone choice table store fault (read_files paths table store old) new → IsGivenUp choice fault old new

@@ -3,12 +3,15 @@ use Rattle.std.specs.Prelude.{◌≡◌, ℕ, Bool, true, false, List, Option, R
 use Rattle.std.specs.Io.KnownBytes.{Appends, Keeps}
 use Rattle.wvalues.specs.Counts.{Counts}
 use Rattle.wreplies.specs.Texts.{bytes_of}
+use Rattle.wfiles.specs.Call.{Call}
 use Rattle.wfiles.specs.Calls.{CallCounts, HasCause}
 use Rattle.wfiles.specs.declared.fault.Fault.{Fault}
+use Rattle.wcommand.specs.declared.choice.Paths.{Paths}
 use Rattle.wact.specs.Opening.{Opens}
 use Rattle.wact.specs.declared.opening.Opened.{Opened}
 use Rattle.wact.specs.declared.opening.Opened.TheVariants as opens
 use Rattle.wstore.specs.Nodes.{NodeState}
+use Rattle.wstore_program.specs.Performing.{OnlyReads, read_files}
 use Rattle.wreplies.specs.declared.text.Text.{Text}
 use Rattle.wshell.specs.Runs as runs
 use Rattle.wshell.specs.declared.fault.ShellFault.{ShellFault}
@@ -20,10 +23,11 @@ shell_status (Ok false) = 0
 shell_status (Ok true) = 1
 shell_status (Err fault) = 3
 
--- it is what some bytes of a table and a store open
-pub record IsOpened (opened : Opened) : Type 0 where
+-- it is what the table and the store open that were read under these paths
+pub record IsOpened (paths : Paths) (opened : Opened) (old new : List Call) : Type 0 where
   pub table : List ℕ
   pub store : Option (List ℕ)
+  pub read : new ≡ read_files paths table store old
   pub opens : Opens table store opened
 
 -- a refusal is printed, or a front of it, and then the writer failed
@@ -46,8 +50,8 @@ pub record Answers {I W : Type 0} (node : NodeState) (left new_left : Option (Li
   pub status_is : status ≡ shell_status end
 
 -- the files are not read, and a fault has its cause; or the table or the store is refused; or the queries are answered on the node
--- that they open
-pub data HasShellStatus {I W : Type 0} (counts : CallCounts) (left new_left : Option (List ℕ)) (input : Counts I) (old new : Option (List ℕ)) (output : Counts W) (status : ℕ) : Type 0 where
-  Unread : (fault : Fault) → HasCause fault counts → Keeps old new → status ≡ 3 → HasShellStatus counts left new_left input old new output status
-  Refused : (text : Text) → IsOpened (opens.Refused text) → IsRefusal (bytes_of text) old new output.failures status → HasShellStatus counts left new_left input old new output status
-  Ran : (node : NodeState) → IsOpened (opens.Node node) → Answers node left new_left input old new output status → HasShellStatus counts left new_left input old new output status
+-- that they open. Which files were read the calls tell, before and after
+pub data HasShellStatus {I W : Type 0} (paths : Paths) (counts : CallCounts) (before after : List Call) (left new_left : Option (List ℕ)) (input : Counts I) (old new : Option (List ℕ)) (output : Counts W) (status : ℕ) : Type 0 where
+  NotOpened : (fault : Fault) → HasCause fault counts → OnlyReads before after → Keeps old new → status ≡ 3 → HasShellStatus paths counts before after left new_left input old new output status
+  Refused : (text : Text) → IsOpened paths (opens.Refused text) before after → IsRefusal (bytes_of text) old new output.failures status → HasShellStatus paths counts before after left new_left input old new output status
+  Ran : (node : NodeState) → IsOpened paths (opens.Node node) before after → Answers node left new_left input old new output status → HasShellStatus paths counts before after left new_left input old new output status

@@ -1,8 +1,8 @@
 //! A subcommand on its files.
-ghost use Rattle.std.specs.Prelude.{◌≡◌, [], Ok, true, IfOk, IfErr, IfNone, IfSome, OnOk, None, Some, option_map, string_bytes};
+ghost use Rattle.std.specs.Prelude.{◌≡◌, [], Ok, true, IfOk, IfErr, IfNone, IfSome, OnErr, OnOk, Some, option_map, string_bytes};
 ghost use Rattle.wsegment.specs.Spelling.{ReadsDeclaration};
 ghost use Rattle.wbatch.specs.Batches.{stream_of};
-ghost use Rattle.wcommand.specs.Inputs.{input_of, is_act};
+ghost use Rattle.wcommand.specs.Inputs.{is_act, paths_of};
 ghost use Rattle.wact.specs.Acts.{Acts};
 ghost use Rattle.wact.specs.Delivering.{IsFeed, IsToldUndelivered};
 ghost use Rattle.wact.specs.Opening.{Opens};
@@ -10,7 +10,7 @@ ghost use Rattle.wact.specs.Streams.{Feeds};
 ghost use Rattle.wact.specs.declared.opening.Opened.TheVariants as opens;
 ghost use Rattle.wcommand.specs.declared.choice.Choice as choices;
 ghost use Rattle.wstore_program.specs.Feeding.{IsGiven, given_bytes};
-ghost use Rattle.wstore_program.specs.Performing.{IsGivenUp, IsPerformed, Puts};
+ghost use Rattle.wstore_program.specs.Performing.{IsDone, IsGivenUp, IsPerformed, IsUndone, IsUnsettled, OnlyReads, Puts, ReadsWhole, Settles, input_path};
 ghost use Rattle.wfiles.specs.Calls.{HasCause, IsSound};
 ghost use Rattle.wfiles.specs.Model.{IsLocked};
 ghost use Rattle.wfiles.specs.Replacing.{fault_of};
@@ -84,15 +84,17 @@ fn acted(
 fn read_input<R: Files<File = File> + AllocGlobal>(
     alloc: Global,
     system: &mut System<'_, R>,
+    calls: &mut Record,
     choice: &Choice<'_>,
 ) -> Result<Vec<u8>, Fault>
     requires { IsSound system.old }
-    ensures none { IfOk result (λ bytes. input_of choice.now ≡ None → bytes.items ≡ []) }
+    ensures read { IfOk result (λ bytes. ReadsWhole choice.now bytes.items calls.old.calls calls.new.calls) }
+    ensures unread { OnErr result (OnlyReads calls.old.calls calls.new.calls) }
     ensures sound { OnOk result (IsSound system.new) }
     ensures cause { IfErr result (λ fault. HasCause fault system.new) }
 {
     match choice.input() {
-        Some(path) => read_whole(alloc, system, path),
+        Some(path) => read_whole(alloc, system, calls, path),
         None => Ok(Vec::new(alloc)),
     }
 }
@@ -159,8 +161,8 @@ fn settle<R: Files<File = File> + AllocGlobal + Clock + Eprint>(
     requires given { IsGiven choice.now table.now given.now }
     requires first { Acts choice.now table.now (option_map (λ bytes. bytes.items) store.now) (given_bytes given.now) first }
     requires sound { IsSound system.old }
-    ensures performed { IfOk result (λ acted. IsPerformed choice.now acted calls.old.calls calls.new.calls) }
-    ensures given_up { IfErr result (λ fault. IsGivenUp choice.now fault calls.old.calls calls.new.calls) }
+    ensures settles { IfOk result (λ acted. Settles choice.now table.now (option_map (λ bytes. bytes.items) store.now) (given_bytes given.now) acted calls.old.calls calls.new.calls) }
+    ensures unsettled { IfErr result (λ fault. IsUnsettled choice.now table.now (given_bytes given.now) fault calls.old.calls calls.new.calls) }
     ensures sound { OnOk result (IsSound system.new) }
     ensures cause { IfErr result (λ fault. HasCause fault system.new) }
 {
@@ -198,8 +200,8 @@ fn finish<R: Files<File = File> + AllocGlobal + Clock + Eprint>(
     requires given { IsGiven choice.now table.now given.now }
     requires first { Acts choice.now table.now (option_map (λ bytes. bytes.items) store.now) (given_bytes given.now) first }
     requires sound { IsSound system.old }
-    ensures performed { IfOk result (λ acted. IsPerformed choice.now acted calls.old.calls calls.new.calls) }
-    ensures given_up { IfErr result (λ fault. IsGivenUp choice.now fault calls.old.calls calls.new.calls) }
+    ensures settles { IfOk result (λ acted. Settles choice.now table.now (option_map (λ bytes. bytes.items) store.now) (given_bytes given.now) acted calls.old.calls calls.new.calls) }
+    ensures unsettled { IfErr result (λ fault. IsUnsettled choice.now table.now (given_bytes given.now) fault calls.old.calls calls.new.calls) }
     ensures sound { OnOk result (IsSound system.new) }
     ensures cause { IfErr result (λ fault. HasCause fault system.new) }
 {
@@ -223,13 +225,13 @@ fn perform_on_bytes<R: Files<File = File> + AllocGlobal + Clock + Eprint>(
 ) -> Result<Acted, Fault>
     requires choice { is_act choice.now ≡ true }
     requires sound { IsSound system.old }
-    ensures performed { IfOk result (λ acted. IsPerformed choice.now acted calls.old.calls calls.new.calls) }
-    ensures given_up { IfErr result (λ fault. IsGivenUp choice.now fault calls.old.calls calls.new.calls) }
+    ensures done { IfOk result (λ acted. IsDone choice.now table.now (option_map (λ bytes. bytes.items) store.now) acted calls.old.calls calls.new.calls) }
+    ensures undone { IfErr result (λ fault. IsUndone choice.now table.now (option_map (λ bytes. bytes.items) store.now) fault calls.old.calls calls.new.calls) }
     ensures sound { OnOk result (IsSound system.new) }
     ensures cause { IfErr result (λ fault. HasCause fault system.new) }
 {
     let alloc = rt.alloc();
-    let other = read_input(alloc, system, choice)?;
+    let other = read_input(alloc, system, calls, choice)?;
     let other = other.as_slice();
     let first = system.grown(acted_on(alloc, choice, table, store, other))?;
     explain_refusal(rt, choice, paths, table, store, other, &first);
@@ -299,8 +301,8 @@ fn deliver<R: Files<File = File> + AllocGlobal + Clock + Eprint>(
     requires declared { batch.now.schema ≡ node.schema }
     requires whole { batch.now.held ≡ [] }
     requires sound { IsSound system.old }
-    ensures performed { IfOk result (λ acted. IsPerformed choice.now acted calls.old.calls calls.new.calls) }
-    ensures given_up { IfErr result (λ fault. IsGivenUp choice.now fault calls.old.calls calls.new.calls) }
+    ensures settles { IfOk result (λ acted. Settles choice.now table.now (option_map (λ bytes. bytes.items) store.now) (stream_of batch.now) acted calls.old.calls calls.new.calls) }
+    ensures unsettled { IfErr result (λ fault. IsUnsettled choice.now table.now (stream_of batch.now) fault calls.old.calls calls.new.calls) }
     ensures sound { OnOk result (IsSound system.new) }
     ensures cause { IfErr result (λ fault. HasCause fault system.new) }
 {
@@ -354,17 +356,18 @@ fn feed_from<R: Files<File = File> + AllocGlobal + Clock + Eprint>(
     node: Node,
 ) -> Result<Acted, Fault>
     requires choice { IsFeed choice.now }
+    requires stream { input_path choice.now ≡ Some stream.now }
     requires opens { Opens table.now (option_map (λ bytes. bytes.items) store.now) (opens.Node node) }
     requires sound { IsSound system.old }
-    ensures performed { IfOk result (λ acted. IsPerformed choice.now acted calls.old.calls calls.new.calls) }
-    ensures given_up { IfErr result (λ fault. IsGivenUp choice.now fault calls.old.calls calls.new.calls) }
+    ensures done { IfOk result (λ acted. IsDone choice.now table.now (option_map (λ bytes. bytes.items) store.now) acted calls.old.calls calls.new.calls) }
+    ensures undone { IfErr result (λ fault. IsUndone choice.now table.now (option_map (λ bytes. bytes.items) store.now) fault calls.old.calls calls.new.calls) }
     ensures sound { OnOk result (IsSound system.new) }
     ensures cause { IfErr result (λ fault. HasCause fault system.new) }
 {
     let alloc = rt.alloc();
     let schema = system.grown(node.schema().copy())?;
     let mut batch = Batch::new(alloc, schema);
-    if let Some(reason) = fill_from(system, stream, &mut batch)? {
+    if let Some(reason) = fill_from(system, calls, stream, &mut batch)? {
         return refuse_stream(rt, system, stream, paths, table, &batch, reason);
     }
     deliver(
@@ -392,9 +395,10 @@ fn perform_feed<R: Files<File = File> + AllocGlobal + Clock + Eprint>(
     stream: &str,
 ) -> Result<Acted, Fault>
     requires choice { IsFeed choice.now }
+    requires stream { input_path choice.now ≡ Some stream.now }
     requires sound { IsSound system.old }
-    ensures performed { IfOk result (λ acted. IsPerformed choice.now acted calls.old.calls calls.new.calls) }
-    ensures given_up { IfErr result (λ fault. IsGivenUp choice.now fault calls.old.calls calls.new.calls) }
+    ensures done { IfOk result (λ acted. IsDone choice.now table.now (option_map (λ bytes. bytes.items) store.now) acted calls.old.calls calls.new.calls) }
+    ensures undone { IfErr result (λ fault. IsUndone choice.now table.now (option_map (λ bytes. bytes.items) store.now) fault calls.old.calls calls.new.calls) }
     ensures sound { OnOk result (IsSound system.new) }
     ensures cause { IfErr result (λ fault. HasCause fault system.new) }
 {
@@ -413,7 +417,7 @@ fn perform_feed<R: Files<File = File> + AllocGlobal + Clock + Eprint>(
 
 // The stream of a choice that feeds.
 fn stream_of_feed<'a>(choice: &Choice<'a>) -> Option<&'a str>
-    ensures feeds { IfSome result (λ stream. IsFeed choice.now × (input_of choice.now ≡ Some stream)) }
+    ensures feeds { IfSome result (λ stream. IsFeed choice.now × (input_path choice.now ≡ Some stream.now)) }
     ensures other { IfNone result (IsFeed choice.now → ⊥) }
 {
     match *choice {
@@ -434,8 +438,8 @@ fn perform_on<R: Files<File = File> + AllocGlobal + Clock + Eprint>(
 ) -> Result<Acted, Fault>
     requires choice { is_act choice.now ≡ true }
     requires sound { IsSound system.old }
-    ensures performed { IfOk result (λ acted. IsPerformed choice.now acted calls.old.calls calls.new.calls) }
-    ensures given_up { IfErr result (λ fault. IsGivenUp choice.now fault calls.old.calls calls.new.calls) }
+    ensures done { IfOk result (λ acted. IsDone choice.now table.now (option_map (λ bytes. bytes.items) store.now) acted calls.old.calls calls.new.calls) }
+    ensures undone { IfErr result (λ fault. IsUndone choice.now table.now (option_map (λ bytes. bytes.items) store.now) fault calls.old.calls calls.new.calls) }
     ensures sound { OnOk result (IsSound system.new) }
     ensures cause { IfErr result (λ fault. HasCause fault system.new) }
 {
@@ -447,10 +451,10 @@ fn perform_on<R: Files<File = File> + AllocGlobal + Clock + Eprint>(
 
 /// Reads the files of a subcommand, the table, the store, then CSV, OTHER or STREAM, and replaces the store where the subcommand gives
 /// a new one. A stream is read in blocks, once the table and the store are judged, to its end or to the first message that cannot be
-/// delivered. A reply is that of the subcommand on bytes that were read: where there is a new store, on those that were read
-/// in its place while this run held the lock of its folder. A fault comes only where a call failed or a growth was refused,
-/// and nothing else has failed then; the store is as it was, or it has the new bytes and only its folder was not brought to
-/// the disk. A refusal is explained on standard error.
+/// delivered. A reply is that of the subcommand on the bytes that were read under the paths of its words: where there is a new store,
+/// on those that were read in its place while this run held the lock of its folder. A fault comes only where a call failed or a
+/// growth was refused, and nothing else has failed then; the store is as it was, or it has the new bytes and only its folder was not
+/// brought to the disk. A refusal is explained on standard error.
 pub fn perform<R: Files<File = File> + AllocGlobal + Clock + Eprint>(
     rt: &R,
     system: &mut System<'_, R>,
@@ -459,6 +463,7 @@ pub fn perform<R: Files<File = File> + AllocGlobal + Clock + Eprint>(
     paths: Paths<'_>,
 ) -> Result<Acted, Fault>
     requires choice { is_act choice.now ≡ true }
+    requires named { paths_of choice.now ≡ Some paths }
     requires sound { IsSound system.old }
     ensures performed { IfOk result (λ acted. IsPerformed choice.now acted calls.old.calls calls.new.calls) }
     ensures given_up { IfErr result (λ fault. IsGivenUp choice.now fault calls.old.calls calls.new.calls) }
@@ -466,8 +471,8 @@ pub fn perform<R: Files<File = File> + AllocGlobal + Clock + Eprint>(
     ensures cause { IfErr result (λ fault. HasCause fault system.new) }
 {
     let alloc = rt.alloc();
-    let table = read_whole(alloc, system, paths.table)?;
-    let store = read_if_there(alloc, system, paths.store)?;
+    let table = read_whole(alloc, system, calls, paths.table)?;
+    let store = read_if_there(alloc, system, calls, paths.store)?;
     let table = table.as_slice();
     perform_on(rt, system, calls, choice, paths, table, &store)
 }

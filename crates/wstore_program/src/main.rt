@@ -4,9 +4,9 @@
 //! not understood, and 3 at a fault, whose name and reason it writes to standard error. There it also explains a refusal.
 #![tactic(auto)]
 
-ghost use Rattle.std.specs.Prelude.{◌≡◌, true};
+ghost use Rattle.std.specs.Prelude.{◌≡◌, Some, true};
 ghost use Rattle.std.specs.Process.{exit_status};
-ghost use Rattle.wcommand.specs.Inputs.{is_act};
+ghost use Rattle.wcommand.specs.Inputs.{is_act, paths_of};
 ghost use Rattle.wfiles.specs.Calls.{IsSound};
 ghost use Rattle.wstore_program.specs.Statuses.{HasFileStatus, HasWordsStatus, IsPrinted, script_status};
 
@@ -111,6 +111,7 @@ fn run_on_files<R: Files<File = File> + AllocGlobal + Clock + Eprint, W: Write>(
     paths: Paths<'_>,
 ) -> ExitCode
     requires choice { is_act choice.now ≡ true }
+    requires named { paths_of choice.now ≡ Some paths }
     requires sound { IsSound system.old }
     ensures { HasFileStatus choice.now system.new calls.old.calls calls.new.calls (W.contents output.old) (W.contents output.new) (exit_status result) }
 {
@@ -144,13 +145,14 @@ fn tell<R, W: Write>(
 fn answer_input(
     rt: &HostRuntime,
     system: &mut System<'_, HostRuntime>,
+    calls: &mut Record,
     paths: Paths<'_>,
 ) -> ExitCode
     requires { IsSound system.old }
 {
     let mut input = Counted::new(rt.stdin());
     let mut output = Counted::new(rt.stdout());
-    run_shell(rt, system, &mut input, &mut output, paths)
+    run_shell(rt, system, calls, &mut input, &mut output, paths)
 }
 
 // Does what the words choose.
@@ -169,7 +171,7 @@ fn run_words(rt: &HostRuntime, words: &[&str]) -> ExitCode {
                 &choice,
                 paths,
             ),
-            Some(paths) => answer_input(rt, &mut system, paths),
+            Some(paths) => answer_input(rt, &mut system, &mut calls, paths),
         },
         Err(fault) => tell(rt, &mut system, &mut output, fault),
     }

@@ -1,8 +1,9 @@
 //! A shell on the files of a table and a store.
-ghost use Rattle.std.specs.Prelude.{◌≡◌, IfErr, IfOk, OnOk};
+ghost use Rattle.std.specs.Prelude.{◌≡◌, IfErr, IfOk, OnErr, OnOk};
 ghost use Rattle.std.specs.Process.{exit_status};
 ghost use Rattle.wfiles.specs.Calls.{HasCause, IsSound};
 ghost use Rattle.wlines.specs.Pending.{IsNew};
+ghost use Rattle.wstore_program.specs.Performing.{OnlyReads};
 ghost use Rattle.wstore_program.specs.Shelling.{Answers, HasShellStatus, IsOpened, IsRefusal, shell_status};
 
 use crate::opening::opened;
@@ -13,7 +14,7 @@ use std::process::ExitCode;
 use std::rt::Files;
 use wact::{Opened, Purpose};
 use wcommand::Paths;
-use wfiles::{Fault, System, read_if_there, read_whole};
+use wfiles::{Fault, Record, System, read_if_there, read_whole};
 use wlines::write_reply;
 use wshell::{ShellFault, run};
 use wstore::Node;
@@ -26,16 +27,18 @@ const REFUSED: u8 = 1;
 fn open_files<R: Files<File = File> + AllocGlobal>(
     rt: &R,
     system: &mut System<'_, R>,
+    calls: &mut Record,
     paths: Paths<'_>,
 ) -> Result<Opened, Fault>
     requires { IsSound system.old }
-    ensures opened { IfOk result IsOpened }
+    ensures opened { IfOk result (λ opened. IsOpened paths.entry opened calls.old.calls calls.new.calls) }
+    ensures unread { OnErr result (OnlyReads calls.old.calls calls.new.calls) }
     ensures sound { OnOk result (IsSound system.new) }
     ensures cause { IfErr result (λ fault. HasCause fault system.new) }
 {
     let alloc = rt.alloc();
-    let table = read_whole(alloc, system, paths.table)?;
-    let store = read_if_there(alloc, system, paths.store)?;
+    let table = read_whole(alloc, system, calls, paths.table)?;
+    let store = read_if_there(alloc, system, calls, paths.store)?;
     opened(alloc, system, table.as_slice(), &store, Purpose::Asking)
 }
 
@@ -85,6 +88,7 @@ fn answer<R: AllocGlobal + Eprint, I: Read, W: Write>(
 pub(crate) fn run_shell<R: Files<File = File> + AllocGlobal + Eprint, I: Read, W: Write>(
     rt: &R,
     system: &mut System<'_, R>,
+    calls: &mut Record,
     input: &mut Counted<I>,
     output: &mut Counted<W>,
     paths: Paths<'_>,
@@ -92,9 +96,9 @@ pub(crate) fn run_shell<R: Files<File = File> + AllocGlobal + Eprint, I: Read, W
     requires sound { IsSound system.old }
     requires input { IsNew input.old }
     requires output { IsNew output.old }
-    ensures { HasShellStatus system.new (I.remaining input.old.inner) (I.remaining input.new.inner) input.new (W.contents output.old.inner) (W.contents output.new.inner) output.new (exit_status result) }
+    ensures { HasShellStatus paths.entry system.new calls.old.calls calls.new.calls (I.remaining input.old.inner) (I.remaining input.new.inner) input.new (W.contents output.old.inner) (W.contents output.new.inner) output.new (exit_status result) }
 {
-    match open_files(rt, system, paths) {
+    match open_files(rt, system, calls, paths) {
         Ok(Opened::Node(node)) => answer(rt, node, input, output),
         Ok(Opened::Refused(text)) => refuse(rt, output, text.as_slice()),
         Err(fault) => failed_on(rt, system, fault),

@@ -1,5 +1,5 @@
 use Rattle.std.proofs.KnownBytes.{Keeps-refl}
-use Rattle.wstore_program.specs.Shelling.{Ran, Refused, Unread}
+use Rattle.wstore_program.specs.Shelling.{NotOpened, Ran, Refused}
 use Rattle.wstore_program.proofs.shelling.run_shell.Goals as goal
 
 pub returns-in-Ok-Node : goal.returns-in-Ok-Node
@@ -9,4 +9,4 @@ pub returns-in-Ok-Refused : goal.returns-in-Ok-Refused
 returns-in-Ok-Refused g c = Refused c.in-Ok-Refused.text (rw c.in-Ok-Refused.field-0-is at c.in-Ok-Refused.ensures.opened) (rw c.as_slice.ensures at c.refuse.ensures)
 
 pub returns-in-Err : goal.returns-in-Err
-returns-in-Err g c = Unread c.in-Err.fault c.in-Err.ensures.cause (Keeps-refl _) c.failed_on.ensures
+returns-in-Err g c = NotOpened c.in-Err.fault c.in-Err.ensures.cause c.in-Err.ensures.unread (Keeps-refl _) c.failed_on.ensures
