@@ -1,17 +1,14 @@
 -- A stream that is fed to a store.
-use Rattle.std.proofs.Common.{◌≡◌, ◌≢◌, ◌∙◌, ◌⊎◌, inl, inr, refl, sym, ap, subst, ℕ, ◌≤◌, true, false, List, [], ◌∷◌, ◌++◌, length, take, append-nil, Option, None, Some, Result, Ok, Err, IfOk, IfErr, IfSome, IfNone, is_some}
+use Rattle.std.proofs.Common.{◌≡◌, ◌≢◌, ◌∙◌, ◌⊎◌, inl, inr, refl, sym, ap, subst, ℕ, ◌≤◌, false, List, [], ◌∷◌, ◌++◌, length, take, append-nil, Option, None, Some, Result, Ok, Err, IfOk, IfErr, IfSome, IfNone, is_some}
 use Rattle.std.specs.Io.KnownBytes.{Consumes, IsAtEnd}
 use Rattle.std.proofs.KnownBytes.{Consumes-trans}
 use Rattle.wsegment.specs.Declaration.{Declaration}
 use Rattle.wsegment.specs.Spelling.{ReadsDeclaration}
 use Rattle.wstore.specs.Nodes.{NodeState}
-use Rattle.wbatch.specs.Batches.{Filled, stream_of}
 use Rattle.wbatch.specs.Streams.{IsUndelivered, Stops}
 use Rattle.wbatch.specs.declared.stop.Stop.{Stop}
 use Rattle.wbatch.specs.declared.stop.Stop.TheVariants as stops
 use Rattle.wcommand.specs.declared.choice.Choice.{Choice}
-use Rattle.wcommand.specs.declared.choice.Choice.TheVariants as choices
-use Rattle.wcommand.specs.Inputs.{is_act}
 use Rattle.wfiles.specs.Call.{Call, Began, Found, read_on}
 use Rattle.wfiles.specs.Reading.{read_more, read_to_end}
 use Rattle.wfiles.specs.declared.fault.Fault.{Fault}
@@ -82,18 +79,6 @@ refused_reads d path old new reason (ByFront front stops is) = record { since = 
 refused_reads d path old new reason (ByAll stream undelivered is) = record { since = Found path (Some stream) ∷ []; is = is; readings = tt }
 
 -- ---- feeding it
-
--- feeding is done in one act
-pub feed_acts : (choice : Choice) → IsFeed choice → is_act choice ≡ true
-feed_acts choices.Session is = absurd is
-feed_acts (choices.Take paths origin number csv) is = refl
-feed_acts (choices.Retire paths origin number) is = refl
-feed_acts (choices.Floor paths origin number) is = refl
-feed_acts (choices.Join paths path) is = refl
-feed_acts (choices.Feed paths path) is = refl
-feed_acts (choices.List paths) is = refl
-feed_acts (choices.Ask paths queries) is = refl
-feed_acts (choices.Shell paths) is = absurd is
 
 -- the declaration of the node that is opened is the table's
 pub declared_by : (d : Declaration) (table : List ℕ) (store : Option (List ℕ)) (node : NodeState) → Opens table store (opens.Node node) → d ≡ node.schema → ReadsDeclaration table (Ok d)
