@@ -1,12 +1,12 @@
 //! Bytes that a user gave, as they are shown on a terminal.
 //!
 //! - Gives texts, values and numbers, and a line of a query with a caret below a place in it, added to a text.
-//! - Promises: it is safe and total. That no control character is shown as it is, and 60 characters of a value at most, is
-//!   tested, and not proved.
+//! - Promises: of a text or a value 60 characters are shown at most, and none that a terminal would obey or hide but by its
+//!   number. How a place in a query is shown is tested, and not proved.
 //! - Asks nothing.
 //! - Leaves what is said of them to `wspots` and `wexplain`.
 //!
-//! Read `src/values.rt`, then `src/places.rt`.
+//! Read `specs/Shown.antt`, `src/values.rt`, then `src/places.rt`.
 #![tactic(auto)]
 
 mod places;
