@@ -107,10 +107,11 @@ fn rows_laid(cells: Vec<Value>, width: usize, count: u32) -> Rows
     }
 }
 
-/// Every row that is left, of which each column's cell stands at its field, or the first fault. One record is filled
-/// over and over.
+/// Every row that is left of a segment of so many bytes, of which each column's cell stands at its field, or the first fault.
+/// One record is filled over and over.
 pub(crate) fn read_rows(
     alloc: Global,
+    bytes: usize,
     reader: &mut Reader<&[u8]>,
     header: &[&Column],
     fields: &[usize],
@@ -124,7 +125,7 @@ pub(crate) fn read_rows(
 {
     let mut cells = Vec::new(alloc);
     let mut found = Vec::new(alloc);
-    let mut texts = Texts::new(alloc)?;
+    let mut texts = Texts::new(alloc, bytes)?;
     let mut row = ByteRecord::new(alloc);
     let mut count = 0;
     while take_record(reader, &mut row)? {

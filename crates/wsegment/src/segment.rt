@@ -61,7 +61,7 @@ fn read_cells(alloc: Global, schema: &Schema, bytes: &[u8]) -> Result<Rows, Segm
     let columns = schema.columns();
     let header = header_columns(alloc, columns, &first)?;
     let fields = column_fields(alloc, columns, &header)?;
-    let rows = read_rows(alloc, &mut reader, &header, &fields)?;
+    let rows = read_rows(alloc, bytes.len(), &mut reader, &header, &fields)?;
     Ok(rows)
 }
 
