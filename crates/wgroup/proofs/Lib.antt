@@ -1,6 +1,7 @@
 mod LeaderFacts
 mod SightFacts
 mod SeenFacts
+mod TableFacts
 mod CoarserFacts
 mod TotalFacts
 mod PartFacts

@@ -1,5 +1,6 @@
 pub mod Grouping
 pub mod Sight
+pub mod Table
 pub mod Held
 pub mod Finer
 pub mod Laws

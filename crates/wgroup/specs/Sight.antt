@@ -1,6 +1,6 @@
 -- Rows by a test of whether two are the same, in the order of first sight, and rows of cells that are the same.
-use Rattle.std.specs.Prelude.{◌≡◌, ℕ, ◌*◌, ◌<◌, ◌≤◌, Bool, true, not, List, map, filter, take, drop, get_or, Option, Some, None}
-use Rattle.std.specs.List.{list_all, list_any, position_or_len}
+use Rattle.std.specs.Prelude.{◌≡◌, ℕ, ◌*◌, ◌<◌, ◌≤◌, Bool, true, not, List, map, filter, take, drop}
+use Rattle.std.specs.List.{list_any, position_or_len}
 use Rattle.std.specs.Cmp.Lexicographic.{pointwise}
 use Rattle.wvalues.specs.declared.value.Value.{Value}
 use Rattle.wvalues.specs.Meaning.{Meaning, meaning}
@@ -45,12 +45,3 @@ same_row width cells i j = same_cells (slice_at width cells i) (slice_at width c
 -- a row's values in the columns of a set, null behind its end
 abbrev pub key_in : SetColumns → Row → List Meaning
 key_in columns row = map (set_value row) columns
-
--- whether two rows have the same values in the columns of a set
-abbrev pub has_same_key : SetColumns → Row → Row → Bool
-has_same_key columns a b = list_all (λ c. same_meaning (set_value a c) (set_value b c)) columns
-
--- the first row of the group of a number; this row, where there is none
-abbrev pub leader_in : List ℕ → Option ℕ → ℕ → ℕ
-leader_in firsts None row = row
-leader_in firsts (Some g) row = get_or firsts g 0

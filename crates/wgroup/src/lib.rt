@@ -5,27 +5,31 @@
 //! - Promises: the groups of a set stand behind those of the sets before it, in the order of their keys, nulls last; rows
 //!   are of one group where they agree on each column of the set, nulls included; the empty set has one group, also where
 //!   there is no row.
-//!   Few groups are found by a table, in which each key is looked for in few slots, so that no keys make it slow; many by
-//!   sorting. Those of a set that is part of an earlier one are made of its groups, where these are few, and what a call answers
-//!   of what it answers for these. The row of a group whose rows are counted and no more is made of their number.
+//!   Groups that are few beside the rows are found by a table. It holds every group that was seen, so a key that is not met
+//!   where it is looked for is new, and no keys make it slow. Others are found by sorting. Those of a set that is part of an
+//!   earlier one are made of its groups, where these are few, and what a call answers of what it answers for these. The row of
+//!   a group whose rows are counted and no more is made of their number.
 //! - Asks: at most 2,147,483,647 rows.
 //! - Leaves aggregates to `waggregate` and expressions to `wplan`.
 //!
-//! Read `specs/Grouping.antt` and `specs/Laws.antt`, then `specs/Sight.antt`, `specs/Held.antt`, `specs/Finer.antt` and
-//! `specs/Counting.antt`.
+//! Read `specs/Grouping.antt` and `specs/Laws.antt`, then `specs/Sight.antt`, `specs/Table.antt`, `specs/Held.antt`,
+//! `specs/Finer.antt` and `specs/Counting.antt`.
 #![tactic(auto)]
 
+mod alike;
 mod columns;
 mod counting;
 mod finer;
 mod found;
 mod grouping;
 mod groups;
+mod keyed;
 mod keys;
 mod laws;
 mod leaders;
 mod seen;
 mod sight;
+mod table;
 mod told;
 
 pub use counting::{counted_row, counts_rows};

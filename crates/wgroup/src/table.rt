@@ -1,0 +1,150 @@
+//! The groups of rows in a table of slots.
+//!
+//! A group stands in one of few slots, from that of its key's hash on, or where all of these are taken, among the groups that
+//! stand apart. So a row whose key is met in none of its slots, nor apart, is the first of its group, whatever hashes are.
+ghost use Rattle.std.specs.Prelude.{◌≡◌, ◌≤◌, ◌<◌, ◌+◌, ◌*◌, ◌^◌, length, nat_le, ◌++◌, ◌∷◌, [], true, false, IfOk, IfSome, OnOk};
+ghost use Rattle.std.specs.List.{list_any, position, position_or_len};
+ghost use Rattle.std.specs.Option.{IfNone};
+ghost use Rattle.wgroup.specs.Sight.{first_of};
+ghost use Rattle.wgroup.specs.declared.keyed.Keyed.{Keyed};
+ghost use Rattle.wgroup.specs.Table.{HasKeys, Holds, alike, is_of_group, key_hash, looked_at, slot_of};
+
+use crate::alike::{has_key, key_hash};
+use crate::keyed::Keyed;
+use crate::keys::{cells_at, push_key};
+use std::alloc::{AllocError, Global};
+use wrows::slice_of;
+use wvalues::Value;
+
+/// In how many slots a key is looked for.
+const MOST_PROBES: usize = 8;
+
+/// What a slot holds in which no group stands.
+const EMPTY: u32 = u32::MAX;
+
+/// The groups of the rows that were seen.
+#[derive(Drop)]
+pub(crate) struct Table {
+    /// The first row of each group, in the order of first sight.
+    pub(crate) firsts: Vec<usize>,
+    /// The key of each group, one behind the other, which lie closer together than the first rows do.
+    pub(crate) keys: Vec<Value>,
+    /// The numbers of groups. There are slots behind the last one of a hash, for the keys that are looked for from there on.
+    pub(crate) slots: Vec<u32>,
+    /// The numbers of the groups that found their slots taken.
+    pub(crate) apart: Vec<u32>,
+    /// With how many groups that stand apart rows were compared.
+    pub(crate) looks: usize,
+}
+
+/// A table without groups, with so many slots for hashes, a power of two.
+pub(crate) fn empty_table(alloc: Global, slots: usize) -> Result<Table, AllocError>
+    requires some { 1 ≤ slots }
+    requires few { slots < 2 ^ 32 }
+    ensures { (keyed : Keyed) → IfOk result (Holds keyed 0) }
+{
+    Ok(Table {
+        firsts: Vec::new(alloc),
+        keys: Vec::new(alloc),
+        slots: vec![in alloc; EMPTY; slots + (MOST_PROBES - 1)]?,
+        apart: Vec::new(alloc),
+        looks: 0,
+    })
+}
+
+// The slot from which on a key of this hash is looked for.
+fn slot_of(slots: &[u32], hash: u64) -> usize
+    requires { 8 ≤ length slots.now }
+    ensures slot { result ≡ slot_of slots.now hash }
+    ensures within { result + 8 ≤ length slots.now }
+{
+    hash as usize & (slots.len() - MOST_PROBES)
+}
+
+// Whether a group has this number, and a row is of that group.
+fn is_of_group(keyed: &Keyed, table: &Table, number: usize, row: usize) -> bool
+    requires { HasKeys keyed.now table.now.firsts.items table.now.keys.items }
+    ensures { result ≡ is_of_group keyed.now table.now.firsts.items row number }
+{
+    if number >= table.firsts.len() {
+        return false;
+    }
+    let key = slice_of(&table.keys, keyed.columns.len(), number);
+    has_key(keyed, row, key)
+}
+
+// The group of a row, if its number is among these.
+fn group_among(keyed: &Keyed, table: &Table, numbers: &[u32], row: usize) -> Option<usize>
+    requires { HasKeys keyed.now table.now.firsts.items table.now.keys.items }
+    ensures some { IfSome result (λ number. is_of_group keyed.now table.now.firsts.items row number ≡ true) }
+    ensures none { IfNone result (list_any (is_of_group keyed.now table.now.firsts.items row) numbers.now ≡ false) }
+{
+    for number in numbers {
+        let number = *number as usize;
+        if is_of_group(keyed, table, number, row) {
+            return Some(number);
+        }
+    }
+    None
+}
+
+// The first of some slots in which no group stands, where there are so many groups.
+fn free_slot(slots: &[u32], groups: usize) -> Option<usize>
+    ensures { result ≡ position (nat_le groups) slots.now }
+{
+    slots.iter().position(|number| *number as usize >= groups)
+}
+
+impl Table {
+    // The group of a row, of whose key this is the first slot, if it is of one that was seen. What else changes is the count
+    // of looks.
+    fn group_seen(&mut self, keyed: &Keyed, first: usize, row: usize) -> Option<usize>
+        requires keys { HasKeys keyed.now self.old.firsts.items self.old.keys.items }
+        requires first { first + 8 ≤ length self.old.slots.items }
+        ensures some { IfSome result (λ number. is_of_group keyed.now self.old.firsts.items row number ≡ true) }
+        ensures none { IfNone result (list_any (is_of_group keyed.now self.old.firsts.items row) (looked_at self.old.slots.items self.old.apart.items first) ≡ false) }
+        ensures same { self.new ≡ record self.old { looks = self.new.looks } }
+    {
+        let slots = &self.slots[first..first + MOST_PROBES];
+        let near = group_among(keyed, self, slots, row);
+        if near.is_some() {
+            return near;
+        }
+        self.looks = self.looks.saturating_add(self.apart.len());
+        group_among(keyed, self, &self.apart, row)
+    }
+
+    // Adds the group that begins with a row, of whose key this is the first slot.
+    fn add(&mut self, keyed: &Keyed, first: usize, row: usize) -> Result<usize, AllocError>
+        requires held { Holds keyed.now row self.old }
+        requires new { list_any (alike keyed.now row) self.old.firsts.items ≡ false }
+        requires first { first ≡ slot_of self.old.slots.items (key_hash keyed.now row) }
+        requires within { first + 8 ≤ length self.old.slots.items }
+        requires few { length self.old.firsts.items < 2 ^ 32 }
+        ensures held { OnOk result (Holds keyed.now (row + 1) self.new) }
+        ensures number { IfOk result (λ number. number ≡ length self.old.firsts.items) }
+    {
+        let number = self.firsts.len();
+        match free_slot(&self.slots[first..first + MOST_PROBES], number) {
+            Some(step) => self.slots[first + step] = number as u32,
+            None => self.apart.push(number as u32)?,
+        }
+        push_key(keyed.columns, cells_at(keyed.rows, row), &mut self.keys)?;
+        self.firsts.push(row)?;
+        Ok(number)
+    }
+
+    /// The number of a row's group, which is added where no earlier row is of it.
+    pub(crate) fn number_of(&mut self, keyed: &Keyed, row: usize) -> Result<usize, AllocError>
+        requires held { Holds keyed.now row self.old }
+        requires few { length self.old.firsts.items < 2 ^ 32 }
+        ensures held { OnOk result (Holds keyed.now (row + 1) self.new) }
+        ensures number { IfOk result (λ number. number ≡ position_or_len (alike keyed.now row) (first_of (alike keyed.now) (row + 1))) }
+    {
+        let first = slot_of(&self.slots, key_hash(keyed, row));
+        match self.group_seen(keyed, first, row) {
+            Some(number) => Ok(number),
+            None => self.add(keyed, first, row),
+        }
+    }
+}
