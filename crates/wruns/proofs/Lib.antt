@@ -8,3 +8,4 @@ mod GroupFacts
 mod BlockFacts
 mod HeadFacts
 mod OrderingFacts
+pub mod DealingFacts

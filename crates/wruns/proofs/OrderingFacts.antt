@@ -23,7 +23,7 @@ use Rattle.wsort.proofs.MoreSorting.{sorted_map, sorted_same}
 use Rattle.wruns.proofs.OneList.{sorted_then, Rises}
 use Rattle.wruns.proofs.RefFacts.{later}
 
-at_front : {X : Type 0} (front xs : List X) (k : ℕ) (d : X) → get_or (front ++ xs) (length front + k) d ≡ get_or xs k d
+pub at_front : {X : Type 0} (front xs : List X) (k : ℕ) (d : X) → get_or (front ++ xs) (length front + k) d ≡ get_or xs k d
 at_front [] xs k d = ap (λ i. get_or xs i d) (omega arith)
 at_front (f ∷ front) xs k d =
     let e : length (f ∷ front) + k ≡ suc (length front + k) = omega arith in
@@ -36,7 +36,7 @@ take_front : {X : Type 0} (front xs : List X) → take (length front) (front ++ 
 take_front [] xs = refl
 take_front (f ∷ front) xs = ap (λ l. f ∷ l) (take_front front xs)
 
-within : {X : Type 0} (xs ys : List X) (k : ℕ) (d : X) → k < length xs → get_or (xs ++ ys) k d ≡ get_or xs k d
+pub within : {X : Type 0} (xs ys : List X) (k : ℕ) (d : X) → k < length xs → get_or (xs ++ ys) k d ≡ get_or xs k d
 within [] ys k d lt = absurd (omega (arith, lt))
 within (x ∷ xs) ys zero d lt = refl
 within (x ∷ xs) ys (suc k) d lt = within xs ys k d (omega (arith, lt))
@@ -49,11 +49,11 @@ joined-append : {X : Type 0} (a b : List (List X)) → joined (a ++ b) ≡ joine
 joined-append [] b = refl
 joined-append (x ∷ a) b = ap (λ l. x ++ l) (joined-append a b) ∙ sym (append_assoc x (joined a) (joined b))
 
-all_joined : {X : Type 0} (P : X → Type 0) (xs ys : List X) → AllByRecursion P xs → AllByRecursion P ys → AllByRecursion P (xs ++ ys)
+pub all_joined : {X : Type 0} (P : X → Type 0) (xs ys : List X) → AllByRecursion P xs → AllByRecursion P ys → AllByRecursion P (xs ++ ys)
 all_joined P [] ys h k = k
 all_joined P (x ∷ xs) ys h k = (h.0, all_joined P xs ys h.1 k)
 
-map-seen : {X Y Z : Type 0} (f : X → Y) (g : Y → Z) (xs : List X) → map g (map f xs) ≡ map (λ x. g (f x)) xs
+pub map-seen : {X Y Z : Type 0} (f : X → Y) (g : Y → Z) (xs : List X) → map g (map f xs) ≡ map (λ x. g (f x)) xs
 map-seen f g [] = refl
 map-seen f g (x ∷ xs) = ap (λ l. g (f x) ∷ l) (map-seen f g xs)
 
@@ -63,7 +63,7 @@ moved_places l a (suc n) =
     let e : l + (a + 1) ≡ l + a + 1 = omega arith in
     ap (λ p. (l + a) ∷ p) (moved_places l (a + 1) n ∙ ap (λ k. places_from k n) e)
 
-joined_places : (a n m : ℕ) → places_from a n ++ places_from (a + n) m ≡ places_from a (n + m)
+pub joined_places : (a n m : ℕ) → places_from a n ++ places_from (a + n) m ≡ places_from a (n + m)
 joined_places a zero m = let e : a + 0 ≡ a = omega arith in let f : m ≡ 0 + m = omega arith in ap (λ k. places_from k m) e ∙ ap (places_from a) f
 joined_places a (suc n) m =
     let e : a + suc n ≡ a + 1 + n = omega arith in
@@ -71,7 +71,7 @@ joined_places a (suc n) m =
     ap (λ k. a ∷ places_from (a + 1) n ++ places_from k m) e ∙ ap (λ l. a ∷ l) (joined_places (a + 1) n m) ∙ ap (places_from a) f
 
 -- the numbers of all rows are the places of the table
-numbers : (front segs : List (List (List Meaning))) → map (number_of (front ++ segs)) (joined (pieces_from (length front) segs)) ≡ places_from (length (joined front)) (length (joined segs))
+pub numbers : (front segs : List (List (List Meaning))) → map (number_of (front ++ segs)) (joined (pieces_from (length front) segs)) ≡ places_from (length (joined front)) (length (joined segs))
 numbers front [] = refl
 numbers front (rows ∷ more) =
     let s = front ++ rows ∷ more in
@@ -132,7 +132,7 @@ rises_all i [] = tt
 rises_all i (rows ∷ more) = rises_piece i 0 (length rows) (joined (pieces_from (i + 1) more)) (rises_all (i + 1) more) (λ b. below_all i b (i + 1) more (omega arith))
 
 -- the numbers of the one list are the run of the whole table
-numbers_in_order : (keys : List SortKey) (s : List (List (List Meaning))) → map (number_of s) (refs_by keys s) ≡ run_of keys (joined s)
+pub numbers_in_order : (keys : List SortKey) (s : List (List (List Meaning))) → map (number_of s) (refs_by keys s) ≡ run_of keys (joined s)
 numbers_in_order keys s =
     let byrefs = on (ref_keys keys s) (keys_cmp keys) in
     let bynumbers = on (keys_at keys (joined s)) (keys_cmp keys) in
@@ -232,7 +232,7 @@ split_keys (k ∷ front) keys x y =
     let o = key_cmp k (get_or x k.col Null) (get_or y k.col Null) in
     ap (ordering_then o) (split_keys front keys x y) ∙ sym (both_then o (keys_cmp front (row_keys front x) (row_keys front y)) (keys_cmp keys (row_keys keys x) (row_keys keys y)))
 
-mapped_at : {X Y : Type 0} (f : X → Y) (xs : List X) (i : ℕ) (d : X) (e : Y) → i < length xs → get_or (map f xs) i e ≡ f (get_or xs i d)
+pub mapped_at : {X Y : Type 0} (f : X → Y) (xs : List X) (i : ℕ) (d : X) (e : Y) → i < length xs → get_or (map f xs) i e ≡ f (get_or xs i d)
 mapped_at f [] i d e lt = absurd (omega (arith, lt))
 mapped_at f (x ∷ xs) zero d e lt = refl
 mapped_at f (x ∷ xs) (suc i) d e lt = mapped_at f xs i d e (omega (arith, lt))

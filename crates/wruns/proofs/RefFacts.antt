@@ -60,7 +60,7 @@ rising i a zero = tt
 rising i a (suc n) = (later i a n (a + 1) (omega arith), rising i (a + 1) n)
 
 -- a run's references are the segment's references in order
-run_in_order : (keys : List SortKey) (segments : List (List (List Meaning))) (i : ℕ) (rows : List (List Meaning)) (found : List ℕ) → rows_at segments i ≡ rows → found ≡ run_of keys rows
+pub run_in_order : (keys : List SortKey) (segments : List (List (List Meaning))) (i : ℕ) (rows : List (List Meaning)) (found : List ℕ) → rows_at segments i ≡ rows → found ≡ run_of keys rows
     → map (ref i) found ≡ sorted (ref_cmp keys segments) (map (ref i) (places (length rows)))
 run_in_order keys segments i rows found at is =
     let of : ℕ → List Meaning = λ row. keys_at keys (rows_at segments i) row in

@@ -1,5 +1,5 @@
 -- Rows in order, as groups that have ended and one that has not, and codes that tell which rows share their keys.
-use Rattle.std.specs.Prelude.{◌≡◌, ◌<◌, ◌≤◌, ℕ, List, All, Vec, length, slice_index_or}
+use Rattle.std.specs.Prelude.{◌≡◌, ◌+◌, ◌<◌, ◌≤◌, ℕ, List, All, Vec, length, slice_index_or}
 use Rattle.std.specs.Global.{Global}
 use Rattle.wvalues.specs.declared.key.SortKey.{SortKey}
 use Rattle.wvalues.specs.Meaning.{Meaning}
@@ -21,3 +21,7 @@ HaveOneCode a b = All (λ codes. code_at codes.items a ≡ code_at codes.items b
 -- rows of which each list has one code share their keys
 abbrev pub TellShared : List SortKey → List (List Meaning) → List (Vec ℕ Global) → Type 0
 TellShared keys rows codes = (a b : ℕ) → a < length rows → b < length rows → HaveOneCode a b codes → keys_at keys rows a ≡ keys_at keys rows b
+
+-- the same where the first of the rows has this number, and the next ones the next
+abbrev pub TellSharedFrom : ℕ → List SortKey → List (List Meaning) → List (Vec ℕ Global) → Type 0
+TellSharedFrom start keys rows codes = (a b : ℕ) → a < length rows → b < length rows → HaveOneCode (start + a) (start + b) codes → keys_at keys rows a ≡ keys_at keys rows b

@@ -9,3 +9,4 @@ pub mod Heads
 pub mod KeptRuns
 pub mod KeptInside
 pub mod Orderings
+pub mod Dealing

@@ -141,6 +141,22 @@ impl KeptRuns {
         keep(self.alloc, &mut self.runs, shared)
     }
 
+    /// Keeps a run of the segment that was made elsewhere, if none of its keys is kept. Of five runs the one that was made first is
+    /// let go. After want of memory all is as it was.
+    pub fn keep_run(&mut self, run: Rc<Run>) -> Result<(), AllocError>
+        requires { IsRunOf self.old.content.rows run.value }
+        ensures content { self.new.content ≡ self.old.content }
+        ensures kept { IsAmong self.old.orders run.value.keys → self.new.orders ≡ self.old.orders }
+        ensures made { (IsAmong self.old.orders run.value.keys → ⊥) → OnOk result (self.new.orders ≡ keep_last 4 (self.old.orders ++ run.value.keys ∷ [])) }
+        ensures has { OnOk result (IsAmong self.new.orders run.value.keys) }
+        ensures err { OnErr result (self.new ≡ self.old) }
+    {
+        if self.find(run.as_ref().keys()).is_some() {
+            return Ok(());
+        }
+        keep(self.alloc, &mut self.runs, run)
+    }
+
     /// The segment with the run of these keys, if it is kept.
     pub fn source(&self, keys: &[SortKey]) -> Option<SegmentRun<'_>>
         ensures found { IsTrue (is_some result) ↔ IsAmong self.now.orders keys.now }

@@ -3,7 +3,7 @@ ghost use Rattle.std.specs.Prelude.{◌≡◌, ◌<◌, ◌≤◌, ◌^◌, ◌+
 ghost use Rattle.wvalues.specs.Meaning.{meaning, Null};
 ghost use Rattle.wruns.specs.Cuts.{between, cut, pieces_of, start_of, AreEnds, AreEndsOf};
 ghost use Rattle.wsort.specs.CodedRows.{code_at};
-ghost use Rattle.wruns.specs.Grouping.{AreGrouped, HaveOneCode, TellShared};
+ghost use Rattle.wruns.specs.Grouping.{AreGrouped, HaveOneCode, TellSharedFrom};
 ghost use Rattle.wruns.specs.Runs.{joined, keys_at, run_of, IsGroup, IsRunOf};
 
 use crate::cells::cell_at;
@@ -145,23 +145,26 @@ fn narrowed(alloc: Global, order: &[usize]) -> Result<Vec<u32>, AllocError>
     Ok(rows)
 }
 
-// The code of a row, 0 where it has none.
-fn code_of(codes: &[u32], row: u32) -> u32
-    ensures { result ≡ code_at codes.now row }
+// The code of a number, 0 where it has none.
+fn code_of(codes: &[u32], number: usize) -> u32
+    ensures { result ≡ code_at codes.now number }
 {
-    let row = row as usize;
-    if row < codes.len() { codes[row] } else { 0 }
+    if number < codes.len() {
+        codes[number]
+    } else {
+        0
+    }
 }
 
-// Whether two rows have one code.
-fn have_one_code(codes: &[u32], a: u32, b: u32) -> bool
+// Whether two numbers have one code.
+fn have_one_code(codes: &[u32], a: usize, b: usize) -> bool
     ensures { result ≡ true → code_at codes.now a ≡ code_at codes.now b }
 {
     code_of(codes, a) == code_of(codes, b)
 }
 
-// Whether two rows have one code in each list.
-fn share_codes(codes: &[Vec<u32>], a: u32, b: u32) -> bool
+// Whether two numbers have one code in each list.
+fn share_codes(codes: &[Vec<u32>], a: usize, b: usize) -> bool
     ensures { result ≡ true → HaveOneCode a b codes.now }
 {
     for list in codes {
@@ -172,13 +175,16 @@ fn share_codes(codes: &[Vec<u32>], a: u32, b: u32) -> bool
     true
 }
 
-// A segment's rows beside codes: those of which each list has one code share their keys.
+/// A segment's rows beside codes by number, where the first row of the segment has this one: rows of which each list has one code
+/// share their keys.
 #[derive(Clone, Copy)]
-struct KeyedRows<'a> {
-    segment: &'a Segment,
-    keys: &'a [SortKey],
-    codes: &'a [Vec<u32>],
-    ghost shared: { TellShared keys.now segment.now.rows codes.now },
+pub(crate) struct KeyedRows<'a> {
+    pub(crate) segment: &'a Segment,
+    pub(crate) keys: &'a [SortKey],
+    pub(crate) codes: &'a [Vec<u32>],
+    pub(crate) start: usize,
+    ghost shared: { TellSharedFrom start keys.now segment.now.rows codes.now },
+    ghost few: { start + length segment.now.rows < 2 ^ 32 },
 }
 
 // Whether two rows share their keys.
@@ -186,10 +192,12 @@ fn share_keys(table: &KeyedRows, a: u32, b: u32) -> bool
     ensures { result ≡ true → keys_at table.now.keys.now table.now.segment.now.rows a ≡ keys_at table.now.keys.now table.now.segment.now.rows b }
 {
     let count = table.segment.rows();
-    if a as usize >= count || b as usize >= count {
+    let a = a as usize;
+    let b = b as usize;
+    if a >= count || b >= count {
         return false;
     }
-    share_codes(table.codes, a, b)
+    share_codes(table.codes, table.start + a, table.start + b)
 }
 
 // Adds the row at a place to the group that begins with the first one, or ends that and begins another. It gives the place
@@ -238,26 +246,19 @@ fn group_ends(
     Ok(Some(ends))
 }
 
-// The places of a segment's rows by keys, and then by place, and where groups of them end, if these have two rows or more on the
-// average.
-fn grouped_places(
+/// The run of a segment of which these are the places in order.
+pub(crate) fn grouped_run(
     alloc: Global,
-    table: &SegmentRows,
-    keys: &[SortKey],
-) -> Result<(Vec<u32>, Option<Vec<u32>>), AllocError>
-    ensures rows { IfOk result (λ told. told.0.items ≡ run_of keys.now table.now.segment.now.rows) }
-    ensures ends { IfOk result (λ told. AreEndsOf told.1 told.0.items) }
-    ensures groups { IfOk result (λ told. All (IsGroup keys.now table.now.segment.now.rows) (pieces_of told.1 told.0.items)) }
+    table: &KeyedRows,
+    rows: Vec<u32>,
+) -> Result<Run, AllocError>
+    requires { rows.items ≡ run_of table.now.keys.now table.now.segment.now.rows }
+    ensures keys { IfOk result (λ run. run.keys ≡ table.now.keys.now) }
+    ensures run { IfOk result (IsRunOf table.now.segment.now.rows) }
 {
-    let order = coded_order_of(alloc, table, keys)?;
-    let rows = narrowed(alloc, &order.numbers)?;
-    let keyed = KeyedRows {
-        segment: table.segment,
-        keys,
-        codes: &order.codes,
-    };
-    let ends = group_ends(alloc, &keyed, &rows)?;
-    Ok((rows, ends))
+    let ends = group_ends(alloc, table, &rows)?;
+    let keys = Vec::from_slice(alloc, table.keys)?;
+    Ok(Run { keys, rows, ends })
 }
 
 /// The run of a segment by keys. A column that the rows do not have counts as null, and without keys the rows stand by place.
@@ -270,7 +271,14 @@ pub fn sort_run(alloc: Global, segment: &Segment, keys: &[SortKey]) -> Result<Ru
         segment,
         null: &Value::Null,
     };
-    let (rows, ends) = grouped_places(alloc, &table, keys)?;
-    let keys = Vec::from_slice(alloc, keys)?;
-    Ok(Run { keys, rows, ends })
+    let order = coded_order_of(alloc, &table, keys)?;
+    let rows = narrowed(alloc, &order.numbers)?;
+    let keyed = KeyedRows {
+        segment,
+        keys,
+        codes: &order.codes,
+        start: 0,
+    };
+    let run = grouped_run(alloc, &keyed, rows)?;
+    Ok(run)
 }

@@ -18,4 +18,5 @@ mod Origins
 mod KeptSets
 mod RunFacts
 mod KeptOrderFacts
+mod DealtFacts
 mod LiveFacts

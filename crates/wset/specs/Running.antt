@@ -1,11 +1,15 @@
 -- The segments of live names with their runs.
-use Rattle.std.specs.Prelude.{◌≡◌, ◌<◌, ◌≤◌, ⊤, ℕ, suc, List, get_or, length, map, take, Option, None, Some}
+use Rattle.std.specs.Prelude.{◌≡◌, ◌<◌, ◌≤◌, ⊤, ℕ, suc, List, [], ◌∷◌, get_or, length, map, take, Option, None, Some}
 use Rattle.std.specs.List.{IsAmong, filter_map}
 use Rattle.wvalues.specs.declared.key.SortKey.{SortKey}
 use Rattle.wvalues.specs.Names.{NameParts}
 use Rattle.wvalues.specs.Meaning.{Meaning}
 use Rattle.wsegment.specs.Rows.{Content}
+use Rattle.std.specs.Global.{Global}
+use Rattle.std.specs.declared.rc.Rc.{Rc}
+use Rattle.wruns.specs.Dealing.{IsRunBy}
 use Rattle.wruns.specs.KeptRuns.{KeptParts}
+use Rattle.wruns.specs.Runs.{RunParts}
 use Rattle.wset.specs.Views.{lives}
 use Rattle.wset.specs.Tables.{content_rows}
 use Rattle.wset.specs.Sets.{DeclaredView}
@@ -70,3 +74,16 @@ HeldHasRun keys (held.Live kept) = IsAmong kept.orders keys
 HeldHasRun keys held.Disputed = ⊤
 HeldHasRun keys held.Retired = ⊤
 HeldHasRun keys held.Floor = ⊤
+
+-- the rows of a segment that is held
+abbrev pub rows_held : Held → List (List (List Meaning))
+rows_held (held.Live kept) = kept.content.rows ∷ []
+rows_held held.Disputed = []
+rows_held held.Retired = []
+rows_held held.Floor = []
+
+-- the first of some runs are those by keys of segments that have these rows, one for each, in their order
+abbrev pub BeginWithRuns : List SortKey → List (List (List Meaning)) → List (Rc RunParts Global) → Type 0
+BeginWithRuns keys [] runs = ⊤
+BeginWithRuns keys (rows ∷ more) [] = ⊥
+BeginWithRuns keys (rows ∷ more) (run ∷ runs) = IsRunBy keys rows run.value × BeginWithRuns keys more runs

@@ -5,22 +5,25 @@ ghost use Rattle.std.specs.List.{filter_map, list_all, list_any};
 ghost use Rattle.std.specs.FinMap.{find, put};
 ghost use Rattle.wsegment.specs.Declaration.{Declaration};
 ghost use Rattle.wvalues.specs.Names.{name_cmp};
+ghost use Rattle.wruns.specs.Dealing.{AreRunsOf};
 ghost use Rattle.wset.specs.Views.{Known as TheKnown, Floor, first_of as first_number, floor_number, is_above, is_over};
 ghost use Rattle.wset.specs.Holding.{IsHeldBy, known_of};
 ghost use Rattle.wset.specs.Lending.{AreBelow, AreOriginsBelow};
 ghost use Rattle.wset.specs.Entries.{AllHeldBy, AreSettled, IsRising, above_floor, first_from, known_entries, listing_of};
-ghost use Rattle.wset.specs.Running.{HeldHasRun, kept_in, plain_block};
+ghost use Rattle.wset.specs.Running.{BeginWithRuns, HeldHasRun, kept_in, plain_block, rows_in};
 ghost use Rattle.wset.specs.Blocks.{AreBehind, AreFilled, HasRoom, IsGrown, IsHome, IsOriginHome, first_of, flat, half, halved, longest, trimmed};
 ghost use Rattle.wset.specs.declared.entries.Entry.{Entry as HeldEntry};
 
 use crate::entries::{
-    Entry, drop_under, first_from, floor_of, held_of, is_above, list_entries, live_count,
-    make_cells, make_runs, put_entry, share_entries,
+    Entry, drop_under, first_from, floor_of, held_of, is_above, keep_runs, list_entries,
+    live_count, make_cells, make_runs, put_entry, share_entries,
 };
 use crate::held::Held;
 use crate::words::Listed;
 use std::alloc::{AllocError, Global};
 use std::marker::Model;
+use std::rc::Rc;
+use wruns::Run;
 use wvalues::{Name, SortKey};
 
 /// The most entries of a block.
@@ -130,6 +133,22 @@ impl Block {
     {
         make_runs(alloc, &mut self.entries, keys)?;
         Ok(())
+    }
+
+    /// Keeps the first of some runs by these keys, one for each segment, and gives those that are left.
+    fn keep_runs<'a>(
+        &mut self,
+        alloc: Global,
+        keys: &[SortKey],
+        runs: &'a [Rc<Run>],
+    ) -> Result<&'a [Rc<Run>], AllocError>
+        requires { BeginWithRuns keys.now (rows_in self.old) runs.now }
+        ensures plain { plain_block self.new ≡ plain_block self.old }
+        ensures has { OnOk result (All (λ e. HeldHasRun keys.now e.held) self.new) }
+        ensures left { IfOk result (λ left. left.now ≡ drop (length (rows_in self.old)) runs.now) }
+    {
+        let left = keep_runs(alloc, &mut self.entries, keys, runs)?;
+        Ok(left)
     }
 
     /// Makes the cells of each segment that has none.
@@ -563,6 +582,24 @@ pub(crate) fn make_in(
 {
     for i in 0..blocks.len() {
         blocks[i].make_runs(alloc, keys)?;
+    }
+    Ok(())
+}
+
+/// Keeps runs by these keys, one for each segment.
+pub(crate) fn keep_in(
+    alloc: Global,
+    blocks: &mut Vec<Block>,
+    keys: &[SortKey],
+    runs: &[Rc<Run>],
+) -> Result<(), AllocError>
+    requires { AreRunsOf keys.now (rows_in (flat blocks.old.items)) runs.now }
+    ensures plain { map plain_block blocks.new.items ≡ map plain_block blocks.old.items }
+    ensures has { OnOk result (All (All (λ e. HeldHasRun keys.now e.held)) blocks.new.items) }
+{
+    let mut left = runs;
+    for i in 0..blocks.len() {
+        left = blocks[i].keep_runs(alloc, keys, left)?;
     }
     Ok(())
 }

@@ -1,5 +1,5 @@
 //! Entries in the order of their names.
-ghost use Rattle.std.specs.Prelude.{All, Some, [], ◌∷◌, slice_get, not, true, false, ◌≢◌, ◌≡◌, ◌<◌, ◌≤◌, ◌++◌, length, map, option_map, IfSome, IfOk, IfErr, OnOk, OnErr};
+ghost use Rattle.std.specs.Prelude.{All, Some, [], ◌∷◌, slice_get, not, true, false, ◌≢◌, ◌≡◌, ◌<◌, ◌≤◌, ◌++◌, drop, length, map, option_map, IfSome, IfOk, IfErr, OnOk, OnErr};
 ghost use Rattle.std.specs.List.{filter, filter_map, insert};
 ghost use Rattle.std.specs.Option.{option_copied};
 ghost use Rattle.std.specs.Ordering.{is_lt};
@@ -8,13 +8,15 @@ ghost use Rattle.wsegment.specs.Declaration.{Declaration};
 ghost use Rattle.wvalues.specs.Names.{name_cmp};
 ghost use Rattle.wset.specs.Views.{Known as TheKnown, Floor, first_of as first_number, floor_number, is_above, is_over, join_known};
 ghost use Rattle.wset.specs.Holding.{IsHeldBy, known_of};
-ghost use Rattle.wset.specs.Running.{HeldHasRun, kept_in, plain_block};
+ghost use Rattle.wset.specs.Running.{BeginWithRuns, HeldHasRun, kept_in, plain_block, rows_in};
 ghost use Rattle.wset.specs.Entries.{AllHeldBy, IsGap, IsPlace, IsRising, above_floor, first_from, known_entries, known_entry, listing_of};
 
 use crate::held::Held;
 use crate::kept::Kept;
 use crate::words::Listed;
 use std::alloc::{AllocError, Global};
+use std::rc::Rc;
+use wruns::Run;
 use wvalues::{Name, SortKey};
 
 /// Whether a floor is above a name: of its origin, with a greater number.
@@ -220,6 +222,26 @@ pub(crate) fn make_runs(
         entry.held.make(alloc, keys)?;
     }
     Ok(())
+}
+
+/// Keeps the first of some runs by these keys, one for each segment, and gives those that are left.
+pub(crate) fn keep_runs<'a>(
+    alloc: Global,
+    entries: &mut Vec<Entry>,
+    keys: &[SortKey],
+    runs: &'a [Rc<Run>],
+) -> Result<&'a [Rc<Run>], AllocError>
+    requires { BeginWithRuns keys.now (rows_in entries.old.items) runs.now }
+    ensures plain { plain_block entries.new.items ≡ plain_block entries.old.items }
+    ensures has { OnOk result (All (λ e. HeldHasRun keys.now e.held) entries.new.items) }
+    ensures left { IfOk result (λ left. left.now ≡ drop (length (rows_in entries.old.items)) runs.now) }
+{
+    let mut left = runs;
+    for i in 0..entries.len() {
+        let entry = &mut entries[i];
+        left = entry.held.keep_run(alloc, keys, left)?;
+    }
+    Ok(left)
 }
 
 /// Makes the cells of each segment that has none.

@@ -1,6 +1,6 @@
 //! What a set holds of a name.
-ghost use Rattle.std.specs.Prelude.{◌≡◌, false, IfOk, OnOk};
-ghost use Rattle.wset.specs.Running.{HeldHasRun, plain_held};
+ghost use Rattle.std.specs.Prelude.{◌≡◌, false, drop, length, IfOk, OnOk};
+ghost use Rattle.wset.specs.Running.{BeginWithRuns, HeldHasRun, plain_held, rows_held};
 ghost use Rattle.wset.specs.Views.{Live, join_known};
 ghost use Rattle.wset.specs.Sets.{IsReadBy};
 ghost use Rattle.wset.specs.Words.{status_of_known};
@@ -12,6 +12,8 @@ use crate::kept::Kept;
 use crate::known::Known;
 use crate::words::Status;
 use std::alloc::{AllocError, Global};
+use std::rc::Rc;
+use wruns::Run;
 use wvalues::SortKey;
 
 /// What is held of a name that is not unknown. The bytes of disputed and retired names are dropped.
@@ -91,6 +93,27 @@ impl Held {
         match self {
             Held::Live(kept) => kept.make(alloc, keys),
             Held::Disputed | Held::Retired | Held::Floor => Ok(()),
+        }
+    }
+
+    /// Keeps the first of some runs by these keys, if there is a segment, and gives those that are left.
+    pub(crate) fn keep_run<'a>(
+        &mut self,
+        alloc: Global,
+        keys: &[SortKey],
+        runs: &'a [Rc<Run>],
+    ) -> Result<&'a [Rc<Run>], AllocError>
+        requires { BeginWithRuns keys.now (rows_held self.old) runs.now }
+        ensures plain { plain_held self.new ≡ plain_held self.old }
+        ensures has { OnOk result (HeldHasRun keys.now self.new) }
+        ensures left { IfOk result (λ left. left.now ≡ drop (length (rows_held self.old)) runs.now) }
+    {
+        match self {
+            Held::Live(kept) => {
+                kept.keep_run(alloc, keys, &runs[0])?;
+                Ok(&runs[1..])
+            }
+            Held::Disputed | Held::Retired | Held::Floor => Ok(runs),
         }
     }
 

@@ -2,13 +2,15 @@
 ghost use Rattle.std.specs.Prelude.{◌≡◌, ◌↔◌, ◌≤◌, ◌++◌, ◌∷◌, [], IfOk, IfSome, IsTrue, OnErr, OnOk, is_some, length};
 ghost use Rattle.std.specs.List.{IsAmong};
 ghost use Rattle.circular_buffer.specs.Buffer.{keep_last};
+ghost use Rattle.wruns.specs.Dealing.{IsRunBy};
+ghost use Rattle.wruns.specs.Runs.{IsRunOf};
 ghost use Rattle.wset.specs.Cells.{parts_of};
 
 use crate::cells::Cells;
 use std::alloc::{AllocError, Global};
 use std::marker::Model;
 use std::rc::Rc;
-use wruns::{KeptRuns, SegmentRun};
+use wruns::{KeptRuns, Run, SegmentRun};
 use wsegment::{Judged, Segment};
 use wvalues::SortKey;
 
@@ -136,6 +138,43 @@ impl Kept {
             return Ok(());
         }
         *self = self.with_run(alloc, keys)?;
+        Ok(())
+    }
+
+    /// The same segment with this run besides.
+    fn with(&self, alloc: Global, run: &Rc<Run>) -> Result<Kept, AllocError>
+        requires { IsRunOf self.now.content.rows run.now.value }
+        ensures content { IfOk result (λ kept. kept.content ≡ self.now.content) }
+        ensures has { IfOk result (λ kept. IsAmong kept.orders run.now.value.keys) }
+        ensures made { (IsAmong self.now.orders run.now.value.keys → ⊥)
+            → IfOk result (λ kept. kept.orders ≡ keep_last 4 (self.now.orders ++ run.now.value.keys ∷ [])) }
+    {
+        let mut runs = self.cells.as_ref().made(alloc)?;
+        let shared = run.clone()?;
+        runs.keep_run(shared)?;
+        Kept::of(alloc, Cells::Made(runs))
+    }
+
+    /// Keeps the run of these keys, which is shared, if none is kept; of five runs the one that was kept first is let go. Other sets
+    /// keep the runs that they have. Where it finds no memory nothing is changed.
+    pub(crate) fn keep_run(
+        &mut self,
+        alloc: Global,
+        keys: &[SortKey],
+        run: &Rc<Run>,
+    ) -> Result<(), AllocError>
+        requires { IsRunBy keys.now self.old.content.rows run.now.value }
+        ensures content { self.new.content ≡ self.old.content }
+        ensures kept { IsAmong self.old.orders keys.now → self.new ≡ self.old }
+        ensures made { (IsAmong self.old.orders keys.now → ⊥)
+            → OnOk result (self.new.orders ≡ keep_last 4 (self.old.orders ++ keys.now ∷ [])) }
+        ensures has { OnOk result (IsAmong self.new.orders keys.now) }
+        ensures err { OnErr result (self.new ≡ self.old) }
+    {
+        if self.has(keys) {
+            return Ok(());
+        }
+        *self = self.with(alloc, run)?;
         Ok(())
     }
 

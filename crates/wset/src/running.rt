@@ -1,6 +1,7 @@
 //! Rows in order, by the runs that are kept of live segments.
 ghost use Rattle.std.specs.Prelude.{◌≡◌, ◌++◌, ◌∷◌, [], All, IfOk, OnOk};
 ghost use Rattle.std.specs.List.{AllByRecursion, IsAmong};
+ghost use Rattle.wruns.specs.Dealing.{segment_rows};
 ghost use Rattle.wruns.specs.Merging.{has_keys, rows_seen};
 ghost use Rattle.wset.specs.Blocks.{flat};
 ghost use Rattle.wset.specs.Running.{orders_in, rows_in};
@@ -10,8 +11,13 @@ use crate::held::Held;
 use crate::kept::Kept;
 use crate::walk::Walk;
 use std::alloc::{AllocError, Global};
-use wruns::SegmentRun;
+use std::rc::Rc;
+use wruns::{Run, SegmentRun};
+use wsegment::Segment;
 use wvalues::SortKey;
+
+/// The most rows that are put in one order at once.
+const MOST_DEALT: usize = u32::MAX as usize;
 
 /// Appends a segment with its run of these keys.
 fn push_source<'a>(
@@ -50,14 +56,91 @@ pub(crate) fn sources<'a>(
     Ok(sources)
 }
 
-/// Whether there are several runs, of more than one group for two rows, so that to merge them again would cost about what sorting
-/// costs.
-pub(crate) fn cost_much(sources: &[SegmentRun]) -> bool {
-    let mut groups: usize = 0;
-    let mut rows: usize = 0;
-    for source in sources {
-        groups = groups.saturating_add(source.run().groups());
-        rows = rows.saturating_add(source.run().rows().len());
+/// How many runs there are, and their groups and rows.
+#[derive(Clone, Copy)]
+pub(crate) struct RunSizes {
+    runs: usize,
+    groups: usize,
+    rows: usize,
+}
+
+impl RunSizes {
+    fn new() -> RunSizes {
+        RunSizes {
+            runs: 0,
+            groups: 0,
+            rows: 0,
+        }
     }
-    sources.len() > 1 && groups > rows / 2
+
+    fn add(&mut self, run: &Run) {
+        self.runs = self.runs.saturating_add(1);
+        self.groups = self.groups.saturating_add(run.groups());
+        self.rows = self.rows.saturating_add(run.rows().len());
+    }
+
+    /// The sizes of the runs of some segments.
+    pub(crate) fn of_sources(sources: &[SegmentRun]) -> RunSizes {
+        let mut sizes = RunSizes::new();
+        for source in sources {
+            sizes.add(source.run());
+        }
+        sizes
+    }
+
+    /// The sizes of some runs.
+    pub(crate) fn of_runs(runs: &[Rc<Run>]) -> RunSizes {
+        let mut sizes = RunSizes::new();
+        for run in runs {
+            sizes.add(run.as_ref());
+        }
+        sizes
+    }
+
+    /// Whether there are several runs, of more than one group for two rows, so that to merge them again would cost about what
+    /// sorting costs.
+    pub(crate) fn cost_much(&self) -> bool {
+        self.runs > 1 && self.groups > self.rows / 2
+    }
+}
+
+/// Appends a segment, if its cells are made.
+fn push_segment<'a>(segments: &mut Vec<&'a Segment>, kept: &'a Kept) -> Result<(), AllocError>
+    ensures { OnOk result (segment_rows segments.new.items ≡ segment_rows segments.old.items ++ kept.now.content.rows ∷ []) }
+{
+    let segment = kept.segment()?;
+    segments.push(segment)?;
+    Ok(())
+}
+
+/// Each live segment, in the order of names: `AllocError` where memory runs out, or where the cells of one are not made.
+pub(crate) fn segments<'a>(
+    alloc: Global,
+    blocks: &'a [Block],
+) -> Result<Vec<&'a Segment>, AllocError>
+    ensures { IfOk result (λ segments. segment_rows segments.items ≡ rows_in (flat blocks.now)) }
+{
+    let mut segments = Vec::new(alloc);
+    let mut walk = Walk::new(blocks);
+    'walk: while let Some(entry) = walk.step() {
+        if let Held::Live(kept) = &entry.held {
+            push_segment(&mut segments, kept)?;
+        }
+    }
+    Ok(segments)
+}
+
+/// Whether no live segment has a run of these keys, and all have fewer rows than are too many for one order.
+pub(crate) fn can_be_dealt(blocks: &[Block], keys: &[SortKey]) -> bool {
+    let mut rows: usize = 0;
+    let mut walk = Walk::new(blocks);
+    'walk: while let Some(entry) = walk.step() {
+        if let Held::Live(kept) = &entry.held {
+            if kept.has(keys) {
+                return false;
+            }
+            rows = rows.saturating_add(kept.rows());
+        }
+    }
+    rows <= MOST_DEALT
 }

@@ -9,6 +9,7 @@ ghost use Rattle.wset.specs.Items.{SegmentItem, RetirementItem, FloorItem, view_
 ghost use Rattle.wset.specs.Words.{floor_word, is_reached, retired_word, status_word, taken_word};
 ghost use Rattle.wset.specs.Listing.{listed};
 ghost use Rattle.std.specs.List.{IsAmong};
+ghost use Rattle.wruns.specs.Dealing.{AreRunsOf};
 ghost use Rattle.wruns.specs.Refs.{refs_by};
 ghost use Rattle.wset.specs.Running.{live_rows};
 ghost use Rattle.wset.specs.Sets.{Becomes, IsReadBy, LivesAreRead};
@@ -17,20 +18,20 @@ ghost use Rattle.wset.specs.Holding.{IsHeldBy, known_of};
 
 use crate::blocks::{
     Block, count_after, end_before, end_before_origin, entry_count, floor_in, held_in, in_blocks,
-    is_low, listing, make_cells_in, make_in,
+    is_low, keep_in, listing, make_cells_in, make_in,
 };
 use crate::held::Held;
 use crate::kept::Kept;
 use crate::kept_order::{KeptOrder, is_by, order_kept, unpacked};
 use crate::merge::{joined, teaches};
-use crate::running::{cost_much, sources};
+use crate::running::{RunSizes, can_be_dealt, segments, sources};
 use crate::starts::{live_count_in, live_in, put_counted, raise_counted, starts_of};
 use crate::walk::{Lives, Names};
 use crate::words::{JoinError, Listed, Retired, Status, TakeError, Taken};
 use std::alloc::{AllocError, Global};
 use std::marker::Model;
 use std::rc::Rc;
-use wruns::RowRef;
+use wruns::{Dealt, RowRef, Run, deal_runs};
 use wsegment::{Judged, Schema, Segment, SegmentFault};
 use wvalues::{Name, SortKey};
 
@@ -520,14 +521,14 @@ impl SegmentSet {
         Ok(Some(rows))
     }
 
-    /// The rows of all live segments, merged from their runs of these keys, and whether that cost much.
-    fn merged(&self, keys: &[SortKey]) -> Result<(Vec<RowRef>, bool), AllocError>
+    /// The rows of all live segments, merged from their runs of these keys, and the sizes of these.
+    fn merged(&self, keys: &[SortKey]) -> Result<(Vec<RowRef>, RunSizes), AllocError>
         requires { All (λ orders. IsAmong orders keys.now) self.now.orders }
         ensures { IfOk result (λ told. told.0.items ≡ refs_by keys.now (live_rows self.now)) }
     {
         let sources = sources(self.alloc, &self.blocks, keys)?;
         let rows = wruns::ordered(self.alloc, keys, &sources)?;
-        Ok((rows, cost_much(&sources)))
+        Ok((rows, RunSizes::of_sources(&sources)))
     }
 
     /// Keeps the order of the rows of all live segments by these keys in the place of the one before, which is let go first. Where
@@ -542,6 +543,16 @@ impl SegmentSet {
         }
     }
 
+    /// Keeps the order of the rows of all live segments, if runs of these sizes cost much to merge again.
+    fn keep_costly(&mut self, keys: &[SortKey], rows: &[RowRef], sizes: RunSizes)
+        requires { rows.now ≡ refs_by keys.now (live_rows self.old) }
+        ensures { self.new ≡ self.old }
+    {
+        if sizes.cost_much() {
+            self.keep_order(keys, rows);
+        }
+    }
+
     /// The rows of all live segments, merged from their runs of these keys. Where that costs much, and there are several segments,
     /// the order is kept in the place of the one before, if there is memory for it.
     fn merge(&mut self, keys: &[SortKey]) -> Result<Vec<RowRef>, AllocError>
@@ -549,22 +560,49 @@ impl SegmentSet {
         ensures list { IfOk result (λ refs. refs.items ≡ refs_by keys.now (live_rows self.old)) }
         ensures same { self.new ≡ self.old }
     {
-        let (rows, many) = self.merged(keys)?;
-        if many {
-            self.keep_order(keys, &rows);
-        }
+        let (rows, sizes) = self.merged(keys)?;
+        self.keep_costly(keys, &rows, sizes);
         Ok(rows)
     }
 
-    /// The rows of all live segments by keys, then by name and place: `segment` of a row is the number of its segment for
-    /// `live_at`. A value that is not there, as no column has this number, is null.
-    ///
-    /// Each live segment has a run of these keys afterwards, by which the rows are found in order the next time; of five runs
-    /// of a segment the one that was made first is let go. Where several segments have many different keys the order is kept,
-    /// too, in the place of the one before, until what is known changes: 4 bytes a row; where memory runs out for that alone,
-    /// none is kept. What is known stays as it is, also where memory runs out before the rows are found: then the runs that were
-    /// made so far stay.
-    pub fn ordered(&mut self, keys: &[SortKey]) -> Result<Vec<RowRef>, AllocError>
+    /// The rows of all live segments by keys, and the run of each of them, dealt out of that order.
+    fn dealt(&self, keys: &[SortKey]) -> Result<Dealt, AllocError>
+        ensures rows { IfOk result (λ dealt. dealt.rows.items ≡ refs_by keys.now (live_rows self.now)) }
+        ensures runs { IfOk result (λ dealt. AreRunsOf keys.now (live_rows self.now) dealt.runs.items) }
+    {
+        let segments = segments(self.alloc, &self.blocks)?;
+        let dealt = deal_runs(self.alloc, &segments, keys)?;
+        Ok(dealt)
+    }
+
+    /// Keeps runs by these keys, one for each live segment, where it has none. Where it finds no memory the runs that were kept so
+    /// far stay.
+    fn keep_runs(&mut self, keys: &[SortKey], runs: &[Rc<Run>]) -> Result<(), AllocError>
+        requires { AreRunsOf keys.now (live_rows self.old) runs.now }
+        ensures same { Becomes self.old self.old.view self.new }
+        ensures has { OnOk result (All (λ orders. IsAmong orders keys.now) self.new.orders) }
+    {
+        keep_in(self.alloc, &mut self.blocks, keys, runs)?;
+        Ok(())
+    }
+
+    /// The rows of all live segments by keys, sorted at once as one table. Each segment keeps the run that this order has of it,
+    /// and the order is kept as after a merge.
+    fn sort_and_deal(&mut self, keys: &[SortKey]) -> Result<Vec<RowRef>, AllocError>
+        ensures list { IfOk result (λ refs. refs.items ≡ refs_by keys.now (live_rows self.old)) }
+        ensures has { OnOk result (All (λ orders. IsAmong orders keys.now) self.new.orders) }
+        ensures same { Becomes self.old self.old.view self.new }
+    {
+        self.make()?;
+        let Dealt { rows, runs } = self.dealt(keys)?;
+        self.keep_runs(keys, &runs)?;
+        let sizes = RunSizes::of_runs(&runs);
+        self.keep_costly(keys, &rows, sizes);
+        Ok(rows)
+    }
+
+    /// The rows of all live segments by keys, from their runs, which are made where a segment has none.
+    fn make_and_merge(&mut self, keys: &[SortKey]) -> Result<Vec<RowRef>, AllocError>
         ensures list { IfOk result (λ refs. refs.items ≡ refs_by keys.now (live_rows self.old)) }
         ensures has { OnOk result (All (λ orders. IsAmong orders keys.now) self.new.orders) }
         ensures same { Becomes self.old self.old.view self.new }
@@ -574,6 +612,27 @@ impl SegmentSet {
         match kept {
             Some(rows) => Ok(rows),
             None => self.merge(keys),
+        }
+    }
+
+    /// The rows of all live segments by keys, then by name and place: `segment` of a row is the number of its segment for
+    /// `live_at`. A value that is not there, as no column has this number, is null.
+    ///
+    /// Each live segment has a run of these keys afterwards, by which the rows are found in order the next time; of five runs
+    /// of a segment the one that was made first is let go. Where none has one yet, and there are several, all rows are sorted at
+    /// once and the runs are dealt out of that order; else each run that is missing is made by itself. Where several segments have
+    /// many different keys the order is kept, too, in the place of the one before, until what is known changes: 4 bytes a row;
+    /// where memory runs out for that alone, none is kept. What is known stays as it is, also where memory runs out before the
+    /// rows are found: then the runs that were made so far stay.
+    pub fn ordered(&mut self, keys: &[SortKey]) -> Result<Vec<RowRef>, AllocError>
+        ensures list { IfOk result (λ refs. refs.items ≡ refs_by keys.now (live_rows self.old)) }
+        ensures has { OnOk result (All (λ orders. IsAmong orders keys.now) self.new.orders) }
+        ensures same { Becomes self.old self.old.view self.new }
+    {
+        if self.live_count() > 1 && can_be_dealt(&self.blocks, keys) {
+            self.sort_and_deal(keys)
+        } else {
+            self.make_and_merge(keys)
         }
     }
 

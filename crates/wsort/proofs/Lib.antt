@@ -1,7 +1,7 @@
 pub mod RowFacts
 pub mod MoreSorting
 mod CodeFacts
-mod DealFacts
+pub mod DealFacts
 pub mod ChainFacts
 mod TwoFacts
 pub mod KeyFacts

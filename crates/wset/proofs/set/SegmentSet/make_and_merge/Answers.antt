@@ -6,7 +6,7 @@ use Rattle.wset.specs.Running.{live_rows}
 use Rattle.wset.specs.Sets.{DeclaredView}
 use Rattle.wset.proofs.KeptOrderFacts.{at_any_rate}
 use Rattle.wset.proofs.RunFacts.{live_same}
-use Rattle.wset.proofs.set.SegmentSet.ordered.Goals as goal
+use Rattle.wset.proofs.set.SegmentSet.make_and_merge.Goals as goal
 
 pub returns-in-None-clause-list : goal.returns-in-None-clause-list
 returns-in-None-clause-list c =

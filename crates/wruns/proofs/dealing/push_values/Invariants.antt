@@ -1,0 +1,7 @@
+use Rattle.std.proofs.Common.{◌≡◌, ◌++◌, take}
+use Rattle.wsort.specs.CodedRows.{key_column, values_seen}
+use Rattle.wruns.proofs.dealing.push_values.Given as goal
+
+-- the values so far
+abbrev pub invariant-loop-row : goal.invariant-loop-row
+invariant-loop-row l = values_seen l.column.items ≡ values_seen l.initial.column.items ++ key_column l.col (take l.row l.segment.rows)
