@@ -1,32 +1,41 @@
 -- Calls that are collected in turn.
-use Rattle.std.proofs.Common.{◌≡◌, ℕ, suc, ◌+◌, ◌<◌, Bool, true, false, List, [], ◌∷◌, ◌++◌, ap, sym, ◌∙◌, append_assoc, map, drop, length, get_or, add-one}
+use Rattle.std.proofs.Common.{◌≡◌, ℕ, suc, ◌+◌, ◌<◌, Bool, true, false, List, [], ◌∷◌, ◌++◌, refl, ap, sym, ◌∙◌, append_assoc, map, drop, length, get_or, add-one, Result, Ok, Err, OnOk}
 use Rattle.std.proofs.Math.Seq.{drop-cons}
 use Rattle.std.proofs.lemmas.List.{append-nil}
 use Rattle.std.specs.Rc.{rc_str_bytes}
 use Rattle.wquery.specs.declared.expression.Call.{Call}
 use Rattle.wquery.specs.declared.query.WindowEntry.{WindowEntry}
 use Rattle.wquery.specs.QueryTree.{view_entry}
-use Rattle.wquery.specs.Tree.{Tree, Branch, Links, Further, linked, own_window, view_call, view_window, view_arguments, view_optional, view_optional_over, filter_of, reach_of}
+use Rattle.wquery.specs.Tree.{Tree, own_window, view_call, view_window, view_arguments, view_optional_over, reach_of}
 use Rattle.wsame.proofs.Views.{view_call_is}
+use Rattle.wscope.specs.Children.{children_of, found_all}
+use Rattle.wscope.proofs.Beside.{IsJoined, below_all}
 use Rattle.wdistinct.specs.declared.calls.CallKind.{CallKind}
-use Rattle.wdistinct.specs.Calls.{is_kind, is_call_of, node_or, nodes_in, nodes_below, nodes_in_links, nodes_in_branches, nodes_given, nodes_in_entries, nodes_in_filter, nodes_in_reach}
+use Rattle.wdistinct.specs.Calls.{is_kind, is_call_of, node_or, nodes_in, nodes_below, nodes_in_entries, nodes_in_reach, picking}
 
-pub nodes_in_linked : (holds : Tree → Bool) (front : Links) (bs : List Branch) → nodes_in_links holds (linked front bs) ≡ nodes_in_links holds front ++ nodes_in_branches holds bs
-nodes_in_linked holds front [] = sym (append-nil (nodes_in_links holds front))
-nodes_in_linked holds front (b ∷ bs) =
-    nodes_in_linked holds (Further front b.operator b.operand) bs ∙ append_assoc (nodes_in_links holds front) (nodes_in holds b.operand) (nodes_in_branches holds bs)
+pub picking_joined : (holds : Tree → Bool) → IsJoined (picking holds)
+picking_joined holds = record { left = λ xs. refl; right = append-nil; three = append_assoc }
 
--- one after another
-pub appended : (old mid new xs ys : List Tree) → mid ≡ old ++ xs → new ≡ mid ++ ys → new ≡ old ++ (xs ++ ys)
-appended old mid new xs ys first second = second ∙ ap (λ (m : List Tree). m ++ ys) first ∙ append_assoc old xs ys
+pub call_kind : (kind : CallKind) (c : Call) → is_call_of kind (view_call c) ≡ is_kind kind (rc_str_bytes c.name) (view_arguments c.arguments) (reach_of (view_optional_over c.over))
+call_kind kind c = ap (is_call_of kind) (view_call_is c)
 
--- a call that is looked for, and one that is not
-pub call_found : (kind : CallKind) (c : Call) (b : Bool) → b ≡ is_kind kind (rc_str_bytes c.name) (view_arguments c.arguments) (reach_of (view_optional_over c.over)) → b ≡ true → nodes_in (is_call_of kind) (view_call c) ≡ view_call c ∷ []
-call_found kind c b e t = ap (λ (v : Bool). node_or v (view_call c) (nodes_below (is_call_of kind) (view_call c))) (ap (is_call_of kind) (view_call_is c) ∙ sym e ∙ t)
+-- behind those before
+pub behind : {T E : Type 0} (r : Result T E) (old new xs ys : List Tree) → xs ≡ ys → OnOk r (new ≡ old ++ xs) → OnOk r (new ≡ old ++ ys)
+behind (Ok x) old new xs ys e h = h ∙ ap (λ (zs : List Tree). old ++ zs) e
+behind (Err x) old new xs ys e h = tt
 
-pub call_passed : (kind : CallKind) (c : Call) (b : Bool) → b ≡ is_kind kind (rc_str_bytes c.name) (view_arguments c.arguments) (reach_of (view_optional_over c.over)) → b ≡ false → nodes_in (is_call_of kind) (view_call c) ≡ nodes_given (is_call_of kind) (view_arguments c.arguments) ++ (nodes_in_filter (is_call_of kind) (filter_of (view_optional c.filter)) ++ nodes_in_reach (is_call_of kind) (reach_of (view_optional_over c.over)))
-call_passed kind c b e f =
-    ap (λ (v : Bool). node_or v (view_call c) (nodes_below (is_call_of kind) (view_call c))) (ap (is_call_of kind) (view_call_is c) ∙ sym e ∙ f) ∙ ap (nodes_below (is_call_of kind)) (view_call_is c)
+-- a node that is looked for, and one that is not
+pub node_found : (holds : Tree → Bool) (t u : Tree) → holds t ≡ true → u ≡ t → u ∷ [] ≡ nodes_in holds t
+node_found holds t u h e = ap (λ (v : Tree). v ∷ []) e ∙ sym (ap (λ (b : Bool). node_or b t (nodes_below holds t)) h)
+
+pub node_passed : (holds : Tree → Bool) (t : Tree) → holds t ≡ false → nodes_below holds t ≡ nodes_in holds t
+node_passed holds t h = sym (ap (λ (b : Bool). node_or b t (nodes_below holds t)) h)
+
+pub below_found : (holds : Tree → Bool) (t : Tree) (ts : List Tree) → ts ≡ children_of t → found_all (picking holds) ts ≡ nodes_below holds t
+below_found holds t ts e = ap (found_all (picking holds)) e ∙ sym (below_all (picking holds) (picking_joined holds) t)
+
+pub none_below : (holds : Tree → Bool) (t : Tree) (xs : List Tree) → children_of t ≡ [] → xs ≡ xs ++ nodes_below holds t
+none_below holds t xs e = sym (append-nil xs) ∙ ap (λ (ys : List Tree). xs ++ ys) (below_found holds t [] (sym e))
 
 entry_step : (holds : Tree → Bool) (es : List WindowEntry) (i : ℕ) (e : WindowEntry) → i < length es → e ≡ get_or es i e → nodes_in_entries holds (map view_entry (drop i es)) ≡ nodes_in_reach holds (own_window (view_window e.window)) ++ nodes_in_entries holds (map view_entry (drop (i + 1) es))
 entry_step holds es i e h is =

@@ -1,4 +1,3 @@
 mod Collected
-mod NodeFacts
 mod Sketched
 mod Among

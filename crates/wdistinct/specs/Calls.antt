@@ -4,7 +4,7 @@ use Rattle.std.specs.Prelude.{ℕ, Bool, true, false, ◌&&◌, ◌||◌, not, L
 use Rattle.std.specs.List.{list_any}
 use Rattle.std.specs.Borrow.{Bor}
 use Rattle.wquery.specs.declared.expression.Call.{Call}
-use Rattle.wquery.specs.Tree.{Tree, Invoked, Trees, Links, Given, Columns, Filter, Reach, ItsGroup, ThatWindow, OwnWindow, Keys, KeyTree, Branch, own_window, view_call}
+use Rattle.wquery.specs.Tree.{Tree, Invoked, Trees, Links, Given, Columns, Filter, Reach, ItsGroup, ThatWindow, OwnWindow, Keys, KeyTree, own_window, view_call}
 use Rattle.wquery.specs.QueryTree.{Clauses, ItemTree, AllColumns, Computed, EntryTree}
 use Rattle.wscope.specs.declared.function.Function.{Function}
 use Rattle.wscope.specs.Functions.{function_of, is_aggregate}
@@ -70,11 +70,6 @@ nodes_in_reach holds reach = found_reach (picking holds) reach
 
 abbrev pub nodes_in_keys : (Tree → Bool) → Keys → List Tree
 nodes_in_keys holds keys = found_keys (picking holds) keys
-
--- of the operands behind the first of a chain
-abbrev pub nodes_in_branches : (Tree → Bool) → List Branch → List Tree
-nodes_in_branches holds [] = []
-nodes_in_branches holds (b ∷ bs) = nodes_in holds b.operand ++ nodes_in_branches holds bs
 
 abbrev pub nodes_in_option : (Tree → Bool) → Option Tree → List Tree
 nodes_in_option holds None = []

@@ -1,19 +1,20 @@
 //! The calls of a SELECT, each once.
 
-ghost use Rattle.std.specs.Prelude.{◌≡◌, ◌∷◌, ◌++◌, [], OnOk, IfOk, map};
-ghost use Rattle.wquery.specs.Tree.{Tree, view, view_over, view_window, view_call, view_key, view_link, view_arguments, view_optional, view_optional_over, filter_of, reach_of, trees, views, keys, view_keys, own_window, linked, NoLinks};
+ghost use Rattle.std.specs.Prelude.{◌≡◌, ◌∷◌, ◌++◌, [], true, false, OnOk, IfOk, MatchOption, map};
+ghost use Rattle.wquery.specs.Tree.{own_window, reach_of, view, view_arguments, view_call, view_key, view_keys, view_optional, view_optional_over, view_window};
 ghost use Rattle.wquery.specs.QueryTree.{view_item, view_entry};
 ghost use Rattle.std.specs.Rc.{rc_str_bytes};
 ghost use Rattle.wscope.specs.Functions.{function_of as function_named};
+ghost use Rattle.wscope.specs.Children.{found_all, nodes_left};
 ghost use Rattle.wscope.specs.Clauses.{clauses_in};
-ghost use Rattle.wdistinct.specs.Calls.{group_calls as aggregates_of, window_calls as calls_over_windows, is_kind, is_grouping as has_columns, is_call_of, is_aggregate_function as is_aggregate_of, has_over as has_reach, nodes_in, nodes_in_trees, nodes_in_links, nodes_in_branches, nodes_given, nodes_in_filter, nodes_in_reach, nodes_in_keys, nodes_in_option, nodes_in_items, nodes_in_entries, nodes_in_order, with_new, call_trees};
+ghost use Rattle.wdistinct.specs.Calls.{group_calls as aggregates_of, window_calls as calls_over_windows, is_kind, is_grouping as has_columns, is_call_of, is_aggregate_function as is_aggregate_of, has_over as has_reach, picking, nodes_in, nodes_below, nodes_in_reach, nodes_in_option, nodes_in_items, nodes_in_entries, nodes_in_order, with_new, call_trees};
 ghost use Rattle.wdistinct.specs.Places.{calls_in};
 ghost use Rattle.wdistinct.specs.declared.calls.CallKind.TheVariants.{Grouped, Windowed};
 
 use crate::call_set::CallSet;
 use std::alloc::{AllocError, Global};
-use wquery::{Arguments, Call, Expression, Item, Key, Link, Over, Query, Window, WindowEntry};
-use wscope::function_of;
+use wquery::{Arguments, Call, Expression, Item, Key, Over, Query, Window, WindowEntry};
+use wscope::{Children, function_of};
 
 /// The calls that are computed apart from the expressions that they stand in.
 #[derive(Clone, Copy, Drop)]
@@ -66,6 +67,12 @@ fn is_of(kind: CallKind, call: &Call) -> bool
     }
 }
 
+fn wanted_call<'a>(kind: CallKind, call: &'a Call) -> Option<&'a Call>
+    ensures { MatchOption result (is_call_of kind (view_call call.now) ≡ false) (λ found. (is_call_of kind (view_call call.now) ≡ true) × (view_call found.now ≡ view_call call.now)) }
+{
+    if is_of(kind, call) { Some(call) } else { None }
+}
+
 fn push_call<'a>(calls: &mut Vec<&'a Call>, call: &'a Call) -> Result<(), AllocError>
     ensures { OnOk result (call_trees calls.new.items ≡ call_trees calls.old.items ++ view_call call.now ∷ []) }
 {
@@ -73,9 +80,18 @@ fn push_call<'a>(calls: &mut Vec<&'a Call>, call: &'a Call) -> Result<(), AllocE
     Ok(())
 }
 
+#[tactic(auto, unfolding(wquery::specs::Tree::view, wquery::specs::Tree::view_call))]
+fn wanted<'a>(kind: CallKind, e: &'a Expression) -> Option<&'a Call>
+    ensures { MatchOption result (is_call_of kind (view e.now) ≡ false) (λ call. (is_call_of kind (view e.now) ≡ true) × (view_call call.now ≡ view e.now)) }
+{
+    match e {
+        Expression::Call(call) => wanted_call(kind, call),
+        _ => None,
+    }
+}
+
 // The calls that are looked for, from the first to the last, behind those so far.
 #[cycle(collecting)]
-#[tactic(auto, unfolding(wquery::specs::Tree::view, wquery::specs::Tree::view_call, wquery::specs::Tree::view_link))]
 fn collect<'a>(
     kind: CallKind,
     calls: &mut Vec<&'a Call>,
@@ -83,93 +99,41 @@ fn collect<'a>(
 ) -> Result<(), AllocError>
     ensures { OnOk result (call_trees calls.new.items ≡ call_trees calls.old.items ++ nodes_in (is_call_of kind) (view e.now)) }
 {
-    match e {
-        Expression::Null => Ok(()),
-        Expression::Number(_) => Ok(()),
-        Expression::Text(_) => Ok(()),
-        Expression::Column(_) => Ok(()),
-        Expression::Call(call) => collect_call(kind, calls, call),
-        Expression::Not(operand) => collect(kind, calls, operand),
-        Expression::Sign { operand, .. } => collect(kind, calls, operand),
-        Expression::Chain { first, links, .. } => {
-            collect(kind, calls, first)?;
-            collect_links(kind, calls, links.as_slice())
-        }
-        Expression::Compare { left, right, .. } => {
-            collect(kind, calls, left)?;
-            collect(kind, calls, right)
-        }
-        Expression::IsNull { operand, .. } => collect(kind, calls, operand),
-        Expression::Between {
-            operand,
-            low,
-            high,
-            ..
-        } => {
-            collect(kind, calls, operand)?;
-            collect(kind, calls, low)?;
-            collect(kind, calls, high)
-        }
-        Expression::In { operand, list, .. } => {
-            collect(kind, calls, operand)?;
-            collect_listed(kind, calls, list.as_slice())
-        }
+    match wanted(kind, e) {
+        Some(call) => push_call(calls, call),
+        None => collect_below(kind, calls, e),
     }
 }
 
 #[cycle(collecting)]
-fn collect_listed<'a>(
+fn collect_below<'a>(
     kind: CallKind,
     calls: &mut Vec<&'a Call>,
-    list: &'a [Expression],
+    e: &'a Expression,
 ) -> Result<(), AllocError>
-    ensures { OnOk result (call_trees calls.new.items ≡ call_trees calls.old.items ++ nodes_in_trees (is_call_of kind) (trees (views list.now))) }
+    ensures { OnOk result (call_trees calls.new.items ≡ call_trees calls.old.items ++ nodes_below (is_call_of kind) (view e.now)) }
 {
-    'list: for e in list {
+    match Children::of(e) {
+        None => Ok(()),
+        Some(nodes) => collect_beside(kind, calls, nodes),
+    }
+}
+
+#[cycle(collecting)]
+fn collect_beside<'a>(
+    kind: CallKind,
+    calls: &mut Vec<&'a Call>,
+    nodes: Children<'a>,
+) -> Result<(), AllocError>
+    ensures { OnOk result (call_trees calls.new.items ≡ call_trees calls.old.items ++ found_all (picking (is_call_of kind)) (nodes_left nodes.entry)) }
+{
+    let mut rest = nodes;
+    'nodes: while let Some(e) = rest.take_first() {
         collect(kind, calls, e)?;
     }
     Ok(())
 }
 
-#[cycle(collecting)]
-#[tactic(auto, unfolding(wquery::specs::Tree::view_link, wquery::specs::Tree::view))]
-fn collect_operand<'a>(
-    kind: CallKind,
-    calls: &mut Vec<&'a Call>,
-    link: &'a Link,
-) -> Result<(), AllocError>
-    ensures { OnOk result (call_trees calls.new.items ≡ call_trees calls.old.items ++ nodes_in (is_call_of kind) (view_link link.now).operand) }
-{
-    collect(kind, calls, &link.operand)
-}
-
-#[cycle(collecting)]
-fn collect_operands<'a>(
-    kind: CallKind,
-    calls: &mut Vec<&'a Call>,
-    links: &'a [Link],
-) -> Result<(), AllocError>
-    ensures { OnOk result (call_trees calls.new.items ≡ call_trees calls.old.items ++ nodes_in_branches (is_call_of kind) (map view_link links.now)) }
-{
-    'links: for link in links {
-        collect_operand(kind, calls, link)?;
-    }
-    Ok(())
-}
-
-#[cycle(collecting)]
-fn collect_links<'a>(
-    kind: CallKind,
-    calls: &mut Vec<&'a Call>,
-    links: &'a [Link],
-) -> Result<(), AllocError>
-    ensures { OnOk result (call_trees calls.new.items ≡ call_trees calls.old.items ++ nodes_in_links (is_call_of kind) (linked NoLinks (map view_link links.now))) }
-{
-    collect_operands(kind, calls, links)?;
-    Ok(())
-}
-
-#[cycle(collecting)]
 #[tactic(auto, unfolding(wquery::specs::Tree::view_key, wquery::specs::Tree::view))]
 fn collect_key<'a>(
     kind: CallKind,
@@ -181,47 +145,6 @@ fn collect_key<'a>(
     collect(kind, calls, &key.expression)
 }
 
-#[cycle(collecting)]
-fn collect_keys<'a>(
-    kind: CallKind,
-    calls: &mut Vec<&'a Call>,
-    order: &'a [Key],
-) -> Result<(), AllocError>
-    ensures { OnOk result (call_trees calls.new.items ≡ call_trees calls.old.items ++ nodes_in_keys (is_call_of kind) (keys (view_keys order.now))) }
-{
-    'keys: for key in order {
-        collect_key(kind, calls, key)?;
-    }
-    Ok(())
-}
-
-#[cycle(collecting)]
-#[tactic(auto, unfolding(wquery::specs::Tree::view, wquery::specs::Tree::view_window))]
-fn collect_partition<'a>(
-    kind: CallKind,
-    calls: &mut Vec<&'a Call>,
-    window: &'a Window,
-) -> Result<(), AllocError>
-    ensures { OnOk result (call_trees calls.new.items ≡ call_trees calls.old.items ++ nodes_in_trees (is_call_of kind) (trees (view_window window.now).partition)) }
-{
-    collect_listed(kind, calls, window.partition.as_slice())?;
-    Ok(())
-}
-
-#[cycle(collecting)]
-#[tactic(auto, unfolding(wquery::specs::Tree::view_key, wquery::specs::Tree::view_window))]
-fn collect_window_order<'a>(
-    kind: CallKind,
-    calls: &mut Vec<&'a Call>,
-    window: &'a Window,
-) -> Result<(), AllocError>
-    ensures { OnOk result (call_trees calls.new.items ≡ call_trees calls.old.items ++ nodes_in_keys (is_call_of kind) (keys (view_window window.now).order)) }
-{
-    collect_keys(kind, calls, window.order.as_slice())?;
-    Ok(())
-}
-
-#[cycle(collecting)]
 fn collect_window<'a>(
     kind: CallKind,
     calls: &mut Vec<&'a Call>,
@@ -229,86 +152,7 @@ fn collect_window<'a>(
 ) -> Result<(), AllocError>
     ensures { OnOk result (call_trees calls.new.items ≡ call_trees calls.old.items ++ nodes_in_reach (is_call_of kind) (own_window (view_window window.now))) }
 {
-    collect_partition(kind, calls, window)?;
-    collect_window_order(kind, calls, window)?;
-    Ok(())
-}
-
-#[cycle(collecting)]
-#[tactic(auto, unfolding(wquery::specs::Tree::view_arguments, wquery::specs::Tree::view))]
-fn collect_arguments<'a>(
-    kind: CallKind,
-    calls: &mut Vec<&'a Call>,
-    arguments: &'a Arguments,
-) -> Result<(), AllocError>
-    ensures { OnOk result (call_trees calls.new.items ≡ call_trees calls.old.items ++ nodes_given (is_call_of kind) (view_arguments arguments.now)) }
-{
-    match arguments {
-        Arguments::Star => Ok(()),
-        Arguments::Listed(list) => collect_listed(kind, calls, list.as_slice()),
-        Arguments::Columns(columns) => collect_listed(kind, calls, columns.as_slice()),
-    }
-}
-
-#[cycle(collecting)]
-fn collect_filter<'a>(
-    kind: CallKind,
-    calls: &mut Vec<&'a Call>,
-    filter: &'a Option<Expression>,
-) -> Result<(), AllocError>
-    ensures { OnOk result (call_trees calls.new.items ≡ call_trees calls.old.items ++ nodes_in_filter (is_call_of kind) (filter_of (view_optional filter.now))) }
-{
-    match filter {
-        None => Ok(()),
-        Some(e) => collect(kind, calls, e),
-    }
-}
-
-#[cycle(collecting)]
-#[tactic(auto, unfolding(wquery::specs::Tree::view_over, wquery::specs::Tree::view_window))]
-fn collect_over<'a>(
-    kind: CallKind,
-    calls: &mut Vec<&'a Call>,
-    over: &'a Option<Over>,
-) -> Result<(), AllocError>
-    ensures { OnOk result (call_trees calls.new.items ≡ call_trees calls.old.items ++ nodes_in_reach (is_call_of kind) (reach_of (view_optional_over over.now))) }
-{
-    match over {
-        None => Ok(()),
-        Some(Over::Named(_)) => Ok(()),
-        Some(Over::Windowed(window)) => collect_window(kind, calls, window),
-    }
-}
-
-// Of the parts of a call.
-#[cycle(collecting)]
-fn collect_below<'a>(
-    kind: CallKind,
-    calls: &mut Vec<&'a Call>,
-    call: &'a Call,
-) -> Result<(), AllocError>
-    ensures { OnOk result (call_trees calls.new.items ≡ call_trees calls.old.items ++ (nodes_given (is_call_of kind) (view_arguments call.now.arguments) ++ (nodes_in_filter (is_call_of kind) (filter_of (view_optional call.now.filter)) ++ nodes_in_reach (is_call_of kind) (reach_of (view_optional_over call.now.over))))) }
-{
-    collect_arguments(kind, calls, &call.arguments)?;
-    collect_filter(kind, calls, &call.filter)?;
-    collect_over(kind, calls, &call.over)?;
-    Ok(())
-}
-
-#[cycle(collecting)]
-fn collect_call<'a>(
-    kind: CallKind,
-    calls: &mut Vec<&'a Call>,
-    call: &'a Call,
-) -> Result<(), AllocError>
-    ensures { OnOk result (call_trees calls.new.items ≡ call_trees calls.old.items ++ nodes_in (is_call_of kind) (view_call call.now)) }
-{
-    if is_of(kind, call) {
-        push_call(calls, call)?;
-        return Ok(());
-    }
-    collect_below(kind, calls, call)?;
-    Ok(())
+    collect_beside(kind, calls, Children::of_window(window))
 }
 
 fn collect_option<'a>(

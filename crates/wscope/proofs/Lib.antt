@@ -1,3 +1,4 @@
+pub mod Beside
 pub mod Links
 pub mod Related
 mod TypeFacts

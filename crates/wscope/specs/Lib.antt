@@ -13,3 +13,4 @@ pub mod Indexes
 pub mod Earlier
 pub mod Clauses
 pub mod Scoped
+pub mod Children

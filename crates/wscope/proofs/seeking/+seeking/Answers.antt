@@ -1,19 +1,20 @@
-use Rattle.std.proofs.Common.{map, sym, ◌∙◌}
-use Rattle.wquery.specs.Tree.{view_link, NoLinks}
-use Rattle.wscope.proofs.Links.{some_linked, branch_step, some_in_call, or_first, or_second}
+use Rattle.std.proofs.Common.{◌≡◌, ◌<◌, ◌+◌, ◌*◌, rules, ap, sym, ◌∙◌, arith}
+use Rattle.wquery.specs.Tree.{view}
+use Rattle.wscope.specs.Seeking.{found_below, seeking}
+use Rattle.wscope.specs.Children.{found_all, nodes_left, sizing}
+use Rattle.wscope.proofs.Beside.{below_all, looks_joined, size_below}
 use Rattle.wscope.proofs.seeking.+seeking.Goals as goal
 
-pub any_in_links-links-init : goal.any_in_links-links-init
-any_in_links-links-init g t c = some_linked (g.T.NodeTest.sees c.args.test.now) NoLinks (map view_link c.args.links.now)
+pub any_below-any_beside-requires : goal.any_below-any_beside-requires
+any_below-any_beside-requires g t c =
+    let m : found_below sizing (view c.args.e.now) ≡ found_all sizing (nodes_left c.in-Some.nodes) = size_below (view c.args.e.now) (nodes_left c.in-Some.nodes) c.in-Some.ensures in
+    let less : 3 * found_all sizing (nodes_left c.in-Some.nodes) + 1 < 3 * found_below sizing (view c.args.e.now) + 2 = omega (arith, m) in
+    λ κs h. (rw (← c.decreases) less, search rules)
 
-pub any_in_links-links-preserved : goal.any_in_links-links-preserved
-any_in_links-links-preserved g t c =
-    c.links.invariant ∙ branch_step _ _ _ c.link-item.result c.links-test.true c.link-item.is ∙ or_second _ _ (sym c.any_node.ensures ∙ c.if-any_node.false)
+pub any_below-returns-in-Some : goal.any_below-returns-in-Some
+any_below-returns-in-Some g t c =
+    c.any_beside.ensures ∙ ap (found_all (seeking (g.T.NodeTest.sees c.args.test.now))) c.in-Some.ensures ∙ sym (below_all (seeking (g.T.NodeTest.sees c.args.test.now)) (looks_joined (g.T.NodeTest.sees c.args.test.now)) (view c.args.e.now))
 
-pub any_in_links-returns-then-any_node : goal.any_in_links-returns-then-any_node
-any_in_links-returns-then-any_node g t c =
-    sym (c.links.invariant ∙ branch_step _ _ _ c.link-item.result c.links-test.true c.link-item.is ∙ sym (or_first _ _ (sym c.any_node.ensures ∙ c.if-any_node.true)))
-
-pub any_in_call-returns : goal.any_in_call-returns
-any_in_call-returns g t c =
-    c.any_in_over.ensures ∙ sym (some_in_call (g.T.NodeTest.sees c.args.test.now) c.args.call.now ∙ or_second _ _ (sym c.any_in_arguments.ensures ∙ c.if-any_in_arguments.false) ∙ or_second _ _ (sym c.any_in_filter.ensures ∙ c.if-any_in_filter.false))
+pub any_below-returns-in-None : goal.any_below-returns-in-None
+any_below-returns-in-None g t c =
+    sym (below_all (seeking (g.T.NodeTest.sees c.args.test.now)) (looks_joined (g.T.NodeTest.sees c.args.test.now)) (view c.args.e.now) ∙ ap (found_all (seeking (g.T.NodeTest.sees c.args.test.now))) c.in-None.ensures)

@@ -1,14 +1,21 @@
-use Rattle.std.proofs.Common.{◌≡◌, drop, map}
-use Rattle.wquery.specs.Tree.{trees, views, keys, view_keys, linked, NoLinks, view_link}
-use Rattle.wscope.specs.Seeking.{some_tree, some_link, some_key}
-use Rattle.wscope.proofs.Links.{some_branch}
+use Rattle.std.proofs.Common.{◌≡◌, ◌≤◌, ◌+◌, ◌*◌, length}
+use Rattle.wquery.specs.Tree.{view}
+use Rattle.wscope.specs.Seeking.{found, found_below, seeking}
+use Rattle.wscope.specs.Children.{found_all, nodes_left, sizing}
 use Rattle.wscope.proofs.seeking.+seeking.Given as goal
 
-abbrev pub invariant-any_listed-list : goal.invariant-any_listed-list
-invariant-any_listed-list g l = some_tree (g.T.NodeTest.sees l.test) (trees (views l.list)) ≡ some_tree (g.T.NodeTest.sees l.test) (trees (views (drop l.e-index l.list)))
+abbrev pub decreases-any_node : goal.decreases-any_node
+decreases-any_node g l = 3 * found sizing (view l.e.now)
 
-abbrev pub invariant-any_in_links-links : goal.invariant-any_in_links-links
-invariant-any_in_links-links g l = some_link (g.T.NodeTest.sees l.test) (linked NoLinks (map view_link l.links)) ≡ some_branch (g.T.NodeTest.sees l.test) (map view_link (drop l.link-index l.links))
+abbrev pub decreases-any_below : goal.decreases-any_below
+decreases-any_below g l = 3 * found_below sizing (view l.e.now) + 2
 
-abbrev pub invariant-any_in_keys-keys : goal.invariant-any_in_keys-keys
-invariant-any_in_keys-keys g l = some_key (g.T.NodeTest.sees l.test) (keys (view_keys l.order)) ≡ some_key (g.T.NodeTest.sees l.test) (keys (view_keys (drop l.key-index l.order)))
+abbrev pub decreases-any_beside : goal.decreases-any_beside
+decreases-any_beside g l = 3 * found_all sizing (nodes_left l.nodes) + 1
+
+abbrev pub invariant-any_beside-nodes : goal.invariant-any_beside-nodes
+invariant-any_beside-nodes g l =
+    (found_all (seeking (g.T.NodeTest.sees l.test)) (nodes_left l.nodes) ≡ found_all (seeking (g.T.NodeTest.sees l.test)) (nodes_left l.rest)) × (found_all sizing (nodes_left l.rest) ≤ found_all sizing (nodes_left l.nodes))
+
+abbrev pub decreases-any_beside-nodes : goal.decreases-any_beside-nodes
+decreases-any_beside-nodes g l = length (nodes_left l.rest)

@@ -1,15 +1,22 @@
-use Rattle.std.proofs.Common.{◌≡◌, ◌≤◌, ◌+◌, drop, map}
-use Rattle.wquery.specs.Tree.{trees, views, keys, view_keys, linked, NoLinks, view_link}
-use Rattle.wscope.specs.Seeking.{found_trees, found_links, found_keys}
+use Rattle.std.proofs.Common.{◌≡◌, ◌≤◌, ◌+◌, ◌*◌, length}
+use Rattle.wquery.specs.Tree.{view}
+use Rattle.wscope.specs.Seeking.{found, found_below}
+use Rattle.wscope.specs.Children.{found_all, nodes_left, sizing}
 use Rattle.wwindows.specs.Limits.{counting, counted}
-use Rattle.wwindows.proofs.OwnWindows.{over_branches}
 use Rattle.wwindows.proofs.counting.+counting.Given as goal
 
-abbrev pub invariant-count_listed-list : goal.invariant-count_listed-list
-invariant-count_listed-list l = (l.count ≤ 33) × (counted (found_trees counting (trees (views l.list))) ≡ counted (l.count + found_trees counting (trees (views (drop l.e-index l.list)))))
+abbrev pub decreases-count_over : goal.decreases-count_over
+decreases-count_over l = 3 * found sizing (view l.e.now)
 
-abbrev pub invariant-count_in_links-links : goal.invariant-count_in_links-links
-invariant-count_in_links-links l = (l.count ≤ 33) × (counted (found_links counting (linked NoLinks (map view_link l.links))) ≡ counted (l.count + over_branches (map view_link (drop l.link-index l.links))))
+abbrev pub decreases-count_below : goal.decreases-count_below
+decreases-count_below l = 3 * found_below sizing (view l.e.now) + 2
 
-abbrev pub invariant-count_in_keys-keys : goal.invariant-count_in_keys-keys
-invariant-count_in_keys-keys l = (l.count ≤ 33) × (counted (found_keys counting (keys (view_keys l.order))) ≡ counted (l.count + found_keys counting (keys (view_keys (drop l.key-index l.order)))))
+abbrev pub decreases-count_beside : goal.decreases-count_beside
+decreases-count_beside l = 3 * found_all sizing (nodes_left l.nodes) + 1
+
+abbrev pub invariant-count_beside-nodes : goal.invariant-count_beside-nodes
+invariant-count_beside-nodes l =
+    (l.count ≤ 33) × (counted (found_all counting (nodes_left l.nodes)) ≡ counted (l.count + found_all counting (nodes_left l.rest))) × (found_all sizing (nodes_left l.rest) ≤ found_all sizing (nodes_left l.nodes))
+
+abbrev pub decreases-count_beside-nodes : goal.decreases-count_beside-nodes
+decreases-count_beside-nodes l = length (nodes_left l.rest)
