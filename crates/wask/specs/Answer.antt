@@ -7,7 +7,7 @@ use Rattle.wrules.specs.declared.rule.Rule.{Rule}
 use Rattle.wrules.specs.Rules.{first_broken_rule, number_of}
 use Rattle.wresolve.specs.Selecting.{resolved_query}
 pub use Rattle.wplanner.specs.Texts.{plan_answer, printed}
-use Rattle.wplanner.specs.Tables.{rows_of_view}
+use Rattle.wtable.specs.Tables.{rows_of_view}
 use Rattle.wplanner.specs.declared.fault.AskFault.{AskFault}
 use Rattle.wplanner.specs.declared.fault.AskFault.TheVariants as faults
 use Rattle.wask.specs.Texts.{Reads, IsUnread}

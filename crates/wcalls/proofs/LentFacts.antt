@@ -7,7 +7,6 @@ use Rattle.wvalues.specs.Meaning.{Meaning, meaning}
 use Rattle.wframe.specs.declared.key_rows.KeyRows.{KeyRows}
 use Rattle.wframe.specs.KeyRows.{key_lists}
 use Rattle.wframe.specs.Cells.{rows_of}
-use Rattle.wframe.specs.Peers.{key_at}
 use Rattle.wrows.specs.LaidRows.{laid}
 use Rattle.wrows.proofs.RowFacts.{map-map, map-taken, map-dropped}
 
@@ -28,10 +27,3 @@ lent_as w n lent cells e = lent_rows w n lent ∙ ap (laid w n) e
 pub listed_by : (rows : KeyRows) (ks js : List SortKey) (n m : ℕ) (lent cells : List (Bor Value)) (lists : List (List Meaning)) → key_lists rows ≡ rows_of (length ks) n lent → ks ≡ js → n ≡ m → lent ≡ cells → rows_of (length js) m cells ≡ lists → key_lists rows ≡ lists
 listed_by rows ks js n m lent cells lists told by count same e =
     told ∙ ap (λ (k : List SortKey). rows_of (length k) n lent) by ∙ ap (λ k. rows_of (length js) k lent) count ∙ ap (rows_of (length js) m) same ∙ e
-
--- lent rows under the names of those who lend them
-pub lent_so : (w v n m : ℕ) (rows numbers : List ℕ) (cells kept : List Value) (lent : List (Bor Value)) → v ≡ w → m ≡ n → numbers ≡ rows → kept ≡ cells → rows_of v (length numbers) lent ≡ map (key_at (laid v m kept)) numbers → rows_of w (length rows) lent ≡ map (key_at (laid w n cells)) rows
-lent_so w v n m rows numbers cells kept lent wide count by same told =
-    ap (λ k. rows_of k (length rows) lent) (sym wide) ∙ ap (λ l. rows_of v (length l) lent) (sym by) ∙ told
-    ∙ ap (map (key_at (laid v m kept))) by
-    ∙ ap (λ k. map (key_at (laid k m kept)) rows) wide ∙ ap (λ k. map (key_at (laid w k kept)) rows) count ∙ ap (λ l. map (key_at (laid w n l)) rows) same

@@ -10,6 +10,7 @@ mod CodeFacts
 mod CutFacts
 pub mod Listed
 mod LentFacts
+mod ListFacts
 mod ColumnFacts
 mod JoinFacts
 mod WindowedFacts

@@ -2,7 +2,6 @@
 use Rattle.std.proofs.Common.{◌≡◌, ℕ, Bool, true, false, List, [], length, map, Result, Ok, Err, refl, sym, ap, ◌∙◌}
 use Rattle.std.proofs.lemmas.List.{length-map}
 use Rattle.wvalues.specs.declared.key.SortKey.{SortKey}
-use Rattle.wvalues.specs.declared.value.Value.{Value}
 use Rattle.wvalues.specs.Meaning.{Meaning}
 use Rattle.wframe.specs.declared.frame.Frame.{Frame}
 use Rattle.wplan.specs.Formula.{Formula}
@@ -11,7 +10,6 @@ use Rattle.wrows.specs.declared.fault.AnswerFault.{AnswerFault}
 use Rattle.wrows.specs.declared.fault.AnswerFault.TheVariants.{OutOfRange}
 use Rattle.wrows.specs.Outcomes.{unless, ◌>>=◌}
 use Rattle.wrows.specs.Columns.{Row, lists_of, value_on}
-use Rattle.wrows.specs.LaidRows.{laid}
 use Rattle.wrows.specs.Sorting.{ascending}
 use Rattle.wrows.proofs.RowFacts.{length-places, then_ok}
 use Rattle.wframe.proofs.SortFacts.{length_sorted}
@@ -106,13 +104,14 @@ module _ (rows : List Row) (plan : WindowPlan) where
       ap (λ (o : Ordered). length o.rows) p.order_is
       ∙ length_sorted (whole_cmp w) (whole_total w) (places (length w.values)) ∙ length-places 0 (length w.values) ∙ p.long
 
-  pub order_told : (n wv wk : ℕ) (values keys : List Value) (vo ko : List SortKey) → lists_of plan.partition rows ≡ Ok (laid wv n values) → lists_of (map (λ k. k.value) plan.keys) rows ≡ Ok (laid wk n keys)
-      → wv ≡ length vo → wk ≡ length ko → vo ≡ ascending plan.partition → ko ≡ map (λ k. k.order) plan.keys
-      → ordered_rows rows plan ≡ Ok (ordered_by (laid (length vo) n values) vo (laid (length ko) n keys) ko)
-  order_told n wv wk values keys vo ko ev ek lv lk ev_order ek_order =
-      then_ok (of_keys (laid wv n values) (laid wk n keys)) (windowed rows plan) (λ w. Ok (in_order w)) (windowed_is (laid wv n values) (laid wk n keys) ev ek)
-      ∙ ap Ok (same_order (laid wv n values) (laid (length vo) n values) (ascending plan.partition) vo (laid wk n keys) (laid (length ko) n keys) (map (λ k. k.order) plan.keys) ko
-      (ap (λ w. laid w n values) lv) (sym ev_order) (ap (λ w. laid w n keys) lk) (sym ek_order))
+  pub order_told : (V K : List (List Meaning)) (vo ko : List SortKey) → lists_of plan.partition rows ≡ Ok V → lists_of (map (λ k. k.value) plan.keys) rows ≡ Ok K → vo ≡ ascending plan.partition → ko ≡ map (λ k. k.order) plan.keys → ordered_rows rows plan ≡ Ok (ordered_by V vo K ko)
+  order_told V K vo ko ev ek ev_order ek_order =
+      then_ok (of_keys V K) (windowed rows plan) (λ w. Ok (in_order w)) (windowed_is V K ev ek)
+      ∙ ap Ok (same_order V V (ascending plan.partition) vo K K (map (λ k. k.order) plan.keys) ko refl (sym ev_order) refl (sym ek_order))
+
+  -- as many lists of keys as of partition values
+  pub both_long : (V K : List (List Meaning)) → lists_of plan.partition rows ≡ Ok V → lists_of (map (λ k. k.value) plan.keys) rows ≡ Ok K → length V ≡ length K
+  both_long V K ev ek = lists_long plan.partition rows V ev ∙ sym (lists_long (map (λ k. k.value) plan.keys) rows K ek)
 
 abbrev numbers_in : Result (List ℕ) AnswerFault → List ℕ
 numbers_in (Ok numbers) = numbers

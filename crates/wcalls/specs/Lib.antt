@@ -6,6 +6,8 @@ pub mod Sound
 pub mod Lent
 pub mod Seen
 pub mod Kept
+pub mod ListedColumns
+pub mod Listed
 pub mod Arranged
 pub mod Ordered
 pub mod OrderKept

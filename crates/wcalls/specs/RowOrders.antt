@@ -1,4 +1,4 @@
--- What is told of rows that were sorted by partition values and by keys, which are laid out as lists.
+-- What is told of rows that were sorted by partition values and by keys, a list for each row.
 use Rattle.std.specs.Prelude.{◌≡◌, ◌<◌, ℕ, List, All, IfSome, length, map}
 use Rattle.std.specs.Ordering.{on}
 use Rattle.wvalues.specs.declared.key.SortKey.{SortKey}

@@ -7,15 +7,16 @@
 //! - Leaves frames to `wframe`, places to `wplaces`, aggregates to `waggregate`.
 //!
 //! Rows are put into the order of a window once, which serves each window of the same partition values and keys; where the
-//! numbers of the rows are told in it, nothing is sorted. Each
+//! numbers of the rows are told in it, nothing is sorted. Partition values and keys that are plain columns are lent from the
+//! rows, and only what is worked out is kept with the order. Each
 //! function answers one partition after another there, and each answer is put at its row's number in the window's
 //! columns. A function that is no aggregate keeps a number at the row's number first, and its value is read from that, row
 //! after row: one list a function, whatever the number of partitions, and one of the values of an argument that is more than
 //! a plain column.
 //!
 //! Read `specs/Frames.antt`, `specs/Windows.antt`, `specs/Calls.antt` and `specs/Functions.antt`, then
-//! `specs/Ordered.antt`, `specs/Arranged.antt`, `specs/Kept.antt` and `specs/Seen.antt`; `specs/Sound.antt`
-//! says what is asked.
+//! `specs/Ordered.antt`, `specs/Arranged.antt`, `specs/Listed.antt`, `specs/Kept.antt` and `specs/Seen.antt`;
+//! `specs/Sound.antt` says what is asked.
 #![tactic(auto)]
 
 mod aggregated;
@@ -27,6 +28,9 @@ mod lending;
 mod limits;
 mod numbered;
 mod parts;
+mod plain_lists;
+mod row_keys;
+mod row_lists;
 mod told;
 mod values;
 mod window;

@@ -1,18 +1,20 @@
 //! The parts of a window, each in a list of its own.
-ghost use Rattle.std.specs.Prelude.{◌≡◌, ◌*◌, IfOk, length, map};
+ghost use Rattle.std.specs.Prelude.{◌≡◌, IfOk, length, map};
 ghost use Rattle.wplan.specs.Formula.{formula};
 ghost use Rattle.wplan.specs.Plans.{key_plan, window_plan};
 ghost use Rattle.wrows.specs.Outcomes.{Gives};
 ghost use Rattle.wrows.specs.Columns.{lists_of};
-ghost use Rattle.wrows.specs.LaidRows.{laid};
 ghost use Rattle.wrows.specs.Laid.{formulas_seen, rows_seen};
 ghost use Rattle.wrows.specs.Sorting.{ascending};
+ghost use Rattle.wcalls.specs.Listed.{lists_in};
 ghost use Rattle.wcalls.specs.Frames.{bound_of, exclusion_of, frame_of, mode_of};
 
+use crate::row_keys::RowKeys;
+use crate::row_lists::row_lists;
 use std::alloc::{AllocError, Global};
 use wframe::{Frame, FrameBound, FrameExclusion, FrameMode};
 use wplan::{Expr, SettledFrame, SettledKey, SettledWindow};
-use wrows::{AnswerFault, lists};
+use wrows::AnswerFault;
 use wvalues::{SortKey, Value};
 
 /// The order of partition values.
@@ -34,8 +36,8 @@ fn lent_values(alloc: Global, values: &[Expr]) -> Result<Vec<&Expr>, AllocError>
     Ok(lent)
 }
 
-/// How partition values are ordered.
-pub(crate) fn value_orders(alloc: Global, values: &[Expr]) -> Result<Vec<SortKey>, AllocError>
+// How partition values are ordered.
+fn value_orders(alloc: Global, values: &[Expr]) -> Result<Vec<SortKey>, AllocError>
     ensures orders { IfOk result (λ orders. orders.items ≡ ascending (map formula values.now)) }
     ensures len { IfOk result (λ orders. length orders.items ≡ length values.now) }
 {
@@ -58,8 +60,8 @@ fn key_values(alloc: Global, keys: &[SettledKey]) -> Result<Vec<&Expr>, AllocErr
     Ok(values)
 }
 
-/// How keys are ordered.
-pub(crate) fn key_orders(alloc: Global, keys: &[SettledKey]) -> Result<Vec<SortKey>, AllocError>
+// How keys are ordered.
+fn key_orders(alloc: Global, keys: &[SettledKey]) -> Result<Vec<SortKey>, AllocError>
     ensures orders { IfOk result (λ orders. orders.items ≡ map (λ k. k.order) (map key_plan keys.now)) }
     ensures len { IfOk result (λ orders. length orders.items ≡ length keys.now) }
 {
@@ -70,32 +72,34 @@ pub(crate) fn key_orders(alloc: Global, keys: &[SettledKey]) -> Result<Vec<SortK
     Ok(orders)
 }
 
-/// The partition values of each row, laid out one row after another.
-pub(crate) fn partition_cells(
+/// The partition values of rows, in their order.
+pub(crate) fn partition_keys<'a>(
     alloc: Global,
     window: &SettledWindow,
-    rows: &[&[Value]],
-) -> Result<Vec<Value>, AnswerFault>
-    ensures gives { Gives (λ cells. laid (length window.now.partition.items) (length rows.now) cells.items) result (lists_of (window_plan window.now).partition (rows_seen rows.now)) }
-    ensures laid { IfOk result (λ cells. length cells.items ≡ length rows.now * length window.now.partition.items) }
+    rows: &'a [&'a [Value]],
+) -> Result<RowKeys<'a>, AnswerFault>
+    ensures gives { Gives (λ values. lists_in values.lists) result (lists_of (window_plan window.now).partition (rows_seen rows.now)) }
+    ensures orders { IfOk result (λ values. values.orders.items ≡ ascending (window_plan window.now).partition) }
 {
     let values = lent_values(alloc, &window.partition)?;
-    let cells = lists(alloc, &values, rows)?;
-    Ok(cells)
+    let lists = row_lists(alloc, &values, rows)?;
+    let orders = value_orders(alloc, &window.partition)?;
+    Ok(RowKeys { lists, orders })
 }
 
-/// The keys of each row, laid out one row after another.
-pub(crate) fn key_cells(
+/// The keys of rows, in their order.
+pub(crate) fn window_keys<'a>(
     alloc: Global,
     window: &SettledWindow,
-    rows: &[&[Value]],
-) -> Result<Vec<Value>, AnswerFault>
-    ensures gives { Gives (λ cells. laid (length window.now.keys.items) (length rows.now) cells.items) result (lists_of (map (λ k. k.value) (window_plan window.now).keys) (rows_seen rows.now)) }
-    ensures laid { IfOk result (λ cells. length cells.items ≡ length rows.now * length window.now.keys.items) }
+    rows: &'a [&'a [Value]],
+) -> Result<RowKeys<'a>, AnswerFault>
+    ensures gives { Gives (λ keys. lists_in keys.lists) result (lists_of (map (λ k. k.value) (window_plan window.now).keys) (rows_seen rows.now)) }
+    ensures orders { IfOk result (λ keys. keys.orders.items ≡ map (λ k. k.order) (window_plan window.now).keys) }
 {
     let values = key_values(alloc, &window.keys)?;
-    let cells = lists(alloc, &values, rows)?;
-    Ok(cells)
+    let lists = row_lists(alloc, &values, rows)?;
+    let orders = key_orders(alloc, &window.keys)?;
+    Ok(RowKeys { lists, orders })
 }
 
 fn mode_of(mode: wquery::FrameMode) -> FrameMode

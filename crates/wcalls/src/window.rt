@@ -14,43 +14,41 @@ ghost use Rattle.wplan.specs.Plans.{window_plan};
 ghost use Rattle.wplan.specs.Sameness.{is_same_order};
 ghost use Rattle.wrows.specs.CodedRows.{AreRowCodes};
 ghost use Rattle.wrows.specs.Columns.{Row};
-ghost use Rattle.wrows.specs.LaidRows.{laid};
 ghost use Rattle.wrows.specs.Laid.{rows_seen};
 ghost use Rattle.wrows.specs.Outcomes.{Gives};
 ghost use Rattle.wrows.specs.Plain.{numbers_by};
 ghost use Rattle.wcalls.specs.Arranged.{IsArranged};
+ghost use Rattle.wcalls.specs.Listed.{lists_in};
 ghost use Rattle.wcalls.specs.Ordered.{in_order, numbers_in_order, ordered_by, ordered_rows, window_numbers};
 ghost use Rattle.wcalls.specs.RowOrders.{IsRowOrder};
 ghost use Rattle.wcalls.specs.Windows.{Windowed};
 
-use crate::lending::lent_rows;
-use crate::parts::{key_cells, key_orders, partition_cells, value_orders};
+use crate::parts::{partition_keys, window_keys};
+use crate::row_keys::RowKeys;
 use std::alloc::{AllocError, Global};
 use std::marker::Model;
 use waggregate::Tally;
 use wframe::{Frame, KeyRows, Partitions};
 use wplan::{SettledWindow, same_order};
-use wrows::{AnswerFault, numbers, order_by_codes, picked_codes, resorted_numbers, row_codes};
-use wvalues::{SortKey, Value};
+use wrows::{AnswerFault, order_by_codes, picked_codes};
+use wvalues::Value;
 
 /// Rows by the partition values of a window, by its keys and then by number, with the partition values and the keys of
-/// each. The window's frame plays no part, so it serves each window of the same partition values and keys.
+/// each: where these are plain columns, they are not copied. The window's frame plays no part, so it serves each window of
+/// the same partition values and keys.
 ///
 /// A single partition value or key was sorted by codes. These are kept in the order of the rows and tell the rows apart there,
 /// so that partitions and peers are found without a look at the values, which lie scattered.
 #[derive(Drop)]
-pub struct WindowOrder {
+pub struct WindowOrder<'a> {
     rows: Vec<usize>,
-    // Those of one row after another, by the rows' numbers.
-    values: Vec<Value>,
-    value_order: Vec<SortKey>,
+    values: RowKeys<'a>,
     value_codes: Option<Vec<u32>>,
-    keys: Vec<Value>,
-    key_order: Vec<SortKey>,
+    keys: RowKeys<'a>,
     key_codes: Option<Vec<u32>>,
 }
 
-impl Model for WindowOrder {
+impl<'a> Model for WindowOrder<'a> {
     ghost use Rattle.wcalls.specs.Ordered.{Ordered};
 
     ghost Value = { Ordered };
@@ -62,24 +60,22 @@ impl Model for WindowOrder {
     ghost invariant = { IsKept };
 }
 
-impl WindowOrder {
+impl<'a> WindowOrder<'a> {
     /// Orders rows as a window does. All its partition values and keys are evaluated on every row, and `OutOfRange` where
     /// one is so on any; the rows are sorted once. The order that is made counts among the orders.
     pub fn new(
         alloc: Global,
         window: &SettledWindow,
-        rows: &[&[Value]],
+        rows: &'a [&'a [Value]],
         orders: &mut Tally,
-    ) -> Result<WindowOrder, AnswerFault>
+    ) -> Result<WindowOrder<'a>, AnswerFault>
         ensures order { Gives (λ order. order) result (ordered_rows (rows_seen rows.now) (window_plan window.now)) }
         ensures made { OnOk result (orders.new ≡ min (orders.old + 1) (2 ^ 64 - 1)) }
         ensures none { OnErr result (orders.new ≡ orders.old) }
     {
-        let values = partition_cells(alloc, window, rows)?;
-        let keys = key_cells(alloc, window, rows)?;
-        let value_order = value_orders(alloc, &window.partition)?;
-        let key_order = key_orders(alloc, &window.keys)?;
-        let order = ordered_cells(alloc, values, value_order, keys, key_order, rows.len())?;
+        let values = partition_keys(alloc, window, rows)?;
+        let keys = window_keys(alloc, window, rows)?;
+        let order = ordered_keys(alloc, values, keys)?;
         orders.add(1);
         Ok(order)
     }
@@ -90,21 +86,18 @@ impl WindowOrder {
     pub fn told(
         alloc: Global,
         window: &SettledWindow,
-        rows: &[&[Value]],
+        rows: &'a [&'a [Value]],
         numbers: Vec<usize>,
         orders: &mut Tally,
-    ) -> Result<WindowOrder, AnswerFault>
+    ) -> Result<WindowOrder<'a>, AnswerFault>
         requires { window_numbers (rows_seen rows.now) (window_plan window.now) ≡ Ok numbers.items }
         ensures order { Gives (λ order. order) result (ordered_rows (rows_seen rows.now) (window_plan window.now)) }
         ensures made { OnOk result (orders.new ≡ min (orders.old + 1) (2 ^ 64 - 1)) }
         ensures none { OnErr result (orders.new ≡ orders.old) }
     {
-        let values = partition_cells(alloc, window, rows)?;
-        let keys = key_cells(alloc, window, rows)?;
-        let value_order = value_orders(alloc, &window.partition)?;
-        let key_order = key_orders(alloc, &window.keys)?;
-        let count = rows.len();
-        let order = told_cells(alloc, values, value_order, keys, key_order, count, numbers)?;
+        let values = partition_keys(alloc, window, rows)?;
+        let keys = window_keys(alloc, window, rows)?;
+        let order = told_keys(alloc, values, keys, numbers)?;
         orders.add(1);
         Ok(order)
     }
@@ -122,29 +115,28 @@ impl WindowOrder {
         ensures rows { IfOk result (λ cells. rows_of (length self.now.order) (length self.now.rows) cells.items ≡ self.now.keys) }
         ensures laid { IfOk result (λ cells. length cells.items ≡ length self.now.rows * length self.now.order) }
     {
-        let count = self.rows.len();
-        let cells = lent_rows(alloc, &self.keys, self.key_order.len(), count, &self.rows)?;
+        let cells = self.keys.lent(alloc, &self.rows)?;
         Ok(cells)
     }
 
     /// The rows in order by their keys, which are lent in order.
-    pub(crate) fn key_rows<'a>(&'a self, cells: &'a [&'a Value]) -> KeyRows<'a>
+    pub(crate) fn key_rows<'b>(&'b self, cells: &'b [&'b Value]) -> KeyRows<'b>
         requires laid { length cells.now ≡ length self.now.rows * length self.now.order }
         requires rows { rows_of (length self.now.order) (length self.now.rows) cells.now ≡ self.now.keys }
         ensures lists { key_lists result ≡ self.now.keys }
         ensures order { sort_keys result ≡ self.now.order }
     {
-        let keys = KeyRows::new(cells, &self.key_order, self.rows.len());
+        let keys = KeyRows::new(cells, &self.keys.orders, self.rows.len());
         told_apart(keys, &self.key_codes)
     }
 
     /// The partitions of the rows with their frames, where the keys of the rows are lent in order.
-    pub(crate) fn partitions<'a>(
+    pub(crate) fn partitions<'b>(
         &self,
         alloc: Global,
-        keys: KeyRows<'a>,
+        keys: KeyRows<'b>,
         frame: Frame,
-    ) -> Result<Partitions<'a>, AllocError>
+    ) -> Result<Partitions<'b>, AllocError>
         requires keys { key_lists keys ≡ self.now.keys }
         requires order { sort_keys keys ≡ self.now.order }
         requires count { length (key_lists keys) ≡ length self.now.rows }
@@ -153,15 +145,8 @@ impl WindowOrder {
         ensures frame { IfOk result (λ all. all.frame ≡ frame) }
         ensures len { IfOk result (λ all. length self.now.rows ≡ length all.keys) }
     {
-        let count = self.rows.len();
-        let cells = lent_rows(
-            alloc,
-            &self.values,
-            self.value_order.len(),
-            count,
-            &self.rows,
-        )?;
-        let rows = KeyRows::new(&cells, &self.value_order, count);
+        let cells = self.values.lent(alloc, &self.rows)?;
+        let rows = KeyRows::new(&cells, &self.values.orders, self.rows.len());
         let values = told_apart(rows, &self.value_codes);
         let partitions = Partitions::build(alloc, &values, keys, frame)?;
         Ok(partitions)
@@ -178,18 +163,12 @@ pub fn share_order(a: &SettledWindow, b: &SettledWindow) -> bool
     same_order(a, b)
 }
 
-// Rows in an order that was made of them, where the partition values and the keys of each are cells.
-fn kept_order(
-    order: RowOrder,
-    values: Vec<Value>,
-    value_order: Vec<SortKey>,
-    keys: Vec<Value>,
-    key_order: Vec<SortKey>,
-) -> WindowOrder
-    requires values { length values.items ≡ length order.rows.items * length value_order.items }
-    requires keys { length keys.items ≡ length order.rows.items * length key_order.items }
-    requires order { IsRowOrder value_order.items (laid (length value_order.items) (length order.rows.items) values.items) key_order.items (laid (length key_order.items) (length order.rows.items) keys.items) (length order.rows.items) order }
-    ensures { result ≡ ordered_by (laid (length value_order.items) (length order.rows.items) values.items) value_order.items (laid (length key_order.items) (length order.rows.items) keys.items) key_order.items }
+// Rows in an order that was made of their partition values and keys.
+fn kept_order<'a>(order: RowOrder, values: RowKeys<'a>, keys: RowKeys<'a>) -> WindowOrder<'a>
+    requires values { length (lists_in values.lists) ≡ length order.rows.items }
+    requires keys { length (lists_in keys.lists) ≡ length order.rows.items }
+    requires order { IsRowOrder values.orders.items (lists_in values.lists) keys.orders.items (lists_in keys.lists) (length order.rows.items) order }
+    ensures { result ≡ ordered_by (lists_in values.entry.lists) values.entry.orders.items (lists_in keys.entry.lists) keys.entry.orders.items }
 {
     let RowOrder {
         rows,
@@ -199,56 +178,38 @@ fn kept_order(
     WindowOrder {
         rows,
         values,
-        value_order,
         value_codes,
         keys,
-        key_order,
         key_codes,
     }
 }
 
-// Rows in order, where the partition values and the keys of each are cells.
-fn ordered_cells(
+// Rows in the order of their partition values and keys.
+fn ordered_keys<'a>(
     alloc: Global,
-    values: Vec<Value>,
-    value_order: Vec<SortKey>,
-    keys: Vec<Value>,
-    key_order: Vec<SortKey>,
-    count: usize,
-) -> Result<WindowOrder, AllocError>
-    requires values { length values.items ≡ count * length value_order.items }
-    requires keys { length keys.items ≡ count * length key_order.items }
-    ensures { IfOk result (λ order. order ≡ ordered_by (laid (length value_order.items) count values.items) value_order.items (laid (length key_order.items) count keys.items) key_order.items) }
+    values: RowKeys<'a>,
+    keys: RowKeys<'a>,
+) -> Result<WindowOrder<'a>, AllocError>
+    requires { length (lists_in values.lists) ≡ length (lists_in keys.lists) }
+    ensures { IfOk result (λ order. order ≡ ordered_by (lists_in values.entry.lists) values.entry.orders.items (lists_in keys.entry.lists) keys.entry.orders.items) }
 {
-    let order = row_order(alloc, &values, &value_order, &keys, &key_order, count)?;
-    Ok(kept_order(order, values, value_order, keys, key_order))
+    let order = row_order(alloc, &values, &keys)?;
+    Ok(kept_order(order, values, keys))
 }
 
-// Rows in an order that is told, where the partition values and the keys of each are cells.
-fn told_cells(
+// Rows in the order of their partition values and keys, which is told.
+fn told_keys<'a>(
     alloc: Global,
-    values: Vec<Value>,
-    value_order: Vec<SortKey>,
-    keys: Vec<Value>,
-    key_order: Vec<SortKey>,
-    count: usize,
+    values: RowKeys<'a>,
+    keys: RowKeys<'a>,
     numbers: Vec<usize>,
-) -> Result<WindowOrder, AllocError>
-    requires values { length values.items ≡ count * length value_order.items }
-    requires keys { length keys.items ≡ count * length key_order.items }
-    requires order { numbers.items ≡ numbers_in_order (laid (length value_order.items) count values.items) value_order.items (laid (length key_order.items) count keys.items) key_order.items }
-    ensures { IfOk result (λ order. order ≡ ordered_by (laid (length value_order.items) count values.items) value_order.items (laid (length key_order.items) count keys.items) key_order.items) }
+) -> Result<WindowOrder<'a>, AllocError>
+    requires count { length (lists_in values.lists) ≡ length (lists_in keys.lists) }
+    requires order { numbers.items ≡ numbers_in_order (lists_in values.lists) values.orders.items (lists_in keys.lists) keys.orders.items }
+    ensures { IfOk result (λ order. order ≡ ordered_by (lists_in values.entry.lists) values.entry.orders.items (lists_in keys.entry.lists) keys.entry.orders.items) }
 {
-    let order = told_order(
-        alloc,
-        &values,
-        &value_order,
-        &keys,
-        &key_order,
-        count,
-        numbers,
-    )?;
-    Ok(kept_order(order, values, value_order, keys, key_order))
+    let order = told_order(alloc, &values, &keys, numbers)?;
+    Ok(kept_order(order, values, keys))
 }
 
 // Rows that are told apart by codes, where there are some.
@@ -287,26 +248,18 @@ fn coded_order(alloc: Global, firsts: &[u32], seconds: &[u32]) -> Result<RowOrde
 
 // The order of rows by partition values, then by keys, then by number: by the codes of both, where there are some. Else
 // the keys are sorted by first, and then the partition values, which leaves rows of one partition as they stand.
-fn row_order(
-    alloc: Global,
-    values: &[Value],
-    value_order: &[SortKey],
-    keys: &[Value],
-    key_order: &[SortKey],
-    count: usize,
-) -> Result<RowOrder, AllocError>
-    requires values { length values.now ≡ count * length value_order.now }
-    requires keys { length keys.now ≡ count * length key_order.now }
-    ensures { IfOk result (IsRowOrder value_order.now (laid (length value_order.now) count values.now) key_order.now (laid (length key_order.now) count keys.now) count) }
+fn row_order(alloc: Global, values: &RowKeys, keys: &RowKeys) -> Result<RowOrder, AllocError>
+    requires { length (lists_in values.now.lists) ≡ length (lists_in keys.now.lists) }
+    ensures { IfOk result (IsRowOrder values.now.orders.items (lists_in values.now.lists) keys.now.orders.items (lists_in keys.now.lists) (length (lists_in keys.now.lists))) }
 {
-    let key_codes = row_codes(alloc, keys, key_order, count)?;
-    let value_codes = row_codes(alloc, values, value_order, count)?;
+    let key_codes = keys.codes(alloc)?;
+    let value_codes = values.codes(alloc)?;
     if let (Some(firsts), Some(seconds)) = (&value_codes, &key_codes) {
         let order = coded_order(alloc, firsts, seconds)?;
         return Ok(order);
     }
-    let by_key = numbers_in(alloc, keys, key_order, &key_codes, count)?;
-    let rows = resorted_numbers(alloc, values, value_order, &value_codes, count, by_key)?;
+    let by_key = keys.numbers(alloc, &key_codes)?;
+    let rows = values.resorted(alloc, &value_codes, by_key)?;
     let value_codes = codes_of(alloc, value_codes, &rows)?;
     let key_codes = codes_of(alloc, key_codes, &rows)?;
     Ok(RowOrder {
@@ -314,81 +267,31 @@ fn row_order(
         value_codes,
         key_codes,
     })
-}
-
-// Whether one of some cells is a text.
-fn has_text(cells: &[Value]) -> bool {
-    for cell in cells {
-        if let Value::Text(_) = cell {
-            return true;
-        }
-    }
-    false
-}
-
-// Codes for rows of one key that holds no text. Those of texts would have to be sorted, so texts are told apart by themselves.
-fn told_codes(
-    alloc: Global,
-    cells: &[Value],
-    keys: &[SortKey],
-    count: usize,
-) -> Result<Option<Vec<u32>>, AllocError>
-    requires { length cells.now ≡ count * length keys.now }
-    ensures { IfOk result (λ found. IfSome found (λ codes. AreRowCodes keys.now (laid (length keys.now) count cells.now) codes.items)) }
-{
-    if has_text(cells) {
-        return Ok(None);
-    }
-    let codes = row_codes(alloc, cells, keys, count)?;
-    Ok(codes)
 }
 
 // The order of rows that is told, with the codes of their partition values and of their keys there, where these are told
 // without sorting. The rows stand by partition values, then by keys, then by number.
 fn told_order(
     alloc: Global,
-    values: &[Value],
-    value_order: &[SortKey],
-    keys: &[Value],
-    key_order: &[SortKey],
-    count: usize,
+    values: &RowKeys,
+    keys: &RowKeys,
     rows: Vec<usize>,
 ) -> Result<RowOrder, AllocError>
-    requires values { length values.now ≡ count * length value_order.now }
-    requires keys { length keys.now ≡ count * length key_order.now }
-    requires order { rows.items ≡ sorted (on (key_at (laid (length value_order.now) count values.now)) (keys_cmp value_order.now)) (numbers_by key_order.now (laid (length key_order.now) count keys.now) count) }
-    requires below { All (λ i. i < count) rows.items }
-    requires len { length rows.items ≡ count }
-    ensures { IfOk result (IsRowOrder value_order.now (laid (length value_order.now) count values.now) key_order.now (laid (length key_order.now) count keys.now) count) }
+    requires count { length (lists_in values.now.lists) ≡ length (lists_in keys.now.lists) }
+    requires order { rows.items ≡ sorted (on (key_at (lists_in values.now.lists)) (keys_cmp values.now.orders.items)) (numbers_by keys.now.orders.items (lists_in keys.now.lists) (length (lists_in keys.now.lists))) }
+    requires below { All (λ i. i < length (lists_in keys.now.lists)) rows.items }
+    requires len { length rows.items ≡ length (lists_in keys.now.lists) }
+    ensures { IfOk result (IsRowOrder values.now.orders.items (lists_in values.now.lists) keys.now.orders.items (lists_in keys.now.lists) (length (lists_in keys.now.lists))) }
 {
-    let key_codes = told_codes(alloc, keys, key_order, count)?;
-    let value_codes = told_codes(alloc, values, value_order, count)?;
-    let value_codes = codes_of(alloc, value_codes, &rows)?;
+    let key_codes = keys.told_codes(alloc)?;
     let key_codes = codes_of(alloc, key_codes, &rows)?;
+    let value_codes = values.told_codes(alloc)?;
+    let value_codes = codes_of(alloc, value_codes, &rows)?;
     Ok(RowOrder {
         rows,
         value_codes,
         key_codes,
     })
-}
-
-// The numbers of rows by keys, and then by number. They have the codes that are told, if there are any.
-fn numbers_in(
-    alloc: Global,
-    keys: &[Value],
-    order: &[SortKey],
-    codes: &Option<Vec<u32>>,
-    count: usize,
-) -> Result<Vec<usize>, AllocError>
-    requires laid { length keys.now ≡ count * length order.now }
-    requires codes { IfSome codes.now (λ codes. AreRowCodes order.now (laid (length order.now) count keys.now) codes.items) }
-    ensures order { IfOk result (λ rows. rows.items ≡ numbers_by order.now (laid (length order.now) count keys.now) count) }
-    ensures below { IfOk result (λ rows. All (λ i. i < count) rows.items) }
-    ensures len { IfOk result (λ rows. length rows.items ≡ count) }
-{
-    let rows = numbers(alloc, count)?;
-    let by_key = resorted_numbers(alloc, keys, order, codes, count, rows)?;
-    Ok(by_key)
 }
 
 // The codes of the rows of these numbers, in their order, if rows have codes.

@@ -1,5 +1,5 @@
 -- Texts that the parts of an expression read.
-use Rattle.std.proofs.Common.{◌≡◌, Bool, true, false, ℕ, zero, suc, ◌<◌, List, [], ◌∷◌, ◌⊎◌, inl, inr, Result, Err, refl, ap, sym, ◌∙◌, map, length, get_or, arith, subst}
+use Rattle.std.proofs.Common.{◌≡◌, Bool, true, false, ℕ, zero, suc, ◌<◌, List, [], ◌∷◌, ◌⊎◌, inl, inr, Result, Err, refl, ap, sym, ◌∙◌, map, length, get_or, arith}
 use Rattle.std.proofs.lemmas.Bool.{false≢true}
 use Rattle.std.proofs.Math.Bool.{◌||◌}
 use Rattle.std.specs.declared.boxed.Box.{Box}

@@ -12,7 +12,7 @@ ghost use Rattle.wplan.specs.declared.cell.EvalFault.TheVariants.{NoMemory};
 
 use crate::cell::{Cell, EvalFault};
 use crate::expr::{Expr, Further};
-use crate::leaves::compared_in_place;
+use crate::leaves::{between_in_place, compared_in_place};
 use crate::operating::{
     applied, between_truth, cells_compared, negated_cell, null_cell, signed_cell, turned_truth,
 };
@@ -82,12 +82,15 @@ pub fn eval(e: &Expr, row: &[Value]) -> Result<Cell, EvalFault>
             operand,
             low,
             high,
-        } => {
-            let x = eval(operand, row)?;
-            let y = eval(low, row)?;
-            let z = eval(high, row)?;
-            Ok(Cell::Truth(turned_truth(*negated, between_truth(&x, &y, &z))))
-        }
+        } => match between_in_place(operand, low, high, row) {
+            Some(truth) => Ok(Cell::Truth(turned_truth(*negated, truth))),
+            None => {
+                let x = eval(operand, row)?;
+                let y = eval(low, row)?;
+                let z = eval(high, row)?;
+                Ok(Cell::Truth(turned_truth(*negated, between_truth(&x, &y, &z))))
+            }
+        },
         Expr::In {
             negated,
             operand,

@@ -1,12 +1,12 @@
 //! Comparisons of values that are looked at where they lie.
 
-ghost use Rattle.std.specs.Prelude.{◌≡◌, ◌&&◌, IfSome, get_or, length, map};
+ghost use Rattle.std.specs.Prelude.{◌≡◌, ◌&&◌, Bool, IfSome, get_or, length, map};
 ghost use Rattle.std.specs.Option.{is_some};
 ghost use Rattle.wvalues.specs.Meaning.{meaning, Null};
 ghost use Rattle.wplan.specs.declared.expr.Expr.{out-Expr};
-ghost use Rattle.wplan.specs.Formula.{formula, Compared};
+ghost use Rattle.wplan.specs.Formula.{formula, Compared, Within};
 ghost use Rattle.wplan.specs.Leaves.{is_leaf, is_place_below};
-ghost use Rattle.wplan.specs.Values.{Held, Judged, order_of, value_in, value_of};
+ghost use Rattle.wplan.specs.Values.{Held, Judged, order_of, turned, value_in, value_of};
 
 use crate::expr::Expr;
 use crate::operating::{judge, order};
@@ -69,4 +69,21 @@ pub(crate) fn compared_in_place(
         None => None,
         Some(found) => Some(judge(comparison, found)),
     }
+}
+
+/// Whether the value at a place of a row lies between two, where each of these is a value by itself or one at a place. None
+/// is copied.
+#[tactic(auto, using(crate::proofs::LeafFacts::between_leaves))]
+pub(crate) fn between_in_place(
+    operand: &Expr,
+    low: &Expr,
+    high: &Expr,
+    row: &[Value],
+) -> Option<Truth>
+    ensures found { is_some result ≡ (is_place_below (length row.now) (out-Expr operand.now) && (is_leaf (out-Expr low.now) && is_leaf (out-Expr high.now))) }
+    ensures truth { (negated : Bool) → IfSome result (λ t. value_of (map meaning row.now) (Within negated (formula operand.now) (formula low.now) (formula high.now)) ≡ Judged (turned negated t)) }
+{
+    let above = compared_in_place(Comparison::GreaterOrEqual, operand, low, row)?;
+    let below = compared_in_place(Comparison::LessOrEqual, operand, high, row)?;
+    Some(above.and(below))
 }

@@ -1,6 +1,6 @@
--- The text of a SELECT over windows, from its rows and the columns of what its calls answer.
-use Rattle.std.proofs.Common.{◌≡◌, ℕ, zero, suc, ◌+◌, ◌-◌, ◌<◌, List, [], ◌∷◌, drop, get_or, length, map, min, take, Option, Result, Ok, Err, true, refl, sym, ap, ◌∙◌, subst, arith}
-use Rattle.std.specs.List.{AllByRecursion, range_with_len}
+-- The text of a SELECT whose items stand at places, from its rows and the columns of what its calls answer.
+use Rattle.std.proofs.Common.{◌≡◌, ℕ, zero, suc, ◌+◌, ◌-◌, ◌<◌, ◌||◌, false, List, [], ◌∷◌, drop, get_or, length, map, min, take, Option, Result, Ok, Err, true, refl, sym, ap, ◌∙◌, subst, arith}
+use Rattle.std.specs.List.{AllByRecursion, list_any, range_with_len}
 use Rattle.std.proofs.lemmas.List.{get_or-map, length-map}
 use Rattle.std.proofs.lemmas.List.Elements.{recursion_from_All}
 use Rattle.wvalues.specs.declared.key.SortKey.{SortKey}
@@ -12,21 +12,40 @@ use Rattle.wplan.specs.Plans.{KeyPlan, SelectPlan}
 use Rattle.wprinted.specs.Beside.{rows_from}
 use Rattle.wprinted.specs.Printing.{table_text, values_at}
 use Rattle.wrows.specs.declared.fault.AnswerFault.{AnswerFault}
-use Rattle.wrows.specs.Outcomes.{◌>>=◌, Gives}
-use Rattle.wrows.specs.Columns.{Row, beside, lists_of}
+use Rattle.wrows.specs.declared.fault.AnswerFault.TheVariants.{OutOfRange, TooManyRows, NoMemory}
+use Rattle.wrows.specs.Outcomes.{◌>>=◌, Gives, unless}
+use Rattle.wrows.specs.Columns.{Row, beside, is_out_of_range, lists_of, value_on}
 use Rattle.wrows.specs.Picked.{numbers_of, row_beside}
 use Rattle.wrows.specs.Plain.{at_most_limit, cut, kept_of, numbers_by, ordered, ordered_of}
 use Rattle.wrows.proofs.KeyFacts.{by_no_key}
 use Rattle.wrows.proofs.RowFacts.{cut_numbers, length-places, map-cut, map-map, then_ok, then_refused}
 use Rattle.wplanner.specs.Answers.{items_of, left_items, left_rows, select_of}
-use Rattle.wplanner.specs.Beside.{ReadsPlaces}
 use Rattle.wplanner.specs.ByWindow.{columns_from, columns_of_calls}
-use Rattle.wplanner.specs.Lent.{text_in}
+use Rattle.wplanner.specs.Lent.{ReadsPlaces, text_in}
 use Rattle.wplanner.specs.Sound.{is_sound_select}
-use Rattle.wplanner.specs.TableOrders.{by_keys}
-use Rattle.wplanner.proofs.ColumnFacts.{below_keys, beside_long}
-use Rattle.wplanner.proofs.LentFacts.{plain_lists}
+use Rattle.wtable.specs.TableOrders.{by_keys}
+use Rattle.wtable.proofs.ColumnFacts.{below_keys, beside_long}
+use Rattle.wplanner.proofs.PlanFacts.{beside_nothing, no_calls}
 use Rattle.wplanner.proofs.SelectFacts.{called_is}
+
+module _ (ps : List ℕ) where
+  -- plain columns are out of range on no row
+  none_refused : (qs : List ℕ) (row : Row) → list_any (λ t. is_out_of_range t row) (map At qs) ≡ false
+  none_refused [] row = refl
+  none_refused (q ∷ qs) row = none_refused qs row
+
+  none_at_fault : (rows : List Row) → list_any (λ row. list_any (λ t. is_out_of_range t row) (map At ps)) rows ≡ false
+  none_at_fault [] = refl
+  none_at_fault (row ∷ rows) = ap (λ b. b || list_any (λ row. list_any (λ t. is_out_of_range t row) (map At ps)) rows) (none_refused ps row) ∙ none_at_fault rows
+
+  values_of_all : (rows : List Row) → map (λ row. map (λ t. value_on t row) (map At ps)) rows ≡ map (values_at ps) rows
+  values_of_all [] = refl
+  values_of_all (row ∷ rows) = ap (λ r. r ∷ map (λ row. map (λ t. value_on t row) (map At ps)) rows) (map-map (λ t. value_on t row) At ps) ∙ ap (λ l. values_at ps row ∷ l) (values_of_all rows)
+
+  pub plain_lists : (rows : List Row) → lists_of (map At ps) rows ≡ Ok (map (values_at ps) rows)
+  plain_lists rows =
+      ap (λ b. unless b OutOfRange (map (λ row. map (λ t. value_on t row) (map At ps)) rows)) (none_at_fault rows)
+      ∙ ap Ok (values_of_all rows)
 
 -- the places of rows are their numbers
 places_are : (a n : ℕ) → range_with_len a n ≡ places_from a n
@@ -58,6 +77,24 @@ module _ (rows : List Row) (columns : List (List Meaning)) where
       let all : n ≡ length (beside rows columns) = long ∙ sym (beside_long rows columns) in
       ap (λ l. take count (drop from (map (row_beside rows columns) l))) (places_are 0 (length rows))
       ∙ cut_numbers offset limit (beside rows columns) from count (e ∙ ap (min offset) all) (f ∙ ap (λ m. at_most_limit limit (m - from)) all)
+
+-- the numbers of rows in order, beside which nothing stands
+module _ (plans : List KeyPlan) where
+  abbrev values : List Formula
+  values = map (λ k. k.value) plans
+
+  abbrev orders : List SortKey
+  orders = map (λ k. k.order) plans
+
+  pub numbers_are : (rows : List Row) (by : List (List Meaning)) (numbers : List ℕ) → lists_of values rows ≡ Ok by → numbers ≡ numbers_by orders by (length rows) → by_keys plans [] rows ≡ Ok numbers
+  numbers_are rows by numbers e is =
+      ap (numbers_of values orders) (beside_nothing rows)
+      ∙ then_ok by (lists_of values rows) (λ by. Ok (numbers_by orders by (length rows))) e ∙ ap Ok (sym is)
+
+  pub keys_fail : {X Y : Type 0} (view : X → List (List Meaning)) (whole : Y → List ℕ) (fault : AnswerFault) (rows : List Row) → Gives view (Err fault) (lists_of values rows) → Gives whole (Err fault) (by_keys plans [] rows)
+  keys_fail {X} {Y} view whole fault rows refused =
+      let P : List Row → Type 0 = λ r. Gives whole (Err fault) (numbers_of values orders r) in
+      subst P (sym (beside_nothing rows)) (then_refused view whole fault (lists_of values rows) (λ by. Ok (numbers_by orders by (length rows))) refused)
 
 module _ (s : SelectPlan) (ps : List ℕ) (reads : ReadsPlaces s ps) where
   abbrev keys : List Formula
@@ -125,6 +162,26 @@ module _ (s : SelectPlan) (ps : List ℕ) (reads : ReadsPlaces s ps) where
       subst P (sym (called_is s rows sound))
       (then_refused (λ (r : List Row). r) whole fault (columns_from rows s.calls 0 s.windows >>= items) _ (then_refused view (λ (r : List Row). r) fault (columns_from rows s.calls 0 s.windows) items refused))
 
+  -- rows that are put in order by themselves, where nothing calls for a window
+  unwindowed_is : (rows : List Row) → is_sound_select s ≡ true → length s.windows ≡ 0 → left_items s rows ≡ items_of s (beside rows [])
+  unwindowed_is rows sound none = no_calls s rows none sound ∙ ap (items_of s) (sym (beside_nothing rows))
+
+  pub sorted_is : (rows : List Row) (numbers bytes : List ℕ) → is_sound_select s ≡ true → length s.windows ≡ 0 → by_keys s.keys [] rows ≡ Ok numbers → bytes ≡ text_of (map (values_at ps) (map (row_beside rows []) (cut s.offset s.limit numbers)))
+      → text_in s (left_items s rows) ≡ Ok bytes
+  sorted_is rows numbers bytes sound none told printed = ap (text_in s) (unwindowed_is rows sound none) ∙ told_is rows [] numbers bytes told printed
+
+  pub sorted_fails : {X Y : Type 0} (view : X → List ℕ) (whole : Y → List ℕ) (fault : AnswerFault) (rows : List Row) → is_sound_select s ≡ true → length s.windows ≡ 0 → Gives view (Err fault) (by_keys s.keys [] rows) → Gives whole (Err fault) (text_in s (left_items s rows))
+  sorted_fails {X} {Y} view whole fault rows sound none refused =
+      let P : Result (List Row) AnswerFault → Type 0 = λ r. Gives whole (Err fault) (text_in s r) in
+      subst P (sym (unwindowed_is rows sound none ∙ items_are (beside rows []))) (go (lists_of keys (beside rows [])) fault refused)
+    where
+      go : (by : Result (List (List Meaning)) AnswerFault) (fault : AnswerFault) → Gives view (Err fault) (by >>= λ by. Ok (numbers_by order by (length (beside rows [])))) → Gives whole (Err fault) (text_in s (by >>= in_order (beside rows [])))
+      go by NoMemory h = tt
+      go (Ok by) OutOfRange h = absurd (cc)
+      go (Ok by) TooManyRows h = absurd (cc)
+      go (Err f) OutOfRange h = h
+      go (Err f) TooManyRows h = h
+
   -- the rows that WHERE keeps
   abbrev left : List Row → Result (List Row) AnswerFault
   left kept = left_rows s.grouping kept >>= left_items s
@@ -136,3 +193,7 @@ module _ (s : SelectPlan) (ps : List ℕ) (reads : ReadsPlaces s ps) where
   kept_gives view r rows kept e told =
       let P : Result (List ℕ) AnswerFault → Type 0 = λ meant. Gives view r meant in
       subst P (sym (kept_is rows kept e)) told
+
+  pub kept_fails : {X Y : Type 0} (view : X → List Row) (whole : Y → List ℕ) (fault : AnswerFault) (rows : List Row) → Gives view (Err fault) (kept_of s.condition rows) → Gives whole (Err fault) (text_in s (select_of s rows))
+  kept_fails view whole fault rows refused =
+      then_refused (λ (r : List Row). r) whole fault (select_of s rows) _ (then_refused view (λ (r : List Row). r) fault (kept_of s.condition rows) left refused)

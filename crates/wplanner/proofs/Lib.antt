@@ -1,9 +1,4 @@
 mod Rows
-mod HeldFacts
-mod SourceFacts
-mod LiveFacts
-mod ColumnFacts
-mod NumberFacts
 mod ReferenceFacts
 mod PlanFacts
 mod LentFacts

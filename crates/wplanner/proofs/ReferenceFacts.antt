@@ -1,14 +1,10 @@
--- The rows that references tell, and the text of them.
-use Rattle.std.proofs.Common.{◌≡◌, ℕ, zero, suc, ◌+◌, ◌<◌, ◌^◌, Bool, true, false, List, [], ◌∷◌, ◌++◌, length, map, take, get_or, nat_lt, None, Result, Ok, Err, length-append, refl, sym, ap, ◌∙◌, subst, arith}
+-- The text of the rows that references tell.
+use Rattle.std.proofs.Common.{◌≡◌, ℕ, ◌<◌, ◌^◌, Bool, true, false, List, [], ◌∷◌, append-nil, length, map, nat_lt, None, Result, Ok, Err, refl, sym, ap, ◌∙◌, subst, arith}
 use Rattle.std.proofs.lemmas.Bool.Decides.{nat_tests}
 use Rattle.std.proofs.lemmas.Cmp.{on_total}
-use Rattle.std.proofs.lemmas.List.{get_or-append-add, append_assoc, get_or_append_left, length-map, map-append}
+use Rattle.std.proofs.lemmas.List.{length-map}
 use Rattle.std.proofs.lemmas.List.Elements.{recursion_from_All}
-use Rattle.std.specs.List.{AllByRecursion}
 use Rattle.std.specs.Ordering.{on}
-use Rattle.std.specs.Borrow.{Bor}
-use Rattle.wvalues.specs.Names.{NameParts}
-use Rattle.wsegment.specs.Rows.{Content}
 use Rattle.wvalues.specs.Meaning.{Meaning}
 use Rattle.wvalues.specs.Order.{keys_cmp}
 use Rattle.wvalues.specs.OrderLaws.{keys_total}
@@ -22,51 +18,20 @@ use Rattle.wrows.specs.declared.fault.AnswerFault.TheVariants.{OutOfRange, TooMa
 use Rattle.wrows.specs.Columns.{Row, beside, lists_of, not_too_many}
 use Rattle.wrows.specs.Outcomes.{◌>>=◌, Gives, unless}
 use Rattle.wrows.specs.Plain.{cut, kept_of, numbers_by}
-use Rattle.wrows.proofs.RowFacts.{length-places}
-use Rattle.wruns.specs.Orderings.{kept_before, kept_numbers, number_of}
+use Rattle.wrows.specs.Picked.{row_beside}
+use Rattle.wrows.proofs.RowFacts.{length-places, map-cut}
+use Rattle.wruns.specs.Orderings.{kept_numbers}
 use Rattle.wruns.specs.Runs.{joined}
 use Rattle.wruns.specs.declared.refs.RowRef.{RowRef}
+use Rattle.wtable.specs.Referenced.{row_told}
+use Rattle.wtable.specs.TableOrders.{IsOrderFor, IsRowOf, by_keys, holds_by}
+use Rattle.wtable.proofs.NumberFacts.{all_filtered, few_is}
+use Rattle.wtable.proofs.ReferenceFacts.{told_rows}
 use Rattle.wplanner.specs.Answers.{select_of}
-use Rattle.wplanner.specs.Lent.{IsLent, text_in}
-use Rattle.wplanner.specs.Referenced.{row_told, segments_seen}
+use Rattle.wplanner.specs.Lent.{ReadsPlaces, text_in}
 use Rattle.wplanner.specs.Sound.{is_sound_select}
-use Rattle.wplanner.specs.TableOrders.{IsOrderFor, IsRowOf, by_keys, holds_by}
-use Rattle.wplanner.proofs.LentFacts.{kept_fails, kept_is, told_is}
-use Rattle.wplanner.proofs.NumberFacts.{all_filtered, few_is, length_taken, row_below}
-
--- one segment more is lent
-pub segment_more : (before after : List (Bor Content)) (whole : List (List Row)) (segments left : List (NameParts × Content)) (e : NameParts × Content) (segment : Bor Content) → segments ≡ e ∷ left
-    → segments_seen before ++ map (λ e. e.1.rows) segments ≡ whole → after ≡ before ++ segment ∷ [] → segment.now ≡ e.1 → segments_seen after ++ map (λ e. e.1.rows) left ≡ whole
-segment_more before after whole segments left e segment is so_far more same =
-    ap (λ l. segments_seen l ++ map (λ e. e.1.rows) left) more ∙ ap (λ l. l ++ map (λ e. e.1.rows) left) (map-append (λ (s : Bor Content). s.now.rows) before (segment ∷ []))
-    ∙ append_assoc (segments_seen before) (segment.now.rows ∷ []) (map (λ e. e.1.rows) left)
-    ∙ ap (λ (c : Content). segments_seen before ++ c.rows ∷ map (λ e. e.1.rows) left) same
-    ∙ ap (λ l. segments_seen before ++ map (λ e. e.1.rows) l) (sym is) ∙ so_far
-
--- the row of a segment's place, among all rows
-row_among : (segments : List (List Row)) (s row : ℕ) → s < length segments → row < length (get_or segments s []) → get_or (joined segments) (length (joined (take s segments)) + row) [] ≡ get_or (get_or segments s []) row []
-row_among [] s row h k = absurd (omega arith)
-row_among (rows ∷ more) zero row h k = ap (λ i. get_or (rows ++ joined more) i []) (let first : 0 + row ≡ row = omega arith in first) ∙ get_or_append_left rows (joined more) [] row k
-row_among (rows ∷ more) (suc s) row h k =
-    let behind : length (rows ++ joined (take s more)) + row ≡ length rows + (length (joined (take s more)) + row) = omega (arith, length-append rows (joined (take s more))) in
-    ap (λ i. get_or (rows ++ joined more) i []) behind ∙ get_or-append-add rows (joined more) (length (joined (take s more)) + row) [] ∙ row_among more s row (omega arith) k
-
-module _ (segments : List (List Row)) where
-  abbrev all_rows : List Row
-  all_rows = joined segments
-
-  -- the number of a row among all
-  own_number : (i : ℕ) → i < length all_rows → kept_before (holds_by None) all_rows i ≡ i
-  own_number i h = ap length (all_filtered (take i all_rows)) ∙ length_taken i all_rows (omega (arith, h))
-
-  -- where all rows are kept, the numbers that references tell are those of the rows that they tell
-  told_rows : (refs : List RowRef) → AllByRecursion (IsRowOf segments) refs → map (key_at all_rows) (kept_numbers (holds_by None) segments refs) ≡ map (row_told segments) refs
-  told_rows [] all = refl
-  told_rows (r ∷ refs) all =
-      let own = own_number (number_of segments r) (row_below segments r.segment r.row all.0.segment all.0.row) in
-      ap (λ i. get_or all_rows i [] ∷ map (key_at all_rows) (kept_numbers (holds_by None) segments refs)) own
-      ∙ ap (λ row. row ∷ map (key_at all_rows) (kept_numbers (holds_by None) segments refs)) (row_among segments r.segment r.row all.0.segment all.0.row)
-      ∙ ap (λ l. row_told segments r ∷ l) (told_rows refs all.1)
+use Rattle.wplanner.proofs.BesideFacts.{kept_fails, kept_is, sorted_is}
+use Rattle.wplanner.proofs.PlanFacts.{beside_nothing}
 
 -- there are as many numbers in order as rows
 long_told : (plans : List KeyPlan) (rows : List Row) (numbers : List ℕ) → by_keys plans [] rows ≡ Ok numbers → length numbers ≡ length rows
@@ -98,7 +63,12 @@ many_alike {X} {Y} view whole fault rows found long refused =
     go false OutOfRange h = absurd (cc)
     go false TooManyRows h = absurd (cc)
 
-module _ (s : SelectPlan) (ps : List ℕ) (lent : IsLent s ps) (sound : is_sound_select s ≡ true) (all : s.condition ≡ None) (segments : List (List Row)) (refs : List RowRef) (of : IsOrderFor segments (by_keys s.keys []) refs) where
+-- rows of numbers, beside which nothing stands
+none_beside : (rows : List Row) (numbers : List ℕ) → map (row_beside rows []) numbers ≡ map (key_at rows) numbers
+none_beside rows [] = refl
+none_beside rows (i ∷ numbers) = ap (λ r. r ∷ map (row_beside rows []) numbers) (append-nil (key_at rows i)) ∙ ap (λ l. key_at rows i ∷ l) (none_beside rows numbers)
+
+module _ (s : SelectPlan) (ps : List ℕ) (reads : ReadsPlaces s ps) (sound : is_sound_select s ≡ true) (none : length s.windows ≡ 0) (all : s.condition ≡ None) (segments : List (List Row)) (refs : List RowRef) (of : IsOrderFor segments (by_keys s.keys []) refs) where
   abbrev rows : List Row
   rows = joined segments
 
@@ -117,14 +87,22 @@ module _ (s : SelectPlan) (ps : List ℕ) (lent : IsLent s ps) (sound : is_sound
   kept_all : kept_of s.condition rows ≡ not_too_many rows
   kept_all = ap (λ condition. kept_of condition rows) all
 
+  abbrev text_of : List Row → List ℕ
+  text_of rows = table_text (map (λ o. o.name) s.items) (map (values_at ps) rows)
+
+  -- the rows of the numbers, as they are asked for
+  asked_are : (found : List Row) → found ≡ map (row_told segments) refs → cut s.offset s.limit (beside found []) ≡ map (row_beside rows []) (cut s.offset s.limit numbers)
+  asked_are found is =
+      ap (cut s.offset s.limit) (beside_nothing found ∙ is ∙ sym are_told ∙ sym (none_beside rows numbers)) ∙ sym (map-cut (row_beside rows []) s.offset s.limit numbers)
+
   -- the text of all rows, as references tell them
-  pub referenced_is : (found : List Row) (bytes : List ℕ) → not_too_many (map (row_told segments) refs) ≡ Ok found → bytes ≡ table_text (map (λ o. o.name) s.items) (map (values_at ps) (cut s.offset s.limit found)) → text_in s (select_of s rows) ≡ Ok bytes
+  pub referenced_is : (found : List Row) (bytes : List ℕ) → not_too_many (map (row_told segments) refs) ≡ Ok found → bytes ≡ text_of (cut s.offset s.limit (beside found [])) → text_in s (select_of s rows) ≡ Ok bytes
   referenced_is found bytes judged printed =
       let few = few_is (map (row_told segments) refs) found judged in
-      kept_is s ps lent rows rows sound (kept_all ∙ few_alike rows found (ap length few.0 ∙ long) few.1)
-      ∙ told_is s ps lent rows found numbers bytes in_order (few.0 ∙ sym are_told) printed
+      kept_is s ps reads rows rows (kept_all ∙ few_alike rows found (ap length few.0 ∙ long) few.1)
+      ∙ sorted_is s ps reads rows numbers bytes sound none in_order (printed ∙ ap text_of (asked_are found few.0))
 
   pub referenced_fails : {X Y : Type 0} (view : X → List Row) (whole : Y → List ℕ) (fault : AnswerFault) → Gives view (Err fault) (not_too_many (map (row_told segments) refs)) → Gives whole (Err fault) (text_in s (select_of s rows))
   referenced_fails {X} view whole fault refused =
       let P : Result (List Row) AnswerFault → Type 0 = λ r. Gives view (Err fault) r in
-      kept_fails s ps lent view whole fault rows (subst P (sym kept_all) (many_alike view view fault rows (map (row_told segments) refs) long refused))
+      kept_fails s ps reads view whole fault rows (subst P (sym kept_all) (many_alike view view fault rows (map (row_told segments) refs) long refused))

@@ -7,7 +7,7 @@ use Rattle.wvalues.specs.Meaning.{Meaning, Null, meaning}
 use Rattle.wframe.specs.Places.{places}
 use Rattle.wprinted.specs.Printing.{values_at}
 use Rattle.wrows.specs.LaidRows.{laid}
-use Rattle.wplanner.proofs.SourceFacts.{all_places}
+use Rattle.wtable.proofs.SourceFacts.{all_places}
 
 pub length-laid : (width n : ℕ) (cells : List Value) → length (laid width n cells) ≡ n
 length-laid width zero cells = refl

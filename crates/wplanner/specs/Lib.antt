@@ -4,11 +4,6 @@ pub mod ByWindow
 pub mod Parts
 pub mod Kept
 pub mod KeptOrders
-pub mod TableOrders
-pub mod Referenced
 pub mod Lent
-pub mod Beside
 pub mod Texts
 pub mod Faults
-pub mod Tables
-pub mod Few

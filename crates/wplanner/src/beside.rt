@@ -1,41 +1,53 @@
-//! The text of what a SELECT over windows answers whose items are plain columns or answers of its calls, which is printed of the
-//! rows and of the columns of these answers where they lie.
-ghost use Rattle.std.specs.Prelude.{◌≡◌, ◌<◌, ◌^◌, true, IfOk, IfSome, List, None, Ok, length, map};
-ghost use Rattle.wvalues.specs.Meaning.{Meaning};
+//! The text of rows that stay where they lie, with what calls over windows answer for them beside their cells. A table is made only
+//! where calls stand behind rows and an order is asked for that is not told.
+ghost use Rattle.std.specs.Prelude.{◌≡◌, ◌≤◌, ◌<◌, ◌^◌, [], true, IfOk, IfSome, None, Ok, length, map, min};
 ghost use Rattle.wplan.specs.Plans.{select_plan};
 ghost use Rattle.wprinted.specs.Printing.{table_text, values_at};
 ghost use Rattle.wrows.specs.Columns.{beside};
 ghost use Rattle.wrows.specs.Laid.{rows_in, rows_seen};
 ghost use Rattle.wrows.specs.Outcomes.{Gives};
 ghost use Rattle.wrows.specs.Picked.{row_beside};
-ghost use Rattle.wrows.specs.Plain.{cut};
-ghost use Rattle.wset.specs.Running.{live_rows};
-ghost use Rattle.wset.specs.Sets.{Becomes};
-ghost use Rattle.wplanner.specs.Answers.{items_of, left_items, select_of};
-ghost use Rattle.wplanner.specs.Beside.{ReadsPlaces};
-ghost use Rattle.wplanner.specs.Few.{MayGive};
-ghost use Rattle.wplanner.specs.Lent.{text_in};
+ghost use Rattle.wrows.specs.Plain.{at_most_limit, cut};
+ghost use Rattle.wplanner.specs.Answers.{items_of, left_items};
+ghost use Rattle.wplanner.specs.Lent.{ReadsPlaces, text_in};
 ghost use Rattle.wplanner.specs.Sound.{is_sound_select};
-ghost use Rattle.wplanner.specs.TableOrders.{AreTableOrders, AreTold, by_keys};
-ghost use Rattle.wplanner.specs.Tables.{rows_of_set};
+ghost use Rattle.wtable.specs.TableOrders.{AreTold, by_keys};
 
-use crate::lent::{at_most, limited};
-use crate::numbered::{NumberedRows, numbered_table_rows};
-use crate::parts::{item_names, item_places};
+use crate::parts::{item_names, key_orders, key_values};
 use crate::printing::print;
-use crate::selecting::{few_kept_rows, left_items};
-use crate::source::kept_table_rows;
+use crate::selecting::left_items;
 use crate::table::Table;
-use crate::table_orders::{TableOrders, table_orders};
-use crate::told::{ToldOrders, told_orders};
 use crate::windows::{call_columns, window_answers};
 use crate::work::Work;
 use std::alloc::{AllocError, Global};
 use wplan::Selection;
 use wprinted::{PickedRows, RowsBeside, print_rows};
-use wrows::{AnswerFault, Cells};
-use wset::SegmentSet;
+use wrows::{AnswerFault, Cells, lists, sorted_numbers};
+use wtable::ToldOrders;
 use wvalues::Value;
+
+// As many as are asked for, of so many.
+fn at_most(asked: u128, count: usize) -> usize
+    ensures value { result ≡ min asked count }
+    ensures within { result ≤ count }
+{
+    if asked < count as u128 {
+        asked as usize
+    } else {
+        count
+    }
+}
+
+// How many rows are left of so many, where there may be a limit.
+fn limited(limit: Option<u128>, count: usize) -> usize
+    ensures value { result ≡ at_most_limit limit count }
+    ensures within { result ≤ count }
+{
+    match limit {
+        None => count,
+        Some(limit) => at_most(limit, count),
+    }
+}
 
 // Of numbers in order, those that OFFSET and LIMIT ask for.
 fn asked_numbers<'a>(select: &Selection, numbers: &'a [usize]) -> &'a [usize]
@@ -66,8 +78,8 @@ fn picked_text(
     print_rows(alloc, &names, places, &picked)
 }
 
-// The text of rows that have the values of some columns behind their cells, as they stand, as many as are asked for.
-fn standing_text(
+/// The text of rows that have the values of some columns behind their cells, as they stand, as many as are asked for.
+pub(crate) fn standing_text(
     alloc: Global,
     select: &Selection,
     places: &[usize],
@@ -137,6 +149,38 @@ fn called_text(
     Ok(bytes)
 }
 
+// The numbers of rows in the order of ORDER BY, where nothing stands behind their cells.
+fn key_numbers(
+    alloc: Global,
+    select: &Selection,
+    rows: &[&[Value]],
+) -> Result<Vec<usize>, AnswerFault>
+    ensures { Gives (λ numbers. numbers.items) result (by_keys (select_plan select.now).keys [] (rows_seen rows.now)) }
+{
+    let keys = key_values(alloc, &select.keys)?;
+    let order = key_orders(alloc, &select.keys)?;
+    let cells = lists(alloc, &keys, rows)?;
+    let numbers = sorted_numbers(alloc, &cells, &order, rows.len())?;
+    Ok(numbers)
+}
+
+// The text of rows that are put in order by themselves, where nothing calls for a window.
+fn sorted_text(
+    alloc: Global,
+    select: &Selection,
+    places: &[usize],
+    rows: &[&[Value]],
+) -> Result<Vec<u8>, AnswerFault>
+    requires reads { ReadsPlaces (select_plan select.now) places.now }
+    requires sound { is_sound_select (select_plan select.now) ≡ true }
+    requires unwindowed { length (select_plan select.now).windows ≡ 0 }
+    ensures { Gives (λ bytes. bytes.items) result (text_in (select_plan select.now) (left_items (select_plan select.now) (rows_seen rows.now))) }
+{
+    let numbers = key_numbers(alloc, select, rows)?;
+    let bytes = picked_text(alloc, select, places, rows, &[], &numbers)?;
+    Ok(bytes)
+}
+
 // The items of rows that are put in order by themselves, whose list is let go.
 fn made_items(
     alloc: Global,
@@ -184,8 +228,16 @@ fn is_told(select: &Selection, told: &ToldOrders) -> bool
     told.keys.is_some()
 }
 
-// The text of rows, of which some orders are told.
-fn rows_text(
+/// Whether a SELECT calls for no window.
+pub(crate) fn is_unwindowed(select: &Selection) -> bool
+    ensures { result ≡ true → length (select_plan select.now).windows ≡ 0 }
+{
+    select.windows.is_empty()
+}
+
+/// The text of rows, of which some orders are told. Where the order that is asked for is not, they are put in order by themselves,
+/// and a table is made where the calls of windows stand behind them.
+pub(crate) fn rows_text(
     alloc: Global,
     select: &Selection,
     places: &[usize],
@@ -200,117 +252,9 @@ fn rows_text(
 {
     if is_told(select, &told) {
         called_text(alloc, select, places, &rows, told)
+    } else if is_unwindowed(select) {
+        sorted_text(alloc, select, places, &rows)
     } else {
         made_text(alloc, select, rows, told)
     }
-}
-
-// The text of the rows that WHERE keeps, where these are few.
-fn few_text(
-    alloc: Global,
-    select: &Selection,
-    places: &[usize],
-    set: &SegmentSet,
-) -> Result<Option<Vec<u8>>, AnswerFault>
-    requires reads { ReadsPlaces (select_plan select.now) places.now }
-    requires sound { is_sound_select (select_plan select.now) ≡ true }
-    ensures { MayGive (λ bytes. bytes.items) result (text_in (select_plan select.now) (select_of (select_plan select.now) (rows_of_set set.now))) }
-{
-    let found = few_kept_rows(alloc, select, set)?;
-    match found {
-        None => Ok(None),
-        Some(kept) => {
-            let bytes = rows_text(alloc, select, places, kept, ToldOrders::none(alloc))?;
-            Ok(Some(bytes))
-        }
-    }
-}
-
-// The text of the rows that WHERE keeps, where no order of them is told.
-fn unordered_text(
-    alloc: Global,
-    select: &Selection,
-    places: &[usize],
-    set: &SegmentSet,
-) -> Result<Vec<u8>, AnswerFault>
-    requires reads { ReadsPlaces (select_plan select.now) places.now }
-    requires sound { is_sound_select (select_plan select.now) ≡ true }
-    ensures { Gives (λ bytes. bytes.items) result (text_in (select_plan select.now) (select_of (select_plan select.now) (rows_of_set set.now))) }
-{
-    let kept = kept_table_rows(alloc, &select.condition, set)?;
-    rows_text(alloc, select, places, kept, ToldOrders::none(alloc))
-}
-
-// The text of the rows that WHERE keeps, of which some orders are told by those of all rows.
-fn told_text(
-    alloc: Global,
-    select: &Selection,
-    places: &[usize],
-    set: &SegmentSet,
-    orders: TableOrders,
-) -> Result<Vec<u8>, AnswerFault>
-    requires reads { ReadsPlaces (select_plan select.now) places.now }
-    requires sound { is_sound_select (select_plan select.now) ≡ true }
-    requires orders { AreTableOrders (live_rows set.now) (select_plan select.now).keys orders }
-    ensures { Gives (λ bytes. bytes.items) result (text_in (select_plan select.now) (select_of (select_plan select.now) (rows_of_set set.now))) }
-{
-    let kept = numbered_table_rows(alloc, &select.condition, set)?;
-    let told = told_orders(alloc, orders, &kept)?;
-    let NumberedRows { rows, .. } = kept;
-    rows_text(alloc, select, places, rows, told)
-}
-
-// The text of the rows that WHERE keeps, whose orders are taken from runs, where they are by columns.
-fn text_by_runs(
-    alloc: Global,
-    select: &Selection,
-    places: &[usize],
-    set: &mut SegmentSet,
-) -> Result<Vec<u8>, AnswerFault>
-    requires reads { ReadsPlaces (select_plan select.now) places.now }
-    requires sound { is_sound_select (select_plan select.now) ≡ true }
-    ensures text { Gives (λ bytes. bytes.items) result (text_in (select_plan select.now) (select_of (select_plan select.now) (rows_of_set set.old))) }
-    ensures same { Becomes set.old set.old.view set.new }
-{
-    let orders = table_orders(alloc, select, set)?;
-    if orders.is_none() {
-        unordered_text(alloc, select, places, set)
-    } else {
-        told_text(alloc, select, places, set, orders)
-    }
-}
-
-/// The text of what a SELECT answers on the rows of the set's live segments, whose items are columns and answers of calls at some
-/// places. Where no order is asked for, or it is told by runs, no value is copied behind the calls. Runs that are missing are
-/// made, and nothing else of the set changes.
-pub(crate) fn beside_text(
-    alloc: Global,
-    select: &Selection,
-    places: &[usize],
-    set: &mut SegmentSet,
-) -> Result<Vec<u8>, AnswerFault>
-    requires reads { ReadsPlaces (select_plan select.now) places.now }
-    requires sound { is_sound_select (select_plan select.now) ≡ true }
-    ensures text { Gives (λ bytes. bytes.items) result (text_in (select_plan select.now) (select_of (select_plan select.now) (rows_of_set set.old))) }
-    ensures same { Becomes set.old set.old.view set.new }
-{
-    let few = few_text(alloc, select, places, set)?;
-    match few {
-        Some(bytes) => Ok(bytes),
-        None => text_by_runs(alloc, select, places, set),
-    }
-}
-
-/// The places of a SELECT's items, where it calls for windows, groups no rows, and each item is a plain column or the answer of a
-/// call.
-pub(crate) fn called_places(
-    alloc: Global,
-    select: &Selection,
-) -> Result<Option<Vec<usize>>, AllocError>
-    ensures { IfOk result (λ found. IfSome found (λ places. ReadsPlaces (select_plan select.now) places.items)) }
-{
-    if select.grouping.is_some() || select.windows.is_empty() {
-        return Ok(None);
-    }
-    item_places(alloc, &select.items)
 }

@@ -7,14 +7,13 @@ ghost use Rattle.wplan.specs.Plans.{plans, select_plan};
 ghost use Rattle.wrows.specs.Outcomes.{Gives};
 ghost use Rattle.wrows.specs.Laid.{rows_in};
 ghost use Rattle.wplanner.specs.Answers.{answer_of, names_of, select_of, table_answer, width_of};
-ghost use Rattle.wplanner.specs.Beside.{ReadsPlaces};
-ghost use Rattle.wplanner.specs.Lent.{IsLent};
+ghost use Rattle.wplanner.specs.Faults.{Tells};
+ghost use Rattle.wplanner.specs.Lent.{ReadsPlaces};
 ghost use Rattle.wplanner.specs.Sound.{is_sound_query, is_sound_select};
-ghost use Rattle.wplanner.specs.Tables.{rows_of_set, Tells};
+ghost use Rattle.wtable.specs.Tables.{rows_of_set};
 ghost use Rattle.wplanner.specs.Texts.{plan_answer};
 ghost use Rattle.wplanner.specs.declared.fault.AskFault.TheVariants.{NoMemory};
 
-use crate::beside::{beside_text, called_places};
 use crate::fault::AskFault;
 use crate::lent::{lent_places, lent_text};
 use crate::parts::item_names;
@@ -154,26 +153,8 @@ fn one_select(selects: &[Selection]) -> Option<&Selection>
     }
 }
 
-// The bytes of what one SELECT answers, whose items are the columns at some places.
-fn lent_answer(
-    alloc: Global,
-    set: &mut SegmentSet,
-    select: &Selection,
-    places: &[usize],
-) -> Result<Vec<u8>, AskFault>
-    requires sound { is_sound_select (select_plan select.now) ≡ true }
-    requires lent { IsLent (select_plan select.now) places.now }
-    ensures answer { MatchResult result
-        (λ bytes. plan_answer (select_plan select.now ∷ []) (rows_of_set set.old) ≡ Ok bytes.items)
-        (λ fault. (fault ≡ NoMemory) ⊎ (plan_answer (select_plan select.now ∷ []) (rows_of_set set.old) ≡ Err fault)) }
-    ensures same { Becomes set.old set.old.view set.new }
-{
-    let bytes = lent_text(alloc, select, places, set)?;
-    Ok(bytes)
-}
-
 // The bytes of what one SELECT answers, whose items are columns and answers of calls at some places.
-fn beside_answer(
+fn lent_answer(
     alloc: Global,
     set: &mut SegmentSet,
     select: &Selection,
@@ -186,29 +167,8 @@ fn beside_answer(
         (λ fault. (fault ≡ NoMemory) ⊎ (plan_answer (select_plan select.now ∷ []) (rows_of_set set.old) ≡ Err fault)) }
     ensures same { Becomes set.old set.old.view set.new }
 {
-    let bytes = beside_text(alloc, select, places, set)?;
+    let bytes = lent_text(alloc, select, places, set)?;
     Ok(bytes)
-}
-
-// The bytes of the answer of a query that is one SELECT, which may call for windows.
-fn called_answer(
-    alloc: Global,
-    set: &mut SegmentSet,
-    query: &Resolved,
-    select: &Selection,
-) -> Result<Vec<u8>, AskFault>
-    requires sound { is_sound_query (plans query.now) ≡ true }
-    requires one { plans query.now ≡ select_plan select.now ∷ [] }
-    ensures answer { MatchResult result
-        (λ bytes. plan_answer (plans query.now) (rows_of_set set.old) ≡ Ok bytes.items)
-        (λ fault. (fault ≡ NoMemory) ⊎ (plan_answer (plans query.now) (rows_of_set set.old) ≡ Err fault)) }
-    ensures same { Becomes set.old set.old.view set.new }
-{
-    match called_places(alloc, select) {
-        Err(_) => Err(AskFault::NoMemory),
-        Ok(None) => printed_answer(alloc, set, query),
-        Ok(Some(places)) => beside_answer(alloc, set, select, &places),
-    }
 }
 
 /// The bytes of the answer of a query, as `print` makes them of the table that `execute` answers, or its fault. Where the query
@@ -229,7 +189,7 @@ pub fn answer_text(
         None => printed_answer(alloc, set, query),
         Some(select) => match lent_places(alloc, select) {
             Err(_) => Err(AskFault::NoMemory),
-            Ok(None) => called_answer(alloc, set, query, select),
+            Ok(None) => printed_answer(alloc, set, query),
             Ok(Some(places)) => lent_answer(alloc, set, select, &places),
         },
     }

@@ -4,27 +4,22 @@
 //! - Promises: `execute` answers exactly the rows of the meaning, or the first fault; the text of a table is the lines
 //!   of its names and rows, whatever they hold.
 //! - Asks: a query whose windows and calls are sound, as each that breaks no rule is.
-//! - Leaves single rows to `wrows`, groups to `wgroup` and calls with OVER to `wcalls`, which have their meaning too.
+//! - Leaves the table's rows and their orders to `wtable`, single rows to `wrows`, groups to `wgroup`, calls with OVER to `wcalls`
+//!   and lines to `wprinted`, which have their meaning too.
 //!
-//! Read `specs/Answers.antt`, `specs/Sound.antt`, `specs/ByWindow.antt`; then `specs/Tables.antt`, `specs/Parts.antt`,
-//! `specs/Printing.antt`.
+//! Read `specs/Answers.antt`, `specs/Sound.antt`, `specs/ByWindow.antt`; then `specs/Faults.antt`, `specs/Parts.antt`,
+//! `specs/Texts.antt`.
 #![tactic(auto)]
 
 mod beside;
-mod counting;
 mod executing;
 mod fault;
 mod lent;
-mod numbered;
 mod orders;
 mod parts;
 mod printing;
-mod referenced;
 mod selecting;
-mod source;
 mod table;
-mod table_orders;
-mod told;
 mod windows;
 mod work;
 

@@ -9,21 +9,21 @@ ghost use Rattle.wrows.specs.Laid.{rows_seen};
 ghost use Rattle.wrows.specs.Outcomes.{Gives};
 ghost use Rattle.wcalls.specs.Ordered.{ordered_rows};
 ghost use Rattle.wplanner.specs.KeptOrders.{AreOrdersOf, serves, with_shared};
-ghost use Rattle.wplanner.specs.TableOrders.{AreToldOf};
+ghost use Rattle.wtable.specs.TableOrders.{AreToldOf};
 
-use crate::told::{ToldOrder, take_told};
 use std::alloc::{AllocError, Global};
 use waggregate::Tally;
 use wcalls::{WindowOrder, share_order};
 use wplan::SettledWindow;
 use wrows::AnswerFault;
+use wtable::{ToldOrder, take_told};
 use wvalues::Value;
 
 /// The rows in the order of a window.
 #[derive(Drop)]
 pub(crate) struct KeptOrder<'a> {
     pub window: &'a SettledWindow,
-    pub order: WindowOrder,
+    pub order: WindowOrder<'a>,
 }
 
 // The place of an order that is also that of a window.
@@ -41,7 +41,7 @@ fn place_shared(kept: &[KeptOrder], window: &SettledWindow) -> Option<usize>
 }
 
 // Takes out an order that is also that of a window, if there is one.
-fn take_shared(kept: &mut Vec<KeptOrder>, window: &SettledWindow) -> Option<WindowOrder>
+fn take_shared<'a>(kept: &mut Vec<KeptOrder<'a>>, window: &SettledWindow) -> Option<WindowOrder<'a>>
     ensures found { is_some result ≡ list_any (serves window.now) kept.old.items }
     ensures order { (rows : List Row) → AreOrdersOf rows kept.old.items → IfSome result (λ order. ordered_rows rows (window_plan window.now) ≡ Ok order) }
     ensures others { (rows : List Row) → AreOrdersOf rows kept.old.items → AreOrdersOf rows kept.new.items }
@@ -57,13 +57,13 @@ fn take_shared(kept: &mut Vec<KeptOrder>, window: &SettledWindow) -> Option<Wind
 }
 
 // The rows in the order of a window, whose numbers are taken out where they are told. It counts among the orders.
-fn new_order(
+fn new_order<'a>(
     alloc: Global,
     window: &SettledWindow,
-    rows: &[&[Value]],
+    rows: &'a [&'a [Value]],
     told: &mut Vec<ToldOrder>,
     made: &mut Tally,
-) -> Result<WindowOrder, AnswerFault>
+) -> Result<WindowOrder<'a>, AnswerFault>
     requires { AreToldOf (rows_seen rows.now) told.old.items }
     ensures order { Gives (λ order. order) result (ordered_rows (rows_seen rows.now) (window_plan window.now)) }
     ensures others { AreToldOf (rows_seen rows.now) told.new.items }
@@ -77,14 +77,14 @@ fn new_order(
 
 /// The rows in the order of a window: a kept order that it shares, which is taken out, else a new one, which counts among
 /// the orders.
-pub(crate) fn order_of(
+pub(crate) fn order_of<'a>(
     alloc: Global,
     window: &SettledWindow,
-    rows: &[&[Value]],
-    kept: &mut Vec<KeptOrder>,
+    rows: &'a [&'a [Value]],
+    kept: &mut Vec<KeptOrder<'a>>,
     told: &mut Vec<ToldOrder>,
     made: &mut Tally,
-) -> Result<WindowOrder, AnswerFault>
+) -> Result<WindowOrder<'a>, AnswerFault>
     requires kept { AreOrdersOf (rows_seen rows.now) kept.old.items }
     requires told { AreToldOf (rows_seen rows.now) told.old.items }
     ensures order { Gives (λ order. order) result (ordered_rows (rows_seen rows.now) (window_plan window.now)) }
@@ -117,11 +117,11 @@ fn place_sharing(windows: &[SettledWindow], window: &SettledWindow) -> Option<us
 pub(crate) fn keep_shared<'a>(
     kept: &mut Vec<KeptOrder<'a>>,
     window: &'a SettledWindow,
-    order: WindowOrder,
+    order: WindowOrder<'a>,
     later: &[SettledWindow],
 ) -> Result<(), AllocError>
-    ensures kept { OnOk result (kept.new.items ≡ with_shared later.now (record { window = window.entry; order = order }) kept.old.items) }
-    ensures orders { (rows : List Row) → ordered_rows rows (window_plan window.entry.now) ≡ Ok order → AreOrdersOf rows kept.old.items → AreOrdersOf rows kept.new.items }
+    ensures kept { OnOk result (kept.new.items ≡ with_shared later.now (record { window = window.entry; order = order.entry }) kept.old.items) }
+    ensures orders { (rows : List Row) → ordered_rows rows (window_plan window.entry.now) ≡ Ok order.entry → AreOrdersOf rows kept.old.items → AreOrdersOf rows kept.new.items }
 {
     match place_sharing(later, window) {
         None => Ok(()),

@@ -1,48 +1,33 @@
 //! What one SELECT answers.
 ghost use Rattle.std.specs.Prelude.{◌≡◌, ◌<◌, ◌^◌, true, IfOk, IfSome, List, None, Ok, Some, length};
 ghost use Rattle.wvalues.specs.Meaning.{Meaning};
-ghost use Rattle.wplan.specs.Plans.{grouping_plan, optional_formula, select_plan};
+ghost use Rattle.wplan.specs.Plans.{grouping_plan, select_plan};
 ghost use Rattle.wrows.specs.Outcomes.{Gives};
 ghost use Rattle.wrows.specs.Columns.{beside};
 ghost use Rattle.wrows.specs.Laid.{rows_in, rows_seen};
-ghost use Rattle.wrows.specs.Plain.{kept_of};
 ghost use Rattle.wgroup.specs.Counting.{CountsRows};
 ghost use Rattle.wplanner.specs.Answers.{grouped_items, items_of, kept_items, left_items, select_of};
-ghost use Rattle.wplanner.specs.Few.{MayGive};
+ghost use Rattle.wtable.specs.Few.{MayGive};
 ghost use Rattle.wplanner.specs.Sound.{is_sound_select};
 ghost use Rattle.wset.specs.Running.{live_rows};
 ghost use Rattle.wset.specs.Sets.{Becomes};
-ghost use Rattle.wplanner.specs.TableOrders.{AreTableOrders, AreTold, by_keys};
-ghost use Rattle.wplanner.specs.Tables.{rows_of_set};
+ghost use Rattle.wtable.specs.TableOrders.{AreTableOrders, AreTold, by_keys};
+ghost use Rattle.wtable.specs.Tables.{rows_of_set};
 
-use crate::counting::{counted_grouping, kept_count};
-use crate::numbered::numbered_table_rows;
 use crate::parts::{item_values, key_orders, key_values};
-use crate::source::{few_table_rows, kept_table_rows};
-use crate::table_orders::{TableOrders, asks_for_orders, table_orders};
-use crate::told::{ToldOrders, told_orders};
 use crate::windows::{call_columns, window_answers};
 use crate::work::Work;
 use std::alloc::Global;
 use waggregate::Tally;
-use wgroup::{counted_row, group_rows};
+use wgroup::{counted_row, counts_rows, group_rows};
 use wplan::{Grouping, Selection};
-use wrows::{
-    AnswerFault, Asked, Cells, joined_items, kept_rows, lent_rows, ordered_items, told_items,
-};
+use wrows::{AnswerFault, Cells, joined_items, kept_rows, lent_rows, ordered_items, told_items};
 use wset::SegmentSet;
+use wtable::{
+    TableOrders, ToldOrders, asked_of, few_kept_rows, kept_count, kept_table_rows,
+    numbered_table_rows, table_orders, told_orders,
+};
 use wvalues::Value;
-
-/// The rows that OFFSET and LIMIT ask for.
-pub(crate) fn asked_of(select: &Selection) -> Asked
-    ensures offset { result.offset ≡ select.now.offset }
-    ensures limit { result.limit ≡ select.now.limit }
-{
-    Asked {
-        offset: select.offset,
-        limit: select.limit,
-    }
-}
 
 // Counts the order that ORDER BY asks for, if there is one.
 fn count_order(select: &Selection, orders: &mut Tally) {
@@ -259,6 +244,24 @@ fn select_ordered(
     kept_items(alloc, select, &kept.rows, told, work)
 }
 
+// The grouping of a SELECT that keeps all rows, counts them in one group and asks nothing else of them.
+fn counted_grouping(select: &Selection) -> Option<&Grouping>
+    ensures counts { IfSome result (λ grouping. CountsRows (grouping_plan grouping.now)) }
+    ensures all { IfSome result (λ grouping. (select_plan select.now).condition ≡ None) }
+    ensures own { IfSome result (λ grouping. (select_plan select.now).grouping ≡ Some (grouping_plan grouping.now)) }
+{
+    let None = &select.condition else {
+        return None;
+    };
+    let Some(grouping) = &select.grouping else {
+        return None;
+    };
+    if !counts_rows(grouping) {
+        return None;
+    }
+    Some(grouping)
+}
+
 // What one SELECT answers on the rows of the set's live segments, where it counts them and asks nothing else of them.
 fn select_counted(
     alloc: Global,
@@ -297,20 +300,6 @@ fn select_by_runs(
         select_unordered(alloc, select, set, work)
     } else {
         select_ordered(alloc, select, set, orders, work)
-    }
-}
-
-// The rows of the set's live segments that WHERE keeps, where these are few and orders of them are asked for.
-pub(crate) fn few_kept_rows<'a>(
-    alloc: Global,
-    select: &Selection,
-    set: &'a SegmentSet,
-) -> Result<Option<Vec<&'a [Value]>>, AnswerFault>
-    ensures { MayGive (λ kept. rows_seen kept.items) result (kept_of (optional_formula select.now.condition) (rows_of_set set.now)) }
-{
-    match &select.condition {
-        Some(condition) if asks_for_orders(select) => few_table_rows(alloc, condition, set),
-        _ => Ok(None),
     }
 }
 

@@ -14,16 +14,16 @@ ghost use Rattle.wcalls.specs.Sound.{is_sound_function, is_sound_window};
 ghost use Rattle.wplanner.specs.ByWindow.{columns_from, columns_of_calls, functions_over, most_from};
 ghost use Rattle.wplanner.specs.KeptOrders.{AreOrdersOf, serves};
 ghost use Rattle.wplanner.specs.Sound.{is_sound_call};
-ghost use Rattle.wplanner.specs.TableOrders.{AreToldOf};
+ghost use Rattle.wtable.specs.TableOrders.{AreToldOf};
 
 use crate::orders::{KeptOrder, keep_shared, order_of};
 use crate::table::cells_from;
-use crate::told::ToldOrder;
 use crate::work::Work;
 use std::alloc::{AllocError, Global};
 use wcalls::window_columns;
 use wplan::{CallOver, SettledWindow, WindowFunction};
 use wrows::{AnswerFault, Cells};
+use wtable::ToldOrder;
 use wvalues::Value;
 
 // The functions of the calls over the window of a number.
@@ -51,7 +51,7 @@ fn answers_over<'a>(
     number: usize,
     later: &[SettledWindow],
     calls: &[CallOver],
-    rows: &[&[Value]],
+    rows: &'a [&'a [Value]],
     kept: &mut Vec<KeptOrder<'a>>,
     told: &mut Vec<ToldOrder>,
     work: &mut Work,
@@ -77,11 +77,11 @@ fn answers_over<'a>(
 
 /// For each window the columns of the functions of its calls. Windows that order rows alike share one order, so there is at
 /// most one for each window; where the numbers of the rows are told in it, nothing is sorted. The joins are those of its aggregates.
-pub(crate) fn window_answers(
+pub(crate) fn window_answers<'a>(
     alloc: Global,
-    windows: &[SettledWindow],
+    windows: &'a [SettledWindow],
     calls: &[CallOver],
-    rows: &[&[Value]],
+    rows: &'a [&'a [Value]],
     told: Vec<ToldOrder>,
     work: &mut Work,
 ) -> Result<Vec<Cells>, AnswerFault>

@@ -18,4 +18,4 @@ mod rows;
 
 pub use printing::print_rows;
 pub use row::Row;
-pub use rows::{LentRows, PickedRows, Rows, RowsBeside};
+pub use rows::{PickedRows, Rows, RowsBeside};

@@ -21,28 +21,6 @@ pub trait Rows {
         ensures { values_of result ≡ slice_index_or (rows self.now) number [] };
 }
 
-/// Rows that stay where they lie.
-#[derive(Clone, Copy)]
-pub struct LentRows<'a> {
-    pub rows: &'a [&'a [Value]],
-}
-
-impl<'a> Rows for LentRows<'a> {
-    ghost rows = { λ lent. seen lent.rows.now };
-
-    fn count(&self) -> usize {
-        self.rows.len()
-    }
-
-    fn row(&self, number: usize) -> Row<'_> {
-        Row {
-            cells: self.rows[number],
-            columns: &[],
-            number,
-        }
-    }
-}
-
 /// Rows as they stand, with what some columns have for each behind its cells: so many of them, from one on.
 #[derive(Clone, Copy)]
 pub struct RowsBeside<'a> {

@@ -17,7 +17,7 @@ use Rattle.wrows.specs.Outcomes.{◌>>=◌, each}
 use Rattle.wrows.specs.Plain.{kept_of}
 use Rattle.wgroup.specs.Grouping.{Group, call_column, group_rows, groups_of}
 use Rattle.wplanner.specs.Answers.{answer_of, call_columns, items_of, left_items, left_rows, select_of}
-use Rattle.wplanner.specs.Tables.{rows_of_view}
+use Rattle.wtable.specs.Tables.{rows_of_view}
 use Rattle.wtyped.specs.Laws.{types_of}
 use Rattle.wtyped.specs.Plans.{answer_types, are_keys, are_windows, call_types, function_type, group_call_type, group_call_types, is_condition, is_frame, is_having, is_value, is_window, item_types, known, query_types, row_types, select_types, shown_types, types_at, unless_ill, with_types}
 use Rattle.wtyped.specs.Running.{AcceptedRunsTyped, Evaluation, IsExact, after, condition_on, function_on, group_call_on, grouping_on, having_on, items_on, kept_on, left_on, on_each, query_on, select_on, window_on}

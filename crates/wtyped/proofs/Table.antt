@@ -24,7 +24,7 @@ use Rattle.wset.specs.Tables.{TableRow, content_rows, rows_or_none, segment_rows
 use Rattle.wset.specs.Views.{View, lives}
 use Rattle.wscope.specs.declared.data_type.DataType.{DataType}
 use Rattle.wscope.specs.Sources.{declared_columns, kind_type}
-use Rattle.wplanner.specs.Tables.{rows_of_view}
+use Rattle.wtable.specs.Tables.{rows_of_view}
 use Rattle.wtyped.specs.Exact.{are_of, is_of}
 use Rattle.wtyped.specs.Laws.{types_of}
 use Rattle.wtyped.specs.Running.{all_of}

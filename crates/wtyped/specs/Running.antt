@@ -20,7 +20,7 @@ use Rattle.wrows.specs.Plain.{kept_of}
 use Rattle.wgroup.specs.Grouping as grouping
 use Rattle.wgroup.specs.Grouping.{Group, groups_of}
 use Rattle.wplanner.specs.Answers.{answer_of, call_columns, left_rows, select_of}
-use Rattle.wplanner.specs.Tables.{rows_of_view}
+use Rattle.wtable.specs.Tables.{rows_of_view}
 use Rattle.wtyped.specs.Exact.{are_of, exact_value}
 use Rattle.wtyped.specs.Laws.{types_of}
 use Rattle.wtyped.specs.Shapes.{is_shaped}

@@ -1,4 +1,4 @@
-use Rattle.std.proofs.Common.{map, length, ◌∙◌}
+use Rattle.std.proofs.Common.{map, ◌∙◌}
 use Rattle.std.proofs.lemmas.List.{length-map}
 use Rattle.wvalues.specs.Meaning.{meaning}
 use Rattle.waggregate.specs.Aggregating.{aggregate_of}

@@ -8,9 +8,9 @@ use Rattle.wrows.specs.Picked.{row_beside}
 use Rattle.wrows.specs.Plain.{cut}
 use Rattle.wplanner.specs.Answers.{items_of}
 use Rattle.wplanner.specs.Lent.{text_in}
-use Rattle.wplanner.specs.TableOrders.{by_keys}
+use Rattle.wtable.specs.TableOrders.{by_keys}
 use Rattle.wplanner.proofs.BesideFacts.{standing_is, told_is}
-use Rattle.wplanner.proofs.ColumnFacts.{some_told}
+use Rattle.wtable.proofs.ColumnFacts.{some_told}
 use Rattle.wplanner.proofs.beside.text_beside.Goals as goal
 
 pub returns-in-None : goal.returns-in-None

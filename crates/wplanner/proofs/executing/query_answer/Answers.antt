@@ -6,7 +6,7 @@ use Rattle.wplan.specs.Plans.{select_plan}
 use Rattle.wrows.specs.Laid.{rows_in}
 use Rattle.wrows.proofs.RowFacts.{then_refused}
 use Rattle.wplanner.specs.Parts.{TableParts}
-use Rattle.wplanner.specs.Tables.{rows_of_set}
+use Rattle.wtable.specs.Tables.{rows_of_set}
 use Rattle.wplanner.proofs.PlanFacts.{some_select, table_told, table_wide}
 use Rattle.wplanner.proofs.executing.query_answer.Goals as goal
 

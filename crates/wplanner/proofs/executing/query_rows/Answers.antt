@@ -2,7 +2,7 @@ use Rattle.std.proofs.Common.{map, refl}
 use Rattle.std.proofs.lemmas.Result.{err_from_is_err_and}
 use Rattle.wrows.specs.Laid.{rows_in}
 use Rattle.wplan.specs.Plans.{select_plan}
-use Rattle.wplanner.specs.Tables.{rows_of_set}
+use Rattle.wtable.specs.Tables.{rows_of_set}
 use Rattle.wplanner.proofs.PlanFacts.{each_is_sound, some_select, sound_at, stops}
 use Rattle.wplanner.proofs.executing.query_rows.Goals as goal
 

@@ -3,8 +3,8 @@ use Rattle.wvalues.specs.Meaning.{Meaning}
 use Rattle.wplan.specs.Plans.{key_plan}
 use Rattle.wruns.specs.declared.refs.RowRef.{RowRef}
 use Rattle.wset.specs.Running.{live_rows}
-use Rattle.wplanner.specs.TableOrders.{IsOrderFor, by_keys}
-use Rattle.wplanner.proofs.ColumnFacts.{some_told}
+use Rattle.wtable.specs.TableOrders.{IsOrderFor, by_keys}
+use Rattle.wtable.proofs.ColumnFacts.{some_told}
 use Rattle.wplanner.proofs.lent.all_text.Goals as goal
 
 pub referenced_text-requires-clause-order : goal.referenced_text-requires-clause-order

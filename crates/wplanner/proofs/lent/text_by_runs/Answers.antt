@@ -1,7 +1,7 @@
 use Rattle.std.proofs.Common.{map, sym, subst}
 use Rattle.wplan.specs.Plans.{key_plan}
-use Rattle.wplanner.specs.TableOrders.{AreTableOrders}
-use Rattle.wplanner.proofs.LiveFacts.{live_same}
+use Rattle.wtable.specs.TableOrders.{AreTableOrders}
+use Rattle.wtable.proofs.LiveFacts.{live_same}
 use Rattle.wplanner.proofs.lent.text_by_runs.Goals as goal
 
 pub told_text-requires-clause-orders : goal.told_text-requires-clause-orders

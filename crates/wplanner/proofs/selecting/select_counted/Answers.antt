@@ -7,7 +7,7 @@ use Rattle.wrows.specs.Outcomes.{Gives}
 use Rattle.wrows.proofs.RowFacts.{then_ok, then_refused}
 use Rattle.wgroup.specs.Grouping.{group_rows}
 use Rattle.wplanner.specs.Answers.{left_items}
-use Rattle.wplanner.specs.Tables.{rows_of_set}
+use Rattle.wtable.specs.Tables.{rows_of_set}
 use Rattle.wplanner.proofs.CountedFacts.{select_counted, select_refused}
 use Rattle.wplanner.proofs.SelectFacts.{groups_few}
 use Rattle.wplanner.proofs.selecting.select_counted.Goals as goal

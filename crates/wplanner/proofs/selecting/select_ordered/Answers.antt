@@ -2,7 +2,7 @@ use Rattle.std.proofs.Common.{map, sym, subst}
 use Rattle.wplan.specs.Plans.{key_plan, optional_formula}
 use Rattle.wset.specs.Running.{live_rows}
 use Rattle.wrows.specs.Laid.{rows_seen}
-use Rattle.wplanner.specs.TableOrders.{AreTold}
+use Rattle.wtable.specs.TableOrders.{AreTold}
 use Rattle.wplanner.proofs.selecting.select_ordered.Goals as goal
 
 pub kept_items-requires-clause-told : goal.kept_items-requires-clause-told

@@ -5,7 +5,7 @@ use Rattle.wrows.specs.declared.fault.AnswerFault.{AnswerFault}
 use Rattle.wrows.specs.Outcomes.{Gives}
 use Rattle.wrows.specs.Columns.{Row, beside}
 use Rattle.wrows.specs.Laid.{formulas_seen, row_seen, rows_in, rows_seen}
-use Rattle.wplanner.proofs.ColumnFacts.{below_keys}
+use Rattle.wtable.proofs.ColumnFacts.{below_keys}
 use Rattle.wplanner.proofs.PlanFacts.{items_from}
 use Rattle.wplanner.proofs.selecting.told_items_of.Goals as goal
 

@@ -3,7 +3,7 @@ use Rattle.wplan.specs.Plans.{call_plan, window_plan}
 use Rattle.wrows.specs.Laid.{rows_in, rows_seen}
 use Rattle.wplanner.specs.ByWindow.{columns_from, most_from}
 use Rattle.wplanner.specs.KeptOrders.{AreOrdersOf}
-use Rattle.wplanner.specs.TableOrders.{AreToldOf}
+use Rattle.wtable.specs.TableOrders.{AreToldOf}
 use Rattle.wplanner.proofs.SelectFacts.{goes_with}
 use Rattle.wplanner.proofs.windows.window_answers.Given as goal
 

@@ -1,17 +1,16 @@
-use Rattle.std.proofs.Common.{Ok, length, map, sym, ap, ◌∙◌}
-use Rattle.wplan.specs.Formula.{formula}
-use Rattle.wplan.specs.Plans.{key_plan, window_plan}
+use Rattle.std.proofs.Common.{Ok, sym, ap, ◌∙◌}
+use Rattle.wplan.specs.Plans.{window_plan}
 use Rattle.wrows.specs.Laid.{rows_seen}
-use Rattle.wrows.specs.Sorting.{ascending}
-use Rattle.wcalls.proofs.WindowedFacts.{order_told}
+use Rattle.wcalls.specs.Listed.{lists_in}
+use Rattle.wcalls.proofs.WindowedFacts.{both_long, order_told}
 use Rattle.wcalls.proofs.window.WindowOrder.new.Goals as goal
+
+pub ordered_keys-requires : goal.ordered_keys-requires
+ordered_keys-requires c =
+    both_long (rows_seen c.args.rows.now) (window_plan c.args.window.now) (lists_in c.in_ok-values.values.lists) (lists_in c.in_ok-keys.keys.lists) c.in_ok-values.ensures.gives c.in_ok-keys.ensures.gives
 
 pub returns-clause-order : goal.returns-clause-order
 returns-clause-order c =
-    let w = c.args.window.now in
-    order_told (rows_seen c.args.rows.now) (window_plan w) (length c.args.rows.now) (length w.partition.items) (length w.keys.items) c.in_ok-values.values.items c.in_ok-keys.keys.items c.in_ok-value_order.value_order.items c.in_ok-key_order.key_order.items
-    c.in_ok-values.ensures.gives c.in_ok-keys.ensures.gives
-    (sym (c.in_ok-value_order.ensures.len ∙ ap length c.deref.ensures.value)) (sym (c.in_ok-key_order.ensures.len ∙ ap length c.deref-2.ensures.value))
-    (c.in_ok-value_order.ensures.orders ∙ ap (λ v. ascending (map formula v)) c.deref.ensures.value)
-    (c.in_ok-key_order.ensures.orders ∙ ap (λ v. map (λ k. k.order) (map key_plan v)) c.deref-2.ensures.value)
+    order_told (rows_seen c.args.rows.now) (window_plan c.args.window.now) (lists_in c.in_ok-values.values.lists) (lists_in c.in_ok-keys.keys.lists) c.in_ok-values.values.orders.items c.in_ok-keys.keys.orders.items
+    c.in_ok-values.ensures.gives c.in_ok-keys.ensures.gives c.in_ok-values.ensures.orders c.in_ok-keys.ensures.orders
     ∙ ap Ok (sym c.in_ok-order.ensures)

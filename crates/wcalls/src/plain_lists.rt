@@ -1,0 +1,117 @@
+//! Plain columns of rows, read where they lie.
+ghost use Rattle.std.specs.Prelude.{◌≡◌, ◌*◌, ◌<◌, ◌++◌, IfOk, OnOk, length, map};
+ghost use Rattle.wvalues.specs.Meaning.{Null, meaning};
+ghost use Rattle.wframe.specs.Cells.{meanings};
+ghost use Rattle.wframe.specs.Peers.{key_at};
+ghost use Rattle.wrows.specs.CodedRows.{key_column, values_seen};
+ghost use Rattle.wrows.specs.Columns.{value_at};
+ghost use Rattle.wrows.specs.LaidRows.{laid};
+ghost use Rattle.wrows.specs.Laid.{rows_seen};
+ghost use Rattle.wcalls.specs.ListedColumns.{values_at};
+
+use std::alloc::{AllocError, Global};
+use wvalues::Value;
+
+/// The values at some places of rows. A row has nulls behind its width.
+#[derive(Drop)]
+pub(crate) struct PlainLists<'a> {
+    pub(crate) rows: &'a [&'a [Value]],
+    pub(crate) places: Vec<usize>,
+    // What is lent where a row has no such place.
+    null: Value,
+    ghost is_null: { meaning null ≡ Null },
+}
+
+// The value at a place of a row, null behind its width.
+fn value_or_null<'a>(row: &'a [Value], null: &'a Value, place: usize) -> &'a Value
+    requires { meaning null.now ≡ Null }
+    ensures { meaning result.now ≡ value_at (map meaning row.now) place }
+{
+    if place < row.len() { &row[place] } else { null }
+}
+
+impl<'a> PlainLists<'a> {
+    /// The values at these places of the rows.
+    pub(crate) fn new(rows: &'a [&'a [Value]], places: Vec<usize>) -> PlainLists<'a>
+        ensures rows { result.rows ≡ rows.entry }
+        ensures places { result.places ≡ places }
+    {
+        PlainLists {
+            rows,
+            places,
+            null: Value::Null,
+        }
+    }
+
+    // The cells of a row, none where there is no such row.
+    fn cells<'b>(&'b self, row: usize) -> &'b [Value]
+        ensures { map meaning result.now ≡ key_at (rows_seen self.now.rows.now) row }
+    {
+        if row < self.rows.len() {
+            self.rows[row]
+        } else {
+            &[]
+        }
+    }
+
+    // The value at a place of a row.
+    fn value<'b>(&'b self, row: usize, place: usize) -> &'b Value
+        ensures { meaning result.now ≡ value_at (key_at (rows_seen self.now.rows.now) row) place }
+    {
+        value_or_null(self.cells(row), &self.null, place)
+    }
+
+    /// Appends the values of a row, lent.
+    pub(crate) fn push_list<'b>(
+        &'b self,
+        row: usize,
+        lent: &mut Vec<&'b Value>,
+    ) -> Result<(), AllocError>
+        ensures { OnOk result (meanings lent.new.items ≡ meanings lent.old.items ++ map (value_at (key_at (rows_seen self.now.rows.now) row)) self.now.places.items) }
+    {
+        for place in &self.places {
+            lent.push(self.value(row, *place))?;
+        }
+        Ok(())
+    }
+
+    /// The column of a number, lent.
+    pub(crate) fn column<'b>(
+        &'b self,
+        alloc: Global,
+        number: usize,
+    ) -> Result<Vec<&'b Value>, AllocError>
+        requires { number < length self.now.places.items }
+        ensures { IfOk result (λ column. values_seen column.items ≡ key_column number (values_at self.now.places.items (rows_seen self.now.rows.now))) }
+    {
+        let place = self.places[number];
+        let mut column = Vec::with_capacity(alloc, self.rows.len())?;
+        for row in self.rows {
+            column.push(value_or_null(row, &self.null, place))?;
+        }
+        Ok(column)
+    }
+
+    // Appends copies of the values of a row that has these cells.
+    fn push_copies(&self, row: &[Value], cells: &mut Vec<Value>) -> Result<(), AllocError>
+        ensures { OnOk result (map meaning cells.new.items ≡ map meaning cells.old.items ++ map (value_at (map meaning row.now)) self.now.places.items) }
+    {
+        for place in &self.places {
+            cells.push(value_or_null(row, &self.null, *place).duplicate()?)?;
+        }
+        Ok(())
+    }
+
+    /// Copies of the values, laid out one row after another.
+    pub(crate) fn copied(&self, alloc: Global) -> Result<Vec<Value>, AllocError>
+        ensures rows { IfOk result (λ cells. laid (length self.now.places.items) (length self.now.rows.now) cells.items ≡ values_at self.now.places.items (rows_seen self.now.rows.now)) }
+        ensures laid { IfOk result (λ cells. length cells.items ≡ length self.now.rows.now * length self.now.places.items) }
+    {
+        let count = self.rows.len().saturating_mul(self.places.len());
+        let mut cells = Vec::with_capacity(alloc, count)?;
+        for row in self.rows {
+            self.push_copies(row, &mut cells)?;
+        }
+        Ok(cells)
+    }
+}

@@ -1,9 +1,0 @@
-use Rattle.std.proofs.Common.{map, sym, subst}
-use Rattle.wplan.specs.Plans.{key_plan}
-use Rattle.wplanner.specs.TableOrders.{AreTableOrders}
-use Rattle.wplanner.proofs.LiveFacts.{live_same}
-use Rattle.wplanner.proofs.beside.text_by_runs.Goals as goal
-
-pub told_text-requires-clause-orders : goal.told_text-requires-clause-orders
-told_text-requires-clause-orders c =
-    subst (λ segments. AreTableOrders segments (map key_plan c.args.select.now.keys.items) c.in_ok-orders.orders) (sym (live_same c.args.set.now c.table_orders.new.set c.in_ok-orders.ensures.same)) c.in_ok-orders.ensures.orders

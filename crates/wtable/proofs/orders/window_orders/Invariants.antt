@@ -1,0 +1,11 @@
+use Rattle.std.specs.Prelude.{All}
+use Rattle.wset.specs.Running.{live_rows}
+use Rattle.wset.specs.Sets.{Becomes}
+use Rattle.wtable.specs.TableOrders.{IsTableOrder}
+use Rattle.wtable.proofs.orders.window_orders.Given as goal
+
+abbrev pub invariant-loop-window : goal.invariant-loop-window
+invariant-loop-window l = record {
+  orders : All (IsTableOrder (live_rows l.fn.set)) l.orders.items;
+  same : Becomes l.fn.set l.fn.set.view l.set;
+}

@@ -1,0 +1,4 @@
+pub mod Tables
+pub mod Few
+pub mod TableOrders
+pub mod Referenced

@@ -1,0 +1,143 @@
+-- Orders of the table's rows by columns, of which those rows are left that a condition keeps.
+use Rattle.std.specs.Prelude.{◌≡◌, ◌<◌, ◌+◌, ◌-◌, ◌^◌, ℕ, Bool, true, false, if◌then◌else◌, List, [], ◌∷◌, All, IfSome, filter, length, map, min, nat_lt, Option, Some, None, Result, Ok, slice_index_or, Vec}
+use Rattle.std.specs.Borrow.{Bor}
+use Rattle.std.specs.Global.{Global}
+use Rattle.wvalues.specs.declared.key.SortKey.{SortKey}
+use Rattle.wvalues.specs.Meaning.{Meaning}
+use Rattle.wplan.specs.declared.expr.Expr.{Expr, out-Expr}
+use Rattle.wplan.specs.Formula.{At, Formula}
+use Rattle.wplan.specs.Plans.{KeyPlan, WindowPlan, window_plan}
+use Rattle.wrows.specs.declared.fault.AnswerFault.{AnswerFault}
+use Rattle.wrows.specs.Columns.{Row, beside, holds_on}
+use Rattle.wrows.specs.Laid.{rows_seen}
+use Rattle.wrows.specs.Picked.{numbers_of}
+use Rattle.wrows.specs.PlainColumns.{plain_place}
+use Rattle.wruns.specs.Orderings.{kept_numbers}
+use Rattle.wruns.specs.Runs.{joined}
+use Rattle.wruns.specs.declared.refs.RowRef.{RowRef}
+use Rattle.wcalls.specs.Ordered.{window_numbers}
+use Rattle.wtable.specs.declared.orders.TableOrder.{TableOrder}
+use Rattle.wtable.specs.declared.orders.TableOrders.{TableOrders}
+use Rattle.wtable.specs.declared.told.ToldOrder.{ToldOrder}
+use Rattle.wtable.specs.declared.told.ToldOrders.{ToldOrders}
+use Rattle.wtable.specs.declared.numbered.NumberedRows.{NumberedRows}
+
+-- a column of rows that are so wide
+abbrev pub is_within : ℕ → Option ℕ → Bool
+is_within width None = false
+is_within width (Some place) = nat_lt place width
+
+abbrev pub is_column : ℕ → Bor Expr → Bool
+is_column width e = is_within width (plain_place (out-Expr e.now))
+
+-- how a key orders, whatever it is of
+abbrev pub direction : SortKey → SortKey
+direction k = record { col = 0; desc = k.desc; nulls_first = k.nulls_first }
+
+-- the values are these keys' columns of rows that are so wide, and the keys order as is asked
+pub record AreColumns (width : ℕ) (values : List Formula) (order keys : List SortKey) : Type 0 where
+  pub named : values ≡ map (λ k. At k.col) keys
+  pub directed : map direction order ≡ map direction keys
+  pub within : All (λ k. k.col < width) keys
+
+-- what an order of some rows tells of each list of rows: their numbers in it
+abbrev pub RowOrder : Type 0
+RowOrder = List Row → Result (List ℕ) AnswerFault
+
+-- whatever rows are kept of all, the references tell their order
+abbrev pub TellsKept : List (List Row) → RowOrder → List RowRef → Type 0
+TellsKept segments order refs = (holds : Row → Bool) → order (filter holds (joined segments)) ≡ Ok (kept_numbers holds segments refs)
+
+-- the order of a window
+abbrev pub by_window : WindowPlan → RowOrder
+by_window plan rows = window_numbers rows plan
+
+-- the order that ORDER BY asks for, of rows that have some columns behind their cells
+abbrev pub by_keys : List KeyPlan → List (List Meaning) → RowOrder
+by_keys keys columns rows = numbers_of (map (λ k. k.value) keys) (map (λ k. k.order) keys) (beside rows columns)
+
+-- a row of one of some segments
+pub record IsRowOf (segments : List (List Row)) (r : RowRef) : Type 0 where
+  pub segment : r.segment < length segments
+  pub row : r.row < length (slice_index_or segments r.segment [])
+
+-- rows of some segments that tell an order of them
+pub record IsOrderFor (segments : List (List Row)) (order : RowOrder) (refs : List RowRef) : Type 0 where
+  pub tells : TellsKept segments order refs
+  pub within : All (IsRowOf segments) refs
+
+abbrev pub IsTableOrder : List (List Row) → TableOrder → Type 0
+IsTableOrder segments t = IsOrderFor segments (by_window (window_plan t.window.now)) t.rows.items
+
+-- orders of the table's rows that a SELECT asks for
+pub record AreTableOrders (segments : List (List Row)) (plans : List KeyPlan) (t : TableOrders) : Type 0 where
+  pub windows : All (IsTableOrder segments) t.windows.items
+  pub keys : IfSome t.keys (λ refs. (columns : List (List Meaning)) → IsOrderFor segments (by_keys plans columns) refs.items)
+
+-- where the rows of each segment begin, the first of them at a number
+abbrev pub starts_from : ℕ → List (List Row) → List ℕ
+starts_from first [] = []
+starts_from first (rows ∷ more) = first ∷ starts_from (first + length rows) more
+
+-- the number of a row that is left out
+abbrev pub left_out : ℕ
+left_out = 2 ^ 32 - 1
+
+-- for each row how many are kept before it, if it is kept, where so many were kept before all of them
+abbrev pub numbers_kept : (Row → Bool) → ℕ → List Row → List ℕ
+numbers_kept holds before [] = []
+numbers_kept holds before (row ∷ rows) = if holds row then min before left_out ∷ numbers_kept holds (before + 1) rows else left_out ∷ numbers_kept holds before rows
+
+-- a number, if it is not that of a row that is left out
+abbrev pub number_kept : ℕ → Option ℕ
+number_kept number = if nat_lt number left_out then Some number else None
+
+-- the number of a row among those that are kept, by its number in the table
+abbrev pub number_among : Option (Vec ℕ Global) → ℕ → Option ℕ
+number_among None number = Some number
+number_among (Some numbers) number = number_kept (slice_index_or numbers.items number left_out)
+
+-- the number of a row in the table
+abbrev pub number_in : List ℕ → RowRef → ℕ
+number_in starts r = min (slice_index_or starts r.segment 0 + r.row) (2 ^ 64 - 1)
+
+-- those that there are
+abbrev pub all_present : {X : Type 0} → List (Option X) → List X
+all_present [] = []
+all_present (None ∷ xs) = all_present xs
+all_present (Some x ∷ xs) = x ∷ all_present xs
+
+-- the numbers, among the rows that are kept, of the rows of an ordering that are kept
+abbrev pub numbers_told : NumberedRows → List RowRef → List ℕ
+numbers_told kept refs = all_present (map (λ r. number_among kept.numbers (number_in kept.starts.items r)) refs)
+
+-- what the rows of a table are kept by, where all are kept that no condition leaves out
+abbrev pub holds_by : Option Formula → Row → Bool
+holds_by None row = true
+holds_by (Some t) row = holds_on t row
+
+abbrev pub AreNumbers : Option Formula → List Row → Option (Vec ℕ Global) → Type 0
+AreNumbers None rows None = Unit {0}
+AreNumbers None rows (Some numbers) = ⊥
+AreNumbers (Some t) rows None = ⊥
+AreNumbers (Some t) rows (Some numbers) = numbers.items ≡ numbers_kept (holds_on t) 0 rows
+
+-- the rows of the segments that a condition keeps, which are few, and what tells their numbers
+pub record IsNumbered (condition : Option Formula) (segments : List (List Row)) (kept : NumberedRows) : Type 0 where
+  pub rows : rows_seen kept.rows.items ≡ filter (holds_by condition) (joined segments)
+  pub few : length kept.rows.items < 2 ^ 31
+  pub fit : length (joined segments) < 2 ^ 64
+  pub starts : kept.starts.items ≡ starts_from 0 segments
+  pub numbers : AreNumbers condition (joined segments) kept.numbers
+
+-- numbers that are told in the order of a window
+abbrev pub IsToldOf : List Row → ToldOrder → Type 0
+IsToldOf rows t = window_numbers rows (window_plan t.window.now) ≡ Ok t.numbers.items
+
+abbrev pub AreToldOf : List Row → List ToldOrder → Type 0
+AreToldOf rows = All (IsToldOf rows)
+
+-- numbers that are told in the orders that a SELECT asks for
+pub record AreTold (rows : List Row) (plans : List KeyPlan) (t : ToldOrders) : Type 0 where
+  pub windows : AreToldOf rows t.windows.items
+  pub keys : IfSome t.keys (λ numbers. (columns : List (List Meaning)) → by_keys plans columns rows ≡ Ok numbers.items)

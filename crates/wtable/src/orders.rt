@@ -1,0 +1,275 @@
+//! Orders of the table's rows by columns, from the runs that its segments keep.
+ghost use Rattle.std.specs.Prelude.{◌≡◌, ◌<◌, ◌==◌, ◌&&◌, [], All, None, IfOk, IfSome, List, Ok, OnOk, length, map, not};
+ghost use Rattle.std.specs.Option.{is_some};
+ghost use Rattle.wvalues.specs.Meaning.{Meaning};
+ghost use Rattle.wplan.specs.Formula.{At, formula};
+ghost use Rattle.wplan.specs.Plans.{key_plan, select_plan, window_plan};
+ghost use Rattle.wrows.specs.Columns.{Row};
+ghost use Rattle.wrows.specs.Sorting.{ascending};
+ghost use Rattle.wruns.specs.Runs.{run_of};
+ghost use Rattle.wset.specs.Running.{live_rows};
+ghost use Rattle.wset.specs.Sets.{Becomes};
+ghost use Rattle.wtable.specs.TableOrders.{AreColumns, AreTableOrders, IsOrderFor, IsTableOrder, by_keys, by_window, direction};
+
+use std::alloc::{AllocError, Global};
+use wcalls::share_order;
+use wplan::{Expr, Selection, SettledKey, SettledWindow};
+use wrows::{Asked, place_of};
+use wruns::{RowRef, kept_rows_stay_in_order, runs_order_windows};
+use wset::SegmentSet;
+use wvalues::SortKey;
+
+/// The most orders that a SELECT takes from runs: of a segment no more runs are kept, and one more order would push out one
+/// that the next query asks for.
+const MOST_ORDERS: usize = 4;
+
+/// The order of partition values.
+const ASCENDING: SortKey = SortKey {
+    col: 0,
+    desc: false,
+    nulls_first: false,
+};
+
+/// The rows of the table in the order of a window.
+#[derive(Drop)]
+pub struct TableOrder<'a> {
+    /// The window, whose partition values and keys are columns of the table.
+    pub window: &'a SettledWindow,
+    /// All rows of the table: partition after partition, by its keys, and where these agree by name and place.
+    pub rows: Vec<RowRef>,
+}
+
+/// The rows of the table in orders that a SELECT asks for.
+#[derive(Drop)]
+pub struct TableOrders<'a> {
+    /// The orders of some of its windows, each of which other windows may share.
+    pub windows: Vec<TableOrder<'a>>,
+    /// All rows of the table in the order of ORDER BY, if that is one by columns.
+    pub keys: Option<Vec<RowRef>>,
+}
+
+impl<'a> TableOrders<'a> {
+    // No order.
+    fn none(alloc: Global) -> TableOrders<'a>
+        ensures windows { result.windows.items ≡ [] }
+        ensures keys { result.keys ≡ None }
+    {
+        TableOrders {
+            windows: Vec::new(alloc),
+            keys: None,
+        }
+    }
+
+    /// Whether there is no order.
+    pub fn is_none(&self) -> bool
+        ensures { result ≡ (length self.now.windows.items == 0 && not (is_some self.now.keys)) }
+    {
+        self.windows.is_empty() && self.keys.is_none()
+    }
+}
+
+// The key that orders rows of so many columns as another one does, by a value that is one of these columns. None for
+// another value.
+fn column_key(value: &Expr, order: &SortKey, width: usize) -> Option<SortKey>
+    ensures value { IfSome result (λ key. formula value.now ≡ At key.col) }
+    ensures order { IfSome result (λ key. direction order.now ≡ direction key) }
+    ensures within { IfSome result (λ key. key.col < width) }
+{
+    let place = place_of(value)?;
+    if place < width {
+        Some(SortKey {
+            col: place,
+            desc: order.desc,
+            nulls_first: order.nulls_first,
+        })
+    } else {
+        None
+    }
+}
+
+// Keys that order rows of so many columns by partition values, where each is one of these columns.
+fn partition_columns(
+    alloc: Global,
+    partition: &[Expr],
+    width: usize,
+) -> Result<Option<Vec<SortKey>>, AllocError>
+    ensures { IfOk result (λ found. IfSome found (λ keys. AreColumns width (map formula partition.now) (ascending (map formula partition.now)) keys.items)) }
+{
+    let mut keys = Vec::with_capacity(alloc, partition.len())?;
+    for value in partition {
+        let Some(key) = column_key(value, &ASCENDING, width) else {
+            return Ok(None);
+        };
+        keys.push(key)?;
+    }
+    Ok(Some(keys))
+}
+
+// Keys that order rows of so many columns as some keys do, where the value of each is one of these columns.
+fn key_columns(
+    alloc: Global,
+    settled: &[SettledKey],
+    width: usize,
+) -> Result<Option<Vec<SortKey>>, AllocError>
+    ensures { IfOk result (λ found. IfSome found (λ keys. AreColumns width (map (λ k. k.value) (map key_plan settled.now)) (map (λ k. k.order) (map key_plan settled.now)) keys.items)) }
+{
+    let mut keys = Vec::with_capacity(alloc, settled.len())?;
+    for asked in settled {
+        let Some(key) = column_key(&asked.value, &asked.order, width) else {
+            return Ok(None);
+        };
+        keys.push(key)?;
+    }
+    Ok(Some(keys))
+}
+
+// Keys by which rows of so many columns stand in the order of a window, where its partition values and keys are all such
+// columns: first the partition values, then the keys.
+fn window_columns(
+    alloc: Global,
+    window: &SettledWindow,
+    width: usize,
+) -> Result<Option<Vec<SortKey>>, AllocError>
+    ensures { IfOk result (λ found. IfSome found (λ keys. (rows : List Row) → by_window (window_plan window.now) rows ≡ Ok (run_of keys.items rows))) }
+{
+    let partition = partition_columns(alloc, &window.partition, width)?;
+    let Some(mut keys) = partition else {
+        return Ok(None);
+    };
+    let others = key_columns(alloc, &window.keys, width)?;
+    let Some(others) = others else {
+        return Ok(None);
+    };
+    keys.extend_from_slice(&others)?;
+    runs_order_windows();
+    Ok(Some(keys))
+}
+
+// Whether one of some orders is also that of a window, or they are as many as are taken from runs.
+fn is_served(orders: &[TableOrder], window: &SettledWindow) -> bool {
+    if orders.len() >= MOST_ORDERS {
+        return true;
+    }
+    for order in orders {
+        if share_order(order.window, window) {
+            return true;
+        }
+    }
+    false
+}
+
+// Adds the table's rows in the order of a window, where it is one by columns and there is none that the window shares, nor are
+// there as many as are taken from runs.
+fn add_order<'a>(
+    alloc: Global,
+    window: &'a SettledWindow,
+    width: usize,
+    set: &mut SegmentSet,
+    orders: &mut Vec<TableOrder<'a>>,
+) -> Result<(), AllocError>
+    requires { All (IsTableOrder (live_rows set.old)) orders.old.items }
+    ensures orders { OnOk result (All (IsTableOrder (live_rows set.old)) orders.new.items) }
+    ensures same { Becomes set.old set.old.view set.new }
+{
+    if is_served(orders, window) {
+        return Ok(());
+    }
+    let found = window_columns(alloc, window, width)?;
+    match found {
+        Some(keys) if !keys.is_empty() => {
+            kept_rows_stay_in_order();
+            let rows = set.ordered(&keys)?;
+            orders.push(TableOrder { window, rows })?;
+            Ok(())
+        }
+        _ => Ok(()),
+    }
+}
+
+// The table's rows in the orders of windows, where these are by columns. Windows that order rows alike share one.
+fn window_orders<'a>(
+    alloc: Global,
+    windows: &'a [SettledWindow],
+    set: &mut SegmentSet,
+) -> Result<Vec<TableOrder<'a>>, AllocError>
+    ensures orders { IfOk result (λ orders. All (IsTableOrder (live_rows set.old)) orders.items) }
+    ensures same { Becomes set.old set.old.view set.new }
+{
+    let width = set.schema().columns().len();
+    let mut orders = Vec::new(alloc);
+    for window in windows {
+        if let Err(refused) = add_order(alloc, window, width, set, &mut orders) {
+            return Err(refused);
+        }
+    }
+    Ok(orders)
+}
+
+/// Which rows of its ordered ones a SELECT asks for, by OFFSET and LIMIT.
+pub fn asked_of(select: &Selection) -> Asked
+    ensures offset { result.offset ≡ select.now.offset }
+    ensures limit { result.limit ≡ select.now.limit }
+{
+    Asked {
+        offset: select.offset,
+        limit: select.limit,
+    }
+}
+
+// Whether the order of ORDER BY is not taken from runs, behind so many that are: there is none, so few rows are asked for
+// that they are selected, or there are as many as are taken.
+fn is_left_out(select: &Selection, taken: usize) -> bool {
+    select.keys.is_empty() || asked_of(select).is_selected() || taken >= MOST_ORDERS
+}
+
+/// Whether a SELECT over the table may ask for orders of its rows: for those of windows, or for that of ORDER BY where rows are
+/// not selected. Rows that are grouped are not ordered.
+pub(crate) fn asks_for_orders(select: &Selection) -> bool {
+    if select.grouping.is_some() {
+        return false;
+    }
+    !select.windows.is_empty() || !is_left_out(select, 0)
+}
+
+// The table's rows in the order of ORDER BY, where it is one by columns and taken from runs, behind so many orders of windows
+// that are.
+fn key_order(
+    alloc: Global,
+    select: &Selection,
+    taken: usize,
+    set: &mut SegmentSet,
+) -> Result<Option<Vec<RowRef>>, AllocError>
+    ensures order { IfOk result (λ found. IfSome found (λ refs. (columns : List (List Meaning)) → IsOrderFor (live_rows set.old) (by_keys (select_plan select.now).keys columns) refs.items)) }
+    ensures same { Becomes set.old set.old.view set.new }
+{
+    if is_left_out(select, taken) {
+        return Ok(None);
+    }
+    let width = set.schema().columns().len();
+    let found = key_columns(alloc, &select.keys, width)?;
+    let Some(keys) = found else {
+        return Ok(None);
+    };
+    kept_rows_stay_in_order();
+    let rows = set.ordered(&keys)?;
+    Ok(Some(rows))
+}
+
+/// The table's rows in the orders that a SELECT over it asks for, where these are by columns and the rows are not grouped: in
+/// four of them at most, those of its windows first. They come from the runs that the segments keep; runs that are missing are
+/// made, and nothing else of the set changes. The one error is that memory was refused.
+pub fn table_orders<'a>(
+    alloc: Global,
+    select: &'a Selection,
+    set: &mut SegmentSet,
+) -> Result<TableOrders<'a>, AllocError>
+    ensures orders { IfOk result (AreTableOrders (live_rows set.old) (select_plan select.entry.now).keys) }
+    ensures same { Becomes set.old set.old.view set.new }
+{
+    if select.grouping.is_some() {
+        return Ok(TableOrders::none(alloc));
+    }
+    let windows = window_orders(alloc, &select.windows, set)?;
+    let keys = key_order(alloc, select, windows.len(), set)?;
+    Ok(TableOrders { windows, keys })
+}

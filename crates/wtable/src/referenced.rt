@@ -1,0 +1,79 @@
+//! The rows of the table that references tell, which stay where they lie.
+ghost use Rattle.std.specs.Prelude.{◌≡◌, [], IfOk, map, slice_index_or};
+ghost use Rattle.wvalues.specs.Meaning.{meaning};
+ghost use Rattle.wrows.specs.Columns.{not_too_many};
+ghost use Rattle.wrows.specs.Laid.{rows_seen};
+ghost use Rattle.wrows.specs.Outcomes.{Gives};
+ghost use Rattle.wset.specs.Running.{live_rows};
+ghost use Rattle.wtable.specs.Referenced.{row_told, segments_seen};
+
+use std::alloc::{AllocError, Global};
+use wrows::{AnswerFault, not_too_many};
+use wruns::RowRef;
+use wsegment::Segment;
+use wset::SegmentSet;
+use wvalues::Value;
+
+// The live segments, by name.
+fn live_segments(alloc: Global, set: &SegmentSet) -> Result<Vec<&Segment>, AllocError>
+    ensures { IfOk result (λ segments. segments_seen segments.items ≡ live_rows set.now) }
+{
+    let mut segments = Vec::new(alloc);
+    'live: for (_, kept) in set.lives() {
+        let segment = kept.segment()?;
+        segments.push(segment)?;
+    }
+    Ok(segments)
+}
+
+// The row of a segment at a place, without values where there is no such row.
+fn row_at<'a>(segment: &'a Segment, row: usize) -> &'a [Value]
+    ensures { map meaning result.now ≡ slice_index_or segment.now.rows row [] }
+{
+    if row < segment.rows() {
+        segment.row(row)
+    } else {
+        &[]
+    }
+}
+
+// The row that a reference tells, without values where there is no such row.
+fn row_told<'a>(segments: &[&'a Segment], reference: &RowRef) -> &'a [Value]
+    ensures { map meaning result.now ≡ row_told (segments_seen segments.now) reference.now }
+{
+    let segment = reference.segment as usize;
+    if segment < segments.len() {
+        row_at(segments[segment], reference.row as usize)
+    } else {
+        &[]
+    }
+}
+
+// The rows that references tell.
+fn rows_told<'a>(
+    alloc: Global,
+    segments: &[&'a Segment],
+    refs: &[RowRef],
+) -> Result<Vec<&'a [Value]>, AllocError>
+    ensures { IfOk result (λ rows. rows_seen rows.items ≡ map (row_told (segments_seen segments.now)) refs.now) }
+{
+    let mut rows = Vec::with_capacity(alloc, refs.len())?;
+    for reference in refs {
+        rows.push(row_told(segments, reference))?;
+    }
+    Ok(rows)
+}
+
+/// The rows of live segments that references tell, in their order. They stay where they lie; one of no row of a live segment
+/// tells a row without values. `TooManyRows` where they are more than 2,147,483,647, `NoMemory` where memory is refused.
+pub fn referenced_rows<'a>(
+    alloc: Global,
+    set: &'a SegmentSet,
+    refs: &[RowRef],
+) -> Result<Vec<&'a [Value]>, AnswerFault>
+    ensures { Gives (λ rows. rows_seen rows.items) result (not_too_many (map (row_told (live_rows set.now)) refs.now)) }
+{
+    let segments = live_segments(alloc, set)?;
+    let rows = rows_told(alloc, &segments, refs)?;
+    not_too_many(rows)
+}
