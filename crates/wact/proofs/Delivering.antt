@@ -8,7 +8,7 @@ use Rattle.wsegment.specs.Spelling.{ReadsDeclaration, Spells}
 use Rattle.wsegment.proofs.SpellingFacts.{spells-one}
 use Rattle.wset.specs.Items.{Item, view_of_item}
 use Rattle.wset.specs.Views.{View, join}
-use Rattle.wexchange.specs.Messages.{message_text}
+use Rattle.wstream.specs.Messages.{message_text}
 use Rattle.wstore.specs.Nodes.{NodeState}
 use Rattle.wstore.specs.Replies.{fed_text}
 use Rattle.wbatch.specs.Batches.{Filled, stream_of}

@@ -17,7 +17,7 @@ use Rattle.wset.specs.Words.{floor_word, retired_word, taken_word}
 use Rattle.wexchange.specs.Judging.{HasTable, IsFault, IsFileOf}
 use Rattle.wexchange.specs.declared.fault.FileFault.{FileFault}
 use Rattle.wexchange.specs.declared.fault.FileFault.TheVariants as files
-use Rattle.wstore.specs.History.{AreName}
+use Rattle.wscript.specs.Commands.{AreName}
 use Rattle.wreplies.specs.Spelling.{file_text, name_text, names_text, retired_text, segment_text, table_text, taken_text}
 use Rattle.wcommand.specs.declared.choice.Choice.{Choice}
 use Rattle.wcommand.specs.declared.choice.Choice.TheVariants as choices

@@ -6,7 +6,7 @@ use Rattle.wsegment.specs.declared.fault.SegmentFault.{SegmentFault}
 use Rattle.wset.specs.Items.{FloorItem, Item, RetirementItem, SegmentItem, view_of_item}
 use Rattle.wset.specs.Views.{View, join, known_in}
 use Rattle.wset.specs.Words.{floor_word, retired_word, taken_word}
-use Rattle.wexchange.specs.Messages.{message_text}
+use Rattle.wstream.specs.Messages.{message_text}
 use Rattle.wbatch.specs.Streams.{EndsInside, IsDelivered, MeetsBad, MeetsSegment}
 use Rattle.wreplies.specs.Spelling.{retired_text, segment_text, taken_text}
 use Rattle.wstore.specs.Replies.{fed_text}

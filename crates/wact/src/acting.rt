@@ -3,7 +3,7 @@ ghost use Rattle.std.specs.Prelude.{◌≡◌, true, IfOk, OnErr, option_map};
 ghost use Rattle.wcommand.specs.Inputs.{is_act};
 ghost use Rattle.wexchange.specs.Judging.{HasTable};
 ghost use Rattle.wreplies.specs.Spelling.{name_text};
-ghost use Rattle.wstore.specs.History.{AreName};
+ghost use Rattle.wscript.specs.Commands.{AreName};
 ghost use Rattle.wact.specs.Outcomes.{IsRefused};
 ghost use Rattle.wact.specs.Acts.{Acts, ActsBy, ActsOn, ActsRead, Joins, Lists, MayLack, MayLackBy, MayLackMemory, MayLackRead, OnName, Retires, RetiresTo, Takes};
 

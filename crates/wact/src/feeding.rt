@@ -3,7 +3,7 @@ ghost use Rattle.std.specs.Prelude.{◌≡◌, ◌++◌, ◌∷◌, [], None, Ok
 ghost use Rattle.std.specs.List.{AllByRecursion};
 ghost use Rattle.wsegment.specs.Spelling.{ReadsDeclaration};
 ghost use Rattle.wset.specs.Items.{SegmentItem, view_of_item};
-ghost use Rattle.wset.specs.Sets.{IsReadBy};
+ghost use Rattle.wentries.specs.Holding.{IsReadBy};
 ghost use Rattle.wset.specs.Views.{join, known_in};
 ghost use Rattle.wset.specs.Words.{taken_word};
 ghost use Rattle.wbatch.specs.Batches.{stream_of};

@@ -22,7 +22,7 @@ use Rattle.wplan.specs.Plans.{SelectPlan}
 use Rattle.wcalls.specs.Sound.{is_sound_window}
 use Rattle.wplanner.specs.Sound.{is_sound_call, is_sound_query, is_sound_select}
 use Rattle.wdistinct.specs.Calls.{group_calls, window_calls}
-use Rattle.wsettle.specs.Resolving.{Layout}
+use Rattle.wbinding.specs.Resolving.{Layout}
 use Rattle.wresolve.specs.Selecting.{calls_made, entries_made, own_windows, resolved_query, resolved_source, select_made, shown_row, windows_made}
 use Rattle.wask.proofs.Nodes.{calls_kept}
 use Rattle.wask.proofs.SoundWindows.{entries_sound, lacks_own_key, own_sound}

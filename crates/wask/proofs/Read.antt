@@ -8,8 +8,8 @@ use Rattle.wlexer.specs.Lexing.{Lexes}
 use Rattle.wquery.specs.QueryTree.{QueryTree}
 use Rattle.wparser.specs.Queries.{Spells}
 use Rattle.wtokens.specs.Notation.{meanings}
-use Rattle.wparser.specs.declared.fault.ParseFault.{ParseFault}
-use Rattle.wparser.specs.declared.fault.ParseFault.TheVariants as parsing
+use Rattle.wexpressions.specs.declared.fault.ParseFault.{ParseFault}
+use Rattle.wexpressions.specs.declared.fault.ParseFault.TheVariants as parsing
 use Rattle.wask.specs.Texts.{IsForeign, IsRefused, IsText, Reads, said, syntactical}
 use Rattle.wplanner.specs.declared.fault.AskFault.TheVariants as faults
 

@@ -16,8 +16,8 @@ use Rattle.wcalls.specs.Sound.{is_sound_function}
 use Rattle.wplanner.specs.Sound.{is_sound_call}
 use Rattle.wdistinct.specs.declared.calls.CallKind.TheVariants.{Windowed}
 use Rattle.wdistinct.specs.Calls.{is_call_of}
-use Rattle.wsettle.specs.Resolving.{Layout}
-use Rattle.wsettle.specs.Functions.{call_function, function_made, number_or, tree_at}
+use Rattle.wbinding.specs.Resolving.{Layout}
+use Rattle.wbinding.specs.Functions.{call_function, function_made, number_or, tree_at}
 use Rattle.wresolve.specs.Selecting.{calls_made, has_own_window, own_window, own_windows, place_over, window_place}
 use Rattle.wask.proofs.Nodes.{is_kept}
 

@@ -11,14 +11,14 @@ use Rattle.wquery.specs.declared.frame.FrameBound.TheVariants.{UnboundedPrecedin
 use Rattle.wquery.specs.Tree.{Tree, Invoked, Reach, ItsGroup, ThatWindow, OwnWindow, Keys, NoKeys, MoreKeys}
 use Rattle.wsame.specs.Bounds.{end_of}
 use Rattle.wscope.specs.Types.{Titled}
-use Rattle.wscope.specs.Windows.{NamedWindow, Settled, settle}
+use Rattle.wscope.specs.Windows.{NamedWindow, Expanded, expand}
 use Rattle.wwindows.specs.Windows as rules
 use Rattle.wwindows.specs.Windows.{entry_is, lacks_range_key, own_window_is, reach_is}
 use Rattle.wframe.specs.Bounds as frames
 use Rattle.wframe.specs.Offsets as frames_offsets
 use Rattle.wcalls.specs.Frames.{bound_of, frame_of, mode_of}
 use Rattle.wcalls.specs.Sound.{is_sound_window}
-use Rattle.wsettle.specs.Resolving.{Layout}
+use Rattle.wbinding.specs.Resolving.{Layout}
 use Rattle.wresolve.specs.Selecting.{entries_made, frame_made, keys_made, own_window, own_windows, window_made, window_of_reach}
 use Rattle.wask.proofs.Nodes.{is_kept}
 
@@ -52,8 +52,8 @@ framed cs l ks f e = ap (λ (b : Bool). not b || (length (keys_made l ks) == 1))
     moves : frames_offsets.has_range_offset (frame_of (frame_made (Some f))) ≡ (rules.is_range f.mode && (rules.is_offset f.start || rules.is_offset (end_of f)))
     moves = ap₂ (λ a b. a && b) (same_mode f.mode) (ap₂ (λ a b. a || b) (same_bound f.start) (same_bound (end_of f)))
 
-settled : (cs : List Titled) (l : Layout) (w : Settled) → lacks_range_key cs w ≡ false → is_sound_window (window_made l w) ≡ true
-settled cs l w e = go w.frame e
+expanded : (cs : List Titled) (l : Layout) (w : Expanded) → lacks_range_key cs w ≡ false → is_sound_window (window_made l w) ≡ true
+expanded cs l w e = go w.frame e
   where
     go : (f : Option Frame) → rules.in_frame f (λ f. (rules.is_range f.mode && (rules.is_offset f.start || rules.is_offset (end_of f))) && not (rules.has_range_key cs w.order)) ≡ false → (not (frames_offsets.has_range_offset (frame_of (frame_made f))) || (length (keys_made l w.order) == 1)) ≡ true
     go None none = refl
@@ -64,7 +64,7 @@ pub entries_sound : (cs : List Titled) (l : Layout) (ws : List NamedWindow) → 
 entries_sound cs l [] e = refl
 entries_sound cs l (w ∷ ws) e =
     let parts = or_parts (lacks_range_key cs w.window) (list_any (entry_is (lacks_range_key cs)) ws) e in
-    ap₂ (λ a b. a && b) (settled cs l w.window parts.0) (entries_sound cs l ws parts.1)
+    ap₂ (λ a b. a && b) (expanded cs l w.window parts.0) (entries_sound cs l ws parts.1)
 
 -- a window of a call's own that lacks its key
 abbrev pub lacks_own_key : List NamedWindow → List Titled → Tree → Bool
@@ -73,7 +73,7 @@ lacks_own_key ws cs = reach_is (own_window_is ws (lacks_range_key cs))
 reached : (cs : List Titled) (l : Layout) (ws : List NamedWindow) (reach : Reach) → own_window_is ws (lacks_range_key cs) reach ≡ false → list_all is_sound_window (window_of_reach l ws reach) ≡ true
 reached cs l ws ItsGroup e = refl
 reached cs l ws (ThatWindow name) e = refl
-reached cs l ws (OwnWindow copied partition order frame) e = ap₂ (λ a b. a && b) (settled cs l (settle ws copied partition order frame) e) refl
+reached cs l ws (OwnWindow copied partition order frame) e = ap₂ (λ a b. a && b) (expanded cs l (expand ws copied partition order frame) e) refl
 
 own : (cs : List Titled) (l : Layout) (ws : List NamedWindow) (t : Tree) → lacks_own_key ws cs t ≡ false → list_all is_sound_window (own_window l ws t) ≡ true
 own cs l ws (Invoked name given filter reach) e = reached cs l ws reach e

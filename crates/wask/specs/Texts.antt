@@ -8,8 +8,8 @@ use Rattle.wlexer.specs.declared.fault.LexFault.TheVariants as lexing
 use Rattle.wquery.specs.QueryTree.{QueryTree}
 use Rattle.wtokens.specs.Notation.{Tokens}
 use Rattle.wparser.specs.Queries.{Spells}
-use Rattle.wparser.specs.declared.fault.ParseFault.{ParseFault}
-use Rattle.wparser.specs.declared.fault.ParseFault.TheVariants as parsing
+use Rattle.wexpressions.specs.declared.fault.ParseFault.{ParseFault}
+use Rattle.wexpressions.specs.declared.fault.ParseFault.TheVariants as parsing
 use Rattle.wplanner.specs.declared.fault.AskFault.{AskFault}
 use Rattle.wplanner.specs.declared.fault.AskFault.TheVariants as faults
 

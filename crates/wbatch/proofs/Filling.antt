@@ -4,8 +4,8 @@ use Rattle.std.specs.List.{flat_map, AllByRecursion}
 use Rattle.wsegment.specs.Declaration.{Declaration}
 use Rattle.wsegment.specs.declared.fault.SegmentFault.{SegmentFault}
 use Rattle.wset.specs.Items.{Item, SegmentItem, RetirementItem, FloorItem}
-use Rattle.wexchange.specs.Inboxes.{Inbox}
-use Rattle.wexchange.specs.Messages.{IsBad, IsMessage, IsOpen, message_text}
+use Rattle.wstream.specs.Inboxes.{Inbox}
+use Rattle.wstream.specs.Messages.{IsBad, IsMessage, IsOpen, message_text}
 use Rattle.wbatch.specs.Deliveries.{Adds, IsNext, IsReady, IsRefused, item_of}
 use Rattle.wbatch.specs.Streams.{EndsInside, IsDelivered, MeetsBad, Stops, stream_text}
 use Rattle.wbatch.specs.declared.delivery.Delivery.{Delivery}

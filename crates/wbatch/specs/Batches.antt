@@ -3,8 +3,8 @@ use Rattle.std.specs.Prelude.{◌≡◌, ℕ, List, Option, None, false}
 use Rattle.std.specs.List.{AllByRecursion}
 use Rattle.wsegment.specs.Declaration.{Declaration}
 use Rattle.wset.specs.Items.{Item}
-use Rattle.wexchange.specs.Inboxes.{Inbox}
-use Rattle.wexchange.specs.Messages.{IsOpen}
+use Rattle.wstream.specs.Inboxes.{Inbox}
+use Rattle.wstream.specs.Messages.{IsOpen}
 use Rattle.wbatch.specs.Deliveries.{IsReady}
 use Rattle.wbatch.specs.Streams.{stream_text}
 use Rattle.wbatch.specs.declared.delivery.Delivery.{Delivery}

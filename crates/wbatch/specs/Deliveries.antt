@@ -4,9 +4,9 @@ use Rattle.std.specs.List.{AllByRecursion}
 use Rattle.wsegment.specs.Declaration.{Declaration}
 use Rattle.wsegment.specs.Rows.{rows_of}
 use Rattle.wset.specs.Items.{Item, FloorItem, RetirementItem, SegmentItem}
-use Rattle.wset.specs.Sets.{IsReadBy}
-use Rattle.wexchange.specs.Inboxes.{Inbox}
-use Rattle.wexchange.specs.Messages.{IsBad, IsMessage, IsOpen, message_text}
+use Rattle.wentries.specs.Holding.{IsReadBy}
+use Rattle.wstream.specs.Inboxes.{Inbox}
+use Rattle.wstream.specs.Messages.{IsBad, IsMessage, IsOpen, message_text}
 use Rattle.wbatch.specs.Streams.{stream_text}
 use Rattle.wbatch.specs.declared.delivery.Delivery.{Delivery}
 use Rattle.wbatch.specs.declared.delivery.Delivery.TheVariants as deliveries

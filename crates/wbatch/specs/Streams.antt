@@ -6,7 +6,7 @@ use Rattle.wsegment.specs.Declaration.{Declaration}
 use Rattle.wsegment.specs.Rows.{rows_of}
 use Rattle.wsegment.specs.declared.fault.SegmentFault.{SegmentFault}
 use Rattle.wset.specs.Items.{Item, SegmentItem}
-use Rattle.wexchange.specs.Messages.{IsBad, IsMessage, IsOpen, message_text}
+use Rattle.wstream.specs.Messages.{IsBad, IsMessage, IsOpen, message_text}
 use Rattle.wbatch.specs.declared.stop.Stop.{Stop}
 use Rattle.wbatch.specs.declared.stop.Stop.TheVariants as stops
 

@@ -1,7 +1,7 @@
 //! Deliveries in order, made from a stream that comes in blocks.
 ghost use Rattle.std.specs.Prelude.{◌≡◌, ◌⊎◌, ◌++◌, [], true, false, None, Some, IfOk, IfErr, OnOk, length, map};
 ghost use Rattle.std.specs.List.{AllByRecursion};
-ghost use Rattle.wexchange.specs.Messages.{IsOpen};
+ghost use Rattle.wstream.specs.Messages.{IsOpen};
 ghost use Rattle.wbatch.specs.Batches.{stream_of};
 ghost use Rattle.wbatch.specs.Deliveries.{Adds, AddsAll, IsNext, IsReady, item_of};
 ghost use Rattle.wbatch.specs.Streams.{IsDelivered, IsUndelivered, Stops, stream_text};
@@ -11,8 +11,8 @@ use crate::place::{Place, Stands};
 use crate::stop::Stop;
 use std::alloc::Global;
 use std::marker::Model;
-use wexchange::{Inbox, Message};
 use wsegment::Schema;
+use wstream::{Inbox, Message};
 
 /// The deliveries of a stream, in order, and the bytes behind the last message that was whole. Contracts see it as the
 /// declaration, the items that are delivered, these bytes, and why no more come, if none do.

@@ -2,16 +2,16 @@
 ghost use Rattle.std.specs.Prelude.{◌≡◌, IfOk, IfErr};
 ghost use Rattle.wvalues.specs.Names.{NameParts};
 ghost use Rattle.wset.specs.Items.{SegmentItem};
-ghost use Rattle.wset.specs.Sets.{IsReadBy};
-ghost use Rattle.wexchange.specs.Messages.{IsMessage};
-ghost use Rattle.wexchange.specs.Inboxes as messages;
+ghost use Rattle.wentries.specs.Holding.{IsReadBy};
+ghost use Rattle.wstream.specs.Messages.{IsMessage};
+ghost use Rattle.wstream.specs.Inboxes as messages;
 ghost use Rattle.wbatch.specs.Deliveries.{IsReady, IsRefused, item_of};
 
 use crate::stop::Stop;
 use std::alloc::Global;
 use std::rc::Rc;
-use wexchange::Message;
 use wsegment::{Judged, Schema, SegmentFault};
+use wstream::Message;
 use wvalues::Name;
 
 /// What a message of a delivery stream delivers.

@@ -5,7 +5,7 @@
 //!   one that is whole; a segment is judged as it comes. It stops at the first message that cannot be delivered, whatever
 //!   follows, and an end inside a message is no end.
 //! - Asks: nothing.
-//! - Leaves messages to `wexchange`, segments to `wsegment`, and what a delivery does to the crates above.
+//! - Leaves messages to `wstream`, segments to `wsegment`, and what a delivery does to the crates above.
 //!
 //! Read `specs/Streams.antt`, then `specs/Batches.antt`.
 #![tactic(auto)]

@@ -5,7 +5,7 @@ use Rattle.wquery.specs.declared.frame.FrameBound as query_bound
 use Rattle.wquery.specs.declared.frame.FrameBound.TheVariants as query_bounds
 use Rattle.wquery.specs.declared.frame.FrameExclusion as query_exclusion
 use Rattle.wquery.specs.declared.frame.FrameExclusion.TheVariants as query_exclusions
-use Rattle.wplan.specs.declared.resolved.SettledFrame.{SettledFrame}
+use Rattle.wplan.specs.declared.resolved.ResolvedFrame.{ResolvedFrame}
 use Rattle.wframe.specs.declared.frame.Frame.{Frame}
 use Rattle.wframe.specs.declared.frame.FrameMode.{FrameMode}
 use Rattle.wframe.specs.declared.frame.FrameMode.TheVariants.{Rows, Range, Groups}
@@ -32,5 +32,5 @@ exclusion_of query_exclusions.Group = exclusions.Group
 exclusion_of query_exclusions.Ties = exclusions.Ties
 exclusion_of query_exclusions.NoOthers = exclusions.NoOthers
 
-abbrev pub frame_of : SettledFrame → Frame
+abbrev pub frame_of : ResolvedFrame → Frame
 frame_of f = record { mode = mode_of f.mode; start = bound_of f.start; end = bound_of f.end; exclusion = exclusion_of f.exclusion }

@@ -21,7 +21,7 @@ use crate::parts::frame_of;
 use crate::window::WindowOrder;
 use std::alloc::Global;
 use waggregate::Tally;
-use wplan::{SettledWindow, WindowFunction};
+use wplan::{ResolvedWindow, WindowFunction};
 use wrows::{AnswerFault, Cells};
 use wvalues::Value;
 
@@ -78,7 +78,7 @@ fn every_column(
 /// the frame clause excludes rows.
 pub fn window_columns(
     alloc: Global,
-    window: &SettledWindow,
+    window: &ResolvedWindow,
     order: &WindowOrder,
     functions: &[&WindowFunction],
     rows: &[&[Value]],

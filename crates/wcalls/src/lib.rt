@@ -7,7 +7,7 @@
 //! - Leaves frames to `wframe`, places to `wplaces`, aggregates to `waggregate`.
 //!
 //! Rows are put into the order of a window once, which serves each window of the same partition values and keys; where the
-//! numbers of the rows are told in it, nothing is sorted. Partition values and keys that are plain columns are lent from the
+//! rows are presorted in it, nothing is sorted. Partition values and keys that are plain columns are lent from the
 //! rows, and only what is worked out is kept with the order. Each
 //! function answers one partition after another there, and each answer is put at its row's number in the window's
 //! columns. A function that is no aggregate keeps a number at the row's number first, and its value is read from that, row

@@ -13,7 +13,7 @@ use crate::row_keys::RowKeys;
 use crate::row_lists::row_lists;
 use std::alloc::{AllocError, Global};
 use wframe::{Frame, FrameBound, FrameExclusion, FrameMode};
-use wplan::{Expr, SettledFrame, SettledKey, SettledWindow};
+use wplan::{Expr, ResolvedFrame, ResolvedKey, ResolvedWindow};
 use wrows::AnswerFault;
 use wvalues::{SortKey, Value};
 
@@ -49,7 +49,7 @@ fn value_orders(alloc: Global, values: &[Expr]) -> Result<Vec<SortKey>, AllocErr
 }
 
 // The values of keys.
-fn key_values(alloc: Global, keys: &[SettledKey]) -> Result<Vec<&Expr>, AllocError>
+fn key_values(alloc: Global, keys: &[ResolvedKey]) -> Result<Vec<&Expr>, AllocError>
     ensures values { IfOk result (λ values. formulas_seen values.items ≡ map (λ k. k.value) (map key_plan keys.now)) }
     ensures len { IfOk result (λ values. length values.items ≡ length keys.now) }
 {
@@ -61,7 +61,7 @@ fn key_values(alloc: Global, keys: &[SettledKey]) -> Result<Vec<&Expr>, AllocErr
 }
 
 // How keys are ordered.
-fn key_orders(alloc: Global, keys: &[SettledKey]) -> Result<Vec<SortKey>, AllocError>
+fn key_orders(alloc: Global, keys: &[ResolvedKey]) -> Result<Vec<SortKey>, AllocError>
     ensures orders { IfOk result (λ orders. orders.items ≡ map (λ k. k.order) (map key_plan keys.now)) }
     ensures len { IfOk result (λ orders. length orders.items ≡ length keys.now) }
 {
@@ -75,7 +75,7 @@ fn key_orders(alloc: Global, keys: &[SettledKey]) -> Result<Vec<SortKey>, AllocE
 /// The partition values of rows, in their order.
 pub(crate) fn partition_keys<'a>(
     alloc: Global,
-    window: &SettledWindow,
+    window: &ResolvedWindow,
     rows: &'a [&'a [Value]],
 ) -> Result<RowKeys<'a>, AnswerFault>
     ensures gives { Gives (λ values. lists_in values.lists) result (lists_of (window_plan window.now).partition (rows_seen rows.now)) }
@@ -90,7 +90,7 @@ pub(crate) fn partition_keys<'a>(
 /// The keys of rows, in their order.
 pub(crate) fn window_keys<'a>(
     alloc: Global,
-    window: &SettledWindow,
+    window: &ResolvedWindow,
     rows: &'a [&'a [Value]],
 ) -> Result<RowKeys<'a>, AnswerFault>
     ensures gives { Gives (λ keys. lists_in keys.lists) result (lists_of (map (λ k. k.value) (window_plan window.now).keys) (rows_seen rows.now)) }
@@ -136,7 +136,7 @@ fn exclusion_of(exclusion: wquery::FrameExclusion) -> FrameExclusion
 }
 
 /// The frame of a window, as a partition has it.
-pub(crate) fn frame_of(frame: &SettledFrame) -> Frame
+pub(crate) fn frame_of(frame: &ResolvedFrame) -> Frame
     ensures { result ≡ frame_of frame.now }
 {
     Frame {

@@ -15,8 +15,9 @@ ghost use Rattle.wcalls.specs.ListedColumns.{values_at};
 use crate::plain_lists::PlainLists;
 use crate::row_lists::RowLists;
 use std::alloc::{AllocError, Global};
+use wcodes::column_codes;
 use wrows::{Cells, numbers, resorted_numbers};
-use wsort::{column_codes, sort_by_codes};
+use wsort::sort_by_codes;
 use wvalues::{SortKey, Value};
 
 /// The most rows that have a code of 32 bits.

@@ -28,9 +28,10 @@ use crate::row_keys::RowKeys;
 use std::alloc::{AllocError, Global};
 use std::marker::Model;
 use waggregate::Tally;
+use wcodes::picked_codes;
 use wframe::{Frame, KeyRows, Partitions};
-use wplan::{SettledWindow, same_order};
-use wrows::{AnswerFault, order_by_codes, picked_codes};
+use wplan::{ResolvedWindow, same_order};
+use wrows::{AnswerFault, order_by_codes};
 use wvalues::Value;
 
 /// Rows by the partition values of a window, by its keys and then by number, with the partition values and the keys of
@@ -65,7 +66,7 @@ impl<'a> WindowOrder<'a> {
     /// one is so on any; the rows are sorted once. The order that is made counts among the orders.
     pub fn new(
         alloc: Global,
-        window: &SettledWindow,
+        window: &ResolvedWindow,
         rows: &'a [&'a [Value]],
         orders: &mut Tally,
     ) -> Result<WindowOrder<'a>, AnswerFault>
@@ -80,12 +81,12 @@ impl<'a> WindowOrder<'a> {
         Ok(order)
     }
 
-    /// Orders rows as a window does, where their numbers are told in its order: nothing is sorted. All its partition values
-    /// and keys are evaluated on every row, and `OutOfRange` where one is so on any. The order that is told counts among the
+    /// Orders rows as a window does, where they are presorted in it: nothing is sorted. All its partition values
+    /// and keys are evaluated on every row, and `OutOfRange` where one is so on any. The presorted order counts among the
     /// orders.
-    pub fn told(
+    pub fn presorted(
         alloc: Global,
-        window: &SettledWindow,
+        window: &ResolvedWindow,
         rows: &'a [&'a [Value]],
         numbers: Vec<usize>,
         orders: &mut Tally,
@@ -97,7 +98,7 @@ impl<'a> WindowOrder<'a> {
     {
         let values = partition_keys(alloc, window, rows)?;
         let keys = window_keys(alloc, window, rows)?;
-        let order = told_keys(alloc, values, keys, numbers)?;
+        let order = presorted_keys(alloc, values, keys, numbers)?;
         orders.add(1);
         Ok(order)
     }
@@ -156,7 +157,7 @@ impl<'a> WindowOrder<'a> {
 /// Whether two windows order rows alike, whatever their frames: their partition values and their keys are the same, as
 /// they are written.
 #[tactic(auto, using(crate::proofs::WindowedFacts::shared_order))]
-pub fn share_order(a: &SettledWindow, b: &SettledWindow) -> bool
+pub fn share_order(a: &ResolvedWindow, b: &ResolvedWindow) -> bool
     ensures exact { result ≡ is_same_order a.now b.now }
     ensures order { (rows : List Row) → result ≡ true → ordered_rows rows (window_plan a.now) ≡ ordered_rows rows (window_plan b.now) }
 {
@@ -197,8 +198,8 @@ fn ordered_keys<'a>(
     Ok(kept_order(order, values, keys))
 }
 
-// Rows in the order of their partition values and keys, which is told.
-fn told_keys<'a>(
+// Rows in the order of their partition values and keys, which is presorted.
+fn presorted_keys<'a>(
     alloc: Global,
     values: RowKeys<'a>,
     keys: RowKeys<'a>,
@@ -208,7 +209,7 @@ fn told_keys<'a>(
     requires order { numbers.items ≡ numbers_in_order (lists_in values.lists) values.orders.items (lists_in keys.lists) keys.orders.items }
     ensures { IfOk result (λ order. order ≡ ordered_by (lists_in values.entry.lists) values.entry.orders.items (lists_in keys.entry.lists) keys.entry.orders.items) }
 {
-    let order = told_order(alloc, &values, &keys, numbers)?;
+    let order = presorted_order(alloc, &values, &keys, numbers)?;
     Ok(kept_order(order, values, keys))
 }
 
@@ -269,9 +270,9 @@ fn row_order(alloc: Global, values: &RowKeys, keys: &RowKeys) -> Result<RowOrder
     })
 }
 
-// The order of rows that is told, with the codes of their partition values and of their keys there, where these are told
+// The presorted order of rows, with the codes of their partition values and of their keys there, where these are told
 // without sorting. The rows stand by partition values, then by keys, then by number.
-fn told_order(
+fn presorted_order(
     alloc: Global,
     values: &RowKeys,
     keys: &RowKeys,

@@ -11,9 +11,10 @@ use Rattle.std.proofs.lemmas.Map.Lookups.{exact_bytes}
 use Rattle.std.specs.FinMap.Entries.{below_all}
 use Rattle.std.specs.FinMap.{entries, entries_sorted, find, get-entries, is_sorted}
 use Rattle.wvalues.specs.Names.{NameParts, name_cmp, names_total}
-use Rattle.wset.specs.Views.{Known, Floor, View, IsSettled, is_above, is_over, same_bytes, same_name}
-use Rattle.wset.specs.Lending.{AreOriginsBelow}
-use Rattle.wset.proofs.Floors.{first, second, less, same_bytes-refl, same_name-refl, same_name-true}
+use Rattle.wentries.specs.Knowledge.{Known, Floor, is_above, is_over, same_bytes, same_name}
+use Rattle.wset.specs.Views.{View, IsSettled}
+use Rattle.wentries.specs.Entries.{AreOriginsBelow}
+use Rattle.wentries.proofs.Floors.{first, second, less, same_bytes-refl, same_name-refl, same_name-true}
 
 not_both : Less ≡ Greater → ⊥
 not_both e = cc

@@ -7,7 +7,7 @@ use Rattle.sha2.specs.Sha256.{digest_bytes, sha256}
 use Rattle.sha2.proofs.Facts256.{length-sha256}
 use Rattle.hex.specs.Hex.{encode_with, lower_digits}
 use Rattle.hex.proofs.HexLemmas.{length-encode_with}
-use Rattle.wexchange.specs.Forms.{IsDigest, is_digest_digit}
+use Rattle.wrecords.specs.Forms.{IsDigest, is_digest_digit}
 use Rattle.wexchange.specs.Files.{digest_of}
 
 -- each of these is below 256

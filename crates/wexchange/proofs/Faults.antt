@@ -11,23 +11,24 @@ use Rattle.wsegment.specs.Rows.{rows_of}
 use Rattle.wsegment.specs.Outcome.{Fails}
 use Rattle.wsegment.specs.declared.fault.SegmentFault.{SegmentFault}
 use Rattle.wsegment.specs.declared.fault.SegmentFault.TheVariants as segments
-use Rattle.wset.specs.Views.{Known, Live, Disputed, Retired, Floor, View, IsSettled, join}
+use Rattle.wentries.specs.Knowledge.{Known, Live, Disputed, Retired, Floor}
+use Rattle.wset.specs.Views.{View, IsSettled, join}
 use Rattle.wset.specs.Items.{SegmentItem, RetirementItem, FloorItem, view_of_item}
 use Rattle.wset.specs.Lending.{IsAbove, IsBehindOrigins, only_disputed}
 use Rattle.wset.proofs.Joining.{join_laws}
 use Rattle.wset.proofs.Later.{take_later, retire_later, dispute_later, floor_later}
-use Rattle.wexchange.specs.Forms.{IsForm, IsNumber, IsDigest, line_of}
-use Rattle.wexchange.specs.Cuts.{IsUnfed}
+use Rattle.wrecords.specs.Forms.{IsForm, IsNumber, IsDigest, line_of}
+use Rattle.wrecords.specs.Cuts.{IsUnfed}
 use Rattle.wexchange.specs.Files.{head, begun, counted, digest_of, digest_text, end_text, table_text, text_of, record_text, IsRecord, IsView, MayTell, Tells}
 use Rattle.wexchange.specs.Judging.{HasOtherHead, IsCutHead, GoesOn, AtDigest, AtTable, Behind, Place, Follows, MayStand, body_length, record_name, IsFault, HasOtherTable, HasBadSegment, HasTable}
 use Rattle.wexchange.specs.Steps.{Adds, Spoils, file_fault}
 use Rattle.wexchange.specs.declared.fault.FileFault.TheVariants as faults
-use Rattle.wexchange.specs.declared.form.Form.{Form}
-use Rattle.wexchange.specs.declared.form.Form.TheVariants as forms
+use Rattle.wrecords.specs.declared.form.Form.{Form}
+use Rattle.wrecords.specs.declared.form.Form.TheVariants as forms
 use Rattle.wexchange.specs.declared.version.Version.{Version}
 use Rattle.wexchange.specs.declared.version.Version.TheVariants.{One, Two}
-use Rattle.wexchange.proofs.Words.{line_lacks}
-use Rattle.wexchange.proofs.Shapes.{one_form}
+use Rattle.wrecords.proofs.Words.{line_lacks}
+use Rattle.wrecords.proofs.Shapes.{one_form}
 
 pub cut_body_fault : (d : Declaration) (p : Place) (f : Form) (bytes after : List ℕ) (len : ℕ) → IsForm f → Follows p f → body_length f ≡ Some len → GoesOn d p bytes (line_of f ++ (10 ∷ after)) → length after ≤ len → IsFault d bytes faults.Truncated
 cut_body_fault d p f bytes after len form follows is g short =

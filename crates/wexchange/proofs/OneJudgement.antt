@@ -14,21 +14,24 @@ use Rattle.wsegment.specs.Declaration.{Declaration, declaration_text}
 use Rattle.wsegment.specs.Spelling.{IsDeclaration}
 use Rattle.wsegment.specs.Rows.{rows_of}
 use Rattle.wsegment.specs.declared.fault.SegmentFault.{SegmentFault}
-use Rattle.wset.specs.Views.{Known, Live, Disputed, Retired, Floor, View, IsSettled}
-use Rattle.wset.specs.Lending.{AreBelow, IsAbove, IsBehindOrigins}
-use Rattle.wexchange.specs.Cuts.{IsUnfed}
-use Rattle.wexchange.specs.Forms.{IsForm, line_of}
+use Rattle.wentries.specs.Knowledge.{Known, Live, Disputed, Retired, Floor}
+use Rattle.wset.specs.Views.{View, IsSettled}
+use Rattle.wentries.specs.Entries.{AreBelow}
+use Rattle.wset.specs.Lending.{IsAbove, IsBehindOrigins}
+use Rattle.wrecords.specs.Cuts.{IsUnfed}
+use Rattle.wrecords.specs.Forms.{IsForm, line_of}
 use Rattle.wexchange.specs.Files.{head, table_text, record_text, end_text, begun, counted, digest_of, digest_text, text_of, file_of, HasFloors, IsRecord, IsView, MayTell, Tells}
 use Rattle.wexchange.specs.declared.version.Version.{Version}
 use Rattle.wexchange.specs.declared.version.Version.TheVariants.{One, Two}
 use Rattle.wexchange.specs.Judging.{Place, AtTable, AtDigest, Behind, GoesOn, MayStand, Follows, record_name, body_length, Stands, HasOtherHead, IsCutHead, HasLowName, Judges}
 use Rattle.wexchange.specs.Laws.{OneJudgement, OwnJudgement}
-use Rattle.wexchange.specs.declared.form.Form.{Form}
-use Rattle.wexchange.specs.declared.form.Form.TheVariants as forms
+use Rattle.wrecords.specs.declared.form.Form.{Form}
+use Rattle.wrecords.specs.declared.form.Form.TheVariants as forms
 use Rattle.wexchange.specs.declared.fault.FileFault.{FileFault}
 use Rattle.wexchange.specs.declared.fault.FileFault.TheVariants as faults
-use Rattle.wexchange.proofs.Words.{line_lacks}
-use Rattle.wexchange.proofs.OneText.{cut, no_end, one_record, one_version, record_first, record_form, record_is_form, record_rest, same_front}
+use Rattle.wrecords.proofs.Words.{line_lacks}
+use Rattle.wrecords.proofs.Lines.{cut, same_front}
+use Rattle.wexchange.proofs.OneText.{no_end, one_record, one_version, record_first, record_form, record_is_form, record_rest}
 use Rattle.wexchange.proofs.Before.{floor_next}
 use Rattle.wexchange.proofs.Digests.{digest_spelled}
 

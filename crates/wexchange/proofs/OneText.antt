@@ -2,33 +2,17 @@
 use Rattle.std.proofs.Common.{◌≡◌, ◌≢◌, ℕ, List, [], ◌∷◌, ◌++◌, length, refl, sym, ap, ◌∙◌, arith, append_assoc}
 use Rattle.std.specs.List.{flat_map, AllByRecursion}
 use Rattle.std.specs.FinMap.{entries, same_entries_map}
-use Rattle.wlines.proofs.Cuts.{cut_once}
 use Rattle.wvalues.specs.Names.{NameParts}
 use Rattle.wsegment.specs.Declaration.{Declaration}
-use Rattle.wset.specs.Views.{Known, Live, Disputed, Retired, Floor}
-use Rattle.wexchange.specs.Forms.{IsForm, line_of}
+use Rattle.wentries.specs.Knowledge.{Known, Live, Disputed, Retired, Floor}
+use Rattle.wrecords.specs.Forms.{IsForm, line_of}
 use Rattle.wexchange.specs.Files.{head, table_text, record_text, end_text, counted, sealed, IsRecord}
 use Rattle.wexchange.specs.Laws.{OneText, OneView}
-use Rattle.wexchange.specs.declared.form.Form.{Form}
-use Rattle.wexchange.specs.declared.form.Form.TheVariants as forms
+use Rattle.wrecords.specs.declared.form.Form.{Form}
+use Rattle.wrecords.specs.declared.form.Form.TheVariants as forms
 use Rattle.wexchange.specs.declared.version.Version.{Version}
 use Rattle.wexchange.specs.declared.version.Version.TheVariants.{One, Two}
-use Rattle.wexchange.proofs.Words.{line_lacks}
-use Rattle.wexchange.proofs.Shapes.{one_form}
-
-pub same_front : (xs ys ls ms : List ℕ) → length xs ≡ length ys → xs ++ ls ≡ ys ++ ms → (xs ≡ ys) × (ls ≡ ms)
-same_front [] [] ls ms h e = (refl, e)
-same_front [] (y ∷ ys) ls ms h e = absurd (omega arith)
-same_front (x ∷ xs) [] ls ms h e = absurd (omega arith)
-same_front (x ∷ xs) (y ∷ ys) ls ms h e =
-    let rest = same_front xs ys ls ms (omega arith) cc in
-    (cc, rest.1)
-
--- the line and what stands behind it, cut off
-pub cut : (f g : Form) (a b : List ℕ) → IsForm f → IsForm g → line_of f ++ (10 ∷ a) ≡ line_of g ++ (10 ∷ b) → (f ≡ g) × (a ≡ b)
-cut f g a b h k e =
-    let c = cut_once 10 (line_of f) (line_of g) a b (line_lacks f h) (line_lacks g k) e in
-    (one_form f g h k c.0, c.1)
+use Rattle.wrecords.proofs.Lines.{cut, same_front}
 
 -- the form of the line of a record, and what stands behind the line
 abbrev pub record_form : (NameParts × Known) → Form

@@ -7,9 +7,10 @@ use Rattle.sha2.specs.Sha256.{sha256}
 use Rattle.wvalues.specs.Names.{NameParts, IsName}
 use Rattle.wsegment.specs.Declaration.{Declaration, declaration_text}
 use Rattle.wsegment.specs.Rows.{rows_of}
-use Rattle.wset.specs.Views.{Known, Live, Disputed, Retired, Floor, View, IsSettled}
-use Rattle.wexchange.specs.Forms.{IsNumber, line_of}
-use Rattle.wexchange.specs.declared.form.Form.TheVariants as forms
+use Rattle.wentries.specs.Knowledge.{Known, Live, Disputed, Retired, Floor}
+use Rattle.wset.specs.Views.{View, IsSettled}
+use Rattle.wrecords.specs.Forms.{IsNumber, line_of}
+use Rattle.wrecords.specs.declared.form.Form.TheVariants as forms
 use Rattle.wexchange.specs.declared.version.Version.{Version}
 use Rattle.wexchange.specs.declared.version.Version.TheVariants.{One, Two}
 

@@ -8,13 +8,13 @@ use Rattle.wsegment.specs.Rows.{rows_of}
 use Rattle.wsegment.specs.declared.fault.SegmentFault.{SegmentFault}
 use Rattle.wset.specs.Views.{View, IsSettled}
 use Rattle.wset.specs.Lending.{IsAbove, IsBehindOrigins}
-use Rattle.wexchange.specs.Forms.{IsForm, line_of}
-use Rattle.wexchange.specs.Cuts.{IsUnfed}
+use Rattle.wrecords.specs.Forms.{IsForm, line_of}
+use Rattle.wrecords.specs.Cuts.{IsUnfed}
 use Rattle.wexchange.specs.Files.{head, table_text, begun, counted, digest_of, text_of, AreRecords, HasFloors, IsView, MayTell}
 use Rattle.wexchange.specs.declared.version.Version.{Version}
 use Rattle.wexchange.specs.declared.version.Version.TheVariants.{Two}
-use Rattle.wexchange.specs.declared.form.Form.{Form}
-use Rattle.wexchange.specs.declared.form.Form.TheVariants as forms
+use Rattle.wrecords.specs.declared.form.Form.{Form}
+use Rattle.wrecords.specs.declared.form.Form.TheVariants as forms
 use Rattle.wexchange.specs.declared.fault.FileFault.{FileFault}
 use Rattle.wexchange.specs.declared.fault.FileFault.TheVariants as faults
 

@@ -1,12 +1,11 @@
 -- The laws of files.
-use Rattle.std.specs.Prelude.{◌≡◌, ◌≢◌, ◌↔◌, ◌⊎◌, ◌++◌, ℕ, List, [], ◌∷◌, length, codes, Result, Ok, Err}
+use Rattle.std.specs.Prelude.{◌≡◌, ◌≢◌, ◌⊎◌, ℕ, List, [], ◌∷◌, length, codes, Result, Ok, Err}
 use Rattle.wvalues.specs.Names.{NameParts}
 use Rattle.wsegment.specs.Declaration.{Declaration}
 use Rattle.wsegment.specs.declared.kind.Kind.TheVariants.{Integer, Text}
-use Rattle.wset.specs.Views.{Known, Live, Floor, View}
+use Rattle.wentries.specs.Knowledge.{Known, Live, Floor}
+use Rattle.wset.specs.Views.{View}
 use Rattle.wexchange.specs.Files.{AreRecords, IsView, MayTell, counted, digest_text, file_of, text_of}
-use Rattle.wset.specs.Items.{Item}
-use Rattle.wexchange.specs.Messages.{IsMessage, Splits, message_text}
 use Rattle.wexchange.specs.Judging.{Judges}
 use Rattle.wsegment.specs.Spelling.{IsDeclaration}
 use Rattle.wexchange.specs.declared.fault.FileFault.{FileFault}
@@ -33,11 +32,6 @@ OwnJudgement = (d : Declaration) (v : View) (judged : Result View FileFault) →
 -- bytes are judged to be a view only where they are its file, or its text in version 1, which tells no floor
 abbrev pub TextsAlone : Type 0
 TextsAlone = (d : Declaration) (v : View) (bytes : List ℕ) → Judges d bytes (Ok v) → (bytes ≡ file_of d v) ⊎ (MayTell One v × (bytes ≡ text_of One d v))
-
--- the messages and the rest of a message's text and a stream behind it are that message, and then those of the stream
-abbrev pub FirstMessage : Type 0
-FirstMessage = (i : Item) (s : List ℕ) (items : List Item) (rest : List ℕ) → IsMessage i →
-    Splits (message_text i ++ s) items rest ↔ ((others : List Item) × (items ≡ i ∷ others) × Splits s others rest)
 
 -- ---- a worked file
 

@@ -1,11 +1,5 @@
-//! The laws of files and streams. The functions do nothing when run: each is the proof of its contract.
-ghost use Rattle.wexchange.specs.Laws.{FirstMessage, OneJudgement, OneText, OneView, OwnJudgement, TextsAlone, WorkedFile};
-
-/// The messages of a stream do not depend on how it is cut: those of a message's text and a stream behind it are that
-/// message, and then those of the stream.
-pub fn first_message()
-    ensures { FirstMessage }
-{}
+//! The laws of files. The functions do nothing when run: each is the proof of its contract.
+ghost use Rattle.wexchange.specs.Laws.{OneJudgement, OneText, OneView, OwnJudgement, TextsAlone, WorkedFile};
 
 /// No two views have one file, and no two have one text, in whatever versions.
 pub fn one_view()

@@ -2,9 +2,9 @@
 ghost use Rattle.std.specs.Prelude.{◌≡◌, IsTrue, ◌↔◌};
 ghost use Rattle.wexchange.specs.Files.{digest_of};
 
-use crate::form::DIGITS;
 use hex::encode_to_slice;
 use sha2::{Digest, Sha256};
+use wrecords::DIGITS;
 
 // The digits of the digest of bytes.
 fn digest_of(bytes: &[u8]) -> [u8; DIGITS]

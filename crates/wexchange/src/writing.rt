@@ -4,20 +4,20 @@ ghost use Rattle.std.specs.Io.KnownBytes.{Appends};
 ghost use Rattle.std.specs.List.{flat_map};
 ghost use Rattle.sha2.specs.Hashers.{Holds256};
 ghost use Rattle.wlines.specs.Pending.{IsSoundWriter};
-ghost use Rattle.wexchange.specs.Forms.{name_words};
+ghost use Rattle.wrecords.specs.Forms.{name_words};
 ghost use Rattle.wexchange.specs.declared.version.Version.TheVariants.{Two};
 ghost use Rattle.std.specs.FinMap as map;
-ghost use Rattle.wset.specs.Lending.{told_of};
-ghost use Rattle.wset.specs.Views.{Live};
+ghost use Rattle.wentries.specs.Holding.{told_of};
+ghost use Rattle.wentries.specs.Knowledge.{Live};
 ghost use Rattle.wexchange.specs.Files.{counted, digest_of, digest_text, end_text, file_of, head, record_text, table_text};
 ghost use Rattle.wexchange.specs.Writing.{AppendsFront};
 
-use crate::form::DIGITS;
 use hex::encode_to_slice;
 use itoa::Buffer;
 use sha2::{Digest, Sha256};
 use std::io::Write;
 use wlines::{WriteFault, write_reply};
+use wrecords::DIGITS;
 use wset::{Known, SegmentSet};
 use wvalues::{Counted, Name};
 

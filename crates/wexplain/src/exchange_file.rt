@@ -1,15 +1,16 @@
 //! What is wrong in an exchange file.
 ghost use Rattle.std.specs.Prelude.{IfOk, string_bytes};
-ghost use Rattle.wexplain.specs.Explanations.{IsLabelled};
-ghost use Rattle.wexplain.specs.Labels.{file_label};
+ghost use Rattle.wsentences.specs.Explanations.{IsLabelled};
+ghost use Rattle.wsentences.specs.Labels.{file_label};
 
 use crate::items::{Form, Item, cut_item};
-use crate::lines::{explained, push_file, push_sentence};
-use crate::segment::{push_length, push_segment_place};
-use crate::sentences::{file_sentence, segment_sentence};
 use std::alloc::{AllocError, Global};
 use wexchange::FileFault;
 use wsegment::{Schema, Segment};
+use wsentences::{
+    explained, file_sentence, push_file, push_length, push_segment_place, push_sentence,
+    segment_sentence,
+};
 use wshown::{push_bytes, push_number, push_value};
 use wvalues::Name;
 

@@ -1,17 +1,16 @@
 //! Why a subcommand was refused.
 ghost use Rattle.std.specs.Prelude.{IfOk, IfSome};
-ghost use Rattle.wexplain.specs.Explanations.{IsRefusal};
+ghost use Rattle.wexplain.specs.Refusals.{IsRefusal};
 
-use crate::declaration::{explain_declaration, explain_name};
 use crate::exchange_file::explain_file;
 use crate::query::explain_query;
 use crate::reply::{Refusal, refusal_of};
-use crate::segment::explain_segment;
 use crate::stream::{explain_delivery, explain_stream};
 use std::alloc::{AllocError, Global};
 use wbatch::Place;
 use wexchange::{FileFault, read};
 use wsegment::{Schema, SegmentFault};
+use wsentences::{explain_declaration, explain_name, explain_segment};
 
 /// A file, as it was read, and what it is called.
 #[derive(Clone, Copy)]

@@ -1,15 +1,13 @@
 //! What is wrong in a query.
 ghost use Rattle.std.specs.Prelude.{ℕ, List, IfOk, string_bytes};
-ghost use Rattle.wexplain.specs.Explanations.{IsLabelled};
-ghost use Rattle.wexplain.specs.Labels.{HasQueryLabel};
+ghost use Rattle.wsentences.specs.Explanations.{IsLabelled};
+ghost use Rattle.wsentences.specs.Labels.{HasQueryLabel};
 
-use crate::lines::explained;
-use crate::segment::push_length;
-use crate::sentences::query_sentence;
 use std::alloc::{AllocError, Global};
 use wlexer::lex;
 use wplanner::AskFault;
 use wsegment::Schema;
+use wsentences::{explained, push_length, query_sentence};
 use wshown::{push_number, push_place};
 use wspots::{push_breach, push_stop};
 

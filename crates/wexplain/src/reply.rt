@@ -1,6 +1,6 @@
 //! From what a refused subcommand has printed to what is wrong.
 ghost use Rattle.std.specs.Prelude.{IfSome};
-ghost use Rattle.wexplain.specs.Explanations.{IsRefusal};
+ghost use Rattle.wexplain.specs.Refusals.{IsRefusal};
 
 use wexchange::FileFault;
 use wlines::split_word;

@@ -1,16 +1,14 @@
 //! What is wrong in a delivery stream.
 ghost use Rattle.std.specs.Prelude.{IfOk, string_bytes};
-ghost use Rattle.wexplain.specs.Explanations.{IsLabelled};
-ghost use Rattle.wexplain.specs.Labels.{segment_label};
+ghost use Rattle.wsentences.specs.Explanations.{IsLabelled};
+ghost use Rattle.wsentences.specs.Labels.{segment_label};
 
 use crate::exchange_file::{push_byte, push_name};
 use crate::items::{cut_item, cut_short};
-use crate::lines::{explained, push_file};
-use crate::segment::push_segment_place;
-use crate::sentences::{STREAM, segment_sentence};
 use std::alloc::{AllocError, Global};
 use wbatch::{Place, Stands};
 use wsegment::{Schema, SegmentFault};
+use wsentences::{STREAM, explained, push_file, push_segment_place, segment_sentence};
 use wshown::push_number;
 use wvalues::Name;
 

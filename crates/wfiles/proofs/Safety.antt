@@ -8,7 +8,7 @@ use Rattle.wfiles.specs.declared.fault.Fault.{Fault}
 use Rattle.wfiles.specs.declared.replacing.NotReplaced.{NotReplaced}
 use Rattle.wfiles.specs.declared.replacing.NotReplaced.TheVariants.{Kept, Unsynced}
 use Rattle.wfiles.proofs.Steps.{after}
-use Rattle.wfiles.specs.Order.{After, Brings, LeavesBeside, Stage, Idle, Beside, Placed, Settled, Reaches, begins, locks, reads, clears, misses, makes, permits, writes, spoils, syncs, places, stays, removes, keeps, settles, unsettled}
+use Rattle.wfiles.specs.Order.{After, Brings, LeavesBeside, Stage, Idle, Beside, Placed, Durable, Reaches, begins, locks, reads, clears, misses, makes, permits, writes, spoils, syncs, places, stays, removes, keeps, folder_synced, folder_unsynced}
 
 pub same_refl : (name : List ℕ) (d : Disk) → IsSame name d d
 same_refl name d = record { names = (refl, refl); files = λ file leads. (refl, refl) }
@@ -52,7 +52,7 @@ pub record IsPlaced (store bytes : List ℕ) (d e : Disk) : Type 0 where
   pub left : e.left store ≡ Some file ∷ d.left store
   pub files : (other : ℕ) → IsAmong (Some other) (d.left store) → e.saved other ≡ d.saved other
 
-pub record IsSettled (store bytes : List ℕ) (e : Disk) : Type 0 where
+pub record IsDurable (store bytes : List ℕ) (e : Disk) : Type 0 where
   pub file : ℕ
   pub leads : e.entry store ≡ Some file
   pub content : e.bytes file ≡ bytes
@@ -64,14 +64,14 @@ abbrev pub Holds : List ℕ → Stage → Disk → Disk → Type 0
 Holds store Idle d e = IsSame store d e
 Holds store (Beside name bytes durable) d e = IsSame store d e × IsBeside store name bytes durable e
 Holds store (Placed bytes) d e = IsPlaced store bytes d e
-Holds store (Settled bytes) d e = IsSettled store bytes e
+Holds store (Durable bytes) d e = IsDurable store bytes e
 
 -- a file beside the store is this run's own
 abbrev pub Owns : List ℕ → List Call → Stage → Type 0
 Owns store cs (Beside name bytes durable) = (name ≢ store) × IsOwn cs name
 Owns store cs Idle = ⊤
 Owns store cs (Placed bytes) = ⊤
-Owns store cs (Settled bytes) = ⊤
+Owns store cs (Durable bytes) = ⊤
 
 -- others leave each stage as it is
 beside_on : (store name : List ℕ) (bytes : Option (List ℕ)) (durable : Bool) (d e : Disk) → IsSame store d e → IsSame name d e → IsBeside store name bytes durable d → IsBeside store name bytes durable e
@@ -97,8 +97,8 @@ placed_on store bytes d mid e same p =
       files = λ other among. (same.files other (inr (subst (IsAmong (Some other)) (sym p.left) (inr among)))).1 ∙ p.files other among;
     }
 
-settled_on : (store bytes : List ℕ) (mid e : Disk) → IsSame store mid e → IsSettled store bytes mid → IsSettled store bytes e
-settled_on store bytes mid e same p =
+durable_on : (store bytes : List ℕ) (mid e : Disk) → IsSame store mid e → IsDurable store bytes mid → IsDurable store bytes e
+durable_on store bytes mid e same p =
     let file = same.files p.file (inl p.leads) in
     record {
       file = p.file;
@@ -138,7 +138,7 @@ others_leave store cs Idle d mid e owns others h = same_trans store d mid e h ot
 others_leave store cs (Beside name bytes durable) d mid e owns others h =
     (same_trans store d mid e h.0 others.store_stays, beside_on store name bytes durable mid e others.store_stays (others.own_stays name owns.1) h.1)
 others_leave store cs (Placed bytes) d mid e owns others h = placed_on store bytes d mid e others.store_stays h
-others_leave store cs (Settled bytes) d mid e owns others h = settled_on store bytes mid e others.store_stays h
+others_leave store cs (Durable bytes) d mid e owns others h = durable_on store bytes mid e others.store_stays h
 
 -- a state that is the same is at the same stage
 same_stage : (store : List ℕ) (stage : Stage) (d mid e : Disk) → e ≡ mid → Holds store stage d mid → Holds store stage d e
@@ -215,8 +215,8 @@ placed store name bytes d mid e r h =
 removed : (store name : List ℕ) (d mid e : Disk) → name ≢ store → Removes name mid e → IsSame store d mid → IsSame store d e
 removed store name d mid e other r same = same_trans store d mid e same (record { names = r.names store (λ is. other (sym is)); files = λ file to. r.files file })
 
-settled : (store bytes : List ℕ) (d mid e : Disk) → SyncsFolder mid e → IsPlaced store bytes d mid → IsSettled store bytes e
-settled store bytes d mid e s p = record {
+durable : (store bytes : List ℕ) (d mid e : Disk) → SyncsFolder mid e → IsPlaced store bytes d mid → IsDurable store bytes e
+durable store bytes d mid e s p = record {
   file = p.file;
   leads = s.entry store ∙ p.leads;
   content = (s.files p.file).0 ∙ p.content;
@@ -229,11 +229,11 @@ owns store cs stage begins = tt
 owns store cs stage (locks {stage = Idle} r) = tt
 owns store cs stage (locks {stage = Beside name bytes durable} r) = owns store _ _ r
 owns store cs stage (locks {stage = Placed bytes} r) = tt
-owns store cs stage (locks {stage = Settled bytes} r) = tt
+owns store cs stage (locks {stage = Durable bytes} r) = tt
 owns store cs stage (reads {stage = Idle} r) = tt
 owns store cs stage (reads {stage = Beside name bytes durable} r) = owns store _ _ r
 owns store cs stage (reads {stage = Placed bytes} r) = tt
-owns store cs stage (reads {stage = Settled bytes} r) = tt
+owns store cs stage (reads {stage = Durable bytes} r) = tt
 owns store cs stage (clears other ours r) = tt
 owns store cs stage (misses r) = tt
 owns store cs stage (makes other ours r) = (other, inl refl)
@@ -245,8 +245,8 @@ owns store cs stage (places r) = tt
 owns store cs stage (stays r) = owns store _ _ r
 owns store cs stage (removes r) = tt
 owns store cs stage (keeps r) = owns store _ _ r
-owns store cs stage (settles r) = tt
-owns store cs stage (unsettled r) = tt
+owns store cs stage (folder_synced r) = tt
+owns store cs stage (folder_unsynced r) = tt
 
 one_known : (a b : List ℕ) → Some a ≡ Some b → a ≡ b
 one_known a b is = search rules
@@ -277,15 +277,15 @@ holds_at store base cs stage d e held (stays r) runs = others_leave store cs sta
 holds_at store base cs stage d e held (removes {name = name} r) runs =
     others_leave store cs stage d runs.1 e tt (stay store base cs runs.1 e held runs.4) (removed store name d runs.0 runs.1 (owns store _ _ r).0 runs.3 (holds_at store base _ _ d runs.0 held r runs.2).0)
 holds_at store base cs stage d e held (keeps r) runs = others_leave store cs stage d runs.1 e (owns store cs stage (keeps r)) (stay store base cs runs.1 e held runs.4) (same_stage store stage d runs.0 runs.1 runs.3 (holds_at store base _ stage d runs.0 held r runs.2))
-holds_at store base cs stage d e held (settles {bytes = bytes} r) runs = others_leave store cs stage d runs.1 e tt (stay store base cs runs.1 e held runs.4) (settled store bytes d runs.0 runs.1 runs.3 (holds_at store base _ _ d runs.0 held r runs.2))
-holds_at store base cs stage d e held (unsettled r) runs = others_leave store cs stage d runs.1 e tt (stay store base cs runs.1 e held runs.4) (same_stage store stage d runs.0 runs.1 runs.3 (holds_at store base _ stage d runs.0 held r runs.2))
+holds_at store base cs stage d e held (folder_synced {bytes = bytes} r) runs = others_leave store cs stage d runs.1 e tt (stay store base cs runs.1 e held runs.4) (durable store bytes d runs.0 runs.1 runs.3 (holds_at store base _ _ d runs.0 held r runs.2))
+holds_at store base cs stage d e held (folder_unsynced r) runs = others_leave store cs stage d runs.1 e tt (stay store base cs runs.1 e held runs.4) (same_stage store stage d runs.0 runs.1 runs.3 (holds_at store base _ stage d runs.0 held r runs.2))
 
 -- what a crash leaves at each stage, where the bytes are these
 abbrev pub Tells : List ℕ → Stage → Type 0
 Tells bytes Idle = ⊤
 Tells bytes (Beside name known durable) = ⊤
 Tells bytes (Placed placed) = placed ≡ bytes
-Tells bytes (Settled settled) = settled ≡ bytes
+Tells bytes (Durable durable) = durable ≡ bytes
 
 left_same : (d e : Disk) (file : Option ℕ) (held : Option (List ℕ)) → ((number : ℕ) → file ≡ Some number → e.saved number ≡ d.saved number) → Leaves e file held → Leaves d file held
 left_same d e None held same leaves = leaves
@@ -318,8 +318,8 @@ crash_placed store bytes d e p held may = from may.file (subst (IsAmong may.file
       leaves = left_same d e file held (λ number is. p.files number (subst (λ (f : Option ℕ). IsAmong f (d.left store)) is old)) leaves;
     })
 
-crash_settled : (store bytes : List ℕ) (e : Disk) → IsSettled store bytes e → (held : Option (List ℕ)) → MayHold e store held → held ≡ Some bytes
-crash_settled store bytes e p held may = from may.file (subst (IsAmong may.file) p.left may.among) may.leaves
+crash_durable : (store bytes : List ℕ) (e : Disk) → IsDurable store bytes e → (held : Option (List ℕ)) → MayHold e store held → held ≡ Some bytes
+crash_durable store bytes e p held may = from may.file (subst (IsAmong may.file) p.left may.among) may.leaves
   where
     from : (file : Option ℕ) → IsAmong file (Some p.file ∷ []) → Leaves e file held → held ≡ Some bytes
     from file (inl new) leaves = whole bytes e p.file held p.saved (subst (λ (f : Option ℕ). Leaves e f held) new leaves)
@@ -329,7 +329,7 @@ crash : (store bytes : List ℕ) (stage : Stage) (d e : Disk) → Tells bytes st
 crash store bytes Idle d e tells h held may = inl (crash_same store d e h held may)
 crash store bytes (Beside name known durable) d e tells h held may = inl (crash_same store d e h.0 held may)
 crash store bytes (Placed placed) d e tells h held may = ⊎_elim (λ old. inl old) (λ new. inr (new ∙ ap Some tells)) (crash_placed store placed d e h held may)
-crash store bytes (Settled settled) d e tells h held may = inr (crash_settled store settled e h held may ∙ ap Some tells)
+crash store bytes (Durable durable) d e tells h held may = inr (crash_durable store durable e h held may ∙ ap Some tells)
 
 -- a crash at the last moment
 pub at_last : (store bytes : List ℕ) (base cs : List Call) (stage : Stage) → IsLocked base → Tells bytes stage → Reaches store cs stage → LeavesOldOrNew store bytes base cs
@@ -351,8 +351,8 @@ at_each store bytes base cs stage locked tells (places r) = (at_last store bytes
 at_each store bytes base cs stage locked tells (stays r) = (at_last store bytes base cs stage locked tells (stays r), at_each store bytes base _ _ locked tt r)
 at_each store bytes base cs stage locked tells (removes r) = (at_last store bytes base cs stage locked tells (removes r), at_each store bytes base _ _ locked tt r)
 at_each store bytes base cs stage locked tells (keeps r) = (at_last store bytes base cs stage locked tells (keeps r), at_each store bytes base _ _ locked tt r)
-at_each store bytes base cs stage locked tells (settles r) = (at_last store bytes base cs stage locked tells (settles r), at_each store bytes base _ _ locked tells r)
-at_each store bytes base cs stage locked tells (unsettled r) = (at_last store bytes base cs stage locked tells (unsettled r), at_each store bytes base _ _ locked tells r)
+at_each store bytes base cs stage locked tells (folder_synced r) = (at_last store bytes base cs stage locked tells (folder_synced r), at_each store bytes base _ _ locked tells r)
+at_each store bytes base cs stage locked tells (folder_unsynced r) = (at_last store bytes base cs stage locked tells (folder_unsynced r), at_each store bytes base _ _ locked tells r)
 
 -- only what is this run's own is changed
 pub only_own : (store : List ℕ) (cs : List Call) (stage : Stage) → Reaches store cs stage → ChangesOnlyOwn store cs
@@ -370,8 +370,8 @@ only_own store cs stage (places r) = (((owns store _ _ r).1, refl), only_own sto
 only_own store cs stage (stays r) = (((owns store _ _ r).1, refl), only_own store _ _ r)
 only_own store cs stage (removes r) = (inl (owns store _ _ r).1, only_own store _ _ r)
 only_own store cs stage (keeps r) = (inl (owns store _ _ r).1, only_own store _ _ r)
-only_own store cs stage (settles r) = only_own store _ _ r
-only_own store cs stage (unsettled r) = only_own store _ _ r
+only_own store cs stage (folder_synced r) = only_own store _ _ r
+only_own store cs stage (folder_unsynced r) = only_own store _ _ r
 
 -- the bytes of the file to which a name leads
 held_same : (store : List ℕ) (d e : Disk) (file : Option ℕ) → d.entry store ≡ file → ((number : ℕ) → file ≡ Some number → e.bytes number ≡ d.bytes number) → option_map e.bytes file ≡ option_map d.bytes file
@@ -408,15 +408,15 @@ ends_beside store bytes name known durable fault old new locked a = record {
   end = λ d e runs. is_kept store d e (holds_at store old a.since (Beside name known durable) d e locked a.reaches runs).0;
 }
 
-pub ends_settled : (store bytes : List ℕ) (old new : List Call) → IsLocked old → After store old new (Settled bytes) → Replaces store bytes (Ok tt) old new
-ends_settled store bytes old new locked a = record {
+pub ends_durable : (store bytes : List ℕ) (old new : List Call) → IsLocked old → After store old new (Durable bytes) → Replaces store bytes (Ok tt) old new
+ends_durable store bytes old new locked a = record {
   since = a.since;
   is = a.is;
-  own = only_own store a.since (Settled bytes) a.reaches;
-  moments = at_each store bytes old a.since (Settled bytes) locked refl a.reaches;
+  own = only_own store a.since (Durable bytes) a.reaches;
+  moments = at_each store bytes old a.since (Durable bytes) locked refl a.reaches;
   end = λ d e runs.
-      let p = holds_at store old a.since (Settled bytes) d e locked a.reaches runs in
-      record { holds_new = holds_file store bytes e p.file p.leads p.content; leaves_new = crash_settled store bytes e p };
+      let p = holds_at store old a.since (Durable bytes) d e locked a.reaches runs in
+      record { holds_new = holds_file store bytes e p.file p.leads p.content; leaves_new = crash_durable store bytes e p };
 }
 
 pub ends_unsynced : (store bytes : List ℕ) (fault : Fault) (old new : List Call) → IsLocked old → After store old new (Placed bytes) → Replaces store bytes (Err (Unsynced fault)) old new
@@ -442,9 +442,9 @@ given_up store bytes name fault false old mid new locked left is = ends_beside s
 
 -- behind the move the folder is brought to the disk, or not
 pub ended : (store bytes : List ℕ) (r : Result (Unit {0}) NotReplaced) (old mid new : List Call) → IsLocked old → IfErr r (λ fault. IsUnsynced fault) → After store old mid (Placed bytes) → new ≡ SyncedFolder (is_ok r) ∷ mid → Replaces store bytes r old new
-ended store bytes (Ok done) old mid new locked unsynced a is = ends_settled store bytes old new locked (after (SyncedFolder true) is (λ cs r. settles r) a)
+ended store bytes (Ok done) old mid new locked unsynced a is = ends_durable store bytes old new locked (after (SyncedFolder true) is (λ cs r. folder_synced r) a)
 ended store bytes (Err (Kept fault)) old mid new locked unsynced a is = absurd unsynced
-ended store bytes (Err (Unsynced fault)) old mid new locked unsynced a is = ends_unsynced store bytes fault old new locked (after (SyncedFolder false) is (λ cs r. unsettled r) a)
+ended store bytes (Err (Unsynced fault)) old mid new locked unsynced a is = ends_unsynced store bytes fault old new locked (after (SyncedFolder false) is (λ cs r. folder_unsynced r) a)
 
 -- a run that makes its new file, and gives up
 pub gave_up : (store bytes name at gone_at : List ℕ) (fault : Fault) (gone : Bool) (old begun mid new : List Call) → IsLocked old → at ≡ name → gone_at ≡ name → Brings store old Idle begun (Beside name (Some []) false) → LeavesBeside store at begun mid

@@ -11,7 +11,7 @@ pub data Stage : Type 0 where
   -- the store is the new file, which has these bytes
   Placed : List ℕ → Stage
   -- and the folder was brought to the disk
-  Settled : List ℕ → Stage
+  Durable : List ℕ → Stage
 
 -- these calls, the newest first, bring a run from nothing to a stage
 pub data Reaches (store : List ℕ) : List Call → Stage → Type 0 where
@@ -40,8 +40,8 @@ pub data Reaches (store : List ℕ) : List Call → Stage → Type 0 where
       → Reaches store (Removed name true ∷ cs) Idle
   keeps : {cs : List Call} {name : List ℕ} {bytes : Option (List ℕ)} {durable : Bool} → Reaches store cs (Beside name bytes durable)
       → Reaches store (Removed name false ∷ cs) (Beside name bytes durable)
-  settles : {cs : List Call} {bytes : List ℕ} → Reaches store cs (Placed bytes) → Reaches store (SyncedFolder true ∷ cs) (Settled bytes)
-  unsettled : {cs : List Call} {bytes : List ℕ} → Reaches store cs (Placed bytes) → Reaches store (SyncedFolder false ∷ cs) (Placed bytes)
+  folder_synced : {cs : List Call} {bytes : List ℕ} → Reaches store cs (Placed bytes) → Reaches store (SyncedFolder true ∷ cs) (Durable bytes)
+  folder_unsynced : {cs : List Call} {bytes : List ℕ} → Reaches store cs (Placed bytes) → Reaches store (SyncedFolder false ∷ cs) (Placed bytes)
 
 -- the calls since these brought the run to a stage
 pub record After (store : List ℕ) (base now : List Call) (stage : Stage) : Type 0 where

@@ -239,7 +239,7 @@ impl NotReplaced {
 }
 
 // Brings the folder to the disk, once the store is replaced.
-fn settle<F: Folder>(folder: &mut F) -> Result<(), NotReplaced>
+fn sync_folder<F: Folder>(folder: &mut F) -> Result<(), NotReplaced>
     requires { IsSound (F.counts folder.old) }
     ensures calls { F.calls folder.new ≡ SyncedFolder (is_ok result) ∷ F.calls folder.old }
     ensures unsynced { IfErr result (λ fault. IsUnsynced fault) }
@@ -276,5 +276,5 @@ pub fn replace<F: Folder>(
         folder.remove(new.as_str());
         return Err(NotReplaced::Kept(fault));
     }
-    settle(folder)
+    sync_folder(folder)
 }

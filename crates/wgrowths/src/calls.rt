@@ -11,11 +11,12 @@ use crate::windows::{folds_text, places_text};
 use std::alloc::{AllocError, Global};
 use wact::act;
 use wcommand::{WordsFault, choose};
-use wexchange::{PushFault, read};
+use wexchange::read;
 use wplanner::{execute, print};
 use wreplies::{Text, names, retired};
 use wset::{JoinError, SegmentSet};
 use wstore::Node;
+use wstream::PushFault;
 use wvalues::SortKey;
 
 /// What a call is lent that was made before it.

@@ -2,11 +2,12 @@
 
 use std::alloc::{AllocError, Global};
 use wact::Acted;
-use wexchange::{FileFault, Message, write};
+use wexchange::{FileFault, write};
 use wplanner::AskFault;
 use wreplies::{Text, refused_file, refused_query, refused_segment, retired, taken};
 use wset::{SegmentSet, TakeError, Taken};
 use wstore::Reply;
+use wstream::Message;
 use wvalues::Counted;
 
 /// The text of a call that has nothing to tell.

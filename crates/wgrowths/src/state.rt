@@ -8,7 +8,7 @@ use crate::failure::Failure;
 use crate::replies::{answer_text, file_of, push_message, push_text, reply_text};
 use std::alloc::{AllocError, Global};
 use wask::{accepted_is_sound, ask};
-use wexchange::{Inbox, read};
+use wexchange::read;
 use wlexer::lex;
 use wparser::parse;
 use wplan::Resolved;
@@ -18,6 +18,7 @@ use wresolve::resolve;
 use wsegment::Schema;
 use wset::{Listed, SegmentSet};
 use wstore::Node;
+use wstream::Inbox;
 
 /// The query that shows the rows as they lie.
 const ALL: &[u8] = b"SELECT * FROM sales";

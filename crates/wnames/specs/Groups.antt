@@ -1,6 +1,6 @@
 -- The rules on groups, of where calls and columns may stand: Q15, Q16 and Q17. (SQL, `<window function>`, `<set function
 -- specification>` and `<group by clause>`.)
-use Rattle.std.specs.Prelude.{ℕ, Bool, true, false, ◌||◌, ◌&&◌, not, List, [], ◌∷◌, is_some, if◌then◌else◌}
+use Rattle.std.specs.Prelude.{Bool, true, false, ◌||◌, ◌&&◌, not, List, [], ◌∷◌, is_some, if◌then◌else◌}
 use Rattle.std.specs.List.{list_any}
 use Rattle.wquery.specs.Tree.{Tree, Field, Invoked, Columns, Reach, ItsGroup}
 use Rattle.wquery.specs.GroupElements.{all_columns}

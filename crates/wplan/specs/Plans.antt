@@ -10,9 +10,9 @@ use Rattle.wplan.specs.declared.resolved.Aggregate.{Aggregate}
 use Rattle.wplan.specs.declared.resolved.GroupCall.{GroupCall}
 use Rattle.wplan.specs.declared.resolved.GroupCall.TheVariants as group_calls
 use Rattle.wplan.specs.declared.resolved.Grouping.{Grouping}
-use Rattle.wplan.specs.declared.resolved.SettledKey.{SettledKey}
-use Rattle.wplan.specs.declared.resolved.SettledFrame.{SettledFrame}
-use Rattle.wplan.specs.declared.resolved.SettledWindow.{SettledWindow}
+use Rattle.wplan.specs.declared.resolved.ResolvedKey.{ResolvedKey}
+use Rattle.wplan.specs.declared.resolved.ResolvedFrame.{ResolvedFrame}
+use Rattle.wplan.specs.declared.resolved.ResolvedWindow.{ResolvedWindow}
 use Rattle.wplan.specs.declared.resolved.WindowFunction.{WindowFunction}
 use Rattle.wplan.specs.declared.resolved.WindowFunction.TheVariants as functions
 use Rattle.wplan.specs.declared.resolved.CallOver.{CallOver}
@@ -50,7 +50,7 @@ pub record KeyPlan : Type 0 where
 pub record WindowPlan : Type 0 where
   pub partition : List Formula
   pub keys : List KeyPlan
-  pub frame : SettledFrame
+  pub frame : ResolvedFrame
 
 pub data FunctionPlan : Type 0 where
   RowNumber : FunctionPlan
@@ -106,10 +106,10 @@ abbrev pub optional_grouping : Option Grouping → Option GroupingPlan
 optional_grouping None = None
 optional_grouping (Some g) = Some (grouping_plan g)
 
-abbrev pub key_plan : SettledKey → KeyPlan
+abbrev pub key_plan : ResolvedKey → KeyPlan
 key_plan k = record { value = formula k.value; order = k.order }
 
-abbrev pub window_plan : SettledWindow → WindowPlan
+abbrev pub window_plan : ResolvedWindow → WindowPlan
 window_plan w = record { partition = map formula w.partition.items; keys = map key_plan w.keys.items; frame = w.frame }
 
 abbrev pub function_plan : WindowFunction → FunctionPlan

@@ -16,8 +16,8 @@ use Rattle.wplan.specs.declared.expr.Further.{Further, out-Further}
 use Rattle.wplan.specs.declared.expr.Expr.TheOpen as layer
 use Rattle.wplan.specs.declared.expr.Expr.TheFolds.{fold-Expr, fold-Further}
 use Rattle.wplan.specs.Leaves.{Parts}
-use Rattle.wplan.specs.declared.resolved.SettledKey.{SettledKey}
-use Rattle.wplan.specs.declared.resolved.SettledWindow.{SettledWindow}
+use Rattle.wplan.specs.declared.resolved.ResolvedKey.{ResolvedKey}
+use Rattle.wplan.specs.declared.resolved.ResolvedWindow.{ResolvedWindow}
 
 abbrev pub same_operator : Operator → Operator → Bool
 same_operator = sameb operators
@@ -103,9 +103,9 @@ is_same e = fold-Expr (Expr → Bool) (Further → Bool) same_step same_link_ste
 unfoldable pub is_same_link : Further → Further → Bool
 is_same_link l = fold-Further (Expr → Bool) (Further → Bool) same_step same_link_step l
 
-abbrev pub is_same_key : SettledKey → SettledKey → Bool
+abbrev pub is_same_key : ResolvedKey → ResolvedKey → Bool
 is_same_key a b = same_sort_key a.order b.order && is_same a.value b.value
 
 -- whether two windows order rows alike, whatever their frames: their partition values and keys are written alike
-unfoldable pub is_same_order : SettledWindow → SettledWindow → Bool
+unfoldable pub is_same_order : ResolvedWindow → ResolvedWindow → Bool
 is_same_order a b = pointwise is_same a.partition.items b.partition.items && pointwise is_same_key a.keys.items b.keys.items

@@ -1,4 +1,4 @@
-//! Queries with each name and default settled, and the value of an expression on a row.
+//! Queries with each name and default resolved, and the value of an expression on a row.
 //!
 //! - Gives the form of a query that execution reads: a list of SELECTs with places for names, and `eval`.
 //! - Promises: `eval` answers the value of the expression, or that a part of it is out of range. Nothing is skipped,
@@ -22,7 +22,7 @@ pub use cell::{Cell, EvalFault};
 pub use evaluating::eval;
 pub use expr::{Expr, Further};
 pub use resolved::{
-    Aggregate, AggregateFunction, CallOver, GroupCall, Grouping, Output, Resolved, Selection,
-    SettledFrame, SettledKey, SettledWindow, WindowFunction,
+    Aggregate, AggregateFunction, CallOver, GroupCall, Grouping, Output, Resolved, ResolvedFrame,
+    ResolvedKey, ResolvedWindow, Selection, WindowFunction,
 };
 pub use sameness::same_order;

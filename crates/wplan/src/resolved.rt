@@ -48,7 +48,7 @@ pub struct Grouping {
 
 /// A key of an order, of which the column is not read.
 #[derive(Drop)]
-pub struct SettledKey {
+pub struct ResolvedKey {
     pub value: Expr,
     pub order: SortKey,
 }
@@ -56,7 +56,7 @@ pub struct SettledKey {
 /// A frame clause with its defaults written out. An offset counts rows in ROWS, units of the key in RANGE, and peer
 /// groups in GROUPS.
 #[derive(Clone, Copy)]
-pub struct SettledFrame {
+pub struct ResolvedFrame {
     pub mode: FrameMode,
     pub start: FrameBound,
     pub end: FrameBound,
@@ -65,10 +65,10 @@ pub struct SettledFrame {
 
 /// A window with what it copies and its defaults written out.
 #[derive(Drop)]
-pub struct SettledWindow {
+pub struct ResolvedWindow {
     pub partition: Vec<Expr>,
-    pub keys: Vec<SettledKey>,
-    pub frame: SettledFrame,
+    pub keys: Vec<ResolvedKey>,
+    pub frame: ResolvedFrame,
 }
 
 /// A function over a window.
@@ -126,18 +126,18 @@ pub struct Selection {
     pub condition: Option<Expr>,
     pub grouping: Option<Grouping>,
     /// Those of the WINDOW clause, used or not, and those of the calls.
-    pub windows: Vec<SettledWindow>,
+    pub windows: Vec<ResolvedWindow>,
     pub calls: Vec<CallOver>,
     pub items: Vec<Output>,
     /// What ORDER BY says.
-    pub keys: Vec<SettledKey>,
+    pub keys: Vec<ResolvedKey>,
     /// How many rows are left out first.
     pub offset: u128,
     /// How many rows are answered at most.
     pub limit: Option<u128>,
 }
 
-/// A query with each name and default settled: its SELECTs, the innermost first. The first is over the declared table,
+/// A query with each name and default resolved: its SELECTs, the innermost first. The first is over the declared table,
 /// each other one over the answer of the one before.
 #[derive(Drop)]
 pub struct Resolved {

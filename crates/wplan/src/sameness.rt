@@ -11,7 +11,7 @@ ghost use Rattle.wplan.specs.Plans.{key_plan, window_plan};
 ghost use Rattle.wplan.specs.Sameness.{is_null_word, is_number, is_text, is_place, is_negation, is_sign, is_chain, is_comparison, is_null_test, is_range_test, is_list_test, is_same, is_same_key, is_same_link, is_same_order, same_comparison, same_operator, same_sort_key};
 
 use crate::expr::{Expr, Further};
-use crate::resolved::{SettledKey, SettledWindow};
+use crate::resolved::{ResolvedKey, ResolvedWindow};
 use std::rc::RcStr;
 use wquery::{Comparison, Operator};
 use wvalues::{SortKey, Whole};
@@ -272,14 +272,14 @@ fn same_link(link: &Further, other: &Further) -> bool
     same_operator(other.operator, link.operator) && same_value(&link.operand, &other.operand)
 }
 
-fn same_key(key: &SettledKey, other: &SettledKey) -> bool
+fn same_key(key: &ResolvedKey, other: &ResolvedKey) -> bool
     ensures exact { result ≡ is_same_key other.now key.now }
     ensures alike { result ≡ true → key_plan other.now ≡ key_plan key.now }
 {
     same_sort_key(other.order, key.order) && same_value(&key.value, &other.value)
 }
 
-fn same_keys(keys: &[SettledKey], others: &[SettledKey]) -> bool
+fn same_keys(keys: &[ResolvedKey], others: &[ResolvedKey]) -> bool
     ensures exact { result ≡ pointwise is_same_key others.now keys.now }
     ensures alike { result ≡ true → map key_plan others.now ≡ map key_plan keys.now }
 {
@@ -297,7 +297,7 @@ fn same_keys(keys: &[SettledKey], others: &[SettledKey]) -> bool
 /// written alike, and keys that go alike, of which the nulls stand alike. It takes no memory, and goes as deep as the
 /// nesting alone.
 #[tactic(auto, unfolding(crate::specs::Sameness::is_same_order))]
-pub fn same_order(a: &SettledWindow, b: &SettledWindow) -> bool
+pub fn same_order(a: &ResolvedWindow, b: &ResolvedWindow) -> bool
     ensures exact { result ≡ is_same_order a.now b.now }
     ensures values { result ≡ true → (window_plan a.now).partition ≡ (window_plan b.now).partition }
     ensures keys { result ≡ true → (window_plan a.now).keys ≡ (window_plan b.now).keys }

@@ -113,10 +113,10 @@ module _ (s : SelectPlan) (ps : List ℕ) (reads : ReadsPlaces s ps) where
   items_are : (rows : List Row) → items_of s rows ≡ (lists_of keys rows >>= in_order rows)
   items_are rows =
       ap (λ ts. ordered_of ts keys order s.offset s.limit rows) reads.plain
-      ∙ then_ok (map (values_at ps) rows) (lists_of (map At ps) rows) (λ told. lists_of keys rows >>= λ by. Ok (cut s.offset s.limit (ordered order by told))) (plain_lists ps rows)
+      ∙ then_ok (map (values_at ps) rows) (lists_of (map At ps) rows) (λ listed. lists_of keys rows >>= λ by. Ok (cut s.offset s.limit (ordered order by listed))) (plain_lists ps rows)
 
   in_numbers : (rows : List Row) (numbers : List ℕ) → numbers_of keys order rows ≡ Ok numbers → (lists_of keys rows >>= in_order rows) ≡ Ok (cut s.offset s.limit (map (key_at (map (values_at ps) rows)) numbers))
-  in_numbers rows numbers told = go (lists_of keys rows) told
+  in_numbers rows numbers presorted = go (lists_of keys rows) presorted
     where
       go : (by : Result (List (List Meaning)) AnswerFault) → (by >>= λ by. Ok (numbers_by order by (length rows))) ≡ Ok numbers → (by >>= in_order rows) ≡ Ok (cut s.offset s.limit (map (key_at (map (values_at ps) rows)) numbers))
       go (Ok by) h =
@@ -125,17 +125,17 @@ module _ (s : SelectPlan) (ps : List ℕ) (reads : ReadsPlaces s ps) where
           ∙ ap (λ l. Ok (cut s.offset s.limit (map (key_at (map (values_at ps) rows)) l))) same
       go (Err fault) h = absurd (cc)
 
-  told_items : (rows : List Row) (columns : List (List Meaning)) (numbers : List ℕ) → by_keys s.keys columns rows ≡ Ok numbers → items_of s (beside rows columns) ≡ Ok (map (values_at ps) (map (row_beside rows columns) (cut s.offset s.limit numbers)))
-  told_items rows columns numbers told =
-      let below = recursion_from_All (λ i. i < length rows) numbers (below_keys s.keys columns rows numbers (length rows) told refl) in
-      items_are (beside rows columns) ∙ in_numbers (beside rows columns) numbers told
+  presorted_items : (rows : List Row) (columns : List (List Meaning)) (numbers : List ℕ) → by_keys s.keys columns rows ≡ Ok numbers → items_of s (beside rows columns) ≡ Ok (map (values_at ps) (map (row_beside rows columns) (cut s.offset s.limit numbers)))
+  presorted_items rows columns numbers presorted =
+      let below = recursion_from_All (λ i. i < length rows) numbers (below_keys s.keys columns rows numbers (length rows) presorted refl) in
+      items_are (beside rows columns) ∙ in_numbers (beside rows columns) numbers presorted
       ∙ ap (λ l. Ok (cut s.offset s.limit l)) (rows_of rows columns ps numbers below ∙ sym (map-map (values_at ps) (row_beside rows columns) numbers))
       ∙ ap Ok (sym (map-cut (values_at ps) s.offset s.limit (map (row_beside rows columns) numbers)) ∙ ap (map (values_at ps)) (sym (map-cut (row_beside rows columns) s.offset s.limit numbers)))
 
-  -- rows whose numbers are told in order
-  pub told_is : (rows : List Row) (columns : List (List Meaning)) (numbers bytes : List ℕ) → by_keys s.keys columns rows ≡ Ok numbers → bytes ≡ text_of (map (values_at ps) (map (row_beside rows columns) (cut s.offset s.limit numbers)))
+  -- rows that are presorted
+  pub presorted_is : (rows : List Row) (columns : List (List Meaning)) (numbers bytes : List ℕ) → by_keys s.keys columns rows ≡ Ok numbers → bytes ≡ text_of (map (values_at ps) (map (row_beside rows columns) (cut s.offset s.limit numbers)))
       → text_in s (items_of s (beside rows columns)) ≡ Ok bytes
-  told_is rows columns numbers bytes told printed = ap (text_in s) (told_items rows columns numbers told) ∙ ap Ok (sym printed)
+  presorted_is rows columns numbers bytes presorted printed = ap (text_in s) (presorted_items rows columns numbers presorted) ∙ ap Ok (sym printed)
 
   no_order : (plans : List KeyPlan) (rows : List Row) → length plans ≡ 0 → numbers_of (map (λ k. k.value) plans) (map (λ k. k.order) plans) rows ≡ Ok (places (length rows))
   no_order [] rows none =
@@ -146,14 +146,14 @@ module _ (s : SelectPlan) (ps : List ℕ) (reads : ReadsPlaces s ps) where
   -- rows that stay as they stand
   pub standing_is : (rows : List Row) (columns : List (List Meaning)) (bytes : List ℕ) → length s.keys ≡ 0 → bytes ≡ text_of (map (values_at ps) (cut s.offset s.limit (beside rows columns))) → text_in s (items_of s (beside rows columns)) ≡ Ok bytes
   standing_is rows columns bytes none printed =
-      told_is rows columns (places (length rows)) bytes (no_order s.keys (beside rows columns) none ∙ ap (λ n. Ok (places n)) (beside_long rows columns))
+      presorted_is rows columns (places (length rows)) bytes (no_order s.keys (beside rows columns) none ∙ ap (λ n. Ok (places n)) (beside_long rows columns))
       (printed ∙ ap (λ l. text_of (map (values_at ps) l)) (sym (map-cut (row_beside rows columns) s.offset s.limit (places (length rows)))))
 
-  -- the columns of the calls are told, or one of them is out of range
+  -- the columns of the calls are there, or one of them is out of range
   pub called_gives : (rows : List Row) (answers : List (List Row)) (bytes : List ℕ) → is_sound_select s ≡ true → columns_from rows s.calls 0 s.windows ≡ Ok answers → text_in s (items_of s (beside rows (columns_of_calls answers s.calls))) ≡ Ok bytes
       → text_in s (left_items s rows) ≡ Ok bytes
-  called_gives rows answers bytes sound told printed =
-      ap (text_in s) (called_is s rows sound ∙ then_ok answers (columns_from rows s.calls 0 s.windows) (λ answers. items_of s (beside rows (columns_of_calls answers s.calls))) told) ∙ printed
+  called_gives rows answers bytes sound answered printed =
+      ap (text_in s) (called_is s rows sound ∙ then_ok answers (columns_from rows s.calls 0 s.windows) (λ answers. items_of s (beside rows (columns_of_calls answers s.calls))) answered) ∙ printed
 
   pub called_fails : {X Y : Type 0} (view : X → List (List Row)) (whole : Y → List ℕ) (fault : AnswerFault) (rows : List Row) → is_sound_select s ≡ true → Gives view (Err fault) (columns_from rows s.calls 0 s.windows) → Gives whole (Err fault) (text_in s (left_items s rows))
   called_fails view whole fault rows sound refused =
@@ -168,7 +168,7 @@ module _ (s : SelectPlan) (ps : List ℕ) (reads : ReadsPlaces s ps) where
 
   pub sorted_is : (rows : List Row) (numbers bytes : List ℕ) → is_sound_select s ≡ true → length s.windows ≡ 0 → by_keys s.keys [] rows ≡ Ok numbers → bytes ≡ text_of (map (values_at ps) (map (row_beside rows []) (cut s.offset s.limit numbers)))
       → text_in s (left_items s rows) ≡ Ok bytes
-  sorted_is rows numbers bytes sound none told printed = ap (text_in s) (unwindowed_is rows sound none) ∙ told_is rows [] numbers bytes told printed
+  sorted_is rows numbers bytes sound none presorted printed = ap (text_in s) (unwindowed_is rows sound none) ∙ presorted_is rows [] numbers bytes presorted printed
 
   pub sorted_fails : {X Y : Type 0} (view : X → List ℕ) (whole : Y → List ℕ) (fault : AnswerFault) (rows : List Row) → is_sound_select s ≡ true → length s.windows ≡ 0 → Gives view (Err fault) (by_keys s.keys [] rows) → Gives whole (Err fault) (text_in s (left_items s rows))
   sorted_fails {X} {Y} view whole fault rows sound none refused =
@@ -190,9 +190,9 @@ module _ (s : SelectPlan) (ps : List ℕ) (reads : ReadsPlaces s ps) where
   kept_is rows kept e = ap (text_in s) (then_ok kept (kept_of s.condition rows) left e ∙ ap (λ g. left_rows g kept >>= left_items s) reads.ungrouped)
 
   pub kept_gives : {X : Type 0} (view : X → List ℕ) (r : Result X AnswerFault) (rows kept : List Row) → kept_of s.condition rows ≡ Ok kept → Gives view r (text_in s (left_items s kept)) → Gives view r (text_in s (select_of s rows))
-  kept_gives view r rows kept e told =
+  kept_gives view r rows kept e given =
       let P : Result (List ℕ) AnswerFault → Type 0 = λ meant. Gives view r meant in
-      subst P (sym (kept_is rows kept e)) told
+      subst P (sym (kept_is rows kept e)) given
 
   pub kept_fails : {X Y : Type 0} (view : X → List Row) (whole : Y → List ℕ) (fault : AnswerFault) (rows : List Row) → Gives view (Err fault) (kept_of s.condition rows) → Gives whole (Err fault) (text_in s (select_of s rows))
   kept_fails view whole fault rows refused =

@@ -128,7 +128,7 @@ all_at P (y ∷ ys) zero x all e = subst P (inside e) all.0
     inside h = cc
 all_at P (y ∷ ys) (suc i) x all e = all_at P ys i x all.1 e
 
--- elements told by their places
+-- elements by their places
 listed : {X Y : Type 0} (h : X → Y) (g : ℕ → Y) (xs : List X) (a : ℕ) → ((j : ℕ) (x : X) → slice_get xs j ≡ Some x → g (a + j) ≡ h x) → map g (places_from a (length xs)) ≡ map h xs
 listed h g [] a e = refl
 listed h g (x ∷ xs) a e =

@@ -137,12 +137,12 @@ items_from s items keys order rows ei ek eo =
 pub table_wide : (ss : List Selection) (width long : ℕ) (names : List (List ℕ)) → is_sound_query (map select_plan ss) ≡ true → names ≡ names_of (map select_plan ss) → width ≡ width_of (map select_plan ss) long → width ≡ length names
 table_wide ss width long names h e w = w ∙ sym (names_wide (map select_plan ss) long (omega (arith, length-map ss select_plan, some_select ss h))) ∙ ap length (sym e)
 
-pub table_told : (ss : List SelectPlan) (rows cells : List Row) (names : List (List ℕ)) → answer_of ss rows ≡ Ok cells → names ≡ names_of ss → table_answer ss rows ≡ Ok (record { names = names; rows = cells })
-table_told ss rows cells names e n =
+pub table_given : (ss : List SelectPlan) (rows cells : List Row) (names : List (List ℕ)) → answer_of ss rows ≡ Ok cells → names ≡ names_of ss → table_answer ss rows ≡ Ok (record { names = names; rows = cells })
+table_given ss rows cells names e n =
     ap (λ r. r >>= λ answered. Ok (record { names = names_of ss; rows = answered })) e ∙ ap (λ ns. Ok (record { names = ns; rows = cells })) (sym n)
 
 -- a fault is the one that is asked for
-pub fault_told : (fault : AnswerFault) (asked : AskFault) (meant : Result TableParts AnswerFault) → asked ≡ unanswered fault → Gives {X = TableParts} (λ t. t) (Err fault) meant → Tells (Err asked) meant
-fault_told OutOfRange asked meant e g = let P : AskFault → Type 0 = λ a. Tells (Err a) meant in subst P (sym e) g
-fault_told TooManyRows asked meant e g = let P : AskFault → Type 0 = λ a. Tells (Err a) meant in subst P (sym e) g
-fault_told NoMemory asked meant e g = let P : AskFault → Type 0 = λ a. Tells (Err a) meant in subst P (sym e) tt
+pub fault_given : (fault : AnswerFault) (asked : AskFault) (meant : Result TableParts AnswerFault) → asked ≡ unanswered fault → Gives {X = TableParts} (λ t. t) (Err fault) meant → Tells (Err asked) meant
+fault_given OutOfRange asked meant e g = let P : AskFault → Type 0 = λ a. Tells (Err a) meant in subst P (sym e) g
+fault_given TooManyRows asked meant e g = let P : AskFault → Type 0 = λ a. Tells (Err a) meant in subst P (sym e) g
+fault_given NoMemory asked meant e g = let P : AskFault → Type 0 = λ a. Tells (Err a) meant in subst P (sym e) tt

@@ -23,10 +23,10 @@ use Rattle.wrows.proofs.RowFacts.{length-places, map-cut}
 use Rattle.wruns.specs.Orderings.{kept_numbers}
 use Rattle.wruns.specs.Runs.{joined}
 use Rattle.wruns.specs.declared.refs.RowRef.{RowRef}
-use Rattle.wtable.specs.Referenced.{row_told}
+use Rattle.wtable.specs.Referenced.{referenced_row}
 use Rattle.wtable.specs.TableOrders.{IsOrderFor, IsRowOf, by_keys, holds_by}
 use Rattle.wtable.proofs.NumberFacts.{all_filtered, few_is}
-use Rattle.wtable.proofs.ReferenceFacts.{told_rows}
+use Rattle.wtable.proofs.ReferenceFacts.{presorted_rows}
 use Rattle.wplanner.specs.Answers.{select_of}
 use Rattle.wplanner.specs.Lent.{ReadsPlaces, text_in}
 use Rattle.wplanner.specs.Sound.{is_sound_select}
@@ -34,8 +34,8 @@ use Rattle.wplanner.proofs.BesideFacts.{kept_fails, kept_is, sorted_is}
 use Rattle.wplanner.proofs.PlanFacts.{beside_nothing}
 
 -- there are as many numbers in order as rows
-long_told : (plans : List KeyPlan) (rows : List Row) (numbers : List ℕ) → by_keys plans [] rows ≡ Ok numbers → length numbers ≡ length rows
-long_told plans rows numbers e = go (lists_of (map (λ k. k.value) plans) (beside rows [])) e
+long_given : (plans : List KeyPlan) (rows : List Row) (numbers : List ℕ) → by_keys plans [] rows ≡ Ok numbers → length numbers ≡ length rows
+long_given plans rows numbers e = go (lists_of (map (λ k. k.value) plans) (beside rows [])) e
   where
     go : (by : Result (List (List Meaning)) AnswerFault) → (by >>= λ by. Ok (numbers_by (map (λ k. k.order) plans) by (length (beside rows [])))) ≡ Ok numbers → length numbers ≡ length rows
     go (Ok by) h =
@@ -78,11 +78,11 @@ module _ (s : SelectPlan) (ps : List ℕ) (reads : ReadsPlaces s ps) (sound : is
   in_order : by_keys s.keys [] rows ≡ Ok numbers
   in_order = ap (by_keys s.keys []) (sym (all_filtered rows)) ∙ of.tells (holds_by None)
 
-  are_told : map (key_at rows) numbers ≡ map (row_told segments) refs
-  are_told = told_rows segments refs (recursion_from_All (IsRowOf segments) refs of.within)
+  are_presorted : map (key_at rows) numbers ≡ map (referenced_row segments) refs
+  are_presorted = presorted_rows segments refs (recursion_from_All (IsRowOf segments) refs of.within)
 
-  long : length (map (row_told segments) refs) ≡ length rows
-  long = ap length (sym are_told) ∙ length-map numbers (key_at rows) ∙ long_told s.keys rows numbers in_order
+  long : length (map (referenced_row segments) refs) ≡ length rows
+  long = ap length (sym are_presorted) ∙ length-map numbers (key_at rows) ∙ long_given s.keys rows numbers in_order
 
   kept_all : kept_of s.condition rows ≡ not_too_many rows
   kept_all = ap (λ condition. kept_of condition rows) all
@@ -91,18 +91,18 @@ module _ (s : SelectPlan) (ps : List ℕ) (reads : ReadsPlaces s ps) (sound : is
   text_of rows = table_text (map (λ o. o.name) s.items) (map (values_at ps) rows)
 
   -- the rows of the numbers, as they are asked for
-  asked_are : (found : List Row) → found ≡ map (row_told segments) refs → cut s.offset s.limit (beside found []) ≡ map (row_beside rows []) (cut s.offset s.limit numbers)
+  asked_are : (found : List Row) → found ≡ map (referenced_row segments) refs → cut s.offset s.limit (beside found []) ≡ map (row_beside rows []) (cut s.offset s.limit numbers)
   asked_are found is =
-      ap (cut s.offset s.limit) (beside_nothing found ∙ is ∙ sym are_told ∙ sym (none_beside rows numbers)) ∙ sym (map-cut (row_beside rows []) s.offset s.limit numbers)
+      ap (cut s.offset s.limit) (beside_nothing found ∙ is ∙ sym are_presorted ∙ sym (none_beside rows numbers)) ∙ sym (map-cut (row_beside rows []) s.offset s.limit numbers)
 
   -- the text of all rows, as references tell them
-  pub referenced_is : (found : List Row) (bytes : List ℕ) → not_too_many (map (row_told segments) refs) ≡ Ok found → bytes ≡ text_of (cut s.offset s.limit (beside found [])) → text_in s (select_of s rows) ≡ Ok bytes
+  pub referenced_is : (found : List Row) (bytes : List ℕ) → not_too_many (map (referenced_row segments) refs) ≡ Ok found → bytes ≡ text_of (cut s.offset s.limit (beside found [])) → text_in s (select_of s rows) ≡ Ok bytes
   referenced_is found bytes judged printed =
-      let few = few_is (map (row_told segments) refs) found judged in
+      let few = few_is (map (referenced_row segments) refs) found judged in
       kept_is s ps reads rows rows (kept_all ∙ few_alike rows found (ap length few.0 ∙ long) few.1)
       ∙ sorted_is s ps reads rows numbers bytes sound none in_order (printed ∙ ap text_of (asked_are found few.0))
 
-  pub referenced_fails : {X Y : Type 0} (view : X → List Row) (whole : Y → List ℕ) (fault : AnswerFault) → Gives view (Err fault) (not_too_many (map (row_told segments) refs)) → Gives whole (Err fault) (text_in s (select_of s rows))
+  pub referenced_fails : {X Y : Type 0} (view : X → List Row) (whole : Y → List ℕ) (fault : AnswerFault) → Gives view (Err fault) (not_too_many (map (referenced_row segments) refs)) → Gives whole (Err fault) (text_in s (select_of s rows))
   referenced_fails {X} view whole fault refused =
       let P : Result (List Row) AnswerFault → Type 0 = λ r. Gives view (Err fault) r in
-      kept_fails s ps reads view whole fault rows (subst P (sym kept_all) (many_alike view view fault rows (map (row_told segments) refs) long refused))
+      kept_fails s ps reads view whole fault rows (subst P (sym kept_all) (many_alike view view fault rows (map (referenced_row segments) refs) long refused))

@@ -9,7 +9,7 @@ use Rattle.wplan.specs.Formula.{Formula}
 use Rattle.wplan.specs.Plans.{CallPlan, GroupingPlan, SelectPlan, WindowPlan, call_plan, function_plan, select_plan, window_plan}
 use Rattle.wplan.specs.declared.resolved.CallOver.{CallOver}
 use Rattle.wplan.specs.declared.resolved.Selection.{Selection}
-use Rattle.wplan.specs.declared.resolved.SettledWindow.{SettledWindow}
+use Rattle.wplan.specs.declared.resolved.ResolvedWindow.{ResolvedWindow}
 use Rattle.wrows.specs.declared.fault.AnswerFault.{AnswerFault}
 use Rattle.wrows.specs.declared.fault.AnswerFault.TheVariants.{OutOfRange, TooManyRows}
 use Rattle.wrows.specs.Outcomes.{◌>>=◌, each, unless}
@@ -93,62 +93,62 @@ over_left calls i c w h e k =
     ∙ append-nil (functions_over (map call_plan (take i calls)) w)
 
 -- the windows that are left, the first of them and the others
-windows_left : (ws : List SettledWindow) (i : ℕ) (w : SettledWindow) → i < length ws → w ≡ get_or ws i w → map window_plan (drop i ws) ≡ window_plan w ∷ map window_plan (drop (i + 1) ws)
+windows_left : (ws : List ResolvedWindow) (i : ℕ) (w : ResolvedWindow) → i < length ws → w ≡ get_or ws i w → map window_plan (drop i ws) ≡ window_plan w ∷ map window_plan (drop (i + 1) ws)
 windows_left ws i w h e = ap (map window_plan) (drop-cons ws i w h) ∙ ap (λ x. window_plan x ∷ map window_plan (drop (suc i) ws)) (sym e) ∙ ap (λ k. window_plan w ∷ map window_plan (drop k ws)) (sym (add-one i))
 
--- what so many windows have told, and those that are left
+-- what so many windows have answered, and those that are left
 abbrev pub goes_with : List Row → List CallPlan → List (List (List Meaning)) → ℕ → List WindowPlan → Result (List (List (List Meaning))) AnswerFault
-goes_with rows calls told i ws = columns_from rows calls i ws >>= λ others. Ok (told ++ others)
+goes_with rows calls answered i ws = columns_from rows calls i ws >>= λ others. Ok (answered ++ others)
 
-pub window_told : (rows : List Row) (calls : List CallPlan) (ws : List SettledWindow) (told more : List (List (List Meaning))) (i : ℕ) (w : SettledWindow) (columns : List (List Meaning)) (whole : Result (List (List (List Meaning))) AnswerFault)
-    → i < length ws → w ≡ get_or ws i w → whole ≡ goes_with rows calls told i (map window_plan (drop i ws)) → window_columns (window_plan w) (functions_over calls i) rows ≡ Ok columns → more ≡ told ++ columns ∷ []
+pub window_answered : (rows : List Row) (calls : List CallPlan) (ws : List ResolvedWindow) (answered more : List (List (List Meaning))) (i : ℕ) (w : ResolvedWindow) (columns : List (List Meaning)) (whole : Result (List (List (List Meaning))) AnswerFault)
+    → i < length ws → w ≡ get_or ws i w → whole ≡ goes_with rows calls answered i (map window_plan (drop i ws)) → window_columns (window_plan w) (functions_over calls i) rows ≡ Ok columns → more ≡ answered ++ columns ∷ []
     → whole ≡ goes_with rows calls more (i + 1) (map window_plan (drop (i + 1) ws))
-window_told rows calls ws told more i w columns whole h e so_far is next =
+window_answered rows calls ws answered more i w columns whole h e so_far is next =
     let rest : Result (List (List (List Meaning))) AnswerFault = columns_from rows calls (i + 1) (map window_plan (drop (i + 1) ws)) in
-    so_far ∙ ap (goes_with rows calls told i) (windows_left ws i w h e)
-    ∙ ap (λ r. (r >>= λ c. rest >>= λ others. Ok (c ∷ others)) >>= λ others. Ok (told ++ others)) is
+    so_far ∙ ap (goes_with rows calls answered i) (windows_left ws i w h e)
+    ∙ ap (λ r. (r >>= λ c. rest >>= λ others. Ok (c ∷ others)) >>= λ others. Ok (answered ++ others)) is
     ∙ joined rest ∙ ap (λ l. rest >>= λ others. Ok (l ++ others)) (sym next)
   where
-    joined : (r : Result (List (List (List Meaning))) AnswerFault) → ((r >>= λ others. Ok (columns ∷ others)) >>= λ others. Ok (told ++ others)) ≡ (r >>= λ others. Ok ((told ++ columns ∷ []) ++ others))
-    joined (Ok others) = ap Ok (sym (append_assoc told (columns ∷ []) others))
+    joined : (r : Result (List (List (List Meaning))) AnswerFault) → ((r >>= λ others. Ok (columns ∷ others)) >>= λ others. Ok (answered ++ others)) ≡ (r >>= λ others. Ok ((answered ++ columns ∷ []) ++ others))
+    joined (Ok others) = ap Ok (sym (append_assoc answered (columns ∷ []) others))
     joined (Err f) = refl
 
-pub window_refused : (rows : List Row) (calls : List CallPlan) (ws : List SettledWindow) (told : List (List (List Meaning))) (i : ℕ) (w : SettledWindow) (fault : AnswerFault) (whole : Result (List (List (List Meaning))) AnswerFault)
-    → i < length ws → w ≡ get_or ws i w → whole ≡ goes_with rows calls told i (map window_plan (drop i ws)) → window_columns (window_plan w) (functions_over calls i) rows ≡ Err fault → whole ≡ Err fault
-window_refused rows calls ws told i w fault whole h e so_far is =
+pub window_refused : (rows : List Row) (calls : List CallPlan) (ws : List ResolvedWindow) (answered : List (List (List Meaning))) (i : ℕ) (w : ResolvedWindow) (fault : AnswerFault) (whole : Result (List (List (List Meaning))) AnswerFault)
+    → i < length ws → w ≡ get_or ws i w → whole ≡ goes_with rows calls answered i (map window_plan (drop i ws)) → window_columns (window_plan w) (functions_over calls i) rows ≡ Err fault → whole ≡ Err fault
+window_refused rows calls ws answered i w fault whole h e so_far is =
     let rest : Result (List (List (List Meaning))) AnswerFault = columns_from rows calls (i + 1) (map window_plan (drop (i + 1) ws)) in
-    so_far ∙ ap (goes_with rows calls told i) (windows_left ws i w h e)
-    ∙ ap (λ r. (r >>= λ c. rest >>= λ others. Ok (c ∷ others)) >>= λ others. Ok (told ++ others)) is
+    so_far ∙ ap (goes_with rows calls answered i) (windows_left ws i w h e)
+    ∙ ap (λ r. (r >>= λ c. rest >>= λ others. Ok (c ∷ others)) >>= λ others. Ok (answered ++ others)) is
 
 -- the joins of the functions over one window more, and those that are left
-pub joins_told : (rows : ℕ) (calls : List CallPlan) (ws : List SettledWindow) (i : ℕ) (w : SettledWindow) (old new whole : ℕ)
+pub joins_answered : (rows : ℕ) (calls : List CallPlan) (ws : List ResolvedWindow) (i : ℕ) (w : ResolvedWindow) (old new whole : ℕ)
     → i < length ws → w ≡ get_or ws i w → old + most_from rows calls i (map window_plan (drop i ws)) ≤ whole → new ≤ old + most_of_functions (frame_of (window_plan w).frame).exclusion rows (functions_over calls i)
     → new + most_from rows calls (i + 1) (map window_plan (drop (i + 1) ws)) ≤ whole
-joins_told rows calls ws i w old new whole h e so_far here = omega (arith, ap (most_from rows calls i) (windows_left ws i w h e))
+joins_answered rows calls ws i w old new whole h e so_far here = omega (arith, ap (most_from rows calls i) (windows_left ws i w h e))
 
-pub joins_refused : (rows : ℕ) (calls : List CallPlan) (ws : List SettledWindow) (i : ℕ) (w : SettledWindow) (old new whole : ℕ)
+pub joins_refused : (rows : ℕ) (calls : List CallPlan) (ws : List ResolvedWindow) (i : ℕ) (w : ResolvedWindow) (old new whole : ℕ)
     → i < length ws → w ≡ get_or ws i w → old + most_from rows calls i (map window_plan (drop i ws)) ≤ whole → new ≤ old + most_of_functions (frame_of (window_plan w).frame).exclusion rows (functions_over calls i)
     → new ≤ whole
 joins_refused rows calls ws i w old new whole h e so_far here = omega (arith, ap (most_from rows calls i) (windows_left ws i w h e))
 
-pub none_left : (ws : List SettledWindow) (i : ℕ) → length ws ≤ i → drop i ws ≡ []
+pub none_left : (ws : List ResolvedWindow) (i : ℕ) → length ws ≤ i → drop i ws ≡ []
 none_left [] zero h = refl
 none_left [] (suc i) h = refl
 none_left (w ∷ ws) zero h = absurd (omega arith)
 none_left (w ∷ ws) (suc i) h = none_left ws i (omega arith)
 
-pub all_windows_told : (rows : List Row) (calls : List CallPlan) (ws : List SettledWindow) (told : List (List (List Meaning))) (i : ℕ) (whole : Result (List (List (List Meaning))) AnswerFault) → length ws ≤ i → whole ≡ goes_with rows calls told i (map window_plan (drop i ws)) → whole ≡ Ok told
-all_windows_told rows calls ws told i whole h so_far = so_far ∙ ap (λ l. goes_with rows calls told i (map window_plan l)) (none_left ws i h) ∙ ap Ok (append-nil told)
+pub all_windows_answered : (rows : List Row) (calls : List CallPlan) (ws : List ResolvedWindow) (answered : List (List (List Meaning))) (i : ℕ) (whole : Result (List (List (List Meaning))) AnswerFault) → length ws ≤ i → whole ≡ goes_with rows calls answered i (map window_plan (drop i ws)) → whole ≡ Ok answered
+all_windows_answered rows calls ws answered i whole h so_far = so_far ∙ ap (λ l. goes_with rows calls answered i (map window_plan l)) (none_left ws i h) ∙ ap Ok (append-nil answered)
 
-pub nothing_told : (rows : List Row) (calls : List CallPlan) (ws : List WindowPlan) → columns_from rows calls 0 ws ≡ goes_with rows calls [] 0 ws
-nothing_told rows calls ws = go (columns_from rows calls 0 ws)
+pub nothing_answered : (rows : List Row) (calls : List CallPlan) (ws : List WindowPlan) → columns_from rows calls 0 ws ≡ goes_with rows calls [] 0 ws
+nothing_answered rows calls ws = go (columns_from rows calls 0 ws)
   where
     go : (r : Result (List (List (List Meaning))) AnswerFault) → r ≡ (r >>= λ others. Ok ([] ++ others))
     go (Ok others) = refl
     go (Err f) = refl
 
 -- one window of sound ones is so
-pub sound_window_at : (ws : List SettledWindow) (i : ℕ) (w : SettledWindow) → i < length ws → w ≡ get_or ws i w → list_all is_sound_window (map window_plan ws) ≡ true → is_sound_window (window_plan w) ≡ true
+pub sound_window_at : (ws : List ResolvedWindow) (i : ℕ) (w : ResolvedWindow) → i < length ws → w ≡ get_or ws i w → list_all is_sound_window (map window_plan ws) ≡ true → is_sound_window (window_plan w) ≡ true
 sound_window_at [] i w h e all = absurd (omega arith)
 sound_window_at (x ∷ xs) zero w h e all = ap (λ y. is_sound_window (window_plan y)) e ∙ first (is_sound_window (window_plan x)) (list_all is_sound_window (map window_plan xs)) all
   where
@@ -162,7 +162,7 @@ sound_window_at (x ∷ xs) (suc i) w h e all = sound_window_at xs i w (omega ari
     second false b k = absurd (cc)
 
 -- what is sound in lists as they lie in memory
-windows_mapped : (ws : List SettledWindow) → list_all (λ w. is_sound_window (window_plan w)) ws ≡ list_all is_sound_window (map window_plan ws)
+windows_mapped : (ws : List ResolvedWindow) → list_all (λ w. is_sound_window (window_plan w)) ws ≡ list_all is_sound_window (map window_plan ws)
 windows_mapped [] = refl
 windows_mapped (w ∷ ws) = ap (λ b. is_sound_window (window_plan w) && b) (windows_mapped ws)
 
@@ -188,14 +188,14 @@ before_is calls i w =
     length-map (filter (λ (c : CallPlan). c.window == w) (map call_plan (take i calls))) (λ (c : CallPlan). c.function)
     ∙ ap (λ l. length (filter (λ (c : CallPlan). c.window == w) l)) (map-taken call_plan i calls)
 
-abbrev pub told_columns : List (List (List Meaning)) → List CallPlan → ℕ → List (List Meaning)
-told_columns answers calls n = map (λ c. column_found answers calls c (slice_get calls c)) (places n)
+abbrev pub answered_columns : List (List (List Meaning)) → List CallPlan → ℕ → List (List Meaning)
+answered_columns answers calls n = map (λ c. column_found answers calls c (slice_get calls c)) (places n)
 
 -- one call more has its column
-pub column_told : (answers : List (List (List Meaning))) (calls : List CallOver) (i : ℕ) (call : CallOver) (before more : List (List Meaning)) (column : List Meaning) → i < length calls → call ≡ get_or calls i call
-    → before ≡ told_columns answers (map call_plan calls) i → more ≡ before ++ column ∷ [] → column ≡ get_or (get_or answers call.window []) (length (functions_over (map call_plan (take i calls)) call.window)) []
-    → more ≡ told_columns answers (map call_plan calls) (i + 1)
-column_told answers calls i call before more column h e so_far next is =
+pub column_answered : (answers : List (List (List Meaning))) (calls : List CallOver) (i : ℕ) (call : CallOver) (before more : List (List Meaning)) (column : List Meaning) → i < length calls → call ≡ get_or calls i call
+    → before ≡ answered_columns answers (map call_plan calls) i → more ≡ before ++ column ∷ [] → column ≡ get_or (get_or answers call.window []) (length (functions_over (map call_plan (take i calls)) call.window)) []
+    → more ≡ answered_columns answers (map call_plan calls) (i + 1)
+column_answered answers calls i call before more column h e so_far next is =
     let plans : List CallPlan = map call_plan calls in
     let g : ℕ → List Meaning = λ c. column_found answers plans c (slice_get plans c) in
     let here : column ≡ g i = is ∙ ap (λ n. get_or (get_or answers call.window []) n []) (before_is calls i call.window) ∙ sym (ap (column_found answers plans i) (call_there calls i call h e)) in

@@ -7,7 +7,7 @@ use Rattle.wquery.specs.declared.expression.Comparison.TheVariants.{Greater, Gre
 use Rattle.wquery.specs.declared.frame.FrameMode.TheVariants.{Rows, Groups, Range}
 use Rattle.wquery.specs.declared.frame.FrameBound.TheVariants.{UnboundedPreceding, Preceding, CurrentRow}
 use Rattle.wquery.specs.declared.frame.FrameExclusion.TheVariants.{NoOthers, Ties}
-use Rattle.wplan.specs.declared.resolved.SettledFrame.{SettledFrame}
+use Rattle.wplan.specs.declared.resolved.ResolvedFrame.{ResolvedFrame}
 use Rattle.wplan.specs.declared.resolved.AggregateFunction.TheVariants.{CountRows, Sum, Max}
 use Rattle.wplan.specs.Formula.{Formula, Constant, At, Applied, Compared, Among, NoFormulas, MoreFormulas}
 use Rattle.wplan.specs.Plans.{AggregatePlan, GroupCallPlan, GroupAggregate, GroupingOf, KeyPlan, WindowPlan, FunctionPlan, OutputPlan, SelectPlan, RowNumber, Rank, Tile, Lag, Lead, NthValue, Aggregated}
@@ -52,10 +52,10 @@ named name t = record { name = name; value = t }
 abbrev plain : List OutputPlan → SelectPlan
 plain items = record { condition = None; grouping = None; windows = []; calls = []; items = items; keys = []; offset = 0; limit = None }
 
-abbrev all_before : SettledFrame
+abbrev all_before : ResolvedFrame
 all_before = record { mode = Range; start = UnboundedPreceding; end = CurrentRow; exclusion = NoOthers }
 
-abbrev by_day : SettledFrame → WindowPlan
+abbrev by_day : ResolvedFrame → WindowPlan
 by_day frame = record { partition = []; keys = up day ∷ []; frame = frame }
 
 -- all rows, as peers

@@ -1,4 +1,4 @@
--- Why a query that has a meaning is not answered, and how its answer is told.
+-- Why a query that has a meaning is not answered, and how its answer is spelled.
 use Rattle.std.specs.Prelude.{◌≡◌, Result, Ok, Err}
 use Rattle.wrows.specs.declared.fault.AnswerFault.{AnswerFault}
 use Rattle.wrows.specs.declared.fault.AnswerFault.TheVariants as answers

@@ -1,4 +1,4 @@
--- What a query with its names settled is answered.
+-- What a query with its names resolved is answered.
 use Rattle.std.specs.Prelude.{ℕ, List, Result, Ok, Err}
 use Rattle.wplan.specs.Plans.{SelectPlan}
 use Rattle.wprinted.specs.Printing.{table_text}
@@ -14,6 +14,6 @@ abbrev pub printed : Result TableParts AnswerFault → Result (List ℕ) AskFaul
 printed (Ok table) = Ok (table_text table.names table.rows)
 printed (Err fault) = Err (unanswered fault)
 
--- what a query with its names settled is answered on some rows
+-- what a query with its names resolved is answered on some rows
 abbrev pub plan_answer : List SelectPlan → List Row → Result (List ℕ) AskFault
 plan_answer plans rows = printed (table_answer plans rows)

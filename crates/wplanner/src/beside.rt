@@ -1,5 +1,5 @@
 //! The text of rows that stay where they lie, with what calls over windows answer for them beside their cells. A table is made only
-//! where calls stand behind rows and an order is asked for that is not told.
+//! where calls stand behind rows and an order is asked for that is not presorted.
 ghost use Rattle.std.specs.Prelude.{◌≡◌, ◌≤◌, ◌<◌, ◌^◌, [], true, IfOk, IfSome, None, Ok, length, map, min};
 ghost use Rattle.wplan.specs.Plans.{select_plan};
 ghost use Rattle.wprinted.specs.Printing.{table_text, values_at};
@@ -11,7 +11,7 @@ ghost use Rattle.wrows.specs.Plain.{at_most_limit, cut};
 ghost use Rattle.wplanner.specs.Answers.{items_of, left_items};
 ghost use Rattle.wplanner.specs.Lent.{ReadsPlaces, text_in};
 ghost use Rattle.wplanner.specs.Sound.{is_sound_select};
-ghost use Rattle.wtable.specs.TableOrders.{AreTold, by_keys};
+ghost use Rattle.wtable.specs.TableOrders.{ArePresorted, by_keys};
 
 use crate::parts::{item_names, key_orders, key_values};
 use crate::printing::print;
@@ -23,7 +23,7 @@ use std::alloc::{AllocError, Global};
 use wplan::Selection;
 use wprinted::{PickedRows, RowsBeside, print_rows};
 use wrows::{AnswerFault, Cells, lists, sorted_numbers};
-use wtable::ToldOrders;
+use wtable::PresortedOrders;
 use wvalues::Value;
 
 // As many as are asked for, of so many.
@@ -58,7 +58,7 @@ fn asked_numbers<'a>(select: &Selection, numbers: &'a [usize]) -> &'a [usize]
     &numbers[from..from + count]
 }
 
-// The text of rows that have the values of some columns behind their cells, in an order that is told, as many as are asked for.
+// The text of rows that have the values of some columns behind their cells, in a presorted order, as many as are asked for.
 fn picked_text(
     alloc: Global,
     select: &Selection,
@@ -99,42 +99,42 @@ pub(crate) fn standing_text(
     print_rows(alloc, &names, places, &standing)
 }
 
-// The text of rows that have the values of some columns behind their cells, in the order that is told where one is asked for.
+// The text of rows that have the values of some columns behind their cells, in the presorted order where one is asked for.
 fn text_beside(
     alloc: Global,
     select: &Selection,
     places: &[usize],
     rows: &[&[Value]],
     columns: &[&[Value]],
-    told: &Option<Vec<usize>>,
+    presorted: &Option<Vec<usize>>,
 ) -> Result<Vec<u8>, AllocError>
     requires reads { ReadsPlaces (select_plan select.now) places.now }
-    requires told { IfSome told.now (λ numbers. by_keys (select_plan select.now).keys (rows_seen columns.now) (rows_seen rows.now) ≡ Ok numbers.items) }
-    requires standing { told.now ≡ None → length (select_plan select.now).keys ≡ 0 }
+    requires presorted { IfSome presorted.now (λ numbers. by_keys (select_plan select.now).keys (rows_seen columns.now) (rows_seen rows.now) ≡ Ok numbers.items) }
+    requires standing { presorted.now ≡ None → length (select_plan select.now).keys ≡ 0 }
     ensures { IfOk result (λ bytes. text_in (select_plan select.now) (items_of (select_plan select.now) (beside (rows_seen rows.now) (rows_seen columns.now))) ≡ Ok bytes.items) }
 {
-    match told {
+    match presorted {
         None => standing_text(alloc, select, places, rows, columns),
         Some(numbers) => picked_text(alloc, select, places, rows, columns, numbers),
     }
 }
 
-// The text of rows with what the calls answer behind their cells, in the order that is told where one is asked for.
+// The text of rows with what the calls answer behind their cells, in the presorted order where one is asked for.
 fn called_text(
     alloc: Global,
     select: &Selection,
     places: &[usize],
     rows: &[&[Value]],
-    told: ToldOrders,
+    presorted: PresortedOrders,
 ) -> Result<Vec<u8>, AnswerFault>
     requires reads { ReadsPlaces (select_plan select.now) places.now }
     requires sound { is_sound_select (select_plan select.now) ≡ true }
     requires few { length rows.now < 2 ^ 31 }
-    requires told { AreTold (rows_seen rows.now) (select_plan select.now).keys told }
-    requires standing { told.keys ≡ None → length (select_plan select.now).keys ≡ 0 }
+    requires presorted { ArePresorted (rows_seen rows.now) (select_plan select.now).keys presorted }
+    requires standing { presorted.keys ≡ None → length (select_plan select.now).keys ≡ 0 }
     ensures { Gives (λ bytes. bytes.items) result (text_in (select_plan select.now) (left_items (select_plan select.now) (rows_seen rows.now))) }
 {
-    let ToldOrders { windows, keys } = told;
+    let PresortedOrders { windows, keys } = presorted;
     let mut work = Work::new();
     let answers = window_answers(
         alloc,
@@ -186,16 +186,16 @@ fn made_items(
     alloc: Global,
     select: &Selection,
     rows: Vec<&[Value]>,
-    told: ToldOrders,
+    presorted: PresortedOrders,
     work: &mut Work,
 ) -> Result<Cells, AnswerFault>
     requires sound { is_sound_select (select_plan select.now) ≡ true }
     requires few { length rows.items < 2 ^ 31 }
-    requires told { AreTold (rows_seen rows.items) (select_plan select.now).keys told }
+    requires presorted { ArePresorted (rows_seen rows.items) (select_plan select.now).keys presorted }
     ensures rows { Gives rows_in result (left_items (select_plan select.now) (rows_seen rows.entry.items)) }
     ensures width { IfOk result (λ cells. cells.width ≡ length select.now.items.items) }
 {
-    left_items(alloc, select, &rows, told, work)
+    left_items(alloc, select, &rows, presorted, work)
 }
 
 // The text of the items of rows that are put in order by themselves, of which a table is made.
@@ -203,29 +203,29 @@ fn made_text(
     alloc: Global,
     select: &Selection,
     rows: Vec<&[Value]>,
-    told: ToldOrders,
+    presorted: PresortedOrders,
 ) -> Result<Vec<u8>, AnswerFault>
     requires sound { is_sound_select (select_plan select.now) ≡ true }
     requires few { length rows.items < 2 ^ 31 }
-    requires told { AreTold (rows_seen rows.items) (select_plan select.now).keys told }
+    requires presorted { ArePresorted (rows_seen rows.items) (select_plan select.now).keys presorted }
     ensures { Gives (λ bytes. bytes.items) result (text_in (select_plan select.now) (left_items (select_plan select.now) (rows_seen rows.entry.items))) }
 {
     let mut work = Work::new();
-    let cells = made_items(alloc, select, rows, told, &mut work)?;
+    let cells = made_items(alloc, select, rows, presorted, &mut work)?;
     let names = item_names(alloc, &select.items)?;
     let table = Table::new(names, cells, &work);
     let bytes = print(alloc, &table)?;
     Ok(bytes)
 }
 
-// Whether no order is asked for, or that which is asked for is told.
-fn is_told(select: &Selection, told: &ToldOrders) -> bool
-    ensures { result ≡ true → told.now.keys ≡ None → length (select_plan select.now).keys ≡ 0 }
+// Whether no order is asked for, or that which is asked for is presorted.
+fn is_presorted(select: &Selection, presorted: &PresortedOrders) -> bool
+    ensures { result ≡ true → presorted.now.keys ≡ None → length (select_plan select.now).keys ≡ 0 }
 {
     if select.keys.is_empty() {
         return true;
     }
-    told.keys.is_some()
+    presorted.keys.is_some()
 }
 
 /// Whether a SELECT calls for no window.
@@ -235,26 +235,26 @@ pub(crate) fn is_unwindowed(select: &Selection) -> bool
     select.windows.is_empty()
 }
 
-/// The text of rows, of which some orders are told. Where the order that is asked for is not, they are put in order by themselves,
+/// The text of rows, of which some orders are presorted. Where the order that is asked for is not, they are put in order by themselves,
 /// and a table is made where the calls of windows stand behind them.
 pub(crate) fn rows_text(
     alloc: Global,
     select: &Selection,
     places: &[usize],
     rows: Vec<&[Value]>,
-    told: ToldOrders,
+    presorted: PresortedOrders,
 ) -> Result<Vec<u8>, AnswerFault>
     requires reads { ReadsPlaces (select_plan select.now) places.now }
     requires sound { is_sound_select (select_plan select.now) ≡ true }
     requires few { length rows.items < 2 ^ 31 }
-    requires told { AreTold (rows_seen rows.items) (select_plan select.now).keys told }
+    requires presorted { ArePresorted (rows_seen rows.items) (select_plan select.now).keys presorted }
     ensures { Gives (λ bytes. bytes.items) result (text_in (select_plan select.now) (left_items (select_plan select.now) (rows_seen rows.entry.items))) }
 {
-    if is_told(select, &told) {
-        called_text(alloc, select, places, &rows, told)
+    if is_presorted(select, &presorted) {
+        called_text(alloc, select, places, &rows, presorted)
     } else if is_unwindowed(select) {
         sorted_text(alloc, select, places, &rows)
     } else {
-        made_text(alloc, select, rows, told)
+        made_text(alloc, select, rows, presorted)
     }
 }

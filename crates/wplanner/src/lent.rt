@@ -20,8 +20,8 @@ use wrows::AnswerFault;
 use wruns::RowRef;
 use wset::SegmentSet;
 use wtable::{
-    NumberedRows, TableOrders, ToldOrders, asked_of, few_kept_rows, kept_table_rows,
-    numbered_table_rows, referenced_rows, table_orders, told_orders,
+    NumberedRows, PresortedOrders, TableOrders, asked_of, few_kept_rows, kept_table_rows,
+    numbered_table_rows, presorted_orders, referenced_rows, table_orders,
 };
 
 // The text of the rows that WHERE keeps, where these are few.
@@ -39,13 +39,13 @@ fn few_text(
     match found {
         None => Ok(None),
         Some(kept) => {
-            let bytes = rows_text(alloc, select, places, kept, ToldOrders::none(alloc))?;
+            let bytes = rows_text(alloc, select, places, kept, PresortedOrders::none(alloc))?;
             Ok(Some(bytes))
         }
     }
 }
 
-// The text of the rows that WHERE keeps, where no order of them is told.
+// The text of the rows that WHERE keeps, where no order of them is presorted.
 fn unordered_text(
     alloc: Global,
     select: &Selection,
@@ -57,10 +57,10 @@ fn unordered_text(
     ensures { Gives (λ bytes. bytes.items) result (text_in (select_plan select.now) (select_of (select_plan select.now) (rows_of_set set.now))) }
 {
     let kept = kept_table_rows(alloc, &select.condition, set)?;
-    rows_text(alloc, select, places, kept, ToldOrders::none(alloc))
+    rows_text(alloc, select, places, kept, PresortedOrders::none(alloc))
 }
 
-// The text of all rows, whose order is told by references.
+// The text of all rows, whose order references give.
 fn referenced_text(
     alloc: Global,
     select: &Selection,
@@ -80,7 +80,7 @@ fn referenced_text(
     Ok(bytes)
 }
 
-// The text of all rows, whose order may be told by references.
+// The text of all rows, whose order references may give.
 fn all_text(
     alloc: Global,
     select: &Selection,
@@ -101,9 +101,9 @@ fn all_text(
     }
 }
 
-// The text of the rows that WHERE keeps, of which some orders are told by those of all rows. Where all are kept and nothing calls
+// The text of the rows that WHERE keeps, of which some orders are presorted by those of all rows. Where all are kept and nothing calls
 // for a window, their numbers are not needed.
-fn told_text(
+fn presorted_text(
     alloc: Global,
     select: &Selection,
     places: &[usize],
@@ -119,9 +119,9 @@ fn told_text(
         return all_text(alloc, select, places, set, &orders);
     }
     let kept = numbered_table_rows(alloc, &select.condition, set)?;
-    let told = told_orders(alloc, orders, &kept)?;
+    let presorted = presorted_orders(alloc, orders, &kept)?;
     let NumberedRows { rows, .. } = kept;
-    rows_text(alloc, select, places, rows, told)
+    rows_text(alloc, select, places, rows, presorted)
 }
 
 // The text of the rows that WHERE keeps, whose orders are taken from runs, where they are by columns.
@@ -140,7 +140,7 @@ fn text_by_runs(
     if orders.is_none() {
         unordered_text(alloc, select, places, set)
     } else {
-        told_text(alloc, select, places, set, orders)
+        presorted_text(alloc, select, places, set, orders)
     }
 }
 

@@ -9,25 +9,25 @@ ghost use Rattle.wrows.specs.Laid.{rows_seen};
 ghost use Rattle.wrows.specs.Outcomes.{Gives};
 ghost use Rattle.wcalls.specs.Ordered.{ordered_rows};
 ghost use Rattle.wplanner.specs.KeptOrders.{AreOrdersOf, serves, with_shared};
-ghost use Rattle.wtable.specs.TableOrders.{AreToldOf};
+ghost use Rattle.wtable.specs.TableOrders.{ArePresortedOf};
 
 use std::alloc::{AllocError, Global};
 use waggregate::Tally;
 use wcalls::{WindowOrder, share_order};
-use wplan::SettledWindow;
+use wplan::ResolvedWindow;
 use wrows::AnswerFault;
-use wtable::{ToldOrder, take_told};
+use wtable::{PresortedOrder, take_presorted};
 use wvalues::Value;
 
 /// The rows in the order of a window.
 #[derive(Drop)]
 pub(crate) struct KeptOrder<'a> {
-    pub window: &'a SettledWindow,
+    pub window: &'a ResolvedWindow,
     pub order: WindowOrder<'a>,
 }
 
 // The place of an order that is also that of a window.
-fn place_shared(kept: &[KeptOrder], window: &SettledWindow) -> Option<usize>
+fn place_shared(kept: &[KeptOrder], window: &ResolvedWindow) -> Option<usize>
     ensures found { is_some result ≡ list_any (serves window.now) kept.now }
     ensures place { IfSome result (λ place. place < length kept.now) }
     ensures order { (rows : List Row) → AreOrdersOf rows kept.now → IfSome result (λ place. (d : KeptOrder) → ordered_rows rows (window_plan window.now) ≡ Ok (slice_index_or kept.now place d).order) }
@@ -41,7 +41,10 @@ fn place_shared(kept: &[KeptOrder], window: &SettledWindow) -> Option<usize>
 }
 
 // Takes out an order that is also that of a window, if there is one.
-fn take_shared<'a>(kept: &mut Vec<KeptOrder<'a>>, window: &SettledWindow) -> Option<WindowOrder<'a>>
+fn take_shared<'a>(
+    kept: &mut Vec<KeptOrder<'a>>,
+    window: &ResolvedWindow,
+) -> Option<WindowOrder<'a>>
     ensures found { is_some result ≡ list_any (serves window.now) kept.old.items }
     ensures order { (rows : List Row) → AreOrdersOf rows kept.old.items → IfSome result (λ order. ordered_rows rows (window_plan window.now) ≡ Ok order) }
     ensures others { (rows : List Row) → AreOrdersOf rows kept.old.items → AreOrdersOf rows kept.new.items }
@@ -56,21 +59,21 @@ fn take_shared<'a>(kept: &mut Vec<KeptOrder<'a>>, window: &SettledWindow) -> Opt
     }
 }
 
-// The rows in the order of a window, whose numbers are taken out where they are told. It counts among the orders.
+// The rows in the order of a window, whose numbers are taken out where it is presorted. It counts among the orders.
 fn new_order<'a>(
     alloc: Global,
-    window: &SettledWindow,
+    window: &ResolvedWindow,
     rows: &'a [&'a [Value]],
-    told: &mut Vec<ToldOrder>,
+    presorted: &mut Vec<PresortedOrder>,
     made: &mut Tally,
 ) -> Result<WindowOrder<'a>, AnswerFault>
-    requires { AreToldOf (rows_seen rows.now) told.old.items }
+    requires { ArePresortedOf (rows_seen rows.now) presorted.old.items }
     ensures order { Gives (λ order. order) result (ordered_rows (rows_seen rows.now) (window_plan window.now)) }
-    ensures others { AreToldOf (rows_seen rows.now) told.new.items }
+    ensures others { ArePresortedOf (rows_seen rows.now) presorted.new.items }
     ensures made { made.new ≤ made.old + 1 }
 {
-    match take_told(told, window) {
-        Some(numbers) => WindowOrder::told(alloc, window, rows, numbers, made),
+    match take_presorted(presorted, window) {
+        Some(numbers) => WindowOrder::presorted(alloc, window, rows, numbers, made),
         None => WindowOrder::new(alloc, window, rows, made),
     }
 }
@@ -79,31 +82,31 @@ fn new_order<'a>(
 /// the orders.
 pub(crate) fn order_of<'a>(
     alloc: Global,
-    window: &SettledWindow,
+    window: &ResolvedWindow,
     rows: &'a [&'a [Value]],
     kept: &mut Vec<KeptOrder<'a>>,
-    told: &mut Vec<ToldOrder>,
+    presorted: &mut Vec<PresortedOrder>,
     made: &mut Tally,
 ) -> Result<WindowOrder<'a>, AnswerFault>
     requires kept { AreOrdersOf (rows_seen rows.now) kept.old.items }
-    requires told { AreToldOf (rows_seen rows.now) told.old.items }
+    requires presorted { ArePresortedOf (rows_seen rows.now) presorted.old.items }
     ensures order { Gives (λ order. order) result (ordered_rows (rows_seen rows.now) (window_plan window.now)) }
     ensures others { AreOrdersOf (rows_seen rows.now) kept.new.items }
-    ensures told { AreToldOf (rows_seen rows.now) told.new.items }
+    ensures presorted { ArePresortedOf (rows_seen rows.now) presorted.new.items }
     ensures fewer { length kept.new.items ≤ length kept.old.items }
     ensures made { made.new ≤ made.old + (if list_any (serves window.now) kept.old.items then 0 else 1) }
 {
     match take_shared(kept, window) {
         Some(order) => Ok(order),
-        None => new_order(alloc, window, rows, told, made),
+        None => new_order(alloc, window, rows, presorted, made),
     }
 }
 
 // The place of a window that shares the order of another one.
-fn place_sharing(windows: &[SettledWindow], window: &SettledWindow) -> Option<usize>
+fn place_sharing(windows: &[ResolvedWindow], window: &ResolvedWindow) -> Option<usize>
     ensures found { is_some result ≡ list_any (is_same_order window.now) windows.now }
     ensures place { IfSome result (λ place. place < length windows.now) }
-    ensures order { (rows : List Row) → IfSome result (λ place. (d : SettledWindow) → ordered_rows rows (window_plan window.now) ≡ ordered_rows rows (window_plan (slice_index_or windows.now place d))) }
+    ensures order { (rows : List Row) → IfSome result (λ place. (d : ResolvedWindow) → ordered_rows rows (window_plan window.now) ≡ ordered_rows rows (window_plan (slice_index_or windows.now place d))) }
 {
     for (place, other) in windows.iter().enumerate() {
         if share_order(window, other) {
@@ -116,9 +119,9 @@ fn place_sharing(windows: &[SettledWindow], window: &SettledWindow) -> Option<us
 /// Keeps the order of a window's rows, where one of the later windows shares it.
 pub(crate) fn keep_shared<'a>(
     kept: &mut Vec<KeptOrder<'a>>,
-    window: &'a SettledWindow,
+    window: &'a ResolvedWindow,
     order: WindowOrder<'a>,
-    later: &[SettledWindow],
+    later: &[ResolvedWindow],
 ) -> Result<(), AllocError>
     ensures kept { OnOk result (kept.new.items ≡ with_shared later.now (record { window = window.entry; order = order.entry }) kept.old.items) }
     ensures orders { (rows : List Row) → ordered_rows rows (window_plan window.entry.now) ≡ Ok order.entry → AreOrdersOf rows kept.old.items → AreOrdersOf rows kept.new.items }

@@ -7,7 +7,7 @@ ghost use Rattle.wrows.specs.Laid.{formulas_seen};
 
 use std::alloc::{AllocError, Global};
 use std::rc::RcStr;
-use wplan::{Expr, Output, SettledKey};
+use wplan::{Expr, Output, ResolvedKey};
 use wrows::place_of;
 use wvalues::SortKey;
 
@@ -36,7 +36,7 @@ pub(crate) fn item_names(alloc: Global, items: &[Output]) -> Result<Vec<RcStr>, 
 }
 
 /// The values of keys.
-pub(crate) fn key_values(alloc: Global, keys: &[SettledKey]) -> Result<Vec<&Expr>, AllocError>
+pub(crate) fn key_values(alloc: Global, keys: &[ResolvedKey]) -> Result<Vec<&Expr>, AllocError>
     ensures values { IfOk result (λ values. formulas_seen values.items ≡ map (λ k. k.value) (map key_plan keys.now)) }
     ensures len { IfOk result (λ values. length values.items ≡ length keys.now) }
 {
@@ -48,7 +48,7 @@ pub(crate) fn key_values(alloc: Global, keys: &[SettledKey]) -> Result<Vec<&Expr
 }
 
 /// How keys are ordered.
-pub(crate) fn key_orders(alloc: Global, keys: &[SettledKey]) -> Result<Vec<SortKey>, AllocError>
+pub(crate) fn key_orders(alloc: Global, keys: &[ResolvedKey]) -> Result<Vec<SortKey>, AllocError>
     ensures orders { IfOk result (λ orders. orders.items ≡ map (λ k. k.order) (map key_plan keys.now)) }
     ensures len { IfOk result (λ orders. length orders.items ≡ length keys.now) }
 {

@@ -11,7 +11,7 @@ ghost use Rattle.wtable.specs.Few.{MayGive};
 ghost use Rattle.wplanner.specs.Sound.{is_sound_select};
 ghost use Rattle.wset.specs.Running.{live_rows};
 ghost use Rattle.wset.specs.Sets.{Becomes};
-ghost use Rattle.wtable.specs.TableOrders.{AreTableOrders, AreTold, by_keys};
+ghost use Rattle.wtable.specs.TableOrders.{AreTableOrders, ArePresorted, by_keys};
 ghost use Rattle.wtable.specs.Tables.{rows_of_set};
 
 use crate::parts::{item_values, key_orders, key_values};
@@ -21,11 +21,13 @@ use std::alloc::Global;
 use waggregate::Tally;
 use wgroup::{counted_row, counts_rows, group_rows};
 use wplan::{Grouping, Selection};
-use wrows::{AnswerFault, Cells, joined_items, kept_rows, lent_rows, ordered_items, told_items};
+use wrows::{
+    AnswerFault, Cells, joined_items, kept_rows, lent_rows, ordered_items, presorted_items,
+};
 use wset::SegmentSet;
 use wtable::{
-    TableOrders, ToldOrders, asked_of, few_kept_rows, kept_count, kept_table_rows,
-    numbered_table_rows, table_orders, told_orders,
+    PresortedOrders, TableOrders, asked_of, few_kept_rows, kept_count, kept_table_rows,
+    numbered_table_rows, presorted_orders, table_orders,
 };
 use wvalues::Value;
 
@@ -36,8 +38,8 @@ fn count_order(select: &Selection, orders: &mut Tally) {
     }
 }
 
-// The items of rows that have the values of some columns behind their cells, in an order that is told, and cut.
-fn told_items_of(
+// The items of rows that have the values of some columns behind their cells, in a presorted order, and cut.
+fn presorted_items_of(
     alloc: Global,
     select: &Selection,
     rows: &[&[Value]],
@@ -49,7 +51,7 @@ fn told_items_of(
     ensures width { IfOk result (λ cells. cells.width ≡ length select.now.items.items) }
 {
     let items = item_values(alloc, &select.items)?;
-    told_items(alloc, &items, numbers, asked_of(select), rows, columns)
+    presorted_items(alloc, &items, numbers, asked_of(select), rows, columns)
 }
 
 // The items of some rows, in order and cut.
@@ -81,37 +83,37 @@ fn items_beside(
     joined_items(alloc, &items, &keys, &order, asked, rows, columns)
 }
 
-// The items of some rows, in order and cut, where the order may be told.
+// The items of some rows, in order and cut, where the order may be presorted.
 fn items_by(
     alloc: Global,
     select: &Selection,
     rows: &[&[Value]],
-    told: Option<Vec<usize>>,
+    presorted: Option<Vec<usize>>,
 ) -> Result<Cells, AnswerFault>
-    requires { IfSome told (λ numbers. (columns : List (List Meaning)) → by_keys (select_plan select.now).keys columns (rows_seen rows.now) ≡ Ok numbers.items) }
+    requires { IfSome presorted (λ numbers. (columns : List (List Meaning)) → by_keys (select_plan select.now).keys columns (rows_seen rows.now) ≡ Ok numbers.items) }
     ensures rows { Gives rows_in result (items_of (select_plan select.now) (rows_seen rows.now)) }
     ensures width { IfOk result (λ cells. cells.width ≡ length select.now.items.items) }
 {
-    match told {
-        Some(numbers) => told_items_of(alloc, select, rows, &[], numbers),
+    match presorted {
+        Some(numbers) => presorted_items_of(alloc, select, rows, &[], numbers),
         None => items_of(alloc, select, rows),
     }
 }
 
-// The items of rows that have the values of some columns behind their cells, in order and cut, where the order may be told.
+// The items of rows that have the values of some columns behind their cells, in order and cut, where the order may be presorted.
 fn items_beside_by(
     alloc: Global,
     select: &Selection,
     rows: &[&[Value]],
     columns: &[&[Value]],
-    told: Option<Vec<usize>>,
+    presorted: Option<Vec<usize>>,
 ) -> Result<Cells, AnswerFault>
-    requires { IfSome told (λ numbers. (columns : List (List Meaning)) → by_keys (select_plan select.now).keys columns (rows_seen rows.now) ≡ Ok numbers.items) }
+    requires { IfSome presorted (λ numbers. (columns : List (List Meaning)) → by_keys (select_plan select.now).keys columns (rows_seen rows.now) ≡ Ok numbers.items) }
     ensures rows { Gives rows_in result (items_of (select_plan select.now) (beside (rows_seen rows.now) (rows_seen columns.now))) }
     ensures width { IfOk result (λ cells. cells.width ≡ length select.now.items.items) }
 {
-    match told {
-        Some(numbers) => told_items_of(alloc, select, rows, columns, numbers),
+    match presorted {
+        Some(numbers) => presorted_items_of(alloc, select, rows, columns, numbers),
         None => items_beside(alloc, select, rows, columns),
     }
 }
@@ -121,16 +123,16 @@ fn called_items(
     alloc: Global,
     select: &Selection,
     rows: &[&[Value]],
-    told: ToldOrders,
+    presorted: PresortedOrders,
     work: &mut Work,
 ) -> Result<Cells, AnswerFault>
     requires sound { is_sound_select (select_plan select.now) ≡ true }
     requires few { length rows.now < 2 ^ 31 }
-    requires told { AreTold (rows_seen rows.now) (select_plan select.now).keys told }
+    requires presorted { ArePresorted (rows_seen rows.now) (select_plan select.now).keys presorted }
     ensures rows { Gives rows_in result (left_items (select_plan select.now) (rows_seen rows.now)) }
     ensures width { IfOk result (λ cells. cells.width ≡ length select.now.items.items) }
 {
-    let ToldOrders { windows, keys } = told;
+    let PresortedOrders { windows, keys } = presorted;
     let answers = window_answers(alloc, &select.windows, &select.calls, rows, windows, work)?;
     let columns = call_columns(alloc, &answers, &select.calls)?;
     items_beside_by(alloc, select, rows, &columns, keys)
@@ -141,20 +143,20 @@ pub(crate) fn left_items(
     alloc: Global,
     select: &Selection,
     rows: &[&[Value]],
-    told: ToldOrders,
+    presorted: PresortedOrders,
     work: &mut Work,
 ) -> Result<Cells, AnswerFault>
     requires sound { is_sound_select (select_plan select.now) ≡ true }
     requires few { length rows.now < 2 ^ 31 }
-    requires told { AreTold (rows_seen rows.now) (select_plan select.now).keys told }
+    requires presorted { ArePresorted (rows_seen rows.now) (select_plan select.now).keys presorted }
     ensures rows { Gives rows_in result (left_items (select_plan select.now) (rows_seen rows.now)) }
     ensures width { IfOk result (λ cells. cells.width ≡ length select.now.items.items) }
 {
     count_order(select, &mut work.orders);
     if select.windows.is_empty() {
-        items_by(alloc, select, rows, told.keys)
+        items_by(alloc, select, rows, presorted.keys)
     } else {
-        called_items(alloc, select, rows, told, work)
+        called_items(alloc, select, rows, presorted, work)
     }
 }
 
@@ -173,7 +175,7 @@ fn grouped_items(
 {
     let groups = group_rows(alloc, grouping, kept)?;
     let left = lent_rows(alloc, &groups)?;
-    left_items(alloc, select, &left, ToldOrders::none(alloc), work)
+    left_items(alloc, select, &left, PresortedOrders::none(alloc), work)
 }
 
 // The items of the rows that WHERE keeps, or of their groups.
@@ -181,17 +183,17 @@ fn kept_items(
     alloc: Global,
     select: &Selection,
     kept: &[&[Value]],
-    told: ToldOrders,
+    presorted: PresortedOrders,
     work: &mut Work,
 ) -> Result<Cells, AnswerFault>
     requires sound { is_sound_select (select_plan select.now) ≡ true }
     requires few { length kept.now < 2 ^ 31 }
-    requires told { AreTold (rows_seen kept.now) (select_plan select.now).keys told }
+    requires presorted { ArePresorted (rows_seen kept.now) (select_plan select.now).keys presorted }
     ensures rows { Gives rows_in result (kept_items (select_plan select.now) (rows_seen kept.now)) }
     ensures width { IfOk result (λ cells. cells.width ≡ length select.now.items.items) }
 {
     match &select.grouping {
-        None => left_items(alloc, select, kept, told, work),
+        None => left_items(alloc, select, kept, presorted, work),
         Some(grouping) => grouped_items(alloc, select, grouping, kept, work),
     }
 }
@@ -208,10 +210,10 @@ pub(crate) fn select_rows(
     ensures width { IfOk result (λ cells. cells.width ≡ length select.now.items.items) }
 {
     let kept = kept_rows(alloc, &select.condition, rows)?;
-    kept_items(alloc, select, &kept, ToldOrders::none(alloc), work)
+    kept_items(alloc, select, &kept, PresortedOrders::none(alloc), work)
 }
 
-// What one SELECT answers on the rows of the set's live segments, where no order of them is told.
+// What one SELECT answers on the rows of the set's live segments, where no order of them is presorted.
 fn select_unordered(
     alloc: Global,
     select: &Selection,
@@ -223,10 +225,10 @@ fn select_unordered(
     ensures width { IfOk result (λ cells. cells.width ≡ length select.now.items.items) }
 {
     let kept = kept_table_rows(alloc, &select.condition, set)?;
-    kept_items(alloc, select, &kept, ToldOrders::none(alloc), work)
+    kept_items(alloc, select, &kept, PresortedOrders::none(alloc), work)
 }
 
-// What one SELECT answers on the rows of the set's live segments, of which some orders are told.
+// What one SELECT answers on the rows of the set's live segments, of which some orders are presorted.
 fn select_ordered(
     alloc: Global,
     select: &Selection,
@@ -240,8 +242,8 @@ fn select_ordered(
     ensures width { IfOk result (λ cells. cells.width ≡ length select.now.items.items) }
 {
     let kept = numbered_table_rows(alloc, &select.condition, set)?;
-    let told = told_orders(alloc, orders, &kept)?;
-    kept_items(alloc, select, &kept.rows, told, work)
+    let presorted = presorted_orders(alloc, orders, &kept)?;
+    kept_items(alloc, select, &kept.rows, presorted, work)
 }
 
 // The grouping of a SELECT that keeps all rows, counts them in one group and asks nothing else of them.
@@ -280,7 +282,7 @@ fn select_counted(
     let count = kept_count(set)?;
     let groups = counted_row(alloc, grouping, count)?;
     let left = lent_rows(alloc, &groups)?;
-    left_items(alloc, select, &left, ToldOrders::none(alloc), work)
+    left_items(alloc, select, &left, PresortedOrders::none(alloc), work)
 }
 
 // What one SELECT answers on the rows of the set's live segments, whose orders are taken from runs.
@@ -319,7 +321,7 @@ fn select_few(
     match found {
         None => Ok(None),
         Some(kept) => {
-            let cells = kept_items(alloc, select, &kept, ToldOrders::none(alloc), work)?;
+            let cells = kept_items(alloc, select, &kept, PresortedOrders::none(alloc), work)?;
             Ok(Some(cells))
         }
     }

@@ -14,16 +14,16 @@ ghost use Rattle.wcalls.specs.Sound.{is_sound_function, is_sound_window};
 ghost use Rattle.wplanner.specs.ByWindow.{columns_from, columns_of_calls, functions_over, most_from};
 ghost use Rattle.wplanner.specs.KeptOrders.{AreOrdersOf, serves};
 ghost use Rattle.wplanner.specs.Sound.{is_sound_call};
-ghost use Rattle.wtable.specs.TableOrders.{AreToldOf};
+ghost use Rattle.wtable.specs.TableOrders.{ArePresortedOf};
 
 use crate::orders::{KeptOrder, keep_shared, order_of};
 use crate::table::cells_from;
 use crate::work::Work;
 use std::alloc::{AllocError, Global};
 use wcalls::window_columns;
-use wplan::{CallOver, SettledWindow, WindowFunction};
+use wplan::{CallOver, ResolvedWindow, WindowFunction};
 use wrows::{AnswerFault, Cells};
-use wtable::ToldOrder;
+use wtable::PresortedOrder;
 use wvalues::Value;
 
 // The functions of the calls over the window of a number.
@@ -47,59 +47,67 @@ fn functions_over(
 // is made where one that it shares is kept.
 fn answers_over<'a>(
     alloc: Global,
-    window: &'a SettledWindow,
+    window: &'a ResolvedWindow,
     number: usize,
-    later: &[SettledWindow],
+    later: &[ResolvedWindow],
     calls: &[CallOver],
     rows: &'a [&'a [Value]],
     kept: &mut Vec<KeptOrder<'a>>,
-    told: &mut Vec<ToldOrder>,
+    presorted: &mut Vec<PresortedOrder>,
     work: &mut Work,
 ) -> Result<Cells, AnswerFault>
     requires few { length rows.now < 2 ^ 31 }
     requires window { is_sound_window (window_plan window.now) ≡ true }
     requires functions { list_all is_sound_function (functions_over (map call_plan calls.now) number) ≡ true }
     requires kept { AreOrdersOf (rows_seen rows.now) kept.old.items }
-    requires told { AreToldOf (rows_seen rows.now) told.old.items }
+    requires presorted { ArePresortedOf (rows_seen rows.now) presorted.old.items }
     ensures columns { Gives rows_in result (window_columns (window_plan window.now) (functions_over (map call_plan calls.now) number) (rows_seen rows.now)) }
     ensures kept { AreOrdersOf (rows_seen rows.now) kept.new.items }
-    ensures told { AreToldOf (rows_seen rows.now) told.new.items }
+    ensures presorted { ArePresortedOf (rows_seen rows.now) presorted.new.items }
     ensures let_go { OnOk result (length kept.new.items ≤ length kept.old.items + (if list_any (is_same_order window.entry.now) later.now then 1 else 0)) }
     ensures made { work.new.orders ≤ work.old.orders + (if list_any (serves window.entry.now) kept.old.items then 0 else 1) }
     ensures joins { work.new.joins ≤ work.old.joins + most_of_functions (frame_of (window_plan window.entry.now).frame).exclusion (length rows.now) (functions_over (map call_plan calls.now) number) }
 {
     let functions = functions_over(alloc, calls, number)?;
-    let order = order_of(alloc, window, rows, kept, told, &mut work.orders)?;
+    let order = order_of(alloc, window, rows, kept, presorted, &mut work.orders)?;
     let columns = window_columns(alloc, window, &order, &functions, rows, &mut work.joins)?;
     keep_shared(kept, window, order, later)?;
     Ok(columns)
 }
 
 /// For each window the columns of the functions of its calls. Windows that order rows alike share one order, so there is at
-/// most one for each window; where the numbers of the rows are told in it, nothing is sorted. The joins are those of its aggregates.
+/// most one for each window; where the rows are presorted in it, nothing is sorted. The joins are those of its aggregates.
 pub(crate) fn window_answers<'a>(
     alloc: Global,
-    windows: &'a [SettledWindow],
+    windows: &'a [ResolvedWindow],
     calls: &[CallOver],
     rows: &'a [&'a [Value]],
-    told: Vec<ToldOrder>,
+    presorted: Vec<PresortedOrder>,
     work: &mut Work,
 ) -> Result<Vec<Cells>, AnswerFault>
     requires few { length rows.now < 2 ^ 31 }
     requires windows { list_all is_sound_window (map window_plan windows.now) ≡ true }
     requires calls { list_all (is_sound_call (length windows.now)) (map call_plan calls.now) ≡ true }
-    requires told { AreToldOf (rows_seen rows.now) told.items }
+    requires presorted { ArePresortedOf (rows_seen rows.now) presorted.items }
     ensures made { work.new.orders ≤ work.old.orders + length windows.now }
     ensures joins { work.new.joins ≤ work.old.joins + most_from (length rows.now) (map call_plan calls.now) 0 (map window_plan windows.now) }
     ensures answers { Gives (λ answers. map rows_in answers.items) result (columns_from (rows_seen rows.now) (map call_plan calls.now) 0 (map window_plan windows.now)) }
 {
     let mut answers = Vec::with_capacity(alloc, windows.len())?;
     let mut kept = Vec::new(alloc);
-    let mut told = told;
+    let mut presorted = presorted;
     for (number, window) in windows.iter().enumerate() {
         let later = &windows[number + 1..];
         match answers_over(
-            alloc, window, number, later, calls, rows, &mut kept, &mut told, work,
+            alloc,
+            window,
+            number,
+            later,
+            calls,
+            rows,
+            &mut kept,
+            &mut presorted,
+            work,
         ) {
             Err(fault) => return Err(fault),
             Ok(columns) => answers.push(columns)?,

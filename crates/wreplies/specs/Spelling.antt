@@ -12,9 +12,9 @@ use Rattle.wset.specs.declared.words.Taken.{Taken}
 use Rattle.wset.specs.declared.words.Taken.TheVariants as takings
 use Rattle.wset.specs.declared.words.Retired.{Retired}
 use Rattle.wset.specs.declared.words.Retired.TheVariants as retirements
-use Rattle.wset.specs.declared.words.Status.{Status}
-use Rattle.wset.specs.declared.words.Status.TheVariants as statuses
-use Rattle.wset.specs.declared.words.Listed.{Listed}
+use Rattle.wentries.specs.declared.status.Status.{Status}
+use Rattle.wentries.specs.declared.status.Status.TheVariants as statuses
+use Rattle.wentries.specs.declared.status.Listed.{Listed}
 use Rattle.wexchange.specs.declared.fault.FileFault.{FileFault}
 use Rattle.wexchange.specs.declared.fault.FileFault.TheVariants as files
 use Rattle.wplanner.specs.declared.fault.AskFault.{AskFault}

@@ -2,7 +2,7 @@
 use Rattle.std.proofs.Common.{◌≡◌, List, [], ◌∷◌, refl, ap, map}
 use Rattle.wquery.specs.Tree.{Tree, trees}
 use Rattle.wplan.specs.Formula.{Formula}
-use Rattle.wsettle.specs.Resolving.{Layout, resolved}
+use Rattle.wbinding.specs.Resolving.{Layout, resolved}
 use Rattle.wresolve.specs.Selecting.{trees_made}
 
 pub trees_made_map : (l : Layout) (ts : List Tree) → trees_made l (trees ts) ≡ map (resolved l) ts

@@ -1,4 +1,4 @@
--- The SELECTs that a query stands for, with each name and default settled. (SQL, `<query specification>`, `<group by
+-- The SELECTs that a query stands for, with each name and default resolved. (SQL, `<query specification>`, `<group by
 -- clause>`, `<window clause>`, `<window function>`; PostgreSQL, SELECT, ORDER BY Clause.)
 use Rattle.std.specs.Prelude.{ℕ, zero, suc, ◌-◌, Bool, true, false, ◌||◌, List, [], ◌∷◌, ◌++◌, map, length, Option, Some, None, is_some, if◌then◌else◌, unwrap_or}
 use Rattle.std.specs.Str.{bytes_eq}
@@ -18,15 +18,15 @@ use Rattle.wsame.specs.Bounds.{end_of}
 use Rattle.wnames.specs.Groups.{has_some}
 use Rattle.wscope.specs.Types.{Titled}
 use Rattle.wscope.specs.Sources.{Shown, Placed, Spelled, ShownItem, written_out, origin_of}
-use Rattle.wscope.specs.Windows.{NamedWindow, Settled, settle, settle_all}
-use Rattle.wplan.specs.declared.resolved.SettledFrame.{SettledFrame}
+use Rattle.wscope.specs.Windows.{NamedWindow, Expanded, expand, expand_all}
+use Rattle.wplan.specs.declared.resolved.ResolvedFrame.{ResolvedFrame}
 use Rattle.wplan.specs.Formula.{Formula, At}
 use Rattle.wplan.specs.Plans.{GroupingPlan, KeyPlan, WindowPlan, CallPlan, OutputPlan, SelectPlan}
 use Rattle.wgroupby.specs.Sets.{query_sets, with_unseen}
 use Rattle.wdistinct.specs.Calls.{group_calls, window_calls}
-use Rattle.wsettle.specs.Resolving.{Layout, source_row, cell_of, resolved, resolved_option}
-use Rattle.wsettle.specs.Functions.{call_function}
-use Rattle.wsettle.specs.Groups.{elements_made, group_call_made}
+use Rattle.wbinding.specs.Resolving.{Layout, source_row, cell_of, resolved, resolved_option}
+use Rattle.wbinding.specs.Functions.{call_function}
+use Rattle.wbinding.specs.Groups.{elements_made, group_call_made}
 
 -- windows
 
@@ -55,11 +55,11 @@ or_no_others None = NoOthers
 or_no_others (Some e) = e
 
 -- the default frame is RANGE UNBOUNDED PRECEDING
-abbrev pub frame_made : Option Frame → SettledFrame
+abbrev pub frame_made : Option Frame → ResolvedFrame
 frame_made None = record { mode = Range; start = UnboundedPreceding; end = CurrentRow; exclusion = NoOthers }
 frame_made (Some f) = record { mode = f.mode; start = f.start; end = end_of f; exclusion = or_no_others f.exclusion }
 
-abbrev pub window_made : Layout → Settled → WindowPlan
+abbrev pub window_made : Layout → Expanded → WindowPlan
 window_made l w = record { partition = trees_made l w.partition; keys = keys_made l w.order; frame = frame_made w.frame }
 
 -- the windows of WINDOW entries, used or not
@@ -82,7 +82,7 @@ has_own_window _ = false
 abbrev pub window_of_reach : Layout → List NamedWindow → Reach → List WindowPlan
 window_of_reach l ws ItsGroup = []
 window_of_reach l ws (ThatWindow name) = []
-window_of_reach l ws (OwnWindow copied partition order frame) = window_made l (settle ws copied partition order frame) ∷ []
+window_of_reach l ws (OwnWindow copied partition order frame) = window_made l (expand ws copied partition order frame) ∷ []
 
 abbrev pub own_window : Layout → List NamedWindow → Tree → List WindowPlan
 own_window l ws (Invoked name given filter reach) = window_of_reach l ws reach
@@ -172,8 +172,8 @@ abbrev pub select_over : List Titled → List (Element ℕ) → List Tree → Li
 select_over cs elements grouped windowed l c = record {
   condition = resolved_option (source_row cs) c.condition;
   grouping = grouping_over cs elements grouped l c l.grouping;
-  windows = windows_made l (settle_all [] c.windows) windowed;
-  calls = calls_made l (settle_all [] c.windows) (length (settle_all [] c.windows)) windowed;
+  windows = windows_made l (expand_all [] c.windows) windowed;
+  calls = calls_made l (expand_all [] c.windows) (length (expand_all [] c.windows)) windowed;
   items = map (output_made l) (written_out cs c.items);
   keys = map (order_made l (written_out cs c.items)) c.order;
   offset = unwrap_or c.offset 0;

@@ -145,7 +145,7 @@ fn push_source(
     }
 }
 
-/// The query that is lent, with each name and default settled; or the least of the rules Q10 to Q28 that it breaks.
+/// The query that is lent, with each name and default resolved; or the least of the rules Q10 to Q28 that it breaks.
 ///
 /// Nothing is asked of the query. `NoMemory` is answered only where memory was refused.
 pub fn resolve(alloc: Global, schema: &Schema, query: &Query) -> Result<Resolved, ResolveFault>

@@ -1,4 +1,4 @@
-//! SELECTs with each name and default settled.
+//! SELECTs with each name and default resolved.
 
 ghost use Rattle.std.specs.Prelude.{◌≡◌, [], ◌||◌, IfOk, map, length, Some, None, is_some, unwrap_or, if◌then◌else◌};
 ghost use Rattle.wquery.specs.GroupElements.{view_element};
@@ -7,15 +7,15 @@ ghost use Rattle.wplan.specs.Formula.{formula};
 ghost use Rattle.wplan.specs.Plans.{group_call_plan, grouping_plan, optional_formula, optional_grouping, output_plan, key_plan, select_plan, window_plan, call_plan};
 ghost use Rattle.wscope.specs.Sources.{all_titled, written_out as items_written};
 ghost use Rattle.wscope.specs.Earlier.{windows_in};
-ghost use Rattle.wscope.specs.Scoped.{IsSettled, scope_clauses, scope_columns};
-ghost use Rattle.wscope.specs.Windows.{settle_all as settled_entries};
+ghost use Rattle.wscope.specs.Scoped.{IsExpanded, scope_clauses, scope_columns};
+ghost use Rattle.wscope.specs.Windows.{expand_all as expanded_entries};
 ghost use Rattle.wgroupby.specs.Held.{element_in};
 ghost use Rattle.wgroupby.specs.Sets.{query_sets as sets_of};
 ghost use Rattle.wdistinct.specs.Calls.{call_trees};
 ghost use Rattle.wscope.specs.Clauses.{clauses_in};
 ghost use Rattle.wdistinct.specs.Places.{calls_in};
-ghost use Rattle.wsettle.specs.Resolving.{layout_of, row_calls, places_of, source_row, resolved_option};
-ghost use Rattle.wsettle.specs.Groups.{group_call_made};
+ghost use Rattle.wbinding.specs.Resolving.{layout_of, row_calls, places_of, source_row, resolved_option};
+ghost use Rattle.wbinding.specs.Groups.{group_call_made};
 ghost use Rattle.wresolve.specs.Shown.{shown_of, shown_item, shown_items};
 ghost use Rattle.wnames.specs.Groups.{has_some};
 ghost use Rattle.wresolve.specs.Selecting.{output_made, order_made, shown_formula, grouping_over, windows_made, calls_made, is_grouped as is_grouped_query, select_over, select_with, select_made};
@@ -24,12 +24,12 @@ use crate::shown::{ShownOutput, ShownValue, key_value, written_out};
 use crate::windows::{build_calls, build_entries, push_own_windows, sort_key};
 use std::alloc::{AllocError, Global};
 use std::rc::RcStr;
+use wbinding::{RowCalls, RowLayout, build, build_elements, build_group_call, build_option};
 use wdistinct::{group_calls, window_calls};
 use wgroupby::{PlacedElement, group_columns, query_sets};
-use wplan::{CallOver, Expr, GroupCall, Grouping, Output, Selection, SettledKey, SettledWindow};
+use wplan::{CallOver, Expr, GroupCall, Grouping, Output, ResolvedKey, ResolvedWindow, Selection};
 use wquery::{Call, Key, Query};
 use wscope::{Scope, SourceColumn, WindowIndex};
-use wsettle::{RowCalls, RowLayout, build, build_elements, build_group_call, build_option};
 
 fn build_group_calls(
     alloc: Global,
@@ -86,11 +86,11 @@ fn build_order_key(
     layout: &RowLayout,
     shown: &[ShownOutput],
     key: &Key,
-) -> Result<SettledKey, AllocError>
+) -> Result<ResolvedKey, AllocError>
     ensures { IfOk result (λ k. key_plan k ≡ order_made (layout_of layout.now) (shown_items shown.now) (view_key key.now)) }
 {
     let value = build_shown(alloc, layout, &key_value(shown, &key.expression))?;
-    Ok(SettledKey {
+    Ok(ResolvedKey {
         value,
         order: sort_key(key.descending, key.nulls),
     })
@@ -101,7 +101,7 @@ fn build_order(
     layout: &RowLayout,
     shown: &[ShownOutput],
     order: &[Key],
-) -> Result<Vec<SettledKey>, AllocError>
+) -> Result<Vec<ResolvedKey>, AllocError>
     ensures { IfOk result (λ made. map key_plan made.items ≡ map (order_made (layout_of layout.now) (shown_items shown.now)) (map view_key order.now)) }
 {
     let mut made = Vec::with_capacity(alloc, order.len())?;
@@ -195,7 +195,7 @@ fn build_windows(
     layout: &RowLayout,
     entries: &WindowIndex,
     windowed: &[&Call],
-) -> Result<Vec<SettledWindow>, AllocError>
+) -> Result<Vec<ResolvedWindow>, AllocError>
     ensures { IfOk result (λ made. map window_plan made.items ≡ windows_made (layout_of layout.now) (windows_in entries.now) (call_trees windowed.now)) }
 {
     let mut windows = build_entries(alloc, layout, entries.entries.as_slice())?;
@@ -231,10 +231,10 @@ fn build_called(
     scope: &Scope,
     layout: &RowLayout,
     windowed: &[&Call],
-) -> Result<(Vec<SettledWindow>, Vec<CallOver>), AllocError>
-    requires { IsSettled scope.now }
-    ensures windows { IfOk result (λ made. map window_plan made.0.items ≡ windows_made (layout_of layout.now) (settled_entries [] (scope_clauses scope.now).windows) (call_trees windowed.now)) }
-    ensures calls { IfOk result (λ made. map call_plan made.1.items ≡ calls_made (layout_of layout.now) (settled_entries [] (scope_clauses scope.now).windows) (length (settled_entries [] (scope_clauses scope.now).windows)) (call_trees windowed.now)) }
+) -> Result<(Vec<ResolvedWindow>, Vec<CallOver>), AllocError>
+    requires { IsExpanded scope.now }
+    ensures windows { IfOk result (λ made. map window_plan made.0.items ≡ windows_made (layout_of layout.now) (expanded_entries [] (scope_clauses scope.now).windows) (call_trees windowed.now)) }
+    ensures calls { IfOk result (λ made. map call_plan made.1.items ≡ calls_made (layout_of layout.now) (expanded_entries [] (scope_clauses scope.now).windows) (length (expanded_entries [] (scope_clauses scope.now).windows)) (call_trees windowed.now)) }
 {
     let windows = build_windows(alloc, layout, &scope.windows, windowed)?;
     let calls = build_window_calls(alloc, layout, &scope.windows, windowed)?;
@@ -246,7 +246,7 @@ fn build_items(
     alloc: Global,
     scope: &Scope,
     layout: &RowLayout,
-) -> Result<(Vec<Output>, Vec<SettledKey>), AllocError>
+) -> Result<(Vec<Output>, Vec<ResolvedKey>), AllocError>
     ensures items { IfOk result (λ made. map output_plan made.0.items ≡ map (output_made (layout_of layout.now)) (items_written (scope_columns scope.now) (scope_clauses scope.now).items)) }
     ensures keys { IfOk result (λ made. map key_plan made.1.items ≡ map (order_made (layout_of layout.now) (items_written (scope_columns scope.now) (scope_clauses scope.now).items)) (scope_clauses scope.now).order) }
 {
@@ -265,7 +265,7 @@ fn build_selection(
     windowed: &[&Call],
     layout: &RowLayout,
 ) -> Result<Selection, AllocError>
-    requires { IsSettled scope.now }
+    requires { IsExpanded scope.now }
     ensures { IfOk result (λ s. select_plan s ≡ select_over (scope_columns scope.now) (map element_in elements.now) (call_trees grouped.now) (call_trees windowed.now) (layout_of layout.now) (scope_clauses scope.now)) }
 {
     let condition = build_condition(alloc, scope)?;
@@ -310,7 +310,7 @@ fn build_over(
     elements: &[PlacedElement],
     places: &[usize],
 ) -> Result<Selection, AllocError>
-    requires { IsSettled scope.now }
+    requires { IsExpanded scope.now }
     ensures { IfOk result (λ s. select_plan s ≡ select_over (scope_columns scope.now) (map element_in elements.now) (calls_in calls.now.grouped) (calls_in calls.now.windowed) (record { columns = scope_columns scope.now; grouping = if is_grouped_query (scope_clauses scope.now) (calls_in calls.now.grouped) then Some places.now else None; calls = row_calls calls.now }) (scope_clauses scope.now)) }
 {
     let grouped = calls.grouped.listed(alloc)?;
@@ -329,7 +329,7 @@ fn build_over(
 }
 
 fn build_with(alloc: Global, scope: &Scope, calls: &RowCalls) -> Result<Selection, AllocError>
-    requires { IsSettled scope.now }
+    requires { IsExpanded scope.now }
     ensures { IfOk result (λ s. select_plan s ≡ select_with (scope_columns scope.now) (scope_clauses scope.now) (calls_in calls.now.grouped) (calls_in calls.now.windowed)) }
 {
     let elements = build_elements(alloc, scope.columns, scope.query.grouping.as_slice())?;
@@ -340,7 +340,7 @@ fn build_with(alloc: Global, scope: &Scope, calls: &RowCalls) -> Result<Selectio
 
 /// The SELECT of a scope.
 pub(crate) fn build_select(alloc: Global, scope: &Scope) -> Result<Selection, AllocError>
-    requires { IsSettled scope.now }
+    requires { IsExpanded scope.now }
     ensures { IfOk result (λ s. select_plan s ≡ select_made (scope_columns scope.now) (scope_clauses scope.now)) }
 {
     let calls = RowCalls {

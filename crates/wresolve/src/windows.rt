@@ -5,20 +5,20 @@ ghost use Rattle.wquery.specs.Tree.{view_over, view_optional_over, reach_of, vie
 ghost use Rattle.wplan.specs.Formula.{formula};
 ghost use Rattle.wplan.specs.Plans.{key_plan, window_plan, call_plan};
 ghost use Rattle.wscope.specs.Earlier.{windows_in};
-ghost use Rattle.wscope.specs.Windows.{named_windows, settled_window};
+ghost use Rattle.wscope.specs.Windows.{named_windows, expanded_window};
 ghost use Rattle.wdistinct.specs.Calls.{call_trees};
-ghost use Rattle.wsettle.specs.Resolving.{layout_of, resolved};
-ghost use Rattle.wsettle.specs.Functions.{call_function as function_of_call};
+ghost use Rattle.wbinding.specs.Resolving.{layout_of, resolved};
+ghost use Rattle.wbinding.specs.Functions.{call_function as function_of_call};
 ghost use Rattle.wresolve.specs.Selecting.{nulls_first as stand_first, sort_key as sort_key_of, key_made, trees_made, keys_made, frame_made, or_no_others, window_made, entries_made, own_window, window_of_reach, place_of_reach, is_own_window as is_with_own, own_windows as windows_of_calls, window_place as place_of_window, place_over as place_of_call, has_own_window as is_with_window, calls_made};
 
 use std::alloc::{AllocError, Global};
-use wplan::{CallOver, Expr, SettledFrame, SettledKey, SettledWindow};
+use wbinding::{RowLayout, build, build_function, build_listed};
+use wplan::{CallOver, Expr, ResolvedFrame, ResolvedKey, ResolvedWindow};
 use wquery::{
     Call, Expression, Frame, FrameBound, FrameExclusion, FrameMode, Key, NullOrder, Over,
 };
 use wsame::frame_end;
 use wscope::{Earlier, FullEntry, FullWindow, WindowIndex};
-use wsettle::{RowLayout, build, build_function, build_listed};
 use wvalues::SortKey;
 
 fn nulls_first(descending: bool, nulls: Option<NullOrder>) -> bool
@@ -43,11 +43,11 @@ pub(crate) fn sort_key(descending: bool, nulls: Option<NullOrder>) -> SortKey
 }
 
 #[tactic(auto, unfolding(wquery::specs::Tree::view_key, wquery::specs::Tree::view))]
-fn build_key(alloc: Global, layout: &RowLayout, key: &Key) -> Result<SettledKey, AllocError>
+fn build_key(alloc: Global, layout: &RowLayout, key: &Key) -> Result<ResolvedKey, AllocError>
     ensures { IfOk result (λ k. key_plan k ≡ key_made (resolved (layout_of layout.now) (view_key key.now).expression) (view_key key.now).descending (view_key key.now).nulls) }
 {
     let value = build(alloc, layout, &key.expression)?;
-    Ok(SettledKey {
+    Ok(ResolvedKey {
         value,
         order: sort_key(key.descending, key.nulls),
     })
@@ -57,7 +57,7 @@ fn build_keys(
     alloc: Global,
     layout: &RowLayout,
     order: &[Key],
-) -> Result<Vec<SettledKey>, AllocError>
+) -> Result<Vec<ResolvedKey>, AllocError>
     ensures { IfOk result (λ made. map key_plan made.items ≡ keys_made (layout_of layout.now) (keys (view_keys order.now))) }
 {
     let mut made = Vec::with_capacity(alloc, order.len())?;
@@ -89,12 +89,12 @@ fn exclusion_or_none(exclusion: Option<FrameExclusion>) -> FrameExclusion
     }
 }
 
-fn frame_of(frame: &Frame) -> SettledFrame
+fn frame_of(frame: &Frame) -> ResolvedFrame
     ensures { result ≡ frame_made (Some frame.now) }
 {
     let start = frame.start;
     let end = frame_end(frame);
-    SettledFrame {
+    ResolvedFrame {
         mode: frame.mode,
         start,
         end,
@@ -103,11 +103,11 @@ fn frame_of(frame: &Frame) -> SettledFrame
 }
 
 // A frame clause with its defaults written out. Without one it is RANGE UNBOUNDED PRECEDING.
-fn settled_frame(window: &FullWindow) -> SettledFrame
-    ensures { result ≡ frame_made (settled_window window.now).frame }
+fn resolved_frame(window: &FullWindow) -> ResolvedFrame
+    ensures { result ≡ frame_made (expanded_window window.now).frame }
 {
     match window.frame {
-        None => SettledFrame {
+        None => ResolvedFrame {
             mode: FrameMode::Range,
             start: FrameBound::UnboundedPreceding,
             end: FrameBound::CurrentRow,
@@ -121,15 +121,15 @@ fn build_window(
     alloc: Global,
     layout: &RowLayout,
     window: &FullWindow,
-) -> Result<SettledWindow, AllocError>
-    ensures { IfOk result (λ w. window_plan w ≡ window_made (layout_of layout.now) (settled_window window.now)) }
+) -> Result<ResolvedWindow, AllocError>
+    ensures { IfOk result (λ w. window_plan w ≡ window_made (layout_of layout.now) (expanded_window window.now)) }
 {
     let partition = build_partition(alloc, layout, window.partition)?;
     let keys = build_keys(alloc, layout, window.order)?;
-    Ok(SettledWindow {
+    Ok(ResolvedWindow {
         partition,
         keys,
-        frame: settled_frame(window),
+        frame: resolved_frame(window),
     })
 }
 
@@ -138,7 +138,7 @@ pub(crate) fn build_entries(
     alloc: Global,
     layout: &RowLayout,
     entries: &[FullEntry],
-) -> Result<Vec<SettledWindow>, AllocError>
+) -> Result<Vec<ResolvedWindow>, AllocError>
     ensures { IfOk result (λ made. map window_plan made.items ≡ entries_made (layout_of layout.now) (named_windows entries.now)) }
 {
     let mut made = Vec::with_capacity(alloc, entries.len())?;
@@ -154,7 +154,7 @@ fn push_window_over(
     alloc: Global,
     layout: &RowLayout,
     entries: &WindowIndex,
-    windows: &mut Vec<SettledWindow>,
+    windows: &mut Vec<ResolvedWindow>,
     over: &Over,
 ) -> Result<(), AllocError>
     ensures { OnOk result (map window_plan windows.new.items ≡ map window_plan windows.old.items ++ window_of_reach (layout_of layout.now) (windows_in entries.now) (view_over over.now)) }
@@ -166,7 +166,7 @@ fn push_window_over(
                 index: entries,
                 before: None,
             };
-            let window = earlier.settled(window);
+            let window = earlier.expanded(window);
             let made = build_window(alloc, layout, &window)?;
             windows.push(made)?;
             Ok(())
@@ -178,7 +178,7 @@ fn push_optional_window(
     alloc: Global,
     layout: &RowLayout,
     entries: &WindowIndex,
-    windows: &mut Vec<SettledWindow>,
+    windows: &mut Vec<ResolvedWindow>,
     over: &Option<Over>,
 ) -> Result<(), AllocError>
     ensures { OnOk result (map window_plan windows.new.items ≡ map window_plan windows.old.items ++ window_of_reach (layout_of layout.now) (windows_in entries.now) (reach_of (view_optional_over over.now))) }
@@ -193,7 +193,7 @@ fn push_own_window(
     alloc: Global,
     layout: &RowLayout,
     entries: &WindowIndex,
-    windows: &mut Vec<SettledWindow>,
+    windows: &mut Vec<ResolvedWindow>,
     call: &Call,
 ) -> Result<(), AllocError>
     ensures { OnOk result (map window_plan windows.new.items ≡ map window_plan windows.old.items ++ own_window (layout_of layout.now) (windows_in entries.now) (view_call call.now)) }
@@ -206,7 +206,7 @@ pub(crate) fn push_own_windows(
     alloc: Global,
     layout: &RowLayout,
     entries: &WindowIndex,
-    windows: &mut Vec<SettledWindow>,
+    windows: &mut Vec<ResolvedWindow>,
     calls: &[&Call],
 ) -> Result<(), AllocError>
     ensures { OnOk result (map window_plan windows.new.items ≡ map window_plan windows.old.items ++ windows_of_calls (layout_of layout.now) (windows_in entries.now) (call_trees calls.now)) }

@@ -12,7 +12,7 @@ use Rattle.wrows.specs.Outcomes.{unless, ◌>>=◌}
 use Rattle.wrows.specs.Columns.{Row, is_out_of_range, lists_of}
 use Rattle.wrows.specs.Plain.{cut, ordered, ordered_of}
 use Rattle.wsort.proofs.KeyFacts.{by_no_key}
-use Rattle.wsort.proofs.PlaceFacts.{all_rows}
+use Rattle.wcodes.proofs.NumberFacts.{all_rows}
 use Rattle.wrows.proofs.RowFacts.{then_ok}
 
 none_refused : (rows : List Row) → list_any (λ row. list_any (λ t. is_out_of_range t row) []) rows ≡ false

@@ -17,7 +17,7 @@ use Rattle.wrows.specs.Columns.{Row, lists_of}
 use Rattle.wrows.specs.Plain.{at_most_limit, cut, numbers_by}
 use Rattle.wrows.specs.Picked.{asked_of, first_of}
 use Rattle.wrows.proofs.BesideFacts.{place_is}
-use Rattle.wsort.proofs.MoreSorting.{sorted_same}
+use Rattle.wcodes.proofs.MoreSorting.{sorted_same}
 use Rattle.wrows.proofs.PickFacts.{cut_below}
 use Rattle.wrows.proofs.RowFacts.{length-places, places_below}
 use Rattle.wrows.proofs.CutFacts.{cut_of_first, first_below, numbers_long}

@@ -4,7 +4,7 @@ mod AllFacts
 mod PickFacts
 mod CutFacts
 mod FirstFacts
-mod ToldFacts
-pub use Rattle.wsort.proofs.MoreSorting
+mod PresortedFacts
+pub use Rattle.wcodes.proofs.MoreSorting
 pub use Rattle.wsort.proofs.ChainFacts
 pub use Rattle.wsort.proofs.KeyFacts

@@ -22,7 +22,7 @@ use Rattle.wrows.specs.Laid.{formula_seen, formulas_seen, row_seen, rows_seen}
 use Rattle.wrows.specs.Plain.{cut, numbers_by, ordered, ordered_of}
 use Rattle.wrows.specs.Picked.{asked_of, picked, row_beside}
 use Rattle.wrows.proofs.BesideFacts.{place_is}
-use Rattle.wsort.proofs.PlaceFacts.{all_rows}
+use Rattle.wcodes.proofs.NumberFacts.{all_rows}
 use Rattle.wrows.proofs.RowFacts.{all_of_each, length-places, map-cut, map-map}
 
 pub answer_is : (columns : List (Bor (List Value))) (row number : ℕ) (column : Bor (List Value)) → number < length columns → column ≡ get_or columns number column → value_at (map meaning column.now) row ≡ value_at (map (λ column. value_at column row) (rows_seen columns)) number

@@ -14,7 +14,8 @@ use Rattle.wrows.specs.declared.fault.AnswerFault.{AnswerFault}
 use Rattle.wrows.specs.declared.fault.AnswerFault.TheVariants.{OutOfRange, TooManyRows, NoMemory}
 use Rattle.wrows.specs.Outcomes.{unless, Gives, ◌>>=◌}
 use Rattle.wrows.specs.Plain.{numbers_by, ordered, cut, at_most_limit}
-pub use Rattle.wsort.proofs.RowFacts.{map-map, places_more, length-laid, row_at, row_past, row_within, zero_length, row_wide, places_below, length-places}
+pub use Rattle.wcodes.proofs.NumberFacts.{map-map, places_more, places_below, length-places}
+pub use Rattle.wsort.proofs.RowFacts.{length-laid, row_at, row_past, row_within, zero_length, row_wide}
 
 pub any-map : {X Y : Type 0} (p : Y → Bool) (f : X → Y) (xs : List X) → list_any p (map f xs) ≡ list_any (λ x. p (f x)) xs
 any-map p f [] = refl

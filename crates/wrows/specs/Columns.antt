@@ -10,7 +10,7 @@ use Rattle.wplan.specs.Values.{value_of, value_in, truth_of, is_too_large, is_ye
 use Rattle.wrows.specs.declared.fault.AnswerFault.{AnswerFault}
 use Rattle.wrows.specs.declared.fault.AnswerFault.TheVariants.{OutOfRange, TooManyRows}
 use Rattle.wrows.specs.Outcomes.{unless}
-pub use Rattle.wsort.specs.Columns.{value_at}
+pub use Rattle.wcodes.specs.Columns.{value_at}
 
 -- a row of cells
 abbrev pub Row : Type 0

@@ -6,5 +6,5 @@ pub mod Plain
 pub mod Picked
 pub mod PlainColumns
 pub use Rattle.wsort.specs.LaidRows
-pub use Rattle.wsort.specs.CodedRows
+pub use Rattle.wcodes.specs.CodedRows
 pub use Rattle.wsort.specs.Dealt

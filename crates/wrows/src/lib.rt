@@ -2,8 +2,8 @@
 //!
 //! - Gives the rows that a condition keeps, the values of expressions on each row, the numbers of rows in the order of
 //!   keys, and the items of rows in that order, cut by OFFSET and LIMIT, also of rows with columns behind their cells. The
-//!   order may be told, and then nothing is sorted.
-//! - Promises: nothing is skipped, so a number that is out of range on any row refuses; ties are settled by number.
+//!   order may be presorted, and then nothing is sorted.
+//! - Promises: nothing is skipped, so a number that is out of range on any row refuses; ties are broken by number.
 //!   Where few rows are asked for, these alone are found. Items that are all plain columns are read behind the sort, of
 //!   the rows that are asked for. What lies far apart is read some rows at a time before it is copied.
 //! - Asks: an order for each key.
@@ -23,8 +23,8 @@ mod lent;
 mod listing;
 mod places;
 mod plain;
+mod presorted;
 mod rows;
-mod told;
 mod values;
 
 pub use cells::{Cells, gathered, push_row};
@@ -33,10 +33,9 @@ pub use lent::lent_rows;
 pub use listing::lists;
 pub use places::place_of;
 pub use plain::{Asked, joined_items, ordered_items};
+pub use presorted::presorted_items;
 pub use rows::{kept_rows, not_too_many};
-pub use told::told_items;
 pub use values::holds;
 pub use wsort::{
-    CodedOrder, numbers, order_by_codes, picked_codes, resorted_numbers, row_codes, slice_of,
-    sorted_numbers,
+    CodedOrder, numbers, order_by_codes, resorted_numbers, row_codes, slice_of, sorted_numbers,
 };

@@ -32,7 +32,7 @@ pub(crate) fn evaluated_lists(
 
 /// The values of several expressions on each row, with what the columns have for it behind its cells, laid out one row
 /// after another. `OutOfRange` where one is so on any row.
-pub(crate) fn told_lists(
+pub(crate) fn evaluated_beside(
     alloc: Global,
     exprs: &[&Expr],
     rows: &[&[Value]],
@@ -57,5 +57,5 @@ pub fn lists(alloc: Global, exprs: &[&Expr], rows: &[&[Value]]) -> Result<Vec<Va
     ensures gives { Gives (λ cells. laid (length exprs.now) (length rows.now) cells.items) result (lists_of (formulas_seen exprs.now) (rows_seen rows.now)) }
     ensures laid { IfOk result (λ cells. length cells.items ≡ length rows.now * length exprs.now) }
 {
-    told_lists(alloc, exprs, rows, &[])
+    evaluated_beside(alloc, exprs, rows, &[])
 }

@@ -9,8 +9,8 @@ ghost use Rattle.wrows.specs.Picked.{asked_of};
 use crate::cells::Cells;
 use crate::fault::AnswerFault;
 use crate::first::{MOST_SELECTED, first_by_keys};
-use crate::listing::told_lists;
-use crate::told::items_at;
+use crate::listing::evaluated_beside;
+use crate::presorted::items_at;
 use std::alloc::{AllocError, Global};
 use wplan::Expr;
 use wvalues::{SortKey, Value};
@@ -139,7 +139,7 @@ fn all_items(
     ensures width { IfOk result (λ cells. cells.width ≡ length items.now) }
     ensures rows { Gives rows_in result (lists_of (formulas_seen items.now) (beside (rows_seen rows.now) (rows_seen columns.now))) }
 {
-    let cells = told_lists(alloc, items, rows, columns)?;
+    let cells = evaluated_beside(alloc, items, rows, columns)?;
     Ok(Cells {
         cells,
         width: items.len(),

@@ -3,7 +3,7 @@
 ghost use Rattle.std.specs.Prelude.{◌≡◌, nat_lt};
 ghost use Rattle.wquery.specs.QueryTree.{view_query};
 ghost use Rattle.wscope.specs.Earlier.{windows_in};
-ghost use Rattle.wscope.specs.Scoped.{IsSettled, scope_clauses, scope_columns, scope_source};
+ghost use Rattle.wscope.specs.Scoped.{IsExpanded, scope_clauses, scope_columns, scope_source};
 ghost use Rattle.wrules.specs.Rules.{depth, depth_rule as rule_on_depth, first_of_names as first_on_names, first_of_windows as first_on_windows, least_broken, or_else as rule_or, sets_rule as rule_on_sets};
 
 use crate::rule::Rule;
@@ -56,7 +56,7 @@ fn first_of_names(scope: &Scope) -> Option<Rule>
 
 /// The first rule that is broken of those on windows, places and limits.
 fn first_of_windows(scope: &Scope) -> Option<Rule>
-    requires { IsSettled scope.now }
+    requires { IsExpanded scope.now }
     ensures { result ≡ first_on_windows (windows_in scope.now.windows) (scope_columns scope.now) (scope_clauses scope.now) }
 {
     if names_unknown_window(scope) {
@@ -91,7 +91,7 @@ fn first_of_windows(scope: &Scope) -> Option<Rule>
 
 /// The least rule that a SELECT breaks, its derived table and the number of its sets aside.
 fn least_rule(scope: &Scope) -> Option<Rule>
-    requires { IsSettled scope.now }
+    requires { IsExpanded scope.now }
     ensures { result ≡ least_broken scope.now.table.now scope.now.alias.now (scope_columns scope.now) (scope_clauses scope.now) (scope_source scope.now) }
 {
     match first_of_names(scope) {
@@ -123,7 +123,7 @@ fn sets_rule(query: &Query) -> Option<Rule>
 /// The least rule that a SELECT breaks, its derived table aside. The last rule but that on the number of its sets is given,
 /// where it is broken.
 pub fn broken_rule(scope: &Scope, last: Option<Rule>) -> Option<Rule>
-    requires { IsSettled scope.now }
+    requires { IsExpanded scope.now }
     ensures { result ≡ rule_or (least_broken scope.now.table.now scope.now.alias.now (scope_columns scope.now) (scope_clauses scope.now) (scope_source scope.now)) (rule_or last (rule_on_sets (view_query scope.now.query.now))) }
 {
     or_else(least_rule(scope), or_else(last, sets_rule(scope.query)))

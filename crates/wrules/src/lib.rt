@@ -4,7 +4,7 @@
 //! - Promises: the rule that is answered is the least one that is broken, the number of sets last. The least rule of a whole
 //!   query is a definition: a derived table is judged first; of the outermost query the depth of derived tables comes behind
 //!   all rules but that on the number of sets.
-//! - Asks of a scope that it is settled, as each one is that is made. No memory is asked for.
+//! - Asks of a scope that it is expanded, as each one is that is made. No memory is asked for.
 //! - Leaves each rule to `wnames`, `wwindows` and `wgroupby`, what names stand for to `wscope`, and the way through derived
 //!   tables and the form that execution reads to `wresolve`.
 //!

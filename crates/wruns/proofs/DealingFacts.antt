@@ -18,7 +18,7 @@ use Rattle.wframe.specs.Places.{places_from, places}
 use Rattle.wframe.specs.Sorting.{sorted}
 use Rattle.wframe.proofs.SortFacts.{all_sorted, filter_sorted, length_sorted}
 use Rattle.wsort.specs.Dealt.{dealt_by, put_in}
-use Rattle.wsort.proofs.RowFacts.{length-places}
+use Rattle.wcodes.proofs.NumberFacts.{length-places}
 use Rattle.wruns.specs.Runs.{joined, keys_at, row_keys, run_of, RunParts}
 use Rattle.wruns.specs.Lists.{ref}
 use Rattle.wruns.specs.Refs.{rows_at, ref_cmp, pieces_from, refs, refs_by}

@@ -15,8 +15,8 @@ use Rattle.wvalues.specs.Order.{keys_cmp}
 use Rattle.wvalues.specs.OrderLaws.{keys_total}
 use Rattle.wframe.specs.Places.{places_from, places}
 use Rattle.wframe.specs.Sorting.{sorted, first_or}
-use Rattle.wsort.proofs.MoreSorting.{sorted_map, sorted_same}
-use Rattle.wsort.proofs.RowFacts.{places_below}
+use Rattle.wcodes.proofs.MoreSorting.{sorted_map, sorted_same}
+use Rattle.wcodes.proofs.NumberFacts.{places_below}
 use Rattle.wruns.specs.Runs.{joined, keys_at, row_keys, run_of, IsGroup}
 use Rattle.wruns.specs.Lists.{ref, run_refs}
 use Rattle.wruns.specs.Refs.{number_cmp, rows_at, ref_cmp, ref_keys, refs, refs_by, pieces_from}

@@ -19,7 +19,7 @@ use Rattle.wruns.specs.Lists.{ref}
 use Rattle.wruns.specs.Refs.{number_cmp, rows_at, ref_keys, pieces_from, refs, refs_by}
 use Rattle.wruns.specs.Orderings.{number_of, kept_before, kept_numbers}
 use Rattle.wruns.specs.declared.refs.RowRef.{RowRef}
-use Rattle.wsort.proofs.MoreSorting.{sorted_map, sorted_same}
+use Rattle.wcodes.proofs.MoreSorting.{sorted_map, sorted_same}
 use Rattle.wruns.proofs.OneList.{sorted_then, Rises}
 use Rattle.wruns.proofs.RefFacts.{later}
 

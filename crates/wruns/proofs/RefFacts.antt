@@ -22,7 +22,7 @@ use Rattle.wruns.specs.Refs.{number_cmp, rows_at, ref_keys, ref_cmp, pieces_from
 use Rattle.wruns.specs.Merging.{rows_seen, has_keys, comes_first, lists_from}
 use Rattle.wruns.specs.declared.refs.RowRef.{RowRef}
 use Rattle.wruns.specs.declared.segment_run.SegmentRun.{SegmentRun}
-use Rattle.wsort.proofs.MoreSorting.{sorted_map}
+use Rattle.wcodes.proofs.MoreSorting.{sorted_map}
 use Rattle.wruns.proofs.OneList.{one_sorted, sorted_by_up, sorted_pieces, sorted_then, Rises}
 
 number_total : IsTotalOrder number_cmp

@@ -9,8 +9,8 @@ use Rattle.std.proofs.lemmas.List.Elements.{All-append, All-cons, All-nil, All-s
 use Rattle.wvalues.specs.declared.key.SortKey.{SortKey}
 use Rattle.wvalues.specs.Meaning.{Meaning, Null}
 use Rattle.wvalues.specs.OrderLaws.{tie_is_same}
-use Rattle.wsort.specs.Columns.{value_at}
-use Rattle.wsort.specs.CodedRows.{code_at, key_column, key_of, AreCodes}
+use Rattle.wcodes.specs.Columns.{value_at}
+use Rattle.wcodes.specs.CodedRows.{code_at, key_column, key_of, AreCodes}
 use Rattle.wruns.specs.Grouping.{HaveOneCode, TellShared}
 use Rattle.wruns.proofs.TableFacts.{length-column}
 

@@ -3,7 +3,7 @@ use Rattle.std.specs.Prelude.{◌≡◌, ◌+◌, ◌<◌, ◌≤◌, ℕ, List,
 use Rattle.std.specs.Global.{Global}
 use Rattle.wvalues.specs.declared.key.SortKey.{SortKey}
 use Rattle.wvalues.specs.Meaning.{Meaning}
-use Rattle.wsort.specs.CodedRows.{code_at}
+use Rattle.wcodes.specs.CodedRows.{code_at}
 use Rattle.wruns.specs.Cuts.{cut, AreEnds}
 use Rattle.wruns.specs.Runs.{keys_at, IsGroup}
 

@@ -2,7 +2,7 @@
 ghost use Rattle.std.specs.Prelude.{◌≡◌, ◌+◌, ◌++◌, ◌<◌, ◌^◌, [], All, IfOk, OnOk, length, map, slice_index_or, take};
 ghost use Rattle.wvalues.specs.Meaning.{meaning, Null};
 ghost use Rattle.wframe.specs.Places.{places};
-ghost use Rattle.wsort.specs.CodedRows.{key_column, values_seen};
+ghost use Rattle.wcodes.specs.CodedRows.{key_column, values_seen};
 ghost use Rattle.wsort.specs.Dealt.{put_in};
 ghost use Rattle.wruns.specs.Dealing.{dealt_places, lists_seen, ref_at, segment_rows, AreRunsOf, IsRunBy};
 ghost use Rattle.wruns.specs.Grouping.{TellShared};

@@ -2,7 +2,7 @@
 ghost use Rattle.std.specs.Prelude.{◌≡◌, ◌<◌, ◌≤◌, ◌^◌, ◌+◌, [], ◌∷◌, true, All, IfOk, length, map, slice_index_or};
 ghost use Rattle.wvalues.specs.Meaning.{meaning, Null};
 ghost use Rattle.wruns.specs.Cuts.{between, cut, pieces_of, start_of, AreEnds, AreEndsOf};
-ghost use Rattle.wsort.specs.CodedRows.{code_at};
+ghost use Rattle.wcodes.specs.CodedRows.{code_at};
 ghost use Rattle.wruns.specs.Grouping.{AreGrouped, HaveOneCode, TellSharedFrom};
 ghost use Rattle.wruns.specs.Runs.{joined, keys_at, run_of, IsGroup, IsRunOf};
 
@@ -46,21 +46,12 @@ fn start_of(ends: &[u32], group: usize) -> usize
     }
 }
 
-// What stands from one place up to another.
-fn between(rows: &[u32], from: usize, to: usize) -> &[u32]
-    requires order { from ≤ to }
-    requires within { to ≤ length rows.now }
-    ensures { result.now ≡ between from to rows.now }
-{
-    &rows[from..to]
-}
-
 // A row alone.
 fn single(rows: &[u32], number: usize) -> &[u32]
     requires { number < length rows.now }
     ensures { result.now ≡ slice_index_or (map (λ x. x ∷ []) rows.now) number [] }
 {
-    between(rows, number, number + 1)
+    &rows[number..number + 1]
 }
 
 // The piece of a number, of rows that are cut at these ends.
@@ -69,7 +60,7 @@ fn piece<'a>(rows: &'a [u32], ends: &[u32], number: usize) -> &'a [u32]
     requires number { number < length ends.now }
     ensures { result.now ≡ slice_index_or (cut 0 ends.now rows.now) number [] }
 {
-    between(rows, start_of(ends, number), ends[number] as usize)
+    &rows[start_of(ends, number)..ends[number] as usize]
 }
 
 impl Run {
@@ -145,22 +136,11 @@ fn narrowed(alloc: Global, order: &[usize]) -> Result<Vec<u32>, AllocError>
     Ok(rows)
 }
 
-// The code of a number, 0 where it has none.
-fn code_of(codes: &[u32], number: usize) -> u32
-    ensures { result ≡ code_at codes.now number }
-{
-    if number < codes.len() {
-        codes[number]
-    } else {
-        0
-    }
-}
-
-// Whether two numbers have one code.
+// Whether two numbers have one code, or none.
 fn have_one_code(codes: &[u32], a: usize, b: usize) -> bool
     ensures { result ≡ true → code_at codes.now a ≡ code_at codes.now b }
 {
-    code_of(codes, a) == code_of(codes, b)
+    codes.get(a) == codes.get(b)
 }
 
 // Whether two numbers have one code in each list.

@@ -1,5 +1,5 @@
 -- Nodes that stand side by side, and what is below a node.
-use Rattle.std.proofs.Common.{◌≡◌, ◌++◌, ◌+◌, List, [], ◌∷◌, refl, ap, sym, ◌∙◌, append_assoc, add_assoc, arith}
+use Rattle.std.proofs.Common.{◌≡◌, ◌++◌, List, [], ◌∷◌, refl, ap, sym, ◌∙◌, append_assoc, add_assoc, arith}
 use Rattle.std.proofs.lemmas.List.{append-nil}
 use Rattle.wquery.specs.declared.expression.Call.{Call}
 use Rattle.wquery.specs.Tree.{Tree, Links, NoLinks, Further, Branch, Reach, linked, view_call, view_arguments, view_optional, view_optional_over, filter_of, reach_of}

@@ -16,8 +16,8 @@ use Rattle.wquery.specs.declared.expression.Key.{Key}
 use Rattle.wquery.specs.Tree.{Keys, Trees, WindowTree, keys, trees, view_keys, view_window}
 use Rattle.wscope.specs.declared.full_window.FullEntry.{FullEntry}
 use Rattle.wscope.specs.declared.full_window.FullWindow.{FullWindow}
-use Rattle.wscope.specs.Windows.{NamedWindow, Settled, keys_or, named_window, named_windows, settle, settle_tree, settled_window, window_named}
-use Rattle.wscope.specs.Indexes.{ArePlaces, copied_from, further, over, place_of, settled_over, up_to}
+use Rattle.wscope.specs.Windows.{NamedWindow, Expanded, keys_or, named_window, named_windows, expand, expand_tree, expanded_window, window_named}
+use Rattle.wscope.specs.Indexes.{ArePlaces, copied_from, further, over, place_of, expanded_over, up_to}
 
 some_is : (p q : ℕ) → Some p ≡ Some q → p ≡ q
 some_is p q e = ap (λ (o : Option ℕ). by o) e
@@ -48,16 +48,16 @@ if_false : {X : Type 0} (b : Bool) (x y : X) → b ≡ false → (if b then x el
 if_false true x y e = cc
 if_false false x y e = refl
 
-pub found_there : (name : List ℕ) (es : List FullEntry) (p : ℕ) (e : FullEntry) → place_of name (named_windows es) ≡ Some p → e ≡ get_or es p e → window_named (named_windows es) name ≡ Some (settled_window e.window)
+pub found_there : (name : List ℕ) (es : List FullEntry) (p : ℕ) (e : FullEntry) → place_of name (named_windows es) ≡ Some p → e ≡ get_or es p e → window_named (named_windows es) name ≡ Some (expanded_window e.window)
 found_there name [] p e ep ee = cc
 found_there name (x ∷ xs) p e ep ee = by (here_or_behind (bytes_eq (named_window x).name name) (place_of name (named_windows xs)) p ep) (λ k ek ex. found_there name xs k e ek ex)
   where
-    by : ((bytes_eq (named_window x).name name ≡ true) × (0 ≡ p)) ⊎ ((bytes_eq (named_window x).name name ≡ false) × ((k : ℕ) × (place_of name (named_windows xs) ≡ Some k) × (suc k ≡ p))) → ((k : ℕ) → place_of name (named_windows xs) ≡ Some k → e ≡ get_or xs k e → window_named (named_windows xs) name ≡ Some (settled_window e.window)) → window_named (named_windows (x ∷ xs)) name ≡ Some (settled_window e.window)
+    by : ((bytes_eq (named_window x).name name ≡ true) × (0 ≡ p)) ⊎ ((bytes_eq (named_window x).name name ≡ false) × ((k : ℕ) × (place_of name (named_windows xs) ≡ Some k) × (suc k ≡ p))) → ((k : ℕ) → place_of name (named_windows xs) ≡ Some k → e ≡ get_or xs k e → window_named (named_windows xs) name ≡ Some (expanded_window e.window)) → window_named (named_windows (x ∷ xs)) name ≡ Some (expanded_window e.window)
     by (inl (b, z)) below =
-        if_true (bytes_eq (named_window x).name name) (Some (settled_window x.window)) (window_named (named_windows xs) name) b
-        ∙ ap (λ (y : FullEntry). Some (settled_window y.window)) (sym (ee ∙ ap (λ (n : ℕ). get_or (x ∷ xs) n e) (sym z)))
+        if_true (bytes_eq (named_window x).name name) (Some (expanded_window x.window)) (window_named (named_windows xs) name) b
+        ∙ ap (λ (y : FullEntry). Some (expanded_window y.window)) (sym (ee ∙ ap (λ (n : ℕ). get_or (x ∷ xs) n e) (sym z)))
     by (inr (b, (k, ek, sk))) below =
-        if_false (bytes_eq (named_window x).name name) (Some (settled_window x.window)) (window_named (named_windows xs) name) b
+        if_false (bytes_eq (named_window x).name name) (Some (expanded_window x.window)) (window_named (named_windows xs) name) b
         ∙ below k ek (ee ∙ ap (λ (n : ℕ). get_or (x ∷ xs) n e) (sym sk))
 
 none_there : (name : List ℕ) (ws : List NamedWindow) → place_of name ws ≡ None → window_named ws name ≡ None
@@ -83,7 +83,7 @@ early name (w ∷ ws) p (suc n) e h = by (here_or_behind (bytes_eq w.name name) 
     by (inl (b, z)) front = if_true (bytes_eq w.name name) (Some w.window) (window_named (take n ws) name) b ∙ sym (if_true (bytes_eq w.name name) (Some w.window) (window_named ws name) b)
     by (inr (b, (k, ek, sk))) front =
         let below : k < n = omega (arith, h, sk) in
-        ap (λ (o : Option Settled). if bytes_eq w.name name then Some w.window else o) (front k ek below)
+        ap (λ (o : Option Expanded). if bytes_eq w.name name then Some w.window else o) (front k ek below)
 
 pub late : (name : List ℕ) (ws : List NamedWindow) (p n : ℕ) → place_of name ws ≡ Some p → n ≤ p → window_named (take n ws) name ≡ None
 late name [] p n e h = cc
@@ -152,13 +152,13 @@ place_goes old new key ws w n ek en absent u h name =
     ∙ ap (λ (m : ℕ). cond (bytes_eq w.name name) (Some m) (place_of name ws)) en
     ∙ goes (place_of name ws) (bytes_eq w.name name) (length ws) other ∙ sym (place_behind name ws w)
 
-over_is : (ws : List NamedWindow) (copied : Option (List ℕ)) (partition : Trees) (order : Keys) (frame : Option Frame) → over (copied_from ws copied) copied partition order frame ≡ settle ws copied partition order frame
+over_is : (ws : List NamedWindow) (copied : Option (List ℕ)) (partition : Trees) (order : Keys) (frame : Option Frame) → over (copied_from ws copied) copied partition order frame ≡ expand ws copied partition order frame
 over_is ws None partition order frame = refl
 over_is ws (Some name) partition order frame = refl
 
--- a window is settled over the one that its name finds
-pub settled_is : (ws : List NamedWindow) (found : Option Settled) (w : WindowTree) → found ≡ copied_from ws w.copied → settled_over found w ≡ settle_tree ws w
-settled_is ws found w e = ap (λ (o : Option Settled). settled_over o w) e ∙ over_is ws w.copied (trees w.partition) (keys w.order) w.frame
+-- a window is expanded over the one that its name finds
+pub expanded_is : (ws : List NamedWindow) (found : Option Expanded) (w : WindowTree) → found ≡ copied_from ws w.copied → expanded_over found w ≡ expand_tree ws w
+expanded_is ws found w e = ap (λ (o : Option Expanded). expanded_over o w) e ∙ over_is ws w.copied (trees w.partition) (keys w.order) w.frame
 
 pub none_seen : (before : Option ℕ) (name : List ℕ) (ws : List NamedWindow) → place_of name ws ≡ None → window_named (up_to before ws) name ≡ None
 none_seen None name ws e = none_there name ws e
@@ -168,7 +168,7 @@ pub own_keys : (own copied : List Key) → (length own == 0) ≡ false → keys 
 own_keys [] copied e = cc
 own_keys (k ∷ ks) copied e = refl
 
--- an entry with its window settled
-pub entry_is_settled : (e : WindowEntry) (name : Bor (List ℕ)) (window : FullWindow) (ws : List NamedWindow) → name.now ≡ rc_str_bytes e.name → settled_window window ≡ settle_tree ws (view_window e.window) → named_window (record { name = name; window = window }) ≡ record { name = (view_entry e).name; window = settle_tree ws (view_entry e).window }
-entry_is_settled e name window ws en ew =
-    ap (λ (n : List ℕ). record { name = n; window = settled_window window }) en ∙ ap (λ (w : Settled). record { name = rc_str_bytes e.name; window = w }) ew
+-- an entry with its window expanded
+pub entry_is_expanded : (e : WindowEntry) (name : Bor (List ℕ)) (window : FullWindow) (ws : List NamedWindow) → name.now ≡ rc_str_bytes e.name → expanded_window window ≡ expand_tree ws (view_window e.window) → named_window (record { name = name; window = window }) ≡ record { name = (view_entry e).name; window = expand_tree ws (view_entry e).window }
+entry_is_expanded e name window ws en ew =
+    ap (λ (n : List ℕ). record { name = n; window = expanded_window window }) en ∙ ap (λ (w : Expanded). record { name = rc_str_bytes e.name; window = w }) ew

@@ -7,7 +7,7 @@ use Rattle.std.specs.declared.alloc.Global.{Global}
 use Rattle.std.specs.declared.string.String.{String}
 use Rattle.wquery.specs.declared.frame.Frame.{Frame}
 use Rattle.wquery.specs.Tree.{Keys, Trees, WindowTree, keys, trees}
-use Rattle.wscope.specs.Windows.{NamedWindow, Settled, keys_or, or_none, window_named}
+use Rattle.wscope.specs.Windows.{NamedWindow, Expanded, keys_or, or_none, window_named}
 
 -- one place further
 abbrev pub further : Option ℕ → Option ℕ
@@ -42,14 +42,14 @@ up_to None ws = ws
 up_to (Some n) ws = take n ws
 
 -- the window that is copied, if one is named
-abbrev pub copied_from : List NamedWindow → Option (List ℕ) → Option Settled
+abbrev pub copied_from : List NamedWindow → Option (List ℕ) → Option Expanded
 copied_from ws None = None
 copied_from ws (Some name) = window_named ws name
 
 -- a window over the one that was found for the name that it copies
-abbrev pub over : Option Settled → Option (List ℕ) → Trees → Keys → Option Frame → Settled
+abbrev pub over : Option Expanded → Option (List ℕ) → Trees → Keys → Option Frame → Expanded
 over found None partition order frame = record { partition = partition; order = order; frame = frame }
 over found (Some name) partition order frame = record { partition = (or_none found).partition; order = keys_or order (or_none found).order; frame = frame }
 
-abbrev pub settled_over : Option Settled → WindowTree → Settled
-settled_over found w = over found w.copied (trees w.partition) (keys w.order) w.frame
+abbrev pub expanded_over : Option Expanded → WindowTree → Expanded
+expanded_over found w = over found w.copied (trees w.partition) (keys w.order) w.frame

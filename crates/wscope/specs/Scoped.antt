@@ -6,7 +6,7 @@ use Rattle.wscope.specs.Clauses.{clauses_in}
 use Rattle.wscope.specs.Earlier.{windows_in}
 use Rattle.wscope.specs.Sources.{all_titled}
 use Rattle.wscope.specs.Types.{Titled}
-use Rattle.wscope.specs.Windows.{settle_all}
+use Rattle.wscope.specs.Windows.{expand_all}
 
 -- the columns of the source
 abbrev pub scope_columns : Scope → List Titled
@@ -21,5 +21,5 @@ abbrev pub scope_source : Scope → SourceTree
 scope_source s = view_source s.query.now.source
 
 -- the windows that were found are the WINDOW entries of the SELECT, each with what it copies from those before it
-abbrev pub IsSettled : Scope → Type 0
-IsSettled s = windows_in s.windows ≡ settle_all [] (scope_clauses s).windows
+abbrev pub IsExpanded : Scope → Type 0
+IsExpanded s = windows_in s.windows ≡ expand_all [] (scope_clauses s).windows

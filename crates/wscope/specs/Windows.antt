@@ -10,7 +10,7 @@ use Rattle.wscope.specs.declared.full_window.FullEntry.{FullEntry}
 use Rattle.wscope.specs.declared.full_window.FullWindow.{FullWindow}
 
 -- a window with the partitioning and ordering that it copies
-pub record Settled : Type 0 where
+pub record Expanded : Type 0 where
   pub partition : Trees
   pub order : Keys
   pub frame : Option Frame
@@ -18,18 +18,18 @@ pub record Settled : Type 0 where
 -- a WINDOW entry with what it copies
 pub record NamedWindow : Type 0 where
   pub name : List ℕ
-  pub window : Settled
+  pub window : Expanded
 
 -- the first window of this name
-abbrev pub window_named : List NamedWindow → List ℕ → Option Settled
+abbrev pub window_named : List NamedWindow → List ℕ → Option Expanded
 window_named [] name = None
 window_named (w ∷ ws) name = if bytes_eq w.name name then Some w.window else window_named ws name
 
 -- the window of nothing
-abbrev pub empty_window : Settled
+abbrev pub empty_window : Expanded
 empty_window = record { partition = NoTrees; order = NoKeys; frame = None }
 
-abbrev pub or_none : Option Settled → Settled
+abbrev pub or_none : Option Expanded → Expanded
 or_none None = empty_window
 or_none (Some w) = w
 
@@ -39,20 +39,20 @@ keys_or NoKeys copied = copied
 keys_or (MoreKeys t descending nulls more) copied = MoreKeys t descending nulls more
 
 -- a window as it is where it names none, else with what it copies
-abbrev pub settle : List NamedWindow → Option (List ℕ) → Trees → Keys → Option Frame → Settled
-settle earlier None partition order frame = record { partition = partition; order = order; frame = frame }
-settle earlier (Some name) partition order frame =
+abbrev pub expand : List NamedWindow → Option (List ℕ) → Trees → Keys → Option Frame → Expanded
+expand earlier None partition order frame = record { partition = partition; order = order; frame = frame }
+expand earlier (Some name) partition order frame =
     record { partition = (or_none (window_named earlier name)).partition; order = keys_or order (or_none (window_named earlier name)).order; frame = frame }
 
 -- the same of a window that was written
-abbrev pub settle_tree : List NamedWindow → WindowTree → Settled
-settle_tree earlier w = settle earlier w.copied (trees w.partition) (keys w.order) w.frame
+abbrev pub expand_tree : List NamedWindow → WindowTree → Expanded
+expand_tree earlier w = expand earlier w.copied (trees w.partition) (keys w.order) w.frame
 
 -- the WINDOW entries with what they copy from the entries before them
-abbrev pub settle_all : List NamedWindow → List EntryTree → List NamedWindow
-settle_all earlier [] = earlier
-settle_all earlier (e ∷ es) =
-    settle_all (earlier ++ (record { name = e.name; window = settle_tree earlier e.window } ∷ [])) es
+abbrev pub expand_all : List NamedWindow → List EntryTree → List NamedWindow
+expand_all earlier [] = earlier
+expand_all earlier (e ∷ es) =
+    expand_all (earlier ++ (record { name = e.name; window = expand_tree earlier e.window } ∷ [])) es
 
 -- a frame clause in memory, if there is one
 abbrev pub lent_frame : Option (Bor Frame) → Option Frame
@@ -60,15 +60,15 @@ lent_frame None = None
 lent_frame (Some f) = Some f.now
 
 -- a window in memory, with what it copies
-abbrev pub settled_window : FullWindow → Settled
-settled_window w = record { partition = trees (views w.partition.now); order = keys (view_keys w.order.now); frame = lent_frame w.frame }
+abbrev pub expanded_window : FullWindow → Expanded
+expanded_window w = record { partition = trees (views w.partition.now); order = keys (view_keys w.order.now); frame = lent_frame w.frame }
 
 abbrev pub named_window : FullEntry → NamedWindow
-named_window e = record { name = e.name.now; window = settled_window e.window }
+named_window e = record { name = e.name.now; window = expanded_window e.window }
 
 abbrev pub named_windows : List FullEntry → List NamedWindow
 named_windows es = map named_window es
 
-abbrev pub optional_window : Option FullWindow → Option Settled
+abbrev pub optional_window : Option FullWindow → Option Expanded
 optional_window None = None
-optional_window (Some w) = Some (settled_window w)
+optional_window (Some w) = Some (expanded_window w)

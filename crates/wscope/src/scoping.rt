@@ -9,7 +9,7 @@ ghost use Rattle.wquery.specs.Tree.{view, view_optional, view_key};
 ghost use Rattle.wscope.specs.Scope.{some_item, some_option, some_entry, some_sort, some_shown, some_anywhere, item_has_name, is_output as stands_for_item};
 ghost use Rattle.wscope.specs.Called.{has_unlike, names};
 ghost use Rattle.wscope.specs.Outputs.{is_told};
-ghost use Rattle.wscope.specs.Scoped.{IsSettled, scope_clauses, scope_columns};
+ghost use Rattle.wscope.specs.Scoped.{IsExpanded, scope_clauses, scope_columns};
 
 use crate::called::Called;
 use crate::grouping::{column_names, grouped_columns};
@@ -43,7 +43,7 @@ impl<'a> Scope<'a> {
         ensures alias { IfOk result (λ made. made.alias.now ≡ alias.now) }
         ensures columns { IfOk result (λ made. made.columns.now ≡ columns.now) }
         ensures query { IfOk result (λ made. made.query.now ≡ query.now) }
-        ensures settled { IfOk result IsSettled }
+        ensures expanded { IfOk result IsExpanded }
     {
         let outputs = output_index(alloc, columns, query.items.as_slice())?;
         let grouped = grouped_columns(alloc, query.grouping.as_slice())?;

@@ -6,9 +6,11 @@ use Rattle.std.proofs.lemmas.List.Folds.{list_any-append}
 use Rattle.std.specs.Cmp.Lexicographic.{nat_list_eq_equiv}
 use Rattle.std.specs.FinMap.{find, get, keys, get-from_entries, contains_key-keys, same_map}
 use Rattle.wvalues.specs.Names.{NameParts, name_cmp, names_total}
-use Rattle.wset.specs.Views.{Known, Live, Disputed, Retired, Floor, View, is_below, same_name, same_bytes, view_telling, join_known, join_told, join_names, join}
+use Rattle.wentries.specs.Knowledge.{Known, Live, Disputed, Retired, Floor, same_name, same_bytes, join_known}
+use Rattle.wset.specs.Views.{View, is_below, view_telling, join_told, join_names, join}
 use Rattle.wset.specs.Laws.{JoinLaws}
-use Rattle.wset.proofs.Floors.{exact_names, same_name-true, same_bytes-true, same_bytes-refl, same_test, top_floor, below_floor, get-settled, below-settled, settled-settled}
+use Rattle.wentries.proofs.Floors.{exact_names, same_name-true, same_bytes-true, same_bytes-refl, same_some}
+use Rattle.wset.proofs.ViewFloors.{same_test, top_floor, below_floor, get-settled, below-settled, settled-settled}
 
 pub same_bytes-symm : (a b : List ℕ) → same_bytes a b ≡ same_bytes b a
 same_bytes-symm a b = nat_list_eq_equiv.symm a b
@@ -56,12 +58,6 @@ live_assoc a b c = by_tests (same_bytes a b) (same_bytes b c) refl refl
         rw (e, f) (rw ends refl)
     by_tests false true e f = rw (e, f) (rw e refl)
     by_tests false false e f = rw (e, f) refl
-
-pub retired_last : (k : Known) → (k ≡ Floor → ⊥) → join_known k Retired ≡ Retired
-retired_last Floor h = absurd (h refl)
-retired_last Retired h = refl
-retired_last Disputed h = refl
-retired_last (Live b) h = refl
 
 -- two contents give one of them, or a dispute
 either_retired : (b : Bool) (a : List ℕ) → join_known (cond b (Live a) Disputed) Retired ≡ Retired
@@ -152,9 +148,6 @@ known_floor Disputed (Live b) e = absurd cc
 known_floor (Live a) Retired e = absurd cc
 known_floor (Live a) Disputed e = absurd cc
 known_floor (Live a) (Live b) e = absurd (live_no_floor a b (same_bytes a b) e)
-
-same_some : (x y : Known) → Some x ≡ Some y → x ≡ y
-same_some x y e = cc
 
 -- a floor that two know together is known to one of them
 told_floor : (i j : Option Known) → join_told i j ≡ Some Floor → (i ≡ Some Floor) ⊎ (j ≡ Some Floor)

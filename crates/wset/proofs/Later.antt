@@ -1,19 +1,20 @@
 -- A name behind all that are known: what it adds to the entries.
-use Rattle.std.proofs.Common.{◌≡◌, ℕ, zero, suc, cond, T, List, [], ◌∷◌, ◌++◌, length, slice_get, None, Some, refl, sym, ap, ◌∙◌, arith, is_eq}
-use Rattle.std.proofs.Common.{Bool, true, false, ◌||◌}
+use Rattle.std.proofs.Common.{◌≡◌, ℕ, cond, List, [], ◌∷◌, ◌++◌, None, Some, refl, sym, ap, ◌∙◌, is_eq, Bool, true, false, ◌||◌}
 use Rattle.std.proofs.lemmas.Bool.{and_parts, or_right}
 use Rattle.std.proofs.lemmas.Cmp.{tied_itself}
 use Rattle.std.specs.Ordering.{nat_cmp, ordering_then}
 use Rattle.std.specs.Cmp.Lexicographic.{slice_cmp, nat_list_cmp_total}
 use Rattle.std.specs.declared.cmp.Ordering.TheVariants.{Less, Equal, Greater}
 use Rattle.std.specs.FinMap.Entries.{by_order}
-use Rattle.std.specs.FinMap.{get, insert, entries, put, find, is_sorted, get-entries, get-insert, entries-insert, entries_sorted}
+use Rattle.std.specs.FinMap.{get, insert, entries, put, find, get-entries, get-insert, entries-insert}
 use Rattle.wvalues.specs.Names.{NameParts, name_cmp, names_total}
-use Rattle.wset.specs.Views.{Known, Live, Disputed, Retired, Floor, View, IsSettled, is_above, is_below, join, join_told, same_bytes, same_name}
+use Rattle.wentries.specs.Knowledge.{Known, Live, Disputed, Retired, Floor, is_above, same_bytes, same_name}
+use Rattle.wset.specs.Views.{View, IsSettled, is_below, join, join_told}
 use Rattle.wset.specs.Items.{SegmentItem, RetirementItem, FloorItem, view_of_item}
-use Rattle.wset.specs.Lending.{AreBelow, AreOriginsBelow, IsAbove, IsBehindOrigins, only_disputed}
-use Rattle.wset.proofs.Finding.{first, second, less, turned}
-use Rattle.wset.proofs.Floors.{both_cases, same_name-true, same_bytes-true}
+use Rattle.wentries.specs.Entries.{AreBelow, AreOriginsBelow}
+use Rattle.wset.specs.Lending.{IsAbove, IsBehindOrigins, only_disputed}
+use Rattle.wentries.proofs.Floors.{both_cases, same_name-true, same_bytes-true}
+use Rattle.wentries.proofs.Finding.{turned}
 use Rattle.wset.proofs.Joining.{same_view, with_floor}
 use Rattle.wset.proofs.Settling.{not_low}
 use Rattle.wset.proofs.Singles.{joined_floor, not_above, told_nothing, take_new, retire_other, dispute_new}
@@ -86,34 +87,3 @@ floor_inserted v n s h = same_view _ _ (λ q. get-insert names_total v n Floor q
 
 pub floor_later : (v : View) (n : NameParts) → IsSettled v → IsBehindOrigins v n → entries (join v (view_of_item (FloorItem n))) ≡ entries v ++ (n, Floor) ∷ []
 floor_later v n s h = ap entries (sym (floor_inserted v n s h)) ∙ inserted v n Floor (above_all v n h)
-
--- ---- by the last name alone
-
-same_first : (e : NameParts × Known) (l : NameParts) (k : Known) → Some e ≡ Some (l, k) → e.0 ≡ l
-same_first e l k h = ap (λ p. p.0) (by h)
-  where
-    by : {A : Type 0} {x y : A} → Some x ≡ Some y → x ≡ y
-    by e = cc
-
-last_below : (es : List (NameParts × Known)) (i : ℕ) (l n : NameParts) (k : Known) → T (is_sorted name_cmp es) → suc i ≡ length es → slice_get es i ≡ Some (l, k) → name_cmp l n ≡ Less → AreBelow n es
-last_below [] i l n k h e is lt = tt
-last_below (e ∷ []) zero l n k h s is lt = (ap (λ x. name_cmp x n) (same_first e l k is) ∙ lt, tt)
-last_below (e ∷ []) (suc i) l n k h s is lt = absurd (omega arith)
-last_below (e ∷ f ∷ es) zero l n k h s is lt = absurd (omega arith)
-last_below (e ∷ f ∷ es) (suc i) l n k h s is lt =
-    let rest = last_below (f ∷ es) i l n k (second _ _ h) (omega arith) is lt in
-    (names_total.trans e.0 f.0 n (less _ (first _ _ (first _ _ h))) rest.0, rest)
-
-no_entry : (e : NameParts × Known) → None ≡ Some e → ⊥
-no_entry e is = cc
-
-at_below : (es : List (NameParts × Known)) (i : ℕ) (l n : NameParts) (k : Known) → slice_get es i ≡ Some (l, k) → AreBelow n es → name_cmp l n ≡ Less
-at_below [] i l n k is h = absurd (no_entry (l, k) is)
-at_below (e ∷ es) zero l n k is h = ap (λ x. name_cmp x n) (sym (same_first e l k is)) ∙ h.0
-at_below (e ∷ es) (suc i) l n k is h = at_below es i l n k is h.1
-
-pub above_last : (v : View) (i : ℕ) (l n : NameParts) (k : Known) → suc i ≡ length (entries v) → slice_get (entries v) i ≡ Some (l, k) → name_cmp l n ≡ Less → IsAbove v n
-above_last v i l n k s is lt = last_below (entries v) i l n k (entries_sorted v) s is lt
-
-pub last_less : (v : View) (i : ℕ) (l n : NameParts) (k : Known) → slice_get (entries v) i ≡ Some (l, k) → IsAbove v n → name_cmp l n ≡ Less
-last_less v i l n k is h = at_below (entries v) i l n k is h

@@ -1,57 +1,28 @@
 -- The live names of entries in blocks.
-use Rattle.std.proofs.Common.{◌≡◌, ℕ, zero, suc, ◌+◌, ◌-◌, ◌<◌, ◌≤◌, List, [], ◌∷◌, ◌++◌, ◌^◌, Bool, true, false, cond, is_some, nat_lt, length, map, take, drop, get_or, set, slice_get, refl, sym, ap, subst, ◌∙◌, arith, Some, None, IfSome, below_more, length-append}
-use Rattle.std.proofs.lemmas.List.{get_or-take, get_or_append_left, length-map, length-take, take-append-le, take-set-le}
+use Rattle.std.proofs.Common.{◌≡◌, ℕ, zero, suc, ◌+◌, ◌-◌, ◌<◌, ◌≤◌, List, [], ◌∷◌, ◌++◌, ◌^◌, Bool, true, false, nat_lt, length, map, take, drop, get_or, slice_get, refl, sym, ap, subst, ◌∙◌, arith, Some, None, IfSome, below_more, length-append}
+use Rattle.std.proofs.lemmas.List.{get_or-take, get_or_append_left, length-map, length-take}
 use Rattle.std.proofs.Math.Seq.{get_or-append_seam, take-length}
 use Rattle.std.proofs.lemmas.Bool.{ltb-false, ltb-true}
 use Rattle.std.specs.List.{AllByRecursion, filter_map}
 use Rattle.wvalues.specs.Names.{NameParts}
 use Rattle.wsegment.specs.Declaration.{Declaration}
 use Rattle.wruns.specs.KeptRuns.{KeptParts}
-use Rattle.std.specs.FinMap.{find, put}
-use Rattle.std.specs.FinMap.Entries.{length-put}
-use Rattle.wvalues.specs.Names.{name_cmp, names_total}
-use Rattle.wset.specs.Views.{Floor, Known, live_of, lives}
-use Rattle.wset.specs.Sets.{DeclaredView, IsReadBy}
-use Rattle.wset.specs.Holding.{IsHeldBy, known_of}
-use Rattle.wset.specs.Entries.{AllHeldBy, AreSettled, IsRising, above_floor, known_entries}
-use Rattle.wset.specs.Blocks.{IsGrown, flat}
+use Rattle.wset.specs.Views.{live_of, lives}
+use Rattle.wset.specs.Sets.{DeclaredView}
+use Rattle.wentries.specs.Holding.{IsReadBy, IsHeldBy, known_of}
+use Rattle.wentries.specs.Entries.{AllHeldBy, AreSettled, IsRising, known_entries}
+use Rattle.wentries.specs.Blocks.{IsGrown, flat}
 use Rattle.wset.specs.KeptOrders.{IsOrderOf}
-use Rattle.wset.specs.Running.{AreStarts, IsLiveHome, kept_in, lives_before, rows_in}
+use Rattle.wset.specs.Running.{AreStarts, IsLiveHome, lives_before}
+use Rattle.wentries.specs.Keeping.{kept_in, rows_in}
 use Rattle.wset.specs.Storing.{declared_view, IsOrderly}
 use Rattle.wset.specs.declared.set.SegmentSet.TheInside.{Inside}
-use Rattle.wset.specs.declared.entries.Entry.{Entry}
-use Rattle.wset.specs.declared.held.Held.{Held}
-use Rattle.wset.specs.declared.held.Held.TheVariants as held
-use Rattle.wset.proofs.BlockFacts.{flat_at, flat_more}
-use Rattle.wset.proofs.EntryFacts.{length-known_entries}
-use Rattle.wset.proofs.Lows.{fewer}
-use Rattle.wset.proofs.RunFacts.{length-set}
+use Rattle.wentries.specs.declared.entries.Entry.{Entry}
+use Rattle.wentries.specs.declared.held.Held.{Held}
+use Rattle.wentries.specs.declared.held.Held.TheVariants as held
+use Rattle.wentries.proofs.BlockFacts.{flat_at, flat_more}
 use Rattle.wset.proofs.Maps.{lives-view}
-
--- ---- those of parts
-
-pub kept_append : (xs ys : List Entry) → kept_in (xs ++ ys) ≡ kept_in xs ++ kept_in ys
-kept_append [] ys = refl
-kept_append (x ∷ xs) ys = by x.name x.held (kept_append xs ys)
-  where
-    by : (n : NameParts) (h : Held) → kept_in (xs ++ ys) ≡ kept_in xs ++ kept_in ys → kept_in (record { name = n; held = h } ∷ (xs ++ ys)) ≡ kept_in (record { name = n; held = h } ∷ xs) ++ kept_in ys
-    by n (held.Live kept) rest = ap (λ l. (n, kept) ∷ l) rest
-    by n held.Disputed rest = rest
-    by n held.Retired rest = rest
-    by n held.Floor rest = rest
-
-pub kept_few : (es : List Entry) → length (kept_in es) ≤ length es
-kept_few [] = omega arith
-kept_few (e ∷ es) = by e.name e.held (kept_few es)
-  where
-    by : (n : NameParts) (h : Held) → length (kept_in es) ≤ length es → length (kept_in (record { name = n; held = h } ∷ es)) ≤ suc (length es)
-    by n (held.Live kept) rest = omega (arith, rest)
-    by n held.Disputed rest = omega (arith, rest)
-    by n held.Retired rest = omega (arith, rest)
-    by n held.Floor rest = omega (arith, rest)
-
-pub length_kept : (xs ys : List Entry) → length (kept_in (xs ++ ys)) ≡ length (kept_in xs) + length (kept_in ys)
-length_kept xs ys = ap length (kept_append xs ys) ∙ length-append (kept_in xs) (kept_in ys)
+use Rattle.wentries.proofs.Lives.{kept_append, kept_few, length_kept}
 
 -- ---- those before a block
 
@@ -85,9 +56,6 @@ starts_front bs starts n h k lt =
 pub starts_grown : (old new : List (List Entry)) (starts : List ℕ) → length starts ≤ length old → IsGrown old new → AreStarts old starts → AreStarts new starts
 starts_grown old new starts le grown h k lt =
     h k lt ∙ sym (ap (λ bs. length (kept_in (flat bs))) (grown.front k (omega (arith, lt, le))))
-
-pub no_starts : (bs : List (List Entry)) → AreStarts bs []
-no_starts bs k lt = absurd (omega arith)
 
 -- ---- the live name of a number
 
@@ -145,7 +113,7 @@ kept_bytes (e ∷ es) = by e.name e.held (kept_bytes es)
     by n held.Retired rest = rest
     by n held.Floor rest = rest
 
-kept_read : (d : Declaration) (es : List Entry) → AllHeldBy d es → AllByRecursion (λ k. IsReadBy d k.1.content) (kept_in es)
+pub kept_read : (d : Declaration) (es : List Entry) → AllHeldBy d es → AllByRecursion (λ k. IsReadBy d k.1.content) (kept_in es)
 kept_read d [] all = tt
 kept_read d (e ∷ es) all = by e.name e.held all.0 (kept_read d es all.1)
   where
@@ -189,24 +157,6 @@ live_read a s i n kept h is at =
 
 pub live_orders : (a : Inside) (s : DeclaredView) (i : ℕ) (n : NameParts) (kept : KeptParts) → declared_view a ≡ s → slice_get (kept_in (flat a.blocks.items)) i ≡ Some (n, kept) → kept.orders ≡ get_or s.orders i []
 live_orders a s i n kept is at = sym (get_or_map (λ k. k.1.orders) (kept_in (flat a.blocks.items)) i (n, kept) [] at) ∙ ap (λ x. get_or x.orders i []) is
-
--- ---- how many entries there are when something is put
-
--- where nothing was put
-pub few_before : (es fs : List Entry) (n : NameParts) (k : Known) → IsRising es → fs ≡ es → length fs ≤ length (put name_cmp n k (known_entries es))
-few_before es fs n k h is = by (is_some (find name_cmp n (known_entries es))) (length-put name_cmp names_total n k (known_entries es) h)
-  where
-    by : (b : Bool) → length (put name_cmp n k (known_entries es)) ≡ cond b (length (known_entries es)) (length (known_entries es) + 1) → length fs ≤ length (put name_cmp n k (known_entries es))
-    by true e = omega (arith, e, length-known_entries es, ap length is)
-    by false e = omega (arith, e, length-known_entries es, ap length is)
-
--- where it was put
-pub few_after : (es fs : List Entry) (n : NameParts) (k : Known) → known_entries fs ≡ put name_cmp n k (known_entries es) → length fs ≤ length (put name_cmp n k (known_entries es))
-few_after es fs n k is = omega (arith, length-known_entries fs, ap length is)
-
--- where then what is below it was dropped
-pub few_dropped : (es fs gs : List Entry) (n : NameParts) → known_entries fs ≡ put name_cmp n Floor (known_entries es) → known_entries gs ≡ above_floor n (known_entries fs) → length gs ≤ length (put name_cmp n Floor (known_entries es))
-few_dropped es fs gs n put_is is = omega (arith, length-known_entries gs, ap length is, fewer n (known_entries fs), ap length put_is)
 
 -- ---- a set whose blocks were cut
 
@@ -266,26 +216,3 @@ module _ (bs : List (List Entry)) (starts : List ℕ) (i k : ℕ) (b es : List E
       home_found bs k i b inside is low (home_within bs starts i k b placed h home lt is)
       ∙ ap (λ x. slice_get (kept_in x) (i - lives_before bs k)) (sym same)
       ∙ ap (λ n. slice_get (kept_in es) (i - n)) (sym (h k home.in_range))
-
--- ---- blocks that grow at the end
-
-pub grown_same : (old new : List (List Entry)) → new ≡ old → IsGrown old new
-grown_same old new is = record {
-  more = omega (arith, ap length is);
-  long = omega (arith, ap length is);
-  front = λ k lt. ap (take k) is;
-}
-
-pub grown_begun : (old new : List (List Entry)) (b : List Entry) → new ≡ old ++ b ∷ [] → IsGrown old new
-grown_begun old new b is = record {
-  more = omega (arith, ap length is, length-append old (b ∷ []));
-  long = omega (arith, ap length is, length-append old (b ∷ []));
-  front = λ k lt. ap (take k) is ∙ take-append-le k old (b ∷ []) (omega (arith, lt));
-}
-
-pub grown_set : (old : List (List Entry)) (k : ℕ) (b : List Entry) → suc k ≡ length old → IsGrown old (set old k b)
-grown_set old k b end = record {
-  more = omega (arith, length-set old k b);
-  long = omega (arith, length-set old k b);
-  front = λ j lt. take-set-le j old k b (omega (arith, lt, end));
-}

@@ -1,26 +1,25 @@
 -- The view that rising entries stand for.
-use Rattle.std.proofs.Common.{◌≡◌, T, List, refl, sym, ap, ◌∙◌, subst, [], ◌∷◌, length, arith, ◌+◌, ◌≤◌, Bool, true, false, cond, is_some}
-use Rattle.std.proofs.Common.{not, None, Some, ◌||◌, ⊎_elim, inl, inr, is_eq}
+use Rattle.std.proofs.Common.{◌≡◌, T, List, refl, sym, ap, ◌∙◌, subst, [], ◌∷◌, length, arith, Bool, true, false, cond, not, None, Some, ◌||◌, ⊎_elim, inl, inr, is_eq}
 use Rattle.std.proofs.lemmas.Bool.{true≢false, or_cases, or_from, or_left, or_right}
 use Rattle.std.specs.declared.cmp.Ordering.{Ordering}
 use Rattle.std.specs.declared.cmp.Ordering.TheVariants.{Less, Equal, Greater}
-use Rattle.std.specs.FinMap.Entries.{by_order, find-put, find-where_key, is_sorted-put, is_sorted-where_key, length-put}
+use Rattle.std.specs.FinMap.Entries.{by_order, find-put, find-where_key, is_sorted-put, is_sorted-where_key}
 use Rattle.std.specs.FinMap.{empty, len-entries, len-empty, find, put, is_sorted, entries, insert, get, from_sorted, entries_sorted, same_entries_map, entries-insert, entries-from_sorted, get-from_sorted}
 use Rattle.wvalues.specs.Names.{NameParts, name_cmp, names_total}
-use Rattle.wset.specs.Views.{Known, Floor, View, IsSettled, is_above, is_below, is_over, join, join_names, join_told, lives, live_of, same_name}
-use Rattle.wset.specs.declared.entries.Entry.{Entry}
-use Rattle.wset.specs.Entries.{AreSettled, IsRising, above_floor, above_floors, known_entries, known_entry}
+use Rattle.wentries.specs.Knowledge.{Known, Floor, is_above, is_over, same_name}
+use Rattle.wset.specs.Views.{View, IsSettled, is_below, join, join_names, join_told, lives, live_of}
+use Rattle.wentries.specs.declared.entries.Entry.{Entry}
+use Rattle.wentries.specs.Entries.{AreSettled, IsRising, above_floor, above_floors, known_entries, known_entry}
 use Rattle.wset.specs.Merging.{IsKnownTo, join_lists}
 use Rattle.std.specs.List.{AllByRecursion, filter_map, list_any}
-use Rattle.wset.proofs.EntryFacts.{length-known_entries}
 use Rattle.wset.proofs.Joining.{same_view, get-join, join_laws, with_floor, with_none}
 use Rattle.wset.specs.Items.{FloorItem, view_of_item}
-use Rattle.wset.specs.Holding.{known_of}
-use Rattle.wset.proofs.Finding.{find_below, first, second}
-use Rattle.wset.proofs.Floors.{any_trans, both_cases, exact_names, over_floor, same_name-refl, same_name-true, told_over}
+use Rattle.wentries.specs.Holding.{known_of}
+use Rattle.wentries.proofs.Floors.{find_below, first, second, any_trans, both_cases, exact_names, over_floor, same_name-refl, same_name-true, told_over}
 use Rattle.wset.proofs.Merging.{entries-join_names}
 use Rattle.wset.proofs.Settling.{entries-join, settled_entries, settled_view}
 use Rattle.wset.proofs.Singles.{joined_floor, told_nothing}
+use Rattle.wentries.proofs.Sizes.{rising_put}
 
 abbrev pub stored_view : List Entry → View
 stored_view es = from_sorted (known_entries es)
@@ -30,9 +29,6 @@ entries-view es h = entries-from_sorted name_cmp (known_entries es) h
 
 pub get-view : (es : List Entry) (n : NameParts) → IsRising es → get (stored_view es) n ≡ find name_cmp n (known_entries es)
 get-view es n h = get-from_sorted name_cmp (known_entries es) n h
-
-pub rising_put : (es fs : List Entry) (n : NameParts) (k : Known) → IsRising es → known_entries fs ≡ put name_cmp n k (known_entries es) → IsRising fs
-rising_put es fs n k h is = subst (λ l. T (is_sorted name_cmp l)) (sym is) (is_sorted-put name_cmp names_total n k (known_entries es) h)
 
 pub view_put : (es fs : List Entry) (n : NameParts) (k : Known) → IsRising es → known_entries fs ≡ put name_cmp n k (known_entries es) → stored_view fs ≡ insert (stored_view es) n k
 view_put es fs n k h is = same_entries_map _ _ (
@@ -211,14 +207,6 @@ settled_put es fs n k s high other is m low =
 
 pub settled_floor : (es gs : List Entry) (n : NameParts) → IsRising es → AreSettled (known_entries es) → list_any (is_over n) (known_entries es) ≡ false → known_entries gs ≡ above_floor n (put name_cmp n Floor (known_entries es)) → AreSettled (known_entries gs)
 settled_floor es gs n h s high is = settled_by gs _ (rising_floor es gs n h is) (view_floor es gs n h s high is) (join_laws.settled (stored_view es) (view_of_item (FloorItem n)))
-
--- what is put is one entry more, or none
-pub put_sized : (es fs : List Entry) (n : NameParts) (k : Known) → IsRising es → known_entries fs ≡ put name_cmp n k (known_entries es) → (length es ≤ length fs) × (length fs ≤ length es + 1)
-put_sized es fs n k h is = by (is_some (find name_cmp n (known_entries es))) (sym (length-known_entries fs) ∙ ap length is ∙ length-put name_cmp names_total n k (known_entries es) h)
-  where
-    by : (b : Bool) → length fs ≡ cond b (length (known_entries es)) (length (known_entries es) + 1) → (length es ≤ length fs) × (length fs ≤ length es + 1)
-    by true e = (omega (arith, e, length-known_entries es), omega (arith, e, length-known_entries es))
-    by false e = (omega (arith, e, length-known_entries es), omega (arith, e, length-known_entries es))
 
 -- joined name by name they rise
 pub sorted_lists : (es fs : List Entry) → IsRising es → IsRising fs → T (is_sorted name_cmp (join_lists (known_entries es) (known_entries fs)))

@@ -7,14 +7,15 @@ use Rattle.std.specs.FinMap.{find, put, entries, insert, get, entries-insert, ge
 use Rattle.std.specs.Ordering.{eq_by_cmp}
 use Rattle.wvalues.specs.Names.{NameParts, name_cmp, names_total}
 use Rattle.wsegment.specs.Declaration.{Declaration}
-use Rattle.wset.specs.Views.{Known, View, join_names, join_told, join_known}
-use Rattle.wset.specs.Holding.{IsHeldBy, known_of}
-use Rattle.wset.specs.Entries.{AllHeldBy, IsRising, known_entry, known_entries}
+use Rattle.wentries.specs.Knowledge.{Known, join_known}
+use Rattle.wset.specs.Views.{View, join_names, join_told}
+use Rattle.wentries.specs.Holding.{IsHeldBy, known_of}
+use Rattle.wentries.specs.Entries.{AllHeldBy, IsRising, known_entry, known_entries}
 use Rattle.std.specs.List.{AllByRecursion}
 use Rattle.wset.specs.Merging.{join_with, join_lists, Joins}
-use Rattle.wset.specs.declared.entries.Entry.{Entry}
-use Rattle.wset.proofs.Finding.{both, first, second, less, is_less, turned, below_all_below, find_below, put_here}
-use Rattle.wset.proofs.Floors.{exact_names, is_equal}
+use Rattle.wentries.specs.declared.entries.Entry.{Entry}
+use Rattle.wentries.proofs.Floors.{both, first, second, less, find_below, exact_names, is_equal}
+use Rattle.wentries.proofs.Finding.{is_less, turned, below_all_below, put_here}
 use Rattle.wset.proofs.Joining.{same_view, get-join_names, with_none}
 
 -- ---- the entries of a join
@@ -24,7 +25,7 @@ abbrev join_entries : View → List (NameParts × Known) → View
 join_entries v [] = v
 join_entries v (e ∷ es) = insert (join_entries v es) e.0 (join_with (get v e.0) e.1)
 
-with_some : (v : Option Known) (k : Known) → Some (join_with v k) ≡ join_told v (Some k)
+pub with_some : (v : Option Known) (k : Known) → Some (join_with v k) ≡ join_told v (Some k)
 with_some None k = refl
 with_some (Some j) k = refl
 
@@ -179,16 +180,6 @@ module _ (ours theirs : List Entry) (ours_rise : IsRising ours) (theirs_rise : I
       fewer = omega (arith, sized e ours es ours_is, sized f theirs fs theirs_is);
       read = λ d h k. let p = parted d e ours es ours_is h in (read d p.0, p.1, (parted d f theirs fs theirs_is k).1);
     }
-
--- ---- one more entry of a join
-
-pub joined_more : (all : List Entry) (entry : Entry) (rest left : List (NameParts × Known)) → left ≡ known_entry entry ∷ rest → known_entries (all ++ entry ∷ []) ++ rest ≡ known_entries all ++ left
-joined_more [] entry rest left is = sym is
-joined_more (x ∷ all) entry rest left is = ap (λ l. known_entry x ∷ l) (joined_more all entry rest left is)
-
-pub held_more : (d : Declaration) (all : List Entry) (entry : Entry) → AllHeldBy d all → IsHeldBy d entry.held → AllHeldBy d (all ++ entry ∷ [])
-held_more d [] entry all held = (held, tt)
-held_more d (x ∷ xs) entry all held = (all.0, held_more d xs entry all.1 held)
 
 -- ---- what is known already
 

@@ -1,57 +1,32 @@
 -- Making runs leaves what is known as it is.
-use Rattle.std.proofs.Common.{◌≡◌, ℕ, zero, suc, ◌+◌, ◌<◌, List, [], ◌∷◌, ◌++◌, length, map, take, refl, sym, ap, subst, ◌∙◌, arith, get_or, slice_set, add-one, Option, Some, None}
+use Rattle.std.proofs.Common.{◌≡◌, ℕ, zero, suc, ◌<◌, List, [], ◌∷◌, ◌++◌, length, map, take, refl, sym, ap, subst, ◌∙◌, Option, Some, None}
 use Rattle.std.specs.Prelude.{All, IfSome, T, ⊤, ◌^◌}
 use Rattle.std.specs.List.{AllByRecursion, IsAmong, filter_map}
-use Rattle.std.proofs.lemmas.List.{length-map, map-append}
-use Rattle.std.proofs.lemmas.List.Elements.{All-append, All-cons, All-nil, All-same, recursion_from_All}
+use Rattle.std.proofs.lemmas.List.{map-append}
+use Rattle.std.proofs.lemmas.List.Elements.{All-append, All-nil, recursion_from_All}
 use Rattle.wvalues.specs.declared.key.SortKey.{SortKey}
-use Rattle.wvalues.specs.Names.{NameParts}
+use Rattle.wvalues.specs.Names.{NameParts, name_cmp}
 use Rattle.wsegment.specs.Declaration.{Declaration}
 use Rattle.wsegment.specs.Rows.{Content}
-use Rattle.wset.specs.Views.{Known, Live, Disputed, Retired, Floor, live_of, lives}
-use Rattle.wset.specs.Sets.{Becomes, DeclaredView, IsReadBy}
+use Rattle.wentries.specs.Knowledge.{Known, Live, Disputed, Retired, Floor}
+use Rattle.wset.specs.Views.{live_of, lives}
+use Rattle.wset.specs.Sets.{Becomes, DeclaredView}
+use Rattle.wentries.specs.Holding.{IsReadBy, IsHeldBy, known_of}
 use Rattle.wset.specs.Tables.{content_rows, rows_or_none}
 use Rattle.wset.specs.Storing.{declared_view, IsOrderly}
 use Rattle.wset.specs.declared.set.SegmentSet.TheInside.{Inside}
 use Rattle.wset.proofs.Maps.{lives-view}
-use Rattle.wset.specs.Holding.{IsHeldBy, known_of}
 use Rattle.std.specs.FinMap.{is_sorted}
-use Rattle.wvalues.specs.Names.{name_cmp}
-use Rattle.wset.specs.Entries.{AllHeldBy, AreSettled, known_entry, known_entries}
-use Rattle.wset.specs.Blocks.{flat}
+use Rattle.wentries.specs.Entries.{AllHeldBy, AreSettled, known_entry, known_entries}
+use Rattle.wentries.specs.Blocks.{flat}
 use Rattle.wset.specs.KeptOrders.{IsOrderOf}
-use Rattle.wset.specs.Running.{AreStarts, HeldHasRun, kept_in, live_rows, orders_in, plain_block, plain_entry, plain_held, rows_in}
-use Rattle.wset.specs.declared.entries.Entry.{Entry}
-use Rattle.wset.specs.declared.held.Held.{Held}
-use Rattle.wset.specs.declared.held.Held.TheVariants as held
-
--- what is written keeps what is seen of each element
-pub set_keeps : {X Y : Type 0} (f : X → Y) (xs : List X) (i : ℕ) (x k : X) → x ≡ get_or xs i x → f k ≡ f x → map f (slice_set xs i k) ≡ map f xs
-set_keeps f [] i x k is same = refl
-set_keeps f (y ∷ ys) zero x k is same = ap (λ z. z ∷ map f ys) (same ∙ ap f is)
-set_keeps f (y ∷ ys) (suc i) x k is same = ap (λ l. f y ∷ l) (set_keeps f ys i x k is same)
-
--- an element that is written as it was
-pub set_same : {X : Type 0} (xs : List X) (i : ℕ) (x k : X) → x ≡ get_or xs i x → k ≡ x → slice_set xs i k ≡ xs
-set_same [] i x k is same = refl
-set_same (y ∷ ys) zero x k is same = ap (λ z. z ∷ ys) (same ∙ is)
-set_same (y ∷ ys) (suc i) x k is same = ap (λ l. y ∷ l) (set_same ys i x k is same)
-
-take_set : {X : Type 0} (xs : List X) (i : ℕ) (k : X) → i < length xs → take (i + 1) (slice_set xs i k) ≡ take i xs ++ k ∷ []
-take_set [] i k lt = absurd (omega (arith, lt))
-take_set (y ∷ ys) zero k lt = refl
-take_set (y ∷ ys) (suc i) k lt = rw add-one (ap (λ l. y ∷ l) (rw add-one at (take_set ys i k (omega (arith, lt)))))
-
-pub all_more : {X : Type 0} (P : X → Type 0) (xs : List X) (i : ℕ) (k : X) → i < length xs → All P (take i xs) → P k → All P (take (i + 1) (slice_set xs i k))
-all_more P xs i k lt all here = All-same P (take (i + 1) (slice_set xs i k)) (take i xs ++ k ∷ []) (take_set xs i k lt) (All-append P (take i xs) (k ∷ []) all (All-cons P k [] here (All-nil P)))
-
-pub same_length : {X Y : Type 0} (f : X → Y) (a b : List X) → map f a ≡ map f b → length a ≡ length b
-same_length f a b e = sym (length-map a f) ∙ ap length e ∙ length-map b f
-
-pub length-set : {X : Type 0} (xs : List X) (i : ℕ) (k : X) → length (slice_set xs i k) ≡ length xs
-length-set [] i k = refl
-length-set (y ∷ ys) zero k = refl
-length-set (y ∷ ys) (suc i) k = ap suc (length-set ys i k)
+use Rattle.wset.specs.Running.{AreStarts, live_rows, orders_in}
+use Rattle.wentries.specs.Keeping.{HeldHasRun, plain_block, plain_entry, plain_held, rows_in}
+use Rattle.wentries.specs.declared.entries.Entry.{Entry}
+use Rattle.wentries.specs.declared.held.Held.{Held}
+use Rattle.wentries.specs.declared.held.Held.TheVariants as held
+use Rattle.wentries.proofs.Lives.{count_same, plain_live}
+use Rattle.wentries.proofs.Lists.{same_length}
 
 -- what is seen of all entries is what is seen of each block
 pub flat_plain : (xs ys : List (List Entry)) → map plain_block xs ≡ map plain_block ys → map plain_entry (flat xs) ≡ map plain_entry (flat ys)
@@ -62,26 +37,6 @@ flat_plain (x ∷ xs) (y ∷ ys) e =
     let h : plain_block x ≡ plain_block y = cc in
     let t : map plain_block xs ≡ map plain_block ys = cc in
     map-append plain_entry x (flat xs) ∙ ap (λ l. l ++ map plain_entry (flat xs)) h ∙ ap (λ l. map plain_entry y ++ l) (flat_plain xs ys t) ∙ sym (map-append plain_entry y (flat ys))
-
-abbrev plain_live : NameParts × Option (Option (Option Content)) → Option Content
-plain_live (n, None) = None
-plain_live (n, Some None) = None
-plain_live (n, Some (Some None)) = None
-plain_live (n, Some (Some (Some c))) = Some c
-
-plain_count : (es : List Entry) → length (filter_map plain_live (map plain_entry es)) ≡ length (kept_in es)
-plain_count [] = refl
-plain_count (e ∷ es) = by e.name e.held (plain_count es)
-  where
-    by : (n : NameParts) (h : Held) → length (filter_map plain_live (map plain_entry es)) ≡ length (kept_in es) → length (filter_map plain_live ((n, plain_held h) ∷ map plain_entry es)) ≡ length (kept_in (record { name = n; held = h } ∷ es))
-    by n (held.Live kept) rest = ap suc rest
-    by n held.Disputed rest = rest
-    by n held.Retired rest = rest
-    by n held.Floor rest = rest
-
--- as many names are live
-pub count_same : (a b : List Entry) → map plain_entry a ≡ map plain_entry b → length (kept_in a) ≡ length (kept_in b)
-count_same a b e = sym (plain_count a) ∙ ap (λ l. length (filter_map plain_live l)) e ∙ plain_count b
 
 take_plain : (xs ys : List (List Entry)) (k : ℕ) → map plain_block xs ≡ map plain_block ys → map plain_block (take k xs) ≡ map plain_block (take k ys)
 take_plain xs ys zero e = refl

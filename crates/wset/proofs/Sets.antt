@@ -5,10 +5,10 @@ use Rattle.wsegment.specs.Declaration.{Declaration}
 use Rattle.wset.specs.Views.{View}
 use Rattle.wset.specs.Sets.{Becomes, DeclaredView}
 use Rattle.wvalues.specs.declared.key.SortKey.{SortKey}
-use Rattle.wset.specs.Holding.{IsHeldBy}
-use Rattle.wset.specs.Entries.{AllHeldBy}
-use Rattle.wset.specs.declared.entries.Entry.{Entry}
-use Rattle.wset.specs.declared.held.Held.{Held}
+use Rattle.wentries.specs.Holding.{IsHeldBy}
+use Rattle.wentries.specs.Entries.{AllHeldBy}
+use Rattle.wentries.specs.declared.entries.Entry.{Entry}
+use Rattle.wentries.specs.declared.held.Held.{Held}
 
 -- a new view of the kept entries is one of the set
 pub changed : (d : Declaration) (v w : View) (o p : List (List (List SortKey))) (s : DeclaredView) (f : View → View) → record { schema = d; view = v; orders = o } ≡ s → w ≡ f v → Becomes s (f s.view) (record { schema = d; view = w; orders = p })

@@ -1,20 +1,16 @@
 -- Entries without those below a floor, and one floor put among entries.
 use Rattle.std.proofs.Common.{◌≡◌, ◌||◌, Bool, true, false, cond, not, T, List, [], ◌∷◌, None, refl, sym, ap, ◌∙◌}
-use Rattle.std.proofs.lemmas.Bool.{and_parts}
-use Rattle.std.proofs.lemmas.Cmp.{tied_itself}
-use Rattle.std.specs.Prelude.{◌==◌}
 use Rattle.std.specs.List.{list_any}
-use Rattle.std.specs.Ordering.{nat_cmp, ordering_reverse, ordering_then}
-use Rattle.std.specs.Cmp.Lexicographic.{slice_cmp, nat_list_cmp_total}
-use Rattle.std.specs.declared.cmp.Ordering.TheVariants.{Less, Equal, Greater}
+use Rattle.std.specs.Ordering.{ordering_reverse}
+use Rattle.std.specs.declared.cmp.Ordering.TheVariants.{Less, Greater}
 use Rattle.std.specs.FinMap.Entries.{find-where_key, is_sorted-where_key, where_key}
 use Rattle.std.specs.FinMap.{entries, entries-from_sorted, entries_sorted, from_sorted, get-entries, get-from_sorted, get-retain_keys, is_sorted}
 use Rattle.wvalues.specs.Names.{NameParts, name_cmp, names_total}
-use Rattle.wset.specs.Views.{Known, View, IsSettled, is_above, is_over, join, join_names, same_bytes, settled}
-use Rattle.wset.specs.Entries.{AreSettled, above_floors}
+use Rattle.wentries.specs.Knowledge.{Known, is_over}
+use Rattle.wset.specs.Views.{View, IsSettled, join, join_names, settled}
+use Rattle.wentries.specs.Entries.{AreSettled, above_floors, AreBelow}
 use Rattle.wset.specs.Merging.{join_lists}
-use Rattle.wset.specs.Lending.{AreBelow}
-use Rattle.wset.proofs.Floors.{exact_names, over_floor, same_bytes-true}
+use Rattle.wentries.proofs.Floors.{exact_names, over_floor, above_less}
 use Rattle.wset.proofs.Joining.{same_view}
 use Rattle.wset.proofs.Merging.{entries-join_names}
 
@@ -43,13 +39,7 @@ pub settled_entries : (es : List (NameParts × Known)) → T (is_sorted name_cmp
 settled_entries es s h n low =
     sym (get-from_sorted name_cmp es n s) ∙ h n (ap (list_any (is_over n)) (entries-from_sorted name_cmp es s) ∙ low)
 
--- ---- a floor above a name stands behind it
-
-pub above_less : (n m : NameParts) → is_above n m ≡ true → name_cmp n m ≡ Less
-above_less n m h =
-    let p = and_parts (same_bytes n.origin m.origin) _ h in
-    let origins : slice_cmp nat_cmp n.origin m.origin ≡ Equal = ap (slice_cmp nat_cmp n.origin) (sym (same_bytes-true n.origin m.origin p.0)) ∙ tied_itself nat_list_cmp_total n.origin in
-    ap (λ o. ordering_then o (nat_cmp n.number m.number)) origins ∙ ap (λ b. cond b Less (cond (n.number == m.number) Equal Greater)) p.1
+-- ---- a name is below no floor that stands before it
 
 not_less_both : Less ≡ Greater → ⊥
 not_less_both e = cc

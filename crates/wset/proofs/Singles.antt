@@ -4,13 +4,16 @@ use Rattle.std.proofs.lemmas.Bool.{true≢false, or_cases, or_from, or_right}
 use Rattle.std.specs.Ordering.{eq_by_cmp}
 use Rattle.std.specs.FinMap.{get, insert, empty, get-insert, get-empty}
 use Rattle.wvalues.specs.Names.{NameParts, name_cmp, names_total}
-use Rattle.wset.specs.Views.{Known, Live, Disputed, Retired, Floor, View, IsSettled, is_above, is_below, same_name, same_bytes, known_in, own_status, join, join_known, join_told}
+use Rattle.wentries.specs.Knowledge.{Known, Live, Disputed, Retired, Floor, is_above, same_name, same_bytes, join_known}
+use Rattle.wset.specs.Views.{View, IsSettled, is_below, known_in, own_status, join, join_told}
 use Rattle.wset.specs.Items.{SegmentItem, RetirementItem, FloorItem, mark_of, view_of_item}
 use Rattle.wset.specs.Words.{is_floor, is_reached}
 use Rattle.wset.specs.Merging.{join_with}
-use Rattle.wset.proofs.Floors.{same_test, both_cases, same_name-true, same_name-refl, same_bytes-refl, same_bytes-true, not_above_itself, above_trans, top_floor, below_floor}
+use Rattle.wset.proofs.ViewFloors.{same_test, top_floor, below_floor}
+use Rattle.wentries.proofs.Floors.{both_cases, same_name-true, same_name-refl, same_bytes-refl, same_bytes-true, not_above_itself, above_trans, no_some, same_some}
 use Rattle.wset.proofs.Joining.{same_view, get-join, with_none, with_floor}
 use Rattle.wset.proofs.Union.{get-view_of, unnamed}
+use Rattle.wset.proofs.Merging.{with_some}
 
 -- of this name this alone is known, and of others nothing
 abbrev pub IsSingle : View → NameParts → Known → Type 0
@@ -45,12 +48,6 @@ floor_single n q = get-view_of (FloorItem n ∷ []) q ∙ by (is_above q n) refl
     by true over false same = refl
     by false over true same = rw same refl
     by false over false same = unnamed (FloorItem n ∷ []) q (or_from _ _ same refl) (or_from _ _ over refl)
-
-no_some : {A : Type 0} (x : A) → None ≡ Some x → ⊥
-no_some x e = cc
-
-same_some : (x y : Known) → Some x ≡ Some y → x ≡ y
-same_some x y e = cc
 
 told_single : (w : View) (n m : NameParts) (k : Known) → IsSingle w n k → get w m ≡ Some Floor → (same_name m n ≡ true) × (k ≡ Floor)
 told_single w n m k single found = by (same_name m n) refl (sym (single m) ∙ found)
@@ -90,10 +87,6 @@ told_nothing v q h = by (is_below v q) refl
     by : (b : Bool) → is_below v q ≡ b → cond (b || false) None (join_told (get v q) None) ≡ get v q
     by true low = sym (h q low)
     by false low = sym (with_none (get v q))
-
-with_some : (v : Option Known) (k : Known) → Some (join_with v k) ≡ join_told v (Some k)
-with_some None k = refl
-with_some (Some j) k = refl
 
 put_joins : (v w : View) (n : NameParts) (k : Known) → IsSettled v → is_below v n ≡ false → (k ≡ Floor → ⊥) → IsSingle w n k → insert v n (join_with (get v n) k) ≡ join v w
 put_joins v w n k h high other single = same_view _ _ (λ q.
@@ -246,37 +239,8 @@ other_content v n a b r known other was = by (same_bytes a b) refl
     by false e = e
     by true e = absurd (true≢false (sym (known.1 (was ∙ ap (λ (bytes : List ℕ). Some (Live bytes)) (same_bytes-true a b e))) ∙ other))
 
--- ---- how a name is known
-
-pub known_low : (v : View) (n : NameParts) → is_below v n ≡ true → known_in v n ≡ Some Retired
-known_low v n low = ap (λ b. cond b (Some Retired) (own_status (get v n))) low
-
 pub known_high : (v : View) (n : NameParts) (o : Option Known) → is_below v n ≡ false → get v n ≡ o → known_in v n ≡ own_status o
 known_high v n o high is = ap (λ b. cond b (Some Retired) (own_status (get v n))) high ∙ ap own_status is
-
-pub high_found : (v : View) (n : NameParts) (k : Known) → IsSettled v → get v n ≡ Some k → is_below v n ≡ false
-high_found v n k h e = by (is_below v n) refl
-  where
-    by : (b : Bool) → is_below v n ≡ b → is_below v n ≡ false
-    by true is = absurd (no_some k (sym (h n is) ∙ e))
-    by false is = is
-
-pub known_live : (v : View) (n : NameParts) (bytes : List ℕ) → IsSettled v → get v n ≡ Some (Live bytes) → known_in v n ≡ Some (Live bytes)
-known_live v n bytes h e = known_high v n (Some (Live bytes)) (high_found v n (Live bytes) h e) e
-
-pub live_known : (v : View) (n : NameParts) (bytes : List ℕ) → known_in v n ≡ Some (Live bytes) → get v n ≡ Some (Live bytes)
-live_known v n bytes known = by (is_below v n) known
-  where
-    own : (o : Option Known) → own_status o ≡ Some (Live bytes) → o ≡ Some (Live bytes)
-    own None e = absurd (no_some (Live bytes) e)
-    own (Some (Live b)) e = e
-    own (Some Disputed) e = absurd cc
-    own (Some Retired) e = absurd cc
-    own (Some Floor) e = absurd cc
-
-    by : (b : Bool) → cond b (Some Retired) (own_status (get v n)) ≡ Some (Live bytes) → get v n ≡ Some (Live bytes)
-    by true e = absurd cc
-    by false e = own (get v n) e
 
 -- ---- disputes by what is known
 

@@ -7,10 +7,12 @@ use Rattle.std.proofs.lemmas.List.Elements.{filter_map-append}
 use Rattle.std.proofs.lemmas.List.Folds.{list_any-append, list_all-append}
 use Rattle.std.specs.FinMap.{get}
 use Rattle.wvalues.specs.Names.{NameParts}
-use Rattle.wset.specs.Views.{Known, Live, Disputed, Retired, Floor, View, same_name, same_bytes, is_above, is_below, own_status, view_telling, join_told, join}
+use Rattle.wentries.specs.Knowledge.{Known, Live, Disputed, Retired, Floor, same_name, same_bytes, is_above}
+use Rattle.wset.specs.Views.{View, is_below, own_status, view_telling, join_told, join}
 use Rattle.wset.specs.Items.{Item, SegmentItem, RetirementItem, FloorItem, name_of, is_retirement_of, is_floor_at, content_of, agreed, status_of, mark_of, view_of, view_of_item}
 use Rattle.wset.specs.Laws.{ViewOfUnion, ViewTellsStatus, ViewsAreSettled, AreAmong, SameItemsSameView}
-use Rattle.wset.proofs.Floors.{same_name-true, same_name-refl, same_bytes-true, same_bytes-refl, same_test, both_cases, top_floor, below_floor, get-settled, below-settled, settled-settled}
+use Rattle.wentries.proofs.Floors.{same_name-true, same_name-refl, same_bytes-true, same_bytes-refl, both_cases, no_some}
+use Rattle.wset.proofs.ViewFloors.{same_test, top_floor, below_floor, get-settled, below-settled, settled-settled}
 use Rattle.wset.proofs.Joining.{or_first, or_second, with_none, with_floor, get-telling, get-join, same_view, join_laws}
 
 -- ---- floors among items
@@ -80,9 +82,6 @@ marked_floor items m = by (list_any (is_floor_at m) items) refl
     by : (b : Bool) → list_any (is_floor_at m) items ≡ b → cond b (Some Floor) (status_of items m) ≡ Some Floor → list_any (is_floor_at m) items ≡ true
     by true is e = is
     by false is e = absurd (status_no_floor items m e)
-
-no_some : (k : Known) → None ≡ Some k → ⊥
-no_some k e = cc
 
 told_marked : (items : List Item) (m : NameParts) → get (marks items) m ≡ Some Floor → mark_of items m ≡ Some Floor
 told_marked items m h = by (list_any (same_name m) (map name_of items)) (sym (get-telling (mark_of items) (map name_of items) m) ∙ h)

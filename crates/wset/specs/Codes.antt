@@ -5,7 +5,8 @@ use Rattle.wvalues.specs.declared.key.SortKey.{SortKey}
 use Rattle.std.specs.FinMap as map
 use Rattle.wvalues.specs.Names.{coded_name}
 use Rattle.wsegment.specs.Declaration.{Declaration, coded_declaration}
-use Rattle.wset.specs.Views.{Known, Live, Disputed, Retired, Floor, View}
+use Rattle.wentries.specs.Knowledge.{Known, Live, Disputed, Retired, Floor}
+use Rattle.wset.specs.Views.{View}
 use Rattle.wset.specs.Sets.{DeclaredView}
 
 -- what is known, as options in options, and back

@@ -2,7 +2,8 @@
 use Rattle.std.specs.Prelude.{ℕ, Bool, false, ◌&&◌, nat_le, List, [], ◌∷◌, map, Option, None, Some, if◌then◌else◌}
 use Rattle.std.specs.List.{list_any, list_all, filter_map}
 use Rattle.wvalues.specs.Names.{NameParts}
-use Rattle.wset.specs.Views.{Known, Live, Disputed, Retired, Floor, View, same_name, same_bytes, settled, view_telling}
+use Rattle.wentries.specs.Knowledge.{Known, Live, Disputed, Retired, Floor, same_name, same_bytes}
+use Rattle.wset.specs.Views.{View, settled, view_telling}
 
 -- a content of a name, the retirement of a name, or that of all names of its origin up to it
 pub data Item : Type 0 where

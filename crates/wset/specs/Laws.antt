@@ -3,7 +3,8 @@ use Rattle.std.specs.Prelude.{◌≡◌, ◌↔◌, ℕ, ◌≤◌, List, [], �
 use Rattle.std.specs.List.{IsAmong}
 use Rattle.std.specs.FinMap.{entries}
 use Rattle.wvalues.specs.Names.{NameParts}
-use Rattle.wset.specs.Views.{View, Live, Disputed, Retired, Floor, IsSettled, floor_of, known_in, join}
+use Rattle.wset.specs.Views.{View, IsSettled, floor_of, known_in, join}
+use Rattle.wentries.specs.Knowledge.{Live, Disputed, Retired, Floor}
 use Rattle.wset.specs.Lending.{IsAbove, IsBehindOrigins, only_disputed}
 use Rattle.wset.specs.Items.{Item, SegmentItem, RetirementItem, FloorItem, status_of, view_of, view_of_item}
 

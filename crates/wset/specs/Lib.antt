@@ -6,14 +6,9 @@ pub mod Sets
 pub mod Words
 pub mod Listing
 pub mod Codes
-pub mod Holding
-pub mod Entries
-pub mod Blocks
 pub mod Merging
 pub mod Running
-pub mod Cells
 pub mod KeptOrders
-pub mod StoredBlocks
 pub mod Storing
 pub mod Lending
 pub mod Walking

@@ -2,10 +2,10 @@
 use Rattle.std.specs.Prelude.{ℕ, length}
 use Rattle.wvalues.specs.Names.{NameParts}
 use Rattle.wsegment.specs.Declaration.{Declaration}
-use Rattle.wset.specs.Views.{Known, Live, Disputed, Retired, Floor}
+use Rattle.wentries.specs.Knowledge.{Known, Live, Disputed, Retired, Floor}
 use Rattle.wset.specs.Tables.{content_rows}
-use Rattle.wset.specs.Words.{status_of_known}
-use Rattle.wset.specs.declared.words.Listed.{Listed}
+use Rattle.wentries.specs.Holding.{status_of_known}
+use Rattle.wentries.specs.declared.status.Listed.{Listed}
 
 -- a name that is not live has no rows
 abbrev pub known_row_count : Declaration → Known → ℕ

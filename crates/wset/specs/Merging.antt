@@ -4,10 +4,11 @@ use Rattle.std.specs.List.{list_any}
 use Rattle.std.specs.FinMap.{put, find}
 use Rattle.wvalues.specs.Names.{NameParts, name_cmp}
 use Rattle.wsegment.specs.Declaration.{Declaration}
-use Rattle.wset.specs.Views.{Known, is_over, join_known, join_told}
-use Rattle.wset.specs.Holding.{IsHeldBy, known_of}
-use Rattle.wset.specs.Entries.{AllHeldBy, IsRising, known_entries, known_entry}
-use Rattle.wset.specs.declared.entries.Entry.{Entry}
+use Rattle.wentries.specs.Knowledge.{Known, is_over, join_known}
+use Rattle.wset.specs.Views.{join_told}
+use Rattle.wentries.specs.Holding.{IsHeldBy, known_of}
+use Rattle.wentries.specs.Entries.{AllHeldBy, IsRising, known_entries, known_entry}
+use Rattle.wentries.specs.declared.entries.Entry.{Entry}
 
 -- what is known where this is learned besides
 abbrev pub join_with : Option Known → Known → Known

@@ -1,9 +1,9 @@
 -- What a set stands for.
-use Rattle.std.specs.Prelude.{◌≡◌, IsOk, List, Ok, length}
+use Rattle.std.specs.Prelude.{◌≡◌, IsOk, List}
 use Rattle.wvalues.specs.declared.key.SortKey.{SortKey}
 use Rattle.std.specs.List.{All}
 use Rattle.wsegment.specs.Declaration.{Declaration}
-use Rattle.wsegment.specs.Rows.{Content, rows_of}
+use Rattle.wsegment.specs.Rows.{rows_of}
 use Rattle.wset.specs.Views.{View, lives}
 
 -- the declaration by which segments are read, what is known of each name, and the keys of the runs of each live segment
@@ -11,11 +11,6 @@ pub record DeclaredView : Type 0 where
   pub schema : Declaration
   pub view : View
   pub orders : List (List (List SortKey))
-
--- a segment's rows are those of its bytes by the declaration
-pub record IsReadBy (d : Declaration) (content : Content) : Type 0 where
-  pub columns : content.columns ≡ length d.columns
-  pub rows : rows_of d content.bytes ≡ Ok content.rows
 
 -- each live content is a segment by the declaration
 abbrev pub LivesAreRead : DeclaredView → Type 0

@@ -2,10 +2,11 @@
 use Rattle.std.specs.Prelude.{◌≡◌, ◌<◌, ◌^◌, length, IfSome}
 use Rattle.std.specs.FinMap.{from_sorted}
 use Rattle.wset.specs.Sets.{DeclaredView}
-use Rattle.wset.specs.Entries.{AllHeldBy, AreSettled, IsRising, known_entries}
-use Rattle.wset.specs.Blocks.{flat}
+use Rattle.wentries.specs.Entries.{AllHeldBy, AreSettled, IsRising, known_entries}
+use Rattle.wentries.specs.Blocks.{flat}
 use Rattle.wset.specs.KeptOrders.{IsOrderOf}
-use Rattle.wset.specs.Running.{AreStarts, orders_in, rows_in}
+use Rattle.wset.specs.Running.{AreStarts, orders_in}
+use Rattle.wentries.specs.Keeping.{rows_in}
 use Rattle.wset.specs.declared.set.SegmentSet.TheInside.{Inside}
 
 -- the view of the entries, under the declaration

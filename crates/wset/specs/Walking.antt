@@ -1,19 +1,15 @@
 -- The live names of entries with their contents.
-use Rattle.std.specs.Prelude.{List, Option, None, Some}
-use Rattle.std.specs.List.{filter_map}
+use Rattle.std.specs.Prelude.{List, map}
 use Rattle.wvalues.specs.Names.{NameParts}
 use Rattle.wsegment.specs.Rows.{Content}
-use Rattle.wset.specs.declared.entries.Entry.{Entry}
-use Rattle.wset.specs.declared.held.Held.{Held}
-use Rattle.wset.specs.declared.held.Held.TheVariants as held
+use Rattle.wruns.specs.KeptRuns.{KeptParts}
+use Rattle.wentries.specs.Keeping.{kept_in}
+use Rattle.wentries.specs.declared.entries.Entry.{Entry}
 
--- the name with its content, if it is live
-abbrev pub named_content : NameParts → Held → Option (NameParts × Content)
-named_content n (held.Live kept) = Some (n, kept.content)
-named_content n held.Disputed = None
-named_content n held.Retired = None
-named_content n held.Floor = None
+-- the name with its content
+abbrev pub named_content : NameParts × KeptParts → NameParts × Content
+named_content k = (k.0, k.1.content)
 
--- the live names with their contents
+-- in the order of names
 abbrev pub contents : List Entry → List (NameParts × Content)
-contents es = filter_map (λ e. named_content e.name e.held) es
+contents es = map named_content (kept_in es)

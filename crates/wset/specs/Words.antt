@@ -2,13 +2,15 @@
 use Rattle.std.specs.Prelude.{ℕ, ◌||◌, Bool, true, false, List, Option, None, Some, if◌then◌else◌}
 use Rattle.std.specs.FinMap.{get}
 use Rattle.wvalues.specs.Names.{NameParts}
-use Rattle.wset.specs.Views.{Known, Live, Disputed, Retired, Floor, View, is_below, same_bytes}
+use Rattle.wentries.specs.Knowledge.{Known, Live, Disputed, Retired, Floor, same_bytes}
+use Rattle.wset.specs.Views.{View, is_below}
 use Rattle.wset.specs.declared.words.Taken.{Taken}
 use Rattle.wset.specs.declared.words.Taken.TheVariants as takings
 use Rattle.wset.specs.declared.words.Retired.{Retired as Retirement}
 use Rattle.wset.specs.declared.words.Retired.TheVariants as retirements
-use Rattle.wset.specs.declared.words.Status.{Status}
-use Rattle.wset.specs.declared.words.Status.TheVariants as statuses
+use Rattle.wentries.specs.declared.status.Status.{Status}
+use Rattle.wentries.specs.declared.status.Status.TheVariants as statuses
+use Rattle.wentries.specs.Holding.{status_of_known}
 
 -- what taking these bytes did
 abbrev pub taken_word : Option Known → List ℕ → Taken
@@ -41,13 +43,6 @@ is_reached v n = is_below v n || is_floor (get v n)
 -- what retiring all names up to this one did: new where the floor rose
 abbrev pub floor_word : View → NameParts → Retirement
 floor_word v n = if is_reached v n then retirements.Same else retirements.New
-
--- how a name stands that is not unknown
-abbrev pub status_of_known : Known → Status
-status_of_known (Live bytes) = statuses.Live
-status_of_known Disputed = statuses.Disputed
-status_of_known Retired = statuses.Retired
-status_of_known Floor = statuses.Floor
 
 -- how a name stands
 abbrev pub status_word : Option Known → Status

@@ -1,4 +1,4 @@
-//! What a node knows of each name: live, disputed or retired, by itself or by a floor of its origin.
+//! What a node knows of all names: a set of segments, retirements, floors and disputes.
 //!
 //! - Gives a set of segments under one declaration: it takes segments, retirements, floors and disputes,
 //!   joins what another set knows, lists the names, lends what it knows in the order of names, and gives all
@@ -10,20 +10,15 @@
 //!   list of the rows by keys, then by name and place, and leaves the view as it is; runs are no part of it.
 //! - Asks: of `take_beside`, that both sets have one declaration; of `live_at` and `has_run`, that there is such a
 //!   live name.
-//! - Leaves reading to `wsegment`, runs and their merge to `wruns`, files and streams to `wexchange`.
+//! - Leaves reading to `wsegment`, runs and their merge to `wruns`, what is held of a name and the blocks of entries to
+//!   `wentries`, files and streams to `wexchange`.
 //!
-//! Read `specs/Views.antt`, `specs/Items.antt`, `specs/Laws.antt`, `specs/Tables.antt`, then
-//! `specs/Words.antt`, `specs/Listing.antt`, `specs/Sets.antt`, `specs/Lending.antt` and the first half of
-//! `specs/Running.antt`; the others say how a set is kept.
+//! Read `specs/Knowledge.antt` of `wentries`, `specs/Views.antt`, `specs/Items.antt`, `specs/Laws.antt`,
+//! `specs/Tables.antt`, then `specs/Words.antt`, `specs/Listing.antt`, `specs/Sets.antt`, `specs/Lending.antt` and the first
+//! half of `specs/Running.antt`; the others say how a set is kept.
 #![tactic(auto)]
 
-mod blocks;
-mod cells;
-mod entries;
-mod held;
-mod kept;
 mod kept_order;
-mod known;
 pub mod laws;
 mod merge;
 mod running;
@@ -32,8 +27,7 @@ mod starts;
 mod walk;
 mod words;
 
-pub use kept::Kept;
-pub use known::Known;
 pub use set::SegmentSet;
 pub use walk::{Lives, Names};
-pub use words::{JoinError, Listed, Retired, Status, TakeError, Taken};
+pub use wentries::{Kept, Known, Listed, Status};
+pub use words::{JoinError, Retired, TakeError, Taken};

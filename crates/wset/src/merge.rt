@@ -1,17 +1,15 @@
 //! The entries of two sets, joined name by name.
 ghost use Rattle.std.specs.Prelude.{◌≡◌, ◌<◌, ◌++◌, ◌∷◌, [], false, not, length, IfOk, OnOk, MatchOption};
 ghost use Rattle.std.specs.List.{AllByRecursion, filter};
-ghost use Rattle.wset.specs.Lending.{AreBelow};
-ghost use Rattle.wset.specs.Views.{Floor as TheFloor, is_over};
+ghost use Rattle.wentries.specs.Entries.{AreBelow, AllHeldBy, AreSettled, IsRising, above_floor, above_floors, known_entries, known_entry};
+ghost use Rattle.wentries.specs.Knowledge.{Floor as TheFloor, is_over};
 ghost use Rattle.wsegment.specs.Declaration.{Declaration};
-ghost use Rattle.wset.specs.Entries.{AllHeldBy, AreSettled, IsRising, above_floor, above_floors, known_entries, known_entry};
-ghost use Rattle.wset.specs.Blocks.{flat};
+ghost use Rattle.wentries.specs.Blocks.{flat};
 ghost use Rattle.wset.specs.Merging.{IsKnownTo, Joins, join_lists};
 
-use crate::blocks::{Block, held_in, is_low, shared};
-use crate::entries::{Entry, is_above};
 use std::alloc::{AllocError, Global};
 use std::cmp::Ordering;
+use wentries::{Block, Entry, held_in, is_above, is_low, shared};
 use wvalues::Name;
 
 /// The first entry of a join, and what is left of both lists.

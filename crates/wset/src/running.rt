@@ -3,15 +3,14 @@ ghost use Rattle.std.specs.Prelude.{◌≡◌, ◌++◌, ◌∷◌, [], All, IfO
 ghost use Rattle.std.specs.List.{AllByRecursion, IsAmong};
 ghost use Rattle.wruns.specs.Dealing.{segment_rows};
 ghost use Rattle.wruns.specs.Merging.{has_keys, rows_seen};
-ghost use Rattle.wset.specs.Blocks.{flat};
-ghost use Rattle.wset.specs.Running.{orders_in, rows_in};
+ghost use Rattle.wentries.specs.Blocks.{flat};
+ghost use Rattle.wset.specs.Running.{orders_in};
+ghost use Rattle.wentries.specs.Keeping.{rows_in};
 
-use crate::blocks::Block;
-use crate::held::Held;
-use crate::kept::Kept;
 use crate::walk::Walk;
 use std::alloc::{AllocError, Global};
 use std::rc::Rc;
+use wentries::{Block, Held, Kept};
 use wruns::{Run, SegmentRun};
 use wsegment::Segment;
 use wvalues::SortKey;

@@ -4,7 +4,8 @@ ghost use Rattle.std.specs.FinMap as map;
 ghost use Rattle.std.specs.Option.{option_copied};
 ghost use Rattle.wsegment.specs.Outcome.{Fails};
 ghost use Rattle.wsegment.specs.Rows.{rows_of};
-ghost use Rattle.wset.specs.Views.{Live, Disputed, Retired as Gone, Floor, IsSettled, floor_of, is_below, join, known_in, lives};
+ghost use Rattle.wentries.specs.Knowledge.{Live, Disputed, Retired as Gone, Floor};
+ghost use Rattle.wset.specs.Views.{IsSettled, floor_of, is_below, join, known_in, lives};
 ghost use Rattle.wset.specs.Items.{SegmentItem, RetirementItem, FloorItem, view_of_item};
 ghost use Rattle.wset.specs.Words.{floor_word, is_reached, retired_word, status_word, taken_word};
 ghost use Rattle.wset.specs.Listing.{listed};
@@ -12,25 +13,23 @@ ghost use Rattle.std.specs.List.{IsAmong};
 ghost use Rattle.wruns.specs.Dealing.{AreRunsOf};
 ghost use Rattle.wruns.specs.Refs.{refs_by};
 ghost use Rattle.wset.specs.Running.{live_rows};
-ghost use Rattle.wset.specs.Sets.{Becomes, IsReadBy, LivesAreRead};
+ghost use Rattle.wset.specs.Sets.{Becomes, LivesAreRead};
+ghost use Rattle.wentries.specs.Holding.{IsReadBy, IsHeldBy, known_of};
 ghost use Rattle.wset.specs.Lending.{AreLivesOf, IsAbove, IsBehindOrigins, only_disputed};
-ghost use Rattle.wset.specs.Holding.{IsHeldBy, known_of};
 
-use crate::blocks::{
-    Block, count_after, end_before, end_before_origin, entry_count, floor_in, held_in, in_blocks,
-    is_low, keep_in, listing, make_cells_in, make_in,
-};
-use crate::held::Held;
-use crate::kept::Kept;
 use crate::kept_order::{KeptOrder, is_by, order_kept, unpacked};
 use crate::merge::{joined, teaches};
 use crate::running::{RunSizes, can_be_dealt, segments, sources};
 use crate::starts::{live_count_in, live_in, put_counted, raise_counted, starts_of};
 use crate::walk::{Lives, Names};
-use crate::words::{JoinError, Listed, Retired, Status, TakeError, Taken};
+use crate::words::{JoinError, Retired, TakeError, Taken};
 use std::alloc::{AllocError, Global};
 use std::marker::Model;
 use std::rc::Rc;
+use wentries::{
+    Block, Held, Kept, Listed, Status, count_after, end_before, end_before_origin, entry_count,
+    floor_in, held_in, in_blocks, is_low, keep_in, listing, make_cells_in, make_in,
+};
 use wruns::{Dealt, RowRef, Run, deal_runs};
 use wsegment::{Judged, Schema, Segment, SegmentFault};
 use wvalues::{Name, SortKey};

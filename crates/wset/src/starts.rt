@@ -3,18 +3,15 @@ ghost use Rattle.std.specs.Prelude.{◌≡◌, ◌<◌, ◌≤◌, ◌+◌, ◌^
 ghost use Rattle.std.specs.FinMap.{put};
 ghost use Rattle.wsegment.specs.Declaration.{Declaration};
 ghost use Rattle.wvalues.specs.Names.{name_cmp};
-ghost use Rattle.wset.specs.Views.{Floor};
-ghost use Rattle.wset.specs.Holding.{IsHeldBy, known_of};
-ghost use Rattle.wset.specs.Lending.{AreBelow};
-ghost use Rattle.wset.specs.Entries.{AllHeldBy, IsRising, above_floor, known_entries};
-ghost use Rattle.wset.specs.Blocks.{flat};
-ghost use Rattle.wset.specs.Running.{AreStarts, IsLiveHome, kept_in, lives_before};
+ghost use Rattle.wentries.specs.Knowledge.{Floor};
+ghost use Rattle.wentries.specs.Holding.{IsHeldBy, known_of};
+ghost use Rattle.wentries.specs.Entries.{AreBelow, AllHeldBy, IsRising, above_floor, known_entries};
+ghost use Rattle.wentries.specs.Blocks.{flat};
+ghost use Rattle.wset.specs.Running.{AreStarts, IsLiveHome, lives_before};
+ghost use Rattle.wentries.specs.Keeping.{kept_in};
 
-use crate::blocks::{Block, end_before, put_in, raise_in};
-use crate::entries::live_at;
-use crate::held::Held;
-use crate::kept::Kept;
 use std::alloc::{AllocError, Global};
+use wentries::{Block, Held, Kept, end_before, live_at, put_in, raise_in};
 use wvalues::Name;
 
 /// The number of live names before the next block to be counted, behind those that are.

@@ -1,18 +1,14 @@
 //! What a set knows, name by name, in one pass.
 ghost use Rattle.std.specs.Prelude.{◌≡◌, [], ◌∷◌, MatchOption};
 ghost use Rattle.std.specs.Iterator.{YieldsFirstBy, item_count};
-ghost use Rattle.wset.specs.Lending.{told_of};
-ghost use Rattle.wset.specs.Entries.{known_entries};
-ghost use Rattle.wset.specs.Blocks.{flat};
+ghost use Rattle.wentries.specs.Holding.{told_of};
+ghost use Rattle.wentries.specs.Entries.{known_entries};
+ghost use Rattle.wentries.specs.Blocks.{flat};
 ghost use Rattle.wset.specs.Walking.{contents};
 
-use crate::blocks::Block;
-use crate::entries::Entry;
-use crate::held::Held;
-use crate::kept::Kept;
-use crate::known::Known;
 use std::iter::Iterator;
 use std::marker::Model;
+use wentries::{Block, Entry, Held, Kept, Known};
 use wvalues::Name;
 
 /// The entries of blocks that a walk has before it. In a contract it is their list.
@@ -24,8 +20,8 @@ pub(crate) struct Walk<'a> {
 
 impl<'a> Model for Walk<'a> {
     ghost use Rattle.std.specs.Prelude.{List, ◌++◌};
-    ghost use Rattle.wset.specs.Blocks.{flat};
-    ghost use Rattle.wset.specs.declared.entries.Entry.{Entry};
+    ghost use Rattle.wentries.specs.Blocks.{flat};
+    ghost use Rattle.wentries.specs.declared.entries.Entry.{Entry};
 
     ghost Value = { List Entry };
 
@@ -68,8 +64,8 @@ pub struct Names<'a> {
 impl<'a> Model for Names<'a> {
     ghost use Rattle.std.specs.Prelude.{List};
     ghost use Rattle.wvalues.specs.Names.{NameParts};
-    ghost use Rattle.wset.specs.Views.{Known};
-    ghost use Rattle.wset.specs.Entries.{known_entries};
+    ghost use Rattle.wentries.specs.Knowledge.{Known};
+    ghost use Rattle.wentries.specs.Entries.{known_entries};
 
     ghost Value = { List (NameParts × Known) };
 

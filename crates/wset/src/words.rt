@@ -2,7 +2,6 @@
 
 use thiserror::Error;
 use wsegment::SegmentFault;
-use wvalues::Name;
 
 /// What taking a segment did.
 #[derive(Clone, Copy, Debug, PartialEq, Eq)]
@@ -24,29 +23,6 @@ pub enum Retired {
     New,
     /// The name was retired before.
     Same,
-}
-
-/// How a name stands.
-#[derive(Clone, Copy, Debug, PartialEq, Eq)]
-pub enum Status {
-    /// Nothing is known of it.
-    Unknown,
-    /// One content of it is known.
-    Live,
-    /// Two different contents of it are known.
-    Disputed,
-    /// A retirement of it is known.
-    Retired,
-    /// In a list alone: it is retired, and so are all names of its origin with a smaller number.
-    Floor,
-}
-
-/// A name that is not unknown, how it stands, and the number of its rows: none where it is not live.
-#[derive(Clone, Copy, PartialEq, Eq)]
-pub struct Listed {
-    pub name: Name,
-    pub status: Status,
-    pub rows: usize,
 }
 
 /// Why a segment is not taken: what is wrong with its bytes, or `NoMemory`. The set is then as it was.

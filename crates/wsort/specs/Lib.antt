@@ -1,10 +1,4 @@
-pub mod Columns
 pub mod LaidRows
 pub mod Ordered
-pub mod Codes
-pub mod Bases
-pub mod CodedRows
 pub mod Dealt
-pub mod Foretold
-pub mod Ranks
 pub mod Selected

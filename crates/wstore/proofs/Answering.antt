@@ -17,8 +17,8 @@ use Rattle.wset.specs.Listing.{listed}
 use Rattle.wset.specs.Words.{taken_word, retired_word, floor_word}
 use Rattle.wset.specs.declared.words.Taken.{Taken}
 use Rattle.wset.specs.declared.words.Retired.{Retired}
-use Rattle.wset.specs.declared.words.Listed.{Listed}
-use Rattle.wstore.specs.Commands.{Command, Take, Retire as Retiring, RetireTo as RetiringTo, Listing, Ask, Put, Get, longest_segment, longest_text, node_count, slot_count}
+use Rattle.wentries.specs.declared.status.Listed.{Listed}
+use Rattle.wscript.specs.Commands.{Command, Take, Retire as Retiring, RetireTo as RetiringTo, Listing, Ask, Put, Get, longest_segment, longest_text, node_count, slot_count}
 use Rattle.wstore.specs.Replies.{Reply, text_of, Took, Was, RefusedSegment, Names, Answered, RefusedQuery, Done, RefusedFile, NoMemory, take_text, ask_text, get_text}
 use Rattle.wreplies.specs.Spelling.{file_text, taken_text, retired_text, segment_text, names_text, answer_text, query_text}
 use Rattle.wstore.specs.History.{Step, Answers, NodeAnswers, file_if, declaration, declared_by, segment_reply, delivers, gets, puts, heard, drawn, held, is_put, known, slot_file}

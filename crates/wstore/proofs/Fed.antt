@@ -1,5 +1,5 @@
 -- A piece that a node was fed.
-use Rattle.std.proofs.Common.{◌≡◌, ◌≢◌, ℕ, ◌+◌, ◌<◌, Bool, true, false, cond, ◌||◌, ◌==◌, List, [], ◌∷◌, ◌++◌, map, take, get_or, set, Option, None, Some, ◌⊎◌, inl, inr, refl, sym, ap, ◌∙◌, subst, arith, append_assoc, append-nil}
+use Rattle.std.proofs.Common.{◌≡◌, ◌≢◌, ℕ, ◌+◌, ◌<◌, Bool, true, false, cond, ◌||◌, ◌==◌, List, [], ◌∷◌, ◌++◌, map, take, get_or, set, None, Some, ◌⊎◌, inl, inr, refl, sym, ap, ◌∙◌, subst, arith, append_assoc, append-nil}
 use Rattle.std.specs.List.{flat_map, AllByRecursion}
 use Rattle.wlines.specs.Sent.{Sent, Says}
 use Rattle.std.proofs.Math.ListN.{length-set}
@@ -9,8 +9,8 @@ use Rattle.wsegment.specs.Declaration.{Declaration}
 use Rattle.wset.specs.Views.{View, IsSettled, join}
 use Rattle.wset.specs.Items.{Item, SegmentItem, RetirementItem, FloorItem, view_of}
 use Rattle.wset.proofs.Union.{view_of_union, views_are_settled}
-use Rattle.wexchange.specs.Messages.{IsMessage, IsOpen, IsBad, message_text}
-use Rattle.wstore.specs.Commands.{Feed, node_count}
+use Rattle.wstream.specs.Messages.{IsMessage, IsOpen, IsBad, message_text}
+use Rattle.wscript.specs.Commands.{Feed, node_count}
 use Rattle.wstore.specs.Replies.{Line, TookLine, WasLine, FloorLine, RefusedLine, SpentLine, line_item, line_items, fed_text, Fed, NoMemory}
 use Rattle.wreplies.specs.Spelling.{no_memory}
 use Rattle.wstore.specs.History.{Step, Answers, LinesAnswer, IsRest, FeedBegins, PieceAnswers, Heard, heard, heard_items, heard_bad, entered, stream, handled, is_bad, declaration, known, held, slot_file}

@@ -10,7 +10,7 @@ use Rattle.wset.specs.Views.{View, IsSettled, is_below, join, join_told}
 use Rattle.wset.specs.Items.{Item, SegmentItem, RetirementItem, FloorItem, view_of}
 use Rattle.wset.proofs.Joining.{join_laws, same_view, get-join, with_none}
 use Rattle.wset.proofs.Union.{below-view_of, get-view_of}
-use Rattle.wexchange.specs.Messages.{IsMessage, IsOpen, IsBad, message_text}
+use Rattle.wstream.specs.Messages.{IsMessage, IsOpen, IsBad, message_text}
 use Rattle.wstore.specs.Replies.{Line, TookLine, WasLine, FloorLine, RefusedLine, SpentLine, line_item, line_items, line_text, fed_text}
 use Rattle.wstore.specs.History.{LineAnswers, LinesAnswer}
 use Rattle.wstore.specs.Nodes.{NodeState, IsTold, Handles, Tells, TellsAll, told_view}

@@ -10,7 +10,7 @@ use Rattle.wset.proofs.Union.{view_of_union, same_items_same_view}
 use Rattle.wexchange.specs.Files.{file_of, text_of}
 use Rattle.wexchange.specs.Judging.{Judges}
 use Rattle.wexchange.specs.declared.fault.FileFault.{FileFault}
-use Rattle.wstore.specs.Commands.{Command, Listing, Ask, Put, Get}
+use Rattle.wscript.specs.Commands.{Command, Listing, Ask, Put, Get}
 use Rattle.wstore.specs.Replies.{Reply, Names, Done, NoMemory}
 use Rattle.wask.specs.Answer.{IsAnswer}
 use Rattle.wask.proofs.OneAnswer.{one_answer}

@@ -1,9 +1,4 @@
-pub mod Quiet
 pub mod Lacking
-pub mod Words
-pub mod Behind
-pub mod Bodies
-pub mod Spelling
 pub mod Learning
 pub mod Soundness
 pub mod Standing

@@ -9,14 +9,14 @@ use Rattle.wsegment.specs.Spelling.{Spells, IsRefusedFor, ReadsDeclaration, repe
 use Rattle.wsegment.specs.declared.schema_fault.SchemaFault.{SchemaFault}
 use Rattle.wsegment.specs.declared.schema_fault.SchemaFault.TheVariants as tables
 use Rattle.wsegment.proofs.SpellingFacts.{spells-one}
-use Rattle.wexchange.proofs.OneText.{same_front}
-use Rattle.wstore.specs.Commands.{Command, Declare, Take, Retire, RetireTo, Listing, Ask, Feed, Put, Get, IsForm, IsNode, IsSlot, IsPieceLength, IsAllowed, IsCommand, line_of, form_of, behind, spell, pair_words}
+use Rattle.wrecords.proofs.Lines.{same_front}
+use Rattle.wscript.specs.Commands.{Command, Declare, Take, Retire, RetireTo, Listing, Ask, Feed, Put, Get, IsForm, IsNode, IsSlot, IsPieceLength, IsAllowed, IsCommand, line_of, form_of, behind, spell, pair_words}
 use Rattle.wstore.specs.Replies.{Reply, Declared, RefusedTable, Took, Was, RefusedName, RefusedSegment, Names, Answered, RefusedQuery, Fed, Done, RefusedFile, NoMemory}
 use Rattle.wstore.specs.History.{Step, Answers, AnswersUnder, DeclareAnswers, declaration, declared_by, is_declared}
 use Rattle.wstore.specs.Runs.{Ran, asked}
 use Rattle.wstore.specs.Laws.{EndsRun, OneReading}
-use Rattle.wstore.proofs.Words.{no_space}
-use Rattle.wstore.proofs.Spelling.{line_lacks}
+use Rattle.wscript.proofs.Words.{no_space}
+use Rattle.wscript.proofs.Spelling.{line_lacks}
 
 -- ---- words
 

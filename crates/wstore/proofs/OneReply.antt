@@ -20,13 +20,13 @@ use Rattle.wset.specs.Words.{taken_word, retired_word, floor_word}
 use Rattle.wexchange.specs.Files.{text_of}
 use Rattle.wexchange.specs.declared.version.Version.TheVariants.{One, Two}
 use Rattle.wexchange.specs.Judging.{Place, AtTable, Behind, AtDigest, GoesOn, Judges}
-use Rattle.wexchange.specs.Messages.{Splits, message_text}
+use Rattle.wstream.specs.Messages.{Splits, message_text}
 use Rattle.wexchange.specs.declared.fault.FileFault.{FileFault}
 use Rattle.wexchange.specs.declared.fault.FileFault.TheVariants as files
-use Rattle.wexchange.proofs.FirstMessage.{first_of_none, one_message}
+use Rattle.wstream.proofs.FirstMessage.{first_of_none, one_message}
 use Rattle.wexchange.proofs.OneJudgement.{one_judgement}
 use Rattle.wask.proofs.OneAnswer.{one_answer}
-use Rattle.wstore.specs.Commands.{Command, Declare, Take, Retire, RetireTo, Listing, Ask, Feed, Put, Get}
+use Rattle.wscript.specs.Commands.{Command, Declare, Take, Retire, RetireTo, Listing, Ask, Feed, Put, Get}
 use Rattle.wstore.specs.Replies.{Line, TookLine, WasLine, FloorLine, RefusedLine, SpentLine, line_item, line_items, Reply, Declared, RefusedTable, Took, Was, RefusedName, RefusedSegment, Names, Answered, RefusedQuery, Fed, Done, RefusedFile, NoMemory}
 use Rattle.wstore.specs.History.{Step, Answers, AnswersUnder, PieceAnswers, LineAnswers, LinesAnswer, IsRest, declaration, known, held, is_put, is_bad, stream, handled, file_if, take_reply, retire_reply, floor_reply, query_reply, file_reply}
 use Rattle.wstore.specs.Laws.{IsHandled, HasMemory, IsOfTable, OneReply}

@@ -11,7 +11,7 @@ use Rattle.wsegment.specs.declared.fault.SegmentFault.{SegmentFault}
 use Rattle.wset.specs.Views.{View}
 use Rattle.wexchange.specs.declared.fault.FileFault.{FileFault}
 use Rattle.wplanner.specs.declared.fault.AskFault.{AskFault}
-use Rattle.wstore.specs.Commands.{Command, Declare, Take, Retire, RetireTo, Listing, Ask, Feed, Put, Get}
+use Rattle.wscript.specs.Commands.{Command, Declare, Take, Retire, RetireTo, Listing, Ask, Feed, Put, Get}
 use Rattle.wstore.specs.Replies.{Reply, Declared, RefusedTable, Took, Was, RefusedName, RefusedSegment, Names, Answered, RefusedQuery, Fed, Done, RefusedFile, NoMemory}
 use Rattle.wstore.specs.History.{Step, Answers, AnswersUnder, declaration, is_bad, segment_reply, take_reply, retire_reply, floor_reply, query_reply, file_reply}
 use Rattle.wstore.specs.Runs.{Ran}

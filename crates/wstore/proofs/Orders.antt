@@ -1,12 +1,12 @@
 -- What an order is told that asks a node.
 use Rattle.std.proofs.Common.{◌≡◌, ◌≤◌, ℕ, List, length, Vec, Global, Result, Ok, Err, IfOk, OnErr, sym, subst}
 use Rattle.wsegment.specs.Declaration.{Declaration}
-use Rattle.wstore.specs.Commands.{Command, Declare, Take, Retire, RetireTo, Listing, Ask, Feed, Put, Get, longest_text}
+use Rattle.wscript.specs.Commands.{Command, Declare, Take, Retire, RetireTo, Listing, Ask, Feed, Put, Get, longest_text}
 use Rattle.wstore.specs.History.{Step}
-use Rattle.wstore.specs.Requests.{IsOrderAt}
+use Rattle.wscript.specs.Requests.{IsOrderAt}
 use Rattle.wstore.specs.Standing.{AnswersAs, Places, StandAt}
-use Rattle.wstore.specs.declared.request.Order.{Order}
-use Rattle.wstore.specs.declared.request.Order.TheVariants as orders
+use Rattle.wscript.specs.declared.request.Order.{Order}
+use Rattle.wscript.specs.declared.request.Order.TheVariants as orders
 
 -- what the text is told, the order's command is told
 told_so : (d : Declaration) (at new : Places) (h : List Step) (n : ℕ) (kept : Vec ℕ Global) (reply : List ℕ) → (length kept.items ≤ longest_text → StandAt d at h → AnswersAs d new h (Ask n kept.items) reply) → (c : Command) → IsOrderAt n (orders.Ask kept) c → StandAt d at h → AnswersAs d new h c reply

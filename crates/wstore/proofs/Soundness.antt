@@ -10,13 +10,14 @@ use Rattle.std.specs.FinMap.{get, entries, find, is_sorted, get-entries, entries
 use Rattle.wvalues.specs.Names.{NameParts, IsName, name_cmp, names_total}
 use Rattle.wsegment.specs.Declaration.{Declaration}
 use Rattle.wsegment.specs.Rows.{rows_of}
-use Rattle.wset.specs.Views.{Known, Live, Disputed, Retired, Floor, View, is_below, same_name, same_bytes, join_known, join_told}
+use Rattle.wentries.specs.Knowledge.{Known, Live, Disputed, Retired, Floor, same_name, same_bytes, join_known}
+use Rattle.wset.specs.Views.{View, is_below, join_told}
 use Rattle.wset.specs.Items.{Item, SegmentItem, RetirementItem, FloorItem, view_of, view_of_item}
-use Rattle.wset.proofs.Floors.{exact_names, same_name-true}
+use Rattle.wentries.proofs.Floors.{exact_names, same_name-true}
 use Rattle.wset.proofs.Joining.{get-join, same_view}
 use Rattle.wset.proofs.Singles.{IsSingle, segment_single, retirement_single, floor_single}
 use Rattle.wset.proofs.Union.{get-view_of, view_of_union}
-use Rattle.wexchange.specs.Forms.{IsNumber}
+use Rattle.wrecords.specs.Forms.{IsNumber}
 use Rattle.wexchange.specs.Files.{IsRecord, AreRecords, text_of}
 use Rattle.wexchange.specs.Judging.{IsFileOf}
 use Rattle.wexchange.specs.declared.version.Version.{Version}

@@ -9,11 +9,11 @@ use Rattle.wset.specs.Views.{View, join}
 use Rattle.wset.specs.Items.{Item, view_of}
 use Rattle.wstore.specs.Nodes.{NodeState}
 use Rattle.wset.proofs.Union.{view_of_union}
-use Rattle.wstore.specs.Commands.{Command, node_count, slot_count}
+use Rattle.wscript.specs.Commands.{Command, node_count, slot_count}
 use Rattle.wstore.specs.Replies.{Reply}
 use Rattle.wstore.specs.History.{Step, Answers, AnswersUnder, declaration, declared_by, delivers, gets, puts, drawn, replaced, is_put, is_put_by, held, known, file_if, slot_file, heard, heard_items, heard_bad, entered, stream, handled, is_bad}
 use Rattle.wexchange.specs.Files.{file_of}
-use Rattle.wexchange.specs.Messages.{IsMessage, message_text}
+use Rattle.wstream.specs.Messages.{IsMessage, message_text}
 use Rattle.std.specs.List.{flat_map, AllByRecursion}
 use Rattle.wstore.specs.Standing.{KnowsThese, IsSound, Listens, Places, StandAt, places}
 use Rattle.wstore.proofs.Soundness.{sound_both}

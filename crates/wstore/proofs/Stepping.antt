@@ -2,22 +2,22 @@
 use Rattle.std.proofs.Common.{◌≡◌, ℕ, Bool, true, List, [], take, Option, None, Some, IfSome, is_some, ◌++◌, inl, inr, refl, sym, ap, subst}
 use Rattle.std.specs.Io.KnownBytes.{Consumes}
 use Rattle.wlines.specs.Sent.{Sent, Says}
-use Rattle.wstore.specs.Commands.{Command, Declare, Take, Retire, RetireTo, Listing, Ask, Feed, Put, Get, IsAllowed, IsCommand, IsMalformed, spell}
+use Rattle.wscript.specs.Commands.{Command, Declare, Take, Retire, RetireTo, Listing, Ask, Feed, Put, Get, IsAllowed, IsCommand, IsMalformed, spell}
 use Rattle.wstore.specs.History.{Step, is_declared}
 use Rattle.std.specs.List.{flat_map}
 use Rattle.wstore.specs.Replies.{line_text, text_of, bad_script}
-use Rattle.wstore.specs.Requests.{IsCommandOf, IsOrderAt}
+use Rattle.wscript.specs.Requests.{IsCommandOf, IsOrderAt}
 use Rattle.wstore.specs.Runs.{Stops, Begins, nothing, answer, lines, last}
 use Rattle.wstore.specs.Sessions.{MayStand}
 use Rattle.wstore.specs.Steps.{Unanswered, StepFails}
-use Rattle.wstore.specs.declared.request.Command as code
-use Rattle.wstore.specs.declared.request.Command.TheVariants as commands
-use Rattle.wstore.specs.declared.request.Order.{Order}
-use Rattle.wstore.specs.declared.request.Order.TheVariants as orders
+use Rattle.wscript.specs.declared.request.Command as code
+use Rattle.wscript.specs.declared.request.Command.TheVariants as commands
+use Rattle.wscript.specs.declared.request.Order.{Order}
+use Rattle.wscript.specs.declared.request.Order.TheVariants as orders
 use Rattle.wstore.specs.declared.runs.RunFault.{RunFault}
 use Rattle.wstore.specs.declared.runs.RunFault.TheVariants as faults
 use Rattle.wstore.specs.declared.session.Session.{Session}
-use Rattle.wstore.proofs.Spelling.{front_of}
+use Rattle.wscript.proofs.Spelling.{front_of}
 
 -- a command that a node is told or asked stands where the table is declared
 order_allowed : (n : ℕ) (order : Order) (c : Command) (declared : Bool) → IsOrderAt n order c → IsAllowed declared c → declared ≡ true

@@ -11,21 +11,21 @@ use Rattle.wsegment.specs.Rows.{rows_of}
 use Rattle.wsegment.specs.declared.fault.SegmentFault.TheVariants as segments
 use Rattle.wvalues.specs.declared.name.NameFault.{NameFault}
 use Rattle.std.specs.List.{flat_map, AllByRecursion}
-use Rattle.wexchange.specs.Messages.{IsMessage, message_text}
+use Rattle.wstream.specs.Messages.{IsMessage, message_text}
 use Rattle.wset.specs.Items.{view_of}
 use Rattle.wstore.specs.Nodes.{NodeState, fresh_node}
-use Rattle.wstore.specs.Commands.{Command, Declare, Take, Retire, RetireTo, Listing, Ask, Feed, Put, Get, IsAllowed, longest_segment, node_count, slot_count}
+use Rattle.wscript.specs.Commands.{Command, Declare, Take, Retire, RetireTo, Listing, Ask, Feed, Put, Get, IsAllowed, longest_segment, node_count, slot_count}
 use Rattle.wstore.specs.Replies.{Reply, Declared, RefusedTable, RefusedName, RefusedSegment, RefusedQuery, NoMemory, text_of}
 use Rattle.wreplies.specs.Spelling.{table_text, name_text, segment_text, query_text, no_memory}
-use Rattle.wstore.specs.Requests.{IsRefusedAs, refusal_text}
+use Rattle.wscript.specs.Requests.{IsRefusedAs}
 use Rattle.wstore.specs.History.{Step, AnswersUnder, MayLackMemory, declaration, declared_by, is_declared, is_put, is_put_by, held, known, puts, replaced, file_if, heard, heard_items, heard_bad, entered, stream, handled, is_bad, segment_reply}
 use Rattle.wstore.specs.Standing.{KnowsThese, IsSound, Listens, Places, StandAt, places}
 use Rattle.wplanner.specs.declared.fault.AskFault.TheVariants as queries
-use Rattle.wstore.specs.declared.request.Refusal.{Refusal}
-use Rattle.wstore.specs.declared.request.Refusal.TheVariants as refusals
+use Rattle.wscript.specs.declared.request.Refusal.{Refusal}
+use Rattle.wscript.specs.declared.request.Refusal.TheVariants as refusals
 use Rattle.wstore.proofs.Soundness.{nothing_known, sound_nothing}
 use Rattle.wstore.proofs.Standing.{IsQuiet, stand_quiet, untold, or_none, listens_still}
-use Rattle.wstore.specs.Sessions.{ClusterStands, IsSilent, Stands, Tells}
+use Rattle.wstore.specs.Sessions.{ClusterStands, IsSilent, Stands, Tells, refusal_text}
 use Rattle.wstore.specs.declared.session.Session.{Session}
 
 none_of : (o : Option Declaration) → is_some o ≡ false → o ≡ None

@@ -6,7 +6,7 @@ use Rattle.std.proofs.lemmas.List.{take_all}
 use Rattle.wlines.specs.Sent.{Sent, Says}
 use Rattle.wlines.proofs.Saying.{says_nothing, says_more, says_ended, says_all, says_begun}
 use Rattle.std.specs.List.{flat_map}
-use Rattle.wstore.specs.Commands.{IsCommand, IsMalformed, spell}
+use Rattle.wscript.specs.Commands.{IsCommand, IsMalformed, spell}
 use Rattle.wstore.specs.History.{Step, Answers, is_declared}
 use Rattle.wstore.specs.Replies.{text_of, line_text, bad_script}
 use Rattle.wstore.specs.Runs.{Ran, asked, told, RepliesDone, RepliesBad, RepliesBegun, Replies, Stops, StopsRun, Begins, nothing, answer, lines, last}
@@ -17,7 +17,7 @@ use Rattle.wstore.specs.declared.runs.End.TheVariants.{Done, Bad}
 use Rattle.wstore.specs.declared.runs.RunFault.{RunFault}
 use Rattle.wstore.specs.declared.runs.RunFault.TheVariants as faults
 use Rattle.wstore.specs.declared.session.Session.{Session}
-use Rattle.wstore.proofs.Spelling.{lift_front}
+use Rattle.wscript.proofs.Spelling.{lift_front}
 
 -- what a run has done so far: steps that consumed and wrote so much, and where they led
 pub record SoFar (session : Session) (first left : Option (List ℕ)) (begun held : Sent) : Type 0 where

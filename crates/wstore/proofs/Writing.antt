@@ -4,13 +4,13 @@ use Rattle.std.specs.List.{flat_map}
 use Rattle.wlines.specs.Sent.{Sent, Says}
 use Rattle.wlines.proofs.Saying.{says_behind}
 use Rattle.wstore.specs.Replies.{line_text, text_of}
-use Rattle.wstore.specs.Commands.{Command, Declare, Take, Retire, RetireTo, Listing, Ask, Feed, Put, Get}
+use Rattle.wscript.specs.Commands.{Command, Declare, Take, Retire, RetireTo, Listing, Ask, Feed, Put, Get}
 use Rattle.wstore.specs.History.{Step, MayLackMemory, is_put}
-use Rattle.wstore.specs.Requests.{IsFeedOf, IsOrderAt, KeepsBody}
+use Rattle.wscript.specs.Requests.{IsFeedOf, IsOrderAt, KeepsBody}
 use Rattle.wstore.specs.Sessions.{Tells}
 use Rattle.wstore.specs.Steps.{Answered, AnsweredPart, AnsweredLines, Unanswered}
-use Rattle.wstore.specs.declared.request.Order.{Order}
-use Rattle.wstore.specs.declared.request.Order.TheVariants as orders
+use Rattle.wscript.specs.declared.request.Order.{Order}
+use Rattle.wscript.specs.declared.request.Order.TheVariants as orders
 use Rattle.wstore.specs.declared.runs.RunFault.{RunFault}
 use Rattle.wstore.specs.declared.runs.RunFault.TheVariants as faults
 use Rattle.wstore.specs.declared.session.Session.{Session}

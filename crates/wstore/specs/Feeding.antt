@@ -3,7 +3,7 @@ use Rattle.std.specs.Prelude.{◌≡◌, ℕ, Bool, true, false, List, ◌∷◌
 use Rattle.std.specs.List.{flat_map}
 use Rattle.wlines.specs.Sent.{Sent, Says}
 use Rattle.wsegment.specs.Declaration.{Declaration}
-use Rattle.wstore.specs.Commands.{Feed}
+use Rattle.wscript.specs.Commands.{Feed}
 use Rattle.wstore.specs.Replies as history
 use Rattle.wstore.specs.History.{Step, Answers}
 use Rattle.wstore.specs.Standing.{Places, StandAt}

@@ -11,16 +11,17 @@ use Rattle.wsegment.specs.Spelling.{ReadsDeclaration}
 use Rattle.wsegment.specs.Rows.{rows_of}
 use Rattle.wsegment.specs.declared.fault.SegmentFault.{SegmentFault}
 use Rattle.wsegment.specs.declared.schema_fault.SchemaFault.TheVariants as tables
-use Rattle.wset.specs.Views.{View, Live, Retired as Gone, join, known_in}
+use Rattle.wset.specs.Views.{View, join, known_in}
+use Rattle.wentries.specs.Knowledge.{Live, Retired as Gone}
 use Rattle.wset.specs.Items.{Item, SegmentItem, RetirementItem, FloorItem, view_of}
 use Rattle.wset.specs.Words.{taken_word, retired_word, floor_word, is_reached}
 use Rattle.wset.specs.Listing.{listed}
 use Rattle.wexchange.specs.Files.{file_of}
 use Rattle.wexchange.specs.Judging.{Judges}
-use Rattle.wexchange.specs.Messages.{IsMessage, IsOpen, IsBad, Splits, message_text}
+use Rattle.wstream.specs.Messages.{IsMessage, IsOpen, IsBad, Splits, message_text}
 use Rattle.wexchange.specs.declared.fault.FileFault.{FileFault}
 use Rattle.wexchange.specs.declared.fault.FileFault.TheVariants as files
-use Rattle.wstore.specs.Commands.{Command, Declare, Take, Retire, RetireTo, Listing, Ask, Feed, Put, Get, longest_segment, longest_text}
+use Rattle.wscript.specs.Commands.{Command, Declare, Take, Retire, RetireTo, Listing, Ask, Feed, Put, Get, AreName, longest_segment, longest_text}
 use Rattle.wstore.specs.Replies.{Reply, Line, TookLine, WasLine, FloorLine, RefusedLine, SpentLine, line_item, line_items, Fed, Declared, RefusedTable, Took, Was, RefusedName, RefusedSegment, Names, Answered, RefusedQuery, Done, RefusedFile, NoMemory}
 use Rattle.wask.specs.Answer.{IsAnswer}
 use Rattle.wplanner.specs.declared.fault.AskFault.{AskFault}
@@ -246,10 +247,6 @@ AnswersUnder (Some d) h (Ask n text) r = NodeAnswers d (view_of (known h n)) (As
 AnswersUnder (Some d) h (Feed n piece) r = PieceAnswers (is_bad h n) d h n piece r
 AnswersUnder (Some d) h (Put n slot) r = r ≡ Done
 AnswersUnder (Some d) h (Get slot n) r = FileAnswers d (slot_file d h slot) r
-
--- the words are a name
-abbrev pub AreName : List ℕ → List ℕ → Type 0
-AreName origin number = (name : NameParts) × ReadsName origin number (Ok name)
 
 -- the commands that may find no memory; any other is answered without it: a declaration, a name that is none, a body over its limit, and a slot that was not put
 abbrev pub MayLackMemory : List Step → Command → Type 0

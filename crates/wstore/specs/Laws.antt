@@ -5,7 +5,7 @@ use Rattle.wsegment.specs.Declaration.{Declaration}
 use Rattle.wset.specs.Views.{join}
 use Rattle.wset.specs.Items.{Item, view_of}
 use Rattle.wsegment.specs.Spelling.{IsDeclaration}
-use Rattle.wstore.specs.Commands.{Command, Listing, Ask, Put, Get, IsMalformed}
+use Rattle.wscript.specs.Commands.{Command, Listing, Ask, Put, Get, IsMalformed}
 use Rattle.wstore.specs.Replies.{Line, SpentLine, Reply, Fed, Done, NoMemory}
 use Rattle.wstore.specs.History.{Step, Answers, declaration, is_declared, delivers, gets, puts, known, held, is_put, slot_file}
 use Rattle.wstore.specs.Runs.{Ran, asked}

@@ -1,6 +1,3 @@
-pub mod Commands
-pub mod Headers
-pub mod Requests
 pub mod Replies
 pub mod Nodes
 pub mod Feeding

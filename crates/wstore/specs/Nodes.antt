@@ -9,8 +9,8 @@ use Rattle.wset.specs.Items.{Item, SegmentItem, RetirementItem, FloorItem, view_
 use Rattle.wset.specs.Codes.{coded_view}
 use Rattle.wset.specs.Words.{taken_word, retired_word, floor_word}
 use Rattle.wexchange.specs.Judging.{IsFileOf}
-use Rattle.wexchange.specs.Messages.{IsMessage, IsOpen, IsBad, message_text}
-use Rattle.wexchange.specs.declared.message.BadStream.{BadStream}
+use Rattle.wstream.specs.Messages.{IsMessage, IsOpen, IsBad, message_text}
+use Rattle.wstream.specs.declared.message.BadStream.{BadStream}
 use Rattle.wstore.specs.Replies.{Line, line_item, line_items}
 use Rattle.wstore.specs.History.{IsRest, LinesAnswer, MayNeedMemory}
 use Rattle.wstore.specs.declared.node.Reply.{Reply}

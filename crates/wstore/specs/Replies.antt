@@ -11,7 +11,7 @@ use Rattle.wsegment.specs.declared.schema_fault.SchemaFault.{SchemaFault}
 use Rattle.wset.specs.Items.{Item, SegmentItem, RetirementItem, FloorItem}
 use Rattle.wset.specs.declared.words.Taken.{Taken}
 use Rattle.wset.specs.declared.words.Retired.{Retired}
-use Rattle.wset.specs.declared.words.Listed.{Listed}
+use Rattle.wentries.specs.declared.status.Listed.{Listed}
 use Rattle.wexchange.specs.declared.fault.FileFault.{FileFault}
 use Rattle.wplanner.specs.declared.fault.AskFault.{AskFault}
 use Rattle.wreplies.specs.Spelling.{answer_text, file_text, name_text, names_text, no_memory, query_text, retired_text, segment_text, table_text, taken_text}

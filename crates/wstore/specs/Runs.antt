@@ -2,7 +2,7 @@
 use Rattle.std.specs.Prelude.{◌≡◌, ℕ, ◌≤◌, List, [], ◌∷◌, ◌++◌, length, take, Some, ◌⊎◌}
 use Rattle.std.specs.List.{flat_map}
 use Rattle.wsegment.specs.Declaration.{Declaration}
-use Rattle.wstore.specs.Commands.{Command, Declare, Feed, IsCommand, IsMalformed, longest_text, spell}
+use Rattle.wscript.specs.Commands.{Command, Declare, Feed, IsCommand, IsMalformed, longest_text, spell}
 use Rattle.wstore.specs.Replies.{Reply, Line, line_text, text_of, bad_script}
 use Rattle.wstore.specs.History.{Step, Answers, FeedBegins, declaration, is_declared}
 use Rattle.wstore.specs.declared.runs.End.{End}

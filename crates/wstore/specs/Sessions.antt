@@ -1,12 +1,18 @@
 -- Where a session stands after a history.
 use Rattle.std.specs.Prelude.{◌≡◌, ℕ, List, [], ◌∷◌, Option, None, Some, is_some, true, false}
 use Rattle.wsegment.specs.Declaration.{Declaration}
-use Rattle.wstore.specs.Commands.{Command}
+use Rattle.wscript.specs.Commands.{Command}
 use Rattle.wstore.specs.Replies.{Reply, text_of}
 use Rattle.wstore.specs.History.{Step, Answers, declaration, known, is_put, is_bad, stream, handled}
 use Rattle.wstore.specs.Standing.{Places, StandAt}
-use Rattle.wstore.specs.declared.request.Command as code
-use Rattle.wstore.specs.declared.request.Command.TheVariants as commands
+use Rattle.wscript.specs.declared.request.Command as code
+use Rattle.wscript.specs.declared.request.Command.TheVariants as commands
+use Rattle.wscript.specs.declared.request.Refusal.{Refusal}
+use Rattle.wscript.specs.declared.request.Refusal.TheVariants as refusals
+use Rattle.wsegment.specs.declared.schema_fault.SchemaFault.TheVariants as tables
+use Rattle.wsegment.specs.declared.fault.SegmentFault.TheVariants as segments
+use Rattle.wplanner.specs.declared.fault.AskFault.TheVariants as queries
+use Rattle.wreplies.specs.Spelling.{name_text, query_text, segment_text, table_text}
 use Rattle.wstore.specs.declared.session.Session.{Session}
 
 -- a node was fed nothing
@@ -20,6 +26,13 @@ ClusterStands (Some cluster) h = (d : Declaration) × StandAt d cluster h
 -- nothing was declared, known or put, or the nodes and slots stand where the history led
 abbrev pub Stands : Session → List Step → Type 0
 Stands session h = ClusterStands session.cluster h
+
+-- what is told of a command that its form refuses
+abbrev pub refusal_text : Refusal → List ℕ
+refusal_text refusals.LongDeclaration = table_text tables.Syntax
+refusal_text (refusals.BadName fault) = name_text fault
+refusal_text refusals.LongSegment = segment_text segments.TooLong
+refusal_text refusals.LongQuery = query_text queries.TooLong
 
 -- a command was answered by this text, and the session stands behind it
 pub record Tells (session : Session) (h : List Step) (c : Command) (text : List ℕ) : Type 0 where

@@ -5,12 +5,12 @@ use Rattle.std.specs.FinMap.{get}
 use Rattle.wvalues.specs.Names.{NameParts}
 use Rattle.wsegment.specs.Declaration.{Declaration}
 use Rattle.wset.specs.Items.{Item, view_of}
-use Rattle.wset.specs.Views.{Known}
+use Rattle.wentries.specs.Knowledge.{Known}
 use Rattle.wexchange.specs.Files.{IsRecord}
-use Rattle.wexchange.specs.Messages.{IsMessage, message_text}
+use Rattle.wstream.specs.Messages.{IsMessage, message_text}
 use Rattle.std.specs.Coded.{Coded, code_by, coded×, coded_ℕ, coded_list}
 use Rattle.wstore.specs.Nodes.{NodeState, coded_node}
-use Rattle.wstore.specs.Commands.{Command, node_count, slot_count}
+use Rattle.wscript.specs.Commands.{Command, node_count, slot_count}
 use Rattle.wstore.specs.Replies.{Reply, text_of}
 use Rattle.wstore.specs.History.{Step, Answers, declaration, known, held, slot_file, stream, handled, is_bad}
 

@@ -6,7 +6,7 @@ use Rattle.wvalues.specs.Counts.{Counts}
 use Rattle.wlines.specs.Pending.{IsSound, IsSoundWriter, ReadFailed}
 use Rattle.wlines.specs.Sent.{Sent, Says, Waiting}
 use Rattle.wsegment.specs.Declaration.{Declaration}
-use Rattle.wstore.specs.Commands.{Command, Feed, IsCommand, IsShortDeclaration, IsMalformed, spell}
+use Rattle.wscript.specs.Commands.{Command, Feed, IsCommand, IsShortDeclaration, IsMalformed, spell}
 use Rattle.wstore.specs.Replies.{Reply, Line, line_text, text_of, bad_script}
 use Rattle.wstore.specs.History.{Step, Answers, FeedBegins, declaration, is_declared}
 use Rattle.wstore.specs.Runs.{Stops}

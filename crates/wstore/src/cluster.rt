@@ -5,7 +5,7 @@ ghost use Rattle.wlines.specs.Sent.{sent};
 ghost use Rattle.std.specs.FinMap as map;
 ghost use Rattle.wsegment.specs.Declaration.{Declaration};
 ghost use Rattle.wvalues.specs.NameReading.{ReadsName};
-ghost use Rattle.wstore.specs.Commands.{Command as Spelled, Take, Retire as Retiring, RetireTo as RetiringTo, Listing, Ask, Put, Get, longest_segment, longest_text, node_count, slot_count};
+ghost use Rattle.wscript.specs.Commands.{Command as Spelled, Take, Retire as Retiring, RetireTo as RetiringTo, Listing, Ask, Put, Get, longest_segment, longest_text, node_count, slot_count};
 ghost use Rattle.wstore.specs.History.{Step, is_put};
 ghost use Rattle.wstore.specs.Nodes.{fresh_node};
 ghost use Rattle.wstore.specs.Replies.{ask_text, get_text, take_text};
@@ -13,8 +13,6 @@ ghost use Rattle.wreplies.specs.Texts.{bytes_of};
 
 use crate::feeding::feed_node;
 use crate::node::Node;
-use crate::numbers::{NODES, NodeNumber, SLOTS, SlotNumber};
-use crate::request::Order;
 use crate::runs::RunFault;
 use crate::slot::Slot;
 use std::alloc::{AllocError, Global};
@@ -24,6 +22,7 @@ use wexchange::FileFault;
 use wlines::Outbox;
 use wplanner::AskFault;
 use wreplies::{Text, answer, names, refused_file, refused_query, refused_segment, retired, taken};
+use wscript::{NODES, NodeNumber, Order, SLOTS, SlotNumber};
 use wsegment::{Schema, SegmentFault};
 use wset::{TakeError, Taken};
 use wvalues::{Counted, Name};
@@ -39,7 +38,7 @@ pub(crate) struct Cluster {
 
 impl Model for Cluster {
     ghost use Rattle.std.specs.Prelude.{◌≡◌, length};
-    ghost use Rattle.wstore.specs.Commands.{node_count, slot_count};
+    ghost use Rattle.wscript.specs.Commands.{node_count, slot_count};
     ghost use Rattle.wstore.specs.Standing.{Places, coded_places, places};
 
     ghost Value = { Places };
@@ -121,7 +120,7 @@ fn get_text(alloc: Global, told: Result<(), FileFault>) -> Result<Text, AllocErr
 impl Cluster {
     ghost use Rattle.std.specs.Prelude.{◌+◌, ◌-◌, ◌<◌, slice_index_or};
     ghost use Rattle.wstore.specs.Standing.{StandAt, AnswersAs, places};
-    ghost use Rattle.wstore.specs.Requests.{IsOrderAt};
+    ghost use Rattle.wscript.specs.Requests.{IsOrderAt};
     ghost use Rattle.wstore.specs.Feeding.{FedAs};
     ghost use Rattle.wstore.specs.Steps.{FedPart};
 

@@ -11,9 +11,9 @@ use crate::runs::{RunFault, send};
 use itoa::Buffer;
 use std::alloc::Global;
 use std::io::Write;
-use wexchange::PushFault;
 use wlines::Outbox;
 use wreplies::{Text, refused_segment, retired, taken};
+use wstream::PushFault;
 use wvalues::Counted;
 
 // What a message was told, as it is spelled. A refusal that finds no memory is told as a message that found none.

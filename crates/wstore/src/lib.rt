@@ -8,20 +8,16 @@
 //!   asked for more, all commands that it gave are answered and the replies written (`step`). Nodes that know the same
 //!   answer the same (`laws`). A node is what it knows, and a refused command changes nothing.
 //! - Asks: a reader and a writer that have counted nothing yet.
-//! - Leaves segments to `wsegment`, names to `wset`, files and streams to `wexchange`, lines to `wlines`.
+//! - Leaves segments to `wsegment`, names to `wset`, files and streams to `wexchange`, reading commands to `wscript`.
 //!
-//! Read `specs/Commands.antt`, `specs/Replies.antt`, `specs/History.antt`, then
-//! `specs/Laws.antt` and `specs/Runs.antt`; the others say how the code stands for them.
+//! Read `specs/Replies.antt` and `specs/History.antt` behind `specs/Commands.antt` of `wscript`, then `specs/Laws.antt` and
+//! `specs/Runs.antt`; the others say how the code stands for them.
 #![tactic(auto)]
 
 mod cluster;
 mod feeding;
-mod header;
 pub mod laws;
 mod node;
-mod numbers;
-mod reading;
-mod request;
 mod runs;
 mod session;
 mod slot;

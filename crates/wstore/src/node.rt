@@ -5,7 +5,7 @@ ghost use Rattle.wsegment.specs.Outcome.{Fails};
 ghost use Rattle.wsegment.specs.Rows.{rows_of};
 ghost use Rattle.wset.specs.Views.{join, known_in};
 ghost use Rattle.wset.specs.Items.{SegmentItem, RetirementItem, FloorItem, view_of_item};
-ghost use Rattle.wset.specs.Sets.{IsReadBy};
+ghost use Rattle.wentries.specs.Holding.{IsReadBy};
 ghost use Rattle.wset.specs.Words.{floor_word, retired_word, taken_word};
 ghost use Rattle.wset.specs.Listing.{listed};
 ghost use Rattle.wexchange.specs.Files.{file_of};
@@ -18,9 +18,10 @@ use std::alloc::{AllocError, Global};
 use std::marker::Model;
 use std::rc::Rc;
 use wask::{AskFault, ask};
-use wexchange::{BadStream, FileFault, Inbox, Message, PushFault, read_beside, write};
+use wexchange::{FileFault, read_beside, write};
 use wsegment::{Judged, Schema, SegmentFault};
 use wset::{Listed, Retired, SegmentSet, TakeError, Taken};
+use wstream::{BadStream, Inbox, Message, PushFault};
 use wvalues::{Counted, Name};
 
 /// What a message of a stream was told.

@@ -4,21 +4,19 @@ ghost use Rattle.std.specs.Io.KnownBytes.{Appends};
 ghost use Rattle.wlines.specs.Pending.{left, budget, IsNew, IsSound, IsSoundWriter};
 ghost use Rattle.wlines.specs.Failing.{IsReady};
 ghost use Rattle.wlines.specs.Sent.{Says, sent};
-ghost use Rattle.wstore.specs.Commands.{Command as Spelled, Declare, IsAllowed, longest_text};
-ghost use Rattle.wstore.specs.Requests.{IsCommandOf, IsFeedOf, IsOrderAt, IsRefusedAs, GoesOn, RequestReads};
+ghost use Rattle.wscript.specs.Commands.{Command as Spelled, Declare, IsAllowed, longest_text};
+ghost use Rattle.wscript.specs.Requests.{IsCommandOf, IsFeedOf, IsOrderAt, IsRefusedAs, GoesOn, RequestReads};
 ghost use Rattle.wstore.specs.History.{Step, is_declared};
 ghost use Rattle.wstore.specs.Runs.{Replies, RepliesBegun};
 ghost use Rattle.wstore.specs.Sessions.{Stands, MayStand};
 ghost use Rattle.wstore.specs.Steps.{HasCause, HasStepCause, HasWriteCause, Answered, Unanswered, StepTells, StepFails};
 
-use crate::numbers::NodeNumber;
-use crate::reading::read_command;
-use crate::request::{Command, Order, Refusal, Request};
 use crate::session::{Session, refuse};
 use std::alloc::Global;
 use std::io::{Read, Write};
 use thiserror::Error;
 use wlines::{Outbox, ReadFault, Source};
+use wscript::{Command, NodeNumber, Order, Refusal, Request, read_command};
 use wvalues::Counted;
 
 /// How a run ended.

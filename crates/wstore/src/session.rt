@@ -1,22 +1,21 @@
 //! What a script has declared, and the replies to its commands.
 ghost use Rattle.std.specs.Prelude.{[], ◌≡◌, ◌<◌, List, IfOk, IfErr, OnOk, OnErr, is_some, false, true};
-ghost use Rattle.wstore.specs.Commands.{Command as Spelled, Declare, Feed, IsAllowed};
-ghost use Rattle.wstore.specs.Requests.{IsOrderAt, IsRefusedAs, refusal_text};
+ghost use Rattle.wscript.specs.Commands.{Command as Spelled, Declare, Feed, IsAllowed};
+ghost use Rattle.wscript.specs.Requests.{IsOrderAt, IsRefusedAs};
 ghost use Rattle.wstore.specs.History.{Step, MayLackMemory, is_declared};
 ghost use Rattle.wreplies.specs.Texts.{bytes_of};
 ghost use Rattle.wlines.specs.Pending.{IsSoundWriter};
 ghost use Rattle.wlines.specs.Sent.{sent};
-ghost use Rattle.wstore.specs.Sessions.{Stands, Tells};
+ghost use Rattle.wstore.specs.Sessions.{Stands, Tells, refusal_text};
 ghost use Rattle.wstore.specs.Steps.{Answered, FedPart};
 
 use crate::cluster::Cluster;
-use crate::numbers::NodeNumber;
-use crate::request::{Order, Refusal};
 use crate::runs::RunFault;
 use std::alloc::{AllocError, Global};
 use std::io::Write;
 use wlines::Outbox;
 use wreplies::{Text, refused_name, refused_table};
+use wscript::{NodeNumber, Order, Refusal};
 use wsegment::{Schema, SchemaFault};
 use wvalues::Counted;
 

@@ -11,7 +11,7 @@ use Rattle.wfiles.specs.declared.fault.Fault.{Fault}
 use Rattle.wfiles.specs.declared.replacing.NotReplaced.{NotReplaced}
 use Rattle.wact.specs.declared.acted.Acted.{Acted}
 use Rattle.wact.specs.Acts.{Acts}
-use Rattle.wstore_program.specs.Performing.{All, Input, IsDone, IsGivenUp, IsPerformed, IsUndone, IsUnsettled, NoInput, NotPut, OnlyReads, Put, Puts, ReadsInput, ReadsWhole, Settles, Undone, Unfound, Unread, Unready, Unsettled, Untouched, input_path, new_store, read_files, read_locked}
+use Rattle.wstore_program.specs.Performing.{All, Input, IsDone, IsGivenUp, IsPerformed, IsUndone, IsNotCarriedOut, NoInput, NotPut, OnlyReads, Put, Puts, ReadsInput, ReadsWhole, CarriesOut, Undone, Unfound, Unread, Unready, NotCarriedOut, Untouched, input_path, new_store, read_files, read_locked}
 
 -- where a call gives a fault
 pub on_err : {A E : Type 0} {P : Type 0} (r : Result A E) → P → OnErr r P
@@ -64,17 +64,17 @@ pub found_locked : (path : List ℕ) (held : Option (List ℕ)) (old locked read
 found_locked path held old locked read l r = r ∙ ap (λ cs. Found path held ∷ cs) l
 
 -- a store that is not read to its end
-pub unfound : (choice : Choice) (table other path : List ℕ) (fault : Fault) (old locked new : List Call) → locked ≡ Locked true ∷ old → MayBegin path locked new → IsUnsettled choice table other fault old new
+pub unfound : (choice : Choice) (table other path : List ℕ) (fault : Fault) (old locked new : List Call) → locked ≡ Locked true ∷ old → MayBegin path locked new → IsNotCarriedOut choice table other fault old new
 unfound choice table other path fault old locked new l begun = Unfound path (subst (λ cs. MayBegin path cs new) l begun)
 
 -- a new store is put in the place of what was read
 pub put_in_place : (choice : Choice) (acted : Acted) (table : List ℕ) (store held : Option (List ℕ)) (other path : List ℕ) (old locked read new : List Call) → Acts choice table held other acted → locked ≡ Locked true ∷ old
-    → read ≡ Found path held ∷ locked → Puts path (new_store acted) (Ok tt) read new → Settles choice table store other acted old new
+    → read ≡ Found path held ∷ locked → Puts path (new_store acted) (Ok tt) read new → CarriesOut choice table store other acted old new
 put_in_place choice acted table store held other path old locked read new acts l r puts = Put path held acts (subst (λ cs. Puts path (new_store acted) (Ok tt) cs new) (found_locked path held old locked read l r) puts)
 
 -- a new store is not put there
 pub not_put : (choice : Choice) (acted : Acted) (table : List ℕ) (held : Option (List ℕ)) (other path : List ℕ) (old locked read new : List Call) (why : NotReplaced) (fault : Fault) → Acts choice table held other acted
-    → locked ≡ Locked true ∷ old → read ≡ Found path held ∷ locked → Puts path (new_store acted) (Err why) read new → fault ≡ fault_of why → IsUnsettled choice table other fault old new
+    → locked ≡ Locked true ∷ old → read ≡ Found path held ∷ locked → Puts path (new_store acted) (Err why) read new → fault ≡ fault_of why → IsNotCarriedOut choice table other fault old new
 not_put choice acted table held other path old locked read new why fault acts l r puts is =
     NotPut held acted path why acts is (subst (λ cs. Puts path (new_store acted) (Err why) cs new) (found_locked path held old locked read l r) puts)
 
@@ -84,30 +84,30 @@ none_mapped f (Some v) e = absurd (true≢false e)
 
 -- there is no new store
 pub untouched : (choice : Choice) (acted : Acted) (table : List ℕ) (store : Option (List ℕ)) (other : List ℕ) (calls : List Call) → Acts choice table store other acted → is_some acted.store ≡ false
-    → Settles choice table store other acted calls calls
+    → CarriesOut choice table store other acted calls calls
 untouched choice acted table store other calls acts e = Untouched acts (none_mapped _ acted.store e) refl
 
 -- ---- the whole
 
--- the input is read, and then the store settled
+-- the input is read, and then it is carried out
 pub done_by : (choice : Choice) (table : List ℕ) (store : Option (List ℕ)) (other : List ℕ) (old read new : List Call) (r : Result Acted Fault) → ReadsInput choice table store other old read
-    → IfOk r (λ acted. Settles choice table store other acted read new) → IfOk r (λ acted. IsDone choice table store acted old new)
-done_by choice table store other old read new (Err fault) input settles = tt
-done_by choice table store other old read new (Ok acted) input settles = record { other = other; read = read; input = input; settles = settles }
+    → IfOk r (λ acted. CarriesOut choice table store other acted read new) → IfOk r (λ acted. IsDone choice table store acted old new)
+done_by choice table store other old read new (Err fault) input carried_out = tt
+done_by choice table store other old read new (Ok acted) input carried_out = record { other = other; read = read; input = input; carried_out = carried_out }
 
 pub undone_by : (choice : Choice) (table : List ℕ) (store : Option (List ℕ)) (other : List ℕ) (old read new : List Call) (r : Result Acted Fault) → ReadsInput choice table store other old read
-    → IfErr r (λ fault. IsUnsettled choice table other fault read new) → IfErr r (λ fault. IsUndone choice table store fault old new)
-undone_by choice table store other old read new (Ok acted) input unsettled = tt
-undone_by choice table store other old read new (Err fault) input unsettled = Unsettled other read input unsettled
+    → IfErr r (λ fault. IsNotCarriedOut choice table other fault read new) → IfErr r (λ fault. IsUndone choice table store fault old new)
+undone_by choice table store other old read new (Ok acted) input not_carried_out = tt
+undone_by choice table store other old read new (Err fault) input not_carried_out = NotCarriedOut other read input not_carried_out
 
 -- a stream that was read whole
 pub fed_whole : (choice : Choice) (table : List ℕ) (store : Option (List ℕ)) (path stream : List ℕ) (old read new : List Call) (r : Result Acted Fault) → input_path choice ≡ Some path → read ≡ Found path (Some stream) ∷ old
-    → IfOk r (λ acted. Settles choice table store stream acted read new) → IfOk r (λ acted. IsDone choice table store acted old new)
-fed_whole choice table store path stream old read new r named found settles = done_by choice table store stream old read new r (All (Input path named found)) settles
+    → IfOk r (λ acted. CarriesOut choice table store stream acted read new) → IfOk r (λ acted. IsDone choice table store acted old new)
+fed_whole choice table store path stream old read new r named found carried_out = done_by choice table store stream old read new r (All (Input path named found)) carried_out
 
 pub unfed_whole : (choice : Choice) (table : List ℕ) (store : Option (List ℕ)) (path stream : List ℕ) (old read new : List Call) (r : Result Acted Fault) → input_path choice ≡ Some path → read ≡ Found path (Some stream) ∷ old
-    → IfErr r (λ fault. IsUnsettled choice table stream fault read new) → IfErr r (λ fault. IsUndone choice table store fault old new)
-unfed_whole choice table store path stream old read new r named found unsettled = undone_by choice table store stream old read new r (All (Input path named found)) unsettled
+    → IfErr r (λ fault. IsNotCarriedOut choice table stream fault read new) → IfErr r (λ fault. IsUndone choice table store fault old new)
+unfed_whole choice table store path stream old read new r named found not_carried_out = undone_by choice table store stream old read new r (All (Input path named found)) not_carried_out
 
 -- nothing was done yet
 pub undone_at_once : (choice : Choice) (table : List ℕ) (store : Option (List ℕ)) (fault : Fault) (calls : List Call) → IsUndone choice table store fault calls calls
@@ -115,12 +115,12 @@ undone_at_once choice table store fault calls = Unready (no_readings calls calls
 
 -- bytes that are lent
 pub done_on_bytes : (choice : Choice) (table : List ℕ) (store : Option (List ℕ)) (lent other : List ℕ) (old read new : List Call) (r : Result Acted Fault) → lent ≡ other → ReadsWhole choice other old read
-    → IfOk r (λ acted. Settles choice table store lent acted read new) → IfOk r (λ acted. IsDone choice table store acted old new)
-done_on_bytes choice table store lent other old read new r same input settles = done_by choice table store lent old read new r (All (subst (λ (bytes : List ℕ). ReadsWhole choice bytes old read) (sym same) input)) settles
+    → IfOk r (λ acted. CarriesOut choice table store lent acted read new) → IfOk r (λ acted. IsDone choice table store acted old new)
+done_on_bytes choice table store lent other old read new r same input carried_out = done_by choice table store lent old read new r (All (subst (λ (bytes : List ℕ). ReadsWhole choice bytes old read) (sym same) input)) carried_out
 
 pub undone_on_bytes : (choice : Choice) (table : List ℕ) (store : Option (List ℕ)) (lent other : List ℕ) (old read new : List Call) (r : Result Acted Fault) → lent ≡ other → ReadsWhole choice other old read
-    → IfErr r (λ fault. IsUnsettled choice table lent fault read new) → IfErr r (λ fault. IsUndone choice table store fault old new)
-undone_on_bytes choice table store lent other old read new r same input unsettled = undone_by choice table store lent old read new r (All (subst (λ (bytes : List ℕ). ReadsWhole choice bytes old read) (sym same) input)) unsettled
+    → IfErr r (λ fault. IsNotCarriedOut choice table lent fault read new) → IfErr r (λ fault. IsUndone choice table store fault old new)
+undone_on_bytes choice table store lent other old read new r same input not_carried_out = undone_by choice table store lent old read new r (All (subst (λ (bytes : List ℕ). ReadsWhole choice bytes old read) (sym same) input)) not_carried_out
 
 -- the files that the words name are read
 files_read : (paths : Paths) (table : List ℕ) (store : Option (List ℕ)) (old first read : List Call) → first ≡ Found paths.table.now (Some table) ∷ old → read ≡ Found paths.store.now store ∷ first → read ≡ read_files paths table store old

@@ -23,7 +23,7 @@ use Rattle.wact.specs.Outcomes.{IsRefused}
 use Rattle.wact.specs.Streams.{Feeds}
 use Rattle.wact.proofs.Delivering.{acts_opened, acts_refused, feeds_refused}
 use Rattle.wstore_program.specs.Feeding.{AtEnd, ByAll, ByFront, InFront, IsRefusedStream, RefusesRead}
-use Rattle.wstore_program.specs.Performing.{All, Front, Input, IsDone, IsUndone, Nothing, OnlyReads, Settles, Unready, input_path}
+use Rattle.wstore_program.specs.Performing.{All, Front, Input, IsDone, IsUndone, Nothing, OnlyReads, CarriesOut, Unready, input_path}
 use Rattle.wstore_program.proofs.Performed.{untouched}
 
 -- ---- reading it
@@ -92,7 +92,7 @@ refused_open choice table store text acted calls is opened told = record {
   other = [];
   read = calls;
   input = Nothing text is opened refl refl;
-  settles = untouched choice acted table store [] calls (acts_refused choice table store [] text acted opened told) (ap is_some told.2);
+  carried_out = untouched choice acted table store [] calls (acts_refused choice table store [] text acted opened told) (ap is_some told.2);
 }
 
 -- what is told of a stream that is refused stores nothing
@@ -109,7 +109,7 @@ is_told stops.NoMemory acted told = absurd told
 
 -- what is told of it is what feeding it gives
 told_feeds : (choice : Choice) (table : List ℕ) (store : Option (List ℕ)) (node : NodeState) (d : Declaration) (stream : List ℕ) (reason : Stop) (acted : Acted) (calls : List Call) → IsFeed choice → Opens table store (opens.Node node)
-    → d ≡ node.schema → IsUndelivered d stream reason → IsToldUndelivered reason acted → Settles choice table store stream acted calls calls
+    → d ≡ node.schema → IsUndelivered d stream reason → IsToldUndelivered reason acted → CarriesOut choice table store stream acted calls calls
 told_feeds choice table store node d stream reason acted calls is opened same why told =
     let feeds : Feeds node.schema node.view store stream acted =
     subst (λ e. Feeds e node.view store stream acted) same (feeds_refused {E = Unit {0}} d node.view store stream reason (Ok acted) why told) in
@@ -122,13 +122,13 @@ refused_stream choice table store node d path reason acted old new is named open
   other = front;
   read = new;
   input = Front path d reason is named read (declared_by d table store node opened same) stops (is_told reason acted told);
-  settles = told_feeds choice table store node d front reason acted new is opened same (stops_undelivered d front reason stops) told;
+  carried_out = told_feeds choice table store node d front reason acted new is opened same (stops_undelivered d front reason stops) told;
 }
 refused_stream choice table store node d path reason acted old new is named opened same (ByAll stream undelivered read) told = record {
   other = stream;
   read = new;
   input = All (Input path named read);
-  settles = told_feeds choice table store node d stream reason acted new is opened same undelivered told;
+  carried_out = told_feeds choice table store node d stream reason acted new is opened same undelivered told;
 }
 
 -- as it was told, or there was no memory to tell it

@@ -10,7 +10,7 @@ ghost use Rattle.wact.specs.Streams.{Feeds};
 ghost use Rattle.wact.specs.declared.opening.Opened.TheVariants as opens;
 ghost use Rattle.wcommand.specs.declared.choice.Choice as choices;
 ghost use Rattle.wstore_program.specs.Feeding.{IsGiven, given_bytes};
-ghost use Rattle.wstore_program.specs.Performing.{IsDone, IsGivenUp, IsPerformed, IsUndone, IsUnsettled, OnlyReads, Puts, ReadsWhole, Settles, input_path};
+ghost use Rattle.wstore_program.specs.Performing.{IsDone, IsGivenUp, IsPerformed, IsUndone, IsNotCarriedOut, OnlyReads, Puts, ReadsWhole, CarriesOut, input_path};
 ghost use Rattle.wfiles.specs.Calls.{HasCause, IsSound};
 ghost use Rattle.wfiles.specs.Model.{IsLocked};
 ghost use Rattle.wfiles.specs.Replacing.{fault_of};
@@ -146,7 +146,7 @@ fn put<R: Files<File = File> + AllocGlobal>(
 
 // Puts the new store in its place, while this run holds the lock of its folder. What another program has put there since the
 // store was read is not lost: the subcommand is then done again, on what stands there now.
-fn settle<R: Files<File = File> + AllocGlobal + Clock + Eprint>(
+fn carry_out<R: Files<File = File> + AllocGlobal + Clock + Eprint>(
     alloc: Global,
     system: &mut System<'_, R>,
     calls: &mut Record,
@@ -161,8 +161,8 @@ fn settle<R: Files<File = File> + AllocGlobal + Clock + Eprint>(
     requires given { IsGiven choice.now table.now given.now }
     requires first { Acts choice.now table.now (option_map (λ bytes. bytes.items) store.now) (given_bytes given.now) first }
     requires sound { IsSound system.old }
-    ensures settles { IfOk result (λ acted. Settles choice.now table.now (option_map (λ bytes. bytes.items) store.now) (given_bytes given.now) acted calls.old.calls calls.new.calls) }
-    ensures unsettled { IfErr result (λ fault. IsUnsettled choice.now table.now (given_bytes given.now) fault calls.old.calls calls.new.calls) }
+    ensures carried_out { IfOk result (λ acted. CarriesOut choice.now table.now (option_map (λ bytes. bytes.items) store.now) (given_bytes given.now) acted calls.old.calls calls.new.calls) }
+    ensures not_carried_out { IfErr result (λ fault. IsNotCarriedOut choice.now table.now (given_bytes given.now) fault calls.old.calls calls.new.calls) }
     ensures sound { OnOk result (IsSound system.new) }
     ensures cause { IfErr result (λ fault. HasCause fault system.new) }
 {
@@ -200,15 +200,15 @@ fn finish<R: Files<File = File> + AllocGlobal + Clock + Eprint>(
     requires given { IsGiven choice.now table.now given.now }
     requires first { Acts choice.now table.now (option_map (λ bytes. bytes.items) store.now) (given_bytes given.now) first }
     requires sound { IsSound system.old }
-    ensures settles { IfOk result (λ acted. Settles choice.now table.now (option_map (λ bytes. bytes.items) store.now) (given_bytes given.now) acted calls.old.calls calls.new.calls) }
-    ensures unsettled { IfErr result (λ fault. IsUnsettled choice.now table.now (given_bytes given.now) fault calls.old.calls calls.new.calls) }
+    ensures carried_out { IfOk result (λ acted. CarriesOut choice.now table.now (option_map (λ bytes. bytes.items) store.now) (given_bytes given.now) acted calls.old.calls calls.new.calls) }
+    ensures not_carried_out { IfErr result (λ fault. IsNotCarriedOut choice.now table.now (given_bytes given.now) fault calls.old.calls calls.new.calls) }
     ensures sound { OnOk result (IsSound system.new) }
     ensures cause { IfErr result (λ fault. HasCause fault system.new) }
 {
     if first.store.is_none() {
         return Ok(first);
     }
-    settle(
+    carry_out(
         alloc, system, calls, choice, path, table, store, given, first,
     )
 }
@@ -301,8 +301,8 @@ fn deliver<R: Files<File = File> + AllocGlobal + Clock + Eprint>(
     requires declared { batch.now.schema ≡ node.schema }
     requires whole { batch.now.held ≡ [] }
     requires sound { IsSound system.old }
-    ensures settles { IfOk result (λ acted. Settles choice.now table.now (option_map (λ bytes. bytes.items) store.now) (stream_of batch.now) acted calls.old.calls calls.new.calls) }
-    ensures unsettled { IfErr result (λ fault. IsUnsettled choice.now table.now (stream_of batch.now) fault calls.old.calls calls.new.calls) }
+    ensures carried_out { IfOk result (λ acted. CarriesOut choice.now table.now (option_map (λ bytes. bytes.items) store.now) (stream_of batch.now) acted calls.old.calls calls.new.calls) }
+    ensures not_carried_out { IfErr result (λ fault. IsNotCarriedOut choice.now table.now (stream_of batch.now) fault calls.old.calls calls.new.calls) }
     ensures sound { OnOk result (IsSound system.new) }
     ensures cause { IfErr result (λ fault. HasCause fault system.new) }
 {

@@ -53,8 +53,8 @@ keys_on_all : (keys : List SortKey) (rows : List Row) → map (λ row. map (λ t
 keys_on_all keys [] = refl
 keys_on_all keys (row ∷ rows) = ap (λ r. r ∷ map (λ row. map (λ t. value_on t row) (map (λ k. At k.col) keys)) rows) (keys_on keys row) ∙ ap (λ l. row_keys keys row ∷ l) (keys_on_all keys rows)
 
-columns_told : (keys : List SortKey) (rows : List Row) → lists_of (map (λ k. At k.col) keys) rows ≡ Ok (map (row_keys keys) rows)
-columns_told keys rows =
+columns_presorted : (keys : List SortKey) (rows : List Row) → lists_of (map (λ k. At k.col) keys) rows ≡ Ok (map (row_keys keys) rows)
+columns_presorted keys rows =
     ap (λ b. unless b OutOfRange (map (λ row. map (λ t. value_on t row) (map (λ k. At k.col) keys)) rows)) (none_at_fault keys rows)
     ∙ ap Ok (keys_on_all keys rows)
 
@@ -89,15 +89,15 @@ by_columns order keys rows e =
     (places (length rows)) (places_below 0 (length rows) (length rows) (omega arith))
 
 -- the order of a window of columns
-pub window_told : (width : ℕ) (plan : WindowPlan) (pk kk : List SortKey) → AreColumns width plan.partition (ascending plan.partition) pk → AreColumns width (map (λ k. k.value) plan.keys) (map (λ k. k.order) plan.keys) kk → WindowInOrder
+pub window_presorted : (width : ℕ) (plan : WindowPlan) (pk kk : List SortKey) → AreColumns width plan.partition (ascending plan.partition) pk → AreColumns width (map (λ k. k.value) plan.keys) (map (λ k. k.order) plan.keys) kk → WindowInOrder
     → (rows : List Row) → by_window plan rows ≡ Ok (run_of (pk ++ kk) rows)
-window_told width plan pk kk p k law rows =
+window_presorted width plan pk kk p k law rows =
     let V = map (row_keys pk) rows in
     let K = map (row_keys kk) rows in
     let vo = ascending plan.partition in
     let ko = map (λ (k : KeyPlan). k.order) plan.keys in
-    let values : lists_of plan.partition rows ≡ Ok V = ap (λ ts. lists_of ts rows) p.named ∙ columns_told pk rows in
-    let others : lists_of (map (λ (k : KeyPlan). k.value) plan.keys) rows ≡ Ok K = ap (λ ts. lists_of ts rows) k.named ∙ columns_told kk rows in
+    let values : lists_of plan.partition rows ≡ Ok V = ap (λ ts. lists_of ts rows) p.named ∙ columns_presorted pk rows in
+    let others : lists_of (map (λ (k : KeyPlan). k.value) plan.keys) rows ≡ Ok K = ap (λ ts. lists_of ts rows) k.named ∙ columns_presorted kk rows in
     let made : List (List Meaning) → List (List Meaning) → Windowed = λ v b. record { values = v; value_order = vo; keys = b; order = ko; frame = frames.frame_of plan.frame } in
     let is : windowed rows plan ≡ Ok (made V K) =
     then_ok V (lists_of plan.partition rows) (λ v. lists_of (map (λ (k : KeyPlan). k.value) plan.keys) rows >>= λ b. Ok (made v b)) values ∙ then_ok K (lists_of (map (λ (k : KeyPlan). k.value) plan.keys) rows) (λ b. Ok (made V b)) others in
@@ -143,13 +143,13 @@ keys_beside width keys rows columns cols all =
     ∙ sym (map-map (row_keys keys) (key_at rows) (places (length rows))) ∙ ap (map (row_keys keys)) (all_places [] rows)
 
 -- the order that ORDER BY asks for, by columns
-pub keys_told : (width : ℕ) (plans : List KeyPlan) (keys : List SortKey) → AreColumns width (map (λ k. k.value) plans) (map (λ k. k.order) plans) keys
+pub keys_given : (width : ℕ) (plans : List KeyPlan) (keys : List SortKey) → AreColumns width (map (λ k. k.value) plans) (map (λ k. k.order) plans) keys
     → (columns : List (List Meaning)) (rows : List Row) → AllByRecursion (λ row. length row ≡ width) rows → by_keys plans columns rows ≡ Ok (run_of keys rows)
-keys_told width plans keys are columns rows wide =
+keys_given width plans keys are columns rows wide =
     let order = map (λ (k : KeyPlan). k.order) plans in
     let R = beside rows columns in
     ap (λ ts. numbers_of ts order R) are.named
-    ∙ then_ok (map (row_keys keys) R) (lists_of (map (λ k. At k.col) keys) R) (λ by. Ok (numbers_by order by (length R))) (columns_told keys R)
+    ∙ then_ok (map (row_keys keys) R) (lists_of (map (λ k. At k.col) keys) R) (λ by. Ok (numbers_by order by (length R))) (columns_presorted keys R)
     ∙ ap (λ by. Ok (numbers_by order by (length R))) (keys_beside width keys rows columns (recursion_from_All (λ (k : SortKey). k.col < width) keys are.within) wide)
     ∙ ap (λ n. Ok (numbers_by order (map (row_keys keys) rows) n)) (beside_long rows columns)
     ∙ ap Ok (by_columns order keys rows are.directed)
@@ -220,14 +220,14 @@ wide_kept width holds (row ∷ rows) all = elim (holds row) as (λ b. AllByRecur
 -- an order by keys that are columns is had from all rows
 pub order_had : (width : ℕ) (segments : List (List Row)) (order : RowOrder) (keys : List SortKey) (found : List RowRef) → KeptInOrder → AllByRecursion (λ row. length row ≡ width) (joined segments) → ((rows : List Row) → AllByRecursion (λ row. length row ≡ width) rows → order rows ≡ Ok (run_of keys rows))
     → found ≡ refs_by keys segments → IsOrderFor segments order found
-order_had width segments order keys found law wide told is = record {
-  tells = λ holds. told (filter holds (joined segments)) (wide_kept width holds (joined segments) wide) ∙ ap Ok (sym (law holds keys segments)) ∙ ap (λ l. Ok (kept_numbers holds segments l)) (sym is);
+order_had width segments order keys found law wide presorted is = record {
+  tells = λ holds. presorted (filter holds (joined segments)) (wide_kept width holds (joined segments) wide) ∙ ap Ok (sym (law holds keys segments)) ∙ ap (λ l. Ok (kept_numbers holds segments l)) (sym is);
   within = subst (All (IsRowOf segments)) (sym is) (All-from_recursion (IsRowOf segments) (refs_by keys segments) (refs_within keys segments));
 }
 
--- numbers that are told are those of rows
-pub below_told : (ts : List Formula) (order : List SortKey) (R : List Row) (numbers : List ℕ) (n : ℕ) → numbers_of ts order R ≡ Ok numbers → length R ≡ n → All (λ i. i < n) numbers
-below_told ts order R numbers n e long = go (lists_of ts R) e
+-- numbers that are presorted are those of rows
+pub below_presorted : (ts : List Formula) (order : List SortKey) (R : List Row) (numbers : List ℕ) (n : ℕ) → numbers_of ts order R ≡ Ok numbers → length R ≡ n → All (λ i. i < n) numbers
+below_presorted ts order R numbers n e long = go (lists_of ts R) e
   where
     go : (by : Result (List (List Meaning)) AnswerFault) → (by >>= λ by. Ok (numbers_by order by (length R))) ≡ Ok numbers → All (λ i. i < n) numbers
     go (Ok by) h =
@@ -238,10 +238,10 @@ below_told ts order R numbers n e long = go (lists_of ts R) e
 
 -- those that ORDER BY tells
 pub below_keys : (plans : List KeyPlan) (columns : List (List Meaning)) (rows : List Row) (numbers : List ℕ) (n : ℕ) → by_keys plans columns rows ≡ Ok numbers → length rows ≡ n → All (λ i. i < n) numbers
-below_keys plans columns rows numbers n e long = below_told (map (λ k. k.value) plans) (map (λ k. k.order) plans) (beside rows columns) numbers n e (beside_long rows columns ∙ long)
+below_keys plans columns rows numbers n e long = below_presorted (map (λ k. k.value) plans) (map (λ k. k.order) plans) (beside rows columns) numbers n e (beside_long rows columns ∙ long)
 
--- what is told where there is something
-pub some_told : {X : Type 0} (P : X → Type 0) (o : Option X) (x : X) → o ≡ Some x → IfSome o P → P x
-some_told {X = X} P o x e h =
+-- what holds where there is something
+pub some_presorted : {X : Type 0} (P : X → Type 0) (o : Option X) (x : X) → o ≡ Some x → IfSome o P → P x
+some_presorted {X = X} P o x e h =
     let Q : Option X → Type 0 = λ o. IfSome o P in
     subst Q e h

@@ -10,15 +10,15 @@ use Rattle.wrows.specs.Columns.{Row}
 use Rattle.wtable.specs.Few.{GivesAtEnd}
 
 -- one row more of a segment
-pub in_range_more : (p : Row → Bool) (told : List Row) (i : ℕ) (row : Row) → i < length told → row ≡ get_or told i [] → list_any p (take i told) ≡ false → p row ≡ false → list_any p (take (i + 1) told) ≡ false
-in_range_more p told i row h e none here = list_any_more p told i [] h ∙ ap (λ b. b || p (get_or told i [])) none ∙ sym (ap p e) ∙ here
+pub in_range_more : (p : Row → Bool) (stored : List Row) (i : ℕ) (row : Row) → i < length stored → row ≡ get_or stored i [] → list_any p (take i stored) ≡ false → p row ≡ false → list_any p (take (i + 1) stored) ≡ false
+in_range_more p stored i row h e none here = list_any_more p stored i [] h ∙ ap (λ b. b || p (get_or stored i [])) none ∙ sym (ap p e) ∙ here
 
-pub held_more : (p : Row → Bool) (told old before after : List Row) (i : ℕ) (row : Row) → i < length told → row ≡ get_or told i [] → before ≡ old ++ filter p (take i told) → after ≡ cond (p row) (before ++ row ∷ []) before → after ≡ old ++ filter p (take (i + 1) told)
-held_more p told old before after i row h e so_far more =
+pub held_more : (p : Row → Bool) (stored old before after : List Row) (i : ℕ) (row : Row) → i < length stored → row ≡ get_or stored i [] → before ≡ old ++ filter p (take i stored) → after ≡ cond (p row) (before ++ row ∷ []) before → after ≡ old ++ filter p (take (i + 1) stored)
+held_more p stored old before after i row h e so_far more =
     more ∙ one (p row) ∙ ap (λ l. l ++ cond (p row) (row ∷ []) []) so_far
-    ∙ append_assoc old (filter p (take i told)) (cond (p row) (row ∷ []) [])
-    ∙ ap (λ r. old ++ (filter p (take i told) ++ cond (p r) (r ∷ []) [])) e
-    ∙ ap (λ l. old ++ l) (sym (filter_more p told i [] h))
+    ∙ append_assoc old (filter p (take i stored)) (cond (p row) (row ∷ []) [])
+    ∙ ap (λ r. old ++ (filter p (take i stored) ++ cond (p r) (r ∷ []) [])) e
+    ∙ ap (λ l. old ++ l) (sym (filter_more p stored i [] h))
   where
     one : (b : Bool) → cond b (before ++ row ∷ []) before ≡ before ++ cond b (row ∷ []) []
     one true = refl

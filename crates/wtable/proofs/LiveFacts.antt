@@ -13,7 +13,8 @@ use Rattle.wsegment.specs.declared.fault.SegmentFault.{SegmentFault}
 use Rattle.wsegment.specs.declared.fault.SegmentFault.TheVariants.{MissingColumn, TooLong}
 use Rattle.wset.specs.Lending.{AreLivesOf}
 use Rattle.wset.specs.Running.{live_rows}
-use Rattle.wset.specs.Sets.{Becomes, DeclaredView, IsReadBy}
+use Rattle.wset.specs.Sets.{Becomes, DeclaredView}
+use Rattle.wentries.specs.Holding.{IsReadBy}
 use Rattle.wset.specs.Tables.{content_rows, rows_or_none, segment_rows}
 use Rattle.wset.specs.Views.{lives}
 use Rattle.wruns.specs.Runs.{joined}

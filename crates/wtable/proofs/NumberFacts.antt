@@ -14,7 +14,7 @@ use Rattle.std.proofs.lemmas.List.{length-map}
 use Rattle.wruns.specs.Orderings.{kept_before, kept_numbers, number_of}
 use Rattle.wruns.specs.Runs.{joined}
 use Rattle.wruns.specs.declared.refs.RowRef.{RowRef}
-use Rattle.wtable.specs.TableOrders.{AreNumbers, IsNumbered, IsOrderFor, IsRowOf, RowOrder, all_present, holds_by, left_out, number_among, number_in, number_kept, numbers_kept, numbers_told, starts_from}
+use Rattle.wtable.specs.TableOrders.{AreNumbers, IsNumbered, IsOrderFor, IsRowOf, RowOrder, all_present, holds_by, left_out, number_among, number_in, number_kept, numbers_kept, presorted_numbers, starts_from}
 use Rattle.wvalues.specs.Names.{NameParts}
 use Rattle.wsegment.specs.Rows.{Content}
 use Rattle.wtable.proofs.HeldFacts.{rows_left}
@@ -117,7 +117,7 @@ one_number (Some t) rows (Some numbers) i are few h =
         ap number_kept e ∙ ap (λ b. cond b (Some kept) None) (below_left_out kept small)
     go false = ap (λ b. cond b (Some left_out) None) not_left_out
 
--- the numbers that are told are those of the kept rows
+-- the numbers that are stored are those of the kept rows
 module _ (condition : Option Formula) (segments : List (List Row)) (kept : NumberedRows) (is : IsNumbered condition segments kept) where
   abbrev all_rows : List Row
   all_rows = joined segments
@@ -130,12 +130,12 @@ module _ (condition : Option Formula) (segments : List (List Row)) (kept : Numbe
       let start : get_or kept.starts.items r.segment 0 ≡ length (joined (take r.segment segments)) = ap (λ l. get_or l r.segment 0) is.starts ∙ start_at 0 segments r.segment w.segment ∙ omega arith in
       omega (arith, start, row_below segments r.segment r.row w.segment w.row, is.fit)
 
-  told_all : (refs : List RowRef) → AllByRecursion (IsRowOf segments) refs → numbers_told kept refs ≡ kept_numbers (holds_by condition) segments refs
-  told_all [] all = refl
-  told_all (r ∷ refs) all =
+  presorted_all : (refs : List RowRef) → AllByRecursion (IsRowOf segments) refs → presorted_numbers kept refs ≡ kept_numbers (holds_by condition) segments refs
+  presorted_all [] all = refl
+  presorted_all (r ∷ refs) all =
       ap (λ o. all_present (o ∷ map (λ r. number_among kept.numbers (number_in kept.starts.items r)) refs))
       (ap (number_among kept.numbers) (same_number r all.0) ∙ one_number condition all_rows kept.numbers (number_of segments r) is.numbers few_kept (row_below segments r.segment r.row all.0.segment all.0.row))
-      ∙ go (holds_by condition (get_or all_rows (number_of segments r) [])) (told_all refs all.1)
+      ∙ go (holds_by condition (get_or all_rows (number_of segments r) [])) (presorted_all refs all.1)
     where
       n : ℕ
       n = number_of segments r
@@ -143,13 +143,13 @@ module _ (condition : Option Formula) (segments : List (List Row)) (kept : Numbe
       rest : List ℕ
       rest = filter (λ i. holds_by condition (get_or all_rows i [])) (map (number_of segments) refs)
 
-      go : (b : Bool) → numbers_told kept refs ≡ map (kept_before (holds_by condition) all_rows) rest
+      go : (b : Bool) → presorted_numbers kept refs ≡ map (kept_before (holds_by condition) all_rows) rest
           → all_present (cond b (Some (kept_before (holds_by condition) all_rows n)) None ∷ map (λ r. number_among kept.numbers (number_in kept.starts.items r)) refs) ≡ map (kept_before (holds_by condition) all_rows) (cond b (n ∷ rest) rest)
       go true e = ap (λ l. kept_before (holds_by condition) all_rows n ∷ l) e
       go false e = e
 
-  pub numbers_are : (refs : List RowRef) → All (IsRowOf segments) refs → numbers_told kept refs ≡ kept_numbers (holds_by condition) segments refs
-  numbers_are refs all = told_all refs (recursion_from_All (IsRowOf segments) refs all)
+  pub numbers_are : (refs : List RowRef) → All (IsRowOf segments) refs → presorted_numbers kept refs ≡ kept_numbers (holds_by condition) segments refs
+  numbers_are refs all = presorted_all refs (recursion_from_All (IsRowOf segments) refs all)
 
 -- those that there are, and one more
 pub present_more : {X : Type 0} (xs : List (Option X)) (o : Option X) → all_present (xs ++ o ∷ []) ≡ all_present xs ++ all_present (o ∷ [])
@@ -188,18 +188,18 @@ one_numbered true before with e = let less : nat_lt before with ≡ true = grind
 one_numbered false before with e = let same : nat_lt before with ≡ false = grind (arith, nat_tests, e) in ap (λ b. cond b (min before left_out) left_out ∷ []) same
 
 -- one row more of a segment is numbered
-pub numbers_more : (p : Row → Bool) (old before after : List ℕ) (n m : ℕ) (told : List Row) (i : ℕ) (row : Row) → i < length told → row ≡ get_or told i [] → before ≡ old ++ numbers_kept p n (take i told) → after ≡ before ++ numbers_kept p m (row ∷ []) → m ≡ n + length (filter p (take i told))
-    → after ≡ old ++ numbers_kept p n (take (i + 1) told)
-numbers_more p old before after n m told i row h e so_far more grown =
-    more ∙ ap (λ l. l ++ numbers_kept p m (row ∷ [])) so_far ∙ append_assoc old (numbers_kept p n (take i told)) (numbers_kept p m (row ∷ []))
-    ∙ ap (λ r. old ++ (numbers_kept p n (take i told) ++ numbers_kept p m (r ∷ []))) e
-    ∙ ap (λ k. old ++ (numbers_kept p n (take i told) ++ numbers_kept p k (get_or told i [] ∷ []))) grown
-    ∙ ap (λ l. old ++ l) (sym (numbers_append p n (take i told) (get_or told i [] ∷ [])))
-    ∙ ap (λ l. old ++ numbers_kept p n l) (sym (take_more told i [] h))
+pub numbers_more : (p : Row → Bool) (old before after : List ℕ) (n m : ℕ) (stored : List Row) (i : ℕ) (row : Row) → i < length stored → row ≡ get_or stored i [] → before ≡ old ++ numbers_kept p n (take i stored) → after ≡ before ++ numbers_kept p m (row ∷ []) → m ≡ n + length (filter p (take i stored))
+    → after ≡ old ++ numbers_kept p n (take (i + 1) stored)
+numbers_more p old before after n m stored i row h e so_far more grown =
+    more ∙ ap (λ l. l ++ numbers_kept p m (row ∷ [])) so_far ∙ append_assoc old (numbers_kept p n (take i stored)) (numbers_kept p m (row ∷ []))
+    ∙ ap (λ r. old ++ (numbers_kept p n (take i stored) ++ numbers_kept p m (r ∷ []))) e
+    ∙ ap (λ k. old ++ (numbers_kept p n (take i stored) ++ numbers_kept p k (get_or stored i [] ∷ []))) grown
+    ∙ ap (λ l. old ++ l) (sym (numbers_append p n (take i stored) (get_or stored i [] ∷ [])))
+    ∙ ap (λ l. old ++ numbers_kept p n l) (sym (take_more stored i [] h))
 
 -- the number of one row more
-pub told_more : (f : RowRef → Option ℕ) (rows : List RowRef) (i : ℕ) (d : RowRef) (before after : List ℕ) (o : Option ℕ) → i < length rows → before ≡ all_present (map f (take i rows)) → o ≡ f (get_or rows i d) → after ≡ before ++ all_present (o ∷ []) → after ≡ all_present (map f (take (i + 1) rows))
-told_more f rows i d before after o h so_far is more =
+pub presorted_more : (f : RowRef → Option ℕ) (rows : List RowRef) (i : ℕ) (d : RowRef) (before after : List ℕ) (o : Option ℕ) → i < length rows → before ≡ all_present (map f (take i rows)) → o ≡ f (get_or rows i d) → after ≡ before ++ all_present (o ∷ []) → after ≡ all_present (map f (take (i + 1) rows))
+presorted_more f rows i d before after o h so_far is more =
     more ∙ ap (λ l. l ++ all_present (o ∷ [])) so_far ∙ ap (λ x. all_present (map f (take i rows)) ++ all_present (x ∷ [])) is
     ∙ sym (present_more (map f (take i rows)) (f (get_or rows i d))) ∙ ap all_present (sym (map-append f (take i rows) (get_or rows i d ∷ [])))
     ∙ ap (λ l. all_present (map f l)) (sym (take_more rows i d h))
@@ -229,6 +229,6 @@ few_is rows kept e = go (nat_lt 2147483647 (length rows)) refl e
         (sym same, omega (arith, few, ap length same))
 
 -- an order of all rows tells the order of the kept ones
-pub order_told : (condition : Option Formula) (segments : List (List Row)) (kept : NumberedRows) → IsNumbered condition segments kept → (order : RowOrder) (refs : List RowRef) → IsOrderFor segments order refs → order (rows_seen kept.rows.items) ≡ Ok (numbers_told kept refs)
-order_told condition segments kept is order refs of =
+pub order_presorted : (condition : Option Formula) (segments : List (List Row)) (kept : NumberedRows) → IsNumbered condition segments kept → (order : RowOrder) (refs : List RowRef) → IsOrderFor segments order refs → order (rows_seen kept.rows.items) ≡ Ok (presorted_numbers kept refs)
+order_presorted condition segments kept is order refs of =
     ap order is.rows ∙ of.tells (holds_by condition) ∙ ap Ok (sym (numbers_are condition segments kept is refs of.within))

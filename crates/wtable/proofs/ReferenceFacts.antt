@@ -10,7 +10,7 @@ use Rattle.wrows.specs.Columns.{Row}
 use Rattle.wruns.specs.Orderings.{kept_before, kept_numbers, number_of}
 use Rattle.wruns.specs.Runs.{joined}
 use Rattle.wruns.specs.declared.refs.RowRef.{RowRef}
-use Rattle.wtable.specs.Referenced.{row_told, segments_seen}
+use Rattle.wtable.specs.Referenced.{referenced_row, segments_seen}
 use Rattle.wtable.specs.TableOrders.{IsRowOf, holds_by}
 use Rattle.wtable.proofs.NumberFacts.{all_filtered, length_taken, row_below}
 
@@ -40,10 +40,10 @@ module _ (segments : List (List Row)) where
   own_number i h = ap length (all_filtered (take i all_rows)) ∙ length_taken i all_rows (omega (arith, h))
 
   -- where all rows are kept, the numbers that references tell are those of the rows that they tell
-  pub told_rows : (refs : List RowRef) → AllByRecursion (IsRowOf segments) refs → map (key_at all_rows) (kept_numbers (holds_by None) segments refs) ≡ map (row_told segments) refs
-  told_rows [] all = refl
-  told_rows (r ∷ refs) all =
+  pub presorted_rows : (refs : List RowRef) → AllByRecursion (IsRowOf segments) refs → map (key_at all_rows) (kept_numbers (holds_by None) segments refs) ≡ map (referenced_row segments) refs
+  presorted_rows [] all = refl
+  presorted_rows (r ∷ refs) all =
       let own = own_number (number_of segments r) (row_below segments r.segment r.row all.0.segment all.0.row) in
       ap (λ i. get_or all_rows i [] ∷ map (key_at all_rows) (kept_numbers (holds_by None) segments refs)) own
       ∙ ap (λ row. row ∷ map (key_at all_rows) (kept_numbers (holds_by None) segments refs)) (row_among segments r.segment r.row all.0.segment all.0.row)
-      ∙ ap (λ l. row_told segments r ∷ l) (told_rows refs all.1)
+      ∙ ap (λ l. referenced_row segments r ∷ l) (presorted_rows refs all.1)

@@ -10,5 +10,5 @@ abbrev pub segments_seen : List (Bor Content) → List (List Row)
 segments_seen = map (λ s. s.now.rows)
 
 -- the row that a reference tells, without values where there is none
-abbrev pub row_told : List (List Row) → RowRef → Row
-row_told segments r = slice_index_or (slice_index_or segments r.segment []) r.row []
+abbrev pub referenced_row : List (List Row) → RowRef → Row
+referenced_row segments r = slice_index_or (slice_index_or segments r.segment []) r.row []

@@ -18,8 +18,8 @@ use Rattle.wruns.specs.declared.refs.RowRef.{RowRef}
 use Rattle.wcalls.specs.Ordered.{window_numbers}
 use Rattle.wtable.specs.declared.orders.TableOrder.{TableOrder}
 use Rattle.wtable.specs.declared.orders.TableOrders.{TableOrders}
-use Rattle.wtable.specs.declared.told.ToldOrder.{ToldOrder}
-use Rattle.wtable.specs.declared.told.ToldOrders.{ToldOrders}
+use Rattle.wtable.specs.declared.presorted.PresortedOrder.{PresortedOrder}
+use Rattle.wtable.specs.declared.presorted.PresortedOrders.{PresortedOrders}
 use Rattle.wtable.specs.declared.numbered.NumberedRows.{NumberedRows}
 
 -- a column of rows that are so wide
@@ -108,8 +108,8 @@ all_present (None ∷ xs) = all_present xs
 all_present (Some x ∷ xs) = x ∷ all_present xs
 
 -- the numbers, among the rows that are kept, of the rows of an ordering that are kept
-abbrev pub numbers_told : NumberedRows → List RowRef → List ℕ
-numbers_told kept refs = all_present (map (λ r. number_among kept.numbers (number_in kept.starts.items r)) refs)
+abbrev pub presorted_numbers : NumberedRows → List RowRef → List ℕ
+presorted_numbers kept refs = all_present (map (λ r. number_among kept.numbers (number_in kept.starts.items r)) refs)
 
 -- what the rows of a table are kept by, where all are kept that no condition leaves out
 abbrev pub holds_by : Option Formula → Row → Bool
@@ -130,14 +130,14 @@ pub record IsNumbered (condition : Option Formula) (segments : List (List Row)) 
   pub starts : kept.starts.items ≡ starts_from 0 segments
   pub numbers : AreNumbers condition (joined segments) kept.numbers
 
--- numbers that are told in the order of a window
-abbrev pub IsToldOf : List Row → ToldOrder → Type 0
-IsToldOf rows t = window_numbers rows (window_plan t.window.now) ≡ Ok t.numbers.items
+-- presorted numbers in the order of a window
+abbrev pub IsPresortedOf : List Row → PresortedOrder → Type 0
+IsPresortedOf rows t = window_numbers rows (window_plan t.window.now) ≡ Ok t.numbers.items
 
-abbrev pub AreToldOf : List Row → List ToldOrder → Type 0
-AreToldOf rows = All (IsToldOf rows)
+abbrev pub ArePresortedOf : List Row → List PresortedOrder → Type 0
+ArePresortedOf rows = All (IsPresortedOf rows)
 
--- numbers that are told in the orders that a SELECT asks for
-pub record AreTold (rows : List Row) (plans : List KeyPlan) (t : ToldOrders) : Type 0 where
-  pub windows : AreToldOf rows t.windows.items
+-- presorted numbers in the orders that a SELECT asks for
+pub record ArePresorted (rows : List Row) (plans : List KeyPlan) (t : PresortedOrders) : Type 0 where
+  pub windows : ArePresortedOf rows t.windows.items
   pub keys : IfSome t.keys (λ numbers. (columns : List (List Meaning)) → by_keys plans columns rows ≡ Ok numbers.items)

@@ -4,9 +4,9 @@
 //!   the orders of all rows by columns, for windows and for ORDER BY, from the runs that segments keep; the numbers of the
 //!   kept rows in these orders, and the rows themselves that references tell.
 //! - Promises: rows stand by name and then by place, and stay where they lie. WHERE is evaluated on every row, so one on
-//!   which it is out of range refuses. An order of all rows that is told of the kept ones is the one that sorting them
+//!   which it is out of range refuses. What an order of all rows gives of the kept ones is the one that sorting them
 //!   gives. Runs that are missing are made, and nothing else of a set changes.
-//! - Asks: nothing of the rows; of `take_told`, whose order it takes out, that each order is one of these rows.
+//! - Asks: nothing of the rows; of `take_presorted`, whose order it takes out, that each order is one of these rows.
 //! - Leaves runs to `wruns` and `wset`, single rows to `wrows`, windows to `wcalls`, and answers to `wplanner`.
 //!
 //! Read `specs/Tables.antt`, `specs/TableOrders.antt`, `specs/Referenced.antt`, then `specs/Few.antt`.
@@ -15,13 +15,13 @@
 mod counting;
 mod numbered;
 mod orders;
+mod presorted;
 mod referenced;
 mod source;
-mod told;
 
 pub use counting::kept_count;
 pub use numbered::{NumberedRows, numbered_table_rows};
 pub use orders::{TableOrder, TableOrders, asked_of, table_orders};
+pub use presorted::{PresortedOrder, PresortedOrders, presorted_orders, take_presorted};
 pub use referenced::referenced_rows;
 pub use source::{few_kept_rows, kept_table_rows};
-pub use told::{ToldOrder, ToldOrders, take_told, told_orders};

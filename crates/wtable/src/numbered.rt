@@ -10,7 +10,7 @@ ghost use Rattle.wrows.specs.Laid.{rows_seen};
 ghost use Rattle.wrows.specs.Outcomes.{Gives, unless};
 ghost use Rattle.wrows.specs.Plain.{kept_of};
 ghost use Rattle.wset.specs.Running.{live_rows};
-ghost use Rattle.wtable.specs.TableOrders.{AreNumbers, IsNumbered, all_present, left_out, number_among, number_in, number_kept, numbers_kept, numbers_told, starts_from};
+ghost use Rattle.wtable.specs.TableOrders.{AreNumbers, IsNumbered, all_present, left_out, number_among, number_in, number_kept, numbers_kept, presorted_numbers, starts_from};
 ghost use Rattle.wtable.specs.Tables.{rows_of_set};
 
 use crate::source::{push_rows, push_where};
@@ -223,12 +223,12 @@ fn push_present(numbers: &mut Vec<usize>, number: Option<usize>) -> Result<(), A
 }
 
 /// The numbers, among the rows that are kept, of those of some rows that are kept, in their order.
-pub(crate) fn told_numbers(
+pub(crate) fn presorted_numbers(
     alloc: Global,
     rows: &[RowRef],
     kept: &NumberedRows,
 ) -> Result<Vec<usize>, AllocError>
-    ensures { IfOk result (λ numbers. numbers.items ≡ numbers_told kept.now rows.now) }
+    ensures { IfOk result (λ numbers. numbers.items ≡ presorted_numbers kept.now rows.now) }
 {
     let mut numbers = Vec::with_capacity(alloc, kept.rows.len())?;
     for row in rows {

@@ -13,7 +13,7 @@ ghost use Rattle.wtable.specs.TableOrders.{AreColumns, AreTableOrders, IsOrderFo
 
 use std::alloc::{AllocError, Global};
 use wcalls::share_order;
-use wplan::{Expr, Selection, SettledKey, SettledWindow};
+use wplan::{Expr, ResolvedKey, ResolvedWindow, Selection};
 use wrows::{Asked, place_of};
 use wruns::{RowRef, kept_rows_stay_in_order, runs_order_windows};
 use wset::SegmentSet;
@@ -34,7 +34,7 @@ const ASCENDING: SortKey = SortKey {
 #[derive(Drop)]
 pub struct TableOrder<'a> {
     /// The window, whose partition values and keys are columns of the table.
-    pub window: &'a SettledWindow,
+    pub window: &'a ResolvedWindow,
     /// All rows of the table: partition after partition, by its keys, and where these agree by name and place.
     pub rows: Vec<RowRef>,
 }
@@ -108,13 +108,13 @@ fn partition_columns(
 // Keys that order rows of so many columns as some keys do, where the value of each is one of these columns.
 fn key_columns(
     alloc: Global,
-    settled: &[SettledKey],
+    asked_keys: &[ResolvedKey],
     width: usize,
 ) -> Result<Option<Vec<SortKey>>, AllocError>
-    ensures { IfOk result (λ found. IfSome found (λ keys. AreColumns width (map (λ k. k.value) (map key_plan settled.now)) (map (λ k. k.order) (map key_plan settled.now)) keys.items)) }
+    ensures { IfOk result (λ found. IfSome found (λ keys. AreColumns width (map (λ k. k.value) (map key_plan asked_keys.now)) (map (λ k. k.order) (map key_plan asked_keys.now)) keys.items)) }
 {
-    let mut keys = Vec::with_capacity(alloc, settled.len())?;
-    for asked in settled {
+    let mut keys = Vec::with_capacity(alloc, asked_keys.len())?;
+    for asked in asked_keys {
         let Some(key) = column_key(&asked.value, &asked.order, width) else {
             return Ok(None);
         };
@@ -127,7 +127,7 @@ fn key_columns(
 // columns: first the partition values, then the keys.
 fn window_columns(
     alloc: Global,
-    window: &SettledWindow,
+    window: &ResolvedWindow,
     width: usize,
 ) -> Result<Option<Vec<SortKey>>, AllocError>
     ensures { IfOk result (λ found. IfSome found (λ keys. (rows : List Row) → by_window (window_plan window.now) rows ≡ Ok (run_of keys.items rows))) }
@@ -146,7 +146,7 @@ fn window_columns(
 }
 
 // Whether one of some orders is also that of a window, or they are as many as are taken from runs.
-fn is_served(orders: &[TableOrder], window: &SettledWindow) -> bool {
+fn is_served(orders: &[TableOrder], window: &ResolvedWindow) -> bool {
     if orders.len() >= MOST_ORDERS {
         return true;
     }
@@ -162,7 +162,7 @@ fn is_served(orders: &[TableOrder], window: &SettledWindow) -> bool {
 // there as many as are taken from runs.
 fn add_order<'a>(
     alloc: Global,
-    window: &'a SettledWindow,
+    window: &'a ResolvedWindow,
     width: usize,
     set: &mut SegmentSet,
     orders: &mut Vec<TableOrder<'a>>,
@@ -189,7 +189,7 @@ fn add_order<'a>(
 // The table's rows in the orders of windows, where these are by columns. Windows that order rows alike share one.
 fn window_orders<'a>(
     alloc: Global,
-    windows: &'a [SettledWindow],
+    windows: &'a [ResolvedWindow],
     set: &mut SegmentSet,
 ) -> Result<Vec<TableOrder<'a>>, AllocError>
     ensures orders { IfOk result (λ orders. All (IsTableOrder (live_rows set.old)) orders.items) }

@@ -5,7 +5,7 @@ ghost use Rattle.wrows.specs.Columns.{not_too_many};
 ghost use Rattle.wrows.specs.Laid.{rows_seen};
 ghost use Rattle.wrows.specs.Outcomes.{Gives};
 ghost use Rattle.wset.specs.Running.{live_rows};
-ghost use Rattle.wtable.specs.Referenced.{row_told, segments_seen};
+ghost use Rattle.wtable.specs.Referenced.{referenced_row, segments_seen};
 
 use std::alloc::{AllocError, Global};
 use wrows::{AnswerFault, not_too_many};
@@ -38,8 +38,8 @@ fn row_at<'a>(segment: &'a Segment, row: usize) -> &'a [Value]
 }
 
 // The row that a reference tells, without values where there is no such row.
-fn row_told<'a>(segments: &[&'a Segment], reference: &RowRef) -> &'a [Value]
-    ensures { map meaning result.now ≡ row_told (segments_seen segments.now) reference.now }
+fn referenced_row<'a>(segments: &[&'a Segment], reference: &RowRef) -> &'a [Value]
+    ensures { map meaning result.now ≡ referenced_row (segments_seen segments.now) reference.now }
 {
     let segment = reference.segment as usize;
     if segment < segments.len() {
@@ -50,16 +50,16 @@ fn row_told<'a>(segments: &[&'a Segment], reference: &RowRef) -> &'a [Value]
 }
 
 // The rows that references tell.
-fn rows_told<'a>(
+fn each_referenced<'a>(
     alloc: Global,
     segments: &[&'a Segment],
     refs: &[RowRef],
 ) -> Result<Vec<&'a [Value]>, AllocError>
-    ensures { IfOk result (λ rows. rows_seen rows.items ≡ map (row_told (segments_seen segments.now)) refs.now) }
+    ensures { IfOk result (λ rows. rows_seen rows.items ≡ map (referenced_row (segments_seen segments.now)) refs.now) }
 {
     let mut rows = Vec::with_capacity(alloc, refs.len())?;
     for reference in refs {
-        rows.push(row_told(segments, reference))?;
+        rows.push(referenced_row(segments, reference))?;
     }
     Ok(rows)
 }
@@ -71,9 +71,9 @@ pub fn referenced_rows<'a>(
     set: &'a SegmentSet,
     refs: &[RowRef],
 ) -> Result<Vec<&'a [Value]>, AnswerFault>
-    ensures { Gives (λ rows. rows_seen rows.items) result (not_too_many (map (row_told (live_rows set.now)) refs.now)) }
+    ensures { Gives (λ rows. rows_seen rows.items) result (not_too_many (map (referenced_row (live_rows set.now)) refs.now)) }
 {
     let segments = live_segments(alloc, set)?;
-    let rows = rows_told(alloc, &segments, refs)?;
+    let rows = each_referenced(alloc, &segments, refs)?;
     not_too_many(rows)
 }

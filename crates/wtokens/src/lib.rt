@@ -4,7 +4,7 @@
 //!   it says: a name, a text, a number, an operator, a sign, a direction, a null order, a frame mode.
 //! - Promises: a token is found where one of the kind comes first, and nowhere else; all behind it is left.
 //! - Asks nothing, and takes no memory.
-//! - Leaves what stands behind what to `wparser`, whose grammar is written in this notation.
+//! - Leaves what stands behind what to `wexpressions` and `wparser`, whose grammar is written in this notation.
 //!
 //! Read `specs/Words.antt`, then `specs/Notation.antt`.
 #![tactic(auto)]

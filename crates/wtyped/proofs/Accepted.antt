@@ -10,17 +10,16 @@ use Rattle.wquery.specs.QueryTree.{Clauses, QueryTree, Selected, SourceTree, Fro
 use Rattle.wscope.specs.declared.data_type.DataType.{DataType}
 use Rattle.wscope.specs.Sources.{answer_columns, answered, declared_columns, kind_type, origin_of, written_out}
 use Rattle.wscope.specs.Types as scope
-use Rattle.wscope.specs.Types.{Origin, Titled, type_of}
+use Rattle.wscope.specs.Types.{Titled}
 use Rattle.wdistinct.specs.Calls.{group_calls, window_calls}
-use Rattle.wrules.specs.Rules.{depth_rule, first_of_names, first_of_windows, judged, least, least_source, or_else, sets_rule}
-use Rattle.wwindows.specs.Windows.{windows_of}
+use Rattle.wrules.specs.Rules.{depth_rule, judged, least, least_source, or_else, sets_rule}
 use Rattle.wplan.specs.Plans.{SelectPlan}
-use Rattle.wsettle.specs.Groups.{elements_made}
-use Rattle.wsettle.specs.Resolving.{source_row}
+use Rattle.wbinding.specs.Groups.{elements_made}
+use Rattle.wbinding.specs.Resolving.{source_row}
 use Rattle.wresolve.specs.Selecting as made
-use Rattle.wresolve.specs.Selecting.{calls_made, resolved_query, resolved_source, select_made, select_over}
+use Rattle.wresolve.specs.Selecting.{resolved_query, resolved_source, select_made, select_over}
 use Rattle.wtyped.specs.Laws.{AcceptedIsTyped, types_of}
-use Rattle.wtyped.specs.Plans.{answer_types, are_windows, is_having, next_types, query_types, select_types, shown_types, unless_ill, with_types}
+use Rattle.wtyped.specs.Plans.{answer_types, next_types, query_types, select_types, shown_types, unless_ill, with_types}
 use Rattle.wtyped.specs.Shapes.{has_misshapen, is_field, is_shaped, is_shaped_source}
 use Rattle.wtyped.proofs.Items.{AreValues, answer_typed, answer_values, keys_typed, shown_items}
 use Rattle.wtyped.proofs.Rows as rows
@@ -41,7 +40,7 @@ plan_typed cs c b k e v =
     let shown = shown_items cs c b k e v s in
     ap₂ (λ (x : Bool) (y : Option (List DataType)). unless_ill x (shown_types p y)) (selects.condition_typed (source_row cs) (types_of cs) c.condition (rows.fit_condition cs c k) k.condition) (selects.row_typed cs c b k e)
     ∙ ap₂ (λ (x : Bool) (y : Option (List DataType)). unless_ill x (answer_types p (with_types (Some gs) y)))
-    (and_from (is_having gs p.grouping) (are_windows gs p.windows) (selects.having_typed cs c b k s) (selects.windows_typed cs c b k s)) (selects.over_typed cs c b s)
+    (and_from _ _ (selects.having_typed cs c b k s) (selects.windows_typed cs c b k s)) (selects.over_typed cs c b s)
     ∙ ap₂ (λ (x : Bool) (y : Option (List DataType)). unless_ill x y) (keys_typed l ts c.items c.order shown (rows.fit_order cs c b s) k.order) (answer_typed l ts (written_out cs c.items) shown)
 
 select_values : (cs : List Titled) (c : Clauses) (b : Bool) → rules.Kept cs c → made.is_grouped c (group_calls c) ≡ b → AreValues cs
@@ -70,9 +69,7 @@ table_types d = Some (types_of (declared_columns d.columns))
 kept_select : (d : Declaration) (c : Clauses) (s : SourceTree)
     → (list_all is_field (all_columns c.grouping) && not (has_misshapen c)) ≡ true → judged d.table (origin_of d s) c s ≡ None
     → rules.Kept (origin_of d s).columns c
-kept_select d c s shaped e =
-    let o = origin_of d s in
-    let n = rules.neither (first_of_names d.table o.alias o.columns c s) (first_of_windows (windows_of c) o.columns c) e in rules.kept d.table o.alias o.columns c s n.0 n.1 shaped
+kept_select d c s shaped e = let o = origin_of d s in rules.kept d.table o.alias o.columns c s e shaped
 
 abbrev IsTyped : Declaration → QueryTree → Type 0
 IsTyped d q = (query_types (table_types d) (resolved_query d q) ≡ Some (types_of (answer_columns d q))) × AreValues (answer_columns d q)
@@ -93,7 +90,7 @@ with_select d c s shaped e a =
 mutual
   query_typed : (d : Declaration) (q : QueryTree) → is_shaped q ≡ true → least d q ≡ None → IsTyped d q
   query_typed d (Selected c s) shaped e =
-      let p = and_parts (list_all is_field (all_columns c.grouping) && not (has_misshapen c)) (is_shaped_source s) shaped in
+      let p = and_parts _ _ shaped in
       let n = rules.neither (least_source d s) (judged d.table (origin_of d s) c s) e in
       with_select d c s p.0 n.1 (source_typed d s p.1 n.0)
 

@@ -15,13 +15,13 @@ use Rattle.wscope.specs.Types.{Titled, place_named, type_named}
 use Rattle.wnames.specs.Names.{is_missing}
 use Rattle.wgroupby.specs.Rules.{element_by, elements_by, entry_by}
 use Rattle.wgroupby.specs.Sets.{is_among, with_unseen}
-use Rattle.wsettle.specs.Groups.{column_place, elements_made}
-use Rattle.wsettle.specs.Resolving.{place_among}
+use Rattle.wbinding.specs.Groups.{column_place, elements_made}
+use Rattle.wbinding.specs.Resolving.{place_among}
 use Rattle.wtyped.specs.Laws.{types_of}
 use Rattle.wtyped.specs.Plans.{is_any, types_at, with_type}
 use Rattle.wtyped.specs.Shapes.{is_field}
 use Rattle.wtyped.specs.Typing.{has, type_at}
-use Rattle.std.proofs.lemmas.List.{append-nil}
+use Rattle.std.proofs.lemmas.List.{append-nil, map-append}
 use Rattle.wdistinct.specs.Same as equality
 
 -- a column of the source that is there
@@ -40,14 +40,10 @@ plain_cell (c ∷ cs) name more e = go (bytes_eq c.name name) (λ f. plain_cell 
 
 -- the columns of GROUP BY by their places
 
-map_behind : {X Y : Type 0} (f : X → Y) (xs ys : List X) → map f (xs ++ ys) ≡ map f xs ++ map f ys
-map_behind f [] ys = refl
-map_behind f (x ∷ xs) ys = ap (λ zs. f x ∷ zs) (map_behind f xs ys)
-
 flat : {X Y A B : Type 0} (f : A → B) (h : Y → List B) (g : X → Y) (k : X → List A) → ((x : X) → h (g x) ≡ map f (k x)) → (xs : List X)
     → flat_map h (map g xs) ≡ map f (flat_map k xs)
 flat f h g k e [] = refl
-flat f h g k e (x ∷ xs) = ap₂ (λ a b. a ++ b) (e x) (flat f h g k e xs) ∙ sym (map_behind f (k x) (flat_map k xs))
+flat f h g k e (x ∷ xs) = ap₂ (λ a b. a ++ b) (e x) (flat f h g k e xs) ∙ sym (map-append f (k x) (flat_map k xs))
 
 entry_places : {X Y : Type 0} (f : X → Y) (e : Entry X) → entry_columns (entry_by f e) ≡ map f (entry_columns e)
 entry_places f (OneSet columns) = refl
@@ -68,7 +64,7 @@ kept seen (q ∷ ps) p e = kept (if is_among q seen then seen else seen ++ q ∷
   where
     go : (b : Bool) → is_among p (if b then seen else seen ++ q ∷ []) ≡ true
     go true = e
-    go false = list_any-append (λ (r : ℕ). r == p) seen (q ∷ []) ∙ or_left (is_among p seen) (is_among p (q ∷ [])) e
+    go false = list_any-append (λ (r : ℕ). r == p) seen (q ∷ []) ∙ or_left _ _ e
 
 pub found : (seen ps : List ℕ) (p : ℕ) → is_among p ps ≡ true → is_among p (with_unseen seen ps) ≡ true
 found seen [] p e = absurd (true≢false (sym e))
@@ -77,7 +73,7 @@ found seen (q ∷ ps) p e = go (q == p) (λ f. found (if is_among q seen then se
     here : q ≡ p → (b : Bool) → is_among q seen ≡ b → is_among p (if b then seen else seen ++ q ∷ []) ≡ true
     here is true known = ap (λ (r : ℕ). is_among r seen) (sym is) ∙ known
     here is false known =
-        list_any-append (λ (r : ℕ). r == p) seen (q ∷ []) ∙ or_right (is_among p seen) (is_among p (q ∷ [])) (or_left (q == p) false (eq-eqb q p is))
+        list_any-append (λ (r : ℕ). r == p) seen (q ∷ []) ∙ or_right _ _ (or_left _ _ (eq-eqb q p is))
 
     go : (b : Bool) → (is_among p ps ≡ true → is_among p (with_unseen (if is_among q seen then seen else seen ++ q ∷ []) ps) ≡ true)
         → (q == p) ≡ b → (b || is_among p ps) ≡ true → is_among p (with_unseen (if is_among q seen then seen else seen ++ q ∷ []) ps) ≡ true
@@ -87,7 +83,7 @@ found seen (q ∷ ps) p e = go (q == p) (λ f. found (if is_among q seen then se
 pub all_unseen : (K : ℕ → Bool) (seen ps : List ℕ) → list_all K seen ≡ true → list_all K ps ≡ true → list_all K (with_unseen seen ps) ≡ true
 all_unseen K seen [] a b = a
 all_unseen K seen (q ∷ ps) a b =
-    let parts = and_parts (K q) (list_all K ps) b in all_unseen K (if is_among q seen then seen else seen ++ q ∷ []) ps (go (is_among q seen) parts.0) parts.1
+    let parts = and_parts _ _ b in all_unseen K (if is_among q seen then seen else seen ++ q ∷ []) ps (go (is_among q seen) parts.0) parts.1
   where
     go : (known : Bool) → K q ≡ true → list_all K (if known then seen else seen ++ q ∷ []) ≡ true
     go true e = a
@@ -118,7 +114,7 @@ null_of (Some t) e = refl
 pub cells_there : (ps : List ℕ) (ts : List DataType) → list_all (is_cell ts) ps ≡ true → types_at ps ts ≡ Some (cells ps ts)
 cells_there [] ts e = refl
 cells_there (p ∷ ps) ts e =
-    let parts = and_parts (is_cell ts p) (list_all (is_cell ts) ps) e in ap₂ (λ a b. with_type a b) (null_of (type_at p ts) parts.0) (cells_there ps ts parts.1)
+    let parts = and_parts _ _ e in ap₂ (λ a b. with_type a b) (null_of (type_at p ts) parts.0) (cells_there ps ts parts.1)
 
 pub cell_among : (ps : List ℕ) (ts more : List DataType) (p : ℕ) (t : DataType) → is_among p ps ≡ true → type_at p ts ≡ Some t
     → type_at (place_among p ps) (cells ps ts ++ more) ≡ Some t
@@ -145,9 +141,9 @@ named_among cs name (t ∷ ts) e = go (names name t) (λ f. named_among cs name 
         → names name t ≡ b → (b || list_any (names name) ts) ≡ true
         → ((column_place cs t == place_named cs name) || is_among (place_named cs name) (map (column_place cs) ts)) ≡ true
     go true rest same f =
-        or_left (column_place cs t == place_named cs name) (is_among (place_named cs name) (map (column_place cs) ts)) (here t same)
+        or_left _ _ (here t same)
     go false rest same f =
-        or_right (column_place cs t == place_named cs name) (is_among (place_named cs name) (map (column_place cs) ts)) (rest f)
+        or_right _ _ (rest f)
 
 pub source_cell : (cs : List Titled) (name : List ℕ) → list_any (has_name name) cs ≡ true
     → type_at (place_named cs name) (types_of cs) ≡ Some (type_named cs name)
@@ -158,11 +154,11 @@ pub columns_there : (cs : List Titled) (columns : List Tree) → list_all is_fie
     → list_all (is_cell (types_of cs)) (map (column_place cs) columns) ≡ true
 columns_there cs [] f e = refl
 columns_there cs (t ∷ ts) f e =
-    let p = and_parts (is_field t) (list_all is_field ts) f in let m = or_parts (is_missing cs t) (list_any (is_missing cs) ts) e in
+    let p = and_parts _ _ f in let m = or_parts _ _ e in
     ap₂ (λ a b. a && b) (here t p.0 m.0) (columns_there cs ts p.1 m.1)
   where
     here : (u : Tree) → is_field u ≡ true → is_missing cs u ≡ false → is_cell (types_of cs) (column_place cs u) ≡ true
-    here (Field qualifier name) g m = ap (has is_any) (source_cell cs name (not-false (list_any (has_name name) cs) m))
+    here (Field qualifier name) g m = ap (has is_any) (source_cell cs name (not-false _ m))
     here _ g m = absurd (true≢false (sym g))
 
 -- the places of the columns of GROUP BY

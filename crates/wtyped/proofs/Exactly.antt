@@ -31,15 +31,11 @@ widened : (k t : DataType) (v : Outcome) → fits k t ≡ true → comes_as t v 
 widened types.Integer types.Integer v f e = e
 widened types.Text types.Text v f e = e
 widened types.Integer types.Null (Held Null) f e = refl
-widened types.Integer types.Null (Held (Int z)) f e = absurd (true≢false (sym e))
-widened types.Integer types.Null (Held (Text b)) f e = absurd (true≢false (sym e))
-widened types.Integer types.Null (Judged t) f e = absurd (true≢false (sym e))
 widened types.Integer types.Null TooLarge f e = refl
 widened types.Text types.Null (Held Null) f e = refl
-widened types.Text types.Null (Held (Int z)) f e = absurd (true≢false (sym e))
-widened types.Text types.Null (Held (Text b)) f e = absurd (true≢false (sym e))
-widened types.Text types.Null (Judged t) f e = absurd (true≢false (sym e))
 widened types.Text types.Null TooLarge f e = refl
+widened types.Integer types.Null v f e = absurd (true≢false (sym e))
+widened types.Text types.Null v f e = absurd (true≢false (sym e))
 widened _ _ v f e = absurd (true≢false (sym f))
 
 -- truths
@@ -87,10 +83,7 @@ sum g (Held (Int a)) TooLarge d e = (refl, refl)
 sum g TooLarge w d e = (refl, refl)
 sum g (Held (Text a)) w d e = absurd (true≢false (sym d))
 sum g (Judged a) w d e = absurd (true≢false (sym d))
-sum g (Held Null) (Held (Text b)) d e = absurd (true≢false (sym e))
-sum g (Held Null) (Judged b) d e = absurd (true≢false (sym e))
-sum g (Held (Int a)) (Held (Text b)) d e = absurd (true≢false (sym e))
-sum g (Held (Int a)) (Judged b) d e = absurd (true≢false (sym e))
+sum g _ w d e = absurd (true≢false (sym e))
 
 of_truth' : (t : DataType) (v : Outcome) → is_truth t ≡ true → comes_as t v ≡ true → comes_as types.Truth v ≡ true
 of_truth' types.Truth v s e = e
@@ -117,27 +110,20 @@ one k c (Text x) Null d e = refl
 one k c (Int x) (Int y) d e = refl
 one k c (Text x) (Text y) d e = refl
 one types.Integer c (Int x) (Text y) d e = absurd (true≢false (sym e))
-one types.Text c (Int x) (Text y) d e = absurd (true≢false (sym d))
-one types.Truth c (Int x) (Text y) d e = absurd (true≢false (sym d))
-one types.Null c (Int x) (Text y) d e = absurd (true≢false (sym d))
-one types.Integer c (Text x) (Int y) d e = absurd (true≢false (sym d))
+one _ c (Int x) (Text y) d e = absurd (true≢false (sym d))
 one types.Text c (Text x) (Int y) d e = absurd (true≢false (sym e))
-one types.Truth c (Text x) (Int y) d e = absurd (true≢false (sym d))
-one types.Null c (Text x) (Int y) d e = absurd (true≢false (sym d))
+one _ c (Text x) (Int y) d e = absurd (true≢false (sym d))
 
 -- a value of a family is a value or out of range
 no_truth : (k t : DataType) (x : Truth) → fits k t ≡ true → comes_as t (Judged x) ≡ true → ⊥
-no_truth types.Integer types.Integer x f e = true≢false (sym e)
-no_truth types.Integer types.Null x f e = true≢false (sym e)
-no_truth types.Text types.Text x f e = true≢false (sym e)
-no_truth types.Text types.Null x f e = true≢false (sym e)
-no_truth _ _ x f e = true≢false (sym f)
+no_truth types.Integer types.Truth x f e = true≢false (sym f)
+no_truth _ types.Truth x f e = true≢false (sym f)
+no_truth _ _ x f e = true≢false (sym e)
 
 self_fits : (k t : DataType) → fits k t ≡ true → fits k k ≡ true
 self_fits types.Integer t f = refl
 self_fits types.Text t f = refl
-self_fits types.Truth t f = absurd (true≢false (sym f))
-self_fits types.Null t f = absurd (true≢false (sym f))
+self_fits _ t f = absurd (true≢false (sym f))
 
 comparison : (k : DataType) (c : Comparison) (v w : Outcome) → fits k k ≡ true → comes_as k v ≡ true → comes_as k w ≡ true
     → Says types.Truth (made_of (Some v) (λ x. made_of (Some w) (λ y. outcome_of (compared c x y))))
@@ -185,8 +171,7 @@ null_test : (negated : Bool) (v : Outcome)
     → Says types.Truth (made_of (Some v) (λ x. Some (Judged (turned negated (is_null x)))))
     (after v (λ x. Judged (turned negated (is_null x))))
 null_test negated (Held m) = (refl, refl)
-null_test negated (Judged t) = (refl, refl)
-null_test negated TooLarge = (refl, refl)
+null_test negated _ = (refl, refl)
 
 -- cells
 
@@ -195,13 +180,12 @@ cell : (place : ℕ) (ts : List DataType) (row : List Meaning) (t : DataType) �
 cell place [] row t r e = absurd (none_some t e)
 cell place (u ∷ ts) [] t r e = absurd (true≢false (sym r))
 cell zero (u ∷ ts) (m ∷ row) t r e =
-    (refl, ap (λ (x : DataType). is_of x m) (sym (some_is u t e)) ∙ (and_parts (is_of u m) (are_of ts row) r).0)
-cell (suc n) (u ∷ ts) (m ∷ row) t r e = cell n ts row t (and_parts (is_of u m) (are_of ts row) r).1 e
+    (refl, ap (λ (x : DataType). is_of x m) (sym (some_is u t e)) ∙ (and_parts _ _ r).0)
+cell (suc n) (u ∷ ts) (m ∷ row) t r e = cell n ts row t (and_parts _ _ r).1 e
 
-constant : (m : Meaning) → is_of (constant_type m) m ≡ true
+pub constant : (m : Meaning) → is_of (constant_type m) m ≡ true
 constant Null = refl
-constant (Int z) = refl
-constant (Text b) = refl
+constant _ = refl
 
 -- parts put together
 
@@ -240,7 +224,7 @@ mutual
       of_type types.Integer t _ _ is.1 (with_one _ types.Integer _ (value_of row f) _ s.0 (sign minus (value_of row f) (widened types.Integer p.type (value_of row f) (number_fits p.type p.passes) s.1)))
   exactly ts row (Applied o f g) t r e =
       let is = found.held (has (takes o) (formula_type ts f) && has (takes o) (formula_type ts g)) (gives o) t e in
-      let both = and_parts (has (takes o) (formula_type ts f)) (has (takes o) (formula_type ts g)) is.0 in
+      let both = and_parts _ _ is.0 in
       let p = found.has_type (takes o) (formula_type ts f) both.0 in
       let q = found.has_type (takes o) (formula_type ts g) both.1 in
       let a = exactly ts row f p.type r p.is in
@@ -253,7 +237,7 @@ mutual
       let a = exactly ts row f p.left r p.is_left in
       let b = exactly ts row g p.right r p.is_right in
       of_type types.Truth t _ _ is.1 (with_two (λ x y. outcome_of (compared c x y)) types.Truth _ _ (value_of row f) (value_of row g) _ a.0 b.0
-      (comparison (family is.0.type) c (value_of row f) (value_of row g) (self_fits (family is.0.type) p.left k.0) (widened (family is.0.type) p.left (value_of row f) k.0 a.1) (widened (family is.0.type) p.right (value_of row g) k.1 b.1)))
+      (comparison (family is.0.type) c _ _ (self_fits (family is.0.type) p.left k.0) (widened (family is.0.type) p.left _ k.0 a.1) (widened (family is.0.type) p.right _ k.1 b.1)))
   exactly ts row (NullTest negated f) t r e =
       let is = found.is_judged (formula_type ts f) t e in
       let s = exactly ts row f is.0.type r is.0.is in
@@ -268,7 +252,7 @@ mutual
       let b = exactly ts row low q.right r q.is_right in
       let c = exactly ts row high p.right r p.is_right in
       of_type types.Truth t _ _ is.1 (with_three (λ x y z. made_of (outcome_of (between x y z)) (of_truth (turned negated))) types.Truth _ _ _ (value_of row f) (value_of row low) (value_of row high) _ a.0 b.0 c.0
-      (range (family is.0.type) negated (value_of row f) (value_of row low) (value_of row high) (self_fits (family is.0.type) p.left k.0) (widened (family is.0.type) q.left (value_of row f) j.0 a.1) (widened (family is.0.type) q.right (value_of row low) j.1 b.1) (widened (family is.0.type) p.right (value_of row high) k.1 c.1)))
+      (range (family is.0.type) negated _ _ _ (self_fits (family is.0.type) p.left k.0) (widened (family is.0.type) q.left _ j.0 a.1) (widened (family is.0.type) q.right _ j.1 b.1) (widened (family is.0.type) p.right _ k.1 c.1)))
   exactly ts row (Among negated f list) t r e =
       let is = found.is_judged (beside_all ts (valued (formula_type ts f)) list) t e in
       let k = found.all_valued ts (valued (formula_type ts f)) list (found.valued_is (formula_type ts f)) is.0.type is.0.is in

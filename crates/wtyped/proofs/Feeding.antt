@@ -76,7 +76,7 @@ pub exact_rows : (e : Evaluation) (ts : List DataType) (t : DataType) → formul
     → AllByRecursion (IsExactOn e) rows
 exact_rows e ts t is s [] a = tt
 exact_rows e ts t is s (row ∷ rows) a =
-    let h = and_parts (are_of ts row) (all_of ts rows) a in
+    let h = and_parts _ _ a in
     let x = typed_is_exact ts row e.expression t h.0 is in
     (record { exact = x.0; suited = s (value_of row e.expression) x.1 }, exact_rows e ts t is s rows h.1)
 
@@ -136,7 +136,7 @@ all_fed t feed rows n e =
 
 first_typed : (t : DataType) (values : List Meaning) → is_nullable t ≡ true → Each t values → is_of t (first_or_null values) ≡ true
 first_typed t [] n e = n
-first_typed t (v ∷ vs) n e = (and_parts (is_of t v) (list_all (is_of t) vs) e).0
+first_typed t (v ∷ vs) n e = (and_parts _ _ e).0
 
 pub number_typed : (o : Option ℤ) → is_of types.Integer (unwrap_or (option_map (λ z. Int z) o) Null) ≡ true
 number_typed None = refl
@@ -181,10 +181,7 @@ pub record AggregateTyped (ts : List DataType) (a : AggregatePlan) (u : DataType
 
 argument_of : (function : AggregateFunction) (o : Option DataType) (u : DataType) → aggregate_of function o ≡ Some u → Passes is_any o
 argument_of CountRows None u e = absurd (none_some u e)
-argument_of Count None u e = absurd (none_some u e)
-argument_of Sum None u e = absurd (none_some u e)
-argument_of Min None u e = absurd (none_some u e)
-argument_of Max None u e = absurd (none_some u e)
+argument_of _ None u e = absurd (none_some u e)
 argument_of _ (Some t) u e = record { type = t; is = refl; passes = refl }
 
 not_wrong : (b : Bool) (o : Option DataType) (u : DataType) → unless_wrong b o ≡ Some u → (b ≡ true) × (o ≡ Some u)

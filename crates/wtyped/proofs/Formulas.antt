@@ -18,9 +18,10 @@ use Rattle.wscope.specs.Seeking.{found_or, some_below, some_link, some_node, som
 use Rattle.wscope.specs.Types.{Titled, agree, chain_type, fits_integer, fits_text, type_of, is_truth}
 use Rattle.wnames.specs.Types.{all_links, all_trees, is_ill_typed, is_integer, is_text, suits}
 use Rattle.wplan.specs.Formula.{Formula}
-use Rattle.wsettle.specs.Resolving.{Layout, resolved, resolved_links, resolved_trees}
+use Rattle.wbinding.specs.Resolving.{Layout, resolved, resolved_links, resolved_trees}
 use Rattle.wtyped.specs.Typing.{beside, beside_all, common, constant_type, formula_type, gives, has, is_number, judged, takes, valued, where_holds}
 use Rattle.wtyped.specs.Shapes.{are_links, are_of_kind, is_misshapen}
+use Rattle.wtyped.proofs.Walks.{open_find}
 use Rattle.wtyped.proofs.Types.{Passes, fits, has_type}
 
 abbrev pub same_type : DataType → DataType → Bool
@@ -39,9 +40,7 @@ one_type _ _ e = absurd (true≢false (sym e))
 
 pub self_type : (a : DataType) → same_type a a ≡ true
 self_type Integer = refl
-self_type Text = refl
-self_type Truth = refl
-self_type Null = refl
+self_type _ = refl
 
 -- whether a column or a call has the type of its cell
 abbrev pub is_typed_cell : Layout → List DataType → Tree → Bool
@@ -61,12 +60,10 @@ abbrev pub is_unfit : List Titled → Tree → Bool
 is_unfit cs n = is_ill_typed cs n || is_misshapen n
 
 abbrev pub find : Bool → Look
-find true = Found
-find false = Below
+find b = if b then Found else Below
 
 abbrev pub shut : Bool → Look
-shut true = Closed
-shut false = Found
+shut b = if b then Closed else Found
 
 -- a node that does not fit; what a call is given is another row's matter
 abbrev pub sees_misfit : Layout → List DataType → Tree → Look
@@ -74,19 +71,11 @@ sees_misfit l ts (Field qualifier name) = find (not (is_typed_cell l ts (Field q
 sees_misfit l ts (Invoked name given filter reach) = shut (is_typed_cell l ts (Invoked name given filter reach))
 sees_misfit l ts n = find (is_unfit l.columns n)
 
-open_look : (b x : Bool) → found_or (find b) x ≡ false → (b ≡ false) × (x ≡ false)
-open_look true x e = absurd (true≢false e)
-open_look false x e = (refl, e)
-
 shut_look : (b x : Bool) → found_or (shut b) x ≡ false → b ≡ true
 shut_look true x e = refl
 shut_look false x e = absurd (true≢false e)
 
 -- the rule on types and the types of rows mean one thing
-truth_is : (t : DataType) → is_truth t ≡ true → t ≡ Truth
-truth_is Truth e = refl
-truth_is _ e = absurd (true≢false (sym e))
-
 pub number_is : (t : DataType) → fits_integer t ≡ true → is_number t ≡ true
 number_is Integer e = refl
 number_is Null e = refl
@@ -100,45 +89,28 @@ suits_type Product t = fits_integer t
 
 suited : (cs : List Titled) (kind : ChainKind) (t : Tree) → suits cs kind t ≡ true → suits_type kind (type_of cs t) ≡ true
 suited cs Disjunction t e = e
-suited cs Conjunction t e = e
-suited cs Sum t e = e
-suited cs Product t e = e
+suited cs _ t e = e
 
 chain_suits : (kind : ChainKind) → suits_type kind (chain_type kind) ≡ true
 chain_suits Disjunction = refl
-chain_suits Conjunction = refl
-chain_suits Sum = refl
-chain_suits Product = refl
+chain_suits _ = refl
 
-truths : (o : Option DataType) (t : DataType) → o ≡ Some t → is_truth t ≡ true → o ≡ Some Truth
-truths o t e s = e ∙ ap Some (truth_is t s)
+pub held_one : (p : DataType → Bool) (u : DataType) (o : Option DataType) (t : DataType) → o ≡ Some t → p t ≡ true
+    → where_holds (has p o) u ≡ Some u
+held_one p u o t e s = ap (λ (b : Bool). where_holds b u) (ap (has p) e ∙ s)
 
-holds_number : (o : Option DataType) (t : DataType) → o ≡ Some t → fits_integer t ≡ true → has is_number o ≡ true
-holds_number o t e s = ap (has is_number) e ∙ number_is t s
-
-negated : (o : Option DataType) (t : DataType) → o ≡ Some t → is_truth t ≡ true → where_holds (has is_truth o) Truth ≡ Some Truth
-negated o t e s = ap (λ (x : Option DataType). where_holds (has is_truth x) Truth) (truths o t e s)
-
-signed : (o : Option DataType) (t : DataType) → o ≡ Some t → fits_integer t ≡ true → where_holds (has is_number o) Integer ≡ Some Integer
-signed o t e s = ap (λ (b : Bool). where_holds b Integer) (holds_number o t e s)
-
-both_truths : (o p : Option DataType) (a b : DataType) → o ≡ Some a → p ≡ Some b → is_truth a ≡ true → is_truth b ≡ true
-    → where_holds (has is_truth o && has is_truth p) Truth ≡ Some Truth
-both_truths o p a b e f s t =
-    ap₂ (λ (x y : Option DataType). where_holds (has is_truth x && has is_truth y) Truth) (truths o a e s) (truths p b f t)
-
-both_numerals : (o p : Option DataType) (a b : DataType) → o ≡ Some a → p ≡ Some b → fits_integer a ≡ true → fits_integer b ≡ true
-    → where_holds (has is_number o && has is_number p) Integer ≡ Some Integer
-both_numerals o p a b e f s t = ap₂ (λ (x y : Bool). where_holds (x && y) Integer) (holds_number o a e s) (holds_number p b f t)
+held_two : (p : DataType → Bool) (u : DataType) (o q : Option DataType) (a b : DataType) → o ≡ Some a → q ≡ Some b → p a ≡ true → p b ≡ true
+    → where_holds (has p o && has p q) u ≡ Some u
+held_two p u o q a b e f s t = ap₂ (λ (x y : Bool). where_holds (x && y) u) (ap (has p) e ∙ s) (ap (has p) f ∙ t)
 
 applied : (operator : Operator) (kind : ChainKind) (o p : Option DataType) (a b : DataType) → same_kind (chain_kind operator) kind ≡ true
     → o ≡ Some a → p ≡ Some b → suits_type kind a ≡ true → suits_type kind b ≡ true
     → where_holds (has (takes operator) o && has (takes operator) p) (gives operator) ≡ Some (chain_type kind)
-applied Or Disjunction o p a b k e f s t = both_truths o p a b e f s t
-applied And Conjunction o p a b k e f s t = both_truths o p a b e f s t
-applied Plus Sum o p a b k e f s t = both_numerals o p a b e f s t
-applied Minus Sum o p a b k e f s t = both_numerals o p a b e f s t
-applied Times Product o p a b k e f s t = both_numerals o p a b e f s t
+applied Or Disjunction o p a b k e f s t = held_two is_truth Truth o p a b e f s t
+applied And Conjunction o p a b k e f s t = held_two is_truth Truth o p a b e f s t
+applied Plus Sum o p a b k e f s t = held_two is_number Integer o p a b e f (number_is a s) (number_is b t)
+applied Minus Sum o p a b k e f s t = held_two is_number Integer o p a b e f (number_is a s) (number_is b t)
+applied Times Product o p a b k e f s t = held_two is_number Integer o p a b e f (number_is a s) (number_is b t)
 applied _ _ o p a b k e f s t = absurd (true≢false (sym k))
 
 -- types that agree have one in common
@@ -162,25 +134,6 @@ beside_join : (k a b : DataType) (o p : Option DataType) → o ≡ Some a → p 
 beside_join k a b o p e f g h =
     let j = join k a b g h in record { type = j.type; is = ap₂ (λ (x y : Option DataType). beside x y) e f ∙ j.is; passes = j.passes }
 
-integer_fits : (t : DataType) → fits_integer t ≡ true → fits Integer t ≡ true
-integer_fits Integer e = refl
-integer_fits Null e = refl
-integer_fits _ e = absurd (true≢false (sym e))
-
-text_fits : (t : DataType) → fits_text t ≡ true → fits Text t ≡ true
-text_fits Text e = refl
-text_fits Null e = refl
-text_fits _ e = absurd (true≢false (sym e))
-
-all_integers : (ts : List DataType) → list_all fits_integer ts ≡ true → list_all (fits Integer) ts ≡ true
-all_integers [] e = refl
-all_integers (t ∷ ts) e =
-    let p = and_parts (fits_integer t) (list_all fits_integer ts) e in ap₂ (λ a b. a && b) (integer_fits t p.0) (all_integers ts p.1)
-
-all_texts : (ts : List DataType) → list_all fits_text ts ≡ true → list_all (fits Text) ts ≡ true
-all_texts [] e = refl
-all_texts (t ∷ ts) e = let p = and_parts (fits_text t) (list_all fits_text ts) e in ap₂ (λ a b. a && b) (text_fits t p.0) (all_texts ts p.1)
-
 pub record Agrees (ts : List DataType) : Type 0 where
   pub kind : DataType
   pub fit : list_all (fits kind) ts ≡ true
@@ -189,24 +142,24 @@ pub agreed : (ts : List DataType) → agree ts ≡ true → Agrees ts
 agreed ts e = go (or_cases (list_all fits_integer ts) (list_all fits_text ts) e)
   where
     go : (list_all fits_integer ts ≡ true) ⊎ (list_all fits_text ts ≡ true) → Agrees ts
-    go (inl a) = record { kind = Integer; fit = all_integers ts a }
-    go (inr b) = record { kind = Text; fit = all_texts ts b }
+    go (inl a) = record { kind = Integer; fit = a }
+    go (inr b) = record { kind = Text; fit = b }
 
 pub two : (o p : Option DataType) (a b : DataType) → agree (a ∷ b ∷ []) ≡ true → o ≡ Some a → p ≡ Some b → Passes (λ t. true) (beside o p)
 two o p a b e f g =
     let k = agreed (a ∷ b ∷ []) e in
-    let x = and_parts (fits k.kind a) (fits k.kind b && true) k.fit in
-    let j = beside_join k.kind a b o p f g x.0 (and_parts (fits k.kind b) true x.1).0 in
+    let x = and_parts _ _ k.fit in
+    let j = beside_join k.kind _ _ _ _ f g x.0 (and_parts _ _ x.1).0 in
     record { type = j.type; is = j.is; passes = refl }
 
 three : (o p q : Option DataType) (a b c : DataType) → agree (a ∷ b ∷ c ∷ []) ≡ true → o ≡ Some a → p ≡ Some b → q ≡ Some c
     → Passes (λ t. true) (beside (beside o p) q)
 three o p q a b c e f g h =
     let k = agreed (a ∷ b ∷ c ∷ []) e in
-    let x = and_parts (fits k.kind a) (fits k.kind b && (fits k.kind c && true)) k.fit in
-    let y = and_parts (fits k.kind b) (fits k.kind c && true) x.1 in
-    let j = beside_join k.kind a b o p f g x.0 y.0 in
-    let i = beside_join k.kind j.type c (beside o p) q j.is h j.passes (and_parts (fits k.kind c) true y.1).0 in
+    let x = and_parts _ _ k.fit in
+    let y = and_parts _ _ x.1 in
+    let j = beside_join k.kind _ _ _ _ f g x.0 y.0 in
+    let i = beside_join k.kind j.type c (beside o p) q j.is h j.passes (and_parts _ _ y.1).0 in
     record { type = i.type; is = i.is; passes = refl }
 
 truth_of : (o : Option DataType) → Passes (λ t. true) o → judged o ≡ Some Truth
@@ -214,17 +167,9 @@ truth_of o p = ap judged p.is
 
 -- a value's type
 value_of : (k t : DataType) → fits k t ≡ true → valued (Some t) ≡ Some t
-value_of k Integer e = refl
-value_of k Text e = refl
-value_of k Null e = refl
 value_of Integer Truth e = absurd (true≢false (sym e))
-value_of Text Truth e = absurd (true≢false (sym e))
-value_of Truth Truth e = absurd (true≢false (sym e))
-value_of Null Truth e = absurd (true≢false (sym e))
-
-trees_as : (p q : Tree → Bool) → ((u : Tree) → p u ≡ true → q u ≡ true) → (us : Trees) → all_trees p us ≡ true → all_trees q us ≡ true
-trees_as p q h NoTrees e = refl
-trees_as p q h (MoreTrees t us) e = let x = and_parts (p t) (all_trees p us) e in ap₂ (λ a b. a && b) (h t x.0) (trees_as p q h us x.1)
+value_of _ Truth e = absurd (true≢false (sym e))
+value_of k _ e = refl
 
 -- what stands in a list has one type
 one_kind : (cs : List Titled) (t : Tree) (us : Trees) (o : Option DataType)
@@ -235,10 +180,8 @@ one_kind cs t us o e all = go (or_cases (is_integer cs t && all_trees (is_intege
   where
     go : ((is_integer cs t && all_trees (is_integer cs) us) ≡ true) ⊎ ((is_text cs t && all_trees (is_text cs) us) ≡ true)
         → Passes (λ u. true) o
-    go (inl i) = let p = and_parts (is_integer cs t) (all_trees (is_integer cs) us) i in
-        all Integer (integer_fits (type_of cs t) p.0) (trees_as (is_integer cs) (λ u. fits Integer (type_of cs u)) (λ u. integer_fits (type_of cs u)) us p.1)
-    go (inr i) = let p = and_parts (is_text cs t) (all_trees (is_text cs) us) i in
-        all Text (text_fits (type_of cs t) p.0) (trees_as (is_text cs) (λ u. fits Text (type_of cs u)) (λ u. text_fits (type_of cs u)) us p.1)
+    go (inl i) = let p = and_parts _ _ i in all Integer p.0 p.1
+    go (inr i) = let p = and_parts _ _ i in all Text p.0 p.1
 
 numeral : (b : Bool) → (false || not b) ≡ false → (n : ℕ)
     → Some (constant_type (if b then meanings.Int (pos n) else meanings.Null)) ≡ Some Integer
@@ -249,42 +192,42 @@ mutual
   pub typed : (l : Layout) (ts : List DataType) (t : Tree) → some_node (sees_misfit l ts) t ≡ false
       → formula_type ts (resolved l t) ≡ Some (type_of l.columns t)
   typed l ts NullWord e = refl
-  typed l ts (Numeral n) e = numeral (nat_lt n (2 ^ 95)) (open_look (false || not (nat_lt n (2 ^ 95))) false e).0 n
+  typed l ts (Numeral n) e = numeral (nat_lt n (2 ^ 95)) (open_find (false || not (nat_lt n (2 ^ 95))) false e).0 n
   typed l ts (Quoted text) e = refl
   typed l ts (Field qualifier name) e =
-      cell_typed l ts (Field qualifier name) (not-false (is_typed_cell l ts (Field qualifier name)) (open_look (not (is_typed_cell l ts (Field qualifier name))) false e).0)
+      cell_typed l ts (Field qualifier name) (not-false _ (open_find (not (is_typed_cell l ts (Field qualifier name))) false e).0)
   typed l ts (Invoked name given filter reach) e =
       cell_typed l ts (Invoked name given filter reach) (shut_look (is_typed_cell l ts (Invoked name given filter reach)) (some_below (sees_misfit l ts) (Invoked name given filter reach)) e)
   typed l ts (Negated t) e =
-      let o = open_look (is_unfit l.columns (Negated t)) (some_node (sees_misfit l ts) t) e in
-      negated (formula_type ts (resolved l t)) (type_of l.columns t) (typed l ts t o.1) (not-false (is_truth (type_of l.columns t)) (or_parts (is_ill_typed l.columns (Negated t)) false o.0).0)
+      let o = open_find (is_unfit l.columns (Negated t)) (some_node (sees_misfit l ts) t) e in
+      held_one is_truth Truth _ _ (typed l ts t o.1) (not-false _ (or_parts _ _ o.0).0)
   typed l ts (Signed minus t) e =
-      let o = open_look (is_unfit l.columns (Signed minus t)) (some_node (sees_misfit l ts) t) e in
-      signed (formula_type ts (resolved l t)) (type_of l.columns t) (typed l ts t o.1) (not-false (fits_integer (type_of l.columns t)) (or_parts (is_ill_typed l.columns (Signed minus t)) false o.0).0)
+      let o = open_find (is_unfit l.columns (Signed minus t)) (some_node (sees_misfit l ts) t) e in
+      held_one is_number Integer _ _ (typed l ts t o.1)
+      (number_is (type_of l.columns t) (not-false _ (or_parts _ _ o.0).0))
   typed l ts (Joined kind t links) e =
-      let o = open_look (is_unfit l.columns (Joined kind t links)) (some_node (sees_misfit l ts) t || some_link (sees_misfit l ts) links) e in
-      let u = or_parts (is_ill_typed l.columns (Joined kind t links)) (not (are_links kind links)) o.0 in
-      let s = and_parts (suits l.columns kind t) (all_links (suits l.columns kind) links) (not-false (suits l.columns kind t && all_links (suits l.columns kind) links) u.0) in
-      let below = or_parts (some_node (sees_misfit l ts) t) (some_link (sees_misfit l ts) links) o.1 in
-      chain l ts kind links (resolved l t) (type_of l.columns t) (typed l ts t below.0) (suited l.columns kind t s.0) s.1 (not-false (are_links kind links) u.1) below.1
+      let o = open_find (is_unfit l.columns (Joined kind t links)) (some_node (sees_misfit l ts) t || some_link (sees_misfit l ts) links) e in
+      let u = or_parts _ _ o.0 in
+      let s = and_parts _ _ (not-false _ u.0) in
+      let below = or_parts _ _ o.1 in
+      chain l ts kind links _ _ (typed l ts t below.0) (suited l.columns kind t s.0) s.1 (not-false _ u.1) below.1
   typed l ts (Compared comparison t u) e =
-      let o = open_look (is_unfit l.columns (Compared comparison t u)) (some_node (sees_misfit l ts) t || some_node (sees_misfit l ts) u) e in
-      let a = not-false (agree (type_of l.columns t ∷ type_of l.columns u ∷ [])) (or_parts (is_ill_typed l.columns (Compared comparison t u)) false o.0).0 in
-      let below = or_parts (some_node (sees_misfit l ts) t) (some_node (sees_misfit l ts) u) o.1 in
-      truth_of (beside (formula_type ts (resolved l t)) (formula_type ts (resolved l u))) (two (formula_type ts (resolved l t)) (formula_type ts (resolved l u)) (type_of l.columns t) (type_of l.columns u) a (typed l ts t below.0) (typed l ts u below.1))
+      let o = open_find (is_unfit l.columns (Compared comparison t u)) (some_node (sees_misfit l ts) t || some_node (sees_misfit l ts) u) e in
+      let a = not-false _ (or_parts _ _ o.0).0 in
+      let below = or_parts _ _ o.1 in
+      truth_of _ (two _ _ _ _ a (typed l ts t below.0) (typed l ts u below.1))
   typed l ts (NullTest negated t) e =
-      let o = open_look (is_unfit l.columns (NullTest negated t)) (some_node (sees_misfit l ts) t) e in ap judged (typed l ts t o.1)
+      let o = open_find (is_unfit l.columns (NullTest negated t)) (some_node (sees_misfit l ts) t) e in ap judged (typed l ts t o.1)
   typed l ts (Within negated t u v) e =
-      let o = open_look (is_unfit l.columns (Within negated t u v)) (some_node (sees_misfit l ts) t || (some_node (sees_misfit l ts) u || some_node (sees_misfit l ts) v)) e in
-      let a = not-false (agree (type_of l.columns t ∷ type_of l.columns u ∷ type_of l.columns v ∷ [])) (or_parts (is_ill_typed l.columns (Within negated t u v)) false o.0).0 in
-      let below = or_parts (some_node (sees_misfit l ts) t) (some_node (sees_misfit l ts) u || some_node (sees_misfit l ts) v) o.1 in
-      let behind = or_parts (some_node (sees_misfit l ts) u) (some_node (sees_misfit l ts) v) below.1 in
-      truth_of (beside (beside (formula_type ts (resolved l t)) (formula_type ts (resolved l u))) (formula_type ts (resolved l v)))
-      (three (formula_type ts (resolved l t)) (formula_type ts (resolved l u)) (formula_type ts (resolved l v)) (type_of l.columns t) (type_of l.columns u) (type_of l.columns v) a (typed l ts t below.0) (typed l ts u behind.0) (typed l ts v behind.1))
+      let o = open_find (is_unfit l.columns (Within negated t u v)) (some_node (sees_misfit l ts) t || (some_node (sees_misfit l ts) u || some_node (sees_misfit l ts) v)) e in
+      let a = not-false _ (or_parts _ _ o.0).0 in
+      let below = or_parts _ _ o.1 in
+      let behind = or_parts _ _ below.1 in
+      truth_of _ (three _ _ _ _ _ _ a (typed l ts t below.0) (typed l ts u behind.0) (typed l ts v behind.1))
   typed l ts (Among negated t list) e =
-      let o = open_look (is_unfit l.columns (Among negated t list)) (some_node (sees_misfit l ts) t || some_tree (sees_misfit l ts) list) e in
-      let one = not-false ((is_integer l.columns t && all_trees (is_integer l.columns) list) || (is_text l.columns t && all_trees (is_text l.columns) list)) (or_parts (is_ill_typed l.columns (Among negated t list)) false o.0).0 in
-      let below = or_parts (some_node (sees_misfit l ts) t) (some_tree (sees_misfit l ts) list) o.1 in
+      let o = open_find (is_unfit l.columns (Among negated t list)) (some_node (sees_misfit l ts) t || some_tree (sees_misfit l ts) list) e in
+      let one = not-false _ (or_parts _ _ o.0).0 in
+      let below = or_parts _ _ o.1 in
       let first = typed l ts t below.0 in
       truth_of (beside_all ts (valued (formula_type ts (resolved l t))) (resolved_trees l list)) (one_kind l.columns t list (beside_all ts (valued (formula_type ts (resolved l t))) (resolved_trees l list)) one
       (λ k a b. all_listed l ts list k (valued (formula_type ts (resolved l t))) (type_of l.columns t) (ap valued first ∙ value_of k (type_of l.columns t) a) a b below.1))
@@ -295,11 +238,11 @@ mutual
       → Passes (suits_type kind) (formula_type ts (resolved_links l f links))
   front_typed l ts kind NoLinks f a is s all of_kind e = record { type = a; is = is; passes = s }
   front_typed l ts kind (Further front operator t) f a is s all of_kind e =
-      let k = and_parts (are_of_kind kind front) (same_kind (chain_kind operator) kind) of_kind in
-      let x = and_parts (all_links (suits l.columns kind) front) (suits l.columns kind t) all in
-      let y = or_parts (some_link (sees_misfit l ts) front) (some_node (sees_misfit l ts) t) e in
+      let k = and_parts _ _ of_kind in
+      let x = and_parts _ _ all in
+      let y = or_parts _ _ e in
       let p = front_typed l ts kind front f a is s x.0 k.0 y.0 in
-      record { type = chain_type kind; is = applied operator kind (formula_type ts (resolved_links l f front)) (formula_type ts (resolved l t)) p.type (type_of l.columns t) k.1 p.is (typed l ts t y.1) p.passes (suited l.columns kind t x.1); passes = chain_suits kind }
+      record { type = chain_type kind; is = applied operator kind _ _ _ _ k.1 p.is (typed l ts t y.1) p.passes (suited l.columns kind t x.1); passes = chain_suits kind }
 
   chain : (l : Layout) (ts : List DataType) (kind : ChainKind) (links : Links) (f : Formula) (a : DataType) → formula_type ts f ≡ Some a
       → suits_type kind a ≡ true
@@ -307,18 +250,18 @@ mutual
       → formula_type ts (resolved_links l f links) ≡ Some (chain_type kind)
   chain l ts kind NoLinks f a is s all of_kind e = absurd (true≢false (sym of_kind))
   chain l ts kind (Further front operator t) f a is s all of_kind e =
-      let k = and_parts (are_of_kind kind front) (same_kind (chain_kind operator) kind) of_kind in
-      let x = and_parts (all_links (suits l.columns kind) front) (suits l.columns kind t) all in
-      let y = or_parts (some_link (sees_misfit l ts) front) (some_node (sees_misfit l ts) t) e in
+      let k = and_parts _ _ of_kind in
+      let x = and_parts _ _ all in
+      let y = or_parts _ _ e in
       let p = front_typed l ts kind front f a is s x.0 k.0 y.0 in
-      applied operator kind (formula_type ts (resolved_links l f front)) (formula_type ts (resolved l t)) p.type (type_of l.columns t) k.1 p.is (typed l ts t y.1) p.passes (suited l.columns kind t x.1)
+      applied operator kind _ _ _ _ k.1 p.is (typed l ts t y.1) p.passes (suited l.columns kind t x.1)
 
   all_listed : (l : Layout) (ts : List DataType) (us : Trees) (k : DataType) (o : Option DataType) (a : DataType) → o ≡ Some a
       → fits k a ≡ true → all_trees (λ u. fits k (type_of l.columns u)) us ≡ true → some_tree (sees_misfit l ts) us ≡ false
       → Passes (λ u. true) (beside_all ts o (resolved_trees l us))
   all_listed l ts NoTrees k o a is f all e = record { type = a; is = is; passes = refl }
   all_listed l ts (MoreTrees t us) k o a is f all e =
-      let x = and_parts (fits k (type_of l.columns t)) (all_trees (λ u. fits k (type_of l.columns u)) us) all in
-      let y = or_parts (some_node (sees_misfit l ts) t) (some_tree (sees_misfit l ts) us) e in
-      let j = beside_join k a (type_of l.columns t) o (formula_type ts (resolved l t)) is (typed l ts t y.0) f x.0 in
+      let x = and_parts _ _ all in
+      let y = or_parts _ _ e in
+      let j = beside_join k _ _ _ _ is (typed l ts t y.0) f x.0 in
       all_listed l ts us k (beside o (formula_type ts (resolved l t))) j.type j.is j.passes x.1 y.1

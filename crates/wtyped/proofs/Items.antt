@@ -1,17 +1,17 @@
 -- Items and keys of a SELECT that no rule refuses are well typed.
-use Rattle.std.proofs.Common.{◌≡◌, Bool, true, false, not, ◌&&◌, ◌||◌, ℕ, zero, suc, ◌-◌, ◌<◌, nat_lt, List, [], ◌∷◌, ◌++◌, length, map, Some, None, refl, sym, subst, ap, ap₂, ◌∙◌, append_assoc, true≢false, arith}
+use Rattle.std.proofs.Common.{◌≡◌, Bool, true, false, not, ◌&&◌, ◌||◌, ℕ, zero, suc, ◌-◌, ◌<◌, nat_lt, List, [], ◌∷◌, ◌++◌, length, map, Some, None, refl, sym, subst, ap, ap₂, ◌∙◌, append_assoc, length-append, true≢false, arith}
 use Rattle.std.specs.Prelude.{if◌then◌else◌}
 use Rattle.std.specs.List.{list_any}
 use Rattle.std.specs.Str.{bytes_eq}
 use Rattle.std.specs.Cmp.Lexicographic.{bytes_decides}
-use Rattle.std.proofs.lemmas.Bool.{or_parts, or_left, or_right, and_from, not-true, not-false, lt-ltb}
+use Rattle.std.proofs.lemmas.Bool.{or_parts, or_left, or_right, and_from, not-true, not-false, ltb-false}
 use Rattle.std.proofs.lemmas.List.Folds.{list_any-append}
 use Rattle.wquery.specs.GroupElements.{all_columns}
 use Rattle.wquery.specs.QueryTree.{Clauses, ItemTree, AllColumns, Computed}
 use Rattle.wquery.specs.Tree.{Tree, Numeral, Field, KeyTree}
 use Rattle.wscope.specs.Called.{is_star, names}
 use Rattle.wscope.specs.declared.data_type.DataType.{DataType}
-use Rattle.wscope.specs.declared.data_type.DataType.TheVariants.{Integer, Text, Truth, Null}
+use Rattle.wscope.specs.declared.data_type.DataType.TheVariants.{Truth}
 use Rattle.wscope.specs.Scope.{has_name, is_output, item_has_name, output_name, some_item, some_sort}
 use Rattle.wscope.specs.Seeking.{some_node}
 use Rattle.wscope.specs.Sources as sources
@@ -23,7 +23,7 @@ use Rattle.wnames.specs.Groups.{is_ungrouped_column}
 use Rattle.wnames.specs.Types as judged
 use Rattle.wnames.specs.Types.{is_truth_item, is_truth_key}
 use Rattle.wdistinct.specs.Calls.{group_calls, window_calls}
-use Rattle.wsettle.specs.Resolving.{Layout, cell_in, resolved}
+use Rattle.wbinding.specs.Resolving.{Layout, cell_in, resolved}
 use Rattle.wresolve.specs.Selecting as made
 use Rattle.wresolve.specs.Selecting.{called_or, item_at, key_shown, order_made, output_made, shown_formula}
 use Rattle.wtyped.specs.Laws.{types_of}
@@ -36,6 +36,7 @@ use Rattle.wtyped.proofs.Rows.{all_cells, column_cell, first_cells, row_of}
 use Rattle.wtyped.proofs.Rows as rows
 use Rattle.wtyped.proofs.Rules as rules
 use Rattle.wtyped.proofs.Lists.{some_is}
+use Rattle.wtyped.proofs.Tests.{and_rest}
 use Rattle.std.proofs.lemmas.List.{append-nil}
 
 -- an item that has its type and is a value
@@ -51,17 +52,15 @@ behind_shown l ts [] js a b = b
 behind_shown l ts (i ∷ is) js a b = (a.0, behind_shown l ts is js a.1 b)
 
 known_of : (t : DataType) → scope.is_truth t ≡ false → known (Some t) ≡ Some (sources.known t)
-known_of Integer e = refl
-known_of Text e = refl
-known_of Null e = refl
 known_of Truth e = absurd (true≢false e)
+known_of _ e = refl
 
 -- the types of the answer
 pub answer_typed : (l : Layout) (ts : List DataType) (is : List ShownItem) → AreShown l ts is
     → item_types ts (map (output_made l) is) ≡ Some (types_of (map answered_column is))
 answer_typed l ts [] a = refl
 answer_typed l ts (i ∷ is) a =
-    ap₂ (λ x y. with_type x y) (ap known (valued_as (formula_type ts (shown_formula l i.shown)) i.type a.0.0 a.0.1) ∙ known_of i.type a.0.1) (answer_typed l ts is a.1)
+    ap₂ (λ x y. with_type x y) (ap known (valued_as _ _ a.0.0 a.0.1) ∙ known_of i.type a.0.1) (answer_typed l ts is a.1)
 
 -- the answer has no truths
 abbrev pub AreValues : List Titled → Type 0
@@ -69,10 +68,8 @@ AreValues [] = Unit {0}
 AreValues (c ∷ cs) = (scope.is_truth c.type ≡ false) × AreValues cs
 
 known_value : (t : DataType) → scope.is_truth t ≡ false → scope.is_truth (sources.known t) ≡ false
-known_value Integer e = refl
-known_value Text e = refl
-known_value Null e = refl
 known_value Truth e = absurd (true≢false e)
+known_value _ e = refl
 
 pub answer_values : (l : Layout) (ts : List DataType) (is : List ShownItem) → AreShown l ts is → AreValues (map answered_column is)
 answer_values l ts [] a = tt
@@ -85,23 +82,17 @@ at_length : (pre rest : List Titled) (c : Titled) (more : List DataType)
 at_length [] rest c more = refl
 at_length (x ∷ pre) rest c more = at_length pre rest c more
 
-one_more : (n : ℕ) → 0 < suc n
-one_more n = omega arith
-
-two_more : (n : ℕ) → 0 < n → 1 < suc n
-two_more n e = omega (arith, e)
-
 counted : (pre rest : List Titled) (c : Titled) → 0 < count_named c.name (pre ++ c ∷ rest)
 counted [] rest c = go (has_name c.name c) ((bytes_decides c.name c.name).1 refl)
   where
     go : (b : Bool) → b ≡ true → 0 < (if b then suc (count_named c.name rest) else count_named c.name rest)
-    go true is = one_more (count_named c.name rest)
+    go true is = omega arith
     go false is = absurd (true≢false (sym is))
 counted (x ∷ pre) rest c = go (has_name c.name x) (counted pre rest c)
   where
     go : (b : Bool) → 0 < count_named c.name (pre ++ c ∷ rest)
         → 0 < (if b then suc (count_named c.name (pre ++ c ∷ rest)) else count_named c.name (pre ++ c ∷ rest))
-    go true e = one_more (count_named c.name (pre ++ c ∷ rest))
+    go true e = omega arith
     go false e = e
 
 -- a name that one column has is that of its place
@@ -118,8 +109,7 @@ own_place (x ∷ pre) rest c e = go (bytes_eq x.name c.name) (counted pre rest c
         → (nat_lt 1 (count_named c.name (pre ++ c ∷ rest)) ≡ false → place_named (pre ++ c ∷ rest) c.name ≡ length pre)
         → nat_lt 1 (if b then suc (count_named c.name (pre ++ c ∷ rest)) else count_named c.name (pre ++ c ∷ rest)) ≡ false
         → (if b then 0 else suc (place_named (pre ++ c ∷ rest) c.name)) ≡ suc (length pre)
-    go true some later f =
-        absurd (true≢false (sym (lt-ltb 1 (suc (count_named c.name (pre ++ c ∷ rest))) (two_more (count_named c.name (pre ++ c ∷ rest)) some)) ∙ f))
+    go true some later f = let few = ltb-false 1 (suc (count_named c.name (pre ++ c ∷ rest))) f in absurd (omega (arith, some, few))
     go false some later f = ap suc (later f)
 
 -- a name of GROUP BY is that of one column
@@ -127,7 +117,7 @@ one_column : (cs : List Titled) (columns : List Tree) (name : List ℕ) → list
     → list_any (names name) columns ≡ true → nat_lt 1 (count_named name cs) ≡ false
 one_column cs [] name e f = absurd (true≢false (sym f))
 one_column cs (t ∷ ts) name e f =
-    go (names name t) refl f (λ g. one_column cs ts name (or_parts (is_ambiguous cs t) (list_any (is_ambiguous cs) ts) e).1 g)
+    go (names name t) refl f (λ g. one_column cs ts name (or_parts _ _ e).1 g)
   where
     here : (u : Tree) → names name u ≡ true → is_ambiguous cs u ≡ false → nat_lt 1 (count_named name cs) ≡ false
     here (Field q other) same clear = ap (λ (x : List ℕ). nat_lt 1 (count_named x cs)) ((bytes_decides name other).0 same) ∙ clear
@@ -135,7 +125,7 @@ one_column cs (t ∷ ts) name e f =
 
     go : (b : Bool) → names name t ≡ b → (b || list_any (names name) ts) ≡ true
         → (list_any (names name) ts ≡ true → nat_lt 1 (count_named name cs) ≡ false) → nat_lt 1 (count_named name cs) ≡ false
-    go true same g rest = here t same (or_parts (is_ambiguous cs t) (list_any (is_ambiguous cs) ts) e).0
+    go true same g rest = here t same (or_parts _ _ e).0
     go false same g rest = rest g
 
 -- what `*` asks of a grouped query: each column is one of GROUP BY
@@ -145,7 +135,7 @@ IsStarred cs c true all = list_any (is_ungrouped_column (all_columns c.grouping)
 
 there_is : (pre rest : List Titled) (x : Titled) → list_any (has_name x.name) (pre ++ x ∷ rest) ≡ true
 there_is pre rest x =
-    list_any-append (has_name x.name) pre (x ∷ rest) ∙ or_right (list_any (has_name x.name) pre) (list_any (has_name x.name) (x ∷ rest)) (or_left (has_name x.name x) (list_any (has_name x.name) rest) ((bytes_decides x.name x.name).1 refl))
+    list_any-append (has_name x.name) pre (x ∷ rest) ∙ or_right _ _ (or_left _ _ ((bytes_decides x.name x.name).1 refl))
 
 star_cell : (c : Clauses) (b : Bool) (more : List DataType) (pre rest : List Titled) (x : Titled)
     → list_any (is_ambiguous (pre ++ x ∷ rest)) (all_columns c.grouping) ≡ false → IsStarred (pre ++ x ∷ rest) c b (x ∷ rest)
@@ -153,7 +143,7 @@ star_cell : (c : Clauses) (b : Bool) (more : List DataType) (pre rest : List Tit
 star_cell c false more pre rest x clear starred = at_length pre rest x more
 star_cell c true more pre rest x clear starred =
     let cs = pre ++ x ∷ rest in
-    let named = not-false (list_any (names x.name) (all_columns c.grouping)) (or_parts (is_ungrouped_column (all_columns c.grouping) x) (list_any (is_ungrouped_column (all_columns c.grouping)) rest) starred).0 in
+    let named = not-false _ (or_parts _ _ starred).0 in
     let place = own_place pre rest x (one_column cs (all_columns c.grouping) x.name clear named) in
     let there = there_is pre rest x in
     let type = some_is (type_named cs x.name) x.type (sym (source_cell cs x.name there) ∙ ap (λ (n : ℕ). type_at n (types_of cs)) place ∙ ap (type_at (length pre)) (sym (append-nil (types_of cs))) ∙ at_length pre rest x []) in
@@ -165,14 +155,10 @@ star_at : (cs : List Titled) (c : Clauses) (b : Bool) (more : List DataType) (pr
 star_at cs c b more pre rest x e =
     subst (λ (ds : List Titled). list_any (is_ambiguous ds) (all_columns c.grouping) ≡ false → IsStarred ds c b (x ∷ rest) → type_at (cell_in (row_of ds c b).grouping (length pre)) (first_cells ds c b ++ more) ≡ Some x.type) e (star_cell c b more pre rest x)
 
-length_more : (pre : List Titled) (x : Titled) → length (pre ++ x ∷ []) ≡ suc (length pre)
-length_more [] x = refl
-length_more (y ∷ pre) x = ap suc (length_more pre x)
-
 later_starred : (cs : List Titled) (c : Clauses) (b : Bool) (x : Titled) (rest : List Titled) → IsStarred cs c b (x ∷ rest)
     → IsStarred cs c b rest
 later_starred cs c true x rest e =
-    (or_parts (is_ungrouped_column (all_columns c.grouping) x) (list_any (is_ungrouped_column (all_columns c.grouping)) rest) e).1
+    (or_parts _ _ e).1
 later_starred cs c false x rest e = tt
 
 star_shown : (cs : List Titled) (c : Clauses) (b : Bool) (ts more : List DataType) → ts ≡ first_cells cs c b ++ more
@@ -180,10 +166,11 @@ star_shown : (cs : List Titled) (c : Clauses) (b : Bool) (ts more : List DataTyp
     → (pre rest : List Titled) (place : ℕ) → pre ++ rest ≡ cs → place ≡ length pre → IsStarred cs c b rest → AreValues rest
     → AreShown (row_of cs c b) ts (columns_from place rest)
 star_shown cs c b ts more same clear pre [] place e p starred v = tt
-star_shown cs c b ts more same clear pre (x ∷ rest) place e p starred v = (
-  (ap₂ (λ (n : ℕ) (us : List DataType). type_at (cell_in (row_of cs c b).grouping n) us) p same ∙ star_at cs c b more pre rest x e clear starred, v.0),
-  star_shown cs c b ts more same clear (pre ++ x ∷ []) rest (suc place) (append_assoc pre (x ∷ []) rest ∙ e) (ap suc p ∙ sym (length_more pre x)) (later_starred cs c b x rest starred) v.1,
-)
+star_shown cs c b ts more same clear pre (x ∷ rest) place e p starred v =
+    let longer = length-append pre (x ∷ []) in let next : suc place ≡ length (pre ++ x ∷ []) = omega (arith, p, longer) in (
+      (ap₂ (λ (n : ℕ) (us : List DataType). type_at (cell_in (row_of cs c b).grouping n) us) p same ∙ star_at cs c b more pre rest x e clear starred, v.0),
+      star_shown cs c b ts more same clear (pre ++ x ∷ []) rest (suc place) (append_assoc pre (x ∷ []) rest ∙ e) next (later_starred cs c b x rest starred) v.1,
+    )
 
 items_shown : (cs : List Titled) (c : Clauses) (b : Bool) (ts more : List DataType) → ts ≡ first_cells cs c b ++ more
     → list_any (is_ambiguous cs) (all_columns c.grouping) ≡ false → AreValues cs
@@ -193,9 +180,9 @@ items_shown cs c b ts more same clear v [] star e f = tt
 items_shown cs c b ts more same clear v (AllColumns ∷ is) star e f =
     behind_shown (row_of cs c b) ts (columns_from 0 cs) (written_out cs is) (star_shown cs c b ts more same clear [] cs 0 refl refl (star refl) v) (items_shown cs c b ts more same clear v is (λ s. star refl) e f)
 items_shown cs c b ts more same clear v (Computed t alias ∷ is) star e f =
-    let p = or_parts (some_node (sees_misfit (row_of cs c b) ts) t) (some_item (sees_misfit (row_of cs c b) ts) is) e in
-    let q = or_parts (is_truth_item cs (Computed t alias)) (list_any (is_truth_item cs) is) f in
-    ((typed (row_of cs c b) ts t p.0, not-true (scope.is_truth (type_of cs t)) (not-false (judged.is_value cs t) q.0)), items_shown cs c b ts more same clear v is star p.1 q.1)
+    let p = or_parts _ _ e in
+    let q = or_parts _ _ f in
+    ((typed (row_of cs c b) ts t p.0, not-true _ (not-false _ q.0)), items_shown cs c b ts more same clear v is star p.1 q.1)
 
 all_same : (cs : List Titled) (c : Clauses) (b : Bool)
     → all_cells cs c b ≡ first_cells cs c b ++ (map (type_of cs) (group_calls c) ++ map (type_of cs) (window_calls c))
@@ -204,12 +191,7 @@ all_same cs c b = append_assoc (first_cells cs c b) (map (type_of cs) (group_cal
 starred : (cs : List Titled) (c : Clauses) (b : Bool) → rules.Kept cs c → made.is_grouped c (group_calls c) ≡ b
     → list_any is_star c.items ≡ true → IsStarred cs c b cs
 starred cs c false k e s = tt
-starred cs c true k e s = go (list_any is_star c.items) s (rows.star_named cs c k e)
-  where
-    go : (b : Bool) → b ≡ true → (b && list_any (is_ungrouped_column (all_columns c.grouping)) cs) ≡ false
-        → list_any (is_ungrouped_column (all_columns c.grouping)) cs ≡ false
-    go true is f = f
-    go false is f = absurd (true≢false (sym is))
+starred cs c true k e s = and_rest _ _ s (rows.star_named cs c k e)
 
 -- the items of a SELECT
 pub shown_items : (cs : List Titled) (c : Clauses) (b : Bool) → rules.Kept cs c → made.is_grouped c (group_calls c) ≡ b → AreValues cs
@@ -220,7 +202,7 @@ shown_items cs c b k e v s =
 -- keys
 
 good : (l : Layout) (ts : List DataType) (i : ShownItem) → IsShown l ts i → is_value ts (shown_formula l i.shown) ≡ true
-good l ts i a = ap (has is_any) (valued_as (formula_type ts (shown_formula l i.shown)) i.type a.0 a.1)
+good l ts i a = ap (has is_any) (valued_as _ _ a.0 a.1)
 
 item_value : (l : Layout) (ts : List DataType) (n : ℕ) (is : List ShownItem) → AreShown l ts is
     → is_value ts (shown_formula l (item_at n is)) ≡ true
@@ -257,7 +239,7 @@ items_called cs name (Computed t alias ∷ is) = ap (λ (x : Bool). bytes_eq (ou
 
 spelled : (l : Layout) (ts : List DataType) (t : Tree) → some_node (sees_misfit l ts) t ≡ false → judged.is_value l.columns t ≡ true
     → is_value ts (resolved l t) ≡ true
-spelled l ts t e v = good l ts (record { name = []; type = type_of l.columns t; shown = Spelled t }) (typed l ts t e, not-true (scope.is_truth (type_of l.columns t)) v)
+spelled l ts t e v = good l ts (record { name = []; type = type_of l.columns t; shown = Spelled t }) (typed l ts t e, not-true _ v)
 
 guarded : (b x : Bool) → b ≡ false → (not b && x) ≡ false → x ≡ false
 guarded true x is e = absurd (true≢false is)
@@ -272,16 +254,16 @@ key_value l ts is (Field None name) a e f =
     called_value l ts (Spelled (Field None name)) name (written_out l.columns is) a
     (λ none. let out = sym (items_called l.columns name is) ∙ none in
     spelled l ts (Field None name) (guarded (list_any (item_has_name l.columns name) is) (some_node (sees_misfit l ts) (Field None name)) out e)
-    (not-false (judged.is_value l.columns (Field None name)) (guarded (list_any (item_has_name l.columns name) is) (not (judged.is_value l.columns (Field None name))) out f)))
+    (not-false _ (guarded (list_any (item_has_name l.columns name) is) (not (judged.is_value l.columns (Field None name))) out f)))
 key_value l ts is (Field (Some q) name) a e f =
-    spelled l ts (Field (Some q) name) e (not-false (judged.is_value l.columns (Field (Some q) name)) f)
-key_value l ts is t a e f = spelled l ts t e (not-false (judged.is_value l.columns t) f)
+    spelled l ts (Field (Some q) name) e (not-false _ f)
+key_value l ts is t a e f = spelled l ts t e (not-false _ f)
 
 pub keys_typed : (l : Layout) (ts : List DataType) (is : List ItemTree) (ks : List KeyTree) → AreShown l ts (written_out l.columns is)
     → some_sort l.columns is (sees_misfit l ts) ks ≡ false → list_any (is_truth_key l.columns is) ks ≡ false
     → are_keys ts (map (order_made l (written_out l.columns is)) ks) ≡ true
 keys_typed l ts is [] a e f = refl
 keys_typed l ts is (k ∷ ks) a e f =
-    let p = or_parts (not (is_output l.columns is k.expression) && some_node (sees_misfit l ts) k.expression) (some_sort l.columns is (sees_misfit l ts) ks) e in
-    let q = or_parts (is_truth_key l.columns is k) (list_any (is_truth_key l.columns is) ks) f in
-    and_from (is_value ts (shown_formula l (key_shown (written_out l.columns is) k.expression))) (are_keys ts (map (order_made l (written_out l.columns is)) ks)) (key_value l ts is k.expression a p.0 q.0) (keys_typed l ts is ks a p.1 q.1)
+    let p = or_parts _ _ e in
+    let q = or_parts _ _ f in
+    and_from _ _ (key_value l ts is k.expression a p.0 q.0) (keys_typed l ts is ks a p.1 q.1)

@@ -1,3 +1,4 @@
+mod Tests
 mod Types
 mod Exactly
 mod Walks

@@ -1,9 +1,9 @@
 -- The looks at expressions over the row of windows, items and keys, and over the source's row.
-use Rattle.std.proofs.Common.{◌≡◌, Bool, true, false, not, ◌&&◌, ◌||◌, ℕ, List, Option, refl, sym, ap, ◌∙◌, true≢false}
+use Rattle.std.proofs.Common.{◌≡◌, Bool, true, false, not, ◌&&◌, ◌||◌, ℕ, List, [], ◌∷◌, Option, refl, sym, ap, ◌∙◌, true≢false}
 use Rattle.std.specs.Prelude.{if◌then◌else◌}
 use Rattle.std.specs.List.{list_any}
-use Rattle.std.proofs.lemmas.Bool.{or_parts, or_right, or_left, not-false}
-use Rattle.wquery.specs.Tree.{Tree, Field, Invoked, Given, Everything, These, Columns, Filter, Reach, ItsGroup, ThatWindow, OwnWindow}
+use Rattle.std.proofs.lemmas.Bool.{or_parts, or_from, or_right, or_left, not-false}
+use Rattle.wquery.specs.Tree.{Tree, Field, Invoked, Given, Columns, Filter, Reach, ItsGroup, ThatWindow, OwnWindow}
 use Rattle.wscope.specs.Called.{names}
 use Rattle.wscope.specs.declared.data_type.DataType.{DataType}
 use Rattle.wscope.specs.declared.look.Look.{Look}
@@ -12,184 +12,118 @@ use Rattle.wscope.specs.Finding.{finds}
 use Rattle.wscope.specs.Scope.{has_name}
 use Rattle.wscope.specs.Seeking.{some_below}
 use Rattle.wscope.specs.Types.{Titled}
-use Rattle.wnames.specs.Calls.{is_bad_call, is_group_function}
+use Rattle.wnames.specs.Calls.{is_bad_call}
 use Rattle.wnames.specs.Names.{is_missing}
 use Rattle.wnames.specs.Groups.{is_group_call, is_misplaced_window_call, is_nested_group_call, is_over, is_window_call, sees_ungrouped}
 use Rattle.wdistinct.specs.declared.calls.CallKind.TheVariants.{Grouped, Windowed}
 use Rattle.wdistinct.specs.Calls.{has_over, is_call_of}
-use Rattle.wsettle.specs.Resolving.{Layout}
+use Rattle.wbinding.specs.Resolving.{Layout}
 use Rattle.wresolve.proofs.Grouped as grouped
 use Rattle.wtyped.proofs.Formulas.{find, is_typed_cell, is_unfit, sees_misfit, shut}
+use Rattle.wnames.specs.Types.{is_ill_typed}
+use Rattle.wtyped.specs.Shapes.{is_misshapen}
 use Rattle.wtyped.proofs.Rules.{is_bad}
+use Rattle.wtyped.proofs.Tests.{AreFalse, are_false}
 use Rattle.wtyped.proofs.Walks.{covers, sees_failed, unless_passed}
-
-abbrev pub closed_if : Bool → Look
-closed_if true = Closed
-closed_if false = Below
-
--- a column whose cell is not its own; below aggregates the row is another
-abbrev pub sees_column : Layout → List DataType → Tree → Look
-sees_column l ts (Field qualifier name) = find (not (is_typed_cell l ts (Field qualifier name)))
-sees_column l ts (Invoked name given filter reach) = closed_if (is_group_call (Invoked name given filter reach))
-sees_column l ts n = Below
 
 abbrev pub group_look : Bool → Bool → Bool → Look
 group_look true bad known = shut (not bad && known)
 group_look false bad known = find bad
 
--- that, a node that a rule refuses, or an aggregate that is none of the row
+-- a node that a rule refuses, a column whose cell is not its own, or an aggregate that is none of the row, of which K holds
 abbrev pub sees_shown : Layout → List DataType → (Tree → Bool) → Tree → Look
 sees_shown l ts K (Field qualifier name) = find (is_bad l.columns (Field qualifier name) || not (is_typed_cell l ts (Field qualifier name)))
 sees_shown l ts K (Invoked name given filter reach) =
     group_look (is_group_call (Invoked name given filter reach)) (is_bad l.columns (Invoked name given filter reach)) (K (Invoked name given filter reach))
 sees_shown l ts K n = find (is_bad l.columns n)
 
--- tests of truth values
+-- a test that finds no more than another one
+weaker : (b u : Bool) → (b ≡ false → u ≡ false) → covers (find b) Below (find u) ≡ true
+weaker true u h = refl
+weaker false false h = refl
+weaker false true h = absurd (true≢false (h refl))
 
-f1 : (b t : Bool) → (b ≡ false → t ≡ true) → covers (if b then Found else Below) (if b then Found else Below) (find (not t)) ≡ true
-f1 true t h = refl
-f1 false true h = refl
-f1 false false h = absurd (true≢false (sym (h refl)))
+-- the same look twice is it once
+twice : (a c : Look) → covers a Below c ≡ true → covers a a c ≡ true
+twice Found c e = refl
+twice Closed Closed e = refl
+twice Below c e = e
+twice Closed _ e = absurd (true≢false (sym e))
 
-f2 : (b g : Bool) → covers (if b then Found else Below) (if b then Found else Below) (closed_if g) ≡ true
-f2 true g = refl
-f2 false true = refl
-f2 false false = refl
+a_column : (b g u : Bool) → (b ≡ false → g ≡ true → u ≡ false) → covers (find b) (if g then Below else Found) (find u) ≡ true
+a_column true g u h = refl
+a_column false false u h = refl
+a_column false true u h = weaker false u (λ e. h e refl)
 
-f3 : (b : Bool) → covers (if b then Found else Below) (if b then Found else Below) Below ≡ true
-f3 true = refl
-f3 false = refl
+a_call : (b g : Bool) → covers (find b) Below (group_look g b true) ≡ true
+a_call true g = refl
+a_call false true = refl
+a_call false false = refl
 
-f4 : (b g t : Bool) → (b ≡ false → g ≡ true → t ≡ true)
-    → covers (if b then Found else Below) (if g then Below else Found) (find (not t)) ≡ true
-f4 true g t h = refl
-f4 false false t h = refl
-f4 false true true h = refl
-f4 false true false h = absurd (true≢false (sym (h refl refl)))
+an_aggregate : (b g : Bool) → covers (find b) (if g then Closed else Below) (group_look g b true) ≡ true
+an_aggregate true g = refl
+an_aggregate false true = refl
+an_aggregate false false = refl
 
-f5 : (b g : Bool) → covers (if b then Found else Below) Below (closed_if g) ≡ true
-f5 true g = refl
-f5 false true = refl
-f5 false false = refl
+an_unlisted : (g b k : Bool) → covers (group_look g b true) (unless_passed g k) (group_look g b k) ≡ true
+an_unlisted true true k = refl
+an_unlisted true false true = refl
+an_unlisted true false false = refl
+an_unlisted false b k = weaker b b (λ e. e)
 
-f6 : (b g : Bool) → covers (if b then Found else Below) (if g then Closed else Below) (closed_if g) ≡ true
-f6 true g = refl
-f6 false true = refl
-f6 false false = refl
+-- what is closed is covered by any two
+closed : (a b : Look) → covers a b Closed ≡ true
+closed Found b = refl
+closed _ Found = refl
+closed _ Closed = refl
+closed _ Below = refl
 
-f6' : (b : Bool) → covers (if b then Found else Below) Below Below ≡ true
-f6' true = refl
-f6' false = refl
-
-f7 : (b t : Bool) → covers (if b then Found else Below) (find (not t)) (find (b || not t)) ≡ true
-f7 true t = refl
-f7 false true = refl
-f7 false false = refl
-
-f8 : (b g : Bool) → covers (if b then Found else Below) (closed_if g) (group_look g b true) ≡ true
-f8 true g = refl
-f8 false true = refl
-f8 false false = refl
-
-f9 : (b : Bool) → covers (if b then Found else Below) Below (find b) ≡ true
-f9 true = refl
-f9 false = refl
-
-f10 : (x : Bool) → covers (find x) Below (find x) ≡ true
-f10 true = refl
-f10 false = refl
-
-f11 : (g b k : Bool) → covers (group_look g b true) (unless_passed g k) (group_look g b k) ≡ true
-f11 true true k = refl
-f11 true false true = refl
-f11 true false false = refl
-f11 false true k = refl
-f11 false false k = refl
-
-f12 : (b t u : Bool) → (t ≡ true → u ≡ true) → covers (find (b || not t)) Below (find (not u)) ≡ true
-f12 true t u h = refl
-f12 false false u h = refl
-f12 false true true h = refl
-f12 false true false h = absurd (true≢false (sym (h refl)))
-
-f13 : (g o b k w u : Bool) → (g ≡ true → k ≡ true → u ≡ true) → (w ≡ true → u ≡ true) → (g ≡ false → b ≡ false → o ≡ true)
+-- a call with its cell: an aggregate of the row, or one with OVER that passes
+a_cell : (g o b k w u : Bool) → (g ≡ true → k ≡ true → u ≡ true) → (w ≡ true → u ≡ true) → (g ≡ false → b ≡ false → o ≡ true)
     → covers (group_look g b k) (unless_passed o w) (shut u) ≡ true
-f13 true o true k w u x y z = refl
-f13 true o false false w u x y z = refl
-f13 true o false true w false x y z = absurd (true≢false (sym (x refl refl)))
-f13 true true false true true true x y z = refl
-f13 true true false true false true x y z = refl
-f13 true false false true w true x y z = refl
-f13 false o true k w u x y z = refl
-f13 false false false k w u x y z = absurd (true≢false (sym (z refl refl)))
-f13 false true false k false u x y z = refl
-f13 false true false k true true x y z = refl
-f13 false true false k true false x y z = absurd (true≢false (sym (y refl)))
+a_cell g o b k w true x y z = closed (group_look g b k) (unless_passed o w)
+a_cell true o true k w false x y z = refl
+a_cell true o false false w false x y z = refl
+a_cell true o false true w false x y z = absurd (true≢false (sym (x refl refl)))
+a_cell false o b k true false x y z = absurd (true≢false (sym (y refl)))
+a_cell false o true k false false x y z = refl
+a_cell false true false k false false x y z = refl
+a_cell false false false k false false x y z = absurd (true≢false (sym (z refl refl)))
 
-f14 : (b u : Bool) → (b ≡ false → u ≡ false) → covers (find b) Below (find u) ≡ true
-f14 true u h = refl
-f14 false false h = refl
-f14 false true h = absurd (true≢false (h refl))
-
-f15 : (g o b k u : Bool) → (g ≡ true → k ≡ true → u ≡ true) → (g ≡ false → b ≡ false → o ≡ true)
-    → covers (group_look g b k) (if o then Found else Below) (shut u) ≡ true
-f15 true o true k u x z = refl
-f15 true o false false u x z = refl
-f15 true o false true false x z = absurd (true≢false (sym (x refl refl)))
-f15 true true false true true x z = refl
-f15 true false false true true x z = refl
-f15 false o true k u x z = refl
-f15 false false false k u x z = absurd (true≢false (sym (z refl refl)))
-f15 false true false k u x z = refl
-
-f16 : (b x u : Bool) → (b ≡ false → x ≡ true) → covers (if b then Found else Below) (if x then Found else Below) (shut u) ≡ true
-f16 true x u h = refl
-f16 false true u h = refl
-f16 false false u h = absurd (true≢false (sym (h refl)))
-
-f17 : (b t : Bool) → (b ≡ false → t ≡ true) → covers (if b then Found else Below) Below (find (not t)) ≡ true
-f17 true t h = refl
-f17 false true h = refl
-f17 false false h = absurd (true≢false (sym (h refl)))
-
-f18 : (b u : Bool) → (b ≡ false → u ≡ false) → covers (if b then Found else Below) Below (find u) ≡ true
-f18 true u h = refl
-f18 false false h = refl
-f18 false true h = absurd (true≢false (h refl))
+sought : (b x u : Bool) → (b ≡ false → x ≡ true) → covers (find b) (find x) (shut u) ≡ true
+sought true x u h = refl
+sought false true u h = refl
+sought false false u h = absurd (true≢false (sym (h refl)))
 
 -- what a node has that no rule refuses
 
+abbrev Good : List Titled → Tree → Type 0
+Good cs n = AreFalse (is_misshapen n) (is_missing cs n ∷ is_ill_typed cs n ∷ is_bad_call n ∷ is_misplaced_window_call n ∷ is_nested_group_call n ∷ [])
+
+good : (cs : List Titled) (n : Tree) → is_bad cs n ≡ false → Good cs n
+good cs n e = are_false (is_misshapen n) (is_missing cs n ∷ is_ill_typed cs n ∷ is_bad_call n ∷ is_misplaced_window_call n ∷ is_nested_group_call n ∷ []) e
+
 pub is_there : (cs : List Titled) (qualifier : Option (List ℕ)) (name : List ℕ) → is_bad cs (Field qualifier name) ≡ false
     → list_any (has_name name) cs ≡ true
-is_there cs qualifier name e =
-    not-false (list_any (has_name name) cs) (or_parts (is_missing cs (Field qualifier name)) (is_unfit cs (Field qualifier name) || (is_bad_call (Field qualifier name) || (is_misplaced_window_call (Field qualifier name) || is_nested_group_call (Field qualifier name)))) e).0
-
-rest_of : (cs : List Titled) (n : Tree) → is_bad cs n ≡ false
-    → (is_unfit cs n ≡ false) × (is_bad_call n ≡ false) × (is_misplaced_window_call n ≡ false) × (is_nested_group_call n ≡ false)
-rest_of cs n e =
-    let a = or_parts (is_missing cs n) (is_unfit cs n || (is_bad_call n || (is_misplaced_window_call n || is_nested_group_call n))) e in
-    let b = or_parts (is_unfit cs n) (is_bad_call n || (is_misplaced_window_call n || is_nested_group_call n)) a.1 in
-    let c = or_parts (is_bad_call n) (is_misplaced_window_call n || is_nested_group_call n) b.1 in
-    let d = or_parts (is_misplaced_window_call n) (is_nested_group_call n) c.1 in
-    (b.0, c.0, d.0, d.1)
+is_there cs qualifier name e = not-false _ (good cs (Field qualifier name) e).1.0
 
 pub is_fit : (cs : List Titled) (n : Tree) → is_bad cs n ≡ false → is_unfit cs n ≡ false
-is_fit cs n e = (rest_of cs n e).0
+is_fit cs n e = let g = good cs n e in or_from _ _ g.1.1.0 g.0
 
 pub is_given : (cs : List Titled) (n : Tree) → is_bad cs n ≡ false → is_bad_call n ≡ false
-is_given cs n e = (rest_of cs n e).1
+is_given cs n e = (good cs n e).1.1.1.0
 
 pub is_placed : (cs : List Titled) (n : Tree) → is_bad cs n ≡ false → is_misplaced_window_call n ≡ false
-is_placed cs n e = (rest_of cs n e).2
+is_placed cs n e = (good cs n e).1.1.1.1.0
 
 pub is_flat : (cs : List Titled) (n : Tree) → is_bad cs n ≡ false → is_nested_group_call n ≡ false
-is_flat cs n e = (rest_of cs n e).3
+is_flat cs n e = (good cs n e).1.1.1.1.1
 
 outer : (name : List ℕ) (given : Given) (filter : Filter) (reach : Reach)
     → is_misplaced_window_call (Invoked name given filter reach) ≡ false → is_group_call (Invoked name given filter reach) ≡ false
     → (is_over reach ≡ true) × (has_over reach ≡ true)
 outer name given filter ItsGroup e g =
-    absurd (true≢false (ap not (sym g) ∙ (or_parts (some_below (finds is_window_call) (Invoked name given filter ItsGroup)) (not (is_group_function name given)) e).1))
+    absurd (true≢false (ap not (sym g) ∙ (or_parts _ _ e).1))
 outer name given filter (ThatWindow window) e g = (refl, refl)
 outer name given filter (OwnWindow copied partition order frame) e g = (refl, refl)
 
@@ -199,44 +133,42 @@ pub alike : (name : List ℕ) (given : Given) (filter : Filter) (reach : Reach)
 alike name given filter reach = grouped.alike (Invoked name given filter reach)
 
 -- columns that are there have their cells, where each has one
-pub plain_column : (l : Layout) (ts : List DataType)
+pub plain_shown : (l : Layout) (ts : List DataType)
     → ((q : Option (List ℕ)) (name : List ℕ) → list_any (has_name name) l.columns ≡ true → is_typed_cell l ts (Field q name) ≡ true)
-    → (n : Tree) → covers (finds (is_bad l.columns) n) (finds (is_bad l.columns) n) (sees_column l ts n) ≡ true
-plain_column l ts h (Field q name) =
-    f1 (is_bad l.columns (Field q name)) (is_typed_cell l ts (Field q name)) (λ e. h q name (is_there l.columns q name e))
-plain_column l ts h (Invoked name given filter reach) =
-    f2 (is_bad l.columns (Invoked name given filter reach)) (is_group_call (Invoked name given filter reach))
-plain_column l ts h n = f3 (is_bad l.columns n)
+    → (n : Tree) → covers (finds (is_bad l.columns) n) (finds (is_bad l.columns) n) (sees_shown l ts (λ x. true) n) ≡ true
+plain_shown l ts h (Field q name) =
+    let b = is_bad l.columns (Field q name) in let t = is_typed_cell l ts (Field q name) in
+    twice (find b) (find (b || not t)) (weaker b (b || not t) (λ e. or_from _ _ e (ap not (h q name (is_there l.columns q name e)))))
+plain_shown l ts h (Invoked name given filter reach) =
+    let n = Invoked name given filter reach in
+    twice (find (is_bad l.columns n)) (group_look (is_group_call n) (is_bad l.columns n) true) (a_call (is_bad l.columns n) (is_group_call n))
+plain_shown l ts h n =
+    twice (find (is_bad l.columns n)) (find (is_bad l.columns n)) (weaker (is_bad l.columns n) (is_bad l.columns n) (λ e. e))
 
 -- so do those of GROUP BY
-pub group_column : (l : Layout) (ts : List DataType) (grouping : List Tree)
+pub group_shown : (l : Layout) (ts : List DataType) (grouping : List Tree)
     → ((q : Option (List ℕ)) (name : List ℕ) → list_any (has_name name) l.columns ≡ true → list_any (names name) grouping ≡ true → is_typed_cell l ts (Field q name) ≡ true)
-    → (n : Tree) → covers (finds (is_bad l.columns) n) (sees_ungrouped grouping n) (sees_column l ts n) ≡ true
-group_column l ts grouping h (Field q name) =
-    f4 (is_bad l.columns (Field q name)) (list_any (names name) grouping) (is_typed_cell l ts (Field q name)) (λ e g. h q name (is_there l.columns q name e) g)
-group_column l ts grouping h (Invoked name (Columns us) filter reach) =
-    f5 (is_bad l.columns (Invoked name (Columns us) filter reach)) (is_group_call (Invoked name (Columns us) filter reach))
-group_column l ts grouping h (Invoked name Everything filter reach) =
-    f6 (is_bad l.columns (Invoked name Everything filter reach)) (is_group_call (Invoked name Everything filter reach))
-group_column l ts grouping h (Invoked name (These us) filter reach) =
-    f6 (is_bad l.columns (Invoked name (These us) filter reach)) (is_group_call (Invoked name (These us) filter reach))
-group_column l ts grouping h n = f6' (is_bad l.columns n)
-
-pub shown_first : (l : Layout) (ts : List DataType) (n : Tree)
-    → covers (finds (is_bad l.columns) n) (sees_column l ts n) (sees_shown l ts (λ x. true) n) ≡ true
-shown_first l ts (Field q name) = f7 (is_bad l.columns (Field q name)) (is_typed_cell l ts (Field q name))
-shown_first l ts (Invoked name given filter reach) =
-    f8 (is_bad l.columns (Invoked name given filter reach)) (is_group_call (Invoked name given filter reach))
-shown_first l ts n = f9 (is_bad l.columns n)
+    → (n : Tree) → covers (finds (is_bad l.columns) n) (sees_ungrouped grouping n) (sees_shown l ts (λ x. true) n) ≡ true
+group_shown l ts grouping h (Field q name) =
+    let b = is_bad l.columns (Field q name) in let t = is_typed_cell l ts (Field q name) in
+    a_column b (list_any (names name) grouping) (b || not t) (λ e g. or_from _ _ e (ap not (h q name (is_there l.columns q name e) g)))
+group_shown l ts grouping h (Invoked name (Columns us) filter reach) =
+    a_call (is_bad l.columns (Invoked name (Columns us) filter reach)) (is_group_call (Invoked name (Columns us) filter reach))
+group_shown l ts grouping h (Invoked name given filter reach) =
+    an_aggregate (is_bad l.columns (Invoked name given filter reach)) (is_group_call (Invoked name given filter reach))
+group_shown l ts grouping h n = weaker (is_bad l.columns n) (is_bad l.columns n) (λ e. e)
 
 pub shown_known : (l : Layout) (ts : List DataType) (K : Tree → Bool) (n : Tree)
     → covers (sees_shown l ts (λ x. true) n) (sees_failed (is_call_of Grouped) K n) (sees_shown l ts K n) ≡ true
-shown_known l ts K (Field q name) = f10 (is_bad l.columns (Field q name) || not (is_typed_cell l ts (Field q name)))
 shown_known l ts K (Invoked name given filter reach) =
     let n = Invoked name given filter reach in
     ap (λ (x : Bool). covers (group_look (is_group_call n) (is_bad l.columns n) true) (unless_passed x (K n)) (group_look (is_group_call n) (is_bad l.columns n) (K n))) (alike name given filter reach)
-    ∙ f11 (is_group_call n) (is_bad l.columns n) (K n)
-shown_known l ts K n = f10 (is_bad l.columns n)
+    ∙ an_unlisted (is_group_call n) (is_bad l.columns n) (K n)
+shown_known l ts K (Field q name) = weaker (is_bad l.columns (Field q name) || not (is_typed_cell l ts (Field q name))) _ (λ e. e)
+shown_known l ts K n = weaker (is_bad l.columns n) (is_bad l.columns n) (λ e. e)
+
+still : (b t u : Bool) → (t ≡ true → u ≡ true) → covers (find (b || not t)) Below (find (not u)) ≡ true
+still b t u h = weaker (b || not t) (not u) (λ e. ap not (h (not-false t (or_parts _ _ e).1)))
 
 -- items and keys, over a row with the answers of all calls
 pub misfit_shown : (l : Layout) (ts us : List DataType) (K W : Tree → Bool)
@@ -245,22 +177,22 @@ pub misfit_shown : (l : Layout) (ts us : List DataType) (K W : Tree → Bool)
     → ((name : List ℕ) (given : Given) (filter : Filter) (reach : Reach) → W (Invoked name given filter reach) ≡ true → is_typed_cell l us (Invoked name given filter reach) ≡ true)
     → (n : Tree) → covers (sees_shown l ts K n) (sees_failed (is_call_of Windowed) W n) (sees_misfit l us n) ≡ true
 misfit_shown l ts us K W cell group window (Field q name) =
-    f12 (is_bad l.columns (Field q name)) (is_typed_cell l ts (Field q name)) (is_typed_cell l us (Field q name)) (cell q name)
+    still (is_bad l.columns (Field q name)) (is_typed_cell l ts (Field q name)) (is_typed_cell l us (Field q name)) (cell q name)
 misfit_shown l ts us K W cell group window (Invoked name given filter reach) =
     let n = Invoked name given filter reach in
-    f13 (is_group_call n) (has_over reach) (is_bad l.columns n) (K n) (W n) (is_typed_cell l us n) (λ g k. group name given filter reach k) (window name given filter reach) (λ g b. (outer name given filter reach (is_placed l.columns n b) g).1)
-misfit_shown l ts us K W cell group window n = f14 (is_bad l.columns n) (is_unfit l.columns n) (is_fit l.columns n)
+    a_cell (is_group_call n) (has_over reach) (is_bad l.columns n) (K n) (W n) (is_typed_cell l us n) (λ g k. group name given filter reach k) (window name given filter reach) (λ g b. (outer name given filter reach (is_placed l.columns n b) g).1)
+misfit_shown l ts us K W cell group window n = weaker (is_bad l.columns n) (is_unfit l.columns n) (is_fit l.columns n)
 
 -- what calls with OVER, windows and HAVING are over
 pub misfit_inner : (l : Layout) (ts : List DataType) (K : Tree → Bool)
     → ((name : List ℕ) (given : Given) (filter : Filter) (reach : Reach) → K (Invoked name given filter reach) ≡ true → is_typed_cell l ts (Invoked name given filter reach) ≡ true)
     → (n : Tree) → covers (sees_shown l ts K n) (finds is_window_call n) (sees_misfit l ts n) ≡ true
 misfit_inner l ts K group (Field q name) =
-    f12 (is_bad l.columns (Field q name)) (is_typed_cell l ts (Field q name)) (is_typed_cell l ts (Field q name)) (λ e. e)
+    still (is_bad l.columns (Field q name)) (is_typed_cell l ts (Field q name)) (is_typed_cell l ts (Field q name)) (λ e. e)
 misfit_inner l ts K group (Invoked name given filter reach) =
     let n = Invoked name given filter reach in
-    f15 (is_group_call n) (is_over reach) (is_bad l.columns n) (K n) (is_typed_cell l ts n) (λ g k. group name given filter reach k) (λ g b. (outer name given filter reach (is_placed l.columns n b) g).0)
-misfit_inner l ts K group n = f14 (is_bad l.columns n) (is_unfit l.columns n) (is_fit l.columns n)
+    a_cell (is_group_call n) (is_over reach) (is_bad l.columns n) (K n) false (is_typed_cell l ts n) (λ g k. group name given filter reach k) (λ e. absurd (true≢false (sym e))) (λ g b. (outer name given filter reach (is_placed l.columns n b) g).0)
+misfit_inner l ts K group n = weaker (is_bad l.columns n) (is_unfit l.columns n) (is_fit l.columns n)
 
 -- a call of either kind
 abbrev pub is_any_call : Tree → Bool
@@ -271,18 +203,18 @@ any_call : (name : List ℕ) (given : Given) (filter : Filter) (reach : Reach)
 any_call name given filter reach e = go (is_group_call (Invoked name given filter reach)) refl
   where
     go : (g : Bool) → is_group_call (Invoked name given filter reach) ≡ g → is_any_call (Invoked name given filter reach) ≡ true
-    go true is = or_right (is_over reach) (is_group_call (Invoked name given filter reach)) is
-    go false is = or_left (is_over reach) (is_group_call (Invoked name given filter reach)) (outer name given filter reach e is).0
+    go true is = or_right _ _ is
+    go false is = or_left _ _ (outer name given filter reach e is).0
 
 -- WHERE, and what aggregates are over
 pub misfit_source : (l : Layout) (ts : List DataType)
     → ((q : Option (List ℕ)) (name : List ℕ) → list_any (has_name name) l.columns ≡ true → is_typed_cell l ts (Field q name) ≡ true)
     → (n : Tree) → covers (finds (is_bad l.columns) n) (finds is_any_call n) (sees_misfit l ts n) ≡ true
 misfit_source l ts cell (Field q name) =
-    f17 (is_bad l.columns (Field q name)) (is_typed_cell l ts (Field q name)) (λ e. cell q name (is_there l.columns q name e))
+    weaker (is_bad l.columns (Field q name)) (not (is_typed_cell l ts (Field q name))) (λ e. ap not (cell q name (is_there l.columns q name e)))
 misfit_source l ts cell (Invoked name given filter reach) =
-    let n = Invoked name given filter reach in f16 (is_bad l.columns n) (is_any_call n) (is_typed_cell l ts n) (λ b. any_call name given filter reach (is_placed l.columns n b))
-misfit_source l ts cell n = f18 (is_bad l.columns n) (is_unfit l.columns n) (is_fit l.columns n)
+    let n = Invoked name given filter reach in sought (is_bad l.columns n) (is_any_call n) (is_typed_cell l ts n) (λ b. any_call name given filter reach (is_placed l.columns n b))
+misfit_source l ts cell n = weaker (is_bad l.columns n) (is_unfit l.columns n) (is_fit l.columns n)
 
 -- looks that are open
 
@@ -305,4 +237,4 @@ pub no_inner_window : (name : List ℕ) (given : Given) (filter : Filter) (reach
     → is_misplaced_window_call (Invoked name given filter reach) ≡ false
     → some_below (finds is_window_call) (Invoked name given filter reach) ≡ false
 no_inner_window name given filter reach e =
-    (or_parts (some_below (finds is_window_call) (Invoked name given filter reach)) (not (is_over reach) && not (is_group_function name given)) e).0
+    (or_parts _ _ e).0

@@ -5,7 +5,7 @@ use Rattle.std.specs.List.{list_all, list_any}
 use Rattle.std.specs.Ordering.{on}
 use Rattle.std.proofs.lemmas.Bool.{and_parts, and_from, lt-ltb, ltb-true}
 use Rattle.wvalues.specs.declared.key.SortKey.{SortKey}
-use Rattle.wvalues.specs.Meaning.{Meaning, Null, Int, Text}
+use Rattle.wvalues.specs.Meaning.{Meaning, Null, Int}
 use Rattle.wvalues.specs.Order.{keys_cmp}
 use Rattle.wvalues.specs.Whole.{if_whole}
 use Rattle.wscope.specs.declared.data_type.DataType.{DataType}
@@ -15,7 +15,7 @@ use Rattle.wframe.specs.Places.{places}
 use Rattle.wframe.specs.Sorting.{sorted}
 use Rattle.wgroupby.specs.Sets.{grouping_of, is_among}
 use Rattle.wplan.specs.Formula.{Formula, At}
-use Rattle.wplan.specs.Plans.{GroupCallPlan, GroupAggregate, GroupingOf, GroupingPlan, KeyPlan, FunctionPlan, RowNumber, Rank, DenseRank, Tile, Lag, Lead, FirstValue, LastValue, NthValue, Aggregated, CallPlan, OutputPlan, SelectPlan}
+use Rattle.wplan.specs.Plans.{GroupCallPlan, GroupAggregate, GroupingOf, GroupingPlan, KeyPlan, FunctionPlan, Lag, Lead, FirstValue, LastValue, NthValue, Aggregated, CallPlan, OutputPlan, SelectPlan}
 use Rattle.wrows.specs.declared.fault.AnswerFault.{AnswerFault}
 use Rattle.wrows.specs.declared.fault.AnswerFault.TheVariants.{OutOfRange, TooManyRows}
 use Rattle.wrows.specs.Columns as columns
@@ -32,7 +32,7 @@ use Rattle.wplanner.specs.Answers.{call_columns, items_of}
 use Rattle.wtyped.specs.Exact.{are_of, is_of}
 use Rattle.wtyped.specs.Plans.{call_types, function_type, group_call_type, group_call_types, item_types, known, types_at, with_type, with_types}
 use Rattle.wtyped.specs.Typing.{beside as common_of, common, constant_type, formula_type, type_at, valued}
-use Rattle.wtyped.proofs.Exactly.{typed_is_exact}
+use Rattle.wtyped.proofs.Exactly.{constant, typed_is_exact}
 use Rattle.wtyped.proofs.Feeding.{AllOf, AreNullable, Each, as_type, cell_typed, column_typed, folded_typed, in_range_typed, is_aggregate_nullable, is_nullable, number_typed, value_is}
 use Rattle.wtyped.proofs.Lists.{at_below, at_or, dropped_all, each_flat, each_mapped, filtered_all, mapped_all, none_some, places_all, some_is, sorted_all, taken_all, then_any, then_ok, unless_ok}
 use Rattle.wtyped.proofs.Types as found
@@ -95,7 +95,7 @@ all_nullable : {C : Type 0} (type : C → Option DataType) → ((c : C) (u : Dat
 all_nullable type step [] us e = ap (list_all is_nullable) (sym (some_is [] us e))
 all_nullable type step (c ∷ cs) us e =
     let f = first_of_types (type c) (types_by type cs) us e in
-    ap (list_all is_nullable) f.whole ∙ and_from (is_nullable f.type) (list_all is_nullable f.rest) (step c f.type f.is) (all_nullable type step cs f.rest f.rest_is)
+    ap (list_all is_nullable) f.whole ∙ and_from _ _ (step c f.type f.is) (all_nullable type step cs f.rest f.rest_is)
 
 -- columns
 
@@ -116,7 +116,7 @@ each_typed type column step (c ∷ cs) us e =
     let f = first_of_types (type c) (types_by type cs) us e in
     then_ok (column c) (λ y. each column cs >>= λ ys. Ok (y ∷ ys)) (Each f.type) (Columns us) (step c f.type f.is)
     (λ y first. then_ok (each column cs) (λ ys. Ok (y ∷ ys)) (Columns f.rest) (Columns us) (each_typed type column step cs f.rest f.rest_is)
-    (λ ys rest. ap (λ (x : List DataType). are_columns x (y ∷ ys)) f.whole ∙ and_from (list_all (is_of f.type) y) (are_columns f.rest ys) first rest))
+    (λ ys rest. ap (λ (x : List DataType). are_columns x (y ∷ ys)) f.whole ∙ and_from _ _ first rest))
 
 cells_typed : (us : List DataType) (cs : List (List Meaning)) (i : ℕ) → Columns us cs → AreNullable us
     → are_of us (map (λ column. value_at column i) cs) ≡ true
@@ -124,17 +124,17 @@ cells_typed [] [] i c n = refl
 cells_typed [] (x ∷ cs) i c n = absurd (true≢false (sym c))
 cells_typed (u ∷ us) [] i c n = absurd (true≢false (sym c))
 cells_typed (u ∷ us) (x ∷ cs) i c n =
-    let p = and_parts (list_all (is_of u) x) (are_columns us cs) c in
-    let m = and_parts (is_nullable u) (list_all is_nullable us) n in
-    and_from (is_of u (value_at x i)) (are_of us (map (λ column. value_at column i) cs)) (at_or (is_of u) x i Null p.0 m.0) (cells_typed us cs i p.1 m.1)
+    let p = and_parts _ _ c in
+    let m = and_parts _ _ n in
+    and_from _ _ (at_or (is_of u) x i Null p.0 m.0) (cells_typed us cs i p.1 m.1)
 
 behind_of : (ts us : List DataType) (row cells : Row) → are_of ts row ≡ true → are_of us cells ≡ true → are_of (ts ++ us) (row ++ cells) ≡ true
 behind_of [] us [] cells a b = b
 behind_of [] us (m ∷ row) cells a b = absurd (true≢false (sym a))
 behind_of (t ∷ ts) us [] cells a b = absurd (true≢false (sym a))
 behind_of (t ∷ ts) us (m ∷ row) cells a b =
-    let p = and_parts (is_of t m) (are_of ts row) a in
-    and_from (is_of t m) (are_of (ts ++ us) (row ++ cells)) p.0 (behind_of ts us row cells p.1 b)
+    let p = and_parts _ _ a in
+    and_from _ _ p.0 (behind_of ts us row cells p.1 b)
 
 abbrev is_below : {X : Type 0} → List X → ℕ → Bool
 is_below xs i = nat_lt i (length xs)
@@ -167,8 +167,8 @@ kept_typed ts f rows a =
 
 pub place_nullable : (ts : List DataType) (place : ℕ) (t : DataType) → AreNullable ts → type_at place ts ≡ Some t → is_nullable t ≡ true
 place_nullable [] place t n e = absurd (none_some t e)
-place_nullable (u ∷ ts) zero t n e = ap is_nullable (sym (some_is u t e)) ∙ (and_parts (is_nullable u) (list_all is_nullable ts) n).0
-place_nullable (u ∷ ts) (suc place) t n e = place_nullable ts place t (and_parts (is_nullable u) (list_all is_nullable ts) n).1 e
+place_nullable (u ∷ ts) zero t n e = ap is_nullable (sym (some_is u t e)) ∙ (and_parts _ _ n).0
+place_nullable (u ∷ ts) (suc place) t n e = place_nullable ts place t (and_parts _ _ n).1 e
 
 pub places_nullable : (ts : List DataType) → AreNullable ts → (ps : List ℕ) (ks : List DataType) → types_at ps ts ≡ Some ks → AreNullable ks
 places_nullable ts n ps ks e = all_nullable (λ p. type_at p ts) (λ p t is. place_nullable ts p t n is) ps ks (sym (places_by ts ps) ∙ e)
@@ -178,9 +178,9 @@ cell_of_row : (ts : List DataType) (rows : List Row) (i place : ℕ) (t : DataTy
     → is_of t (slice_index_or (key_at rows i) place Null) ≡ true
 cell_of_row ts [] i place t a n e = n
 cell_of_row ts (row ∷ rows) zero place t a n e =
-    (typed_is_exact ts row (At place) t (and_parts (are_of ts row) (list_all (are_of ts) rows) a).0 e).1
+    (typed_is_exact ts row (At place) t (and_parts _ _ a).0 e).1
 cell_of_row ts (row ∷ rows) (suc i) place t a n e =
-    cell_of_row ts rows i place t (and_parts (are_of ts row) (list_all (are_of ts) rows) a).1 n e
+    cell_of_row ts rows i place t (and_parts _ _ a).1 n e
 
 key_typed : (ts : List DataType) (rows : List Row) (set : List ℕ) (i : ℕ) → AllOf ts rows → AreNullable ts → (columns : List ℕ) (ks : List DataType)
     → types_at columns ts ≡ Some ks → are_of ks (group_key (set_columns columns set) rows i) ≡ true
@@ -189,7 +189,7 @@ key_typed ts rows set i a n (c ∷ cs) ks e =
     let f = first_of_types (type_at c ts) (types_at cs ts) ks e in
     let v = place_nullable ts c f.type n f.is in
     ap (λ (x : List DataType). are_of x (group_key (set_columns (c ∷ cs) set) rows i)) f.whole
-    ∙ and_from (is_of f.type (set_value (key_at rows i) (if is_among c set then Some c else None))) (are_of f.rest (group_key (set_columns cs set) rows i))
+    ∙ and_from _ _
     (go f.type (is_among c set) v (cell_of_row ts rows i c f.type a v f.is)) (key_typed ts rows set i a n cs f.rest f.rest_is)
   where
     go : (t : DataType) (b : Bool) → is_nullable t ≡ true → is_of t (slice_index_or (key_at rows i) c Null) ≡ true
@@ -203,7 +203,7 @@ no_key_typed ts n [] ks e = ap (λ (x : List DataType). are_of x []) (sym (some_
 no_key_typed ts n (c ∷ cs) ks e =
     let f = first_of_types (type_at c ts) (types_at cs ts) ks e in
     ap (λ (x : List DataType). are_of x (map (λ d. Null) (c ∷ cs))) f.whole
-    ∙ and_from (is_nullable f.type) (are_of f.rest (map (λ d. Null) cs)) (place_nullable ts c f.type n f.is) (no_key_typed ts n cs f.rest f.rest_is)
+    ∙ and_from _ _ (place_nullable ts c f.type n f.is) (no_key_typed ts n cs f.rest f.rest_is)
 
 abbrev has_key : List DataType → Group → Bool
 has_key ks g = are_of ks g.key
@@ -211,7 +211,7 @@ has_key ks g = are_of ks g.key
 set_typed : (ts : List DataType) (rows : List Row) (columns : List ℕ) (ks : List DataType) (set : List ℕ) → AllOf ts rows → AreNullable ts
     → types_at columns ts ≡ Some ks → list_all (has_key ks) (groups_of_set columns rows set) ≡ true
 set_typed ts rows columns ks [] a n e =
-    and_from (are_of ks (map (λ c. Null) columns)) true (no_key_typed ts n columns ks e) refl
+    and_from _ _ (no_key_typed ts n columns ks e) refl
 set_typed ts rows columns ks (c ∷ cs) a n e =
     each_mapped (has_key ks) (group_of (c ∷ cs) (set_columns columns (c ∷ cs)) rows) (sorted (on (group_key (set_columns columns (c ∷ cs)) rows) (group_cmp (set_columns columns (c ∷ cs)))) (first_rows (set_columns columns (c ∷ cs)) rows))
     (λ i. key_typed ts rows (c ∷ cs) i a n columns ks e)
@@ -283,13 +283,12 @@ values_typed ts rows w f default at_place t u e n v wide d a =
     widened : (t u : DataType) (values : List Meaning) → ((m : Meaning) → is_of t m ≡ true → is_of u m ≡ true) → Each t values → Each u values
     widened t u [] wide h = refl
     widened t u (m ∷ ms) wide h =
-        let p = and_parts (is_of t m) (list_all (is_of t) ms) h in
-        and_from (is_of u m) (list_all (is_of u) ms) (wide m p.0) (widened t u ms wide p.1)
+        let p = and_parts _ _ h in
+        and_from _ _ (wide m p.0) (widened t u ms wide p.1)
 
 null_wide : (u : DataType) → is_nullable u ≡ true → (m : Meaning) → is_of types.Null m ≡ true → is_of u m ≡ true
 null_wide u n Null e = n
-null_wide u n (Int z) e = absurd (true≢false (sym e))
-null_wide u n (Text b) e = absurd (true≢false (sym e))
+null_wide u n _ e = absurd (true≢false (sym e))
 
 -- what two types have in common
 pub record Widens (a b c : DataType) : Type 0 where
@@ -320,11 +319,6 @@ common_wide types.Null types.Text c e = is_wide types.Null types.Text c types.Te
 common_wide types.Null types.Null c e = is_wide types.Null types.Null c types.Null e (same_wide types.Null refl)
 common_wide _ _ c e = absurd (none_some c e)
 
-constant_typed : (m : Meaning) → is_of (constant_type m) m ≡ true
-constant_typed Null = refl
-constant_typed (Int z) = refl
-constant_typed (Text b) = refl
-
 -- a value behind or before, with its default
 pub record Moved (ts : List DataType) (f : Formula) (default : Meaning) (u : DataType) : Type 0 where
   pub type : DataType
@@ -345,7 +339,7 @@ moved_typed : (ts : List DataType) (rows : List Row) (w : Windowed) (f : Formula
     → common_of (formula_type ts f) (Some (constant_type default)) ≡ Some u → AllOf ts rows → IfOk (values_told w f rows default at_place) (Each u)
 moved_typed ts rows w f default at_place u e a =
     let m = moved_is ts f default u e in
-    values_typed ts rows w f default at_place m.type u m.is m.wide.is_left m.wide.nullable m.wide.left (m.wide.right default (constant_typed default)) a
+    values_typed ts rows w f default at_place m.type u m.is m.wide.is_left m.wide.nullable m.wide.left (m.wide.right default (constant default)) a
 
 plain_typed : (ts : List DataType) (rows : List Row) (w : Windowed) (f : Formula) (at_place : ℕ → Option ℕ) (u : DataType)
     → valued (formula_type ts f) ≡ Some u → AllOf ts rows → IfOk (values_told w f rows Null at_place) (Each u)
@@ -354,28 +348,22 @@ plain_typed ts rows w f at_place u e a =
 
 function_typed : (ts : List DataType) (rows : List Row) (w : Windowed) → AllOf ts rows → (f : FunctionPlan) (u : DataType) → function_type ts f ≡ Some u
     → IfOk (function_column rows w f) (Each u)
-function_typed ts rows w a RowNumber u e = counts_typed w u _ (some_is types.Integer u e)
-function_typed ts rows w a Rank u e = counts_typed w u _ (some_is types.Integer u e)
-function_typed ts rows w a DenseRank u e = counts_typed w u _ (some_is types.Integer u e)
-function_typed ts rows w a (Tile n) u e = counts_typed w u _ (some_is types.Integer u e)
 function_typed ts rows w a (Lag f n d) u e = moved_typed ts rows w f d _ u e a
 function_typed ts rows w a (Lead f n d) u e = moved_typed ts rows w f d _ u e a
 function_typed ts rows w a (FirstValue f) u e = plain_typed ts rows w f _ u e a
 function_typed ts rows w a (LastValue f) u e = plain_typed ts rows w f _ u e a
 function_typed ts rows w a (NthValue f n) u e = plain_typed ts rows w f _ u e a
 function_typed ts rows w a (Aggregated p) u e = folded_typed ts p u rows (frame_of w) (places (length w.values)) e a
+function_typed ts rows w a _ u e = counts_typed w u _ (some_is types.Integer u e)
 
 function_nullable : (ts : List DataType) (f : FunctionPlan) (u : DataType) → function_type ts f ≡ Some u → is_nullable u ≡ true
-function_nullable ts RowNumber u e = ap is_nullable (sym (some_is types.Integer u e))
-function_nullable ts Rank u e = ap is_nullable (sym (some_is types.Integer u e))
-function_nullable ts DenseRank u e = ap is_nullable (sym (some_is types.Integer u e))
-function_nullable ts (Tile n) u e = ap is_nullable (sym (some_is types.Integer u e))
 function_nullable ts (Lag f n d) u e = (moved_is ts f d u e).wide.nullable
 function_nullable ts (Lead f n d) u e = (moved_is ts f d u e).wide.nullable
 function_nullable ts (FirstValue f) u e = (value_is (formula_type ts f) u e).nullable
 function_nullable ts (LastValue f) u e = (value_is (formula_type ts f) u e).nullable
 function_nullable ts (NthValue f n) u e = (value_is (formula_type ts f) u e).nullable
 function_nullable ts (Aggregated a) u e = is_aggregate_nullable ts a u e
+function_nullable ts _ u e = ap is_nullable (sym (some_is types.Integer u e))
 
 pub answers_nullable : (ts : List DataType) (cs : List CallPlan) (us : List DataType) → call_types ts cs ≡ Some us → AreNullable us
 answers_nullable ts cs us e =
@@ -433,7 +421,7 @@ row_typed ts row a (i ∷ is) us e =
     let f = first_of_types (item_type ts i) (types_by (item_type ts) is) us e in
     let s = item_is (formula_type ts i.value) f.type f.is in
     ap (λ (x : List DataType). are_of x (map (λ t. columns.value_on t row) (map (λ (o : OutputPlan). o.value) (i ∷ is)))) f.whole
-    ∙ and_from (is_of f.type (columns.value_on i.value row)) (are_of f.rest (map (λ t. columns.value_on t row) (map (λ (o : OutputPlan). o.value) is))) (s.wide (columns.value_on i.value row) (cell_typed ts i.value s.type row s.is s.is_nullable a)) (row_typed ts row a is f.rest f.rest_is)
+    ∙ and_from _ _ (s.wide (columns.value_on i.value row) (cell_typed ts i.value s.type row s.is s.is_nullable a)) (row_typed ts row a is f.rest f.rest_is)
 
 ordered_typed : (us : List DataType) (order : List SortKey) (by shown : List Row) → AllOf us shown → AllOf us (ordered order by shown)
 ordered_typed us order by shown a =

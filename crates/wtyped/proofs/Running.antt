@@ -1,15 +1,13 @@
 -- What an accepted query evaluates is exact, on the rows that execution makes.
 use Rattle.std.proofs.Common.{◌≡◌, ◌&&◌, Bool, true, false, ℕ, List, [], ◌∷◌, ◌++◌, map, Option, Some, None, Result, Ok, Err, IfOk, refl, sym, ap, subst, ◌∙◌}
-use Rattle.std.specs.List.{AllByRecursion, flat_map, list_all}
+use Rattle.std.specs.List.{AllByRecursion, flat_map}
 use Rattle.std.proofs.lemmas.Bool.{and_parts, and_from}
 use Rattle.wsegment.specs.Declaration.{Described}
-use Rattle.wsegment.specs.declared.kind.Kind.{Kind}
-use Rattle.wsegment.specs.declared.kind.Kind.TheVariants as kinds
 use Rattle.wvalues.specs.Meaning.{Meaning}
 use Rattle.wscope.specs.declared.data_type.DataType.{DataType}
-use Rattle.wscope.specs.Sources.{answer_columns, declared_columns, kind_type}
+use Rattle.wscope.specs.Sources.{answer_columns, declared_columns}
 use Rattle.wplan.specs.Formula.{At}
-use Rattle.wplan.specs.Plans.{GroupCallPlan, GroupAggregate, GroupingOf, GroupingPlan, KeyPlan, WindowPlan, FunctionPlan, RowNumber, Rank, DenseRank, Tile, Lag, Lead, FirstValue, LastValue, NthValue, Aggregated, CallPlan, OutputPlan, SelectPlan}
+use Rattle.wplan.specs.Plans.{GroupCallPlan, GroupAggregate, GroupingOf, GroupingPlan, KeyPlan, WindowPlan, FunctionPlan, Lag, Lead, FirstValue, LastValue, NthValue, Aggregated, CallPlan, OutputPlan, SelectPlan}
 use Rattle.wresolve.specs.Selecting.{resolved_query}
 use Rattle.wrows.specs.declared.fault.AnswerFault.{AnswerFault}
 use Rattle.wrows.specs.Columns.{Row, beside, not_too_many}
@@ -19,15 +17,15 @@ use Rattle.wgroup.specs.Grouping.{Group, call_column, group_rows, groups_of}
 use Rattle.wplanner.specs.Answers.{answer_of, call_columns, items_of, left_items, left_rows, select_of}
 use Rattle.wtable.specs.Tables.{rows_of_view}
 use Rattle.wtyped.specs.Laws.{types_of}
-use Rattle.wtyped.specs.Plans.{answer_types, are_keys, are_windows, call_types, function_type, group_call_type, group_call_types, is_condition, is_frame, is_having, is_value, is_window, item_types, known, query_types, row_types, select_types, shown_types, types_at, unless_ill, with_types}
+use Rattle.wtyped.specs.Plans.{answer_types, are_keys, are_windows, call_types, function_type, group_call_type, group_call_types, is_condition, is_having, is_value, is_window, item_types, known, query_types, row_types, select_types, shown_types, types_at, unless_ill, with_types}
 use Rattle.wtyped.specs.Running.{AcceptedRunsTyped, Evaluation, IsExact, after, condition_on, function_on, group_call_on, grouping_on, having_on, items_on, kept_on, left_on, on_each, query_on, select_on, window_on}
 use Rattle.wtyped.specs.Typing.{formula_type, type_at, valued}
 use Rattle.wtyped.proofs.Accepted.{accepted_is_typed}
-use Rattle.wtyped.proofs.Feeding.{AllOf, AreNullable, aggregate_exact, condition_exact, exact_rows, is_nullable, some_value_exact, suits_value, value_exact}
+use Rattle.wtyped.proofs.Feeding.{AllOf, AreNullable, aggregate_exact, condition_exact, exact_rows, some_value_exact, suits_value, value_exact}
 use Rattle.wtyped.proofs.Lists.{behind_each, flat_each, mapped_each, none_some, some_is, then_ok}
 use Rattle.wtyped.proofs.Rowed as rowed
 use Rattle.wtyped.proofs.Rowed.{Columns, beside_typed, both_types, first_of_types}
-use Rattle.wtyped.proofs.Table.{table_typed}
+use Rattle.wtyped.proofs.Table.{null_of, table_typed}
 
 abbrev AreExact : List Evaluation → Type 0
 AreExact es = AllByRecursion IsExact es
@@ -80,8 +78,8 @@ record Left (ts rs : List DataType) (g : Option GroupingPlan) (rows : List Row) 
 behind_nullable : (ts us : List DataType) → AreNullable ts → AreNullable us → AreNullable (ts ++ us)
 behind_nullable [] us n m = m
 behind_nullable (t ∷ ts) us n m =
-    let p = and_parts (is_nullable t) (list_all is_nullable ts) n in
-    and_from (is_nullable t) (list_all is_nullable (ts ++ us)) p.0 (behind_nullable ts us p.1 m)
+    let p = and_parts _ _ n in
+    and_from _ _ p.0 (behind_nullable ts us p.1 m)
 
 left_is : (ts rs : List DataType) (g : Option GroupingPlan) (rows : List Row) → AllOf ts rows → AreNullable ts → row_types ts g ≡ Some rs
     → is_having rs g ≡ true → Left ts rs g rows
@@ -103,16 +101,12 @@ keys_exact ts rows ks a e = mapped_each IsExact (λ (k : KeyPlan). is_value ts k
 
 window_exact : (ts : List DataType) (rows : List Row) (w : WindowPlan) → AllOf ts rows → is_window ts w ≡ true → AreExact (window_on rows w)
 window_exact ts rows w a e =
-    let p = and_parts (list_all (is_value ts) w.partition) (are_keys ts w.keys && is_frame ts w.keys w.frame) e in
-    let k = and_parts (are_keys ts w.keys) (is_frame ts w.keys w.frame) p.1 in
+    let p = and_parts _ _ e in
+    let k = and_parts _ _ p.1 in
     behind_each IsExact (map (on_each rows) w.partition) (map (λ (k : KeyPlan). on_each rows k.value) w.keys)
     (mapped_each IsExact (is_value ts) (on_each rows) w.partition (λ f h. some_value_exact ts rows f a h) p.0) (keys_exact ts rows w.keys a k.0)
 
 function_exact : (ts : List DataType) (rows : List Row) (f : FunctionPlan) (u : DataType) → AllOf ts rows → function_type ts f ≡ Some u → AreExact (function_on rows f)
-function_exact ts rows RowNumber u a e = tt
-function_exact ts rows Rank u a e = tt
-function_exact ts rows DenseRank u a e = tt
-function_exact ts rows (Tile n) u a e = tt
 function_exact ts rows (Lag f n d) u a e =
     let m = rowed.moved_is ts f d u e in (exact_rows (on_each rows f) ts m.type m.is (λ x c. suits_value m.type x m.wide.is_left c) rows a, tt)
 function_exact ts rows (Lead f n d) u a e =
@@ -121,6 +115,7 @@ function_exact ts rows (FirstValue f) u a e = (value_exact ts f u rows e a, tt)
 function_exact ts rows (LastValue f) u a e = (value_exact ts f u rows e a, tt)
 function_exact ts rows (NthValue f n) u a e = (value_exact ts f u rows e a, tt)
 function_exact ts rows (Aggregated p) u a e = aggregate_exact ts p u rows e a
+function_exact ts rows _ u a e = tt
 
 calls_exact : (ts : List DataType) (rows : List Row) → AllOf ts rows → (cs : List CallPlan) (us : List DataType) → call_types ts cs ≡ Some us
     → AreExact (flat_map (λ (c : CallPlan). function_on rows c.function) cs)
@@ -164,7 +159,7 @@ typed_is ts s us e =
         → answer_types s (with_types (Some rs) o) ≡ Some us → Typed ts s us
     by_calls rs c r w None is f = absurd (none_some us f)
     by_calls rs c r w (Some cs) is f =
-        let h = and_parts (is_having rs s.grouping) (are_windows rs s.windows) w in
+        let h = and_parts _ _ w in
         let i = not_ill (are_keys (rs ++ cs) s.keys) (item_types (rs ++ cs) s.items) us f in
         record { row = rs; calls = cs; condition = c; row_is = r; having = h.0; windows = h.1; calls_are = is; keys = i.0; items = i.1 }
 
@@ -231,14 +226,10 @@ query_exact (s ∷ ss) ts us rows e a n = by_types (select_types ts s) refl e (�
           then_ok (select_of s rows) (answer_of ss) (AllOf vs) (AllOf us) x.1 (λ rs r. (rest vs rs f r x.2).1),
         )
 
-kind_nullable : (k : Kind) → is_nullable (kind_type k) ≡ true
-kind_nullable kinds.Integer = refl
-kind_nullable kinds.Text = refl
-
 declared_nullable : (cs : List Described) → AreNullable (types_of (declared_columns cs))
 declared_nullable [] = refl
 declared_nullable (c ∷ cs) =
-    and_from (is_nullable (kind_type c.kind)) (list_all is_nullable (types_of (declared_columns cs))) (kind_nullable c.kind) (declared_nullable cs)
+    and_from _ _ (null_of c.kind) (declared_nullable cs)
 
 pub accepted_runs_typed : AcceptedRunsTyped
 accepted_runs_typed d v q distinct shaped accepted =

@@ -1,8 +1,7 @@
 -- A SELECT that no rule refuses is well typed.
-use Rattle.std.proofs.Common.{◌≡◌, Bool, true, false, not, ◌&&◌, ◌||◌, ℕ, suc, List, [], ◌∷◌, ◌++◌, codes, length, map, Option, Some, None, refl, sym, ap, ap₂, ◌∙◌, true≢false}
+use Rattle.std.proofs.Common.{◌≡◌, Bool, true, false, not, ℕ, suc, List, [], ◌∷◌, ◌++◌, length, map, Option, Some, None, refl, sym, ap, ap₂, ◌∙◌, true≢false}
 use Rattle.std.specs.Prelude.{if◌then◌else◌}
-use Rattle.std.specs.List.{list_all, list_any}
-use Rattle.std.specs.Str.{bytes_eq}
+use Rattle.std.specs.List.{list_all}
 use Rattle.std.proofs.lemmas.Bool.{or_parts, and_parts, and_from, not-true, not-false}
 use Rattle.std.proofs.lemmas.List.Folds.{list_all-append}
 use Rattle.wquery.specs.GroupElements.{all_columns}
@@ -11,27 +10,26 @@ use Rattle.wquery.specs.Tree.{Tree, Invoked, Trees, Given, Everything, These, Co
 use Rattle.wscope.specs.declared.data_type.DataType.{DataType}
 use Rattle.wscope.specs.declared.look.Look.{Look}
 use Rattle.wscope.specs.Finding.{finds}
-use Rattle.wscope.specs.Scope.{some_anywhere, some_option}
-use Rattle.wscope.specs.Seeking.{found_or, some_below, some_filter, some_node, some_reach, some_tree}
-use Rattle.wscope.specs.Types as scope
+use Rattle.wscope.specs.Scope.{some_option}
+use Rattle.wscope.specs.Seeking.{found_or, some_below, some_node}
 use Rattle.wscope.specs.Types.{Titled, type_of}
 use Rattle.wscope.specs.Windows.{NamedWindow}
 use Rattle.wnames.specs.Groups.{is_group_call, is_window_call, sees_ungrouped}
 use Rattle.wnames.specs.Types.{is_no_condition}
-use Rattle.wwindows.specs.Windows.{own_window_is, reach_is, windows_of, has_bad_frame, lacks_groups, lacks_range_key, entry_is}
+use Rattle.wwindows.specs.Windows.{own_window_is, reach_is, windows_of, has_bad_frame, lacks_groups, lacks_range_key}
+use Rattle.wdistinct.specs.declared.calls.CallKind.{CallKind}
 use Rattle.wdistinct.specs.declared.calls.CallKind.TheVariants.{Grouped, Windowed}
 use Rattle.wdistinct.specs.Calls.{group_calls, is_call_of, window_calls}
 use Rattle.wplan.specs.Plans.{GroupingPlan}
-use Rattle.wsettle.specs.Resolving.{Layout, resolved, resolved_option, source_row}
-use Rattle.wsettle.specs.Functions.{call_function}
-use Rattle.wsettle.specs.Groups.{column_places, elements_made, group_call_made}
+use Rattle.wbinding.specs.Resolving.{Layout, resolved, resolved_option, source_row}
+use Rattle.wbinding.specs.Functions.{call_function}
+use Rattle.wbinding.specs.Groups.{column_places, elements_made, group_call_made}
 use Rattle.wresolve.specs.Selecting as made
 use Rattle.wresolve.specs.Selecting.{calls_made, entries_made, grouping_over, has_own_window, own_windows, windows_made}
 use Rattle.wgroupby.specs.Sets.{is_among}
 use Rattle.wtyped.specs.Laws.{types_of}
 use Rattle.wtyped.specs.Plans.{are_windows, call_types, function_type, group_call_type, group_call_types, is_condition, is_having, is_window, row_types, with_type, with_types}
 use Rattle.wtyped.specs.Typing.{formula_type}
-use Rattle.wtyped.specs.Shapes.{are_fields, is_bare}
 use Rattle.wtyped.proofs.Alike.{is_listed}
 use Rattle.wtyped.proofs.Calls as calls
 use Rattle.wtyped.proofs.Calls.{Fits}
@@ -39,10 +37,11 @@ use Rattle.wtyped.proofs.Columns.{cells_there, group_places, groups_there}
 use Rattle.wtyped.proofs.Formulas.{sees_misfit, typed}
 use Rattle.wtyped.proofs.Looks as looks
 use Rattle.wtyped.proofs.Rows as rows
-use Rattle.wtyped.proofs.Rows.{group_cells, has_none, row_of, sees_row}
+use Rattle.wtyped.proofs.Rows.{group_cells, is_clear, row_of, sees_row}
 use Rattle.wtyped.proofs.Rules.{is_bad}
 use Rattle.wtyped.proofs.Rules as rules
-use Rattle.wtyped.proofs.Walks.{open_find, parts_below}
+use Rattle.wtyped.proofs.Tests.{and_rest, are_false}
+use Rattle.wtyped.proofs.Walks.{all_nowhere, open_find, parts_below, some_of}
 use Rattle.wtyped.proofs.Windows as windows
 use Rattle.std.proofs.lemmas.List.{append-nil}
 
@@ -52,7 +51,7 @@ pub condition_typed : (l : Layout) (ts : List DataType) (t : Option Tree) → so
     → is_no_condition l.columns t ≡ false → is_condition ts (resolved_option l t) ≡ true
 condition_typed l ts None e f = refl
 condition_typed l ts (Some t) e f =
-    calls.condition (formula_type ts (resolved l t)) (type_of l.columns t) (typed l ts t e) (not-false (scope.is_truth (type_of l.columns t)) f)
+    calls.condition (formula_type ts (resolved l t)) (type_of l.columns t) (typed l ts t e) (not-false _ f)
 
 -- looks that find nothing
 
@@ -64,16 +63,9 @@ group_fits : (cs : List Titled) (name : List ℕ) (given : Given) (filter : Filt
 group_fits cs name given filter reach e g =
     let n = Invoked name given filter reach in
     let o = open_find (is_bad cs n) (some_below (finds (is_bad cs)) n) e in
-    record {
-      given_well = looks.is_given cs n o.0;
-      fit = looks.is_fit cs n o.0;
-      below = parts_below (finds (is_bad cs)) (finds looks.is_any_call) (sees_misfit (source_row cs) (types_of cs)) (rows.source cs) n o.1
-          (rows.no_calls n (looks.no_inner_window name given filter reach (looks.is_placed cs n o.0)) (flat (is_group_call n) (some_below (finds is_group_call) n) g (looks.is_flat cs n o.0)));
-    }
-  where
-    flat : (a b : Bool) → a ≡ true → (a && b) ≡ false → b ≡ false
-    flat true b is f = f
-    flat false b is f = absurd (true≢false (sym is))
+    calls.fits (source_row cs) (types_of cs) name given filter reach (looks.is_given cs n o.0) (looks.is_fit cs n o.0)
+    (parts_below (finds (is_bad cs)) (finds looks.is_any_call) (sees_misfit (source_row cs) (types_of cs)) (rows.source cs) n o.1
+    (rows.no_calls n (looks.no_inner_window name given filter reach (looks.is_placed cs n o.0)) (and_rest _ _ g (looks.is_flat cs n o.0))))
 
 named_columns : (cs : List Titled) (c : Clauses) (name : List ℕ) (given : Given) (filter : Filter) (reach : Reach)
     → Fits (source_row cs) (types_of cs) name given filter reach
@@ -83,33 +75,32 @@ named_columns cs c name Everything filter reach f e us is = cc
 named_columns cs c name (These vs) filter reach f e us is = cc
 named_columns cs c name (Columns vs) filter reach f e us is =
     let same : vs ≡ us = cc in
-    let shape = calls.shaped (source_row cs) (types_of cs) name (Columns vs) filter reach f in
-    let fields = and_parts (are_fields vs) (is_bare filter reach) (and_parts (bytes_eq name (codes "grouping")) (are_fields vs && is_bare filter reach) shape).1 in
-    let sees = sees_ungrouped (all_columns c.grouping) in
+    let fields = and_parts _ _ (and_parts _ _ f.shaped).1 in
     ap (λ (x : Trees). list_all (λ p. is_among p (group_places cs c.grouping)) (column_places cs x)) (sym same)
-    ∙ calls.all_named cs c vs fields.0 (or_parts (some_tree sees vs) (some_filter sees filter || some_reach sees reach) e).0
+    ∙ calls.all_named cs c vs fields.0 (or_parts _ _ e).0
 
-no_look : (w : Tree → Look) (n : Tree) → has_none w n ≡ true → some_node w n ≡ false
-no_look w n e = not-true (some_node w n) e
+clear_parts : (kind : CallKind) (w : Tree → Look) (n : Tree) → is_clear kind w n ≡ true → (is_call_of kind n ≡ true) × (some_node w n ≡ false)
+clear_parts kind w n e = let p = and_parts _ _ e in (p.0, not-true _ p.1)
 
-group_type : (cs : List Titled) (c : Clauses) (t : Tree) → is_call_of Grouped t ≡ true → some_node (finds (is_bad cs)) t ≡ false
-    → some_node (sees_ungrouped (all_columns c.grouping)) t ≡ false
+group_type : (cs : List Titled) (c : Clauses) (t : Tree) → is_clear Grouped (finds (is_bad cs)) t ≡ true
+    → is_clear Grouped (sees_ungrouped (all_columns c.grouping)) t ≡ true
     → group_call_type (types_of cs) (group_places cs c.grouping) (group_call_made (source_row cs) t) ≡ Some (type_of cs t)
-group_type cs c (Invoked name given filter reach) s e f =
-    let g = sym (looks.alike name given filter reach) ∙ s in
-    let fits = group_fits cs name given filter reach e g in
-    calls.group_call cs c (group_places cs c.grouping) name given filter reach (types_of cs) fits g (named_columns cs c name given filter reach fits f)
-group_type cs c _ s e f = absurd (true≢false (sym s))
+group_type cs c (Invoked name given filter reach) e f =
+    let n = Invoked name given filter reach in
+    let p = clear_parts Grouped (finds (is_bad cs)) n e in let q = clear_parts Grouped (sees_ungrouped (all_columns c.grouping)) n f in
+    let g = sym (looks.alike name given filter reach) ∙ p.0 in
+    let fits = group_fits cs name given filter reach p.1 g in
+    calls.group_call cs c (group_places cs c.grouping) name given filter reach (types_of cs) fits g (named_columns cs c name given filter reach fits q.1)
+group_type cs c _ e f = absurd (true≢false (sym e))
 
-group_types : (cs : List Titled) (c : Clauses) (gs : List Tree) → list_all (is_call_of Grouped) gs ≡ true
-    → list_all (has_none (finds (is_bad cs))) gs ≡ true → list_all (has_none (sees_ungrouped (all_columns c.grouping))) gs ≡ true
+group_types : (cs : List Titled) (c : Clauses) (gs : List Tree) → list_all (is_clear Grouped (finds (is_bad cs))) gs ≡ true
+    → list_all (is_clear Grouped (sees_ungrouped (all_columns c.grouping))) gs ≡ true
     → group_call_types (types_of cs) (group_places cs c.grouping) (map (group_call_made (source_row cs)) gs) ≡ Some (map (type_of cs) gs)
-group_types cs c [] s e f = refl
-group_types cs c (t ∷ ts) s e f =
-    let a = and_parts (is_call_of Grouped t) (list_all (is_call_of Grouped) ts) s in
-    let b = and_parts (has_none (finds (is_bad cs)) t) (list_all (has_none (finds (is_bad cs))) ts) e in
-    let d = and_parts (has_none (sees_ungrouped (all_columns c.grouping)) t) (list_all (has_none (sees_ungrouped (all_columns c.grouping))) ts) f in
-    ap₂ (λ x y. with_type x y) (group_type cs c t a.0 (no_look (finds (is_bad cs)) t b.0) (no_look (sees_ungrouped (all_columns c.grouping)) t d.0)) (group_types cs c ts a.1 b.1 d.1)
+group_types cs c [] e f = refl
+group_types cs c (t ∷ ts) e f =
+    let a = and_parts _ _ e in
+    let b = and_parts _ _ f in
+    ap₂ (λ x y. with_type x y) (group_type cs c t a.0 b.0) (group_types cs c ts a.1 b.1)
 
 -- the row of windows, items and keys
 
@@ -122,7 +113,7 @@ row_typed cs c false k e =
     ap Some (sym (append-nil (types_of cs)) ∙ ap (λ (gs : List Tree). types_of cs ++ map (type_of cs) gs) (sym (rows.no_groups cs c e)))
 row_typed cs c true k e =
     ap₂ (λ x y. with_types x y) (cells_there (group_places cs c.grouping) (types_of cs) (groups_there cs c.grouping k.fields k.columns))
-    (group_types cs c (group_calls c) (rows.are_group_calls cs c k) (rows.group_sources cs c k) (rows.group_columns_named cs c k e))
+    (group_types cs c (group_calls c) (rows.group_sources cs c k) (rows.group_columns_named cs c k e))
 
 pub having_typed : (cs : List Titled) (c : Clauses) (b : Bool) → rules.Kept cs c → rows.Shown cs c b
     → is_having (group_cells cs c b) (grouping_of cs c b) ≡ true
@@ -141,84 +132,75 @@ row_fits : (cs : List Titled) (c : Clauses) (b : Bool) (name : List ℕ) (given 
 row_fits cs c b name given filter reach e =
     let n = Invoked name given filter reach in
     let o = open_group (is_bad cs n) (is_listed (group_calls c) n) (some_below (sees_row cs c b) n) e in
-    record {
-      given_well = looks.is_given cs n o.0;
-      fit = looks.is_fit cs n o.0;
-      below =
-          parts_below (sees_row cs c b) (finds is_window_call) (sees_misfit (row_of cs c b) (group_cells cs c b)) (rows.inner cs c b) n o.1 (looks.no_inner_window name given filter reach (looks.is_placed cs n o.0));
-    }
+    calls.fits (row_of cs c b) (group_cells cs c b) name given filter reach (looks.is_given cs n o.0) (looks.is_fit cs n o.0)
+    (parts_below (sees_row cs c b) (finds is_window_call) (sees_misfit (row_of cs c b) (group_cells cs c b)) (rows.inner cs c b) n o.1 (looks.no_inner_window name given filter reach (looks.is_placed cs n o.0)))
 
 over_fits : (cs : List Titled) (c : Clauses) (b : Bool) (name : List ℕ) (given : Given) (filter : Filter) (reach : Reach)
-    → is_call_of Windowed (Invoked name given filter reach) ≡ true → some_node (sees_row cs c b) (Invoked name given filter reach) ≡ false
+    → is_clear Windowed (sees_row cs c b) (Invoked name given filter reach) ≡ true
     → Fits (row_of cs c b) (group_cells cs c b) name given filter reach
-over_fits cs c b name given filter ItsGroup s e = absurd (true≢false (sym s))
-over_fits cs c b name given filter (ThatWindow window) s e = row_fits cs c b name given filter (ThatWindow window) e
-over_fits cs c b name given filter (OwnWindow copied partition order frame) s e =
-    row_fits cs c b name given filter (OwnWindow copied partition order frame) e
+over_fits cs c b name given filter ItsGroup e = absurd (true≢false (sym e))
+over_fits cs c b name given filter (ThatWindow window) e =
+    let n = Invoked name given filter (ThatWindow window) in row_fits cs c b name given filter (ThatWindow window) (clear_parts Windowed (sees_row cs c b) n e).1
+over_fits cs c b name given filter (OwnWindow copied partition order frame) e =
+    let r = OwnWindow copied partition order frame in
+    row_fits cs c b name given filter r (clear_parts Windowed (sees_row cs c b) (Invoked name given filter r) e).1
 
-call_typed : (cs : List Titled) (c : Clauses) (b : Bool) (t : Tree) → is_call_of Windowed t ≡ true → some_node (sees_row cs c b) t ≡ false
+call_typed : (cs : List Titled) (c : Clauses) (b : Bool) (t : Tree) → is_clear Windowed (sees_row cs c b) t ≡ true
     → function_type (group_cells cs c b) (call_function (row_of cs c b) t) ≡ Some (type_of cs t)
-call_typed cs c b (Invoked name given filter reach) s e =
-    calls.window_call (row_of cs c b) (group_cells cs c b) name given filter reach (over_fits cs c b name given filter reach s e)
-call_typed cs c b _ s e = absurd (true≢false (sym s))
+call_typed cs c b (Invoked name given filter reach) e =
+    calls.window_call (row_of cs c b) (group_cells cs c b) name given filter reach (over_fits cs c b name given filter reach e)
+call_typed cs c b _ e = absurd (true≢false (sym e))
 
 calls_typed : (cs : List Titled) (c : Clauses) (b : Bool) (ws : List NamedWindow) (next : ℕ) (ts : List Tree)
-    → list_all (is_call_of Windowed) ts ≡ true → list_all (has_none (sees_row cs c b)) ts ≡ true
+    → list_all (is_clear Windowed (sees_row cs c b)) ts ≡ true
     → call_types (group_cells cs c b) (calls_made (row_of cs c b) ws next ts) ≡ Some (map (type_of cs) ts)
-calls_typed cs c b ws next [] s e = refl
-calls_typed cs c b ws next (t ∷ ts) s e =
-    let p = and_parts (is_call_of Windowed t) (list_all (is_call_of Windowed) ts) s in
-    let q = and_parts (has_none (sees_row cs c b) t) (list_all (has_none (sees_row cs c b)) ts) e in
-    ap₂ (λ x y. with_type x y) (call_typed cs c b t p.0 (no_look (sees_row cs c b) t q.0)) (calls_typed cs c b ws (if has_own_window t then suc next else next) ts p.1 q.1)
+calls_typed cs c b ws next [] e = refl
+calls_typed cs c b ws next (t ∷ ts) e =
+    let p = and_parts _ _ e in
+    ap₂ (λ x y. with_type x y) (call_typed cs c b t p.0) (calls_typed cs c b ws (if has_own_window t then suc next else next) ts p.1)
 
 -- windows
 
-abbrev OwnKept : List NamedWindow → List Titled → List Tree → Type 0
-OwnKept ws cs ts =
-    (list_all (λ (t : Tree). not (reach_is (own_window_is ws has_bad_frame) t)) ts ≡ true) × (list_all (λ (t : Tree). not (reach_is (own_window_is ws lacks_groups) t)) ts ≡ true)
-    × (list_all (λ (t : Tree). not (reach_is (own_window_is ws (lacks_range_key cs)) t)) ts ≡ true)
+-- a call with a window of its own whose frame does not fit
+abbrev lacks_frame : List NamedWindow → List Titled → Tree → Bool
+lacks_frame ws cs =
+    some_of (reach_is (own_window_is ws has_bad_frame)) (reach_is (own_window_is ws lacks_groups) ∷ reach_is (own_window_is ws (lacks_range_key cs)) ∷ [])
 
 own_typed : (cs : List Titled) (c : Clauses) (b : Bool) (ws : List NamedWindow) (t : Tree)
-    → windows.AreTyped (row_of cs c b) (group_cells cs c b) ws → is_call_of Windowed t ≡ true → some_node (sees_row cs c b) t ≡ false
-    → reach_is (own_window_is ws has_bad_frame) t ≡ false → reach_is (own_window_is ws lacks_groups) t ≡ false
-    → reach_is (own_window_is ws (lacks_range_key cs)) t ≡ false
+    → windows.AreTyped (row_of cs c b) (group_cells cs c b) ws → is_clear Windowed (sees_row cs c b) t ≡ true → lacks_frame ws cs t ≡ false
     → are_windows (group_cells cs c b) (made.own_window (row_of cs c b) ws t) ≡ true
-own_typed cs c b ws (Invoked name given filter reach) a s e x y z =
-    let f = over_fits cs c b name given filter reach s e in
-    windows.own_typed (row_of cs c b) (group_cells cs c b) ws reach a (calls.in_reach (row_of cs c b) (group_cells cs c b) name given filter reach f) (calls.reach_typed (row_of cs c b) (group_cells cs c b) name given filter reach f) x y z
-own_typed cs c b ws _ a s e x y z = absurd (true≢false (sym s))
+own_typed cs c b ws (Invoked name given filter reach) a e k =
+    let f = over_fits cs c b name given filter reach e in
+    let x = are_false (own_window_is ws has_bad_frame reach) (own_window_is ws lacks_groups reach ∷ own_window_is ws (lacks_range_key cs) reach ∷ []) k in
+    windows.own_typed (row_of cs c b) (group_cells cs c b) ws reach a f.in_reach f.reach_typed x.0 x.1.0 x.1.1
+own_typed cs c b ws _ a e k = absurd (true≢false (sym e))
 
 owns_typed : (cs : List Titled) (c : Clauses) (b : Bool) (ws : List NamedWindow) (ts : List Tree)
-    → windows.AreTyped (row_of cs c b) (group_cells cs c b) ws → list_all (is_call_of Windowed) ts ≡ true
-    → list_all (has_none (sees_row cs c b)) ts ≡ true → OwnKept ws cs ts
-    → are_windows (group_cells cs c b) (own_windows (row_of cs c b) ws ts) ≡ true
-owns_typed cs c b ws [] a s e k = refl
-owns_typed cs c b ws (t ∷ ts) a s e k =
-    let p = and_parts (is_call_of Windowed t) (list_all (is_call_of Windowed) ts) s in
-    let q = and_parts (has_none (sees_row cs c b) t) (list_all (has_none (sees_row cs c b)) ts) e in
-    let x = and_parts (not (reach_is (own_window_is ws has_bad_frame) t)) (list_all (λ (u : Tree). not (reach_is (own_window_is ws has_bad_frame) u)) ts) k.0 in
-    let y = and_parts (not (reach_is (own_window_is ws lacks_groups) t)) (list_all (λ (u : Tree). not (reach_is (own_window_is ws lacks_groups) u)) ts) k.1 in
-    let z = and_parts (not (reach_is (own_window_is ws (lacks_range_key cs)) t)) (list_all (λ (u : Tree). not (reach_is (own_window_is ws (lacks_range_key cs)) u)) ts) k.2 in
+    → windows.AreTyped (row_of cs c b) (group_cells cs c b) ws → list_all (is_clear Windowed (sees_row cs c b)) ts ≡ true
+    → list_all (λ (t : Tree). not (lacks_frame ws cs t)) ts ≡ true → are_windows (group_cells cs c b) (own_windows (row_of cs c b) ws ts) ≡ true
+owns_typed cs c b ws [] a e k = refl
+owns_typed cs c b ws (t ∷ ts) a e k =
+    let p = and_parts _ _ e in
+    let x = and_parts _ _ k in
     list_all-append (is_window (group_cells cs c b)) (made.own_window (row_of cs c b) ws t) (own_windows (row_of cs c b) ws ts)
-    ∙ and_from (are_windows (group_cells cs c b) (made.own_window (row_of cs c b) ws t)) (are_windows (group_cells cs c b) (own_windows (row_of cs c b) ws ts))
-    (own_typed cs c b ws t a p.0 (no_look (sees_row cs c b) t q.0) (not-true (reach_is (own_window_is ws has_bad_frame) t) x.0) (not-true (reach_is (own_window_is ws lacks_groups) t) y.0) (not-true (reach_is (own_window_is ws (lacks_range_key cs)) t) z.0))
-    (owns_typed cs c b ws ts a p.1 q.1 (x.1, y.1, z.1))
+    ∙ and_from _ _
+    (own_typed cs c b ws t a p.0 (not-true _ x.0)) (owns_typed cs c b ws ts a p.1 x.1)
 
 pub windows_typed : (cs : List Titled) (c : Clauses) (b : Bool) → rules.Kept cs c → rows.Shown cs c b
     → are_windows (group_cells cs c b) (windows_made (row_of cs c b) (windows_of c) (window_calls c)) ≡ true
 windows_typed cs c b k s =
     let ws = windows_of c in let l = row_of cs c b in let ts = group_cells cs c b in
-    let a = windows.entries_typed l ts [] c.windows tt (rows.fit_entries cs c b k s) k.entries in
-    let x = or_parts (list_any (entry_is has_bad_frame) ws) (some_anywhere cs c (finds (reach_is (own_window_is ws has_bad_frame)))) k.bounds in
-    let y = or_parts (list_any (entry_is lacks_groups) ws) (some_anywhere cs c (finds (reach_is (own_window_is ws lacks_groups)))) k.groups in
-    let z = or_parts (list_any (entry_is (lacks_range_key cs)) ws) (some_anywhere cs c (finds (reach_is (own_window_is ws (lacks_range_key cs))))) k.ranges in
+    let a = windows.entries_typed l ts c.windows (rows.fit_entries cs c b k s) k.entries in
+    let x = or_parts _ _ k.bounds in
+    let y = or_parts _ _ k.groups in
+    let z = or_parts _ _ k.ranges in
     list_all-append (is_window ts) (entries_made l ws) (own_windows l ws (window_calls c))
-    ∙ and_from (are_windows ts (entries_made l ws)) (are_windows ts (own_windows l ws (window_calls c))) (windows.named_windows l ts ws a x.0 y.0 z.0)
-    (owns_typed cs c b ws (window_calls c) a (rows.are_window_calls cs c b s) (rows.window_rows cs c b s)
-    (rows.windows_without cs c (reach_is (own_window_is ws has_bad_frame)) x.1, rows.windows_without cs c (reach_is (own_window_is ws lacks_groups)) y.1, rows.windows_without cs c (reach_is (own_window_is ws (lacks_range_key cs))) z.1))
+    ∙ and_from _ _ (windows.named_windows l ts ws a x.0 y.0 z.0)
+    (owns_typed cs c b ws (window_calls c) a (rows.window_rows cs c b s) (rows.windows_without cs c (lacks_frame ws cs)
+    (all_nowhere cs c (reach_is (own_window_is ws has_bad_frame)) (reach_is (own_window_is ws lacks_groups) ∷ reach_is (own_window_is ws (lacks_range_key cs)) ∷ []) (x.1, (y.1, z.1)))))
 
 pub over_typed : (cs : List Titled) (c : Clauses) (b : Bool) → rows.Shown cs c b
     → call_types (group_cells cs c b)
     (calls_made (row_of cs c b) (windows_of c) (length (windows_of c)) (window_calls c)) ≡ Some (map (type_of cs) (window_calls c))
 over_typed cs c b s =
-    calls_typed cs c b (windows_of c) (length (windows_of c)) (window_calls c) (rows.are_window_calls cs c b s) (rows.window_rows cs c b s)
+    calls_typed cs c b (windows_of c) (length (windows_of c)) (window_calls c) (rows.window_rows cs c b s)

@@ -5,7 +5,6 @@ use Rattle.std.specs.List.{enumerate_from, list_all, list_any, position_or_len}
 use Rattle.std.specs.Str.{bytes_eq, is_utf8}
 use Rattle.std.proofs.Math.Numerals.{one-add}
 use Rattle.std.proofs.lemmas.Bool.{and_parts, and_from, or_parts}
-use Rattle.std.proofs.lemmas.Slice.Eq.{bytes_eq-Decides}
 use Rattle.csv.specs.Reading.{default_config, records, strip_bom}
 use Rattle.wvalues.specs.Meaning.{Meaning, Null}
 use Rattle.wvalues.specs.Names.{NameParts}
@@ -17,12 +16,12 @@ use Rattle.wsegment.specs.Outcome.{◌>>=◌}
 use Rattle.wsegment.specs.Rows.{rows_of, rows_of_records, rows_under}
 use Rattle.wsegment.specs.Spelling.{repeats_name}
 use Rattle.wsegment.specs.declared.fault.SegmentFault.{SegmentFault}
-use Rattle.wsegment.specs.declared.fault.SegmentFault.TheVariants as faults
 use Rattle.wsegment.specs.declared.kind.Kind.{Kind}
 use Rattle.wsegment.specs.declared.kind.Kind.TheVariants as kinds
 use Rattle.wset.specs.Tables.{TableRow, content_rows, rows_or_none, segment_rows, table_of}
 use Rattle.wset.specs.Views.{View, lives}
 use Rattle.wscope.specs.declared.data_type.DataType.{DataType}
+use Rattle.wscope.proofs.Grouped.{name_sym}
 use Rattle.wscope.specs.Sources.{declared_columns, kind_type}
 use Rattle.wtable.specs.Tables.{rows_of_view}
 use Rattle.wtyped.specs.Exact.{are_of, is_of}
@@ -36,9 +35,14 @@ then_read : {A B : Type 0} (r : Result A SegmentFault) (f : A → Result B Segme
 then_read (Ok x) f P Q h step = step x h
 then_read (Err fault) f P Q h step = tt
 
+-- and where the answer is one of two
+either_read : {A : Type 0} (b : Bool) (r s : Result A SegmentFault) (P : A → Type 0) → IfOk r P → IfOk s P → IfOk (if b then r else s) P
+either_read true r s P h g = h
+either_read false r s P h g = g
+
 -- cells
 
-null_of : (k : Kind) → is_of (kind_type k) Null ≡ true
+pub null_of : (k : Kind) → is_of (kind_type k) Null ≡ true
 null_of kinds.Integer = refl
 null_of kinds.Text = refl
 
@@ -55,12 +59,8 @@ field_typed row kinds.Integer text = number_typed row (integer_of text)
 
 cell_typed : (row : ℕ) (k : Kind) (field : List ℕ) → IfOk (cell_of row k field) (OfKind k)
 unfolding cell_of
-cell_typed row k field = go (is_utf8 field) (length field == 0)
-  where
-    go : (b c : Bool) → IfOk (if b then (if c then Ok Null else typed row k field) else Err (faults.RowNotUtf8 row)) (OfKind k)
-    go true true = null_of k
-    go true false = field_typed row k field
-    go false c = tt
+cell_typed row k field =
+    either_read (is_utf8 field) _ _ (OfKind k) (either_read (length field == 0) _ _ (OfKind k) (null_of k) (field_typed row k field)) tt
 
 -- cells under the columns of a header; there may be fewer
 abbrev are_under : List Described → List Meaning → Bool
@@ -92,11 +92,7 @@ cells_under row (h ∷ hs) (f ∷ fs) =
 
 row_under : (row : ℕ) (header : List Described) (fields : List (List ℕ)) → IfOk (row_of row (kinds_of header) fields) (Under header)
 unfolding row_of
-row_under row header fields = go (length fields == length (kinds_of header))
-  where
-    go : (b : Bool) → IfOk (if b then cells_of row (kinds_of header) fields else Err (faults.RowLength row)) (Under header)
-    go true = cells_under row header fields
-    go false = tt
+row_under row header fields = either_read (length fields == length (kinds_of header)) _ _ (Under header) (cells_under row header fields) tt
 
 abbrev AllUnder : List Described → List (List Meaning) → Type 0
 AllUnder header rows = list_all (are_under header) rows ≡ true
@@ -104,15 +100,11 @@ AllUnder header rows = list_all (are_under header) rows ≡ true
 rows_typed : (header : List Described) (row : ℕ) (rs : List (List (List ℕ))) → IfOk (rows_from (kinds_of header) row rs) (AllUnder header)
 unfolding rows_from
 rows_typed header row [] = refl
-rows_typed header row (r ∷ rs) = go (nat_lt 1000000 row) (rows_typed header (row + 1) rs)
-  where
-    go : (b : Bool) → IfOk (rows_from (kinds_of header) (row + 1) rs) (AllUnder header)
-        → IfOk (if b then Err faults.TooManyRows else (row_of row (kinds_of header) r >>= λ x. rows_from (kinds_of header) (row + 1) rs >>= λ xs. Ok (x ∷ xs))) (AllUnder header)
-    go true rest = tt
-    go false rest =
-        then_read (row_of row (kinds_of header) r) (λ x. rows_from (kinds_of header) (row + 1) rs >>= λ xs. Ok (x ∷ xs)) (Under header) (AllUnder header) (row_under row header r)
-        (λ x first. then_read (rows_from (kinds_of header) (row + 1) rs) (λ xs. Ok (x ∷ xs)) (AllUnder header) (AllUnder header) rest
-        (λ xs others. and_from (are_under header x) (list_all (are_under header) xs) first others))
+rows_typed header row (r ∷ rs) =
+    either_read (nat_lt 1000000 row) _ _ (AllUnder header) tt
+    (then_read (row_of row (kinds_of header) r) (λ x. rows_from (kinds_of header) (row + 1) rs >>= λ xs. Ok (x ∷ xs)) (Under header) (AllUnder header) (row_under row header r)
+    (λ x first. then_read (rows_from (kinds_of header) (row + 1) rs) (λ xs. Ok (x ∷ xs)) (AllUnder header) (AllUnder header) (rows_typed header (row + 1) rs)
+    (λ xs others. and_from _ _ first others)))
 
 -- columns by name
 
@@ -124,11 +116,8 @@ no_other : (name : List ℕ) (cs : List Described) (h : Described) → list_any 
     → bytes_eq h.name name ≡ false
 no_other name [] h e i = elim i [ ]
 no_other name (c ∷ cs) h e (inl is) =
-    ap (λ (d : Described). bytes_eq d.name name) is ∙ (or_parts (bytes_eq c.name name) (list_any (λ other. bytes_eq other.name name) cs) e).0
-no_other name (c ∷ cs) h e (inr i) = no_other name cs h (or_parts (bytes_eq c.name name) (list_any (λ other. bytes_eq other.name name) cs) e).1 i
-
-turned : (a b : List ℕ) → bytes_eq a b ≡ true → bytes_eq b a ≡ true
-turned a b e = (bytes_eq-Decides b a).1 (sym ((bytes_eq-Decides a b).0 e))
+    ap (λ (d : Described). bytes_eq d.name name) is ∙ (or_parts _ _ e).0
+no_other name (c ∷ cs) h e (inr i) = no_other name cs h (or_parts _ _ e).1 i
 
 -- two columns of one name are one
 one_kind : (cs : List Described) (c h : Described) → repeats_name cs ≡ false → IsIn c cs → IsIn h cs → bytes_eq h.name c.name ≡ true
@@ -136,13 +125,13 @@ one_kind : (cs : List Described) (c h : Described) → repeats_name cs ≡ false
 one_kind [] c h e i j same = elim i [ ]
 one_kind (x ∷ xs) c h e (inl is) (inl at) same = ap (λ (d : Described). d.kind) (at ∙ sym is)
 one_kind (x ∷ xs) c h e (inl is) (inr j) same =
-    let p = or_parts (list_any (λ other. bytes_eq other.name x.name) xs) (repeats_name xs) e in
+    let p = or_parts _ _ e in
     absurd (true≢false (sym same ∙ ap (λ (d : Described). bytes_eq h.name d.name) is ∙ no_other x.name xs h p.0 j))
 one_kind (x ∷ xs) c h e (inr i) (inl at) same =
-    let p = or_parts (list_any (λ other. bytes_eq other.name x.name) xs) (repeats_name xs) e in
-    absurd (true≢false (sym (turned h.name c.name same) ∙ ap (λ (d : Described). bytes_eq c.name d.name) at ∙ no_other x.name xs c p.0 i))
+    let p = or_parts _ _ e in
+    absurd (true≢false (sym (name_sym c.name h.name ∙ same) ∙ ap (λ (d : Described). bytes_eq c.name d.name) at ∙ no_other x.name xs c p.0 i))
 one_kind (x ∷ xs) c h e (inr i) (inr j) same =
-    one_kind xs c h (or_parts (list_any (λ other. bytes_eq other.name x.name) xs) (repeats_name xs) e).1 i j same
+    one_kind xs c h (or_parts _ _ e).1 i j same
 
 -- the columns of a header are the table's
 
@@ -160,19 +149,13 @@ found_in name (c ∷ cs) h e = go (bytes_eq c.name name) e (found_in name cs h)
 fresh_in : (columns earlier : List Described) (o : Option Described) → ((h : Described) → o ≡ Some h → IsIn h columns)
     → IfOk (fresh earlier o) (λ c. IsIn c columns)
 fresh_in columns earlier None all = tt
-fresh_in columns earlier (Some c) all = go (list_any (λ other. bytes_eq other.name c.name) earlier)
-  where
-    go : (b : Bool) → IfOk (if b then Err faults.RepeatedColumn else Ok c) (λ x. IsIn x columns)
-    go true = tt
-    go false = all c refl
+fresh_in columns earlier (Some c) all =
+    either_read (list_any (λ other. bytes_eq other.name c.name) earlier) _ (Ok c) (λ x. IsIn x columns) tt (all c refl)
 
 named_in : (columns earlier : List Described) (field : List ℕ) → IfOk (named columns earlier field) (λ c. IsIn c columns)
 unfolding named
-named_in columns earlier field = go (is_utf8 field)
-  where
-    go : (b : Bool) → IfOk (if b then fresh earlier (column_named field columns) else Err faults.HeaderNotUtf8) (λ c. IsIn c columns)
-    go true = fresh_in columns earlier (column_named field columns) (found_in field columns)
-    go false = tt
+named_in columns earlier field =
+    either_read (is_utf8 field) _ _ (λ c. IsIn c columns) (fresh_in columns earlier (column_named field columns) (found_in field columns)) tt
 
 with_one : (columns : List Described) (c : Described) (cs : List Described) → IsIn c columns → AreIn columns cs → AreIn columns (c ∷ cs)
 with_one columns c cs first rest h (inl is) = subst (λ (d : Described). IsIn d columns) (sym is) first
@@ -224,7 +207,7 @@ row_in_order : (cs header : List Described) (cells : List Meaning) → ((c : Des
     → are_of (table_types cs) (in_table_order cs header cells) ≡ true
 row_in_order [] header cells a u = refl
 row_in_order (c ∷ cs) header cells a u =
-    and_from (is_of (kind_type c.kind) (cell_at cells (field_of header c))) (are_of (table_types cs) (in_table_order cs header cells)) (cell_in_order c header cells (a c (inl refl)) u)
+    and_from _ _ (cell_in_order c header cells (a c (inl refl)) u)
     (row_in_order cs header cells (λ d i. a d (inr i)) u)
 
 -- segments
@@ -235,14 +218,11 @@ AllOf d rows = all_of (table_types d.columns) rows ≡ true
 below_typed : (d : Declaration) (below : List (List (List ℕ))) (header : List Described) → repeats_name d.columns ≡ false → AreIn d.columns header
     → IfOk (rows_under d below header) (AllOf d)
 unfolding rows_under
-below_typed d below header e a = go (is_complete d.columns header)
-  where
-    go : (b : Bool) → IfOk (if b then (rows_from (kinds_of header) 1 below >>= λ rows. Ok (map (in_table_order d.columns header) rows)) else Err faults.MissingColumn) (AllOf d)
-    go true =
-        then_read (rows_from (kinds_of header) 1 below) (λ rows. Ok (map (in_table_order d.columns header) rows)) (AllUnder header) (AllOf d) (rows_typed header 1 below)
-        (λ rows u. mapped_all (are_under header) (are_of (table_types d.columns)) (in_table_order d.columns header) rows
-        (λ cells under. row_in_order d.columns header cells (λ c i h j same. one_kind d.columns c h e i (a h j) same) under) u)
-    go false = tt
+below_typed d below header e a =
+    either_read (is_complete d.columns header) _ _ (AllOf d)
+    (then_read (rows_from (kinds_of header) 1 below) (λ rows. Ok (map (in_table_order d.columns header) rows)) (AllUnder header) (AllOf d) (rows_typed header 1 below)
+    (λ rows u. mapped_all (are_under header) (are_of (table_types d.columns)) (in_table_order d.columns header) rows
+    (λ cells under. row_in_order d.columns header cells (λ c i h j same. one_kind d.columns c h e i (a h j) same) under) u)) tt
 
 records_typed : (d : Declaration) (rs : List (List (List ℕ))) → repeats_name d.columns ≡ false → IfOk (rows_of_records d rs) (AllOf d)
 unfolding rows_of_records
@@ -252,11 +232,8 @@ records_typed d (header ∷ below) e =
 
 segment_typed : (d : Declaration) (bytes : List ℕ) → repeats_name d.columns ≡ false → IfOk (rows_of d bytes) (AllOf d)
 unfolding rows_of
-segment_typed d bytes e = go (nat_lt 67108864 (length bytes))
-  where
-    go : (b : Bool) → IfOk (if b then Err faults.TooLong else rows_of_records d (records default_config (strip_bom bytes))) (AllOf d)
-    go true = tt
-    go false = records_typed d (records default_config (strip_bom bytes)) e
+segment_typed d bytes e =
+    either_read (nat_lt 67108864 (length bytes)) _ _ (AllOf d) tt (records_typed d (records default_config (strip_bom bytes)) e)
 
 -- the table
 
@@ -271,8 +248,8 @@ counted : (d : Declaration) (n : ℕ) (rows : List (List Meaning)) → AllOf d r
     → list_all (λ (r : ℕ × List Meaning). are_of (table_types d.columns) r.1) (enumerate_from n rows) ≡ true
 counted d n [] a = refl
 counted d n (row ∷ rows) a =
-    let h = and_parts (are_of (table_types d.columns) row) (all_of (table_types d.columns) rows) a in
-    and_from (are_of (table_types d.columns) row) (list_all (λ (r : ℕ × List Meaning). are_of (table_types d.columns) r.1) (enumerate_from (n + 1) rows)) h.0 (counted d (n + 1) rows h.1)
+    let h = and_parts _ _ a in
+    and_from _ _ h.0 (counted d (n + 1) rows h.1)
 
 live_typed : (d : Declaration) (s : NameParts × List ℕ) → repeats_name d.columns ≡ false → list_all (is_row d) (segment_rows d s) ≡ true
 live_typed d s e =

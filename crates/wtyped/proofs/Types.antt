@@ -3,7 +3,7 @@ use Rattle.std.proofs.Common.{◌≡◌, Bool, true, false, List, Option, Some, 
 use Rattle.wscope.specs.declared.data_type.DataType.{DataType}
 use Rattle.wscope.specs.declared.data_type.DataType.TheVariants.{Integer, Text, Truth, Null}
 use Rattle.wplan.specs.Formula.{Formulas, NoFormulas, MoreFormulas}
-use Rattle.wscope.specs.Types.{is_truth}
+use Rattle.wscope.specs.Types.{fits_integer, fits_text}
 use Rattle.wtyped.specs.Typing.{beside, beside_all, common, formula_type, has, is_number, judged, valued, where_holds}
 use Rattle.wtyped.proofs.Lists.{some_is}
 
@@ -39,11 +39,9 @@ parts (Some a) (Some b) c e = record { left = a; right = b; is_left = refl; is_r
 
 -- values of a type, where null is one of each
 abbrev pub fits : DataType → DataType → Bool
-fits Integer Integer = true
-fits Integer Null = true
-fits Text Text = true
-fits Text Null = true
-fits _ _ = false
+fits Integer t = fits_integer t
+fits Text t = fits_text t
+fits _ t = false
 
 abbrev pub family : DataType → DataType
 family Text = Text
@@ -55,15 +53,10 @@ number_fits Null e = refl
 number_fits Text e = absurd (true≢false (sym e))
 number_fits Truth e = absurd (true≢false (sym e))
 
-pub is_it_truth : (t : DataType) → is_truth t ≡ true → Truth ≡ t
-is_it_truth Truth e = refl
-is_it_truth _ e = absurd (true≢false (sym e))
-
 null_fits : (k t : DataType) → fits k t ≡ true → fits k Null ≡ true
 null_fits Integer t e = refl
 null_fits Text t e = refl
-null_fits Truth t e = absurd (true≢false (sym e))
-null_fits Null t e = absurd (true≢false (sym e))
+null_fits _ t e = absurd (true≢false (sym e))
 
 -- what two types have in common fits both
 pub common_fits : (k a b c : DataType) → fits k c ≡ true → common a b ≡ Some c → (fits k a ≡ true) × (fits k b ≡ true)

@@ -1,17 +1,19 @@
 -- What a look at all nodes of an expression says, where it finds nothing: of a weaker look, and of the calls in it.
-use Rattle.std.proofs.Common.{◌≡◌, Bool, true, false, not, ◌&&◌, ◌||◌, List, [], ◌∷◌, ◌++◌, refl, sym, ap, ap₂, ◌∙◌, true≢false}
+use Rattle.std.proofs.Common.{◌≡◌, Bool, true, false, not, ◌&&◌, ◌||◌, List, [], ◌∷◌, ◌++◌, Option, Some, None, refl, sym, ap, ap₂, ◌∙◌, true≢false}
 use Rattle.std.specs.Prelude.{if◌then◌else◌}
 use Rattle.std.specs.List.{list_all}
 use Rattle.std.proofs.lemmas.Bool.{or_parts, or_from, and_parts}
 use Rattle.std.proofs.lemmas.List.Folds.{list_all-append}
 use Rattle.wquery.specs.Tree.{Tree, Reach, KeyTree, own_window}
-use Rattle.wquery.specs.QueryTree.{ItemTree, AllColumns, Computed, EntryTree}
+use Rattle.wquery.specs.QueryTree.{Clauses, ItemTree, AllColumns, Computed, EntryTree}
 use Rattle.wscope.specs.declared.look.Look.{Look}
 use Rattle.wscope.specs.declared.look.Look.TheVariants.{Found, Closed, Below}
-use Rattle.wscope.specs.Scope.{is_output, some_entry, some_item, some_sort}
+use Rattle.wscope.specs.Finding.{finds}
+use Rattle.wscope.specs.Scope.{is_output, some_anywhere, some_entry, some_item, some_option, some_shown, some_sort}
 use Rattle.wscope.specs.Seeking.{found_or, seeking, some_below, some_node, some_reach}
 use Rattle.wscope.specs.Types.{Titled}
 use Rattle.wscope.proofs.Related.{Relates, related, related_below, related_reach}
+use Rattle.wtyped.proofs.Tests.{are_false}
 use Rattle.wdistinct.specs.Calls.{node_or, nodes_below, nodes_in, nodes_in_reach, picking}
 
 -- where a node and those below it are not found
@@ -91,6 +93,72 @@ sorts cs is s r w k [] = λ e f. refl
 sorts cs is s r w k (key ∷ ks) =
     either _ _ _ _ _ _ (guarded (not (is_output cs is key.expression)) _ _ _ (expression s r w k key.expression)) (sorts cs is s r w k ks)
 
+-- of WHERE or HAVING
+pub option : (s r w : Tree → Look) → Covers s r w → (t : Option Tree) → some_option s t ≡ false → some_option r t ≡ false
+    → some_option w t ≡ false
+option s r w k None = λ e f. refl
+option s r w k (Some t) = expression s r w k t
+
+-- nothing is found in the SELECT list, WINDOW, ORDER BY and HAVING
+pub record Unseen (cs : List Titled) (c : Clauses) (w : Tree → Look) : Type 0 where
+  pub items : some_item w c.items ≡ false
+  pub entries : some_entry w c.windows ≡ false
+  pub order : some_sort cs c.items w c.order ≡ false
+  pub having : some_option w c.having ≡ false
+
+-- nor in WHERE
+pub record Nowhere (cs : List Titled) (c : Clauses) (w : Tree → Look) : Type 0 where
+  pub shown : Unseen cs c w
+  pub condition : some_option w c.condition ≡ false
+
+pub unseen_in : (cs : List Titled) (c : Clauses) (w : Tree → Look) → some_shown cs c w ≡ false → some_option w c.having ≡ false
+    → Unseen cs c w
+unseen_in cs c w e h =
+    let a = are_false (some_item w c.items) (some_entry w c.windows ∷ some_sort cs c.items w c.order ∷ []) e in
+    record { items = a.0; entries = a.1.0; order = a.1.1; having = h }
+
+pub nowhere : (cs : List Titled) (c : Clauses) (w : Tree → Look) → some_anywhere cs c w ≡ false → Nowhere cs c w
+nowhere cs c w e =
+    let a = are_false (some_shown cs c w) (some_option w c.condition ∷ some_option w c.having ∷ []) e in
+    record { shown = unseen_in cs c w a.0 a.1.1; condition = a.1.0 }
+
+pub unseen : {cs : List Titled} {c : Clauses} {s r w : Tree → Look} → Covers s r w → Unseen cs c s → Unseen cs c r → Unseen cs c w
+unseen {cs = cs} {c = c} {s = s} {r = r} {w = w} k a b = record {
+  items = items s r w k c.items a.items b.items;
+  entries = entries s r w k c.windows a.entries b.entries;
+  order = sorts cs c.items s r w k c.order a.order b.order;
+  having = option s r w k c.having a.having b.having;
+}
+
+find_either : (x y : Bool) → covers (if x then Found else Below) (if y then Found else Below) (if (x || y) then Found else Below) ≡ true
+find_either true y = refl
+find_either false true = refl
+find_either false false = refl
+
+-- two tests find what one or the other does
+pub either_test : (p q : Tree → Bool) → Covers (finds p) (finds q) (finds (λ n. p n || q n))
+either_test p q n = find_either (p n) (q n)
+
+pub both_nowhere : {cs : List Titled} {c : Clauses} (p q : Tree → Bool) → Nowhere cs c (finds p) → Nowhere cs c (finds q)
+    → Nowhere cs c (finds (λ n. p n || q n))
+both_nowhere {c = c} p q a b =
+    let k = either_test p q in
+    record { shown = unseen k a.shown b.shown; condition = option (finds p) (finds q) _ k c.condition a.condition b.condition }
+
+-- one of these tests
+abbrev pub some_of : (Tree → Bool) → List (Tree → Bool) → Tree → Bool
+some_of p [] n = p n
+some_of p (q ∷ qs) n = p n || some_of q qs n
+
+abbrev pub AreNowhere : List Titled → Clauses → (Tree → Bool) → List (Tree → Bool) → Type 0
+AreNowhere cs c p [] = some_anywhere cs c (finds p) ≡ false
+AreNowhere cs c p (q ∷ qs) = (some_anywhere cs c (finds p) ≡ false) × AreNowhere cs c q qs
+
+pub all_nowhere : (cs : List Titled) (c : Clauses) (p : Tree → Bool) (qs : List (Tree → Bool)) → AreNowhere cs c p qs
+    → Nowhere cs c (finds (some_of p qs))
+all_nowhere cs c p [] a = nowhere cs c (finds p) a
+all_nowhere cs c p (q ∷ qs) a = both_nowhere p (some_of q qs) (nowhere cs c (finds p) a.0) (all_nowhere cs c q qs a.1)
+
 -- the nodes that are listed
 
 both : (p : Tree → Bool) (x y : Bool) (xs ys : List Tree) → (x ≡ false → list_all p xs ≡ true) → (y ≡ false → list_all p ys ≡ true)
@@ -137,9 +205,7 @@ listed_window s w K h c o = related_reach _ (seeking w) (picking s) (picking s) 
 
 -- a look at the nodes of a list: one that does not pass is found, and below one that passes nothing is looked for
 abbrev pub unless_passed : Bool → Bool → Look
-unless_passed true true = Closed
-unless_passed true false = Found
-unless_passed false passes = Below
+unless_passed b passes = if b then (if passes then Closed else Found) else Below
 
 abbrev pub sees_failed : (Tree → Bool) → (Tree → Bool) → Tree → Look
 sees_failed s K n = unless_passed (s n) (K n)
@@ -147,7 +213,7 @@ sees_failed s K n = unless_passed (s n) (K n)
 none : (K : Tree → Bool) (x y : Bool) (xs ys : List Tree) → (list_all K xs ≡ true → x ≡ false) → (list_all K ys ≡ true → y ≡ false)
     → list_all K (xs ++ ys) ≡ true → (x || y) ≡ false
 none K x y xs ys first second e =
-    let parts = and_parts (list_all K xs) (list_all K ys) (sym (list_all-append K xs ys) ∙ e) in or_from x y (first parts.0) (second parts.1)
+    let parts = and_parts _ _ (sym (list_all-append K xs ys) ∙ e) in or_from x y (first parts.0) (second parts.1)
 
 passed : (s K : Tree → Bool) (t : Tree) → (list_all K (nodes_below s t) ≡ true → some_below (sees_failed s K) t ≡ false)
     → list_all K (nodes_in s t) ≡ true → some_node (sees_failed s K) t ≡ false
@@ -156,7 +222,7 @@ passed s K t rest e = go (s t) (K t) refl refl e
     go : (b k : Bool) → s t ≡ b → K t ≡ k → list_all K (node_or b t (nodes_below s t)) ≡ true
         → found_or (unless_passed b k) (some_below (sees_failed s K) t) ≡ false
     go true true sought is f = refl
-    go true false sought is f = absurd (true≢false (sym (and_parts (K t) true f).0 ∙ is))
+    go true false sought is f = absurd (true≢false (sym (and_parts _ _ f).0 ∙ is))
     go false k sought is f = rest f
 
 all_passed : (s K : Tree → Bool) → Relates (λ xs x y. list_all K xs ≡ true → x ≡ false) (picking s) (seeking (sees_failed s K)) (seeking (sees_failed s K))

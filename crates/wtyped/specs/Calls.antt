@@ -4,9 +4,9 @@ use Rattle.std.specs.Prelude.{◌≡◌, ℕ, true, List}
 use Rattle.wquery.specs.Tree.{Tree}
 use Rattle.wsame.specs.Sameness.{is_same}
 use Rattle.wscope.specs.Windows.{NamedWindow}
-use Rattle.wsettle.specs.Functions.{call_function}
-use Rattle.wsettle.specs.Groups.{group_call_made}
-use Rattle.wsettle.specs.Resolving.{Layout, resolved}
+use Rattle.wbinding.specs.Functions.{call_function}
+use Rattle.wbinding.specs.Groups.{group_call_made}
+use Rattle.wbinding.specs.Resolving.{Layout, resolved}
 use Rattle.wresolve.specs.Selecting.{own_window, place_over}
 
 -- over a row, these WINDOW entries, and the place that the next window of a call's own has

@@ -12,7 +12,7 @@ use Rattle.wscope.specs.declared.data_type.DataType.TheVariants.{Integer, Text, 
 use Rattle.wgroupby.specs.Sets.{is_among}
 use Rattle.wplan.specs.declared.resolved.AggregateFunction.{AggregateFunction}
 use Rattle.wplan.specs.declared.resolved.AggregateFunction.TheVariants.{CountRows, Count, Sum, Min, Max}
-use Rattle.wplan.specs.declared.resolved.SettledFrame.{SettledFrame}
+use Rattle.wplan.specs.declared.resolved.ResolvedFrame.{ResolvedFrame}
 use Rattle.wplan.specs.Formula.{Formula}
 use Rattle.wplan.specs.Plans.{AggregatePlan, GroupCallPlan, GroupAggregate, GroupingOf, GroupingPlan, KeyPlan, WindowPlan, FunctionPlan, RowNumber, Rank, DenseRank, Tile, Lag, Lead, FirstValue, LastValue, NthValue, Aggregated, CallPlan, OutputPlan, SelectPlan}
 use Rattle.wsame.specs.Bounds.{place_of_bound}
@@ -119,7 +119,7 @@ suits_keys ts ks Rows offset = true
 suits_keys ts ks Groups offset = has_keys ks
 suits_keys ts ks Range offset = not offset || is_one_number ts ks
 
-abbrev pub is_frame : List DataType → List KeyPlan → SettledFrame → Bool
+abbrev pub is_frame : List DataType → List KeyPlan → ResolvedFrame → Bool
 is_frame ts ks f = are_bounds f.start f.end && suits_keys ts ks f.mode (has_offset f.start || has_offset f.end)
 
 abbrev pub is_window : List DataType → WindowPlan → Bool

@@ -15,9 +15,9 @@ use Rattle.wscope.specs.Functions.{function_of}
 use Rattle.wscope.specs.Seeking.{Findings, found, found_reach}
 use Rattle.wscope.specs.Sources.{ShownItem, origin_of, written_out}
 use Rattle.wscope.specs.Types.{Origin, Titled, place_named}
-use Rattle.wscope.specs.Windows.{NamedWindow, Settled, settle_all, settle_tree, window_named}
+use Rattle.wscope.specs.Windows.{NamedWindow, Expanded, expand_all, expand_tree, window_named}
 use Rattle.wplan.specs.Formula.{Formula}
-use Rattle.wsettle.specs.Resolving.{Layout}
+use Rattle.wbinding.specs.Resolving.{Layout}
 use Rattle.wresolve.specs.Selecting.{key_shown, shown_formula}
 use Rattle.wrules.specs.Rules.{first_broken_rule}
 
@@ -105,10 +105,10 @@ abbrev pub is_none : Keys → Bool
 is_none NoKeys = true
 is_none (MoreKeys t descending nulls more) = false
 
-abbrev pub goes_with : Settled → Trees → Keys → Bool
+abbrev pub goes_with : Expanded → Trees → Keys → Bool
 goes_with w partition order = are_none partition && (not (is_some w.frame) && (if is_none order then true else is_none w.order))
 
-abbrev pub copies : Option Settled → Trees → Keys → Bool
+abbrev pub copies : Option Expanded → Trees → Keys → Bool
 copies None partition order = false
 copies (Some w) partition order = goes_with w partition order
 
@@ -154,7 +154,7 @@ abbrev pub AreEntries : List NamedWindow → List EntryTree → Type 0
 AreEntries earlier [] = Unit {0}
 AreEntries earlier (e ∷ es) =
     (is_some (window_named earlier e.name) ≡ false) × (is_known_window earlier (own_window e.window) ≡ true)
-    × AreEntries (earlier ++ (record { name = e.name; window = settle_tree earlier e.window } ∷ [])) es
+    × AreEntries (earlier ++ (record { name = e.name; window = expand_tree earlier e.window } ∷ [])) es
 
 -- keys of ORDER BY
 
@@ -207,7 +207,7 @@ pub record DenotesClauses (o : Origin) (ws : List NamedWindow) (c : Clauses) : T
 abbrev mutual
   -- a whole query; FROM names the declared table
   pub DenotesQuery : Declaration → QueryTree → Type 0
-  DenotesQuery d (Selected c s) = DenotesClauses (origin_of d s) (settle_all [] c.windows) c × DenotesSource d s
+  DenotesQuery d (Selected c s) = DenotesClauses (origin_of d s) (expand_all [] c.windows) c × DenotesSource d s
 
   pub DenotesSource : Declaration → SourceTree → Type 0
   DenotesSource d (FromTable name alias) = bytes_eq name d.table ≡ true

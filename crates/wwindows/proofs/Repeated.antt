@@ -4,12 +4,11 @@ use Rattle.std.proofs.Math.Dec.{eqb-suc-suc, eqb-zero-suc}
 use Rattle.std.proofs.lemmas.List.{map-append, take_more}
 use Rattle.std.proofs.lemmas.List.Folds.{list_any-append}
 use Rattle.std.proofs.lemmas.Slice.Eq.{bytes_eq-Decides}
-use Rattle.std.specs.Bool.{Decides}
 use Rattle.std.specs.List.{list_any}
 use Rattle.std.specs.Str.{bytes_eq}
 use Rattle.wquery.specs.QueryTree.{EntryTree}
 use Rattle.wscope.specs.declared.full_window.FullEntry.{FullEntry}
-use Rattle.wscope.specs.Windows.{NamedWindow, named_window, named_windows, settle_all, settle_tree}
+use Rattle.wscope.specs.Windows.{NamedWindow, named_window, named_windows, expand_all, expand_tree}
 use Rattle.wscope.specs.Indexes.{further, has_window_name, is_place, place_of, repeats}
 use Rattle.wscope.proofs.Grouped.{name_sym}
 use Rattle.wscope.proofs.Links.{or_assoc, or_false}
@@ -84,15 +83,15 @@ repeats_are passed (w ∷ ws) =
 repeats_all : (ws : List NamedWindow) → repeats [] ws ≡ among (names_of ws)
 repeats_all ws = repeats_are [] ws ∙ ap (λ (b : Bool). b || among (names_of ws)) (none_passed ws)
 
--- settling keeps names
-names_kept : (earlier : List NamedWindow) (es : List EntryTree) → names_of (settle_all earlier es) ≡ names_of earlier ++ map (λ (e : EntryTree). e.name) es
+-- expanding keeps names
+names_kept : (earlier : List NamedWindow) (es : List EntryTree) → names_of (expand_all earlier es) ≡ names_of earlier ++ map (λ (e : EntryTree). e.name) es
 names_kept earlier [] = sym (append_nil (names_of earlier))
   where
     append_nil : (ns : List (List ℕ)) → ns ++ [] ≡ ns
     append_nil [] = refl
     append_nil (n ∷ ns) = ap (λ (l : List (List ℕ)). n ∷ l) (append_nil ns)
 names_kept earlier (e ∷ es) =
-    let w : NamedWindow = record { name = e.name; window = settle_tree earlier e.window } in
+    let w : NamedWindow = record { name = e.name; window = expand_tree earlier e.window } in
     names_kept (earlier ++ w ∷ []) es ∙ ap (λ (l : List (List ℕ)). l ++ map (λ (x : EntryTree). x.name) es) (map-append (λ (v : NamedWindow). v.name) earlier (w ∷ []))
     ∙ append_assoc (names_of earlier) (e.name ∷ []) (map (λ (x : EntryTree). x.name) es)
 
@@ -104,8 +103,8 @@ entries_among : (es : List EntryTree) → among (map (λ (e : EntryTree). e.name
 entries_among [] = refl
 entries_among (e ∷ es) = ap (λ (b : Bool). b || among (map (λ (x : EntryTree). x.name) es)) (entry_named e.name es) ∙ ap (λ (b : Bool). list_any (has_entry_name e.name) es || b) (entries_among es)
 
--- the windows repeat a name where the entries do that they were settled from
-pub repeats_entries : (ws : List NamedWindow) (es : List EntryTree) → ws ≡ settle_all [] es → repeats [] ws ≡ breaks_entries es
+-- the windows repeat a name where the entries do that they were expanded from
+pub repeats_entries : (ws : List NamedWindow) (es : List EntryTree) → ws ≡ expand_all [] es → repeats [] ws ≡ breaks_entries es
 repeats_entries ws es e = repeats_all ws ∙ ap (λ (vs : List NamedWindow). among (names_of vs)) e ∙ ap among (names_kept [] es) ∙ entries_among es
 
 -- the next window

@@ -14,12 +14,12 @@ use Rattle.wscope.specs.declared.data_type.DataType.{DataType}
 use Rattle.wscope.specs.declared.data_type.DataType.TheVariants.{Text}
 use Rattle.wscope.specs.Types.{Titled, type_of}
 use Rattle.wscope.specs.Scope.{some_anywhere}
-use Rattle.wscope.specs.Windows.{NamedWindow, Settled, window_named, or_none, settle, settle_all}
+use Rattle.wscope.specs.Windows.{NamedWindow, Expanded, window_named, or_none, expand, expand_all}
 use Rattle.wscope.specs.Finding.{finds}
 
 -- the WINDOW entries with what they copy
 abbrev pub windows_of : Clauses → List NamedWindow
-windows_of c = settle_all [] c.windows
+windows_of c = expand_all [] c.windows
 
 -- this holds of a WINDOW entry, the first of which has this place, and the windows before it
 abbrev pub some_entry_after : List NamedWindow → ℕ → (List NamedWindow → WindowTree → Bool) → List EntryTree → Bool
@@ -82,16 +82,16 @@ abbrev pub breaks_copies : List NamedWindow → List Titled → Clauses → Bool
 breaks_copies ws cs c = some_entry_after ws 0 copies_badly c.windows || some_anywhere cs c (finds (reach_is (is_over_bad_copy ws)))
 
 -- this holds of the window of a call that has one of its own
-abbrev pub own_window_is : List NamedWindow → (Settled → Bool) → Reach → Bool
-own_window_is ws holds (OwnWindow copied partition order frame) = holds (settle ws copied partition order frame)
+abbrev pub own_window_is : List NamedWindow → (Expanded → Bool) → Reach → Bool
+own_window_is ws holds (OwnWindow copied partition order frame) = holds (expand ws copied partition order frame)
 own_window_is ws holds _ = false
 
 -- this holds of the window of an entry
-abbrev pub entry_is : (Settled → Bool) → NamedWindow → Bool
+abbrev pub entry_is : (Expanded → Bool) → NamedWindow → Bool
 entry_is holds w = holds w.window
 
 -- this holds of some window of the query, with what it copies, used or not
-abbrev pub some_window : List NamedWindow → List Titled → Clauses → (Settled → Bool) → Bool
+abbrev pub some_window : List NamedWindow → List Titled → Clauses → (Expanded → Bool) → Bool
 some_window ws cs c holds = list_any (entry_is holds) ws || some_anywhere cs c (finds (reach_is (own_window_is ws holds)))
 
 -- this holds of a frame clause that is there
@@ -112,7 +112,7 @@ has_bad_bounds f =
     (place_of_bound f.start == 4) || ((place_of_bound (end_of f) == 0)
     || (nat_lt (place_of_bound (end_of f)) (place_of_bound f.start) || (is_long f.start || is_long (end_of f))))
 
-abbrev pub has_bad_frame : Settled → Bool
+abbrev pub has_bad_frame : Expanded → Bool
 has_bad_frame w = in_frame w.frame has_bad_bounds
 
 -- Q22: a pair of bounds that is none, or an offset of 2^63 or more
@@ -124,7 +124,7 @@ is_groups Rows = false
 is_groups Range = false
 is_groups Groups = true
 
-abbrev pub lacks_groups : Settled → Bool
+abbrev pub lacks_groups : Expanded → Bool
 lacks_groups w = in_frame w.frame (λ f. is_groups f.mode && not (has_keys w.order))
 
 -- Q23: GROUPS in a window without ORDER BY
@@ -150,7 +150,7 @@ abbrev pub has_range_key : List Titled → Keys → Bool
 has_range_key cs (MoreKeys t descending nulls NoKeys) = not (is_text_type (type_of cs t))
 has_range_key cs _ = false
 
-abbrev pub lacks_range_key : List Titled → Settled → Bool
+abbrev pub lacks_range_key : List Titled → Expanded → Bool
 lacks_range_key cs w = in_frame w.frame (λ f. (is_range f.mode && (is_offset f.start || is_offset (end_of f))) && not (has_range_key cs w.order))
 
 -- Q24: RANGE with an offset bound in a window without exactly one key, or whose key is a text

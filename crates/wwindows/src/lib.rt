@@ -4,7 +4,7 @@
 //!   has one file in `src/` and one in `specs/`.
 //! - Promises: each walk answers whether its rule is broken by the query of a scope and its WINDOW entries with what they
 //!   copy, used or not. Each rule is one definition, judged under the premise that those before it hold.
-//! - Asks of a scope, for Q20 alone, that it is settled, as each one is that is made. A walk takes no memory, and time in
+//! - Asks of a scope, for Q20 alone, that it is expanded, as each one is that is made. A walk takes no memory, and time in
 //!   proportion to the query, where a window is found by its name, and an entry of a name that an earlier one has, in the
 //!   logarithm of their number.
 //! - Leaves the rules on names, calls and types to `wnames`, the lengths of GROUP BY's lists and the number of its sets to

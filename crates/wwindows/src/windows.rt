@@ -10,10 +10,10 @@ ghost use Rattle.wscope.specs.Earlier.{seen, windows_in};
 ghost use Rattle.wscope.specs.Finding.{finds};
 ghost use Rattle.wscope.specs.Indexes.{is_place, place_of, repeats};
 ghost use Rattle.wscope.specs.Scope.{some_anywhere};
-ghost use Rattle.wscope.specs.Scoped.{IsSettled, scope_clauses, scope_columns};
+ghost use Rattle.wscope.specs.Scoped.{IsExpanded, scope_clauses, scope_columns};
 ghost use Rattle.wscope.specs.Sources.{all_titled};
 ghost use Rattle.wscope.specs.Types.{type_of as type_in};
-ghost use Rattle.wscope.specs.Windows.{Settled, window_named, or_none, named_windows, settled_window, settle_tree, lent_frame};
+ghost use Rattle.wscope.specs.Windows.{Expanded, window_named, or_none, named_windows, expanded_window, expand_tree, lent_frame};
 ghost use Rattle.wwindows.specs.Windows.{reach_is, some_entry_after, is_unknown_window as is_no_window, copies_unknown as copies_no_window, is_over_unknown as is_over_no_window, breaks_entries, is_bad_copy as is_wrong_copy, copies_badly as is_copied_wrongly, is_over_bad_copy as is_over_wrong_copy, own_window_is, entry_is, has_keys, has_trees, some_window, breaks_window_names, breaks_copies, is_long as is_long_bound, is_offset as is_offset_bound, has_bad_bounds as are_bad_bounds, has_bad_frame, lacks_groups, is_groups, is_range, is_text_type as is_type_of_texts, has_range_key as is_range_key, lacks_range_key, breaks_bounds, breaks_groups, breaks_ranges};
 
 use wquery::{Expression, Frame, FrameBound, FrameMode, Key, Over, Window, WindowEntry};
@@ -151,7 +151,7 @@ fn repeats_names(windows: &WindowIndex, entries: &[FullEntry]) -> bool
 
 /// Q20.
 pub fn repeats_windows(scope: &Scope) -> bool
-    requires { IsSettled scope.now }
+    requires { IsExpanded scope.now }
     ensures { result ≡ breaks_entries (scope_clauses scope.now).windows }
 {
     repeats_names(&scope.windows, scope.windows.entries.as_slice())
@@ -281,17 +281,17 @@ pub fn copies_wrongly(scope: &Scope) -> bool
 
 /// A test of a window with what it copies.
 pub(crate) trait WindowTest {
-    ghost holds: { Self → Settled → Bool };
+    ghost holds: { Self → Expanded → Bool };
 
     /// Whether the rule is broken by it.
     fn is_hit(&self, window: FullWindow) -> bool
-        ensures { result ≡ holds self.now (settled_window window.entry) };
+        ensures { result ≡ holds self.now (expanded_window window.entry) };
 }
 
 fn is_window_hit<T: WindowTest>(test: &T, windows: Earlier, window: &Window) -> bool
-    ensures { result ≡ T.holds test.now (settle_tree (seen windows.entry) (view_window window.now)) }
+    ensures { result ≡ T.holds test.now (expand_tree (seen windows.entry) (view_window window.now)) }
 {
-    test.is_hit(windows.settled(window))
+    test.is_hit(windows.expanded(window))
 }
 
 /// The windows of calls that are hit.

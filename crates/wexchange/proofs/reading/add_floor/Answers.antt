@@ -1,5 +1,5 @@
 use Rattle.std.proofs.Common.{refl}
-use Rattle.wexchange.specs.declared.form.Form.TheVariants as forms
+use Rattle.wrecords.specs.declared.form.Form.TheVariants as forms
 use Rattle.wexchange.specs.declared.version.Version.TheVariants.{Two}
 use Rattle.wexchange.proofs.Faults.{adds_floor, low_name, lacks_memory}
 use Rattle.wexchange.proofs.reading.add_floor.Goals as goal

@@ -1,5 +1,5 @@
 use Rattle.std.proofs.Common.{◌∙◌, ◌++◌, ◌∷◌, inl, inr, ⊎_elim, ap, sym, subst}
-use Rattle.wexchange.specs.Forms.{IsForm, line_of}
+use Rattle.wrecords.specs.Forms.{IsForm, line_of}
 use Rattle.wexchange.specs.Judging.{AtDigest, IsFault}
 use Rattle.wexchange.proofs.Faults.{digest_goes_on, more_behind, no_place, other_digest}
 use Rattle.wexchange.proofs.WholeReads.{err_then}

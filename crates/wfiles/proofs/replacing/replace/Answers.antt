@@ -14,4 +14,4 @@ returns-in-Err-put-clause-replaces g c =
 
 pub returns-clause-replaces : goal.returns-clause-replaces
 returns-clause-replaces g c =
-    went_through _ _ (string_bytes c.in-Ok.new) _ c.settle.result _ _ _ _ c.requires.locked c.as_str.ensures.value c.in-Ok.ensures.made c.in_default.ensures.placed c.settle.ensures.unsynced c.settle.ensures.calls
+    went_through _ _ (string_bytes c.in-Ok.new) _ c.sync_folder.result _ _ _ _ c.requires.locked c.as_str.ensures.value c.in-Ok.ensures.made c.in_default.ensures.placed c.sync_folder.ensures.unsynced c.sync_folder.ensures.calls

@@ -1,4 +1,4 @@
-use Rattle.std.proofs.Common.{◌≡◌, drop, map}
+use Rattle.std.proofs.Common.{◌≡◌, drop}
 use Rattle.std.specs.List.{list_any}
 use Rattle.wquery.specs.GroupElements.{all_columns}
 use Rattle.wscope.specs.Scoped.{scope_clauses}

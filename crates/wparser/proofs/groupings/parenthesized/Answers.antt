@@ -1,4 +1,4 @@
-use Rattle.wparser.proofs.Steps.{after_got, after_missing}
+use Rattle.wexpressions.proofs.Steps.{after_got, after_missing}
 use Rattle.wparser.proofs.groupings.parenthesized.Goals as goal
 
 pub returns-in-None : goal.returns-in-None

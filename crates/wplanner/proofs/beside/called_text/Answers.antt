@@ -27,5 +27,5 @@ returns c =
     ap (λ l. beside rows (columns_of_calls answers (map call_plan l))) (sym c.deref-4.ensures.value)
     ∙ ap (λ l. beside rows (columns_of_calls (map rows_in l) (map call_plan c.deref-4.result.now))) (sym c.deref-3.ensures.value)
     ∙ ap (beside rows) (sym c.in_ok-columns.ensures) ∙ ap (λ l. beside rows (rows_seen l)) (sym c.deref-5.ensures.value) in
-    let told : columns_from rows s.calls 0 s.windows ≡ Ok answers = rw (c.deref.ensures.value, c.deref-2.ensures.value) at c.in_ok-answers.ensures.answers in
-    called_gives s c.args.places.now c.requires.reads rows answers c.in_ok-bytes.bytes.items c.requires.sound told (ap (λ l. text_in s (items_of s l)) same ∙ c.in_ok-bytes.ensures)
+    let answered : columns_from rows s.calls 0 s.windows ≡ Ok answers = rw (c.deref.ensures.value, c.deref-2.ensures.value) at c.in_ok-answers.ensures.answers in
+    called_gives s c.args.places.now c.requires.reads rows answers c.in_ok-bytes.bytes.items c.requires.sound answered (ap (λ l. text_in s (items_of s l)) same ∙ c.in_ok-bytes.ensures)

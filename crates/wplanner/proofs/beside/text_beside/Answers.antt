@@ -9,8 +9,8 @@ use Rattle.wrows.specs.Plain.{cut}
 use Rattle.wplanner.specs.Answers.{items_of}
 use Rattle.wplanner.specs.Lent.{text_in}
 use Rattle.wtable.specs.TableOrders.{by_keys}
-use Rattle.wplanner.proofs.BesideFacts.{standing_is, told_is}
-use Rattle.wtable.proofs.ColumnFacts.{some_told}
+use Rattle.wplanner.proofs.BesideFacts.{standing_is, presorted_is}
+use Rattle.wtable.proofs.ColumnFacts.{some_presorted}
 use Rattle.wplanner.proofs.beside.text_beside.Goals as goal
 
 pub returns-in-None : goal.returns-in-None
@@ -31,8 +31,8 @@ returns-in-Some c =
     let ps = c.args.places.now in
     let rows = rows_seen c.args.rows.now in
     let columns = rows_seen c.args.columns.now in
-    let told = some_told (λ (numbers : Vec ℕ Global). by_keys s.keys columns rows ≡ Ok numbers.items) c.args.told.now c.in-Some.numbers c.in-Some.is c.requires.told in
+    let presorted = some_presorted (λ (numbers : Vec ℕ Global). by_keys s.keys columns rows ≡ Ok numbers.items) c.args.presorted.now c.in-Some.numbers c.in-Some.is c.requires.presorted in
     IfOk-weaker c.picked_text.result (λ (bytes : Vec ℕ Global). bytes.items ≡ table_text (map (λ o. o.name) s.items) (map (values_at ps) (map (row_beside rows columns) (cut select.offset select.limit c.deref.result.now))))
     (λ (bytes : Vec ℕ Global). text_in s (items_of s (beside rows columns)) ≡ Ok bytes.items)
-    (λ bytes h. told_is s ps c.requires.reads rows columns c.in-Some.numbers.items bytes.items told
+    (λ bytes h. presorted_is s ps c.requires.reads rows columns c.in-Some.numbers.items bytes.items presorted
     (h ∙ ap (λ l. table_text (map (λ o. o.name) s.items) (map (values_at ps) (map (row_beside rows columns) (cut select.offset select.limit l)))) c.deref.ensures.value)) c.picked_text.ensures

@@ -7,7 +7,7 @@ use Rattle.wrows.specs.Laid.{rows_in}
 use Rattle.wrows.proofs.RowFacts.{then_refused}
 use Rattle.wplanner.specs.Parts.{TableParts}
 use Rattle.wtable.specs.Tables.{rows_of_set}
-use Rattle.wplanner.proofs.PlanFacts.{some_select, table_told, table_wide}
+use Rattle.wplanner.proofs.PlanFacts.{some_select, table_given, table_wide}
 use Rattle.wplanner.proofs.executing.query_answer.Goals as goal
 
 pub output_names-requires : goal.output_names-requires
@@ -23,4 +23,4 @@ returns-in_err-cells-clause-answer c =
     rw (p.1, p.2) (then_refused {Y = TableParts} rows_in (λ t. t) c.in_err-cells.field-0.0 _ _ c.in_err-cells.ensures.rows)
 
 pub returns-clause-answer : goal.returns-clause-answer
-returns-clause-answer c = table_told (map select_plan c.args.selects.now) (rows_of_set c.args.set.now) (rows_in c.in_ok-cells.cells) _ c.in_ok-cells.ensures.rows c.in_ok-names.ensures ∙ ap Ok (sym c.new.ensures)
+returns-clause-answer c = table_given (map select_plan c.args.selects.now) (rows_of_set c.args.set.now) (rows_in c.in_ok-cells.cells) _ c.in_ok-cells.ensures.rows c.in_ok-names.ensures ∙ ap Ok (sym c.new.ensures)

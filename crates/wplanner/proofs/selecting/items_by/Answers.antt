@@ -10,5 +10,5 @@ use Rattle.wplanner.proofs.selecting.items_by.Goals as goal
 
 pub returns-in-Some-clause-rows : goal.returns-in-Some-clause-rows
 returns-in-Some-clause-rows c =
-    let P : Result (List Row) AnswerFault → Type 0 = λ meant. Gives rows_in c.told_items_of.result meant in
-    subst P (ap (items_of (select_plan c.args.select.now)) (beside_nothing (rows_seen c.args.rows.now))) c.told_items_of.ensures.rows
+    let P : Result (List Row) AnswerFault → Type 0 = λ meant. Gives rows_in c.presorted_items_of.result meant in
+    subst P (ap (items_of (select_plan c.args.select.now)) (beside_nothing (rows_seen c.args.rows.now))) c.presorted_items_of.ensures.rows

@@ -1,14 +1,14 @@
 use Rattle.std.proofs.Common.{◌≡◌, ◌≤◌, ◌+◌, Bool, true, false, List, [], ◌∷◌, ◌++◌, cond, length, ap, ◌∙◌, arith}
 use Rattle.std.specs.List.{list_any}
 use Rattle.std.proofs.lemmas.List.{length-append}
-use Rattle.wplan.specs.declared.resolved.SettledWindow.{SettledWindow}
+use Rattle.wplan.specs.declared.resolved.ResolvedWindow.{ResolvedWindow}
 use Rattle.wplan.specs.Sameness.{is_same_order}
 use Rattle.wplanner.specs.declared.orders.KeptOrder.{KeptOrder}
 use Rattle.wplanner.specs.KeptOrders.{with_shared}
 use Rattle.wplanner.proofs.windows.answers_over.Goals as goal
 
 -- at most one order more is kept
-one_more : (later : List SettledWindow) (k : KeptOrder) (was kept now : List KeptOrder) → length kept ≤ length was → now ≡ with_shared later k kept → length now ≤ length was + cond (list_any (is_same_order k.window.now) later) 1 0
+one_more : (later : List ResolvedWindow) (k : KeptOrder) (was kept now : List KeptOrder) → length kept ≤ length was → now ≡ with_shared later k kept → length now ≤ length was + cond (list_any (is_same_order k.window.now) later) 1 0
 one_more later k was kept now h e = go (list_any (is_same_order k.window.now) later) e
   where
     go : (b : Bool) → now ≡ cond b (kept ++ (k ∷ [])) kept → length now ≤ length was + cond b 1 0

@@ -1,7 +1,7 @@
 use Rattle.std.proofs.Common.{List, ap, length, ◌∙◌}
 use Rattle.wscope.specs.Windows.{NamedWindow}
 use Rattle.wdistinct.specs.Calls.{call_trees}
-use Rattle.wsettle.specs.Resolving.{layout_of}
+use Rattle.wbinding.specs.Resolving.{layout_of}
 use Rattle.wresolve.specs.Selecting.{calls_made, windows_made}
 use Rattle.wresolve.proofs.selecting.build_called.Goals as goal
 

@@ -1,8 +1,8 @@
 use Rattle.std.proofs.Common.{◌≡◌, ◌++◌, drop, map}
 use Rattle.wplan.specs.Plans.{group_call_plan}
 use Rattle.wdistinct.specs.Calls.{call_trees}
-use Rattle.wsettle.specs.Resolving.{layout_of}
-use Rattle.wsettle.specs.Groups.{group_call_made}
+use Rattle.wbinding.specs.Resolving.{layout_of}
+use Rattle.wbinding.specs.Groups.{group_call_made}
 use Rattle.wresolve.proofs.selecting.build_group_calls.Given as goal
 
 abbrev pub invariant-calls : goal.invariant-calls

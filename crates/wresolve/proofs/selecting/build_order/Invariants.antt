@@ -2,7 +2,7 @@ use Rattle.std.proofs.Common.{◌≡◌, ◌++◌, drop, map}
 use Rattle.wquery.specs.Tree.{view_key}
 use Rattle.wplan.specs.Plans.{key_plan}
 use Rattle.wresolve.specs.Shown.{shown_items}
-use Rattle.wsettle.specs.Resolving.{layout_of}
+use Rattle.wbinding.specs.Resolving.{layout_of}
 use Rattle.wresolve.specs.Selecting.{order_made}
 use Rattle.wresolve.proofs.selecting.build_order.Given as goal
 

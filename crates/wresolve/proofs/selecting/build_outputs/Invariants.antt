@@ -1,7 +1,7 @@
 use Rattle.std.proofs.Common.{◌≡◌, ◌++◌, drop, map}
 use Rattle.wplan.specs.Plans.{output_plan}
 use Rattle.wresolve.specs.Shown.{shown_items}
-use Rattle.wsettle.specs.Resolving.{layout_of}
+use Rattle.wbinding.specs.Resolving.{layout_of}
 use Rattle.wresolve.specs.Selecting.{output_made}
 use Rattle.wresolve.proofs.selecting.build_outputs.Given as goal
 

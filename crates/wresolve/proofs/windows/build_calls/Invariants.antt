@@ -2,7 +2,7 @@ use Rattle.std.proofs.Common.{◌≡◌, ◌≤◌, ◌+◌, ◌++◌, drop, map
 use Rattle.wplan.specs.Plans.{call_plan}
 use Rattle.wscope.specs.Earlier.{windows_in}
 use Rattle.wdistinct.specs.Calls.{call_trees}
-use Rattle.wsettle.specs.Resolving.{layout_of}
+use Rattle.wbinding.specs.Resolving.{layout_of}
 use Rattle.wresolve.specs.Selecting.{calls_made}
 use Rattle.wresolve.proofs.windows.build_calls.Given as goal
 

@@ -1,7 +1,7 @@
 use Rattle.std.proofs.Common.{◌≡◌, ◌++◌, drop, map}
 use Rattle.wplan.specs.Plans.{window_plan}
 use Rattle.wscope.specs.Windows.{named_windows}
-use Rattle.wsettle.specs.Resolving.{layout_of}
+use Rattle.wbinding.specs.Resolving.{layout_of}
 use Rattle.wresolve.specs.Selecting.{entries_made}
 use Rattle.wresolve.proofs.windows.build_entries.Given as goal
 

@@ -1,7 +1,7 @@
 use Rattle.std.proofs.Common.{◌≡◌, ◌++◌, drop, map}
 use Rattle.wquery.specs.Tree.{keys, view_keys}
 use Rattle.wplan.specs.Plans.{key_plan}
-use Rattle.wsettle.specs.Resolving.{layout_of}
+use Rattle.wbinding.specs.Resolving.{layout_of}
 use Rattle.wresolve.specs.Selecting.{keys_made}
 use Rattle.wresolve.proofs.windows.build_keys.Given as goal
 

@@ -10,5 +10,5 @@ use Rattle.wrows.proofs.listing.lists.Goals as goal
 pub returns-clause-gives : goal.returns-clause-gives
 returns-clause-gives c =
     let view : Vec Value Global → List Row = λ cells. laid (length c.args.exprs.now) (length c.args.rows.now) cells.items in
-    let P : List Row → Type 0 = λ all. Gives view c.told_lists.result (lists_of (formulas_seen c.args.exprs.now) all) in
-    subst P (beside_none (rows_seen c.args.rows.now)) c.told_lists.ensures.gives
+    let P : List Row → Type 0 = λ all. Gives view c.evaluated_beside.result (lists_of (formulas_seen c.args.exprs.now) all) in
+    subst P (beside_none (rows_seen c.args.rows.now)) c.evaluated_beside.ensures.gives

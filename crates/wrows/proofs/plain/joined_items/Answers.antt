@@ -5,7 +5,7 @@ use Rattle.wrows.specs.Outcomes.{Gives}
 use Rattle.wrows.specs.Columns.{Row, beside}
 use Rattle.wrows.specs.Laid.{formula_seen, formulas_seen, rows_in, rows_seen}
 use Rattle.wrows.proofs.AllFacts.{as_they_stand}
-use Rattle.wrows.proofs.ToldFacts.{asked_is}
+use Rattle.wrows.proofs.PresortedFacts.{asked_is}
 use Rattle.wrows.proofs.plain.joined_items.Goals as goal
 
 pub returns-then-asks_for_all-clause-rows : goal.returns-then-asks_for_all-clause-rows

@@ -1,5 +1,5 @@
 use Rattle.std.proofs.Common.{◌≡◌, ◌++◌, take}
-use Rattle.wsort.specs.CodedRows.{key_column, values_seen}
+use Rattle.wcodes.specs.CodedRows.{key_column, values_seen}
 use Rattle.wruns.proofs.dealing.push_values.Given as goal
 
 -- the values so far

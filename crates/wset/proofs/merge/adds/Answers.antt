@@ -1,5 +1,5 @@
 use Rattle.std.proofs.Common.{sym, inl, inr, ⊎_elim, ◌∙◌}
-use Rattle.wset.proofs.Floors.{both_cases}
+use Rattle.wentries.proofs.Floors.{both_cases}
 use Rattle.wset.proofs.Merging.{known_told, told_known}
 use Rattle.wset.proofs.merge.adds.Goals as goal
 

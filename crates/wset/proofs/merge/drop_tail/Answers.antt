@@ -1,6 +1,6 @@
 use Rattle.std.proofs.Common.{◌≡◌, ◌<◌, ◌-◌, ◌∙◌, suc, ap, sym, length, arith, rules}
-use Rattle.wset.specs.Views.{is_above}
-use Rattle.wset.proofs.Lows.{tail_cut, tail_stays}
+use Rattle.wentries.specs.Knowledge.{is_above}
+use Rattle.wset.proofs.Tails.{tail_cut, tail_stays}
 use Rattle.wset.proofs.merge.drop_tail.Goals as goal
 
 pub returns-then-not-is_above : goal.returns-then-not-is_above

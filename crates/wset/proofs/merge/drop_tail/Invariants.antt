@@ -1,8 +1,7 @@
 use Rattle.std.proofs.Common.{◌≡◌, not, length}
 use Rattle.std.specs.List.{filter}
-use Rattle.wset.specs.Views.{Floor, is_over}
-use Rattle.wset.specs.Lending.{AreBelow}
-use Rattle.wset.specs.Entries.{IsRising, known_entries}
+use Rattle.wentries.specs.Knowledge.{Floor, is_over}
+use Rattle.wentries.specs.Entries.{AreBelow, IsRising, known_entries}
 use Rattle.wset.proofs.merge.drop_tail.Given as goal
 
 abbrev pub invariant-tail : goal.invariant-tail

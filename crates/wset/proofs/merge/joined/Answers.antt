@@ -1,5 +1,5 @@
 use Rattle.std.proofs.Common.{◌∙◌, sym, subst}
-use Rattle.wset.specs.Entries.{AllHeldBy}
+use Rattle.wentries.specs.Entries.{AllHeldBy}
 use Rattle.wset.proofs.merge.joined.Goals as goal
 
 pub returns-clause-read : goal.returns-clause-read

@@ -1,8 +1,8 @@
 use Rattle.std.proofs.Common.{sym, subst}
 use Rattle.wset.specs.Merging.{Joins}
 use Rattle.wset.proofs.Maps.{sorted_lists}
-use Rattle.wset.proofs.Lows.{held_pushed, merged_all, merged_before, merged_none, merged_step}
-use Rattle.wset.specs.Entries.{AllHeldBy}
+use Rattle.wset.proofs.Tails.{held_pushed, merged_all, merged_before, merged_none, merged_step}
+use Rattle.wentries.specs.Entries.{AllHeldBy}
 use Rattle.wset.proofs.merge.merged.Goals as goal
 
 pub returns-clause-read : goal.returns-clause-read

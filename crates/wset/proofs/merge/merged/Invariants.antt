@@ -1,8 +1,8 @@
 use Rattle.std.proofs.Common.{◌+◌, length}
 use Rattle.wsegment.specs.Declaration.{Declaration}
-use Rattle.wset.specs.Entries.{AllHeldBy, IsRising, known_entries}
+use Rattle.wentries.specs.Entries.{AllHeldBy, IsRising, known_entries}
 use Rattle.wset.specs.Merging.{join_lists}
-use Rattle.wset.proofs.Lows.{MergesOn}
+use Rattle.wset.proofs.Tails.{MergesOn}
 use Rattle.wset.proofs.merge.merged.Given as goal
 
 abbrev pub invariant-merge : goal.invariant-merge

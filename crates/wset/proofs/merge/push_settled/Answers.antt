@@ -1,5 +1,5 @@
 use Rattle.std.proofs.Common.{◌∙◌, ◌++◌, ◌∷◌, [], ap, sym}
-use Rattle.wset.proofs.Lows.{no_floor_stays}
+use Rattle.wset.proofs.Tails.{no_floor_stays}
 use Rattle.wset.proofs.merge.push_settled.Goals as goal
 
 pub returns : goal.returns

@@ -1,8 +1,8 @@
 use Rattle.std.proofs.Common.{◌∙◌, ◌+◌, drop, sym, subst}
 use Rattle.std.specs.List.{AllByRecursion}
-use Rattle.wset.specs.Blocks.{flat}
+use Rattle.wentries.specs.Blocks.{flat}
 use Rattle.wset.specs.Merging.{IsKnownTo}
-use Rattle.wset.proofs.BlockFacts.{flat_next}
+use Rattle.wentries.proofs.BlockFacts.{flat_next}
 use Rattle.wset.proofs.Merging.{all_back, all_both, all_front}
 use Rattle.wset.proofs.merge.teaches.Goals as goal
 

@@ -1,6 +1,6 @@
 use Rattle.std.proofs.Common.{drop}
 use Rattle.std.specs.List.{AllByRecursion}
-use Rattle.wset.specs.Blocks.{flat}
+use Rattle.wentries.specs.Blocks.{flat}
 use Rattle.wset.specs.Merging.{IsKnownTo}
 use Rattle.wset.proofs.merge.teaches.Given as goal
 

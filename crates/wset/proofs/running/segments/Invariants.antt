@@ -1,7 +1,7 @@
 use Rattle.std.proofs.Common.{◌≡◌, ◌++◌, length}
 use Rattle.wruns.specs.Dealing.{segment_rows}
-use Rattle.wset.specs.Blocks.{flat}
-use Rattle.wset.specs.Running.{rows_in}
+use Rattle.wentries.specs.Blocks.{flat}
+use Rattle.wentries.specs.Keeping.{rows_in}
 use Rattle.wset.proofs.running.segments.Given as goal
 
 -- those so far, and those that are left

@@ -1,7 +1,6 @@
 use Rattle.std.proofs.Common.{◌≤◌, ◌<◌, ◌^◌, ◌∙◌, ap, arith, length, subst, sym, take}
-use Rattle.wset.specs.Blocks.{flat}
-use Rattle.wset.specs.Entries.{known_entries}
-use Rattle.wset.specs.Lending.{AreBelow}
+use Rattle.wentries.specs.Blocks.{flat}
+use Rattle.wentries.specs.Entries.{known_entries, AreBelow}
 use Rattle.wset.specs.Running.{AreStarts}
 use Rattle.wset.proofs.LiveFacts.{kept_starts}
 use Rattle.wset.proofs.starts.put_counted.Goals as goal

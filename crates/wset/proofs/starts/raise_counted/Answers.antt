@@ -1,8 +1,9 @@
 use Rattle.std.proofs.Common.{arith, refl, take}
 use Rattle.std.proofs.lemmas.List.{length-take}
-use Rattle.wset.specs.Views.{Floor}
-use Rattle.wset.specs.Blocks.{flat}
-use Rattle.wset.proofs.LiveFacts.{few_before, few_starts}
+use Rattle.wentries.specs.Knowledge.{Floor}
+use Rattle.wentries.specs.Blocks.{flat}
+use Rattle.wentries.proofs.Sizes.{few_before}
+use Rattle.wset.proofs.LiveFacts.{few_starts}
 use Rattle.wset.proofs.starts.raise_counted.Goals as goal
 
 pub count_again-requires-clause-starts : goal.count_again-requires-clause-starts

@@ -1,6 +1,6 @@
 use Rattle.std.proofs.Common.{◌≡◌, Bool, true, false, Result, Err, refl, inl, inr}
-use Rattle.wexchange.specs.declared.message.PushFault.{PushFault}
-use Rattle.wexchange.specs.declared.message.PushFault.TheVariants.{Bad, NoMemory}
+use Rattle.wstream.specs.declared.message.PushFault.{PushFault}
+use Rattle.wstream.specs.declared.message.PushFault.TheVariants.{Bad, NoMemory}
 use Rattle.wstore.proofs.Handling.{on_ok_then, on_err_then}
 use Rattle.wstore.proofs.feeding.feed_node.Goals as goal
 

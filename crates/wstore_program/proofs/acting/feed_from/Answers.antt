@@ -26,9 +26,9 @@ returns-in-Some-clause-undone g c =
 pub returns-clause-done : goal.returns-clause-done
 returns-clause-done g c =
     let found : c.fill_from.new.calls.calls ≡ Found c.args.stream.now (Some (stream_of c.fill_from.new.batch)) ∷ c.args.calls.now.calls = search rules in
-    fed_whole _ _ _ _ _ _ _ _ c.deliver.result c.requires.stream found c.deliver.ensures.settles
+    fed_whole _ _ _ _ _ _ _ _ c.deliver.result c.requires.stream found c.deliver.ensures.carried_out
 
 pub returns-clause-undone : goal.returns-clause-undone
 returns-clause-undone g c =
     let found : c.fill_from.new.calls.calls ≡ Found c.args.stream.now (Some (stream_of c.fill_from.new.batch)) ∷ c.args.calls.now.calls = search rules in
-    unfed_whole _ _ _ _ _ _ _ _ c.deliver.result c.requires.stream found c.deliver.ensures.unsettled
+    unfed_whole _ _ _ _ _ _ _ _ c.deliver.result c.requires.stream found c.deliver.ensures.not_carried_out

@@ -44,14 +44,14 @@ segments-preserved c =
     let all = rows_of_set c.args.set.now in
     let before = c.segments.rows.items in
     let after = c.push_rows_numbered.new.held.items in
-    let told = c.in_ok-push_rows_numbered.ensures in
+    let pushed = c.in_ok-push_rows_numbered.ensures in
     record {
-      in_range = in_range_left (is_out_of_range t) all _ _ _ c.in-Some.ensures.steps c.segments.invariant.in_range (ok_is_false _ _ _ told.gives);
-      so_far = held_left (holds_on t) (rows_seen before) (rows_seen after) all _ _ _ c.in-Some.ensures.steps c.segments.invariant.so_far told.added;
-      numbers = numbers_left (holds_on t) (length before) (length after) c.segments.numbers.items c.push_rows_numbered.new.numbers.items all _ _ _ c.in-Some.ensures.steps c.segments.invariant.numbers told.numbered
-          (held_grown (holds_on t) (rows_seen before) (rows_seen after) _ (length before) (length after) (sym (length-map before row_seen)) (sym (length-map after row_seen)) told.added);
+      in_range = in_range_left (is_out_of_range t) all _ _ _ c.in-Some.ensures.steps c.segments.invariant.in_range (ok_is_false _ _ _ pushed.gives);
+      so_far = held_left (holds_on t) (rows_seen before) (rows_seen after) all _ _ _ c.in-Some.ensures.steps c.segments.invariant.so_far pushed.added;
+      numbers = numbers_left (holds_on t) (length before) (length after) c.segments.numbers.items c.push_rows_numbered.new.numbers.items all _ _ _ c.in-Some.ensures.steps c.segments.invariant.numbers pushed.numbered
+          (held_grown (holds_on t) (rows_seen before) (rows_seen after) _ (length before) (length after) (sym (length-map before row_seen)) (sym (length-map after row_seen)) pushed.added);
       starts = starts_left (length c.segments.numbers.items) (length c.push_rows_numbered.new.numbers.items) c.segments.starts.items _ (starts_from 0 (live_rows c.args.set.now)) _ _ _ c.in-Some.ensures.steps c.segments.invariant.starts (c.in_ok-push.ensures.items ∙ ap (λ n. c.segments.starts.items ++ n ∷ []) (c.len.ensures ∙ c.segments.numbers.ok.0))
-          (numbered_grown (holds_on t) c.segments.numbers.items c.push_rows_numbered.new.numbers.items (length before) _ told.numbered);
+          (numbered_grown (holds_on t) c.segments.numbers.items c.push_rows_numbered.new.numbers.items (length before) _ pushed.numbered);
     }
 
 pub returns-clause-rows : goal.returns-clause-rows

@@ -6,7 +6,7 @@ use Rattle.wruns.specs.Refs.{refs_by}
 use Rattle.wruns.specs.Runs.{joined}
 use Rattle.wset.specs.Running.{live_rows}
 use Rattle.wtable.specs.TableOrders.{AreColumns, by_keys}
-use Rattle.wtable.proofs.ColumnFacts.{keys_told, order_had, some_told}
+use Rattle.wtable.proofs.ColumnFacts.{keys_given, order_had, some_presorted}
 use Rattle.wtable.proofs.LiveFacts.{live_wide}
 use Rattle.wtable.proofs.orders.key_order.Goals as goal
 
@@ -19,6 +19,6 @@ returns-clause-order c = λ columns.
     let wide : w ≡ length s.schema.columns = ap length (c.columns-width.ensures.columns ∙ ap (λ d. d.columns) c.schema.ensures.schema) in
     let are : AreColumns w (map (λ (k : KeyPlan). k.value) plans) (map (λ (k : KeyPlan). k.order) plans) keys =
     subst (λ l. AreColumns w (map (λ (k : KeyPlan). k.value) (map key_plan l)) (map (λ (k : KeyPlan). k.order) (map key_plan l)) keys) c.deref.ensures.value
-    (some_told (λ (k : Vec SortKey Global). AreColumns w (map (λ (k : KeyPlan). k.value) (map key_plan c.deref.result.now)) (map (λ (k : KeyPlan). k.order) (map key_plan c.deref.result.now)) k.items) c.in_ok-found.found c.in-Some.keys c.in-Some.is c.in_ok-found.ensures) in
-    order_had w (live_rows s) (by_keys plans columns) keys c.in_ok-rows.rows.items c.kept_rows_stay_in_order.ensures (subst (λ n. AllByRecursion (λ row. length row ≡ n) (joined (live_rows s))) (sym wide) (live_wide s)) (keys_told w plans keys are columns)
+    (some_presorted (λ (k : Vec SortKey Global). AreColumns w (map (λ (k : KeyPlan). k.value) (map key_plan c.deref.result.now)) (map (λ (k : KeyPlan). k.order) (map key_plan c.deref.result.now)) k.items) c.in_ok-found.found c.in-Some.keys c.in-Some.is c.in_ok-found.ensures) in
+    order_had w (live_rows s) (by_keys plans columns) keys c.in_ok-rows.rows.items c.kept_rows_stay_in_order.ensures (subst (λ n. AllByRecursion (λ row. length row ≡ n) (joined (live_rows s))) (sym wide) (live_wide s)) (keys_given w plans keys are columns)
     (c.in_ok-rows.ensures.list ∙ ap (λ k. refs_by k (live_rows s)) c.deref-2.ensures.value)

@@ -5,7 +5,7 @@ use Rattle.wplan.specs.Plans.{KeyPlan, key_plan, window_plan}
 use Rattle.wrows.specs.Sorting.{ascending}
 use Rattle.wruns.specs.Runs.{run_of}
 use Rattle.wtable.specs.TableOrders.{AreColumns}
-use Rattle.wtable.proofs.ColumnFacts.{some_told, window_told}
+use Rattle.wtable.proofs.ColumnFacts.{some_presorted, window_presorted}
 use Rattle.wtable.proofs.orders.window_columns.Goals as goal
 
 pub returns : goal.returns
@@ -14,9 +14,9 @@ returns c = λ rows.
     let plan = window_plan c.args.window.now in
     let first : AreColumns w plan.partition (ascending plan.partition) c.in-Some.keys.items =
     subst (λ l. AreColumns w (map formula l) (ascending (map formula l)) c.in-Some.keys.items) c.deref.ensures.value
-    (some_told (λ (k : Vec SortKey Global). AreColumns w (map formula c.deref.result.now) (ascending (map formula c.deref.result.now)) k.items) c.in_ok-partition.partition c.in-Some.keys c.in-Some.is c.in_ok-partition.ensures) in
+    (some_presorted (λ (k : Vec SortKey Global). AreColumns w (map formula c.deref.result.now) (ascending (map formula c.deref.result.now)) k.items) c.in_ok-partition.partition c.in-Some.keys c.in-Some.is c.in_ok-partition.ensures) in
     let then : AreColumns w (map (λ (k : KeyPlan). k.value) plan.keys) (map (λ (k : KeyPlan). k.order) plan.keys) c.in-Some-others.others.items =
     subst (λ l. AreColumns w (map (λ (k : KeyPlan). k.value) (map key_plan l)) (map (λ (k : KeyPlan). k.order) (map key_plan l)) c.in-Some-others.others.items) c.deref-2.ensures.value
-    (some_told (λ (k : Vec SortKey Global). AreColumns w (map (λ (k : KeyPlan). k.value) (map key_plan c.deref-2.result.now)) (map (λ (k : KeyPlan). k.order) (map key_plan c.deref-2.result.now)) k.items) c.in_ok-others.others c.in-Some-others.others c.in-Some-others.is c.in_ok-others.ensures) in
-    window_told w plan c.in-Some.keys.items c.in-Some-others.others.items first then c.runs_order_windows.ensures rows
+    (some_presorted (λ (k : Vec SortKey Global). AreColumns w (map (λ (k : KeyPlan). k.value) (map key_plan c.deref-2.result.now)) (map (λ (k : KeyPlan). k.order) (map key_plan c.deref-2.result.now)) k.items) c.in_ok-others.others c.in-Some-others.others c.in-Some-others.is c.in_ok-others.ensures) in
+    window_presorted w plan c.in-Some.keys.items c.in-Some-others.others.items first then c.runs_order_windows.ensures rows
     ∙ ap (λ l. Ok (run_of l rows)) (sym (c.in_ok-extend_from_slice.ensures.items ∙ ap (λ l. c.in-Some.keys.items ++ l) c.deref-3.ensures.value))

@@ -5,12 +5,12 @@ use Rattle.wtable.proofs.source.push_rows.Goals as goal
 
 pub loop-row-preserved : goal.loop-row-preserved
 loop-row-preserved c =
-    let told = c.in_ok-segment.segment.now.rows in
+    let stored = c.in_ok-segment.segment.now.rows in
     let old = rows_seen c.args.rows.now.items in
     let i = c.loop-row.row in
-    let within : i < length told = omega (arith, c.loop-row-test.true, c.rows-row-end.ensures.count) in
+    let within : i < length stored = omega (arith, c.loop-row-test.true, c.rows-row-end.ensures.count) in
     ap rows_seen c.in_ok-push.ensures.items ∙ map-append row_seen c.loop-row.rows.items (_ ∷ [])
     ∙ ap (λ l. l ++ row_seen c.row.result ∷ []) c.loop-row.invariant
-    ∙ append_assoc old (take i told) (row_seen c.row.result ∷ [])
-    ∙ ap (λ x. old ++ (take i told ++ x ∷ [])) c.row.ensures.values
-    ∙ ap (λ l. old ++ l) (sym (take_more told i [] within))
+    ∙ append_assoc old (take i stored) (row_seen c.row.result ∷ [])
+    ∙ ap (λ x. old ++ (take i stored ++ x ∷ [])) c.row.ensures.values
+    ∙ ap (λ l. old ++ l) (sym (take_more stored i [] within))

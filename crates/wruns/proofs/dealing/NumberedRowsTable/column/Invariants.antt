@@ -1,5 +1,5 @@
 use Rattle.std.proofs.Common.{◌≡◌, take}
-use Rattle.wsort.specs.CodedRows.{key_column, values_seen}
+use Rattle.wcodes.specs.CodedRows.{key_column, values_seen}
 use Rattle.wruns.specs.Dealing.{segment_rows}
 use Rattle.wruns.specs.Runs.{joined}
 use Rattle.wruns.proofs.dealing.NumberedRowsTable.column.Given as goal

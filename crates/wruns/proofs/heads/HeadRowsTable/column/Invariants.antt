@@ -1,5 +1,5 @@
 use Rattle.std.proofs.Common.{◌≡◌, map, take}
-use Rattle.wsort.specs.CodedRows.{key_column, values_seen}
+use Rattle.wcodes.specs.CodedRows.{key_column, values_seen}
 use Rattle.wruns.specs.Heads.{head_row}
 use Rattle.wruns.specs.Merging.{rows_seen}
 use Rattle.wruns.proofs.heads.HeadRowsTable.column.Given as goal

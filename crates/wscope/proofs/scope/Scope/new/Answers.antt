@@ -2,7 +2,6 @@ use Rattle.std.proofs.Common.{List, ap, ◌∙◌, map}
 use Rattle.std.specs.Borrow.{Bor}
 use Rattle.std.specs.List.{list_any}
 use Rattle.wquery.specs.GroupElements.{all_columns, view_element}
-use Rattle.wquery.specs.Tree.{Tree}
 use Rattle.wquery.specs.declared.expression.Column.{Column}
 use Rattle.wquery.specs.declared.query.GroupElement.{GroupElement}
 use Rattle.wscope.specs.Called.{names}

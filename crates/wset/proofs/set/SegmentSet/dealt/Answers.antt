@@ -1,8 +1,8 @@
 use Rattle.std.proofs.Common.{ap, subst, ◌∙◌}
 use Rattle.wruns.specs.Dealing.{segment_rows, AreRunsOf}
 use Rattle.wruns.specs.Refs.{refs_by}
-use Rattle.wset.specs.Blocks.{flat}
-use Rattle.wset.specs.Running.{rows_in}
+use Rattle.wentries.specs.Blocks.{flat}
+use Rattle.wentries.specs.Keeping.{rows_in}
 use Rattle.wset.proofs.RunFacts.{rows_live}
 use Rattle.wset.proofs.set.SegmentSet.dealt.Goals as goal
 

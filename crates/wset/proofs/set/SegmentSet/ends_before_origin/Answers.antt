@@ -1,8 +1,8 @@
 use Rattle.std.proofs.Common.{ap, subst}
 use Rattle.wset.specs.Views.{IsSettled}
-use Rattle.wset.specs.Entries.{known_entries}
+use Rattle.wentries.specs.Entries.{known_entries}
 use Rattle.wset.proofs.Settling.{settled_view}
-use Rattle.wset.specs.Blocks.{flat}
+use Rattle.wentries.specs.Blocks.{flat}
 use Rattle.wset.proofs.Maps.{entries-is}
 use Rattle.wset.proofs.set.SegmentSet.ends_before_origin.Goals as goal
 

@@ -1,7 +1,7 @@
 use Rattle.std.proofs.Common.{◌∙◌, ap, sym}
 use Rattle.std.specs.List.{filter_map}
-use Rattle.wset.specs.Views.{first_of, floor_number}
-use Rattle.wset.specs.Blocks.{flat}
+use Rattle.wentries.specs.Knowledge.{first_of, floor_number}
+use Rattle.wentries.specs.Blocks.{flat}
 use Rattle.wset.proofs.Maps.{entries-is}
 use Rattle.wset.proofs.set.SegmentSet.floor.Goals as goal
 

@@ -1,7 +1,7 @@
 use Rattle.std.proofs.Common.{◌↔◌, IsTrue, ap, arith, length, subst}
 use Rattle.std.specs.List.{IsAmong}
-use Rattle.wset.specs.Blocks.{flat}
-use Rattle.wset.specs.Running.{kept_in}
+use Rattle.wentries.specs.Blocks.{flat}
+use Rattle.wentries.specs.Keeping.{kept_in}
 use Rattle.wset.proofs.LiveFacts.{live_orders, lives_counted}
 use Rattle.wset.proofs.set.SegmentSet.has_run.Goals as goal
 

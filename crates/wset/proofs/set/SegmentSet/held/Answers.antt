@@ -1,9 +1,9 @@
 use Rattle.std.proofs.Common.{◌∙◌, IfSome, sym, ap, subst}
 use Rattle.std.specs.FinMap.{get}
-use Rattle.wset.specs.Holding.{IsHeldBy}
+use Rattle.wentries.specs.Holding.{IsHeldBy}
 use Rattle.wset.specs.Views.{IsSettled}
-use Rattle.wset.specs.Blocks.{flat}
-use Rattle.wset.specs.Entries.{known_entries}
+use Rattle.wentries.specs.Blocks.{flat}
+use Rattle.wentries.specs.Entries.{known_entries}
 use Rattle.wset.proofs.Settling.{settled_view}
 use Rattle.wset.proofs.Maps.{get-view}
 use Rattle.wset.proofs.Sets.{held_read}

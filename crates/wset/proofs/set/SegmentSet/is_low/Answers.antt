@@ -1,8 +1,9 @@
 use Rattle.std.proofs.Common.{◌∙◌, ap, sym, subst}
 use Rattle.std.specs.List.{list_any}
-use Rattle.wset.specs.Views.{IsSettled, is_below, is_over}
-use Rattle.wset.specs.Blocks.{flat}
-use Rattle.wset.specs.Entries.{known_entries}
+use Rattle.wset.specs.Views.{IsSettled, is_below}
+use Rattle.wentries.specs.Knowledge.{is_over}
+use Rattle.wentries.specs.Blocks.{flat}
+use Rattle.wentries.specs.Entries.{known_entries}
 use Rattle.wset.proofs.Settling.{settled_view}
 use Rattle.wset.proofs.Maps.{entries-view}
 use Rattle.wset.proofs.set.SegmentSet.is_low.Goals as goal

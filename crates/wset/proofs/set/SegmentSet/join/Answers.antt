@@ -1,7 +1,7 @@
 use Rattle.std.proofs.Common.{◌≡◌, ◌∙◌, sym, ap, subst, length, arith}
 use Rattle.wset.specs.Views.{join}
-use Rattle.wset.specs.Entries.{AllHeldBy, known_entries}
-use Rattle.wset.specs.Blocks.{flat}
+use Rattle.wentries.specs.Entries.{AllHeldBy, known_entries}
+use Rattle.wentries.specs.Blocks.{flat}
 use Rattle.wset.specs.Running.{AreStarts}
 use Rattle.wset.proofs.Maps.{known_again, rising_join, settled_join, stored_view, view_again, view_join}
 use Rattle.wset.proofs.Sets.{changed, same_view}

@@ -1,7 +1,7 @@
 use Rattle.std.proofs.Common.{sym, ap, ◌∙◌}
 use Rattle.wruns.specs.Refs.{refs_by}
-use Rattle.wset.specs.Blocks.{flat}
-use Rattle.wset.specs.Running.{rows_in}
+use Rattle.wentries.specs.Blocks.{flat}
+use Rattle.wentries.specs.Keeping.{rows_in}
 use Rattle.wset.proofs.KeptOrderFacts.{order_of}
 use Rattle.wset.proofs.RunFacts.{rows_live}
 use Rattle.wset.proofs.set.SegmentSet.keep_order.Goals as goal

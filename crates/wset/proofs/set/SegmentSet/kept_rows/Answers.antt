@@ -1,7 +1,7 @@
 use Rattle.std.proofs.Common.{ap, ◌∙◌}
 use Rattle.wruns.specs.Refs.{refs_by}
-use Rattle.wset.specs.Blocks.{flat}
-use Rattle.wset.specs.Running.{rows_in}
+use Rattle.wentries.specs.Blocks.{flat}
+use Rattle.wentries.specs.Keeping.{rows_in}
 use Rattle.wset.proofs.KeptOrderFacts.{kept_list}
 use Rattle.wset.proofs.RunFacts.{rows_live}
 use Rattle.wset.proofs.set.SegmentSet.kept_rows.Goals as goal

@@ -1,6 +1,6 @@
 use Rattle.std.proofs.Common.{◌∙◌, ap, length}
-use Rattle.wset.specs.Blocks.{flat}
-use Rattle.wset.specs.Running.{kept_in}
+use Rattle.wentries.specs.Blocks.{flat}
+use Rattle.wentries.specs.Keeping.{kept_in}
 use Rattle.wset.proofs.LiveFacts.{lives_counted, orders_counted}
 use Rattle.wset.proofs.set.SegmentSet.live_count.Goals as goal
 

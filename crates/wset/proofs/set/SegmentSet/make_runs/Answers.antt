@@ -2,7 +2,7 @@ use Rattle.std.proofs.Common.{ap, refl}
 use Rattle.std.specs.FinMap.{from_sorted}
 use Rattle.std.specs.List.{IsAmong}
 use Rattle.std.proofs.lemmas.List.Elements.{All-from_recursion}
-use Rattle.wset.specs.Blocks.{flat}
+use Rattle.wentries.specs.Blocks.{flat}
 use Rattle.wset.specs.Running.{orders_in}
 use Rattle.wset.proofs.RunFacts.{all_have, flat_plain, known_same, orderly_same}
 use Rattle.wset.proofs.Sets.{changed}

@@ -1,7 +1,7 @@
 use Rattle.std.proofs.Common.{subst}
 use Rattle.wset.specs.Views.{IsSettled}
-use Rattle.wset.specs.Blocks.{flat}
-use Rattle.wset.specs.Entries.{known_entries}
+use Rattle.wentries.specs.Blocks.{flat}
+use Rattle.wentries.specs.Entries.{known_entries}
 use Rattle.wset.proofs.Settling.{settled_view}
 use Rattle.wset.proofs.set.SegmentSet.name_count.Goals as goal
 

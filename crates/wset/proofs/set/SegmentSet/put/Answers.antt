@@ -1,11 +1,13 @@
 use Rattle.std.proofs.Common.{◌∙◌, ap, length, refl, sym, subst, arith}
 use Rattle.std.specs.FinMap.{insert}
 use Rattle.std.specs.List.{list_any}
-use Rattle.wset.specs.Views.{is_below, is_over}
-use Rattle.wset.specs.Blocks.{flat}
-use Rattle.wset.specs.Holding.{IsHeldBy, known_of}
-use Rattle.wset.proofs.EntryFacts.{length-known_entries}
-use Rattle.wset.proofs.Maps.{entries-view, rising_put, settled_put, view_put}
+use Rattle.wset.specs.Views.{is_below}
+use Rattle.wentries.specs.Knowledge.{is_over}
+use Rattle.wentries.specs.Blocks.{flat}
+use Rattle.wentries.specs.Holding.{IsHeldBy, known_of}
+use Rattle.wentries.proofs.EntryFacts.{length-known_entries}
+use Rattle.wset.proofs.Maps.{entries-view, settled_put, view_put}
+use Rattle.wentries.proofs.Sizes.{rising_put}
 use Rattle.wset.proofs.LiveFacts.{orderly_flat}
 use Rattle.wset.proofs.Sets.{changed}
 use Rattle.wset.proofs.set.SegmentSet.put.Goals as goal

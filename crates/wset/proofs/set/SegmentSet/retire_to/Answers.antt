@@ -3,11 +3,12 @@ use Rattle.std.proofs.lemmas.Bool.{or_parts}
 use Rattle.std.specs.FinMap.{get, put}
 use Rattle.std.specs.List.{list_any}
 use Rattle.wvalues.specs.Names.{name_cmp}
-use Rattle.wset.specs.Views.{Floor, is_below, is_over, join}
+use Rattle.wentries.specs.Knowledge.{Floor, is_over}
+use Rattle.wset.specs.Views.{is_below, join}
 use Rattle.wset.specs.Items.{FloorItem, view_of_item}
 use Rattle.wset.specs.Words.{is_floor}
-use Rattle.wset.specs.Blocks.{flat}
-use Rattle.wset.specs.Entries.{above_floor, known_entries}
+use Rattle.wentries.specs.Blocks.{flat}
+use Rattle.wentries.specs.Entries.{above_floor, known_entries}
 use Rattle.wset.proofs.Maps.{entries-view, rising_floor, settled_floor, view_floor}
 use Rattle.wset.proofs.LiveFacts.{orderly_flat}
 use Rattle.wset.proofs.Sets.{changed, same_view}

@@ -1,10 +1,10 @@
-use Rattle.wset.specs.Blocks.{flat}
+use Rattle.wentries.specs.Blocks.{flat}
 use Rattle.std.proofs.Common.{refl, sym, subst, IsOk}
 use Rattle.std.specs.List.{All}
 use Rattle.wsegment.specs.Rows.{rows_of}
 use Rattle.wset.specs.Sets.{LivesAreRead}
 use Rattle.wset.specs.Views.{IsSettled}
-use Rattle.wset.specs.Entries.{known_entries}
+use Rattle.wentries.specs.Entries.{known_entries}
 use Rattle.wset.proofs.Settling.{settled_view}
 use Rattle.wset.proofs.Maps.{lives-view}
 use Rattle.wset.proofs.Tables.{read_lives}

@@ -1,6 +1,6 @@
 use Rattle.std.proofs.Common.{◌∙◌, sym, refl}
 use Rattle.wset.proofs.Singles.{other_content, take_new, take_same, take_other, take_low, take_beaten}
-use Rattle.wset.specs.Views.{Disputed, Retired, Floor}
+use Rattle.wentries.specs.Knowledge.{Disputed, Retired, Floor}
 use Rattle.wset.proofs.Sets.{same_view, then_view}
 use Rattle.wset.proofs.set.SegmentSet.take_read.Goals as goal
 

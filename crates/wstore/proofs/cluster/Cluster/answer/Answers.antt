@@ -1,7 +1,7 @@
 use Rattle.std.proofs.Common.{◌≤◌, List, length, IfOk, subst}
 use Rattle.wsegment.specs.Declaration.{Declaration}
 use Rattle.wreplies.specs.Texts.{bytes_of}
-use Rattle.wstore.specs.Commands.{Ask, longest_text}
+use Rattle.wscript.specs.Commands.{Ask, longest_text}
 use Rattle.wstore.specs.History.{Step}
 use Rattle.wstore.specs.Standing.{AnswersAs, StandAt}
 use Rattle.wstore.proofs.Orders.{asked_so}

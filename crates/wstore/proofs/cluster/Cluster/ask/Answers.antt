@@ -1,7 +1,7 @@
-use Rattle.std.proofs.Common.{subst, sym, ◌∙◌}
+use Rattle.std.proofs.Common.{subst, sym}
 use Rattle.wreplies.specs.Texts.{bytes_of}
 use Rattle.wstore.specs.Standing.{StandAt}
-use Rattle.wstore.proofs.Answering.{ask_at, same_set}
+use Rattle.wstore.proofs.Answering.{ask_at}
 use Rattle.wstore.proofs.Handling.{if_ok_then}
 use Rattle.wstore.proofs.cluster.Cluster.ask.Goals as goal
 

@@ -1,0 +1,8 @@
+use Rattle.std.proofs.Common.{◌≡◌, ◌++◌, drop, map}
+use Rattle.wquery.specs.Tree.{views}
+use Rattle.wscope.specs.Sources.{all_titled}
+use Rattle.wbinding.specs.Groups.{column_place}
+use Rattle.wbinding.proofs.groups.places_of.Given as goal
+
+abbrev pub invariant-list : goal.invariant-list
+invariant-list l = l.places.items ++ map (column_place (all_titled l.columns)) (views (drop l.e-index l.list)) ≡ map (column_place (all_titled l.columns)) (views l.list)

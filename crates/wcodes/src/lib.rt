@@ -1,0 +1,22 @@
+//! Codes of values: integers that stand as a key orders them.
+//!
+//! - Gives codes of 32 bits for the values of a column, and those of some of its numbers.
+//! - Promises: codes are distances of numbers from the one that the key puts first, where all lie close enough, and else
+//!   ranks among the distinct values. Few distinct values are told by a table, in which each is looked for in few slots, so
+//!   that no values make it slow; many are sorted beside integers of 64 bits that foretell their order.
+//! - Asks: the order of one key, and at most 2^32 values where they are ranked.
+//! - Leaves: rows, and their order by codes, to `wsort`.
+//!
+//! Read `specs/Columns.antt`, `specs/CodedRows.antt` and `specs/Codes.antt`; `specs/Bases.antt` says from where codes are
+//! counted, `specs/Foretold.antt` and `specs/Ranks.antt` how values are ranked.
+#![tactic(auto)]
+
+mod codes;
+mod columns;
+mod distinct;
+mod foretold;
+mod ranks;
+
+pub use codes::{base_of, code_of};
+pub use columns::{codes_from, column_codes};
+pub use ranks::picked_codes;

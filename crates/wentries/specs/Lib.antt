@@ -1,0 +1,7 @@
+pub mod Knowledge
+pub mod Holding
+pub mod Entries
+pub mod Blocks
+pub mod Keeping
+pub mod Cells
+pub mod StoredBlocks

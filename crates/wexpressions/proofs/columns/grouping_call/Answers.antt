@@ -1,0 +1,12 @@
+use Rattle.std.proofs.Common.{refl}
+use Rattle.wexpressions.proofs.Steps.{got_along, after_got, after_missing, as_got, as_refused, handed_on}
+use Rattle.wexpressions.proofs.columns.grouping_call.Goals as goal
+
+pub returns-in_default : goal.returns-in_default
+returns-in_default c = after_missing c.in_default.ensures
+
+pub returns-in_err-columns : goal.returns-in_err-columns
+returns-in_err-columns c = handed_on _ _ _ _ c.from_residual.ensures.1 (after_got c.in-Some.ensures (as_refused _ c.in_err-columns.ensures))
+
+pub returns : goal.returns
+returns c = got_along c.in_ok-call.ensures refl (after_got c.in-Some.ensures (as_got c.in_ok-columns.ensures))

@@ -1,0 +1,4 @@
+pub mod Grammar
+pub mod Grips
+pub mod Finding
+pub mod Depth

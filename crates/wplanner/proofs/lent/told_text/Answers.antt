@@ -1,8 +1,0 @@
-use Rattle.std.proofs.Common.{map}
-use Rattle.wplan.specs.Plans.{key_plan, optional_formula}
-use Rattle.wset.specs.Running.{live_rows}
-use Rattle.wplanner.proofs.lent.told_text.Goals as goal
-
-pub rows_text-requires-clause-told : goal.rows_text-requires-clause-told
-rows_text-requires-clause-told c =
-    c.in_ok-told.ensures (optional_formula c.args.select.now.condition) (live_rows c.args.set.now) (map key_plan c.args.select.now.keys.items) c.in_ok-kept.ensures.numbered c.requires.orders

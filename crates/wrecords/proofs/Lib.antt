@@ -1,0 +1,4 @@
+pub mod Words
+pub mod Shapes
+pub mod Lines
+pub mod Cutting

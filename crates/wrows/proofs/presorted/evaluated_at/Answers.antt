@@ -1,0 +1,16 @@
+use Rattle.std.proofs.Common.{Ok, length, map, sym, ap, ◌∙◌}
+use Rattle.wframe.specs.Peers.{key_at}
+use Rattle.wsort.specs.LaidRows.{laid}
+use Rattle.wrows.specs.Laid.{formulas_seen, rows_seen}
+use Rattle.wrows.specs.Columns.{beside, lists_of}
+use Rattle.wrows.proofs.RowFacts.{then_ok}
+use Rattle.wrows.proofs.presorted.evaluated_at.Goals as goal
+
+pub returns-clause-rows : goal.returns-clause-rows
+returns-clause-rows c =
+    let n = length c.args.rows.now in
+    let width = length c.args.items.now in
+    let told = laid width n c.in_ok-told.told.items in
+    then_ok told (lists_of (formulas_seen c.args.items.now) (beside (rows_seen c.args.rows.now) (rows_seen c.args.columns.now))) (λ told. Ok (map (key_at told) c.args.numbers.now)) c.in_ok-told.ensures.gives
+    ∙ ap (λ xs. Ok (map (key_at (laid width n xs)) c.args.numbers.now)) (sym c.deref.ensures.value)
+    ∙ ap Ok (sym c.in_ok-cells.ensures.rows)

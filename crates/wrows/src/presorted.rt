@@ -1,0 +1,100 @@
+//! The items of rows that are presorted.
+ghost use Rattle.std.specs.Prelude.{◌≡◌, ◌<◌, ℕ, All, IfOk, List, Ok, length, map};
+ghost use Rattle.wvalues.specs.declared.key.SortKey.{SortKey};
+ghost use Rattle.wplan.specs.Formula.{At, Formula};
+ghost use Rattle.wrows.specs.Columns.{beside};
+ghost use Rattle.wrows.specs.Laid.{formulas_seen, rows_in, rows_seen};
+ghost use Rattle.wrows.specs.Outcomes.{Gives};
+ghost use Rattle.wrows.specs.Picked.{items_at, numbers_of};
+ghost use Rattle.wrows.specs.Plain.{ordered_of};
+
+use crate::cells::{Cells, gathered};
+use crate::copied::picked_rows;
+use crate::fault::AnswerFault;
+use crate::listing::evaluated_lists;
+use crate::places::places_of;
+use crate::plain::{Asked, cut_numbers};
+use std::alloc::{AllocError, Global};
+use wplan::Expr;
+use wvalues::Value;
+
+// Items that are evaluated on every row, of the rows of these numbers.
+fn evaluated_at(
+    alloc: Global,
+    items: &[&Expr],
+    numbers: &[usize],
+    rows: &[&[Value]],
+    columns: &[&[Value]],
+) -> Result<Cells, AnswerFault>
+    requires { All (λ i. i < length rows.now) numbers.now }
+    ensures width { IfOk result (λ cells. cells.width ≡ length items.now) }
+    ensures rows { Gives rows_in result (items_at (formulas_seen items.now) numbers.now (beside (rows_seen rows.now) (rows_seen columns.now))) }
+{
+    let told = evaluated_lists(alloc, items, rows, columns)?;
+    let cells = gathered(alloc, &told, items.len(), rows.len(), numbers)?;
+    Ok(Cells {
+        cells,
+        width: items.len(),
+        count: numbers.len(),
+    })
+}
+
+// Items that are plain columns, of the rows of these numbers alone: none of them can be out of range.
+fn plain_at(
+    alloc: Global,
+    places: &[usize],
+    numbers: &[usize],
+    rows: &[&[Value]],
+    columns: &[&[Value]],
+) -> Result<Cells, AllocError>
+    requires { All (λ i. i < length rows.now) numbers.now }
+    ensures width { IfOk result (λ cells. cells.width ≡ length places.now) }
+    ensures rows { IfOk result (λ cells. items_at (map At places.now) numbers.now (beside (rows_seen rows.now) (rows_seen columns.now)) ≡ Ok (rows_in cells)) }
+{
+    let null = Value::Null;
+    let cells = picked_rows(alloc, rows, columns, &null, places, numbers)?;
+    Ok(Cells {
+        cells,
+        width: places.len(),
+        count: numbers.len(),
+    })
+}
+
+/// Items of the rows of these numbers.
+pub(crate) fn items_at(
+    alloc: Global,
+    items: &[&Expr],
+    numbers: &[usize],
+    rows: &[&[Value]],
+    columns: &[&[Value]],
+) -> Result<Cells, AnswerFault>
+    requires { All (λ i. i < length rows.now) numbers.now }
+    ensures width { IfOk result (λ cells. cells.width ≡ length items.now) }
+    ensures rows { Gives rows_in result (items_at (formulas_seen items.now) numbers.now (beside (rows_seen rows.now) (rows_seen columns.now))) }
+{
+    let plain = places_of(alloc, items)?;
+    let Some(places) = plain else {
+        return evaluated_at(alloc, items, numbers, rows, columns);
+    };
+    let cells = plain_at(alloc, &places, numbers, rows, columns)?;
+    Ok(cells)
+}
+
+/// The items of the rows that are asked for, where all rows are presorted, by their numbers: nothing is sorted, and no key is
+/// evaluated. Behind each row's cells stand the values of some columns. All items are evaluated on every row, asked for or not;
+/// where all are plain columns, which cannot be out of range, they are read of the rows that are asked for alone.
+pub fn presorted_items(
+    alloc: Global,
+    items: &[&Expr],
+    numbers: Vec<usize>,
+    asked: Asked,
+    rows: &[&[Value]],
+    columns: &[&[Value]],
+) -> Result<Cells, AnswerFault>
+    requires { All (λ i. i < length rows.now) numbers.items }
+    ensures width { IfOk result (λ cells. cells.width ≡ length items.now) }
+    ensures rows { (keys : List Formula) (order : List SortKey) → numbers_of keys order (beside (rows_seen rows.now) (rows_seen columns.now)) ≡ Ok numbers.items → Gives rows_in result (ordered_of (formulas_seen items.now) keys order asked.offset asked.limit (beside (rows_seen rows.now) (rows_seen columns.now))) }
+{
+    let taken = cut_numbers(alloc, numbers, asked)?;
+    items_at(alloc, items, &taken, rows, columns)
+}

@@ -1,9 +1,0 @@
-use Rattle.std.proofs.Common.{◌∙◌}
-use Rattle.wquery.specs.Tree.{view_window}
-use Rattle.wscope.specs.Earlier.{seen}
-use Rattle.wscope.specs.Windows.{optional_window}
-use Rattle.wscope.proofs.Placed.{settled_is}
-use Rattle.wscope.proofs.earlier.Earlier.settled.Goals as goal
-
-pub returns : goal.returns
-returns c = c.settle_over.ensures ∙ settled_is (seen c.args.self) (optional_window c.find_copied-found.result) (view_window c.args.window.now) c.find_copied-found.ensures

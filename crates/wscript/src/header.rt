@@ -1,0 +1,280 @@
+//! Header lines of commands.
+ghost use Rattle.std.specs.Prelude.{◌≡◌, ℕ, ◌^◌, ◌<◌, List, ◌∷◌, ◌++◌, IfSome, IsSomeAnd, decimal, Some};
+ghost use Rattle.wlines.specs.Words.{IsWord};
+ghost use Rattle.wscript.specs.Commands.{AskForm, DeclareForm, FeedForm, FloorForm, Form, GetForm, IsForm, ListForm, PutForm, RetireForm, TakeForm, line_of, pair_words, retire_words, take_words};
+ghost use Rattle.wscript.specs.Headers.{IsHeaderOf, IsNumberRead, IsPairRead};
+ghost use Rattle.wscript.specs.Requests.{body_length as length_of_body, follows_declaration as is_behind_declaration, keeps_body as is_body_kept};
+
+use crate::numbers::{NodeNumber, SlotNumber};
+use wlines::{is_word, split_word};
+use wvalues::{Name, NameFault, number_word};
+
+/// What a header line says: its node, the name that its words spell or why they spell none, and the length of
+/// the body behind it.
+#[derive(Clone, Copy, Debug)]
+pub enum Header {
+    Declare(u32),
+    Take(NodeNumber, Result<Name, NameFault>, u32),
+    Retire(NodeNumber, Result<Name, NameFault>),
+    RetireTo(NodeNumber, Result<Name, NameFault>),
+    List(NodeNumber),
+    Ask(NodeNumber, u32),
+    Feed(NodeNumber, u32),
+    Put(NodeNumber, SlotNumber),
+    Get(SlotNumber, NodeNumber),
+}
+
+/// The most bytes of a piece.
+const LONGEST_PIECE: u32 = 67_108_864;
+
+/// The most bytes of a declaration, and of a query's text.
+const LONGEST_TEXT: u32 = 65_536;
+
+/// The most bytes of a segment.
+const LONGEST_SEGMENT: u32 = 67_108_864;
+
+impl Header {
+    /// Whether the table is declared before it.
+    pub fn follows_declaration(&self) -> bool
+        ensures { result ≡ is_behind_declaration self.now }
+    {
+        match *self {
+            Header::Declare(_) => false,
+            _ => true,
+        }
+    }
+
+    /// The length of the body behind the line.
+    pub fn body_length(&self) -> Option<u32>
+        ensures { result ≡ length_of_body self.now }
+    {
+        match *self {
+            Header::Declare(len) => Some(len),
+            Header::Take(_, _, len) => Some(len),
+            Header::Ask(_, len) => Some(len),
+            Header::Feed(_, len) => Some(len),
+            _ => None,
+        }
+    }
+
+    /// Whether the body is kept: it is within its limit, and the words of its name spell one.
+    pub fn keeps_body(&self) -> bool
+        ensures { result ≡ is_body_kept self.now }
+    {
+        match *self {
+            Header::Declare(len) => len <= LONGEST_TEXT,
+            Header::Take(_, Ok(_), len) => len <= LONGEST_SEGMENT,
+            Header::Ask(_, len) => len <= LONGEST_TEXT,
+            Header::Feed(_, _) => true,
+            _ => false,
+        }
+    }
+}
+
+// The number in front, and the words behind it.
+fn split_number(words: &[u8]) -> Option<(u32, &[u8])>
+    ensures found { IfSome result (λ parts. words.now ≡ decimal parts.0 ++ (32 ∷ parts.1.now)) }
+    ensures only { (number : ℕ) (rest : List ℕ) → number < 2 ^ 32 → words.now ≡ decimal number ++ (32 ∷ rest) → IsSomeAnd result (λ parts. (parts.0 ≡ number) × (parts.1.now ≡ rest)) }
+{
+    let Some((first, rest)) = split_word(words) else {
+        return None;
+    };
+    let Some(number) = number_word(first) else {
+        return None;
+    };
+    Some((number, rest))
+}
+
+// Two numbers.
+fn two_numbers(words: &[u8]) -> Option<(u32, u32)>
+    ensures found { IfSome result (λ pair. words.now ≡ pair_words pair.0 pair.1) }
+    ensures only { (first second : ℕ) → first < 2 ^ 32 → second < 2 ^ 32 → words.now ≡ pair_words first second → result ≡ Some (first, second) }
+{
+    let Some((first, last)) = split_number(words) else {
+        return None;
+    };
+    let Some(second) = number_word(last) else {
+        return None;
+    };
+    Some((first, second))
+}
+
+// The word in front, and the words behind it.
+fn split_any(words: &[u8]) -> Option<(&[u8], &[u8])>
+    ensures found { IfSome result (λ parts. IsWord parts.0.now × (words.now ≡ parts.0.now ++ (32 ∷ parts.1.now))) }
+    ensures only { (word rest : List ℕ) → IsWord word → words.now ≡ word ++ (32 ∷ rest) → IsSomeAnd result (λ parts. (parts.0.now ≡ word) × (parts.1.now ≡ rest)) }
+{
+    let Some((first, rest)) = split_word(words) else {
+        return None;
+    };
+    if !is_word(first) {
+        return None;
+    }
+    Some((first, rest))
+}
+
+// The words behind `T`.
+fn declare_header(words: &[u8]) -> Option<Header>
+    ensures { IsNumberRead DeclareForm words.now result }
+{
+    let Some(len) = number_word(words) else {
+        return None;
+    };
+    Some(Header::Declare(len))
+}
+
+// The words behind `S`.
+fn take_header(words: &[u8]) -> Option<Header>
+    ensures found { IfSome result (λ h. (node : ℕ) × (origin : List ℕ) × (number : List ℕ) × (len : ℕ) × IsForm (TakeForm node origin number len) × IsHeaderOf h (TakeForm node origin number len) × (words.now ≡ take_words node origin number len)) }
+    ensures only { (node : ℕ) (origin number : List ℕ) (len : ℕ) → IsForm (TakeForm node origin number len) → words.now ≡ take_words node origin number len → IsSomeAnd result (λ h. IsHeaderOf h (TakeForm node origin number len)) }
+{
+    let Some((first, rest)) = split_number(words) else {
+        return None;
+    };
+    let Some(node) = NodeNumber::new(first) else {
+        return None;
+    };
+    let Some((origin, rest)) = split_any(rest) else {
+        return None;
+    };
+    let Some((number, last)) = split_any(rest) else {
+        return None;
+    };
+    let Some(len) = number_word(last) else {
+        return None;
+    };
+    Some(Header::Take(node, Name::read(origin, number), len))
+}
+
+// The words behind `R`.
+fn retire_header(words: &[u8]) -> Option<Header>
+    ensures found { IfSome result (λ h. (node : ℕ) × (origin : List ℕ) × (number : List ℕ) × IsForm (RetireForm node origin number) × IsHeaderOf h (RetireForm node origin number) × (words.now ≡ retire_words node origin number)) }
+    ensures only { (node : ℕ) (origin number : List ℕ) → IsForm (RetireForm node origin number) → words.now ≡ retire_words node origin number → IsSomeAnd result (λ h. IsHeaderOf h (RetireForm node origin number)) }
+{
+    let Some((first, rest)) = split_number(words) else {
+        return None;
+    };
+    let Some(node) = NodeNumber::new(first) else {
+        return None;
+    };
+    let Some((origin, number)) = split_any(rest) else {
+        return None;
+    };
+    if !is_word(number) {
+        return None;
+    }
+    Some(Header::Retire(node, Name::read(origin, number)))
+}
+
+// The words behind `U`.
+fn floor_header(words: &[u8]) -> Option<Header>
+    ensures found { IfSome result (λ h. (node : ℕ) × (origin : List ℕ) × (number : List ℕ) × IsForm (FloorForm node origin number) × IsHeaderOf h (FloorForm node origin number) × (words.now ≡ retire_words node origin number)) }
+    ensures only { (node : ℕ) (origin number : List ℕ) → IsForm (FloorForm node origin number) → words.now ≡ retire_words node origin number → IsSomeAnd result (λ h. IsHeaderOf h (FloorForm node origin number)) }
+{
+    let Some((first, rest)) = split_number(words) else {
+        return None;
+    };
+    let Some(node) = NodeNumber::new(first) else {
+        return None;
+    };
+    let Some((origin, number)) = split_any(rest) else {
+        return None;
+    };
+    if !is_word(number) {
+        return None;
+    }
+    Some(Header::RetireTo(node, Name::read(origin, number)))
+}
+
+// The words behind `L`.
+fn list_header(words: &[u8]) -> Option<Header>
+    ensures { IsNumberRead ListForm words.now result }
+{
+    let Some(number) = number_word(words) else {
+        return None;
+    };
+    let Some(node) = NodeNumber::new(number) else {
+        return None;
+    };
+    Some(Header::List(node))
+}
+
+// The words behind `Q`.
+fn ask_header(words: &[u8]) -> Option<Header>
+    ensures { IsPairRead AskForm words.now result }
+{
+    let Some((first, len)) = two_numbers(words) else {
+        return None;
+    };
+    let Some(node) = NodeNumber::new(first) else {
+        return None;
+    };
+    Some(Header::Ask(node, len))
+}
+
+// The words behind `F`.
+fn feed_header(words: &[u8]) -> Option<Header>
+    ensures { IsPairRead FeedForm words.now result }
+{
+    let Some((first, len)) = two_numbers(words) else {
+        return None;
+    };
+    let Some(node) = NodeNumber::new(first) else {
+        return None;
+    };
+    if len > LONGEST_PIECE {
+        return None;
+    }
+    Some(Header::Feed(node, len))
+}
+
+// The words behind `P`.
+fn put_header(words: &[u8]) -> Option<Header>
+    ensures { IsPairRead PutForm words.now result }
+{
+    let Some((first, second)) = two_numbers(words) else {
+        return None;
+    };
+    let Some(node) = NodeNumber::new(first) else {
+        return None;
+    };
+    let Some(slot) = SlotNumber::new(second) else {
+        return None;
+    };
+    Some(Header::Put(node, slot))
+}
+
+// The words behind `G`.
+fn get_header(words: &[u8]) -> Option<Header>
+    ensures { IsPairRead GetForm words.now result }
+{
+    let Some((first, second)) = two_numbers(words) else {
+        return None;
+    };
+    let Some(slot) = SlotNumber::new(first) else {
+        return None;
+    };
+    let Some(node) = NodeNumber::new(second) else {
+        return None;
+    };
+    Some(Header::Get(slot, node))
+}
+
+/// What a header line says, where it is one.
+pub fn read_header(line: &[u8]) -> Option<Header>
+    ensures found { IfSome result (λ h. (f : Form) × IsForm f × IsHeaderOf h f × (line.now ≡ line_of f)) }
+    ensures only { (f : Form) → IsForm f → line.now ≡ line_of f → IsSomeAnd result (λ h. IsHeaderOf h f) }
+{
+    match line {
+        [b'T', b' ', words @ ..] => declare_header(words),
+        [b'S', b' ', words @ ..] => take_header(words),
+        [b'R', b' ', words @ ..] => retire_header(words),
+        [b'U', b' ', words @ ..] => floor_header(words),
+        [b'L', b' ', words @ ..] => list_header(words),
+        [b'Q', b' ', words @ ..] => ask_header(words),
+        [b'F', b' ', words @ ..] => feed_header(words),
+        [b'P', b' ', words @ ..] => put_header(words),
+        [b'G', b' ', words @ ..] => get_header(words),
+        _ => None,
+    }
+}

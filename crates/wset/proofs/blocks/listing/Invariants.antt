@@ -1,7 +1,0 @@
-use Rattle.std.proofs.Common.{◌≡◌, ◌++◌, map, drop}
-use Rattle.wset.specs.Entries.{listing_of}
-use Rattle.wset.specs.Blocks.{flat}
-use Rattle.wset.proofs.blocks.listing.Given as goal
-
-abbrev pub invariant-walk : goal.invariant-walk
-invariant-walk l = l.all.items ++ map listing_of (flat (drop l.block-index l.blocks)) ≡ map listing_of (flat l.blocks)

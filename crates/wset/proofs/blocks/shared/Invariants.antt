@@ -1,6 +1,0 @@
-use Rattle.std.proofs.Common.{◌≡◌, ◌++◌, drop}
-use Rattle.wset.specs.Blocks.{flat}
-use Rattle.wset.proofs.blocks.shared.Given as goal
-
-abbrev pub invariant-walk : goal.invariant-walk
-invariant-walk l = l.all.items ++ flat (drop l.block-index l.blocks) ≡ flat l.blocks

@@ -1,9 +1,0 @@
-use Rattle.std.proofs.Common.{◌≡◌, ◌≤◌, ◌+◌, length, drop}
-use Rattle.wset.specs.Running.{kept_in}
-use Rattle.wset.proofs.entries.live_count.Given as goal
-
-abbrev pub invariant-entries : goal.invariant-entries
-invariant-entries l = record {
-  few : l.count ≤ l.entry-index;
-  counted : l.count + length (kept_in (drop l.entry-index l.entries)) ≡ length (kept_in l.entries);
-}

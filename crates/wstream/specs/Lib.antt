@@ -1,0 +1,3 @@
+pub mod Messages
+pub mod Inboxes
+pub mod Laws

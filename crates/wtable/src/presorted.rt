@@ -1,0 +1,140 @@
+//! Orders of the kept rows that orders of all rows of the table give.
+ghost use Rattle.std.specs.Prelude.{◌≡◌, ◌<◌, [], All, IfOk, IfSome, List, None, Ok, Option, length, option_map, slice_index_or};
+ghost use Rattle.wplan.specs.Formula.{Formula};
+ghost use Rattle.wplan.specs.Plans.{KeyPlan, window_plan};
+ghost use Rattle.wrows.specs.Columns.{Row};
+ghost use Rattle.wrows.specs.Laid.{rows_seen};
+ghost use Rattle.wcalls.specs.Ordered.{window_numbers};
+ghost use Rattle.wtable.specs.TableOrders.{AreTableOrders, ArePresorted, ArePresortedOf, IsNumbered, IsTableOrder, IsPresortedOf, presorted_numbers};
+
+use crate::numbered::{NumberedRows, presorted_numbers};
+use crate::orders::{TableOrder, TableOrders};
+use std::alloc::{AllocError, Global};
+use wcalls::share_order;
+use wplan::ResolvedWindow;
+use wruns::RowRef;
+
+/// The numbers of the kept rows in the order of a window.
+#[derive(Drop)]
+pub struct PresortedOrder<'a> {
+    /// The window, whose order other windows may share.
+    pub window: &'a ResolvedWindow,
+    /// Each number of a kept row once, in the order of the window.
+    pub numbers: Vec<usize>,
+}
+
+/// The numbers of the kept rows in the orders that a SELECT asks for, as far as they are presorted.
+#[derive(Drop)]
+pub struct PresortedOrders<'a> {
+    /// The orders of windows that are presorted.
+    pub windows: Vec<PresortedOrder<'a>>,
+    /// The numbers in the order of ORDER BY, if it is presorted.
+    pub keys: Option<Vec<usize>>,
+}
+
+impl<'a> PresortedOrders<'a> {
+    /// None is presorted.
+    pub fn none(alloc: Global) -> PresortedOrders<'a>
+        ensures windows { result.windows.items ≡ [] }
+        ensures keys { result.keys ≡ None }
+    {
+        PresortedOrders {
+            windows: Vec::new(alloc),
+            keys: None,
+        }
+    }
+}
+
+// The numbers of the kept rows in the order of a window that is an order of all rows.
+fn presorted_window<'a>(
+    alloc: Global,
+    order: TableOrder<'a>,
+    kept: &NumberedRows,
+) -> Result<PresortedOrder<'a>, AllocError>
+    ensures { (condition : Option Formula) (segments : List (List Row)) → IsNumbered condition segments kept.now → IsTableOrder segments order.entry → IfOk result (IsPresortedOf (rows_seen kept.now.rows.items)) }
+{
+    let numbers = presorted_numbers(alloc, &order.rows, kept)?;
+    Ok(PresortedOrder {
+        window: order.window,
+        numbers,
+    })
+}
+
+// The numbers of the kept rows in the orders of windows that are orders of all rows, which are let go one after another.
+fn presorted_windows<'a>(
+    alloc: Global,
+    orders: Vec<TableOrder<'a>>,
+    kept: &NumberedRows,
+) -> Result<Vec<PresortedOrder<'a>>, AllocError>
+    ensures { (condition : Option Formula) (segments : List (List Row)) → IsNumbered condition segments kept.now → All (IsTableOrder segments) orders.entry.items → IfOk result (λ presorted. ArePresortedOf (rows_seen kept.now.rows.items) presorted.items) }
+{
+    let mut left = orders;
+    let mut presorted = Vec::with_capacity(alloc, left.len())?;
+    'left: while let Some(order) = left.pop() {
+        presorted.push(presorted_window(alloc, order, kept)?)?;
+    }
+    Ok(presorted)
+}
+
+// The numbers of the kept rows in an order, if there is one of all rows.
+fn presorted_keys(
+    alloc: Global,
+    order: &Option<Vec<RowRef>>,
+    kept: &NumberedRows,
+) -> Result<Option<Vec<usize>>, AllocError>
+    ensures { IfOk result (λ found. option_map (λ numbers. numbers.items) found ≡ option_map (λ rows. presorted_numbers kept.now rows.items) order.now) }
+{
+    match order {
+        None => Ok(None),
+        Some(rows) => {
+            let numbers = presorted_numbers(alloc, rows, kept)?;
+            Ok(Some(numbers))
+        }
+    }
+}
+
+/// The numbers of the kept rows in orders of all rows, which are let go one after another. The one error is that memory was
+/// refused.
+pub fn presorted_orders<'a>(
+    alloc: Global,
+    orders: TableOrders<'a>,
+    kept: &NumberedRows,
+) -> Result<PresortedOrders<'a>, AllocError>
+    ensures { (condition : Option Formula) (segments : List (List Row)) (keys : List KeyPlan) → IsNumbered condition segments kept.now → AreTableOrders segments keys orders.entry → IfOk result (ArePresorted (rows_seen kept.now.rows.items) keys) }
+{
+    let TableOrders { windows, keys } = orders;
+    let windows = presorted_windows(alloc, windows, kept)?;
+    let keys = presorted_keys(alloc, &keys, kept)?;
+    Ok(PresortedOrders { windows, keys })
+}
+
+// The place of an order that is also that of a window.
+fn place_presorted(presorted: &[PresortedOrder], window: &ResolvedWindow) -> Option<usize>
+    ensures place { IfSome result (λ place. place < length presorted.now) }
+    ensures order { (rows : List Row) → ArePresortedOf rows presorted.now → IfSome result (λ place. (d : PresortedOrder) → window_numbers rows (window_plan window.now) ≡ Ok (slice_index_or presorted.now place d).numbers.items) }
+{
+    for (place, order) in presorted.iter().enumerate() {
+        if share_order(order.window, window) {
+            return Some(place);
+        }
+    }
+    None
+}
+
+/// Takes out the numbers of the rows in the order of a window, if it is presorted: in its own order, or in that of a window of the
+/// same partition values and keys. The orders of other windows stay.
+pub fn take_presorted(
+    presorted: &mut Vec<PresortedOrder>,
+    window: &ResolvedWindow,
+) -> Option<Vec<usize>>
+    ensures order { (rows : List Row) → ArePresortedOf rows presorted.old.items → IfSome result (λ numbers. window_numbers rows (window_plan window.now) ≡ Ok numbers.items) }
+    ensures others { (rows : List Row) → ArePresortedOf rows presorted.old.items → ArePresortedOf rows presorted.new.items }
+{
+    match place_presorted(presorted.as_slice(), window) {
+        None => None,
+        Some(place) => {
+            let PresortedOrder { numbers, .. } = presorted.remove(place);
+            Some(numbers)
+        }
+    }
+}
