@@ -107,7 +107,7 @@ fn count_of_name(columns: &[SourceColumn], name: &str) -> usize
 {
     let mut count = 0;
     'columns: for column in columns {
-        if column.name.as_str() == name {
+        if column.has_name(name) {
             count += 1;
         }
     }

@@ -16,7 +16,7 @@ pub fn has_column(columns: &[SourceColumn], name: &str) -> bool
     ensures { result ≡ list_any (has_name name.now) (all_titled columns.now) }
 {
     'columns: for column in columns {
-        if column.name.as_str() == name {
+        if column.has_name(name) {
             return true;
         }
     }
@@ -30,7 +30,7 @@ pub fn place_named(columns: &[SourceColumn], name: &str) -> usize
 {
     let mut place = 0;
     'columns: for column in columns {
-        if column.name.as_str() == name {
+        if column.has_name(name) {
             return place;
         }
         place += 1;

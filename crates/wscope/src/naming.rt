@@ -1,51 +1,69 @@
-//! The functions of the language by their names, and what they take.
+//! Names, and the functions of the language by them.
 
-ghost use Rattle.std.specs.Prelude.{◌≡◌};
+ghost use Rattle.std.specs.Prelude.{◌≡◌, bytes_eq, true};
 ghost use Rattle.wscope.specs.Functions.{function_of as function_named, is_aggregate as is_aggregate_function, takes as may_take};
 
 use crate::function::Function;
+
+// Whether two names end in one byte.
+fn ends_like(name: &[u8], other: &[u8]) -> bool
+    ensures { name.now ≡ other.now → result ≡ true }
+{
+    name.last() == other.last()
+}
+
+/// Whether two names are one. Most names that are not are told apart by their last bytes, in a part of the time that comparing
+/// them takes.
+pub(crate) fn is_same_name(name: &str, other: &str) -> bool
+    ensures { result ≡ bytes_eq name.now other.now }
+{
+    if !ends_like(name.as_bytes(), other.as_bytes()) {
+        return false;
+    }
+    name == other
+}
 
 /// The function of this name, in small letters.
 pub fn function_of(name: &str) -> Option<Function>
     ensures { result ≡ function_named name.now }
 {
-    if name == "row_number" {
+    if is_same_name(name, "row_number") {
         return Some(Function::RowNumber);
     }
-    if name == "rank" {
+    if is_same_name(name, "rank") {
         return Some(Function::Rank);
     }
-    if name == "dense_rank" {
+    if is_same_name(name, "dense_rank") {
         return Some(Function::DenseRank);
     }
-    if name == "ntile" {
+    if is_same_name(name, "ntile") {
         return Some(Function::Ntile);
     }
-    if name == "lag" {
+    if is_same_name(name, "lag") {
         return Some(Function::Lag);
     }
-    if name == "lead" {
+    if is_same_name(name, "lead") {
         return Some(Function::Lead);
     }
-    if name == "first_value" {
+    if is_same_name(name, "first_value") {
         return Some(Function::FirstValue);
     }
-    if name == "last_value" {
+    if is_same_name(name, "last_value") {
         return Some(Function::LastValue);
     }
-    if name == "nth_value" {
+    if is_same_name(name, "nth_value") {
         return Some(Function::NthValue);
     }
-    if name == "count" {
+    if is_same_name(name, "count") {
         return Some(Function::Count);
     }
-    if name == "sum" {
+    if is_same_name(name, "sum") {
         return Some(Function::Sum);
     }
-    if name == "min" {
+    if is_same_name(name, "min") {
         return Some(Function::Min);
     }
-    if name == "max" {
+    if is_same_name(name, "max") {
         return Some(Function::Max);
     }
     None

@@ -15,7 +15,7 @@ fn named(columns: &[SourceColumn], name: &str) -> DataType
     ensures { result ≡ type_named (all_titled columns.now) name.now }
 {
     'columns: for column in columns {
-        if column.name.as_str() == name {
+        if column.has_name(name) {
             return column.data_type;
         }
     }
