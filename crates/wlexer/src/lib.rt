@@ -4,7 +4,7 @@
 //! - Promises: tokens and faults are those of the definitions, which allow one reading of a text; each byte is
 //!   looked at a few times at most, however long the text.
 //! - Asks nothing: any bytes may be handed in.
-//! - Leaves the grammar to `wparser`.
+//! - Leaves the grammar to `wexpressions` and `wparser`.
 //!
 //! Read `specs/Token.antt`, `specs/Bytes.antt`, `specs/Keywords.antt`, `specs/Symbols.antt`, then
 //! `specs/Spelling.antt` and `specs/Lexing.antt`.

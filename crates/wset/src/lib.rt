@@ -11,7 +11,7 @@
 //! - Asks: of `take_beside`, that both sets have one declaration; of `live_at` and `has_run`, that there is such a
 //!   live name.
 //! - Leaves reading to `wsegment`, runs and their merge to `wruns`, what is held of a name and the blocks of entries to
-//!   `wentries`, files and streams to `wexchange`.
+//!   `wentries`, files to `wexchange` and streams to `wstream`.
 //!
 //! Read `specs/Knowledge.antt` of `wentries`, `specs/Views.antt`, `specs/Items.antt`, `specs/Laws.antt`,
 //! `specs/Tables.antt`, then `specs/Words.antt`, `specs/Listing.antt`, `specs/Sets.antt`, `specs/Lending.antt` and the first

@@ -8,7 +8,8 @@
 //!   asked for more, all commands that it gave are answered and the replies written (`step`). Nodes that know the same
 //!   answer the same (`laws`). A node is what it knows, and a refused command changes nothing.
 //! - Asks: a reader and a writer that have counted nothing yet.
-//! - Leaves segments to `wsegment`, names to `wset`, files and streams to `wexchange`, reading commands to `wscript`.
+//! - Leaves segments to `wsegment`, names to `wset`, files to `wexchange`, streams to `wstream`, and reading commands to
+//!   `wscript`.
 //!
 //! Read `specs/Replies.antt` and `specs/History.antt` behind `specs/Commands.antt` of `wscript`, then `specs/Laws.antt` and
 //! `specs/Runs.antt`; the others say how the code stands for them.
