@@ -12,7 +12,7 @@ use Rattle.wscope.specs.Finding.{finds}
 use Rattle.wscope.specs.Scope.{is_output, some_anywhere, some_entry, some_item, some_option, some_shown, some_sort}
 use Rattle.wscope.specs.Seeking.{found_or, some_below, some_tree, some_link, some_given, some_filter, some_reach, some_key}
 use Rattle.wscope.specs.Types.{Titled}
-use Rattle.wdistinct.specs.declared.calls.CallKind.TheVariants.{Windowed}
+use Rattle.wdistinct.specs.declared.distinct_calls.CallKind.TheVariants.{Windowed}
 use Rattle.wdistinct.specs.Calls.{is_call_of, node_or, nodes_below, nodes_given, nodes_in, nodes_in_filter, nodes_in_items, nodes_in_keys, nodes_in_links, nodes_in_order, nodes_in_reach, nodes_in_trees, window_calls, with_new}
 
 -- a node that is looked for and not refused

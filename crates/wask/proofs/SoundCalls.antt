@@ -14,7 +14,7 @@ use Rattle.wnames.specs.Calls.{counts_some, is_nonzero, is_zeroth, passes_at}
 use Rattle.wwindows.specs.Windows.{is_over_unknown, reach_is}
 use Rattle.wcalls.specs.Sound.{is_sound_function}
 use Rattle.wplanner.specs.Sound.{is_sound_call}
-use Rattle.wdistinct.specs.declared.calls.CallKind.TheVariants.{Windowed}
+use Rattle.wdistinct.specs.declared.distinct_calls.CallKind.TheVariants.{Windowed}
 use Rattle.wdistinct.specs.Calls.{is_call_of}
 use Rattle.wbinding.specs.Resolving.{Layout}
 use Rattle.wbinding.specs.Functions.{call_function, function_made, number_or, tree_at}

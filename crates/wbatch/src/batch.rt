@@ -7,8 +7,8 @@ ghost use Rattle.wbatch.specs.Deliveries.{Adds, AddsAll, IsNext, IsReady, item_o
 ghost use Rattle.wbatch.specs.Streams.{IsDelivered, IsUndelivered, Stops, stream_text};
 
 use crate::delivery::{Delivery, delivered};
-use crate::place::{Place, Stands};
 use crate::stop::Stop;
+use crate::stopped_at::{Place, Stands};
 use std::alloc::Global;
 use std::marker::Model;
 use wsegment::Schema;

@@ -12,10 +12,10 @@
 
 mod batch;
 mod delivery;
-mod place;
 mod stop;
+mod stopped_at;
 
 pub use batch::Batch;
 pub use delivery::Delivery;
-pub use place::{Place, Stands};
 pub use stop::Stop;
+pub use stopped_at::{Place, Stands};

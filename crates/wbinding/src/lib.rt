@@ -15,10 +15,10 @@
 #![tactic(auto)]
 
 mod arguments;
+mod bound_expressions;
 mod functions;
 mod groups;
 mod layout;
-mod making;
 mod resolving;
 
 pub use functions::{build_function, build_option};

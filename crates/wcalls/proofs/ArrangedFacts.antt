@@ -173,9 +173,9 @@ answers_long answer all rows low (s ∷ ss) high tiles h =
     omega (arith, length-append here others)
 
 -- answers in a window's order, where none is out of range
-pub all_answers : (answers : List (Option Meaning)) (told : List Meaning) (b : Bool) → list_any is_none answers ≡ b → unless b OutOfRange (tt {0}) ≡ Ok (tt {0}) → told ≡ answer_values answers → in_range answers ≡ Ok told
-all_answers answers told true e h same = absurd (cc)
-all_answers answers told false e h same = ap (λ b. unless b OutOfRange (answer_values answers)) e ∙ ap Ok (sym same)
+pub all_answers : (answers : List (Option Meaning)) (answer : List Meaning) (b : Bool) → list_any is_none answers ≡ b → unless b OutOfRange (tt {0}) ≡ Ok (tt {0}) → answer ≡ answer_values answers → in_range answers ≡ Ok answer
+all_answers answers answer true e h same = absurd (cc)
+all_answers answers answer false e h same = ap (λ b. unless b OutOfRange (answer_values answers)) e ∙ ap Ok (sym same)
 
 module _ {X : Type 0} (cmp : X → X → Ordering) (p : X → Bool) where
   swapped : (a b c : Bool) → (a || (b || c)) ≡ (b || (a || c))

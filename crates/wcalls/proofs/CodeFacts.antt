@@ -23,8 +23,8 @@ use Rattle.wrows.proofs.RowFacts.{places_below, length-places}
 use Rattle.wcalls.specs.RowOrders.{IsRowOrder}
 
 module _ (keys : List SortKey) (lists : List (List Meaning)) (rows : List ℕ) where
-  pub told_by_codes : (codes : List ℕ) → AreRowCodes keys lists codes → All (λ i. i < length codes) rows → TellApart (keys_cmp keys) (map (key_at lists) rows) (map (code_at codes) rows)
-  told_by_codes codes told below = record {
+  pub apart_by_codes : (codes : List ℕ) → AreRowCodes keys lists codes → All (λ i. i < length codes) rows → TellApart (keys_cmp keys) (map (key_at lists) rows) (map (code_at codes) rows)
+  apart_by_codes codes answer below = record {
     len = length-map rows (code_at codes) ∙ sym (length-map rows (key_at lists));
     alike = λ i j hi hj.
         let li : i < length rows = omega (arith, hi, length-map rows (key_at lists)) in
@@ -34,15 +34,15 @@ module _ (keys : List SortKey) (lists : List (List Meaning)) (rows : List ℕ) w
         ap (λ x. x == get_or (map (code_at codes) rows) j 0) (get_or-map (code_at codes) rows i 0 0 li)
         ∙ ap (λ y. code_at codes a == y) (get_or-map (code_at codes) rows j 0 0 lj)
         ∙ sym (unsigned_tied (code_at codes a) (code_at codes b))
-        ∙ ap is_eq (told.alike a b (omega (arith, below i 0 li, told.len)) (omega (arith, below j 0 lj, told.len)))
+        ∙ ap is_eq (answer.alike a b (omega (arith, below i 0 li, answer.len)) (omega (arith, below j 0 lj, answer.len)))
         ∙ ap (λ x. is_eq (keys_cmp keys x (key_at lists b))) (sym (get_or-map (key_at lists) rows i 0 [] li))
         ∙ ap (λ y. is_eq (keys_cmp keys (key_at (map (key_at lists) rows) i) y)) (sym (get_or-map (key_at lists) rows j 0 [] lj));
   }
 
   -- codes that may be lacking reach each row
   pub codes_reach : (n : ℕ) (codes : Option (Vec ℕ Global)) → length lists ≡ n → IfSome codes (λ c. AreRowCodes keys lists c.items) → All (λ i. i < n) rows → IfSome codes (λ c. All (λ i. i < length c.items) rows)
-  codes_reach n None long told below = tt
-  codes_reach n (Some c) long told below = λ k d h. omega (arith, below k d h, told.len, long)
+  codes_reach n None long answer below = tt
+  codes_reach n (Some c) long answer below = λ k d h. omega (arith, below k d h, answer.len, long)
 
 -- rows by two codes of each are rows by their partition values and then by their keys
 module _ (vo ko : List SortKey) (V K : List (List Meaning)) (firsts seconds : List ℕ) (tv : AreRowCodes vo V firsts) (tk : AreRowCodes ko K seconds) (same : length firsts ≡ length seconds) where
@@ -84,6 +84,6 @@ module _ (vo ko : List SortKey) (V K : List (List Meaning)) (firsts seconds : Li
     order = stand rows.items is;
     below = below rows.items is;
     len = long rows.items is;
-    value_codes = subst (TellApart (keys_cmp vo) (map (key_at V) rows.items)) (sym firsts_are) (told_by_codes vo V rows.items firsts tv (λ i d h. omega (arith, below rows.items is i d h, same)));
-    key_codes = subst (TellApart (keys_cmp ko) (map (key_at K) rows.items)) (sym seconds_are) (told_by_codes ko K rows.items seconds tk (below rows.items is));
+    value_codes = subst (TellApart (keys_cmp vo) (map (key_at V) rows.items)) (sym firsts_are) (apart_by_codes vo V rows.items firsts tv (λ i d h. omega (arith, below rows.items is i d h, same)));
+    key_codes = subst (TellApart (keys_cmp ko) (map (key_at K) rows.items)) (sym seconds_are) (apart_by_codes ko K rows.items seconds tk (below rows.items is));
   }

@@ -41,10 +41,10 @@ one_each t ts rows n column only long e =
     taken (Ok x) = x
     taken (Err e) = []
 
-    told : List Row
-    told = map (λ row. map (λ t. value_on t row) (t ∷ [])) rows
+    answer : List Row
+    answer = map (λ row. map (λ t. value_on t row) (t ∷ [])) rows
 
-    go : (a b : Bool) → a ≡ b → unless a OutOfRange told ≡ Ok (laid 1 n column) → unless b OutOfRange (map (value_on t) rows) ≡ Ok (map meaning column)
+    go : (a b : Bool) → a ≡ b → unless a OutOfRange answer ≡ Ok (laid 1 n column) → unless b OutOfRange (map (value_on t) rows) ≡ Ok (map meaning column)
     go true b f h = absurd (cc)
     go false true f h = absurd (cc)
     go false false f h = ap Ok (sym (map-map first_of (λ row. map (λ t. value_on t row) (t ∷ [])) rows) ∙ ap (λ r. map first_of (taken r)) h ∙ firsts_laid n column long)

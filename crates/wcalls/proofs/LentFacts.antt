@@ -25,5 +25,5 @@ lent_as w n lent cells e = lent_rows w n lent ∙ ap (laid w n) e
 
 -- rows of lent cells under the names of those who lend them
 pub listed_by : (rows : KeyRows) (ks js : List SortKey) (n m : ℕ) (lent cells : List (Bor Value)) (lists : List (List Meaning)) → key_lists rows ≡ rows_of (length ks) n lent → ks ≡ js → n ≡ m → lent ≡ cells → rows_of (length js) m cells ≡ lists → key_lists rows ≡ lists
-listed_by rows ks js n m lent cells lists told by count same e =
-    told ∙ ap (λ (k : List SortKey). rows_of (length k) n lent) by ∙ ap (λ k. rows_of (length js) k lent) count ∙ ap (rows_of (length js) m) same ∙ e
+listed_by rows ks js n m lent cells lists answer by count same e =
+    answer ∙ ap (λ (k : List SortKey). rows_of (length k) n lent) by ∙ ap (λ k. rows_of (length js) k lent) count ∙ ap (rows_of (length js) m) same ∙ e

@@ -1,9 +1,11 @@
 -- Lists of values of rows, and what is made of them.
-use Rattle.std.proofs.Common.{◌≡◌, ℕ, ◌+◌, ◌*◌, ◌<◌, List, [], ◌∷◌, ◌++◌, length, map, take, drop, get_or, refl, sym, ap, ◌∙◌, arith}
-use Rattle.std.specs.Prelude.{All, ◌≤◌, ◌^◌}
+use Rattle.std.proofs.Common.{◌≡◌, Bool, Option, None, Some, Vec, Global, true, false, zero, suc, ℕ, ◌+◌, ◌*◌, ◌<◌, ◌==◌, List, [], ◌∷◌, ◌++◌, length, map, take, drop, get_or, refl, sym, ap, subst, ◌∙◌, arith}
+use Rattle.std.specs.Prelude.{All, IfSome, ◌≤◌, ◌^◌}
 use Rattle.std.specs.Borrow.{Bor}
 use Rattle.std.specs.List.{AllByRecursion, flat_map}
-use Rattle.std.specs.Ordering.{on}
+use Rattle.std.specs.Ordering.{is_eq, on}
+use Rattle.std.specs.declared.cmp.Ordering.{Ordering}
+use Rattle.std.specs.declared.cmp.Ordering.TheVariants.{Less, Equal, Greater}
 use Rattle.std.proofs.lemmas.Cmp.{on_total}
 use Rattle.std.proofs.lemmas.List.{get_or-map, length-map, map-append, take_more}
 use Rattle.std.proofs.lemmas.List.Elements.{All-from_recursion, All-same, recursion_from_All}
@@ -12,8 +14,9 @@ use Rattle.wvalues.specs.declared.value.Value.{Value}
 use Rattle.wvalues.specs.declared.value.Value.TheVariants as values
 use Rattle.wvalues.specs.Meaning.{Meaning, Null, meaning}
 use Rattle.wvalues.specs.Order.{keys_cmp}
-use Rattle.wvalues.specs.OrderLaws.{keys_total}
+use Rattle.wvalues.specs.OrderLaws.{keys_total, ties_are_same}
 use Rattle.wframe.specs.Cells.{meanings, rows_of}
+use Rattle.wframe.specs.Codes.{TellApart}
 use Rattle.wframe.specs.Peers.{key_at}
 use Rattle.wframe.specs.Sorting.{sorted}
 use Rattle.wframe.proofs.SortFacts.{all_sorted, length_sorted}
@@ -62,7 +65,13 @@ plain_count l columns e =
 
 -- codes of the only key are codes of the rows
 pub one_key_codes : (l : RowLists) (orders : List SortKey) (codes : List ℕ) → width_of l ≡ length orders → length orders ≡ 1 → length (lists_in l) ≤ 2 ^ 32 → AreCodes (key_of orders 0) (key_column 0 (lists_in l)) codes → AreRowCodes orders (lists_in l) codes
-one_key_codes l orders codes wide one few told = codes_of_one_key orders (lists_in l) codes one few (λ i h. width_at l i h ∙ wide) told
+one_key_codes l orders codes wide one few answer = codes_of_one_key orders (lists_in l) codes one few (λ i h. width_at l i h ∙ wide) answer
+
+-- the same of codes that may be lacking
+pub one_key_found : (l : RowLists) (orders : List SortKey) (found : Option (Vec ℕ Global)) → width_of l ≡ length orders → length orders ≡ 1 → length (lists_in l) ≤ 2 ^ 32 → IfSome found (λ codes. AreCodes (key_of orders 0) (key_column 0 (lists_in l)) codes.items)
+    → IfSome found (λ codes. AreRowCodes orders (lists_in l) codes.items)
+one_key_found l orders None wide one few answer = tt
+one_key_found l orders (Some codes) wide one few answer = one_key_codes l orders codes.items wide one few answer
 
 module _ (l : RowLists) (orders : List SortKey) (wide : width_of l ≡ length orders) where
   all_wide : (numbers : List ℕ) → AllByRecursion (λ i. i < length (lists_in l)) numbers → AllByRecursion (λ i. length (key_at (lists_in l) i) ≡ length orders) numbers
@@ -90,3 +99,57 @@ module _ (keys : List SortKey) (lists : List (List Meaning)) (rows order : List 
 
   pub sorted_long : length order ≡ length rows
   sorted_long = ap length is ∙ length_sorted (on (key_at lists) (keys_cmp keys)) (on_total (key_at lists) (keys_total keys)) rows
+
+-- a row that stands before a place has the values of the one right before it
+pub record HasValuesBefore (lists : List (List Meaning)) (numbers : List ℕ) (place row : ℕ) : Type 0 where
+  pub below : (j : ℕ) → place ≡ j + 1 → row < length lists
+  pub same : (j : ℕ) → place ≡ j + 1 → key_at lists row ≡ key_at lists (get_or numbers j 0)
+
+tied : (o : Ordering) → is_eq o ≡ true → o ≡ Equal
+tied Less h = absurd (cc)
+tied Equal h = refl
+tied Greater h = absurd (cc)
+
+either_way : {P : Type 0} (b : Bool) → (b ≡ false → P) → (b ≡ true → P) → P
+either_way true f g = g refl
+either_way false f g = f refl
+
+-- rows of one code have the same values
+module _ (l : RowLists) (orders : List SortKey) (wide : width_of l ≡ length orders) (numbers codes : List ℕ) (below : All (λ i. i < length (lists_in l)) numbers) (apart : TellApart (keys_cmp orders) (map (key_at (lists_in l)) numbers) codes) where
+  same_values : (i j : ℕ) → i < length numbers → j < length numbers → (get_or codes i 0 == get_or codes j 0) ≡ true → key_at (lists_in l) (get_or numbers i 0) ≡ key_at (lists_in l) (get_or numbers j 0)
+  same_values i j hi hj h =
+      let lists = lists_in l in
+      let a = key_at lists (get_or numbers i 0) in
+      let b = key_at lists (get_or numbers j 0) in
+      let e : key_at (map (key_at lists) numbers) i ≡ a = get_or-map (key_at lists) numbers i 0 [] hi in
+      let f : key_at (map (key_at lists) numbers) j ≡ b = get_or-map (key_at lists) numbers j 0 [] hj in
+      let long = length-map numbers (key_at lists) in
+      let peers : is_eq (keys_cmp orders (key_at (map (key_at lists) numbers) i) (key_at (map (key_at lists) numbers) j)) ≡ true = sym (apart.alike i j (omega (arith, hi, long)) (omega (arith, hj, long))) ∙ h in
+      let equal : is_eq (keys_cmp orders a b) ≡ true = subst (λ y. is_eq (keys_cmp orders a y) ≡ true) f (subst (λ x. is_eq (keys_cmp orders x (key_at (map (key_at lists) numbers) j)) ≡ true) e peers) in
+      ties_are_same orders a b (width_at l (get_or numbers i 0) (below i 0 hi) ∙ wide) (width_at l (get_or numbers j 0) (below j 0 hj) ∙ wide) (tied (keys_cmp orders a b) equal)
+
+  -- the row that is looked at for a place, by what it is chosen by
+  pub has_values : (place row next : ℕ) → place < length numbers → HasValuesBefore (lists_in l) numbers place row
+      → (place ≡ 0 → next ≡ get_or numbers place 0)
+      → ((j : ℕ) → place ≡ j + 1 → (get_or codes j 0 == get_or codes place 0) ≡ false → next ≡ get_or numbers place 0)
+      → ((j : ℕ) → place ≡ j + 1 → (get_or codes j 0 == get_or codes place 0) ≡ true → next ≡ row)
+      → (next < length (lists_in l)) × (key_at (lists_in l) next ≡ key_at (lists_in l) (get_or numbers place 0))
+  has_values zero row next h before start differs alike = itself zero next h (start refl)
+    where
+      itself : (place next : ℕ) → place < length numbers → next ≡ get_or numbers place 0 → (next < length (lists_in l)) × (key_at (lists_in l) next ≡ key_at (lists_in l) (get_or numbers place 0))
+      itself place next h e = (subst (λ i. i < length (lists_in l)) (sym e) (below place 0 h), ap (key_at (lists_in l)) e)
+  has_values (suc j) row next h before start differs alike =
+      let step : suc j ≡ j + 1 = omega arith in
+      either_way (get_or codes j 0 == get_or codes (suc j) 0)
+      (λ f. let e = differs j step f in (subst (λ i. i < length (lists_in l)) (sym e) (below (suc j) 0 h), ap (key_at (lists_in l)) e))
+      (λ t.
+      let e = alike j step t in (
+        subst (λ i. i < length (lists_in l)) (sym e) (before.below j step),
+        ap (key_at (lists_in l)) e ∙ before.same j step ∙ same_values j (suc j) (omega arith) h t,
+      ))
+
+pub moved_on : (lists : List (List Meaning)) (numbers : List ℕ) (place row : ℕ) → row < length lists → key_at lists row ≡ key_at lists (get_or numbers place 0) → HasValuesBefore lists numbers (place + 1) row
+moved_on lists numbers place row h e = record {
+  below = λ j f. h;
+  same = λ j f. let at : place ≡ j = omega arith in e ∙ ap (λ k. key_at lists (get_or numbers k 0)) at;
+}

@@ -28,9 +28,9 @@ place_is a zero k d h = absurd (omega arith)
 place_is a (suc n) zero d h = omega arith
 place_is a (suc n) (suc k) d h = place_is (a + 1) n k d (omega arith) ∙ omega arith
 
--- what is told for a place
-pub told_at : (f : ℕ → Meaning) (n k : ℕ) → k < n → f k ≡ get_or (map f (places n)) k Null
-told_at f n k h = let z : 0 + k ≡ k = omega arith in sym (get_or-map f (places n) k 0 Null (omega (arith, h, length-places 0 n)) ∙ ap f (place_is 0 n k 0 h ∙ z))
+-- what is answered for a place
+pub answer_at : (f : ℕ → Meaning) (n k : ℕ) → k < n → f k ≡ get_or (map f (places n)) k Null
+answer_at f n k h = let z : 0 + k ≡ k = omega arith in sym (get_or-map f (places n) k 0 Null (omega (arith, h, length-places 0 n)) ∙ ap f (place_is 0 n k 0 h ∙ z))
 
 -- all values
 pub all_values : {X : Type 0} (meant : X → Meaning) (rows : List ℕ) (values : List Meaning) (k : ℕ) (cells : List X) (end : List Meaning) → length rows ≤ k → put_all (map meant cells) (drop k rows) (drop k values) ≡ end → map meant cells ≡ end

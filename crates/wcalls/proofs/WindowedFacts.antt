@@ -29,25 +29,25 @@ same_order v a vo ao k b ko bo p q r s =
 lists_long : (ts : List Formula) (rows : List Row) (lists : List (List Meaning)) → lists_of ts rows ≡ Ok lists → length lists ≡ length rows
 lists_long ts rows lists e = go _ e
   where
-    told : List (List Meaning)
-    told = map (λ row. map (λ t. value_on t row) ts) rows
+    answer : List (List Meaning)
+    answer = map (λ row. map (λ t. value_on t row) ts) rows
 
-    go : (b : Bool) → unless b OutOfRange told ≡ Ok lists → length lists ≡ length rows
+    go : (b : Bool) → unless b OutOfRange answer ≡ Ok lists → length lists ≡ length rows
     go true h = absurd (cc)
-    go false h = let same : told ≡ lists = cc in sym (ap length same) ∙ length-map rows (λ row. map (λ t. value_on t row) ts)
+    go false h = let same : answer ≡ lists = cc in sym (ap length same) ∙ length-map rows (λ row. map (λ t. value_on t row) ts)
 
 -- the frame plays no part in the order
 pub shared_order : (rows : List Row) (a b : WindowPlan) → a.partition ≡ b.partition → a.keys ≡ b.keys → ordered_rows rows a ≡ ordered_rows rows b
 shared_order rows a b p k =
     apart a
-    ∙ ap (λ (ts : List Formula). told ts (ascending ts) a.keys) p
-    ∙ ap (told b.partition (ascending b.partition)) k
+    ∙ ap (λ (ts : List Formula). answer ts (ascending ts) a.keys) p
+    ∙ ap (answer b.partition (ascending b.partition)) k
     ∙ sym (apart b)
   where
-    told : List Formula → List SortKey → List KeyPlan → Result Ordered AnswerFault
-    told ts by keys = lists_of ts rows >>= λ V. lists_of (map (λ k. k.value) keys) rows >>= λ K. Ok (ordered_by V by K (map (λ k. k.order) keys))
+    answer : List Formula → List SortKey → List KeyPlan → Result Ordered AnswerFault
+    answer ts by keys = lists_of ts rows >>= λ V. lists_of (map (λ k. k.value) keys) rows >>= λ K. Ok (ordered_by V by K (map (λ k. k.order) keys))
 
-    apart : (w : WindowPlan) → ordered_rows rows w ≡ told w.partition (ascending w.partition) w.keys
+    apart : (w : WindowPlan) → ordered_rows rows w ≡ answer w.partition (ascending w.partition) w.keys
     apart w = go (lists_of w.partition rows) (lists_of (map (λ k. k.value) w.keys) rows)
       where
         go : (values keys : Result (List (List Meaning)) AnswerFault)
@@ -81,7 +81,7 @@ module _ (rows : List Row) (plan : WindowPlan) where
       go : (values keys : Result (List (List Meaning)) AnswerFault) → lists_of plan.partition rows ≡ values → lists_of (map (λ k. k.value) plan.keys) rows ≡ keys → Opened rows plan order
       go (Ok V) (Ok K) e f =
           let is : windowed rows plan ≡ Ok (of_keys V K) = windowed_is V K e f in
-          let told : ordered_rows rows plan ≡ Ok (in_order (of_keys V K)) = then_ok (of_keys V K) (windowed rows plan) (λ w. Ok (in_order w)) is in
+          let answer : ordered_rows rows plan ≡ Ok (in_order (of_keys V K)) = then_ok (of_keys V K) (windowed rows plan) (λ w. Ok (in_order w)) is in
           record {
             window = of_keys V K;
             is = is;
@@ -104,8 +104,8 @@ module _ (rows : List Row) (plan : WindowPlan) where
       ap (λ (o : Ordered). length o.rows) p.order_is
       ∙ length_sorted (whole_cmp w) (whole_total w) (places (length w.values)) ∙ length-places 0 (length w.values) ∙ p.long
 
-  pub order_told : (V K : List (List Meaning)) (vo ko : List SortKey) → lists_of plan.partition rows ≡ Ok V → lists_of (map (λ k. k.value) plan.keys) rows ≡ Ok K → vo ≡ ascending plan.partition → ko ≡ map (λ k. k.order) plan.keys → ordered_rows rows plan ≡ Ok (ordered_by V vo K ko)
-  order_told V K vo ko ev ek ev_order ek_order =
+  pub order_made : (V K : List (List Meaning)) (vo ko : List SortKey) → lists_of plan.partition rows ≡ Ok V → lists_of (map (λ k. k.value) plan.keys) rows ≡ Ok K → vo ≡ ascending plan.partition → ko ≡ map (λ k. k.order) plan.keys → ordered_rows rows plan ≡ Ok (ordered_by V vo K ko)
+  order_made V K vo ko ev ek ev_order ek_order =
       then_ok (of_keys V K) (windowed rows plan) (λ w. Ok (in_order w)) (windowed_is V K ev ek)
       ∙ ap Ok (same_order V V (ascending plan.partition) vo K K (map (λ k. k.order) plan.keys) ko refl (sym ev_order) refl (sym ek_order))
 
@@ -118,5 +118,5 @@ numbers_in (Ok numbers) = numbers
 numbers_in (Err fault) = []
 
 -- the numbers of a window's rows are those of its order
-pub told_numbers : (rows : List Row) (plan : WindowPlan) (numbers : List ℕ) (order : Ordered) → window_numbers rows plan ≡ Ok numbers → ordered_rows rows plan ≡ Ok order → numbers ≡ order.rows
-told_numbers rows plan numbers order e f = ap numbers_in (sym e ∙ ap (λ r. r >>= λ (o : Ordered). Ok o.rows) f)
+pub presorted_numbers : (rows : List Row) (plan : WindowPlan) (numbers : List ℕ) (order : Ordered) → window_numbers rows plan ≡ Ok numbers → ordered_rows rows plan ≡ Ok order → numbers ≡ order.rows
+presorted_numbers rows plan numbers order e f = ap numbers_in (sym e ∙ ap (λ r. r >>= λ (o : Ordered). Ok o.rows) f)

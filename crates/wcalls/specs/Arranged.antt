@@ -27,7 +27,7 @@ pub record IsArranged (w : Windowed) (rows : List ℕ) (all : Partitioned) : Typ
   pub tiles : Tiles 0 all.spans (length all.keys)
   pub each : All (IsPartition (keys_cmp w.value_order) (map (key_at w.values) rows)) all.spans
 
--- what a call answers for the row at a place of a partition, of which the rows are told by number; none where it is out of range
+-- what a call answers for the row at a place of a partition, of which the rows are given by number; none where it is out of range
 abbrev pub Answer : Type 0
 Answer = Partition → List ℕ → ℕ → Option Meaning
 
@@ -40,5 +40,5 @@ abbrev pub answered : Windowed → Answer → Result (List Meaning) AnswerFault
 answered w answer = in_range (each_row w (answer_on w answer))
 
 -- the value of the row at a place of a partition, or a default
-abbrev pub told_value : List Meaning → List ℕ → Meaning → Option ℕ → Meaning
-told_value values rows default place = unwrap_or (option_map (λ j. value_at values (slice_index_or rows j 0)) place) default
+abbrev pub value_read : List Meaning → List ℕ → Meaning → Option ℕ → Meaning
+value_read values rows default place = unwrap_or (option_map (λ j. value_at values (slice_index_or rows j 0)) place) default

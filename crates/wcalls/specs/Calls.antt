@@ -16,6 +16,6 @@ each_row w answer = map answer (places (length w.values))
 abbrev pub numbers : Windowed → (ℕ → ℕ) → Result (List Meaning) AnswerFault
 numbers w count = Ok (each_row w (λ i. Int (pos (count i))))
 
--- for each row the value at the place that is told for it in its partition, or else the default
-abbrev pub values_told : Windowed → Formula → List Row → Meaning → (ℕ → Option ℕ) → Result (List Meaning) AnswerFault
-values_told w t rows default told = column_of t rows >>= λ values. Ok (each_row w (λ i. unwrap_or (option_map (λ place. value_at values (row_at w i place)) (told i)) default))
+-- for each row the value at the place that is read for it in its partition, or else the default
+abbrev pub values_read : Windowed → Formula → List Row → Meaning → (ℕ → Option ℕ) → Result (List Meaning) AnswerFault
+values_read w t rows default answer = column_of t rows >>= λ values. Ok (each_row w (λ i. unwrap_or (option_map (λ place. value_at values (row_at w i place)) (answer i)) default))

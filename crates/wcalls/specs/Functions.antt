@@ -10,7 +10,7 @@ use Rattle.wrows.specs.Outcomes.{◌>>=◌, each}
 use Rattle.wrows.specs.Columns.{Row, in_range}
 use Rattle.waggregate.specs.Aggregating.{feed_of, aggregate_of}
 use Rattle.wcalls.specs.Windows.{Windowed, windowed, partition_rows, partition_at, place_at, frame_of}
-use Rattle.wcalls.specs.Calls.{each_row, numbers, values_told}
+use Rattle.wcalls.specs.Calls.{each_row, numbers, values_read}
 
 -- the column of a function on rows
 abbrev pub function_column : List Row → Windowed → FunctionPlan → Result (List Meaning) AnswerFault
@@ -18,11 +18,11 @@ function_column rows w RowNumber = numbers w (λ i. row_number_of (partition_at 
 function_column rows w Rank = numbers w (λ i. rank_of (partition_at w i) (place_at w i))
 function_column rows w DenseRank = numbers w (λ i. dense_rank_of (partition_at w i) (place_at w i))
 function_column rows w (Tile n) = numbers w (λ i. tile_of (length (partition_rows w i)) n (place_at w i))
-function_column rows w (Lag t n d) = values_told w t rows d (λ i. lag_place n (place_at w i))
-function_column rows w (Lead t n d) = values_told w t rows d (λ i. lead_place (length (partition_rows w i)) n (place_at w i))
-function_column rows w (FirstValue t) = values_told w t rows Null (λ i. first_place (partition_at w i) (place_at w i))
-function_column rows w (LastValue t) = values_told w t rows Null (λ i. last_place (partition_at w i) (place_at w i))
-function_column rows w (NthValue t n) = values_told w t rows Null (λ i. nth_place (partition_at w i) n (place_at w i))
+function_column rows w (Lag t n d) = values_read w t rows d (λ i. lag_place n (place_at w i))
+function_column rows w (Lead t n d) = values_read w t rows d (λ i. lead_place (length (partition_rows w i)) n (place_at w i))
+function_column rows w (FirstValue t) = values_read w t rows Null (λ i. first_place (partition_at w i) (place_at w i))
+function_column rows w (LastValue t) = values_read w t rows Null (λ i. last_place (partition_at w i) (place_at w i))
+function_column rows w (NthValue t n) = values_read w t rows Null (λ i. nth_place (partition_at w i) n (place_at w i))
 function_column rows w (Aggregated a) = feed_of a rows >>= λ feed. in_range (each_row w (λ i. aggregate_of a.function feed (frame_of w i)))
 
 -- the columns of several functions of a window on rows

@@ -5,7 +5,7 @@ use Rattle.wframe.specs.Codes.{TellApart}
 use Rattle.wframe.specs.Peers.{AreOrdered, AreOrderedWithin, key_at}
 use Rattle.wcalls.specs.Listed.{lists_in}
 use Rattle.wcalls.specs.Ordered.{Ordered}
-use Rattle.wcalls.specs.declared.window.WindowOrder.TheInside.{Inside}
+use Rattle.wcalls.specs.declared.window_order.WindowOrder.TheInside.{Inside}
 
 abbrev pub order_of : Inside → Ordered
 order_of o = record {

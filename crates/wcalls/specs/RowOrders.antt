@@ -1,4 +1,4 @@
--- What is told of rows that were sorted by partition values and by keys, a list for each row.
+-- What is known of rows that were sorted by partition values and by keys, a list for each row.
 use Rattle.std.specs.Prelude.{◌≡◌, ◌<◌, ℕ, List, All, IfSome, length, map}
 use Rattle.std.specs.Ordering.{on}
 use Rattle.wvalues.specs.declared.key.SortKey.{SortKey}
@@ -8,7 +8,7 @@ use Rattle.wframe.specs.Codes.{TellApart}
 use Rattle.wframe.specs.Peers.{key_at}
 use Rattle.wframe.specs.Sorting.{sorted}
 use Rattle.wrows.specs.Plain.{numbers_by}
-use Rattle.wcalls.specs.declared.window.RowOrder.{RowOrder}
+use Rattle.wcalls.specs.declared.window_order.RowOrder.{RowOrder}
 
 -- the numbers of so many rows by partition values, by keys and then by number, and codes that tell apart what they have there
 pub record IsRowOrder (value_order : List SortKey) (values : List (List Meaning)) (key_order : List SortKey) (keys : List (List Meaning)) (count : ℕ) (o : RowOrder) : Type 0 where

@@ -6,7 +6,7 @@ ghost use Rattle.wplan.specs.Plans.{function_plan};
 ghost use Rattle.wrows.specs.Outcomes.{Gives};
 ghost use Rattle.wrows.specs.Laid.{rows_seen};
 ghost use Rattle.wcalls.specs.Windows.{Windowed, partition_at, partition_rows, place_at};
-ghost use Rattle.wcalls.specs.Calls.{numbers, values_told};
+ghost use Rattle.wcalls.specs.Calls.{numbers, values_read};
 ghost use Rattle.wcalls.specs.Functions.{function_column};
 ghost use Rattle.wcalls.specs.Arranged.{IsArranged};
 ghost use Rattle.wcalls.specs.Sound.{is_sound_function};
@@ -14,9 +14,9 @@ ghost use Rattle.wcalls.specs.Joins.{most_of_function};
 
 use crate::aggregated::aggregated_column;
 use crate::arranged::ArrangedRows;
-use crate::calls::put_told;
-use crate::numbered::{Counted, Counts, DenseRank, Rank, RowNumber, Tile};
-use crate::told::{FirstValue, Lag, LastValue, Lead, NthValue, RowPlaces, Told};
+use crate::counts::{Counted, Counts, DenseRank, Rank, RowNumber, Tile};
+use crate::other_rows::{FirstValue, Lag, LastValue, Lead, NthValue, OtherRow, RowPlaces};
+use crate::row_function::put_answers;
 use crate::values::column_values;
 use std::alloc::Global;
 use waggregate::Tally;
@@ -35,12 +35,12 @@ fn counted_column<N: Counts + Copy>(
     ensures { (w : Windowed) → IsArranged w arranged.now.order.now arranged.now.partitions.now → Gives (λ _. map meaning column.new) result (numbers w (λ i. N.count_at counts (length (partition_rows w i)) (partition_at w i) (place_at w i))) }
 {
     let call = Counted { counts };
-    put_told(alloc, &call, arranged, column)?;
+    put_answers(alloc, &call, arranged, column)?;
     Ok(())
 }
 
-// Puts the column of a function that tells values.
-fn told_column<P: RowPlaces + Copy>(
+// Puts the column of a function that reads other rows.
+fn other_row_column<P: RowPlaces + Copy>(
     alloc: Global,
     places: P,
     expr: &Expr,
@@ -49,20 +49,20 @@ fn told_column<P: RowPlaces + Copy>(
     column: &mut [Value],
 ) -> Result<(), AnswerFault>
     requires { length column.old ≡ length arranged.now.order.now }
-    ensures { (w : Windowed) → IsArranged w arranged.now.order.now arranged.now.partitions.now → Gives (λ _. map meaning column.new) result (values_told w (formula expr.now) (rows_seen arranged.now.rows.now) (meaning default.now) (λ i. P.place_told places (length (partition_rows w i)) (partition_at w i) (place_at w i))) }
+    ensures { (w : Windowed) → IsArranged w arranged.now.order.now arranged.now.partitions.now → Gives (λ _. map meaning column.new) result (values_read w (formula expr.now) (rows_seen arranged.now.rows.now) (meaning default.now) (λ i. P.place_read places (length (partition_rows w i)) (partition_at w i) (place_at w i))) }
 {
     let values = column_values(alloc, expr, arranged.rows)?;
-    let call = Told {
+    let call = OtherRow {
         places,
         values,
         default,
     };
-    put_told(alloc, &call, arranged, column)?;
+    put_answers(alloc, &call, arranged, column)?;
     Ok(())
 }
 
-// Puts the column of a function that tells values, or null where it tells none.
-fn told_or_null<P: RowPlaces + Copy>(
+// Puts the column of a function that reads other rows, null where it reads none.
+fn other_row_or_null<P: RowPlaces + Copy>(
     alloc: Global,
     places: P,
     expr: &Expr,
@@ -70,10 +70,10 @@ fn told_or_null<P: RowPlaces + Copy>(
     column: &mut [Value],
 ) -> Result<(), AnswerFault>
     requires { length column.old ≡ length arranged.now.order.now }
-    ensures { (w : Windowed) → IsArranged w arranged.now.order.now arranged.now.partitions.now → Gives (λ _. map meaning column.new) result (values_told w (formula expr.now) (rows_seen arranged.now.rows.now) Null (λ i. P.place_told places (length (partition_rows w i)) (partition_at w i) (place_at w i))) }
+    ensures { (w : Windowed) → IsArranged w arranged.now.order.now arranged.now.partitions.now → Gives (λ _. map meaning column.new) result (values_read w (formula expr.now) (rows_seen arranged.now.rows.now) Null (λ i. P.place_read places (length (partition_rows w i)) (partition_at w i) (place_at w i))) }
 {
     let null = Value::Null;
-    told_column(alloc, places, expr, &null, arranged, column)
+    other_row_column(alloc, places, expr, &null, arranged, column)
 }
 
 /// Puts the column of a function on rows, by number, where they stand in the window's order. The tally rises by the joins
@@ -104,7 +104,7 @@ pub(crate) fn function_column(
             default,
         } => {
             let lag = Lag { rows: *before };
-            told_column(alloc, lag, value, default, arranged, column)
+            other_row_column(alloc, lag, value, default, arranged, column)
         }
         WindowFunction::Lead {
             value,
@@ -112,17 +112,17 @@ pub(crate) fn function_column(
             default,
         } => {
             let lead = Lead { rows: *after };
-            told_column(alloc, lead, value, default, arranged, column)
+            other_row_column(alloc, lead, value, default, arranged, column)
         }
         WindowFunction::FirstValue(value) => {
-            told_or_null(alloc, FirstValue, value, arranged, column)
+            other_row_or_null(alloc, FirstValue, value, arranged, column)
         }
         WindowFunction::LastValue(value) => {
-            told_or_null(alloc, LastValue, value, arranged, column)
+            other_row_or_null(alloc, LastValue, value, arranged, column)
         }
         WindowFunction::NthValue { value, place } => {
             let nth = NthValue { n: *place };
-            told_or_null(alloc, nth, value, arranged, column)
+            other_row_or_null(alloc, nth, value, arranged, column)
         }
         WindowFunction::Aggregated(aggregate) => {
             aggregated_column(alloc, aggregate, arranged, column, tally)

@@ -21,19 +21,19 @@
 
 mod aggregated;
 mod arranged;
-mod calls;
-mod columns;
+mod counts;
+mod function_columns;
 mod functions;
 mod lending;
 mod limits;
-mod numbered;
+mod other_rows;
 mod parts;
 mod plain_lists;
+mod row_function;
 mod row_keys;
 mod row_lists;
-mod told;
 mod values;
-mod window;
+mod window_order;
 
-pub use columns::window_columns;
-pub use window::{WindowOrder, share_order};
+pub use function_columns::window_columns;
+pub use window_order::{WindowOrder, share_order};

@@ -8,6 +8,9 @@ use crate::ranks::ranked_codes;
 use std::alloc::{AllocError, Global};
 use wvalues::{SortKey, Value, Whole};
 
+/// How far before the first of its numbers a column is counted from.
+const HALF: i128 = 1 << 31;
+
 /// The codes of a column's values, counted from a base, where each has one. A value has the same code wherever it is counted
 /// from the same base, so the codes of several columns are compared if they share it.
 pub fn codes_from(
@@ -29,6 +32,19 @@ pub fn codes_from(
     Ok(Some(codes))
 }
 
+// Whether the first value of a column that is not null is a text. The values of one key are all texts or all numbers, but for
+// nulls, so this tells before a look at all of them how they have their codes.
+fn holds_texts(column: &[&Value]) -> bool {
+    for value in column {
+        match value {
+            Value::Null => {}
+            Value::Int(_) => return false,
+            Value::Text(_) => return true,
+        }
+    }
+    false
+}
+
 /// Codes for the values of a column: their distances from the first of them where they are nulls and integers that lie
 /// less than 2^32 apart, and else their ranks.
 #[tactic(auto, using(crate::proofs::CodeFacts::from_base))]
@@ -36,9 +52,47 @@ pub fn column_codes(alloc: Global, column: &[&Value], key: &SortKey) -> Result<V
     requires { length column.now ≤ 2 ^ 32 }
     ensures { IfOk result (λ codes. AreCodes key.now (values_seen column.now) codes.items) }
 {
+    if holds_texts(column) {
+        return ranked_codes(alloc, column, key);
+    }
     match codes_from(alloc, column, key, base_of(key, column)) {
         Err(refused) => Err(refused),
         Ok(Some(codes)) => Ok(codes),
         Ok(None) => ranked_codes(alloc, column, key),
+    }
+}
+
+// A number from which most columns' numbers can be counted: one that stands 2^31 before the first of them.
+fn near_base(column: &[&Value], key: &SortKey) -> Whole {
+    for value in column {
+        if let Value::Int(number) = value {
+            let step = if key.desc { HALF } else { -HALF };
+            return Whole::new(number.get() + step).unwrap_or(*number);
+        }
+    }
+    Whole::from(0)
+}
+
+/// Codes for the values of a column that holds no text. They tell values apart, and are not close to each other as those of
+/// [`column_codes`] are: where the numbers lie within 2^31 of the first of them, each is looked at once.
+#[tactic(auto, using(crate::proofs::CodeFacts::from_base))]
+pub fn number_codes(
+    alloc: Global,
+    column: &[&Value],
+    key: &SortKey,
+) -> Result<Option<Vec<u32>>, AllocError>
+    requires { length column.now ≤ 2 ^ 32 }
+    ensures { IfOk result (λ found. IfSome found (λ codes. AreCodes key.now (values_seen column.now) codes.items)) }
+{
+    if holds_texts(column) {
+        return Ok(None);
+    }
+    match codes_from(alloc, column, key, near_base(column, key)) {
+        Err(refused) => Err(refused),
+        Ok(Some(codes)) => Ok(Some(codes)),
+        Ok(None) => {
+            let codes = column_codes(alloc, column, key)?;
+            Ok(Some(codes))
+        }
     }
 }

@@ -18,5 +18,5 @@ mod foretold;
 mod ranks;
 
 pub use codes::{base_of, code_of};
-pub use columns::{codes_from, column_codes};
+pub use columns::{codes_from, column_codes, number_codes};
 pub use ranks::picked_codes;

@@ -10,7 +10,7 @@ use Rattle.wquery.specs.Tree.{Tree, own_window, view_call, view_window, view_arg
 use Rattle.wsame.proofs.Views.{view_call_is}
 use Rattle.wscope.specs.Children.{children_of, found_all}
 use Rattle.wscope.proofs.Beside.{IsJoined, below_all}
-use Rattle.wdistinct.specs.declared.calls.CallKind.{CallKind}
+use Rattle.wdistinct.specs.declared.distinct_calls.CallKind.{CallKind}
 use Rattle.wdistinct.specs.Calls.{is_kind, is_call_of, node_or, nodes_in, nodes_below, nodes_in_entries, nodes_in_reach, picking}
 
 pub picking_joined : (holds : Tree → Bool) → IsJoined (picking holds)

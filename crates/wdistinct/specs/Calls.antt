@@ -10,8 +10,8 @@ use Rattle.wscope.specs.declared.function.Function.{Function}
 use Rattle.wscope.specs.Functions.{function_of, is_aggregate}
 use Rattle.wscope.specs.Seeking.{Findings, found, found_below, found_trees, found_links, found_given, found_filter, found_reach, found_keys}
 use Rattle.wsame.specs.Sameness.{is_same}
-use Rattle.wdistinct.specs.declared.calls.CallKind.{CallKind}
-use Rattle.wdistinct.specs.declared.calls.CallKind.TheVariants.{Grouped, Windowed}
+use Rattle.wdistinct.specs.declared.distinct_calls.CallKind.{CallKind}
+use Rattle.wdistinct.specs.declared.distinct_calls.CallKind.TheVariants.{Grouped, Windowed}
 
 -- with OVER
 abbrev pub has_over : Reach → Bool

@@ -12,9 +12,9 @@
 
 mod call_key;
 mod call_set;
-mod calls;
+mod distinct_calls;
 mod finding;
 mod sketch;
 
 pub use call_set::CallSet;
-pub use calls::{group_calls, window_calls};
+pub use distinct_calls::{group_calls, window_calls};

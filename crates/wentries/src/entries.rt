@@ -12,7 +12,7 @@ ghost use Rattle.wentries.specs.Keeping.{BeginWithRuns, HeldHasRun, kept_in, pla
 ghost use Rattle.wentries.specs.Entries.{AllHeldBy, IsGap, IsPlace, IsRising, above_floor, first_from, known_entries, known_entry, listing_of};
 
 use crate::held::Held;
-use crate::kept::Kept;
+use crate::kept_content::Kept;
 use crate::status::Listed;
 use std::alloc::{AllocError, Global};
 use std::rc::Rc;

@@ -5,7 +5,7 @@ ghost use Rattle.wentries.specs.Knowledge.{Live, join_known};
 ghost use Rattle.wentries.specs.Holding.{IsReadBy, status_of_known, told_of, IsHeldBy, known_of, row_count_of};
 ghost use Rattle.wsegment.specs.Declaration.{Declaration};
 
-use crate::kept::Kept;
+use crate::kept_content::Kept;
 use crate::known::Known;
 use crate::status::Status;
 use std::alloc::{AllocError, Global};

@@ -15,10 +15,10 @@
 #![tactic(auto)]
 
 mod blocks;
-mod cells;
 mod entries;
 mod held;
-mod kept;
+mod judged_content;
+mod kept_content;
 mod known;
 mod status;
 
@@ -28,6 +28,6 @@ pub use blocks::{
 };
 pub use entries::{Entry, is_above, live_at};
 pub use held::Held;
-pub use kept::Kept;
+pub use kept_content::Kept;
 pub use known::Known;
 pub use status::{Listed, Status};

@@ -23,7 +23,7 @@ use Rattle.wrows.specs.Laid.{rows_seen}
 use Rattle.wrows.proofs.RowFacts.{laid_length, laid_rows, row_at}
 use Rattle.wgroupby.specs.Sets.{is_among}
 use Rattle.wgroup.specs.declared.keyed.Keyed.{Keyed}
-use Rattle.wgroup.specs.declared.table.Table.{Table}
+use Rattle.wgroup.specs.declared.group_slots.Table.{Table}
 use Rattle.wgroup.specs.Grouping.{SetColumns, group_key}
 use Rattle.wgroup.specs.Sight.{first_of, key_in}
 use Rattle.wgroup.specs.Table.{AreMet, HasKeys, Holds, alike, hash_of_key, is_of_group, key_hash, looked_at, slot_of}

@@ -9,7 +9,7 @@ use Rattle.wvalues.specs.Sameness.{meaning_input}
 use Rattle.wrows.specs.Laid.{rows_seen}
 use Rattle.wgroupby.specs.Sets.{is_among}
 use Rattle.wgroup.specs.declared.keyed.Keyed.{Keyed}
-use Rattle.wgroup.specs.declared.table.Table.{Table}
+use Rattle.wgroup.specs.declared.group_slots.Table.{Table}
 use Rattle.wgroup.specs.Grouping.{agree, group_key}
 use Rattle.wgroup.specs.Sight.{first_of}
 

@@ -10,7 +10,7 @@ ghost use Rattle.wgroupby.specs.Held.{lists_in};
 ghost use Rattle.wgroup.specs.Counting.{CountsRows, row_count};
 ghost use Rattle.wgroup.specs.Grouping.{group_rows};
 
-use crate::told::rows_held;
+use crate::having::rows_held;
 use std::alloc::{AllocError, Global};
 use wplan::{Aggregate, AggregateFunction, Expr, GroupCall, Grouping};
 use wrows::{AnswerFault, Cells};

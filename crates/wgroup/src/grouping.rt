@@ -5,9 +5,9 @@ ghost use Rattle.wrows.specs.Laid.{rows_in, rows_seen};
 ghost use Rattle.wgroup.specs.Grouping.{group_rows};
 ghost use Rattle.wplan.specs.Plans.{grouping_plan};
 
-use crate::columns::call_columns;
+use crate::call_columns::call_columns;
 use crate::groups::find_all_groups;
-use crate::told::{group_cells, rows_held};
+use crate::having::{group_cells, rows_held};
 use std::alloc::Global;
 use wplan::Grouping;
 use wrows::{AnswerFault, Cells};

@@ -17,20 +17,20 @@
 #![tactic(auto)]
 
 mod alike;
-mod columns;
+mod call_columns;
 mod counting;
 mod finer;
 mod found;
+mod group_slots;
 mod grouping;
 mod groups;
+mod having;
 mod keyed;
 mod keys;
 mod laws;
 mod leaders;
 mod seen;
 mod sight;
-mod table;
-mod told;
 
 pub use counting::{counted_row, counts_rows};
 pub use grouping::group_rows;

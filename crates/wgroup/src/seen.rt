@@ -8,9 +8,9 @@ ghost use Rattle.wgroup.specs.Grouping.{agree};
 ghost use Rattle.wgroup.specs.Sight.{IsSight};
 ghost use Rattle.wgroup.specs.Table.{alike};
 
+use crate::group_slots::{Table, empty_table};
 use crate::keyed::Keyed;
 use crate::sight::Sight;
-use crate::table::{Table, empty_table};
 use std::alloc::{AllocError, Global};
 use wvalues::Value;
 

@@ -13,20 +13,20 @@
 //! Read `specs/Words.antt`, `specs/Pending.antt`, `specs/Sent.antt`, `specs/Failing.antt`, then `specs/Reads.antt`.
 #![tactic(auto)]
 
+mod block_reader;
 mod body;
 mod fault;
 mod line;
 mod outbox;
 mod reading;
-mod source;
 mod words;
 mod writing;
 
+pub use block_reader::BlockReader;
 pub use body::Body;
 pub use fault::ReadFault;
 pub use line::{Line, LineEnd};
 pub use outbox::Outbox;
 pub use reading::{read_body, read_line, skip_body};
-pub use source::Source;
 pub use words::{is_word, split_word};
 pub use writing::{WriteFault, write_reply};

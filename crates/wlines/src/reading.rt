@@ -6,11 +6,11 @@ ghost use Rattle.wlines.specs.Pending.{left, budget, IsSound, IsSoundWriter};
 ghost use Rattle.wlines.specs.Sent.{Says, sent};
 ghost use Rattle.wlines.specs.Reads.{LineReads, BodyReads, SkipReads, FeedReads, MovesFront};
 
+use crate::block_reader::BlockReader;
 use crate::body::Body;
 use crate::fault::ReadFault;
 use crate::line::{Line, LineEnd};
 use crate::outbox::Outbox;
-use crate::source::Source;
 use std::alloc::Global;
 use std::io::{Read, Write};
 use wvalues::Counted;
@@ -30,7 +30,7 @@ fn end_without_feed(line: &Line) -> LineEnd
 /// Reads a line of at most 200 bytes, or finds that there is none. The line before it is answered.
 #[tactic(auto, using(crate::proofs::Saying::says_nothing, crate::proofs::Saying::says_still, crate::proofs::Saying::leaves_still))]
 pub fn read_line<R: Read, W: Write>(
-    source: &mut Source,
+    source: &mut BlockReader,
     input: &mut Counted<R>,
     outbox: &mut Outbox,
     output: &mut Counted<W>,
@@ -65,7 +65,7 @@ pub fn read_line<R: Read, W: Write>(
 }
 
 // Moves a front of what is held to the bytes, up to a length of len.
-fn take_piece(source: &mut Source, bytes: &mut Vec<u8>, len: usize)
+fn take_piece(source: &mut BlockReader, bytes: &mut Vec<u8>, len: usize)
     requires held { source.old.held ≢ [] }
     requires room { len ≤ vec_capacity bytes.old }
     requires short { vec_len bytes.old < len }
@@ -83,7 +83,7 @@ fn take_piece(source: &mut Source, bytes: &mut Vec<u8>, len: usize)
 // Adds bytes up to a length of len. It answers false where the input ends before.
 #[tactic(auto, using(crate::proofs::Saying::says_nothing, crate::proofs::Saying::says_still, crate::proofs::Saying::leaves_still))]
 fn fill<R: Read, W: Write>(
-    source: &mut Source,
+    source: &mut BlockReader,
     input: &mut Counted<R>,
     outbox: &mut Outbox,
     output: &mut Counted<W>,
@@ -111,7 +111,7 @@ fn fill<R: Read, W: Write>(
 // Skips this many bytes. It answers false where the input ends before.
 #[tactic(auto, using(crate::proofs::Saying::says_nothing, crate::proofs::Saying::says_still, crate::proofs::Saying::leaves_still))]
 fn skip<R: Read, W: Write>(
-    source: &mut Source,
+    source: &mut BlockReader,
     input: &mut Counted<R>,
     outbox: &mut Outbox,
     output: &mut Counted<W>,
@@ -137,7 +137,7 @@ fn skip<R: Read, W: Write>(
 
 // Whether a line feed stands next, which is then taken.
 fn take_feed<R: Read, W: Write>(
-    source: &mut Source,
+    source: &mut BlockReader,
     input: &mut Counted<R>,
     outbox: &mut Outbox,
     output: &mut Counted<W>,
@@ -158,7 +158,7 @@ fn take_feed<R: Read, W: Write>(
 /// body is malformed: the input ends inside it, or another byte than a line feed stands behind it.
 #[tactic(auto, using(crate::proofs::Saying::says_nothing, crate::proofs::Saying::says_still, crate::proofs::Saying::leaves_still))]
 pub fn skip_body<R: Read, W: Write>(
-    source: &mut Source,
+    source: &mut BlockReader,
     input: &mut Counted<R>,
     outbox: &mut Outbox,
     output: &mut Counted<W>,
@@ -179,7 +179,7 @@ pub fn skip_body<R: Read, W: Write>(
 // Reads a body into bytes that have room for it.
 #[tactic(auto, using(crate::proofs::Saying::says_nothing, crate::proofs::Saying::says_still, crate::proofs::Saying::leaves_still))]
 fn read_into<R: Read, W: Write>(
-    source: &mut Source,
+    source: &mut BlockReader,
     input: &mut Counted<R>,
     outbox: &mut Outbox,
     output: &mut Counted<W>,
@@ -208,7 +208,7 @@ fn read_into<R: Read, W: Write>(
 #[tactic(auto, using(crate::proofs::Saying::says_nothing, crate::proofs::Saying::says_still, crate::proofs::Saying::leaves_still))]
 pub fn read_body<R: Read, W: Write>(
     alloc: Global,
-    source: &mut Source,
+    source: &mut BlockReader,
     input: &mut Counted<R>,
     outbox: &mut Outbox,
     output: &mut Counted<W>,

@@ -1,4 +1,1 @@
-mod Running
-mod Alike
-mod LeafFacts
-mod ReadFacts
+pub mod Formulas

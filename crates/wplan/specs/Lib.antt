@@ -1,7 +1,3 @@
 pub mod Formula
-pub mod Values
-pub mod Cells
+pub mod Parts
 pub mod Plans
-pub mod Sameness
-pub mod Leaves
-pub mod Reads

@@ -1,28 +1,19 @@
-//! Queries with each name and default resolved, and the value of an expression on a row.
+//! Queries with each name and default resolved.
 //!
-//! - Gives the form of a query that execution reads: a list of SELECTs with places for names, and `eval`.
-//! - Promises: `eval` answers the value of the expression, or that a part of it is out of range. Nothing is skipped,
-//!   it takes no memory, and it goes as deep as the nesting alone.
-//! - Asks: nothing. A place that a row lacks is null, and a value of the wrong type is null or unknown.
-//! - Leaves: resolving to `wresolve`, the meaning of a whole query to `wplanner`.
+//! - Gives the form of a query that execution reads: a list of SELECTs, the innermost first, with places for names.
+//! - Promises: nothing of any call. What the form says, wherever its parts lie in memory, is `formula` and `plans`.
+//! - Asks: nothing.
+//! - Leaves: resolving to `wresolve`, values of expressions to `weval`, which windows share an order to `wshare`, the meaning
+//!   of a whole query to `wplanner`.
 //!
-//! Read `specs/Formula.antt`, `specs/Values.antt` and `specs/Cells.antt`, then `specs/Plans.antt`, `specs/Sameness.antt`
-//! and `specs/Leaves.antt`.
+//! Read `specs/Formula.antt`, then `specs/Plans.antt`. `specs/Parts.antt` is for those who compare expressions part by part.
 #![tactic(auto)]
 
-mod cell;
-mod evaluating;
 mod expr;
-mod leaves;
-mod operating;
 mod resolved;
-mod sameness;
 
-pub use cell::{Cell, EvalFault};
-pub use evaluating::eval;
 pub use expr::{Expr, Further};
 pub use resolved::{
     Aggregate, AggregateFunction, CallOver, GroupCall, Grouping, Output, Resolved, ResolvedFrame,
     ResolvedKey, ResolvedWindow, Selection, WindowFunction,
 };
-pub use sameness::same_order;

@@ -2,7 +2,7 @@
 use Rattle.std.specs.Prelude.{◌≡◌, ◌++◌, ◌∷◌, [], Bool, List, All, Ok, if◌then◌else◌}
 use Rattle.std.specs.List.{list_any}
 use Rattle.wplan.specs.Plans.{window_plan}
-use Rattle.wplan.specs.Sameness.{is_same_order}
+use Rattle.wshare.specs.Sameness.{is_same_order}
 use Rattle.wplan.specs.declared.resolved.ResolvedWindow.{ResolvedWindow}
 use Rattle.wrows.specs.Columns.{Row}
 use Rattle.wcalls.specs.Ordered.{ordered_rows}

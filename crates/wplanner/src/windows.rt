@@ -3,7 +3,7 @@ ghost use Rattle.std.specs.Prelude.{◌≡◌, ◌≤◌, ◌<◌, ◌+◌, ◌^
 ghost use Rattle.std.specs.List.{list_all, list_any};
 ghost use Rattle.wvalues.specs.Meaning.{meaning};
 ghost use Rattle.wplan.specs.Plans.{call_plan, window_plan};
-ghost use Rattle.wplan.specs.Sameness.{is_same_order};
+ghost use Rattle.wshare.specs.Sameness.{is_same_order};
 ghost use Rattle.wrows.specs.Outcomes.{Gives};
 ghost use Rattle.wrows.specs.Laid.{rows_in, rows_seen};
 ghost use Rattle.wcalls.specs.Frames.{frame_of};

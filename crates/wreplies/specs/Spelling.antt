@@ -8,10 +8,10 @@ use Rattle.wsegment.specs.declared.fault.SegmentFault.{SegmentFault}
 use Rattle.wsegment.specs.declared.fault.SegmentFault.TheVariants as segments
 use Rattle.wsegment.specs.declared.schema_fault.SchemaFault.{SchemaFault}
 use Rattle.wsegment.specs.declared.schema_fault.SchemaFault.TheVariants as tables
-use Rattle.wset.specs.declared.words.Taken.{Taken}
-use Rattle.wset.specs.declared.words.Taken.TheVariants as takings
-use Rattle.wset.specs.declared.words.Retired.{Retired}
-use Rattle.wset.specs.declared.words.Retired.TheVariants as retirements
+use Rattle.wset.specs.declared.outcomes.Taken.{Taken}
+use Rattle.wset.specs.declared.outcomes.Taken.TheVariants as takings
+use Rattle.wset.specs.declared.outcomes.Retired.{Retired}
+use Rattle.wset.specs.declared.outcomes.Retired.TheVariants as retirements
 use Rattle.wentries.specs.declared.status.Status.{Status}
 use Rattle.wentries.specs.declared.status.Status.TheVariants as statuses
 use Rattle.wentries.specs.declared.status.Listed.{Listed}

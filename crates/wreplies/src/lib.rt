@@ -6,12 +6,12 @@
 //! - Leaves what is told to the crates that judge it.
 #![tactic(auto)]
 
+mod fixed_replies;
 mod lists;
 mod refusals;
 mod text;
-mod words;
 
+pub use fixed_replies::{refused_name, refused_table, retired, taken};
 pub use lists::{answer, names};
 pub use refusals::{refused_file, refused_query, refused_segment};
 pub use text::Text;
-pub use words::{refused_name, refused_table, retired, taken};

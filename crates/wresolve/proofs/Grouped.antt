@@ -15,7 +15,7 @@ use Rattle.wscope.specs.Types.{Titled}
 use Rattle.wscope.proofs.Related.{Relates, related, related_reach}
 use Rattle.wnames.specs.Calls.{is_aggregate_of}
 use Rattle.wnames.specs.Groups.{has_some, is_group_call}
-use Rattle.wdistinct.specs.declared.calls.CallKind.TheVariants.{Grouped}
+use Rattle.wdistinct.specs.declared.distinct_calls.CallKind.TheVariants.{Grouped}
 use Rattle.wdistinct.specs.Calls.{is_aggregate_function, is_call_of, node_or, nodes_below, nodes_in, nodes_in_entries, nodes_in_items, nodes_in_option, nodes_in_order, nodes_in_reach, picking, with_new}
 use Rattle.wresolve.specs.Laws.{GroupedAlike}
 

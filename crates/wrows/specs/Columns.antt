@@ -6,7 +6,7 @@ use Rattle.wvalues.specs.Meaning.{Meaning, Null}
 use Rattle.wframe.specs.Peers.{key_at}
 use Rattle.wframe.specs.Places.{places}
 use Rattle.wplan.specs.Formula.{Formula}
-use Rattle.wplan.specs.Values.{value_of, value_in, truth_of, is_too_large, is_yes}
+use Rattle.weval.specs.Values.{value_of, value_in, truth_of, is_too_large, is_yes}
 use Rattle.wrows.specs.declared.fault.AnswerFault.{AnswerFault}
 use Rattle.wrows.specs.declared.fault.AnswerFault.TheVariants.{OutOfRange, TooManyRows}
 use Rattle.wrows.specs.Outcomes.{unless}

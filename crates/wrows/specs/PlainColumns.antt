@@ -4,7 +4,7 @@ use Rattle.std.specs.Borrow.{Bor}
 use Rattle.std.specs.Option.{is_some}
 use Rattle.wplan.specs.declared.expr.Expr.{Expr, out-Expr}
 use Rattle.wplan.specs.declared.expr.Expr.TheOpen as layer
-use Rattle.wplan.specs.Leaves.{Parts}
+use Rattle.wplan.specs.Parts.{Parts}
 
 -- the place that an expression names, if it is no more than that
 abbrev pub plain_place : Parts → Option ℕ

@@ -8,7 +8,7 @@ ghost use Rattle.wrows.specs.Laid.{rows_seen};
 ghost use Rattle.wsort.specs.LaidRows.{laid};
 ghost use Rattle.wrows.specs.Picked.{is_text, picked, row_beside, with_columns};
 
-use crate::places::{cells_at, push_picked, value_beside, value_of};
+use crate::place_values::{cells_at, push_picked, value_beside, value_of};
 use std::alloc::{AllocError, Global};
 use wvalues::Value;
 

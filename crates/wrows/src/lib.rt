@@ -16,23 +16,23 @@
 mod cells;
 mod copied;
 mod fault;
-mod first;
+mod first_rows;
+mod items;
 mod joined;
 mod keyed;
 mod lent;
 mod listing;
-mod places;
-mod plain;
+mod place_values;
 mod presorted;
 mod rows;
 mod values;
 
 pub use cells::{Cells, gathered, push_row};
 pub use fault::AnswerFault;
+pub use items::{Asked, joined_items, ordered_items};
 pub use lent::lent_rows;
 pub use listing::lists;
-pub use places::place_of;
-pub use plain::{Asked, joined_items, ordered_items};
+pub use place_values::place_of;
 pub use presorted::presorted_items;
 pub use rows::{kept_rows, not_too_many};
 pub use values::holds;

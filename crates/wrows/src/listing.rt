@@ -7,7 +7,7 @@ ghost use Rattle.wrows.specs.Laid.{formulas_seen, rows_seen};
 
 use crate::fault::AnswerFault;
 use crate::joined::joined_lists;
-use crate::places::{picked_lists, places_of};
+use crate::place_values::{picked_lists, places_of};
 use crate::rows::row_lists;
 use std::alloc::Global;
 use wplan::Expr;

@@ -2,13 +2,14 @@
 ghost use Rattle.std.specs.Prelude.{◌≡◌, map};
 ghost use Rattle.wvalues.specs.Meaning.{meaning};
 ghost use Rattle.wplan.specs.Formula.{formula};
-ghost use Rattle.wplan.specs.Values.{is_yes};
+ghost use Rattle.weval.specs.Values.{is_yes};
 ghost use Rattle.wrows.specs.declared.fault.AnswerFault.TheVariants.{OutOfRange};
 ghost use Rattle.wrows.specs.Outcomes.{Gives, unless};
 ghost use Rattle.wrows.specs.Columns.{is_out_of_range, holds_on, value_on};
 
 use crate::fault::AnswerFault;
-use wplan::{EvalFault, Expr, eval};
+use weval::{EvalFault, eval};
+use wplan::Expr;
 use wvalues::{Truth, Value};
 
 fn is_yes(truth: Truth) -> bool

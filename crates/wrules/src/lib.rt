@@ -11,8 +11,8 @@
 //! Read `specs/Rules.antt`.
 #![tactic(auto)]
 
-mod judging;
+mod least_rule;
 mod rule;
 
-pub use judging::{broken_rule, depth_rule};
+pub use least_rule::{broken_rule, depth_rule};
 pub use rule::Rule;

@@ -2,7 +2,7 @@
 use Rattle.std.specs.Prelude.{All}
 use Rattle.wruns.specs.Runs.{IsRunOf}
 use Rattle.wruns.specs.KeptRuns.{KeptParts, keys_kept, runs_in, HasRoom}
-use Rattle.wruns.specs.declared.kept.KeptRuns.TheInside.{Inside}
+use Rattle.wruns.specs.declared.kept_runs.KeptRuns.TheInside.{Inside}
 
 abbrev pub parts_of : Inside → KeptParts
 parts_of k = record { content = k.segment.value; orders = keys_kept (runs_in k.runs) }

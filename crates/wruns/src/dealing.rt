@@ -10,11 +10,11 @@ ghost use Rattle.wruns.specs.Lists.{ref};
 ghost use Rattle.wruns.specs.Refs.{refs, refs_by};
 ghost use Rattle.wruns.specs.Runs.{joined, run_of};
 
-use crate::cells::cell_at;
+use crate::key_columns::{CodedNumbers, Table, coded_order_of};
 use crate::merging::short_number;
 use crate::refs::RowRef;
 use crate::run::{KeyedRows, Run, grouped_run};
-use crate::table::{CodedNumbers, Table, coded_order_of};
+use crate::segment_cells::cell_at;
 use std::alloc::{AllocError, Global};
 use std::rc::Rc;
 use wsegment::Segment;

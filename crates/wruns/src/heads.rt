@@ -6,11 +6,11 @@ ghost use Rattle.wframe.specs.Sorting.{first_or};
 ghost use Rattle.wruns.specs.Heads.{group_refs, groups_seen, head_at, head_row, heads_from, heads_of, IsHead};
 ghost use Rattle.wruns.specs.Merging.{rows_seen};
 
+use crate::key_columns::Table;
 use crate::merging::{short_number, value_of};
 use crate::refs::RowRef;
 use crate::run::Run;
 use crate::segment_run::SegmentRun;
-use crate::table::Table;
 use std::alloc::{AllocError, Global};
 use wvalues::Value;
 

@@ -12,20 +12,20 @@
 //! groups stand for rows, `specs/Dealing.antt` what is dealt, and `specs/Orderings.antt` what an ordering is good for.
 #![tactic(auto)]
 
-mod cells;
 mod dealing;
 mod heads;
-mod kept;
+mod kept_runs;
+mod key_columns;
 mod laws;
 mod merging;
 mod ordering;
 mod refs;
 mod run;
+mod segment_cells;
 mod segment_run;
-mod table;
 
 pub use dealing::{Dealt, deal_runs};
-pub use kept::KeptRuns;
+pub use kept_runs::KeptRuns;
 pub use laws::{kept_rows_stay_in_order, runs_order_windows};
 pub use merging::merge;
 pub use ordering::ordered;

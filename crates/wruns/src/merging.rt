@@ -7,8 +7,8 @@ ghost use Rattle.wsegment.specs.Rows.{cell};
 ghost use Rattle.wruns.specs.Refs.{number_cmp, ref_cmp, ref_keys, refs_by, rows_at};
 ghost use Rattle.wruns.specs.Merging.{comes_first, has_keys, lists_from, rows_seen};
 
-use crate::cells::cell_at;
 use crate::refs::{RowRef, RunRefs};
+use crate::segment_cells::cell_at;
 use crate::segment_run::SegmentRun;
 use itertools::{Itertools, MergePredicate};
 use std::alloc::{AllocError, Global};

@@ -7,11 +7,11 @@ ghost use Rattle.wruns.specs.Merging.{has_keys, rows_seen};
 ghost use Rattle.wruns.specs.Refs.{refs_by};
 
 use crate::heads::{Head, HeadRows, heads, rows_in};
+use crate::key_columns::order_of;
 use crate::merging::merge;
 use crate::refs::RowRef;
 use crate::run::Run;
 use crate::segment_run::SegmentRun;
-use crate::table::order_of;
 use std::alloc::{AllocError, Global};
 use wvalues::{SortKey, Value};
 

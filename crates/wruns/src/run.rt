@@ -6,8 +6,8 @@ ghost use Rattle.wcodes.specs.CodedRows.{code_at};
 ghost use Rattle.wruns.specs.Grouping.{AreGrouped, HaveOneCode, TellSharedFrom};
 ghost use Rattle.wruns.specs.Runs.{joined, keys_at, run_of, IsGroup, IsRunOf};
 
-use crate::cells::cell_at;
-use crate::table::{Table, coded_order_of};
+use crate::key_columns::{Table, coded_order_of};
+use crate::segment_cells::cell_at;
 use std::alloc::{AllocError, Global};
 use std::marker::Model;
 use wsegment::Segment;

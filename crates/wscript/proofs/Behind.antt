@@ -7,8 +7,8 @@ use Rattle.wvalues.specs.declared.name.NameFault.{NameFault}
 use Rattle.wlines.specs.Reads.{HasNoBody}
 use Rattle.wscript.specs.Commands.{DeclareForm, TakeForm, RetireForm, FloorForm, ListForm, AskForm, FeedForm, PutForm, GetForm, Command, Declare, Take, Retire, RetireTo, Listing, Ask, Feed, Put, Get}
 use Rattle.wscript.specs.Requests.{IsBadBehind, Behind, follows_declaration}
-use Rattle.wscript.specs.declared.header.Header.{Header}
-use Rattle.wscript.specs.declared.header.Header.TheVariants as headers
+use Rattle.wscript.specs.declared.header_lines.Header.{Header}
+use Rattle.wscript.specs.declared.header_lines.Header.TheVariants as headers
 
 -- ---- a body that is not there
 

@@ -7,8 +7,8 @@ use Rattle.wvalues.specs.declared.name.NameFault.{NameFault}
 use Rattle.wlines.specs.Reads.{HasNoBody}
 use Rattle.wscript.specs.Commands.{IsShortDeclaration, longest_segment, longest_text}
 use Rattle.wscript.specs.Requests.{BehindReads, FoundBehind, IsBadBehind, IsCommandOf, KeepsBody, body_length, follows_declaration}
-use Rattle.wscript.specs.declared.header.Header.{Header}
-use Rattle.wscript.specs.declared.header.Header.TheVariants as headers
+use Rattle.wscript.specs.declared.header_lines.Header.{Header}
+use Rattle.wscript.specs.declared.header_lines.Header.TheVariants as headers
 use Rattle.wscript.specs.declared.request.Command.TheVariants as commands
 use Rattle.wscript.specs.declared.request.Found.{Found}
 use Rattle.wscript.specs.declared.request.Found.TheVariants as found

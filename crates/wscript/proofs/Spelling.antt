@@ -8,7 +8,7 @@ use Rattle.wlines.specs.Reads.{HasNoLine}
 use Rattle.wscript.specs.Commands.{Form, DeclareForm, TakeForm, RetireForm, FloorForm, ListForm, AskForm, FeedForm, PutForm, GetForm, IsForm, IsNode, IsSlot, Command, IsMalformed, IsShortDeclaration, line_of, form_of, behind, longest_line, spell}
 use Rattle.wscript.specs.Headers.{IsHeaderOf}
 use Rattle.wscript.specs.Requests.{IsCommandOf, IsBadBehind, KeepsBody, Behind, BehindReads, ReadsCommand, RequestReads}
-use Rattle.wscript.specs.declared.header.Header.{Header}
+use Rattle.wscript.specs.declared.header_lines.Header.{Header}
 use Rattle.wscript.specs.declared.request.Request.{Request}
 use Rattle.wscript.specs.declared.request.Request.TheVariants as requests
 use Rattle.wscript.proofs.Words.{no_feed}

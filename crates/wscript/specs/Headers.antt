@@ -3,8 +3,8 @@ use Rattle.std.specs.Prelude.{◌≡◌, ℕ, List, Option, IfSome, IsSomeAnd}
 use Rattle.std.specs.Fmt.{decimal}
 use Rattle.wvalues.specs.NameReading.{ReadsName}
 use Rattle.wscript.specs.Commands.{Form, DeclareForm, TakeForm, RetireForm, FloorForm, ListForm, AskForm, FeedForm, PutForm, GetForm, IsForm, pair_words}
-use Rattle.wscript.specs.declared.header.Header.{Header}
-use Rattle.wscript.specs.declared.header.Header.TheVariants as headers
+use Rattle.wscript.specs.declared.header_lines.Header.{Header}
+use Rattle.wscript.specs.declared.header_lines.Header.TheVariants as headers
 
 -- the words of a name are read, or judged
 abbrev pub IsHeaderOf : Header → Form → Type 0

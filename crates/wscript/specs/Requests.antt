@@ -6,8 +6,8 @@ use Rattle.wvalues.specs.NameReading.{ReadsName}
 use Rattle.wlines.specs.Reads.{HasNoBody}
 use Rattle.wscript.specs.Commands.{Form, Command, Declare, Take, Retire, RetireTo, Listing, Ask, Feed, Put, Get, AreName, IsAllowed, IsCommand, IsShortDeclaration, IsMalformed, form_of, behind, longest_segment, longest_text, spell}
 use Rattle.wscript.specs.Headers.{IsHeaderOf}
-use Rattle.wscript.specs.declared.header.Header.{Header}
-use Rattle.wscript.specs.declared.header.Header.TheVariants as headers
+use Rattle.wscript.specs.declared.header_lines.Header.{Header}
+use Rattle.wscript.specs.declared.header_lines.Header.TheVariants as headers
 use Rattle.wscript.specs.declared.request.Command as code
 use Rattle.wscript.specs.declared.request.Command.TheVariants as commands
 use Rattle.wscript.specs.declared.request.Found.{Found}

@@ -11,12 +11,12 @@
 //! Read `specs/Commands.antt`, then `specs/Headers.antt` and `specs/Requests.antt`, which say how the code stands for it.
 #![tactic(auto)]
 
-mod header;
+mod header_lines;
 mod numbers;
 mod reading;
 mod request;
 
-pub use header::{Header, read_header};
+pub use header_lines::{Header, read_header};
 pub use numbers::{NODES, NodeNumber, SLOTS, SlotNumber};
 pub use reading::read_command;
 pub use request::{Command, Found, Order, Refusal, Request};

@@ -6,19 +6,21 @@ ghost use Rattle.wlines.specs.Pending.{left, budget, IsSound, IsSoundWriter};
 ghost use Rattle.wlines.specs.Sent.{Says, sent};
 ghost use Rattle.wscript.specs.Requests.{BehindReads, FoundBehind, GoesOn, RequestReads, follows_declaration};
 
-use crate::header::{Header, read_header};
+use crate::header_lines::{Header, read_header};
 use crate::numbers::NodeNumber;
 use crate::request::{Command, Found, Order, Refusal, Request};
 use std::alloc::Global;
 use std::io::{Read, Write};
-use wlines::{Body, Line, LineEnd, Outbox, ReadFault, Source, read_body, read_line, skip_body};
+use wlines::{
+    BlockReader, Body, Line, LineEnd, Outbox, ReadFault, read_body, read_line, skip_body,
+};
 use wvalues::{Counted, Name, NameFault};
 
 // Reads the body behind a header line: nothing is found where no such body stands there.
 #[tactic(auto, using(crate::proofs::Quiet::nothing_said))]
 fn read_found<R: Read, W: Write>(
     alloc: Global,
-    source: &mut Source,
+    source: &mut BlockReader,
     input: &mut Counted<R>,
     outbox: &mut Outbox,
     output: &mut Counted<W>,
@@ -161,7 +163,7 @@ fn request_of(header: Header, found: Found) -> Request
 #[tactic(auto, using(crate::proofs::Bodies::out_of_order, crate::proofs::Bodies::nothing_found, crate::proofs::Quiet::nothing_said))]
 fn read_behind<R: Read, W: Write>(
     alloc: Global,
-    source: &mut Source,
+    source: &mut BlockReader,
     input: &mut Counted<R>,
     outbox: &mut Outbox,
     output: &mut Counted<W>,
@@ -186,7 +188,7 @@ fn read_behind<R: Read, W: Write>(
 #[tactic(auto, using(crate::proofs::Quiet::still_quiet))]
 pub fn read_command<R: Read, W: Write>(
     alloc: Global,
-    source: &mut Source,
+    source: &mut BlockReader,
     input: &mut Counted<R>,
     outbox: &mut Outbox,
     output: &mut Counted<W>,

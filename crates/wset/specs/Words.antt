@@ -4,10 +4,10 @@ use Rattle.std.specs.FinMap.{get}
 use Rattle.wvalues.specs.Names.{NameParts}
 use Rattle.wentries.specs.Knowledge.{Known, Live, Disputed, Retired, Floor, same_bytes}
 use Rattle.wset.specs.Views.{View, is_below}
-use Rattle.wset.specs.declared.words.Taken.{Taken}
-use Rattle.wset.specs.declared.words.Taken.TheVariants as takings
-use Rattle.wset.specs.declared.words.Retired.{Retired as Retirement}
-use Rattle.wset.specs.declared.words.Retired.TheVariants as retirements
+use Rattle.wset.specs.declared.outcomes.Taken.{Taken}
+use Rattle.wset.specs.declared.outcomes.Taken.TheVariants as takings
+use Rattle.wset.specs.declared.outcomes.Retired.{Retired as Retirement}
+use Rattle.wset.specs.declared.outcomes.Retired.TheVariants as retirements
 use Rattle.wentries.specs.declared.status.Status.{Status}
 use Rattle.wentries.specs.declared.status.Status.TheVariants as statuses
 use Rattle.wentries.specs.Holding.{status_of_known}

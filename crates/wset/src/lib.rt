@@ -21,13 +21,13 @@
 mod kept_order;
 pub mod laws;
 mod merge;
+mod outcomes;
 mod running;
 mod set;
 mod starts;
 mod walk;
-mod words;
 
+pub use outcomes::{JoinError, Retired, TakeError, Taken};
 pub use set::SegmentSet;
 pub use walk::{Lives, Names};
 pub use wentries::{Kept, Known, Listed, Status};
-pub use words::{JoinError, Retired, TakeError, Taken};

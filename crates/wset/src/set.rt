@@ -19,10 +19,10 @@ ghost use Rattle.wset.specs.Lending.{AreLivesOf, IsAbove, IsBehindOrigins, only_
 
 use crate::kept_order::{KeptOrder, is_by, order_kept, unpacked};
 use crate::merge::{joined, teaches};
+use crate::outcomes::{JoinError, Retired, TakeError, Taken};
 use crate::running::{RunSizes, can_be_dealt, segments, sources};
 use crate::starts::{live_count_in, live_in, put_counted, raise_counted, starts_of};
 use crate::walk::{Lives, Names};
-use crate::words::{JoinError, Retired, TakeError, Taken};
 use std::alloc::{AllocError, Global};
 use std::marker::Model;
 use std::rc::Rc;

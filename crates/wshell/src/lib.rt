@@ -14,8 +14,8 @@
 mod fault;
 mod mode;
 mod pending;
-mod runs;
+mod shell_run;
 mod telling;
 
 pub use fault::ShellFault;
-pub use runs::run;
+pub use shell_run::run;

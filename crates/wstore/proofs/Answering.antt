@@ -15,8 +15,8 @@ use Rattle.wset.specs.Items.{Item, SegmentItem, RetirementItem, FloorItem, view_
 use Rattle.wstore.specs.Nodes.{NodeState}
 use Rattle.wset.specs.Listing.{listed}
 use Rattle.wset.specs.Words.{taken_word, retired_word, floor_word}
-use Rattle.wset.specs.declared.words.Taken.{Taken}
-use Rattle.wset.specs.declared.words.Retired.{Retired}
+use Rattle.wset.specs.declared.outcomes.Taken.{Taken}
+use Rattle.wset.specs.declared.outcomes.Retired.{Retired}
 use Rattle.wentries.specs.declared.status.Listed.{Listed}
 use Rattle.wscript.specs.Commands.{Command, Take, Retire as Retiring, RetireTo as RetiringTo, Listing, Ask, Put, Get, longest_segment, longest_text, node_count, slot_count}
 use Rattle.wstore.specs.Replies.{Reply, text_of, Took, Was, RefusedSegment, Names, Answered, RefusedQuery, Done, RefusedFile, NoMemory, take_text, ask_text, get_text}

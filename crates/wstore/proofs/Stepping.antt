@@ -14,8 +14,8 @@ use Rattle.wscript.specs.declared.request.Command as code
 use Rattle.wscript.specs.declared.request.Command.TheVariants as commands
 use Rattle.wscript.specs.declared.request.Order.{Order}
 use Rattle.wscript.specs.declared.request.Order.TheVariants as orders
-use Rattle.wstore.specs.declared.runs.RunFault.{RunFault}
-use Rattle.wstore.specs.declared.runs.RunFault.TheVariants as faults
+use Rattle.wstore.specs.declared.script_run.RunFault.{RunFault}
+use Rattle.wstore.specs.declared.script_run.RunFault.TheVariants as faults
 use Rattle.wstore.specs.declared.session.Session.{Session}
 use Rattle.wscript.proofs.Spelling.{front_of}
 

@@ -12,10 +12,10 @@ use Rattle.wstore.specs.Replies.{text_of, line_text, bad_script}
 use Rattle.wstore.specs.Runs.{Ran, asked, told, RepliesDone, RepliesBad, RepliesBegun, Replies, Stops, StopsRun, Begins, nothing, answer, lines, last}
 use Rattle.wstore.specs.Sessions.{Stands}
 use Rattle.wstore.specs.Steps.{StepsOn, StepEnds, StepFails}
-use Rattle.wstore.specs.declared.runs.End.{End}
-use Rattle.wstore.specs.declared.runs.End.TheVariants.{Done, Bad}
-use Rattle.wstore.specs.declared.runs.RunFault.{RunFault}
-use Rattle.wstore.specs.declared.runs.RunFault.TheVariants as faults
+use Rattle.wstore.specs.declared.script_run.End.{End}
+use Rattle.wstore.specs.declared.script_run.End.TheVariants.{Done, Bad}
+use Rattle.wstore.specs.declared.script_run.RunFault.{RunFault}
+use Rattle.wstore.specs.declared.script_run.RunFault.TheVariants as faults
 use Rattle.wstore.specs.declared.session.Session.{Session}
 use Rattle.wscript.proofs.Spelling.{lift_front}
 

@@ -11,8 +11,8 @@ use Rattle.wstore.specs.Sessions.{Tells}
 use Rattle.wstore.specs.Steps.{Answered, AnsweredPart, AnsweredLines, Unanswered}
 use Rattle.wscript.specs.declared.request.Order.{Order}
 use Rattle.wscript.specs.declared.request.Order.TheVariants as orders
-use Rattle.wstore.specs.declared.runs.RunFault.{RunFault}
-use Rattle.wstore.specs.declared.runs.RunFault.TheVariants as faults
+use Rattle.wstore.specs.declared.script_run.RunFault.{RunFault}
+use Rattle.wstore.specs.declared.script_run.RunFault.TheVariants as faults
 use Rattle.wstore.specs.declared.session.Session.{Session}
 
 module _ (session : Session) (h : List Step) (c : Command) (text : List ℕ) (held new_held : Sent) (tells : Tells session h c text) where

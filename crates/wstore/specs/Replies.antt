@@ -9,8 +9,8 @@ use Rattle.wsegment.specs.Declaration.{Declaration}
 use Rattle.wsegment.specs.declared.fault.SegmentFault.{SegmentFault}
 use Rattle.wsegment.specs.declared.schema_fault.SchemaFault.{SchemaFault}
 use Rattle.wset.specs.Items.{Item, SegmentItem, RetirementItem, FloorItem}
-use Rattle.wset.specs.declared.words.Taken.{Taken}
-use Rattle.wset.specs.declared.words.Retired.{Retired}
+use Rattle.wset.specs.declared.outcomes.Taken.{Taken}
+use Rattle.wset.specs.declared.outcomes.Retired.{Retired}
 use Rattle.wentries.specs.declared.status.Listed.{Listed}
 use Rattle.wexchange.specs.declared.fault.FileFault.{FileFault}
 use Rattle.wplanner.specs.declared.fault.AskFault.{AskFault}

@@ -5,10 +5,10 @@ use Rattle.wsegment.specs.Declaration.{Declaration}
 use Rattle.wscript.specs.Commands.{Command, Declare, Feed, IsCommand, IsMalformed, longest_text, spell}
 use Rattle.wstore.specs.Replies.{Reply, Line, line_text, text_of, bad_script}
 use Rattle.wstore.specs.History.{Step, Answers, FeedBegins, declaration, is_declared}
-use Rattle.wstore.specs.declared.runs.End.{End}
-use Rattle.wstore.specs.declared.runs.End.TheVariants.{Done, Bad}
-use Rattle.wstore.specs.declared.runs.RunFault.{RunFault}
-use Rattle.wstore.specs.declared.runs.RunFault.TheVariants.{Read, Write, NoMemory}
+use Rattle.wstore.specs.declared.script_run.End.{End}
+use Rattle.wstore.specs.declared.script_run.End.TheVariants.{Done, Bad}
+use Rattle.wstore.specs.declared.script_run.RunFault.{RunFault}
+use Rattle.wstore.specs.declared.script_run.RunFault.TheVariants.{Read, Write, NoMemory}
 
 -- steps, the oldest first, that lead from one history to another
 abbrev pub Ran : List Step → List Step → List Step → Type 0

@@ -12,10 +12,10 @@ use Rattle.wstore.specs.History.{Step, Answers, FeedBegins, declaration, is_decl
 use Rattle.wstore.specs.Runs.{Stops}
 use Rattle.wstore.specs.Sessions.{Stands}
 use Rattle.wstore.specs.declared.session.Session.{Session}
-use Rattle.wstore.specs.declared.runs.End.{End}
-use Rattle.wstore.specs.declared.runs.End.TheVariants.{Done, Bad}
-use Rattle.wstore.specs.declared.runs.RunFault.{RunFault}
-use Rattle.wstore.specs.declared.runs.RunFault.TheVariants.{Read, Write, NoMemory}
+use Rattle.wstore.specs.declared.script_run.End.{End}
+use Rattle.wstore.specs.declared.script_run.End.TheVariants.{Done, Bad}
+use Rattle.wstore.specs.declared.script_run.RunFault.{RunFault}
+use Rattle.wstore.specs.declared.script_run.RunFault.TheVariants.{Read, Write, NoMemory}
 
 -- each fault has its cause, and nothing else has failed
 abbrev pub HasCause : {R W : Type 0} → RunFault → Counts R → Counts W → Type 0

@@ -13,7 +13,7 @@ ghost use Rattle.wreplies.specs.Texts.{bytes_of};
 
 use crate::feeding::feed_node;
 use crate::node::Node;
-use crate::runs::RunFault;
+use crate::script_run::RunFault;
 use crate::slot::Slot;
 use std::alloc::{AllocError, Global};
 use std::io::Write;

@@ -7,7 +7,7 @@ ghost use Rattle.wstore.specs.Replies.{fed_text};
 ghost use Rattle.wstore.specs.Feeding.{Feeds, FeedsPart, IsTextOf, SendsAll, SendsPart};
 
 use crate::node::{Node, Reply};
-use crate::runs::{RunFault, send};
+use crate::script_run::{RunFault, send};
 use itoa::Buffer;
 use std::alloc::Global;
 use std::io::Write;

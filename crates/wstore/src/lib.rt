@@ -19,10 +19,10 @@ mod cluster;
 mod feeding;
 pub mod laws;
 mod node;
-mod runs;
+mod script_run;
 mod session;
 mod slot;
 
 pub use node::{Node, Reply};
-pub use runs::{End, RunFault, run};
+pub use script_run::{End, RunFault, run};
 pub use wask::AskFault;

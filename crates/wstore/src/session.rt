@@ -10,7 +10,7 @@ ghost use Rattle.wstore.specs.Sessions.{Stands, Tells, refusal_text};
 ghost use Rattle.wstore.specs.Steps.{Answered, FedPart};
 
 use crate::cluster::Cluster;
-use crate::runs::RunFault;
+use crate::script_run::RunFault;
 use std::alloc::{AllocError, Global};
 use std::io::Write;
 use wlines::Outbox;

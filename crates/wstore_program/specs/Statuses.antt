@@ -6,9 +6,9 @@ use Rattle.wcommand.specs.declared.choice.Choice.{Choice}
 use Rattle.wcommand.specs.declared.fault.WordsFault.{WordsFault}
 use Rattle.wcommand.specs.declared.fault.WordsFault.TheVariants as words
 use Rattle.wact.specs.declared.acted.Acted.{Acted}
-use Rattle.wstore.specs.declared.runs.End.{End}
-use Rattle.wstore.specs.declared.runs.End.TheVariants as ends
-use Rattle.wstore.specs.declared.runs.RunFault.{RunFault}
+use Rattle.wstore.specs.declared.script_run.End.{End}
+use Rattle.wstore.specs.declared.script_run.End.TheVariants as ends
+use Rattle.wstore.specs.declared.script_run.RunFault.{RunFault}
 use Rattle.wfiles.specs.Calls.{CallCounts, HasCause, IsSound}
 use Rattle.wfiles.specs.Call.{Call}
 use Rattle.wstore_program.specs.Performing.{IsGivenUp, IsPerformed}

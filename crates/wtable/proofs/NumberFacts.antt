@@ -18,7 +18,7 @@ use Rattle.wtable.specs.TableOrders.{AreNumbers, IsNumbered, IsOrderFor, IsRowOf
 use Rattle.wvalues.specs.Names.{NameParts}
 use Rattle.wsegment.specs.Rows.{Content}
 use Rattle.wtable.proofs.HeldFacts.{rows_left}
-use Rattle.wtable.specs.declared.numbered.NumberedRows.{NumberedRows}
+use Rattle.wtable.specs.declared.numbered_rows.NumberedRows.{NumberedRows}
 
 -- the numbers of rows, and of those behind them
 pub numbers_append : (p : Row → Bool) (n : ℕ) (xs ys : List Row) → numbers_kept p n (xs ++ ys) ≡ numbers_kept p n xs ++ numbers_kept p (n + length (filter p xs)) ys

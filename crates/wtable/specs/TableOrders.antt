@@ -20,7 +20,7 @@ use Rattle.wtable.specs.declared.orders.TableOrder.{TableOrder}
 use Rattle.wtable.specs.declared.orders.TableOrders.{TableOrders}
 use Rattle.wtable.specs.declared.presorted.PresortedOrder.{PresortedOrder}
 use Rattle.wtable.specs.declared.presorted.PresortedOrders.{PresortedOrders}
-use Rattle.wtable.specs.declared.numbered.NumberedRows.{NumberedRows}
+use Rattle.wtable.specs.declared.numbered_rows.NumberedRows.{NumberedRows}
 
 -- a column of rows that are so wide
 abbrev pub is_within : ℕ → Option ℕ → Bool

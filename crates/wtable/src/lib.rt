@@ -13,15 +13,15 @@
 #![tactic(auto)]
 
 mod counting;
-mod numbered;
+mod kept_rows;
+mod numbered_rows;
 mod orders;
 mod presorted;
 mod referenced;
-mod source;
 
 pub use counting::kept_count;
-pub use numbered::{NumberedRows, numbered_table_rows};
+pub use kept_rows::{few_kept_rows, kept_table_rows};
+pub use numbered_rows::{NumberedRows, numbered_table_rows};
 pub use orders::{TableOrder, TableOrders, asked_of, table_orders};
 pub use presorted::{PresortedOrder, PresortedOrders, presorted_orders, take_presorted};
 pub use referenced::referenced_rows;
-pub use source::{few_kept_rows, kept_table_rows};

@@ -7,7 +7,7 @@ ghost use Rattle.wrows.specs.Laid.{rows_seen};
 ghost use Rattle.wcalls.specs.Ordered.{window_numbers};
 ghost use Rattle.wtable.specs.TableOrders.{AreTableOrders, ArePresorted, ArePresortedOf, IsNumbered, IsTableOrder, IsPresortedOf, presorted_numbers};
 
-use crate::numbered::{NumberedRows, presorted_numbers};
+use crate::numbered_rows::{NumberedRows, presorted_numbers};
 use crate::orders::{TableOrder, TableOrders};
 use std::alloc::{AllocError, Global};
 use wcalls::share_order;

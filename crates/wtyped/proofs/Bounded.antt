@@ -24,7 +24,7 @@ use Rattle.wrules.specs.Rules.{depth, depth_rule, judged, least, least_source, o
 use Rattle.wgroupby.specs.Laws.{CountsSets}
 use Rattle.wgroupby.specs.Rules.{are_parts_long, breaks_lists, breaks_sets, element_by, elements_by, entry_by, is_element_long, is_entry_long, is_long}
 use Rattle.wgroupby.specs.Sets.{element_count, entry_count, query_sets, sets_count}
-use Rattle.wdistinct.specs.declared.calls.CallKind.TheVariants.{Windowed}
+use Rattle.wdistinct.specs.declared.distinct_calls.CallKind.TheVariants.{Windowed}
 use Rattle.wdistinct.specs.Calls.{group_calls, is_call_of, node_or, nodes_below, nodes_in, nodes_in_items, nodes_in_order, picking, window_calls, with_new}
 use Rattle.wbinding.specs.Groups.{column_place, elements_made}
 use Rattle.wbinding.specs.Resolving.{Layout}

@@ -13,8 +13,8 @@ use Rattle.wvalues.specs.declared.truth.Truth.TheVariants.{No}
 use Rattle.wscope.specs.declared.data_type.DataType.{DataType}
 use Rattle.wscope.specs.declared.data_type.DataType.TheVariants as types
 use Rattle.wplan.specs.Formula.{Formula, Constant, At, Negation, Signed, Applied, Compared, NullTest, Within, Among, Formulas, NoFormulas, MoreFormulas}
-use Rattle.wplan.specs.Values as values
-use Rattle.wplan.specs.Values.{Outcome, Held, Judged, TooLarge, after, apply, is_among, is_null, on_numbers, ranged, truth_of, turned, value_in, value_of}
+use Rattle.weval.specs.Values as values
+use Rattle.weval.specs.Values.{Outcome, Held, Judged, TooLarge, after, apply, is_among, is_null, on_numbers, ranged, truth_of, turned, value_in, value_of}
 use Rattle.wscope.specs.Types.{is_truth}
 use Rattle.wtyped.specs.Typing.{beside, beside_all, constant_type, formula_type, gives, has, is_number, takes, type_at, valued}
 use Rattle.wtyped.specs.Exact.{TypedIsExact, applied, are_of, between, cell_at, comes_as, compared, exact_among, exact_value, is_of, joined, made_of, of_numbers, of_truth, of_truths, signed, outcome_of}

@@ -13,7 +13,7 @@ use Rattle.wslide.specs.Aggregates.{by_value, by_value_descending, fed, passes, 
 use Rattle.wframe.specs.Sorting.{sorted}
 use Rattle.wplan.specs.Formula.{Formula}
 use Rattle.wplan.specs.Plans.{AggregatePlan}
-use Rattle.wplan.specs.Values.{Outcome, Held, Judged, TooLarge, value_in, value_of}
+use Rattle.weval.specs.Values.{Outcome, Held, Judged, TooLarge, value_in, value_of}
 use Rattle.wplan.specs.declared.resolved.AggregateFunction.{AggregateFunction}
 use Rattle.wplan.specs.declared.resolved.AggregateFunction.TheVariants.{CountRows, Count, Sum, Min, Max}
 use Rattle.wrows.specs.declared.fault.AnswerFault.TheVariants.{OutOfRange}

@@ -9,8 +9,8 @@ use Rattle.wscope.specs.declared.look.Look.{Look}
 use Rattle.wscope.specs.Scope.{is_output, some_entry, some_item, some_option, some_sort}
 use Rattle.wscope.specs.Seeking.{some_node}
 use Rattle.wscope.specs.Types.{Titled}
-use Rattle.wdistinct.specs.declared.calls.CallKind.{CallKind}
-use Rattle.wdistinct.specs.declared.calls.CallKind.TheVariants.{Grouped, Windowed}
+use Rattle.wdistinct.specs.declared.distinct_calls.CallKind.{CallKind}
+use Rattle.wdistinct.specs.declared.distinct_calls.CallKind.TheVariants.{Grouped, Windowed}
 use Rattle.wdistinct.specs.Calls.{group_calls, is_call_of, nodes_in, nodes_in_entries, nodes_in_items, nodes_in_option, nodes_in_order, nodes_in_reach, window_calls}
 use Rattle.wtyped.proofs.Alike.{all_listed, each_once, is_listed}
 use Rattle.wtyped.proofs.Walks.{Kept, Shut, Unseen, listed_in, listed_window, passed_in, passed_window, sees_failed}

@@ -15,7 +15,7 @@ use Rattle.wscope.specs.Types.{Titled}
 use Rattle.wnames.specs.Calls.{is_bad_call}
 use Rattle.wnames.specs.Names.{is_missing}
 use Rattle.wnames.specs.Groups.{is_group_call, is_misplaced_window_call, is_nested_group_call, is_over, is_window_call, sees_ungrouped}
-use Rattle.wdistinct.specs.declared.calls.CallKind.TheVariants.{Grouped, Windowed}
+use Rattle.wdistinct.specs.declared.distinct_calls.CallKind.TheVariants.{Grouped, Windowed}
 use Rattle.wdistinct.specs.Calls.{has_over, is_call_of}
 use Rattle.wbinding.specs.Resolving.{Layout}
 use Rattle.wresolve.proofs.Grouped as grouped

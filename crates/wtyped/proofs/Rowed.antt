@@ -24,7 +24,7 @@ use Rattle.wrows.specs.Outcomes.{◌>>=◌, each}
 use Rattle.wrows.specs.Plain.{cut, kept_of, ordered}
 use Rattle.wsort.specs.Ordered.{numbers_by}
 use Rattle.wgroup.specs.Grouping.{Group, call_column, first_rows, group_cmp, group_key, group_of, group_rows, grouping_answer, groups_of, groups_of_set, set_columns, set_value}
-use Rattle.wcalls.specs.Calls.{each_row, numbers, values_told}
+use Rattle.wcalls.specs.Calls.{each_row, numbers, values_read}
 use Rattle.wcalls.specs.Functions.{function_column}
 use Rattle.wcalls.specs.Windows.{Windowed, frame_of, row_at, windowed}
 use Rattle.wplanner.specs.Answers as answers
@@ -274,7 +274,7 @@ at_place_typed t w values default at_place i n e d = go (at_place i)
 -- values of a type, each as one of a wider type, or a default
 values_typed : (ts : List DataType) (rows : List Row) (w : Windowed) (f : Formula) (default : Meaning) (at_place : ℕ → Option ℕ) (t u : DataType)
     → formula_type ts f ≡ Some t → is_nullable t ≡ true → is_nullable u ≡ true → ((m : Meaning) → is_of t m ≡ true → is_of u m ≡ true)
-    → is_of u default ≡ true → AllOf ts rows → IfOk (values_told w f rows default at_place) (Each u)
+    → is_of u default ≡ true → AllOf ts rows → IfOk (values_read w f rows default at_place) (Each u)
 values_typed ts rows w f default at_place t u e n v wide d a =
     then_ok (column_of f rows) (λ values. Ok (each_row w (λ i. unwrap_or (option_map (λ place. value_at values (row_at w i place)) (at_place i)) default))) (Each t) (Each u) (column_typed ts f t rows e n a)
     (λ values h. each_mapped (is_of u) (λ i. unwrap_or (option_map (λ place. value_at values (row_at w i place)) (at_place i)) default) (places (length w.values))
@@ -336,13 +336,13 @@ moved_is ts f default u e =
     }
 
 moved_typed : (ts : List DataType) (rows : List Row) (w : Windowed) (f : Formula) (default : Meaning) (at_place : ℕ → Option ℕ) (u : DataType)
-    → common_of (formula_type ts f) (Some (constant_type default)) ≡ Some u → AllOf ts rows → IfOk (values_told w f rows default at_place) (Each u)
+    → common_of (formula_type ts f) (Some (constant_type default)) ≡ Some u → AllOf ts rows → IfOk (values_read w f rows default at_place) (Each u)
 moved_typed ts rows w f default at_place u e a =
     let m = moved_is ts f default u e in
     values_typed ts rows w f default at_place m.type u m.is m.wide.is_left m.wide.nullable m.wide.left (m.wide.right default (constant default)) a
 
 plain_typed : (ts : List DataType) (rows : List Row) (w : Windowed) (f : Formula) (at_place : ℕ → Option ℕ) (u : DataType)
-    → valued (formula_type ts f) ≡ Some u → AllOf ts rows → IfOk (values_told w f rows Null at_place) (Each u)
+    → valued (formula_type ts f) ≡ Some u → AllOf ts rows → IfOk (values_read w f rows Null at_place) (Each u)
 plain_typed ts rows w f at_place u e a =
     let v = value_is (formula_type ts f) u e in values_typed ts rows w f Null at_place u u v.is v.nullable v.nullable (λ m h. h) v.nullable a
 

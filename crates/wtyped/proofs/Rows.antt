@@ -17,8 +17,8 @@ use Rattle.wscope.specs.Seeking.{found_or, some_below, some_node}
 use Rattle.wscope.specs.Types.{Titled, place_named, type_named, type_of}
 use Rattle.wnames.specs.Groups as judged
 use Rattle.wnames.specs.Groups.{is_group_call, is_ungrouped_column, is_window_call, names_ungrouped, sees_ungrouped}
-use Rattle.wdistinct.specs.declared.calls.CallKind.{CallKind}
-use Rattle.wdistinct.specs.declared.calls.CallKind.TheVariants.{Grouped, Windowed}
+use Rattle.wdistinct.specs.declared.distinct_calls.CallKind.{CallKind}
+use Rattle.wdistinct.specs.declared.distinct_calls.CallKind.TheVariants.{Grouped, Windowed}
 use Rattle.wdistinct.specs.Calls.{group_calls, is_call_of, nodes_below, window_calls}
 use Rattle.wdistinct.specs.Places.{place_of_same}
 use Rattle.wsame.specs.Sameness.{is_same}

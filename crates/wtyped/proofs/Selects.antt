@@ -17,8 +17,8 @@ use Rattle.wscope.specs.Windows.{NamedWindow}
 use Rattle.wnames.specs.Groups.{is_group_call, is_window_call, sees_ungrouped}
 use Rattle.wnames.specs.Types.{is_no_condition}
 use Rattle.wwindows.specs.Windows.{own_window_is, reach_is, windows_of, has_bad_frame, lacks_groups, lacks_range_key}
-use Rattle.wdistinct.specs.declared.calls.CallKind.{CallKind}
-use Rattle.wdistinct.specs.declared.calls.CallKind.TheVariants.{Grouped, Windowed}
+use Rattle.wdistinct.specs.declared.distinct_calls.CallKind.{CallKind}
+use Rattle.wdistinct.specs.declared.distinct_calls.CallKind.TheVariants.{Grouped, Windowed}
 use Rattle.wdistinct.specs.Calls.{group_calls, is_call_of, window_calls}
 use Rattle.wplan.specs.Plans.{GroupingPlan}
 use Rattle.wbinding.specs.Resolving.{Layout, resolved, resolved_option, source_row}

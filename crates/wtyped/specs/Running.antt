@@ -11,7 +11,7 @@ use Rattle.wscope.specs.Sources.{answer_columns, declared_columns}
 use Rattle.wrules.specs.Rules.{first_broken_rule}
 use Rattle.wplan.specs.Formula.{Formula, At}
 use Rattle.wplan.specs.Plans.{AggregatePlan, GroupCallPlan, GroupAggregate, GroupingOf, GroupingPlan, WindowPlan, FunctionPlan, RowNumber, Rank, DenseRank, Tile, Lag, Lead, FirstValue, LastValue, NthValue, Aggregated, SelectPlan}
-use Rattle.wplan.specs.Values.{Outcome, Held, Judged, TooLarge, value_of}
+use Rattle.weval.specs.Values.{Outcome, Held, Judged, TooLarge, value_of}
 use Rattle.wresolve.specs.Selecting.{resolved_query}
 use Rattle.wrows.specs.declared.fault.AnswerFault.{AnswerFault}
 use Rattle.wrows.specs.Columns.{Row, beside, not_too_many}

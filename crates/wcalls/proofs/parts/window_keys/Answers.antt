@@ -7,6 +7,6 @@ use Rattle.wcalls.proofs.parts.window_keys.Goals as goal
 pub returns-clause-gives : goal.returns-clause-gives
 returns-clause-gives c =
     let rows = rows_seen c.args.rows.now in
-    let told : formulas_seen c.deref-2.result.now ≡ map (λ k. k.value) (map key_plan c.args.window.now.keys.items)
+    let answer : formulas_seen c.deref-2.result.now ≡ map (λ k. k.value) (map key_plan c.args.window.now.keys.items)
     = ap formulas_seen c.deref-2.ensures.value ∙ c.in_ok-values.ensures.values ∙ ap (λ l. map (λ k. k.value) (map key_plan l)) c.deref.ensures.value in
-    sym (ap (λ ts. lists_of ts rows) told) ∙ c.in_ok-lists.ensures.gives
+    sym (ap (λ ts. lists_of ts rows) answer) ∙ c.in_ok-lists.ensures.gives

@@ -12,7 +12,7 @@ pub returns-in-Some-clause-gives : goal.returns-in-Some-clause-gives
 returns-in-Some-clause-gives c =
     let ps = c.in-Some.places.items in
     let rows = rows_seen c.args.rows.now in
-    let told : formulas_seen c.args.exprs.now ≡ map At ps = rw c.in-Some.is at c.in_ok-plain.ensures.places in
-    ap (λ ts. lists_of ts rows) told ∙ plain_lists ps rows
+    let answer : formulas_seen c.args.exprs.now ≡ map At ps = rw c.in-Some.is at c.in_ok-plain.ensures.places in
+    ap (λ ts. lists_of ts rows) answer ∙ plain_lists ps rows
     ∙ ap (λ (p : Vec ℕ Global). Ok (values_at p.items rows)) (sym c.new.ensures.places)
     ∙ ap (λ (r : Bor (List (Bor (List Value)))). Ok (values_at c.new.result.places.items (rows_seen r.now))) (sym c.new.ensures.rows)

@@ -1,6 +1,6 @@
 use Rattle.std.proofs.Common.{◌≡◌, drop}
 use Rattle.std.specs.List.{list_any}
-use Rattle.wplan.specs.Sameness.{is_same_order}
+use Rattle.wshare.specs.Sameness.{is_same_order}
 use Rattle.wplanner.proofs.orders.place_sharing.Given as goal
 
 -- none of those before it

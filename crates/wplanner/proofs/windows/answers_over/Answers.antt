@@ -2,7 +2,7 @@ use Rattle.std.proofs.Common.{◌≡◌, ◌≤◌, ◌+◌, Bool, true, false, 
 use Rattle.std.specs.List.{list_any}
 use Rattle.std.proofs.lemmas.List.{length-append}
 use Rattle.wplan.specs.declared.resolved.ResolvedWindow.{ResolvedWindow}
-use Rattle.wplan.specs.Sameness.{is_same_order}
+use Rattle.wshare.specs.Sameness.{is_same_order}
 use Rattle.wplanner.specs.declared.orders.KeptOrder.{KeptOrder}
 use Rattle.wplanner.specs.KeptOrders.{with_shared}
 use Rattle.wplanner.proofs.windows.answers_over.Goals as goal

@@ -16,5 +16,5 @@ returns-clause-codes c =
     let few : length (lists_in keys.lists) ≤ 2 ^ 32 = search rules in
     let key : c.index.result.now ≡ key_of orders 0 = c.index.ensures ∙ same_at orders 0 c.index.result.now (record { col = 0; desc = false; nulls_first = false }) (omega (arith, one)) in
     let seen : values_seen c.deref.result.now ≡ column = ap values_seen c.deref.ensures.value ∙ c.in_ok-column.ensures in
-    let told : AreCodes (key_of orders 0) column codes = subst (λ k. AreCodes k column codes) key (subst (λ l. AreCodes c.index.result.now l codes) seen c.in_ok-codes.ensures) in
-    one_key_codes keys.lists orders codes keys.wide one few told
+    let answer : AreCodes (key_of orders 0) column codes = subst (λ k. AreCodes k column codes) key (subst (λ l. AreCodes c.index.result.now l codes) seen c.in_ok-codes.ensures) in
+    one_key_codes keys.lists orders codes keys.wide one few answer

@@ -7,19 +7,19 @@ use Rattle.wcalls.proofs.row_keys.RowKeys.stable_order.Goals as goal
 
 pub by_codes-requires-clause-few : goal.by_codes-requires-clause-few
 by_codes-requires-clause-few c =
-    let told : AreRowCodes c.args.self.now.orders.items (lists_in c.args.self.now.lists) c.in-Some.codes.items = rw c.in-Some.is at c.requires.codes in
-    omega (arith, told.few, ap length c.deref.ensures.value)
+    let answer : AreRowCodes c.args.self.now.orders.items (lists_in c.args.self.now.lists) c.in-Some.codes.items = rw c.in-Some.is at c.requires.codes in
+    omega (arith, answer.few, ap length c.deref.ensures.value)
 
 pub by_codes-requires-clause-below : goal.by_codes-requires-clause-below
 by_codes-requires-clause-below c = λ k d h.
-    let told : AreRowCodes c.args.self.now.orders.items (lists_in c.args.self.now.lists) c.in-Some.codes.items = rw c.in-Some.is at c.requires.codes in
-    omega (arith, c.requires.below k d h, told.len, ap length c.deref.ensures.value)
+    let answer : AreRowCodes c.args.self.now.orders.items (lists_in c.args.self.now.lists) c.in-Some.codes.items = rw c.in-Some.is at c.requires.codes in
+    omega (arith, c.requires.below k d h, answer.len, ap length c.deref.ensures.value)
 
 pub returns-in-Some : goal.returns-in-Some
 returns-in-Some c =
     let keys = c.args.self.now.orders.items in
     let lists = lists_in c.args.self.now.lists in
-    let told : AreRowCodes keys lists c.in-Some.codes.items = rw c.in-Some.is at c.requires.codes in
-    let here : AreRowCodes keys lists c.deref.result.now = subst (AreRowCodes keys lists) (sym c.deref.ensures.value) told in
+    let answer : AreRowCodes keys lists c.in-Some.codes.items = rw c.in-Some.is at c.requires.codes in
+    let here : AreRowCodes keys lists c.deref.result.now = subst (AreRowCodes keys lists) (sym c.deref.ensures.value) answer in
     let P : List ℕ → Type 0 = λ rows. IfOk c.by_codes.result (λ order. order.items ≡ rows) in
     subst P (sorted_by_row_codes keys lists c.deref.result.now c.args.rows.items here c.requires.below) c.by_codes.ensures

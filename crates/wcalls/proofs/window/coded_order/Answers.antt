@@ -1,8 +1,0 @@
-use Rattle.wcalls.proofs.CodeFacts.{rows_by_codes}
-use Rattle.wcalls.proofs.window.coded_order.Goals as goal
-
-pub returns : goal.returns
-returns c = λ value_order key_order values keys told_values presorted_keys.
-    let o = c.in_ok-order.order in
-    rows_by_codes value_order key_order values keys c.args.firsts.now c.args.seconds.now told_values presorted_keys c.requires.len o.rows o.firsts o.seconds
-    c.in_ok-order.ensures.rows c.in_ok-order.ensures.firsts c.in_ok-order.ensures.seconds

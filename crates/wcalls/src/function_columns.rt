@@ -1,0 +1,105 @@
+//! The columns of a window's functions.
+ghost use Rattle.std.specs.Prelude.{◌≡◌, ◌≤◌, ◌+◌, ◌<◌, ◌^◌, true, IfOk, OnOk, Ok, length, map, take, drop};
+ghost use Rattle.std.specs.List.{list_all};
+ghost use Rattle.wvalues.specs.Meaning.{meaning};
+ghost use Rattle.wplan.specs.Plans.{function_plan, window_plan};
+ghost use Rattle.wrows.specs.Outcomes.{Gives, each};
+ghost use Rattle.wrows.specs.Laid.{rows_in, rows_seen};
+ghost use Rattle.wcalls.specs.Windows.{Windowed};
+ghost use Rattle.wcalls.specs.Functions.{function_column, window_columns};
+ghost use Rattle.wcalls.specs.Lent.{functions_seen};
+ghost use Rattle.wcalls.specs.Sound.{is_sound_function, is_sound_window};
+ghost use Rattle.wcalls.specs.Joins.{most_of_function, most_of_functions};
+ghost use Rattle.wcalls.specs.Frames.{frame_of};
+ghost use Rattle.wcalls.specs.Arranged.{IsArranged};
+ghost use Rattle.wcalls.specs.Ordered.{ordered_rows};
+
+use crate::arranged::ArrangedRows;
+use crate::functions::function_column;
+use crate::parts::frame_of;
+use crate::row_function::push_nulls;
+use crate::window_order::WindowOrder;
+use std::alloc::Global;
+use waggregate::Tally;
+use wplan::{ResolvedWindow, WindowFunction};
+use wrows::{AnswerFault, Cells};
+use wvalues::Value;
+
+// Appends the column of a function of a window, by number, where the rows stand in its order and in its partitions.
+fn push_column(
+    alloc: Global,
+    function: &WindowFunction,
+    arranged: &ArrangedRows,
+    cells: &mut Vec<Value>,
+    tally: &mut Tally,
+) -> Result<(), AnswerFault>
+    requires { is_sound_function (function_plan function.now) ≡ true }
+    ensures joins { tally.new ≤ tally.old + most_of_function arranged.now.partitions.now.frame.exclusion (length arranged.now.order.now) (function_plan function.now) }
+    ensures column { (w : Windowed) → IsArranged w arranged.now.order.now arranged.now.partitions.now → Gives (λ _. map meaning (drop (length cells.old.items) cells.new.items)) result (function_column (rows_seen arranged.now.rows.now) w (function_plan function.now)) }
+    ensures kept { OnOk result (take (length cells.old.items) cells.new.items ≡ cells.old.items) }
+    ensures len { OnOk result (length cells.new.items ≡ length cells.old.items + length arranged.now.rows.now) }
+{
+    let start = cells.len();
+    push_nulls(cells, arranged.rows.len())?;
+    function_column(alloc, function, arranged, &mut cells[start..], tally)
+}
+
+// The columns of functions of a window, by number, where the rows stand in its order and in its partitions.
+fn every_column(
+    alloc: Global,
+    functions: &[&WindowFunction],
+    arranged: &ArrangedRows,
+    tally: &mut Tally,
+) -> Result<Cells, AnswerFault>
+    requires { list_all is_sound_function (functions_seen functions.now) ≡ true }
+    ensures joins { tally.new ≤ tally.old + most_of_functions arranged.now.partitions.now.frame.exclusion (length arranged.now.order.now) (functions_seen functions.now) }
+    ensures columns { (w : Windowed) → IsArranged w arranged.now.order.now arranged.now.partitions.now → Gives rows_in result (each (function_column (rows_seen arranged.now.rows.now) w) (functions_seen functions.now)) }
+    ensures width { IfOk result (λ cells. cells.width ≡ length arranged.now.rows.now) }
+    ensures count { IfOk result (λ cells. cells.count ≡ length functions.now) }
+{
+    // Room for all columns at once: a list that grows is held twice while it is moved.
+    let mut cells = Vec::with_capacity(alloc, arranged.rows.len().saturating_mul(functions.len()))?;
+    for function in functions {
+        push_column(alloc, function, arranged, &mut cells, tally)?;
+    }
+    Ok(Cells {
+        cells,
+        width: arranged.rows.len(),
+        count: functions.len(),
+    })
+}
+
+/// What functions of a window answer on rows, where `order` has the rows in the window's order: a column for each
+/// function, with a value for each row by its number. The columns are laid out one after another.
+///
+/// Nothing is skipped: it is `OutOfRange` where an argument or a filter is so on any row, or a result is.
+///
+/// The tally rises by the joins that are taken, which an aggregate alone takes: three for each row at most, and eight where
+/// the frame clause excludes rows.
+pub fn window_columns(
+    alloc: Global,
+    window: &ResolvedWindow,
+    order: &WindowOrder,
+    functions: &[&WindowFunction],
+    rows: &[&[Value]],
+    tally: &mut Tally,
+) -> Result<Cells, AnswerFault>
+    requires few { length rows.now < 2 ^ 31 }
+    requires window { is_sound_window (window_plan window.now) ≡ true }
+    requires order { ordered_rows (rows_seen rows.now) (window_plan window.now) ≡ Ok order.now }
+    requires functions { list_all is_sound_function (functions_seen functions.now) ≡ true }
+    ensures joins { tally.new ≤ tally.old + most_of_functions (frame_of (window_plan window.now).frame).exclusion (length rows.now) (functions_seen functions.now) }
+    ensures columns { Gives rows_in result (window_columns (window_plan window.now) (functions_seen functions.now) (rows_seen rows.now)) }
+    ensures width { IfOk result (λ cells. cells.width ≡ length rows.now) }
+    ensures count { IfOk result (λ cells. cells.count ≡ length functions.now) }
+{
+    let cells = order.lent_keys(alloc)?;
+    let keys = order.key_rows(&cells);
+    let partitions = order.partitions(alloc, keys, frame_of(&window.frame))?;
+    let arranged = ArrangedRows {
+        rows,
+        order: order.rows(),
+        partitions: &partitions,
+    };
+    every_column(alloc, functions, &arranged, tally)
+}

@@ -1,0 +1,103 @@
+//! The column of a call with OVER, put by the numbers of the rows.
+ghost use Rattle.std.specs.Prelude.{◌≡◌, ◌+◌, ◌<◌, ◌^◌, ℕ, List, All, length, map, set, slice_index_or, take, IfOk, OnOk};
+ghost use Rattle.wvalues.specs.Meaning.{Meaning, meaning};
+ghost use Rattle.wframe.specs.Partition.{Partition};
+ghost use Rattle.wframe.specs.Places.{places};
+ghost use Rattle.wcalls.specs.Windows.{Windowed, partition_at, partition_rows, place_at};
+ghost use Rattle.wcalls.specs.Calls.{each_row};
+ghost use Rattle.wcalls.specs.Arranged.{IsArranged};
+ghost use Rattle.waggregate.specs.Put.{put_all};
+
+use crate::arranged::ArrangedRows;
+use std::alloc::{AllocError, Global};
+use wframe::Frames;
+use wvalues::Value;
+
+/// Appends so many nulls.
+pub(crate) fn push_nulls(cells: &mut Vec<Value>, count: usize) -> Result<(), AllocError>
+    ensures len { OnOk result (length cells.new.items ≡ length cells.old.items + count) }
+    ensures kept { OnOk result (take (length cells.old.items) cells.new.items ≡ cells.old.items) }
+{
+    for _ in 0..count {
+        cells.push(Value::Null)?;
+    }
+    Ok(())
+}
+
+/// Puts something at the number of the row at a place.
+pub(crate) fn put_at<T: Drop>(column: &mut [T], rows: &[usize], place: usize, value: T)
+    requires place { place < length rows.now }
+    requires row { slice_index_or rows.now place 0 < length column.old }
+    ensures { column.new ≡ set column.old (slice_index_or rows.now place 0) value }
+{
+    column[rows[place]] = value;
+}
+
+/// A call with OVER that has a value for each row of a partition and is never out of range.
+///
+/// What it answers is kept as a number for each row until all rows have theirs, and only then read as a value. Rows that
+/// follow each other in the order of a window lie far apart, and a number is put there without reading what stood there.
+pub trait RowFunction {
+    /// What it answers for the row at a place of a partition, of which the rows are given by number.
+    ghost answer: { Self → Partition → List ℕ → ℕ → Meaning };
+
+    /// What a kept number means.
+    ghost meant: { Self → ℕ → Meaning };
+
+    /// Keeps what it answers for the rows of a partition, each at the row's number.
+    fn keep(&self, frames: &Frames, rows: &[usize], kept: &mut [usize])
+        requires few { length rows.now < 2 ^ 31 }
+        requires len { length rows.now ≡ length frames.now.keys }
+        requires below { All (λ i. i < length kept.old) rows.now }
+        ensures { map (meant self.now) kept.new ≡ put_all (map (meant self.now) kept.old) rows.now (map (answer self.now frames.now rows.now) (places (length rows.now))) };
+
+    /// The value that a kept number stands for.
+    fn value(&self, number: usize) -> Result<Value, AllocError>
+        ensures { IfOk result (λ value. meaning value ≡ meant self.now number) };
+}
+
+// Keeps what a call answers for the rows of a window, each at the row's number.
+fn keep_answers<T: RowFunction>(call: &T, arranged: &ArrangedRows, kept: &mut [usize])
+    requires { length kept.old ≡ length arranged.now.order.now }
+    ensures { (w : Windowed) → IsArranged w arranged.now.order.now arranged.now.partitions.now → map (T.meant call.now) kept.new ≡ each_row w (λ i. T.answer call.now (partition_at w i) (partition_rows w i) (place_at w i)) }
+{
+    let partitions = arranged.partitions;
+    for number in 0..partitions.count() {
+        let span = partitions.span(number);
+        let frames = partitions.partition(number);
+        call.keep(&frames, &arranged.order[span.from..span.to], kept);
+    }
+}
+
+// Puts the values that kept numbers stand for, one after another.
+fn put_kept<T: RowFunction>(
+    call: &T,
+    kept: &[usize],
+    column: &mut [Value],
+) -> Result<(), AllocError>
+    requires { length column.old ≡ length kept.now }
+    ensures { OnOk result (map meaning column.new ≡ map (T.meant call.now) kept.now) }
+{
+    for row in 0..kept.len() {
+        let value = call.value(kept[row])?;
+        column[row] = value;
+    }
+    Ok(())
+}
+
+/// Puts what a call answers for the rows of a window, each at the row's number. One list is made, whatever the number of
+/// partitions.
+pub(crate) fn put_answers<T: RowFunction>(
+    alloc: Global,
+    call: &T,
+    arranged: &ArrangedRows,
+    column: &mut [Value],
+) -> Result<(), AllocError>
+    requires { length column.old ≡ length arranged.now.order.now }
+    ensures { (w : Windowed) → IsArranged w arranged.now.order.now arranged.now.partitions.now → OnOk result (map meaning column.new ≡ each_row w (λ i. T.answer call.now (partition_at w i) (partition_rows w i) (place_at w i))) }
+{
+    let mut kept = vec![in alloc; 0usize; arranged.order.len()]?;
+    keep_answers(call, arranged, &mut kept);
+    put_kept(call, &kept, column)?;
+    Ok(())
+}

@@ -1,0 +1,315 @@
+//! Rows in the order of a window.
+ghost use Rattle.std.specs.Prelude.{◌≡◌, ◌*◌, ◌+◌, ◌-◌, ◌<◌, ◌≤◌, ◌^◌, true, min, List, All, Ok, OnOk, OnErr, IfOk, IfSome, IsTrue, length, map};
+ghost use Rattle.std.specs.Ordering.{on};
+ghost use Rattle.wvalues.specs.declared.key.SortKey.{SortKey};
+ghost use Rattle.wvalues.specs.Meaning.{Meaning};
+ghost use Rattle.wvalues.specs.Order.{keys_cmp};
+ghost use Rattle.wframe.specs.Cells.{rows_of};
+ghost use Rattle.wframe.specs.Codes.{TellApart};
+ghost use Rattle.wframe.specs.KeyRows.{key_lists, sort_keys};
+ghost use Rattle.wframe.specs.Offsets.{has_range_offset};
+ghost use Rattle.wframe.specs.Peers.{key_at};
+ghost use Rattle.wframe.specs.Sorting.{sorted};
+ghost use Rattle.wplan.specs.Plans.{window_plan};
+ghost use Rattle.wshare.specs.Sameness.{is_same_order};
+ghost use Rattle.wrows.specs.CodedRows.{AreRowCodes};
+ghost use Rattle.wrows.specs.Columns.{Row};
+ghost use Rattle.wrows.specs.Laid.{rows_seen};
+ghost use Rattle.wrows.specs.Outcomes.{Gives};
+ghost use Rattle.wrows.specs.Plain.{numbers_by};
+ghost use Rattle.wcalls.specs.Arranged.{IsArranged};
+ghost use Rattle.wcalls.specs.Listed.{lists_in};
+ghost use Rattle.wcalls.specs.Ordered.{in_order, numbers_in_order, ordered_by, ordered_rows, window_numbers};
+ghost use Rattle.wcalls.specs.RowOrders.{IsRowOrder};
+ghost use Rattle.wcalls.specs.Windows.{Windowed};
+
+use crate::parts::{partition_keys, window_keys};
+use crate::row_keys::RowKeys;
+use std::alloc::{AllocError, Global};
+use std::marker::Model;
+use waggregate::Tally;
+use wcodes::picked_codes;
+use wframe::{Frame, KeyRows, Partitions};
+use wplan::ResolvedWindow;
+use wrows::{AnswerFault, order_by_codes};
+use wshare::same_order;
+use wvalues::Value;
+
+/// Rows by the partition values of a window, by its keys and then by number, with the partition values and the keys of
+/// each: where these are plain columns, they are not copied. The window's frame plays no part, so it serves each window of
+/// the same partition values and keys.
+///
+/// A single partition value or key was sorted by codes. These are kept in the order of the rows and tell the rows apart there,
+/// so that partitions and peers are found without a look at the values, which lie scattered.
+#[derive(Drop)]
+pub struct WindowOrder<'a> {
+    rows: Vec<usize>,
+    values: RowKeys<'a>,
+    value_codes: Option<Vec<u32>>,
+    keys: RowKeys<'a>,
+    key_codes: Option<Vec<u32>>,
+}
+
+impl<'a> Model for WindowOrder<'a> {
+    ghost use Rattle.wcalls.specs.Ordered.{Ordered};
+
+    ghost Value = { Ordered };
+
+    ghost use Rattle.wcalls.specs.OrderKept.{IsKept, order_of};
+
+    ghost view = { order_of };
+
+    ghost invariant = { IsKept };
+}
+
+impl<'a> WindowOrder<'a> {
+    /// Orders rows as a window does. All its partition values and keys are evaluated on every row, and `OutOfRange` where
+    /// one is so on any; the rows are sorted once. The order that is made counts among the orders.
+    pub fn new(
+        alloc: Global,
+        window: &ResolvedWindow,
+        rows: &'a [&'a [Value]],
+        orders: &mut Tally,
+    ) -> Result<WindowOrder<'a>, AnswerFault>
+        ensures order { Gives (λ order. order) result (ordered_rows (rows_seen rows.now) (window_plan window.now)) }
+        ensures made { OnOk result (orders.new ≡ min (orders.old + 1) (2 ^ 64 - 1)) }
+        ensures none { OnErr result (orders.new ≡ orders.old) }
+    {
+        let values = partition_keys(alloc, window, rows)?;
+        let keys = window_keys(alloc, window, rows)?;
+        let order = ordered_keys(alloc, values, keys)?;
+        orders.add(1);
+        Ok(order)
+    }
+
+    /// Orders rows as a window does, where they are presorted in it: nothing is sorted. All its partition values
+    /// and keys are evaluated on every row, and `OutOfRange` where one is so on any. The presorted order counts among the
+    /// orders.
+    pub fn presorted(
+        alloc: Global,
+        window: &ResolvedWindow,
+        rows: &'a [&'a [Value]],
+        numbers: Vec<usize>,
+        orders: &mut Tally,
+    ) -> Result<WindowOrder<'a>, AnswerFault>
+        requires { window_numbers (rows_seen rows.now) (window_plan window.now) ≡ Ok numbers.items }
+        ensures order { Gives (λ order. order) result (ordered_rows (rows_seen rows.now) (window_plan window.now)) }
+        ensures made { OnOk result (orders.new ≡ min (orders.old + 1) (2 ^ 64 - 1)) }
+        ensures none { OnErr result (orders.new ≡ orders.old) }
+    {
+        let values = partition_keys(alloc, window, rows)?;
+        let keys = window_keys(alloc, window, rows)?;
+        let order = presorted_keys(alloc, values, keys, numbers)?;
+        orders.add(1);
+        Ok(order)
+    }
+
+    /// The numbers of the rows, in order.
+    pub(crate) fn rows(&self) -> &[usize]
+        ensures rows { result.now ≡ self.now.rows }
+        ensures below { All (λ i. i < length self.now.rows) self.now.rows }
+    {
+        &self.rows
+    }
+
+    /// The keys of the rows in order, lent from where they lie.
+    pub(crate) fn lent_keys(&self, alloc: Global) -> Result<Vec<&Value>, AllocError>
+        ensures rows { IfOk result (λ cells. rows_of (length self.now.order) (length self.now.rows) cells.items ≡ self.now.keys) }
+        ensures laid { IfOk result (λ cells. length cells.items ≡ length self.now.rows * length self.now.order) }
+    {
+        let cells = self.keys.lent(alloc, &self.rows, &self.key_codes)?;
+        Ok(cells)
+    }
+
+    /// The rows in order by their keys, which are lent in order.
+    pub(crate) fn key_rows<'b>(&'b self, cells: &'b [&'b Value]) -> KeyRows<'b>
+        requires laid { length cells.now ≡ length self.now.rows * length self.now.order }
+        requires rows { rows_of (length self.now.order) (length self.now.rows) cells.now ≡ self.now.keys }
+        ensures lists { key_lists result ≡ self.now.keys }
+        ensures order { sort_keys result ≡ self.now.order }
+    {
+        let keys = KeyRows::new(cells, &self.keys.orders, self.rows.len());
+        coded_rows(keys, &self.key_codes)
+    }
+
+    /// The partitions of the rows with their frames, where the keys of the rows are lent in order.
+    pub(crate) fn partitions<'b>(
+        &self,
+        alloc: Global,
+        keys: KeyRows<'b>,
+        frame: Frame,
+    ) -> Result<Partitions<'b>, AllocError>
+        requires keys { key_lists keys ≡ self.now.keys }
+        requires order { sort_keys keys ≡ self.now.order }
+        requires count { length (key_lists keys) ≡ length self.now.rows }
+        requires offset { IsTrue (has_range_offset frame) → length self.now.order ≡ 1 }
+        ensures arranged { IfOk result (λ all. (w : Windowed) → self.now ≡ in_order w → frame ≡ w.frame → IsArranged w self.now.rows all) }
+        ensures frame { IfOk result (λ all. all.frame ≡ frame) }
+        ensures len { IfOk result (λ all. length self.now.rows ≡ length all.keys) }
+    {
+        let cells = self.values.lent(alloc, &self.rows, &self.value_codes)?;
+        let rows = KeyRows::new(&cells, &self.values.orders, self.rows.len());
+        let values = coded_rows(rows, &self.value_codes);
+        let partitions = Partitions::build(alloc, &values, keys, frame)?;
+        Ok(partitions)
+    }
+}
+
+/// Whether two windows order rows alike, whatever their frames: their partition values and their keys are the same, as
+/// they are written.
+#[tactic(auto, using(crate::proofs::WindowedFacts::shared_order))]
+pub fn share_order(a: &ResolvedWindow, b: &ResolvedWindow) -> bool
+    ensures exact { result ≡ is_same_order a.now b.now }
+    ensures order { (rows : List Row) → result ≡ true → ordered_rows rows (window_plan a.now) ≡ ordered_rows rows (window_plan b.now) }
+{
+    same_order(a, b)
+}
+
+// Rows in an order that was made of their partition values and keys.
+fn kept_order<'a>(order: RowOrder, values: RowKeys<'a>, keys: RowKeys<'a>) -> WindowOrder<'a>
+    requires values { length (lists_in values.lists) ≡ length order.rows.items }
+    requires keys { length (lists_in keys.lists) ≡ length order.rows.items }
+    requires order { IsRowOrder values.orders.items (lists_in values.lists) keys.orders.items (lists_in keys.lists) (length order.rows.items) order }
+    ensures { result ≡ ordered_by (lists_in values.entry.lists) values.entry.orders.items (lists_in keys.entry.lists) keys.entry.orders.items }
+{
+    let RowOrder {
+        rows,
+        value_codes,
+        key_codes,
+    } = order;
+    WindowOrder {
+        rows,
+        values,
+        value_codes,
+        keys,
+        key_codes,
+    }
+}
+
+// Rows in the order of their partition values and keys.
+fn ordered_keys<'a>(
+    alloc: Global,
+    values: RowKeys<'a>,
+    keys: RowKeys<'a>,
+) -> Result<WindowOrder<'a>, AllocError>
+    requires { length (lists_in values.lists) ≡ length (lists_in keys.lists) }
+    ensures { IfOk result (λ order. order ≡ ordered_by (lists_in values.entry.lists) values.entry.orders.items (lists_in keys.entry.lists) keys.entry.orders.items) }
+{
+    let order = row_order(alloc, &values, &keys)?;
+    Ok(kept_order(order, values, keys))
+}
+
+// Rows in the order of their partition values and keys, which is presorted.
+fn presorted_keys<'a>(
+    alloc: Global,
+    values: RowKeys<'a>,
+    keys: RowKeys<'a>,
+    numbers: Vec<usize>,
+) -> Result<WindowOrder<'a>, AllocError>
+    requires count { length (lists_in values.lists) ≡ length (lists_in keys.lists) }
+    requires order { numbers.items ≡ numbers_in_order (lists_in values.lists) values.orders.items (lists_in keys.lists) keys.orders.items }
+    ensures { IfOk result (λ order. order ≡ ordered_by (lists_in values.entry.lists) values.entry.orders.items (lists_in keys.entry.lists) keys.entry.orders.items) }
+{
+    let order = presorted_order(alloc, &values, &keys, numbers)?;
+    Ok(kept_order(order, values, keys))
+}
+
+// Rows with the codes that distinguish them, where there are some.
+fn coded_rows<'a>(rows: KeyRows<'a>, codes: &'a Option<Vec<u32>>) -> KeyRows<'a>
+    requires { IfSome codes.now (λ codes. TellApart (keys_cmp (sort_keys rows)) (key_lists rows) codes.items) }
+    ensures lists { key_lists result ≡ key_lists rows.entry }
+    ensures keys { sort_keys result ≡ sort_keys rows.entry }
+{
+    match codes {
+        Some(codes) => rows.with_codes(codes),
+        None => rows,
+    }
+}
+
+// The numbers of rows in an order, and there the codes of the partition value and of the key, if each has one.
+#[derive(Drop)]
+struct RowOrder {
+    rows: Vec<usize>,
+    value_codes: Option<Vec<u32>>,
+    key_codes: Option<Vec<u32>>,
+}
+
+// The order of rows that have codes for their partition values and for their keys, by both.
+fn coded_order(alloc: Global, firsts: &[u32], seconds: &[u32]) -> Result<RowOrder, AllocError>
+    requires len { length firsts.now ≡ length seconds.now }
+    requires few { length seconds.now ≤ 2 ^ 32 }
+    ensures { (value_order key_order : List SortKey) (values keys : List (List Meaning)) → AreRowCodes value_order values firsts.now → AreRowCodes key_order keys seconds.now → IfOk result (IsRowOrder value_order values key_order keys (length seconds.now)) }
+{
+    let order = order_by_codes(alloc, firsts, seconds)?;
+    Ok(RowOrder {
+        rows: order.rows,
+        value_codes: Some(order.firsts),
+        key_codes: Some(order.seconds),
+    })
+}
+
+// The order of rows by partition values, then by keys, then by number: by the codes of both, where there are some. Else
+// the keys are sorted by first, and then the partition values, which leaves rows of one partition as they stand.
+fn row_order(alloc: Global, values: &RowKeys, keys: &RowKeys) -> Result<RowOrder, AllocError>
+    requires { length (lists_in values.now.lists) ≡ length (lists_in keys.now.lists) }
+    ensures { IfOk result (IsRowOrder values.now.orders.items (lists_in values.now.lists) keys.now.orders.items (lists_in keys.now.lists) (length (lists_in keys.now.lists))) }
+{
+    let key_codes = keys.codes(alloc)?;
+    let value_codes = values.codes(alloc)?;
+    if let (Some(firsts), Some(seconds)) = (&value_codes, &key_codes) {
+        let order = coded_order(alloc, firsts, seconds)?;
+        return Ok(order);
+    }
+    let by_key = keys.numbers(alloc, &key_codes)?;
+    let rows = values.resorted(alloc, &value_codes, by_key)?;
+    let value_codes = codes_of(alloc, value_codes, &rows)?;
+    let key_codes = codes_of(alloc, key_codes, &rows)?;
+    Ok(RowOrder {
+        rows,
+        value_codes,
+        key_codes,
+    })
+}
+
+// The presorted order of rows, with the codes of their partition values and of their keys there, where these are found
+// without sorting. The rows stand by partition values, then by keys, then by number.
+fn presorted_order(
+    alloc: Global,
+    values: &RowKeys,
+    keys: &RowKeys,
+    rows: Vec<usize>,
+) -> Result<RowOrder, AllocError>
+    requires count { length (lists_in values.now.lists) ≡ length (lists_in keys.now.lists) }
+    requires order { rows.items ≡ sorted (on (key_at (lists_in values.now.lists)) (keys_cmp values.now.orders.items)) (numbers_by keys.now.orders.items (lists_in keys.now.lists) (length (lists_in keys.now.lists))) }
+    requires below { All (λ i. i < length (lists_in keys.now.lists)) rows.items }
+    requires len { length rows.items ≡ length (lists_in keys.now.lists) }
+    ensures { IfOk result (IsRowOrder values.now.orders.items (lists_in values.now.lists) keys.now.orders.items (lists_in keys.now.lists) (length (lists_in keys.now.lists))) }
+{
+    let key_codes = keys.number_codes(alloc)?;
+    let key_codes = codes_of(alloc, key_codes, &rows)?;
+    let value_codes = values.number_codes(alloc)?;
+    let value_codes = codes_of(alloc, value_codes, &rows)?;
+    Ok(RowOrder {
+        rows,
+        value_codes,
+        key_codes,
+    })
+}
+
+// The codes of the rows of these numbers, in their order, if rows have codes.
+fn codes_of(
+    alloc: Global,
+    codes: Option<Vec<u32>>,
+    rows: &[usize],
+) -> Result<Option<Vec<u32>>, AllocError>
+    requires { IfSome codes (λ codes. All (λ i. i < length codes.items) rows.now) }
+    ensures { (keys : List SortKey) (lists : List (List Meaning)) → IfSome codes (λ codes. AreRowCodes keys lists codes.items) → IfOk result (λ found. IfSome found (λ codes. TellApart (keys_cmp keys) (map (key_at lists) rows.now) codes.items)) }
+{
+    match codes {
+        Some(codes) => {
+            let picked = picked_codes(alloc, &codes, rows)?;
+            Ok(Some(picked))
+        }
+        None => Ok(None),
+    }
+}

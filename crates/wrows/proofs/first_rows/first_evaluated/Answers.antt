@@ -1,0 +1,21 @@
+use Rattle.std.proofs.Common.{Ok, length, take, sym, ap, ◌∙◌}
+use Rattle.wsort.specs.LaidRows.{laid}
+use Rattle.wrows.specs.Laid.{rows_seen}
+use Rattle.wrows.specs.Columns.{beside}
+use Rattle.wrows.specs.Plain.{numbers_by}
+use Rattle.wrows.proofs.PickFacts.{beside_long}
+use Rattle.wrows.proofs.RowFacts.{then_ok}
+use Rattle.wrows.proofs.first_rows.first_evaluated.Goals as goal
+
+pub returns : goal.returns
+returns c =
+    let n = length c.args.rows.now in
+    let order = c.args.order.now in
+    let most = c.args.most in
+    let all = beside (rows_seen c.args.rows.now) (rows_seen c.args.columns.now) in
+    let cells = c.in_ok-cells.cells.items in
+    then_ok (laid (length c.args.keys.now) n cells) _ (λ by. Ok (take most (numbers_by order by (length all)))) c.in_ok-cells.ensures.gives
+    ∙ ap (λ k. Ok (take most (numbers_by order (laid (length c.args.keys.now) n cells) k))) (beside_long c.args.rows.now c.args.columns.now)
+    ∙ ap (λ w. Ok (take most (numbers_by order (laid w n cells) n))) c.requires
+    ∙ ap (λ xs. Ok (take most (numbers_by order (laid (length order) n xs) n))) (sym c.deref.ensures.value)
+    ∙ ap Ok (sym c.in_ok-numbers.ensures)

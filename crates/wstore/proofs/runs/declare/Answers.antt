@@ -1,7 +1,0 @@
-use Rattle.wreplies.specs.Texts.{bytes_of}
-use Rattle.wstore.proofs.Writing.{answered}
-use Rattle.wstore.proofs.runs.declare.Goals as goal
-
-pub returns-clause-ok : goal.returns-clause-ok
-returns-clause-ok g c = λ h undeclared stands.
-    answered c.declare.new.self h _ (bytes_of c.in-Ok.text) _ _ (c.in-Ok.ensures.tells h undeclared stands) (rw c.as_slice.ensures at c.in_default-send.ensures.ok)
