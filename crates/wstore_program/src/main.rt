@@ -19,6 +19,7 @@ mod shelling;
 
 use acting::perform;
 use shelling::run_shell;
+use std::alloc::{AllocError, Global};
 use std::env;
 use std::fs::File;
 use std::io::{ErrorKind, Write};
@@ -37,6 +38,9 @@ const MISUNDERSTOOD: u8 = 2;
 
 /// The status of a fault.
 const FAILED: u8 = 3;
+
+/// The bytes of the largest piece that the GNU C library learns to keep: 32 MB, with its own words and whole pages.
+const LARGEST_KEPT: usize = (32 << 20) - (8 << 10);
 
 // The status of a fault.
 fn fault_status() -> ExitCode
@@ -177,8 +181,16 @@ fn run_words(rt: &HostRuntime, words: &[&str]) -> ExitCode {
     }
 }
 
+// Has the C library keep pieces of memory that are let go: it gives back to the system each that is larger than the largest
+// that was let go before, and what takes its place is mapped anew, page by page. Where there is no memory, all is as before.
+fn keep_memory(alloc: Global) {
+    let piece: Result<Vec<u8>, AllocError> = Vec::with_capacity(alloc, LARGEST_KEPT);
+    drop(piece);
+}
+
 fn main(rt: HostRuntime) -> ExitCode {
     let alloc = rt.alloc();
+    keep_memory(alloc);
     let words = match env::args(&rt) {
         Ok(words) => words,
         Err(error) if error.kind() == ErrorKind::InvalidData => {
