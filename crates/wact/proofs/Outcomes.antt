@@ -1,5 +1,6 @@
 -- Facts of what was done carry over to facts of the answer.
-use Rattle.std.proofs.Common.{◌≡◌, ◌≢◌, ◌⊎◌, ⊎_elim, ◌∙◌, ℕ, ◌<◌, ◌≤◌, Bool, true, false, true≢false, List, length, Option, Some, inl, inr, Result, Ok, Err, IfOk, OnErr, Bor, ap, option_map, subst, sym}
+use Rattle.std.proofs.Common.{◌≡◌, ◌≢◌, ◌⊎◌, ⊎_elim, ◌∙◌, ℕ, ◌<◌, ◌≤◌, Bool, true, false, true≢false, List, length, Option}
+use Rattle.std.proofs.Common.{Some, inl, inr, Result, Ok, Err, IfOk, OnErr, Bor, ap, option_map, subst, sym}
 use Rattle.std.proofs.lemmas.Bool.{cases_lt}
 use Rattle.std.specs.FinMap.{empty}
 use Rattle.wsegment.specs.Declaration.{Declaration}
@@ -24,20 +25,25 @@ but_memory other (inl e) = absurd (other e)
 but_memory other (inr p) = p
 
 -- the file of one view is that of an equal one
-pub stored_as : (d d' : Declaration) (v v' : View) (old : Option (List ℕ)) (acted : Acted) (text : List ℕ) → d' ≡ d → v' ≡ v → IsStored d' v' old acted text → IsStored d v old acted text
-stored_as d d' v v' old acted text same_d same_v stored = subst (λ w. IsStored d w old acted text) same_v (subst (λ e. IsStored e v' old acted text) same_d stored)
+pub stored_as : (d d' : Declaration) (v v' : View) (old : Option (List ℕ)) (acted : Acted) (text : List ℕ) → d' ≡ d → v' ≡ v
+    → IsStored d' v' old acted text → IsStored d v old acted text
+stored_as d d' v v' old acted text same_d same_v stored =
+    subst (λ w. IsStored d w old acted text) same_v (subst (λ e. IsStored e v' old acted text) same_d stored)
 
 -- what a node that knew nothing has got from the store's file
-pub knows_told : (d d' : Declaration) (store : Option (Bor (List ℕ))) (bytes : Bor (List ℕ)) (v v' w : View) → store ≡ Some bytes → d' ≡ d → v' ≡ empty → IsFileOf d' w bytes.now → v ≡ join v' w
+pub knows_told : (d d' : Declaration) (store : Option (Bor (List ℕ))) (bytes : Bor (List ℕ)) (v v' w : View)
+    → store ≡ Some bytes → d' ≡ d → v' ≡ empty → IsFileOf d' w bytes.now → v ≡ join v' w
     → Knows d (option_map (λ b. b.now) store) v
-knows_told d d' store bytes v v' w there same none file is = subst (λ (s : Option (Bor (List ℕ))). Knows d (option_map (λ b. b.now) s) v) (sym there) (record {
-  told = w;
-  file = subst (λ e. IsFileOf e w bytes.now) same file;
-  is = is ∙ ap (λ x. join x w) none;
-})
+knows_told d d' store bytes v v' w there same none file is =
+    subst (λ (s : Option (Bor (List ℕ))). Knows d (option_map (λ b. b.now) s) v) (sym there) (record {
+      told = w;
+      file = subst (λ e. IsFileOf e w bytes.now) same file;
+      is = is ∙ ap (λ x. join x w) none;
+    })
 
 -- what is done where the table is judged
-pub acts : {E : Type 0} (choice : Choice) (table : List ℕ) (store : Option (List ℕ)) (other : List ℕ) (declared : Result Declaration SchemaFault) (r : Result Acted E) → ReadsDeclaration table declared
+pub acts : {E : Type 0} (choice : Choice) (table : List ℕ) (store : Option (List ℕ)) (other : List ℕ)
+    (declared : Result Declaration SchemaFault) (r : Result Acted E) → ReadsDeclaration table declared
     → IfOk r (λ acted. ActsRead declared choice store other acted) → IfOk r (λ acted. Acts choice table store other acted)
 acts choice table store other declared (Ok acted) reads done = record { declared = declared; reads = reads; acts = done }
 acts choice table store other declared (Err e) reads done = tt
@@ -52,7 +58,8 @@ is_memory tables.NoMemory = true
 is_memory _ = false
 
 -- a declaration that is too long to be one is refused, and that needs no memory
-short_enough : (choice : Choice) (store : Option (List ℕ)) (other : List ℕ) (n : ℕ) (declared : Result Declaration SchemaFault) → (65536 < n → declared ≡ Err tables.Syntax)
+short_enough : (choice : Choice) (store : Option (List ℕ)) (other : List ℕ) (n : ℕ)
+    (declared : Result Declaration SchemaFault) → (65536 < n → declared ≡ Err tables.Syntax)
     → MayLackRead declared choice store other → n ≤ 65536
 short_enough choice store other n declared long lack = ⊎_elim
     (λ more. absurd (true≢false (sym (ap is_memory (subst (λ r. MayLackRead r choice store other) (long more) lack)))))
@@ -60,8 +67,10 @@ short_enough choice store other n declared long lack = ⊎_elim
     (cases_lt 65536 n)
 
 -- where memory is wanting while the table is judged, or behind it
-pub lacks : {A E : Type 0} (choice : Choice) (table : List ℕ) (store : Option (List ℕ)) (other : List ℕ) (declared : Result Declaration SchemaFault) (r : Result A E) → ReadsDeclaration table declared
-    → (65536 < length table → declared ≡ Err tables.Syntax) → OnErr r (MayLackRead declared choice store other) → OnErr r (MayLack choice table store other)
+pub lacks : {A E : Type 0} (choice : Choice) (table : List ℕ) (store : Option (List ℕ)) (other : List ℕ)
+    (declared : Result Declaration SchemaFault) (r : Result A E) → ReadsDeclaration table declared
+    → (65536 < length table → declared ≡ Err tables.Syntax) → OnErr r (MayLackRead declared choice store other)
+    → OnErr r (MayLack choice table store other)
 lacks choice table store other declared r reads long = on_err r (λ lack. record {
   declared = declared;
   reads = reads;

@@ -28,17 +28,20 @@ use Rattle.wact.specs.Streams.{Feeds}
 
 -- the words of a name are at fault, or they are those of a name with which this is done
 pub data OnName (origin number : List ℕ) (acted : Acted) (Does : NameParts → Type 0) : Type 0 where
-  NameRefused : (fault : NameFault) → ReadsName origin number (Err fault) → IsRefused acted (name_text fault) → OnName origin number acted Does
+  NameRefused : (fault : NameFault) → ReadsName origin number (Err fault) → IsRefused acted (name_text fault)
+      → OnName origin number acted Does
   Named : (name : NameParts) → ReadsName origin number (Ok name) → Does name → OnName origin number acted Does
 
 -- a segment is taken, or its first fault is told
 pub data Takes (d : Declaration) (v : View) (old : Option (List ℕ)) (csv : List ℕ) (acted : Acted) (name : NameParts) : Type 0 where
   SegmentRefused : (fault : SegmentFault) → rows_of d csv ≡ Err fault → IsRefused acted (segment_text fault) → Takes d v old csv acted name
-  Taken : IsOk (rows_of d csv) → IsStored d (join v (view_of_item (SegmentItem name csv))) old acted (taken_text (taken_word (known_in v name) csv)) → Takes d v old csv acted name
+  Taken : IsOk (rows_of d csv) → IsStored d (join v (view_of_item (SegmentItem name csv))) old acted
+      (taken_text (taken_word (known_in v name) csv)) → Takes d v old csv acted name
 
 -- a name is retired
 abbrev pub Retires : Declaration → View → Option (List ℕ) → Acted → NameParts → Type 0
-Retires d v old acted name = IsStored d (join v (view_of_item (RetirementItem name))) old acted (retired_text (retired_word (known_in v name)))
+Retires d v old acted name = IsStored d (join v (view_of_item (RetirementItem name))) old acted
+    (retired_text (retired_word (known_in v name)))
 
 -- all names of an origin up to one are retired
 abbrev pub RetiresTo : Declaration → View → Option (List ℕ) → Acted → NameParts → Type 0
@@ -46,7 +49,8 @@ RetiresTo d v old acted name = IsStored d (join v (view_of_item (FloorItem name)
 
 -- another store is joined, or its first fault is told
 pub data Joins (d : Declaration) (v : View) (old : Option (List ℕ)) (other : List ℕ) (acted : Acted) : Type 0 where
-  OtherRefused : (fault : FileFault) → fault ≢ files.NoMemory → IsFault d other fault → IsRefused acted (file_text fault) → Joins d v old other acted
+  OtherRefused : (fault : FileFault) → fault ≢ files.NoMemory → IsFault d other fault → IsRefused acted (file_text fault)
+      → Joins d v old other acted
   Joined : (w : View) → IsFileOf d w other → IsStored d (join v w) old acted (codes "ok\n") → Joins d v old other acted
 
 -- the names are listed
@@ -95,7 +99,8 @@ HasFault d (Some bytes) fault = IsFault d bytes fault
 
 -- where the table is read, the store is judged first, then the subcommand
 pub data ActsBy (d : Declaration) (choice : Choice) (store : Option (List ℕ)) (other : List ℕ) (acted : Acted) : Type 0 where
-  StoreRefused : (fault : FileFault) → fault ≢ files.NoMemory → HasFault d store fault → IsRefused acted (file_text fault) → ActsBy d choice store other acted
+  StoreRefused : (fault : FileFault) → fault ≢ files.NoMemory → HasFault d store fault → IsRefused acted (file_text fault)
+      → ActsBy d choice store other acted
   Done : (v : View) → Knows d store v → ActsOn d v choice store other acted → ActsBy d choice store other acted
 
 -- where the declaration of the table is read, it is acted by it; else its fault is told

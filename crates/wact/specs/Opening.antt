@@ -15,7 +15,8 @@ use Rattle.wact.specs.Acts.{HasFault, Knows}
 -- where the table is read, the store is judged
 abbrev pub OpensBy : Declaration → Option (List ℕ) → Opened → Type 0
 OpensBy d store (opens.Node node) = (node.schema ≡ d) × Knows d store node.view
-OpensBy d store (opens.Refused text) = (fault : FileFault) × (fault ≢ files.NoMemory) × HasFault d store fault × (bytes_of text ≡ file_text fault)
+OpensBy d store (opens.Refused text) = (fault : FileFault) × (fault ≢ files.NoMemory) × HasFault d store fault
+    × (bytes_of text ≡ file_text fault)
 
 -- a table that is refused
 abbrev pub IsRefusedTable : SchemaFault → Opened → Type 0

@@ -44,7 +44,8 @@ pub record ReplyFollows (d : Declaration) (v : View) (query old new : List ℕ) 
   pub refused_is : new_refused ≡ (old_refused || is_err answer)
 
 -- so were several
-pub record RepliesFollow (d : Declaration) (v : View) (queries : List (List ℕ)) (old new : List ℕ) (old_refused new_refused : Bool) : Type 0 where
+pub record RepliesFollow (d : Declaration) (v : View) (queries : List (List ℕ)) (old new : List ℕ)
+    (old_refused new_refused : Bool) : Type 0 where
   pub answers : List (Result (List ℕ) AskFault)
   pub are : AreAnswers d v queries answers
   pub text_is : new ≡ old ++ flat_map next_reply_text answers

@@ -72,7 +72,8 @@ pub(crate) fn replied(output: Text, is_refused: bool) -> Acted
 
 /// What is told, with the store that knows what the node does, where the old one has other bytes.
 pub(crate) fn stored(node: &Node, old: Option<&[u8]>, output: Text) -> Result<Acted, AllocError>
-    ensures { IfOk result (λ acted. IsStored node.now.schema node.now.view (option_map (λ bytes. bytes.now) old.entry) acted (bytes_of output)) }
+    ensures { IfOk result (λ acted. IsStored node.now.schema node.now.view (option_map (λ bytes. bytes.now) old.entry) acted
+        (bytes_of output)) }
 {
     let new = node.put()?;
     Ok(Acted {

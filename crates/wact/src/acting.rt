@@ -5,7 +5,8 @@ ghost use Rattle.wexchange.specs.Judging.{HasTable};
 ghost use Rattle.wreplies.specs.Spelling.{name_text};
 ghost use Rattle.wscript.specs.Commands.{AreName};
 ghost use Rattle.wact.specs.Outcomes.{IsRefused};
-ghost use Rattle.wact.specs.Acts.{Acts, ActsBy, ActsOn, ActsRead, Joins, Lists, MayLack, MayLackBy, MayLackMemory, MayLackRead, OnName, Retires, RetiresTo, Takes};
+ghost use Rattle.wact.specs.Acts.{Acts, ActsBy, ActsOn, ActsRead, Joins, Lists, MayLack, MayLackBy};
+ghost use Rattle.wact.specs.Acts.{MayLackMemory, MayLackRead, OnName, Retires, RetiresTo, Takes};
 
 use crate::acted::{Acted, answered, refused, stored};
 use crate::feeding::feed;
@@ -69,7 +70,8 @@ fn take(
     number: &str,
     csv: &[u8],
 ) -> Result<Acted, AllocError>
-    ensures does { IfOk result (λ acted. OnName origin.now number.now acted (Takes node.old.schema node.old.view (option_map (λ bytes. bytes.now) old.entry) csv.now acted)) }
+    ensures does { IfOk result (λ acted. OnName origin.now number.now acted (Takes node.old.schema node.old.view
+        (option_map (λ bytes. bytes.now) old.entry) csv.now acted)) }
     ensures lacks { OnErr result (AreName origin.now number.now) }
 {
     match Name::read(origin.as_bytes(), number.as_bytes()) {
@@ -84,7 +86,8 @@ fn retire(
     origin: &str,
     number: &str,
 ) -> Result<Acted, AllocError>
-    ensures does { IfOk result (λ acted. OnName origin.now number.now acted (Retires node.old.schema node.old.view (option_map (λ bytes. bytes.now) old.entry) acted)) }
+    ensures does { IfOk result (λ acted. OnName origin.now number.now acted (Retires node.old.schema node.old.view
+        (option_map (λ bytes. bytes.now) old.entry) acted)) }
     ensures lacks { OnErr result (AreName origin.now number.now) }
 {
     match Name::read(origin.as_bytes(), number.as_bytes()) {
@@ -99,7 +102,8 @@ fn floor(
     origin: &str,
     number: &str,
 ) -> Result<Acted, AllocError>
-    ensures does { IfOk result (λ acted. OnName origin.now number.now acted (RetiresTo node.old.schema node.old.view (option_map (λ bytes. bytes.now) old.entry) acted)) }
+    ensures does { IfOk result (λ acted. OnName origin.now number.now acted (RetiresTo node.old.schema node.old.view
+        (option_map (λ bytes. bytes.now) old.entry) acted)) }
     ensures lacks { OnErr result (AreName origin.now number.now) }
 {
     match Name::read(origin.as_bytes(), number.as_bytes()) {
@@ -142,7 +146,8 @@ fn act_on(
     other: &[u8],
 ) -> Result<Acted, AllocError>
     requires { is_act choice.now ≡ true }
-    ensures does { IfOk result (λ acted. ActsOn node.old.schema node.old.view choice.now (option_map (λ bytes. bytes.now) old.entry) other.now acted) }
+    ensures does { IfOk result (λ acted. ActsOn node.old.schema node.old.view choice.now
+        (option_map (λ bytes. bytes.now) old.entry) other.now acted) }
     ensures lacks { OnErr result (MayLackMemory node.old.schema choice.now other.now) }
 {
     match *choice {

@@ -106,7 +106,8 @@ pub fn feed_node(
 ) -> Result<Acted, AllocError>
     requires declared { batch.now.schema ≡ node.old.schema }
     requires whole { batch.now.held ≡ [] }
-    ensures { IfOk result (λ acted. Feeds node.old.schema node.old.view (option_map (λ bytes. bytes.now) store.entry) (stream_of batch.now) acted) }
+    ensures { IfOk result (λ acted. Feeds node.old.schema node.old.view (option_map (λ bytes. bytes.now) store.entry)
+        (stream_of batch.now) acted) }
 {
     let deliveries = batch.deliveries();
     let mut text = Vec::new(alloc);
@@ -125,7 +126,8 @@ pub fn feed_store(
 ) -> Result<Acted, AllocError>
     requires declared { ReadsDeclaration table.now (Ok batch.now.schema) }
     requires whole { batch.now.held ≡ [] }
-    ensures { IfOk result (λ acted. (choice : Choice) → IsFeed choice → Acts choice table.now (option_map (λ bytes. bytes.now) store.entry) (stream_of batch.now) acted) }
+    ensures { IfOk result (λ acted. (choice : Choice) → IsFeed choice
+        → Acts choice table.now (option_map (λ bytes. bytes.now) store.entry) (stream_of batch.now) acted) }
 {
     match open_store(alloc, table, store, Purpose::Telling)? {
         Opened::Node(mut node) => feed_node(alloc, &mut node, store, batch),

@@ -56,7 +56,8 @@ fn add_reply(
     output: &mut Vec<u8>,
     is_refused: &mut bool,
 ) -> Result<(), AllocError>
-    ensures adds { OnOk result (ReplyFollows node.old.schema node.old.view query.now output.old.items output.new.items is_refused.old is_refused.new) }
+    ensures adds { OnOk result (ReplyFollows node.old.schema node.old.view query.now output.old.items output.new.items
+        is_refused.old is_refused.new) }
     ensures same { node.new ≡ node.old }
 {
     let told = reply(alloc, node, query.as_bytes())?;
@@ -74,7 +75,8 @@ fn add_replies(
     output: &mut Vec<u8>,
     is_refused: &mut bool,
 ) -> Result<(), AllocError>
-    ensures adds { OnOk result (RepliesFollow node.old.schema node.old.view (map (λ query. query.now) queries.now) output.old.items output.new.items is_refused.old is_refused.new) }
+    ensures adds { OnOk result (RepliesFollow node.old.schema node.old.view (map (λ query. query.now) queries.now)
+        output.old.items output.new.items is_refused.old is_refused.new) }
     ensures same { OnOk result (node.new ≡ node.old) }
 {
     for query in queries {

@@ -1,5 +1,6 @@
 -- Values that are fed alike, and what is made of sums and of results.
-use Rattle.std.proofs.Common.{◌≡◌, ℕ, ℤ, ◌<◌, ◌||◌, true, false, cond, List, [], ◌∷◌, length, map, filter, get_or, Option, Some, None, Err, refl, ap, ◌∙◌}
+use Rattle.std.proofs.Common.{◌≡◌, ℕ, ℤ, ◌<◌, ◌||◌, true, false, cond, List, [], ◌∷◌, length}
+use Rattle.std.proofs.Common.{map, filter, get_or, Option, Some, None, Err, refl, ap, ◌∙◌}
 use Rattle.std.specs.Prelude.{All}
 use Rattle.std.specs.List.{AllByRecursion, list_any}
 use Rattle.std.specs.Option.{is_none}
@@ -15,24 +16,30 @@ use Rattle.waggregate.specs.Aggregating.{sum_answer, sum_or_null}
 use Rattle.waggregate.specs.FrameAnswers.{told_or_out_of_range}
 
 -- a sum as an answer
-pub sum_as_answer : (feed : ℕ → Meaning) (rows : List ℕ) (z : ℤ) → sum_answer (cond (list_any (λ row. is_value (feed row)) rows) (Some z) None) ≡ sum_or_null (filter is_value (map feed rows)) z
+pub sum_as_answer : (feed : ℕ → Meaning) (rows : List ℕ) (z : ℤ)
+    → sum_answer (cond (list_any (λ row. is_value (feed row)) rows) (Some z) None) ≡ sum_or_null (filter is_value (map feed rows)) z
 sum_as_answer feed [] z = refl
 sum_as_answer feed (row ∷ rows) z =
-    elim (is_value (feed row)) as (λ b. sum_answer (cond (b || list_any (λ row. is_value (feed row)) rows) (Some z) None) ≡ sum_or_null (cond b (feed row ∷ filter is_value (map feed rows)) (filter is_value (map feed rows))) z) [
+    elim (is_value (feed row)) as (λ b. sum_answer (cond (b || list_any (λ row. is_value (feed row)) rows) (Some z) None)
+    ≡ sum_or_null (cond b (feed row ∷ filter is_value (map feed rows)) (filter is_value (map feed rows))) z) [
       | true ↦ refl
       | false ↦ sum_as_answer feed rows z
     ]
 
-pub mapped_alike : {X Y : Type 0} (f : X → Y) (near : ℕ → X) (far : ℕ → Y) (xs : List ℕ) → ((x : ℕ) → f (near x) ≡ far x) → map f (map near xs) ≡ map far xs
+pub mapped_alike : {X Y : Type 0} (f : X → Y) (near : ℕ → X) (far : ℕ → Y) (xs : List ℕ) → ((x : ℕ) → f (near x) ≡ far x)
+    → map f (map near xs) ≡ map far xs
 mapped_alike f near far [] h = refl
 mapped_alike f near far (x ∷ xs) h = ap (λ y. y ∷ map f (map near xs)) (h x) ∙ ap (λ l. far x ∷ l) (mapped_alike f near far xs h)
 
-fed_alike : (near far : ℕ → Meaning) (f : ℕ → ℕ) (n : ℕ) (xs : List ℕ) → ((x : ℕ) → x < n → near x ≡ far (f x)) → AllByRecursion (λ x. x < n) xs → map near xs ≡ map far (map f xs)
+fed_alike : (near far : ℕ → Meaning) (f : ℕ → ℕ) (n : ℕ) (xs : List ℕ) → ((x : ℕ) → x < n → near x ≡ far (f x))
+    → AllByRecursion (λ x. x < n) xs → map near xs ≡ map far (map f xs)
 fed_alike near far f n [] same all = refl
-fed_alike near far f n (x ∷ xs) same all = ap (λ v. v ∷ map near xs) (same x all.0) ∙ ap (λ l. far (f x) ∷ l) (fed_alike near far f n xs same all.1)
+fed_alike near far f n (x ∷ xs) same all = ap (λ v. v ∷ map near xs) (same x all.0)
+    ∙ ap (λ l. far (f x) ∷ l) (fed_alike near far f n xs same all.1)
 
 -- what is fed by place is what is fed by number
-pub values_alike : (near far : ℕ → Meaning) (f : ℕ → ℕ) (n : ℕ) (xs : List ℕ) → ((x : ℕ) → x < n → near x ≡ far (f x)) → All (λ x. x < n) xs → filter is_value (map near xs) ≡ filter is_value (map far (map f xs))
+pub values_alike : (near far : ℕ → Meaning) (f : ℕ → ℕ) (n : ℕ) (xs : List ℕ) → ((x : ℕ) → x < n → near x ≡ far (f x))
+    → All (λ x. x < n) xs → filter is_value (map near xs) ≡ filter is_value (map far (map f xs))
 values_alike near far f n xs same all = ap (filter is_value) (fed_alike near far f n xs same (recursion_from_All (λ x. x < n) xs all))
 
 -- a part that is out of range refuses all
@@ -44,7 +51,8 @@ not_too_many : (r : Option Meaning) → told_or_out_of_range r ≡ Err TooManyRo
 not_too_many None h = cc
 not_too_many (Some m) h = cc
 
-pub refused_part : {P : Type 0} (told : P → Option Meaning) (fault : AnswerFault) (parts : List P) (i : ℕ) (d : P) → i < length parts → Gives meaning (Err fault) (told_or_out_of_range (told (get_or parts i d)))
+pub refused_part : {P : Type 0} (told : P → Option Meaning) (fault : AnswerFault) (parts : List P) (i : ℕ) (d : P)
+    → i < length parts → Gives meaning (Err fault) (told_or_out_of_range (told (get_or parts i d)))
     → Gives {X = Unit {0}} {Y = Unit {0}} (λ u. u) (Err fault) (unless (list_any is_none (map told parts)) OutOfRange (tt {0}))
 refused_part told OutOfRange parts i d h e =
     let at : is_none (told (get_or parts i d)) ≡ true = fault_is_none (told (get_or parts i d)) e in

@@ -1,5 +1,7 @@
 -- Folds of groups, one row after another, and what they come to.
-use Rattle.std.proofs.Common.{◌≡◌, ◌≢◌, ℕ, zero, suc, pos, ◌+◌, ◌<◌, ◌≤◌, ◌^◌, ◌==◌, ◌⊎◌, inl, inr, Bool, true, false, cond, eqb, List, [], ◌∷◌, ◌++◌, length, map, filter, fold, get_or, slice_set, take, Vec, Global, Option, Some, None, Ordering, Result, Ok, Err, subst, refl, sym, ap, ◌∙◌, arith}
+use Rattle.std.proofs.Common.{◌≡◌, ◌≢◌, ℕ, zero, suc, pos, ◌+◌, ◌<◌, ◌≤◌, ◌^◌, ◌==◌, ◌⊎◌, inl, inr, Bool, true, false}
+use Rattle.std.proofs.Common.{cond, eqb, List, [], ◌∷◌, ◌++◌, length, map, filter, fold, get_or, slice_set, take, Vec}
+use Rattle.std.proofs.Common.{Global, Option, Some, None, Ordering, Result, Ok, Err, subst, refl, sym, ap, ◌∙◌, arith}
 use Rattle.std.specs.Prelude.{All, unwrap_or}
 use Rattle.std.specs.List.{AllByRecursion, list_any}
 use Rattle.std.specs.Option.{is_none}
@@ -33,7 +35,8 @@ use Rattle.waggregate.proofs.PickedFacts.{CountedRowsLaw, CountedLaw, SummedLaw}
 
 -- what a group's rows come to, of so many rows
 abbrev pub part_of : {P : Type 0} → P → (P → P → P) → (ℕ → P) → List ℕ → ℕ → ℕ → P
-part_of neutral joined part_at groups rows group = rows_fold neutral joined part_at (filter (λ row. get_or groups row 0 == group) (places rows))
+part_of neutral joined part_at groups rows group =
+    rows_fold neutral joined part_at (filter (λ row. get_or groups row 0 == group) (places rows))
 
 -- the number at a place of numbers that follow each other
 pub place_at_from : (a n k d : ℕ) → k < n → get_or (places_from a n) k d ≡ a + k
@@ -50,13 +53,16 @@ mapped_at f n k d h =
 
 map_same : {P : Type 0} (f h : ℕ → P) (a n : ℕ) → ((j : ℕ) → a ≤ j → f j ≡ h j) → map f (places_from a n) ≡ map h (places_from a n)
 map_same f h a zero same = refl
-map_same f h a (suc n) same = ap (λ x. x ∷ map f (places_from (a + 1) n)) (same a (omega arith)) ∙ ap (λ l. h a ∷ l) (map_same f h (a + 1) n (λ j k. same j (omega arith)))
+map_same f h a (suc n) same = ap (λ x. x ∷ map f (places_from (a + 1) n)) (same a (omega arith))
+    ∙ ap (λ l. h a ∷ l) (map_same f h (a + 1) n (λ j k. same j (omega arith)))
 
-set_mapped : {P : Type 0} (f h : ℕ → P) (a n k : ℕ) (x : P) → k < n → x ≡ h (a + k) → ((j : ℕ) → a + k ≢ j → f j ≡ h j) → slice_set (map f (places_from a n)) k x ≡ map h (places_from a n)
+set_mapped : {P : Type 0} (f h : ℕ → P) (a n k : ℕ) (x : P) → k < n → x ≡ h (a + k) → ((j : ℕ) → a + k ≢ j → f j ≡ h j)
+    → slice_set (map f (places_from a n)) k x ≡ map h (places_from a n)
 set_mapped f h a zero k x l is others = absurd (omega arith)
 set_mapped f h a (suc n) zero x l is others =
     let here : a + 0 ≡ a = omega arith in
-    ap (λ y. y ∷ map f (places_from (a + 1) n)) (is ∙ ap h here) ∙ ap (λ l. h a ∷ l) (map_same f h (a + 1) n (λ j m. others j (λ e. omega arith)))
+    ap (λ y. y ∷ map f (places_from (a + 1) n)) (is ∙ ap h here)
+    ∙ ap (λ l. h a ∷ l) (map_same f h (a + 1) n (λ j m. others j (λ e. omega arith)))
 set_mapped f h a (suc n) (suc k) x l is others =
     let next : a + suc k ≡ a + 1 + k = omega arith in
     ap (λ y. y ∷ slice_set (map f (places_from (a + 1) n)) k x) (others a (λ e. omega arith))
@@ -69,7 +75,8 @@ module _ {P : Type 0} (neutral : P) (joined : P → P → P) (part_at : ℕ → 
   abbrev after : ℕ → P
   after = part_of neutral joined part_at groups (row + 1)
 
-  cut : (g : ℕ) (b : Bool) → (get_or groups row 0 == g) ≡ b → filter (λ row. get_or groups row 0 == g) (places (row + 1)) ≡ filter (λ row. get_or groups row 0 == g) (places row) ++ cond b (row ∷ []) []
+  cut : (g : ℕ) (b : Bool) → (get_or groups row 0 == g) ≡ b → filter (λ row. get_or groups row 0 == g) (places (row + 1))
+      ≡ filter (λ row. get_or groups row 0 == g) (places row) ++ cond b (row ∷ []) []
   cut g b e =
       ap (filter (λ row. get_or groups row 0 == g)) (places_more 0 row row (omega arith))
       ∙ filter-append (λ row. get_or groups row 0 == g) (places row) (row ∷ [])
@@ -92,26 +99,30 @@ module _ {P : Type 0} (neutral : P) (joined : P → P → P) (part_at : ℕ → 
   is_own : (g : ℕ) → get_or groups row 0 ≡ g → (get_or groups row 0 == g) ≡ true
   is_own g e = go (eqb_tells (get_or groups row 0) g)
     where
-      go : ((eqb (get_or groups row 0) g ≡ true) × (get_or groups row 0 ≡ g)) ⊎ ((eqb (get_or groups row 0) g ≡ false) × (get_or groups row 0 ≢ g)) → (get_or groups row 0 == g) ≡ true
+      go : ((eqb (get_or groups row 0) g ≡ true) × (get_or groups row 0 ≡ g)) ⊎ ((eqb (get_or groups row 0) g ≡ false)
+          × (get_or groups row 0 ≢ g)) → (get_or groups row 0 == g) ≡ true
       go (inl (h, k)) = h
       go (inr (h, k)) = absurd (k e)
 
   is_other : (g : ℕ) → get_or groups row 0 ≢ g → (get_or groups row 0 == g) ≡ false
   is_other g e = go (eqb_tells (get_or groups row 0) g)
     where
-      go : ((eqb (get_or groups row 0) g ≡ true) × (get_or groups row 0 ≡ g)) ⊎ ((eqb (get_or groups row 0) g ≡ false) × (get_or groups row 0 ≢ g)) → (get_or groups row 0 == g) ≡ false
+      go : ((eqb (get_or groups row 0) g ≡ true) × (get_or groups row 0 ≡ g)) ⊎ ((eqb (get_or groups row 0) g ≡ false)
+          × (get_or groups row 0 ≢ g)) → (get_or groups row 0 == g) ≡ false
       go (inl (h, k)) = absurd (e k)
       go (inr (h, k)) = h
 
   -- one row more
-  pub parts_more : (count group : ℕ) (parts : List P) (left right part : P) → parts ≡ map before (places count) → group ≡ get_or groups row 0 → group < count → left ≡ get_or parts group left → right ≡ part_at row → part ≡ joined left right
+  pub parts_more : (count group : ℕ) (parts : List P) (left right part : P) → parts ≡ map before (places count)
+      → group ≡ get_or groups row 0 → group < count → left ≡ get_or parts group left → right ≡ part_at row → part ≡ joined left right
       → slice_set parts group part ≡ map after (places count)
   parts_more count group parts left right part so_far is h here own_part joins =
       let e : 0 + group ≡ group = omega arith in
       let was : left ≡ before group = here ∙ ap (λ ps. get_or ps group left) so_far ∙ mapped_at before count group left h in
       ap (λ ps. slice_set ps group part) so_far
       ∙ set_mapped before after 0 count group part h
-      (joins ∙ ap (joined left) own_part ∙ ap (λ p. joined p (part_at row)) was ∙ sym (own group (is_own group (sym is))) ∙ ap after (sym e))
+      (joins ∙ ap (joined left) own_part ∙ ap (λ p. joined p (part_at row)) was ∙ sym (own group (is_own group (sym is)))
+      ∙ ap after (sym e))
       (λ j apart. other j (is_other j (λ here. apart (e ∙ is ∙ here))))
 
 -- no row so far
@@ -119,14 +130,18 @@ pub no_rows : {P : Type 0} (neutral : P) (n : ℕ) (parts : List P) → parts �
 no_rows neutral n parts e = ap length e ∙ length-map (places n) (λ k. neutral) ∙ length-places 0 n
 
 -- the parts that were taken are parts
-pub ordered_parts : {P : Type 0} (is : P → Type 0) (parts ordered : List P) (order : List ℕ) → ((d : P) → ordered ≡ map (λ g. get_or parts g d) order) → All (λ g. g < length parts) order → All is parts → All is ordered
+pub ordered_parts : {P : Type 0} (is : P → Type 0) (parts ordered : List P) (order : List ℕ)
+    → ((d : P) → ordered ≡ map (λ g. get_or parts g d) order) → All (λ g. g < length parts) order → All is parts → All is ordered
 ordered_parts is parts ordered order same below all = λ i d h.
     let long : length ordered ≡ length order = ap length (same d) ∙ length-map order (λ g. get_or parts g d) in
     let within : i < length order = omega (arith, long) in
-    subst is (sym (ap (λ l. get_or l i d) (same d) ∙ get_or-map (λ g. get_or parts g d) order i 0 d within)) (all (get_or order i 0) d (below i 0 within))
+    subst is (sym (ap (λ l. get_or l i d) (same d) ∙ get_or-map (λ g. get_or parts g d) order i 0 d within))
+    (all (get_or order i 0) d (below i 0 within))
 
 -- what is told of each group's rows
-pub given_alike : (r : Result (Vec Value Global) AnswerFault) (xs ys : List (Option Meaning)) → xs ≡ ys → Gives (λ (column : Vec Value Global). map meaning column.items) r (in_range xs) → Gives (λ (column : Vec Value Global). map meaning column.items) r (in_range ys)
+pub given_alike : (r : Result (Vec Value Global) AnswerFault) (xs ys : List (Option Meaning)) → xs ≡ ys
+    → Gives (λ (column : Vec Value Global). map meaning column.items) r (in_range xs)
+    → Gives (λ (column : Vec Value Global). map meaning column.items) r (in_range ys)
 given_alike r xs ys e h = subst (λ l. Gives (λ (column : Vec Value Global). map meaning column.items) r (in_range l)) e h
 
 module _ (groups order : List ℕ) (few : length groups < 2 ^ 31) where
@@ -134,79 +149,114 @@ module _ (groups order : List ℕ) (few : length groups < 2 ^ 31) where
   group_few g =
       let at = λ (row : ℕ). get_or groups row 0 == g in
       let all = places (length groups) in
-      let kept : length (filter at all) ≤ length all = subst (λ n. n ≤ length all) (sym (length-filter at all)) (count_by-le-length at all) in
+      let kept : length (filter at all) ≤ length all = subst (λ n. n ≤ length all) (sym (length-filter at all))
+      (count_by-le-length at all) in
       let long : length all ≡ length groups = length-places 0 (length groups) in
       omega (arith, kept, long, few)
 
-  each_alike : (f h : List ℕ → Option Meaning) → ((rows : List ℕ) → length rows < 2 ^ 31 → f rows ≡ h rows) → (gs : List ℕ) → map (λ g. f (rows_of_group groups g)) gs ≡ map (λ g. h (rows_of_group groups g)) gs
+  each_alike : (f h : List ℕ → Option Meaning) → ((rows : List ℕ) → length rows < 2 ^ 31 → f rows ≡ h rows) → (gs : List ℕ)
+      → map (λ g. f (rows_of_group groups g)) gs ≡ map (λ g. h (rows_of_group groups g)) gs
   each_alike f h same [] = refl
-  each_alike f h same (g ∷ gs) = ap (λ x. x ∷ map (λ g. f (rows_of_group groups g)) gs) (same (rows_of_group groups g) (group_few g)) ∙ ap (λ l. h (rows_of_group groups g) ∷ l) (each_alike f h same gs)
+  each_alike f h same (g ∷ gs) = ap (λ x. x ∷ map (λ g. f (rows_of_group groups g)) gs)
+      (same (rows_of_group groups g) (group_few g)) ∙ ap (λ l. h (rows_of_group groups g) ∷ l) (each_alike f h same gs)
 
-  module _ (feed : Feed) (values : List Meaning) (tests : Option (List Bool)) (valued : values ≡ feed.values) (tested : tests ≡ feed.filter) where
-    pub rows_told : CountedRowsLaw → map (λ g. Some (Int (pos (rows_fold 0 counts_joined (count_at None tests) (rows_of_group groups g))))) order ≡ map (λ g. aggregate_of CountRows feed (rows_of_group groups g)) order
+  module _ (feed : Feed) (values : List Meaning) (tests : Option (List Bool)) (valued : values ≡ feed.values)
+      (tested : tests ≡ feed.filter) where
+    pub rows_told : CountedRowsLaw → map
+        (λ g. Some (Int (pos (rows_fold 0 counts_joined (count_at None tests) (rows_of_group groups g))))) order
+        ≡ map (λ g. aggregate_of CountRows feed (rows_of_group groups g)) order
     rows_told law =
         each_alike (λ rows. Some (Int (pos (rows_fold 0 counts_joined (count_at None tests) rows)))) (aggregate_of CountRows feed)
-        (λ rows short. ap (λ n. Some (Int (pos n))) (law tests rows (omega arith)) ∙ ap (λ t. Some (Int (pos (count_of_rows t rows)))) tested) order
+        (λ rows short. ap (λ n. Some (Int (pos n))) (law tests rows (omega arith))
+        ∙ ap (λ t. Some (Int (pos (count_of_rows t rows)))) tested) order
 
-    pub values_told : CountedLaw → map (λ g. Some (Int (pos (rows_fold 0 counts_joined (count_at (Some values) tests) (rows_of_group groups g))))) order ≡ map (λ g. aggregate_of Count feed (rows_of_group groups g)) order
+    pub values_told : CountedLaw → map (λ g. Some
+        (Int (pos (rows_fold 0 counts_joined (count_at (Some values) tests) (rows_of_group groups g))))) order
+        ≡ map (λ g. aggregate_of Count feed (rows_of_group groups g)) order
     values_told law =
         each_alike (λ rows. Some (Int (pos (rows_fold 0 counts_joined (count_at (Some values) tests) rows)))) (aggregate_of Count feed)
         (λ rows short. ap (λ n. Some (Int (pos n))) (law values tests rows (omega arith))
-        ∙ ap (λ vs. Some (Int (pos (count_of (fed vs tests) rows)))) valued ∙ ap (λ t. Some (Int (pos (count_of (fed feed.values t) rows)))) tested) order
+        ∙ ap (λ vs. Some (Int (pos (count_of (fed vs tests) rows)))) valued
+        ∙ ap (λ t. Some (Int (pos (count_of (fed feed.values t) rows)))) tested) order
 
-    pub sums_told : SummedLaw → ((row : ℕ) → IsInRange (fed values tests row)) → map (λ g. sum_answer (rows_fold None sums_joined (λ row. sum_part (fed values tests row)) (rows_of_group groups g))) order ≡ map (λ g. aggregate_of Sum feed (rows_of_group groups g)) order
+    pub sums_told : SummedLaw → ((row : ℕ) → IsInRange (fed values tests row))
+        → map (λ g. sum_answer (rows_fold None sums_joined (λ row. sum_part (fed values tests row))
+        (rows_of_group groups g))) order ≡ map (λ g. aggregate_of Sum feed (rows_of_group groups g)) order
     sums_told law ranges =
         each_alike (λ rows. sum_answer (rows_fold None sums_joined (λ row. sum_part (fed values tests row)) rows)) (aggregate_of Sum feed)
-        (λ rows short. ap sum_answer (law (fed values tests) rows (omega (arith, count_by-le-length (λ row. is_value (fed values tests row)) rows)) (λ k d h. ranges (get_or rows k d)))
+        (λ rows short. ap sum_answer (law (fed values tests) rows
+        (omega (arith, count_by-le-length (λ row. is_value (fed values tests row)) rows)) (λ k d h. ranges (get_or rows k d)))
         ∙ sum_as_answer (fed values tests) rows (sum_of (fed values tests) rows)
         ∙ ap (λ vs. sum_or_null (filter is_value (map (fed vs tests) rows)) (sum_of (fed vs tests) rows)) valued
         ∙ ap (λ t. sum_or_null (filter is_value (map (fed feed.values t) rows)) (sum_of (fed feed.values t) rows)) tested) order
 
-    pub firsts_told : FirstLaw → (cmp : Meaning → Meaning → Ordering) → IsTotalOrder cmp → LeastLaw cmp → map (λ g. Some (value_or_null values (rows_fold None (leasts_joined cmp values) (place_at values tests) (rows_of_group groups g)))) order ≡ map (λ g. Some (first_or_null (sorted cmp (fed_values feed (rows_of_group groups g))))) order
+    pub firsts_told : FirstLaw → (cmp : Meaning → Meaning → Ordering) → IsTotalOrder cmp → LeastLaw cmp
+        → map (λ g. Some (value_or_null values (rows_fold None (leasts_joined cmp values) (place_at values tests)
+        (rows_of_group groups g)))) order
+        ≡ map (λ g. Some (first_or_null (sorted cmp (fed_values feed (rows_of_group groups g))))) order
     firsts_told first cmp total least =
-        each_alike (λ rows. Some (value_or_null values (rows_fold None (leasts_joined cmp values) (place_at values tests) rows))) (λ rows. Some (first_or_null (sorted cmp (fed_values feed rows))))
-        (λ rows short. ap (λ m. Some m) (least_value first cmp total values tests rows (rows_fold None (leasts_joined cmp values) (place_at values tests) rows) (least values tests rows)
+        each_alike (λ rows. Some (value_or_null values (rows_fold None (leasts_joined cmp values) (place_at values tests)
+        rows))) (λ rows. Some (first_or_null (sorted cmp (fed_values feed rows))))
+        (λ rows short. ap (λ m. Some m) (least_value first cmp total values tests rows
+        (rows_fold None (leasts_joined cmp values) (place_at values tests) rows) (least values tests rows)
         ∙ ap (λ vs. first_or_null (sorted cmp (filter is_value (map (fed vs tests) rows)))) valued
         ∙ ap (λ t. first_or_null (sorted cmp (filter is_value (map (fed feed.values t) rows)))) tested)) order
 
 -- one place more
-pub mapped_more : {P : Type 0} (f : ℕ → P) (n : ℕ) (so_far next : List P) (x : P) → so_far ≡ map f (places n) → next ≡ so_far ++ x ∷ [] → x ≡ f n → next ≡ map f (places (n + 1))
+pub mapped_more : {P : Type 0} (f : ℕ → P) (n : ℕ) (so_far next : List P) (x : P) → so_far ≡ map f (places n)
+    → next ≡ so_far ++ x ∷ [] → x ≡ f n → next ≡ map f (places (n + 1))
 mapped_more f n so_far next x e h is =
     h ∙ ap (λ l. l ++ x ∷ []) e ∙ ap (λ y. map f (places n) ++ y ∷ []) is
     ∙ sym (ap (map f) (places_more 0 n n (omega arith)) ∙ map-append f (places n) (n ∷ []))
 
 -- one group more
-pub ordered_more : {P : Type 0} (parts : List P) (order : List ℕ) (i : ℕ) (so_far next : List P) (x d : P) → i < length order → get_or order i 0 < length parts → so_far ≡ map (λ g. get_or parts g d) (take i order) → next ≡ so_far ++ x ∷ [] → x ≡ get_or parts (get_or order i 0) x
+pub ordered_more : {P : Type 0} (parts : List P) (order : List ℕ) (i : ℕ) (so_far next : List P) (x d : P)
+    → i < length order → get_or order i 0 < length parts → so_far ≡ map (λ g. get_or parts g d) (take i order)
+    → next ≡ so_far ++ x ∷ [] → x ≡ get_or parts (get_or order i 0) x
     → next ≡ map (λ g. get_or parts g d) (take (i + 1) order)
 ordered_more parts order i so_far next x d h within e more is =
-    more ∙ ap (λ l. l ++ x ∷ []) e ∙ ap (λ y. map (λ g. get_or parts g d) (take i order) ++ y ∷ []) (is ∙ same_at parts (get_or order i 0) x d within)
-    ∙ sym (ap (map (λ g. get_or parts g d)) (take_more order i 0 h) ∙ map-append (λ g. get_or parts g d) (take i order) (get_or order i 0 ∷ []))
+    more ∙ ap (λ l. l ++ x ∷ []) e ∙ ap (λ y. map (λ g. get_or parts g d) (take i order) ++ y ∷ [])
+    (is ∙ same_at parts (get_or order i 0) x d within)
+    ∙ sym (ap (map (λ g. get_or parts g d)) (take_more order i 0 h) ∙ map-append (λ g. get_or parts g d) (take i order)
+    (get_or order i 0 ∷ []))
 
-known : {P : Type 0} (f : ℕ → P) (n : ℕ) (parts : List P) (d : P) → parts ≡ map f (places n) → (gs : List ℕ) → AllByRecursion (λ g. g < n) gs → map (λ g. get_or parts g d) gs ≡ map f gs
+known : {P : Type 0} (f : ℕ → P) (n : ℕ) (parts : List P) (d : P) → parts ≡ map f (places n) → (gs : List ℕ)
+    → AllByRecursion (λ g. g < n) gs → map (λ g. get_or parts g d) gs ≡ map f gs
 known f n parts d e [] all = refl
-known f n parts d e (g ∷ gs) all = ap (λ x. x ∷ map (λ g. get_or parts g d) gs) (ap (λ ps. get_or ps g d) e ∙ mapped_at f n g d all.0) ∙ ap (λ l. f g ∷ l) (known f n parts d e gs all.1)
+known f n parts d e (g ∷ gs) all = ap (λ x. x ∷ map (λ g. get_or parts g d) gs) (ap (λ ps. get_or ps g d) e
+    ∙ mapped_at f n g d all.0) ∙ ap (λ l. f g ∷ l) (known f n parts d e gs all.1)
 
 -- the parts of the groups that are answered, where all parts are known
-pub known_parts : {P : Type 0} (f : ℕ → P) (n : ℕ) (parts ordered : List P) (order : List ℕ) → parts ≡ map f (places n) → ((d : P) → ordered ≡ map (λ g. get_or parts g d) order) → All (λ g. g < n) order → ordered ≡ map f order
+pub known_parts : {P : Type 0} (f : ℕ → P) (n : ℕ) (parts ordered : List P) (order : List ℕ) → parts ≡ map f (places n)
+    → ((d : P) → ordered ≡ map (λ g. get_or parts g d) order) → All (λ g. g < n) order → ordered ≡ map f order
 known_parts f n parts ordered order e same below = same (f 0) ∙ known f n parts (f 0) e order (recursion_from_All (λ g. g < n) order below)
 
 pub known_length : {P : Type 0} (f : ℕ → P) (n : ℕ) (parts : List P) → parts ≡ map f (places n) → length parts ≡ n
 known_length f n parts e = ap length e ∙ length-map (places n) f ∙ length-places 0 n
 
 -- what is told of the groups that are answered
-pub told_in_order : {P : Type 0} (told : P → Option Meaning) (f : ℕ → P) (n : ℕ) (parts ordered seen : List P) (order : List ℕ) → parts ≡ map f (places n) → ((d : P) → ordered ≡ map (λ g. get_or parts g d) order) → All (λ g. g < n) order → seen ≡ ordered → map told seen ≡ map (λ g. told (f g)) order
-told_in_order told f n parts ordered seen order e same below is = ap (map told) (is ∙ known_parts f n parts ordered order e same below) ∙ map-map told f order
+pub told_in_order : {P : Type 0} (told : P → Option Meaning) (f : ℕ → P) (n : ℕ) (parts ordered seen : List P)
+    (order : List ℕ) → parts ≡ map f (places n) → ((d : P) → ordered ≡ map (λ g. get_or parts g d) order)
+    → All (λ g. g < n) order → seen ≡ ordered → map told seen ≡ map (λ g. told (f g)) order
+told_in_order told f n parts ordered seen order e same below is =
+    ap (map told) (is ∙ known_parts f n parts ordered order e same below) ∙ map-map told f order
 
-pub told_fault : (fault : AnswerFault) (seen results : List (Option Meaning)) → seen ≡ results → Gives {X = Unit {0}} {Y = Unit {0}} (λ u. u) (Err fault) (unless (list_any is_none seen) OutOfRange (tt {0})) → Gives (λ (column : Vec Value Global). map meaning column.items) (Err fault) (in_range results)
+pub told_fault : (fault : AnswerFault) (seen results : List (Option Meaning)) → seen ≡ results
+    → Gives {X = Unit {0}} {Y = Unit {0}} (λ u. u) (Err fault) (unless (list_any is_none seen) OutOfRange (tt {0}))
+    → Gives (λ (column : Vec Value Global). map meaning column.items) (Err fault) (in_range results)
 told_fault fault seen results e h =
-    refused (λ (column : Vec Value Global). map meaning column.items) fault (list_any is_none seen) (list_any is_none results) (values_or_null results) h (λ some. sym (ap (list_any is_none) e) ∙ some)
+    refused (λ (column : Vec Value Global). map meaning column.items) fault (list_any is_none seen)
+    (list_any is_none results) (values_or_null results) h (λ some. sym (ap (list_any is_none) e) ∙ some)
 
-pub told_column : (first told : List Value) (seen results : List (Option Meaning)) → seen ≡ results → first ≡ [] → unless (list_any is_none seen) OutOfRange (tt {0}) ≡ Ok (tt {0}) → map meaning told ≡ map meaning first ++ values_or_null seen → in_range results ≡ Ok (map meaning told)
+pub told_column : (first told : List Value) (seen results : List (Option Meaning)) → seen ≡ results → first ≡ []
+    → unless (list_any is_none seen) OutOfRange (tt {0}) ≡ Ok (tt {0})
+    → map meaning told ≡ map meaning first ++ values_or_null seen → in_range results ≡ Ok (map meaning told)
 told_column first told seen results e none gives added =
     ap in_range (sym e) ∙ ap (λ b. unless b OutOfRange (values_or_null seen)) (ok_is_false (list_any is_none seen) (tt {0}) (tt {0}) gives)
     ∙ ap (λ l. Ok l) (sym (added ∙ ap (λ l. map meaning l ++ values_or_null seen) none))
 
-pub told_long : (first told : List Value) (seen : List (Option Meaning)) (f : ℕ → Option Meaning) (order : List ℕ) → seen ≡ map f order → first ≡ [] → map meaning told ≡ map meaning first ++ values_or_null seen → length told ≡ length order
+pub told_long : (first told : List Value) (seen : List (Option Meaning)) (f : ℕ → Option Meaning) (order : List ℕ)
+    → seen ≡ map f order → first ≡ [] → map meaning told ≡ map meaning first ++ values_or_null seen → length told ≡ length order
 told_long first told seen f order e none added =
     sym (length-map told meaning) ∙ ap length (added ∙ ap (λ l. map meaning l ++ values_or_null seen) none)
     ∙ length-map seen (λ r. unwrap_or r Null) ∙ ap length e ∙ length-map order f

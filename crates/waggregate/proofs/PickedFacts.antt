@@ -22,27 +22,34 @@ use Rattle.wplan.specs.declared.resolved.AggregateFunction.TheVariants.{CountRow
 use Rattle.waggregate.specs.Aggregating.{Feed, aggregate_of, fed_values, first_or_null, sum_answer, value_or_null}
 use Rattle.waggregate.specs.FrameAnswers.{window_answers}
 use Rattle.waggregate.proofs.LeastFacts.{FirstLaw}
-use Rattle.waggregate.proofs.FrameFacts.{FeedLaw, RowsLaw, CountLaw, PickedSumLaw, LeastLaw, counted_rows, counted_values, summed, first_valued}
+use Rattle.waggregate.proofs.FrameFacts.{FeedLaw, RowsLaw, CountLaw, PickedSumLaw, LeastLaw}
+use Rattle.waggregate.proofs.FrameFacts.{counted_rows, counted_values, summed, first_valued}
 use Rattle.waggregate.proofs.WindowFacts.{BelowLaw, FewLaw, answers_alike}
 
 -- what the folds of counts and sums come to, as laws tell it
 abbrev pub CountedRowsLaw : Type 0
-CountedRowsLaw = (filter : Option (List Bool)) (rows : List ℕ) → length rows < 2 ^ 64 → rows_fold 0 counts_joined (count_at None filter) rows ≡ count_of_rows filter rows
+CountedRowsLaw = (filter : Option (List Bool)) (rows : List ℕ) → length rows < 2 ^ 64
+    → rows_fold 0 counts_joined (count_at None filter) rows ≡ count_of_rows filter rows
 
 abbrev pub CountedLaw : Type 0
-CountedLaw = (values : List Meaning) (filter : Option (List Bool)) (rows : List ℕ) → length rows < 2 ^ 64 → rows_fold 0 counts_joined (count_at (Some values) filter) rows ≡ count_of (fed values filter) rows
+CountedLaw = (values : List Meaning) (filter : Option (List Bool)) (rows : List ℕ) → length rows < 2 ^ 64
+    → rows_fold 0 counts_joined (count_at (Some values) filter) rows ≡ count_of (fed values filter) rows
 
 abbrev pub SummedLaw : Type 0
-SummedLaw = (feed : ℕ → Meaning) (rows : List ℕ) → count_of feed rows < 2 ^ 31 → All (λ row. IsInRange (feed row)) rows → rows_fold None sums_joined (λ row. sum_part (feed row)) rows ≡ sum_or_none feed rows
+SummedLaw = (feed : ℕ → Meaning) (rows : List ℕ) → count_of feed rows < 2 ^ 31 → All (λ row. IsInRange (feed row)) rows
+    → rows_fold None sums_joined (λ row. sum_part (feed row)) rows ≡ sum_or_none feed rows
 
 -- how many rows were picked
-picked_long : (values : List (Bor Value)) (column : List Meaning) (rows : List ℕ) (n : ℕ) → meanings values ≡ picked_values column rows → length values ≡ n → length rows ≡ n
+picked_long : (values : List (Bor Value)) (column : List Meaning) (rows : List ℕ) (n : ℕ)
+    → meanings values ≡ picked_values column rows → length values ≡ n → length rows ≡ n
 picked_long values column rows n e h =
     let same : length (meanings values) ≡ length (picked_values column rows) = ap length e in
     omega (arith, same, length-map values (λ (cell : Bor Value). meaning cell.now), length-map rows (λ row. get_or column row Null))
 
-module _ (all : Partitioned) (feed : Feed) (rows : List ℕ) (values : List (Bor Value)) (one_each : length values ≡ length all.keys) (short : length values < 2 ^ 31) (below : BelowLaw) (few : FewLaw)
-    (near_tests : Option (List Bool)) (picked : meanings values ≡ picked_values feed.values rows) (tested : near_tests ≡ picked_tests feed.filter rows) where
+module _ (all : Partitioned) (feed : Feed) (rows : List ℕ) (values : List (Bor Value)) (one_each : length values
+    ≡ length all.keys) (short : length values < 2 ^ 31) (below : BelowLaw) (few : FewLaw)
+    (near_tests : Option (List Bool)) (picked : meanings values ≡ picked_values feed.values rows) (tested : near_tests
+    ≡ picked_tests feed.filter rows) where
   abbrev near : List Meaning
   near = meanings values
 
@@ -52,24 +59,39 @@ module _ (all : Partitioned) (feed : Feed) (rows : List ℕ) (values : List (Bor
   small : length rows < 2 ^ 31
   small = omega (arith, long, one_each, short)
 
-  pub row_counts_alike : CountedRowsLaw → RowsLaw → map (λ n. Some (Int (pos n))) (folds_of_partitions 0 counts_joined (count_at None near_tests) all) ≡ window_answers CountRows feed all rows
+  pub row_counts_alike : CountedRowsLaw → RowsLaw
+      → map (λ n. Some (Int (pos n))) (folds_of_partitions 0 counts_joined (count_at None near_tests) all)
+      ≡ window_answers CountRows feed all rows
   row_counts_alike counted law =
       answers_alike all rows long below few (λ n. Some (Int (pos n))) (rows_fold 0 counts_joined (count_at None near_tests)) CountRows feed
-      (λ ps inside fits. ap (λ n. Some (Int (pos n))) (counted near_tests ps (omega (arith, small)) ∙ counted_rows rows law feed.filter near_tests tested ps inside))
+      (λ ps inside fits. ap (λ n. Some (Int (pos n))) (counted near_tests ps (omega (arith, small))
+      ∙ counted_rows rows law feed.filter near_tests tested ps inside))
 
-  pub value_counts_alike : CountedLaw → CountLaw → map (λ n. Some (Int (pos n))) (folds_of_partitions 0 counts_joined (count_at (Some near) near_tests) all) ≡ window_answers Count feed all rows
+  pub value_counts_alike : CountedLaw → CountLaw
+      → map (λ n. Some (Int (pos n))) (folds_of_partitions 0 counts_joined (count_at (Some near) near_tests) all)
+      ≡ window_answers Count feed all rows
   value_counts_alike counted law =
-      answers_alike all rows long below few (λ n. Some (Int (pos n))) (rows_fold 0 counts_joined (count_at (Some near) near_tests)) Count feed
-      (λ ps inside fits. ap (λ n. Some (Int (pos n))) (counted near near_tests ps (omega (arith, small)) ∙ counted_values rows feed.values feed.filter near near_tests picked tested law ps inside))
+      answers_alike all rows long below few (λ n. Some (Int (pos n)))
+      (rows_fold 0 counts_joined (count_at (Some near) near_tests)) Count feed
+      (λ ps inside fits. ap (λ n. Some (Int (pos n))) (counted near near_tests ps (omega (arith, small))
+      ∙ counted_values rows feed.values feed.filter near near_tests picked tested law ps inside))
 
-  pub sums_alike : SummedLaw → FeedLaw → PickedSumLaw → ((row : ℕ) → IsInRange (fed near near_tests row)) → map sum_answer (folds_of_partitions None sums_joined (λ row. sum_part (fed near near_tests row)) all) ≡ window_answers Sum feed all rows
+  pub sums_alike : SummedLaw → FeedLaw → PickedSumLaw → ((row : ℕ) → IsInRange (fed near near_tests row))
+      → map sum_answer (folds_of_partitions None sums_joined (λ row. sum_part (fed near near_tests row)) all)
+      ≡ window_answers Sum feed all rows
   sums_alike exact feed_law sum_law in_range =
       answers_alike all rows long below few sum_answer (rows_fold None sums_joined (λ row. sum_part (fed near near_tests row))) Sum feed
-      (λ ps inside fits. ap sum_answer (exact (fed near near_tests) ps (omega (arith, small, count_by-le-length (λ row. is_value (fed near near_tests row)) ps)) (λ k d h. in_range (get_or ps k d)))
+      (λ ps inside fits. ap sum_answer (exact (fed near near_tests) ps
+      (omega (arith, small, count_by-le-length (λ row. is_value (fed near near_tests row)) ps)) (λ k d h. in_range (get_or ps k d)))
       ∙ summed rows feed.values feed.filter near near_tests picked tested feed_law sum_law ps inside)
 
-  pub firsts_alike : FeedLaw → FirstLaw → (order : Meaning → Meaning → Ordering) → IsTotalOrder order → LeastLaw order → (function : AggregateFunction) → ((rs : List ℕ) → Some (first_or_null (sorted order (fed_values feed rs))) ≡ aggregate_of function feed rs)
-      → map (λ place. Some (value_or_null near place)) (folds_of_partitions None (leasts_joined order near) (place_at near near_tests) all) ≡ window_answers function feed all rows
+  pub firsts_alike : FeedLaw → FirstLaw → (order : Meaning → Meaning → Ordering) → IsTotalOrder order → LeastLaw order
+      → (function : AggregateFunction) → ((rs : List ℕ) → Some (first_or_null (sorted order (fed_values feed rs)))
+      ≡ aggregate_of function feed rs)
+      → map (λ place. Some (value_or_null near place)) (folds_of_partitions None (leasts_joined order near)
+      (place_at near near_tests) all) ≡ window_answers function feed all rows
   firsts_alike feed_law first_law order total least_law function is =
-      answers_alike all rows long below few (λ place. Some (value_or_null near place)) (rows_fold None (leasts_joined order near) (place_at near near_tests)) function feed
-      (λ ps inside fits. ap (λ m. Some m) (first_valued rows feed.values feed.filter near near_tests picked tested feed_law first_law order total least_law ps inside) ∙ is (map (λ j. get_or rows j 0) ps))
+      answers_alike all rows long below few (λ place. Some (value_or_null near place))
+      (rows_fold None (leasts_joined order near) (place_at near near_tests)) function feed
+      (λ ps inside fits. ap (λ m. Some m) (first_valued rows feed.values feed.filter near near_tests picked tested feed_law
+      first_law order total least_law ps inside) ∙ is (map (λ j. get_or rows j 0) ps))

@@ -1,5 +1,6 @@
 -- Values that are put into cells one after another, each at the number of its row.
-use Rattle.std.proofs.Common.{◌≡◌, ℕ, ◌+◌, ◌<◌, ◌≤◌, false, set, List, [], ◌∷◌, length, map, drop, get_or, Option, Some, None, Ok, sym, ap, refl, ◌∙◌, arith}
+use Rattle.std.proofs.Common.{◌≡◌, ℕ, ◌+◌, ◌<◌, ◌≤◌, false, set, List, [], ◌∷◌, length, map, drop}
+use Rattle.std.proofs.Common.{get_or, Option, Some, None, Ok, sym, ap, refl, ◌∙◌, arith}
 use Rattle.std.specs.Prelude.{unwrap_or}
 use Rattle.std.specs.Option.{is_none}
 use Rattle.std.proofs.Math.ListN.{drop_of_length-le}
@@ -9,8 +10,11 @@ use Rattle.waggregate.specs.FrameAnswers.{told_or_out_of_range}
 use Rattle.waggregate.specs.Put.{put_all}
 
 -- one value more, of cells that each stand for a value
-pub put_next : {X : Type 0} (meant : X → Meaning) (rows : List ℕ) (values : List Meaning) (k : ℕ) (cells new : List X) (value : X) (end : List Meaning) → k < length rows → k < length values → new ≡ set cells (get_or rows k 0) value → meant value ≡ get_or values k Null
-    → put_all (map meant cells) (drop k rows) (drop k values) ≡ end → put_all (map meant new) (drop (k + 1) rows) (drop (k + 1) values) ≡ end
+pub put_next : {X : Type 0} (meant : X → Meaning) (rows : List ℕ) (values : List Meaning) (k : ℕ) (cells new : List X)
+    (value : X) (end : List Meaning) → k < length rows → k < length values → new ≡ set cells (get_or rows k 0) value
+    → meant value ≡ get_or values k Null
+    → put_all (map meant cells) (drop k rows) (drop k values) ≡ end
+    → put_all (map meant new) (drop (k + 1) rows) (drop (k + 1) values) ≡ end
 put_next meant rows values k cells new value end h l written is so_far =
     let r = get_or rows k 0 in
     ap (λ c. put_all (map meant c) (drop (k + 1) rows) (drop (k + 1) values)) written
@@ -21,7 +25,8 @@ put_next meant rows values k cells new value end h l written is so_far =
     ∙ so_far
 
 -- behind the last row nothing is put
-pub put_beyond : (cells values values2 : List Meaning) (rows : List ℕ) (k : ℕ) → length rows ≤ k → put_all cells (drop (k + 1) rows) values ≡ put_all cells (drop k rows) values2
+pub put_beyond : (cells values values2 : List Meaning) (rows : List ℕ) (k : ℕ) → length rows ≤ k
+    → put_all cells (drop (k + 1) rows) values ≡ put_all cells (drop k rows) values2
 put_beyond cells values values2 rows k h =
     let longer : length rows ≤ k + 1 = omega (arith, h) in
     ap (λ l. put_all cells l values) (drop_of_length-le rows longer) ∙ sym (ap (λ l. put_all cells l values2) (drop_of_length-le rows h))
@@ -31,7 +36,8 @@ none_put cells [] = refl
 none_put cells (row ∷ rows) = refl
 
 -- all values are put
-pub all_put : (cells values : List Meaning) (rows : List ℕ) (k : ℕ) → length values ≤ k → put_all cells (drop k rows) (drop k values) ≡ cells
+pub all_put : (cells values : List Meaning) (rows : List ℕ) (k : ℕ) → length values ≤ k
+    → put_all cells (drop k rows) (drop k values) ≡ cells
 all_put cells values rows k h = ap (put_all cells (drop k rows)) (drop_of_length-le values h) ∙ none_put cells (drop k rows)
 
 -- a result that is told is in range

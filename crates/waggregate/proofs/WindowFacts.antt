@@ -1,5 +1,6 @@
 -- What is told of each frame by places among all rows is the answers of each partition.
-use Rattle.std.proofs.Common.{◌≡◌, ℕ, ◌+◌, ◌-◌, ◌<◌, ◌≤◌, List, [], ◌∷◌, ◌++◌, length, map, take, drop, get_or, Option, refl, sym, ap, ◌∙◌, arith}
+use Rattle.std.proofs.Common.{◌≡◌, ℕ, ◌+◌, ◌-◌, ◌<◌, ◌≤◌, List, [], ◌∷◌, ◌++◌, length, map}
+use Rattle.std.proofs.Common.{take, drop, get_or, Option, refl, sym, ap, ◌∙◌, arith}
 use Rattle.std.specs.Prelude.{All, slice_range}
 use Rattle.std.specs.List.{AllByRecursion, flat_map}
 use Rattle.std.proofs.lemmas.List.{map-append, length-map, length-take, length-drop, get_or-take, get_or-drop}
@@ -37,38 +38,50 @@ slice_few xs from to = omega (arith, length-take (to - from) (drop from xs))
 slice_within : {X : Type 0} (xs : List X) (from to : ℕ) → length (slice_range xs from to) ≤ length xs - from
 slice_within xs from to = omega (arith, length-take (to - from) (drop from xs), length-drop from xs)
 
-shifted : (from k n : ℕ) (js : List ℕ) → k ≤ n - from → AllByRecursion (λ j. j < k) js → AllByRecursion (λ j. j < n) (map (λ j. from + j) js)
+shifted : (from k n : ℕ) (js : List ℕ) → k ≤ n - from → AllByRecursion (λ j. j < k) js
+    → AllByRecursion (λ j. j < n) (map (λ j. from + j) js)
 shifted from k n [] few below = tt
 shifted from k n (j ∷ js) few below =
     let here : j < k = below.0 in
     let moved : from + j < n = omega arith in
     (moved, shifted from k n js few below.1)
 
-numbered : (rows : List ℕ) (from n k : ℕ) (js : List ℕ) → k ≤ n → AllByRecursion (λ j. j < k) js → map (λ j. get_or (take n (drop from rows)) j 0) js ≡ numbers_at rows (map (λ j. from + j) js)
+numbered : (rows : List ℕ) (from n k : ℕ) (js : List ℕ) → k ≤ n → AllByRecursion (λ j. j < k) js
+    → map (λ j. get_or (take n (drop from rows)) j 0) js ≡ numbers_at rows (map (λ j. from + j) js)
 numbered rows from n k [] few below = refl
 numbered rows from n k (j ∷ js) few below =
     let here : j < k = below.0 in
-    ap (λ i. i ∷ map (λ j. get_or (take n (drop from rows)) j 0) js) (get_or-take n (drop from rows) j 0 (omega arith) ∙ get_or-drop from rows j 0)
+    ap (λ i. i ∷ map (λ j. get_or (take n (drop from rows)) j 0) js) (get_or-take n (drop from rows) j 0 (omega arith)
+    ∙ get_or-drop from rows j 0)
     ∙ ap (λ l. get_or rows (from + j) 0 ∷ l) (numbered rows from n k js few below.1)
 
-module _ {P : Type 0} (all : Partitioned) (rows : List ℕ) (long : length rows ≡ length all.keys) (below : BelowLaw) (few : FewLaw) (told : P → Option Meaning) (fold : List ℕ → P) (function : AggregateFunction) (feed : Feed)
-    (same : (ps : List ℕ) → All (λ j. j < length rows) ps → length ps ≤ length rows → told (fold ps) ≡ aggregate_of function feed (numbers_at rows ps)) where
-  of_frame : (s : Span) (row : ℕ) → told (fold (frame_places all s row)) ≡ aggregate_of function feed (frame_numbers (partition_of all s) (slice_range rows s.from s.to) row)
+module _ {P : Type 0} (all : Partitioned) (rows : List ℕ) (long : length rows ≡ length all.keys) (below : BelowLaw)
+    (few : FewLaw) (told : P → Option Meaning) (fold : List ℕ → P) (function : AggregateFunction) (feed : Feed)
+    (same : (ps : List ℕ) → All (λ j. j < length rows) ps → length ps ≤ length rows
+    → told (fold ps) ≡ aggregate_of function feed (numbers_at rows ps)) where
+  of_frame : (s : Span) (row : ℕ) → told (fold (frame_places all s row)) ≡ aggregate_of function feed
+      (frame_numbers (partition_of all s) (slice_range rows s.from s.to) row)
   of_frame s row =
       let p = partition_of all s in
       let js = frame_rows p row in
       let inside = recursion_from_All (λ j. j < length p.keys) js (below p row) in
       let fits : length p.keys ≤ length rows - s.from = omega (arith, slice_within all.keys s.from s.to, long) in
       let short : length (frame_places all s row) ≤ length rows = omega (arith, length-map js (λ j. s.from + j), few p row, fits) in
-      same (frame_places all s row) (All-from_recursion (λ j. j < length rows) (frame_places all s row) (shifted s.from (length p.keys) (length rows) js fits inside)) short
-      ∙ ap (aggregate_of function feed) (sym (numbered rows s.from (s.to - s.from) (length p.keys) js (slice_few all.keys s.from s.to) inside))
+      same (frame_places all s row) (All-from_recursion (λ j. j < length rows) (frame_places all s row)
+      (shifted s.from (length p.keys) (length rows) js fits inside)) short
+      ∙ ap (aggregate_of function feed) (sym (numbered rows s.from (s.to - s.from) (length p.keys) js
+      (slice_few all.keys s.from s.to) inside))
 
-  of_partition : (s : Span) → map told (in_each_frame fold all s) ≡ frame_answers function feed (partition_of all s) (slice_range rows s.from s.to)
+  of_partition : (s : Span) → map told (in_each_frame fold all s) ≡ frame_answers function feed (partition_of all s)
+      (slice_range rows s.from s.to)
   of_partition s =
-      mapped_alike told (λ row. fold (frame_places all s row)) (λ row. aggregate_of function feed (frame_numbers (partition_of all s) (slice_range rows s.from s.to) row)) (places (length (partition_of all s).keys)) (of_frame s)
+      mapped_alike told (λ row. fold (frame_places all s row))
+      (λ row. aggregate_of function feed (frame_numbers (partition_of all s) (slice_range rows s.from s.to) row))
+      (places (length (partition_of all s).keys)) (of_frame s)
 
   -- what is told of each frame is the aggregate of its rows by number, if it is so for any rows
   pub answers_alike : map told (of_each_frame fold all) ≡ window_answers function feed all rows
   answers_alike =
       flat_mapped told (in_each_frame fold all) all.spans
-      ∙ flat_alike (λ s. map told (in_each_frame fold all s)) (λ s. frame_answers function feed (partition_of all s) (slice_range rows s.from s.to)) all.spans of_partition
+      ∙ flat_alike (λ s. map told (in_each_frame fold all s)) (λ s. frame_answers function feed (partition_of all s)
+      (slice_range rows s.from s.to)) all.spans of_partition

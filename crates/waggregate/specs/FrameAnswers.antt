@@ -1,5 +1,6 @@
 -- Aggregates over frames, of which the rows are told by number.
-use Rattle.std.specs.Prelude.{◌≡◌, ◌++◌, ℕ, Bool, List, map, length, Option, Some, None, OnOk, Result, Ok, Err, slice_index_or, slice_range, unwrap_or}
+use Rattle.std.specs.Prelude.{◌≡◌, ◌++◌, ℕ, Bool, List, map, length, Option, Some, None, OnOk}
+use Rattle.std.specs.Prelude.{Result, Ok, Err, slice_index_or, slice_range, unwrap_or}
 use Rattle.std.specs.List.{flat_map, list_any}
 use Rattle.std.specs.Option.{is_none}
 use Rattle.wvalues.specs.declared.value.Value.{Value}
@@ -30,7 +31,8 @@ frame_answers function feed p rows = map (λ place. aggregate_of function feed (
 
 -- the same, one partition after another
 abbrev pub window_answers : AggregateFunction → Feed → Partitioned → List ℕ → List (Option Meaning)
-window_answers function feed all rows = flat_map (λ s. frame_answers function feed (partition_of all s) (slice_range rows s.from s.to)) all.spans
+window_answers function feed all rows = flat_map (λ s. frame_answers function feed (partition_of all s)
+    (slice_range rows s.from s.to)) all.spans
 
 -- the values that results have
 abbrev pub values_or_null : List (Option Meaning) → List Meaning
@@ -47,6 +49,7 @@ pub record Appends (results : List (Option Meaning)) (outcome : Result (Unit {0}
   pub added : OnOk outcome (map meaning new ≡ map meaning old ++ values_or_null results)
 
 -- what a call comes to that puts the values of results at the numbers of rows: it is out of range where one of them is so
-pub record Puts (results : List (Option Meaning)) (rows : List ℕ) (outcome : Result (Unit {0}) AnswerFault) (old new : List Value) : Type 0 where
+pub record Puts (results : List (Option Meaning)) (rows : List ℕ) (outcome : Result (Unit {0}) AnswerFault)
+    (old new : List Value) : Type 0 where
   pub gives : Gives {X = Unit {0}} {Y = Unit {0}} (λ u. u) outcome (unless (list_any is_none results) OutOfRange (tt {0}))
   pub put : OnOk outcome (map meaning new ≡ put_all (map meaning old) rows (values_or_null results))

@@ -32,7 +32,8 @@ pub fn filter_rows(
     condition: &Option<Expr>,
     rows: &[&[Value]],
 ) -> Result<Option<Vec<bool>>, AnswerFault>
-    ensures gives { Gives (λ filter. option_map (λ tests. tests.items) filter) result (filter_of (optional_formula condition.now) (rows_seen rows.now)) }
+    ensures gives { Gives (λ filter. option_map (λ tests. tests.items) filter) result
+        (filter_of (optional_formula condition.now) (rows_seen rows.now)) }
     ensures len { IfOk result (λ filter. ForSome filter (λ tests. length tests.items ≡ length rows.now)) }
 {
     match condition {
@@ -95,7 +96,8 @@ pub fn lent_argument<'a>(
     expr: &Expr,
     rows: &[&'a [Value]],
 ) -> Result<Option<Vec<&'a Value>>, AllocError>
-    ensures value { IfOk result (λ lent. IfSome lent (λ values. column_of (formula expr.now) (rows_seen rows.now) ≡ Ok (meanings values.items))) }
+    ensures value { IfOk result (λ lent. IfSome lent (λ values. column_of (formula expr.now) (rows_seen rows.now)
+        ≡ Ok (meanings values.items))) }
     ensures len { IfOk result (λ lent. IfSome lent (λ values. length values.items ≡ length rows.now)) }
 {
     let Some(place) = place_of(expr) else {

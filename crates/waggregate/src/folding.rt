@@ -1,5 +1,6 @@
 //! Aggregates over frames.
-ghost use Rattle.std.specs.Prelude.{◌≡◌, ◌≤◌, ◌<◌, ◌+◌, ◌-◌, ◌^◌, OnOk, min, List, All, Option, Some, drop, length, map, option_map, pos, slice_index_or};
+ghost use Rattle.std.specs.Prelude.{◌≡◌, ◌≤◌, ◌<◌, ◌+◌, ◌-◌, ◌^◌, OnOk, min, List, All, Option};
+ghost use Rattle.std.specs.Prelude.{Some, drop, length, map, option_map, pos, slice_index_or};
 ghost use Rattle.std.specs.Option.{ForSome};
 ghost use Rattle.wvalues.specs.Meaning.{Int, Meaning, Null, meaning};
 ghost use Rattle.wframe.specs.Cells.{meanings};
@@ -99,7 +100,9 @@ pub(crate) fn push_values<F: ToldFold>(
 // Puts a value at the number of the row at a place, if there is such a row.
 fn put_at(column: &mut [Value], rows: &[usize], place: usize, value: Value)
     requires { All (λ i. i < length column.old) rows.now }
-    ensures put { (values : List Meaning) → place < length values → meaning value ≡ slice_index_or values place Null → put_all (map meaning column.new) (drop (place + 1) rows.now) (drop (place + 1) values) ≡ put_all (map meaning column.old) (drop place rows.now) (drop place values) }
+    ensures put { (values : List Meaning) → place < length values → meaning value ≡ slice_index_or values place Null
+        → put_all (map meaning column.new) (drop (place + 1) rows.now) (drop (place + 1) values)
+        ≡ put_all (map meaning column.old) (drop place rows.now) (drop place values) }
     ensures len { length column.new ≡ length column.old }
 {
     if place < rows.len() {
@@ -140,7 +143,8 @@ fn put_folds<F: ToldFold>(
     requires few { F.rows fold.now < 2 ^ 31 }
     requires fresh { F.count meter.old ≡ 0 }
     requires below { All (λ i. i < length column.old) rows.now }
-    ensures answers { Puts (map (F.told fold.now) (folds_of_partitions (F.neutral fold.now) (F.joined fold.now) (F.part_at fold.now) partitions.now)) rows.now result column.old column.new }
+    ensures answers { Puts (map (F.told fold.now) (folds_of_partitions (F.neutral fold.now) (F.joined fold.now)
+        (F.part_at fold.now) partitions.now)) rows.now result column.old column.new }
     ensures tallied { OnOk result (tally.new ≡ min (tally.old + F.count meter.new) (2 ^ 64 - 1)) }
     ensures joins { tally.new ≤ tally.old + most_by_queues partitions.now.frame.exclusion (F.rows fold.now) }
 {
@@ -170,7 +174,9 @@ pub fn put_frame_aggregates(
     requires few { length values.now < 2 ^ 31 }
     requires below { All (λ i. i < length column.old) rows.now }
     ensures joins { tally.new ≤ tally.old + most_by_queues partitions.now.frame.exclusion (length values.now) }
-    ensures answers { (feed : aggregating.Feed) → IsPicked feed rows.now (meanings values.now) (option_map (λ tests. tests.items) filter.now) → Puts (window_answers function feed partitions.now rows.now) rows.now result column.old column.new }
+    ensures answers { (feed : aggregating.Feed)
+        → IsPicked feed rows.now (meanings values.now) (option_map (λ tests. tests.items) filter.now)
+        → Puts (window_answers function feed partitions.now rows.now) rows.now result column.old column.new }
 {
     // Laws, which do nothing.
     frames_are_rows();

@@ -47,7 +47,8 @@ fn group_parts<F: Fold>(
     requires below { All (λ g. g < count) groups.now }
     requires few { length groups.now < 2 ^ 31 }
     requires fresh { F.count meter.old ≡ 0 }
-    ensures folds { IfOk result (λ parts. parts.items ≡ map (λ g. rows_fold (F.neutral fold.now) (F.joined fold.now) (F.part_at fold.now) (rows_of_group groups.now g)) (places count)) }
+    ensures folds { IfOk result (λ parts. parts.items ≡ map (λ g. rows_fold (F.neutral fold.now) (F.joined fold.now)
+        (F.part_at fold.now) (rows_of_group groups.now g)) (places count)) }
     ensures parts { IfOk result (λ parts. All (F.is_part fold.now) parts.items) }
 {
     let mut parts = units(alloc, fold, count)?;
@@ -88,7 +89,9 @@ fn fold_groups<F: ToldFold>(
     requires ordered { All (λ g. g < count) order.now }
     requires few { length groups.now < 2 ^ 31 }
     requires fresh { F.count meter.old ≡ 0 }
-    ensures gives { Gives (λ column. map meaning column.items) result (in_range (map (λ g. F.told fold.now (rows_fold (F.neutral fold.now) (F.joined fold.now) (F.part_at fold.now) (rows_of_group groups.now g))) order.now)) }
+    ensures gives { Gives (λ column. map meaning column.items) result
+        (in_range (map (λ g. F.told fold.now (rows_fold (F.neutral fold.now) (F.joined fold.now) (F.part_at fold.now)
+        (rows_of_group groups.now g))) order.now)) }
     ensures len { IfOk result (λ column. length column.items ≡ length order.now) }
 {
     let parts = group_parts(alloc, fold, meter, groups, count)?;
@@ -127,7 +130,10 @@ pub fn aggregate_groups(
     requires below { All (λ g. g < count) groups.now }
     requires ordered { All (λ g. g < count) order.now }
     requires few { length groups.now < 2 ^ 31 }
-    ensures gives { (feed : aggregating.Feed) → meanings values.now ≡ feed.values → option_map (λ tests. tests.items) filter.now ≡ feed.filter → Gives (λ column. map meaning column.items) result (in_range (map (λ g. aggregate_of function feed (rows_of_group groups.now g)) order.now)) }
+    ensures gives { (feed : aggregating.Feed) → meanings values.now ≡ feed.values
+        → option_map (λ tests. tests.items) filter.now ≡ feed.filter
+        → Gives (λ column. map meaning column.items) result
+        (in_range (map (λ g. aggregate_of function feed (rows_of_group groups.now g)) order.now)) }
     ensures len { IfOk result (λ column. length column.items ≡ length order.now) }
 {
     // Laws, which do nothing.

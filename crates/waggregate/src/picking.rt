@@ -28,7 +28,8 @@ pub fn filter_of(
     rows: &[usize],
 ) -> Result<Option<Vec<bool>>, AllocError>
     requires { ForSome filter.now (λ tests. All (λ i. i < length tests.items) rows.now) }
-    ensures value { IfOk result (λ picked. option_map (λ tests. tests.items) picked ≡ picked_tests (option_map (λ tests. tests.items) filter.now) rows.now) }
+    ensures value { IfOk result (λ picked. option_map (λ tests. tests.items) picked
+        ≡ picked_tests (option_map (λ tests. tests.items) filter.now) rows.now) }
     ensures len { IfOk result (λ picked. ForSome picked (λ tests. length tests.items ≡ length rows.now)) }
 {
     match filter {

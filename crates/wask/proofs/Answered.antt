@@ -23,11 +23,13 @@ unread_told d v text faults.TooManyRows a = inr (inl a)
 unread_told d v text faults.NoMemory a = absurd a
 
 -- a text that spells no query
-pub refused : (d : Declaration) (v : View) (text : List ℕ) (fault : AskFault) → IsRefused text fault → (fault ≡ faults.NoMemory) ⊎ IsAnswer d v text (Err fault)
+pub refused : (d : Declaration) (v : View) (text : List ℕ) (fault : AskFault) → IsRefused text fault
+    → (fault ≡ faults.NoMemory) ⊎ IsAnswer d v text (Err fault)
 refused d v text fault (inl e) = inl e
 refused d v text fault (inr a) = unread_told d v text fault a
 
-read_told : (d : Declaration) (v : View) (text : List ℕ) (q : QueryTree) (fault : AskFault) → Reads text q → (query_answer d v q ≡ Err fault) → IsTold d v text fault
+read_told : (d : Declaration) (v : View) (text : List ℕ) (q : QueryTree) (fault : AskFault) → Reads text q
+    → (query_answer d v q ≡ Err fault) → IsTold d v text fault
 read_told d v text q faults.TooLong reads a = inr (inr (q, reads, a))
 read_told d v text q faults.NotUtf8 reads a = inr (inr (q, reads, a))
 read_told d v text q (faults.At k) reads a = inr (inr (q, reads, a))
@@ -38,12 +40,14 @@ read_told d v text q faults.TooManyRows reads a = inr (inr (q, reads, a))
 read_told d v text q faults.NoMemory reads a = inl refl
 
 -- a query that is not answered
-pub unanswered : (d : Declaration) (v : View) (text : List ℕ) (q : QueryTree) (fault : AskFault) → Reads text q → (fault ≡ faults.NoMemory) ⊎ (query_answer d v q ≡ Err fault) → (fault ≡ faults.NoMemory) ⊎ IsAnswer d v text (Err fault)
+pub unanswered : (d : Declaration) (v : View) (text : List ℕ) (q : QueryTree) (fault : AskFault) → Reads text q
+    → (fault ≡ faults.NoMemory) ⊎ (query_answer d v q ≡ Err fault) → (fault ≡ faults.NoMemory) ⊎ IsAnswer d v text (Err fault)
 unanswered d v text q fault reads (inl e) = inl e
 unanswered d v text q fault reads (inr a) = read_told d v text q fault reads a
 
 -- what a query is answered, where the text spells it
-pub answered_by : {A : Type 0} (d : Declaration) (v : View) (text : List ℕ) (q : QueryTree) (items : A → List ℕ) (r : Result A AskFault) → Reads text q
+pub answered_by : {A : Type 0} (d : Declaration) (v : View) (text : List ℕ) (q : QueryTree) (items : A
+    → List ℕ) (r : Result A AskFault) → Reads text q
     → MatchResult r (λ a. (query_answer d v q ≡ Ok (items a))) (λ fault. (fault ≡ faults.NoMemory) ⊎ (query_answer d v q ≡ Err fault))
     → MatchResult r (λ a. IsAnswer d v text (Ok (items a))) (λ fault. (fault ≡ faults.NoMemory) ⊎ IsAnswer d v text (Err fault))
 answered_by d v text q items (Ok a) reads told = (q, reads, told)

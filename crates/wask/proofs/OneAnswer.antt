@@ -60,7 +60,8 @@ unread_once text f faults.NoMemory a b = absurd b
 abbrev Told : Declaration → View → List ℕ → Result (List ℕ) AskFault → Type 0
 Told d v text a = ((fault : AskFault) × IsUnread text fault × (a ≡ Err fault)) ⊎ ((q : QueryTree) × Reads text q × (query_answer d v q ≡ a))
 
-told_fault : (d : Declaration) (v : View) (text : List ℕ) (fault : AskFault) → IsUnread text fault ⊎ ((q : QueryTree) × Reads text q × (query_answer d v q ≡ (Err fault))) → Told d v text (Err fault)
+told_fault : (d : Declaration) (v : View) (text : List ℕ) (fault : AskFault) → IsUnread text fault
+    ⊎ ((q : QueryTree) × Reads text q × (query_answer d v q ≡ (Err fault))) → Told d v text (Err fault)
 told_fault d v text fault (inl unread) = inl (fault, unread, refl)
 told_fault d v text fault (inr read) = inr read
 
@@ -81,5 +82,6 @@ told_once d v text a b (inl x) (inr y) = absurd (read_or_not text x.0 y.0 x.1 y.
 told_once d v text a b (inr x) (inl y) = absurd (read_or_not text y.0 x.0 y.1 x.1)
 told_once d v text a b (inr x) (inr y) = sym (subst (λ q. query_answer d v q ≡ a) (read_once text x.0 y.0 x.1 y.1) x.2) ∙ y.2
 
-pub one_answer : (d : Declaration) (v : View) (text : List ℕ) (a b : Result (List ℕ) AskFault) → IsAnswer d v text a → IsAnswer d v text b → a ≡ b
+pub one_answer : (d : Declaration) (v : View) (text : List ℕ) (a b : Result (List ℕ) AskFault) → IsAnswer d v text a
+    → IsAnswer d v text b → a ≡ b
 one_answer d v text a b is_a is_b = told_once d v text a b (told d v text a is_a) (told d v text b is_b)

@@ -11,7 +11,8 @@ use Rattle.wask.specs.Answer.{IsAnswer}
 
 -- under one declaration and on one view
 abbrev pub OneAnswer : Type 0
-OneAnswer = (d : Declaration) (v : View) (text : List ℕ) (a b : Result (List ℕ) AskFault) → IsAnswer d v text a → IsAnswer d v text b → a ≡ b
+OneAnswer = (d : Declaration) (v : View) (text : List ℕ) (a b : Result (List ℕ) AskFault) → IsAnswer d v text a
+    → IsAnswer d v text b → a ≡ b
 
 -- a query that breaks no rule resolves to a sound one: a SELECT, each call over one of its windows, one key beside an
 -- offset in RANGE, tiles, and places that count from 1

@@ -33,7 +33,8 @@ abbrev pub IsUnread : List ℕ → AskFault → Type 0
 IsUnread text faults.TooLong = 65536 < length text
 IsUnread text faults.NotUtf8 = (length text ≤ 65536) × IsForeign text
 IsUnread text (faults.At place) = IsText text × HasFaultAt text place
-IsUnread text faults.Syntax = IsText text × (tokens : List PlacedToken) × Lexes text tokens × ((query : QueryTree) → ¬ (Spells query (said tokens)))
+IsUnread text faults.Syntax = IsText text × (tokens : List PlacedToken) × Lexes text tokens
+    × ((query : QueryTree) → ¬ (Spells query (said tokens)))
 IsUnread text _ = ⊥
 
 -- that, or want of memory

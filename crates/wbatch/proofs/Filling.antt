@@ -1,5 +1,6 @@
 -- What a batch holds, one delivery after the other.
-use Rattle.std.proofs.Common.{◌≡◌, ◌≢◌, ◌∙◌, ℕ, ◌+◌, ◌<◌, true, false, true≢false, List, [], ◌∷◌, ◌++◌, length, map, Result, Ok, Err, IsOk, ◌⊎◌, inl, inr, refl, sym, ap, subst, arith, append_assoc, append-nil, length-append}
+use Rattle.std.proofs.Common.{◌≡◌, ◌≢◌, ◌∙◌, ℕ, ◌+◌, ◌<◌, true, false, true≢false, List, [], ◌∷◌, ◌++◌, length, map, Result, Ok}
+use Rattle.std.proofs.Common.{Err, IsOk, ◌⊎◌, inl, inr, refl, sym, ap, subst, arith, append_assoc, append-nil, length-append}
 use Rattle.std.specs.List.{flat_map, AllByRecursion}
 use Rattle.wsegment.specs.Declaration.{Declaration}
 use Rattle.wsegment.specs.declared.fault.SegmentFault.{SegmentFault}
@@ -19,7 +20,8 @@ pub all_more : {X : Type 0} (P : X → Type 0) (xs : List X) (x : X) → AllByRe
 all_more P [] x h p = (p, tt)
 all_more P (y ∷ ys) x h p = (h.0, all_more P ys x h.1 p)
 
-pub text_more : (ds : List Delivery) (x : Delivery) (held left : List ℕ) → held ≡ message_text (item_of x) ++ left → stream_text (map item_of (ds ++ x ∷ [])) left ≡ stream_text (map item_of ds) held
+pub text_more : (ds : List Delivery) (x : Delivery) (held left : List ℕ) → held ≡ message_text (item_of x) ++ left
+    → stream_text (map item_of (ds ++ x ∷ [])) left ≡ stream_text (map item_of ds) held
 text_more [] x held left e = ap (λ l. l ++ left) (append-nil (message_text (item_of x))) ∙ sym e
 text_more (y ∷ ys) x held left e =
     append_assoc (message_text (item_of y)) (flat_map message_text (map item_of (ys ++ x ∷ []))) left
@@ -48,14 +50,16 @@ one_delivered d (deliveries.Segment name judged) h = (h.0, read_ok _ _ h.1.rows)
 one_delivered d (deliveries.Retirement name) h = h
 one_delivered d (deliveries.Floor name) h = h
 
-pub ready_delivered : (d : Declaration) (ds : List Delivery) → AllByRecursion (IsReady d) ds → AllByRecursion (IsDelivered d) (map item_of ds)
+pub ready_delivered : (d : Declaration) (ds : List Delivery) → AllByRecursion (IsReady d) ds
+    → AllByRecursion (IsDelivered d) (map item_of ds)
 ready_delivered d [] h = tt
 ready_delivered d (x ∷ xs) h = (one_delivered d x h.0, ready_delivered d xs h.1)
 
 -- ---- what stops a stream
 
 -- a message that is not delivered
-pub stops_here : (d : Declaration) (ds : List Delivery) (item : Item) (held left : List ℕ) (reason : Stop) → AllByRecursion (IsReady d) ds → IsMessage item → held ≡ message_text item ++ left → IsRefused d item reason
+pub stops_here : (d : Declaration) (ds : List Delivery) (item : Item) (held left : List ℕ) (reason : Stop)
+    → AllByRecursion (IsReady d) ds → IsMessage item → held ≡ message_text item ++ left → IsRefused d item reason
     → Stops d (stream_text (map item_of ds) held) reason
 stops_here d ds (SegmentItem n b) held left (stops.Segment fault) ready is e refused = record {
   items = map item_of ds;
@@ -77,7 +81,8 @@ stops_here d ds (FloorItem n) held left stops.Bad ready is e refused = absurd re
 stops_here d ds (FloorItem n) held left stops.NoMemory ready is e refused = tt
 
 -- what stands next is no message
-pub stops_bad : (d : Declaration) (ds : List Delivery) (inbox : Inbox) → AllByRecursion (IsReady d) ds → inbox.is_bad ≡ false → (inbox.is_bad ≡ true) ⊎ IsBad inbox.held → MeetsBad d (stream_text (map item_of ds) inbox.held)
+pub stops_bad : (d : Declaration) (ds : List Delivery) (inbox : Inbox) → AllByRecursion (IsReady d) ds
+    → inbox.is_bad ≡ false → (inbox.is_bad ≡ true) ⊎ IsBad inbox.held → MeetsBad d (stream_text (map item_of ds) inbox.held)
 stops_bad d ds inbox ready good (inl bad) = absurd (true≢false (sym bad ∙ good))
 stops_bad d ds inbox ready good (inr bad) = record {
   items = map item_of ds;
@@ -92,13 +97,24 @@ not_empty : (xs : List ℕ) → 0 < length xs → xs ≢ []
 not_empty xs some e = let none : length xs ≡ 0 = ap length e in omega (arith, some, none)
 
 -- the stream ends inside a message
-pub ends_inside : (d : Declaration) (ds : List Delivery) (held : List ℕ) → AllByRecursion (IsReady d) ds → IsOpen held → 0 < length held → EndsInside d (stream_text (map item_of ds) held)
-ends_inside d ds held ready unfinished some = record { items = map item_of ds; rest = held; each = ready_delivered d ds ready; stream_is = refl; is_open = unfinished; some = not_empty held some }
+pub ends_inside : (d : Declaration) (ds : List Delivery) (held : List ℕ) → AllByRecursion (IsReady d) ds → IsOpen held
+    → 0 < length held → EndsInside d (stream_text (map item_of ds) held)
+ends_inside d ds held ready unfinished some = record {
+  items = map item_of ds;
+  rest = held;
+  each =
+      ready_delivered d ds ready;
+  stream_is = refl;
+  is_open = unfinished;
+  some = not_empty held some;
+}
 
 -- ---- steps
 
 -- one message more
-pub adds_one : (d : Declaration) (old new : List Delivery) (x : Delivery) (held left : Inbox) → AllByRecursion (IsReady d) old → IsReady d x → held.held ≡ message_text (item_of x) ++ left.held → left.is_bad ≡ false → new ≡ old ++ x ∷ []
+pub adds_one : (d : Declaration) (old new : List Delivery) (x : Delivery) (held left : Inbox)
+    → AllByRecursion (IsReady d) old → IsReady d x → held.held ≡ message_text (item_of x) ++ left.held → left.is_bad ≡ false
+    → new ≡ old ++ x ∷ []
     → Adds d old held new left
 adds_one d old new x held left ready one e good is = record {
   ready = subst (AllByRecursion (IsReady d)) (sym is) (all_more (IsReady d) old x ready one);
@@ -113,7 +129,9 @@ nothing_is_open = inl (record { lacks = tt; short = omega arith })
 
 -- ---- what stops behind others
 
-pub next_stops : (d : Declaration) (ds : List Delivery) (old new : Inbox) (reason : Stop) → AllByRecursion (IsReady d) ds → old.is_bad ≡ false → IsNext d old (Err reason) new → Stops d (stream_text (map item_of ds) old.held) reason
-next_stops d ds old new (stops.Segment fault) ready good m = stops_here d ds m.item old.held m.left (stops.Segment fault) ready m.is m.held_is m.refused
+pub next_stops : (d : Declaration) (ds : List Delivery) (old new : Inbox) (reason : Stop) → AllByRecursion (IsReady d) ds
+    → old.is_bad ≡ false → IsNext d old (Err reason) new → Stops d (stream_text (map item_of ds) old.held) reason
+next_stops d ds old new (stops.Segment fault) ready good m = stops_here d ds m.item old.held m.left (stops.Segment fault)
+    ready m.is m.held_is m.refused
 next_stops d ds old new stops.Bad ready good m = stops_bad d ds old ready good m
 next_stops d ds old new stops.NoMemory ready good m = tt

@@ -67,7 +67,8 @@ fn add_next(
     requires good { inbox.old.is_bad ≡ false }
     requires ready { AllByRecursion (IsReady schema.now) deliveries.old.items }
     ensures more { IfOk result (λ is_end. is_end ≡ false → Adds schema.now deliveries.old.items inbox.old deliveries.new.items inbox.new) }
-    ensures end { IfOk result (λ is_end. is_end ≡ true → IsOpen inbox.old.held × (inbox.new.held ≡ inbox.old.held) × (inbox.new.is_bad ≡ false) × (deliveries.new ≡ deliveries.old)) }
+    ensures end { IfOk result (λ is_end. is_end ≡ true → IsOpen inbox.old.held × (inbox.new.held ≡ inbox.old.held)
+        × (inbox.new.is_bad ≡ false) × (deliveries.new ≡ deliveries.old)) }
     ensures stops { IfErr result (Stops schema.now (stream_text (map item_of deliveries.old.items) inbox.old.held)) }
     ensures ready { AllByRecursion (IsReady schema.now) deliveries.new.items }
 {
@@ -117,7 +118,8 @@ fn add_block(
     requires good { inbox.old.is_bad ≡ false }
     requires ready { AllByRecursion (IsReady schema.now) deliveries.old.items }
     ensures ready { AllByRecursion (IsReady schema.now) deliveries.new.items }
-    ensures same { OnOk result (stream_text (map item_of deliveries.new.items) inbox.new.held ≡ stream_text (map item_of deliveries.old.items) inbox.old.held ++ block.now) }
+    ensures same { OnOk result (stream_text (map item_of deliveries.new.items) inbox.new.held
+        ≡ stream_text (map item_of deliveries.old.items) inbox.old.held ++ block.now) }
     ensures unfinished { OnOk result (IsOpen inbox.new.held) }
     ensures good { OnOk result (inbox.new.is_bad ≡ false) }
     ensures stops { IfErr result (Stops schema.now (stream_text (map item_of deliveries.old.items) inbox.old.held ++ block.now)) }
@@ -149,7 +151,8 @@ impl Batch {
         ensures schema { self.new.schema ≡ self.old.schema }
         ensures stream { OnOk result (stream_of self.new ≡ stream_of self.old ++ block.now) }
         ensures goes_on { OnOk result ((self.old.stopped ≡ None) × (self.new.stopped ≡ None)) }
-        ensures stops { IfErr result (λ reason. (self.old.stopped ≡ Some reason) ⊎ Stops self.old.schema (stream_of self.old ++ block.now) reason) }
+        ensures stops { IfErr result (λ reason. (self.old.stopped ≡ Some reason)
+            ⊎ Stops self.old.schema (stream_of self.old ++ block.now) reason) }
         ensures stopped { IfErr result (λ reason. self.new.stopped ≡ Some reason) }
     {
         if let Some(reason) = self.stopped {
@@ -175,7 +178,8 @@ impl Batch {
     pub fn end(&self) -> Result<(), Stop>
         ensures whole { OnOk result (self.now.held ≡ []) }
         ensures goes_on { OnOk result (self.now.stopped ≡ None) }
-        ensures stops { IfErr result (λ reason. (self.now.stopped ≡ Some reason) ⊎ IsUndelivered self.now.schema (stream_of self.now) reason) }
+        ensures stops { IfErr result (λ reason. (self.now.stopped ≡ Some reason)
+            ⊎ IsUndelivered self.now.schema (stream_of self.now) reason) }
     {
         if let Some(reason) = self.stopped {
             return Err(reason);

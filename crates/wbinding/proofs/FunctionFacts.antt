@@ -13,12 +13,20 @@ use Rattle.wplan.specs.Plans.{aggregate_plan, function_plan}
 use Rattle.wbinding.specs.Resolving.{Layout}
 use Rattle.wbinding.specs.Functions.{function_made, call_function, aggregated, aggregate_made}
 
-pub function_called : (r : Result WindowFunction AllocError) (l : Layout) (c : Call) (name : List ℕ) (f : Option Function) → f ≡ function_of name → name ≡ rc_str_bytes c.name → IfOk r (λ x. function_plan x ≡ function_made l f (view_arguments c.arguments) (filter_of (view_optional c.filter))) → IfOk r (λ x. function_plan x ≡ call_function l (view_call c))
+pub function_called : (r : Result WindowFunction AllocError) (l : Layout) (c : Call) (name : List ℕ) (f : Option Function)
+    → f ≡ function_of name → name ≡ rc_str_bytes c.name
+    → IfOk r (λ x. function_plan x ≡ function_made l f (view_arguments c.arguments)
+    (filter_of (view_optional c.filter))) → IfOk r (λ x. function_plan x ≡ call_function l (view_call c))
 function_called (Ok x) l c name f ef en h =
-    h ∙ ap (λ (o : Option Function). function_made l o (view_arguments c.arguments) (filter_of (view_optional c.filter))) (ef ∙ ap function_of en) ∙ sym (ap (call_function l) (view_call_is c))
+    h ∙ ap (λ (o : Option Function). function_made l o (view_arguments c.arguments) (filter_of (view_optional c.filter)))
+    (ef ∙ ap function_of en) ∙ sym (ap (call_function l) (view_call_is c))
 function_called (Err e) l c name f ef en h = tt
 
-pub aggregate_called : (r : Result Aggregate AllocError) (l : Layout) (c : Call) (name : List ℕ) (f : Option Function) → f ≡ function_of name → name ≡ rc_str_bytes c.name → IfOk r (λ x. aggregate_plan x ≡ aggregated l f (view_arguments c.arguments) (filter_of (view_optional c.filter))) → IfOk r (λ x. aggregate_plan x ≡ aggregate_made l (view_call c))
+pub aggregate_called : (r : Result Aggregate AllocError) (l : Layout) (c : Call) (name : List ℕ) (f : Option Function)
+    → f ≡ function_of name → name ≡ rc_str_bytes c.name
+    → IfOk r (λ x. aggregate_plan x ≡ aggregated l f (view_arguments c.arguments) (filter_of (view_optional c.filter)))
+    → IfOk r (λ x. aggregate_plan x ≡ aggregate_made l (view_call c))
 aggregate_called (Ok x) l c name f ef en h =
-    h ∙ ap (λ (o : Option Function). aggregated l o (view_arguments c.arguments) (filter_of (view_optional c.filter))) (ef ∙ ap function_of en) ∙ sym (ap (aggregate_made l) (view_call_is c))
+    h ∙ ap (λ (o : Option Function). aggregated l o (view_arguments c.arguments) (filter_of (view_optional c.filter)))
+    (ef ∙ ap function_of en) ∙ sym (ap (aggregate_made l) (view_call_is c))
 aggregate_called (Err e) l c name f ef en h = tt

@@ -3,7 +3,8 @@
 use Rattle.std.specs.Prelude.{ℕ, zero, suc, pos, neg_ℤ, nat_lt, ◌^◌, true, Option, Some, None, if◌then◌else◌}
 use Rattle.std.specs.Borrow.{Bor}
 use Rattle.wquery.specs.declared.expression.Expression.{Expression}
-use Rattle.wquery.specs.Tree.{Tree, NullWord, Numeral, Quoted, Invoked, Signed, Trees, NoTrees, MoreTrees, Given, Everything, These, Columns, Filter, Unfiltered, FilteredBy, view}
+use Rattle.wquery.specs.Tree.{Tree, NullWord, Numeral, Quoted, Invoked, Signed, Trees, NoTrees, MoreTrees}
+use Rattle.wquery.specs.Tree.{Given, Everything, These, Columns, Filter, Unfiltered, FilteredBy, view}
 use Rattle.wvalues.specs.Meaning.{Meaning, Null, Int, Text}
 use Rattle.wscope.specs.declared.function.Function.{Function}
 use Rattle.wscope.specs.declared.function.Function.TheVariants as functions
@@ -11,7 +12,8 @@ use Rattle.wscope.specs.Functions.{function_of}
 use Rattle.wplan.specs.declared.resolved.AggregateFunction.{AggregateFunction}
 use Rattle.wplan.specs.declared.resolved.AggregateFunction.TheVariants as aggregates
 use Rattle.wplan.specs.Formula.{Formula}
-use Rattle.wplan.specs.Plans.{AggregatePlan, FunctionPlan, RowNumber, Rank, DenseRank, Tile, Lag, Lead, FirstValue, LastValue, NthValue, Aggregated}
+use Rattle.wplan.specs.Plans.{AggregatePlan, FunctionPlan, RowNumber, Rank, DenseRank, Tile}
+use Rattle.wplan.specs.Plans.{Lag, Lead, FirstValue, LastValue, NthValue, Aggregated}
 use Rattle.wbinding.specs.Resolving.{Layout, resolved, literal}
 
 -- the argument at a place, NULL where there is none
@@ -60,7 +62,11 @@ aggregate_function f (These ts) = aggregates.Count
 aggregate_function f (Columns ts) = aggregates.Count
 
 abbrev pub aggregated : Layout → Option Function → Given → Filter → AggregatePlan
-aggregated l f given filter = record { function = aggregate_function f given; argument = resolved l (argument 0 given); filter = filter_made l filter }
+aggregated l f given filter = record {
+  function = aggregate_function f given;
+  argument = resolved l (argument 0 given);
+  filter = filter_made l filter;
+}
 
 -- an aggregate, with or without OVER
 abbrev pub aggregate_made : Layout → Tree → AggregatePlan
@@ -73,8 +79,10 @@ function_made l (Some functions.RowNumber) given filter = RowNumber
 function_made l (Some functions.Rank) given filter = Rank
 function_made l (Some functions.DenseRank) given filter = DenseRank
 function_made l (Some functions.Ntile) given filter = Tile (number_or 1 (argument 0 given))
-function_made l (Some functions.Lag) given filter = Lag (resolved l (argument 0 given)) (number_or 1 (argument 1 given)) (literal_of (argument 2 given))
-function_made l (Some functions.Lead) given filter = Lead (resolved l (argument 0 given)) (number_or 1 (argument 1 given)) (literal_of (argument 2 given))
+function_made l (Some functions.Lag) given filter = Lag (resolved l (argument 0 given)) (number_or 1 (argument 1 given))
+    (literal_of (argument 2 given))
+function_made l (Some functions.Lead) given filter = Lead (resolved l (argument 0 given)) (number_or 1 (argument 1 given))
+    (literal_of (argument 2 given))
 function_made l (Some functions.FirstValue) given filter = FirstValue (resolved l (argument 0 given))
 function_made l (Some functions.LastValue) given filter = LastValue (resolved l (argument 0 given))
 function_made l (Some functions.NthValue) given filter = NthValue (resolved l (argument 0 given)) (number_or 1 (argument 1 given))

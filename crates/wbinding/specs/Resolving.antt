@@ -1,7 +1,8 @@
 -- An expression over the columns of a source, as one over a row. (SQL, `<value expression>` and `<column reference>`.)
 use Rattle.std.specs.Prelude.{ℕ, pos, zero, suc, List, ◌+◌, ◌==◌, Option, Some, None, length, if◌then◌else◌, nat_lt, ◌^◌, [], ◌∷◌, ◌++◌}
 use Rattle.std.specs.Borrow.{Bor}
-use Rattle.wquery.specs.Tree.{Tree, NullWord, Numeral, Quoted, Field, Invoked, Negated, Signed, Joined, Compared, NullTest, Within, Among, Branch, Links, NoLinks, Further, Trees, NoTrees, MoreTrees}
+use Rattle.wquery.specs.Tree.{Tree, NullWord, Numeral, Quoted, Field, Invoked, Negated, Signed, Joined, Compared, NullTest}
+use Rattle.wquery.specs.Tree.{Within, Among, Branch, Links, NoLinks, Further, Trees, NoTrees, MoreTrees}
 use Rattle.wvalues.specs.Meaning.{Meaning, Null, Int, Text}
 use Rattle.wscope.specs.Types.{Titled, place_named}
 use Rattle.wscope.specs.Sources.{all_titled}

@@ -1,7 +1,8 @@
 //! Makes expressions over rows.
 
 ghost use Rattle.std.specs.Prelude.{◌≡◌, IfOk, map};
-ghost use Rattle.wplan.specs.Formula.{formula, formulas, chained, operand_of, Constant, Negation, Signed, Compared, NullTest, Within, Among};
+ghost use Rattle.wplan.specs.Formula.{formula, formulas, chained, operand_of, Constant, Negation};
+ghost use Rattle.wplan.specs.Formula.{Signed, Compared, NullTest, Within, Among};
 ghost use Rattle.wbinding.specs.Resolving.{literal};
 
 use std::alloc::{AllocError, Global};

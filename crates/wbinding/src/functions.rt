@@ -5,7 +5,8 @@ ghost use Rattle.wscope.specs.declared.function.Function.TheVariants.{Lag, Lead,
 ghost use Rattle.wquery.specs.Tree.{view_call, view_arguments, view_optional, filter_of, Unfiltered};
 ghost use Rattle.wplan.specs.Plans.{aggregate_plan, function_plan, optional_formula};
 ghost use Rattle.wbinding.specs.Resolving.{layout_of, resolved_option};
-ghost use Rattle.wbinding.specs.Functions.{aggregate_function as aggregate_function_of, aggregated, aggregate_made, function_made, call_function, filter_made};
+ghost use Rattle.wbinding.specs.Functions.{aggregate_function as aggregate_function_of, aggregated, aggregate_made};
+ghost use Rattle.wbinding.specs.Functions.{function_made, call_function, filter_made};
 
 use crate::arguments::{build_argument, literal_at, number_at};
 use crate::layout::RowLayout;
@@ -77,7 +78,8 @@ fn build_aggregated(
     arguments: &Arguments,
     filter: &Option<Expression>,
 ) -> Result<Aggregate, AllocError>
-    ensures { IfOk result (λ a. aggregate_plan a ≡ aggregated (layout_of layout.now) function (view_arguments arguments.now) (filter_of (view_optional filter.now))) }
+    ensures { IfOk result (λ a. aggregate_plan a ≡ aggregated (layout_of layout.now) function (view_arguments arguments.now)
+        (filter_of (view_optional filter.now))) }
 {
     let argument = build_argument(alloc, layout, arguments, 0)?;
     let filter = build_filter(alloc, layout, filter)?;
@@ -105,7 +107,8 @@ fn build_lag(
     layout: &RowLayout,
     arguments: &Arguments,
 ) -> Result<WindowFunction, AllocError>
-    ensures { IfOk result (λ f. function_plan f ≡ function_made (layout_of layout.now) (Some Lag) (view_arguments arguments.now) Unfiltered) }
+    ensures { IfOk result (λ f. function_plan f ≡ function_made (layout_of layout.now) (Some Lag)
+        (view_arguments arguments.now) Unfiltered) }
 {
     let value = build_argument(alloc, layout, arguments, 0)?;
     let default = literal_at(arguments, 2)?;
@@ -121,7 +124,8 @@ fn build_lead(
     layout: &RowLayout,
     arguments: &Arguments,
 ) -> Result<WindowFunction, AllocError>
-    ensures { IfOk result (λ f. function_plan f ≡ function_made (layout_of layout.now) (Some Lead) (view_arguments arguments.now) Unfiltered) }
+    ensures { IfOk result (λ f. function_plan f ≡ function_made (layout_of layout.now) (Some Lead)
+        (view_arguments arguments.now) Unfiltered) }
 {
     let value = build_argument(alloc, layout, arguments, 0)?;
     let default = literal_at(arguments, 2)?;
@@ -137,7 +141,8 @@ fn build_nth_value(
     layout: &RowLayout,
     arguments: &Arguments,
 ) -> Result<WindowFunction, AllocError>
-    ensures { IfOk result (λ f. function_plan f ≡ function_made (layout_of layout.now) (Some NthValue) (view_arguments arguments.now) Unfiltered) }
+    ensures { IfOk result (λ f. function_plan f ≡ function_made (layout_of layout.now) (Some NthValue)
+        (view_arguments arguments.now) Unfiltered) }
 {
     let value = build_argument(alloc, layout, arguments, 0)?;
     Ok(WindowFunction::NthValue {
@@ -153,7 +158,8 @@ fn build_of(
     arguments: &Arguments,
     filter: &Option<Expression>,
 ) -> Result<WindowFunction, AllocError>
-    ensures { IfOk result (λ f. function_plan f ≡ function_made (layout_of layout.now) function (view_arguments arguments.now) (filter_of (view_optional filter.now))) }
+    ensures { IfOk result (λ f. function_plan f ≡ function_made (layout_of layout.now) function
+        (view_arguments arguments.now) (filter_of (view_optional filter.now))) }
 {
     match function {
         Some(Function::RowNumber) => Ok(WindowFunction::RowNumber),

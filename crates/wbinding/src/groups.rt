@@ -81,7 +81,8 @@ fn build_entries(
     columns: &[SourceColumn],
     entries: &[GroupEntry],
 ) -> Result<Vec<PlacedEntry>, AllocError>
-    ensures { IfOk result (λ made. map entry_in made.items ≡ map (entry_by (column_place (all_titled columns.now))) (map view_group_entry entries.now)) }
+    ensures { IfOk result (λ made. map entry_in made.items ≡ map (entry_by (column_place (all_titled columns.now)))
+        (map view_group_entry entries.now)) }
 {
     let mut made = Vec::with_capacity(alloc, entries.len())?;
     'entries: for entry in entries {

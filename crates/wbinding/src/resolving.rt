@@ -86,7 +86,8 @@ fn build_list_test(
     list: &[Expression],
     operand: Expr,
 ) -> Result<Expr, AllocError>
-    ensures { IfOk result (λ x. formula x ≡ Among negated (formula operand) (formulas (map (resolved (layout_of layout.now)) (views list.now)))) }
+    ensures { IfOk result (λ x. formula x ≡ Among negated (formula operand)
+        (formulas (map (resolved (layout_of layout.now)) (views list.now)))) }
 {
     let made = build_listed(alloc, layout, list)?;
     among(alloc, negated, operand, made)

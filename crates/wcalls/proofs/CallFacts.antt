@@ -15,8 +15,12 @@ all_there f [] = refl
 all_there f (x ∷ xs) = ap (λ l. f x ∷ l) (all_there f xs)
 
 -- the column of a function that reads other rows
-pub reading_is : (w : Windowed) (t : Formula) (rows : List Row) (default : Meaning) (at : ℕ → Partition → ℕ → Option ℕ) (values new : List Meaning) → column_of t rows ≡ Ok values
-    → new ≡ each_row w (λ i. value_read values (partition_rows w i) default (at (length (partition_rows w i)) (partition_at w i) (place_at w i)))
+pub reading_is : (w : Windowed) (t : Formula) (rows : List Row) (default : Meaning) (at : ℕ → Partition → ℕ
+    → Option ℕ) (values new : List Meaning) → column_of t rows ≡ Ok values
+    → new ≡ each_row w (λ i. value_read values (partition_rows w i) default
+    (at (length (partition_rows w i)) (partition_at w i) (place_at w i)))
     → values_read w t rows default (λ i. at (length (partition_rows w i)) (partition_at w i) (place_at w i)) ≡ Ok new
 reading_is w t rows default at values new e is =
-    then_ok values (column_of t rows) (λ vs. Ok (each_row w (λ i. value_read vs (partition_rows w i) default (at (length (partition_rows w i)) (partition_at w i) (place_at w i))))) e ∙ ap Ok (sym is)
+    then_ok values (column_of t rows) (λ vs.
+    Ok (each_row w (λ i. value_read vs (partition_rows w i) default (at (length (partition_rows w i)) (partition_at w i)
+    (place_at w i))))) e ∙ ap Ok (sym is)

@@ -23,7 +23,8 @@ use Rattle.wrows.proofs.RowFacts.{places_below, length-places}
 use Rattle.wcalls.specs.RowOrders.{IsRowOrder}
 
 module _ (keys : List SortKey) (lists : List (List Meaning)) (rows : List ℕ) where
-  pub apart_by_codes : (codes : List ℕ) → AreRowCodes keys lists codes → All (λ i. i < length codes) rows → TellApart (keys_cmp keys) (map (key_at lists) rows) (map (code_at codes) rows)
+  pub apart_by_codes : (codes : List ℕ) → AreRowCodes keys lists codes → All (λ i. i < length codes) rows
+      → TellApart (keys_cmp keys) (map (key_at lists) rows) (map (code_at codes) rows)
   apart_by_codes codes answer below = record {
     len = length-map rows (code_at codes) ∙ sym (length-map rows (key_at lists));
     alike = λ i j hi hj.
@@ -40,12 +41,14 @@ module _ (keys : List SortKey) (lists : List (List Meaning)) (rows : List ℕ) w
   }
 
   -- codes that may be lacking reach each row
-  pub codes_reach : (n : ℕ) (codes : Option (Vec ℕ Global)) → length lists ≡ n → IfSome codes (λ c. AreRowCodes keys lists c.items) → All (λ i. i < n) rows → IfSome codes (λ c. All (λ i. i < length c.items) rows)
+  pub codes_reach : (n : ℕ) (codes : Option (Vec ℕ Global)) → length lists ≡ n
+      → IfSome codes (λ c. AreRowCodes keys lists c.items) → All (λ i. i < n) rows → IfSome codes (λ c. All (λ i. i < length c.items) rows)
   codes_reach n None long answer below = tt
   codes_reach n (Some c) long answer below = λ k d h. omega (arith, below k d h, answer.len, long)
 
 -- rows by two codes of each are rows by their partition values and then by their keys
-module _ (vo ko : List SortKey) (V K : List (List Meaning)) (firsts seconds : List ℕ) (tv : AreRowCodes vo V firsts) (tk : AreRowCodes ko K seconds) (same : length firsts ≡ length seconds) where
+module _ (vo ko : List SortKey) (V K : List (List Meaning)) (firsts seconds : List ℕ) (tv : AreRowCodes vo V firsts)
+    (tk : AreRowCodes ko K seconds) (same : length firsts ≡ length seconds) where
   abbrev n : ℕ
   n = length seconds
 
@@ -53,7 +56,8 @@ module _ (vo ko : List SortKey) (V K : List (List Meaning)) (firsts seconds : Li
   all_places = places_below 0 n n (omega arith)
 
   by_key : sorted (on (code_at seconds) nat_cmp) (places n) ≡ numbers_by ko K n
-  by_key = sorted_by_row_codes ko K seconds (places n) tk (λ i d h. omega (arith, All-from_recursion (λ j. j < n) (places n) all_places i d h, tk.len))
+  by_key = sorted_by_row_codes ko K seconds (places n) tk
+      (λ i d h. omega (arith, All-from_recursion (λ j. j < n) (places n) all_places i d h, tk.len))
 
   all_by_key : AllByRecursion (λ i. i < n) (numbers_by ko K n)
   all_by_key = all_sorted (on (key_at K) (keys_cmp ko)) (on_total (key_at K) (keys_total ko)) (λ i. i < n) (places n) all_places
@@ -63,7 +67,8 @@ module _ (vo ko : List SortKey) (V K : List (List Meaning)) (firsts seconds : Li
     stand =
         is
         ∙ ap (sorted (on (code_at firsts) nat_cmp)) by_key
-        ∙ sorted_by_row_codes vo V firsts (numbers_by ko K n) tv (λ i d h. omega (arith, All-from_recursion (λ j. j < n) (numbers_by ko K n) all_by_key i d h, tv.len, same))
+        ∙ sorted_by_row_codes vo V firsts (numbers_by ko K n) tv
+        (λ i d h. omega (arith, All-from_recursion (λ j. j < n) (numbers_by ko K n) all_by_key i d h, tv.len, same))
 
     below : All (λ i. i < n) rows
     below =
@@ -78,12 +83,16 @@ module _ (vo ko : List SortKey) (V K : List (List Meaning)) (firsts seconds : Li
         ∙ length_sorted (on (key_at K) (keys_cmp ko)) (on_total (key_at K) (keys_total ko)) (places n)
         ∙ length-places 0 n
 
-  pub rows_by_codes : (rows fs ss : Vec ℕ Global) → rows.items ≡ sorted (on (code_at firsts) nat_cmp) (sorted (on (code_at seconds) nat_cmp) (places n)) → fs.items ≡ map (code_at firsts) rows.items → ss.items ≡ map (code_at seconds) rows.items
+  pub rows_by_codes : (rows fs ss : Vec ℕ Global)
+      → rows.items ≡ sorted (on (code_at firsts) nat_cmp) (sorted (on (code_at seconds) nat_cmp) (places n))
+      → fs.items ≡ map (code_at firsts) rows.items → ss.items ≡ map (code_at seconds) rows.items
       → IsRowOrder vo V ko K n (record { rows = rows; value_codes = Some fs; key_codes = Some ss })
   rows_by_codes rows fs ss is firsts_are seconds_are = record {
     order = stand rows.items is;
     below = below rows.items is;
     len = long rows.items is;
-    value_codes = subst (TellApart (keys_cmp vo) (map (key_at V) rows.items)) (sym firsts_are) (apart_by_codes vo V rows.items firsts tv (λ i d h. omega (arith, below rows.items is i d h, same)));
-    key_codes = subst (TellApart (keys_cmp ko) (map (key_at K) rows.items)) (sym seconds_are) (apart_by_codes ko K rows.items seconds tk (below rows.items is));
+    value_codes = subst (TellApart (keys_cmp vo) (map (key_at V) rows.items)) (sym firsts_are)
+        (apart_by_codes vo V rows.items firsts tv (λ i d h. omega (arith, below rows.items is i d h, same)));
+    key_codes = subst (TellApart (keys_cmp ko) (map (key_at K) rows.items)) (sym seconds_are)
+        (apart_by_codes ko K rows.items seconds tk (below rows.items is));
   }

@@ -3,7 +3,8 @@ use Rattle.std.proofs.Common.{◌≡◌, ℕ, ◌+◌, ◌<◌, ◌≤◌, List,
 use Rattle.std.proofs.lemmas.List.{length-map, map-append, take_more}
 
 module _ {X Y Z : Type 0} (f : X → Y) (g : Y → Z) (xs : List X) where
-  pub listed_more : (i : ℕ) (x : X) (made more : List Z) → i < length xs → x ≡ get_or xs i x → made ≡ map g (map f (take i xs)) → more ≡ made ++ g (f x) ∷ [] → more ≡ map g (map f (take (i + 1) xs))
+  pub listed_more : (i : ℕ) (x : X) (made more : List Z) → i < length xs → x ≡ get_or xs i x
+      → made ≡ map g (map f (take i xs)) → more ≡ made ++ g (f x) ∷ [] → more ≡ map g (map f (take (i + 1) xs))
   listed_more i x made more h e so_far is =
       is ∙ ap (λ l. l ++ g (f x) ∷ []) so_far
       ∙ sym (ap (map g) (map-append f (take i xs) (x ∷ [])) ∙ map-append g (map f (take i xs)) (f x ∷ []))

@@ -1,5 +1,7 @@
 -- The places of rows in their partitions, and what the order of the rows gives those who build frames.
-use Rattle.std.proofs.Common.{◌≡◌, ◌≢◌, ℕ, zero, suc, ◌+◌, ◌-◌, ◌<◌, ◌≤◌, ◌==◌, Bool, true, false, cond, List, [], ◌∷◌, length, map, filter, drop, get_or, Ordering, Less, Equal, Greater, is_gt, is_eq, true≢false, refl, sym, ap, ◌∙◌, arith, subst}
+use Rattle.std.proofs.Common.{◌≡◌, ◌≢◌, ℕ, zero, suc, ◌+◌, ◌-◌, ◌<◌, ◌≤◌, ◌==◌, Bool, true, false, cond}
+use Rattle.std.proofs.Common.{List, [], ◌∷◌, length, map, filter, drop, get_or, Ordering, Less, Equal}
+use Rattle.std.proofs.Common.{Greater, is_gt, is_eq, true≢false, refl, sym, ap, ◌∙◌, arith, subst}
 use Rattle.std.specs.Prelude.{slice_range}
 use Rattle.std.specs.List.{AllByRecursion}
 use Rattle.std.specs.Cmp.{IsTotalOrder}
@@ -39,7 +41,8 @@ filters_swap : {X : Type 0} (p q : X → Bool) (xs : List X) → filter p (filte
 filters_swap p q [] = refl
 filters_swap p q (x ∷ xs) = go (p x) (q x) refl refl (filters_swap p q xs)
   where
-    go : (a b : Bool) → p x ≡ a → q x ≡ b → filter p (filter q xs) ≡ filter q (filter p xs) → filter p (cond b (x ∷ filter q xs) (filter q xs)) ≡ filter q (cond a (x ∷ filter p xs) (filter p xs))
+    go : (a b : Bool) → p x ≡ a → q x ≡ b → filter p (filter q xs) ≡ filter q (filter p xs)
+        → filter p (cond b (x ∷ filter q xs) (filter q xs)) ≡ filter q (cond a (x ∷ filter p xs) (filter p xs))
     go true true e f more = rw (e, f) (ap (λ l. x ∷ l) more)
     go true false e f more = rw f more
     go false true e f more = rw e more
@@ -52,7 +55,8 @@ once_in_partition w r h =
     let p : ℕ → Bool = are_peers (keys_cmp w.value_order) w.values r in
     let itself : p r ≡ true = ap is_eq (tied_itself (keys_total w.value_order) (key_at w.values r)) in
     filter_sorted cmp (on_total (key_at w.keys) (keys_total w.order)) (λ k. k == r) (filter p (places (length w.values)))
-    ∙ ap (sorted cmp) (filters_swap (λ k. k == r) p (places (length w.values)) ∙ ap (filter p) (once_from r 0 (length w.values) (omega arith) (omega arith)) ∙ ap (λ b. cond b (r ∷ []) []) itself)
+    ∙ ap (sorted cmp) (filters_swap (λ k. k == r) p (places (length w.values))
+    ∙ ap (filter p) (once_from r 0 (length w.values) (omega arith) (omega arith)) ∙ ap (λ b. cond b (r ∷ []) []) itself)
 
 in_slice : (xs : List ℕ) (from to i : ℕ) → from ≤ i → i < to → get_or (slice_range xs from to) (i - from) 0 ≡ get_or xs i 0
 in_slice xs from to i l h =
@@ -63,12 +67,16 @@ same_itself : (r : ℕ) → (r == r) ≡ true
 same_itself r = grind (arith, nat_tests)
 
 -- where the rows of a span are a row's partition, the row's place is that in the span
-pub place_in_span : (w : Windowed) (order : List ℕ) (from to i : ℕ) → from ≤ i → i < to → to ≤ length order → get_or order i 0 < length w.values
+pub place_in_span : (w : Windowed) (order : List ℕ) (from to i : ℕ) → from ≤ i → i < to → to ≤ length order
+    → get_or order i 0 < length w.values
     → slice_range order from to ≡ partition_rows w (get_or order i 0) → place_at w (get_or order i 0) ≡ i - from
 place_in_span w order from to i l h long here same =
     let r = get_or order i 0 in
-    let wide : length (slice_range order from to) ≡ to - from = Rattle.std.proofs.Common.length-take-le (to - from) (drop from order) (omega (arith, Rattle.std.proofs.Common.length-drop from order)) in
-    let at : (get_or (partition_rows w r) (i - from) 0 == r) ≡ true = ap (λ l. get_or l (i - from) 0 == r) (sym same) ∙ ap (λ k. k == r) (in_slice order from to i l h) ∙ same_itself r in
+    let wide : length (slice_range order from to) ≡ to - from =
+    Rattle.std.proofs.Common.length-take-le (to - from) (drop from order)
+    (omega (arith, Rattle.std.proofs.Common.length-drop from order)) in
+    let at : (get_or (partition_rows w r) (i - from) 0 == r) ≡ true = ap (λ l. get_or l (i - from) 0 == r) (sym same)
+    ∙ ap (λ k. k == r) (in_slice order from to i l h) ∙ same_itself r in
     place_is r (partition_rows w r) (once_in_partition w r here) (i - from) (omega (arith, wide, ap length same)) at
 
 module _ {X : Type 0} (cmp : X → X → Ordering) (total : IsTotalOrder cmp) where
@@ -78,7 +86,8 @@ module _ {X : Type 0} (cmp : X → X → Ordering) (total : IsTotalOrder cmp) wh
   in_all P (x ∷ xs) (suc i) d all h = in_all P xs i d all.1 (omega arith)
 
   -- in a list that goes up no element is greater than a later one
-  pub up_pairs : (xs : List X) (i j : ℕ) (d : X) → IsUp cmp total xs → i ≤ j → j < length xs → is_gt (cmp (get_or xs i d) (get_or xs j d)) ≡ false
+  pub up_pairs : (xs : List X) (i j : ℕ) (d : X) → IsUp cmp total xs → i ≤ j → j < length xs
+      → is_gt (cmp (get_or xs i d) (get_or xs j d)) ≡ false
   up_pairs [] i j d up l h = absurd (omega arith)
   up_pairs (x ∷ xs) zero zero d up l h = ap is_gt (tied_itself total x)
   up_pairs (x ∷ xs) zero (suc j) d up l h = in_all (λ y. is_gt (cmp x y) ≡ false) xs j d up.0 (omega arith)
@@ -99,14 +108,17 @@ module _ (w : Windowed) (order : List ℕ) (is_sorted : order ≡ sorted (whole_
   pairs : (i j : ℕ) → i ≤ j → j < length order → is_gt (whole_cmp w (get_or order i 0) (get_or order j 0)) ≡ false
   pairs i j l h =
       let e : order ≡ sorted (whole_cmp w) (places (length w.values)) = is_sorted in
-      ap (λ xs. is_gt (whole_cmp w (get_or xs i 0) (get_or xs j 0))) e ∙ up_pairs (whole_cmp w) (whole_total w) (sorted (whole_cmp w) (places (length w.values))) i j 0 (up_sorted (whole_cmp w) (whole_total w) (places (length w.values))) l (omega (arith, h, ap length e))
+      ap (λ xs. is_gt (whole_cmp w (get_or xs i 0) (get_or xs j 0))) e ∙ up_pairs (whole_cmp w) (whole_total w)
+      (sorted (whole_cmp w) (places (length w.values))) i j 0 (up_sorted (whole_cmp w) (whole_total w)
+      (places (length w.values))) l (omega (arith, h, ap length e))
 
   -- the partition values stand in order
   pub values_ordered : AreOrdered (keys_cmp w.value_order) (map (key_at w.values) order)
   values_ordered i j l h =
       let long : length (map (key_at w.values) order) ≡ length order = length-map order (key_at w.values) in
       let k : j < length order = omega (arith, h, long) in
-      ap (λ x. is_gt (keys_cmp w.value_order x (key_at (map (key_at w.values) order) j))) (get_or-map (key_at w.values) order i 0 [] (omega arith))
+      ap (λ x. is_gt (keys_cmp w.value_order x (key_at (map (key_at w.values) order) j)))
+      (get_or-map (key_at w.values) order i 0 [] (omega arith))
       ∙ ap (λ x. is_gt (keys_cmp w.value_order (key_at w.values (get_or order i 0)) x)) (get_or-map (key_at w.values) order j 0 [] k)
       ∙ first_not_greater _ _ (pairs i j l k)
 
@@ -116,18 +128,23 @@ module _ (w : Windowed) (order : List ℕ) (is_sorted : order ≡ sorted (whole_
       let long : length (map (key_at w.keys) order) ≡ length order = length-map order (key_at w.keys) in
       let k : j < length order = omega (arith, h, long) in
       let agreed : is_eq (keys_cmp w.value_order (key_at w.values (get_or order i 0)) (key_at w.values (get_or order j 0))) ≡ true =
-      sym (ap (λ x. is_eq (keys_cmp w.value_order x (key_at w.values (get_or order j 0)))) (get_or-map (key_at w.values) order i 0 [] (omega arith)))
-      ∙ sym (ap (λ x. is_eq (keys_cmp w.value_order (key_at (map (key_at w.values) order) i) x)) (get_or-map (key_at w.values) order j 0 [] k))
+      sym (ap (λ x. is_eq (keys_cmp w.value_order x (key_at w.values (get_or order j 0))))
+      (get_or-map (key_at w.values) order i 0 [] (omega arith)))
+      ∙ sym (ap (λ x. is_eq (keys_cmp w.value_order (key_at (map (key_at w.values) order) i) x))
+      (get_or-map (key_at w.values) order j 0 [] k))
       ∙ agree in
       ap (λ x. is_gt (keys_cmp w.order x (key_at (map (key_at w.keys) order) j))) (get_or-map (key_at w.keys) order i 0 [] (omega arith))
       ∙ ap (λ x. is_gt (keys_cmp w.order (key_at w.keys (get_or order i 0)) x)) (get_or-map (key_at w.keys) order j 0 [] k)
       ∙ second_not_greater _ _ agreed (pairs i j l k)
 
 -- ordered lists under other names
-pub same_ordered : (ks js : List SortKey) (xs ys : List (List Meaning)) → js ≡ ks → ys ≡ xs → AreOrdered (keys_cmp ks) xs → AreOrdered (keys_cmp js) ys
-same_ordered ks js xs ys e f h = let P : List SortKey → Type 0 = λ k. AreOrdered (keys_cmp k) ys in let Q : List (List Meaning) → Type 0 = λ l. AreOrdered (keys_cmp ks) l in subst P (sym e) (subst Q (sym f) h)
+pub same_ordered : (ks js : List SortKey) (xs ys : List (List Meaning)) → js ≡ ks → ys ≡ xs → AreOrdered (keys_cmp ks) xs
+    → AreOrdered (keys_cmp js) ys
+same_ordered ks js xs ys e f h = let P : List SortKey → Type 0 = λ k. AreOrdered (keys_cmp k) ys in
+    let Q : List (List Meaning) → Type 0 = λ l. AreOrdered (keys_cmp ks) l in subst P (sym e) (subst Q (sym f) h)
 
-pub same_within : (vs us : List SortKey) (xs ys : List (List Meaning)) (ks js : List SortKey) (cs bs : List (List Meaning)) → us ≡ vs → ys ≡ xs → js ≡ ks → bs ≡ cs
+pub same_within : (vs us : List SortKey) (xs ys : List (List Meaning)) (ks js : List SortKey) (cs bs : List (List Meaning))
+    → us ≡ vs → ys ≡ xs → js ≡ ks → bs ≡ cs
     → AreOrderedWithin (keys_cmp vs) xs (keys_cmp ks) cs → AreOrderedWithin (keys_cmp us) ys (keys_cmp js) bs
 same_within vs us xs ys ks js cs bs e f g h o =
     let P : List SortKey → Type 0 = λ k. AreOrderedWithin (keys_cmp k) ys (keys_cmp js) bs in

@@ -25,7 +25,8 @@ pub plain_column : (place : ℕ) (rows : List Row) → column_of (At place) rows
 plain_column place rows = ap (λ b. unless b OutOfRange (map (value_on (At place)) rows)) (none_out place rows)
 
 -- its value on a row is that at the place of the row
-pub cell_at : (rows : List (Bor (List Value))) (place row : ℕ) (r : Bor (List Value)) → row < length rows → r ≡ get_or rows row r → value_at (map meaning r.now) place ≡ value_at (map (value_on (At place)) (rows_seen rows)) row
+pub cell_at : (rows : List (Bor (List Value))) (place row : ℕ) (r : Bor (List Value)) → row < length rows
+    → r ≡ get_or rows row r → value_at (map meaning r.now) place ≡ value_at (map (value_on (At place)) (rows_seen rows)) row
 cell_at rows place row r h e =
     sym (get_or-map (value_on (At place)) (rows_seen rows) row [] Null (omega (arith, h, length-map rows row_seen))
     ∙ ap (value_on (At place)) (get_or-map row_seen rows row r [] h)
@@ -43,13 +44,16 @@ lists_seen : (ps : List ℕ) (rows : List (Bor (List Value))) → map (list_seen
 lists_seen ps rows = sym (map-map (λ row. map (value_at row) ps) row_seen rows)
 
 -- the list of a row is that of its values at the places
-pub list_at : (ps : List ℕ) (rows : List Row) (row : ℕ) → row < length rows → key_at (values_at ps rows) row ≡ map (value_at (key_at rows row)) ps
+pub list_at : (ps : List ℕ) (rows : List Row) (row : ℕ) → row < length rows
+    → key_at (values_at ps rows) row ≡ map (value_at (key_at rows row)) ps
 list_at ps rows row h = get_or-map (λ row. map (value_at row) ps) rows row [] [] h
 
 -- the column of a number has the values at its place
-pub column_at : (ps : List ℕ) (rows : List Row) (number place : ℕ) → number < length ps → place ≡ get_or ps number 0 → map (λ row. value_at row place) rows ≡ key_column number (values_at ps rows)
+pub column_at : (ps : List ℕ) (rows : List Row) (number place : ℕ) → number < length ps → place ≡ get_or ps number 0
+    → map (λ row. value_at row place) rows ≡ key_column number (values_at ps rows)
 column_at ps rows number place h e =
-    map-same (λ row. value_at row place) (λ row. value_at (map (value_at row) ps) number) (λ row. ap (value_at row) e ∙ sym (get_or-map (value_at row) ps number 0 Null h)) rows
+    map-same (λ row. value_at row place) (λ row. value_at (map (value_at row) ps) number) (λ row. ap (value_at row) e
+    ∙ sym (get_or-map (value_at row) ps number 0 Null h)) rows
     ∙ sym (map-map (λ list. value_at list number) (λ row. map (value_at row) ps) rows)
 
 module _ (ps : List ℕ) (rows : List (Bor (List Value))) (cells : List Value) (e : map meaning cells ≡ flat_map (list_seen ps) rows) where
@@ -70,9 +74,11 @@ none_in_range (p ∷ ps) row = none_in_range ps row
 
 none_at_fault : (ps : List ℕ) (rows : List Row) → list_any (λ row. list_any (λ t. is_out_of_range t row) (map At ps)) rows ≡ false
 none_at_fault ps [] = refl
-none_at_fault ps (row ∷ rows) = ap (λ b. b || list_any (λ row. list_any (λ t. is_out_of_range t row) (map At ps)) rows) (none_in_range ps row) ∙ none_at_fault ps rows
+none_at_fault ps (row ∷ rows) = ap (λ b. b || list_any (λ row. list_any (λ t. is_out_of_range t row) (map At ps)) rows)
+    (none_in_range ps row) ∙ none_at_fault ps rows
 
 pub plain_lists : (ps : List ℕ) (rows : List Row) → lists_of (map At ps) rows ≡ Ok (values_at ps rows)
 plain_lists ps rows =
     ap (λ b. unless b OutOfRange (map (λ row. map (λ t. value_on t row) (map At ps)) rows)) (none_at_fault ps rows)
-    ∙ ap Ok (map-same (λ row. map (λ t. value_on t row) (map At ps)) (λ row. map (value_at row) ps) (λ row. map-map (λ t. value_on t row) At ps) rows)
+    ∙ ap Ok (map-same (λ row. map (λ t. value_on t row) (map At ps)) (λ row. map (value_at row) ps)
+    (λ row. map-map (λ t. value_on t row) At ps) rows)

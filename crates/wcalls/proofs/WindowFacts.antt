@@ -1,5 +1,7 @@
 -- Numbers in one order, by partition values and then by keys: each partition is a span of it.
-use Rattle.std.proofs.Common.{◌≡◌, ℕ, zero, suc, ◌+◌, ◌-◌, ◌<◌, ◌≤◌, ◌==◌, Bool, true, false, cond, List, [], ◌∷◌, length, map, filter, take, drop, get_or, drop-cons, Ordering, Less, Equal, Greater, is_eq, true≢false, refl, sym, ap, ◌∙◌, arith}
+use Rattle.std.proofs.Common.{◌≡◌, ℕ, zero, suc, ◌+◌, ◌-◌, ◌<◌, ◌≤◌, ◌==◌, Bool, true, false, cond, List}
+use Rattle.std.proofs.Common.{[], ◌∷◌, length, map, filter, take, drop, get_or, drop-cons, Ordering, Less}
+use Rattle.std.proofs.Common.{Equal, Greater, is_eq, true≢false, refl, sym, ap, ◌∙◌, arith}
 use Rattle.std.specs.Prelude.{slice_range}
 use Rattle.std.specs.List.{AllByRecursion, position_or_len}
 use Rattle.std.specs.Cmp.{IsTotalOrder}
@@ -21,18 +23,21 @@ use Rattle.wrows.proofs.RowFacts.{filter-map}
 use Rattle.wrows.proofs.MoreSorting.{sorted_same}
 
 -- the elements at some places
-pub at_places : {X : Type 0} (d : X) (xs : List X) (a n : ℕ) → a + n ≤ length xs → map (λ j. get_or xs j d) (places_from a n) ≡ take n (drop a xs)
+pub at_places : {X : Type 0} (d : X) (xs : List X) (a n : ℕ) → a + n ≤ length xs
+    → map (λ j. get_or xs j d) (places_from a n) ≡ take n (drop a xs)
 at_places d xs a zero h = refl
 at_places d xs a (suc n) h =
     let l : a < length xs = omega arith in
     let s : suc a ≡ a + 1 = omega arith in
-    ap (λ l. get_or xs a d ∷ l) (at_places d xs (a + 1) n (omega arith) ∙ ap (λ k. take n (drop k xs)) (sym s)) ∙ sym (ap (take (suc n)) (drop-cons xs a d l))
+    ap (λ l. get_or xs a d ∷ l) (at_places d xs (a + 1) n (omega arith) ∙ ap (λ k. take n (drop k xs)) (sym s))
+    ∙ sym (ap (take (suc n)) (drop-cons xs a d l))
 
 pub all_places : {X : Type 0} (d : X) (xs : List X) → map (λ j. get_or xs j d) (places (length xs)) ≡ xs
 all_places d xs = at_places d xs 0 (length xs) (omega arith) ∙ take_all (length xs) xs (omega arith)
 
 -- what passes a test stands at the places that pass it
-filter_at : {X : Type 0} (d : X) (p : X → Bool) (xs : List X) → filter p xs ≡ map (λ j. get_or xs j d) (filter (λ j. p (get_or xs j d)) (places (length xs)))
+filter_at : {X : Type 0} (d : X) (p : X → Bool) (xs : List X)
+    → filter p xs ≡ map (λ j. get_or xs j d) (filter (λ j. p (get_or xs j d)) (places (length xs)))
 filter_at d p xs = sym (ap (filter p) (all_places d xs)) ∙ filter-map p (λ j. get_or xs j d) (places (length xs))
 
 agree_from : (p q : ℕ → Bool) (a n : ℕ) → ((j : ℕ) → j < a + n → p j ≡ q j) → filter p (places_from a n) ≡ filter q (places_from a n)
@@ -45,7 +50,8 @@ passed : {X : Type 0} (p : X → Bool) (xs : List X) → AllByRecursion (λ x. p
 passed p [] = tt
 passed p (x ∷ xs) = go (p x) refl (passed p xs)
   where
-    go : (b : Bool) → p x ≡ b → AllByRecursion (λ x. p x ≡ true) (filter p xs) → AllByRecursion (λ x. p x ≡ true) (cond b (x ∷ filter p xs) (filter p xs))
+    go : (b : Bool) → p x ≡ b → AllByRecursion (λ x. p x ≡ true) (filter p xs)
+        → AllByRecursion (λ x. p x ≡ true) (cond b (x ∷ filter p xs) (filter p xs))
     go true e more = (e, more)
     go false e more = more
 
@@ -89,14 +95,16 @@ module _ (w : Windowed) (order : List ℕ) (s : Span)
   peers_are : (j : ℕ) → j < length order → are_peers cv (map (key_at w.values) order) s.from j ≡ in_part (row j)
   peers_are j h =
       let first : s.from < length order = omega (arith, part.some, within) in
-      ap (λ k. is_eq (cv k (key_at (map (key_at w.values) order) j))) (listed s.from first) ∙ ap (λ k. is_eq (cv (key_at w.values (row s.from)) k)) (listed j h)
+      ap (λ k. is_eq (cv k (key_at (map (key_at w.values) order) j))) (listed s.from first)
+      ∙ ap (λ k. is_eq (cv (key_at w.values (row s.from)) k)) (listed j h)
 
   -- the span has the rows that agree with its first
   span_is : slice_range order s.from s.to ≡ filter in_part order
   span_is =
       let fits : s.from + (s.to - s.from) ≤ length order = omega (arith, part.some, within) in
       sym (at_places 0 order s.from (s.to - s.from) fits)
-      ∙ ap (map row) (part.filtered ∙ ap (λ n. filter (are_peers cv (map (key_at w.values) order) s.from) (places n)) long ∙ agree_from _ (λ j. in_part (row j)) 0 (length order) (λ j h. peers_are j (omega arith)))
+      ∙ ap (map row) (part.filtered ∙ ap (λ n. filter (are_peers cv (map (key_at w.values) order) s.from) (places n)) long
+      ∙ agree_from _ (λ j. in_part (row j)) 0 (length order) (λ j h. peers_are j (omega arith)))
       ∙ sym (filter_at 0 in_part order)
 
   by_keys : (x y : ℕ) → in_part x ≡ true → in_part y ≡ true → whole_cmp w x y ≡ on (key_at w.keys) (keys_cmp w.order) x y
@@ -113,9 +121,11 @@ module _ (w : Windowed) (order : List ℕ) (s : Span)
       span_is
       ∙ ap (filter in_part) is_sorted
       ∙ filter_sorted (whole_cmp w) (whole_total w) in_part (places (length w.values))
-      ∙ sorted_same (λ x. in_part x ≡ true) (whole_cmp w) (on (key_at w.keys) (keys_cmp w.order)) by_keys (filter in_part (places (length w.values))) (passed in_part (places (length w.values)))
+      ∙ sorted_same (λ x. in_part x ≡ true) (whole_cmp w) (on (key_at w.keys) (keys_cmp w.order)) by_keys
+      (filter in_part (places (length w.values))) (passed in_part (places (length w.values)))
       ∙ ap (sorted (on (key_at w.keys) (keys_cmp w.order)))
-      (agree_from in_part (are_peers cv w.values (row i)) 0 (length w.values) (λ j k. ap is_eq (total.congr (key_at w.values (row s.from)) (key_at w.values (row i)) (key_at w.values j) tied)))
+      (agree_from in_part (are_peers cv w.values (row i)) 0 (length w.values)
+      (λ j k. ap is_eq (total.congr (key_at w.values (row s.from)) (key_at w.values (row i)) (key_at w.values j) tied)))
 
 -- the one place of an element that a list has once
 none_there : (r : ℕ) (xs : List ℕ) → filter (λ k. k == r) xs ≡ [] → (j : ℕ) → j < length xs → (get_or xs j 0 == r) ≡ false
@@ -128,11 +138,13 @@ none_there r (x ∷ xs) e j h = go (x == r) refl e j h (none_there r xs)
     go false e f zero h more = e
     go false e f (suc j) h more = more f j (omega arith)
 
-pub place_is : (r : ℕ) (xs : List ℕ) → filter (λ k. k == r) xs ≡ r ∷ [] → (j : ℕ) → j < length xs → (get_or xs j 0 == r) ≡ true → position_or_len (λ k. k == r) xs ≡ j
+pub place_is : (r : ℕ) (xs : List ℕ) → filter (λ k. k == r) xs ≡ r ∷ [] → (j : ℕ) → j < length xs
+    → (get_or xs j 0 == r) ≡ true → position_or_len (λ k. k == r) xs ≡ j
 place_is r [] e j h here = absurd (omega arith)
 place_is r (x ∷ xs) e j h here = go (x == r) refl e j h here (place_is r xs)
   where
-    go : (b : Bool) → (x == r) ≡ b → cond b (x ∷ filter (λ k. k == r) xs) (filter (λ k. k == r) xs) ≡ r ∷ [] → (j : ℕ) → j < suc (length xs) → (get_or (x ∷ xs) j 0 == r) ≡ true
+    go : (b : Bool) → (x == r) ≡ b → cond b (x ∷ filter (λ k. k == r) xs) (filter (λ k. k == r) xs) ≡ r ∷ [] → (j : ℕ)
+        → j < suc (length xs) → (get_or (x ∷ xs) j 0 == r) ≡ true
         → (filter (λ k. k == r) xs ≡ r ∷ [] → (j : ℕ) → j < length xs → (get_or xs j 0 == r) ≡ true → position_or_len (λ k. k == r) xs ≡ j)
         → position_or_len (λ k. k == r) (x ∷ xs) ≡ j
     go true e f zero h here more = rw e refl

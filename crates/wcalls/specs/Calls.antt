@@ -18,4 +18,5 @@ numbers w count = Ok (each_row w (λ i. Int (pos (count i))))
 
 -- for each row the value at the place that is read for it in its partition, or else the default
 abbrev pub values_read : Windowed → Formula → List Row → Meaning → (ℕ → Option ℕ) → Result (List Meaning) AnswerFault
-values_read w t rows default answer = column_of t rows >>= λ values. Ok (each_row w (λ i. unwrap_or (option_map (λ place. value_at values (row_at w i place)) (answer i)) default))
+values_read w t rows default answer = column_of t rows >>= λ values.
+    Ok (each_row w (λ i. unwrap_or (option_map (λ place. value_at values (row_at w i place)) (answer i)) default))

@@ -4,7 +4,8 @@ use Rattle.wvalues.specs.Meaning.{Meaning, Null}
 use Rattle.wplaces.specs.Ranks.{row_number_of, rank_of, dense_rank_of}
 use Rattle.wplaces.specs.Tile.{tile_of}
 use Rattle.wplaces.specs.RowPlaces.{lag_place, lead_place, first_place, last_place, nth_place}
-use Rattle.wplan.specs.Plans.{WindowPlan, FunctionPlan, RowNumber, Rank, DenseRank, Tile, Lag, Lead, FirstValue, LastValue, NthValue, Aggregated}
+use Rattle.wplan.specs.Plans.{WindowPlan, FunctionPlan, RowNumber, Rank, DenseRank, Tile}
+use Rattle.wplan.specs.Plans.{Lag, Lead, FirstValue, LastValue, NthValue, Aggregated}
 use Rattle.wrows.specs.declared.fault.AnswerFault.{AnswerFault}
 use Rattle.wrows.specs.Outcomes.{◌>>=◌, each}
 use Rattle.wrows.specs.Columns.{Row, in_range}

@@ -11,7 +11,8 @@ use Rattle.wrows.specs.Plain.{numbers_by}
 use Rattle.wcalls.specs.declared.window_order.RowOrder.{RowOrder}
 
 -- the numbers of so many rows by partition values, by keys and then by number, and codes that tell apart what they have there
-pub record IsRowOrder (value_order : List SortKey) (values : List (List Meaning)) (key_order : List SortKey) (keys : List (List Meaning)) (count : ℕ) (o : RowOrder) : Type 0 where
+pub record IsRowOrder (value_order : List SortKey) (values : List (List Meaning)) (key_order : List SortKey)
+    (keys : List (List Meaning)) (count : ℕ) (o : RowOrder) : Type 0 where
   pub order : o.rows.items ≡ sorted (on (key_at values) (keys_cmp value_order)) (numbers_by key_order keys count)
   pub below : All (λ i. i < count) o.rows.items
   pub len : length o.rows.items ≡ count

@@ -1,6 +1,7 @@
 -- What a window and its functions have to keep (<window clause>, <ntile function>, <nth value function>).
 use Rattle.std.specs.Prelude.{Bool, true, nat_le, not, ◌||◌, ◌==◌, length}
-use Rattle.wplan.specs.Plans.{WindowPlan, FunctionPlan, RowNumber, Rank, DenseRank, Tile, Lag, Lead, FirstValue, LastValue, NthValue, Aggregated}
+use Rattle.wplan.specs.Plans.{WindowPlan, FunctionPlan, RowNumber, Rank, DenseRank, Tile}
+use Rattle.wplan.specs.Plans.{Lag, Lead, FirstValue, LastValue, NthValue, Aggregated}
 use Rattle.wframe.specs.Offsets.{has_range_offset}
 use Rattle.wcalls.specs.Frames.{frame_of}
 

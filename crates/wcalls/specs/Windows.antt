@@ -31,11 +31,19 @@ abbrev pub windowed : List Row → WindowPlan → Result Windowed AnswerFault
 windowed rows w = do
   values ← lists_of w.partition rows
   keys ← lists_of (map (λ k. k.value) w.keys) rows
-  Ok (record { values = values; value_order = ascending w.partition; keys = keys; order = map (λ k. k.order) w.keys; frame = frames.frame_of w.frame })
+  Ok (record {
+    values = values;
+    value_order = ascending w.partition;
+    keys = keys;
+    order = map (λ k. k.order) w.keys;
+    frame =
+        frames.frame_of w.frame;
+  })
 
 -- the rows that agree with a row on all partition values, by the window's keys and then by number
 abbrev pub partition_rows : Windowed → ℕ → List ℕ
-partition_rows w i = sorted (on (key_at w.keys) (keys_cmp w.order)) (filter (are_peers (keys_cmp w.value_order) w.values i) (places (length w.values)))
+partition_rows w i = sorted (on (key_at w.keys) (keys_cmp w.order)) (filter (are_peers (keys_cmp w.value_order) w.values i)
+    (places (length w.values)))
 
 -- the partition that a row stands in
 abbrev pub partition_at : Windowed → ℕ → Partition

@@ -42,7 +42,11 @@ fn put_aggregates(
     requires tests { ForSome filter.now (λ tests. length tests.items ≡ length values.now) }
     requires room { length column.old ≡ length arranged.now.order.now }
     ensures joins { tally.new ≤ tally.old + most_by_queues arranged.now.partitions.now.frame.exclusion (length arranged.now.order.now) }
-    ensures column { (w : Windowed) (feed : aggregating.Feed) → IsArranged w arranged.now.order.now arranged.now.partitions.now → IsPicked feed arranged.now.order.now (meanings values.now) (option_map (λ tests. tests.items) filter.now) → Gives (λ _. map meaning column.new) result (answered w (λ p rows place. aggregate_of function feed (frame_numbers p rows place))) }
+    ensures column { (w : Windowed) (feed : aggregating.Feed)
+        → IsArranged w arranged.now.order.now arranged.now.partitions.now
+        → IsPicked feed arranged.now.order.now (meanings values.now) (option_map (λ tests. tests.items) filter.now)
+        → Gives (λ _. map meaning column.new) result
+        (answered w (λ p rows place. aggregate_of function feed (frame_numbers p rows place))) }
 {
     put_frame_aggregates(
         alloc,
@@ -79,7 +83,9 @@ fn fed_column(
     requires wide { length values.items ≡ length arranged.now.rows.now }
     requires room { length column.old ≡ length arranged.now.order.now }
     ensures joins { tally.new ≤ tally.old + most_by_queues arranged.now.partitions.now.frame.exclusion (length arranged.now.order.now) }
-    ensures column { (w : Windowed) → IsArranged w arranged.now.order.now arranged.now.partitions.now → Gives (λ _. map meaning column.new) result (function_column (rows_seen arranged.now.rows.now) w (Aggregated (aggregate_plan aggregate.now))) }
+    ensures column { (w : Windowed) → IsArranged w arranged.now.order.now arranged.now.partitions.now
+        → Gives (λ _. map meaning column.new) result (function_column (rows_seen arranged.now.rows.now) w
+        (Aggregated (aggregate_plan aggregate.now))) }
 {
     let tests = filter_rows(alloc, &aggregate.filter, arranged.rows)?;
     let filter = filter_of(alloc, &tests, arranged.order)?;
@@ -106,7 +112,9 @@ fn evaluated_column(
 ) -> Result<(), AnswerFault>
     requires { length column.old ≡ length arranged.now.order.now }
     ensures joins { tally.new ≤ tally.old + most_by_queues arranged.now.partitions.now.frame.exclusion (length arranged.now.order.now) }
-    ensures column { (w : Windowed) → IsArranged w arranged.now.order.now arranged.now.partitions.now → Gives (λ _. map meaning column.new) result (function_column (rows_seen arranged.now.rows.now) w (Aggregated (aggregate_plan aggregate.now))) }
+    ensures column { (w : Windowed) → IsArranged w arranged.now.order.now arranged.now.partitions.now
+        → Gives (λ _. map meaning column.new) result (function_column (rows_seen arranged.now.rows.now) w
+        (Aggregated (aggregate_plan aggregate.now))) }
 {
     let cells = argument_values(alloc, &aggregate.argument, arranged.rows)?;
     let values = lent_values(alloc, &cells)?;
@@ -124,7 +132,9 @@ fn null_column(
     requires null { formula aggregate.now.argument ≡ Constant Null }
     requires room { length column.old ≡ length arranged.now.order.now }
     ensures joins { tally.new ≤ tally.old + most_by_queues arranged.now.partitions.now.frame.exclusion (length arranged.now.order.now) }
-    ensures column { (w : Windowed) → IsArranged w arranged.now.order.now arranged.now.partitions.now → Gives (λ _. map meaning column.new) result (function_column (rows_seen arranged.now.rows.now) w (Aggregated (aggregate_plan aggregate.now))) }
+    ensures column { (w : Windowed) → IsArranged w arranged.now.order.now arranged.now.partitions.now
+        → Gives (λ _. map meaning column.new) result (function_column (rows_seen arranged.now.rows.now) w
+        (Aggregated (aggregate_plan aggregate.now))) }
 {
     let null = Value::Null;
     let values = lent_nulls(alloc, &null, arranged.rows)?;
@@ -142,7 +152,9 @@ pub(crate) fn aggregated_column(
 ) -> Result<(), AnswerFault>
     requires { length column.old ≡ length arranged.now.order.now }
     ensures joins { tally.new ≤ tally.old + most_by_queues arranged.now.partitions.now.frame.exclusion (length arranged.now.order.now) }
-    ensures column { (w : Windowed) → IsArranged w arranged.now.order.now arranged.now.partitions.now → Gives (λ _. map meaning column.new) result (function_column (rows_seen arranged.now.rows.now) w (Aggregated (aggregate_plan aggregate.now))) }
+    ensures column { (w : Windowed) → IsArranged w arranged.now.order.now arranged.now.partitions.now
+        → Gives (λ _. map meaning column.new) result (function_column (rows_seen arranged.now.rows.now) w
+        (Aggregated (aggregate_plan aggregate.now))) }
 {
     if is_null(&aggregate.argument) {
         return null_column(alloc, aggregate, arranged, column, tally);

@@ -34,8 +34,11 @@ fn push_column(
     tally: &mut Tally,
 ) -> Result<(), AnswerFault>
     requires { is_sound_function (function_plan function.now) ≡ true }
-    ensures joins { tally.new ≤ tally.old + most_of_function arranged.now.partitions.now.frame.exclusion (length arranged.now.order.now) (function_plan function.now) }
-    ensures column { (w : Windowed) → IsArranged w arranged.now.order.now arranged.now.partitions.now → Gives (λ _. map meaning (drop (length cells.old.items) cells.new.items)) result (function_column (rows_seen arranged.now.rows.now) w (function_plan function.now)) }
+    ensures joins { tally.new ≤ tally.old + most_of_function arranged.now.partitions.now.frame.exclusion
+        (length arranged.now.order.now) (function_plan function.now) }
+    ensures column { (w : Windowed) → IsArranged w arranged.now.order.now arranged.now.partitions.now
+        → Gives (λ _. map meaning (drop (length cells.old.items) cells.new.items)) result
+        (function_column (rows_seen arranged.now.rows.now) w (function_plan function.now)) }
     ensures kept { OnOk result (take (length cells.old.items) cells.new.items ≡ cells.old.items) }
     ensures len { OnOk result (length cells.new.items ≡ length cells.old.items + length arranged.now.rows.now) }
 {
@@ -52,8 +55,10 @@ fn every_column(
     tally: &mut Tally,
 ) -> Result<Cells, AnswerFault>
     requires { list_all is_sound_function (functions_seen functions.now) ≡ true }
-    ensures joins { tally.new ≤ tally.old + most_of_functions arranged.now.partitions.now.frame.exclusion (length arranged.now.order.now) (functions_seen functions.now) }
-    ensures columns { (w : Windowed) → IsArranged w arranged.now.order.now arranged.now.partitions.now → Gives rows_in result (each (function_column (rows_seen arranged.now.rows.now) w) (functions_seen functions.now)) }
+    ensures joins { tally.new ≤ tally.old + most_of_functions arranged.now.partitions.now.frame.exclusion
+        (length arranged.now.order.now) (functions_seen functions.now) }
+    ensures columns { (w : Windowed) → IsArranged w arranged.now.order.now arranged.now.partitions.now
+        → Gives rows_in result (each (function_column (rows_seen arranged.now.rows.now) w) (functions_seen functions.now)) }
     ensures width { IfOk result (λ cells. cells.width ≡ length arranged.now.rows.now) }
     ensures count { IfOk result (λ cells. cells.count ≡ length functions.now) }
 {
@@ -88,7 +93,8 @@ pub fn window_columns(
     requires window { is_sound_window (window_plan window.now) ≡ true }
     requires order { ordered_rows (rows_seen rows.now) (window_plan window.now) ≡ Ok order.now }
     requires functions { list_all is_sound_function (functions_seen functions.now) ≡ true }
-    ensures joins { tally.new ≤ tally.old + most_of_functions (frame_of (window_plan window.now).frame).exclusion (length rows.now) (functions_seen functions.now) }
+    ensures joins { tally.new ≤ tally.old + most_of_functions (frame_of (window_plan window.now).frame).exclusion
+        (length rows.now) (functions_seen functions.now) }
     ensures columns { Gives rows_in result (window_columns (window_plan window.now) (functions_seen functions.now) (rows_seen rows.now)) }
     ensures width { IfOk result (λ cells. cells.width ≡ length rows.now) }
     ensures count { IfOk result (λ cells. cells.count ≡ length functions.now) }

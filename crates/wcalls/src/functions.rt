@@ -32,7 +32,9 @@ fn counted_column<N: Counts + Copy>(
     column: &mut [Value],
 ) -> Result<(), AnswerFault>
     requires { length column.old ≡ length arranged.now.order.now }
-    ensures { (w : Windowed) → IsArranged w arranged.now.order.now arranged.now.partitions.now → Gives (λ _. map meaning column.new) result (numbers w (λ i. N.count_at counts (length (partition_rows w i)) (partition_at w i) (place_at w i))) }
+    ensures { (w : Windowed) → IsArranged w arranged.now.order.now arranged.now.partitions.now
+        → Gives (λ _. map meaning column.new) result
+        (numbers w (λ i. N.count_at counts (length (partition_rows w i)) (partition_at w i) (place_at w i))) }
 {
     let call = Counted { counts };
     put_answers(alloc, &call, arranged, column)?;
@@ -49,7 +51,9 @@ fn other_row_column<P: RowPlaces + Copy>(
     column: &mut [Value],
 ) -> Result<(), AnswerFault>
     requires { length column.old ≡ length arranged.now.order.now }
-    ensures { (w : Windowed) → IsArranged w arranged.now.order.now arranged.now.partitions.now → Gives (λ _. map meaning column.new) result (values_read w (formula expr.now) (rows_seen arranged.now.rows.now) (meaning default.now) (λ i. P.place_read places (length (partition_rows w i)) (partition_at w i) (place_at w i))) }
+    ensures { (w : Windowed) → IsArranged w arranged.now.order.now arranged.now.partitions.now
+        → Gives (λ _. map meaning column.new) result (values_read w (formula expr.now) (rows_seen arranged.now.rows.now)
+        (meaning default.now) (λ i. P.place_read places (length (partition_rows w i)) (partition_at w i) (place_at w i))) }
 {
     let values = column_values(alloc, expr, arranged.rows)?;
     let call = OtherRow {
@@ -70,7 +74,9 @@ fn other_row_or_null<P: RowPlaces + Copy>(
     column: &mut [Value],
 ) -> Result<(), AnswerFault>
     requires { length column.old ≡ length arranged.now.order.now }
-    ensures { (w : Windowed) → IsArranged w arranged.now.order.now arranged.now.partitions.now → Gives (λ _. map meaning column.new) result (values_read w (formula expr.now) (rows_seen arranged.now.rows.now) Null (λ i. P.place_read places (length (partition_rows w i)) (partition_at w i) (place_at w i))) }
+    ensures { (w : Windowed) → IsArranged w arranged.now.order.now arranged.now.partitions.now
+        → Gives (λ _. map meaning column.new) result (values_read w (formula expr.now) (rows_seen arranged.now.rows.now)
+        Null (λ i. P.place_read places (length (partition_rows w i)) (partition_at w i) (place_at w i))) }
 {
     let null = Value::Null;
     other_row_column(alloc, places, expr, &null, arranged, column)
@@ -87,8 +93,10 @@ pub(crate) fn function_column(
 ) -> Result<(), AnswerFault>
     requires sound { is_sound_function (function_plan function.now) ≡ true }
     requires room { length column.old ≡ length arranged.now.order.now }
-    ensures joins { tally.new ≤ tally.old + most_of_function arranged.now.partitions.now.frame.exclusion (length arranged.now.order.now) (function_plan function.now) }
-    ensures column { (w : Windowed) → IsArranged w arranged.now.order.now arranged.now.partitions.now → Gives (λ _. map meaning column.new) result (function_column (rows_seen arranged.now.rows.now) w (function_plan function.now)) }
+    ensures joins { tally.new ≤ tally.old + most_of_function arranged.now.partitions.now.frame.exclusion
+        (length arranged.now.order.now) (function_plan function.now) }
+    ensures column { (w : Windowed) → IsArranged w arranged.now.order.now arranged.now.partitions.now
+        → Gives (λ _. map meaning column.new) result (function_column (rows_seen arranged.now.rows.now) w (function_plan function.now)) }
 {
     match function {
         WindowFunction::RowNumber => counted_column(alloc, RowNumber, arranged, column),

@@ -54,7 +54,8 @@ pub struct OtherRow<'a, P> {
 }
 
 impl<'a, P: RowPlaces> RowFunction for OtherRow<'a, P> {
-    ghost answer = { λ call p rows place. value_read (values_seen call.values) rows (meaning call.default.now) (P.place_read call.places (length rows) p place) };
+    ghost answer = { λ call p rows place. value_read (values_seen call.values) rows (meaning call.default.now)
+        (P.place_read call.places (length rows) p place) };
 
     ghost meant = { λ call. value_of_number (values_seen call.values) (meaning call.default.now) };
 

@@ -93,7 +93,8 @@ pub(crate) fn window_keys<'a>(
     window: &ResolvedWindow,
     rows: &'a [&'a [Value]],
 ) -> Result<RowKeys<'a>, AnswerFault>
-    ensures gives { Gives (λ keys. lists_in keys.lists) result (lists_of (map (λ k. k.value) (window_plan window.now).keys) (rows_seen rows.now)) }
+    ensures gives { Gives (λ keys. lists_in keys.lists) result (lists_of (map (λ k. k.value) (window_plan window.now).keys)
+        (rows_seen rows.now)) }
     ensures orders { IfOk result (λ keys. keys.orders.items ≡ map (λ k. k.order) (window_plan window.now).keys) }
 {
     let values = key_values(alloc, &window.keys)?;

@@ -67,7 +67,8 @@ impl<'a> PlainLists<'a> {
         row: usize,
         lent: &mut Vec<&'b Value>,
     ) -> Result<(), AllocError>
-        ensures { OnOk result (meanings lent.new.items ≡ meanings lent.old.items ++ map (value_at (key_at (rows_seen self.now.rows.now) row)) self.now.places.items) }
+        ensures { OnOk result (meanings lent.new.items ≡ meanings lent.old.items ++ map
+            (value_at (key_at (rows_seen self.now.rows.now) row)) self.now.places.items) }
     {
         for place in &self.places {
             lent.push(self.value(row, *place))?;
@@ -82,7 +83,8 @@ impl<'a> PlainLists<'a> {
         number: usize,
     ) -> Result<Vec<&'b Value>, AllocError>
         requires { number < length self.now.places.items }
-        ensures { IfOk result (λ column. values_seen column.items ≡ key_column number (values_at self.now.places.items (rows_seen self.now.rows.now))) }
+        ensures { IfOk result (λ column. values_seen column.items
+            ≡ key_column number (values_at self.now.places.items (rows_seen self.now.rows.now))) }
     {
         let place = self.places[number];
         let mut column = Vec::with_capacity(alloc, self.rows.len())?;
@@ -94,7 +96,8 @@ impl<'a> PlainLists<'a> {
 
     // Appends copies of the values of a row that has these cells.
     fn push_copies(&self, row: &[Value], cells: &mut Vec<Value>) -> Result<(), AllocError>
-        ensures { OnOk result (map meaning cells.new.items ≡ map meaning cells.old.items ++ map (value_at (map meaning row.now)) self.now.places.items) }
+        ensures { OnOk result (map meaning cells.new.items ≡ map meaning cells.old.items ++ map
+            (value_at (map meaning row.now)) self.now.places.items) }
     {
         for place in &self.places {
             cells.push(value_or_null(row, &self.null, *place).duplicate()?)?;
@@ -104,7 +107,8 @@ impl<'a> PlainLists<'a> {
 
     /// Copies of the values, laid out one row after another.
     pub(crate) fn copied(&self, alloc: Global) -> Result<Vec<Value>, AllocError>
-        ensures rows { IfOk result (λ cells. laid (length self.now.places.items) (length self.now.rows.now) cells.items ≡ values_at self.now.places.items (rows_seen self.now.rows.now)) }
+        ensures rows { IfOk result (λ cells. laid (length self.now.places.items) (length self.now.rows.now) cells.items
+            ≡ values_at self.now.places.items (rows_seen self.now.rows.now)) }
         ensures laid { IfOk result (λ cells. length cells.items ≡ length self.now.rows.now * length self.now.places.items) }
     {
         let count = self.rows.len().saturating_mul(self.places.len());

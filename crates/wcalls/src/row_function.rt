@@ -49,7 +49,8 @@ pub trait RowFunction {
         requires few { length rows.now < 2 ^ 31 }
         requires len { length rows.now ≡ length frames.now.keys }
         requires below { All (λ i. i < length kept.old) rows.now }
-        ensures { map (meant self.now) kept.new ≡ put_all (map (meant self.now) kept.old) rows.now (map (answer self.now frames.now rows.now) (places (length rows.now))) };
+        ensures { map (meant self.now) kept.new ≡ put_all (map (meant self.now) kept.old) rows.now
+            (map (answer self.now frames.now rows.now) (places (length rows.now))) };
 
     /// The value that a kept number stands for.
     fn value(&self, number: usize) -> Result<Value, AllocError>
@@ -59,7 +60,8 @@ pub trait RowFunction {
 // Keeps what a call answers for the rows of a window, each at the row's number.
 fn keep_answers<T: RowFunction>(call: &T, arranged: &ArrangedRows, kept: &mut [usize])
     requires { length kept.old ≡ length arranged.now.order.now }
-    ensures { (w : Windowed) → IsArranged w arranged.now.order.now arranged.now.partitions.now → map (T.meant call.now) kept.new ≡ each_row w (λ i. T.answer call.now (partition_at w i) (partition_rows w i) (place_at w i)) }
+    ensures { (w : Windowed) → IsArranged w arranged.now.order.now arranged.now.partitions.now
+        → map (T.meant call.now) kept.new ≡ each_row w (λ i. T.answer call.now (partition_at w i) (partition_rows w i) (place_at w i)) }
 {
     let partitions = arranged.partitions;
     for number in 0..partitions.count() {
@@ -94,7 +96,9 @@ pub(crate) fn put_answers<T: RowFunction>(
     column: &mut [Value],
 ) -> Result<(), AllocError>
     requires { length column.old ≡ length arranged.now.order.now }
-    ensures { (w : Windowed) → IsArranged w arranged.now.order.now arranged.now.partitions.now → OnOk result (map meaning column.new ≡ each_row w (λ i. T.answer call.now (partition_at w i) (partition_rows w i) (place_at w i))) }
+    ensures { (w : Windowed) → IsArranged w arranged.now.order.now arranged.now.partitions.now
+        → OnOk result (map meaning column.new ≡ each_row w (λ i. T.answer call.now (partition_at w i) (partition_rows w i)
+        (place_at w i))) }
 {
     let mut kept = vec![in alloc; 0usize; arranged.order.len()]?;
     keep_answers(call, arranged, &mut kept);

@@ -68,7 +68,8 @@ fn copied_order(
 ) -> Result<Vec<usize>, AllocError>
     requires wide { length columns.now.places.items ≡ length orders.now }
     requires below { All (λ i. i < length columns.now.rows.now) rows.items }
-    ensures { IfOk result (λ order. order.items ≡ sorted (on (key_at (values_at columns.now.places.items (rows_seen columns.now.rows.now))) (keys_cmp orders.now)) rows.items) }
+    ensures { IfOk result (λ order. order.items
+        ≡ sorted (on (key_at (values_at columns.now.places.items (rows_seen columns.now.rows.now))) (keys_cmp orders.now)) rows.items) }
 {
     let cells = columns.copied(alloc)?;
     let order = resorted_numbers(alloc, &cells, orders, &None, columns.rows.len(), rows)?;
@@ -80,7 +81,8 @@ fn row_alike(numbers: &[usize], codes: &[u32], place: usize, before: usize) -> u
     requires place { place < length numbers.now }
     requires len { length codes.now ≡ length numbers.now }
     ensures start { place ≡ 0 → result ≡ slice_index_or numbers.now place 0 }
-    ensures apart { (j : ℕ) → place ≡ j + 1 → (slice_index_or codes.now j 0 == slice_index_or codes.now place 0) ≡ false → result ≡ slice_index_or numbers.now place 0 }
+    ensures apart { (j : ℕ) → place ≡ j + 1 → (slice_index_or codes.now j 0 == slice_index_or codes.now place 0) ≡ false
+        → result ≡ slice_index_or numbers.now place 0 }
     ensures alike { (j : ℕ) → place ≡ j + 1 → (slice_index_or codes.now j 0 == slice_index_or codes.now place 0) ≡ true → result ≡ before }
 {
     if place == 0 {
@@ -106,8 +108,10 @@ impl<'a> RowKeys<'a> {
     /// Codes for rows of one key, which stand as it orders the rows, so that rows with one code have the same key. There are
     /// none for rows of several keys or of no key, nor for more than 2^32 rows.
     pub(crate) fn codes(&self, alloc: Global) -> Result<Option<Vec<u32>>, AllocError>
-        ensures codes { IfOk result (λ found. IfSome found (λ codes. AreRowCodes self.now.orders.items (lists_in self.now.lists) codes.items)) }
-        ensures found { length self.now.orders.items ≡ 1 → length (lists_in self.now.lists) ≤ 2 ^ 32 → IfOk result (λ found. is_some found ≡ true) }
+        ensures codes { IfOk result (λ found. IfSome found (λ codes. AreRowCodes self.now.orders.items
+            (lists_in self.now.lists) codes.items)) }
+        ensures found { length self.now.orders.items ≡ 1 → length (lists_in self.now.lists) ≤ 2 ^ 32
+            → IfOk result (λ found. is_some found ≡ true) }
     {
         if !self.has_one_key() {
             return Ok(None);
@@ -133,7 +137,8 @@ impl<'a> RowKeys<'a> {
     // The numbers of rows by their keys, and then as they stood.
     fn by_values(&self, alloc: Global, rows: Vec<usize>) -> Result<Vec<usize>, AllocError>
         requires { All (λ i. i < length (lists_in self.now.lists)) rows.items }
-        ensures { IfOk result (λ order. order.items ≡ sorted (on (key_at (lists_in self.now.lists)) (keys_cmp self.now.orders.items)) rows.items) }
+        ensures { IfOk result (λ order. order.items
+            ≡ sorted (on (key_at (lists_in self.now.lists)) (keys_cmp self.now.orders.items)) rows.items) }
     {
         match &self.lists {
             RowLists::Evaluated(cells) => laid_order(alloc, cells, &self.orders, rows),
@@ -150,7 +155,8 @@ impl<'a> RowKeys<'a> {
     ) -> Result<Vec<usize>, AllocError>
         requires codes { IfSome codes.now (λ codes. AreRowCodes self.now.orders.items (lists_in self.now.lists) codes.items) }
         requires below { All (λ i. i < length (lists_in self.now.lists)) rows.items }
-        ensures { IfOk result (λ order. order.items ≡ sorted (on (key_at (lists_in self.now.lists)) (keys_cmp self.now.orders.items)) rows.items) }
+        ensures { IfOk result (λ order. order.items
+            ≡ sorted (on (key_at (lists_in self.now.lists)) (keys_cmp self.now.orders.items)) rows.items) }
     {
         match codes {
             Some(codes) => by_codes(alloc, codes, rows),
@@ -168,7 +174,8 @@ impl<'a> RowKeys<'a> {
     ) -> Result<Vec<usize>, AllocError>
         requires codes { IfSome codes.now (λ codes. AreRowCodes self.now.orders.items (lists_in self.now.lists) codes.items) }
         requires below { All (λ i. i < length (lists_in self.now.lists)) rows.items }
-        ensures order { IfOk result (λ order. order.items ≡ sorted (on (key_at (lists_in self.now.lists)) (keys_cmp self.now.orders.items)) rows.items) }
+        ensures order { IfOk result (λ order. order.items
+            ≡ sorted (on (key_at (lists_in self.now.lists)) (keys_cmp self.now.orders.items)) rows.items) }
         ensures below { IfOk result (λ order. All (λ i. i < length (lists_in self.now.lists)) order.items) }
         ensures len { IfOk result (λ order. length order.items ≡ length rows.items) }
     {
@@ -184,7 +191,8 @@ impl<'a> RowKeys<'a> {
         codes: &Option<Vec<u32>>,
     ) -> Result<Vec<usize>, AllocError>
         requires { IfSome codes.now (λ codes. AreRowCodes self.now.orders.items (lists_in self.now.lists) codes.items) }
-        ensures order { IfOk result (λ rows. rows.items ≡ numbers_by self.now.orders.items (lists_in self.now.lists) (length (lists_in self.now.lists))) }
+        ensures order { IfOk result (λ rows. rows.items ≡ numbers_by self.now.orders.items (lists_in self.now.lists)
+            (length (lists_in self.now.lists))) }
         ensures below { IfOk result (λ rows. All (λ i. i < length (lists_in self.now.lists)) rows.items) }
         ensures len { IfOk result (λ rows. length rows.items ≡ length (lists_in self.now.lists)) }
     {
@@ -240,7 +248,8 @@ impl<'a> RowKeys<'a> {
         codes: &Option<Vec<u32>>,
     ) -> Result<Vec<&'b Value>, AllocError>
         requires below { All (λ i. i < length (lists_in self.now.lists)) numbers.now }
-        requires codes { IfSome codes.now (λ codes. TellApart (keys_cmp self.now.orders.items) (map (key_at (lists_in self.now.lists)) numbers.now) codes.items) }
+        requires codes { IfSome codes.now (λ codes. TellApart (keys_cmp self.now.orders.items)
+            (map (key_at (lists_in self.now.lists)) numbers.now) codes.items) }
         ensures { IfOk result (λ lent. meanings lent.items ≡ flat_map (key_at (lists_in self.now.lists)) numbers.now) }
     {
         match codes {
@@ -258,8 +267,10 @@ impl<'a> RowKeys<'a> {
         codes: &Option<Vec<u32>>,
     ) -> Result<Vec<&'b Value>, AllocError>
         requires below { All (λ i. i < length (lists_in self.now.lists)) numbers.now }
-        requires codes { IfSome codes.now (λ codes. TellApart (keys_cmp self.now.orders.items) (map (key_at (lists_in self.now.lists)) numbers.now) codes.items) }
-        ensures rows { IfOk result (λ lent. rows_of (length self.now.orders.items) (length numbers.now) lent.items ≡ map (key_at (lists_in self.now.lists)) numbers.now) }
+        requires codes { IfSome codes.now (λ codes. TellApart (keys_cmp self.now.orders.items)
+            (map (key_at (lists_in self.now.lists)) numbers.now) codes.items) }
+        ensures rows { IfOk result (λ lent. rows_of (length self.now.orders.items) (length numbers.now) lent.items
+            ≡ map (key_at (lists_in self.now.lists)) numbers.now) }
         ensures len { IfOk result (λ lent. length lent.items ≡ length numbers.now * length self.now.orders.items) }
     {
         let lent = self.lent_lists(alloc, numbers, codes)?;

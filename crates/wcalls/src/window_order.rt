@@ -1,5 +1,6 @@
 //! Rows in the order of a window.
-ghost use Rattle.std.specs.Prelude.{◌≡◌, ◌*◌, ◌+◌, ◌-◌, ◌<◌, ◌≤◌, ◌^◌, true, min, List, All, Ok, OnOk, OnErr, IfOk, IfSome, IsTrue, length, map};
+ghost use Rattle.std.specs.Prelude.{◌≡◌, ◌*◌, ◌+◌, ◌-◌, ◌<◌, ◌≤◌, ◌^◌, true, min, List, All};
+ghost use Rattle.std.specs.Prelude.{Ok, OnOk, OnErr, IfOk, IfSome, IsTrue, length, map};
 ghost use Rattle.std.specs.Ordering.{on};
 ghost use Rattle.wvalues.specs.declared.key.SortKey.{SortKey};
 ghost use Rattle.wvalues.specs.Meaning.{Meaning};
@@ -169,8 +170,10 @@ pub fn share_order(a: &ResolvedWindow, b: &ResolvedWindow) -> bool
 fn kept_order<'a>(order: RowOrder, values: RowKeys<'a>, keys: RowKeys<'a>) -> WindowOrder<'a>
     requires values { length (lists_in values.lists) ≡ length order.rows.items }
     requires keys { length (lists_in keys.lists) ≡ length order.rows.items }
-    requires order { IsRowOrder values.orders.items (lists_in values.lists) keys.orders.items (lists_in keys.lists) (length order.rows.items) order }
-    ensures { result ≡ ordered_by (lists_in values.entry.lists) values.entry.orders.items (lists_in keys.entry.lists) keys.entry.orders.items }
+    requires order { IsRowOrder values.orders.items (lists_in values.lists) keys.orders.items (lists_in keys.lists)
+        (length order.rows.items) order }
+    ensures { result ≡ ordered_by (lists_in values.entry.lists) values.entry.orders.items (lists_in keys.entry.lists)
+        keys.entry.orders.items }
 {
     let RowOrder {
         rows,
@@ -193,7 +196,8 @@ fn ordered_keys<'a>(
     keys: RowKeys<'a>,
 ) -> Result<WindowOrder<'a>, AllocError>
     requires { length (lists_in values.lists) ≡ length (lists_in keys.lists) }
-    ensures { IfOk result (λ order. order ≡ ordered_by (lists_in values.entry.lists) values.entry.orders.items (lists_in keys.entry.lists) keys.entry.orders.items) }
+    ensures { IfOk result (λ order. order ≡ ordered_by (lists_in values.entry.lists) values.entry.orders.items
+        (lists_in keys.entry.lists) keys.entry.orders.items) }
 {
     let order = row_order(alloc, &values, &keys)?;
     Ok(kept_order(order, values, keys))
@@ -208,7 +212,8 @@ fn presorted_keys<'a>(
 ) -> Result<WindowOrder<'a>, AllocError>
     requires count { length (lists_in values.lists) ≡ length (lists_in keys.lists) }
     requires order { numbers.items ≡ numbers_in_order (lists_in values.lists) values.orders.items (lists_in keys.lists) keys.orders.items }
-    ensures { IfOk result (λ order. order ≡ ordered_by (lists_in values.entry.lists) values.entry.orders.items (lists_in keys.entry.lists) keys.entry.orders.items) }
+    ensures { IfOk result (λ order. order ≡ ordered_by (lists_in values.entry.lists) values.entry.orders.items
+        (lists_in keys.entry.lists) keys.entry.orders.items) }
 {
     let order = presorted_order(alloc, &values, &keys, numbers)?;
     Ok(kept_order(order, values, keys))
@@ -238,7 +243,9 @@ struct RowOrder {
 fn coded_order(alloc: Global, firsts: &[u32], seconds: &[u32]) -> Result<RowOrder, AllocError>
     requires len { length firsts.now ≡ length seconds.now }
     requires few { length seconds.now ≤ 2 ^ 32 }
-    ensures { (value_order key_order : List SortKey) (values keys : List (List Meaning)) → AreRowCodes value_order values firsts.now → AreRowCodes key_order keys seconds.now → IfOk result (IsRowOrder value_order values key_order keys (length seconds.now)) }
+    ensures { (value_order key_order : List SortKey) (values keys : List (List Meaning))
+        → AreRowCodes value_order values firsts.now → AreRowCodes key_order keys seconds.now
+        → IfOk result (IsRowOrder value_order values key_order keys (length seconds.now)) }
 {
     let order = order_by_codes(alloc, firsts, seconds)?;
     Ok(RowOrder {
@@ -252,7 +259,8 @@ fn coded_order(alloc: Global, firsts: &[u32], seconds: &[u32]) -> Result<RowOrde
 // the keys are sorted by first, and then the partition values, which leaves rows of one partition as they stand.
 fn row_order(alloc: Global, values: &RowKeys, keys: &RowKeys) -> Result<RowOrder, AllocError>
     requires { length (lists_in values.now.lists) ≡ length (lists_in keys.now.lists) }
-    ensures { IfOk result (IsRowOrder values.now.orders.items (lists_in values.now.lists) keys.now.orders.items (lists_in keys.now.lists) (length (lists_in keys.now.lists))) }
+    ensures { IfOk result (IsRowOrder values.now.orders.items (lists_in values.now.lists) keys.now.orders.items
+        (lists_in keys.now.lists) (length (lists_in keys.now.lists))) }
 {
     let key_codes = keys.codes(alloc)?;
     let value_codes = values.codes(alloc)?;
@@ -280,10 +288,12 @@ fn presorted_order(
     rows: Vec<usize>,
 ) -> Result<RowOrder, AllocError>
     requires count { length (lists_in values.now.lists) ≡ length (lists_in keys.now.lists) }
-    requires order { rows.items ≡ sorted (on (key_at (lists_in values.now.lists)) (keys_cmp values.now.orders.items)) (numbers_by keys.now.orders.items (lists_in keys.now.lists) (length (lists_in keys.now.lists))) }
+    requires order { rows.items ≡ sorted (on (key_at (lists_in values.now.lists)) (keys_cmp values.now.orders.items))
+        (numbers_by keys.now.orders.items (lists_in keys.now.lists) (length (lists_in keys.now.lists))) }
     requires below { All (λ i. i < length (lists_in keys.now.lists)) rows.items }
     requires len { length rows.items ≡ length (lists_in keys.now.lists) }
-    ensures { IfOk result (IsRowOrder values.now.orders.items (lists_in values.now.lists) keys.now.orders.items (lists_in keys.now.lists) (length (lists_in keys.now.lists))) }
+    ensures { IfOk result (IsRowOrder values.now.orders.items (lists_in values.now.lists) keys.now.orders.items
+        (lists_in keys.now.lists) (length (lists_in keys.now.lists))) }
 {
     let key_codes = keys.number_codes(alloc)?;
     let key_codes = codes_of(alloc, key_codes, &rows)?;
@@ -303,7 +313,9 @@ fn codes_of(
     rows: &[usize],
 ) -> Result<Option<Vec<u32>>, AllocError>
     requires { IfSome codes (λ codes. All (λ i. i < length codes.items) rows.now) }
-    ensures { (keys : List SortKey) (lists : List (List Meaning)) → IfSome codes (λ codes. AreRowCodes keys lists codes.items) → IfOk result (λ found. IfSome found (λ codes. TellApart (keys_cmp keys) (map (key_at lists) rows.now) codes.items)) }
+    ensures { (keys : List SortKey) (lists : List (List Meaning))
+        → IfSome codes (λ codes. AreRowCodes keys lists codes.items)
+        → IfOk result (λ found. IfSome found (λ codes. TellApart (keys_cmp keys) (map (key_at lists) rows.now) codes.items)) }
 {
     match codes {
         Some(codes) => {

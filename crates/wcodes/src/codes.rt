@@ -39,7 +39,8 @@ fn code_of_null(key: &SortKey) -> u32
     if key.nulls_first { 0 } else { u32::MAX }
 }
 
-/// The code of a value under a key, counted from a base. Texts have none, nor have numbers that lie on the wrong side of the base or too far from it.
+/// The code of a value under a key, counted from a base. Texts have none, nor have numbers that lie on the wrong side of the
+/// base or too far from it.
 pub fn code_of(key: &SortKey, base: Whole, cell: &Value) -> Option<u32>
     ensures has { IfSome result (λ c. HasCode key.now base (meaning cell.now)) }
     ensures code { IfSome result (λ c. pos c ≡ code key.now base (meaning cell.now)) }

@@ -89,7 +89,8 @@ fn tell<'a>(
     requires { first < length slots.old.items }
     ensures within { IfOk result (λ number. number < length values.new.items) }
     ensures same { IfOk result (λ number. value_at (values_seen values.new.items) number ≡ meaning value.now) }
-    ensures kept { OnOk result ((i : ℕ) → i < length values.old.items → value_at (values_seen values.new.items) i ≡ value_at (values_seen values.old.items) i) }
+    ensures kept { OnOk result ((i : ℕ) → i < length values.old.items → value_at (values_seen values.new.items) i
+        ≡ value_at (values_seen values.old.items) i) }
     ensures longer { OnOk result (length values.new.items ≡ length values.old.items + 1) }
     ensures slots { OnOk result (length slots.new.items ≡ length slots.old.items) }
 {
@@ -109,7 +110,8 @@ fn number_of<'a>(
     requires { 0 < length slots.old.items }
     ensures within { IfOk result (λ number. number < length values.new.items) }
     ensures same { IfOk result (λ number. value_at (values_seen values.new.items) number ≡ meaning value.now) }
-    ensures kept { OnOk result ((i : ℕ) → i < length values.old.items → value_at (values_seen values.new.items) i ≡ value_at (values_seen values.old.items) i) }
+    ensures kept { OnOk result ((i : ℕ) → i < length values.old.items → value_at (values_seen values.new.items) i
+        ≡ value_at (values_seen values.old.items) i) }
     ensures longer { OnOk result (length values.old.items ≤ length values.new.items) }
     ensures few { OnOk result (length values.new.items ≤ length values.old.items + 1) }
     ensures slots { OnOk result (length slots.new.items ≡ length slots.old.items) }
@@ -135,7 +137,8 @@ pub(crate) fn distinct_values<'a>(
     alloc: Global,
     column: &[&'a Value],
 ) -> Result<Option<Distinct<'a>>, AllocError>
-    ensures cells { IfOk result (λ told. IfSome told (λ found. map (value_at (values_seen found.values.items)) found.numbers.items ≡ values_seen column.now)) }
+    ensures cells { IfOk result (λ told. IfSome told (λ found. map (value_at (values_seen found.values.items))
+        found.numbers.items ≡ values_seen column.now)) }
     ensures below { IfOk result (λ told. IfSome told (λ found. All (λ i. i < length found.values.items) found.numbers.items)) }
     ensures few { IfOk result (λ told. IfSome told (λ found. length found.values.items ≤ length column.now)) }
 {

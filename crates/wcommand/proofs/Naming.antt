@@ -1,8 +1,10 @@
 -- Which subcommand a name is.
-use Rattle.std.proofs.Common.{◌≡◌, ◌≢◌, Bool, cond, true, false, refl, sym, subst, List, Option, Some, None, IsSomeAnd, option_map, map, find, codes, bytes_eq}
+use Rattle.std.proofs.Common.{◌≡◌, ◌≢◌, Bool, cond, true, false, refl, sym, subst, List, Option}
+use Rattle.std.proofs.Common.{Some, None, IsSomeAnd, option_map, map, find, codes, bytes_eq}
 use Rattle.std.proofs.lemmas.Slice.Eq.{bytes_eq-Decides}
 use Rattle.clap.specs.Words.{Row, Shape, Text}
-use Rattle.wcommand.specs.CommandSet.{ask_shape, feed_shape, floor_shape, join_shape, list_shape, retire_shape, session_shape, shell_shape, subcommands, take_shape}
+use Rattle.wcommand.specs.CommandSet.{ask_shape, feed_shape, floor_shape, join_shape, list_shape, retire_shape}
+use Rattle.wcommand.specs.CommandSet.{session_shape, shell_shape, subcommands, take_shape}
 use Rattle.wcommand.specs.Required.{IsWhole, have_values}
 
 differs : (a name : Text) → name ≢ a → bytes_eq a name ≡ false
@@ -13,7 +15,9 @@ differs a name n = go (bytes_eq a name) refl
     go false e = refl
 
 -- the one name that is left
-pub only_session : (name : Text) (rows : List Row) → name ≢ codes "take" → name ≢ codes "retire" → name ≢ codes "floor" → name ≢ codes "join" → name ≢ codes "feed" → name ≢ codes "list" → name ≢ codes "ask" → name ≢ codes "shell" → IsWhole (Some (name, rows))
+pub only_session : (name : Text) (rows : List Row) → name ≢ codes "take" → name ≢ codes "retire" → name ≢ codes "floor"
+    → name ≢ codes "join" → name ≢ codes "feed" → name ≢ codes "list" → name ≢ codes "ask" → name ≢ codes "shell"
+    → IsWhole (Some (name, rows))
     → name ≡ codes "session"
 only_session name rows a b c d e f g h w = go (bytes_eq (codes "session") name) refl
   where
@@ -30,4 +34,5 @@ only_session name rows a b c d e f g h w = go (bytes_eq (codes "session") name) 
         (cond (differs (codes "list") name f i) (Some list_shape)
         (cond (differs (codes "ask") name g i) (Some ask_shape)
         (cond (differs (codes "shell") name h i) (Some shell_shape) None))))))))) in
-        absurd (subst (λ (o : Option Shape). IsSomeAnd (option_map (λ s. map (λ r. r.id) s.rules) o) (λ names. have_values rows names ≡ true)) none w)
+        absurd (subst (λ (o : Option Shape). IsSomeAnd (option_map (λ s. map (λ r. r.id) s.rules) o)
+        (λ names. have_values rows names ≡ true)) none w)

@@ -30,7 +30,8 @@ session_shape = new_shape (codes "session")
 
 -- `take --table FILE --store FILE ORIGIN NUMBER CSV`
 abbrev pub take_shape : Shape
-take_shape = shape_on_files (codes "take") (positional_rule (codes "ORIGIN") ∷ positional_rule (codes "NUMBER") ∷ positional_rule (codes "CSV") ∷ [])
+take_shape = shape_on_files (codes "take") (positional_rule (codes "ORIGIN") ∷ positional_rule (codes "NUMBER")
+    ∷ positional_rule (codes "CSV") ∷ [])
 
 -- `retire --table FILE --store FILE ORIGIN NUMBER`
 abbrev pub retire_shape : Shape

@@ -2,7 +2,9 @@
 ghost use Rattle.std.specs.Prelude.{◌≡◌, IfOk, false, codes, true};
 ghost use Rattle.clap.specs.Words.{app_of, rule_of, shape_of, with_rule, new_app};
 ghost use Rattle.clap.specs.declared.builder.command.Command.TheViews.{out-Command as fields_of};
-ghost use Rattle.wcommand.specs.CommandSet.{ask_shape, command_set, feed_shape, floor_shape, join_shape, list_shape, option_rule, positional_rule, program_app, repeated_rule, retire_shape, session_shape, shell_shape, take_shape, unversioned_app};
+ghost use Rattle.wcommand.specs.CommandSet.{ask_shape, command_set, feed_shape, floor_shape, join_shape, list_shape};
+ghost use Rattle.wcommand.specs.CommandSet.{option_rule, positional_rule, program_app, repeated_rule, retire_shape};
+ghost use Rattle.wcommand.specs.CommandSet.{session_shape, shell_shape, take_shape, unversioned_app};
 
 use crate::help;
 use clap::builder::ValueParser;
@@ -45,7 +47,8 @@ fn on_files<'a>(
     about: &'a str,
     after: &'a str,
 ) -> Result<Command<'a>, AllocError>
-    ensures shape { IfOk result (λ c. app_of c ≡ with_rule (with_rule (new_app name.entry.now) (option_rule (codes "table"))) (option_rule (codes "store"))) }
+    ensures shape { IfOk result (λ c. app_of c
+        ≡ with_rule (with_rule (new_app name.entry.now) (option_rule (codes "table"))) (option_rule (codes "store"))) }
     ensures local { IfOk result (λ c. (fields_of c).has_globals ≡ false) }
 {
     let command = Command::new(alloc, name)

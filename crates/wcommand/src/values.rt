@@ -35,7 +35,8 @@ fn paths<'a>(found: &ArgMatches<'a>) -> Paths<'a>
 }
 
 fn take<'a>(found: &ArgMatches<'a>) -> Choice<'a>
-    requires { have_values (rows_of (found_of found.now)) (codes "table" ∷ codes "store" ∷ codes "ORIGIN" ∷ codes "NUMBER" ∷ codes "CSV" ∷ []) ≡ true }
+    requires { have_values (rows_of (found_of found.now)) (codes "table" ∷ codes "store" ∷ codes "ORIGIN" ∷ codes "NUMBER"
+        ∷ codes "CSV" ∷ []) ≡ true }
     ensures { IsChoiceIn (codes "take") (rows_of (found_of found.now)) result }
 {
     let paths = paths(found);

@@ -3,15 +3,20 @@ use Rattle.std.proofs.Common.{◌≡◌, true, Option, Some, None, refl, sym, ap
 use Rattle.std.specs.Hash.DefaultHasher as hasher
 use Rattle.std.specs.declared.hash.DefaultHasher.{DefaultHasher}
 use Rattle.wquery.specs.declared.frame.Frame.{Frame}
-use Rattle.wquery.specs.Tree.{Tree, NullWord, Numeral, Quoted, Field, Invoked, Negated, Signed, Joined, Compared, NullTest, Within, Among, Trees, NoTrees, MoreTrees, Links, NoLinks, Further, Given, Everything, These, Columns, Filter, Unfiltered, FilteredBy, Reach, ItsGroup, ThatWindow, OwnWindow, Keys, NoKeys, MoreKeys}
+use Rattle.wquery.specs.Tree.{Tree, NullWord, Numeral, Quoted, Field, Invoked, Negated, Signed, Joined, Compared, NullTest, Within}
+use Rattle.wquery.specs.Tree.{Among, Trees, NoTrees, MoreTrees, Links, NoLinks, Further, Given, Everything, These, Columns, Filter}
+use Rattle.wquery.specs.Tree.{Unfiltered, FilteredBy, Reach, ItsGroup, ThatWindow, OwnWindow, Keys, NoKeys, MoreKeys}
 use Rattle.wsame.specs.Bounds.{end_of}
 use Rattle.wsame.specs.Sameness.{is_same, comparison_number, mode_number, nulls_number, operator_number}
-use Rattle.wdistinct.specs.Sketch.{marked, flagged, named, bounded, framed, copied, ended, sketched, sketched_trees, sketched_links, sketched_given, sketched_filter, sketched_reach, sketched_keys, sketch_of}
-use Rattle.wdistinct.specs.Same.{plain, plain_trees, plain_links, plain_given, plain_filter, plain_reach, plain_keys, plain_frame, plain_number, to}
+use Rattle.wdistinct.specs.Sketch.{marked, flagged, named, bounded, framed, copied, ended, sketched, sketched_trees, sketched_links}
+use Rattle.wdistinct.specs.Sketch.{sketched_given, sketched_filter, sketched_reach, sketched_keys, sketch_of}
+use Rattle.wdistinct.specs.Same.{plain, plain_trees, plain_links, plain_given, plain_filter}
+use Rattle.wdistinct.specs.Same.{plain_reach, plain_keys, plain_frame, plain_number, to}
 
 kept_frame : (f : Option Frame) → framed (plain_frame f) ≡ framed f
 kept_frame None = refl
-kept_frame (Some f) = λ i s. marked (plain_number f.exclusion i) (bounded (end_of f) (bounded f.start (marked (mode_number f.mode) (marked 1 s))))
+kept_frame (Some f) = λ i s. marked (plain_number f.exclusion i)
+    (bounded (end_of f) (bounded f.start (marked (mode_number f.mode) (marked 1 s))))
 
 mutual
   kept : (t : Tree) → sketched (plain t) ≡ sketched t
@@ -48,7 +53,8 @@ mutual
   kept_reach : (r : Reach) → sketched_reach (plain_reach r) ≡ sketched_reach r
   kept_reach ItsGroup = refl
   kept_reach (ThatWindow name) = refl
-  kept_reach (OwnWindow copy partition order frame) = λ i s. kept_frame frame i (kept_keys order i (kept_trees partition i (copied copy (marked 2 s))))
+  kept_reach (OwnWindow copy partition order frame) =
+      λ i s. kept_frame frame i (kept_keys order i (kept_trees partition i (copied copy (marked 2 s))))
 
   kept_keys : (ks : Keys) → sketched_keys (plain_keys ks) ≡ sketched_keys ks
   kept_keys NoKeys = refl

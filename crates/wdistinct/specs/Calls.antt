@@ -4,7 +4,8 @@ use Rattle.std.specs.Prelude.{ℕ, Bool, true, false, ◌&&◌, ◌||◌, not, L
 use Rattle.std.specs.List.{list_any}
 use Rattle.std.specs.Borrow.{Bor}
 use Rattle.wquery.specs.declared.expression.Call.{Call}
-use Rattle.wquery.specs.Tree.{Tree, Invoked, Trees, Links, Given, Columns, Filter, Reach, ItsGroup, ThatWindow, OwnWindow, Keys, KeyTree, own_window, view_call}
+use Rattle.wquery.specs.Tree.{Tree, Invoked, Trees, Links, Given, Columns, Filter, Reach, ItsGroup}
+use Rattle.wquery.specs.Tree.{ThatWindow, OwnWindow, Keys, KeyTree, own_window, view_call}
 use Rattle.wquery.specs.QueryTree.{Clauses, ItemTree, AllColumns, Computed, EntryTree}
 use Rattle.wscope.specs.declared.function.Function.{Function}
 use Rattle.wscope.specs.Functions.{function_of, is_aggregate}
@@ -95,7 +96,8 @@ with_new found (t ∷ ts) = with_new (if list_any (λ (u : Tree). is_same u t) f
 
 -- the aggregates without OVER, each once: those of the SELECT list, of HAVING, of the WINDOW entries and of ORDER BY
 abbrev pub group_calls : Clauses → List Tree
-group_calls c = with_new [] (nodes_in_items (is_call_of Grouped) c.items ++ (nodes_in_option (is_call_of Grouped) c.having ++ (nodes_in_entries (is_call_of Grouped) c.windows ++ nodes_in_order (is_call_of Grouped) c.order)))
+group_calls c = with_new [] (nodes_in_items (is_call_of Grouped) c.items ++ (nodes_in_option (is_call_of Grouped) c.having
+    ++ (nodes_in_entries (is_call_of Grouped) c.windows ++ nodes_in_order (is_call_of Grouped) c.order)))
 
 -- the calls with OVER, each once: those of the SELECT list and of ORDER BY
 abbrev pub window_calls : Clauses → List Tree

@@ -20,9 +20,13 @@ use Rattle.wquery.specs.declared.frame.FrameBound.{FrameBound}
 use Rattle.wquery.specs.declared.frame.FrameBound.TheVariants as bounds
 use Rattle.wquery.specs.declared.frame.FrameExclusion.{FrameExclusion}
 use Rattle.wquery.specs.declared.frame.FrameExclusion.TheVariants as exclusions
-use Rattle.wquery.specs.Tree.{Tree, NullWord, Numeral, Quoted, Field, Invoked, Negated, Signed, Joined, Compared, NullTest, Within, Among, Trees, NoTrees, MoreTrees, Links, NoLinks, Further, Given, Everything, These, Columns, Filter, Unfiltered, FilteredBy, Reach, ItsGroup, ThatWindow, OwnWindow, Keys, NoKeys, MoreKeys, same_kind}
+use Rattle.wquery.specs.Tree.{Tree, NullWord, Numeral, Quoted, Field, Invoked, Negated, Signed, Joined, Compared, NullTest, Within}
+use Rattle.wquery.specs.Tree.{Among, Trees, NoTrees, MoreTrees, Links, NoLinks, Further, Given, Everything, These, Columns, Filter}
+use Rattle.wquery.specs.Tree.{Unfiltered, FilteredBy, Reach, ItsGroup, ThatWindow, OwnWindow, Keys, NoKeys, MoreKeys, same_kind}
 use Rattle.wsame.specs.Bounds.{end_of}
-use Rattle.wsame.specs.Sameness.{is_same, are_same, are_same_links, are_same_given, is_same_filter, is_same_reach, are_same_keys, same_bool, same_bound, same_copied, same_frame, operator_number, comparison_number, nulls_number, mode_number, exclusion_number}
+use Rattle.wsame.specs.Sameness.{is_same, are_same, are_same_links, are_same_given, is_same_filter, is_same_reach}
+use Rattle.wsame.specs.Sameness.{are_same_keys, same_bool, same_bound, same_copied, same_frame, operator_number}
+use Rattle.wsame.specs.Sameness.{comparison_number, nulls_number, mode_number, exclusion_number}
 
 -- tests that hold together
 
@@ -127,7 +131,8 @@ abbrev pub plain_exclusion : Option FrameExclusion → Option FrameExclusion
 plain_exclusion (Some exclusions.NoOthers) = None
 plain_exclusion e = e
 
-exclusions_one : (a b : Option FrameExclusion) → nat_eq (exclusion_number a) (exclusion_number b) ≡ true → plain_exclusion a ≡ plain_exclusion b
+exclusions_one : (a b : Option FrameExclusion) → nat_eq (exclusion_number a) (exclusion_number b) ≡ true
+    → plain_exclusion a ≡ plain_exclusion b
 exclusions_one None None h = refl
 exclusions_one None (Some exclusions.NoOthers) h = refl
 exclusions_one (Some exclusions.NoOthers) None h = refl
@@ -151,10 +156,18 @@ plain_frame (Some f) = Some (record { mode = f.mode; start = f.start; end = Some
 to_frame : (f g : Option Frame) → same_frame f g ≡ true → plain_frame f ≡ plain_frame g
 to_frame None None h = refl
 to_frame (Some f) (Some g) h =
-    let m = both (nat_eq (mode_number f.mode) (mode_number g.mode)) (same_bound f.start g.start && (same_bound (end_of f) (end_of g) && nat_eq (exclusion_number f.exclusion) (exclusion_number g.exclusion))) h in
-    let s = both (same_bound f.start g.start) (same_bound (end_of f) (end_of g) && nat_eq (exclusion_number f.exclusion) (exclusion_number g.exclusion)) m.1 in
+    let m = both (nat_eq (mode_number f.mode) (mode_number g.mode)) (same_bound f.start g.start
+    && (same_bound (end_of f) (end_of g) && nat_eq (exclusion_number f.exclusion) (exclusion_number g.exclusion))) h in
+    let s = both (same_bound f.start g.start) (same_bound (end_of f) (end_of g) && nat_eq (exclusion_number f.exclusion)
+    (exclusion_number g.exclusion)) m.1 in
     let e = both (same_bound (end_of f) (end_of g)) (nat_eq (exclusion_number f.exclusion) (exclusion_number g.exclusion)) s.1 in
-    λ i. Some (record { mode = modes f.mode g.mode m.0 i; start = bounds_one f.start g.start s.0 i; end = Some (bounds_one (end_of f) (end_of g) e.0 i); exclusion = exclusions_one f.exclusion g.exclusion e.1 i })
+    λ i. Some (record {
+      mode = modes f.mode g.mode m.0 i;
+      start = bounds_one f.start g.start s.0 i;
+      end =
+          Some (bounds_one (end_of f) (end_of g) e.0 i);
+      exclusion = exclusions_one f.exclusion g.exclusion e.1 i;
+    })
 to_frame None (Some g) h = cc
 to_frame (Some f) None h = cc
 
@@ -318,13 +331,16 @@ mutual
   from (Numeral m) (Numeral n) h = one_number m n (cc)
   from (Quoted a) (Quoted b) h = one_name a b (cc)
   from (Field p a) (Field q b) h = one_name a b (cc)
-  from (Invoked a g f r) (Invoked b h k q) e = joint _ _ (one_name a b (cc)) (joint _ _ (from_given g h (cc)) (joint _ _ (from_filter f k (cc)) (from_reach r q (cc))))
+  from (Invoked a g f r) (Invoked b h k q) e =
+      joint _ _ (one_name a b (cc)) (joint _ _ (from_given g h (cc)) (joint _ _ (from_filter f k (cc)) (from_reach r q (cc))))
   from (Negated t) (Negated u) h = from t u (cc)
   from (Signed a t) (Signed b u) h = joint _ _ (one_flag a b (cc)) (from t u (cc))
   from (Joined a t ts) (Joined b u us) h = joint _ _ (one_kind a b (cc)) (joint _ _ (from t u (cc)) (from_links ts us (cc)))
-  from (Compared a t v) (Compared b u w) h = joint _ _ (one_number _ _ (ap comparison_number (cc))) (joint _ _ (from t u (cc)) (from v w (cc)))
+  from (Compared a t v) (Compared b u w) h = joint _ _ (one_number _ _ (ap comparison_number (cc)))
+      (joint _ _ (from t u (cc)) (from v w (cc)))
   from (NullTest a t) (NullTest b u) h = joint _ _ (one_flag a b (cc)) (from t u (cc))
-  from (Within a t l m) (Within b u n o) h = joint _ _ (one_flag a b (cc)) (joint _ _ (from t u (cc)) (joint _ _ (from l n (cc)) (from m o (cc))))
+  from (Within a t l m) (Within b u n o) h =
+      joint _ _ (one_flag a b (cc)) (joint _ _ (from t u (cc)) (joint _ _ (from l n (cc)) (from m o (cc))))
   from (Among a t ts) (Among b u us) h = joint _ _ (one_flag a b (cc)) (joint _ _ (from t u (cc)) (from_trees ts us (cc)))
   from _ _ h = cc
 
@@ -354,7 +370,8 @@ mutual
   from_reach : (r q : Reach) → plain_reach r ≡ plain_reach q → is_same_reach r q ≡ true
   from_reach ItsGroup ItsGroup h = refl
   from_reach (ThatWindow a) (ThatWindow b) h = one_name a b (cc)
-  from_reach (OwnWindow a ts ks f) (OwnWindow b us js g) h = joint _ _ (one_copied a b (cc)) (joint _ _ (from_trees ts us (cc)) (joint _ _ (from_keys ks js (cc)) (from_frame f g (cc))))
+  from_reach (OwnWindow a ts ks f) (OwnWindow b us js g) h =
+      joint _ _ (one_copied a b (cc)) (joint _ _ (from_trees ts us (cc)) (joint _ _ (from_keys ks js (cc)) (from_frame f g (cc))))
   from_reach _ _ h = cc
 
   from_keys : (ks js : Keys) → plain_keys ks ≡ plain_keys js → are_same_keys ks js ≡ true

@@ -7,7 +7,9 @@ use Rattle.std.specs.Hash.DefaultHasher as hasher
 use Rattle.std.specs.declared.hash.DefaultHasher.{DefaultHasher}
 use Rattle.wquery.specs.declared.frame.Frame.{Frame}
 use Rattle.wquery.specs.declared.frame.FrameBound.{FrameBound}
-use Rattle.wquery.specs.Tree.{Tree, NullWord, Numeral, Quoted, Field, Invoked, Negated, Signed, Joined, Compared, NullTest, Within, Among, Trees, NoTrees, MoreTrees, Links, NoLinks, Further, Given, Everything, These, Columns, Filter, Unfiltered, FilteredBy, Reach, ItsGroup, ThatWindow, OwnWindow, Keys, NoKeys, MoreKeys, Branch, KeyTree}
+use Rattle.wquery.specs.Tree.{Tree, NullWord, Numeral, Quoted, Field, Invoked, Negated, Signed, Joined, Compared, NullTest, Within, Among}
+use Rattle.wquery.specs.Tree.{Trees, NoTrees, MoreTrees, Links, NoLinks, Further, Given, Everything, These, Columns, Filter, Unfiltered}
+use Rattle.wquery.specs.Tree.{FilteredBy, Reach, ItsGroup, ThatWindow, OwnWindow, Keys, NoKeys, MoreKeys, Branch, KeyTree}
 use Rattle.wsame.specs.Bounds.{place_of_bound, end_of}
 use Rattle.wsame.specs.Sameness.{comparison_number, exclusion_number, mode_number, nulls_number, offset_in, operator_number}
 
@@ -48,7 +50,8 @@ abbrev mutual
   sketched (Numeral n) s = counted n (marked 1 s)
   sketched (Quoted text) s = named text (marked 2 s)
   sketched (Field qualifier name) s = named name (marked 3 s)
-  sketched (Invoked name given filter reach) s = sketched_reach reach (sketched_filter filter (sketched_given given (named name (marked 4 s))))
+  sketched (Invoked name given filter reach) s =
+      sketched_reach reach (sketched_filter filter (sketched_given given (named name (marked 4 s))))
   sketched (Negated t) s = sketched t (marked 5 s)
   sketched (Signed minus t) s = sketched t (flagged minus (marked 6 s))
   sketched (Joined kind t links) s = ended (sketched_links links (sketched t (marked 7 s)))
@@ -78,7 +81,8 @@ abbrev mutual
   pub sketched_reach : Reach → DefaultHasher → DefaultHasher
   sketched_reach ItsGroup s = marked 0 s
   sketched_reach (ThatWindow name) s = named name (marked 1 s)
-  sketched_reach (OwnWindow copy partition order frame) s = framed frame (sketched_keys order (sketched_trees partition (copied copy (marked 2 s))))
+  sketched_reach (OwnWindow copy partition order frame) s =
+      framed frame (sketched_keys order (sketched_trees partition (copied copy (marked 2 s))))
 
   pub sketched_keys : Keys → DefaultHasher → DefaultHasher
   sketched_keys NoKeys s = ended s

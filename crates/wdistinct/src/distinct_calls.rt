@@ -1,13 +1,17 @@
 //! The calls of a SELECT, each once.
 
 ghost use Rattle.std.specs.Prelude.{◌≡◌, ◌∷◌, ◌++◌, [], true, false, OnOk, IfOk, MatchOption, map};
-ghost use Rattle.wquery.specs.Tree.{own_window, reach_of, view, view_arguments, view_call, view_key, view_keys, view_optional, view_optional_over, view_window};
+ghost use Rattle.wquery.specs.Tree.{own_window, reach_of, view, view_arguments, view_call, view_key};
+ghost use Rattle.wquery.specs.Tree.{view_keys, view_optional, view_optional_over, view_window};
 ghost use Rattle.wquery.specs.QueryTree.{view_item, view_entry};
 ghost use Rattle.std.specs.Rc.{rc_str_bytes};
 ghost use Rattle.wscope.specs.Functions.{function_of as function_named};
 ghost use Rattle.wscope.specs.Children.{found_all, nodes_left};
 ghost use Rattle.wscope.specs.Clauses.{clauses_in};
-ghost use Rattle.wdistinct.specs.Calls.{group_calls as aggregates_of, window_calls as calls_over_windows, is_kind, is_grouping as has_columns, is_call_of, is_aggregate_function as is_aggregate_of, has_over as has_reach, picking, nodes_in, nodes_below, nodes_in_reach, nodes_in_option, nodes_in_items, nodes_in_entries, nodes_in_order, with_new, call_trees};
+ghost use Rattle.wdistinct.specs.Calls.{group_calls as aggregates_of, window_calls as calls_over_windows, is_kind};
+ghost use Rattle.wdistinct.specs.Calls.{is_grouping as has_columns, is_call_of, is_aggregate_function as is_aggregate_of};
+ghost use Rattle.wdistinct.specs.Calls.{has_over as has_reach, picking, nodes_in, nodes_below, nodes_in_reach, nodes_in_option};
+ghost use Rattle.wdistinct.specs.Calls.{nodes_in_items, nodes_in_entries, nodes_in_order, with_new, call_trees};
 ghost use Rattle.wdistinct.specs.Places.{calls_in};
 ghost use Rattle.wdistinct.specs.declared.distinct_calls.CallKind.TheVariants.{Grouped, Windowed};
 
@@ -57,7 +61,8 @@ fn is_grouping(arguments: &Arguments) -> bool
 }
 
 fn is_of(kind: CallKind, call: &Call) -> bool
-    ensures { result ≡ is_kind kind (rc_str_bytes call.now.name) (view_arguments call.now.arguments) (reach_of (view_optional_over call.now.over)) }
+    ensures { result ≡ is_kind kind (rc_str_bytes call.now.name) (view_arguments call.now.arguments)
+        (reach_of (view_optional_over call.now.over)) }
 {
     match kind {
         CallKind::Grouped => {
@@ -68,7 +73,8 @@ fn is_of(kind: CallKind, call: &Call) -> bool
 }
 
 fn wanted_call<'a>(kind: CallKind, call: &'a Call) -> Option<&'a Call>
-    ensures { MatchOption result (is_call_of kind (view_call call.now) ≡ false) (λ found. (is_call_of kind (view_call call.now) ≡ true) × (view_call found.now ≡ view_call call.now)) }
+    ensures { MatchOption result (is_call_of kind (view_call call.now) ≡ false)
+        (λ found. (is_call_of kind (view_call call.now) ≡ true) × (view_call found.now ≡ view_call call.now)) }
 {
     if is_of(kind, call) { Some(call) } else { None }
 }
@@ -82,7 +88,8 @@ fn push_call<'a>(calls: &mut Vec<&'a Call>, call: &'a Call) -> Result<(), AllocE
 
 #[tactic(auto, unfolding(wquery::specs::Tree::view, wquery::specs::Tree::view_call))]
 fn wanted<'a>(kind: CallKind, e: &'a Expression) -> Option<&'a Call>
-    ensures { MatchOption result (is_call_of kind (view e.now) ≡ false) (λ call. (is_call_of kind (view e.now) ≡ true) × (view_call call.now ≡ view e.now)) }
+    ensures { MatchOption result (is_call_of kind (view e.now) ≡ false) (λ call. (is_call_of kind (view e.now) ≡ true)
+        × (view_call call.now ≡ view e.now)) }
 {
     match e {
         Expression::Call(call) => wanted_call(kind, call),
@@ -125,7 +132,8 @@ fn collect_beside<'a>(
     calls: &mut Vec<&'a Call>,
     nodes: Children<'a>,
 ) -> Result<(), AllocError>
-    ensures { OnOk result (call_trees calls.new.items ≡ call_trees calls.old.items ++ found_all (picking (is_call_of kind)) (nodes_left nodes.entry)) }
+    ensures { OnOk result (call_trees calls.new.items ≡ call_trees calls.old.items ++ found_all (picking (is_call_of kind))
+        (nodes_left nodes.entry)) }
 {
     let mut rest = nodes;
     'nodes: while let Some(e) = rest.take_first() {
@@ -140,7 +148,8 @@ fn collect_key<'a>(
     calls: &mut Vec<&'a Call>,
     key: &'a Key,
 ) -> Result<(), AllocError>
-    ensures { OnOk result (call_trees calls.new.items ≡ call_trees calls.old.items ++ nodes_in (is_call_of kind) (view_key key.now).expression) }
+    ensures { OnOk result (call_trees calls.new.items ≡ call_trees calls.old.items ++ nodes_in (is_call_of kind)
+        (view_key key.now).expression) }
 {
     collect(kind, calls, &key.expression)
 }
@@ -150,7 +159,8 @@ fn collect_window<'a>(
     calls: &mut Vec<&'a Call>,
     window: &'a Window,
 ) -> Result<(), AllocError>
-    ensures { OnOk result (call_trees calls.new.items ≡ call_trees calls.old.items ++ nodes_in_reach (is_call_of kind) (own_window (view_window window.now))) }
+    ensures { OnOk result (call_trees calls.new.items ≡ call_trees calls.old.items ++ nodes_in_reach (is_call_of kind)
+        (own_window (view_window window.now))) }
 {
     collect_beside(kind, calls, Children::of_window(window))
 }
@@ -160,7 +170,8 @@ fn collect_option<'a>(
     calls: &mut Vec<&'a Call>,
     e: &'a Option<Expression>,
 ) -> Result<(), AllocError>
-    ensures { OnOk result (call_trees calls.new.items ≡ call_trees calls.old.items ++ nodes_in_option (is_call_of kind) (view_optional e.now)) }
+    ensures { OnOk result (call_trees calls.new.items ≡ call_trees calls.old.items ++ nodes_in_option (is_call_of kind)
+        (view_optional e.now)) }
 {
     match e {
         None => Ok(()),
@@ -173,7 +184,8 @@ fn collect_item<'a>(
     calls: &mut Vec<&'a Call>,
     item: &'a Item,
 ) -> Result<(), AllocError>
-    ensures { OnOk result (call_trees calls.new.items ≡ call_trees calls.old.items ++ nodes_in_items (is_call_of kind) (view_item item.now ∷ [])) }
+    ensures { OnOk result (call_trees calls.new.items ≡ call_trees calls.old.items ++ nodes_in_items (is_call_of kind)
+        (view_item item.now ∷ [])) }
 {
     match item {
         Item::All => Ok(()),
@@ -189,7 +201,8 @@ fn collect_items<'a>(
     calls: &mut Vec<&'a Call>,
     items: &'a [Item],
 ) -> Result<(), AllocError>
-    ensures { OnOk result (call_trees calls.new.items ≡ call_trees calls.old.items ++ nodes_in_items (is_call_of kind) (map view_item items.now)) }
+    ensures { OnOk result (call_trees calls.new.items ≡ call_trees calls.old.items ++ nodes_in_items (is_call_of kind)
+        (map view_item items.now)) }
 {
     'items: for item in items {
         collect_item(kind, calls, item)?;
@@ -202,7 +215,8 @@ fn collect_entries<'a>(
     calls: &mut Vec<&'a Call>,
     entries: &'a [WindowEntry],
 ) -> Result<(), AllocError>
-    ensures { OnOk result (call_trees calls.new.items ≡ call_trees calls.old.items ++ nodes_in_entries (is_call_of kind) (map view_entry entries.now)) }
+    ensures { OnOk result (call_trees calls.new.items ≡ call_trees calls.old.items ++ nodes_in_entries (is_call_of kind)
+        (map view_entry entries.now)) }
 {
     'entries: for entry in entries {
         collect_window(kind, calls, &entry.window)?;
@@ -215,7 +229,8 @@ fn collect_order<'a>(
     calls: &mut Vec<&'a Call>,
     order: &'a [Key],
 ) -> Result<(), AllocError>
-    ensures { OnOk result (call_trees calls.new.items ≡ call_trees calls.old.items ++ nodes_in_order (is_call_of kind) (view_keys order.now)) }
+    ensures { OnOk result (call_trees calls.new.items ≡ call_trees calls.old.items ++ nodes_in_order (is_call_of kind)
+        (view_keys order.now)) }
 {
     'keys: for key in order {
         collect_key(kind, calls, key)?;
@@ -234,7 +249,10 @@ fn distinct<'a>(alloc: Global, calls: &[&'a Call]) -> Result<CallSet<'a>, AllocE
 }
 
 fn all_group_calls<'a>(alloc: Global, query: &'a Query) -> Result<Vec<&'a Call>, AllocError>
-    ensures { IfOk result (λ calls. call_trees calls.items ≡ nodes_in_items (is_call_of Grouped) (clauses_in query.now).items ++ (nodes_in_option (is_call_of Grouped) (clauses_in query.now).having ++ (nodes_in_entries (is_call_of Grouped) (clauses_in query.now).windows ++ nodes_in_order (is_call_of Grouped) (clauses_in query.now).order))) }
+    ensures { IfOk result (λ calls. call_trees calls.items ≡ nodes_in_items (is_call_of Grouped)
+        (clauses_in query.now).items ++ (nodes_in_option (is_call_of Grouped) (clauses_in query.now).having
+        ++ (nodes_in_entries (is_call_of Grouped) (clauses_in query.now).windows ++ nodes_in_order (is_call_of Grouped)
+        (clauses_in query.now).order))) }
 {
     let mut calls = Vec::new(alloc);
     collect_items(CallKind::Grouped, &mut calls, query.items.as_slice())?;
@@ -245,7 +263,8 @@ fn all_group_calls<'a>(alloc: Global, query: &'a Query) -> Result<Vec<&'a Call>,
 }
 
 fn all_window_calls<'a>(alloc: Global, query: &'a Query) -> Result<Vec<&'a Call>, AllocError>
-    ensures { IfOk result (λ calls. call_trees calls.items ≡ nodes_in_items (is_call_of Windowed) (clauses_in query.now).items ++ nodes_in_order (is_call_of Windowed) (clauses_in query.now).order) }
+    ensures { IfOk result (λ calls. call_trees calls.items ≡ nodes_in_items (is_call_of Windowed)
+        (clauses_in query.now).items ++ nodes_in_order (is_call_of Windowed) (clauses_in query.now).order) }
 {
     let mut calls = Vec::new(alloc);
     collect_items(CallKind::Windowed, &mut calls, query.items.as_slice())?;

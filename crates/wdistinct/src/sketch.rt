@@ -1,9 +1,13 @@
 //! What calls are hashed by.
 
 ghost use Rattle.std.specs.Prelude.{◌≡◌, map};
-ghost use Rattle.wquery.specs.Tree.{view, view_over, view_window, view_call, view_key, view_link, view_arguments, view_optional, view_optional_over, filter_of, reach_of, trees, views, keys, view_keys, own_window, linked, name_bytes, NoLinks};
+ghost use Rattle.wquery.specs.Tree.{view, view_over, view_window, view_call, view_key, view_link, view_arguments};
+ghost use Rattle.wquery.specs.Tree.{view_optional, view_optional_over, filter_of, reach_of, trees, views};
+ghost use Rattle.wquery.specs.Tree.{keys, view_keys, own_window, linked, name_bytes, NoLinks};
 ghost use Rattle.wdistinct.specs.Heads.{headed, with_parts};
-ghost use Rattle.wdistinct.specs.Sketch.{marked, flagged, counted, named, bounded, framed, copied, sketched, sketched_trees, sketched_links, sketched_branch, sketched_branches, sketched_given, sketched_filter, sketched_reach, sketched_key, sketched_keys, sketch_of};
+ghost use Rattle.wdistinct.specs.Sketch.{marked, flagged, counted, named, bounded, framed, copied, sketched, sketched_trees};
+ghost use Rattle.wdistinct.specs.Sketch.{sketched_links, sketched_branch, sketched_branches, sketched_given, sketched_filter};
+ghost use Rattle.wdistinct.specs.Sketch.{sketched_reach, sketched_key, sketched_keys, sketch_of};
 
 use std::hash::{DefaultHasher, Hash, Hasher};
 use std::rc::RcStr;

@@ -1,5 +1,6 @@
 -- Blocks that are cut in two, filled, and begun.
-use Rattle.std.proofs.Common.{◌≡◌, ◌∙◌, ◌+◌, ◌<◌, ◌≤◌, ◌++◌, Bool, true, false, cond, ℕ, zero, suc, List, [], ◌∷◌, length, get_or, set, take, drop, Option, is_some, option_map, refl, sym, ap, subst, arith, append_assoc, length-append}
+use Rattle.std.proofs.Common.{◌≡◌, ◌∙◌, ◌+◌, ◌<◌, ◌≤◌, ◌++◌, Bool, true, false, cond, ℕ, zero, suc, List, [], ◌∷◌, length, get_or, set}
+use Rattle.std.proofs.Common.{take, drop, Option, is_some, option_map, refl, sym, ap, subst, arith, append_assoc, length-append}
 use Rattle.std.proofs.lemmas.List.{append-nil, take-append-drop, take-append-le, take-set-le}
 use Rattle.std.specs.Borrow.{Bor}
 use Rattle.std.specs.List.{insert}
@@ -23,7 +24,8 @@ block_at (b ∷ bs) (suc k) d e lt = block_at bs k d e (omega arith)
 
 -- ---- two halves
 
-pub halved_is : (bs : List (List Entry)) (k : ℕ) (d front back : List Entry) → k < length bs → front ≡ take half (get_or bs k d) → back ≡ drop half (get_or bs k d) → set (insert bs (suc k) back) k front ≡ halved k bs
+pub halved_is : (bs : List (List Entry)) (k : ℕ) (d front back : List Entry) → k < length bs
+    → front ≡ take half (get_or bs k d) → back ≡ drop half (get_or bs k d) → set (insert bs (suc k) back) k front ≡ halved k bs
 halved_is [] k d front back lt f g = absurd (omega arith)
 halved_is (b ∷ bs) zero d front back lt f g = ap (λ x. x ∷ back ∷ bs) f ∙ ap (λ x. take half b ∷ x ∷ bs) g
 halved_is (b ∷ bs) (suc k) d front back lt f g = ap (λ l. b ∷ l) (halved_is bs k d front back (omega arith) f g)
@@ -34,7 +36,8 @@ get_insert (b ∷ bs) zero x d lt = refl
 get_insert (b ∷ bs) (suc k) x d lt = get_insert bs k x d (omega arith)
 
 -- a block is cut: its later half is put behind it, and then let go
-pub cut_is : (bs more : List (List Entry)) (k : ℕ) (b c later front : List Entry) → k < length bs → b ≡ get_or bs k b → later ≡ drop half b → more ≡ insert bs (k + 1) later → c ≡ get_or more k c → front ≡ take half c → set more k front ≡ halved k bs
+pub cut_is : (bs more : List (List Entry)) (k : ℕ) (b c later front : List Entry) → k < length bs → b ≡ get_or bs k b
+    → later ≡ drop half b → more ≡ insert bs (k + 1) later → c ≡ get_or more k c → front ≡ take half c → set more k front ≡ halved k bs
 cut_is bs more k b c later front lt is l put at f =
     let next : more ≡ insert bs (suc k) later = put ∙ ap (λ m. insert bs m later) {x = k + 1} {y = suc k} (omega arith) in
     let same : c ≡ get_or bs k c = at ∙ ap (λ l. get_or l k c) next ∙ get_insert bs k later c lt in
@@ -66,7 +69,8 @@ first_halved [] k d lt = absurd (omega arith)
 first_halved (b ∷ bs) zero d lt = refl
 first_halved (b ∷ bs) (suc k) d lt = first_halved bs k d (omega arith)
 
-later_halved : (bs : List (List Entry)) (k : ℕ) (d : List Entry) → k < length bs → get_or (halved k bs) (suc k) d ≡ drop half (get_or bs k d)
+later_halved : (bs : List (List Entry)) (k : ℕ) (d : List Entry) → k < length bs
+    → get_or (halved k bs) (suc k) d ≡ drop half (get_or bs k d)
 later_halved [] k d lt = absurd (omega arith)
 later_halved (b ∷ bs) zero d lt = refl
 later_halved (b ∷ bs) (suc k) d lt = later_halved bs k d (omega arith)
@@ -85,7 +89,8 @@ length_later b e = (length_parts half half b (omega (arith, e))).1
 at_least : (n m : ℕ) → m ≡ n → n ≤ m
 at_least n m e = omega (arith, e)
 
-pub filled_halved : (bs : List (List Entry)) (k : ℕ) (d : List Entry) → k < length bs → length (get_or bs k d) ≡ longest → AreFilled half bs → AreFilled half (halved k bs)
+pub filled_halved : (bs : List (List Entry)) (k : ℕ) (d : List Entry) → k < length bs → length (get_or bs k d) ≡ longest
+    → AreFilled half bs → AreFilled half (halved k bs)
 filled_halved [] k d lt e h = absurd (omega arith)
 filled_halved (b ∷ []) zero d lt e h = (at_least half _ (length_first b e), tt)
 filled_halved (b ∷ []) (suc k) d lt e h = absurd (omega arith)
@@ -95,7 +100,9 @@ filled_halved (b ∷ c ∷ bs) (suc (suc k)) d lt e h = (h.0, filled_halved (c �
 
 -- ---- the home of a name, when its block is cut
 
-pub home_first : (bs : List (List Entry)) (n : NameParts) (k : ℕ) (b : List Entry) → IsHome bs n k → IsRising (flat bs) → b ≡ get_or (halved k bs) k b → ((after : List Entry) → IsRising (b ++ after) → AreBehind n (known_entries after)) → IsHome (halved k bs) n k
+pub home_first : (bs : List (List Entry)) (n : NameParts) (k : ℕ) (b : List Entry) → IsHome bs n k → IsRising (flat bs)
+    → b ≡ get_or (halved k bs) k b → ((after : List Entry) → IsRising (b ++ after) → AreBehind n (known_entries after))
+    → IsHome (halved k bs) n k
 home_first bs n k b h rises is behind =
     let lt : k < length (halved k bs) = omega (arith, h.in_range, length_halved bs k h.in_range) in
     record {
@@ -104,14 +111,17 @@ home_first bs n k b h rises is behind =
       behind = behind_next (halved k bs) k b n lt is (subst IsRising (sym (flat_halved bs k)) rises) behind;
     }
 
-pub home_later : (bs : List (List Entry)) (n : NameParts) (k : ℕ) (b : List Entry) → IsHome bs n k → IsRising (flat bs) → b ≡ get_or (halved k bs) k b → ((before : List Entry) → IsRising (before ++ b) → AreBelow n (known_entries (before ++ b))) → IsHome (halved k bs) n (k + 1)
+pub home_later : (bs : List (List Entry)) (n : NameParts) (k : ℕ) (b : List Entry) → IsHome bs n k → IsRising (flat bs)
+    → b ≡ get_or (halved k bs) k b → ((before : List Entry) → IsRising (before ++ b)
+    → AreBelow n (known_entries (before ++ b))) → IsHome (halved k bs) n (k + 1)
 home_later bs n k b h rises is below =
     let next : suc (suc k) ≡ suc (k + 1) = omega arith in
     let lt : k < length (halved k bs) = omega (arith, h.in_range, length_halved bs k h.in_range) in
     record {
       in_range = omega (arith, h.in_range, length_halved bs k h.in_range);
       before = below_next (halved k bs) k b n lt is (subst IsRising (sym (flat_halved bs k)) rises) below;
-      behind = subst (λ m. AreBehind n (known_entries (flat (drop m (halved k bs))))) next (subst (λ l. AreBehind n (known_entries (flat l))) (sym (drop_halved bs k h.in_range)) h.behind);
+      behind = subst (λ m. AreBehind n (known_entries (flat (drop m (halved k bs))))) next
+          (subst (λ l. AreBehind n (known_entries (flat l))) (sym (drop_halved bs k h.in_range)) h.behind);
     }
 
 -- ---- room
@@ -119,22 +129,29 @@ home_later bs n k b h rises is below =
 pub room_below : (b : List Entry) (n : NameParts) → IsRising b → length b < longest → HasRoom b n
 room_below b n h lt k = by (is_some (find name_cmp n (known_entries b))) (length-put name_cmp names_total n k (known_entries b) h)
   where
-    by : (c : Bool) → length (put name_cmp n k (known_entries b)) ≡ cond c (length (known_entries b)) (length (known_entries b) + 1) → length (put name_cmp n k (known_entries b)) ≤ longest
+    by : (c : Bool) → length (put name_cmp n k (known_entries b)) ≡ cond c (length (known_entries b))
+        (length (known_entries b) + 1) → length (put name_cmp n k (known_entries b)) ≤ longest
     by true e = omega (arith, e, length-known_entries b, lt)
     by false e = omega (arith, e, length-known_entries b, lt)
 
-pub room_known : (o : Option (Bor Held)) (b : List Entry) (n : NameParts) → option_map known_of (option_copied o) ≡ find name_cmp n (known_entries b) → is_some o ≡ true → IsRising b → length b ≤ longest → HasRoom b n
+pub room_known : (o : Option (Bor Held)) (b : List Entry) (n : NameParts) → option_map known_of (option_copied o)
+    ≡ find name_cmp n (known_entries b) → is_some o ≡ true → IsRising b → length b ≤ longest → HasRoom b n
 room_known o b n known is h le k = omega (arith, counted_after o b n k true known is h, le)
 
-pub room_first : (bs : List (List Entry)) (n : NameParts) (k : ℕ) (d : List Entry) → k < length bs → length (get_or bs k d) ≡ longest → IsRising (get_or (halved k bs) k d) → HasRoom (get_or (halved k bs) k d) n
-room_first bs n k d lt e h = room_below (get_or (halved k bs) k d) n h (omega (arith, length_first (get_or bs k d) e, ap length (first_halved bs k d lt)))
+pub room_first : (bs : List (List Entry)) (n : NameParts) (k : ℕ) (d : List Entry) → k < length bs
+    → length (get_or bs k d) ≡ longest → IsRising (get_or (halved k bs) k d) → HasRoom (get_or (halved k bs) k d) n
+room_first bs n k d lt e h = room_below (get_or (halved k bs) k d) n h
+    (omega (arith, length_first (get_or bs k d) e, ap length (first_halved bs k d lt)))
 
-pub room_later : (bs : List (List Entry)) (n : NameParts) (k : ℕ) (d : List Entry) → k < length bs → length (get_or bs k d) ≡ longest → IsRising (get_or (halved k bs) (suc k) d) → HasRoom (get_or (halved k bs) (suc k) d) n
-room_later bs n k d lt e h = room_below (get_or (halved k bs) (suc k) d) n h (omega (arith, length_later (get_or bs k d) e, ap length (later_halved bs k d lt)))
+pub room_later : (bs : List (List Entry)) (n : NameParts) (k : ℕ) (d : List Entry) → k < length bs
+    → length (get_or bs k d) ≡ longest → IsRising (get_or (halved k bs) (suc k) d) → HasRoom (get_or (halved k bs) (suc k) d) n
+room_later bs n k d lt e h = room_below (get_or (halved k bs) (suc k) d) n h
+    (omega (arith, length_later (get_or bs k d) e, ap length (later_halved bs k d lt)))
 
 -- ---- what is known where a block was cut
 
-module _ (bs more : List (List Entry)) (n : NameParts) (k : ℕ) (b : List Entry) (cut : more ≡ halved k bs) (within : k < length bs) (rises : IsRising (flat bs)) where
+module _ (bs more : List (List Entry)) (n : NameParts) (k : ℕ) (b : List Entry) (cut : more ≡ halved k bs)
+    (within : k < length bs) (rises : IsRising (flat bs)) where
   pub cut_within : k < length more
   cut_within = omega (arith, within, ap length cut, length_halved bs k within)
 
@@ -144,11 +161,14 @@ module _ (bs more : List (List Entry)) (n : NameParts) (k : ℕ) (b : List Entry
   cut_rises : IsRising (flat (halved k bs))
   cut_rises = subst IsRising (sym (flat_halved bs k)) rises
 
-  pub cut_home_first : IsHome bs n k → b ≡ get_or more k b → ((after : List Entry) → IsRising (b ++ after) → AreBehind n (known_entries after)) → IsHome more n k
+  pub cut_home_first : IsHome bs n k → b ≡ get_or more k b → ((after : List Entry) → IsRising (b ++ after)
+      → AreBehind n (known_entries after)) → IsHome more n k
   cut_home_first h is behind = subst (λ l. IsHome l n k) (sym cut) (home_first bs n k b h rises (is ∙ ap (λ l. get_or l k b) cut) behind)
 
-  pub cut_home_later : IsHome bs n k → b ≡ get_or more k b → ((before : List Entry) → IsRising (before ++ b) → AreBelow n (known_entries (before ++ b))) → IsHome more n (k + 1)
-  cut_home_later h is below = subst (λ l. IsHome l n (k + 1)) (sym cut) (home_later bs n k b h rises (is ∙ ap (λ l. get_or l k b) cut) below)
+  pub cut_home_later : IsHome bs n k → b ≡ get_or more k b → ((before : List Entry) → IsRising (before ++ b)
+      → AreBelow n (known_entries (before ++ b))) → IsHome more n (k + 1)
+  cut_home_later h is below = subst (λ l. IsHome l n (k + 1)) (sym cut)
+      (home_later bs n k b h rises (is ∙ ap (λ l. get_or l k b) cut) below)
 
   module _ (full : List Entry) (is : full ≡ get_or bs k full) (most : length full ≡ longest) where
     cut_full : (d : List Entry) → length (get_or bs k d) ≡ longest
@@ -157,20 +177,23 @@ module _ (bs more : List (List Entry)) (n : NameParts) (k : ℕ) (b : List Entry
     pub cut_room_first : (d : List Entry) → HasRoom (get_or more k d) n
     cut_room_first d =
         let inside : k < length (halved k bs) = omega (arith, within, length_halved bs k within) in
-        subst (λ l. HasRoom (get_or l k d) n) (sym cut) (room_first bs n k d within (cut_full d) (rising_at (halved k bs) k d inside cut_rises))
+        subst (λ l. HasRoom (get_or l k d) n) (sym cut) (room_first bs n k d within (cut_full d)
+        (rising_at (halved k bs) k d inside cut_rises))
 
     pub cut_room_later : (d : List Entry) → HasRoom (get_or more (k + 1) d) n
     cut_room_later d =
         let inside : suc k < length (halved k bs) = omega (arith, within, length_halved bs k within) in
         let next : suc k ≡ k + 1 = omega arith in
-        subst (λ m. HasRoom (get_or more m d) n) next (subst (λ l. HasRoom (get_or l (suc k) d) n) (sym cut) (room_later bs n k d within (cut_full d) (rising_at (halved k bs) (suc k) d inside cut_rises)))
+        subst (λ m. HasRoom (get_or more m d) n) next (subst (λ l. HasRoom (get_or l (suc k) d) n) (sym cut)
+        (room_later bs n k d within (cut_full d) (rising_at (halved k bs) (suc k) d inside cut_rises)))
 
     pub cut_filled : AreFilled half bs → AreFilled half more
     cut_filled h = subst (AreFilled half) (sym cut) (filled_halved bs k full within (cut_full full) h)
 
 -- ---- blocks that grow
 
-pub filled_set : (n : ℕ) (bs : List (List Entry)) (k : ℕ) (d c : List Entry) → length (get_or bs k d) ≤ length c → AreFilled n bs → AreFilled n (set bs k c)
+pub filled_set : (n : ℕ) (bs : List (List Entry)) (k : ℕ) (d c : List Entry) → length (get_or bs k d) ≤ length c
+    → AreFilled n bs → AreFilled n (set bs k c)
 filled_set n [] k d c le h = h
 filled_set n (b ∷ []) zero d c le h = tt
 filled_set n (b ∷ []) (suc k) d c le h = tt
@@ -178,10 +201,12 @@ filled_set n (b ∷ x ∷ bs) zero d c le h = (omega (arith, le, h.0), h.1)
 filled_set n (b ∷ x ∷ bs) (suc zero) d c le h = (h.0, filled_set n (x ∷ bs) zero d c le h.1)
 filled_set n (b ∷ x ∷ bs) (suc (suc k)) d c le h = (h.0, filled_set n (x ∷ bs) (suc k) d c le h.1)
 
-pub filled_pushed : (n : ℕ) (bs : List (List Entry)) (k : ℕ) (b c : List Entry) (e : Entry) → b ≡ get_or bs k b → c ≡ b ++ e ∷ [] → AreFilled n bs → AreFilled n (set bs k c)
+pub filled_pushed : (n : ℕ) (bs : List (List Entry)) (k : ℕ) (b c : List Entry) (e : Entry) → b ≡ get_or bs k b
+    → c ≡ b ++ e ∷ [] → AreFilled n bs → AreFilled n (set bs k c)
 filled_pushed n bs k b c e is pushed h = filled_set n bs k b c (omega (arith, ap length is, ap length pushed, length-append b (e ∷ []))) h
 
-pub filled_more : (n : ℕ) (bs : List (List Entry)) (k : ℕ) (d b : List Entry) → suc k ≡ length bs → n ≤ length (get_or bs k d) → AreFilled n bs → AreFilled n (bs ++ b ∷ [])
+pub filled_more : (n : ℕ) (bs : List (List Entry)) (k : ℕ) (d b : List Entry) → suc k ≡ length bs
+    → n ≤ length (get_or bs k d) → AreFilled n bs → AreFilled n (bs ++ b ∷ [])
 filled_more n [] k d b e le h = absurd (omega arith)
 filled_more n (x ∷ []) zero d b e le h = (le, tt)
 filled_more n (x ∷ []) (suc k) d b e le h = absurd (omega arith)
@@ -198,20 +223,24 @@ pub flat_begun : (bs : List (List Entry)) (b : List Entry) → flat (bs ++ b ∷
 flat_begun [] b = append-nil b
 flat_begun (x ∷ bs) b = ap (λ l. x ++ l) (flat_begun bs b) ∙ sym (append_assoc x (flat bs) b)
 
-pub flat_grown : (bs : List (List Entry)) (k : ℕ) (d c more : List Entry) → suc k ≡ length bs → c ≡ get_or bs k d ++ more → flat (set bs k c) ≡ flat bs ++ more
+pub flat_grown : (bs : List (List Entry)) (k : ℕ) (d c more : List Entry) → suc k ≡ length bs → c ≡ get_or bs k d ++ more
+    → flat (set bs k c) ≡ flat bs ++ more
 flat_grown [] k d c more e is = absurd (omega arith)
 flat_grown (b ∷ []) zero d c more e is = append-nil c ∙ is ∙ ap (λ l. l ++ more) (sym (append-nil b))
 flat_grown (b ∷ []) (suc k) d c more e is = absurd (omega arith)
 flat_grown (b ∷ x ∷ bs) zero d c more e is = absurd (omega arith)
-flat_grown (b ∷ x ∷ bs) (suc k) d c more e is = ap (λ l. b ++ l) (flat_grown (x ∷ bs) k d c more (omega arith) is) ∙ sym (append_assoc b (flat (x ∷ bs)) more)
+flat_grown (b ∷ x ∷ bs) (suc k) d c more e is = ap (λ l. b ++ l) (flat_grown (x ∷ bs) k d c more (omega arith) is)
+    ∙ sym (append_assoc b (flat (x ∷ bs)) more)
 
 entry_at : (es : List Entry) (i : ℕ) (e : Entry) → i < length es → e ≡ get_or es i e → drop i es ≡ e ∷ drop (i + 1) es
 entry_at [] i e lt is = absurd (omega arith)
 entry_at (x ∷ es) zero e lt is = ap (λ y. y ∷ es) (sym is)
-entry_at (x ∷ es) (suc i) e lt is = entry_at es i e (omega arith) is ∙ ap (λ m. e ∷ drop m (x ∷ es)) {x = suc (i + 1)} {y = suc i + 1} (omega arith)
+entry_at (x ∷ es) (suc i) e lt is = entry_at es i e (omega arith) is ∙ ap (λ m. e ∷ drop m (x ∷ es)) {x = suc (i + 1)} {y =
+    suc i + 1} (omega arith)
 
 -- one more of those that are put in turn
-pub entries_more : (all more es : List Entry) (i : ℕ) (e shared : Entry) → i < length es → e ≡ get_or es i e → shared ≡ e → more ≡ all ++ shared ∷ [] → all ++ drop i es ≡ es → more ++ drop (i + 1) es ≡ es
+pub entries_more : (all more es : List Entry) (i : ℕ) (e shared : Entry) → i < length es → e ≡ get_or es i e → shared ≡ e
+    → more ≡ all ++ shared ∷ [] → all ++ drop i es ≡ es → more ++ drop (i + 1) es ≡ es
 entries_more all more es i e shared lt is same put whole =
     ap (λ l. l ++ drop (i + 1) es) put
     ∙ append_assoc all (shared ∷ []) (drop (i + 1) es)
@@ -219,7 +248,8 @@ entries_more all more es i e shared lt is same put whole =
     ∙ ap (λ l. all ++ l) (sym (entry_at es i e lt is))
     ∙ whole
 
-pub put_end : (es : List Entry) (e : Entry) → AreBelow e.name (known_entries es) → known_entries (es ++ e ∷ []) ≡ put name_cmp e.name (known_of e.held) (known_entries es)
+pub put_end : (es : List Entry) (e : Entry) → AreBelow e.name (known_entries es)
+    → known_entries (es ++ e ∷ []) ≡ put name_cmp e.name (known_of e.held) (known_entries es)
 put_end es e below =
     known_append es (e ∷ [])
     ∙ sym (put_behind (known_entries es) [] e.name (known_of e.held) below)

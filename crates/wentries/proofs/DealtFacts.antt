@@ -1,5 +1,6 @@
 -- Runs that are kept in turn, one for each live segment.
-use Rattle.std.proofs.Common.{◌≡◌, ℕ, zero, suc, ◌+◌, ◌<◌, List, [], ◌∷◌, ◌++◌, length, drop, get_or, slice_set, refl, sym, ap, subst, ◌∙◌, arith, add-one}
+use Rattle.std.proofs.Common.{◌≡◌, ℕ, zero, suc, ◌+◌, ◌<◌, List, [], ◌∷◌, ◌++◌, length, drop}
+use Rattle.std.proofs.Common.{get_or, slice_set, refl, sym, ap, subst, ◌∙◌, arith, add-one}
 use Rattle.std.specs.List.{flat_map}
 use Rattle.std.specs.declared.rc.Rc.{Rc}
 use Rattle.std.specs.Global.{Global}
@@ -32,17 +33,20 @@ drop_here [] i x h is = absurd (omega (arith, h))
 drop_here (y ∷ ys) zero x h is = ap (λ z. z ∷ ys) (sym is)
 drop_here (y ∷ ys) (suc i) x h is = rw add-one (rw add-one at (drop_here ys i x (omega (arith, h)) is))
 
-begin_first : (keys : List SortKey) (a b : List (List (List Meaning))) (runs : List (Rc RunParts Global)) → BeginWithRuns keys (a ++ b) runs → BeginWithRuns keys a runs
+begin_first : (keys : List SortKey) (a b : List (List (List Meaning))) (runs : List (Rc RunParts Global))
+    → BeginWithRuns keys (a ++ b) runs → BeginWithRuns keys a runs
 begin_first keys [] b runs h = tt
 begin_first keys (r ∷ a) b [] h = absurd h
 begin_first keys (r ∷ a) b (x ∷ runs) h = (h.0, begin_first keys a b runs h.1)
 
-begin_rest : (keys : List SortKey) (a b : List (List (List Meaning))) (runs : List (Rc RunParts Global)) → BeginWithRuns keys (a ++ b) runs → BeginWithRuns keys b (drop (length a) runs)
+begin_rest : (keys : List SortKey) (a b : List (List (List Meaning))) (runs : List (Rc RunParts Global))
+    → BeginWithRuns keys (a ++ b) runs → BeginWithRuns keys b (drop (length a) runs)
 begin_rest keys [] b runs h = h
 begin_rest keys (r ∷ a) b [] h = absurd h
 begin_rest keys (r ∷ a) b (x ∷ runs) h = begin_rest keys a b runs h.1
 
-pub begin_all : (keys : List SortKey) (s : List (List (List Meaning))) (runs : List (Rc RunParts Global)) → AreRunsOf keys s runs → BeginWithRuns keys s runs
+pub begin_all : (keys : List SortKey) (s : List (List (List Meaning))) (runs : List (Rc RunParts Global))
+    → AreRunsOf keys s runs → BeginWithRuns keys s runs
 begin_all keys [] runs h = tt
 begin_all keys (r ∷ s) [] h = absurd h
 begin_all keys (r ∷ s) (x ∷ runs) h = (h.0, begin_all keys s runs h.1)
@@ -52,27 +56,38 @@ module _ {X : Type 0} (rows_of : X → List (List (List Meaning))) where
   abbrev pub rows_from : ℕ → List X → List (List (List Meaning))
   rows_from i xs = flat_map rows_of (drop i xs)
 
-  pub split_here : (xs : List X) (i : ℕ) (x k : X) → i < length xs → x ≡ get_or xs i x → rows_from i xs ≡ rows_of x ++ rows_from (i + 1) (slice_set xs i k)
-  split_here xs i x k h is = ap (flat_map rows_of) (drop_here xs i x h is) ∙ ap (λ l. rows_of x ++ flat_map rows_of l) (sym (drop_set xs i k))
+  pub split_here : (xs : List X) (i : ℕ) (x k : X) → i < length xs → x ≡ get_or xs i x
+      → rows_from i xs ≡ rows_of x ++ rows_from (i + 1) (slice_set xs i k)
+  split_here xs i x k h is = ap (flat_map rows_of) (drop_here xs i x h is) ∙ ap (λ l. rows_of x ++ flat_map rows_of l)
+      (sym (drop_set xs i k))
 
-  module _ (keys : List SortKey) (xs : List X) (i : ℕ) (x k : X) (h : i < length xs) (is : x ≡ get_or xs i x) (runs : List (Rc RunParts Global)) where
+  module _ (keys : List SortKey) (xs : List X) (i : ℕ) (x k : X) (h : i < length xs) (is : x ≡ get_or xs i x)
+      (runs : List (Rc RunParts Global)) where
     pub begin_here : BeginWithRuns keys (rows_from i xs) runs → BeginWithRuns keys (rows_of x) runs
-    begin_here b = begin_first keys (rows_of x) (rows_from (i + 1) (slice_set xs i k)) runs (subst (λ l. BeginWithRuns keys l runs) (split_here xs i x k h is) b)
+    begin_here b = begin_first keys (rows_of x) (rows_from (i + 1) (slice_set xs i k)) runs
+        (subst (λ l. BeginWithRuns keys l runs) (split_here xs i x k h is) b)
 
-    pub begin_next : (left : List (Rc RunParts Global)) → left ≡ drop (length (rows_of x)) runs → BeginWithRuns keys (rows_from i xs) runs → BeginWithRuns keys (rows_from (i + 1) (slice_set xs i k)) left
-    begin_next left e b = subst (BeginWithRuns keys (rows_from (i + 1) (slice_set xs i k))) (sym e) (begin_rest keys (rows_of x) (rows_from (i + 1) (slice_set xs i k)) runs (subst (λ l. BeginWithRuns keys l runs) (split_here xs i x k h is) b))
+    pub begin_next : (left : List (Rc RunParts Global)) → left ≡ drop (length (rows_of x)) runs
+        → BeginWithRuns keys (rows_from i xs) runs → BeginWithRuns keys (rows_from (i + 1) (slice_set xs i k)) left
+    begin_next left e b = subst (BeginWithRuns keys (rows_from (i + 1) (slice_set xs i k))) (sym e)
+        (begin_rest keys (rows_of x) (rows_from (i + 1) (slice_set xs i k)) runs (subst (λ l. BeginWithRuns keys l runs)
+        (split_here xs i x k h is) b))
 
-    pub left_next : (left : List (Rc RunParts Global)) → left ≡ drop (length (rows_of x)) runs → drop (length (rows_from (i + 1) (slice_set xs i k))) left ≡ drop (length (rows_from i xs)) runs
+    pub left_next : (left : List (Rc RunParts Global)) → left ≡ drop (length (rows_of x)) runs
+        → drop (length (rows_from (i + 1) (slice_set xs i k))) left ≡ drop (length (rows_from i xs)) runs
     left_next left e =
-        let n : length (rows_from i xs) ≡ length (rows_of x) + length (rows_from (i + 1) (slice_set xs i k)) = ap length (split_here xs i x k h is) ∙ length-append (rows_of x) (rows_from (i + 1) (slice_set xs i k)) in
-        ap (drop (length (rows_from (i + 1) (slice_set xs i k)))) e ∙ drop_drop (length (rows_of x)) (length (rows_from (i + 1) (slice_set xs i k))) runs ∙ ap (λ m. drop m runs) (sym n)
+        let n : length (rows_from i xs) ≡ length (rows_of x) + length (rows_from (i + 1) (slice_set xs i k)) =
+        ap length (split_here xs i x k h is) ∙ length-append (rows_of x) (rows_from (i + 1) (slice_set xs i k)) in
+        ap (drop (length (rows_from (i + 1) (slice_set xs i k)))) e ∙ drop_drop (length (rows_of x))
+        (length (rows_from (i + 1) (slice_set xs i k))) runs ∙ ap (λ m. drop m runs) (sym n)
 
 -- the rows of entries, entry by entry
 pub rows_by_entry : (es : List Entry) → flat_map (λ (e : Entry). rows_held e.held) es ≡ rows_in es
 rows_by_entry [] = refl
 rows_by_entry (e ∷ es) = by e.name e.held (rows_by_entry es)
   where
-    by : (n : NameParts) (h : Held) → flat_map (λ (e : Entry). rows_held e.held) es ≡ rows_in es → rows_held h ++ flat_map (λ (e : Entry). rows_held e.held) es ≡ rows_in (record { name = n; held = h } ∷ es)
+    by : (n : NameParts) (h : Held) → flat_map (λ (e : Entry). rows_held e.held) es ≡ rows_in es
+        → rows_held h ++ flat_map (λ (e : Entry). rows_held e.held) es ≡ rows_in (record { name = n; held = h } ∷ es)
     by n (held.Live kept) rest = ap (λ l. kept.content.rows ∷ l) rest
     by n held.Disputed rest = rest
     by n held.Retired rest = rest
@@ -82,7 +97,8 @@ rows_joined : (a b : List Entry) → rows_in (a ++ b) ≡ rows_in a ++ rows_in b
 rows_joined [] b = refl
 rows_joined (e ∷ a) b = by e.name e.held (rows_joined a b)
   where
-    by : (n : NameParts) (h : Held) → rows_in (a ++ b) ≡ rows_in a ++ rows_in b → rows_in (record { name = n; held = h } ∷ (a ++ b)) ≡ rows_in (record { name = n; held = h } ∷ a) ++ rows_in b
+    by : (n : NameParts) (h : Held) → rows_in (a ++ b) ≡ rows_in a ++ rows_in b
+        → rows_in (record { name = n; held = h } ∷ (a ++ b)) ≡ rows_in (record { name = n; held = h } ∷ a) ++ rows_in b
     by n (held.Live kept) rest = ap (λ l. kept.content.rows ∷ l) rest
     by n held.Disputed rest = rest
     by n held.Retired rest = rest

@@ -15,7 +15,8 @@ use Rattle.wentries.specs.Knowledge.{Known, Live, Disputed, Retired, Floor, same
 use Rattle.std.specs.Prelude.{◌==◌}
 
 pub exact_names : IsAntisymmetric name_cmp
-exact_names a b h = ap (λ (p : List ℕ × ℕ). record { origin = p.0; number = p.1 }) (exact_pairs (slice_cmp nat_cmp) nat_cmp exact_bytes exact_unsigned (a.origin, a.number) (b.origin, b.number) h)
+exact_names a b h = ap (λ (p : List ℕ × ℕ). record { origin = p.0; number = p.1 }) (exact_pairs (slice_cmp nat_cmp) nat_cmp
+    exact_bytes exact_unsigned (a.origin, a.number) (b.origin, b.number) h)
 
 pub is_equal : (r : Ordering) → is_eq r ≡ true → r ≡ Equal
 is_equal Less e = cc
@@ -64,7 +65,8 @@ over_trans q m e qm h =
     let f = over_floor m e h in
     floor_over q e.0 e.1 f.0 (above_trans q m e.0 qm f.1)
 
-pub any_trans : (q m : NameParts) (es : List (NameParts × Known)) → is_above q m ≡ true → list_any (is_over m) es ≡ true → list_any (is_over q) es ≡ true
+pub any_trans : (q m : NameParts) (es : List (NameParts × Known)) → is_above q m ≡ true → list_any (is_over m) es ≡ true
+    → list_any (is_over q) es ≡ true
 any_trans q m [] qm h = h
 any_trans q m (e ∷ es) qm h =
     ⊎_elim (λ x. or_left _ _ (over_trans q m e qm x)) (λ x. or_right _ _ (any_trans q m es qm x)) (or_cases (is_over m e) _ h)
@@ -106,7 +108,8 @@ pub same_some : (x y : Known) → Some x ≡ Some y → x ≡ y
 same_some x y e = cc
 
 -- what is found behind the first entry is found
-found_later : (e : NameParts × Known) (es : List (NameParts × Known)) (m : NameParts) (k : Known) → T (below_all name_cmp e.0 es) → find name_cmp m es ≡ Some k → find name_cmp m (e ∷ es) ≡ Some k
+found_later : (e : NameParts × Known) (es : List (NameParts × Known)) (m : NameParts) (k : Known)
+    → T (below_all name_cmp e.0 es) → find name_cmp m es ≡ Some k → find name_cmp m (e ∷ es) ≡ Some k
 found_later e es m k low found = by (is_eq (name_cmp m e.0)) refl
   where
     by : (b : Bool) → is_eq (name_cmp m e.0) ≡ b → find name_cmp m (e ∷ es) ≡ Some k
@@ -159,11 +162,13 @@ floor_told (e ∷ es) q s h = by (list_any (is_over q) es) refl (floor_told es q
         let over : is_over q e ≡ true = ⊎_elim (λ x. x) (λ x. absurd (both_cases _ x is)) (or_cases (is_over q e) _ h) in
         here over (none_above q (over_floor q e over).1 is)
 
-pub told_over : (es : List (NameParts × Known)) (q m : NameParts) → find name_cmp m es ≡ Some Floor → is_above q m ≡ true → list_any (is_over q) es ≡ true
+pub told_over : (es : List (NameParts × Known)) (q m : NameParts) → find name_cmp m es ≡ Some Floor → is_above q m ≡ true
+    → list_any (is_over q) es ≡ true
 told_over [] q m found above = absurd (no_some Floor found)
 told_over (e ∷ es) q m found above = by (is_eq (name_cmp m e.0)) refl (λ later. told_over es q m later above)
   where
-    by : (b : Bool) → is_eq (name_cmp m e.0) ≡ b → (find name_cmp m es ≡ Some Floor → list_any (is_over q) es ≡ true) → list_any (is_over q) (e ∷ es) ≡ true
+    by : (b : Bool) → is_eq (name_cmp m e.0) ≡ b → (find name_cmp m es ≡ Some Floor → list_any (is_over q) es ≡ true)
+        → list_any (is_over q) (e ∷ es) ≡ true
     by true is rest =
         let same : e.1 ≡ Floor = same_some e.1 Floor (sym (ap (λ b. cond b (Some e.1) (find name_cmp m es)) is) ∙ found) in
         or_left _ _ (floor_over q e.0 e.1 same (ap (is_above q) (sym (same_name-true m e.0 is)) ∙ above))
@@ -174,5 +179,6 @@ told_over (e ∷ es) q m found above = by (is_eq (name_cmp m e.0)) refl (λ late
 pub above_less : (n m : NameParts) → is_above n m ≡ true → name_cmp n m ≡ Less
 above_less n m h =
     let p = and_parts (same_bytes n.origin m.origin) _ h in
-    let origins : slice_cmp nat_cmp n.origin m.origin ≡ Equal = ap (slice_cmp nat_cmp n.origin) (sym (same_bytes-true n.origin m.origin p.0)) ∙ tied_itself nat_list_cmp_total n.origin in
+    let origins : slice_cmp nat_cmp n.origin m.origin ≡ Equal =
+    ap (slice_cmp nat_cmp n.origin) (sym (same_bytes-true n.origin m.origin p.0)) ∙ tied_itself nat_list_cmp_total n.origin in
     ap (λ o. ordering_then o (nat_cmp n.number m.number)) origins ∙ ap (λ b. cond b Less (cond (n.number == m.number) Equal Greater)) p.1

@@ -1,5 +1,6 @@
 -- The live names of parts, and of entries that hold the same.
-use Rattle.std.proofs.Common.{◌≡◌, suc, ◌+◌, ◌≤◌, List, [], ◌∷◌, ◌++◌, length, map, refl, sym, ap, ◌∙◌, arith, Some, None, length-append, Option}
+use Rattle.std.proofs.Common.{◌≡◌, suc, ◌+◌, ◌≤◌, List, [], ◌∷◌, ◌++◌, length, map, refl}
+use Rattle.std.proofs.Common.{sym, ap, ◌∙◌, arith, Some, None, length-append, Option}
 use Rattle.std.specs.List.{filter_map}
 use Rattle.wvalues.specs.Names.{NameParts}
 use Rattle.wentries.specs.Keeping.{kept_in, plain_entry, plain_held}
@@ -14,7 +15,8 @@ pub kept_append : (xs ys : List Entry) → kept_in (xs ++ ys) ≡ kept_in xs ++ 
 kept_append [] ys = refl
 kept_append (x ∷ xs) ys = by x.name x.held (kept_append xs ys)
   where
-    by : (n : NameParts) (h : Held) → kept_in (xs ++ ys) ≡ kept_in xs ++ kept_in ys → kept_in (record { name = n; held = h } ∷ (xs ++ ys)) ≡ kept_in (record { name = n; held = h } ∷ xs) ++ kept_in ys
+    by : (n : NameParts) (h : Held) → kept_in (xs ++ ys) ≡ kept_in xs ++ kept_in ys
+        → kept_in (record { name = n; held = h } ∷ (xs ++ ys)) ≡ kept_in (record { name = n; held = h } ∷ xs) ++ kept_in ys
     by n (held.Live kept) rest = ap (λ l. (n, kept) ∷ l) rest
     by n held.Disputed rest = rest
     by n held.Retired rest = rest
@@ -24,7 +26,8 @@ pub kept_few : (es : List Entry) → length (kept_in es) ≤ length es
 kept_few [] = omega arith
 kept_few (e ∷ es) = by e.name e.held (kept_few es)
   where
-    by : (n : NameParts) (h : Held) → length (kept_in es) ≤ length es → length (kept_in (record { name = n; held = h } ∷ es)) ≤ suc (length es)
+    by : (n : NameParts) (h : Held) → length (kept_in es) ≤ length es
+        → length (kept_in (record { name = n; held = h } ∷ es)) ≤ suc (length es)
     by n (held.Live kept) rest = omega (arith, rest)
     by n held.Disputed rest = omega (arith, rest)
     by n held.Retired rest = omega (arith, rest)
@@ -46,7 +49,8 @@ plain_count : (es : List Entry) → length (filter_map plain_live (map plain_ent
 plain_count [] = refl
 plain_count (e ∷ es) = by e.name e.held (plain_count es)
   where
-    by : (n : NameParts) (h : Held) → length (filter_map plain_live (map plain_entry es)) ≡ length (kept_in es) → length (filter_map plain_live ((n, plain_held h) ∷ map plain_entry es)) ≡ length (kept_in (record { name = n; held = h } ∷ es))
+    by : (n : NameParts) (h : Held) → length (filter_map plain_live (map plain_entry es)) ≡ length (kept_in es)
+        → length (filter_map plain_live ((n, plain_held h) ∷ map plain_entry es)) ≡ length (kept_in (record { name = n; held = h } ∷ es))
     by n (held.Live kept) rest = ap suc rest
     by n held.Disputed rest = rest
     by n held.Retired rest = rest

@@ -1,5 +1,6 @@
 -- Entries in blocks, one block after another.
-use Rattle.std.specs.Prelude.{◌≡◌, ◌<◌, ◌≤◌, ℕ, zero, suc, List, [], ◌∷◌, ◌++◌, ◌+◌, ◌⊎◌, length, get_or, take, drop, not, Option, None, Some, if◌then◌else◌}
+use Rattle.std.specs.Prelude.{◌≡◌, ◌<◌, ◌≤◌, ℕ, zero, suc, List, [], ◌∷◌, ◌++◌, ◌+◌, ◌⊎◌, length}
+use Rattle.std.specs.Prelude.{get_or, take, drop, not, Option, None, Some, if◌then◌else◌}
 use Rattle.std.specs.FinMap.{put}
 use Rattle.std.specs.List.{filter, list_all}
 use Rattle.wvalues.specs.Names.{NameParts, name_cmp}

@@ -1,5 +1,6 @@
 //! Entries in blocks of a bounded size, so that an insert moves few of them.
-ghost use Rattle.std.specs.Prelude.{All, ◌≡◌, ◌↔◌, ◌<◌, ◌≤◌, ◌++◌, ◌+◌, ◌-◌, ◌^◌, [], ◌∷◌, ℕ, suc, IsOk, IsSome, IsTrue, List, true, false, length, take, drop, get_or, map, option_map, IfSome, IfOk, OnOk, OnErr};
+ghost use Rattle.std.specs.Prelude.{All, ◌≡◌, ◌↔◌, ◌<◌, ◌≤◌, ◌++◌, ◌+◌, ◌-◌, ◌^◌, [], ◌∷◌, ℕ, suc, IsOk, IsSome, IsTrue, List};
+ghost use Rattle.std.specs.Prelude.{true, false, length, take, drop, get_or, map, option_map, IfSome, IfOk, OnOk, OnErr};
 ghost use Rattle.std.specs.Option.{option_copied};
 ghost use Rattle.std.specs.List.{filter_map, list_all, list_any};
 ghost use Rattle.std.specs.FinMap.{find, put};
@@ -8,7 +9,8 @@ ghost use Rattle.wvalues.specs.Names.{name_cmp};
 ghost use Rattle.wruns.specs.Dealing.{AreRunsOf};
 ghost use Rattle.wentries.specs.Knowledge.{Known as TheKnown, Floor, first_of as first_number, floor_number, is_above, is_over};
 ghost use Rattle.wentries.specs.Holding.{IsHeldBy, known_of};
-ghost use Rattle.wentries.specs.Entries.{AreBelow, AreOriginsBelow, AllHeldBy, AreSettled, IsRising, above_floor, first_from, known_entries, listing_of, AreBehind};
+ghost use Rattle.wentries.specs.Entries.{AreBelow, AreOriginsBelow, AllHeldBy, AreSettled, IsRising, above_floor};
+ghost use Rattle.wentries.specs.Entries.{first_from, known_entries, listing_of, AreBehind};
 ghost use Rattle.wentries.specs.Keeping.{BeginWithRuns, HeldHasRun, kept_in, plain_block, rows_in};
 ghost use Rattle.wentries.specs.Blocks.{AreFilled, HasRoom, IsGrown, IsHome, IsOriginHome, first_of, flat, half, halved, longest, trimmed};
 ghost use Rattle.wentries.specs.declared.entries.Entry.{Entry as HeldEntry};

@@ -1,5 +1,6 @@
 //! Entries in the order of their names.
-ghost use Rattle.std.specs.Prelude.{All, Some, [], ◌∷◌, slice_get, not, true, false, ◌≢◌, ◌≡◌, ◌<◌, ◌≤◌, ◌++◌, drop, length, map, option_map, IfSome, IfOk, IfErr, OnOk, OnErr};
+ghost use Rattle.std.specs.Prelude.{All, Some, [], ◌∷◌, slice_get, not, true, false, ◌≢◌, ◌≡◌, ◌<◌, ◌≤◌, ◌++◌};
+ghost use Rattle.std.specs.Prelude.{drop, length, map, option_map, IfSome, IfOk, IfErr, OnOk, OnErr};
 ghost use Rattle.std.specs.List.{filter, filter_map, insert};
 ghost use Rattle.std.specs.Option.{option_copied};
 ghost use Rattle.std.specs.Ordering.{is_lt};
@@ -9,7 +10,8 @@ ghost use Rattle.wvalues.specs.Names.{name_cmp};
 ghost use Rattle.wentries.specs.Knowledge.{Known as TheKnown, Floor, first_of as first_number, floor_number, is_above, is_over, join_known};
 ghost use Rattle.wentries.specs.Holding.{IsHeldBy, known_of};
 ghost use Rattle.wentries.specs.Keeping.{BeginWithRuns, HeldHasRun, kept_in, plain_block, rows_in};
-ghost use Rattle.wentries.specs.Entries.{AllHeldBy, IsGap, IsPlace, IsRising, above_floor, first_from, known_entries, known_entry, listing_of};
+ghost use Rattle.wentries.specs.Entries.{AllHeldBy, IsGap, IsPlace, IsRising, above_floor, first_from};
+ghost use Rattle.wentries.specs.Entries.{known_entries, known_entry, listing_of};
 
 use crate::held::Held;
 use crate::kept_content::Kept;

@@ -8,9 +8,12 @@ use Rattle.wvalues.specs.Meaning.{Meaning, Null}
 use Rattle.wvalues.specs.Truth.{both}
 use Rattle.wvalues.specs.declared.truth.Truth.{Truth}
 use Rattle.wplan.specs.Formula.{Formula, At, Compared, Within}
-use Rattle.weval.specs.Values.{Held, Judged, Outcome, TooLarge, after, compared, is_too_large, judged, order_of, truth_of, turned, value_in, value_of}
+use Rattle.weval.specs.Values.{Held, Judged, Outcome, TooLarge, after, compared, is_too_large}
+use Rattle.weval.specs.Values.{judged, order_of, truth_of, turned, value_in, value_of}
 
-pub compared_leaves : (row : List Meaning) (c : Comparison) (place : ℕ) (x : Meaning) (left right : Formula) (o : Option Ordering) (t : Truth) → left ≡ At place → x ≡ get_or row place Null → value_of row right ≡ Held (value_in (value_of row right)) → o ≡ order_of x (value_in (value_of row right)) → t ≡ judged c o
+pub compared_leaves : (row : List Meaning) (c : Comparison) (place : ℕ) (x : Meaning) (left right : Formula)
+    (o : Option Ordering) (t : Truth) → left ≡ At place → x ≡ get_or row place Null
+    → value_of row right ≡ Held (value_in (value_of row right)) → o ≡ order_of x (value_in (value_of row right)) → t ≡ judged c o
     → value_of row (Compared c left right) ≡ Judged t
 compared_leaves row c place x left right o t is at held e f =
     ap (λ l. value_of row (Compared c l right)) is
@@ -25,7 +28,8 @@ goes_on (Held m) f g t e = refl
 goes_on (Judged u) f g t e = refl
 goes_on TooLarge f g t e = absurd (false≢true (sym (ap is_too_large e)))
 
-pub between_leaves : (row : List Meaning) (negated : Bool) (x low high : Formula) (s t : Truth) → value_of row (Compared GreaterOrEqual x low) ≡ Judged s → value_of row (Compared LessOrEqual x high) ≡ Judged t
+pub between_leaves : (row : List Meaning) (negated : Bool) (x low high : Formula) (s t : Truth)
+    → value_of row (Compared GreaterOrEqual x low) ≡ Judged s → value_of row (Compared LessOrEqual x high) ≡ Judged t
     → value_of row (Within negated x low high) ≡ Judged (turned negated (both s t))
 between_leaves row negated x low high s t above below =
     let v = value_of row x in

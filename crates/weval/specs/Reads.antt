@@ -2,7 +2,8 @@
 use Rattle.std.specs.Prelude.{Bool, true, false, ◌||◌, List, get_or}
 use Rattle.std.specs.List.{list_any}
 use Rattle.wvalues.specs.Meaning.{Meaning, Null, Text}
-use Rattle.wplan.specs.Formula.{Formula, Operand, Constant, At, Negation, Signed, Applied, Compared, NullTest, Within, Among, Formulas, NoFormulas, MoreFormulas}
+use Rattle.wplan.specs.Formula.{Formula, Operand, Constant, At, Negation, Signed, Applied, Compared}
+use Rattle.wplan.specs.Formula.{NullTest, Within, Among, Formulas, NoFormulas, MoreFormulas}
 
 abbrev pub is_text_value : Meaning → Bool
 is_text_value (Text bytes) = true

@@ -1,4 +1,6 @@
--- What an expression comes to on a row (<value expression>, <comparison predicate>, <between predicate>, <in predicate>, <null predicate>, <boolean value expression>): a value, a truth, or out of range. Nothing is skipped, so it is out of range where any part of it is.
+-- What an expression comes to on a row (<value expression>, <comparison predicate>, <between predicate>, <in predicate>, <null
+-- predicate>, <boolean value expression>): a value, a truth, or out of range. Nothing is skipped, so it is out of range where
+-- any part of it is.
 use Rattle.std.specs.Prelude.{ℤ, neg_ℤ, ◌+ℤ◌, ◌-ℤ◌, ◌*ℤ◌, Bool, true, false, not, List, [], ◌∷◌, Option, Some, None, get_or, if◌then◌else◌}
 use Rattle.std.specs.Ordering.{int_cmp, nat_cmp, is_eq, is_lt, is_gt}
 use Rattle.std.specs.Cmp.Lexicographic.{slice_cmp}
@@ -12,7 +14,8 @@ use Rattle.wvalues.specs.Meaning.{Meaning, Null, Int, Text}
 use Rattle.wvalues.specs.Truth.{both, either, opposite}
 use Rattle.wvalues.specs.declared.truth.Truth.{Truth}
 use Rattle.wvalues.specs.declared.truth.Truth.TheVariants.{Yes, No, Unknown}
-use Rattle.wplan.specs.Formula.{Formula, Operand, Constant, At, Negation, Signed, Applied, Compared, NullTest, Within, Among, Formulas, NoFormulas, MoreFormulas}
+use Rattle.wplan.specs.Formula.{Formula, Operand, Constant, At, Negation, Signed, Applied, Compared}
+use Rattle.wplan.specs.Formula.{NullTest, Within, Among, Formulas, NoFormulas, MoreFormulas}
 
 -- what an expression comes to on a row
 pub data Outcome : Type 0 where
@@ -107,8 +110,11 @@ abbrev mutual
   value_of row (Applied operator l r) = after (value_of row l) (λ x. after (value_of row r) (λ y. apply operator x y))
   value_of row (Compared c l r) = after (value_of row l) (λ x. after (value_of row r) (λ y. Judged (compared c (value_in x) (value_in y))))
   value_of row (NullTest negated t) = after (value_of row t) (λ x. Judged (turned negated (is_null x)))
-  value_of row (Within negated t l h) = after (value_of row t) (λ x. after (value_of row l) (λ y. after (value_of row h) (λ z. Judged (turned negated (between (value_in x) (value_in y) (value_in z))))))
-  value_of row (Among negated t list) = after (value_of row t) (λ x. after (is_among row (value_in x) No list) (λ found. Judged (turned negated (truth_of found))))
+  value_of row (Within negated t l h) = after (value_of row t)
+      (λ x. after (value_of row l) (λ y. after (value_of row h)
+      (λ z. Judged (turned negated (between (value_in x) (value_in y) (value_in z))))))
+  value_of row (Among negated t list) = after (value_of row t) (λ x. after (is_among row (value_in x) No list)
+      (λ found. Judged (turned negated (truth_of found))))
 
   -- `x = a OR x = b OR ..`, joined to what was found so far
   pub is_among : List Meaning → Meaning → Truth → Formulas → Outcome

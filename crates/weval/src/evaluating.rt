@@ -5,7 +5,8 @@ ghost use Rattle.std.specs.Rc.{rc_str_bytes};
 ghost use Rattle.wvalues.specs.Meaning.{meaning, Null, Text};
 ghost use Rattle.wvalues.specs.declared.truth.Truth.TheVariants.{No};
 ghost use Rattle.wplan.specs.Formula.{formula, formulas, operand_of};
-ghost use Rattle.weval.specs.Values.{Outcome, value_of, value_along, is_among, value_in, Held, Judged, after, apply, compared, turned, truth_of};
+ghost use Rattle.weval.specs.Values.{Outcome, value_of, value_along, is_among, value_in, Held};
+ghost use Rattle.weval.specs.Values.{Judged, after, apply, compared, turned, truth_of};
 ghost use Rattle.weval.specs.Cells.{outcome, Gives, GivesTruth};
 ghost use Rattle.weval.specs.Reads.{is_text_value, reads_text, links_read_text, some_read_text};
 ghost use Rattle.weval.specs.declared.cell.EvalFault.TheVariants.{NoMemory};
@@ -107,7 +108,8 @@ fn eval_compare(
     right: &Expr,
     row: &[Value],
 ) -> Result<Cell, EvalFault>
-    ensures gives { Gives result (after (value_of (map meaning row.now) (formula right.now)) (λ y. Judged (compared comparison (value_in (outcome x.now)) (value_in y)))) }
+    ensures gives { Gives result (after (value_of (map meaning row.now) (formula right.now))
+        (λ y. Judged (compared comparison (value_in (outcome x.now)) (value_in y)))) }
     ensures memory { result ≡ Err NoMemory → reads_text (map meaning row.now) (formula right.now) ≡ true }
 {
     let y = eval(right, row)?;
@@ -122,7 +124,8 @@ fn eval_chain(
     row: &[Value],
 ) -> Result<Cell, EvalFault>
     ensures gives { (o : Outcome) → Gives first o → Gives result (value_along (map meaning row.now) o (map operand_of links.now)) }
-    ensures memory { result ≡ Err NoMemory → (first ≡ Err NoMemory) ⊎ (links_read_text (map meaning row.now) (map operand_of links.now) ≡ true) }
+    ensures memory { result ≡ Err NoMemory → (first ≡ Err NoMemory)
+        ⊎ (links_read_text (map meaning row.now) (map operand_of links.now) ≡ true) }
 {
     match first {
         Err(f) => Err(f),
@@ -147,7 +150,8 @@ fn eval_links(first: Cell, links: &[Further], row: &[Value]) -> Result<Cell, Eva
 
 #[cycle(eval)]
 fn eval_link(so_far: &Cell, link: &Further, row: &[Value]) -> Result<Cell, EvalFault>
-    ensures gives { Gives result (after (value_of (map meaning row.now) (formula link.now.operand)) (λ y. apply link.now.operator (outcome so_far.now) y)) }
+    ensures gives { Gives result (after (value_of (map meaning row.now) (formula link.now.operand))
+        (λ y. apply link.now.operator (outcome so_far.now) y)) }
     ensures memory { result ≡ Err NoMemory → reads_text (map meaning row.now) (formula link.now.operand) ≡ true }
 {
     let operand = eval(&link.operand, row)?;
@@ -156,7 +160,8 @@ fn eval_link(so_far: &Cell, link: &Further, row: &[Value]) -> Result<Cell, EvalF
 
 #[cycle(eval)]
 fn eval_in(negated: bool, x: &Cell, list: &[Expr], row: &[Value]) -> Result<Cell, EvalFault>
-    ensures gives { Gives result (after (is_among (map meaning row.now) (value_in (outcome x.now)) No (formulas (map formula list.now))) (λ found. Judged (turned negated (truth_of found)))) }
+    ensures gives { Gives result (after (is_among (map meaning row.now) (value_in (outcome x.now)) No
+        (formulas (map formula list.now))) (λ found. Judged (turned negated (truth_of found)))) }
     ensures memory { result ≡ Err NoMemory → some_read_text (map meaning row.now) (formulas (map formula list.now)) ≡ true }
 {
     match eval_among(x, list, row) {

@@ -29,7 +29,8 @@ fn order_with_place(x: &Value, row: &[Value], place: usize) -> Option<Ordering>
 #[tactic(auto, unfolding(wplan::specs::Formula::formula))]
 fn order_with_leaf(x: &Value, e: &Expr, row: &[Value]) -> Option<Option<Ordering>>
     ensures found { is_some result ≡ is_leaf (out-Expr e.now) }
-    ensures held { IfSome result (λ o. value_of (map meaning row.now) (formula e.now) ≡ Held (value_in (value_of (map meaning row.now) (formula e.now)))) }
+    ensures held { IfSome result (λ o. value_of (map meaning row.now) (formula e.now)
+        ≡ Held (value_in (value_of (map meaning row.now) (formula e.now)))) }
     ensures order { IfSome result (λ o. o ≡ order_of (meaning x.now) (value_in (value_of (map meaning row.now) (formula e.now)))) }
 {
     match e {
@@ -57,7 +58,8 @@ pub(crate) fn compared_in_place(
     row: &[Value],
 ) -> Option<Truth>
     ensures found { is_some result ≡ (is_place_below (length row.now) (out-Expr left.now) && is_leaf (out-Expr right.now)) }
-    ensures truth { IfSome result (λ t. value_of (map meaning row.now) (Compared comparison (formula left.now) (formula right.now)) ≡ Judged t) }
+    ensures truth { IfSome result (λ t. value_of (map meaning row.now) (Compared comparison (formula left.now)
+        (formula right.now)) ≡ Judged t) }
 {
     let Expr::Place(place) = left else {
         return None;
@@ -80,8 +82,10 @@ pub(crate) fn between_in_place(
     high: &Expr,
     row: &[Value],
 ) -> Option<Truth>
-    ensures found { is_some result ≡ (is_place_below (length row.now) (out-Expr operand.now) && (is_leaf (out-Expr low.now) && is_leaf (out-Expr high.now))) }
-    ensures truth { (negated : Bool) → IfSome result (λ t. value_of (map meaning row.now) (Within negated (formula operand.now) (formula low.now) (formula high.now)) ≡ Judged (turned negated t)) }
+    ensures found { is_some result ≡ (is_place_below (length row.now) (out-Expr operand.now)
+        && (is_leaf (out-Expr low.now) && is_leaf (out-Expr high.now))) }
+    ensures truth { (negated : Bool) → IfSome result (λ t. value_of (map meaning row.now)
+        (Within negated (formula operand.now) (formula low.now) (formula high.now)) ≡ Judged (turned negated t)) }
 {
     let above = compared_in_place(Comparison::GreaterOrEqual, operand, low, row)?;
     let below = compared_in_place(Comparison::LessOrEqual, operand, high, row)?;

@@ -3,7 +3,8 @@
 ghost use Rattle.std.specs.Prelude.{◌≡◌, ◌+ℤ◌, ◌-ℤ◌, ◌*ℤ◌};
 ghost use Rattle.wvalues.specs.Meaning.{meaning};
 ghost use Rattle.wvalues.specs.Truth.{opposite};
-ghost use Rattle.weval.specs.Values.{Judged, ranged, on_numbers, apply, order_of, meets, judged, compared, turned, is_null, between, signed, value_in, truth_of};
+ghost use Rattle.weval.specs.Values.{Judged, ranged, on_numbers, apply, order_of, meets, judged, compared};
+ghost use Rattle.weval.specs.Values.{turned, is_null, between, signed, value_in, truth_of};
 ghost use Rattle.weval.specs.Cells.{outcome, Comes};
 
 use crate::cell::Cell;

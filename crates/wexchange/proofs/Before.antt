@@ -30,34 +30,44 @@ less_number a b h = by (nat_lt a b) refl h
     by true is e = is
     by false is e = absurd (by_equal (a == b) e)
 
-below_later : (x : NameParts) (ws : List (NameParts × Known)) (e : NameParts × Known) (es : List (NameParts × Known)) → T (below_all name_cmp x (ws ++ e ∷ es)) → name_cmp x e.0 ≡ Less
+below_later : (x : NameParts) (ws : List (NameParts × Known)) (e : NameParts × Known) (es : List (NameParts × Known))
+    → T (below_all name_cmp x (ws ++ e ∷ es)) → name_cmp x e.0 ≡ Less
 below_later x [] e es h = less _ (first _ _ h)
 below_later x (w ∷ ws) e es h = below_later x ws e es (second _ _ h)
 
 -- an entry of rising ones is found
-find_at : (ws : List (NameParts × Known)) (e : NameParts × Known) (es : List (NameParts × Known)) → T (is_sorted name_cmp (ws ++ e ∷ es)) → find name_cmp e.0 (ws ++ e ∷ es) ≡ Some e.1
+find_at : (ws : List (NameParts × Known)) (e : NameParts × Known) (es : List (NameParts × Known))
+    → T (is_sorted name_cmp (ws ++ e ∷ es)) → find name_cmp e.0 (ws ++ e ∷ es) ≡ Some e.1
 find_at [] e es h = ap (λ b. cond b (Some e.1) (find name_cmp e.0 es)) (same_name-refl e.0)
 find_at (w ∷ ws) e es h = by (same_name e.0 w.0) refl (find_at ws e es (second _ _ h))
   where
     low : name_cmp w.0 e.0 ≡ Less
     low = below_later w.0 ws e es (first _ _ h)
 
-    by : (b : Bool) → same_name e.0 w.0 ≡ b → find name_cmp e.0 (ws ++ e ∷ es) ≡ Some e.1 → find name_cmp e.0 (w ∷ (ws ++ e ∷ es)) ≡ Some e.1
+    by : (b : Bool) → same_name e.0 w.0 ≡ b → find name_cmp e.0 (ws ++ e ∷ es) ≡ Some e.1
+        → find name_cmp e.0 (w ∷ (ws ++ e ∷ es)) ≡ Some e.1
     by true same rest =
         let is : e.0 ≡ w.0 = same_name-true e.0 w.0 same in
-        let u : Less ≡ Greater = sym low ∙ names_total.antisymm w.0 e.0 ∙ ap ordering_reverse (ap (λ x. name_cmp x w.0) is ∙ ap (name_cmp w.0) (sym is) ∙ low) in
+        let u : Less ≡ Greater = sym low ∙ names_total.antisymm w.0 e.0 ∙ ap ordering_reverse (ap (λ x. name_cmp x w.0) is
+        ∙ ap (name_cmp w.0) (sym is) ∙ low) in
         absurd (not_both u)
     by false same rest = ap (λ b. cond b (Some w.1) (find name_cmp e.0 (ws ++ e ∷ es))) same ∙ rest
 
-over_later : (q : NameParts) (ws : List (NameParts × Known)) (e : NameParts × Known) (es : List (NameParts × Known)) → is_over q e ≡ true → list_any (is_over q) (ws ++ e ∷ es) ≡ true
+over_later : (q : NameParts) (ws : List (NameParts × Known)) (e : NameParts × Known) (es : List (NameParts × Known))
+    → is_over q e ≡ true → list_any (is_over q) (ws ++ e ∷ es) ≡ true
 over_later q [] e es h = or_left _ _ h
 over_later q (w ∷ ws) e es h = or_right _ _ (over_later q ws e es h)
 
-before_floor : (ws vs : List (NameParts × Known)) (n : NameParts) (left : List (NameParts × Known)) → T (is_sorted name_cmp (ws ++ (vs ++ ((n, Floor) ∷ left)))) → ((q : NameParts) → list_any (is_over q) (ws ++ (vs ++ ((n, Floor) ∷ left))) ≡ true → find name_cmp q (ws ++ (vs ++ ((n, Floor) ∷ left))) ≡ None) → T (is_sorted name_cmp (vs ++ ((n, Floor) ∷ left))) → AreOriginsBelow n.origin vs
+before_floor : (ws vs : List (NameParts × Known)) (n : NameParts) (left : List (NameParts × Known))
+    → T (is_sorted name_cmp (ws ++ (vs ++ ((n, Floor) ∷ left))))
+    → ((q : NameParts) → list_any (is_over q) (ws ++ (vs ++ ((n, Floor) ∷ left))) ≡ true
+    → find name_cmp q (ws ++ (vs ++ ((n, Floor) ∷ left))) ≡ None)
+    → T (is_sorted name_cmp (vs ++ ((n, Floor) ∷ left))) → AreOriginsBelow n.origin vs
 before_floor ws [] n left s settled t = tt
 before_floor ws (e ∷ vs) n left s settled t = (
   by (slice_cmp nat_cmp e.0.origin n.origin) refl,
-  before_floor (ws ++ e ∷ []) vs n left (subst (λ l. T (is_sorted name_cmp l)) moved s) (subst (λ l. (q : NameParts) → list_any (is_over q) l ≡ true → find name_cmp q l ≡ None) moved settled) (second _ _ t),
+  before_floor (ws ++ e ∷ []) vs n left (subst (λ l. T (is_sorted name_cmp l)) moved s) (subst (λ l. (q : NameParts)
+      → list_any (is_over q) l ≡ true → find name_cmp q l ≡ None) moved settled) (second _ _ t),
 )
   where
     moved : ws ++ (e ∷ (vs ++ ((n, Floor) ∷ left))) ≡ (ws ++ e ∷ []) ++ (vs ++ ((n, Floor) ∷ left))
@@ -71,14 +81,19 @@ before_floor ws (e ∷ vs) n left s settled t = (
     by Greater is = absurd (not_both (sym low ∙ ap (λ o. ordering_then o (nat_cmp e.0.number n.number)) is))
     by Equal is =
         let numbers : nat_cmp e.0.number n.number ≡ Less = sym (ap (λ o. ordering_then o (nat_cmp e.0.number n.number)) is) ∙ low in
-        let over : is_above e.0 n ≡ true = and_from _ _ (ap (same_bytes e.0.origin) (sym (exact_bytes e.0.origin n.origin is)) ∙ same_bytes-refl e.0.origin) (less_number e.0.number n.number numbers) in
-        let none = settled e.0 (ap (list_any (is_over e.0)) moved ∙ ap (list_any (is_over e.0)) (sym (append_assoc (ws ++ e ∷ []) vs ((n, Floor) ∷ left))) ∙ over_later e.0 ((ws ++ e ∷ []) ++ vs) (n, Floor) left over) in
+        let over : is_above e.0 n ≡ true =
+        and_from _ _ (ap (same_bytes e.0.origin) (sym (exact_bytes e.0.origin n.origin is))
+        ∙ same_bytes-refl e.0.origin) (less_number e.0.number n.number numbers) in
+        let none = settled e.0 (ap (list_any (is_over e.0)) moved ∙ ap (list_any (is_over e.0))
+        (sym (append_assoc (ws ++ e ∷ []) vs ((n, Floor) ∷ left))) ∙ over_later e.0 ((ws ++ e ∷ []) ++ vs) (n, Floor) left over) in
         absurd (no_some e.1 (sym none ∙ find_at ws e (vs ++ ((n, Floor) ∷ left)) s))
       where
         no_some : (k : Known) → None ≡ Some k → ⊥
         no_some k e = cc
 
-pub floor_next : (w : View) (vs : List (NameParts × Known)) (n : NameParts) (left : List (NameParts × Known)) → IsSettled w → entries w ≡ vs ++ ((n, Floor) ∷ left) → AreOriginsBelow n.origin vs
+pub floor_next : (w : View) (vs : List (NameParts × Known)) (n : NameParts) (left : List (NameParts × Known)) → IsSettled w
+    → entries w ≡ vs ++ ((n, Floor) ∷ left) → AreOriginsBelow n.origin vs
 floor_next w vs n left s e =
     let sorted = subst (λ l. T (is_sorted name_cmp l)) e (entries_sorted w) in
-    before_floor [] vs n left sorted (λ q low. sym (get-entries w q ∙ ap (find name_cmp q) e) ∙ s q (ap (list_any (is_over q)) e ∙ low)) sorted
+    before_floor [] vs n left sorted (λ q low. sym (get-entries w q ∙ ap (find name_cmp q) e)
+    ∙ s q (ap (list_any (is_over q)) e ∙ low)) sorted

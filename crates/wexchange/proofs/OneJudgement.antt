@@ -1,5 +1,6 @@
 -- Bytes are judged in one way: reading stops at one place, and there for one reason.
-use Rattle.std.proofs.Common.{◌≡◌, ◌≢◌, ◌≤◌, ℕ, Bool, true, false, ◌&&◌, T, List, [], ◌∷◌, ◌++◌, length, None, Some, Result, Ok, Err, IsOk, inl, inr, refl, sym, ap, ◌∙◌, subst, arith, append_assoc, append-nil, length-append}
+use Rattle.std.proofs.Common.{◌≡◌, ◌≢◌, ◌≤◌, ℕ, Bool, true, false, ◌&&◌, T, List, [], ◌∷◌, ◌++◌, length, None, Some, Result, Ok}
+use Rattle.std.proofs.Common.{Err, IsOk, inl, inr, refl, sym, ap, ◌∙◌, subst, arith, append_assoc, append-nil, length-append}
 use Rattle.std.specs.List.{flat_map, AllByRecursion}
 use Rattle.std.specs.Ordering.{is_lt}
 use Rattle.std.specs.declared.cmp.Ordering.{Ordering}
@@ -20,10 +21,12 @@ use Rattle.wentries.specs.Entries.{AreBelow}
 use Rattle.wset.specs.Lending.{IsAbove, IsBehindOrigins}
 use Rattle.wrecords.specs.Cuts.{IsUnfed}
 use Rattle.wrecords.specs.Forms.{IsForm, line_of}
-use Rattle.wexchange.specs.Files.{head, table_text, record_text, end_text, begun, counted, digest_of, digest_text, text_of, file_of, HasFloors, IsRecord, IsView, MayTell, Tells}
+use Rattle.wexchange.specs.Files.{head, table_text, record_text, end_text, begun, counted, digest_of, digest_text}
+use Rattle.wexchange.specs.Files.{text_of, file_of, HasFloors, IsRecord, IsView, MayTell, Tells}
 use Rattle.wexchange.specs.declared.version.Version.{Version}
 use Rattle.wexchange.specs.declared.version.Version.TheVariants.{One, Two}
-use Rattle.wexchange.specs.Judging.{Place, AtTable, AtDigest, Behind, GoesOn, MayStand, Follows, record_name, body_length, Stands, HasOtherHead, IsCutHead, HasLowName, Judges}
+use Rattle.wexchange.specs.Judging.{Place, AtTable, AtDigest, Behind, GoesOn, MayStand, Follows, record_name}
+use Rattle.wexchange.specs.Judging.{body_length, Stands, HasOtherHead, IsCutHead, HasLowName, Judges}
 use Rattle.wexchange.specs.Laws.{OneJudgement, OwnJudgement}
 use Rattle.wrecords.specs.declared.form.Form.{Form}
 use Rattle.wrecords.specs.declared.form.Form.TheVariants as forms
@@ -59,9 +62,11 @@ short_whole : (len : ℕ) (after body more : List ℕ) → length after ≤ len 
 short_whole len after body more h e size = omega (arith, ap length e, length-append body (10 ∷ more))
 
 unfed_whole : (len : ℕ) (after body more : List ℕ) → IsUnfed len after → after ≡ body ++ (10 ∷ more) → length body ≡ len → ⊥
-unfed_whole len after body more u e size = u.other (same_behind u.body body u.byte 10 u.more more (u.length_is ∙ sym size) (sym u.bytes_are ∙ e))
+unfed_whole len after body more u e size =
+    u.other (same_behind u.body body u.byte 10 u.more more (u.length_is ∙ sym size) (sym u.bytes_are ∙ e))
 
-one_body : (len : ℕ) (after : List ℕ) (Has : List ℕ → Outcome → Type 0) (r s : Outcome) → ((body : List ℕ) (r s : Outcome) → Has body r → Has body s → r ≡ s) → BodyStop len after Has r → BodyStop len after Has s → r ≡ s
+one_body : (len : ℕ) (after : List ℕ) (Has : List ℕ → Outcome → Type 0) (r s : Outcome)
+    → ((body : List ℕ) (r s : Outcome) → Has body r → Has body s → r ≡ s) → BodyStop len after Has r → BodyStop len after Has s → r ≡ s
 one_body len after Has r s one (short h e) (short k f) = e ∙ sym f
 one_body len after Has r s one (short h e) (unfed u f) = absurd (short_unfed len after h u)
 one_body len after Has r s one (short h e) (whole b more is size x) = absurd (short_whole len after b more h is size)
@@ -75,10 +80,12 @@ one_body len after Has r s one (whole a more is size x) (whole b rest also same 
     one b r s (subst (λ l. Has l r) cut_off.0 x) y
 
 -- where it is whole, it has this outcome
-whole_body : (len : ℕ) (after body more : List ℕ) (Has : List ℕ → Outcome → Type 0) (r : Outcome) → after ≡ body ++ (10 ∷ more) → length body ≡ len → BodyStop len after Has r → Has body r
+whole_body : (len : ℕ) (after body more : List ℕ) (Has : List ℕ → Outcome → Type 0) (r : Outcome)
+    → after ≡ body ++ (10 ∷ more) → length body ≡ len → BodyStop len after Has r → Has body r
 whole_body len after body more Has r is size (short h e) = absurd (short_whole len after body more h is size)
 whole_body len after body more Has r is size (unfed u e) = absurd (unfed_whole len after body more u is size)
-whole_body len after body more Has r is size (whole b rest also same x) = subst (λ l. Has l r) (same_front b body (10 ∷ rest) (10 ∷ more) (same ∙ sym size) (sym also ∙ is)).0 x
+whole_body len after body more Has r is size (whole b rest also same x) =
+    subst (λ l. Has l r) (same_front b body (10 ∷ rest) (10 ∷ more) (same ∙ sym size) (sym also ∙ is)).0 x
 
 -- ---- lines
 
@@ -109,7 +116,8 @@ data NameStop (Fits : Type 0) (Has : Outcome → Type 0) (r : Outcome) : Type 0 
   low : ¬ Fits → r ≡ Err faults.NotRising → NameStop Fits Has r
   above : Fits → Has r → NameStop Fits Has r
 
-one_name : (Fits : Type 0) (Has : Outcome → Type 0) (r s : Outcome) → (Has r → Has s → r ≡ s) → NameStop Fits Has r → NameStop Fits Has s → r ≡ s
+one_name : (Fits : Type 0) (Has : Outcome → Type 0) (r s : Outcome) → (Has r → Has s → r ≡ s) → NameStop Fits Has r
+    → NameStop Fits Has s → r ≡ s
 one_name Fits Has r s one (low h e) (low k f) = e ∙ sym f
 one_name Fits Has r s one (low h e) (above k y) = absurd (h k)
 one_name Fits Has r s one (above h x) (low k f) = absurd (k h)
@@ -121,10 +129,12 @@ no_byte byte more e = cc
 -- the count is another one, or in version 1 the text is followed by more, or whole
 data EndStop (v : Version) (w : View) (count : ℕ) (after : List ℕ) (r : Outcome) : Type 0 where
   other_count : count ≢ length (entries w) → r ≡ Err faults.OtherCount → EndStop v w count after r
-  trailing : v ≡ One → (byte : ℕ) (more : List ℕ) → count ≡ length (entries w) → after ≡ byte ∷ more → r ≡ Err faults.Trailing → EndStop v w count after r
+  trailing : v ≡ One → (byte : ℕ) (more : List ℕ) → count ≡ length (entries w) → after ≡ byte ∷ more
+      → r ≡ Err faults.Trailing → EndStop v w count after r
   file : v ≡ One → count ≡ length (entries w) → after ≡ [] → r ≡ Ok w → EndStop v w count after r
 
-one_end : (v : Version) (w : View) (count : ℕ) (after : List ℕ) (r s : Outcome) → EndStop v w count after r → EndStop v w count after s → r ≡ s
+one_end : (v : Version) (w : View) (count : ℕ) (after : List ℕ) (r s : Outcome) → EndStop v w count after r
+    → EndStop v w count after s → r ≡ s
 one_end v w count after r s (other_count h e) (other_count k f) = e ∙ sym f
 one_end v w count after r s (other_count h e) (trailing o b more k i f) = absurd (h k)
 one_end v w count after r s (other_count h e) (file o k i f) = absurd (h k)
@@ -138,10 +148,12 @@ one_end v w count after r s (file o h i e) (file p k j f) = e ∙ sym f
 -- the digest is another one, or the file is followed by more, or whole
 data SealStop (d : Declaration) (w : View) (digits after : List ℕ) (r : Outcome) : Type 0 where
   other_digest : digits ≢ digest_of (counted Two d (entries w)) → r ≡ Err faults.OtherDigest → SealStop d w digits after r
-  sealed_more : (byte : ℕ) (more : List ℕ) → digits ≡ digest_of (counted Two d (entries w)) → after ≡ byte ∷ more → r ≡ Err faults.Trailing → SealStop d w digits after r
+  sealed_more : (byte : ℕ) (more : List ℕ) → digits ≡ digest_of (counted Two d (entries w)) → after ≡ byte ∷ more
+      → r ≡ Err faults.Trailing → SealStop d w digits after r
   sealed_file : digits ≡ digest_of (counted Two d (entries w)) → after ≡ [] → r ≡ Ok w → SealStop d w digits after r
 
-one_seal : (d : Declaration) (w : View) (digits after : List ℕ) (r s : Outcome) → SealStop d w digits after r → SealStop d w digits after s → r ≡ s
+one_seal : (d : Declaration) (w : View) (digits after : List ℕ) (r s : Outcome) → SealStop d w digits after r
+    → SealStop d w digits after s → r ≡ s
 one_seal d w digits after r s (other_digest h e) (other_digest k f) = e ∙ sym f
 one_seal d w digits after r s (other_digest h e) (sealed_more b more k i f) = absurd (h k)
 one_seal d w digits after r s (other_digest h e) (sealed_file k i f) = absurd (h k)
@@ -176,7 +188,8 @@ FormStop d (AtDigest w) (forms.Floor name) after r = ⊥
 FormStop d (AtDigest w) (forms.End count) after r = ⊥
 FormStop d (AtDigest w) (forms.Digest digits) after r = SealStop d w digits after r
 
-one_form_stop : (d : Declaration) (p : Place) (f : Form) (after : List ℕ) (r s : Outcome) → FormStop d p f after r → FormStop d p f after s → r ≡ s
+one_form_stop : (d : Declaration) (p : Place) (f : Form) (after : List ℕ) (r s : Outcome) → FormStop d p f after r
+    → FormStop d p f after s → r ≡ s
 one_form_stop d (AtTable v) (forms.Table len) after r s x y = one_body len after (IsOtherTable d) r s (one_table d) x y
 one_form_stop d (AtTable v) (forms.Content name len) after r s x y = absurd x
 one_form_stop d (AtTable v) (forms.Dispute name) after r s x y = absurd x
@@ -185,10 +198,12 @@ one_form_stop d (AtTable v) (forms.Floor name) after r s x y = absurd x
 one_form_stop d (AtTable v) (forms.End count) after r s x y = absurd x
 one_form_stop d (AtTable v) (forms.Digest digits) after r s x y = absurd x
 one_form_stop d (Behind v w) (forms.Table len) after r s x y = absurd x
-one_form_stop d (Behind v w) (forms.Content name len) after r s x y = one_name (IsAbove w name) (BodyStop len after (IsRefused d)) r s (one_body len after (IsRefused d) r s (one_refusal d)) x y
+one_form_stop d (Behind v w) (forms.Content name len) after r s x y =
+    one_name (IsAbove w name) (BodyStop len after (IsRefused d)) r s (one_body len after (IsRefused d) r s (one_refusal d)) x y
 one_form_stop d (Behind v w) (forms.Dispute name) after r s x y = one_name (IsAbove w name) (λ r. ⊥) r s (λ a b. absurd a) x y
 one_form_stop d (Behind v w) (forms.Retirement name) after r s x y = one_name (IsAbove w name) (λ r. ⊥) r s (λ a b. absurd a) x y
-one_form_stop d (Behind v w) (forms.Floor name) after r s x y = one_name (HasFloors v × IsBehindOrigins w name) (λ r. ⊥) r s (λ a b. absurd a) x y
+one_form_stop d (Behind v w) (forms.Floor name) after r s x y = one_name (HasFloors v × IsBehindOrigins w name) (λ r. ⊥) r s
+    (λ a b. absurd a) x y
 one_form_stop d (Behind v w) (forms.End count) after r s x y = one_end v w count after r s x y
 one_form_stop d (Behind v w) (forms.Digest digits) after r s x y = absurd x
 one_form_stop d (AtDigest w) (forms.Table len) after r s x y = absurd x
@@ -202,12 +217,16 @@ one_form_stop d (AtDigest w) (forms.Digest digits) after r s x y = one_seal d w 
 -- what stands at a place has no line feed, or a line that may not stand there, or one at which reading stops
 data Stop (d : Declaration) (p : Place) (rest : List ℕ) (r : Outcome) : Type 0 where
   cut_line : Lacks 10 rest → r ≡ Err faults.Truncated → Stop d p rest r
-  bad_line : (line after : List ℕ) → Lacks 10 line → rest ≡ line ++ (10 ∷ after) → ((f : Form) → IsForm f → MayStand p f → line ≢ line_of f) → r ≡ Err faults.OtherFormat → Stop d p rest r
-  at_form : (f : Form) (after : List ℕ) → IsForm f → MayStand p f → rest ≡ line_of f ++ (10 ∷ after) → FormStop d p f after r → Stop d p rest r
+  bad_line : (line after : List ℕ) → Lacks 10 line → rest ≡ line ++ (10 ∷ after) → ((f : Form) → IsForm f → MayStand p f
+      → line ≢ line_of f) → r ≡ Err faults.OtherFormat → Stop d p rest r
+  at_form : (f : Form) (after : List ℕ) → IsForm f → MayStand p f → rest ≡ line_of f ++ (10 ∷ after)
+      → FormStop d p f after r → Stop d p rest r
 
 -- a line that may stand there does
-no_bad_line : (p : Place) (f : Form) (line after more : List ℕ) → IsForm f → MayStand p f → Lacks 10 line → line ++ (10 ∷ after) ≡ line_of f ++ (10 ∷ more) → ((f : Form) → IsForm f → MayStand p f → line ≢ line_of f) → ⊥
-no_bad_line p f line after more form may lacks e none = none f form may (cut_once 10 line (line_of f) after more lacks (line_lacks f form) e).0
+no_bad_line : (p : Place) (f : Form) (line after more : List ℕ) → IsForm f → MayStand p f → Lacks 10 line
+    → line ++ (10 ∷ after) ≡ line_of f ++ (10 ∷ more) → ((f : Form) → IsForm f → MayStand p f → line ≢ line_of f) → ⊥
+no_bad_line p f line after more form may lacks e none =
+    none f form may (cut_once 10 line (line_of f) after more lacks (line_lacks f form) e).0
 
 one_stop : (d : Declaration) (p : Place) (rest : List ℕ) (r s : Outcome) → Stop d p rest r → Stop d p rest s → r ≡ s
 one_stop d p rest r s (cut_line h e) (cut_line k f) = e ∙ sym f
@@ -215,9 +234,11 @@ one_stop d p rest r s (cut_line h e) (bad_line m after l i none f) = absurd (no_
 one_stop d p rest r s (cut_line h e) (at_form g after form may i y) = absurd (no_cut 10 rest (line_of g) after h i)
 one_stop d p rest r s (bad_line m after l i none e) (cut_line k f) = absurd (no_cut 10 rest m after k i)
 one_stop d p rest r s (bad_line m after l i none e) (bad_line n more j k never f) = e ∙ sym f
-one_stop d p rest r s (bad_line m after l i none e) (at_form g more form may j y) = absurd (no_bad_line p g m after more form may l (sym i ∙ j) none)
+one_stop d p rest r s (bad_line m after l i none e) (at_form g more form may j y) =
+    absurd (no_bad_line p g m after more form may l (sym i ∙ j) none)
 one_stop d p rest r s (at_form f after form may i x) (cut_line k e) = absurd (no_cut 10 rest (line_of f) after k i)
-one_stop d p rest r s (at_form f after form may i x) (bad_line m more l j none e) = absurd (no_bad_line p f m more after form may l (sym j ∙ i) none)
+one_stop d p rest r s (at_form f after form may i x) (bad_line m more l j none e) =
+    absurd (no_bad_line p f m more after form may l (sym j ∙ i) none)
 one_stop d p rest r s (at_form f after form may i x) (at_form g more also can j y) =
     let same = cut f g after more form also (sym i ∙ j) in
     one_form_stop d p g more r s (subst (λ l. FormStop d p g l r) same.1 (subst (λ h. FormStop d p h after r) same.0 x)) y
@@ -235,12 +256,14 @@ record Good (d : Declaration) (p : Place) (rest : List ℕ) : Type 0 where
 
 no_stop : (d : Declaration) (p : Place) (rest : List ℕ) (r : Outcome) → Good d p rest → Stop d p rest r → ⊥
 no_stop d p rest r good (cut_line h e) = no_cut 10 rest (line_of good.form) good.after h good.rest_is
-no_stop d p rest r good (bad_line m after l i none e) = no_bad_line p good.form m after good.after good.is_form good.may l (sym i ∙ good.rest_is) none
+no_stop d p rest r good (bad_line m after l i none e) = no_bad_line p good.form m after good.after good.is_form good.may l
+    (sym i ∙ good.rest_is) none
 no_stop d p rest r good (at_form f after form may i x) =
     let same = cut f good.form after good.after form good.is_form (sym i ∙ good.rest_is) in
     good.none r (subst (λ l. FormStop d p good.form l r) same.1 (subst (λ h. FormStop d p h after r) same.0 x))
 
-table_first : (d : Declaration) (more : List ℕ) → table_text d ++ more ≡ line_of (forms.Table (length (declaration_text d))) ++ (10 ∷ (declaration_text d ++ (10 ∷ more)))
+table_first : (d : Declaration) (more : List ℕ) → table_text d ++ more ≡ line_of (forms.Table (length (declaration_text d)))
+    ++ (10 ∷ (declaration_text d ++ (10 ∷ more)))
 table_first d more =
     append_assoc (line_of (forms.Table (length (declaration_text d)))) (10 ∷ (declaration_text d ++ 10 ∷ [])) more
     ∙ ap (λ l. line_of (forms.Table (length (declaration_text d))) ++ (10 ∷ l)) (append_assoc (declaration_text d) (10 ∷ []) more)
@@ -273,9 +296,11 @@ FollowsAll v w (n, Disputed) = IsAbove w n
 FollowsAll v w (n, Retired) = IsAbove w n
 FollowsAll v w (n, Floor) = HasFloors v × IsBehindOrigins w n
 
-record_none : (d : Declaration) (v : Version) (w : View) (e : NameParts × Known) (more : List ℕ) (r : Outcome) → IsRecord d e → FollowsAll v w e → FormStop d (Behind v w) (record_form e) (record_rest e more) r → ⊥
+record_none : (d : Declaration) (v : Version) (w : View) (e : NameParts × Known) (more : List ℕ) (r : Outcome)
+    → IsRecord d e → FollowsAll v w e → FormStop d (Behind v w) (record_form e) (record_rest e more) r → ⊥
 record_none d v w (n, Live bytes) more r is up (low h e) = h up
-record_none d v w (n, Live bytes) more r is up (above h x) = not_refused d bytes r is.1 (whole_body (length bytes) (bytes ++ (10 ∷ more)) bytes more (IsRefused d) r refl refl x)
+record_none d v w (n, Live bytes) more r is up (above h x) =
+    not_refused d bytes r is.1 (whole_body (length bytes) (bytes ++ (10 ∷ more)) bytes more (IsRefused d) r refl refl x)
 record_none d v w (n, Disputed) more r is up (low h e) = h up
 record_none d v w (n, Disputed) more r is up (above h x) = x
 record_none d v w (n, Retired) more r is up (low h e) = h up
@@ -283,7 +308,8 @@ record_none d v w (n, Retired) more r is up (above h x) = x
 record_none d v w (n, Floor) more r is up (low h e) = h up
 record_none d v w (n, Floor) more r is up (above h x) = x
 
-good_record : (d : Declaration) (v : Version) (w : View) (e : NameParts × Known) (rest more : List ℕ) → IsRecord d e → Tells v e → FollowsAll v w e → rest ≡ record_text e ++ more → Good d (Behind v w) rest
+good_record : (d : Declaration) (v : Version) (w : View) (e : NameParts × Known) (rest more : List ℕ) → IsRecord d e
+    → Tells v e → FollowsAll v w e → rest ≡ record_text e ++ more → Good d (Behind v w) rest
 good_record d v w e rest more is tells up i = record {
   form = record_form e;
   after = record_rest e more;
@@ -294,7 +320,8 @@ good_record d v w e rest more is tells up i = record {
 }
 
 -- in version 2 the right count is good
-good_end : (d : Declaration) (v : Version) (w : View) (rest more : List ℕ) → v ≡ Two → IsView d w → rest ≡ end_text (length (entries w)) ++ more → Good d (Behind v w) rest
+good_end : (d : Declaration) (v : Version) (w : View) (rest more : List ℕ) → v ≡ Two → IsView d w
+    → rest ≡ end_text (length (entries w)) ++ more → Good d (Behind v w) rest
 good_end d v w rest more two is i = record {
   form = forms.End (length (entries w));
   after = more;
@@ -327,11 +354,13 @@ less Less p = refl
 less Equal p = absurd p
 less Greater p = absurd p
 
-below_next : (x : NameParts) (ws : List (NameParts × Known)) (e : NameParts × Known) (es : List (NameParts × Known)) → T (below_all name_cmp x (ws ++ e ∷ es)) → name_cmp x e.0 ≡ Less
+below_next : (x : NameParts) (ws : List (NameParts × Known)) (e : NameParts × Known) (es : List (NameParts × Known))
+    → T (below_all name_cmp x (ws ++ e ∷ es)) → name_cmp x e.0 ≡ Less
 below_next x [] e es h = less _ (first _ _ h)
 below_next x (w ∷ ws) e es h = below_next x ws e es (second _ _ h)
 
-all_below : (ws : List (NameParts × Known)) (e : NameParts × Known) (es : List (NameParts × Known)) → T (is_sorted name_cmp (ws ++ e ∷ es)) → AreBelow e.0 ws
+all_below : (ws : List (NameParts × Known)) (e : NameParts × Known) (es : List (NameParts × Known))
+    → T (is_sorted name_cmp (ws ++ e ∷ es)) → AreBelow e.0 ws
 all_below [] e es h = tt
 all_below (w ∷ ws) e es h = (below_next w.0 ws e es (first _ _ h), all_below ws e es (second _ _ h))
 
@@ -340,18 +369,24 @@ all_below (w ∷ ws) e es h = (below_next w.0 ws e es (first _ _ h), all_below w
 -- both lists of records are one, or one of them goes on
 data Meets (es fs : List (NameParts × Known)) (rest more : List ℕ) : Type 0 where
   same : es ≡ fs → rest ≡ more → Meets es fs rest more
-  first_goes_on : (x : NameParts × Known) (left : List (NameParts × Known)) (further : List ℕ) → fs ≡ es ++ (x ∷ left) → rest ≡ record_text x ++ further → Meets es fs rest more
-  second_goes_on : (x : NameParts × Known) (left : List (NameParts × Known)) (further : List ℕ) → es ≡ fs ++ (x ∷ left) → more ≡ record_text x ++ further → Meets es fs rest more
+  first_goes_on : (x : NameParts × Known) (left : List (NameParts × Known)) (further : List ℕ) → fs ≡ es ++ (x ∷ left)
+      → rest ≡ record_text x ++ further → Meets es fs rest more
+  second_goes_on : (x : NameParts × Known) (left : List (NameParts × Known)) (further : List ℕ) → es ≡ fs ++ (x ∷ left)
+      → more ≡ record_text x ++ further → Meets es fs rest more
 
-meets_behind : (x f : NameParts × Known) (es fs : List (NameParts × Known)) (rest more : List ℕ) → x ≡ f → Meets es fs rest more → Meets (x ∷ es) (f ∷ fs) rest more
+meets_behind : (x f : NameParts × Known) (es fs : List (NameParts × Known)) (rest more : List ℕ) → x ≡ f
+    → Meets es fs rest more → Meets (x ∷ es) (f ∷ fs) rest more
 meets_behind x f es fs rest more one (same e i) = same (λ t. one t ∷ e t) i
 meets_behind x f es fs rest more one (first_goes_on y left further e i) = first_goes_on y left further (λ t. sym one t ∷ e t) i
 meets_behind x f es fs rest more one (second_goes_on y left further e i) = second_goes_on y left further (λ t. one t ∷ e t) i
 
-meets : (d : Declaration) (es fs : List (NameParts × Known)) (rest more : List ℕ) → AllByRecursion (IsRecord d) es → AllByRecursion (IsRecord d) fs → flat_map record_text es ++ rest ≡ flat_map record_text fs ++ more → Meets es fs rest more
+meets : (d : Declaration) (es fs : List (NameParts × Known)) (rest more : List ℕ) → AllByRecursion (IsRecord d) es
+    → AllByRecursion (IsRecord d) fs → flat_map record_text es ++ rest ≡ flat_map record_text fs ++ more → Meets es fs rest more
 meets d [] [] rest more h k e = same refl e
-meets d [] (f ∷ fs) rest more h k e = first_goes_on f fs (flat_map record_text fs ++ more) refl (e ∙ append_assoc (record_text f) (flat_map record_text fs) more)
-meets d (x ∷ es) [] rest more h k e = second_goes_on x es (flat_map record_text es ++ rest) refl (sym e ∙ append_assoc (record_text x) (flat_map record_text es) rest)
+meets d [] (f ∷ fs) rest more h k e = first_goes_on f fs (flat_map record_text fs ++ more) refl
+    (e ∙ append_assoc (record_text f) (flat_map record_text fs) more)
+meets d (x ∷ es) [] rest more h k e = second_goes_on x es (flat_map record_text es ++ rest) refl
+    (sym e ∙ append_assoc (record_text x) (flat_map record_text es) rest)
 meets d (x ∷ es) (f ∷ fs) rest more h k e =
     let one = one_record d x f (flat_map record_text es ++ rest) (flat_map record_text fs ++ more) h.0 k.0
     (sym (append_assoc (record_text x) (flat_map record_text es) rest) ∙ e ∙ append_assoc (record_text f) (flat_map record_text fs) more) in
@@ -362,7 +397,9 @@ all_right P [] ys h = h
 all_right P (x ∷ xs) ys h = all_right P xs ys h.1
 
 -- behind a part of a view's records the next one is good
-good_next : (d : Declaration) (v : Version) (u w : View) (x : NameParts × Known) (left : List (NameParts × Known)) (rest further : List ℕ) → IsSettled w → AllByRecursion (IsRecord d) (entries w) → AllByRecursion (Tells v) (entries w) → entries w ≡ entries u ++ (x ∷ left) → rest ≡ record_text x ++ further → Good d (Behind v u) rest
+good_next : (d : Declaration) (v : Version) (u w : View) (x : NameParts × Known) (left : List (NameParts × Known))
+    (rest further : List ℕ) → IsSettled w → AllByRecursion (IsRecord d) (entries w) → AllByRecursion (Tells v) (entries w)
+    → entries w ≡ entries u ++ (x ∷ left) → rest ≡ record_text x ++ further → Good d (Behind v u) rest
 good_next d v u w x left rest further s h t e i =
     let is = all_right (IsRecord d) (entries u) (x ∷ left) (subst (AllByRecursion (IsRecord d)) e h) in
     let tells = all_right (Tells v) (entries u) (x ∷ left) (subst (AllByRecursion (Tells v)) e t) in
@@ -381,11 +418,15 @@ data Order (d : Declaration) (p q : Place) (rest more : List ℕ) : Type 0 where
   before : Good d p rest → Order d p q rest more
   behind : Good d q more → Order d p q rest more
 
-behind_table : (d : Declaration) (v : Version) (w : View) (rest : List ℕ) → begun v d (entries w) ++ rest ≡ head v ++ (table_text d ++ (flat_map record_text (entries w) ++ rest))
-behind_table d v w rest = append_assoc (head v ++ table_text d) (flat_map record_text (entries w)) rest ∙ append_assoc (head v) (table_text d) (flat_map record_text (entries w) ++ rest)
+behind_table : (d : Declaration) (v : Version) (w : View) (rest : List ℕ)
+    → begun v d (entries w) ++ rest ≡ head v ++ (table_text d ++ (flat_map record_text (entries w) ++ rest))
+behind_table d v w rest = append_assoc (head v ++ table_text d) (flat_map record_text (entries w)) rest
+    ∙ append_assoc (head v) (table_text d) (flat_map record_text (entries w) ++ rest)
 
-behind_count : (d : Declaration) (w : View) (rest : List ℕ) → counted Two d (entries w) ++ rest ≡ head Two ++ (table_text d ++ (flat_map record_text (entries w) ++ (end_text (length (entries w)) ++ rest)))
-behind_count d w rest = append_assoc (begun Two d (entries w)) (end_text (length (entries w))) rest ∙ behind_table d Two w (end_text (length (entries w)) ++ rest)
+behind_count : (d : Declaration) (w : View) (rest : List ℕ) → counted Two d (entries w) ++ rest
+    ≡ head Two ++ (table_text d ++ (flat_map record_text (entries w) ++ (end_text (length (entries w)) ++ rest)))
+behind_count d w rest = append_assoc (begun Two d (entries w)) (end_text (length (entries w))) rest
+    ∙ behind_table d Two w (end_text (length (entries w)) ++ rest)
 
 -- the version of a place, what stands behind the first line, and what stands behind the declaration where that was read
 abbrev version_of : Place → Version
@@ -393,10 +434,16 @@ version_of (AtTable v) = v
 version_of (Behind v w) = v
 version_of (AtDigest w) = Two
 
-behind_head : (d : Declaration) (p : Place) (bytes rest : List ℕ) → GoesOn d p bytes rest → (more : List ℕ) × (bytes ≡ head (version_of p) ++ more)
+behind_head : (d : Declaration) (p : Place) (bytes rest : List ℕ) → GoesOn d p bytes rest → (more : List ℕ)
+    × (bytes ≡ head (version_of p) ++ more)
 behind_head d (AtTable v) bytes rest g = (rest, g.bytes_are)
-behind_head d (Behind v w) bytes rest g = (table_text d ++ (flat_map record_text (entries w) ++ rest), g.bytes_are ∙ behind_table d v w rest)
-behind_head d (AtDigest w) bytes rest g = (table_text d ++ (flat_map record_text (entries w) ++ (end_text (length (entries w)) ++ rest)), g.bytes_are ∙ behind_count d w rest)
+behind_head d (Behind v w) bytes rest g = (
+  table_text d ++ (flat_map record_text (entries w) ++ rest),
+  g.bytes_are
+      ∙ behind_table d v w rest,
+)
+behind_head d (AtDigest w) bytes rest g =
+    (table_text d ++ (flat_map record_text (entries w) ++ (end_text (length (entries w)) ++ rest)), g.bytes_are ∙ behind_count d w rest)
 
 head_cut : (v w : Version) (xs ys bytes : List ℕ) → bytes ≡ head v ++ xs → bytes ≡ head w ++ ys → (v ≡ w) × (xs ≡ ys)
 head_cut v w xs ys bytes e f =
@@ -417,7 +464,8 @@ all_told ((n, Floor) ∷ es) = (tt, all_told es)
 told_in : (v w : Version) (es : List (NameParts × Known)) → v ≡ w → AllByRecursion (Tells v) es → AllByRecursion (Tells w) es
 told_in v w es e h = subst (λ x. AllByRecursion (Tells x) es) e h
 
-order : (d : Declaration) (p q : Place) (bytes rest more : List ℕ) → IsDeclaration d → GoesOn d p bytes rest → GoesOn d q bytes more → Order d p q rest more
+order : (d : Declaration) (p q : Place) (bytes rest more : List ℕ) → IsDeclaration d → GoesOn d p bytes rest
+    → GoesOn d q bytes more → Order d p q rest more
 unfolding behind_head
 order d (AtTable v) (AtTable w) bytes rest more declared g h =
     let c = head_cut v w rest more bytes g.bytes_are h.bytes_are in
@@ -442,42 +490,55 @@ order d (Behind v x) (Behind w y) bytes rest more declared g h =
   where
     of : v ≡ w → Meets (entries x) (entries y) rest more → Order d (Behind v x) (Behind w y) rest more
     of version (same e i) = one (λ t. Behind (version t) (same_entries_map x y e t)) i
-    of version (first_goes_on z left further e i) = before (good_next d v x y z left rest further h.good.0 h.good.1 (told_in w v (entries y) (sym version) h.good.2) e i)
-    of version (second_goes_on z left further e i) = behind (good_next d w y x z left more further g.good.0 g.good.1 (told_in v w (entries x) version g.good.2) e i)
+    of version (first_goes_on z left further e i) =
+        before (good_next d v x y z left rest further h.good.0 h.good.1 (told_in w v (entries y) (sym version) h.good.2) e i)
+    of version (second_goes_on z left further e i) =
+        behind (good_next d w y x z left more further g.good.0 g.good.1 (told_in v w (entries x) version g.good.2) e i)
 order d (Behind v x) (AtDigest y) bytes rest more declared g h =
     let b = behind_head d (Behind v x) bytes rest g in
     let c = behind_head d (AtDigest y) bytes more h in
     let cut_off = head_cut v Two b.0 c.0 bytes b.1 c.1 in
-    of cut_off.0 (meets d (entries x) (entries y) rest (end_text (length (entries y)) ++ more) g.good.1 h.good.records (after_table d _ _ cut_off.1))
+    of cut_off.0 (meets d (entries x) (entries y) rest (end_text (length (entries y)) ++ more) g.good.1 h.good.records
+    (after_table d _ _ cut_off.1))
   where
     of : v ≡ Two → Meets (entries x) (entries y) rest (end_text (length (entries y)) ++ more) → Order d (Behind v x) (AtDigest y) rest more
     of version (same e i) =
         let views = same_entries_map x y e in
-        before (good_end d v x rest more version (subst (IsView d) (sym views) h.good) (i ∙ ap (λ w. end_text (length (entries w)) ++ more) (sym views)))
-    of version (first_goes_on z left further e i) = before (good_next d v x y z left rest further h.good.settled h.good.records (told_in Two v (entries y) (sym version) (all_told (entries y))) e i)
+        before (good_end d v x rest more version (subst (IsView d) (sym views) h.good)
+        (i ∙ ap (λ w. end_text (length (entries w)) ++ more) (sym views)))
+    of version (first_goes_on z left further e i) =
+        before (good_next d v x y z left rest further h.good.settled h.good.records (told_in Two v (entries y) (sym version)
+        (all_told (entries y))) e i)
     of version (second_goes_on z left further e i) = absurd (no_end z (length (entries y)) further more (sym i))
 order d (AtDigest x) (Behind w y) bytes rest more declared g h =
     let b = behind_head d (AtDigest x) bytes rest g in
     let c = behind_head d (Behind w y) bytes more h in
     let cut_off = head_cut w Two c.0 b.0 bytes c.1 b.1 in
-    of cut_off.0 (meets d (entries y) (entries x) more (end_text (length (entries x)) ++ rest) h.good.1 g.good.records (after_table d _ _ cut_off.1))
+    of cut_off.0 (meets d (entries y) (entries x) more (end_text (length (entries x)) ++ rest) h.good.1 g.good.records
+    (after_table d _ _ cut_off.1))
   where
     of : w ≡ Two → Meets (entries y) (entries x) more (end_text (length (entries x)) ++ rest) → Order d (AtDigest x) (Behind w y) rest more
     of version (same e i) =
         let views = same_entries_map y x e in
-        behind (good_end d w y more rest version (subst (IsView d) (sym views) g.good) (i ∙ ap (λ v. end_text (length (entries v)) ++ rest) (sym views)))
-    of version (first_goes_on z left further e i) = behind (good_next d w y x z left more further g.good.settled g.good.records (told_in Two w (entries x) (sym version) (all_told (entries x))) e i)
+        behind (good_end d w y more rest version (subst (IsView d) (sym views) g.good)
+        (i ∙ ap (λ v. end_text (length (entries v)) ++ rest) (sym views)))
+    of version (first_goes_on z left further e i) =
+        behind (good_next d w y x z left more further g.good.settled g.good.records (told_in Two w (entries x) (sym version)
+        (all_told (entries x))) e i)
     of version (second_goes_on z left further e i) = absurd (no_end z (length (entries x)) further rest (sym i))
 order d (AtDigest x) (AtDigest y) bytes rest more declared g h =
     let b = behind_head d (AtDigest x) bytes rest g in
     let c = behind_head d (AtDigest y) bytes more h in
     let cut_off = head_cut Two Two b.0 c.0 bytes b.1 c.1 in
-    of (meets d (entries x) (entries y) (end_text (length (entries x)) ++ rest) (end_text (length (entries y)) ++ more) g.good.records h.good.records (after_table d _ _ cut_off.1))
+    of (meets d (entries x) (entries y) (end_text (length (entries x)) ++ rest) (end_text (length (entries y)) ++ more)
+    g.good.records h.good.records (after_table d _ _ cut_off.1))
   where
-    of : Meets (entries x) (entries y) (end_text (length (entries x)) ++ rest) (end_text (length (entries y)) ++ more) → Order d (AtDigest x) (AtDigest y) rest more
+    of : Meets (entries x) (entries y) (end_text (length (entries x)) ++ rest) (end_text (length (entries y)) ++ more)
+        → Order d (AtDigest x) (AtDigest y) rest more
     of (same e i) =
         let lines = ap (λ l. end_text (length l)) e in
-        one (ap (λ v. AtDigest v) (same_entries_map x y e)) (same_front (end_text (length (entries x))) (end_text (length (entries y))) rest more (ap length lines) i).1
+        one (ap (λ v. AtDigest v) (same_entries_map x y e)) (same_front (end_text (length (entries x)))
+        (end_text (length (entries y))) rest more (ap length lines) i).1
     of (first_goes_on z left further e i) = absurd (no_end z (length (entries x)) further rest (sym i))
     of (second_goes_on z left further e i) = absurd (no_end z (length (entries y)) further more (sym i))
 
@@ -502,7 +563,15 @@ nothing (x ∷ xs) e = absurd (omega arith)
 no_cut_head : (d : Declaration) (p : Place) (bytes rest : List ℕ) → IsCutHead bytes → GoesOn d p bytes rest → ⊥
 no_cut_head d p bytes rest h g =
     let b = behind_head d p bytes rest g in
-    h.some (nothing h.more (omega (arith, ap length h.head_is, length-append bytes h.more, ap length b.1, length-append (head (version_of p)) b.0, head_length h.version, head_length (version_of p))))
+    h.some (nothing h.more (omega (
+      arith,
+      ap length h.head_is,
+      length-append bytes h.more,
+      ap length b.1,
+      length-append (head (version_of p)) b.0,
+      head_length h.version,
+      head_length (version_of p),
+    )))
 
 one_place : (d : Declaration) (bytes : List ℕ) (r s : Outcome) → IsDeclaration d → Stops d bytes r → Stops d bytes s → r ≡ s
 one_place d bytes r s declared (other_head h e) (other_head k f) = e ∙ sym f
@@ -551,8 +620,10 @@ no_length len e = cc
 one_length : (m n : ℕ) → Some m ≡ Some n → n ≡ m
 one_length m n e = cc
 
-body_stop : (d : Declaration) (p : Place) (f : Form) (after : List ℕ) (len : ℕ) (r : Outcome) → Follows p f → body_length f ≡ Some len → ((Has : List ℕ → Outcome → Type 0) → BodyStop len after Has r) → FormStop d p f after r
-body_stop d (AtTable v) (forms.Table n) after len r h e stop = subst (λ k. BodyStop k after (IsOtherTable d) r) (one_length n len e) (stop (IsOtherTable d))
+body_stop : (d : Declaration) (p : Place) (f : Form) (after : List ℕ) (len : ℕ) (r : Outcome) → Follows p f
+    → body_length f ≡ Some len → ((Has : List ℕ → Outcome → Type 0) → BodyStop len after Has r) → FormStop d p f after r
+body_stop d (AtTable v) (forms.Table n) after len r h e stop =
+    subst (λ k. BodyStop k after (IsOtherTable d) r) (one_length n len e) (stop (IsOtherTable d))
 body_stop d (AtTable v) (forms.Content name n) after len r h e stop = absurd h
 body_stop d (AtTable v) (forms.Dispute name) after len r h e stop = absurd h
 body_stop d (AtTable v) (forms.Retirement name) after len r h e stop = absurd h
@@ -560,7 +631,8 @@ body_stop d (AtTable v) (forms.Floor name) after len r h e stop = absurd h
 body_stop d (AtTable v) (forms.End count) after len r h e stop = absurd h
 body_stop d (AtTable v) (forms.Digest digits) after len r h e stop = absurd h
 body_stop d (Behind v w) (forms.Table n) after len r h e stop = absurd h
-body_stop d (Behind v w) (forms.Content name n) after len r h e stop = above h (subst (λ k. BodyStop k after (IsRefused d) r) (one_length n len e) (stop (IsRefused d)))
+body_stop d (Behind v w) (forms.Content name n) after len r h e stop =
+    above h (subst (λ k. BodyStop k after (IsRefused d) r) (one_length n len e) (stop (IsRefused d)))
 body_stop d (Behind v w) (forms.Dispute name) after len r h e stop = absurd (no_length len e)
 body_stop d (Behind v w) (forms.Retirement name) after len r h e stop = absurd (no_length len e)
 body_stop d (Behind v w) (forms.Floor name) after len r h e stop = absurd (no_length len e)
@@ -574,8 +646,11 @@ body_stop d (AtDigest w) (forms.Floor name) after len r h e stop = absurd h
 body_stop d (AtDigest w) (forms.End count) after len r h e stop = absurd h
 body_stop d (AtDigest w) (forms.Digest digits) after len r h e stop = absurd (no_length len e)
 
-at_body : (d : Declaration) (p : Place) (f : Form) (bytes after : List ℕ) (len : ℕ) (r : Outcome) → Stands d p f bytes after → body_length f ≡ Some len → ((Has : List ℕ → Outcome → Type 0) → BodyStop len after Has r) → Stops d bytes r
-at_body d p f bytes after len r s e stop = at_place p (line_of f ++ (10 ∷ after)) s.goes_on (at_form f after s.form (may_stand p f s.follows) refl (body_stop d p f after len r s.follows e stop))
+at_body : (d : Declaration) (p : Place) (f : Form) (bytes after : List ℕ) (len : ℕ) (r : Outcome) → Stands d p f bytes after
+    → body_length f ≡ Some len → ((Has : List ℕ → Outcome → Type 0) → BodyStop len after Has r) → Stops d bytes r
+at_body d p f bytes after len r s e stop =
+    at_place p (line_of f ++ (10 ∷ after)) s.goes_on (at_form f after s.form (may_stand p f s.follows) refl
+    (body_stop d p f after len r s.follows e stop))
 
 no_name : (n : NameParts) → None ≡ Some n → ⊥
 no_name n e = cc
@@ -583,12 +658,21 @@ no_name n e = cc
 one_some : (m n : NameParts) → Some m ≡ Some n → n ≡ m
 one_some m n e = cc
 
-low_stop : (d : Declaration) (bytes : List ℕ) (f : Form) (h : HasLowName d bytes) → f ≡ h.form → Stop d (Behind h.version h.view) (line_of h.form ++ (10 ∷ h.after)) (Err faults.NotRising)
+low_stop : (d : Declaration) (bytes : List ℕ) (f : Form) (h : HasLowName d bytes) → f ≡ h.form
+    → Stop d (Behind h.version h.view) (line_of h.form ++ (10 ∷ h.after)) (Err faults.NotRising)
 low_stop d bytes (forms.Table len) h e = absurd (no_name h.name (ap record_name e ∙ h.name_is))
-low_stop d bytes (forms.Content name len) h e = at_form (forms.Content name len) h.after (subst IsForm (sym e) h.is_form) (subst (MayStand (Behind h.version h.view)) (sym e) h.may) (ap (λ f. line_of f ++ (10 ∷ h.after)) (sym e)) (low (subst (λ f. ¬ (Follows (Behind h.version h.view) f)) (sym e) h.low) refl)
-low_stop d bytes (forms.Dispute name) h e = at_form (forms.Dispute name) h.after (subst IsForm (sym e) h.is_form) (subst (MayStand (Behind h.version h.view)) (sym e) h.may) (ap (λ f. line_of f ++ (10 ∷ h.after)) (sym e)) (low (subst (λ f. ¬ (Follows (Behind h.version h.view) f)) (sym e) h.low) refl)
-low_stop d bytes (forms.Retirement name) h e = at_form (forms.Retirement name) h.after (subst IsForm (sym e) h.is_form) (subst (MayStand (Behind h.version h.view)) (sym e) h.may) (ap (λ f. line_of f ++ (10 ∷ h.after)) (sym e)) (low (subst (λ f. ¬ (Follows (Behind h.version h.view) f)) (sym e) h.low) refl)
-low_stop d bytes (forms.Floor name) h e = at_form (forms.Floor name) h.after (subst IsForm (sym e) h.is_form) (subst (MayStand (Behind h.version h.view)) (sym e) h.may) (ap (λ f. line_of f ++ (10 ∷ h.after)) (sym e)) (low (subst (λ f. ¬ (Follows (Behind h.version h.view) f)) (sym e) h.low) refl)
+low_stop d bytes (forms.Content name len) h e = at_form (forms.Content name len) h.after (subst IsForm (sym e) h.is_form)
+    (subst (MayStand (Behind h.version h.view)) (sym e) h.may) (ap (λ f. line_of f ++ (10 ∷ h.after)) (sym e))
+    (low (subst (λ f. ¬ (Follows (Behind h.version h.view) f)) (sym e) h.low) refl)
+low_stop d bytes (forms.Dispute name) h e = at_form (forms.Dispute name) h.after (subst IsForm (sym e) h.is_form)
+    (subst (MayStand (Behind h.version h.view)) (sym e) h.may) (ap (λ f. line_of f ++ (10 ∷ h.after)) (sym e))
+    (low (subst (λ f. ¬ (Follows (Behind h.version h.view) f)) (sym e) h.low) refl)
+low_stop d bytes (forms.Retirement name) h e = at_form (forms.Retirement name) h.after (subst IsForm (sym e) h.is_form)
+    (subst (MayStand (Behind h.version h.view)) (sym e) h.may) (ap (λ f. line_of f ++ (10 ∷ h.after)) (sym e))
+    (low (subst (λ f. ¬ (Follows (Behind h.version h.view) f)) (sym e) h.low) refl)
+low_stop d bytes (forms.Floor name) h e = at_form (forms.Floor name) h.after (subst IsForm (sym e) h.is_form)
+    (subst (MayStand (Behind h.version h.view)) (sym e) h.may) (ap (λ f. line_of f ++ (10 ∷ h.after)) (sym e))
+    (low (subst (λ f. ¬ (Follows (Behind h.version h.view) f)) (sym e) h.low) refl)
 low_stop d bytes (forms.End count) h e = absurd (no_name h.name (ap record_name e ∙ h.name_is))
 low_stop d bytes (forms.Digest digits) h e = absurd (no_name h.name (ap record_name e ∙ h.name_is))
 
@@ -596,37 +680,57 @@ digest_is : (bytes : List ℕ) → IsForm (forms.Digest (digest_of bytes))
 digest_is bytes = digest_spelled bytes
 
 -- behind the records of a view stands the line of their count, and in version 2 behind that the line of the digest
-text_stop : (d : Declaration) (v : Version) (w : View) (bytes after : List ℕ) (r : Outcome) → IsView d w → MayTell v w → bytes ≡ text_of v d w ++ after → (v ≡ One → EndStop One w (length (entries w)) after r) → (v ≡ Two → SealStop d w (digest_of (counted Two d (entries w))) after r) → Stops d bytes r
+text_stop : (d : Declaration) (v : Version) (w : View) (bytes after : List ℕ) (r : Outcome) → IsView d w → MayTell v w
+    → bytes ≡ text_of v d w ++ after → (v ≡ One → EndStop One w (length (entries w)) after r)
+    → (v ≡ Two → SealStop d w (digest_of (counted Two d (entries w))) after r) → Stops d bytes r
 text_stop d One w bytes after r is may e stop other =
     let count = length (entries w) in
     at_place (Behind One w) (line_of (forms.End count) ++ (10 ∷ after))
     (record {
       good = (is.settled, is.records, may);
-      bytes_are = e ∙ ap (λ l. l ++ after) (append-nil (counted One d (entries w))) ∙ append_assoc (begun One d (entries w)) (end_text count) after ∙ ap (λ l. begun One d (entries w) ++ l) (append_assoc (line_of (forms.End count)) (10 ∷ []) after);
+      bytes_are = e ∙ ap (λ l. l ++ after) (append-nil (counted One d (entries w))) ∙ append_assoc (begun One d (entries w))
+          (end_text count) after ∙ ap (λ l. begun One d (entries w) ++ l) (append_assoc (line_of (forms.End count)) (10 ∷ []) after);
     })
     (at_form (forms.End count) after is.count tt refl (stop refl))
 text_stop d Two w bytes after r is may e other stop =
     let text = counted Two d (entries w) in
     at_place (AtDigest w) (line_of (forms.Digest (digest_of text)) ++ (10 ∷ after))
-    (record { good = is; bytes_are = e ∙ append_assoc text (digest_text text) after ∙ ap (λ l. text ++ l) (append_assoc (line_of (forms.Digest (digest_of text))) (10 ∷ []) after) })
+    (record {
+      good = is;
+      bytes_are = e ∙ append_assoc text (digest_text text) after
+          ∙ ap (λ l. text ++ l) (append_assoc (line_of (forms.Digest (digest_of text))) (10 ∷ []) after);
+    })
     (at_form (forms.Digest (digest_of text)) after (digest_is text) tt refl (stop refl))
 
 stops : (d : Declaration) (bytes : List ℕ) (r : Outcome) → Judges d bytes r → r ≢ Err faults.NoMemory → Stops d bytes r
-stops d bytes (Ok v) j some = text_stop d j.version v bytes [] (Ok v) j.is_view j.may (j.bytes_are ∙ sym (append-nil (text_of j.version d v))) (λ o. file refl refl refl refl) (λ o. sealed_file refl refl refl)
+stops d bytes (Ok v) j some = text_stop d j.version v bytes [] (Ok v) j.is_view j.may (j.bytes_are
+    ∙ sym (append-nil (text_of j.version d v))) (λ o. file refl refl refl refl) (λ o. sealed_file refl refl refl)
 stops d bytes (Err faults.OtherFormat) (inl h) some = other_head h refl
-stops d bytes (Err faults.OtherFormat) (inr (inl h)) some = at_place h.place (h.line ++ (10 ∷ h.after)) h.goes_on (bad_line h.line h.after h.lacks refl h.none refl)
-stops d bytes (Err faults.OtherFormat) (inr (inr h)) some = at_body d h.place h.form bytes h.after h.len (Err faults.OtherFormat) h.stands h.length_is (λ Has. unfed h.unfed refl)
+stops d bytes (Err faults.OtherFormat) (inr (inl h)) some = at_place h.place (h.line ++ (10 ∷ h.after)) h.goes_on
+    (bad_line h.line h.after h.lacks refl h.none refl)
+stops d bytes (Err faults.OtherFormat) (inr (inr h)) some =
+    at_body d h.place h.form bytes h.after h.len (Err faults.OtherFormat) h.stands h.length_is (λ Has. unfed h.unfed refl)
 stops d bytes (Err faults.Truncated) (inl h) some = cut_head h refl
 stops d bytes (Err faults.Truncated) (inr (inl h)) some = at_place h.place h.rest h.goes_on (cut_line h.lacks refl)
-stops d bytes (Err faults.Truncated) (inr (inr h)) some = at_body d h.place h.form bytes h.after h.len (Err faults.Truncated) h.stands h.length_is (λ Has. short h.short refl)
-stops d bytes (Err faults.NotRising) h some = at_place (Behind h.version h.view) (line_of h.form ++ (10 ∷ h.after)) h.goes_on (low_stop d bytes h.form h refl)
-stops d bytes (Err faults.OtherCount) h some = at_place (Behind h.version h.view) (line_of (forms.End h.count) ++ (10 ∷ h.after)) h.stands.goes_on (at_form (forms.End h.count) h.after h.stands.form tt refl (other_count h.other refl))
+stops d bytes (Err faults.Truncated) (inr (inr h)) some =
+    at_body d h.place h.form bytes h.after h.len (Err faults.Truncated) h.stands h.length_is (λ Has. short h.short refl)
+stops d bytes (Err faults.NotRising) h some = at_place (Behind h.version h.view) (line_of h.form ++ (10 ∷ h.after))
+    h.goes_on (low_stop d bytes h.form h refl)
+stops d bytes (Err faults.OtherCount) h some =
+    at_place (Behind h.version h.view) (line_of (forms.End h.count) ++ (10 ∷ h.after)) h.stands.goes_on
+    (at_form (forms.End h.count) h.after h.stands.form tt refl (other_count h.other refl))
 stops d bytes (Err faults.OtherSchema) h some =
-    at_place (AtTable h.version) _ h.stands.goes_on (at_form (forms.Table (length h.table)) (h.table ++ (10 ∷ h.after)) h.stands.form tt refl (whole h.table h.after refl refl (h.other, refl)))
+    at_place (AtTable h.version) _ h.stands.goes_on (at_form (forms.Table (length h.table)) (h.table ++ (10 ∷ h.after))
+    h.stands.form tt refl (whole h.table h.after refl refl (h.other, refl)))
 stops d bytes (Err (faults.Segment fault)) h some =
-    at_place (Behind h.version h.view) _ h.stands.goes_on (at_form (forms.Content h.name (length h.content)) (h.content ++ (10 ∷ h.after)) h.stands.form tt refl (above h.stands.follows (whole h.content h.after refl refl (record { fault = fault; refused = h.refused; is = refl }))))
-stops d bytes (Err faults.Trailing) h some = text_stop d h.version h.view bytes (h.byte ∷ h.more) (Err faults.Trailing) h.is_view h.may h.bytes_are (λ o. trailing refl h.byte h.more refl refl refl) (λ o. sealed_more h.byte h.more refl refl refl)
-stops d bytes (Err faults.OtherDigest) h some = at_place (AtDigest h.view) _ h.stands.goes_on (at_form (forms.Digest h.digits) h.after h.stands.form tt refl (other_digest h.other refl))
+    at_place (Behind h.version h.view) _ h.stands.goes_on (at_form (forms.Content h.name (length h.content))
+    (h.content ++ (10 ∷ h.after)) h.stands.form tt refl
+    (above h.stands.follows (whole h.content h.after refl refl (record { fault = fault; refused = h.refused; is = refl }))))
+stops d bytes (Err faults.Trailing) h some = text_stop d h.version h.view bytes (h.byte ∷ h.more) (Err faults.Trailing)
+    h.is_view h.may h.bytes_are (λ o. trailing refl h.byte h.more refl refl refl) (λ o. sealed_more h.byte h.more refl refl refl)
+stops d bytes (Err faults.OtherDigest) h some =
+    at_place (AtDigest h.view) _ h.stands.goes_on (at_form (forms.Digest h.digits) h.after h.stands.form tt refl
+    (other_digest h.other refl))
 stops d bytes (Err faults.NoMemory) h some = absurd (some refl)
 
 -- ---- the laws
@@ -636,7 +740,12 @@ one_judgement d bytes a b declared j k some also = one_place d bytes a b declare
 
 -- the file of a view is judged to be that view
 pub own_judgement : OwnJudgement
-own_judgement d v judged declared is j some = one_judgement d (file_of d v) judged (Ok v) declared j (record { is_view = is; version = Two; may = all_told (entries v); bytes_are = refl }) some (λ e. never v e)
+own_judgement d v judged declared is j some = one_judgement d (file_of d v) judged (Ok v) declared j (record {
+  is_view = is;
+  version = Two;
+  may = all_told (entries v);
+  bytes_are = refl;
+}) some (λ e. never v e)
   where
     never : (v : View) → Ok v ≡ Err faults.NoMemory → ⊥
     never v e = cc

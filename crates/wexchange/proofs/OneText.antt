@@ -34,7 +34,8 @@ record_is_form d (n, Retired) h = h
 record_is_form d (n, Floor) h = h
 
 pub record_first : (e : NameParts × Known) (s : List ℕ) → record_text e ++ s ≡ line_of (record_form e) ++ (10 ∷ record_rest e s)
-record_first (n, Live bytes) s = append_assoc (line_of (forms.Content n (length bytes))) (10 ∷ (bytes ++ 10 ∷ [])) s ∙ ap (λ l. line_of (forms.Content n (length bytes)) ++ (10 ∷ l)) (append_assoc bytes (10 ∷ []) s)
+record_first (n, Live bytes) s = append_assoc (line_of (forms.Content n (length bytes))) (10 ∷ (bytes ++ 10 ∷ [])) s
+    ∙ ap (λ l. line_of (forms.Content n (length bytes)) ++ (10 ∷ l)) (append_assoc bytes (10 ∷ []) s)
 record_first (n, Disputed) s = append_assoc (line_of (forms.Dispute n)) (10 ∷ []) s
 record_first (n, Retired) s = append_assoc (line_of (forms.Retirement n)) (10 ∷ []) s
 record_first (n, Floor) s = append_assoc (line_of (forms.Floor n)) (10 ∷ []) s
@@ -84,7 +85,8 @@ apart m n j k other e = other (lines m n j k (ap line_of e))
     lines m n Floor Floor e = first_byte 85 85 _ _ e
 
 -- by the forms of their lines and what stands behind them
-same_record : (e f : NameParts × Known) (s t : List ℕ) → record_form e ≡ record_form f → record_rest e s ≡ record_rest f t → (e ≡ f) × (s ≡ t)
+same_record : (e f : NameParts × Known) (s t : List ℕ) → record_form e ≡ record_form f → record_rest e s ≡ record_rest f t
+    → (e ≡ f) × (s ≡ t)
 same_record (m, Live a) (n, Live b) s t e r =
     let parts = content_parts m n (length a) (length b) e in
     let rest = same_front a b (10 ∷ s) (10 ∷ t) parts.1 r in
@@ -105,9 +107,11 @@ same_record (m, Floor) (n, Live b) s t e r = absurd (apart m n Floor (Live b) (�
 same_record (m, Floor) (n, Disputed) s t e r = absurd (apart m n Floor Disputed (λ is. omega (arith, is)) e)
 same_record (m, Floor) (n, Retired) s t e r = absurd (apart m n Floor Retired (λ is. omega (arith, is)) e)
 
-pub one_record : (d : Declaration) (e f : NameParts × Known) (s t : List ℕ) → IsRecord d e → IsRecord d f → record_text e ++ s ≡ record_text f ++ t → (e ≡ f) × (s ≡ t)
+pub one_record : (d : Declaration) (e f : NameParts × Known) (s t : List ℕ) → IsRecord d e → IsRecord d f
+    → record_text e ++ s ≡ record_text f ++ t → (e ≡ f) × (s ≡ t)
 one_record d e f s t h k is =
-    let c = cut (record_form e) (record_form f) (record_rest e s) (record_rest f t) (record_is_form d e h) (record_is_form d f k) (sym (record_first e s) ∙ is ∙ record_first f t) in
+    let c = cut (record_form e) (record_form f) (record_rest e s) (record_rest f t) (record_is_form d e h)
+    (record_is_form d f k) (sym (record_first e s) ∙ is ∙ record_first f t) in
     same_record e f s t c.0 c.1
 
 -- the line of the end begins no record
@@ -118,13 +122,17 @@ no_end (n, Retired) count s t e = omega (arith, first_byte 82 69 _ _ e)
 no_end (n, Floor) count s t e = omega (arith, first_byte 85 69 _ _ e)
 
 -- records up to the line of an end, whatever stands behind it
-one_list : (d : Declaration) (es fs : List (NameParts × Known)) (m n : ℕ) (s t : List ℕ) → AllByRecursion (IsRecord d) es → AllByRecursion (IsRecord d) fs → flat_map record_text es ++ (end_text m ++ s) ≡ flat_map record_text fs ++ (end_text n ++ t) → es ≡ fs
+one_list : (d : Declaration) (es fs : List (NameParts × Known)) (m n : ℕ) (s t : List ℕ) → AllByRecursion (IsRecord d) es
+    → AllByRecursion (IsRecord d) fs → flat_map record_text es ++ (end_text m ++ s) ≡ flat_map record_text fs ++ (end_text n ++ t) → es ≡ fs
 one_list d [] [] m n s t h k e = refl
-one_list d [] (f ∷ fs) m n s t h k e = absurd (no_end f m (flat_map record_text fs ++ (end_text n ++ t)) s (sym (append_assoc (record_text f) (flat_map record_text fs) (end_text n ++ t)) ∙ sym e))
-one_list d (x ∷ es) [] m n s t h k e = absurd (no_end x n (flat_map record_text es ++ (end_text m ++ s)) t (sym (append_assoc (record_text x) (flat_map record_text es) (end_text m ++ s)) ∙ e))
+one_list d [] (f ∷ fs) m n s t h k e = absurd (no_end f m (flat_map record_text fs ++ (end_text n ++ t)) s
+    (sym (append_assoc (record_text f) (flat_map record_text fs) (end_text n ++ t)) ∙ sym e))
+one_list d (x ∷ es) [] m n s t h k e = absurd (no_end x n (flat_map record_text es ++ (end_text m ++ s)) t
+    (sym (append_assoc (record_text x) (flat_map record_text es) (end_text m ++ s)) ∙ e))
 one_list d (x ∷ es) (f ∷ fs) m n s t h k e =
     let one = one_record d x f (flat_map record_text es ++ (end_text m ++ s)) (flat_map record_text fs ++ (end_text n ++ t)) h.0 k.0
-    (sym (append_assoc (record_text x) (flat_map record_text es) (end_text m ++ s)) ∙ e ∙ append_assoc (record_text f) (flat_map record_text fs) (end_text n ++ t)) in
+    (sym (append_assoc (record_text x) (flat_map record_text es) (end_text m ++ s)) ∙ e ∙ append_assoc (record_text f)
+    (flat_map record_text fs) (end_text n ++ t)) in
     let rest = one_list d es fs m n s t h.1 k.1 one.1 in
     λ i. one.0 i ∷ rest i
 
@@ -139,7 +147,8 @@ one_version Two One xs ys e = absurd (omega (arith, fourth 87 83 88 50 49 _ _ e)
 one_version Two Two xs ys e = refl
 
 -- a text, part by part
-text_parts : (r : Version) (d : Declaration) (es : List (NameParts × Known)) (seal : List ℕ) → counted r d es ++ seal ≡ head r ++ (table_text d ++ (flat_map record_text es ++ (end_text (length es) ++ seal)))
+text_parts : (r : Version) (d : Declaration) (es : List (NameParts × Known)) (seal : List ℕ)
+    → counted r d es ++ seal ≡ head r ++ (table_text d ++ (flat_map record_text es ++ (end_text (length es) ++ seal)))
 text_parts r d es seal =
     append_assoc ((head r ++ table_text d) ++ flat_map record_text es) (end_text (length es)) seal
     ∙ append_assoc (head r ++ table_text d) (flat_map record_text es) (end_text (length es) ++ seal)
@@ -147,11 +156,15 @@ text_parts r d es seal =
 
 pub one_text : OneText
 one_text d r s v w h k e =
-    let one = sym (text_parts r d (entries v) (sealed r (counted r d (entries v)))) ∙ e ∙ text_parts s d (entries w) (sealed s (counted s d (entries w))) in
+    let one = sym (text_parts r d (entries v) (sealed r (counted r d (entries v)))) ∙ e ∙ text_parts s d (entries w)
+    (sealed s (counted s d (entries w))) in
     let version = one_version r s _ _ one in
     let behind = same_front (head r) (head s) _ _ (ap (λ x. length (head x)) version) one in
-    let records = same_front (table_text d) (table_text d) _ _ refl behind.1 in
-    (version, same_entries_map v w (one_list d (entries v) (entries w) (length (entries v)) (length (entries w)) (sealed r (counted r d (entries v))) (sealed s (counted s d (entries w))) h k records.1))
+    let records = same_front (table_text d) (table_text d) _ _ refl behind.1 in (
+      version,
+      same_entries_map v w (one_list d (entries v) (entries w) (length (entries v)) (length (entries w))
+          (sealed r (counted r d (entries v))) (sealed s (counted s d (entries w))) h k records.1),
+    )
 
 pub one_view : OneView
 one_view d v w h k e = (one_text d Two Two v w h k e).1

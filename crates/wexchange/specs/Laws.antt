@@ -15,7 +15,8 @@ use Rattle.wexchange.specs.declared.version.Version.TheVariants.{One, Two}
 
 -- no two views of a declaration have one text, in whatever versions
 abbrev pub OneText : Type 0
-OneText = (d : Declaration) (r s : Version) (v w : View) → AreRecords d v → AreRecords d w → text_of r d v ≡ text_of s d w → (r ≡ s) × (v ≡ w)
+OneText = (d : Declaration) (r s : Version) (v w : View) → AreRecords d v → AreRecords d w → text_of r d v ≡ text_of s d w
+    → (r ≡ s) × (v ≡ w)
 
 -- no two views of a declaration have one file
 abbrev pub OneView : Type 0
@@ -23,22 +24,29 @@ OneView = (d : Declaration) (v w : View) → AreRecords d v → AreRecords d w �
 
 -- bytes are judged in one way, unless memory runs out
 abbrev pub OneJudgement : Type 0
-OneJudgement = (d : Declaration) (bytes : List ℕ) (a b : Result View FileFault) → IsDeclaration d → Judges d bytes a → Judges d bytes b → a ≢ Err faults.NoMemory → b ≢ Err faults.NoMemory → a ≡ b
+OneJudgement = (d : Declaration) (bytes : List ℕ) (a b : Result View FileFault) → IsDeclaration d → Judges d bytes a
+    → Judges d bytes b → a ≢ Err faults.NoMemory → b ≢ Err faults.NoMemory → a ≡ b
 
 -- the file of a view is judged to be that view, unless memory runs out
 abbrev pub OwnJudgement : Type 0
-OwnJudgement = (d : Declaration) (v : View) (judged : Result View FileFault) → IsDeclaration d → IsView d v → Judges d (file_of d v) judged → judged ≢ Err faults.NoMemory → judged ≡ Ok v
+OwnJudgement = (d : Declaration) (v : View) (judged : Result View FileFault) → IsDeclaration d → IsView d v
+    → Judges d (file_of d v) judged → judged ≢ Err faults.NoMemory → judged ≡ Ok v
 
 -- bytes are judged to be a view only where they are its file, or its text in version 1, which tells no floor
 abbrev pub TextsAlone : Type 0
-TextsAlone = (d : Declaration) (v : View) (bytes : List ℕ) → Judges d bytes (Ok v) → (bytes ≡ file_of d v) ⊎ (MayTell One v × (bytes ≡ text_of One d v))
+TextsAlone = (d : Declaration) (v : View) (bytes : List ℕ) → Judges d bytes (Ok v) → (bytes ≡ file_of d v)
+    ⊎ (MayTell One v × (bytes ≡ text_of One d v))
 
 -- ---- a worked file
 
 abbrev pub sales : Declaration
 sales = record {
   table = codes "sales";
-  columns = record { name = codes "day"; kind = Integer } ∷ record { name = codes "shop"; kind = Text } ∷ record { name = codes "amount"; kind = Integer } ∷ [];
+  columns = record { name = codes "day"; kind = Integer } ∷ record { name = codes "shop"; kind = Text } ∷ record {
+    name =
+        codes "amount";
+    kind = Integer;
+  } ∷ [];
 }
 
 abbrev pub four_rows : List ℕ

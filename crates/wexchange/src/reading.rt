@@ -80,7 +80,8 @@ fn read_head(bytes: &[u8]) -> Result<(Version, &[u8]), FileFault>
 // The length of the declaration, and what stands behind its line.
 fn read_table_line(rest: &[u8]) -> Result<(u32, &[u8]), FileFault>
     ensures found { IfOk result (λ x. IsNumber x.0 × (rest.now ≡ line_of (Form.Table x.0) ++ (10 ∷ x.1.now))) }
-    ensures fault { IfErr result (λ fault. (r : Version) (d : Declaration) (bytes : List ℕ) → GoesOn d (AtTable r) bytes rest.now → IsFault d bytes fault) }
+    ensures fault { IfErr result (λ fault. (r : Version) (d : Declaration) (bytes : List ℕ)
+        → GoesOn d (AtTable r) bytes rest.now → IsFault d bytes fault) }
 {
     let Some((line, after)) = cut_line(rest) else {
         return Err(FileFault::Truncated);
@@ -106,7 +107,8 @@ fn behind_same<'a>(schema: &Schema, table: &[u8], more: &'a [u8]) -> Result<&'a 
 fn table_behind<'a>(schema: &Schema, len: u32, after: &'a [u8]) -> Result<&'a [u8], FileFault>
     requires { IsNumber len }
     ensures found { IfOk result (λ more. line_of (Form.Table len) ++ (10 ∷ after.now) ≡ table_text schema.now ++ more.now) }
-    ensures fault { IfErr result (λ fault. (r : Version) (bytes : List ℕ) → GoesOn schema.now (AtTable r) bytes (line_of (Form.Table len) ++ (10 ∷ after.now)) → IsFault schema.now bytes fault) }
+    ensures fault { IfErr result (λ fault. (r : Version) (bytes : List ℕ)
+        → GoesOn schema.now (AtTable r) bytes (line_of (Form.Table len) ++ (10 ∷ after.now)) → IsFault schema.now bytes fault) }
 {
     match cut_body(after, len) {
         Body::Whole(table, more) => behind_same(schema, table, more),
@@ -118,7 +120,8 @@ fn table_behind<'a>(schema: &Schema, len: u32, after: &'a [u8]) -> Result<&'a [u
 // What stands behind the declaration of the table.
 fn read_table<'a>(schema: &Schema, rest: &'a [u8]) -> Result<&'a [u8], FileFault>
     ensures found { IfOk result (λ more. rest.now ≡ table_text schema.now ++ more.now) }
-    ensures fault { IfErr result (λ fault. (r : Version) (bytes : List ℕ) → GoesOn schema.now (AtTable r) bytes rest.now → IsFault schema.now bytes fault) }
+    ensures fault { IfErr result (λ fault. (r : Version) (bytes : List ℕ) → GoesOn schema.now (AtTable r) bytes rest.now
+        → IsFault schema.now bytes fault) }
 {
     let (len, after) = read_table_line(rest)?;
     table_behind(schema, len, after)
@@ -145,9 +148,11 @@ fn add_content<'a>(
     requires same { set.old.schema ≡ known.now.schema }
     requires name { IsName name }
     requires number { IsNumber len }
-    ensures found { IfOk result (λ next. (r : Version) → ReadsNext r set.old.schema set.old.view (line_of (Form.Content name len) ++ (10 ∷ after.now)) set.new.view next) }
+    ensures found { IfOk result (λ next. (r : Version)
+        → ReadsNext r set.old.schema set.old.view (line_of (Form.Content name len) ++ (10 ∷ after.now)) set.new.view next) }
     ensures schema { OnOk result (set.new.schema ≡ set.old.schema) }
-    ensures fault { IfErr result (λ fault. (r : Version) → Spoils r set.old.schema set.old.view (line_of (Form.Content name len) ++ (10 ∷ after.now)) fault) }
+    ensures fault { IfErr result (λ fault. (r : Version)
+        → Spoils r set.old.schema set.old.view (line_of (Form.Content name len) ++ (10 ∷ after.now)) fault) }
 {
     if !set.ends_before(&name) {
         return Err(FileFault::NotRising);
@@ -165,9 +170,11 @@ fn add_content<'a>(
 // Adds a name that is disputed.
 fn add_dispute<'a>(set: &mut SegmentSet, name: Name, after: &'a [u8]) -> Result<Next<'a>, FileFault>
     requires { IsName name }
-    ensures found { IfOk result (λ next. (r : Version) → ReadsNext r set.old.schema set.old.view (line_of (Form.Dispute name) ++ (10 ∷ after.now)) set.new.view next) }
+    ensures found { IfOk result (λ next. (r : Version)
+        → ReadsNext r set.old.schema set.old.view (line_of (Form.Dispute name) ++ (10 ∷ after.now)) set.new.view next) }
     ensures schema { OnOk result (set.new.schema ≡ set.old.schema) }
-    ensures fault { IfErr result (λ fault. (r : Version) → Spoils r set.old.schema set.old.view (line_of (Form.Dispute name) ++ (10 ∷ after.now)) fault) }
+    ensures fault { IfErr result (λ fault. (r : Version)
+        → Spoils r set.old.schema set.old.view (line_of (Form.Dispute name) ++ (10 ∷ after.now)) fault) }
 {
     if !set.ends_before(&name) {
         return Err(FileFault::NotRising);
@@ -185,9 +192,11 @@ fn add_retirement<'a>(
     after: &'a [u8],
 ) -> Result<Next<'a>, FileFault>
     requires { IsName name }
-    ensures found { IfOk result (λ next. (r : Version) → ReadsNext r set.old.schema set.old.view (line_of (Form.Retirement name) ++ (10 ∷ after.now)) set.new.view next) }
+    ensures found { IfOk result (λ next. (r : Version)
+        → ReadsNext r set.old.schema set.old.view (line_of (Form.Retirement name) ++ (10 ∷ after.now)) set.new.view next) }
     ensures schema { OnOk result (set.new.schema ≡ set.old.schema) }
-    ensures fault { IfErr result (λ fault. (r : Version) → Spoils r set.old.schema set.old.view (line_of (Form.Retirement name) ++ (10 ∷ after.now)) fault) }
+    ensures fault { IfErr result (λ fault. (r : Version)
+        → Spoils r set.old.schema set.old.view (line_of (Form.Retirement name) ++ (10 ∷ after.now)) fault) }
 {
     if !set.ends_before(&name) {
         return Err(FileFault::NotRising);
@@ -201,9 +210,11 @@ fn add_retirement<'a>(
 // Adds a floor, in version 2.
 fn add_floor<'a>(set: &mut SegmentSet, name: Name, after: &'a [u8]) -> Result<Next<'a>, FileFault>
     requires { IsName name }
-    ensures found { IfOk result (λ next. ReadsNext Version.Two set.old.schema set.old.view (line_of (Form.Floor name) ++ (10 ∷ after.now)) set.new.view next) }
+    ensures found { IfOk result (λ next. ReadsNext Version.Two set.old.schema set.old.view
+        (line_of (Form.Floor name) ++ (10 ∷ after.now)) set.new.view next) }
     ensures schema { OnOk result (set.new.schema ≡ set.old.schema) }
-    ensures fault { IfErr result (λ fault. Spoils Version.Two set.old.schema set.old.view (line_of (Form.Floor name) ++ (10 ∷ after.now)) fault) }
+    ensures fault { IfErr result (λ fault. Spoils Version.Two set.old.schema set.old.view
+        (line_of (Form.Floor name) ++ (10 ∷ after.now)) fault) }
 {
     if !set.ends_before_origin(&name) {
         return Err(FileFault::NotRising);
@@ -224,7 +235,8 @@ fn read_form_of<'a>(
 ) -> Result<Next<'a>, FileFault>
     requires same { set.old.schema ≡ known.now.schema }
     requires form { IsForm form }
-    ensures found { IfOk result (λ next. ReadsNext version set.old.schema set.old.view (line_of form ++ (10 ∷ after.now)) set.new.view next) }
+    ensures found { IfOk result (λ next. ReadsNext version set.old.schema set.old.view (line_of form ++ (10 ∷ after.now))
+        set.new.view next) }
     ensures schema { OnOk result (set.new.schema ≡ set.old.schema) }
     ensures fault { IfErr result (λ fault. Spoils version set.old.schema set.old.view (line_of form ++ (10 ∷ after.now)) fault) }
 {
@@ -278,7 +290,8 @@ fn judge_rest(after: &[u8]) -> Result<(), FileFault>
 // before the line.
 fn judge_digits(front: &[u8], digits: &[u8; DIGITS], rest: &[u8]) -> Result<(), FileFault>
     ensures end { OnOk result ((digits.now ≡ digest_of front.now) × (rest.now ≡ [])) }
-    ensures fault { IfErr result (λ fault. ((fault ≡ OtherDigest) × (digits.now ≢ digest_of front.now)) ⊎ ((fault ≡ Trailing) × (digits.now ≡ digest_of front.now) × (0 < length rest.now))) }
+    ensures fault { IfErr result (λ fault. ((fault ≡ OtherDigest) × (digits.now ≢ digest_of front.now))
+        ⊎ ((fault ≡ Trailing) × (digits.now ≡ digest_of front.now) × (0 < length rest.now))) }
 {
     if !is_sealed(front, digits) {
         return Err(FileFault::OtherDigest);
@@ -305,7 +318,8 @@ fn digits_in(form: Form) -> Option<[u8; DIGITS]>
 // Judges what stands behind the line of the end in version 2: the digest of all before it, and then nothing.
 fn judge_digest(front: &[u8], after: &[u8]) -> Result<(), FileFault>
     ensures end { OnOk result (after.now ≡ digest_text front.now) }
-    ensures fault { IfErr result (λ fault. (d : Declaration) (v : View) (bytes : List ℕ) → IsView d v → front.now ≡ counted Version.Two d (map.entries v) → bytes ≡ front.now ++ after.now → IsFault d bytes fault) }
+    ensures fault { IfErr result (λ fault. (d : Declaration) (v : View) (bytes : List ℕ) → IsView d v
+        → front.now ≡ counted Version.Two d (map.entries v) → bytes ≡ front.now ++ after.now → IsFault d bytes fault) }
 {
     let Some((line, rest)) = cut_line(after) else {
         return Err(FileFault::Truncated);
@@ -329,8 +343,10 @@ fn front_before<'a>(bytes: &'a [u8], after: &[u8]) -> &'a [u8]
 
 // Judges what stands behind the line of the end: in version 2 the digest, and then nothing.
 fn judge_end(version: Version, bytes: &[u8], after: &[u8]) -> Result<(), FileFault>
-    ensures end { OnOk result ((d : Declaration) (v : View) → bytes.now ≡ counted version d (map.entries v) ++ after.now → bytes.now ≡ text_of version d v) }
-    ensures fault { IfErr result (λ fault. (d : Declaration) (v : View) → IsView d v → MayTell version v → bytes.now ≡ counted version d (map.entries v) ++ after.now → IsFault d bytes.now fault) }
+    ensures end { OnOk result ((d : Declaration) (v : View) → bytes.now ≡ counted version d (map.entries v) ++ after.now
+        → bytes.now ≡ text_of version d v) }
+    ensures fault { IfErr result (λ fault. (d : Declaration) (v : View) → IsView d v → MayTell version v
+        → bytes.now ≡ counted version d (map.entries v) ++ after.now → IsFault d bytes.now fault) }
 {
     match version {
         Version::One => judge_rest(after),
@@ -348,8 +364,10 @@ fn ended(
 ) -> Result<SegmentSet, FileFault>
     requires { IsNumber count }
     ensures same { IfOk result (λ new. new ≡ set) }
-    ensures file { OnOk result (GoesOn set.schema (Behind version set.view) bytes.now (end_text count ++ after.now) → IsFileOf set.schema set.view bytes.now) }
-    ensures fault { IfErr result (λ fault. GoesOn set.schema (Behind version set.view) bytes.now (end_text count ++ after.now) → IsFault set.schema bytes.now fault) }
+    ensures file { OnOk result (GoesOn set.schema (Behind version set.view) bytes.now (end_text count ++ after.now)
+        → IsFileOf set.schema set.view bytes.now) }
+    ensures fault { IfErr result (λ fault. GoesOn set.schema (Behind version set.view) bytes.now
+        (end_text count ++ after.now) → IsFault set.schema bytes.now fault) }
 {
     if set.name_count() != count as usize {
         return Err(FileFault::OtherCount);
@@ -370,8 +388,10 @@ fn read_records(
 ) -> Result<SegmentSet, FileFault>
     requires { set.schema ≡ known.now.schema }
     ensures schema { IfOk result (λ new. new.schema ≡ set.schema) }
-    ensures file { IfOk result (λ new. GoesOn set.schema (Behind version set.view) bytes.now rest.now → IsFileOf set.schema new.view bytes.now) }
-    ensures fault { IfErr result (λ fault. GoesOn set.schema (Behind version set.view) bytes.now rest.now → IsFault set.schema bytes.now fault) }
+    ensures file { IfOk result (λ new. GoesOn set.schema (Behind version set.view) bytes.now rest.now
+        → IsFileOf set.schema new.view bytes.now) }
+    ensures fault { IfErr result (λ fault. GoesOn set.schema (Behind version set.view) bytes.now rest.now
+        → IsFault set.schema bytes.now fault) }
 {
     let mut set = set;
     let mut rest = rest;

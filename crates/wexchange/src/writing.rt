@@ -29,9 +29,11 @@ fn write_parts<W: Write>(
 ) -> Result<(), WriteFault>
     requires { IsSoundWriter output.old }
     ensures ok { OnOk result (Appends (W.contents output.old.inner) (W.contents output.new.inner) (flat_map (λ part. part.now) parts.now)) }
-    ensures hashed { OnOk result ((text : List ℕ) → Holds256 hasher.old text → Holds256 hasher.new (text ++ flat_map (λ part. part.now) parts.now)) }
+    ensures hashed { OnOk result ((text : List ℕ) → Holds256 hasher.old text
+        → Holds256 hasher.new (text ++ flat_map (λ part. part.now) parts.now)) }
     ensures sound { OnOk result (IsSoundWriter output.new) }
-    ensures front { OnErr result (AppendsFront (W.contents output.old.inner) (W.contents output.new.inner) (flat_map (λ part. part.now) parts.now)) }
+    ensures front { OnErr result (AppendsFront (W.contents output.old.inner) (W.contents output.new.inner)
+        (flat_map (λ part. part.now) parts.now)) }
     ensures failed { OnErr result (output.new.failures ≡ 1) }
 {
     'parts: for part in parts {
@@ -51,10 +53,13 @@ fn write_mark<W: Write>(
     name: &Name,
 ) -> Result<(), WriteFault>
     requires { IsSoundWriter output.old }
-    ensures ok { OnOk result (Appends (W.contents output.old.inner) (W.contents output.new.inner) (letter.now ++ (name_words name.now ++ 10 ∷ []))) }
-    ensures hashed { OnOk result ((text : List ℕ) → Holds256 hasher.old text → Holds256 hasher.new (text ++ (letter.now ++ (name_words name.now ++ 10 ∷ [])))) }
+    ensures ok { OnOk result (Appends (W.contents output.old.inner) (W.contents output.new.inner)
+        (letter.now ++ (name_words name.now ++ 10 ∷ []))) }
+    ensures hashed { OnOk result ((text : List ℕ) → Holds256 hasher.old text
+        → Holds256 hasher.new (text ++ (letter.now ++ (name_words name.now ++ 10 ∷ [])))) }
     ensures sound { OnOk result (IsSoundWriter output.new) }
-    ensures front { OnErr result (AppendsFront (W.contents output.old.inner) (W.contents output.new.inner) (letter.now ++ (name_words name.now ++ 10 ∷ []))) }
+    ensures front { OnErr result (AppendsFront (W.contents output.old.inner) (W.contents output.new.inner)
+        (letter.now ++ (name_words name.now ++ 10 ∷ []))) }
     ensures failed { OnErr result (output.new.failures ≡ 1) }
 {
     let mut number = Buffer::new();
@@ -74,10 +79,13 @@ fn write_content<W: Write>(
     content: &[u8],
 ) -> Result<(), WriteFault>
     requires { IsSoundWriter output.old }
-    ensures ok { OnOk result (Appends (W.contents output.old.inner) (W.contents output.new.inner) (record_text (name.now, Live content.now))) }
-    ensures hashed { OnOk result ((text : List ℕ) → Holds256 hasher.old text → Holds256 hasher.new (text ++ record_text (name.now, Live content.now))) }
+    ensures ok { OnOk result (Appends (W.contents output.old.inner) (W.contents output.new.inner)
+        (record_text (name.now, Live content.now))) }
+    ensures hashed { OnOk result ((text : List ℕ) → Holds256 hasher.old text
+        → Holds256 hasher.new (text ++ record_text (name.now, Live content.now))) }
     ensures sound { OnOk result (IsSoundWriter output.new) }
-    ensures front { OnErr result (AppendsFront (W.contents output.old.inner) (W.contents output.new.inner) (record_text (name.now, Live content.now))) }
+    ensures front { OnErr result (AppendsFront (W.contents output.old.inner) (W.contents output.new.inner)
+        (record_text (name.now, Live content.now))) }
     ensures failed { OnErr result (output.new.failures ≡ 1) }
 {
     let mut number = Buffer::new();
@@ -109,10 +117,13 @@ fn write_record<W: Write>(
     known: Known<'_>,
 ) -> Result<(), WriteFault>
     requires { IsSoundWriter output.old }
-    ensures ok { OnOk result (Appends (W.contents output.old.inner) (W.contents output.new.inner) (record_text (name.now, told_of known.entry))) }
-    ensures hashed { OnOk result ((text : List ℕ) → Holds256 hasher.old text → Holds256 hasher.new (text ++ record_text (name.now, told_of known.entry))) }
+    ensures ok { OnOk result (Appends (W.contents output.old.inner) (W.contents output.new.inner)
+        (record_text (name.now, told_of known.entry))) }
+    ensures hashed { OnOk result ((text : List ℕ) → Holds256 hasher.old text
+        → Holds256 hasher.new (text ++ record_text (name.now, told_of known.entry))) }
     ensures sound { OnOk result (IsSoundWriter output.new) }
-    ensures front { OnErr result (AppendsFront (W.contents output.old.inner) (W.contents output.new.inner) (record_text (name.now, told_of known.entry))) }
+    ensures front { OnErr result (AppendsFront (W.contents output.old.inner) (W.contents output.new.inner)
+        (record_text (name.now, told_of known.entry))) }
     ensures failed { OnErr result (output.new.failures ≡ 1) }
 {
     match known {
@@ -130,10 +141,13 @@ fn write_records<W: Write>(
     hasher: &mut Sha256,
 ) -> Result<(), WriteFault>
     requires { IsSoundWriter output.old }
-    ensures ok { OnOk result (Appends (W.contents output.old.inner) (W.contents output.new.inner) (flat_map record_text (map.entries set.now.view))) }
-    ensures hashed { OnOk result ((text : List ℕ) → Holds256 hasher.old text → Holds256 hasher.new (text ++ flat_map record_text (map.entries set.now.view))) }
+    ensures ok { OnOk result (Appends (W.contents output.old.inner) (W.contents output.new.inner)
+        (flat_map record_text (map.entries set.now.view))) }
+    ensures hashed { OnOk result ((text : List ℕ) → Holds256 hasher.old text
+        → Holds256 hasher.new (text ++ flat_map record_text (map.entries set.now.view))) }
     ensures sound { OnOk result (IsSoundWriter output.new) }
-    ensures front { OnErr result (AppendsFront (W.contents output.old.inner) (W.contents output.new.inner) (flat_map record_text (map.entries set.now.view))) }
+    ensures front { OnErr result (AppendsFront (W.contents output.old.inner) (W.contents output.new.inner)
+        (flat_map record_text (map.entries set.now.view))) }
     ensures failed { OnErr result (output.new.failures ≡ 1) }
 {
     'names: for (name, known) in set.names() {
@@ -152,9 +166,11 @@ fn write_start<W: Write>(
 ) -> Result<(), WriteFault>
     requires { IsSoundWriter output.old }
     ensures ok { OnOk result (Appends (W.contents output.old.inner) (W.contents output.new.inner) (head Two ++ table_text set.now.schema)) }
-    ensures hashed { OnOk result ((text : List ℕ) → Holds256 hasher.old text → Holds256 hasher.new (text ++ (head Two ++ table_text set.now.schema))) }
+    ensures hashed { OnOk result ((text : List ℕ) → Holds256 hasher.old text
+        → Holds256 hasher.new (text ++ (head Two ++ table_text set.now.schema))) }
     ensures sound { OnOk result (IsSoundWriter output.new) }
-    ensures front { OnErr result (AppendsFront (W.contents output.old.inner) (W.contents output.new.inner) (head Two ++ table_text set.now.schema)) }
+    ensures front { OnErr result (AppendsFront (W.contents output.old.inner) (W.contents output.new.inner)
+        (head Two ++ table_text set.now.schema)) }
     ensures failed { OnErr result (output.new.failures ≡ 1) }
 {
     let text = set.schema().text();
@@ -189,10 +205,13 @@ fn write_counted<W: Write>(
     hasher: &mut Sha256,
 ) -> Result<(), WriteFault>
     requires { IsSoundWriter output.old }
-    ensures ok { OnOk result (Appends (W.contents output.old.inner) (W.contents output.new.inner) (counted Two set.now.schema (map.entries set.now.view))) }
-    ensures hashed { OnOk result ((text : List ℕ) → Holds256 hasher.old text → Holds256 hasher.new (text ++ counted Two set.now.schema (map.entries set.now.view))) }
+    ensures ok { OnOk result (Appends (W.contents output.old.inner) (W.contents output.new.inner)
+        (counted Two set.now.schema (map.entries set.now.view))) }
+    ensures hashed { OnOk result ((text : List ℕ) → Holds256 hasher.old text
+        → Holds256 hasher.new (text ++ counted Two set.now.schema (map.entries set.now.view))) }
     ensures sound { OnOk result (IsSoundWriter output.new) }
-    ensures front { OnErr result (AppendsFront (W.contents output.old.inner) (W.contents output.new.inner) (counted Two set.now.schema (map.entries set.now.view))) }
+    ensures front { OnErr result (AppendsFront (W.contents output.old.inner) (W.contents output.new.inner)
+        (counted Two set.now.schema (map.entries set.now.view))) }
     ensures failed { OnErr result (output.new.failures ≡ 1) }
 {
     write_start(set, output, hasher)?;
@@ -213,9 +232,11 @@ fn digits_of(hasher: Sha256) -> [u8; DIGITS]
 // Writes the line of the digest of all that went out.
 fn write_digest<W: Write>(output: &mut Counted<W>, hasher: Sha256) -> Result<(), WriteFault>
     requires { IsSoundWriter output.old }
-    ensures ok { OnOk result ((text : List ℕ) → Holds256 hasher text → Appends (W.contents output.old.inner) (W.contents output.new.inner) (digest_text text)) }
+    ensures ok { OnOk result ((text : List ℕ) → Holds256 hasher text
+        → Appends (W.contents output.old.inner) (W.contents output.new.inner) (digest_text text)) }
     ensures sound { OnOk result (IsSoundWriter output.new) }
-    ensures front { OnErr result ((text : List ℕ) → Holds256 hasher text → AppendsFront (W.contents output.old.inner) (W.contents output.new.inner) (digest_text text)) }
+    ensures front { OnErr result ((text : List ℕ) → Holds256 hasher text
+        → AppendsFront (W.contents output.old.inner) (W.contents output.new.inner) (digest_text text)) }
     ensures failed { OnErr result (output.new.failures ≡ 1) }
 {
     let digits = digits_of(hasher);
@@ -229,7 +250,8 @@ pub fn write<W: Write>(set: &SegmentSet, output: &mut Counted<W>) -> Result<(), 
     requires { IsSoundWriter output.old }
     ensures ok { OnOk result (Appends (W.contents output.old.inner) (W.contents output.new.inner) (file_of set.now.schema set.now.view)) }
     ensures sound { OnOk result (IsSoundWriter output.new) }
-    ensures front { OnErr result (AppendsFront (W.contents output.old.inner) (W.contents output.new.inner) (file_of set.now.schema set.now.view)) }
+    ensures front { OnErr result (AppendsFront (W.contents output.old.inner) (W.contents output.new.inner)
+        (file_of set.now.schema set.now.view)) }
     ensures failed { OnErr result (output.new.failures ≡ 1) }
 {
     let mut hasher = Sha256::new();

@@ -10,9 +10,13 @@ use Rattle.wquery.specs.declared.expression.ChainKind.{ChainKind}
 use Rattle.wquery.specs.declared.expression.ChainKind.TheVariants.{Disjunction, Conjunction, Sum, Product}
 use Rattle.wquery.specs.Tree.{Tree}
 use Rattle.wtokens.specs.Words.{CommaSign, name_of, number_of, text_of, sign_of}
-use Rattle.wtokens.specs.Notation.{Tokens, Row, One, one, After, after, Then, before, Done, done, Perhaps, absent, present, Either, first, second, Room, room, Listed, last, next, GoesOn, ended, further, Chain, chaining, As, Never}
+use Rattle.wtokens.specs.Notation.{Tokens, Row, One, one, After, after, Then, before, Done, done, Perhaps, absent, present, Either, first}
+use Rattle.wtokens.specs.Notation.{second, Room, room, Listed, last, next, GoesOn, ended, further, Chain, chaining, As, Never}
 use Rattle.wexpressions.proofs.Steps.{one_parts}
-use Rattle.wexpressions.specs.Grammar.{Closed, toward, bound, extent, exclusion, frame, key, window, window_inside, over, arguments, filter, call, column, columns_closed, grouping_call, optional_not, primary, sign_row, range_row, comparison_row, test_row, negation_row, Rank, ChainRank, NegationRank, SignRank, sign_over, comparison_over, negation_over, operand_over, row_over, deeper, operand}
+use Rattle.wexpressions.specs.Grammar.{Closed, toward, bound, extent, exclusion, frame, key, window, window_inside, over, arguments}
+use Rattle.wexpressions.specs.Grammar.{filter, call, column, columns_closed, grouping_call, optional_not, primary, sign_row, range_row}
+use Rattle.wexpressions.specs.Grammar.{comparison_row, test_row, negation_row, Rank, ChainRank, NegationRank, SignRank, sign_over}
+use Rattle.wexpressions.specs.Grammar.{comparison_over, negation_over, operand_over, row_over, deeper, operand}
 
 -- with what an operand may begin: 1 NOT, 2 a sign, 3 anything else
 abbrev pub keyword_start : Keyword → ℕ
@@ -57,19 +61,22 @@ one_falls' x ts rest (one e) = omega arith
 pub one_falls : {X : Type 0} {says : TokenMeaning → Option X} → Falls (One says)
 one_falls = record { falls = one_falls' }
 
-after_falls' : {X : Type 0} {token : TokenMeaning} {P : Row X} → Keeps P → (x : X) (ts rest : Tokens) → After token P x ts rest → length rest < length ts
+after_falls' : {X : Type 0} {token : TokenMeaning} {P : Row X} → Keeps P → (x : X) (ts rest : Tokens)
+    → After token P x ts rest → length rest < length ts
 after_falls' k x ts rest (after {ts = us} p) = let le = k.keeps x us rest p in omega arith
 
 pub after_falls : {X : Type 0} {token : TokenMeaning} {P : Row X} → Keeps P → Falls (After token P)
 after_falls k = record { falls = after_falls' k }
 
-then_falls' : {X Y : Type 0} {P : Row X} {Q : X → Row Y} → Falls P → ((x : X) → Keeps (Q x)) → (y : Y) (ts rest : Tokens) → Then P Q y ts rest → length rest < length ts
+then_falls' : {X Y : Type 0} {P : Row X} {Q : X → Row Y} → Falls P → ((x : X) → Keeps (Q x)) → (y : Y) (ts rest : Tokens)
+    → Then P Q y ts rest → length rest < length ts
 then_falls' f k y ts rest (before {x = x} {us = us} p q) = let lt = f.falls x ts us p in let le = (k x).keeps y us rest q in omega arith
 
 pub then_falls : {X Y : Type 0} {P : Row X} {Q : X → Row Y} → Falls P → ((x : X) → Keeps (Q x)) → Falls (Then P Q)
 then_falls f k = record { falls = then_falls' f k }
 
-then_keeps' : {X Y : Type 0} {P : Row X} {Q : X → Row Y} → Keeps P → ((x : X) → Keeps (Q x)) → (y : Y) (ts rest : Tokens) → Then P Q y ts rest → length rest ≤ length ts
+then_keeps' : {X Y : Type 0} {P : Row X} {Q : X → Row Y} → Keeps P → ((x : X) → Keeps (Q x)) → (y : Y) (ts rest : Tokens)
+    → Then P Q y ts rest → length rest ≤ length ts
 then_keeps' f k y ts rest (before {x = x} {us = us} p q) = let lt = f.keeps x ts us p in let le = (k x).keeps y us rest q in omega arith
 
 pub then_keeps : {X Y : Type 0} {P : Row X} {Q : X → Row Y} → Keeps P → ((x : X) → Keeps (Q x)) → Keeps (Then P Q)
@@ -103,23 +110,29 @@ room_falls f = record { falls = room_falls' f }
 
 listed_falls' : {X : Type 0} {P : Row X} → Falls P → (y : List X) (ts rest : Tokens) → Listed P y ts rest → length rest < length ts
 listed_falls' f y ts rest (last {x = x} p) = f.falls x ts rest p
-listed_falls' f y ts rest (next {x = x} {xs = xs} {us = us} p l) = let a = f.falls x ts (CommaSign ∷ us) p in let b = listed_falls' f xs us rest l in omega arith
+listed_falls' f y ts rest (next {x = x} {xs = xs} {us = us} p l) = let a = f.falls x ts (CommaSign ∷ us) p in let b =
+    listed_falls' f xs us rest l in omega arith
 
 pub listed_falls : {X : Type 0} {P : Row X} → Falls P → Falls (Listed P)
 listed_falls f = record { falls = listed_falls' f }
 
-goes_keeps : {kind : ChainKind} {P : Row Tree} → Falls P → (t y : Tree) (ts rest : Tokens) → GoesOn kind P t y ts rest → length rest ≤ length ts
+goes_keeps : {kind : ChainKind} {P : Row Tree} → Falls P → (t y : Tree) (ts rest : Tokens) → GoesOn kind P t y ts rest
+    → length rest ≤ length ts
 goes_keeps f t y ts rest ended = omega arith
-goes_keeps f t y ts rest (further {operand = o} {ts = us} {us = vs} e p g) = let a = f.falls o us vs p in let b = goes_keeps f _ y vs rest g in omega arith
+goes_keeps f t y ts rest (further {operand = o} {ts = us} {us = vs} e p g) = let a = f.falls o us vs p in let b =
+    goes_keeps f _ y vs rest g in omega arith
 
-chain_falls' : {kind : ChainKind} {P : Row Tree} → Falls P → (y : Tree) (ts rest : Tokens) → Chain kind P y ts rest → length rest < length ts
-chain_falls' f y ts rest (chaining {first = t} {us = us} p g) = let a = f.falls t ts us p in let b = goes_keeps f t y us rest g in omega arith
+chain_falls' : {kind : ChainKind} {P : Row Tree} → Falls P → (y : Tree) (ts rest : Tokens) → Chain kind P y ts rest
+    → length rest < length ts
+chain_falls' f y ts rest (chaining {first = t} {us = us} p g) = let a = f.falls t ts us p in let b =
+    goes_keeps f t y us rest g in omega arith
 
 pub chain_falls : {kind : ChainKind} {P : Row Tree} → Falls P → Falls (Chain kind P)
 chain_falls f = record { falls = chain_falls' f }
 
 closed_falls' : {X : Type 0} {P : Row X} → Keeps P → (y : X) (ts rest : Tokens) → Closed P y ts rest → length rest < length ts
-closed_falls' k y ts rest (before {x = x} {us = us} p q) = let le = k.keeps x ts us p in let lt = after_falls' done_keeps y us rest q in omega arith
+closed_falls' k y ts rest (before {x = x} {us = us} p q) = let le = k.keeps x ts us p in let lt =
+    after_falls' done_keeps y us rest q in omega arith
 
 pub closed_falls : {X : Type 0} {P : Row X} → Keeps P → Falls (Closed P)
 closed_falls k = record { falls = closed_falls' k }
@@ -129,7 +142,8 @@ toward_falls : {back ahead : FrameBound} → Falls (toward back ahead)
 toward_falls = either_falls (after_falls done_keeps) (after_falls done_keeps)
 
 bound_falls : Falls bound
-bound_falls = either_falls (after_falls (falls_keeps toward_falls)) (either_falls (after_falls (falls_keeps (after_falls done_keeps))) (then_falls one_falls (λ n. falls_keeps toward_falls)))
+bound_falls = either_falls (after_falls (falls_keeps toward_falls))
+    (either_falls (after_falls (falls_keeps (after_falls done_keeps))) (then_falls one_falls (λ n. falls_keeps toward_falls)))
 
 pub as_keeps : {X Y : Type 0} {f : X → Y} {P : Row X} → Keeps P → Keeps (As f P)
 as_keeps k = then_keeps k (λ x. done_keeps)
@@ -138,17 +152,21 @@ pub as_falls : {X Y : Type 0} {f : X → Y} {P : Row X} → Falls P → Falls (A
 as_falls k = then_falls k (λ x. done_keeps)
 
 extent_falls : Falls extent
-extent_falls = either_falls (after_falls (then_keeps (falls_keeps bound_falls) (λ s. falls_keeps (after_falls (as_keeps (falls_keeps bound_falls)))))) (as_falls bound_falls)
+extent_falls = either_falls (after_falls (then_keeps (falls_keeps bound_falls)
+    (λ s. falls_keeps (after_falls (as_keeps (falls_keeps bound_falls)))))) (as_falls bound_falls)
 
 exclusion_falls : Falls exclusion
-exclusion_falls = either_falls (after_falls (falls_keeps (after_falls done_keeps))) (either_falls (after_falls done_keeps) (either_falls (after_falls done_keeps) (after_falls (falls_keeps (after_falls done_keeps)))))
+exclusion_falls = either_falls (after_falls (falls_keeps (after_falls done_keeps))) (either_falls (after_falls done_keeps)
+    (either_falls (after_falls done_keeps) (after_falls (falls_keeps (after_falls done_keeps)))))
 
 frame_keeps : Keeps frame
-frame_keeps = falls_keeps (then_falls one_falls (λ m. then_keeps (falls_keeps extent_falls) (λ e. then_keeps (perhaps_keeps (as_keeps (falls_keeps (after_falls (falls_keeps exclusion_falls))))) (λ x. done_keeps))))
+frame_keeps = falls_keeps (then_falls one_falls (λ m. then_keeps (falls_keeps extent_falls)
+    (λ e. then_keeps (perhaps_keeps (as_keeps (falls_keeps (after_falls (falls_keeps exclusion_falls))))) (λ x. done_keeps))))
 
 -- keys and windows
 pub key_falls : {C : Row Tree} → Falls C → Falls (key C)
-key_falls f = then_falls f (λ e. then_keeps (perhaps_keeps (falls_keeps one_falls)) (λ d. then_keeps (perhaps_keeps (as_keeps (falls_keeps (after_falls (falls_keeps one_falls))))) (λ n. done_keeps)))
+key_falls f = then_falls f (λ e. then_keeps (perhaps_keeps (falls_keeps one_falls))
+    (λ d. then_keeps (perhaps_keeps (as_keeps (falls_keeps (after_falls (falls_keeps one_falls))))) (λ n. done_keeps)))
 
 window_keeps : {C : Row Tree} → Falls C → Keeps (window C)
 window_keeps f =
@@ -165,7 +183,9 @@ reach_falls : {n : ℕ} {C : Row Tree} → Falls C → Falls (over n C)
 reach_falls f = either_falls (as_falls one_falls) (after_falls (as_keeps (falls_keeps (window_inside_falls f))))
 
 arguments_falls : {n : ℕ} {C : Row Tree} → Falls C → Falls (arguments n C)
-arguments_falls f = either_falls (after_falls done_keeps) (either_falls (after_falls (falls_keeps (room_falls (after_falls done_keeps)))) (as_falls (closed_falls (falls_keeps (listed_falls f)))))
+arguments_falls f = either_falls (after_falls done_keeps)
+    (either_falls (after_falls (falls_keeps (room_falls (after_falls done_keeps))))
+    (as_falls (closed_falls (falls_keeps (listed_falls f)))))
 
 filter_falls : {C : Row Tree} → Falls C → Falls (filter C)
 filter_falls f = after_falls (falls_keeps (after_falls (as_keeps (falls_keeps (closed_falls (falls_keeps f))))))
@@ -187,7 +207,8 @@ grouping_call_falls = after_falls (as_keeps (falls_keeps columns_falls))
 primary_falls : {n : ℕ} {C : Row Tree} → Falls C → Falls (primary n C)
 primary_falls f =
     either_falls (as_falls one_falls) (either_falls (as_falls one_falls) (either_falls (after_falls done_keeps)
-    (either_falls (then_falls one_falls (λ name. perhaps_keeps (falls_keeps (either_falls (after_falls (as_keeps (falls_keeps one_falls))) (after_falls (falls_keeps (call_falls f)))))))
+    (either_falls (then_falls one_falls (λ name. perhaps_keeps
+    (falls_keeps (either_falls (after_falls (as_keeps (falls_keeps one_falls))) (after_falls (falls_keeps (call_falls f)))))))
     (either_falls (after_falls (falls_keeps grouping_call_falls)) (after_falls (falls_keeps (closed_falls (falls_keeps f))))))))
 
 -- the rows of expressions
@@ -207,7 +228,8 @@ comparing_falls : {R : Row Tree} → Falls R → Falls (comparison_row R)
 comparing_falls f = then_falls f (λ l. perhaps_keeps (then_keeps (falls_keeps one_falls) (λ c. as_keeps (falls_keeps f))))
 
 testing_falls : {R : Row Tree} → Falls R → Falls (test_row R)
-testing_falls f = then_falls f (λ e. perhaps_keeps (falls_keeps (after_falls (then_keeps perhaps_not_keeps (λ n. falls_keeps (after_falls done_keeps))))))
+testing_falls f = then_falls f (λ e. perhaps_keeps
+    (falls_keeps (after_falls (then_keeps perhaps_not_keeps (λ n. falls_keeps (after_falls done_keeps))))))
 
 negation_falls : {U T : Row Tree} → Falls U → Falls T → Falls (negation_row U T)
 negation_falls f g = either_falls (after_falls (as_keeps (falls_keeps f))) g
@@ -217,7 +239,8 @@ module _ (n : ℕ) (U : Rank → Row Tree) (u : (rank : Rank) → Falls (U rank)
   signs_fall = signing_falls (u SignRank) (primary_falls (u (ChainRank Disjunction)))
 
   negations_fall : Falls (negation_over n U)
-  negations_fall = negation_falls (u NegationRank) (testing_falls (comparing_falls (ranging_falls (chain_falls (chain_falls signs_fall)) (u (ChainRank Sum)))))
+  negations_fall = negation_falls (u NegationRank)
+      (testing_falls (comparing_falls (ranging_falls (chain_falls (chain_falls signs_fall)) (u (ChainRank Sum)))))
 
   operands_fall : (kind : ChainKind) → Falls (operand_over n U kind)
   operands_fall Disjunction = chain_falls negations_fall
@@ -242,32 +265,38 @@ pub operand_falls : (n : ℕ) (kind : ChainKind) → Falls (operand n kind)
 operand_falls n kind = operands_fall n (deeper n) (deeper_falls n) kind
 
 -- with what a row begins
-after_begins' : {X : Type 0} {b : ℕ} {token : TokenMeaning} {P : Row X} → b ≤ start token → (x : X) (ts rest : Tokens) → After token P x ts rest → Starts b ts
+after_begins' : {X : Type 0} {b : ℕ} {token : TokenMeaning} {P : Row X} → b ≤ start token → (x : X) (ts rest : Tokens)
+    → After token P x ts rest → Starts b ts
 after_begins' le x ts rest (after p) = le
 
 after_begins : {X : Type 0} {b : ℕ} {token : TokenMeaning} {P : Row X} → b ≤ start token → Begins b (After token P)
 after_begins le = record { begins = after_begins' le }
 
-one_begins' : {X : Type 0} {b : ℕ} {says : TokenMeaning → Option X} → ((token : TokenMeaning) (x : X) → says token ≡ Some x → b ≤ start token) → (x : X) (ts rest : Tokens) → One says x ts rest → Starts b ts
+one_begins' : {X : Type 0} {b : ℕ} {says : TokenMeaning → Option X} → ((token : TokenMeaning) (x : X) → says token ≡ Some x
+    → b ≤ start token) → (x : X) (ts rest : Tokens) → One says x ts rest → Starts b ts
 one_begins' g x ts rest (one {token = token} e) = g token x e
 
-one_begins : {X : Type 0} {b : ℕ} {says : TokenMeaning → Option X} → ((token : TokenMeaning) (x : X) → says token ≡ Some x → b ≤ start token) → Begins b (One says)
+one_begins : {X : Type 0} {b : ℕ} {says : TokenMeaning → Option X} → ((token : TokenMeaning) (x : X) → says token ≡ Some x
+    → b ≤ start token) → Begins b (One says)
 one_begins g = record { begins = one_begins' g }
 
-then_begins' : {X Y : Type 0} {b : ℕ} {P : Row X} {Q : X → Row Y} → Begins b P → (y : Y) (ts rest : Tokens) → Then P Q y ts rest → Starts b ts
+then_begins' : {X Y : Type 0} {b : ℕ} {P : Row X} {Q : X → Row Y} → Begins b P → (y : Y) (ts rest : Tokens)
+    → Then P Q y ts rest → Starts b ts
 then_begins' g y ts rest (before {x = x} {us = us} p q) = g.begins x ts us p
 
 then_begins : {X Y : Type 0} {b : ℕ} {P : Row X} {Q : X → Row Y} → Begins b P → Begins b (Then P Q)
 then_begins g = record { begins = then_begins' g }
 
-either_begins' : {X : Type 0} {b : ℕ} {P Q : Row X} → Begins b P → Begins b Q → (y : X) (ts rest : Tokens) → Either P Q y ts rest → Starts b ts
+either_begins' : {X : Type 0} {b : ℕ} {P Q : Row X} → Begins b P → Begins b Q → (y : X) (ts rest : Tokens)
+    → Either P Q y ts rest → Starts b ts
 either_begins' f g y ts rest (first p) = f.begins y ts rest p
 either_begins' f g y ts rest (second q) = g.begins y ts rest q
 
 either_begins : {X : Type 0} {b : ℕ} {P Q : Row X} → Begins b P → Begins b Q → Begins b (Either P Q)
 either_begins f g = record { begins = either_begins' f g }
 
-chain_begins' : {b : ℕ} {kind : ChainKind} {P : Row Tree} → Begins b P → (y : Tree) (ts rest : Tokens) → Chain kind P y ts rest → Starts b ts
+chain_begins' : {b : ℕ} {kind : ChainKind} {P : Row Tree} → Begins b P → (y : Tree) (ts rest : Tokens)
+    → Chain kind P y ts rest → Starts b ts
 chain_begins' g y ts rest (chaining {first = t} {us = us} p q) = g.begins t ts us p
 
 chain_begins : {b : ℕ} {kind : ChainKind} {P : Row Tree} → Begins b P → Begins b (Chain kind P)
@@ -299,7 +328,8 @@ sign_starts _ x e = cc
 
 primary_begins : {n : ℕ} {C : Row Tree} → Begins 3 (primary n C)
 primary_begins =
-    either_begins (then_begins (one_begins number_starts)) (either_begins (then_begins (one_begins text_starts)) (either_begins (after_begins (omega arith))
+    either_begins (then_begins (one_begins number_starts)) (either_begins (then_begins (one_begins text_starts))
+    (either_begins (after_begins (omega arith))
     (either_begins (then_begins (one_begins name_starts)) (either_begins (after_begins (omega arith)) (after_begins (omega arith))))))
 
 signs_begin : (n : ℕ) (U : Rank → Row Tree) → Begins 2 (sign_over n U)
@@ -331,7 +361,8 @@ sign_below (SymbolToken symbols.Minus) e = omega arith
 sign_below _ e = cc
 
 -- a row does not begin with such a token
-pub begins_not : {X : Type 0} {b : ℕ} {P : Row X} {token : TokenMeaning} {ts us : Tokens} → Begins b P → ts ≡ token ∷ us → start token < b → Never P ts
+pub begins_not : {X : Type 0} {b : ℕ} {P : Row X} {token : TokenMeaning} {ts us : Tokens} → Begins b P → ts ≡ token ∷ us
+    → start token < b → Never P ts
 begins_not {ts = ts} g e lt x rest p = starts_not e lt (g.begins x ts rest p)
 
 pub primary_no_sign : {n : ℕ} {C : Row Tree} {minus : Bool} {ts us : Tokens} → One sign_of minus ts us → Never (primary n C) ts

@@ -1,6 +1,8 @@
 -- How deep a walk over an expression goes: a chain counts once, however many operands it has.
 use Rattle.std.specs.Prelude.{ℕ, suc, max}
-use Rattle.wquery.specs.Tree.{Tree, Trees, Links, Given, Filter, Reach, Keys, NullWord, Numeral, Quoted, Field, Invoked, Negated, Signed, Joined, Compared, NullTest, Within, Among, NoTrees, MoreTrees, NoLinks, Further, Everything, These, Columns, Unfiltered, FilteredBy, ItsGroup, ThatWindow, OwnWindow, NoKeys, MoreKeys}
+use Rattle.wquery.specs.Tree.{Tree, Trees, Links, Given, Filter, Reach, Keys, NullWord, Numeral, Quoted, Field, Invoked, Negated}
+use Rattle.wquery.specs.Tree.{Signed, Joined, Compared, NullTest, Within, Among, NoTrees, MoreTrees, NoLinks, Further, Everything}
+use Rattle.wquery.specs.Tree.{These, Columns, Unfiltered, FilteredBy, ItsGroup, ThatWindow, OwnWindow, NoKeys, MoreKeys}
 
 -- the most that a level of nesting adds to a height
 abbrev pub level_height : ℕ

@@ -53,7 +53,8 @@ pub record Answers {X : Type 0} (P : Row X) (k : ℕ) (ts : Tokens) (o : Outcome
 
 -- none of NOT, BETWEEN and IN comes first
 abbrev pub IsNoTest : Tokens → Type 0
-IsNoTest ts = (us : Tokens) → (ts ≢ KeywordToken keywords.Not ∷ us) × (ts ≢ KeywordToken keywords.Between ∷ us) × (ts ≢ KeywordToken keywords.In ∷ us)
+IsNoTest ts = (us : Tokens) → (ts ≢ KeywordToken keywords.Not ∷ us) × (ts ≢ KeywordToken keywords.Between ∷ us)
+    × (ts ≢ KeywordToken keywords.In ∷ us)
 
 -- the token does not come first, and all is left
 abbrev pub IsWithout : TokenMeaning → Tokens → Tokens → Type 0

@@ -13,8 +13,11 @@ use Rattle.wquery.specs.declared.frame.FrameBound.{FrameBound}
 use Rattle.wquery.specs.declared.frame.FrameBound.TheVariants as bounds
 use Rattle.wquery.specs.declared.frame.FrameExclusion.{FrameExclusion}
 use Rattle.wquery.specs.declared.frame.FrameExclusion.TheVariants as exclusions
-use Rattle.wquery.specs.Tree.{Tree, Given, Filter, Reach, KeyTree, WindowTree, NullWord, Numeral, Quoted, Field, Invoked, Negated, Signed, Compared, NullTest, Within, Among, NoTrees, Everything, These, Unfiltered, FilteredBy, ItsGroup, ThatWindow, trees, grouping_of, own_window, no_window, window_of, key_of}
-use Rattle.wtokens.specs.Words.{OpenSign, CloseSign, name_of, number_of, text_of, comparison_of, sign_of, direction_of, null_order_of, mode_of}
+use Rattle.wquery.specs.Tree.{Tree, Given, Filter, Reach, KeyTree, WindowTree, NullWord, Numeral, Quoted, Field, Invoked, Negated}
+use Rattle.wquery.specs.Tree.{Signed, Compared, NullTest, Within, Among, NoTrees, Everything, These, Unfiltered, FilteredBy}
+use Rattle.wquery.specs.Tree.{ItsGroup, ThatWindow, trees, grouping_of, own_window, no_window, window_of, key_of}
+use Rattle.wtokens.specs.Words.{OpenSign, CloseSign, name_of, number_of, text_of, comparison_of}
+use Rattle.wtokens.specs.Words.{sign_of, direction_of, null_order_of, mode_of}
 use Rattle.wtokens.specs.Notation.{Row, One, After, Then, Done, Perhaps, Either, Room, Listed, Chain, As}
 
 -- a keyword and then the row, a symbol and then the row
@@ -169,7 +172,8 @@ grouping_call n = After OpenSign (As grouping_of (columns_closed n))
 abbrev pub primary : ℕ → Row Tree → Row Tree
 primary n Under =
     Either (As Numeral (One number_of)) (Either (As Quoted (One text_of)) (Either (Word keywords.Null (Done NullWord))
-    (Either (Then (One name_of) (column_or_call n Under)) (Either (Word keywords.Grouping (grouping_call n)) (After OpenSign (Closed Under))))))
+    (Either (Then (One name_of) (column_or_call n Under)) (Either (Word keywords.Grouping (grouping_call n))
+    (After OpenSign (Closed Under))))))
 
 -- sign = (+ | -) sign | primary
 abbrev pub sign_row : Row Tree → Row Tree → Row Tree

@@ -22,7 +22,8 @@ pub fn nested<E: Element>(
     depth: u32,
     tokens: &[Token],
 ) -> Result<(Vec<E::Read>, &[Token]), ParseFault>
-    ensures { Answers (Room depth (Closed (Listed (E.spelling (depth - 1))))) any_class (meanings tokens.now) (outcome (λ x. map E.said x.0.items) (λ x. x.1.now) result) }
+    ensures { Answers (Room depth (Closed (Listed (E.spelling (depth - 1))))) any_class (meanings tokens.now)
+        (outcome (λ x. map E.said x.0.items) (λ x. x.1.now) result) }
 {
     one_level(depth)?;
     let (list, rest) = elements::<E>(alloc, depth - 1, tokens)?;

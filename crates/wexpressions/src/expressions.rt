@@ -3,10 +3,16 @@
 ghost use Rattle.std.specs.Prelude.{◌≡◌, true, false, Some, None};
 ghost use Rattle.std.specs.Rc.{rc_str_bytes};
 ghost use Rattle.wquery.specs.declared.expression.ChainKind.TheVariants.{Disjunction, Sum};
-ghost use Rattle.wquery.specs.Tree.{view, views, view_arguments, view_key, view_keys, view_window, view_optional, view_optional_over, filter_of, reach_of};
+ghost use Rattle.wquery.specs.Tree.{view, views, view_arguments, view_key, view_keys, view_window};
+ghost use Rattle.wquery.specs.Tree.{view_optional, view_optional_over, filter_of, reach_of};
 ghost use Rattle.wtokens.specs.Notation.{GoesOn, Listed, meanings};
-ghost use Rattle.wexpressions.specs.Grammar.{Closed, ChainRank, deeper, inner, operand, chain, condition, sum, range, comparison, negation, sign, test, null_tested, compared, range_tested, range_test, among, between, up_to, primary, column_or_call, qualified, everything_closed, call, arguments, optional_filter, optional_over, window_inside, window, partition, order, key};
-ghost use Rattle.wexpressions.specs.Grips.{any_class, filter_class, sign_class, range_class, comparison_class, negation_class, nulls_class, list_class, partition_class, order_class, frame_class, Stops, kind_class, operand_class};
+ghost use Rattle.wexpressions.specs.Grammar.{Closed, ChainRank, deeper, inner, operand, chain, condition, sum, range, comparison};
+ghost use Rattle.wexpressions.specs.Grammar.{negation, sign, test, null_tested, compared, range_tested, range_test, among, between};
+ghost use Rattle.wexpressions.specs.Grammar.{up_to, primary, column_or_call, qualified, everything_closed, call, arguments};
+ghost use Rattle.wexpressions.specs.Grammar.{optional_filter, optional_over, window_inside, window, partition, order, key};
+ghost use Rattle.wexpressions.specs.Grips.{any_class, filter_class, sign_class, range_class, comparison_class, negation_class};
+ghost use Rattle.wexpressions.specs.Grips.{nulls_class, list_class, partition_class, order_class, frame_class, Stops, kind_class};
+ghost use Rattle.wexpressions.specs.Grips.{operand_class};
 ghost use Rattle.wexpressions.specs.Finding.{outcome, made, got_or_refused, Answers, IsNoTest};
 
 use crate::columns::grouping_call;
@@ -73,7 +79,8 @@ fn goes_on(
     first: Expression,
     tokens: &[Token],
 ) -> Result<(Expression, &[Token]), ParseFault>
-    ensures { Answers (GoesOn kind (operand depth kind) (view first)) (kind_class kind) (meanings tokens.now) (outcome (λ x. view x.0) (λ x. x.1.now) result) }
+    ensures { Answers (GoesOn kind (operand depth kind) (view first)) (kind_class kind) (meanings tokens.now)
+        (outcome (λ x. view x.0) (λ x. x.1.now) result) }
 {
     let mut tree = first;
     let mut rest = tokens;
@@ -149,7 +156,8 @@ fn compared(
     left: Expression,
     tokens: &[Token],
 ) -> Result<(Expression, &[Token]), ParseFault>
-    ensures { Answers (compared (range depth) (view left)) comparison_class (meanings tokens.now) (outcome (λ x. view x.0) (λ x. x.1.now) result) }
+    ensures { Answers (compared (range depth) (view left)) comparison_class (meanings tokens.now)
+        (outcome (λ x. view x.0) (λ x. x.1.now) result) }
 {
     let Some((comparison, after)) = comparison_operator(tokens) else {
         return Ok((left, tokens));
@@ -183,7 +191,8 @@ fn range_tested(
     e: Expression,
     tokens: &[Token],
 ) -> Result<(Expression, &[Token]), ParseFault>
-    ensures { Answers (range_tested (sum depth) (deeper depth (ChainRank Sum)) (view e)) range_class (meanings tokens.now) (outcome (λ x. view x.0) (λ x. x.1.now) result) }
+    ensures { Answers (range_tested (sum depth) (deeper depth (ChainRank Sum)) (view e)) range_class (meanings tokens.now)
+        (outcome (λ x. view x.0) (λ x. x.1.now) result) }
 {
     if range_test_follows(tokens) {
         let (negated, after) = optional_not(tokens);
@@ -200,7 +209,8 @@ fn range_test(
     e: Expression,
     tokens: &[Token],
 ) -> Result<(Expression, &[Token]), ParseFault>
-    ensures { Answers (range_test (sum depth) (deeper depth (ChainRank Sum)) (view e) negated) range_class (meanings tokens.now) (outcome (λ x. view x.0) (λ x. x.1.now) result) }
+    ensures { Answers (range_test (sum depth) (deeper depth (ChainRank Sum)) (view e) negated) range_class
+        (meanings tokens.now) (outcome (λ x. view x.0) (λ x. x.1.now) result) }
 {
     if let Some(after) = keyword(tokens, Keyword::Between) {
         return between(alloc, depth, negated, e, after);
@@ -223,7 +233,8 @@ fn among(
     e: Expression,
     tokens: &[Token],
 ) -> Result<(Expression, &[Token]), ParseFault>
-    ensures { Answers (among (deeper depth (ChainRank Sum)) (view e) negated) range_class (meanings tokens.now) (outcome (λ x. view x.0) (λ x. x.1.now) result) }
+    ensures { Answers (among (deeper depth (ChainRank Sum)) (view e) negated) range_class (meanings tokens.now)
+        (outcome (λ x. view x.0) (λ x. x.1.now) result) }
 {
     let Some(after) = symbol(tokens, Symbol::OpenParenthesis) else {
         drop(e);
@@ -242,7 +253,8 @@ fn between(
     e: Expression,
     tokens: &[Token],
 ) -> Result<(Expression, &[Token]), ParseFault>
-    ensures { Answers (between (sum depth) (view e) negated) range_class (meanings tokens.now) (outcome (λ x. view x.0) (λ x. x.1.now) result) }
+    ensures { Answers (between (sum depth) (view e) negated) range_class (meanings tokens.now)
+        (outcome (λ x. view x.0) (λ x. x.1.now) result) }
 {
     let (low, rest) = got!(chain(alloc, ChainKind::Sum, depth, tokens), e);
     up_to(alloc, depth, negated, e, low, rest)
@@ -258,7 +270,8 @@ fn up_to(
     low: Expression,
     tokens: &[Token],
 ) -> Result<(Expression, &[Token]), ParseFault>
-    ensures { Answers (up_to (sum depth) (view e) negated (view low)) range_class (meanings tokens.now) (outcome (λ x. view x.0) (λ x. x.1.now) result) }
+    ensures { Answers (up_to (sum depth) (view e) negated (view low)) range_class (meanings tokens.now)
+        (outcome (λ x. view x.0) (λ x. x.1.now) result) }
 {
     let Some(after) = keyword(tokens, Keyword::And) else {
         drop(e);
@@ -328,7 +341,8 @@ fn column_or_call(
     own: RcStr,
     tokens: &[Token],
 ) -> Result<(Expression, &[Token]), ParseFault>
-    ensures { Answers (column_or_call depth (inner depth) (rc_str_bytes own)) sign_class (meanings tokens.now) (outcome (λ x. view x.0) (λ x. x.1.now) result) }
+    ensures { Answers (column_or_call depth (inner depth) (rc_str_bytes own)) sign_class (meanings tokens.now)
+        (outcome (λ x. view x.0) (λ x. x.1.now) result) }
 {
     if let Some(after) = symbol(tokens, Symbol::Dot) {
         return qualified(own, after);
@@ -353,7 +367,8 @@ fn call(
     function: RcStr,
     tokens: &[Token],
 ) -> Result<(Expression, &[Token]), ParseFault>
-    ensures { Answers (call depth (inner depth) (rc_str_bytes function)) sign_class (meanings tokens.now) (outcome (λ x. view x.0) (λ x. x.1.now) result) }
+    ensures { Answers (call depth (inner depth) (rc_str_bytes function)) sign_class (meanings tokens.now)
+        (outcome (λ x. view x.0) (λ x. x.1.now) result) }
 {
     let (arguments, rest) = arguments(alloc, depth, tokens)?;
     let (filter, rest) = got!(optional_filter(alloc, depth, rest), function, arguments);
@@ -372,7 +387,8 @@ fn arguments(
     depth: u32,
     tokens: &[Token],
 ) -> Result<(Arguments, &[Token]), ParseFault>
-    ensures { Answers (arguments depth (inner depth)) any_class (meanings tokens.now) (outcome (λ x. view_arguments x.0) (λ x. x.1.now) result) }
+    ensures { Answers (arguments depth (inner depth)) any_class (meanings tokens.now)
+        (outcome (λ x. view_arguments x.0) (λ x. x.1.now) result) }
 {
     if let Some(rest) = symbol(tokens, Symbol::CloseParenthesis) {
         return Ok((build::listed(Vec::new(alloc)), rest));
@@ -388,7 +404,8 @@ fn arguments(
 }
 
 fn everything_closed(depth: u32, tokens: &[Token]) -> Option<(Arguments, &[Token])>
-    ensures { Answers (everything_closed depth) any_class (meanings tokens.now) (got_or_refused (λ x. view_arguments x.0) (λ x. x.1.now) result) }
+    ensures { Answers (everything_closed depth) any_class (meanings tokens.now) (got_or_refused (λ x. view_arguments x.0)
+        (λ x. x.1.now) result) }
 {
     if depth == 0 {
         return None;
@@ -404,7 +421,8 @@ fn closed_list(
     depth: u32,
     tokens: &[Token],
 ) -> Result<(Vec<Expression>, &[Token]), ParseFault>
-    ensures { Answers (Closed (Listed (deeper depth (ChainRank kind)))) any_class (meanings tokens.now) (outcome (λ x. views x.0.items) (λ x. x.1.now) result) }
+    ensures { Answers (Closed (Listed (deeper depth (ChainRank kind)))) any_class (meanings tokens.now)
+        (outcome (λ x. views x.0.items) (λ x. x.1.now) result) }
 {
     one_level(depth)?;
     let (list, rest) = list(alloc, kind, depth - 1, tokens)?;
@@ -429,7 +447,8 @@ fn optional_filter(
     depth: u32,
     tokens: &[Token],
 ) -> Result<(Option<Expression>, &[Token]), ParseFault>
-    ensures { Answers (optional_filter (inner depth)) filter_class (meanings tokens.now) (outcome (λ x. filter_of (view_optional x.0)) (λ x. x.1.now) result) }
+    ensures { Answers (optional_filter (inner depth)) filter_class (meanings tokens.now)
+        (outcome (λ x. filter_of (view_optional x.0)) (λ x. x.1.now) result) }
 {
     let Some(after) = keyword(tokens, Keyword::Filter) else {
         return Ok((None, tokens));
@@ -450,7 +469,8 @@ fn optional_over(
     depth: u32,
     tokens: &[Token],
 ) -> Result<(Option<Over>, &[Token]), ParseFault>
-    ensures { Answers (optional_over depth (inner depth)) sign_class (meanings tokens.now) (outcome (λ x. reach_of (view_optional_over x.0)) (λ x. x.1.now) result) }
+    ensures { Answers (optional_over depth (inner depth)) sign_class (meanings tokens.now)
+        (outcome (λ x. reach_of (view_optional_over x.0)) (λ x. x.1.now) result) }
 {
     let Some(after) = keyword(tokens, Keyword::Over) else {
         return Ok((None, tokens));
@@ -470,7 +490,8 @@ pub fn window_inside(
     depth: u32,
     tokens: &[Token],
 ) -> Result<(Window, &[Token]), ParseFault>
-    ensures { Answers (window_inside depth (inner depth)) any_class (meanings tokens.now) (outcome (λ x. view_window x.0) (λ x. x.1.now) result) }
+    ensures { Answers (window_inside depth (inner depth)) any_class (meanings tokens.now)
+        (outcome (λ x. view_window x.0) (λ x. x.1.now) result) }
 {
     if let Some(rest) = symbol(tokens, Symbol::CloseParenthesis) {
         return Ok((
@@ -505,7 +526,8 @@ fn partition(
     depth: u32,
     tokens: &[Token],
 ) -> Result<(Vec<Expression>, &[Token]), ParseFault>
-    ensures { Answers (partition (condition depth)) partition_class (meanings tokens.now) (outcome (λ x. views x.0.items) (λ x. x.1.now) result) }
+    ensures { Answers (partition (condition depth)) partition_class (meanings tokens.now)
+        (outcome (λ x. views x.0.items) (λ x. x.1.now) result) }
 {
     let Some(after) = keyword(tokens, Keyword::Partition) else {
         return Ok((Vec::new(alloc), tokens));
@@ -523,7 +545,8 @@ pub fn order(
     depth: u32,
     tokens: &[Token],
 ) -> Result<(Vec<Key>, &[Token]), ParseFault>
-    ensures { Answers (order (condition depth)) order_class (meanings tokens.now) (outcome (λ x. view_keys x.0.items) (λ x. x.1.now) result) }
+    ensures { Answers (order (condition depth)) order_class (meanings tokens.now) (outcome (λ x. view_keys x.0.items)
+        (λ x. x.1.now) result) }
 {
     let Some(after) = keyword(tokens, Keyword::Order) else {
         return Ok((Vec::new(alloc), tokens));
@@ -536,7 +559,8 @@ pub fn order(
 
 #[cycle(parser)]
 fn keys(alloc: Global, depth: u32, tokens: &[Token]) -> Result<(Vec<Key>, &[Token]), ParseFault>
-    ensures { Answers (Listed (key (condition depth))) list_class (meanings tokens.now) (outcome (λ x. view_keys x.0.items) (λ x. x.1.now) result) }
+    ensures { Answers (Listed (key (condition depth))) list_class (meanings tokens.now) (outcome (λ x. view_keys x.0.items)
+        (λ x. x.1.now) result) }
 {
     comma_list!(alloc, tokens, left => key(alloc, depth, left))
 }

@@ -7,7 +7,8 @@ ghost use Rattle.wlexer.specs.declared.keyword.Keyword.TheVariants.{Not};
 ghost use Rattle.wquery.specs.Tree.{name_bytes};
 ghost use Rattle.wtokens.specs.Words.{name_of};
 ghost use Rattle.wtokens.specs.Notation.{One, meanings};
-ghost use Rattle.wexpressions.specs.Grammar.{optional_name, optional_frame, descending, nulls_placed, extent, two_bounds, bound, toward, exclusion, optional_exclusion};
+ghost use Rattle.wexpressions.specs.Grammar.{optional_name, optional_frame, descending, nulls_placed, extent};
+ghost use Rattle.wexpressions.specs.Grammar.{two_bounds, bound, toward, exclusion, optional_exclusion};
 ghost use Rattle.wexpressions.specs.Grips.{any_class, direction_class, nulls_class, name_class, frame_class};
 ghost use Rattle.wexpressions.specs.Finding.{outcome, got_or_refused, Got, Answers, IsWithout};
 

@@ -50,7 +50,8 @@ pub fn elements<E: Element>(
     depth: u32,
     tokens: &[Token],
 ) -> Result<(Vec<E::Read>, &[Token]), ParseFault>
-    ensures { Answers (Listed (E.spelling depth)) list_class (meanings tokens.now) (outcome (λ x. map E.said x.0.items) (λ x. x.1.now) result) }
+    ensures { Answers (Listed (E.spelling depth)) list_class (meanings tokens.now) (outcome (λ x. map E.said x.0.items)
+        (λ x. x.1.now) result) }
 {
     comma_list!(alloc, tokens, left => E::read(alloc, depth, left))
 }

@@ -1,5 +1,6 @@
 -- What is noted while a file is read.
-use Rattle.std.proofs.Common.{◌≡◌, ◌≢◌, inr, refl, ap, ◌∙◌, ℕ, zero, suc, arith, ◌≤◌, List, [], ◌∷◌, ◌++◌, length, take, Some, append_assoc, append-nil}
+use Rattle.std.proofs.Common.{◌≡◌, ◌≢◌, inr, refl, ap, ◌∙◌, ℕ, zero, suc, arith, ◌≤◌, List}
+use Rattle.std.proofs.Common.{[], ◌∷◌, ◌++◌, length, take, Some, append_assoc, append-nil}
 use Rattle.wfiles.specs.Call.{Call, Locked, Found, Created, Permitted, Wrote, Synced, Moved, SyncedFolder, Removed, Began, read_on}
 use Rattle.wfiles.specs.Reading.{MayBegin, ReadsMore, read_more, read_to_end}
 
@@ -18,7 +19,8 @@ reads_none (SyncedFolder done ∷ cs) = refl
 reads_none (Removed name done ∷ cs) = refl
 
 -- some bytes, and then the next ones
-goes_on : (bytes : List ℕ) (b : ℕ) (block : List ℕ) (cs : List Call) → read_on (b ∷ block) (read_more bytes cs) ≡ read_more (bytes ++ b ∷ block) cs
+goes_on : (bytes : List ℕ) (b : ℕ) (block : List ℕ) (cs : List Call) → read_on (b ∷ block) (read_more bytes cs)
+    ≡ read_more (bytes ++ b ∷ block) cs
 goes_on bytes b block [] = refl
 goes_on bytes b block (Began name before ∷ cs) = ap (λ bs. Began name bs ∷ cs) (append_assoc before bytes (b ∷ block))
 goes_on bytes b block (Locked done ∷ cs) = refl
@@ -46,16 +48,20 @@ stops (SyncedFolder done ∷ cs) = refl
 stops (Removed name done ∷ cs) = refl
 
 -- a read that gave some bytes
-pub reads_on : (n : ℕ) (block bytes : List ℕ) (old cs new : List Call) → n ≢ 0 → n ≤ length block → cs ≡ read_more bytes old → new ≡ read_on (take n block) cs → new ≡ read_more (bytes ++ take n block) old
+pub reads_on : (n : ℕ) (block bytes : List ℕ) (old cs new : List Call) → n ≢ 0 → n ≤ length block → cs ≡ read_more bytes old
+    → new ≡ read_on (take n block) cs → new ≡ read_more (bytes ++ take n block) old
 reads_on zero block bytes old cs new some bound before is = absurd (some refl)
 reads_on (suc n) [] bytes old cs new some bound before is = absurd (omega (arith, bound))
-reads_on (suc n) (b ∷ block) bytes old cs new some bound before is = is ∙ ap (λ cs. read_on (b ∷ take n block) cs) before ∙ goes_on bytes b (take n block) old
+reads_on (suc n) (b ∷ block) bytes old cs new some bound before is = is ∙ ap (λ cs. read_on (b ∷ take n block) cs) before
+    ∙ goes_on bytes b (take n block) old
 
-pub reads_some : (n : ℕ) (block bytes : List ℕ) (old cs new : List Call) → n ≢ 0 → n ≤ length block → cs ≡ read_more bytes old → new ≡ read_on (take n block) cs → ReadsMore old new
+pub reads_some : (n : ℕ) (block bytes : List ℕ) (old cs new : List Call) → n ≢ 0 → n ≤ length block
+    → cs ≡ read_more bytes old → new ≡ read_on (take n block) cs → ReadsMore old new
 reads_some n block bytes old cs new some bound before is = (bytes ++ take n block, reads_on n block bytes old cs new some bound before is)
 
 -- a read that gave none
-pub reads_end : (n : ℕ) (block bytes : List ℕ) (old cs new : List Call) → n ≡ 0 → cs ≡ read_more bytes old → new ≡ read_on (take n block) cs → new ≡ read_to_end (read_more bytes old)
+pub reads_end : (n : ℕ) (block bytes : List ℕ) (old cs new : List Call) → n ≡ 0 → cs ≡ read_more bytes old
+    → new ≡ read_on (take n block) cs → new ≡ read_to_end (read_more bytes old)
 reads_end n block bytes old cs new none before is = is ∙ ap (λ n. read_on (take n block) cs) none ∙ stops cs ∙ ap read_to_end before
 
 -- a reading that was begun and not ended
@@ -63,5 +69,6 @@ pub may_begin : (path : List ℕ) (old begun new : List Call) → begun ≡ Bega
 may_begin path old begun new is more = inr (more.0, more.1 ∙ ap (read_more more.0) is)
 
 -- one that was read to its end
-pub found_whole : (path bytes : List ℕ) (old begun new : List Call) → begun ≡ Began path [] ∷ old → new ≡ read_to_end (read_more bytes begun) → new ≡ Found path (Some bytes) ∷ old
+pub found_whole : (path bytes : List ℕ) (old begun new : List Call) → begun ≡ Began path [] ∷ old
+    → new ≡ read_to_end (read_more bytes begun) → new ≡ Found path (Some bytes) ∷ old
 found_whole path bytes old begun new is read = read ∙ ap (λ cs. read_to_end (read_more bytes cs)) is

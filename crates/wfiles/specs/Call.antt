@@ -46,4 +46,5 @@ read_on block cs = cs
 
 -- the calls with what is noted: a call, or by the third number what a read gave
 abbrev pub noted : List ℕ → List ℕ → List ℕ → List Call → List Call
-noted numbers name bytes cs = if slice_index numbers 2 == 1 then read_on bytes cs else call_of (slice_index numbers 0) (slice_index numbers 1 == 1) name bytes ∷ cs
+noted numbers name bytes cs = if slice_index numbers 2 == 1 then read_on bytes cs else call_of (slice_index numbers 0)
+    (slice_index numbers 1 == 1) name bytes ∷ cs

@@ -17,17 +17,21 @@ pub data Stage : Type 0 where
 pub data Reaches (store : List ℕ) : List Call → Stage → Type 0 where
   begins : Reaches store [] Idle
   locks : {cs : List Call} {stage : Stage} {done : Bool} → Reaches store cs stage → Reaches store (Locked done ∷ cs) stage
-  reads : {cs : List Call} {stage : Stage} {name : List ℕ} {held : Option (List ℕ)} → Reaches store cs stage → Reaches store (Found name held ∷ cs) stage
+  reads : {cs : List Call} {stage : Stage} {name : List ℕ} {held : Option (List ℕ)} → Reaches store cs stage
+      → Reaches store (Found name held ∷ cs) stage
   -- what a run that was killed has left
-  clears : {cs : List Call} {name : List ℕ} {done : Bool} → name ≢ store → IsOurs name → Reaches store cs Idle → Reaches store (Removed name done ∷ cs) Idle
+  clears : {cs : List Call} {name : List ℕ} {done : Bool} → name ≢ store → IsOurs name → Reaches store cs Idle
+      → Reaches store (Removed name done ∷ cs) Idle
   -- a name that is taken
   misses : {cs : List Call} {name : List ℕ} → Reaches store cs Idle → Reaches store (Created name false ∷ cs) Idle
-  makes : {cs : List Call} {name : List ℕ} → name ≢ store → IsOurs name → Reaches store cs Idle → Reaches store (Created name true ∷ cs) (Beside name (Some []) false)
+  makes : {cs : List Call} {name : List ℕ} → name ≢ store → IsOurs name → Reaches store cs Idle
+      → Reaches store (Created name true ∷ cs) (Beside name (Some []) false)
   permits : {cs : List Call} {name : List ℕ} {bytes : Option (List ℕ)} {durable done : Bool} → Reaches store cs (Beside name bytes durable)
       → Reaches store (Permitted name done ∷ cs) (Beside name bytes durable)
   writes : {cs : List Call} {name bytes written : List ℕ} {durable : Bool} → Reaches store cs (Beside name (Some bytes) durable)
       → Reaches store (Wrote name written true ∷ cs) (Beside name (Some (bytes ++ written)) false)
-  spoils : {cs : List Call} {name written : List ℕ} {bytes : Option (List ℕ)} {durable : Bool} → Reaches store cs (Beside name bytes durable)
+  spoils : {cs : List Call} {name written : List ℕ} {bytes : Option (List ℕ)} {durable : Bool}
+      → Reaches store cs (Beside name bytes durable)
       → Reaches store (Wrote name written false ∷ cs) (Beside name None false)
   syncs : {cs : List Call} {name : List ℕ} {bytes : Option (List ℕ)} {durable done : Bool} → Reaches store cs (Beside name bytes durable)
       → Reaches store (Synced name done ∷ cs) (Beside name bytes done)
@@ -40,8 +44,10 @@ pub data Reaches (store : List ℕ) : List Call → Stage → Type 0 where
       → Reaches store (Removed name true ∷ cs) Idle
   keeps : {cs : List Call} {name : List ℕ} {bytes : Option (List ℕ)} {durable : Bool} → Reaches store cs (Beside name bytes durable)
       → Reaches store (Removed name false ∷ cs) (Beside name bytes durable)
-  folder_synced : {cs : List Call} {bytes : List ℕ} → Reaches store cs (Placed bytes) → Reaches store (SyncedFolder true ∷ cs) (Durable bytes)
-  folder_unsynced : {cs : List Call} {bytes : List ℕ} → Reaches store cs (Placed bytes) → Reaches store (SyncedFolder false ∷ cs) (Placed bytes)
+  folder_synced : {cs : List Call} {bytes : List ℕ} → Reaches store cs (Placed bytes)
+      → Reaches store (SyncedFolder true ∷ cs) (Durable bytes)
+  folder_unsynced : {cs : List Call} {bytes : List ℕ} → Reaches store cs (Placed bytes)
+      → Reaches store (SyncedFolder false ∷ cs) (Placed bytes)
 
 -- the calls since these brought the run to a stage
 pub record After (store : List ℕ) (base now : List Call) (stage : Stage) : Type 0 where
@@ -55,7 +61,8 @@ Brings store old from new to = (base : List Call) → After store base old from 
 
 -- a new file that may not be whole is left beside the store
 abbrev pub LeavesBeside : List ℕ → List ℕ → List Call → List Call → Type 0
-LeavesBeside store name old new = (base : List Call) → After store base old (Beside name (Some []) false) → (bytes : Option (List ℕ)) × (durable : Bool) × After store base new (Beside name bytes durable)
+LeavesBeside store name old new = (base : List Call) → After store base old (Beside name (Some []) false)
+    → (bytes : Option (List ℕ)) × (durable : Bool) × After store base new (Beside name bytes durable)
 
 -- a new file of this name stands beside the store, if one was made
 abbrev pub MakesNew : List ℕ → List Call → List Call → Option (List ℕ) → Type 0

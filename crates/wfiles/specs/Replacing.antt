@@ -25,7 +25,8 @@ AtEachMoment P (c ∷ cs) = P (c ∷ cs) × AtEachMoment P cs
 
 -- a crash behind these calls leaves under the store's name what it might have left before them, or these bytes, whole
 abbrev pub LeavesOldOrNew : List ℕ → List ℕ → List Call → List Call → Type 0
-LeavesOldOrNew store bytes base cs = (d e : Disk) → Runs store base d cs e → (held : Option (List ℕ)) → MayHold e store held → MayHold d store held ⊎ (held ≡ Some bytes)
+LeavesOldOrNew store bytes base cs = (d e : Disk) → Runs store base d cs e → (held : Option (List ℕ)) → MayHold e store held
+    → MayHold d store held ⊎ (held ≡ Some bytes)
 
 -- only what this run made, or a run that was killed, is removed; only what this run made is written and moved, over the store alone
 abbrev pub ChangesOnlyOwn : List ℕ → List Call → Type 0

@@ -25,7 +25,8 @@ fn read_rest<R, T: Read>(
     reading: &mut Reading<T>,
 ) -> Result<Vec<u8>, Fault>
     requires { IsSound system.old }
-    ensures bytes { IfOk result (λ bytes. Consumes (T.remaining reading.old.reader) (T.remaining reading.new.reader) bytes.items × IsAtEnd (T.remaining reading.new.reader)) }
+    ensures bytes { IfOk result (λ bytes. Consumes (T.remaining reading.old.reader) (T.remaining reading.new.reader)
+        bytes.items × IsAtEnd (T.remaining reading.new.reader)) }
     ensures noted { IfOk result (λ bytes. reading.new.calls ≡ read_to_end (read_more bytes.items reading.old.calls)) }
     ensures begun { OnErr result (ReadsMore reading.old.calls reading.new.calls) }
     ensures sound { OnOk result (IsSound system.new) }

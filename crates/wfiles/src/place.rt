@@ -138,7 +138,8 @@ impl Place {
         calls: &mut Record,
     ) -> Result<Option<Vec<u8>>, Fault>
         requires { IsSound system.old }
-        ensures found { IfOk result (λ held. calls.new.calls ≡ Found (string_bytes self.now.target.path) (option_map (λ bytes. bytes.items) held) ∷ calls.old.calls) }
+        ensures found { IfOk result (λ held. calls.new.calls ≡ Found (string_bytes self.now.target.path)
+            (option_map (λ bytes. bytes.items) held) ∷ calls.old.calls) }
         ensures begun { OnErr result (MayBegin (string_bytes self.now.target.path) calls.old.calls calls.new.calls) }
         ensures sound { OnOk result (IsSound system.new) }
         ensures cause { IfErr result (λ fault. HasCause fault system.new) }

@@ -1,5 +1,6 @@
 //! A store, replaced whole.
-ghost use Rattle.std.specs.Prelude.{◌≡◌, ◌≢◌, ◌++◌, ◌∷◌, [], Some, false, true, IfOk, IfErr, IfSome, OnOk, OnErr, IsTrue, is_ok, option_map, string_bytes};
+ghost use Rattle.std.specs.Prelude.{◌≡◌, ◌≢◌, ◌++◌, ◌∷◌, [], Some, false, true, IfOk, IfErr, IfSome};
+ghost use Rattle.std.specs.Prelude.{OnOk, OnErr, IsTrue, is_ok, option_map, string_bytes};
 ghost use Rattle.std.specs.List.{list_all};
 ghost use Rattle.wfiles.specs.Calls.{HasCause, IsSound};
 ghost use Rattle.wfiles.specs.Names.{IsNewName, IsOurs, is_number_byte};
@@ -50,7 +51,8 @@ pub(crate) fn path_in(alloc: Global, folder: &str, name: &str) -> Result<String,
 
 // The path of a file whose name is that of a new one, if it is not the store itself.
 fn path_beside(alloc: Global, target: &Target, name: &str) -> Result<Option<String>, AllocError>
-    ensures { IfOk result (λ found. IfSome found (λ path. IsOurs (string_bytes path) × (string_bytes path ≢ string_bytes target.now.path))) }
+    ensures { IfOk result (λ found. IfSome found (λ path. IsOurs (string_bytes path)
+        × (string_bytes path ≢ string_bytes target.now.path))) }
 {
     if !is_new_name(name.as_bytes()) {
         return Ok(None);
@@ -65,7 +67,8 @@ fn path_beside(alloc: Global, target: &Target, name: &str) -> Result<Option<Stri
 // Gives the new file the access of the old one, if there is one.
 fn allow<F: Folder>(folder: &mut F, target: &Target, new: &str) -> Result<(), Fault>
     requires { IsSound (F.counts folder.old) }
-    ensures brings { Brings (string_bytes target.now.path) (F.calls folder.old) (Beside new.now (Some []) false) (F.calls folder.new) (Beside new.now (Some []) false) }
+    ensures brings { Brings (string_bytes target.now.path) (F.calls folder.old) (Beside new.now (Some []) false)
+        (F.calls folder.new) (Beside new.now (Some []) false) }
     ensures sound { OnOk result (IsSound (F.counts folder.new)) }
     ensures cause { IfErr result (λ fault. HasCause fault (F.counts folder.new)) }
 {
@@ -78,7 +81,8 @@ fn allow<F: Folder>(folder: &mut F, target: &Target, new: &str) -> Result<(), Fa
 // The bytes, in the new file, on the disk.
 fn fill<F: Folder>(folder: &mut F, target: &Target, new: &str, bytes: &[u8]) -> Result<(), Fault>
     requires { IsSound (F.counts folder.old) }
-    ensures filled { OnOk result (Brings (string_bytes target.now.path) (F.calls folder.old) (Beside new.now (Some []) false) (F.calls folder.new) (Beside new.now (Some bytes.now) true)) }
+    ensures filled { OnOk result (Brings (string_bytes target.now.path) (F.calls folder.old)
+        (Beside new.now (Some []) false) (F.calls folder.new) (Beside new.now (Some bytes.now) true)) }
     ensures left { OnErr result (LeavesBeside (string_bytes target.now.path) new.now (F.calls folder.old) (F.calls folder.new)) }
     ensures sound { OnOk result (IsSound (F.counts folder.new)) }
     ensures cause { IfErr result (λ fault. HasCause fault (F.counts folder.new)) }
@@ -91,7 +95,8 @@ fn fill<F: Folder>(folder: &mut F, target: &Target, new: &str, bytes: &[u8]) -> 
 // The bytes in the new file, and then in the store's place.
 fn put<F: Folder>(folder: &mut F, target: &Target, new: &str, bytes: &[u8]) -> Result<(), Fault>
     requires { IsSound (F.counts folder.old) }
-    ensures placed { OnOk result (Brings (string_bytes target.now.path) (F.calls folder.old) (Beside new.now (Some []) false) (F.calls folder.new) (Placed bytes.now)) }
+    ensures placed { OnOk result (Brings (string_bytes target.now.path) (F.calls folder.old)
+        (Beside new.now (Some []) false) (F.calls folder.new) (Placed bytes.now)) }
     ensures left { OnErr result (LeavesBeside (string_bytes target.now.path) new.now (F.calls folder.old) (F.calls folder.new)) }
     ensures sound { OnOk result (IsSound (F.counts folder.new)) }
     ensures cause { IfErr result (λ fault. HasCause fault (F.counts folder.new)) }
@@ -109,7 +114,8 @@ fn create_at<F: Folder>(
     requires sound { IsSound (F.counts folder.old) }
     requires ours { IsOurs (string_bytes path) }
     requires other { string_bytes path ≢ string_bytes target.now.path }
-    ensures makes { IfOk result (λ found. MakesNew (string_bytes target.now.path) (F.calls folder.old) (F.calls folder.new) (option_map (λ name. string_bytes name) found)) }
+    ensures makes { IfOk result (λ found. MakesNew (string_bytes target.now.path) (F.calls folder.old) (F.calls folder.new)
+        (option_map (λ name. string_bytes name) found)) }
     ensures idle { OnErr result (Brings (string_bytes target.now.path) (F.calls folder.old) Idle (F.calls folder.new) Idle) }
     ensures sound { OnOk result (IsSound (F.counts folder.new)) }
     ensures cause { IfErr result (λ fault. HasCause fault (F.counts folder.new)) }
@@ -129,7 +135,8 @@ fn try_new<F: Folder>(
     number: u32,
 ) -> Result<Option<String>, Fault>
     requires sound { IsSound (F.counts folder.old) }
-    ensures makes { IfOk result (λ found. MakesNew (string_bytes target.now.path) (F.calls folder.old) (F.calls folder.new) (option_map (λ name. string_bytes name) found)) }
+    ensures makes { IfOk result (λ found. MakesNew (string_bytes target.now.path) (F.calls folder.old) (F.calls folder.new)
+        (option_map (λ name. string_bytes name) found)) }
     ensures idle { OnErr result (Brings (string_bytes target.now.path) (F.calls folder.old) Idle (F.calls folder.new) Idle) }
     ensures sound { OnOk result (IsSound (F.counts folder.new)) }
     ensures cause { IfErr result (λ fault. HasCause fault (F.counts folder.new)) }
@@ -147,7 +154,8 @@ fn try_new<F: Folder>(
 // Makes a new file beside the store, under a name that is free.
 fn make_new<F: Folder>(alloc: Global, folder: &mut F, target: &Target) -> Result<String, Fault>
     requires sound { IsSound (F.counts folder.old) }
-    ensures made { IfOk result (λ name. Brings (string_bytes target.now.path) (F.calls folder.old) Idle (F.calls folder.new) (Beside (string_bytes name) (Some []) false)) }
+    ensures made { IfOk result (λ name. Brings (string_bytes target.now.path) (F.calls folder.old) Idle (F.calls folder.new)
+        (Beside (string_bytes name) (Some []) false)) }
     ensures idle { OnErr result (Brings (string_bytes target.now.path) (F.calls folder.old) Idle (F.calls folder.new) Idle) }
     ensures sound { OnOk result (IsSound (F.counts folder.new)) }
     ensures cause { IfErr result (λ fault. HasCause fault (F.counts folder.new)) }
@@ -206,7 +214,8 @@ fn clear<F: Folder>(alloc: Global, folder: &mut F, target: &Target) -> Result<()
 // Makes the new file, where nothing of an earlier run is left.
 fn begin<F: Folder>(alloc: Global, folder: &mut F, target: &Target) -> Result<String, Fault>
     requires sound { IsSound (F.counts folder.old) }
-    ensures made { IfOk result (λ name. Brings (string_bytes target.now.path) (F.calls folder.old) Idle (F.calls folder.new) (Beside (string_bytes name) (Some []) false)) }
+    ensures made { IfOk result (λ name. Brings (string_bytes target.now.path) (F.calls folder.old) Idle (F.calls folder.new)
+        (Beside (string_bytes name) (Some []) false)) }
     ensures idle { OnErr result (Brings (string_bytes target.now.path) (F.calls folder.old) Idle (F.calls folder.new) Idle) }
     ensures sound { OnOk result (IsSound (F.counts folder.new)) }
     ensures cause { IfErr result (λ fault. HasCause fault (F.counts folder.new)) }

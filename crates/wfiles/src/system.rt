@@ -56,7 +56,12 @@ impl<'a, R> Model for System<'a, R> {
 
     ghost Value = { CallCounts };
 
-    ghost view = { λ s. record { reads = s.reads; failed_reads = s.failed_reads; failed_writes = s.failed_writes; refused_growths = s.refused_growths } };
+    ghost view = { λ s. record {
+      reads = s.reads;
+      failed_reads = s.failed_reads;
+      failed_writes = s.failed_writes;
+      refused_growths = s.refused_growths;
+    } };
 }
 
 // Whether a call found no memory.

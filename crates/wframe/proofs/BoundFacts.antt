@@ -1,5 +1,6 @@
 -- The bounds of a frame are cuts.
-use Rattle.std.proofs.Common.{◌≡◌, ℕ, ℤ, pos, ◌+◌, ◌<◌, ◌≤◌, ◌+ℤ◌, ◌-ℤ◌, Bool, true, false, not, List, [], ◌∷◌, ltb, ap, ◌∙◌, refl, arith, ltb-true, lt-ltb}
+use Rattle.std.proofs.Common.{◌≡◌, ℕ, ℤ, pos, ◌+◌, ◌<◌, ◌≤◌, ◌+ℤ◌, ◌-ℤ◌, Bool, true, false, not}
+use Rattle.std.proofs.Common.{List, [], ◌∷◌, ltb, ap, ◌∙◌, refl, arith, ltb-true, lt-ltb}
 use Rattle.std.specs.Ordering.{is_gt, int_cmp, ordering_then}
 use Rattle.std.proofs.lemmas.Int.{ints}
 use Rattle.std.proofs.lemmas.Bool.Decides.{nat_tests}
@@ -59,7 +60,8 @@ int_cmp-add x y z = grind (arith, ints)
 int_cmp-sub : (x y z : ℤ) → int_cmp (x -ℤ z) (y -ℤ z) ≡ int_cmp x y
 int_cmp-sub x y z = grind (arith, ints)
 
-pub along_same : (d nulls : Bool) (col n : ℕ) (x y : Meaning) → let k : SortKey = record { col = col; desc = d; nulls_first = nulls } in key_cmp k (along k n x) (along k n y) ≡ key_cmp k x y
+pub along_same : (d nulls : Bool) (col n : ℕ) (x y : Meaning) → let k : SortKey =
+    record { col = col; desc = d; nulls_first = nulls } in key_cmp k (along k n x) (along k n y) ≡ key_cmp k x y
 along_same d nulls col n Null Null = refl
 along_same d nulls col n Null (Int y) = refl
 along_same d nulls col n Null (Text y) = refl
@@ -71,7 +73,8 @@ along_same d nulls col n (Int x) (Text y) = refl
 along_same d nulls col n (Text x) (Int y) = refl
 along_same d nulls col n (Text x) (Text y) = refl
 
-pub against_same : (d nulls : Bool) (col n : ℕ) (x y : Meaning) → let k : SortKey = record { col = col; desc = d; nulls_first = nulls } in key_cmp k (against k n x) (against k n y) ≡ key_cmp k x y
+pub against_same : (d nulls : Bool) (col n : ℕ) (x y : Meaning) → let k : SortKey =
+    record { col = col; desc = d; nulls_first = nulls } in key_cmp k (against k n x) (against k n y) ≡ key_cmp k x y
 against_same d nulls col n Null Null = refl
 against_same d nulls col n Null (Int y) = refl
 against_same d nulls col n Null (Text y) = refl
@@ -84,7 +87,9 @@ against_same d nulls col n (Text x) (Int y) = refl
 against_same d nulls col n (Text x) (Text y) = refl
 
 -- lists of keys stay in their order when their first keys are moved alike
-pub moved_same : (move : SortKey → ℕ → Meaning → Meaning) → ((k : SortKey) (n : ℕ) (x y : Meaning) → key_cmp k (move k n x) (move k n y) ≡ key_cmp k x y) → (ks : List SortKey) (n : ℕ) (xs ys : List Meaning) → keys_cmp ks (moved move ks n xs) (moved move ks n ys) ≡ keys_cmp ks xs ys
+pub moved_same : (move : SortKey → ℕ → Meaning → Meaning) → ((k : SortKey) (n : ℕ) (x y : Meaning)
+    → key_cmp k (move k n x) (move k n y) ≡ key_cmp k x y) → (ks : List SortKey) (n : ℕ) (xs ys : List Meaning)
+    → keys_cmp ks (moved move ks n xs) (moved move ks n ys) ≡ keys_cmp ks xs ys
 moved_same move same [] n xs ys = refl
 moved_same move same (k ∷ ks) n [] [] = refl
 moved_same move same (k ∷ ks) n [] (y ∷ ys) = refl
@@ -92,7 +97,8 @@ moved_same move same (k ∷ ks) n (x ∷ xs) [] = refl
 moved_same move same (k ∷ ks) n (x ∷ xs) (y ∷ ys) = ap (λ o. ordering_then o (keys_cmp ks xs ys)) (same k n x y)
 
 module _ (ks : List SortKey) (n : ℕ) (key : ℕ → List Meaning) (rises : Rises (keys_cmp ks) n key) where
-  moved_rises : (move : SortKey → ℕ → Meaning → Meaning) (d : ℕ) → ((k : SortKey) (m : ℕ) (x y : Meaning) → key_cmp k (move k m x) (move k m y) ≡ key_cmp k x y) → Rises (keys_cmp ks) n (λ i. moved move ks d (key i))
+  moved_rises : (move : SortKey → ℕ → Meaning → Meaning) (d : ℕ) → ((k : SortKey) (m : ℕ) (x y : Meaning)
+      → key_cmp k (move k m x) (move k m y) ≡ key_cmp k x y) → Rises (keys_cmp ks) n (λ i. moved move ks d (key i))
   moved_rises move d same i j l h = ap is_gt (moved_same move same ks d (key i) (key j)) ∙ rises i j l h
 
   against_rises : (d : ℕ) → Rises (keys_cmp ks) n (λ i. moved against ks d (key i))

@@ -1,5 +1,6 @@
 -- Rows of cells by their places.
-use Rattle.std.proofs.Common.{◌≡◌, ℕ, zero, suc, ◌+◌, ◌-◌, ◌*◌, ◌<◌, ◌≤◌, List, [], ◌∷◌, length, take, drop, get_or, sym, ap, ◌∙◌, refl, arith, length-take-le, length-drop}
+use Rattle.std.proofs.Common.{◌≡◌, ℕ, zero, suc, ◌+◌, ◌-◌, ◌*◌, ◌<◌, ◌≤◌, List, [], ◌∷◌, length, take}
+use Rattle.std.proofs.Common.{drop, get_or, sym, ap, ◌∙◌, refl, arith, length-take-le, length-drop}
 use Rattle.std.proofs.Math.Nat.{mul-le-mul_right}
 use Rattle.std.specs.Prelude.{slice_range}
 use Rattle.std.proofs.lemmas.List.{drop-drop, take-take, drop-take, length-map}
@@ -16,20 +17,23 @@ length-rows_of width zero cells = refl
 length-rows_of width (suc n) cells = ap suc (length-rows_of width n (drop width cells))
 
 -- the row at a place
-pub row_at : (width n : ℕ) (cells : List (Bor Value)) (row : ℕ) → row < n → get_or (rows_of width n cells) row [] ≡ meanings (take width (drop (row * width) cells))
+pub row_at : (width n : ℕ) (cells : List (Bor Value)) (row : ℕ) → row < n → get_or (rows_of width n cells) row []
+    ≡ meanings (take width (drop (row * width) cells))
 row_at width zero cells row h = absurd (omega arith)
 row_at width (suc n) cells zero h = let e : 0 ≡ 0 * width = omega arith in ap (λ k. meanings (take width (drop k cells))) e
 row_at width (suc n) cells (suc row) h =
     let l : row < n = omega arith in
     let e : width + row * width ≡ suc row * width = omega arith in
-    row_at width n (drop width cells) row l ∙ ap (λ cs. meanings (take width cs)) (drop-drop (row * width) width cells ∙ ap (λ k. drop k cells) e)
+    row_at width n (drop width cells) row l ∙ ap (λ cs. meanings (take width cs)) (drop-drop (row * width) width cells
+    ∙ ap (λ k. drop k cells) e)
 
 pub row_within : (width n row : ℕ) → row < n → row * width + width ≤ n * width
 row_within width n row h =
     let next : row + 1 ≤ n = omega arith in
     omega (arith, mul-le-mul_right width next)
 
-rows_of-drop : (width n k : ℕ) (cells : List (Bor Value)) → k ≤ n → drop k (rows_of width n cells) ≡ rows_of width (n - k) (drop (k * width) cells)
+rows_of-drop : (width n k : ℕ) (cells : List (Bor Value)) → k ≤ n
+    → drop k (rows_of width n cells) ≡ rows_of width (n - k) (drop (k * width) cells)
 rows_of-drop width n zero cells h =
     let e : 0 ≡ 0 * width = omega arith in
     let m : n ≡ n - 0 = omega arith in
@@ -46,7 +50,8 @@ rows_of-drop width (suc n) (suc k) cells h =
 rows_of-take : (width n m : ℕ) (cells : List (Bor Value)) → m ≤ n → take m (rows_of width n cells) ≡ rows_of width m cells
 rows_of-take width n zero cells h = refl
 rows_of-take width zero (suc m) cells h = absurd (omega arith)
-rows_of-take width (suc n) (suc m) cells h = let l : m ≤ n = omega arith in ap (λ rs. meanings (take width cells) ∷ rs) (rows_of-take width n m (drop width cells) l)
+rows_of-take width (suc n) (suc m) cells h = let l : m ≤ n = omega arith in
+    ap (λ rs. meanings (take width cells) ∷ rs) (rows_of-take width n m (drop width cells) l)
 
 rows_of-front : (width m : ℕ) (cells : List (Bor Value)) → rows_of width m (take (m * width) cells) ≡ rows_of width m cells
 rows_of-front width zero cells = refl
@@ -67,19 +72,22 @@ part_long width from to h =
     ap (λ k. k * width - from * width) (sym e) ∙ times_from from (to - from) width
 
 -- the rows of a span
-pub part_lists : (width n from to : ℕ) (cells : List (Bor Value)) → from ≤ to → to ≤ n → rows_of width (to - from) (take (to * width - from * width) (drop (from * width) cells)) ≡ slice_range (rows_of width n cells) from to
+pub part_lists : (width n from to : ℕ) (cells : List (Bor Value)) → from ≤ to → to ≤ n
+    → rows_of width (to - from) (take (to * width - from * width) (drop (from * width) cells)) ≡ slice_range (rows_of width n cells) from to
 part_lists width n from to cells h k =
     let l : from ≤ n = omega arith in
     let m : to - from ≤ n - from = omega arith in
     ap (λ j. rows_of width (to - from) (take j (drop (from * width) cells))) (part_long width from to h)
     ∙ rows_of-front width (to - from) (drop (from * width) cells)
-    ∙ sym (ap (take (to - from)) (rows_of-drop width n from cells l) ∙ rows_of-take width (n - from) (to - from) (drop (from * width) cells) m)
+    ∙ sym (ap (take (to - from)) (rows_of-drop width n from cells l) ∙ rows_of-take width (n - from) (to - from)
+    (drop (from * width) cells) m)
 
 pub part_within : (width from to : ℕ) → from ≤ to → from * width ≤ to * width
 part_within width from to h = mul-le-mul_right width h
 
 -- a row has a value for each key
-pub row_long : (width n : ℕ) (cells : List (Bor Value)) (row : ℕ) → length cells ≡ n * width → row < n → length (get_or (rows_of width n cells) row []) ≡ width
+pub row_long : (width n : ℕ) (cells : List (Bor Value)) (row : ℕ) → length cells ≡ n * width → row < n
+    → length (get_or (rows_of width n cells) row []) ≡ width
 row_long width n cells row e h =
     ap length (row_at width n cells row h)
     ∙ length-map (take width (drop (row * width) cells)) (λ (cell : Bor Value). meaning cell.now)

@@ -9,7 +9,8 @@ use Rattle.wframe.specs.Codes.{TellApart}
 use Rattle.wframe.specs.Peers.{key_at}
 use Rattle.wframe.proofs.PartitionFacts.{part_at, length-slice}
 
-module _ (cmp : List Meaning → List Meaning → Ordering) (keys : List (List Meaning)) (from to : ℕ) (ordered : from ≤ to) (within : to ≤ length keys) where
+module _ (cmp : List Meaning → List Meaning → Ordering) (keys : List (List Meaning)) (from to : ℕ) (ordered : from ≤ to)
+    (within : to ≤ length keys) where
   -- the rows of a span are told apart by its codes
   told_in_part : (codes : List ℕ) → TellApart cmp keys codes → TellApart cmp (slice_range keys from to) (slice_range codes from to)
   told_in_part codes told =
@@ -28,7 +29,9 @@ module _ (cmp : List Meaning → List Meaning → Ordering) (keys : List (List M
       }
 
   -- the same of codes that may be lacking
-  pub part_told : (part : List (List Meaning)) (codes told : Option (Bor (List ℕ))) (c : Bor (List ℕ)) → part ≡ slice_range keys from to → ((x : Bor (List ℕ)) → codes ≡ Some x → TellApart cmp keys x.now) → option_map (λ x. x.now) told ≡ option_map (λ x. slice_range x.now from to) codes → told ≡ Some c → TellApart cmp part c.now
+  pub part_told : (part : List (List Meaning)) (codes told : Option (Bor (List ℕ))) (c : Bor (List ℕ))
+      → part ≡ slice_range keys from to → ((x : Bor (List ℕ)) → codes ≡ Some x → TellApart cmp keys x.now)
+      → option_map (λ x. x.now) told ≡ option_map (λ x. slice_range x.now from to) codes → told ≡ Some c → TellApart cmp part c.now
   part_told part None told c e each is some = cc
   part_told part (Some x) None c e each is some = cc
   part_told part (Some x) (Some y) c e each is some =

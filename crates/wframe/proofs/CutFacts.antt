@@ -1,5 +1,6 @@
 -- Rows and points that rise make cuts.
-use Rattle.std.proofs.Common.{◌≡◌, ℕ, ◌+◌, ◌-◌, ◌<◌, ◌≤◌, Bool, true, false, not, List, [], ◌∷◌, length, get_or, sym, ap, ◌∙◌, refl, arith, subst, inl, inr, ◌⊎◌, ◌++◌}
+use Rattle.std.proofs.Common.{◌≡◌, ℕ, ◌+◌, ◌-◌, ◌<◌, ◌≤◌, Bool, true, false, not, List, [], ◌∷◌, length}
+use Rattle.std.proofs.Common.{get_or, sym, ap, ◌∙◌, refl, arith, subst, inl, inr, ◌⊎◌, ◌++◌}
 use Rattle.std.specs.Ordering.{is_lt, is_gt}
 use Rattle.std.specs.Cmp.{IsTotalOrder}
 use Rattle.std.specs.declared.cmp.Ordering.{Ordering}
@@ -42,7 +43,8 @@ not_not true c h e = cc
 not_not false true h e = let f : false ≡ true = h refl in cc
 not_not false false h e = refl
 
-module _ {K : Type 0} {R : K → K → Ordering} (o : IsTotalOrder R) (n : ℕ) (row point : ℕ → K) (rows : Rises R n row) (points : Rises R n point) where
+module _ {K : Type 0} {R : K → K → Ordering} (o : IsTotalOrder R) (n : ℕ) (row point : ℕ → K) (rows : Rises R n row)
+    (points : Rises R n point) where
   -- the rows before a point
   pub start_cut : IsCut n (λ i j. is_lt (R (row j) (point i)))
   start_cut = record {
@@ -53,8 +55,10 @@ module _ {K : Type 0} {R : K → K → Ordering} (o : IsTotalOrder R) (n : ℕ) 
   -- the rows up to a point
   pub end_cut : IsCut n (λ i j. not (is_lt (R (point i) (row j))))
   end_cut = record {
-    down = λ i j k hi l hk h. not_not (is_lt (R (point i) (row k))) (is_lt (R (point i) (row j))) (λ e. lt_upto o (point i) (row j) (row k) e (rows j k l hk)) h;
-    rises = λ i k j l hk hj h. not_not (is_lt (R (point i) (row j))) (is_lt (R (point k) (row j))) (λ e. upto_lt o (point i) (point k) (row j) (points i k l hk) e) h;
+    down = λ i j k hi l hk h. not_not (is_lt (R (point i) (row k))) (is_lt (R (point i) (row j)))
+        (λ e. lt_upto o (point i) (row j) (row k) e (rows j k l hk)) h;
+    rises = λ i k j l hk hj h. not_not (is_lt (R (point i) (row j))) (is_lt (R (point k) (row j)))
+        (λ e. upto_lt o (point i) (point k) (row j) (points i k l hk) e) h;
   }
 
 -- a test that passes no place, and one that passes all
@@ -65,7 +69,8 @@ pub whole_cut : (n : ℕ) → IsCut n (λ i j. true)
 whole_cut n = record { down = λ i j k hi l hk h. h; rises = λ i k j l hk hj h. h }
 
 -- the first place that fails ends what passes
-pub cut_found : (n : ℕ) (passes : ℕ → ℕ → Bool) (i c : ℕ) → IsCut n passes → i < n → c < n → ((j : ℕ) → j < c → passes i j ≡ true) → passes i c ≡ false → CutsAt n (passes i) c
+pub cut_found : (n : ℕ) (passes : ℕ → ℕ → Bool) (i c : ℕ) → IsCut n passes → i < n → c < n
+    → ((j : ℕ) → j < c → passes i j ≡ true) → passes i c ≡ false → CutsAt n (passes i) c
 cut_found n passes i c cut hi hc before here = record {
   within = omega arith;
   passed = before;
@@ -78,14 +83,21 @@ cut_found n passes i c cut hi hc before here = record {
 
 -- tests that agree have the same cut
 pub cut_same : (n : ℕ) (p q : ℕ → Bool) (c : ℕ) → ((j : ℕ) → p j ≡ q j) → CutsAt n p c → CutsAt n q c
-cut_same n p q c e at = record { within = at.within; passed = λ j l. sym (e j) ∙ at.passed j l; others = λ j l h. sym (e j) ∙ at.others j l h }
+cut_same n p q c e at = record {
+  within = at.within;
+  passed = λ j l. sym (e j) ∙ at.passed j l;
+  others =
+      λ j l h. sym (e j) ∙ at.others j l h;
+}
 
 -- what passes for a row passes for the next
-pub cut_next : (n : ℕ) (passes : ℕ → ℕ → Bool) (i c : ℕ) → IsCut n passes → CutsAt n (passes i) c → (j : ℕ) → j < c → i + 1 < n → passes (i + 1) j ≡ true
+pub cut_next : (n : ℕ) (passes : ℕ → ℕ → Bool) (i c : ℕ) → IsCut n passes → CutsAt n (passes i) c → (j : ℕ) → j < c
+    → i + 1 < n → passes (i + 1) j ≡ true
 cut_next n passes i c cut at j hj hi = cut.rises i (i + 1) j (omega arith) hi (omega (arith, at.within)) (at.passed j hj)
 
 -- neither end goes back
-pub cuts_rise : (n : ℕ) (passes : ℕ → ℕ → Bool) (i k c d : ℕ) → IsCut n passes → i ≤ k → k < n → CutsAt n (passes i) c → CutsAt n (passes k) d → c ≤ d
+pub cuts_rise : (n : ℕ) (passes : ℕ → ℕ → Bool) (i k c d : ℕ) → IsCut n passes → i ≤ k → k < n → CutsAt n (passes i) c
+    → CutsAt n (passes k) d → c ≤ d
 cuts_rise n passes i k c d cut l hk at to = by_cases (cases_lt d c)
   where
     by_cases : (d < c) ⊎ (c ≤ d) → c ≤ d
@@ -106,14 +118,16 @@ pub long_more : (xs ys : List ℕ) (i x : ℕ) → ys ≡ xs ++ x ∷ [] → len
 long_more xs ys i x e n = ap length e ∙ length_push xs x ∙ ap (λ m. m + 1) n
 
 -- a fact on each number of a list from one place on, and on one more
-pub each_more : (P : ℕ → ℕ → Type 0) (xs ys : List ℕ) (first i x : ℕ) → ys ≡ xs ++ x ∷ [] → length xs ≡ first + i → ((k : ℕ) → k < i → P k (get_or xs (first + k) 0)) → P i x → (k : ℕ) → k < i + 1 → P k (get_or ys (first + k) 0)
+pub each_more : (P : ℕ → ℕ → Type 0) (xs ys : List ℕ) (first i x : ℕ) → ys ≡ xs ++ x ∷ [] → length xs ≡ first + i
+    → ((k : ℕ) → k < i → P k (get_or xs (first + k) 0)) → P i x → (k : ℕ) → k < i + 1 → P k (get_or ys (first + k) 0)
 each_more P xs ys first i x e n each here =
     below_more (λ k. P k (get_or ys (first + k) 0)) i
     (λ k h. let l : first + k < length xs = omega arith in subst (P k) (sym (more xs ys x e (first + k) l)) (each k h))
     (subst (P i) (sym (last_more xs ys (first + i) x e n)) here)
 
 -- numbers of the rows so far, and one more
-pub numbers_more : (at : ℕ → ℕ) (xs ys : List ℕ) (i x : ℕ) → ys ≡ xs ++ x ∷ [] → length xs ≡ i → ((k : ℕ) → k < i → get_or xs k 0 ≡ at k) → x ≡ at i → (k : ℕ) → k < i + 1 → get_or ys k 0 ≡ at k
+pub numbers_more : (at : ℕ → ℕ) (xs ys : List ℕ) (i x : ℕ) → ys ≡ xs ++ x ∷ [] → length xs ≡ i
+    → ((k : ℕ) → k < i → get_or xs k 0 ≡ at k) → x ≡ at i → (k : ℕ) → k < i + 1 → get_or ys k 0 ≡ at k
 numbers_more at xs ys i x e n each here =
     below_more (λ k. get_or ys k 0 ≡ at k) i
     (λ k h. let l : k < length xs = omega arith in more xs ys x e k l ∙ each k h)

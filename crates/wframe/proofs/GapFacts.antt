@@ -15,11 +15,15 @@ use Rattle.wframe.proofs.ModeFacts.{mode_start_cut, mode_end_cut}
 use Rattle.wframe.proofs.FrameFacts.{count_rises}
 use Rattle.wframe.proofs.LawFacts.{spans_rise}
 
-peers_begin : (p : Partition) (i k : ℕ) → AreOrdered (keys_cmp p.order) p.keys → i ≤ k → k < length p.keys → (peer_span p i).from ≤ (peer_span p k).from
-peers_begin p i k ordered l h = count_rises (length p.keys) (is_before (keys_cmp p.order) p.keys) i k (mode_start_cut p.order p.keys ordered Range bounds.CurrentRow) l h
+peers_begin : (p : Partition) (i k : ℕ) → AreOrdered (keys_cmp p.order) p.keys → i ≤ k → k < length p.keys
+    → (peer_span p i).from ≤ (peer_span p k).from
+peers_begin p i k ordered l h = count_rises (length p.keys) (is_before (keys_cmp p.order) p.keys) i k
+    (mode_start_cut p.order p.keys ordered Range bounds.CurrentRow) l h
 
-peers_end : (p : Partition) (i k : ℕ) → AreOrdered (keys_cmp p.order) p.keys → i ≤ k → k < length p.keys → (peer_span p i).to ≤ (peer_span p k).to
-peers_end p i k ordered l h = count_rises (length p.keys) (is_upto (keys_cmp p.order) p.keys) i k (mode_end_cut p.order p.keys ordered Range bounds.CurrentRow) l h
+peers_end : (p : Partition) (i k : ℕ) → AreOrdered (keys_cmp p.order) p.keys → i ≤ k → k < length p.keys
+    → (peer_span p i).to ≤ (peer_span p k).to
+peers_end p i k ordered l h = count_rises (length p.keys) (is_upto (keys_cmp p.order) p.keys) i k
+    (mode_end_cut p.order p.keys ordered Range bounds.CurrentRow) l h
 
 -- to be cut at a place that rises
 module _ (n : ℕ) (s t : Span) (risen : IsRisen n s t) where
@@ -39,28 +43,35 @@ module _ (n : ℕ) (s t : Span) (risen : IsRisen n s t) where
       let o = risen.ordered in
       record { from = omega (arith, f, g, o); to = g; ordered = omega (arith, o); within = risen.within }
 
-  pub before_rises : (exclusion : FrameExclusion) (i k : ℕ) (peers later : Span) → i ≤ k → peers.from ≤ later.from → IsRisen n (before_gap exclusion s i peers) (before_gap exclusion t k later)
+  pub before_rises : (exclusion : FrameExclusion) (i k : ℕ) (peers later : Span) → i ≤ k → peers.from ≤ later.from
+      → IsRisen n (before_gap exclusion s i peers) (before_gap exclusion t k later)
   before_rises CurrentRow i k peers later h l = cut_after i k h
   before_rises Group i k peers later h l = cut_after peers.from later.from l
   before_rises Ties i k peers later h l = cut_after peers.from later.from l
   before_rises NoOthers i k peers later h l = cut_after s.to t.to risen.to
 
-  pub behind_rises : (exclusion : FrameExclusion) (i k : ℕ) (peers later : Span) → i ≤ k → peers.to ≤ later.to → IsRisen n (behind_gap exclusion s i peers) (behind_gap exclusion t k later)
+  pub behind_rises : (exclusion : FrameExclusion) (i k : ℕ) (peers later : Span) → i ≤ k → peers.to ≤ later.to
+      → IsRisen n (behind_gap exclusion s i peers) (behind_gap exclusion t k later)
   behind_rises CurrentRow i k peers later h l = cut_before (i + 1) (k + 1) (omega arith)
   behind_rises Group i k peers later h l = cut_before peers.to later.to l
   behind_rises Ties i k peers later h l = cut_before peers.to later.to l
   behind_rises NoOthers i k peers later h l = cut_before s.to t.to risen.to
 
-pub before_slides : (p : Partition) (i k : ℕ) → AreOrdered (keys_cmp p.order) p.keys → i ≤ k → k < length p.keys → IsRisen (length p.keys) (before_span p i) (before_span p k)
+pub before_slides : (p : Partition) (i k : ℕ) → AreOrdered (keys_cmp p.order) p.keys → i ≤ k → k < length p.keys
+    → IsRisen (length p.keys) (before_span p i) (before_span p k)
 before_slides p i k ordered l h =
-    before_rises (length p.keys) (frame_extent p i) (frame_extent p k) (spans_rise p i k ordered l h) p.frame.exclusion i k (peer_span p i) (peer_span p k) l (peers_begin p i k ordered l h)
+    before_rises (length p.keys) (frame_extent p i) (frame_extent p k) (spans_rise p i k ordered l h) p.frame.exclusion i k
+    (peer_span p i) (peer_span p k) l (peers_begin p i k ordered l h)
 
-pub behind_slides : (p : Partition) (i k : ℕ) → AreOrdered (keys_cmp p.order) p.keys → i ≤ k → k < length p.keys → IsRisen (length p.keys) (behind_span p i) (behind_span p k)
+pub behind_slides : (p : Partition) (i k : ℕ) → AreOrdered (keys_cmp p.order) p.keys → i ≤ k → k < length p.keys
+    → IsRisen (length p.keys) (behind_span p i) (behind_span p k)
 behind_slides p i k ordered l h =
-    behind_rises (length p.keys) (frame_extent p i) (frame_extent p k) (spans_rise p i k ordered l h) p.frame.exclusion i k (peer_span p i) (peer_span p k) l (peers_end p i k ordered l h)
+    behind_rises (length p.keys) (frame_extent p i) (frame_extent p k) (spans_rise p i k ordered l h) p.frame.exclusion i k
+    (peer_span p i) (peer_span p k) l (peers_end p i k ordered l h)
 
 -- at most one row is kept among the excluded ones
-few_at : (exclusion : FrameExclusion) (s peers : Span) (row : ℕ) → (within_gap exclusion s row peers).to ≤ (within_gap exclusion s row peers).from + 1
+few_at : (exclusion : FrameExclusion) (s peers : Span) (row : ℕ)
+    → (within_gap exclusion s row peers).to ≤ (within_gap exclusion s row peers).from + 1
 few_at CurrentRow s peers row = omega arith
 few_at Group s peers row = omega arith
 few_at Ties s peers row = omega arith

@@ -1,5 +1,6 @@
 -- The number of a peer group is one more than that of the group before it.
-use Rattle.std.proofs.Common.{◌≡◌, ℕ, zero, suc, ◌+◌, ◌<◌, Bool, true, false, cond, ◌||◌, List, [], ◌∷◌, length, get_or, sym, ap, ◌∙◌, refl, arith}
+use Rattle.std.proofs.Common.{◌≡◌, ℕ, zero, suc, ◌+◌, ◌<◌, Bool, true, false, cond, ◌||◌}
+use Rattle.std.proofs.Common.{List, [], ◌∷◌, length, get_or, sym, ap, ◌∙◌, refl, arith}
 use Rattle.std.specs.Prelude.{filter}
 use Rattle.std.specs.List.{list_any, AllByRecursion}
 use Rattle.std.specs.Ordering.{is_lt, is_eq}
@@ -15,11 +16,14 @@ module _ {K : Type 0} {R : K → K → Ordering} (o : IsTotalOrder R) where
   KeepsEquals p = (x y : K) → is_eq (R x y) ≡ true → p x ≡ p y
 
   -- among equals of x a filter keeps all or none
-  any_filtered : (p : K → Bool) (x : K) (xs : List K) → KeepsEquals p → p x ≡ true → list_any (λ y. is_eq (R x y)) (filter p xs) ≡ list_any (λ y. is_eq (R x y)) xs
+  any_filtered : (p : K → Bool) (x : K) (xs : List K) → KeepsEquals p → p x ≡ true
+      → list_any (λ y. is_eq (R x y)) (filter p xs) ≡ list_any (λ y. is_eq (R x y)) xs
   any_filtered p x [] keeps h = refl
   any_filtered p x (y ∷ ys) keeps h = by_kept (p y) refl (is_eq (R x y)) refl (any_filtered p x ys keeps h)
     where
-      by_kept : (b : Bool) → b ≡ p y → (e : Bool) → e ≡ is_eq (R x y) → list_any (λ z. is_eq (R x z)) (filter p ys) ≡ list_any (λ z. is_eq (R x z)) ys → list_any (λ z. is_eq (R x z)) (cond (p y) (y ∷ filter p ys) (filter p ys)) ≡ (is_eq (R x y) || list_any (λ z. is_eq (R x z)) ys)
+      by_kept : (b : Bool) → b ≡ p y → (e : Bool) → e ≡ is_eq (R x y) → list_any (λ z. is_eq (R x z)) (filter p ys)
+          ≡ list_any (λ z. is_eq (R x z)) ys → list_any (λ z. is_eq (R x z)) (cond (p y) (y ∷ filter p ys) (filter p ys))
+          ≡ (is_eq (R x y) || list_any (λ z. is_eq (R x z)) ys)
       by_kept true q e t rest = rw (← q) (ap (λ b. is_eq (R x y) || b) rest)
       by_kept false q true t rest = let f : false ≡ true = q ∙ sym (keeps x y (sym t)) ∙ h in cc
       by_kept false q false t rest = rw (← q, ← t) rest
@@ -34,7 +38,8 @@ module _ {K : Type 0} {R : K → K → Ordering} (o : IsTotalOrder R) where
   length-cond true x ys = refl
   length-cond false x ys = refl
 
-  count_take : (p : K → Bool) (x : K) (xs : List K) → KeepsEquals p → p x ≡ true → count p (x ∷ xs) ≡ cond (list_any (λ y. is_eq (R x y)) xs) (count p xs) (suc (count p xs))
+  count_take : (p : K → Bool) (x : K) (xs : List K) → KeepsEquals p → p x ≡ true
+      → count p (x ∷ xs) ≡ cond (list_any (λ y. is_eq (R x y)) xs) (count p xs) (suc (count p xs))
   count_take p x xs keeps h =
       ap (λ b. length (distinct R (cond b (x ∷ filter p xs) (filter p xs)))) h
       ∙ ap (λ b. length (cond b (distinct R (filter p xs)) (x ∷ distinct R (filter p xs)))) (any_filtered p x xs keeps h)
@@ -68,14 +73,17 @@ module _ {K : Type 0} {R : K → K → Ordering} (o : IsTotalOrder R) where
   both_more true c m n h = h
   both_more false c m n h = omega (arith, h)
 
-  pub next_count : (k k' : K) (xs : List K) → IsNextOf k k' xs → count (λ x. is_lt (R x k')) xs ≡ count (λ x. is_lt (R x k)) xs + cond (list_any (λ x. is_eq (R x k)) xs) 1 0
+  pub next_count : (k k' : K) (xs : List K) → IsNextOf k k' xs → count (λ x. is_lt (R x k')) xs ≡ count (λ x. is_lt (R x k))
+      xs + cond (list_any (λ x. is_eq (R x k)) xs) 1 0
   next_count k k' [] h = refl
   next_count k k' (x ∷ xs) h = by_order (R x k) refl (next_count k k' xs h.1)
     where
       below : K → Bool
       below y = is_lt (R y k)
 
-      by_order : (r : Ordering) → r ≡ R x k → count (λ y. is_lt (R y k')) xs ≡ count (λ y. is_lt (R y k)) xs + cond (list_any (λ y. is_eq (R y k)) xs) 1 0 → count (λ y. is_lt (R y k')) (x ∷ xs) ≡ count (λ y. is_lt (R y k)) (x ∷ xs) + cond (list_any (λ y. is_eq (R y k)) (x ∷ xs)) 1 0
+      by_order : (r : Ordering) → r ≡ R x k → count (λ y. is_lt (R y k')) xs ≡ count (λ y. is_lt (R y k)) xs + cond
+          (list_any (λ y. is_eq (R y k)) xs) 1 0 → count (λ y. is_lt (R y k')) (x ∷ xs) ≡ count (λ y. is_lt (R y k))
+          (x ∷ xs) + cond (list_any (λ y. is_eq (R y k)) (x ∷ xs)) 1 0
       by_order Less e rest =
           let here : is_lt (R x k) ≡ true = ap is_lt (sym e) in
           let not_eq : is_eq (R x k) ≡ false = ap is_eq (sym e) in
@@ -89,7 +97,8 @@ module _ {K : Type 0} {R : K → K → Ordering} (o : IsTotalOrder R) where
           let equal : is_eq (R x k) ≡ true = ap is_eq (sym e) in
           let there : is_lt (R x k') ≡ true = h.0 ∙ ap (λ b. b || is_eq (R x k)) here ∙ equal in
           count_take (λ y. is_lt (R y k')) x xs (below_keeps k') there
-          ∙ ap (λ b. cond b (count (λ y. is_lt (R y k')) xs) (suc (count (λ y. is_lt (R y k')) xs))) (any_agree (λ y. is_eq (R x y)) (λ y. is_eq (R y k)) (λ y. same_equals k x y (sym e)) xs)
+          ∙ ap (λ b. cond b (count (λ y. is_lt (R y k')) xs) (suc (count (λ y. is_lt (R y k')) xs)))
+          (any_agree (λ y. is_eq (R x y)) (λ y. is_eq (R y k)) (λ y. same_equals k x y (sym e)) xs)
           ∙ one_more (list_any (λ y. is_eq (R y k)) xs) _ _ rest
           ∙ ap (λ n. n + 1) (sym (count_skip (λ y. is_lt (R y k)) x xs here))
           ∙ ap (λ b. count (λ y. is_lt (R y k)) (x ∷ xs) + cond (b || list_any (λ y. is_eq (R y k)) xs) 1 0) (sym equal)
@@ -102,7 +111,8 @@ module _ {K : Type 0} {R : K → K → Ordering} (o : IsTotalOrder R) where
           ∙ ap (λ n. n + cond (list_any (λ y. is_eq (R y k)) xs) 1 0) (sym (count_skip (λ y. is_lt (R y k)) x xs here))
           ∙ ap (λ b. count (λ y. is_lt (R y k)) (x ∷ xs) + cond (b || list_any (λ y. is_eq (R y k)) xs) 1 0) (sym not_eq)
 
-pub any_at : {K : Type 0} (test : K → Bool) (xs : List K) (i : ℕ) (d : K) → i < length xs → test (get_or xs i d) ≡ true → list_any test xs ≡ true
+pub any_at : {K : Type 0} (test : K → Bool) (xs : List K) (i : ℕ) (d : K) → i < length xs → test (get_or xs i d) ≡ true
+    → list_any test xs ≡ true
 any_at test [] i d l h = absurd (omega arith)
 any_at test (x ∷ xs) zero d l h = ap (λ b. b || list_any test xs) h
 any_at test (x ∷ xs) (suc i) d l h = let k : i < length xs = omega arith in rw (any_at test xs i d k h) (or_true (test x))

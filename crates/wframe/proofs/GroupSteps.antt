@@ -27,12 +27,15 @@ module _ {R : List Meaning → List Meaning → Ordering} (o : IsTotalOrder R) (
   -- a peer of a row has its peers
   same_group : (i k : ℕ) (s : Span) → R (key_at keys i) (key_at keys k) ≡ Equal → IsGroup R keys i s → IsGroup R keys k s
   same_group i k s e g = record {
-    start = cut_same (length keys) (is_before R keys i) (is_before R keys k) s.from (λ j. ap is_lt (alike_right o (key_at keys i) (key_at keys k) (key_at keys j) e)) g.start;
-    end = cut_same (length keys) (is_upto R keys i) (is_upto R keys k) s.to (λ j. ap (λ r. not (is_lt r)) (o.congr (key_at keys i) (key_at keys k) (key_at keys j) e)) g.end;
+    start = cut_same (length keys) (is_before R keys i) (is_before R keys k) s.from
+        (λ j. ap is_lt (alike_right o (key_at keys i) (key_at keys k) (key_at keys j) e)) g.start;
+    end = cut_same (length keys) (is_upto R keys i) (is_upto R keys k) s.to
+        (λ j. ap (λ r. not (is_lt r)) (o.congr (key_at keys i) (key_at keys k) (key_at keys j) e)) g.end;
   }
 
   -- each row of a group has that group
-  pub group_of_all : (from to : ℕ) → from < length keys → CutsAt (length keys) (is_before R keys from) from → CutsAt (length keys) (is_upto R keys from) to → (i : ℕ) → from ≤ i → i < to → IsGroup R keys i (record { from = from; to = to })
+  pub group_of_all : (from to : ℕ) → from < length keys → CutsAt (length keys) (is_before R keys from) from
+      → CutsAt (length keys) (is_upto R keys from) to → (i : ℕ) → from ≤ i → i < to → IsGroup R keys i (record { from = from; to = to })
   group_of_all from to h at end i l k =
       let s : Span = record { from = from; to = to } in
       let hi : i < length keys = omega (arith, end.within) in

@@ -34,7 +34,8 @@ module _ (ks : List SortKey) (keys : List (List Meaning)) (ordered : AreOrdered 
   number_step : (i : ℕ) → i + 1 < length keys → group_number (keys_cmp ks) keys i ≤ group_number (keys_cmp ks) keys (i + 1)
   number_step i h = by_order (keys_cmp ks (key_at keys i) (key_at keys (i + 1))) refl
     where
-      by_order : (r : Ordering) → r ≡ keys_cmp ks (key_at keys i) (key_at keys (i + 1)) → group_number (keys_cmp ks) keys i ≤ group_number (keys_cmp ks) keys (i + 1)
+      by_order : (r : Ordering) → r ≡ keys_cmp ks (key_at keys i) (key_at keys (i + 1))
+          → group_number (keys_cmp ks) keys i ≤ group_number (keys_cmp ks) keys (i + 1)
       by_order Equal e = omega (arith, same_number (keys_total ks) keys ordered i (sym e))
       by_order Less e = omega (arith, next_number (keys_total ks) keys ordered i h (λ f. let g : Less ≡ Equal = e ∙ f in cc))
       by_order Greater e = omega (arith, next_number (keys_total ks) keys ordered i h (λ f. let g : Greater ≡ Equal = e ∙ f in cc))

@@ -18,14 +18,45 @@ beyond a b h = grind (arith, nat_tests)
 
 pub starts_at : (bound : FrameBound) (n i : ℕ) → i < n → CutsAt n (starts_after bound i) (moved_number (move_of bound n) n i)
 starts_at UnboundedPreceding n i h = record { within = omega arith; passed = λ j l. absurd (omega arith); others = λ j l k. refl }
-starts_at (Preceding d) n i h = record { within = omega arith; passed = λ j l. lt-ltb (j + d) i (omega arith); others = λ j l k. not_below (j + d) i (omega arith) }
-starts_at CurrentRow n i h = record { within = omega arith; passed = λ j l. lt-ltb j i (omega arith); others = λ j l k. not_below j i (omega arith) }
-starts_at (Following d) n i h = record { within = omega arith; passed = λ j l. lt-ltb j (i + d) (omega arith); others = λ j l k. not_below j (i + d) (omega arith) }
+starts_at (Preceding d) n i h = record {
+  within = omega arith;
+  passed = λ j l. lt-ltb (j + d) i (omega arith);
+  others =
+      λ j l k. not_below (j + d) i (omega arith);
+}
+starts_at CurrentRow n i h = record {
+  within = omega arith;
+  passed = λ j l. lt-ltb j i (omega arith);
+  others =
+      λ j l k. not_below j i (omega arith);
+}
+starts_at (Following d) n i h = record {
+  within = omega arith;
+  passed = λ j l. lt-ltb j (i + d) (omega arith);
+  others =
+      λ j l k. not_below j (i + d) (omega arith);
+}
 starts_at UnboundedFollowing n i h = record { within = omega arith; passed = λ j l. refl; others = λ j l k. absurd (omega arith) }
 
-pub ends_at : (bound : FrameBound) (n i : ℕ) → i < n → CutsAt n (λ j. not (ends_before bound i j)) (moved_number (move_of bound n) n (i + 1))
+pub ends_at : (bound : FrameBound) (n i : ℕ) → i < n
+    → CutsAt n (λ j. not (ends_before bound i j)) (moved_number (move_of bound n) n (i + 1))
 ends_at UnboundedPreceding n i h = record { within = omega arith; passed = λ j l. absurd (omega arith); others = λ j l k. refl }
-ends_at (Preceding d) n i h = record { within = omega arith; passed = λ j l. upto i (j + d) (omega arith); others = λ j l k. beyond i (j + d) (omega arith) }
-ends_at CurrentRow n i h = record { within = omega arith; passed = λ j l. upto i j (omega arith); others = λ j l k. beyond i j (omega arith) }
-ends_at (Following d) n i h = record { within = omega arith; passed = λ j l. upto (i + d) j (omega arith); others = λ j l k. beyond (i + d) j (omega arith) }
+ends_at (Preceding d) n i h = record {
+  within = omega arith;
+  passed = λ j l. upto i (j + d) (omega arith);
+  others =
+      λ j l k. beyond i (j + d) (omega arith);
+}
+ends_at CurrentRow n i h = record {
+  within = omega arith;
+  passed = λ j l. upto i j (omega arith);
+  others =
+      λ j l k. beyond i j (omega arith);
+}
+ends_at (Following d) n i h = record {
+  within = omega arith;
+  passed = λ j l. upto (i + d) j (omega arith);
+  others =
+      λ j l k. beyond (i + d) j (omega arith);
+}
 ends_at UnboundedFollowing n i h = record { within = omega arith; passed = λ j l. refl; others = λ j l k. absurd (omega arith) }

@@ -27,5 +27,7 @@ then_equal Equal = refl
 then_equal Greater = refl
 
 -- what is compared of lists of one
-pub one_key : (move : SortKey → ℕ → Meaning → Meaning) (n : ℕ) (k : SortKey) (x y : Bor Value) (ks : List SortKey) (xs ys : List (Bor Value)) → ks ≡ k ∷ [] → xs ≡ x ∷ [] → ys ≡ y ∷ [] → key_cmp k (meaning x.now) (move k n (meaning y.now)) ≡ keys_cmp ks (meanings xs) (moved move ks n (meanings ys))
+pub one_key : (move : SortKey → ℕ → Meaning → Meaning) (n : ℕ) (k : SortKey) (x y : Bor Value) (ks : List SortKey)
+    (xs ys : List (Bor Value)) → ks ≡ k ∷ [] → xs ≡ x ∷ [] → ys ≡ y ∷ []
+    → key_cmp k (meaning x.now) (move k n (meaning y.now)) ≡ keys_cmp ks (meanings xs) (moved move ks n (meanings ys))
 one_key move n k x y ks xs ys e f h = rw (e, f, h) (sym (then_equal (key_cmp k (meaning x.now) (move k n (meaning y.now)))))

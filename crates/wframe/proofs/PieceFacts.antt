@@ -56,7 +56,9 @@ above_clip f t p r j q h k = grind arith
 clips_rise : (f t p q r s : ℕ) → IsClip f t p r → IsClip f t q s → p ≤ q → r ≤ s
 clips_rise f t p q r s x y h = grind arith
 
-pub pieces_rows : (f t a b c d a' b' c' d' n : ℕ) → f ≤ t → a ≤ b → b ≤ c → c ≤ d → IsClip f t a a' → IsClip f t b b' → IsClip f t c c' → IsClip f t d d' → t ≤ n → between f a' ++ (between b' c' ++ (between d' t ++ [])) ≡ filter (is_left f t a b c d) (places n)
+pub pieces_rows : (f t a b c d a' b' c' d' n : ℕ) → f ≤ t → a ≤ b → b ≤ c → c ≤ d → IsClip f t a a' → IsClip f t b b'
+    → IsClip f t c c' → IsClip f t d d' → t ≤ n → between f a' ++ (between b' c' ++ (between d' t ++ []))
+    ≡ filter (is_left f t a b c d) (places n)
 pieces_rows f t a b c d a' b' c' d' n ft ab bc cd ca cb cc' cd' tn =
     sym (filter_spans (is_left f t a b c d) f a' b' c' d' t n
     ca.low (clips_rise f t a b a' b' ca cb ab) (clips_rise f t b c b' c' cb cc' bc) (clips_rise f t c d c' d' cc' cd' cd) cd'.high tn
@@ -82,7 +84,8 @@ pieces_rows f t a b c d a' b' c' d' n ft ab bc cd ca cb cc' cd' tn =
     (λ j h. outside_high f t a b c d j h))
 
 -- without its peers, but with the row
-ties_at : (f t a b row j : ℕ) → a ≤ row → row < b → is_left f t a row (row + 1) b j ≡ ((nat_le f j && nat_lt j t) && not ((nat_le a j && nat_lt j b) && not (j == row)))
+ties_at : (f t a b row j : ℕ) → a ≤ row → row < b → is_left f t a row (row + 1) b j
+    ≡ ((nat_le f j && nat_lt j t) && not ((nat_le a j && nat_lt j b) && not (j == row)))
 ties_at f t a b row j h k = grind (arith, nat_tests)
 
 -- without its peers, and without the row
@@ -100,25 +103,34 @@ all_at f t j = grind (arith, nat_tests)
 -- what lies in a span and not in its gap is what is not excluded
 gap_at : (exclusion : FrameExclusion) (span peers : Span) (row j : ℕ) → peers.from ≤ row → row < peers.to →
     let g = gap_of exclusion span row peers in
-    is_left span.from span.to g.from g.kept_from g.kept_to g.to j ≡ (is_in_span span j && not (is_excluded exclusion row j (is_in_span peers j)))
+    is_left span.from span.to g.from g.kept_from g.kept_to g.to j
+    ≡ (is_in_span span j && not (is_excluded exclusion row j (is_in_span peers j)))
 gap_at CurrentRow span peers row j h k = row_at span.from span.to row j
 gap_at Group span peers row j h k = group_at span.from span.to peers.from peers.to row j h k
 gap_at Ties span peers row j h k = ties_at span.from span.to peers.from peers.to row j h k
 gap_at NoOthers span peers row j h k = all_at span.from span.to j
 
-pub gap_rows : (exclusion : FrameExclusion) (span peers : Span) (row n : ℕ) (gap : Gap) (spans : List Span) → peers.from ≤ row → row < peers.to → gap ≡ gap_of exclusion span row peers →
+pub gap_rows : (exclusion : FrameExclusion) (span peers : Span) (row n : ℕ) (gap : Gap) (spans : List Span)
+    → peers.from ≤ row → row < peers.to → gap ≡ gap_of exclusion span row peers →
     spans_places spans ≡ filter (is_left span.from span.to gap.from gap.kept_from gap.kept_to gap.to) (places n) →
     spans_places spans ≡ filter (λ j. is_in_span span j && not (is_excluded exclusion row j (is_in_span peers j))) (places n)
 gap_rows exclusion span peers row n gap spans h k e r =
     let left = λ (g : Gap). is_left span.from span.to g.from g.kept_from g.kept_to g.to in
     r ∙ ap (λ g. filter (left g) (places n)) e
-    ∙ filter_agree (left (gap_of exclusion span row peers)) (λ j. is_in_span span j && not (is_excluded exclusion row j (is_in_span peers j))) (λ j. gap_at exclusion span peers row j h k) (places n)
+    ∙ filter_agree (left (gap_of exclusion span row peers)) (λ j. is_in_span span j
+    && not (is_excluded exclusion row j (is_in_span peers j))) (λ j. gap_at exclusion span peers row j h k) (places n)
 
 -- the spans around a gap and in it
 abbrev pub pieces_of : Span → Gap → List Span
-pieces_of s g = record { from = s.from; to = nearest s g.from } ∷ record { from = nearest s g.kept_from; to = nearest s g.kept_to } ∷ record { from = nearest s g.to; to = s.to } ∷ []
+pieces_of s g = record { from = s.from; to = nearest s g.from } ∷ record {
+  from = nearest s g.kept_from;
+  to =
+      nearest s g.kept_to;
+} ∷ record { from = nearest s g.to; to = s.to } ∷ []
 
-pub gap_list_of : (exclusion : FrameExclusion) (span peers : Span) (row : ℕ) → pieces_of span (gap_of exclusion span row peers) ≡ before_gap exclusion span row peers ∷ within_gap exclusion span row peers ∷ behind_gap exclusion span row peers ∷ []
+pub gap_list_of : (exclusion : FrameExclusion) (span peers : Span) (row : ℕ)
+    → pieces_of span (gap_of exclusion span row peers) ≡ before_gap exclusion span row peers ∷ within_gap exclusion span row
+    peers ∷ behind_gap exclusion span row peers ∷ []
 gap_list_of CurrentRow span peers row = refl
 gap_list_of Group span peers row = refl
 gap_list_of Ties span peers row = refl

@@ -46,10 +46,13 @@ start_last high [] = refl
 start_last high (s ∷ ss) = start_last high ss
 
 -- the span that a place lies in
-pub tile_of : (low high : ℕ) (ss : List Span) (place : ℕ) → Tiles low ss high → low ≤ place → place < high → (k : ℕ) × (k < length ss) × ((span_at ss k).from ≤ place) × (place < (span_at ss k).to)
+pub tile_of : (low high : ℕ) (ss : List Span) (place : ℕ) → Tiles low ss high → low ≤ place → place < high → (k : ℕ)
+    × (k < length ss) × ((span_at ss k).from ≤ place) × (place < (span_at ss k).to)
 tile_of low high [] place t l h = absurd (omega (arith, t))
 tile_of low high (s ∷ ss) place t l h = by_cases (λ m. tile_of s.to high ss place t.2 m h) (cases_lt place s.to)
   where
-    by_cases : ((s.to ≤ place) → (k : ℕ) × (k < length ss) × ((span_at ss k).from ≤ place) × (place < (span_at ss k).to)) → (place < s.to) ⊎ (s.to ≤ place) → (k : ℕ) × (k < length (s ∷ ss)) × ((span_at (s ∷ ss) k).from ≤ place) × (place < (span_at (s ∷ ss) k).to)
+    by_cases : ((s.to ≤ place) → (k : ℕ) × (k < length ss) × ((span_at ss k).from ≤ place) × (place < (span_at ss k).to))
+        → (place < s.to) ⊎ (s.to ≤ place) → (k : ℕ) × (k < length (s ∷ ss)) × ((span_at (s ∷ ss) k).from ≤ place)
+        × (place < (span_at (s ∷ ss) k).to)
     by_cases later (inl m) = (0, omega arith, omega (arith, t.0), m)
     by_cases later (inr m) = let r = later m in (suc r.0, omega (arith, r.1), r.2, r.3)

@@ -1,5 +1,6 @@
 -- Filters of places, span by span.
-use Rattle.std.proofs.Common.{◌≡◌, ℕ, zero, suc, ◌+◌, ◌-◌, ◌<◌, ◌≤◌, Bool, true, false, cond, List, [], ◌∷◌, ◌++◌, sym, ap, ◌∙◌, refl, arith}
+use Rattle.std.proofs.Common.{◌≡◌, ℕ, zero, suc, ◌+◌, ◌-◌, ◌<◌, ◌≤◌, Bool, true, false}
+use Rattle.std.proofs.Common.{cond, List, [], ◌∷◌, ◌++◌, sym, ap, ◌∙◌, refl, arith}
 use Rattle.std.specs.Prelude.{filter}
 use Rattle.std.proofs.lemmas.List.Elements.{filter-append}
 use Rattle.wframe.specs.Places.{places_from, places}
@@ -44,7 +45,9 @@ module _ (test : ℕ → Bool) where
   filter_none a b h = none_from a (b - a) (λ j l m. h j l (omega arith))
 
   -- a span that passes, after places that do not
-  pub filter_span : (low a b high : ℕ) (rest : List ℕ) → low ≤ a → a ≤ b → b ≤ high → ((j : ℕ) → low ≤ j → j < a → test j ≡ false) → ((j : ℕ) → a ≤ j → j < b → test j ≡ true) → filter test (between b high) ≡ rest → filter test (between low high) ≡ between a b ++ rest
+  pub filter_span : (low a b high : ℕ) (rest : List ℕ) → low ≤ a → a ≤ b → b ≤ high
+      → ((j : ℕ) → low ≤ j → j < a → test j ≡ false) → ((j : ℕ) → a ≤ j → j < b → test j ≡ true)
+      → filter test (between b high) ≡ rest → filter test (between low high) ≡ between a b ++ rest
   filter_span low a b high rest l h k out within e =
       let hi : a ≤ high = omega arith in
       ap (filter test) (between_split low a high l hi)

@@ -13,7 +13,8 @@ then_assoc Less s t = refl
 then_assoc Equal s t = refl
 then_assoc Greater s t = refl
 
-keys_split : (vs ks : List SortKey) (a b c d : List Meaning) → length a ≡ length vs → length c ≡ length vs → keys_cmp (vs ++ ks) (a ++ b) (c ++ d) ≡ ordering_then (keys_cmp vs a c) (keys_cmp ks b d)
+keys_split : (vs ks : List SortKey) (a b c d : List Meaning) → length a ≡ length vs → length c ≡ length vs
+    → keys_cmp (vs ++ ks) (a ++ b) (c ++ d) ≡ ordering_then (keys_cmp vs a c) (keys_cmp ks b d)
 keys_split [] ks [] b [] d h g = refl
 keys_split [] ks (x ∷ a) b c d h g = absurd (omega (arith, h))
 keys_split [] ks [] b (y ∷ c) d h g = absurd (omega (arith, g))
@@ -34,8 +35,11 @@ second_gt Less s h e = cc
 second_gt Equal s h e = h
 second_gt Greater s h e = cc
 
-module _ (vs ks : List SortKey) (all values keys : List (List Meaning)) (rows : (i : ℕ) → i < length all → key_at all i ≡ key_at values i ++ key_at keys i) (wide : (i : ℕ) → i < length all → length (key_at values i) ≡ length vs) (ordered : AreOrdered (keys_cmp (vs ++ ks)) all) where
-  both : (i j : ℕ) → i ≤ j → j < length all → is_gt (ordering_then (keys_cmp vs (key_at values i) (key_at values j)) (keys_cmp ks (key_at keys i) (key_at keys j))) ≡ false
+module _ (vs ks : List SortKey) (all values keys : List (List Meaning)) (rows : (i : ℕ) → i < length all
+    → key_at all i ≡ key_at values i ++ key_at keys i) (wide : (i : ℕ) → i < length all
+    → length (key_at values i) ≡ length vs) (ordered : AreOrdered (keys_cmp (vs ++ ks)) all) where
+  both : (i j : ℕ) → i ≤ j → j < length all
+      → is_gt (ordering_then (keys_cmp vs (key_at values i) (key_at values j)) (keys_cmp ks (key_at keys i) (key_at keys j))) ≡ false
   both i j l h =
       let hi : i < length all = omega arith in
       ap is_gt (sym (keys_split vs ks (key_at values i) (key_at keys i) (key_at values j) (key_at keys j) (wide i hi) (wide j h)))
@@ -44,7 +48,9 @@ module _ (vs ks : List SortKey) (all values keys : List (List Meaning)) (rows : 
       ∙ ordered i j l h
 
   pub split_values : length all ≡ length values → AreOrdered (keys_cmp vs) values
-  split_values n i j l h = first_gt (keys_cmp vs (key_at values i) (key_at values j)) (keys_cmp ks (key_at keys i) (key_at keys j)) (both i j l (omega arith))
+  split_values n i j l h = first_gt (keys_cmp vs (key_at values i) (key_at values j))
+      (keys_cmp ks (key_at keys i) (key_at keys j)) (both i j l (omega arith))
 
   pub split_keys : length all ≡ length keys → AreOrderedWithin (keys_cmp vs) values (keys_cmp ks) keys
-  split_keys n i j l h e = second_gt (keys_cmp vs (key_at values i) (key_at values j)) (keys_cmp ks (key_at keys i) (key_at keys j)) (both i j l (omega arith)) e
+  split_keys n i j l h e = second_gt (keys_cmp vs (key_at values i) (key_at values j))
+      (keys_cmp ks (key_at keys i) (key_at keys j)) (both i j l (omega arith)) e

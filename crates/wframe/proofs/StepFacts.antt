@@ -67,13 +67,16 @@ module _ {K : Type 0} {R : K → K → Ordering} (o : IsTotalOrder R) where
       by_first Greater d k = cc
 
 module _ {V R : List Meaning → List Meaning → Ordering} (ov : IsTotalOrder V) (o : IsTotalOrder R) (values keys : List (List Meaning)) where
-  in_order_far : (n : ℕ) → ((i : ℕ) → i + 1 < n → is_gt (V (key_at values i) (key_at values (i + 1))) ≡ false) → (i d : ℕ) → i + d < n → is_gt (V (key_at values i) (key_at values (i + d))) ≡ false
-  in_order_far n steps i zero h = let e : i ≡ i + 0 = omega arith in ap (λ j. is_gt (V (key_at values i) (key_at values j))) (sym e) ∙ ap is_gt (tied_itself ov (key_at values i))
+  in_order_far : (n : ℕ) → ((i : ℕ) → i + 1 < n → is_gt (V (key_at values i) (key_at values (i + 1))) ≡ false) → (i d : ℕ)
+      → i + d < n → is_gt (V (key_at values i) (key_at values (i + d))) ≡ false
+  in_order_far n steps i zero h = let e : i ≡ i + 0 = omega arith in ap (λ j. is_gt (V (key_at values i) (key_at values j)))
+      (sym e) ∙ ap is_gt (tied_itself ov (key_at values i))
   in_order_far n steps i (suc d) h =
       let e : i + d + 1 ≡ i + suc d = omega arith in
       let l : i + d < n = omega arith in
       ap (λ j. is_gt (V (key_at values i) (key_at values j))) (sym e)
-      ∙ upto_upto ov (key_at values i) (key_at values (i + d)) (key_at values (i + d + 1)) (in_order_far n steps i d l) (steps (i + d) (omega arith))
+      ∙ upto_upto ov (key_at values i) (key_at values (i + d)) (key_at values (i + d + 1)) (in_order_far n steps i d l)
+      (steps (i + d) (omega arith))
 
   pub in_order : ((i : ℕ) → i + 1 < length values → is_step V values R keys i ≡ true) → AreOrdered V values
   in_order steps i j l h =
@@ -81,8 +84,10 @@ module _ {V R : List Meaning → List Meaning → Ordering} (ov : IsTotalOrder V
       ap (λ k. is_gt (V (key_at values i) (key_at values k))) (sym e)
       ∙ in_order_far (length values) (λ k g. allowed_gt (V (key_at values k) (key_at values (k + 1))) _ (steps k g)) i (j - i) (omega arith)
 
-  within_far : (n : ℕ) → length values ≡ n → AreOrdered V values → ((i : ℕ) → i + 1 < n → is_step V values R keys i ≡ true) → (i d : ℕ) → i + d < n → are_peers V values i (i + d) ≡ true → is_gt (R (key_at keys i) (key_at keys (i + d))) ≡ false
-  within_far n long ordered steps i zero h p = let e : i ≡ i + 0 = omega arith in ap (λ j. is_gt (R (key_at keys i) (key_at keys j))) (sym e) ∙ ap is_gt (tied_itself o (key_at keys i))
+  within_far : (n : ℕ) → length values ≡ n → AreOrdered V values → ((i : ℕ) → i + 1 < n → is_step V values R keys i ≡ true)
+      → (i d : ℕ) → i + d < n → are_peers V values i (i + d) ≡ true → is_gt (R (key_at keys i) (key_at keys (i + d))) ≡ false
+  within_far n long ordered steps i zero h p = let e : i ≡ i + 0 = omega arith in
+      ap (λ j. is_gt (R (key_at keys i) (key_at keys j))) (sym e) ∙ ap is_gt (tied_itself o (key_at keys i))
   within_far n long ordered steps i (suc d) h p =
       let e : i + d + 1 ≡ i + suc d = omega arith in
       let l : i + d < n = omega arith in
@@ -91,19 +96,25 @@ module _ {V R : List Meaning → List Meaning → Ordering} (ov : IsTotalOrder V
       let a = ordered i (i + d) (omega arith) (omega arith) in
       let b = ordered (i + d) (i + d + 1) (omega arith) (omega arith) in
       let near = squeezed ov (key_at values i) (key_at values (i + d)) (key_at values (i + d + 1)) a b q in
-      let last : is_eq (V (key_at values (i + d)) (key_at values (i + d + 1))) ≡ true = ap is_eq (sym (ov.congr (key_at values i) (key_at values (i + d)) (key_at values (i + d + 1)) (equal_from (V (key_at values i) (key_at values (i + d))) near))) ∙ q in
-      let here = not_not_gt (R (key_at keys (i + d)) (key_at keys (i + d + 1))) (allowed_equal (V (key_at values (i + d)) (key_at values (i + d + 1))) _ (steps (i + d) m) last) in
+      let last : is_eq (V (key_at values (i + d)) (key_at values (i + d + 1))) ≡ true =
+      ap is_eq (sym (ov.congr (key_at values i) (key_at values (i + d)) (key_at values (i + d + 1))
+      (equal_from (V (key_at values i) (key_at values (i + d))) near))) ∙ q in
+      let here = not_not_gt (R (key_at keys (i + d)) (key_at keys (i + d + 1)))
+      (allowed_equal (V (key_at values (i + d)) (key_at values (i + d + 1))) _ (steps (i + d) m) last) in
       ap (λ j. is_gt (R (key_at keys i) (key_at keys j))) (sym e)
       ∙ upto_upto o (key_at keys i) (key_at keys (i + d)) (key_at keys (i + d + 1)) (within_far n long ordered steps i d l near) here
 
-  pub in_order_within : length values ≡ length keys → ((i : ℕ) → i + 1 < length values → is_step V values R keys i ≡ true) → AreOrderedWithin V values R keys
+  pub in_order_within : length values ≡ length keys → ((i : ℕ) → i + 1 < length values → is_step V values R keys i ≡ true)
+      → AreOrderedWithin V values R keys
   in_order_within long steps i j l h p =
       let e : i + (j - i) ≡ j = omega arith in
       ap (λ k. is_gt (R (key_at keys i) (key_at keys k))) (sym e)
       ∙ within_far (length values) refl (in_order steps) steps i (j - i) (omega arith) (ap (are_peers V values i) e ∙ p)
 
   -- and the other way round
-  pub step_in_order : AreOrdered V values → AreOrderedWithin V values R keys → length values ≡ length keys → (i : ℕ) → i + 1 < length values → is_step V values R keys i ≡ true
+  pub step_in_order : AreOrdered V values → AreOrderedWithin V values R keys → length values ≡ length keys → (i : ℕ)
+      → i + 1 < length values → is_step V values R keys i ≡ true
   step_in_order ordered within long i h =
-      both_allow (V (key_at values i) (key_at values (i + 1))) (not (is_gt (R (key_at keys i) (key_at keys (i + 1))))) (ordered i (i + 1) (omega arith) h)
+      both_allow (V (key_at values i) (key_at values (i + 1))) (not (is_gt (R (key_at keys i) (key_at keys (i + 1)))))
+      (ordered i (i + 1) (omega arith) h)
       (λ p. ap not (within i (i + 1) (omega arith) (omega arith) p))

@@ -63,10 +63,13 @@ module _ (ks : List SortKey) (a b c d : List Meaning) (h : keys_cmp ks a b ≡ E
   end_alike UnboundedFollowing = refl
 
 module _ (ks : List SortKey) (keys : List (List Meaning)) where
-  pub number_alike : (i k : ℕ) → are_peers (keys_cmp ks) keys i k ≡ true → group_number (keys_cmp ks) keys i ≡ group_number (keys_cmp ks) keys k
+  pub number_alike : (i k : ℕ) → are_peers (keys_cmp ks) keys i k ≡ true → group_number (keys_cmp ks) keys i
+      ≡ group_number (keys_cmp ks) keys k
   number_alike i k h =
-      ap (λ xs. length (distinct (keys_cmp ks) xs)) (filter_agree (λ key. is_lt (keys_cmp ks key (key_at keys i))) (λ key. is_lt (keys_cmp ks key (key_at keys k)))
-      (λ key. ap is_lt (alike_right (keys_total ks) (key_at keys i) (key_at keys k) key (equal_from (keys_cmp ks (key_at keys i) (key_at keys k)) h))) keys)
+      ap (λ xs. length (distinct (keys_cmp ks) xs)) (filter_agree (λ key. is_lt (keys_cmp ks key (key_at keys i)))
+      (λ key. is_lt (keys_cmp ks key (key_at keys k)))
+      (λ key. ap is_lt (alike_right (keys_total ks) (key_at keys i) (key_at keys k) key
+      (equal_from (keys_cmp ks (key_at keys i) (key_at keys k)) h))) keys)
 
   module _ (i k j l : ℕ) (h : are_peers (keys_cmp ks) keys i k ≡ true) (g : are_peers (keys_cmp ks) keys j l ≡ true) where
     hi : keys_cmp ks (key_at keys i) (key_at keys k) ≡ Equal
@@ -75,26 +78,37 @@ module _ (ks : List SortKey) (keys : List (List Meaning)) where
     gj : keys_cmp ks (key_at keys j) (key_at keys l) ≡ Equal
     gj = equal_from (keys_cmp ks (key_at keys j) (key_at keys l)) g
 
-    pub starts_alike : (mode : FrameMode) (bound : FrameBound) → takes_groups mode ≡ true → is_before_start ks keys mode bound i j ≡ is_before_start ks keys mode bound k l
+    pub starts_alike : (mode : FrameMode) (bound : FrameBound) → takes_groups mode ≡ true
+        → is_before_start ks keys mode bound i j ≡ is_before_start ks keys mode bound k l
     starts_alike Rows bound t = cc
     starts_alike Range bound t = start_alike ks (key_at keys i) (key_at keys k) (key_at keys j) (key_at keys l) hi gj bound
-    starts_alike Groups bound t = ap (λ m. starts_after bound m (group_number (keys_cmp ks) keys j)) (number_alike i k h) ∙ ap (starts_after bound (group_number (keys_cmp ks) keys k)) (number_alike j l g)
+    starts_alike Groups bound t = ap (λ m. starts_after bound m (group_number (keys_cmp ks) keys j)) (number_alike i k h)
+        ∙ ap (starts_after bound (group_number (keys_cmp ks) keys k)) (number_alike j l g)
 
-    pub ends_alike : (mode : FrameMode) (bound : FrameBound) → takes_groups mode ≡ true → is_after_end ks keys mode bound i j ≡ is_after_end ks keys mode bound k l
+    pub ends_alike : (mode : FrameMode) (bound : FrameBound) → takes_groups mode ≡ true
+        → is_after_end ks keys mode bound i j ≡ is_after_end ks keys mode bound k l
     ends_alike Rows bound t = cc
     ends_alike Range bound t = end_alike ks (key_at keys i) (key_at keys k) (key_at keys j) (key_at keys l) hi gj bound
-    ends_alike Groups bound t = ap (λ m. ends_before bound m (group_number (keys_cmp ks) keys j)) (number_alike i k h) ∙ ap (ends_before bound (group_number (keys_cmp ks) keys k)) (number_alike j l g)
+    ends_alike Groups bound t = ap (λ m. ends_before bound m (group_number (keys_cmp ks) keys j)) (number_alike i k h)
+        ∙ ap (ends_before bound (group_number (keys_cmp ks) keys k)) (number_alike j l g)
 
-    pub excluded_alike : (x : FrameExclusion) → leaves_groups x ≡ true → is_excluded x i j (are_peers (keys_cmp ks) keys i j) ≡ is_excluded x k l (are_peers (keys_cmp ks) keys k l)
+    pub excluded_alike : (x : FrameExclusion) → leaves_groups x ≡ true
+        → is_excluded x i j (are_peers (keys_cmp ks) keys i j) ≡ is_excluded x k l (are_peers (keys_cmp ks) keys k l)
     excluded_alike exclusion.CurrentRow t = cc
-    excluded_alike exclusion.Group t = ap is_eq (both_alike (keys_total ks) (key_at keys i) (key_at keys k) (key_at keys j) (key_at keys l) hi gj)
+    excluded_alike exclusion.Group t = ap is_eq (both_alike (keys_total ks) (key_at keys i) (key_at keys k) (key_at keys j)
+        (key_at keys l) hi gj)
     excluded_alike exclusion.Ties t = cc
     excluded_alike exclusion.NoOthers t = refl
 
-pub kept_alike : (p : Partition) (i k j l : ℕ) → holds_groups p.frame ≡ true → are_peers (keys_cmp p.order) p.keys i k ≡ true → are_peers (keys_cmp p.order) p.keys j l ≡ true → is_kept p i j ≡ is_kept p k l
+pub kept_alike : (p : Partition) (i k j l : ℕ) → holds_groups p.frame ≡ true → are_peers (keys_cmp p.order) p.keys i k
+    ≡ true → are_peers (keys_cmp p.order) p.keys j l ≡ true → is_kept p i j ≡ is_kept p k l
 kept_alike p i k j l t h g =
     let m = and_first (takes_groups p.frame.mode) (leaves_groups p.frame.exclusion) t in
     let x = and_second (takes_groups p.frame.mode) (leaves_groups p.frame.exclusion) t in
-    ap (λ b. (not b && not (is_after_end p.order p.keys p.frame.mode p.frame.end i j)) && not (is_excluded p.frame.exclusion i j (are_peers (keys_cmp p.order) p.keys i j))) (starts_alike p.order p.keys i k j l h g p.frame.mode p.frame.start m)
-    ∙ ap (λ b. (not (is_before_start p.order p.keys p.frame.mode p.frame.start k l) && not b) && not (is_excluded p.frame.exclusion i j (are_peers (keys_cmp p.order) p.keys i j))) (ends_alike p.order p.keys i k j l h g p.frame.mode p.frame.end m)
+    ap (λ b. (not b && not (is_after_end p.order p.keys p.frame.mode p.frame.end i j))
+    && not (is_excluded p.frame.exclusion i j (are_peers (keys_cmp p.order) p.keys i j)))
+    (starts_alike p.order p.keys i k j l h g p.frame.mode p.frame.start m)
+    ∙ ap (λ b. (not (is_before_start p.order p.keys p.frame.mode p.frame.start k l) && not b)
+    && not (is_excluded p.frame.exclusion i j (are_peers (keys_cmp p.order) p.keys i j)))
+    (ends_alike p.order p.keys i k j l h g p.frame.mode p.frame.end m)
     ∙ ap (λ b. is_in_extent p k l && not b) (excluded_alike p.order p.keys i k j l h g p.frame.exclusion x)

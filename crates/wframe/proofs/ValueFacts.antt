@@ -1,5 +1,6 @@
 -- Values that are equal in a key's order are the same value.
-use Rattle.std.proofs.Common.{◌≡◌, ℕ, zero, suc, ◌+◌, ◌<◌, Bool, true, false, List, [], ◌∷◌, length, drop, get_or, cond, refl, sym, ap, ◌∙◌, subst, arith}
+use Rattle.std.proofs.Common.{◌≡◌, ℕ, zero, suc, ◌+◌, ◌<◌, Bool, true, false, List, [], ◌∷◌}
+use Rattle.std.proofs.Common.{length, drop, get_or, cond, refl, sym, ap, ◌∙◌, subst, arith}
 use Rattle.std.specs.Borrow.{Bor}
 use Rattle.wvalues.specs.declared.value.Value.{Value}
 use Rattle.wframe.specs.Cells.{meanings}
@@ -54,7 +55,8 @@ same_value k (Text x) (Text y) h = ap Text (towards (slice_cmp nat_cmp) exact_by
 same_value k (Int x) (Text y) h = absurd (cc)
 same_value k (Text x) (Int y) h = absurd (cc)
 
-pub same_values : (ks : List SortKey) (xs ys : List Meaning) → length xs ≡ length ks → length ys ≡ length ks → is_eq (keys_cmp ks xs ys) ≡ true → xs ≡ ys
+pub same_values : (ks : List SortKey) (xs ys : List Meaning) → length xs ≡ length ks → length ys ≡ length ks
+    → is_eq (keys_cmp ks xs ys) ≡ true → xs ≡ ys
 same_values [] [] [] e f h = refl
 same_values [] (x ∷ xs) ys e f h = absurd (omega arith)
 same_values [] [] (y ∷ ys) e f h = absurd (omega arith)
@@ -66,7 +68,8 @@ same_values (k ∷ ks) (x ∷ xs) (y ∷ ys) e f h =
 
 -- whether two values are the same decides whether they are equal by a key
 pub same_decides : (k : SortKey) (x y : Meaning) (b : Bool) → (IsTrue b → x ≡ y) → (x ≡ y → IsTrue b) → b ≡ is_eq (key_cmp k x y)
-same_decides k x y b there back = by b (is_eq (key_cmp k x y)) there back (same_value k x y) (λ e. ap (λ z. is_eq (key_cmp k x z)) (sym e) ∙ ap is_eq (tied_itself (key_total k) x))
+same_decides k x y b there back = by b (is_eq (key_cmp k x y)) there back (same_value k x y)
+    (λ e. ap (λ z. is_eq (key_cmp k x z)) (sym e) ∙ ap is_eq (tied_itself (key_total k) x))
   where
     by : (b c : Bool) → (IsTrue b → x ≡ y) → (x ≡ y → IsTrue b) → (c ≡ true → x ≡ y) → (x ≡ y → c ≡ true) → b ≡ c
     by true c there back value tied = sym (tied (there refl))
@@ -86,18 +89,25 @@ other_then Greater p h = refl
 
 -- the keys from i on decide by the first of them, then by those from n on
 abbrev Decides : List SortKey → List (Bor Value) → List (Bor Value) → Bor Value → Bor Value → ℕ → ℕ → Type 0
-Decides ks xs ys x y i n = (k : SortKey) × (keys_cmp (drop i ks) (meanings (drop i xs)) (meanings (drop i ys)) ≡ ordering_then (key_cmp k (meaning x.now) (meaning y.now)) (keys_cmp (drop n ks) (meanings (drop n xs)) (meanings (drop n ys))))
+Decides ks xs ys x y i n = (k : SortKey) × (keys_cmp (drop i ks) (meanings (drop i xs)) (meanings (drop i ys))
+    ≡ ordering_then (key_cmp k (meaning x.now) (meaning y.now)) (keys_cmp (drop n ks) (meanings (drop n xs)) (meanings (drop n ys))))
 
-keys_from : (ks : List SortKey) (xs ys : List (Bor Value)) (i : ℕ) (x y : Bor Value) → i < length ks → length xs ≡ length ks → length ys ≡ length ks → x ≡ get_or xs i x → y ≡ get_or ys i y → Decides ks xs ys x y i (suc i)
+keys_from : (ks : List SortKey) (xs ys : List (Bor Value)) (i : ℕ) (x y : Bor Value) → i < length ks → length xs ≡ length ks
+    → length ys ≡ length ks → x ≡ get_or xs i x → y ≡ get_or ys i y → Decides ks xs ys x y i (suc i)
 keys_from [] xs ys i x y h e f xs_is ys_is = absurd (omega arith)
 keys_from (k ∷ ks) [] ys i x y h e f xs_is ys_is = absurd (omega arith)
 keys_from (k ∷ ks) (z ∷ zs) [] i x y h e f xs_is ys_is = absurd (omega arith)
 keys_from (k ∷ ks) (z ∷ zs) (w ∷ ws) zero x y h e f xs_is ys_is =
-    let rest = keys_cmp ks (meanings zs) (meanings ws) in
-    (k, ap (λ (v : Bor Value). ordering_then (key_cmp k (meaning v.now) (meaning w.now)) rest) (sym xs_is) ∙ ap (λ (v : Bor Value). ordering_then (key_cmp k (meaning x.now) (meaning v.now)) rest) (sym ys_is))
-keys_from (k ∷ ks) (z ∷ zs) (w ∷ ws) (suc i) x y h e f xs_is ys_is = keys_from ks zs ws i x y (omega arith) (omega arith) (omega arith) xs_is ys_is
+    let rest = keys_cmp ks (meanings zs) (meanings ws) in (
+      k,
+      ap (λ (v : Bor Value). ordering_then (key_cmp k (meaning v.now) (meaning w.now)) rest) (sym xs_is)
+          ∙ ap (λ (v : Bor Value). ordering_then (key_cmp k (meaning x.now) (meaning v.now)) rest) (sym ys_is),
+    )
+keys_from (k ∷ ks) (z ∷ zs) (w ∷ ws) (suc i) x y h e f xs_is ys_is =
+    keys_from ks zs ws i x y (omega arith) (omega arith) (omega arith) xs_is ys_is
 
-pub keys_then : (ks : List SortKey) (xs ys : List (Bor Value)) (i : ℕ) (x y : Bor Value) → i < length ks → length xs ≡ length ks → length ys ≡ length ks → x ≡ get_or xs i x → y ≡ get_or ys i y → Decides ks xs ys x y i (i + 1)
+pub keys_then : (ks : List SortKey) (xs ys : List (Bor Value)) (i : ℕ) (x y : Bor Value) → i < length ks
+    → length xs ≡ length ks → length ys ≡ length ks → x ≡ get_or xs i x → y ≡ get_or ys i y → Decides ks xs ys x y i (i + 1)
 keys_then ks xs ys i x y h e f xs_is ys_is =
     let n : suc i ≡ i + 1 = omega arith in
     subst (Decides ks xs ys x y i) n (keys_from ks xs ys i x y h e f xs_is ys_is)

@@ -28,7 +28,8 @@ is_after_end ks keys Groups bound i j = ends_before bound (group_number (keys_cm
 
 -- whether row j is in the extent of row i's frame: it lies neither before its start nor after its end
 abbrev pub is_in_extent : Partition → ℕ → ℕ → Bool
-is_in_extent p i j = not (is_before_start p.order p.keys p.frame.mode p.frame.start i j) && not (is_after_end p.order p.keys p.frame.mode p.frame.end i j)
+is_in_extent p i j = not (is_before_start p.order p.keys p.frame.mode p.frame.start i j)
+    && not (is_after_end p.order p.keys p.frame.mode p.frame.end i j)
 
 -- whether the exclusion takes row j, which may be a peer, out of row i's frame
 abbrev pub is_excluded : FrameExclusion → ℕ → ℕ → Bool → Bool

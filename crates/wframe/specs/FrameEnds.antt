@@ -15,9 +15,14 @@ use Rattle.wframe.specs.Frame.{is_before_start, is_after_end, frame_start, frame
 -- from `first` on, the peers of a partition, and the frames where these move keys or group numbers
 pub record HasFrames (p : Partition) (first : ℕ) (stored : FrameEnds) : Type 0 where
   pub ordered : AreOrdered (keys_cmp p.order) p.keys
-  pub starts : moves_groups p.frame ≡ true → HasNumberedCuts first (length p.keys) (is_before_start p.order p.keys p.frame.mode p.frame.start) stored.numbers.items stored.starts.items
-  pub ends : moves_groups p.frame ≡ true → HasNumberedCuts first (length p.keys) (λ i j. not (is_after_end p.order p.keys p.frame.mode p.frame.end i j)) stored.numbers.items stored.ends.items
-  pub peer_starts : HasNumberedCuts first (length p.keys) (is_before (keys_cmp p.order) p.keys) stored.numbers.items (begins_of stored.peer_ends.items)
+  pub starts : moves_groups p.frame ≡ true
+      → HasNumberedCuts first (length p.keys) (is_before_start p.order p.keys p.frame.mode p.frame.start)
+      stored.numbers.items stored.starts.items
+  pub ends : moves_groups p.frame ≡ true
+      → HasNumberedCuts first (length p.keys) (λ i j. not (is_after_end p.order p.keys p.frame.mode p.frame.end i j))
+      stored.numbers.items stored.ends.items
+  pub peer_starts : HasNumberedCuts first (length p.keys) (is_before (keys_cmp p.order) p.keys) stored.numbers.items
+      (begins_of stored.peer_ends.items)
   pub peer_ends : HasNumberedCuts first (length p.keys) (is_upto (keys_cmp p.order) p.keys) stored.numbers.items stored.peer_ends.items
 
 -- what is there stays

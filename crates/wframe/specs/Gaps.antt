@@ -1,4 +1,5 @@
--- What an exclusion leaves of a frame's extent: <window frame exclusion>. The excluded rows stand together; at most the row itself is kept among them.
+-- What an exclusion leaves of a frame's extent: <window frame exclusion>. The excluded rows stand together; at most the row
+-- itself is kept among them.
 use Rattle.std.specs.Prelude.{ℕ, ◌+◌, max, min, length, filter}
 use Rattle.wvalues.specs.Order.{keys_cmp}
 use Rattle.wframe.specs.declared.frame.FrameExclusion.{FrameExclusion}
@@ -11,7 +12,11 @@ use Rattle.wframe.specs.Frame.{frame_extent}
 
 -- the span of a row's peers
 abbrev pub peer_span : Partition → ℕ → Span
-peer_span p i = record { from = length (filter (is_before (keys_cmp p.order) p.keys i) (places (length p.keys))); to = length (filter (is_upto (keys_cmp p.order) p.keys i) (places (length p.keys))) }
+peer_span p i = record {
+  from = length (filter (is_before (keys_cmp p.order) p.keys i) (places (length p.keys)));
+  to =
+      length (filter (is_upto (keys_cmp p.order) p.keys i) (places (length p.keys)));
+}
 
 -- the place of a span that is nearest to a place
 abbrev pub nearest : Span → ℕ → ℕ

@@ -21,4 +21,5 @@ AreInOrder rows = AreOrdered (keys_cmp (sort_keys rows)) (key_lists rows)
 
 -- rows that agree on their partition values stand in the order of their keys
 abbrev pub AreInOrderWithin : KeyRows → KeyRows → Type 0
-AreInOrderWithin values keys = AreOrderedWithin (keys_cmp (sort_keys values)) (key_lists values) (keys_cmp (sort_keys keys)) (key_lists keys)
+AreInOrderWithin values keys = AreOrderedWithin (keys_cmp (sort_keys values)) (key_lists values) (keys_cmp (sort_keys keys))
+    (key_lists keys)

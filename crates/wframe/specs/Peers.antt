@@ -31,8 +31,10 @@ abbrev pub AreOrdered : (List Meaning → List Meaning → Ordering) → List (L
 AreOrdered cmp keys = (i j : ℕ) → i ≤ j → j < length keys → is_gt (cmp (key_at keys i) (key_at keys j)) ≡ false
 
 -- rows that agree on their partition values stand in the order of their keys
-abbrev pub AreOrderedWithin : (List Meaning → List Meaning → Ordering) → List (List Meaning) → (List Meaning → List Meaning → Ordering) → List (List Meaning) → Type 0
-AreOrderedWithin value_cmp values cmp keys = (i j : ℕ) → i ≤ j → j < length keys → are_peers value_cmp values i j ≡ true → is_gt (cmp (key_at keys i) (key_at keys j)) ≡ false
+abbrev pub AreOrderedWithin : (List Meaning → List Meaning → Ordering) → List (List Meaning)
+    → (List Meaning → List Meaning → Ordering) → List (List Meaning) → Type 0
+AreOrderedWithin value_cmp values cmp keys = (i j : ℕ) → i ≤ j → j < length keys → are_peers value_cmp values i j ≡ true
+    → is_gt (cmp (key_at keys i) (key_at keys j)) ≡ false
 
 -- whether row j stands before row i and all its peers
 abbrev pub is_before : (List Meaning → List Meaning → Ordering) → List (List Meaning) → ℕ → ℕ → Bool

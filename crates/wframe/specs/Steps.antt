@@ -13,5 +13,7 @@ allows Equal in_keys = in_keys
 allows Greater in_keys = false
 
 -- whether a row may stand right before the next one
-abbrev pub is_step : (List Meaning → List Meaning → Ordering) → List (List Meaning) → (List Meaning → List Meaning → Ordering) → List (List Meaning) → ℕ → Bool
-is_step value_cmp values cmp keys i = allows (value_cmp (key_at values i) (key_at values (i + 1))) (not (is_gt (cmp (key_at keys i) (key_at keys (i + 1)))))
+abbrev pub is_step : (List Meaning → List Meaning → Ordering) → List (List Meaning)
+    → (List Meaning → List Meaning → Ordering) → List (List Meaning) → ℕ → Bool
+is_step value_cmp values cmp keys i = allows (value_cmp (key_at values i) (key_at values (i + 1)))
+    (not (is_gt (cmp (key_at keys i) (key_at keys (i + 1)))))

@@ -94,7 +94,8 @@ pub fn push_starts(
     requires one_key { IsTrue (is_range mode && is_offset bound) → length (sort_keys peers.now.rows) ≡ 1 }
     requires first { length starts.old.items ≡ peers.now.first_group }
     requires room { peers.now.first + length (key_lists peers.now.rows) < 2 ^ 64 }
-    ensures cuts { OnOk result (HasNumberedCuts peers.now.first (length (key_lists peers.now.rows)) (before_start (sort_keys peers.now.rows) (key_lists peers.now.rows) mode bound) peers.now.numbers.now starts.new.items) }
+    ensures cuts { OnOk result (HasNumberedCuts peers.now.first (length (key_lists peers.now.rows))
+        (before_start (sort_keys peers.now.rows) (key_lists peers.now.rows) mode bound) peers.now.numbers.now starts.new.items) }
     ensures stays { OnOk result (BeginsWith starts.old.items starts.new.items) }
     ensures long { OnOk result (length starts.new.items ≡ length peers.now.ends.now) }
 {
@@ -121,7 +122,9 @@ pub fn push_ends(
     requires one_key { IsTrue (is_range mode && is_offset bound) → length (sort_keys peers.now.rows) ≡ 1 }
     requires first { length ends.old.items ≡ peers.now.first_group }
     requires room { peers.now.first + length (key_lists peers.now.rows) < 2 ^ 64 }
-    ensures cuts { OnOk result (HasNumberedCuts peers.now.first (length (key_lists peers.now.rows)) (λ i j. not (after_end (sort_keys peers.now.rows) (key_lists peers.now.rows) mode bound i j)) peers.now.numbers.now ends.new.items) }
+    ensures cuts { OnOk result (HasNumberedCuts peers.now.first (length (key_lists peers.now.rows))
+        (λ i j. not (after_end (sort_keys peers.now.rows) (key_lists peers.now.rows) mode bound i j)) peers.now.numbers.now
+        ends.new.items) }
     ensures stays { OnOk result (BeginsWith ends.old.items ends.new.items) }
     ensures long { OnOk result (length ends.new.items ≡ length peers.now.ends.now) }
 {

@@ -12,7 +12,8 @@ fn is_in_step(partition_values: &KeyRows, keys: &KeyRows, row: usize, next: usiz
     requires count { length (key_lists partition_values.now) ≡ length (key_lists keys.now) }
     requires row { row + 1 < length (key_lists keys.now) }
     requires next { next ≡ row + 1 }
-    ensures { result ≡ is_step (keys_cmp (sort_keys partition_values.now)) (key_lists partition_values.now) (keys_cmp (sort_keys keys.now)) (key_lists keys.now) row }
+    ensures { result ≡ is_step (keys_cmp (sort_keys partition_values.now)) (key_lists partition_values.now)
+        (keys_cmp (sort_keys keys.now)) (key_lists keys.now) row }
 {
     match compare_lists(
         partition_values.row(row),

@@ -61,10 +61,12 @@ pub fn push_group_cuts<C: Cut>(
 ) -> Result<(), AllocError>
     requires rows { length (key_lists peers.now.rows) ≡ C.row_count cut.now }
     requires cut { IsCut (length (key_lists peers.now.rows)) (C.passes cut.now) }
-    requires alike { (i k j : ℕ) → are_peers (keys_cmp (sort_keys peers.now.rows)) (key_lists peers.now.rows) i k ≡ true → C.passes cut.now i j ≡ C.passes cut.now k j }
+    requires alike { (i k j : ℕ) → are_peers (keys_cmp (sort_keys peers.now.rows)) (key_lists peers.now.rows) i k ≡ true
+        → C.passes cut.now i j ≡ C.passes cut.now k j }
     requires first { length cuts.old.items ≡ peers.now.first_group }
     requires room { peers.now.first + length (key_lists peers.now.rows) < 2 ^ 64 }
-    ensures cuts { OnOk result (HasNumberedCuts peers.now.first (length (key_lists peers.now.rows)) (C.passes cut.now) peers.now.numbers.now cuts.new.items) }
+    ensures cuts { OnOk result (HasNumberedCuts peers.now.first (length (key_lists peers.now.rows)) (C.passes cut.now)
+        peers.now.numbers.now cuts.new.items) }
     ensures stays { OnOk result (BeginsWith cuts.old.items cuts.new.items) }
     ensures long { OnOk result (length cuts.new.items ≡ length peers.now.ends.now) }
 {

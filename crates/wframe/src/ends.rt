@@ -63,12 +63,17 @@ impl FrameEnds {
         requires start { IsTrue (is_range frame.mode && is_offset frame.start) → length (sort_keys rows.now) ≡ 1 }
         requires end { IsTrue (is_range frame.mode && is_offset frame.end) → length (sort_keys rows.now) ≡ 1 }
         requires ends { length self.old.ends.items ≡ length self.old.starts.items }
-        requires peers { AreGroups (keys_cmp (sort_keys rows.now)) (key_lists rows.now) first (length self.old.starts.items) (length (key_lists rows.now)) self.old.numbers.items self.old.peer_ends.items }
+        requires peers { AreGroups (keys_cmp (sort_keys rows.now)) (key_lists rows.now) first (length self.old.starts.items)
+            (length (key_lists rows.now)) self.old.numbers.items self.old.peer_ends.items }
         requires room { first + length (key_lists rows.now) < 2 ^ 64 }
-        ensures starts { OnOk result (HasNumberedCuts first (length (key_lists rows.now)) (is_before_start (sort_keys rows.now) (key_lists rows.now) frame.mode frame.start) self.old.numbers.items self.new.starts.items) }
+        ensures starts { OnOk result (HasNumberedCuts first (length (key_lists rows.now))
+            (is_before_start (sort_keys rows.now) (key_lists rows.now) frame.mode frame.start) self.old.numbers.items
+            self.new.starts.items) }
         ensures starts_stay { OnOk result (BeginsWith self.old.starts.items self.new.starts.items) }
         ensures starts_long { OnOk result (length self.new.starts.items ≡ length self.old.peer_ends.items) }
-        ensures ends { OnOk result (HasNumberedCuts first (length (key_lists rows.now)) (λ i j. not (is_after_end (sort_keys rows.now) (key_lists rows.now) frame.mode frame.end i j)) self.old.numbers.items self.new.ends.items) }
+        ensures ends { OnOk result (HasNumberedCuts first (length (key_lists rows.now))
+            (λ i j. not (is_after_end (sort_keys rows.now) (key_lists rows.now) frame.mode frame.end i j))
+            self.old.numbers.items self.new.ends.items) }
         ensures ends_stay { OnOk result (BeginsWith self.old.ends.items self.new.ends.items) }
         ensures ends_long { OnOk result (length self.new.ends.items ≡ length self.old.peer_ends.items) }
         ensures peers { (self.new.numbers ≡ self.old.numbers) × (self.new.peer_ends ≡ self.old.peer_ends) }
@@ -96,7 +101,12 @@ impl FrameEnds {
         requires end { IsTrue (is_range frame.mode && is_offset frame.end) → length (sort_keys rows.now) ≡ 1 }
         requires first { AreLong frame first self.old }
         requires room { first + length (key_lists rows.now) < 2 ^ 64 }
-        ensures frames { OnOk result (HasFrames (record { order = sort_keys rows.now; keys = key_lists rows.now; frame = frame }) first self.new) }
+        ensures frames { OnOk result (HasFrames (record {
+          order = sort_keys rows.now;
+          keys = key_lists rows.now;
+          frame =
+              frame;
+        }) first self.new) }
         ensures extends { OnOk result (Extends self.old self.new) }
         ensures long { OnOk result (AreLong frame (first + length (key_lists rows.now)) self.new) }
     {
@@ -113,7 +123,8 @@ impl FrameEnds {
         requires start { slice_index self.now.numbers.items row < length self.now.starts.items }
         requires end { slice_index self.now.numbers.items row < length self.now.ends.items }
         ensures from { result.from ≡ slice_index self.now.starts.items (slice_index self.now.numbers.items row) }
-        ensures to { result.to ≡ max (slice_index self.now.starts.items (slice_index self.now.numbers.items row)) (slice_index self.now.ends.items (slice_index self.now.numbers.items row)) }
+        ensures to { result.to ≡ max (slice_index self.now.starts.items (slice_index self.now.numbers.items row))
+            (slice_index self.now.ends.items (slice_index self.now.numbers.items row)) }
     {
         let number = self.numbers[row];
         let from = self.starts[number];

@@ -31,10 +31,15 @@ fn pieces(span: Span, a: usize, b: usize, c: usize, d: usize) -> [Span; 3]
     requires first { a ≤ b }
     requires second { b ≤ c }
     requires third { c ≤ d }
-    ensures rows { (n : ℕ) → span.to ≤ n → spans_places result ≡ filter (λ j. is_in_span span j && (nat_lt j a || (nat_le b j && nat_lt j c) || nat_le d j)) (places n) }
+    ensures rows { (n : ℕ) → span.to ≤ n
+        → spans_places result ≡ filter (λ j. is_in_span span j && (nat_lt j a || (nat_le b j && nat_lt j c) || nat_le d j)) (places n) }
     ensures apart { AreApart span.from result span.to }
     ensures plain { span.to ≤ a → IsPlain span result }
-    ensures list { result ≡ record { from = span.from; to = nearest span a } ∷ record { from = nearest span b; to = nearest span c } ∷ record { from = nearest span d; to = span.to } ∷ [] }
+    ensures list { result ≡ record { from = span.from; to = nearest span a } ∷ record {
+      from = nearest span b;
+      to =
+          nearest span c;
+    } ∷ record { from = nearest span d; to = span.to } ∷ [] }
 {
     let a = clip(span, a);
     let b = clip(span, b);
@@ -104,10 +109,12 @@ pub fn without(span: Span, exclusion: FrameExclusion, row: usize, peers: Span) -
     requires span { span.from ≤ span.to }
     requires from { peers.from ≤ row }
     requires to { row < peers.to }
-    ensures rows { (n : ℕ) → span.to ≤ n → spans_places result ≡ filter (λ j. is_in_span span j && not (is_excluded exclusion row j (is_in_span peers j))) (places n) }
+    ensures rows { (n : ℕ) → span.to ≤ n
+        → spans_places result ≡ filter (λ j. is_in_span span j && not (is_excluded exclusion row j (is_in_span peers j))) (places n) }
     ensures apart { AreApart span.from result span.to }
     ensures plain { exclusion ≡ FrameExclusion.NoOthers → IsPlain span result }
-    ensures list { result ≡ before_gap exclusion span row peers ∷ within_gap exclusion span row peers ∷ behind_gap exclusion span row peers ∷ [] }
+    ensures list { result ≡ before_gap exclusion span row peers ∷ within_gap exclusion span row peers ∷ behind_gap exclusion
+        span row peers ∷ [] }
 {
     let gap = gap_at(span, exclusion, row, peers);
     pieces(span, gap.from, gap.kept_from, gap.kept_to, gap.to)

@@ -40,7 +40,10 @@ impl<'a> Model for Frames<'a> {
 
     ghost view = { λ f. record { order = sort_keys f.rows; keys = key_lists f.rows; frame = f.frame } };
 
-    ghost invariant = { λ f. (f.span.to ≡ f.span.from + length (key_lists f.rows)) × (f.start ≡ move_of f.frame.start (length (key_lists f.rows))) × (f.end ≡ move_of f.frame.end (length (key_lists f.rows))) × HasFrames (record { order = sort_keys f.rows; keys = key_lists f.rows; frame = f.frame }) f.span.from f.ends.now };
+    ghost invariant = { λ f. (f.span.to ≡ f.span.from + length (key_lists f.rows))
+        × (f.start ≡ move_of f.frame.start (length (key_lists f.rows)))
+        × (f.end ≡ move_of f.frame.end (length (key_lists f.rows)))
+        × HasFrames (record { order = sort_keys f.rows; keys = key_lists f.rows; frame = f.frame }) f.span.from f.ends.now };
 }
 
 // A span counted from a place before it.

@@ -20,7 +20,8 @@ use std::marker::Model;
 fn partition_spans(alloc: Global, partition_values: &KeyRows) -> Result<Vec<Span>, AllocError>
     requires { AreInOrder partition_values.now }
     ensures tiles { IfOk result (λ spans. Tiles 0 spans.items (length (key_lists partition_values.now))) }
-    ensures each { IfOk result (λ spans. All (IsPartition (keys_cmp (sort_keys partition_values.now)) (key_lists partition_values.now)) spans.items) }
+    ensures each { IfOk result (λ spans. All (IsPartition (keys_cmp (sort_keys partition_values.now))
+        (key_lists partition_values.now)) spans.items) }
 {
     let count = partition_values.count();
     let mut spans = Vec::new(alloc);
@@ -47,7 +48,12 @@ fn all_ends(
     requires end { IsTrue (is_range frame.mode && is_offset frame.end) → length (sort_keys keys.now) ≡ 1 }
     requires tiles { Tiles 0 spans.now (length (key_lists partition_values.now)) }
     requires spans { All (IsPartition (keys_cmp (sort_keys partition_values.now)) (key_lists partition_values.now)) spans.now }
-    ensures { IfOk result (HasAllFrames (record { order = sort_keys keys.now; keys = key_lists keys.now; frame = frame; spans = spans.now })) }
+    ensures { IfOk result (HasAllFrames (record {
+      order = sort_keys keys.now;
+      keys = key_lists keys.now;
+      frame = frame;
+      spans = spans.now;
+    })) }
 {
     let mut ends = FrameEnds::with_capacity(alloc, frame, keys.count())?;
     let mut groups = Vec::new(alloc);
@@ -76,7 +82,12 @@ impl<'a> Model for Partitions<'a> {
 
     ghost view = { λ p. record { order = sort_keys p.keys; keys = key_lists p.keys; frame = p.frame; spans = p.spans.items } };
 
-    ghost invariant = { λ p. HasAllFrames (record { order = sort_keys p.keys; keys = key_lists p.keys; frame = p.frame; spans = p.spans.items }) p.ends };
+    ghost invariant = { λ p. HasAllFrames (record {
+      order = sort_keys p.keys;
+      keys = key_lists p.keys;
+      frame = p.frame;
+      spans = p.spans.items;
+    }) p.ends };
 }
 
 impl<'a> Partitions<'a> {
@@ -102,7 +113,8 @@ impl<'a> Partitions<'a> {
         ensures keys { IfOk result (λ all. all.keys ≡ key_lists keys.entry) }
         ensures frame { IfOk result (λ all. all.frame ≡ frame) }
         ensures tiles { IfOk result (λ all. Tiles 0 all.spans (length all.keys)) }
-        ensures each { IfOk result (λ all. All (IsPartition (keys_cmp (sort_keys partition_values.now)) (key_lists partition_values.now)) all.spans) }
+        ensures each { IfOk result (λ all. All (IsPartition (keys_cmp (sort_keys partition_values.now))
+            (key_lists partition_values.now)) all.spans) }
     {
         let spans = partition_spans(alloc, partition_values)?;
         let ends = all_ends(alloc, partition_values, &keys, frame, &spans)?;

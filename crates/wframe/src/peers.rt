@@ -72,7 +72,8 @@ fn push_group(
 ) -> Result<(), AllocError>
     ensures ends { OnOk result (ends.new.items ≡ ends.old.items ++ end ∷ []) }
     ensures stays { OnOk result (BeginsWith numbers.old.items numbers.new.items) }
-    ensures each { OnOk result ((i : ℕ) → length numbers.old.items ≤ i → i < length numbers.new.items → slice_index numbers.new.items i ≡ length ends.old.items) }
+    ensures each { OnOk result ((i : ℕ) → length numbers.old.items ≤ i → i < length numbers.new.items
+        → slice_index numbers.new.items i ≡ length ends.old.items) }
     ensures long { OnOk result (length numbers.new.items ≡ length numbers.old.items + rows) }
 {
     let number = ends.len();
@@ -97,7 +98,8 @@ pub fn push_peers(
     requires numbers { length numbers.old.items ≡ first }
     requires last { slice_index (begins_of ends.old.items) (length ends.old.items) ≡ first }
     requires room { first + length (key_lists rows.now) < 2 ^ 64 }
-    ensures groups { OnOk result (AreGroups (keys_cmp (sort_keys rows.now)) (key_lists rows.now) first (length ends.old.items) (length (key_lists rows.now)) numbers.new.items ends.new.items) }
+    ensures groups { OnOk result (AreGroups (keys_cmp (sort_keys rows.now)) (key_lists rows.now) first
+        (length ends.old.items) (length (key_lists rows.now)) numbers.new.items ends.new.items) }
     ensures numbers_stay { OnOk result (BeginsWith numbers.old.items numbers.new.items) }
     ensures ends_stay { OnOk result (BeginsWith ends.old.items ends.new.items) }
     ensures long { OnOk result (length numbers.new.items ≡ first + length (key_lists rows.now)) }
@@ -123,7 +125,8 @@ pub struct PeerEnds<'a> {
     first: usize,
     first_group: usize,
     ghost ordered: { AreInOrder rows },
-    ghost groups: { AreGroups (keys_cmp (sort_keys rows)) (key_lists rows) first first_group (length (key_lists rows)) numbers.now ends.now },
+    ghost groups: { AreGroups (keys_cmp (sort_keys rows)) (key_lists rows) first first_group (length (key_lists rows))
+        numbers.now ends.now },
 }
 
 impl<'a> PeerEnds<'a> {
@@ -139,7 +142,8 @@ impl<'a> PeerEnds<'a> {
         first_group: usize,
     ) -> PeerEnds<'a>
         requires ordered { AreInOrder rows }
-        requires groups { AreGroups (keys_cmp (sort_keys rows)) (key_lists rows) first first_group (length (key_lists rows)) numbers.now ends.now }
+        requires groups { AreGroups (keys_cmp (sort_keys rows)) (key_lists rows) first first_group (length (key_lists rows))
+            numbers.now ends.now }
         ensures rows { result.rows ≡ rows.entry }
         ensures numbers { result.numbers ≡ numbers.entry }
         ensures ends { result.ends ≡ ends.entry }
@@ -174,11 +178,16 @@ impl<'a> PeerEnds<'a> {
         requires { row < length (key_lists self.now.rows) }
         ensures more { row < result }
         ensures within { result ≤ length (key_lists self.now.rows) }
-        ensures peers { (j : ℕ) → row ≤ j → j < result → are_peers (keys_cmp (sort_keys self.now.rows)) (key_lists self.now.rows) row j ≡ true }
-        ensures others { (j : ℕ) → result ≤ j → j < length (key_lists self.now.rows) → are_peers (keys_cmp (sort_keys self.now.rows)) (key_lists self.now.rows) row j ≡ false }
-        ensures same { (j : ℕ) → row ≤ j → j < result → slice_index self.now.numbers.now (self.now.first + j) ≡ slice_index self.now.numbers.now (self.now.first + row) }
-        ensures next { result < length (key_lists self.now.rows) → slice_index self.now.numbers.now (self.now.first + result) ≡ slice_index self.now.numbers.now (self.now.first + row) + 1 }
-        ensures last { result ≡ length (key_lists self.now.rows) → slice_index self.now.numbers.now (self.now.first + row) + 1 ≡ length self.now.ends.now }
+        ensures peers { (j : ℕ) → row ≤ j → j < result
+            → are_peers (keys_cmp (sort_keys self.now.rows)) (key_lists self.now.rows) row j ≡ true }
+        ensures others { (j : ℕ) → result ≤ j → j < length (key_lists self.now.rows)
+            → are_peers (keys_cmp (sort_keys self.now.rows)) (key_lists self.now.rows) row j ≡ false }
+        ensures same { (j : ℕ) → row ≤ j → j < result → slice_index self.now.numbers.now (self.now.first + j)
+            ≡ slice_index self.now.numbers.now (self.now.first + row) }
+        ensures next { result < length (key_lists self.now.rows)
+            → slice_index self.now.numbers.now (self.now.first + result) ≡ slice_index self.now.numbers.now (self.now.first + row) + 1 }
+        ensures last { result ≡ length (key_lists self.now.rows) → slice_index self.now.numbers.now (self.now.first + row)
+            + 1 ≡ length self.now.ends.now }
     {
         self.ends[self.numbers[self.first + row]] - self.first
     }

@@ -1,5 +1,6 @@
 -- What a grouping that counts all rows answers depends on their number alone.
-use Rattle.std.proofs.Common.{◌≡◌, ℕ, zero, suc, pos, ◌+◌, ◌<◌, false, List, [], ◌∷◌, ◌++◌, length, map, take, None, Result, Ok, refl, sym, ap, ◌∙◌, arith}
+use Rattle.std.proofs.Common.{◌≡◌, ℕ, zero, suc, pos, ◌+◌, ◌<◌, false, List, [], ◌∷◌, ◌++◌, length}
+use Rattle.std.proofs.Common.{map, take, None, Result, Ok, refl, sym, ap, ◌∙◌, arith}
 use Rattle.std.specs.List.{AllByRecursion, list_any, count_by}
 use Rattle.std.proofs.lemmas.List.Recursion.{is_count_by}
 use Rattle.wvalues.specs.Meaning.{Meaning, Int, Null}
@@ -36,11 +37,14 @@ module _ (rows : List Row) (n : ℕ) (long : length rows ≡ n) where
 
   column_counted : call_column rows (all_rows ∷ []) row_count ≡ Ok (count ∷ [])
   column_counted =
-      ap (λ b. ((unless b OutOfRange (map (value_on (Constant Null)) rows) >>= λ values. filter_of None rows >>= λ filter. Ok (record { values = values; filter = filter })) >>= λ (feed : Feed). in_range (map (λ (g : Group). aggregate_of CountRows feed g.rows) (all_rows ∷ []))))
+      ap (λ b. ((unless b OutOfRange (map (value_on (Constant Null)) rows) >>= λ values. filter_of None rows >>= λ filter.
+      Ok (record { values = values; filter = filter })) >>= λ (feed : Feed). in_range
+      (map (λ (g : Group). aggregate_of CountRows feed g.rows) (all_rows ∷ []))))
       (none_out rows)
       ∙ ap (λ k. Ok (Int (pos k) ∷ [])) counted
 
-  columns_counted : (calls : List GroupCallPlan) → AllByRecursion (λ c. c ≡ row_count) calls → each (call_column rows (all_rows ∷ [])) calls ≡ Ok (map (λ c. count ∷ []) calls)
+  columns_counted : (calls : List GroupCallPlan) → AllByRecursion (λ c. c ≡ row_count) calls
+      → each (call_column rows (all_rows ∷ [])) calls ≡ Ok (map (λ c. count ∷ []) calls)
   columns_counted [] all = refl
   columns_counted (c ∷ cs) all =
       let others : Result (List (List Meaning)) AnswerFault = each (call_column rows (all_rows ∷ [])) cs in
@@ -53,14 +57,16 @@ module _ (rows : List Row) (n : ℕ) (long : length rows ≡ n) where
 
   pub rows_counted : (g : GroupingPlan) → CountsRows g → group_rows g rows ≡ held_rows g.having (map (λ c. count) g.calls ∷ [])
   rows_counted g is =
-      let after : List Group → Result (List Row) AnswerFault = λ groups. each (call_column rows groups) g.calls >>= λ columns. held_rows g.having (beside (map (λ (group : Group). group.key) groups) columns) in
+      let after : List Group → Result (List Row) AnswerFault = λ groups. each (call_column rows groups) g.calls
+      >>= λ columns. held_rows g.having (beside (map (λ (group : Group). group.key) groups) columns) in
       ap (λ columns. not_too_many (groups_of columns g.sets rows) >>= after) is.columns
       ∙ ap (λ sets. not_too_many (groups_of [] sets rows) >>= after) is.sets
       ∙ ap (λ r. r >>= λ columns. held_rows g.having (beside ([] ∷ []) columns)) (columns_counted g.calls is.calls)
       ∙ ap (held_rows g.having) (row_told g.calls)
 
 -- the same for one element more
-pub same_taken : {X Y : Type 0} (y : Y) (xs : List X) (i : ℕ) → i < length xs → map (λ x. y) (take (i + 1) xs) ≡ map (λ x. y) (take i xs) ++ y ∷ []
+pub same_taken : {X Y : Type 0} (y : Y) (xs : List X) (i : ℕ) → i < length xs
+    → map (λ x. y) (take (i + 1) xs) ≡ map (λ x. y) (take i xs) ++ y ∷ []
 same_taken y [] i h = absurd (omega (arith, h))
 same_taken y (x ∷ xs) zero h = refl
 same_taken y (x ∷ xs) (suc i) h =

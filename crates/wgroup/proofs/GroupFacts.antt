@@ -1,5 +1,6 @@
 -- Groups by the order of first sight, and by their keys.
-use Rattle.std.proofs.Common.{◌≡◌, ℕ, ◌<◌, ◌==◌, true, false, not, List, [], ◌∷◌, length, map, filter, get_or, All, Ordering, sym, ap, ◌∙◌, arith}
+use Rattle.std.proofs.Common.{◌≡◌, ℕ, ◌<◌, ◌==◌, true, false, not, List, [], ◌∷◌, length}
+use Rattle.std.proofs.Common.{map, filter, get_or, All, Ordering, sym, ap, ◌∙◌, arith}
 use Rattle.std.specs.Borrow.{Bor}
 use Rattle.std.specs.List.{list_any, AllByRecursion}
 use Rattle.std.specs.Ordering.{on}
@@ -18,7 +19,8 @@ use Rattle.wrows.specs.Laid.{row_seen, rows_seen}
 use Rattle.wrows.specs.Plain.{numbers_by}
 use Rattle.wrows.specs.Sorting.{ascending}
 use Rattle.wrows.proofs.RowFacts.{all_of_each, row_at, map-map, places_below}
-use Rattle.wgroup.specs.Grouping.{Group, SetColumns, agree, first_rows, group_cmp, group_key, group_of, groups_by, groups_of_set, set_columns, set_value}
+use Rattle.wgroup.specs.Grouping.{Group, SetColumns, agree, first_rows, group_cmp, group_key}
+use Rattle.wgroup.specs.Grouping.{group_of, groups_by, groups_of_set, set_columns, set_value}
 use Rattle.waggregate.specs.Grouped.{rows_of_group}
 use Rattle.wgroup.specs.Sight.{IsSight, first_of, key_in, same_row, slice_at}
 use Rattle.wgroup.proofs.ListFacts.{map_same, all_implied, at_places}
@@ -28,11 +30,15 @@ use Rattle.wgroup.proofs.SightFacts.{rows_numbered}
 use Rattle.wgroup.proofs.CoarserFacts.{sights_agree}
 use Rattle.wrows.proofs.MoreSorting.{sorted_map, sorted_same}
 
-pub keys_wide : (columns : SetColumns) (rows : List (Bor (List Value))) → AllByRecursion (λ r. length (key_in columns (row_seen r)) ≡ length columns) rows
-keys_wide columns rows = all_of_each (λ r. length (key_in columns (row_seen r)) ≡ length columns) (λ r. length-map columns (set_value (row_seen r))) rows
+pub keys_wide : (columns : SetColumns) (rows : List (Bor (List Value)))
+    → AllByRecursion (λ r. length (key_in columns (row_seen r)) ≡ length columns) rows
+keys_wide columns rows = all_of_each (λ r. length (key_in columns (row_seen r)) ≡ length columns)
+    (λ r. length-map columns (set_value (row_seen r))) rows
 
-pub group_keys_wide : (columns : SetColumns) (rows : List Row) (is : List ℕ) → AllByRecursion (λ i. length (group_key columns rows i) ≡ length columns) is
-group_keys_wide columns rows is = all_of_each (λ i. length (group_key columns rows i) ≡ length columns) (λ i. length-map columns (set_value (key_at rows i))) is
+pub group_keys_wide : (columns : SetColumns) (rows : List Row) (is : List ℕ)
+    → AllByRecursion (λ i. length (group_key columns rows i) ≡ length columns) is
+group_keys_wide columns rows is = all_of_each (λ i. length (group_key columns rows i) ≡ length columns)
+    (λ i. length-map columns (set_value (key_at rows i))) is
 
 module _ (columns : SetColumns) (rows : List (Bor (List Value))) where
   abbrev n : ℕ
@@ -59,7 +65,8 @@ module _ (columns : SetColumns) (rows : List (Bor (List Value))) where
     key_wide i = length-map columns (set_value (key_at told i))
 
     same_agrees : (i j : ℕ) → i < n → j < n → same_row w cells i j ≡ agree columns told i j
-    same_agrees i j h k = cells_agree columns (slice_at w cells i) (slice_at w cells j) (group_key columns told i) (group_key columns told j) (slice_key i h) (slice_key j k) (key_wide i) (key_wide j)
+    same_agrees i j h k = cells_agree columns (slice_at w cells i) (slice_at w cells j) (group_key columns told i)
+        (group_key columns told j) (slice_key i h) (slice_key j k) (key_wide i) (key_wide j)
 
     pub rows_agree : (firsts numbers : List ℕ) → IsSight (same_row w cells) n firsts numbers → IsSight (agree columns told) n firsts numbers
     rows_agree = sights_agree (same_row w cells) (agree columns told) n same_agrees
@@ -70,7 +77,8 @@ module _ (columns : SetColumns) (rows : List (Bor (List Value))) where
   module _ (set firsts order numbers : List ℕ) (keys : List Value) (count : ℕ)
       (sight : IsSight (agree columns told) n firsts numbers)
       (are_keys : laid w (length firsts) keys ≡ map (group_key columns told) firsts) (are_so_many : count ≡ length firsts)
-      (in_order : order ≡ numbers_by (ascending columns) (laid w (length firsts) keys) (length firsts)) (below : All (λ i. i < length firsts) order) where
+      (in_order : order ≡ numbers_by (ascending columns) (laid w (length firsts) keys) (length firsts))
+      (below : All (λ i. i < length firsts) order) where
     abbrev first : ℕ → ℕ
     first g = get_or firsts g 0
 
@@ -78,14 +86,16 @@ module _ (columns : SetColumns) (rows : List (Bor (List Value))) where
     key_here g h = ap (λ ks. get_or ks g []) are_keys ∙ get_or-map (group_key columns told) firsts g 0 [] h
 
     rows_here : (g : ℕ) → g < length firsts → rows_of_group numbers g ≡ filter (agree columns told (first g)) (places (length told))
-    rows_here g h = rows_numbered (agree columns told) (agree_equiv columns told) n firsts numbers sight g h ∙ ap (λ m. filter (agree columns told (first g)) (places m)) (sym long)
+    rows_here g h = rows_numbered (agree columns told) (agree_equiv columns told) n firsts numbers sight g h
+        ∙ ap (λ m. filter (agree columns told (first g)) (places m)) (sym long)
 
     abbrev group : ℕ → Group
     group g = record { set = set; key = key_at (laid w count keys) g; rows = rows_of_group numbers g }
 
     group_here : (g : ℕ) → g < length firsts → group g ≡ group_of set columns told (first g)
     group_here g h =
-        let key : key_at (laid w count keys) g ≡ group_key columns told (first g) = ap (λ m. key_at (laid w m keys) g) are_so_many ∙ key_here g h in
+        let key : key_at (laid w count keys) g ≡ group_key columns told (first g) =
+        ap (λ m. key_at (laid w m keys) g) are_so_many ∙ key_here g h in
         let one : List Meaning → List ℕ → Group = λ k rs. record { set = set; key = k; rows = rs } in
         ap (λ k. one k (rows_of_group numbers g)) key ∙ ap (λ rs. one (group_key columns told (first g)) rs) (rows_here g h)
 
@@ -94,8 +104,10 @@ module _ (columns : SetColumns) (rows : List (Bor (List Value))) where
 
     order_here : map first order ≡ sorted by_key (first_rows columns told)
     order_here =
-        ap (map first) (in_order ∙ sorted_same (λ g. g < length firsts) (on (key_at (laid w (length firsts) keys)) (keys_cmp (ascending columns))) (on first by_key)
-        (λ x y h k. ap (λ a. group_cmp columns a (key_at (laid w (length firsts) keys) y)) (key_here x h) ∙ ap (λ b. group_cmp columns (group_key columns told (first x)) b) (key_here y k))
+        ap (map first) (in_order ∙ sorted_same (λ g. g < length firsts) (on (key_at (laid w (length firsts) keys))
+        (keys_cmp (ascending columns))) (on first by_key)
+        (λ x y h k. ap (λ a. group_cmp columns a (key_at (laid w (length firsts) keys) y)) (key_here x h)
+        ∙ ap (λ b. group_cmp columns (group_key columns told (first x)) b) (key_here y k))
         (places (length firsts)) (places_below 0 (length firsts) (length firsts) (omega arith)))
         ∙ sym (sorted_map by_key first (places (length firsts))) ∙ ap (sorted by_key) (at_places firsts 0 ∙ sight.are_firsts ∙ firsts_told)
 
@@ -103,7 +115,8 @@ module _ (columns : SetColumns) (rows : List (Bor (List Value))) where
     pub are_groups : map group order ≡ groups_by set columns told
     are_groups =
         map_same group (λ g. group_of set columns told (first g)) order
-        (all_implied (λ g. g < length firsts) (λ g. group g ≡ group_of set columns told (first g)) group_here order (recursion_from_All (λ i. i < length firsts) order below))
+        (all_implied (λ g. g < length firsts) (λ g. group g ≡ group_of set columns told (first g)) group_here order
+        (recursion_from_All (λ i. i < length firsts) order below))
         ∙ sym (map-map (group_of set columns told) first order) ∙ ap (map (group_of set columns told)) order_here
 
 pub some_length : {X : Type 0} (xs : List X) → false ≡ (length xs == 0) → 0 < length xs
@@ -114,12 +127,15 @@ pub no_length : {X : Type 0} (xs : List X) → (length xs == 0) ≡ true → len
 no_length xs h = grind (arith, nat_tests)
 
 -- the groups of a set, which is empty or not
-pub of_no_columns : (columns set : List ℕ) (rows : List (Bor (List Value))) (groups : List Group) → length set ≡ 0 → groups ≡ record { set = []; key = map (λ c. Null) columns; rows = places (length rows) } ∷ [] → groups ≡ groups_of_set columns (rows_seen rows) set
+pub of_no_columns : (columns set : List ℕ) (rows : List (Bor (List Value))) (groups : List Group) → length set ≡ 0
+    → groups ≡ record { set = []; key = map (λ c. Null) columns; rows = places (length rows) } ∷ []
+    → groups ≡ groups_of_set columns (rows_seen rows) set
 of_no_columns columns [] rows groups h e =
     let one : ℕ → List Group = λ n. record { set = []; key = map (λ c. Null) columns; rows = places n } ∷ [] in
     e ∙ ap one (sym (length-map rows row_seen))
 of_no_columns columns (c ∷ cs) rows groups h e = absurd (omega arith)
 
-pub of_columns : (columns set : List ℕ) (rows : List Row) (groups : List Group) → 0 < length set → groups ≡ groups_by set (set_columns columns set) rows → groups ≡ groups_of_set columns rows set
+pub of_columns : (columns set : List ℕ) (rows : List Row) (groups : List Group) → 0 < length set
+    → groups ≡ groups_by set (set_columns columns set) rows → groups ≡ groups_of_set columns rows set
 of_columns columns [] rows groups h e = absurd (omega arith)
 of_columns columns (c ∷ cs) rows groups h e = e

@@ -1,5 +1,6 @@
 -- The first of equal rows stands in front of them in their order.
-use Rattle.std.proofs.Common.{◌≡◌, ◌≢◌, ℕ, zero, suc, ◌+◌, ◌<◌, ◌≤◌, Bool, true, false, cond, eqb, List, [], ◌∷◌, length, get_or, set, Ordering, Less, Equal, Greater, is_gt, inl, inr, ◌⊎◌, refl, sym, ap, subst, ◌∙◌, arith, true≢false}
+use Rattle.std.proofs.Common.{◌≡◌, ◌≢◌, ℕ, zero, suc, ◌+◌, ◌<◌, ◌≤◌, Bool, true, false, cond, eqb, List, [], ◌∷◌, length, get_or, set}
+use Rattle.std.proofs.Common.{Ordering, Less, Equal, Greater, is_gt, inl, inr, ◌⊎◌, refl, sym, ap, subst, ◌∙◌, arith, true≢false}
 use Rattle.std.specs.List.{AllByRecursion}
 use Rattle.std.specs.Cmp.{IsEquivalence, IsTotalOrder}
 use Rattle.std.specs.Ordering.{is_eq, ordering_reverse}
@@ -70,7 +71,11 @@ module _ (c : ℕ → ℕ → Ordering) (total : IsTotalOrder c) where
   before_trans : (x y z : ℕ) → Before x y → Before y z → Before x z
   before_trans x y z h (inl l) = inl (before_less x y z h l)
   before_trans x y z (inl h) (inr k) = inl (sym (alike_right total y z x k.0) ∙ h)
-  before_trans x y z (inr h) (inr k) = inr (total.congr x y z h.0 ∙ k.0, (let l : x < y = h.1 in let m : y < z = k.1 in omega (arith, l, m)))
+  before_trans x y z (inr h) (inr k) = inr (
+    total.congr x y z h.0 ∙ k.0,
+    (let l : x < y = h.1 in let m : y < z = k.1 in
+        omega (arith, l, m)),
+  )
 
   abbrev Rises : List ℕ → Type 0
   Rises [] = Unit {0}
@@ -92,11 +97,13 @@ module _ (c : ℕ → ℕ → Ordering) (total : IsTotalOrder c) where
       go Equal e more = subst (λ o. Rises (cond (is_gt o) (y ∷ inserted c x ys) (x ∷ y ∷ ys))) (sym e) (stays (inr (e, front.0)))
       go Greater e more =
           let back : c y x ≡ Less = total.antisymm y x ∙ ap ordering_reverse e in
-          subst (λ o. Rises (cond (is_gt o) (y ∷ inserted c x ys) (x ∷ y ∷ ys))) (sym e) (all_inserted c total (Before y) x ys (inl back) r.0, more)
+          subst (λ o. Rises (cond (is_gt o) (y ∷ inserted c x ys) (x ∷ y ∷ ys))) (sym e)
+          (all_inserted c total (Before y) x ys (inl back) r.0, more)
 
   rises_sorted : (a n : ℕ) → Rises (sorted c (places_from a n))
   rises_sorted a zero = tt
-  rises_sorted a (suc n) = rises_inserted a (sorted c (places_from (a + 1) n)) (rises_sorted (a + 1) n) (all_sorted c total (λ y. a < y) (places_from (a + 1) n) (places_above a (a + 1) n (omega arith)))
+  rises_sorted a (suc n) = rises_inserted a (sorted c (places_from (a + 1) n)) (rises_sorted (a + 1) n)
+      (all_sorted c total (λ y. a < y) (places_from (a + 1) n) (places_above a (a + 1) n (omega arith)))
 
   rises_at : (xs : List ℕ) (i j : ℕ) → Rises xs → i < j → j < length xs → Before (get_or xs i 0) (get_or xs j 0)
   rises_at [] i j r h k = absurd (omega (arith, k))
@@ -109,7 +116,8 @@ module _ (c : ℕ → ℕ → Ordering) (total : IsTotalOrder c) where
   in_inserted x z [] (inr h) = absurd h
   in_inserted x z (y ∷ ys) h = go (is_gt (c x y)) h (in_inserted x z ys)
     where
-      go : (b : Bool) → (z ≡ x) ⊎ IsIn z (y ∷ ys) → ((z ≡ x) ⊎ IsIn z ys → IsIn z (inserted c x ys)) → IsIn z (cond b (y ∷ inserted c x ys) (x ∷ y ∷ ys))
+      go : (b : Bool) → (z ≡ x) ⊎ IsIn z (y ∷ ys) → ((z ≡ x) ⊎ IsIn z ys → IsIn z (inserted c x ys))
+          → IsIn z (cond b (y ∷ inserted c x ys) (x ∷ y ∷ ys))
       go true (inl e) more = inr (more (inl e))
       go true (inr (inl e)) more = inl e
       go true (inr (inr h)) more = inr (more (inr h))
@@ -156,7 +164,8 @@ module _ (c : ℕ → ℕ → Ordering) (total : IsTotalOrder c) where
         go (inr (inr l)) = absurd (omega (arith, l, h))
 
     -- what is the same as a row, and stands before it, stands no further than a row that is another
-    between : (last row i : ℕ) → last < n → row < n → i < n → (i ≡ last) ⊎ Before i last → Before last row → same row i ≡ true → same last row ≡ true
+    between : (last row i : ℕ) → last < n → row < n → i < n → (i ≡ last) ⊎ Before i last → Before last row
+        → same row i ≡ true → same last row ≡ true
     between last row i h k l up (inr p) e = tells last row h k ∙ ap is_eq p.0
     between last row i h k l (inl q) (inl p) e = absurd (not_less i row l k (eqv.symm i row ∙ e) (ap (λ x. c x row) q ∙ p))
     between last row i h k l (inr q) (inl p) e = absurd (not_less i row l k (eqv.symm i row ∙ e) (before_less i last row q p))
@@ -165,15 +174,21 @@ module _ (c : ℕ → ℕ → Ordering) (total : IsTotalOrder c) where
     at j = get_or order j 0
 
     -- the leader of the row before leads this row, if it is the same
-    led : (place leader row : ℕ) → leader < n → row < n → (place ≡ 0 → leader ≡ 0) → ((j : ℕ) → suc j ≡ place → IsFirst same n (at j) leader) → same leader row ≡ true → IsFirst same n row leader
-    led zero leader row h k begun last e = record { alike = eqv.symm row leader ∙ e; least = λ i l s. (let z : leader ≡ 0 = begun refl in omega (arith, z)) }
+    led : (place leader row : ℕ) → leader < n → row < n → (place ≡ 0 → leader ≡ 0)
+        → ((j : ℕ) → suc j ≡ place → IsFirst same n (at j) leader) → same leader row ≡ true → IsFirst same n row leader
+    led zero leader row h k begun last e = record {
+      alike = eqv.symm row leader ∙ e;
+      least =
+          λ i l s. (let z : leader ≡ 0 = begun refl in omega (arith, z));
+    }
     led (suc j) leader row h k begun last e =
         let f = last j refl in
         let one : same (at j) ≡ same row = alike (at j) leader f.alike ∙ alike leader row e in
         record { alike = eqv.symm row leader ∙ e; least = λ i l s. f.least i l (ap (λ p. p i) one ∙ s) }
 
     -- and otherwise the row leads itself
-    leads : (place leader row : ℕ) → place < n → at place ≡ row → ((j : ℕ) → suc j ≡ place → IsFirst same n (at j) leader) → same leader row ≡ false → IsFirst same n row row
+    leads : (place leader row : ℕ) → place < n → at place ≡ row → ((j : ℕ) → suc j ≡ place → IsFirst same n (at j) leader)
+        → same leader row ≡ false → IsFirst same n row row
     leads place leader row h here last e =
         record { alike = eqv.refl row; least = λ i l s. (let found = place_of i l in least_at i found.0 l found.1 found.2 s) }
       where
@@ -205,7 +220,8 @@ module _ (c : ℕ → ℕ → Ordering) (total : IsTotalOrder c) where
             go (inr (inl m)) = behind place i j row (omega (arith, m)) k is_at here s
             go (inr (inr m)) = behind place i j row (omega (arith, m)) k is_at here s
 
-    pub next_leads : (place leader row next : ℕ) → place < n → at place ≡ row → leader < n → (place ≡ 0 → leader ≡ 0) → ((j : ℕ) → suc j ≡ place → IsFirst same n (at j) leader)
+    pub next_leads : (place leader row next : ℕ) → place < n → at place ≡ row → leader < n → (place ≡ 0 → leader ≡ 0)
+        → ((j : ℕ) → suc j ≡ place → IsFirst same n (at j) leader)
         → (same leader row ≡ true → next ≡ leader) → (same leader row ≡ false → next ≡ row) → IsFirst same n row next
     next_leads place leader row next h here k begun last kept new = go (same leader row) refl
       where
@@ -216,18 +232,22 @@ module _ (c : ℕ → ℕ → Ordering) (total : IsTotalOrder c) where
         go true e = subst (IsFirst same n row) (sym (kept e)) (led place leader row k row_within begun last e)
         go false e = subst (IsFirst same n row) (sym (new e)) (leads place leader row h here last e)
 
-    pub done_next : (place row next : ℕ) (leaders : List ℕ) → at place ≡ row → row < length leaders → IsFirst same n row next → ((j : ℕ) → j < place → IsFirst same n (at j) (get_or leaders (at j) 0))
+    pub done_next : (place row next : ℕ) (leaders : List ℕ) → at place ≡ row → row < length leaders
+        → IsFirst same n row next → ((j : ℕ) → j < place → IsFirst same n (at j) (get_or leaders (at j) 0))
         → (j : ℕ) → j < place + 1 → IsFirst same n (at j) (get_or (set leaders row next) (at j) 0)
     done_next place row next leaders here room first done j h = go (eqb_tells (at j) row)
       where
-        go : ((eqb (at j) row ≡ true) × (at j ≡ row)) ⊎ ((eqb (at j) row ≡ false) × (at j ≢ row)) → IsFirst same n (at j) (get_or (set leaders row next) (at j) 0)
-        go (inl (e, q)) = subst (λ i. IsFirst same n i (get_or (set leaders row next) i 0)) (sym q) (subst (IsFirst same n row) (sym (get_or-set_same leaders row next 0 room)) first)
+        go : ((eqb (at j) row ≡ true) × (at j ≡ row)) ⊎ ((eqb (at j) row ≡ false) × (at j ≢ row))
+            → IsFirst same n (at j) (get_or (set leaders row next) (at j) 0)
+        go (inl (e, q)) = subst (λ i. IsFirst same n i (get_or (set leaders row next) i 0)) (sym q)
+            (subst (IsFirst same n row) (sym (get_or-set_same leaders row next 0 room)) first)
         go (inr (e, d)) =
             let apart : j ≢ place = λ m. d (ap at m ∙ here) in
             subst (IsFirst same n (at j)) (sym (get_or-set_other leaders row (at j) next 0 d)) (done j (omega (arith, apart, h)))
 
     -- once all places are done
-    pub all_done : (leaders : List ℕ) → ((j : ℕ) → j < n → IsFirst same n (at j) (get_or leaders (at j) 0)) → (row : ℕ) → row < n → IsFirst same n row (get_or leaders row 0)
+    pub all_done : (leaders : List ℕ) → ((j : ℕ) → j < n → IsFirst same n (at j) (get_or leaders (at j) 0)) → (row : ℕ)
+        → row < n → IsFirst same n row (get_or leaders row 0)
     all_done leaders done row h =
         let found = place_of row h in
         subst (λ i. IsFirst same n i (get_or leaders i 0)) found.2 (done found.0 found.1)

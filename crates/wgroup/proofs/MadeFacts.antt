@@ -1,5 +1,7 @@
 -- Groups that are made of rows, and groups that are made of groups.
-use Rattle.std.proofs.Common.{◌≡◌, ℕ, zero, suc, ◌<◌, ◌≤◌, ◌==◌, ◌^◌, ◌||◌, ◌⊎◌, inl, inr, Bool, true, false, not, cond, List, [], ◌∷◌, ◌++◌, length, length-append, map, take, get_or, All, Option, Some, None, unwrap_or, Ok, Vec, Global, Ordering, is_gt, refl, sym, ap, subst, ◌∙◌, arith, ◌≢◌, eqb, true≢false}
+use Rattle.std.proofs.Common.{◌≡◌, ℕ, zero, suc, ◌<◌, ◌≤◌, ◌==◌, ◌^◌, ◌||◌, ◌⊎◌, inl, inr, Bool, true, false, not, cond, List}
+use Rattle.std.proofs.Common.{[], ◌∷◌, ◌++◌, length, length-append, map, take, get_or, All, Option, Some, None, unwrap_or, Ok}
+use Rattle.std.proofs.Common.{Vec, Global, Ordering, is_gt, refl, sym, ap, subst, ◌∙◌, arith, ◌≢◌, eqb, true≢false}
 use Rattle.std.specs.Borrow.{Bor}
 use Rattle.std.specs.Cmp.{IsEquivalence}
 use Rattle.std.specs.List.{AllByRecursion, list_any}
@@ -26,7 +28,8 @@ use Rattle.wgroup.specs.declared.found.FinerSet as made
 use Rattle.wgroup.specs.Grouping.{agree, set_columns}
 use Rattle.wgroup.specs.Sight.{IsSight, first_of}
 use Rattle.wgroup.specs.Held.{by_row, row_numbers, set_answers}
-use Rattle.wgroup.specs.Finer.{AreAnswered, AreMade, IsAt, IsBase, IsJoined, IsKept, IsKeyed, IsLinked, IsMade, IsMadeOf, IsMadeOfOne, IsSeen, MadeFrom, base_place, function_of_parts, is_finer, is_part}
+use Rattle.wgroup.specs.Finer.{AreAnswered, AreMade, IsAt, IsBase, IsJoined, IsKept, IsKeyed, IsLinked, IsMade, IsMadeOf}
+use Rattle.wgroup.specs.Finer.{IsMadeOfOne, IsSeen, MadeFrom, base_place, function_of_parts, is_finer, is_part}
 use Rattle.wgroup.proofs.AnswerFacts.{of_answers}
 use Rattle.wgroup.proofs.CoarserFacts.{finer_has}
 use Rattle.wgroup.proofs.LeaderFacts.{in_order}
@@ -43,18 +46,23 @@ firsts_fewer same n firsts numbers s =
     omega (arith, kept, ap length s.are_firsts, length-places 0 n)
 
 -- the first row of a group has its number
-first_numbered : (same : ℕ → ℕ → Bool) → IsEquivalence same → (n : ℕ) (firsts numbers : List ℕ) → IsSight same n firsts numbers → (i : ℕ) → i < length firsts → (get_or numbers (get_or firsts i 0) 0 == i) ≡ true
+first_numbered : (same : ℕ → ℕ → Bool) → IsEquivalence same → (n : ℕ) (firsts numbers : List ℕ)
+    → IsSight same n firsts numbers → (i : ℕ) → i < length firsts → (get_or numbers (get_or firsts i 0) 0 == i) ≡ true
 first_numbered same eqv n firsts numbers s i h =
     let there : i < length (first_of same n) = omega (arith, h, ap length s.are_firsts) in
-    let within : get_or (first_of same n) i 0 < n = subst (λ l. get_or l i 0 < n) s.are_firsts (firsts_within same n firsts numbers s i 0 h) in
+    let within : get_or (first_of same n) i 0 < n =
+    subst (λ l. get_or l i 0 < n) s.are_firsts (firsts_within same n firsts numbers s i 0 h) in
     ap (λ l. get_or numbers (get_or l i 0) 0 == i) s.are_firsts
-    ∙ ap (λ x. x == i) (number_at same n firsts numbers s (get_or (first_of same n) i 0) within) ∙ is_of_group same eqv n i (get_or (first_of same n) i 0) there within ∙ eqv.refl (get_or (first_of same n) i 0)
+    ∙ ap (λ x. x == i) (number_at same n firsts numbers s (get_or (first_of same n) i 0) within) ∙ is_of_group same eqv n i
+    (get_or (first_of same n) i 0) there within ∙ eqv.refl (get_or (first_of same n) i 0)
 
 -- each group has a row
-group_met : (same : ℕ → ℕ → Bool) → IsEquivalence same → (n : ℕ) (firsts numbers : List ℕ) → IsSight same n firsts numbers → (i : ℕ) → i < length firsts → list_any (λ j. j == i) numbers ≡ true
+group_met : (same : ℕ → ℕ → Bool) → IsEquivalence same → (n : ℕ) (firsts numbers : List ℕ) → IsSight same n firsts numbers
+    → (i : ℕ) → i < length firsts → list_any (λ j. j == i) numbers ≡ true
 group_met same eqv n firsts numbers s i h =
     let within : get_or firsts i 0 < n = firsts_within same n firsts numbers s i 0 h in
-    list_any_at (λ j. j == i) numbers (get_or firsts i 0) 0 (omega (arith, within, as_many_numbers same n firsts numbers s)) (first_numbered same eqv n firsts numbers s i h)
+    list_any_at (λ j. j == i) numbers (get_or firsts i 0) 0 (omega (arith, within, as_many_numbers same n firsts numbers s))
+    (first_numbered same eqv n firsts numbers s i h)
 
 is_equal : (a b : ℕ) → (a == b) ≡ true → a ≡ b
 is_equal a b h = go (eqb_tells a b)
@@ -63,10 +71,12 @@ is_equal a b h = go (eqb_tells a b)
     go (inl (t, e)) = e
     go (inr (f, d)) = absurd (true≢false (sym h ∙ f))
 
-pub linked_below : (links order : List ℕ) (n : ℕ) → All (λ i. i < n) links → All (λ i. i < length links) order → All (λ i. i < n) (map (λ i. get_or links i 0) order)
+pub linked_below : (links order : List ℕ) (n : ℕ) → All (λ i. i < n) links → All (λ i. i < length links) order
+    → All (λ i. i < n) (map (λ i. get_or links i 0) order)
 linked_below links order n below all =
     All-from_recursion (λ i. i < n) (map (λ i. get_or links i 0) order)
-    (each_mapped (λ i. i < n) (λ i. get_or links i 0) order (all_implied (λ i. i < length links) (λ i. get_or links i 0 < n) (λ i h. below i 0 h) order (recursion_from_All (λ i. i < length links) order all)))
+    (each_mapped (λ i. i < n) (λ i. get_or links i 0) order (all_implied (λ i. i < length links) (λ i. get_or links i 0 < n)
+    (λ i h. below i 0 h) order (recursion_from_All (λ i. i < length links) order all)))
 
 module _ (columns set : List ℕ) (rows : List (Bor (List Value))) (firsts numbers : List ℕ) (g : memory.Groups) where
   abbrev same : ℕ → ℕ → Bool
@@ -75,9 +85,11 @@ module _ (columns set : List ℕ) (rows : List (Bor (List Value))) (firsts numbe
   eqv : IsEquivalence (agree (set_columns columns set) (rows_seen rows))
   eqv = agree_equiv (set_columns columns set) (rows_seen rows)
 
-  module _ (keyed : IsKeyed set firsts numbers None g) (sight : IsSight (agree (set_columns columns set) (rows_seen rows)) (length rows) firsts numbers) where
+  module _ (keyed : IsKeyed set firsts numbers None g) (sight : IsSight (agree (set_columns columns set) (rows_seen rows))
+      (length rows) firsts numbers) where
     below_count : All (λ i. i < g.count) g.numbers.value.items
-    below_count = subst (All (λ i. i < g.count)) (sym keyed.numbered) (subst (λ m. All (λ i. i < m) numbers) (sym keyed.as_many) (numbers_below same eqv (length rows) firsts numbers sight))
+    below_count = subst (All (λ i. i < g.count)) (sym keyed.numbered) (subst (λ m. All (λ i. i < m) numbers)
+        (sym keyed.as_many) (numbers_below same eqv (length rows) firsts numbers sight))
 
     pub made_of_rows : (earlier : List memory.Groups) → IsMade earlier g
     made_of_rows earlier = subst (MadeFrom earlier g) (sym keyed.of_finer) below_count
@@ -94,29 +106,45 @@ module _ (columns set : List ℕ) (rows : List (Bor (List Value))) (firsts numbe
             some = omega (arith, some, keyed.as_many, ap length are);
             fewer = omega (arith, keyed.as_many, firsts_fewer same (length rows) firsts numbers sight, ap length keyed.numbered, long);
           };
-          sight = subst (λ s. IsSight (agree (set_columns columns s) (rows_seen rows)) (length rows) g.firsts.items (row_numbers g)) (sym keyed.of_set)
-              (record { are_firsts = are ∙ sight.are_firsts; are_numbers = ap (by_row g.numbers.value.items) keyed.of_finer ∙ keyed.numbered ∙ sight.are_numbers });
+          sight = subst (λ s. IsSight (agree (set_columns columns s) (rows_seen rows)) (length rows) g.firsts.items
+              (row_numbers g)) (sym keyed.of_set)
+              (record {
+                are_firsts = are ∙ sight.are_firsts;
+                are_numbers = ap (by_row g.numbers.value.items) keyed.of_finer
+                    ∙ keyed.numbered ∙ sight.are_numbers;
+              });
           as_many = keyed.as_many ∙ ap length (sym are);
         }
 
   -- groups of the first rows of other groups
-  pub seen_of_groups : (joined : made.FinerSet) → IsKeyed set firsts numbers (Some joined) g → IsSight (agree (set_columns columns set) (rows_seen rows)) (length rows) firsts (by_row numbers (Some joined)) → IsSeen columns rows g
+  pub seen_of_groups : (joined : made.FinerSet) → IsKeyed set firsts numbers (Some joined) g
+      → IsSight (agree (set_columns columns set) (rows_seen rows)) (length rows) firsts (by_row numbers (Some joined))
+      → IsSeen columns rows g
   seen_of_groups joined keyed sight = λ some.
       let are = keyed.kept some in
       record {
         base = λ e. absurd (no_some joined (sym keyed.of_finer ∙ e));
-        sight = subst (λ s. IsSight (agree (set_columns columns s) (rows_seen rows)) (length rows) g.firsts.items (row_numbers g)) (sym keyed.of_set)
-            (record { are_firsts = are ∙ sight.are_firsts; are_numbers = ap (by_row g.numbers.value.items) keyed.of_finer ∙ ap (λ ns. by_row ns (Some joined)) keyed.numbered ∙ sight.are_numbers });
+        sight = subst (λ s. IsSight (agree (set_columns columns s) (rows_seen rows)) (length rows) g.firsts.items
+            (row_numbers g)) (sym keyed.of_set)
+            (record {
+              are_firsts = are ∙ sight.are_firsts;
+              are_numbers = ap (by_row g.numbers.value.items) keyed.of_finer
+                  ∙ ap (λ ns. by_row ns (Some joined)) keyed.numbered ∙ sight.are_numbers;
+            });
         as_many = keyed.as_many ∙ ap length (sym are);
       }
     where
       no_some : (x : made.FinerSet) → Some x ≡ None → ⊥
       no_some x e = cc
 
-  module _ (place : ℕ) (f : memory.Groups) (joined : made.FinerSet) (few : ℕ → ℕ → Bool) (few_firsts links : List ℕ) (keyed : IsKeyed set firsts numbers (Some joined) g)
-      (sight : IsSight few f.count few_firsts links) (few_eqv : IsEquivalence few) (is : IsJoined place links f.finer joined) (base : f.finer ≡ None → IsBase f) (same_rows : numbers ≡ f.numbers.value.items) (as_many : length firsts ≡ length few_firsts) where
+  module _ (place : ℕ) (f : memory.Groups) (joined : made.FinerSet) (few : ℕ → ℕ → Bool) (few_firsts links : List ℕ)
+      (keyed : IsKeyed set firsts numbers (Some joined) g)
+      (sight : IsSight few f.count few_firsts links) (few_eqv : IsEquivalence few)
+      (is : IsJoined place links f.finer joined) (base : f.finer ≡ None
+      → IsBase f) (same_rows : numbers ≡ f.numbers.value.items) (as_many : length firsts ≡ length few_firsts) where
     links_below : All (λ i. i < g.count) links
-    links_below = subst (λ m. All (λ i. i < m) links) (sym (keyed.as_many ∙ as_many)) (numbers_below few few_eqv f.count few_firsts links sight)
+    links_below = subst (λ m. All (λ i. i < m) links) (sym (keyed.as_many ∙ as_many))
+        (numbers_below few few_eqv f.count few_firsts links sight)
 
     links_many : length links ≡ f.count
     links_many = as_many_numbers few f.count few_firsts links sight
@@ -144,23 +172,29 @@ module _ (columns set : List ℕ) (rows : List (Bor (List Value))) (firsts numbe
           let within : get_or few_firsts i 0 < f.count = firsts_within few f.count few_firsts links sight i 0 there in
           any-map (λ j. j == i) (λ i. get_or links i 0) ns
           ∙ any_implied (λ b. b == get_or few_firsts i 0) (λ b. get_or links b 0 == i)
-          (λ b e. ap (λ k. get_or links k 0 == i) (is_equal b (get_or few_firsts i 0) e) ∙ first_numbered few few_eqv f.count few_firsts links sight i there) ns (m.met (get_or few_firsts i 0) within);
+          (λ b e. ap (λ k. get_or links k 0 == i) (is_equal b (get_or few_firsts i 0) e) ∙ first_numbered few few_eqv
+          f.count few_firsts links sight i there) ns (m.met (get_or few_firsts i 0) within);
     }
 
     pub made_of_groups : (earlier : List memory.Groups) → IsAt earlier place f → IsMade (take place earlier) f → IsMade earlier g
     made_of_groups earlier at how = subst (MadeFrom earlier g) (sym keyed.of_finer) (by f.finer refl is how)
       where
-        by : (o : Option made.FinerSet) → f.finer ≡ o → IsJoined place links o joined → MadeFrom (take place earlier) f o → IsMadeOfOne earlier joined g
+        by : (o : Option made.FinerSet) → f.finer ≡ o → IsJoined place links o joined → MadeFrom (take place earlier) f o
+            → IsMadeOfOne earlier joined g
         by None e j m = record {
           within = subst (λ p. p < length earlier) (sym j.0) at.within;
-          made = λ d. subst (λ h. IsMadeOf h joined.numbers.items g) (sym (ap (λ p. get_or earlier p d) j.0 ∙ at.is d)) (subst (λ l. IsMadeOf f l g) (sym j.1) (of_these (base e)));
+          made = λ d. subst (λ h. IsMadeOf h joined.numbers.items g) (sym (ap (λ p. get_or earlier p d) j.0 ∙ at.is d))
+              (subst (λ l. IsMadeOf f l g) (sym j.1) (of_these (base e)));
         }
         by (Some l) e j m =
-            let lower : l.place < place = (let w = m.within in omega (arith, w, at.within, length-take-le place earlier (let a = at.within in omega (arith, a)))) in
+            let lower : l.place < place = (let w = m.within in
+            omega (arith, w, at.within, length-take-le place earlier (let a = at.within in omega (arith, a)))) in
             record {
               within = subst (λ p. p < length earlier) (sym j.0) (let a = at.within in omega (arith, lower, a));
-              made = λ d. subst (λ h. IsMadeOf h joined.numbers.items g) (get_or-take place earlier l.place d lower ∙ sym (ap (λ p. get_or earlier p d) j.0))
-                  (subst (λ k. IsMadeOf (get_or (take place earlier) l.place d) k g) (sym j.1) (of_those (get_or (take place earlier) l.place d) l.numbers.items (m.made d)));
+              made = λ d. subst (λ h. IsMadeOf h joined.numbers.items g) (get_or-take place earlier l.place d lower
+                  ∙ sym (ap (λ p. get_or earlier p d) j.0))
+                  (subst (λ k. IsMadeOf (get_or (take place earlier) l.place d) k g) (sym j.1)
+                  (of_those (get_or (take place earlier) l.place d) l.numbers.items (m.made d)));
             }
 
 pub as_many_rows : (g : memory.Groups) → length g.numbers.value.items ≡ length (row_numbers g)
@@ -171,41 +205,55 @@ as_many_rows g = by g.finer
     by (Some l) = sym (length-map g.numbers.value.items (λ i. get_or l.numbers.items i 0))
 
 -- numbers of rows, by those of groups that are made of groups
-pub joined_rows : (place : ℕ) (links ns : List ℕ) (o : Option made.FinerSet) (joined : made.FinerSet) → IsJoined place links o joined → ((l : made.FinerSet) → o ≡ Some l → All (λ i. i < length l.numbers.items) ns) → by_row ns (Some joined) ≡ map (λ i. get_or links i 0) (by_row ns o)
+pub joined_rows : (place : ℕ) (links ns : List ℕ) (o : Option made.FinerSet) (joined : made.FinerSet)
+    → IsJoined place links o joined → ((l : made.FinerSet) → o ≡ Some l → All (λ i. i < length l.numbers.items) ns)
+    → by_row ns (Some joined) ≡ map (λ i. get_or links i 0) (by_row ns o)
 joined_rows place links ns None joined is below = ap (λ ls. map (λ i. get_or ls i 0) ns) is.1
 joined_rows place links ns (Some l) joined is below =
     ap (λ ls. map (λ i. get_or ls i 0) ns) is.1
     ∙ map_same (λ i. get_or (map (λ i. get_or links i 0) l.numbers.items) i 0) (λ i. get_or links (get_or l.numbers.items i 0) 0) ns
-    (all_implied (λ i. i < length l.numbers.items) (λ i. get_or (map (λ i. get_or links i 0) l.numbers.items) i 0 ≡ get_or links (get_or l.numbers.items i 0) 0) (λ i h. get_or-map (λ i. get_or links i 0) l.numbers.items i 0 0 h)
+    (all_implied (λ i. i < length l.numbers.items) (λ i. get_or (map (λ i. get_or links i 0) l.numbers.items) i 0
+    ≡ get_or links (get_or l.numbers.items i 0) 0) (λ i h. get_or-map (λ i. get_or links i 0) l.numbers.items i 0 0 h)
     ns (recursion_from_All (λ i. i < length l.numbers.items) ns (below l refl)))
     ∙ sym (map-map (λ i. get_or links i 0) (λ i. get_or l.numbers.items i 0) ns)
 
 pub linked : (earlier : List memory.Groups) (g : memory.Groups) → IsMade earlier g → IsLinked g
 linked earlier g how = λ l e.
     let m : IsMadeOfOne earlier l g = subst (MadeFrom earlier g) e how in
-    let is = m.made g in
-    (is.below, subst (λ n. All (λ i. i < n) g.numbers.value.items) (sym is.as_many) (subst (All (λ i. i < (get_or earlier l.place g).count)) (sym is.same_rows) is.base.below))
+    let is = m.made g in (
+      is.below,
+      subst (λ n. All (λ i. i < n) g.numbers.value.items) (sym is.as_many)
+          (subst (All (λ i. i < (get_or earlier l.place g).count)) (sym is.same_rows) is.base.below),
+    )
 
-many_numbers : (columns : List ℕ) (rows : List (Bor (List Value))) (g : memory.Groups) → IsKept columns rows g → length (row_numbers g) ≡ length rows
-many_numbers columns rows g kept = as_many_numbers (agree (set_columns columns g.set.items) (rows_seen rows)) (length rows) g.firsts.items (row_numbers g) kept.sight
+many_numbers : (columns : List ℕ) (rows : List (Bor (List Value))) (g : memory.Groups) → IsKept columns rows g
+    → length (row_numbers g) ≡ length rows
+many_numbers columns rows g kept = as_many_numbers (agree (set_columns columns g.set.items) (rows_seen rows)) (length rows)
+    g.firsts.items (row_numbers g) kept.sight
 
-pub made_within : (found : List memory.Groups) (place : ℕ) (g : memory.Groups) (l : made.FinerSet) → AreMade found → place < length found → g ≡ get_or found place g → g.finer ≡ Some l → l.place < length found
+pub made_within : (found : List memory.Groups) (place : ℕ) (g : memory.Groups) (l : made.FinerSet) → AreMade found
+    → place < length found → g ≡ get_or found place g → g.finer ≡ Some l → l.place < length found
 made_within found place g l how within at e =
-    let m : IsMadeOfOne (take place found) l g = subst (MadeFrom (take place found) g) e (subst (IsMade (take place found)) (sym at) (how place g within)) in
+    let m : IsMadeOfOne (take place found) l g =
+    subst (MadeFrom (take place found) g) e (subst (IsMade (take place found)) (sym at) (how place g within)) in
     let w = m.within in
     omega (arith, w, within, length-take-le place found (omega (arith, within)))
 
 -- the set that a set's groups are made of, which is made of rows
-pub base_found : (columns : List ℕ) (rows : List (Bor (List Value))) (found : List memory.Groups) (place : ℕ) (g : memory.Groups) → IsKept columns rows g → IsAt found place g → IsMade (take place found) g
-    → (base_place place g.finer < length found) × ((d : memory.Groups) → IsBase (get_or found (base_place place g.finer) d)) × ((d : memory.Groups) → length (get_or found (base_place place g.finer) d).numbers.value.items ≡ length rows)
+pub base_found : (columns : List ℕ) (rows : List (Bor (List Value))) (found : List memory.Groups) (place : ℕ)
+    (g : memory.Groups) → IsKept columns rows g → IsAt found place g → IsMade (take place found) g
+    → (base_place place g.finer < length found) × ((d : memory.Groups) → IsBase (get_or found (base_place place g.finer) d))
+    × ((d : memory.Groups) → length (get_or found (base_place place g.finer) d).numbers.value.items ≡ length rows)
 base_found columns rows found place g kept at how = by g.finer refl how
   where
     by : (o : Option made.FinerSet) → g.finer ≡ o → MadeFrom (take place found) g o
-        → (base_place place o < length found) × ((d : memory.Groups) → IsBase (get_or found (base_place place o) d)) × ((d : memory.Groups) → length (get_or found (base_place place o) d).numbers.value.items ≡ length rows)
+        → (base_place place o < length found) × ((d : memory.Groups) → IsBase (get_or found (base_place place o) d))
+        × ((d : memory.Groups) → length (get_or found (base_place place o) d).numbers.value.items ≡ length rows)
     by None e m = (
       at.within,
       λ d. subst IsBase (sym (at.is d)) (kept.base e),
-      λ d. ap (λ h. length h.numbers.value.items) (at.is d) ∙ ap length (sym (ap (by_row g.numbers.value.items) e)) ∙ many_numbers columns rows g kept,
+      λ d. ap (λ h. length h.numbers.value.items) (at.is d) ∙ ap length (sym (ap (by_row g.numbers.value.items) e))
+          ∙ many_numbers columns rows g kept,
     )
     by (Some l) e m =
         let a = at.within in
@@ -214,11 +262,14 @@ base_found columns rows found place g kept at how = by g.finer refl how
           omega (arith, lower, a),
           λ d. subst IsBase (get_or-take place found l.place d lower) (m.made d).base,
           λ d. ap (λ h. length h.numbers.value.items) (sym (get_or-take place found l.place d lower)) ∙ ap length (sym (m.made d).same_rows)
-              ∙ sym (length-map g.numbers.value.items (λ i. get_or l.numbers.items i 0)) ∙ ap length (sym (ap (by_row g.numbers.value.items) e)) ∙ many_numbers columns rows g kept,
+              ∙ sym (length-map g.numbers.value.items (λ i. get_or l.numbers.items i 0))
+              ∙ ap length (sym (ap (by_row g.numbers.value.items) e)) ∙ many_numbers columns rows g kept,
         )
 
 -- a finer set that was found
-pub found_at : (columns set : List ℕ) (rows : List (Bor (List Value))) (found : List memory.Groups) (place : ℕ) (g : memory.Groups) → All (IsSeen columns rows) found → place < length found → ((d : memory.Groups) → is_finer set (get_or found place d) ≡ true) → g ≡ get_or found place g
+pub found_at : (columns set : List ℕ) (rows : List (Bor (List Value))) (found : List memory.Groups) (place : ℕ)
+    (g : memory.Groups) → All (IsSeen columns rows) found → place < length found
+    → ((d : memory.Groups) → is_finer set (get_or found place d) ≡ true) → g ≡ get_or found place g
     → IsKept columns rows g × (is_part set g.set.items ≡ true) × IsAt found place g
 found_at columns set rows found place g all within finer is =
     let has = finer_has set g (ap (is_finer set) is ∙ finer g) in
@@ -230,28 +281,35 @@ some_at [] i h = absurd (omega (arith, h))
 some_at (x ∷ xs) zero h = (x, λ d. refl)
 some_at (x ∷ xs) (suc i) h = some_at xs i (omega (arith, h))
 
-pub base_there : (columns set : List ℕ) (rows : List (Bor (List Value))) (found : List memory.Groups) (place base : ℕ) → All (IsSeen columns rows) found → AreMade found → place < length found → ((d : memory.Groups) → is_finer set (get_or found place d) ≡ true)
+pub base_there : (columns set : List ℕ) (rows : List (Bor (List Value))) (found : List memory.Groups) (place base : ℕ)
+    → All (IsSeen columns rows) found → AreMade found → place < length found
+    → ((d : memory.Groups) → is_finer set (get_or found place d) ≡ true)
     → ((d : memory.Groups) → base ≡ base_place place (get_or found place d).finer)
-    → (base < length found) × ((d : memory.Groups) → IsBase (get_or found base d)) × ((d : memory.Groups) → length (get_or found base d).numbers.value.items ≡ length rows)
+    → (base < length found) × ((d : memory.Groups) → IsBase (get_or found base d))
+    × ((d : memory.Groups) → length (get_or found base d).numbers.value.items ≡ length rows)
 base_there columns set rows found place base all how within finer is =
     let w = some_at found place within in
     let g = w.0 in
     let at : g ≡ get_or found place g = sym (w.1 g) in
     let known = found_at columns set rows found place g all within finer at in
     let e : base_place place g.finer ≡ base = ap (λ h. base_place place h.finer) at ∙ sym (is g) in
-    subst (λ p. (p < length found) × ((d : memory.Groups) → IsBase (get_or found p d)) × ((d : memory.Groups) → length (get_or found p d).numbers.value.items ≡ length rows)) e
+    subst (λ p. (p < length found) × ((d : memory.Groups) → IsBase (get_or found p d))
+    × ((d : memory.Groups) → length (get_or found p d).numbers.value.items ≡ length rows)) e
     (base_found columns rows found place g known.0 known.2 (subst (IsMade (take place found)) (sym at) (how place g within)))
 
 -- a set more
 pub are_made_more : (xs ys : List memory.Groups) (y : memory.Groups) → AreMade xs → IsMade xs y → ys ≡ xs ++ y ∷ [] → AreMade ys
 are_made_more xs ys y all here e = subst AreMade (sym e) (λ i d h. go i d (in_order i (length xs)) h)
   where
-    go : (i : ℕ) (d : memory.Groups) → (i < length xs) ⊎ ((i ≡ length xs) ⊎ (length xs < i)) → i < length (xs ++ y ∷ []) → IsMade (take i (xs ++ y ∷ [])) (get_or (xs ++ y ∷ []) i d)
+    go : (i : ℕ) (d : memory.Groups) → (i < length xs) ⊎ ((i ≡ length xs) ⊎ (length xs < i)) → i < length (xs ++ y ∷ [])
+        → IsMade (take i (xs ++ y ∷ [])) (get_or (xs ++ y ∷ []) i d)
     go i d (inl l) h =
-        subst (λ t. IsMade t (get_or (xs ++ y ∷ []) i d)) (sym (take-append-le i xs (y ∷ []) (omega (arith, l)))) (subst (IsMade (take i xs)) (sym (get_or_append_left xs (y ∷ []) d i l)) (all i d l))
+        subst (λ t. IsMade t (get_or (xs ++ y ∷ []) i d)) (sym (take-append-le i xs (y ∷ []) (omega (arith, l))))
+        (subst (IsMade (take i xs)) (sym (get_or_append_left xs (y ∷ []) d i l)) (all i d l))
     go i d (inr (inl q)) h =
         subst (λ k. IsMade (take k (xs ++ y ∷ [])) (get_or (xs ++ y ∷ []) k d)) (sym q)
-        (subst (λ t. IsMade t (get_or (xs ++ y ∷ []) (length xs) d)) (sym (take-append_seam xs (y ∷ []))) (subst (IsMade xs) (sym (get_or-append_seam xs y [] d)) here))
+        (subst (λ t. IsMade t (get_or (xs ++ y ∷ []) (length xs) d)) (sym (take-append_seam xs (y ∷ [])))
+        (subst (IsMade xs) (sym (get_or-append_seam xs y [] d)) here))
     go i d (inr (inr l)) h = absurd (omega (arith, l, h, length-append xs (y ∷ [])))
 
 -- results that are all in range
@@ -261,7 +319,10 @@ module _ (f : ℕ → Option Meaning) where
 
   each_some : (order : List ℕ) → list_any is_none (map f order) ≡ false → AllByRecursion (λ i. f i ≡ Some (value i)) order
   each_some [] h = tt
-  each_some (i ∷ is) h = (some (f i) (parts (is_none (f i)) (list_any is_none (map f is)) h).0, each_some is (parts (is_none (f i)) (list_any is_none (map f is)) h).1)
+  each_some (i ∷ is) h = (
+    some (f i) (parts (is_none (f i)) (list_any is_none (map f is)) h).0,
+    each_some is (parts (is_none (f i)) (list_any is_none (map f is)) h).1,
+  )
     where
       parts : (a b : Bool) → (a || b) ≡ false → (a ≡ false) × (b ≡ false)
       parts true b e = absurd (cc)
@@ -271,13 +332,16 @@ module _ (f : ℕ → Option Meaning) where
       some None e = absurd (cc)
       some (Some x) e = refl
 
-  pub all_in_range : (order : List ℕ) (ys : List Meaning) → in_range (map f order) ≡ Ok ys → (ys ≡ map value order) × AllByRecursion (λ i. f i ≡ Some (value i)) order
+  pub all_in_range : (order : List ℕ) (ys : List Meaning) → in_range (map f order) ≡ Ok ys → (ys ≡ map value order)
+      × AllByRecursion (λ i. f i ≡ Some (value i)) order
   all_in_range order ys h =
-      let none : list_any is_none (map f order) ≡ false = ok_is_false (list_any is_none (map f order)) (map (λ r. unwrap_or r Null) (map f order)) ys h in
+      let none : list_any is_none (map f order) ≡ false =
+      ok_is_false (list_any is_none (map f order)) (map (λ r. unwrap_or r Null) (map f order)) ys h in
       let told : map (λ r. unwrap_or r Null) (map f order) ≡ ys = go (list_any is_none (map f order)) none h in
       (sym told ∙ map-map (λ r. unwrap_or r Null) f order, each_some order none)
     where
-      go : (b : Bool) → b ≡ false → unless b OutOfRange (map (λ r. unwrap_or r Null) (map f order)) ≡ Ok ys → map (λ r. unwrap_or r Null) (map f order) ≡ ys
+      go : (b : Bool) → b ≡ false → unless b OutOfRange (map (λ r. unwrap_or r Null) (map f order)) ≡ Ok ys
+          → map (λ r. unwrap_or r Null) (map f order) ≡ ys
       go true e h = absurd (cc)
       go false e h = cc
 
@@ -287,36 +351,47 @@ sorted_long cmp (x ∷ xs) = inserted_long x (sorted cmp xs) ∙ ap suc (sorted_
   where
     inserted_long : (x : ℕ) (ys : List ℕ) → length (inserted cmp x ys) ≡ suc (length ys)
     inserted_long x [] = refl
-    inserted_long x (y ∷ ys) = elim (is_gt (cmp x y)) as (λ b. length (cond b (y ∷ inserted cmp x ys) (x ∷ y ∷ ys)) ≡ suc (suc (length ys))) [ true ↦ ap suc (inserted_long x ys) | false ↦ refl ]
+    inserted_long x (y ∷ ys) = elim (is_gt (cmp x y)) as (λ b. length (cond b (y ∷ inserted cmp x ys) (x ∷ y ∷ ys))
+        ≡ suc (suc (length ys))) [ true ↦ ap suc (inserted_long x ys) | false ↦ refl ]
 
 pub order_long : (f : memory.Groups) → IsBase f → length f.order.items ≡ f.count
 order_long f base = ap length base.ordered.1 ∙ sorted_long base.ordered.0 (places f.count) ∙ length-places 0 f.count
 
 -- what an aggregate comes to on a set's groups, by the groups that they are made of
-pub parts_answer : (function : AggregateFunction) (feed : Feed) (f g : memory.Groups) (finer : made.FinerSet) (parts : List Meaning) → IsMadeOf f finer.numbers.items g → g.finer ≡ Some finer → length g.numbers.value.items < 2 ^ 31
+pub parts_answer : (function : AggregateFunction) (feed : Feed) (f g : memory.Groups) (finer : made.FinerSet)
+    (parts : List Meaning) → IsMadeOf f finer.numbers.items g → g.finer ≡ Some finer → length g.numbers.value.items < 2 ^ 31
     → in_range (set_answers function feed f) ≡ Ok parts
-    → map (λ i. aggregate_of (function_of_parts function) (record { values = parts; filter = None }) (rows_of_group (map (λ i. get_or finer.numbers.items i 0) f.order.items) i)) g.order.items ≡ set_answers function feed g
+    → map (λ i. aggregate_of (function_of_parts function) (record { values = parts; filter = None })
+    (rows_of_group (map (λ i. get_or finer.numbers.items i 0) f.order.items) i)) g.order.items ≡ set_answers function feed g
 parts_answer function feed f g finer parts is e few h =
     let links = finer.numbers.items in
     let numbers = f.numbers.value.items in
     let order = f.order.items in
     let of_part : ℕ → Option Meaning = λ i. aggregate_of function feed (rows_of_group numbers i) in
     let a : ℕ → Meaning = λ i. unwrap_or (aggregate_of function feed (rows_of_group numbers i)) Null in
-    let known = all_in_range of_part order parts (ap (λ o. in_range (map (λ i. aggregate_of function feed (rows_of_group (by_row numbers o) i)) order)) (sym is.base.of_rows) ∙ h) in
+    let known = all_in_range of_part order parts
+    (ap (λ o. in_range (map (λ i. aggregate_of function feed (rows_of_group (by_row numbers o) i)) order)) (sym is.base.of_rows) ∙ h) in
     let cmp = is.base.ordered.0 in
     let in_keys : order ≡ sorted cmp (places (length links)) = is.base.ordered.1 ∙ ap (λ n. sorted cmp (places n)) (sym is.as_many) in
     let below : All (λ i. i < length links) numbers = subst (λ n. All (λ i. i < n) numbers) (sym is.as_many) is.base.below in
-    let made : row_numbers g ≡ map (λ i. get_or links i 0) numbers = ap (by_row g.numbers.value.items) e ∙ ap (map (λ i. get_or links i 0)) is.same_rows in
-    map_same (λ i. aggregate_of (function_of_parts function) (record { values = parts; filter = None }) (rows_of_group (map (λ i. get_or links i 0) order) i)) (λ i. aggregate_of function feed (rows_of_group (row_numbers g) i)) g.order.items
+    let made : row_numbers g ≡ map (λ i. get_or links i 0) numbers = ap (by_row g.numbers.value.items) e
+    ∙ ap (map (λ i. get_or links i 0)) is.same_rows in
+    map_same (λ i. aggregate_of (function_of_parts function) (record { values = parts; filter = None })
+    (rows_of_group (map (λ i. get_or links i 0) order) i))
+    (λ i. aggregate_of function feed (rows_of_group (row_numbers g) i)) g.order.items
     (all_implied (λ i. i < g.count)
-    (λ i. aggregate_of (function_of_parts function) (record { values = parts; filter = None }) (rows_of_group (map (λ i. get_or links i 0) order) i) ≡ aggregate_of function feed (rows_of_group (row_numbers g) i))
+    (λ i. aggregate_of (function_of_parts function) (record { values = parts; filter = None })
+    (rows_of_group (map (λ i. get_or links i 0) order) i) ≡ aggregate_of function feed (rows_of_group (row_numbers g) i))
     (λ i l.
-    ap (λ vs. aggregate_of (function_of_parts function) (record { values = vs; filter = None }) (rows_of_group (map (λ i. get_or links i 0) order) i)) known.0
-    ∙ of_answers feed numbers links order cmp in_keys below a i function (omega (arith, few, ap length is.same_rows)) (met_in_order cmp links order i in_keys (is.met i l)) known.1
+    ap (λ vs. aggregate_of (function_of_parts function) (record { values = vs; filter = None })
+    (rows_of_group (map (λ i. get_or links i 0) order) i)) known.0
+    ∙ of_answers feed numbers links order cmp in_keys below a i function (omega (arith, few, ap length is.same_rows))
+    (met_in_order cmp links order i in_keys (is.met i l)) known.1
     ∙ ap (λ ns. aggregate_of function feed (rows_of_group ns i)) (sym made))
     g.order.items (recursion_from_All (λ i. i < g.count) g.order.items g.below))
   where
-    met_in_order : (cmp : ℕ → ℕ → Ordering) (links order : List ℕ) (i : ℕ) → order ≡ sorted cmp (places (length links)) → list_any (λ j. j == i) links ≡ true → list_any (λ f. get_or links f 0 == i) order ≡ true
+    met_in_order : (cmp : ℕ → ℕ → Ordering) (links order : List ℕ) (i : ℕ) → order ≡ sorted cmp (places (length links))
+        → list_any (λ j. j == i) links ≡ true → list_any (λ f. get_or links f 0 == i) order ≡ true
     met_in_order cmp links order i e h =
         ap (list_any (λ f. get_or links f 0 == i)) e ∙ any_is_total (λ f. get_or links f 0 == i) (sorted cmp (places (length links)))
         ∙ of_sorted false (λ a b. a || b) (λ x. refl) or_comm or_assoc cmp (λ f. get_or links f 0 == i) (places (length links))
@@ -324,13 +399,21 @@ parts_answer function feed f g finer parts is e few h =
         ∙ sym (any-map (λ j. j == i) (λ f. get_or links f 0) (places (length links))) ∙ ap (list_any (λ j. j == i)) (at_places links 0) ∙ h
 
 -- a set more is answered
-pub answered_more : (function : AggregateFunction) (feed : Feed) (sets : List memory.Groups) (answered more : List (Vec Value Global)) (n : ℕ) (g : memory.Groups) (answers : Vec Value Global) → length answered ≡ n → n < length sets → g ≡ get_or sets n g
-    → AreAnswered function feed sets answered → in_range (set_answers function feed g) ≡ Ok (map meaning answers.items) → more ≡ answered ++ answers ∷ [] → AreAnswered function feed sets more
-answered_more function feed sets answered more n g answers long within is known here e = subst (AreAnswered function feed sets) (sym e) (λ i d x h. go i d x (in_order i (length answered)) h)
+pub answered_more : (function : AggregateFunction) (feed : Feed) (sets : List memory.Groups)
+    (answered more : List (Vec Value Global)) (n : ℕ) (g : memory.Groups) (answers : Vec Value Global) → length answered ≡ n
+    → n < length sets → g ≡ get_or sets n g
+    → AreAnswered function feed sets answered → in_range (set_answers function feed g) ≡ Ok (map meaning answers.items)
+    → more ≡ answered ++ answers ∷ [] → AreAnswered function feed sets more
+answered_more function feed sets answered more n g answers long within is known here e =
+    subst (AreAnswered function feed sets) (sym e) (λ i d x h. go i d x (in_order i (length answered)) h)
   where
-    go : (i : ℕ) (d : memory.Groups) (x : Vec Value Global) → (i < length answered) ⊎ ((i ≡ length answered) ⊎ (length answered < i)) → i < length (answered ++ answers ∷ []) → in_range (set_answers function feed (get_or sets i d)) ≡ Ok (map meaning (get_or (answered ++ answers ∷ []) i x).items)
+    go : (i : ℕ) (d : memory.Groups) (x : Vec Value Global) → (i < length answered)
+        ⊎ ((i ≡ length answered) ⊎ (length answered < i)) → i < length (answered ++ answers ∷ [])
+        → in_range (set_answers function feed (get_or sets i d)) ≡ Ok (map meaning (get_or (answered ++ answers ∷ []) i x).items)
     go i d x (inl l) h = known i d x l ∙ ap (λ v. Ok (map meaning v.items)) (sym (get_or_append_left answered (answers ∷ []) x i l))
     go i d x (inr (inl q)) h =
-        ap (λ k. in_range (set_answers function feed (get_or sets k d))) (q ∙ long) ∙ ap (λ s. in_range (set_answers function feed s)) (same_at sets n d g within ∙ sym is) ∙ here
-        ∙ ap (λ v. Ok (map meaning v.items)) (sym (ap (λ k. get_or (answered ++ answers ∷ []) k x) q ∙ get_or-append_seam answered answers [] x))
+        ap (λ k. in_range (set_answers function feed (get_or sets k d))) (q ∙ long)
+        ∙ ap (λ s. in_range (set_answers function feed s)) (same_at sets n d g within ∙ sym is) ∙ here
+        ∙ ap (λ v. Ok (map meaning v.items)) (sym (ap (λ k. get_or (answered ++ answers ∷ []) k x) q
+        ∙ get_or-append_seam answered answers [] x))
     go i d x (inr (inr l)) h = absurd (omega (arith, l, h, length-append answered (answers ∷ [])))

@@ -1,5 +1,6 @@
 -- Aggregates of groups, by those of finer groups.
-use Rattle.std.proofs.Common.{◌≡◌, ℕ, pos, ◌||◌, ◌+ℤ◌, Bool, true, false, cond, List, [], ◌∷◌, map, filter, Ordering, Less, Equal, Greater, is_gt, true≢false, refl, sym, ap, ◌∙◌}
+use Rattle.std.proofs.Common.{◌≡◌, ℕ, pos, ◌||◌, ◌+ℤ◌, Bool, true, false, cond, List, [], ◌∷◌, map, filter}
+use Rattle.std.proofs.Common.{Ordering, Less, Equal, Greater, is_gt, true≢false, refl, sym, ap, ◌∙◌}
 use Rattle.std.specs.Cmp.{IsTotalOrder}
 use Rattle.std.specs.Ordering.{ordering_reverse}
 use Rattle.std.proofs.lemmas.List.Sums.{sum_by-cons}
@@ -18,14 +19,17 @@ pub any_is_total : (p : ℕ → Bool) (rows : List ℕ) → list_any p rows ≡ 
 any_is_total p [] = refl
 any_is_total p (r ∷ rows) = ap (λ b. p r || b) (any_is_total p rows)
 
-pub sum_is_total : (feed : ℕ → Meaning) (rows : List ℕ) → sum_of feed rows ≡ total (pos 0) (λ a b. a +ℤ b) (λ row. number_of (feed row)) rows
+pub sum_is_total : (feed : ℕ → Meaning) (rows : List ℕ)
+    → sum_of feed rows ≡ total (pos 0) (λ a b. a +ℤ b) (λ row. number_of (feed row)) rows
 sum_is_total feed [] = refl
 sum_is_total feed (r ∷ rows) = ap (λ z. number_of (feed r) +ℤ z) (sum_is_total feed rows)
 
-pub count_is_total : (p : ℕ → Bool) (rows : List ℕ) → pos (count_by p rows) ≡ total (pos 0) (λ a b. a +ℤ b) (λ row. cond (p row) (pos 1) (pos 0)) rows
+pub count_is_total : (p : ℕ → Bool) (rows : List ℕ)
+    → pos (count_by p rows) ≡ total (pos 0) (λ a b. a +ℤ b) (λ row. cond (p row) (pos 1) (pos 0)) rows
 count_is_total p [] = refl
 count_is_total p (r ∷ rows) =
-    ap pos (sum_by-cons (λ row. cond (p row) 1 0) r rows) ∙ sym (pos-+ℤ-pos (cond (p r) 1 0) (count_by p rows)) ∙ ap (λ z. pos (cond (p r) 1 0) +ℤ z) (count_is_total p rows)
+    ap pos (sum_by-cons (λ row. cond (p row) 1 0) r rows) ∙ sym (pos-+ℤ-pos (cond (p r) 1 0) (count_by p rows))
+    ∙ ap (λ z. pos (cond (p r) 1 0) +ℤ z) (count_is_total p rows)
     ∙ ap (λ z. z +ℤ total (pos 0) (λ a b. a +ℤ b) (λ row. cond (p row) (pos 1) (pos 0)) rows) (out (p r))
   where
     out : (b : Bool) → pos (cond b 1 0) ≡ cond b (pos 1) (pos 0)
@@ -56,7 +60,8 @@ module _ (cmp : Meaning → Meaning → Ordering) (order : IsTotalOrder cmp) (ti
       go false e = null_is b h ∙ sym (null_is a e)
 
   of_values : (a b : Meaning) → is_value a ≡ true → is_value b ≡ true → lesser cmp a b ≡ cond (is_gt (cmp a b)) b a
-  of_values a b h k = ap (λ p. cond p (cond (is_value b) (cond (is_gt (cmp a b)) b a) a) b) h ∙ ap (λ q. cond q (cond (is_gt (cmp a b)) b a) a) k
+  of_values a b h k = ap (λ p. cond p (cond (is_value b) (cond (is_gt (cmp a b)) b a) a) b) h
+      ∙ ap (λ q. cond q (cond (is_gt (cmp a b)) b a) a) k
 
   either_first : (a b : Meaning) → cond (is_gt (cmp a b)) b a ≡ cond (is_gt (cmp b a)) a b
   either_first a b = ap (λ o. cond (is_gt o) b a) (order.antisymm a b) ∙ by (cmp b a) refl
@@ -85,12 +90,15 @@ module _ (cmp : Meaning → Meaning → Ordering) (order : IsTotalOrder cmp) (ti
   gt_over : (a b c : Meaning) → is_gt (cmp a b) ≡ true → is_gt (cmp b c) ≡ true → is_gt (cmp a c) ≡ true
   gt_over a b c h k = ap is_gt (order.antisymm a c ∙ ap ordering_reverse (order.trans c b a (gt_back b c k) (gt_back a b h)))
 
-  three : (a b c : Meaning) → is_value a ≡ true → is_value b ≡ true → is_value c ≡ true → (p q : Bool) → is_gt (cmp a b) ≡ p → is_gt (cmp b c) ≡ q → lesser cmp (lesser cmp a b) c ≡ lesser cmp a (lesser cmp b c)
+  three : (a b c : Meaning) → is_value a ≡ true → is_value b ≡ true → is_value c ≡ true → (p q : Bool) → is_gt (cmp a b) ≡ p
+      → is_gt (cmp b c) ≡ q → lesser cmp (lesser cmp a b) c ≡ lesser cmp a (lesser cmp b c)
   three a b c va vb vc p q e f =
-      ap (λ x. lesser cmp x c) (of_values a b va vb ∙ ap (λ p. cond p b a) e) ∙ go p q e f ∙ sym (ap (lesser cmp a) (of_values b c vb vc ∙ ap (λ q. cond q c b) f))
+      ap (λ x. lesser cmp x c) (of_values a b va vb ∙ ap (λ p. cond p b a) e) ∙ go p q e f
+      ∙ sym (ap (lesser cmp a) (of_values b c vb vc ∙ ap (λ q. cond q c b) f))
     where
       go : (p q : Bool) → is_gt (cmp a b) ≡ p → is_gt (cmp b c) ≡ q → lesser cmp (cond p b a) c ≡ lesser cmp a (cond q c b)
-      go false false e f = of_values a c va vc ∙ ap (λ r. cond r c a) (upto order a b c e f) ∙ sym (of_values a b va vb ∙ ap (λ r. cond r b a) e)
+      go false false e f = of_values a c va vc ∙ ap (λ r. cond r c a) (upto order a b c e f)
+          ∙ sym (of_values a b va vb ∙ ap (λ r. cond r b a) e)
       go false true e f = refl
       go true false e f = of_values b c vb vc ∙ ap (λ r. cond r c b) f ∙ sym (of_values a b va vb ∙ ap (λ r. cond r b a) e)
       go true true e f = of_values b c vb vc ∙ ap (λ r. cond r c b) f ∙ sym (of_values a c va vc ∙ ap (λ r. cond r c a) (gt_over a b c e f))
@@ -104,7 +112,8 @@ module _ (cmp : Meaning → Meaning → Ordering) (order : IsTotalOrder cmp) (ti
       go true true false e f g = with_null (lesser cmp a b) c g ∙ sym (ap (lesser cmp a) (with_null b c g))
       go true true true e f g = three a b c e f g (is_gt (cmp a b)) (is_gt (cmp b c)) refl refl
 
-  first_inserted : (x : Meaning) (ys : List Meaning) → is_value x ≡ true → AllByRecursion (λ y. is_value y ≡ true) ys → first_or_null (inserted cmp x ys) ≡ lesser cmp x (first_or_null ys)
+  first_inserted : (x : Meaning) (ys : List Meaning) → is_value x ≡ true → AllByRecursion (λ y. is_value y ≡ true) ys
+      → first_or_null (inserted cmp x ys) ≡ lesser cmp x (first_or_null ys)
   first_inserted x [] h all = sym (with_null x Null refl)
   first_inserted x (y ∷ ys) h all = go (is_gt (cmp x y)) ∙ sym (of_values x y h all.0)
     where
@@ -116,17 +125,22 @@ module _ (cmp : Meaning → Meaning → Ordering) (order : IsTotalOrder cmp) (ti
   all_values [] = tt
   all_values (v ∷ vs) = go (is_value v) refl (all_values vs)
     where
-      go : (b : Bool) → is_value v ≡ b → AllByRecursion (λ v. is_value v ≡ true) (filter is_value vs) → AllByRecursion (λ v. is_value v ≡ true) (cond b (v ∷ filter is_value vs) (filter is_value vs))
+      go : (b : Bool) → is_value v ≡ b → AllByRecursion (λ v. is_value v ≡ true) (filter is_value vs)
+          → AllByRecursion (λ v. is_value v ≡ true) (cond b (v ∷ filter is_value vs) (filter is_value vs))
       go true e more = (e, more)
       go false e more = more
 
-  pub least_is_total : (feed : ℕ → Meaning) (rows : List ℕ) → first_or_null (sorted cmp (filter is_value (map feed rows))) ≡ total Null (lesser cmp) feed rows
+  pub least_is_total : (feed : ℕ → Meaning) (rows : List ℕ) → first_or_null (sorted cmp (filter is_value (map feed rows)))
+      ≡ total Null (lesser cmp) feed rows
   least_is_total feed [] = refl
   least_is_total feed (r ∷ rows) = go (is_value (feed r)) refl (least_is_total feed rows)
     where
-      go : (b : Bool) → is_value (feed r) ≡ b → first_or_null (sorted cmp (filter is_value (map feed rows))) ≡ total Null (lesser cmp) feed rows
-          → first_or_null (sorted cmp (cond b (feed r ∷ filter is_value (map feed rows)) (filter is_value (map feed rows)))) ≡ lesser cmp (feed r) (total Null (lesser cmp) feed rows)
+      go : (b : Bool) → is_value (feed r) ≡ b → first_or_null (sorted cmp (filter is_value (map feed rows)))
+          ≡ total Null (lesser cmp) feed rows
+          → first_or_null (sorted cmp (cond b (feed r ∷ filter is_value (map feed rows)) (filter is_value (map feed rows))))
+          ≡ lesser cmp (feed r) (total Null (lesser cmp) feed rows)
       go true e more =
-          first_inserted (feed r) (sorted cmp (filter is_value (map feed rows))) e (all_sorted cmp order (λ v. is_value v ≡ true) (filter is_value (map feed rows)) (all_values (map feed rows)))
+          first_inserted (feed r) (sorted cmp (filter is_value (map feed rows))) e
+          (all_sorted cmp order (λ v. is_value v ≡ true) (filter is_value (map feed rows)) (all_values (map feed rows)))
           ∙ ap (lesser cmp (feed r)) more
       go false e more = more ∙ sym (of_null (feed r) (total Null (lesser cmp) feed rows) e)

@@ -20,6 +20,7 @@ module _ (columns : SetColumns) (rows : List Row) where
   pub agree_equiv : IsEquivalence (agree columns rows)
   agree_equiv = record {
     refl = λ i. (agree_decides i i).1 refl;
-    symm = λ i j. one_answer (agree columns rows i j) (agree columns rows j i) (agree_decides i j) (λ e. sym ((agree_decides j i).0 e), λ e. (agree_decides j i).1 (sym e));
+    symm = λ i j. one_answer (agree columns rows i j) (agree columns rows j i) (agree_decides i j)
+        (λ e. sym ((agree_decides j i).0 e), λ e. (agree_decides j i).1 (sym e));
     congr = λ i j k e. ap (λ key. is_eq (group_cmp columns key (group_key columns rows k))) ((agree_decides i j).0 e);
   }

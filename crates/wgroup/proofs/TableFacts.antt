@@ -1,5 +1,7 @@
 -- Groups that are met where their keys are looked for.
-use Rattle.std.proofs.Common.{◌≡◌, ◌≢◌, ℕ, zero, suc, ◌+◌, ◌*◌, ◌-◌, map, ◌==◌, ◌<◌, ◌≤◌, ◌⊎◌, inl, inr, ◌&&◌, ◌||◌, Bool, true, false, eqb, List, [], ◌∷◌, ◌++◌, length, take, drop, set, get_or, nat_lt, refl, sym, ap, subst, ◌∙◌, arith, true≢false}
+use Rattle.std.proofs.Common.{◌≡◌, ◌≢◌, ℕ, zero, suc, ◌+◌, ◌*◌, ◌-◌, map, ◌==◌, ◌<◌, ◌≤◌, ◌⊎◌, inl, inr}
+use Rattle.std.proofs.Common.{◌&&◌, ◌||◌, Bool, true, false, eqb, List, [], ◌∷◌, ◌++◌, length, take, drop}
+use Rattle.std.proofs.Common.{set, get_or, nat_lt, refl, sym, ap, subst, ◌∙◌, arith, true≢false}
 use Rattle.std.specs.Bool.{one_answer}
 use Rattle.std.specs.Cmp.{first_so, second_so}
 use Rattle.std.specs.Cmp.Lexicographic.{pointwise, pointwise_decides}
@@ -11,7 +13,8 @@ use Rattle.std.proofs.Math.Seq.{get_or-append_seam, take-set-lt}
 use Rattle.std.proofs.lemmas.Bool.{leb-true, ltb-true, lt-ltb, and_from}
 use Rattle.std.proofs.lemmas.Bool.Decides.{eqb_tells}
 use Rattle.std.proofs.lemmas.Grind.{flat_map-append}
-use Rattle.std.proofs.lemmas.List.{append-nil, drop-set-lt, drop-set-add, get_or_append_left, get_or-drop, get_or-map, get_or-take, get_or-set_same, length-append, length-drop, length-map, length-set, length-take-le, take-set-le}
+use Rattle.std.proofs.lemmas.List.{append-nil, drop-set-lt, drop-set-add, get_or_append_left, get_or-drop, get_or-map, get_or-take}
+use Rattle.std.proofs.lemmas.List.{get_or-set_same, length-append, length-drop, length-map, length-set, length-take-le, take-set-le}
 use Rattle.std.proofs.lemmas.List.Folds.{list_any-append, list_any_at}
 use Rattle.std.proofs.lemmas.List.Quantifiers.{position-Some}
 use Rattle.wvalues.specs.declared.value.Value.{Value}
@@ -51,16 +54,19 @@ stays (y ∷ ys) zero x g d h = go (eqb_tells y g) h
     go (inr (f, n)) e = or_right (x == g) (is_among g ys) (sym (ap (λ b. b || is_among g ys) f) ∙ e)
 stays (y ∷ ys) (suc i) x g d h = go (y == g) h (stays ys i x g d)
   where
-    go : (b : Bool) → (b || is_among g ys) ≡ true → (is_among g ys ≡ true → is_among g (set ys i x) ≡ true) → (b || is_among g (set ys i x)) ≡ true
+    go : (b : Bool) → (b || is_among g ys) ≡ true → (is_among g ys ≡ true → is_among g (set ys i x) ≡ true)
+        → (b || is_among g (set ys i x)) ≡ true
     go true e more = refl
     go false e more = more e
 
 put_there : (xs : List ℕ) (i x : ℕ) → i < length xs → is_among x (set xs i x) ≡ true
 put_there xs i x h =
-    list_any_at (λ p. p == x) (set xs i x) i 0 (let l : length (set xs i x) ≡ length xs = length-set xs i x in omega (arith, l, h)) (are_equal (get_or (set xs i x) i 0) x (get_or-set_same xs i x 0 h))
+    list_any_at (λ p. p == x) (set xs i x) i 0 (let l : length (set xs i x) ≡ length xs = length-set xs i x in
+    omega (arith, l, h)) (are_equal (get_or (set xs i x) i 0) x (get_or-set_same xs i x 0 h))
 
 -- the slots from one on, where a number is put into one of them
-slots_set : (slots : List ℕ) (first step x : ℕ) → step < 8 → take 8 (drop first (set slots (first + step) x)) ≡ set (take 8 (drop first slots)) step x
+slots_set : (slots : List ℕ) (first step x : ℕ) → step < 8 → take 8 (drop first (set slots (first + step) x))
+    ≡ set (take 8 (drop first slots)) step x
 slots_set slots first step x h = ap (take 8) (drop-set-add first slots step x) ∙ take-set-lt 8 (drop first slots) step x h
 
 near_wide : (slots : List ℕ) (first step : ℕ) → step < 8 → first + 8 ≤ length slots → step < length (take 8 (drop first slots))
@@ -70,7 +76,8 @@ near_wide slots first step few wide =
     omega (arith, few, l)
 
 -- the slot that is free
-pub free_near : (slots : List ℕ) (first groups step : ℕ) → first + 8 ≤ length slots → position (nat_le groups) (take 8 (drop first slots)) ≡ Some step → (step < 8) × (groups ≤ get_or slots (first + step) 0)
+pub free_near : (slots : List ℕ) (first groups step : ℕ) → first + 8 ≤ length slots
+    → position (nat_le groups) (take 8 (drop first slots)) ≡ Some step → (step < 8) × (groups ≤ get_or slots (first + step) 0)
 free_near slots first groups step wide found =
     let told = position-Some (nat_le groups) (take 8 (drop first slots)) step 0 found in
     let d : length (drop first slots) ≡ length slots - first = length-drop first slots in
@@ -79,15 +86,20 @@ free_near slots first groups step wide found =
     let free : groups ≤ get_or (take 8 (drop first slots)) step 0 = leb-true groups (get_or (take 8 (drop first slots)) step 0) told.1 in
     (few, subst (λ n. groups ≤ n) (get_or-take 8 (drop first slots) step 0 few ∙ get_or-drop first slots step 0) free)
 
-stays_near : (slots : List ℕ) (first k x g : ℕ) → get_or slots k 0 ≢ g → is_among g (take 8 (drop first slots)) ≡ true → is_among g (take 8 (drop first (set slots k x))) ≡ true
+stays_near : (slots : List ℕ) (first k x g : ℕ) → get_or slots k 0 ≢ g → is_among g (take 8 (drop first slots)) ≡ true
+    → is_among g (take 8 (drop first (set slots k x))) ≡ true
 stays_near slots first k x g d h = go (in_order k first)
   where
     behind : (j : ℕ) → first + j ≡ k → (j < 8) ⊎ ((j ≡ 8) ⊎ (8 < j)) → is_among g (take 8 (drop first (set slots (first + j) x))) ≡ true
     behind j q (inl l) =
         ap (is_among g) (slots_set slots first j x l)
-        ∙ stays (take 8 (drop first slots)) j x g (λ e. d (ap (λ i. get_or slots i 0) (sym q) ∙ sym (get_or-drop first slots j 0) ∙ sym (get_or-take 8 (drop first slots) j 0 l) ∙ e)) h
-    behind j q (inr (inl e)) = ap (λ l. is_among g (take 8 l)) (drop-set-add first slots j x) ∙ ap (is_among g) (take-set-le 8 (drop first slots) j x (omega (arith, e))) ∙ h
-    behind j q (inr (inr l)) = ap (λ l. is_among g (take 8 l)) (drop-set-add first slots j x) ∙ ap (is_among g) (take-set-le 8 (drop first slots) j x (omega (arith, l))) ∙ h
+        ∙ stays (take 8 (drop first slots)) j x g
+        (λ e. d (ap (λ i. get_or slots i 0) (sym q) ∙ sym (get_or-drop first slots j 0)
+        ∙ sym (get_or-take 8 (drop first slots) j 0 l) ∙ e)) h
+    behind j q (inr (inl e)) = ap (λ l. is_among g (take 8 l)) (drop-set-add first slots j x)
+        ∙ ap (is_among g) (take-set-le 8 (drop first slots) j x (omega (arith, e))) ∙ h
+    behind j q (inr (inr l)) = ap (λ l. is_among g (take 8 l)) (drop-set-add first slots j x)
+        ∙ ap (is_among g) (take-set-le 8 (drop first slots) j x (omega (arith, l))) ∙ h
 
     from : first ≤ k → is_among g (take 8 (drop first (set slots k x))) ≡ true
     from l =
@@ -111,7 +123,8 @@ module _ (keyed : Keyed) (firsts : List ℕ) (keys : List Value) (has : HasKeys 
   width = length columns
 
   long : length keys ≡ length firsts * width
-  long = sym (length-map keys meaning) ∙ ap length has ∙ laid_length width (group_key columns told) firsts (group_keys_wide columns told firsts)
+  long = sym (length-map keys meaning) ∙ ap length has ∙ laid_length width (group_key columns told) firsts
+      (group_keys_wide columns told firsts)
 
   pub key_within : (number : ℕ) → number < length firsts → number * width + width ≤ length keys
   key_within number h =
@@ -119,25 +132,32 @@ module _ (keyed : Keyed) (firsts : List ℕ) (keys : List Value) (has : HasKeys 
       let more : suc number * width ≡ number * width + width = omega arith in
       omega (arith, most, more, long)
 
-  key_of : (number : ℕ) → number < length firsts → map meaning (take width (drop (number * width) keys)) ≡ group_key columns told (get_or firsts number 0)
+  key_of : (number : ℕ) → number < length firsts → map meaning (take width (drop (number * width) keys))
+      ≡ group_key columns told (get_or firsts number 0)
   key_of number h =
       sym (row_at width (length firsts) keys number h)
       ∙ ap (λ l. get_or l number []) (laid_rows width (group_key columns told) firsts (group_keys_wide columns told firsts) keys has)
       ∙ get_or-map (group_key columns told) firsts number 0 [] h
 
   -- a row is of the group whose key it has
-  pub same_key : (row number : ℕ) (key : List Value) → number < length firsts → key ≡ take width (drop (number * width) keys) → pointwise same_meaning (group_key columns told row) (map meaning key) ≡ alike keyed row (get_or firsts number 0)
+  pub same_key : (row number : ℕ) (key : List Value) → number < length firsts
+      → key ≡ take width (drop (number * width) keys)
+      → pointwise same_meaning (group_key columns told row) (map meaning key) ≡ alike keyed row (get_or firsts number 0)
   same_key row number key h is =
       ap (λ k. pointwise same_meaning (group_key columns told row) k) (ap (map meaning) is ∙ key_of number h)
-      ∙ one_answer (pointwise same_meaning (group_key columns told row) (group_key columns told (get_or firsts number 0))) (alike keyed row (get_or firsts number 0))
-      (pointwise_decides meaning_decides (group_key columns told row) (group_key columns told (get_or firsts number 0))) (agree_decides columns told row (get_or firsts number 0))
+      ∙ one_answer (pointwise same_meaning (group_key columns told row) (group_key columns told (get_or firsts number 0)))
+      (alike keyed row (get_or firsts number 0))
+      (pointwise_decides meaning_decides (group_key columns told row) (group_key columns told (get_or firsts number 0)))
+      (agree_decides columns told row (get_or firsts number 0))
 
   pub is_one : (row number : ℕ) (key : List Value) → number < length firsts → key ≡ take width (drop (number * width) keys)
       → pointwise same_meaning (group_key columns told row) (map meaning key) ≡ is_of_group keyed firsts row number
-  is_one row number key h is = same_key row number key h is ∙ ap (λ b. b && alike keyed row (get_or firsts number 0)) (sym (lt-ltb number (length firsts) h))
+  is_one row number key h is = same_key row number key h is ∙ ap (λ b. b && alike keyed row (get_or firsts number 0))
+      (sym (lt-ltb number (length firsts) h))
 
   -- a group more
-  pub keys_more : (row : ℕ) (cells : List Meaning) (after : List Value) → cells ≡ key_at told row → map meaning after ≡ map meaning keys ++ key_in columns cells → HasKeys keyed (firsts ++ row ∷ []) after
+  pub keys_more : (row : ℕ) (cells : List Meaning) (after : List Value) → cells ≡ key_at told row
+      → map meaning after ≡ map meaning keys ++ key_in columns cells → HasKeys keyed (firsts ++ row ∷ []) after
   keys_more row cells after is made =
       made ∙ ap (λ l. l ++ key_in columns cells) has ∙ ap (λ r. flat_map (group_key columns told) firsts ++ key_in columns r) is
       ∙ ap (λ l. flat_map (group_key columns told) firsts ++ l) (sym (append-nil (group_key columns told row)))
@@ -149,7 +169,8 @@ module _ (keyed : Keyed) (firsts slots apart : List ℕ) where
 
   -- rows of one key are looked for from one slot on
   one_slot : (row other : ℕ) → alike keyed row other ≡ true → slot_of slots (key_hash keyed row) ≡ slot_of slots (key_hash keyed other)
-  one_slot row other e = ap (λ key. slot_of slots (hash_of_key key)) ((agree_decides keyed.columns.now (rows_seen keyed.rows.now) row other).0 e)
+  one_slot row other e = ap (λ key. slot_of slots (hash_of_key key))
+      ((agree_decides keyed.columns.now (rows_seen keyed.rows.now) row other).0 e)
 
   module _ (met : AreMet keyed firsts slots apart) (first row : ℕ) (is : first ≡ slot_of slots (key_hash keyed row)) where
     -- a key that is in none of its slots, nor apart, is of no group
@@ -162,13 +183,19 @@ module _ (keyed : Keyed) (firsts slots apart : List ℕ) where
             let g = position_or_len (alike keyed row) firsts in
             let within : g < length firsts = stands_within (alike keyed row) firsts e in
             let same : alike keyed row (get_or firsts g 0) ≡ true = found_at (alike keyed row) firsts e in
-            let stands : is_among g (looked_at slots apart first) ≡ true = ap (λ s. is_among g (looked_at slots apart s)) (is ∙ one_slot row (get_or firsts g 0) same) ∙ met g within in
-            let itself : is_of_group keyed firsts row g ≡ true = and_from (nat_lt g (length firsts)) (alike keyed row (get_or firsts g 0)) (lt-ltb g (length firsts) within) same in
+            let stands : is_among g (looked_at slots apart first) ≡ true =
+            ap (λ s. is_among g (looked_at slots apart s)) (is ∙ one_slot row (get_or firsts g 0) same) ∙ met g within in
+            let itself : is_of_group keyed firsts row g ≡ true =
+            and_from (nat_lt g (length firsts)) (alike keyed row (get_or firsts g 0)) (lt-ltb g (length firsts) within) same in
             let other : (x : ℕ) → (x == g) ≡ true → is_of_group keyed firsts row x ≡ true = λ x q. by x (eqb_tells x g) q itself in
-            absurd (true≢false (sym (any_implied (λ p. p == g) (is_of_group keyed firsts row) other (looked_at slots apart first) stands) ∙ none))
+            absurd (true≢false (sym (any_implied (λ p. p == g) (is_of_group keyed firsts row) other
+            (looked_at slots apart first) stands) ∙ none))
           where
-            by : (x : ℕ) → ((eqb x (position_or_len (alike keyed row) firsts) ≡ true) × (x ≡ position_or_len (alike keyed row) firsts)) ⊎ ((eqb x (position_or_len (alike keyed row) firsts) ≡ false) × (x ≢ position_or_len (alike keyed row) firsts))
-                → (x == position_or_len (alike keyed row) firsts) ≡ true → is_of_group keyed firsts row (position_or_len (alike keyed row) firsts) ≡ true → is_of_group keyed firsts row x ≡ true
+            by : (x : ℕ) → ((eqb x (position_or_len (alike keyed row) firsts) ≡ true)
+                × (x ≡ position_or_len (alike keyed row) firsts))
+                ⊎ ((eqb x (position_or_len (alike keyed row) firsts) ≡ false) × (x ≢ position_or_len (alike keyed row) firsts))
+                → (x == position_or_len (alike keyed row) firsts) ≡ true
+                → is_of_group keyed firsts row (position_or_len (alike keyed row) firsts) ≡ true → is_of_group keyed firsts row x ≡ true
             by x (inl (t, q)) e i = ap (is_of_group keyed firsts row) q ∙ i
             by x (inr (f, n)) e i = absurd (true≢false (sym e ∙ f))
 
@@ -182,23 +209,28 @@ module _ (keyed : Keyed) (firsts slots apart : List ℕ) where
     grown g h = let l : length (firsts ++ row ∷ []) ≡ length firsts + 1 = length-append firsts (row ∷ []) in omega (arith, h, l)
 
     -- the groups with one more, whose number is put into one of its slots in which none stands
-    pub met_near : (step : ℕ) → step < 8 → first + 8 ≤ length slots → length firsts ≤ get_or slots (first + step) 0 → AreMet keyed (firsts ++ row ∷ []) (set slots (first + step) (length firsts)) apart
+    pub met_near : (step : ℕ) → step < 8 → first + 8 ≤ length slots → length firsts ≤ get_or slots (first + step) 0
+        → AreMet keyed (firsts ++ row ∷ []) (set slots (first + step) (length firsts)) apart
     met_near step few wide free g h = go (in_order g (length firsts))
       where
         after : List ℕ
         after = set slots (first + step) (length firsts)
 
         from : (r s : ℕ) → r ≡ s → slot_of after (key_hash keyed r) ≡ slot_of slots (key_hash keyed s)
-        from r s q = ap (λ n. bit_and (key_hash keyed r) (n - 8)) (length-set slots (first + step) (length firsts)) ∙ ap (λ r. slot_of slots (key_hash keyed r)) q
+        from r s q = ap (λ n. bit_and (key_hash keyed r) (n - 8)) (length-set slots (first + step) (length firsts))
+            ∙ ap (λ r. slot_of slots (key_hash keyed r)) q
 
         halves : (s : ℕ) → is_among g (looked_at after apart s) ≡ (is_among g (take 8 (drop s after)) || is_among g apart)
         halves s = list_any-append (λ p. p == g) (take 8 (drop s after)) apart
 
-        known : (s : ℕ) (b : Bool) → is_among g (take 8 (drop s slots)) ≡ b → (b || is_among g apart) ≡ true → g < length firsts → (is_among g (take 8 (drop s after)) || is_among g apart) ≡ true
-        known s true e t l = or_left (is_among g (take 8 (drop s after))) (is_among g apart) (stays_near slots s (first + step) (length firsts) g (λ q. omega (arith, q, l, free)) e)
+        known : (s : ℕ) (b : Bool) → is_among g (take 8 (drop s slots)) ≡ b → (b || is_among g apart) ≡ true
+            → g < length firsts → (is_among g (take 8 (drop s after)) || is_among g apart) ≡ true
+        known s true e t l = or_left (is_among g (take 8 (drop s after))) (is_among g apart)
+            (stays_near slots s (first + step) (length firsts) g (λ q. omega (arith, q, l, free)) e)
         known s false e t l = or_right (is_among g (take 8 (drop s after))) (is_among g apart) t
 
-        go : (g < length firsts) ⊎ ((g ≡ length firsts) ⊎ (length firsts < g)) → is_among g (looked_at after apart (slot_of after (key_hash keyed (get_or (firsts ++ row ∷ []) g 0)))) ≡ true
+        go : (g < length firsts) ⊎ ((g ≡ length firsts) ⊎ (length firsts < g))
+            → is_among g (looked_at after apart (slot_of after (key_hash keyed (get_or (firsts ++ row ∷ []) g 0)))) ≡ true
         go (inl l) =
             let s = slot_of slots (key_hash keyed (get_or firsts g 0)) in
             ap (λ s. is_among g (looked_at after apart s)) (from (get_or (firsts ++ row ∷ []) g 0) (get_or firsts g 0) (earlier g l))
@@ -207,7 +239,8 @@ module _ (keyed : Keyed) (firsts slots apart : List ℕ) where
             ap (λ s. is_among g (looked_at after apart s)) (from (get_or (firsts ++ row ∷ []) g 0) row (newest g q) ∙ sym is)
             ∙ halves first
             ∙ or_left (is_among g (take 8 (drop first after))) (is_among g apart)
-            (ap (is_among g) (slots_set slots first step (length firsts) few) ∙ ap (λ k. is_among k (set (take 8 (drop first slots)) step (length firsts))) q
+            (ap (is_among g) (slots_set slots first step (length firsts) few)
+            ∙ ap (λ k. is_among k (set (take 8 (drop first slots)) step (length firsts))) q
             ∙ put_there (take 8 (drop first slots)) step (length firsts) (near_wide slots first step few wide))
         go (inr (inr l)) = absurd (let m : g < length firsts + 1 = grown g h in omega (arith, m, l))
 
@@ -215,9 +248,11 @@ module _ (keyed : Keyed) (firsts slots apart : List ℕ) where
     pub met_apart : AreMet keyed (firsts ++ row ∷ []) slots (apart ++ length firsts ∷ [])
     met_apart g h = go (in_order g (length firsts))
       where
-        halves : (s : ℕ) → is_among g (looked_at slots (apart ++ length firsts ∷ []) s) ≡ (is_among g (take 8 (drop s slots)) || (is_among g apart || (length firsts == g || false)))
+        halves : (s : ℕ) → is_among g (looked_at slots (apart ++ length firsts ∷ []) s)
+            ≡ (is_among g (take 8 (drop s slots)) || (is_among g apart || (length firsts == g || false)))
         halves s =
-            list_any-append (λ p. p == g) (take 8 (drop s slots)) (apart ++ length firsts ∷ []) ∙ ap (λ b. is_among g (take 8 (drop s slots)) || b) (list_any-append (λ p. p == g) apart (length firsts ∷ []))
+            list_any-append (λ p. p == g) (take 8 (drop s slots)) (apart ++ length firsts ∷ [])
+            ∙ ap (λ b. is_among g (take 8 (drop s slots)) || b) (list_any-append (λ p. p == g) apart (length firsts ∷ []))
 
         both : (a b c : Bool) → (a || b) ≡ true → (a || (b || c)) ≡ true
         both true b c e = refl
@@ -230,14 +265,18 @@ module _ (keyed : Keyed) (firsts slots apart : List ℕ) where
         last false false true e = refl
         last false false false e = e
 
-        go : (g < length firsts) ⊎ ((g ≡ length firsts) ⊎ (length firsts < g)) → is_among g (looked_at slots (apart ++ length firsts ∷ []) (slot_of slots (key_hash keyed (get_or (firsts ++ row ∷ []) g 0)))) ≡ true
+        go : (g < length firsts) ⊎ ((g ≡ length firsts) ⊎ (length firsts < g))
+            → is_among g (looked_at slots (apart ++ length firsts ∷ [])
+            (slot_of slots (key_hash keyed (get_or (firsts ++ row ∷ []) g 0)))) ≡ true
         go (inl l) =
             let s = slot_of slots (key_hash keyed (get_or firsts g 0)) in
             ap (λ r. is_among g (looked_at slots (apart ++ length firsts ∷ []) (slot_of slots (key_hash keyed r)))) (earlier g l)
-            ∙ halves s ∙ both (is_among g (take 8 (drop s slots))) (is_among g apart) (length firsts == g || false) (sym (split s g) ∙ met g l)
+            ∙ halves s ∙ both (is_among g (take 8 (drop s slots))) (is_among g apart) (length firsts == g || false)
+            (sym (split s g) ∙ met g l)
         go (inr (inl q)) =
             let s = slot_of slots (key_hash keyed (get_or (firsts ++ row ∷ []) g 0)) in
-            halves s ∙ last (is_among g (take 8 (drop s slots))) (is_among g apart) (length firsts == g) (are_equal (length firsts) g (sym q))
+            halves s ∙ last (is_among g (take 8 (drop s slots))) (is_among g apart) (length firsts == g)
+            (are_equal (length firsts) g (sym q))
         go (inr (inr l)) = absurd (let m : g < length firsts + 1 = grown g h in omega (arith, m, l))
 
 -- the number of a group more is put where its key is looked for
@@ -253,30 +292,44 @@ module _ (keyed : Keyed) (row : ℕ) (table : Table) (held : Holds keyed row tab
   held_still after e = subst (Holds keyed row) (sym e) (record { groups = held.groups; keys = held.keys; wide = held.wide; met = held.met })
 
   within : (g : ℕ) → is_of_group keyed table.firsts.items row g ≡ true → g < length (first_of (alike keyed) row)
-  within g e = subst (λ l. g < length l) held.groups (ltb-true g (length table.firsts.items) (first_so (nat_lt g (length table.firsts.items)) (alike keyed row (get_or table.firsts.items g 0)) e))
+  within g e = subst (λ l. g < length l) held.groups (ltb-true g (length table.firsts.items)
+      (first_so (nat_lt g (length table.firsts.items)) (alike keyed row (get_or table.firsts.items g 0)) e))
 
   agrees : (g : ℕ) → is_of_group keyed table.firsts.items row g ≡ true → alike keyed row (get_or (first_of (alike keyed) row) g 0) ≡ true
   agrees g e =
-      ap (λ l. alike keyed row (get_or l g 0)) (sym held.groups) ∙ second_so (nat_lt g (length table.firsts.items)) (alike keyed row (get_or table.firsts.items g 0)) e
+      ap (λ l. alike keyed row (get_or l g 0)) (sym held.groups) ∙ second_so (nat_lt g (length table.firsts.items))
+      (alike keyed row (get_or table.firsts.items g 0)) e
 
   none_more : (g : ℕ) → is_of_group keyed table.firsts.items row g ≡ true → first_of (alike keyed) (row + 1) ≡ first_of (alike keyed) row
   none_more g e =
-      firsts_known (alike keyed) (agree_equiv keyed.columns.now (rows_seen keyed.rows.now)) row (list_any_at (alike keyed row) (first_of (alike keyed) row) g 0 (within g e) (agrees g e))
+      firsts_known (alike keyed) (agree_equiv keyed.columns.now (rows_seen keyed.rows.now)) row
+      (list_any_at (alike keyed row) (first_of (alike keyed) row) g 0 (within g e) (agrees g e))
 
-  pub held_known : (after : Table) (g : ℕ) → after ≡ record table { looks = after.looks } → is_of_group keyed table.firsts.items row g ≡ true → Holds keyed (row + 1) after
-  held_known after g e known = subst (Holds keyed (row + 1)) (sym e) (record { groups = held.groups ∙ sym (none_more g known); keys = held.keys; wide = held.wide; met = held.met })
+  pub held_known : (after : Table) (g : ℕ) → after ≡ record table { looks = after.looks }
+      → is_of_group keyed table.firsts.items row g ≡ true → Holds keyed (row + 1) after
+  held_known after g e known = subst (Holds keyed (row + 1)) (sym e) (record {
+    groups =
+        held.groups ∙ sym (none_more g known);
+    keys = held.keys;
+    wide = held.wide;
+    met = held.met;
+  })
 
-  pub number_is : (g : ℕ) → is_of_group keyed table.firsts.items row g ≡ true → g ≡ position_or_len (alike keyed row) (first_of (alike keyed) (row + 1))
+  pub number_is : (g : ℕ) → is_of_group keyed table.firsts.items row g ≡ true
+      → g ≡ position_or_len (alike keyed row) (first_of (alike keyed) (row + 1))
   number_is g e =
-      sym (ap (position_or_len (alike keyed row)) (none_more g e) ∙ number_known (alike keyed) (agree_equiv keyed.columns.now (rows_seen keyed.rows.now)) row row g (within g e) (agrees g e))
+      sym (ap (position_or_len (alike keyed row)) (none_more g e) ∙ number_known (alike keyed)
+      (agree_equiv keyed.columns.now (rows_seen keyed.rows.now)) row row g (within g e) (agrees g e))
 
   module _ (none : list_any (alike keyed row) table.firsts.items ≡ false) where
     one_more : first_of (alike keyed) (row + 1) ≡ table.firsts.items ++ row ∷ []
     one_more =
-        firsts_new (alike keyed) (agree_equiv keyed.columns.now (rows_seen keyed.rows.now)) row (ap (list_any (alike keyed row)) (sym held.groups) ∙ none)
+        firsts_new (alike keyed) (agree_equiv keyed.columns.now (rows_seen keyed.rows.now)) row
+        (ap (list_any (alike keyed row)) (sym held.groups) ∙ none)
         ∙ ap (λ l. l ++ row ∷ []) (sym held.groups)
 
-    pub held_new : (after : Table) → after.firsts.items ≡ table.firsts.items ++ row ∷ [] → HasKeys keyed (table.firsts.items ++ row ∷ []) after.keys.items → length after.slots.items ≡ length table.slots.items
+    pub held_new : (after : Table) → after.firsts.items ≡ table.firsts.items ++ row ∷ []
+        → HasKeys keyed (table.firsts.items ++ row ∷ []) after.keys.items → length after.slots.items ≡ length table.slots.items
         → AreMet keyed (table.firsts.items ++ row ∷ []) after.slots.items after.apart.items → Holds keyed (row + 1) after
     held_new after f k l m =
         record {
@@ -292,7 +345,8 @@ module _ (keyed : Keyed) (row : ℕ) (table : Table) (held : Holds keyed row tab
         let n = length table.firsts.items in
         let long : length (first_of (alike keyed) (row + 1)) ≡ n + 1 = ap length one_more ∙ length-append table.firsts.items (row ∷ []) in
         let itself : alike keyed row (get_or (first_of (alike keyed) (row + 1)) n 0) ≡ true
-        = ap (λ l. alike keyed row (get_or l n 0)) one_more ∙ ap (alike keyed row) (get_or-append_seam table.firsts.items row [] 0) ∙ eqv.refl row in
+        = ap (λ l. alike keyed row (get_or l n 0)) one_more
+        ∙ ap (alike keyed row) (get_or-append_seam table.firsts.items row [] 0) ∙ eqv.refl row in
         sym (number_known (alike keyed) eqv (row + 1) row n (omega (arith, long)) itself)
 
 pub if_ok : {E : Type 0} (r : Result ℕ E) (m n : ℕ) → m ≡ n → IfOk r (λ x. x ≡ m) → IfOk r (λ x. x ≡ n)

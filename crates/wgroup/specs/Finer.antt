@@ -1,5 +1,6 @@
 -- Sets that are finer than others, and groups that are made of finer ones.
-use Rattle.std.specs.Prelude.{◌≡◌, ℕ, ◌<◌, ◌≤◌, ◌==◌, Bool, true, false, List, map, length, slice_index_or, take, Option, Some, None, Ok, All, if◌then◌else◌}
+use Rattle.std.specs.Prelude.{◌≡◌, ℕ, ◌<◌, ◌≤◌, ◌==◌, Bool, true, false, List, map, length, slice_index_or}
+use Rattle.std.specs.Prelude.{take, Option, Some, None, Ok, All, if◌then◌else◌}
 use Rattle.std.specs.Borrow.{Bor}
 use Rattle.std.specs.List.{list_all, list_any}
 use Rattle.std.specs.declared.cmp.Ordering.{Ordering}
@@ -87,12 +88,14 @@ IsMade earlier g = MadeFrom earlier g g.finer
 
 -- what numbers groups have that are made of groups
 abbrev pub IsLinked : memory.Groups → Type 0
-IsLinked g = (finer : made.FinerSet) → g.finer ≡ Some finer → (All (λ i. i < g.count) finer.numbers.items) × (All (λ i. i < length finer.numbers.items) g.numbers.value.items)
+IsLinked g = (finer : made.FinerSet) → g.finer ≡ Some finer → (All (λ i. i < g.count) finer.numbers.items)
+    × (All (λ i. i < length finer.numbers.items) g.numbers.value.items)
 
 -- what groups are made of that are made of a set's groups: of these, or of those that these are made of
 abbrev pub IsJoined : ℕ → List ℕ → Option made.FinerSet → made.FinerSet → Type 0
 IsJoined place numbers None joined = (joined.place ≡ place) × (joined.numbers.items ≡ numbers)
-IsJoined place numbers (Some finer) joined = (joined.place ≡ finer.place) × (joined.numbers.items ≡ map (λ i. slice_index_or numbers i 0) finer.numbers.items)
+IsJoined place numbers (Some finer) joined = (joined.place ≡ finer.place)
+    × (joined.numbers.items ≡ map (λ i. slice_index_or numbers i 0) finer.numbers.items)
 
 -- the place of the set, made of rows, that a set's groups are made of
 abbrev pub base_place : ℕ → Option made.FinerSet → ℕ
@@ -113,4 +116,5 @@ function_of_parts Max = Max
 
 -- what an aggregate comes to is known for the groups of the first sets
 abbrev pub AreAnswered : AggregateFunction → Feed → List memory.Groups → List (Vec Value Global) → Type 0
-AreAnswered function feed sets answered = (i : ℕ) (d : memory.Groups) (e : Vec Value Global) → i < length answered → in_range (set_answers function feed (slice_index_or sets i d)) ≡ Ok (map meaning (slice_index_or answered i e).items)
+AreAnswered function feed sets answered = (i : ℕ) (d : memory.Groups) (e : Vec Value Global) → i < length answered
+    → in_range (set_answers function feed (slice_index_or sets i d)) ≡ Ok (map meaning (slice_index_or answered i e).items)

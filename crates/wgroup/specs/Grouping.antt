@@ -1,5 +1,6 @@
 -- Groups of each set of columns (<group by clause>, <grouping sets specification>, <grouping operation>, <having clause>).
-use Rattle.std.specs.Prelude.{ℕ, pos, Bool, not, List, [], ◌∷◌, map, filter, length, Option, Some, None, Result, option_map, slice_index_or, if◌then◌else◌}
+use Rattle.std.specs.Prelude.{ℕ, pos, Bool, not, List, [], ◌∷◌, map, filter, length, Option}
+use Rattle.std.specs.Prelude.{Some, None, Result, option_map, slice_index_or, if◌then◌else◌}
 use Rattle.std.specs.List.{list_any, flat_map}
 use Rattle.std.specs.Ordering.{is_eq, on}
 use Rattle.std.specs.declared.cmp.Ordering.{Ordering}
@@ -53,11 +54,17 @@ first_rows columns rows = filter (λ i. not (list_any (agree columns rows i) (pl
 
 -- the group of a row: the rows that agree with it
 abbrev pub group_of : List ℕ → SetColumns → List Row → ℕ → Group
-group_of set columns rows i = record { set = set; key = group_key columns rows i; rows = filter (agree columns rows i) (places (length rows)) }
+group_of set columns rows i = record {
+  set = set;
+  key = group_key columns rows i;
+  rows =
+      filter (agree columns rows i) (places (length rows));
+}
 
 -- the groups by their keys
 abbrev pub groups_by : List ℕ → SetColumns → List Row → List Group
-groups_by set columns rows = map (group_of set columns rows) (sorted (on (group_key columns rows) (group_cmp columns)) (first_rows columns rows))
+groups_by set columns rows = map (group_of set columns rows) (sorted (on (group_key columns rows) (group_cmp columns))
+    (first_rows columns rows))
 
 -- The groups of a set. The empty one has one group, of all rows, also where there is none
 abbrev pub groups_of_set : List ℕ → List Row → List ℕ → List Group

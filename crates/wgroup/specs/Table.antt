@@ -38,7 +38,8 @@ is_of_group keyed firsts row number = nat_lt number (length firsts) && alike key
 
 -- each group is met where its key is looked for
 abbrev pub AreMet : Keyed → List ℕ → List ℕ → List ℕ → Type 0
-AreMet keyed firsts slots apart = (g : ℕ) → g < length firsts → is_among g (looked_at slots apart (slot_of slots (key_hash keyed (get_or firsts g 0)))) ≡ true
+AreMet keyed firsts slots apart = (g : ℕ) → g < length firsts
+    → is_among g (looked_at slots apart (slot_of slots (key_hash keyed (get_or firsts g 0)))) ≡ true
 
 -- the keys of the groups
 abbrev pub HasKeys : Keyed → List ℕ → List Value → Type 0

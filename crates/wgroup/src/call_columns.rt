@@ -53,7 +53,8 @@ fn answers_of_parts(
     requires finer { groups.now.finer ≡ Some finer.now }
     requires len { length parts.now ≡ length set.now.order.items }
     requires few { length groups.now.numbers.value.items < 2 ^ 31 }
-    ensures gives { (feed : aggregating.Feed) → in_range (set_answers function feed set.now) ≡ Ok (map meaning parts.now) → Gives (λ column. map meaning column.items) result (in_range (set_answers function feed groups.now)) }
+    ensures gives { (feed : aggregating.Feed) → in_range (set_answers function feed set.now) ≡ Ok (map meaning parts.now)
+        → Gives (λ column. map meaning column.items) result (in_range (set_answers function feed groups.now)) }
     ensures len { IfOk result (λ column. length column.items ≡ length groups.now.order.items) }
 {
     let values = lent_values(alloc, parts)?;
@@ -85,7 +86,8 @@ fn group_answers(
     requires len { length groups.now.numbers.value.items ≡ length values.now }
     requires tests { ForSome filter.now (λ tests. length tests.items ≡ length values.now) }
     requires few { length values.now < 2 ^ 31 }
-    ensures gives { Gives (λ column. map meaning column.items) result (in_range (set_answers function (fed_by values.now filter.now) groups.now)) }
+    ensures gives { Gives (λ column. map meaning column.items) result
+        (in_range (set_answers function (fed_by values.now filter.now) groups.now)) }
     ensures len { IfOk result (λ column. length column.items ≡ length groups.now.order.items) }
 {
     match &groups.finer {
@@ -135,7 +137,8 @@ fn aggregate_answers(
     requires len { All (λ groups. length groups.numbers.value.items ≡ length values.now) sets.now }
     requires tests { ForSome filter.now (λ tests. length tests.items ≡ length values.now) }
     requires few { length values.now < 2 ^ 31 }
-    ensures gives { Gives (λ column. map meaning column.items) result (in_range (flat_map (set_answers function (fed_by values.now filter.now)) sets.now)) }
+    ensures gives { Gives (λ column. map meaning column.items) result
+        (in_range (flat_map (set_answers function (fed_by values.now filter.now)) sets.now)) }
     ensures len { IfOk result (λ column. length column.items ≡ length (all_groups sets.now)) }
 {
     let mut answered = Vec::with_capacity(alloc, sets.len())?;
@@ -160,7 +163,8 @@ fn fed_column(
     requires made { AreMade sets.now }
     requires len { All (λ groups. length groups.numbers.value.items ≡ length rows.now) sets.now }
     requires few { length rows.now < 2 ^ 31 }
-    ensures gives { Gives (λ column. map meaning column.items) result (column_over (rows_seen rows.now) sets.now (GroupAggregate (aggregate_plan aggregate.now))) }
+    ensures gives { Gives (λ column. map meaning column.items) result (column_over (rows_seen rows.now) sets.now
+        (GroupAggregate (aggregate_plan aggregate.now))) }
     ensures len { IfOk result (λ column. length column.items ≡ length (all_groups sets.now)) }
 {
     let filter = filter_rows(alloc, &aggregate.filter, rows)?;
@@ -177,7 +181,8 @@ fn evaluated_column(
     requires made { AreMade sets.now }
     requires len { All (λ groups. length groups.numbers.value.items ≡ length rows.now) sets.now }
     requires few { length rows.now < 2 ^ 31 }
-    ensures gives { Gives (λ column. map meaning column.items) result (column_over (rows_seen rows.now) sets.now (GroupAggregate (aggregate_plan aggregate.now))) }
+    ensures gives { Gives (λ column. map meaning column.items) result (column_over (rows_seen rows.now) sets.now
+        (GroupAggregate (aggregate_plan aggregate.now))) }
     ensures len { IfOk result (λ column. length column.items ≡ length (all_groups sets.now)) }
 {
     let cells = argument_values(alloc, &aggregate.argument, rows)?;
@@ -196,7 +201,8 @@ fn null_column(
     requires made { AreMade sets.now }
     requires len { All (λ groups. length groups.numbers.value.items ≡ length rows.now) sets.now }
     requires few { length rows.now < 2 ^ 31 }
-    ensures gives { Gives (λ column. map meaning column.items) result (column_over (rows_seen rows.now) sets.now (GroupAggregate (aggregate_plan aggregate.now))) }
+    ensures gives { Gives (λ column. map meaning column.items) result (column_over (rows_seen rows.now) sets.now
+        (GroupAggregate (aggregate_plan aggregate.now))) }
     ensures len { IfOk result (λ column. length column.items ≡ length (all_groups sets.now)) }
 {
     let null = Value::Null;
@@ -214,7 +220,8 @@ fn aggregate_column(
     requires made { AreMade sets.now }
     requires len { All (λ groups. length groups.numbers.value.items ≡ length rows.now) sets.now }
     requires few { length rows.now < 2 ^ 31 }
-    ensures gives { Gives (λ column. map meaning column.items) result (column_over (rows_seen rows.now) sets.now (GroupAggregate (aggregate_plan aggregate.now))) }
+    ensures gives { Gives (λ column. map meaning column.items) result (column_over (rows_seen rows.now) sets.now
+        (GroupAggregate (aggregate_plan aggregate.now))) }
     ensures len { IfOk result (λ column. length column.items ≡ length (all_groups sets.now)) }
 {
     if is_null(&aggregate.argument) {
@@ -322,7 +329,8 @@ fn column(
     requires made { AreMade sets.now }
     requires len { All (λ groups. length groups.numbers.value.items ≡ length rows.now) sets.now }
     requires few { length rows.now < 2 ^ 31 }
-    ensures gives { Gives (λ column. map meaning column.items) result (column_over (rows_seen rows.now) sets.now (group_call_plan call.now)) }
+    ensures gives { Gives (λ column. map meaning column.items) result (column_over (rows_seen rows.now) sets.now
+        (group_call_plan call.now)) }
     ensures len { IfOk result (λ column. length column.items ≡ length (all_groups sets.now)) }
 {
     match call {
@@ -342,7 +350,8 @@ pub(crate) fn call_columns(
     requires made { AreMade sets.now }
     requires len { All (λ groups. length groups.numbers.value.items ≡ length rows.now) sets.now }
     requires few { length rows.now < 2 ^ 31 }
-    ensures gives { Gives (λ columns. columns_in columns.items) result (each (column_over (rows_seen rows.now) sets.now) (map group_call_plan calls.now)) }
+    ensures gives { Gives (λ columns. columns_in columns.items) result (each (column_over (rows_seen rows.now) sets.now)
+        (map group_call_plan calls.now)) }
     ensures len { IfOk result (λ columns. All (λ column. length column.items ≡ length (all_groups sets.now)) columns.items) }
     ensures count { IfOk result (λ columns. length columns.items ≡ length calls.now) }
 {

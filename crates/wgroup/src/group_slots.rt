@@ -102,7 +102,8 @@ impl Table {
         requires keys { HasKeys keyed.now self.old.firsts.items self.old.keys.items }
         requires first { first + 8 ≤ length self.old.slots.items }
         ensures some { IfSome result (λ number. is_of_group keyed.now self.old.firsts.items row number ≡ true) }
-        ensures none { IfNone result (list_any (is_of_group keyed.now self.old.firsts.items row) (looked_at self.old.slots.items self.old.apart.items first) ≡ false) }
+        ensures none { IfNone result (list_any (is_of_group keyed.now self.old.firsts.items row)
+            (looked_at self.old.slots.items self.old.apart.items first) ≡ false) }
         ensures same { self.new ≡ record self.old { looks = self.new.looks } }
     {
         let slots = &self.slots[first..first + MOST_PROBES];

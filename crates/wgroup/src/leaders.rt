@@ -53,7 +53,8 @@ pub(crate) fn find_leaders(
 ) -> Result<Vec<usize>, AllocError>
     requires laid { length cells.now ≡ count * width }
     requires keys { length keys.now ≡ width }
-    ensures firsts { IfOk result (λ leaders. (row : ℕ) → row < count → IsFirst (same_row width cells.now) count row (slice_index_or leaders.items row 0)) }
+    ensures firsts { IfOk result (λ leaders. (row : ℕ) → row < count
+        → IsFirst (same_row width cells.now) count row (slice_index_or leaders.items row 0)) }
     ensures len { IfOk result (λ leaders. length leaders.items ≡ count) }
 {
     let order = sorted_numbers(alloc, cells, keys, count)?;

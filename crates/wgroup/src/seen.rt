@@ -53,7 +53,8 @@ fn is_slow(table: &Table, most: usize, rows: usize) -> bool
 
 // The groups of rows, by a table, unless that is given up.
 fn tabled_groups(alloc: Global, keyed: &Keyed) -> Result<Option<Sight>, AllocError>
-    ensures { IfOk result (λ seen. IfSome seen (λ sight. IsSight (alike keyed.now) (length keyed.now.rows.now) sight.firsts.items sight.numbers.items)) }
+    ensures { IfOk result (λ seen. IfSome seen (λ sight. IsSight (alike keyed.now) (length keyed.now.rows.now)
+        sight.firsts.items sight.numbers.items)) }
 {
     let count = keyed.rows.len();
     let most = most_groups(count);
@@ -78,7 +79,8 @@ pub(crate) fn seen_groups(
     columns: &[Option<usize>],
     rows: &[&[Value]],
 ) -> Result<Option<Sight>, AllocError>
-    ensures { IfOk result (λ seen. IfSome seen (λ sight. IsSight (agree columns.now (rows_seen rows.now)) (length rows.now) sight.firsts.items sight.numbers.items)) }
+    ensures { IfOk result (λ seen. IfSome seen (λ sight. IsSight (agree columns.now (rows_seen rows.now)) (length rows.now)
+        sight.firsts.items sight.numbers.items)) }
 {
     if rows.len() < FEWEST_ROWS {
         return Ok(None);

@@ -3,7 +3,8 @@
 ghost use Rattle.std.specs.Prelude.{◌≡◌, ◌||◌, map};
 ghost use Rattle.std.specs.List.{list_any};
 ghost use Rattle.wquery.specs.GroupElements.{view_columns, view_part, view_group_entry, view_element};
-ghost use Rattle.wgroupby.specs.Rules.{is_long, are_parts_long as are_long_parts, is_entry_long as is_long_entry, is_element_long as is_long_element, breaks_lists};
+ghost use Rattle.wgroupby.specs.Rules.{is_long, are_parts_long as are_long_parts, is_entry_long as is_long_entry};
+ghost use Rattle.wgroupby.specs.Rules.{is_element_long as is_long_element, breaks_lists};
 
 use wquery::{Column, GroupElement, GroupEntry};
 

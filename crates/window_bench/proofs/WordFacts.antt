@@ -2,7 +2,8 @@
 use Rattle.std.proofs.Common.{◌≡◌, ◌<◌, ◌≤◌, ℕ, zero, suc, List, [], ◌∷◌, length, slice_index_or, Bor, refl, arith}
 use Rattle.window_bench.specs.Words.{word_at}
 
-pub word_there : (words : List (Bor (List ℕ))) (i : ℕ) → i < length words → (slice_index_or words i (record { ref_ptr = (0, 0); now = [] })).now ≡ word_at words i
+pub word_there : (words : List (Bor (List ℕ))) (i : ℕ) → i < length words
+    → (slice_index_or words i (record { ref_ptr = (0, 0); now = [] })).now ≡ word_at words i
 word_there [] i h = absurd (omega arith)
 word_there (word ∷ words) zero h = refl
 word_there (word ∷ words) (suc i) h = word_there words i (omega arith)

@@ -69,11 +69,13 @@ IsBound word bounds.UnboundedFollowing = word ≡ codes "unbounded-following"
 
 -- a word that spells no bound with an offset
 abbrev pub IsNoOffset : List ℕ → Type 0
-IsNoOffset word = ¬ (IsNumber 128 (before_hyphen word)) ⊎ ((behind_hyphen word ≢ codes "preceding") × (behind_hyphen word ≢ codes "following"))
+IsNoOffset word = ¬ (IsNumber 128 (before_hyphen word)) ⊎ ((behind_hyphen word ≢ codes "preceding")
+    × (behind_hyphen word ≢ codes "following"))
 
 -- a word that spells no bound
 abbrev pub IsNoBound : List ℕ → Type 0
-IsNoBound word = (word ≢ codes "unbounded-preceding") × (word ≢ codes "current-row") × (word ≢ codes "unbounded-following") × IsNoOffset word
+IsNoBound word = (word ≢ codes "unbounded-preceding") × (word ≢ codes "current-row") × (word ≢ codes "unbounded-following")
+    × IsNoOffset word
 
 abbrev pub exclusion_name : FrameExclusion → List ℕ
 exclusion_name exclusions.CurrentRow = codes "current-row"
@@ -123,8 +125,10 @@ IsFrameFault words faults.Partition = ⊥
 IsFrameFault words faults.Peers = ⊥
 IsFrameFault words faults.Mode = IsNoMode (word_at words 3)
 IsFrameFault words faults.Start = (mode : FrameMode) × (word_at words 3 ≡ mode_name mode) × IsNoBound (word_at words 4)
-IsFrameFault words faults.End = (mode : FrameMode) × (start : FrameBound) × (word_at words 3 ≡ mode_name mode) × IsBound (word_at words 4) start × IsNoBound (word_at words 5)
-IsFrameFault words faults.Exclusion = (mode : FrameMode) × (start : FrameBound) × (end : FrameBound) × (word_at words 3 ≡ mode_name mode) × IsBound (word_at words 4) start × IsBound (word_at words 5) end × IsNoExclusion (word_at words 6)
+IsFrameFault words faults.End = (mode : FrameMode) × (start : FrameBound) × (word_at words 3 ≡ mode_name mode)
+    × IsBound (word_at words 4) start × IsNoBound (word_at words 5)
+IsFrameFault words faults.Exclusion = (mode : FrameMode) × (start : FrameBound) × (end : FrameBound)
+    × (word_at words 3 ≡ mode_name mode) × IsBound (word_at words 4) start × IsBound (word_at words 5) end × IsNoExclusion (word_at words 6)
 IsFrameFault words faults.Aggregate = ⊥
 IsFrameFault words faults.Behind = ⊥
 
@@ -138,4 +142,5 @@ IsFault words faults.Start = HasNumbers words × IsFrameFault words faults.Start
 IsFault words faults.End = HasNumbers words × IsFrameFault words faults.End
 IsFault words faults.Exclusion = HasNumbers words × IsFrameFault words faults.Exclusion
 IsFault words faults.Aggregate = HasNumbers words × (frame : Frame) × SpellsFrame words frame × IsNoAggregate (word_at words 7)
-IsFault words faults.Behind = HasNumbers words × (frame : Frame) × (aggregate : Aggregate) × SpellsFrame words frame × (word_at words 7 ≡ aggregate_name aggregate) × (8 < length words)
+IsFault words faults.Behind = HasNumbers words × (frame : Frame) × (aggregate : Aggregate) × SpellsFrame words frame
+    × (word_at words 7 ≡ aggregate_name aggregate) × (8 < length words)

@@ -59,7 +59,8 @@ fn folds<F: Fold>(
     requires rows { length partitions.now.keys ≡ F.rows fold.now }
     requires few { F.rows fold.now < 2 ^ 31 }
     requires fresh { F.count meter.old ≡ 0 }
-    ensures folds { IfOk result (λ folds. folds.items ≡ folds_of_partitions (F.neutral fold.now) (F.joined fold.now) (F.part_at fold.now) partitions.now) }
+    ensures folds { IfOk result (λ folds. folds.items ≡ folds_of_partitions (F.neutral fold.now) (F.joined fold.now)
+        (F.part_at fold.now) partitions.now) }
     ensures joins { F.count meter.new ≤ most_by_queues partitions.now.frame.exclusion (F.rows fold.now) }
 {
     let mut folds = Vec::with_capacity(alloc, rows)?;

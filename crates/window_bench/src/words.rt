@@ -1,6 +1,8 @@
 //! What the words of a line spell.
 ghost use Rattle.std.specs.Prelude.{◌≡◌, ◌<◌, IfOk, IfErr, MatchOption};
-ghost use Rattle.window_bench.specs.Words.{word_at, number_of, IsPositive, IsCount, mode_name, IsNoMode, IsBound, IsNoBound, IsNoOffset, exclusion_name, IsNoExclusion, aggregate_name, IsNoAggregate, SpellsFrame, SpellsCase, IsFrameFault, IsFault};
+ghost use Rattle.window_bench.specs.Words.{word_at, number_of, IsPositive, IsCount, mode_name, IsNoMode, IsBound};
+ghost use Rattle.window_bench.specs.Words.{IsNoBound, IsNoOffset, exclusion_name, IsNoExclusion, aggregate_name};
+ghost use Rattle.window_bench.specs.Words.{IsNoAggregate, SpellsFrame, SpellsCase, IsFrameFault, IsFault};
 
 use crate::case::{Aggregate, Case, CaseFault};
 use wframe::{Frame, FrameBound, FrameExclusion, FrameMode};

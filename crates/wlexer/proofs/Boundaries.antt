@@ -30,17 +30,21 @@ before_ascii text n le next = (le, λ lt high. absurd (let h = next lt in omega 
 
 pub stretch_boundary : (stretch : Stretch) (text : List ℕ) → IsUtf8 text → IsCharBoundary text (prefix_len (continues stretch) text)
 stretch_boundary stretches.Word text u =
-    behind_ascii text _ u (prefix_len-le-length (continues stretches.Word) text) (λ k lt. word_ascii _ (prefix_len_passes (continues stretches.Word) text k 0 lt))
+    behind_ascii text _ u (prefix_len-le-length (continues stretches.Word) text)
+    (λ k lt. word_ascii _ (prefix_len_passes (continues stretches.Word) text k 0 lt))
 stretch_boundary stretches.Digits text u =
-    behind_ascii text _ u (prefix_len-le-length (continues stretches.Digits) text) (λ k lt. digit_ascii _ (prefix_len_passes (continues stretches.Digits) text k 0 lt))
+    behind_ascii text _ u (prefix_len-le-length (continues stretches.Digits) text)
+    (λ k lt. digit_ascii _ (prefix_len_passes (continues stretches.Digits) text k 0 lt))
 stretch_boundary stretches.Comment text u =
-    before_ascii text _ (prefix_len-le-length (continues stretches.Comment) text) (λ lt. line_end_ascii _ (prefix_len_stops (continues stretches.Comment) text 0 lt))
+    before_ascii text _ (prefix_len-le-length (continues stretches.Comment) text)
+    (λ lt. line_end_ascii _ (prefix_len_stops (continues stretches.Comment) text 0 lt))
 
 is_small : (b : ℕ) → is_ascii b ≡ true → b < 128
 is_small b h = grind (arith, nat_tests)
 
 -- behind the first byte, where it is ASCII
-pub behind_first : (text bytes : List ℕ) (first : ℕ) → IsUtf8 text → bytes ≡ text → (0 < length bytes) × ((d : ℕ) → first ≡ get_or bytes 0 d) → is_ascii first ≡ true → IsCharBoundary text 1
+pub behind_first : (text bytes : List ℕ) (first : ℕ) → IsUtf8 text → bytes ≡ text → (0 < length bytes)
+    × ((d : ℕ) → first ≡ get_or bytes 0 d) → is_ascii first ≡ true → IsCharBoundary text 1
 behind_first text bytes first u e h small =
     let some : 0 < length text = subst (λ (z : List ℕ). 0 < length z) e h.0 in
     let at : first ≡ get_or text 0 0 = h.1 0 ∙ ap (λ (z : List ℕ). get_or z 0 0) e in

@@ -73,13 +73,15 @@ placed_same p q a b c = λ i. record { from = a i; to = b i; meaning = c i }
 pub nothing_stuck : IsStuck []
 nothing_stuck token after x = elim x [ ]
 
-lexes_same : {size : ℕ} {text r s : List ℕ} {xs ys : List PlacedToken} → LexesFirst size text xs r → LexesFirst size text ys s → IsStuck r → IsStuck s → (xs ≡ ys) × (r ≡ s)
+lexes_same : {size : ℕ} {text r s : List ℕ} {xs ys : List PlacedToken} → LexesFirst size text xs r
+    → LexesFirst size text ys s → IsStuck r → IsStuck s → (xs ≡ ys) × (r ≡ s)
 lexes_same (no_token a) (no_token b) h k = (refl, separates_same a b)
 lexes_same (no_token a) (next_token {after = after} {token = t} b x f g ys) h k =
     absurd (h t.meaning after (subst (λ (z : List ℕ). Spelled z t.meaning after) (sym (separates_same a b)) x))
 lexes_same (next_token {after = after} {token = t} b x f g ys) (no_token a) h k =
     absurd (k t.meaning after (subst (λ (z : List ℕ). Spelled z t.meaning after) (separates_same b a) x))
-lexes_same {size = size} {s = s} (next_token {here = here} {after = after} {token = t} {tokens = ts} a x f g xs) (next_token {here = here'} {after = after'} {token = t'} {tokens = ts'} b y f' g' ys) h k =
+lexes_same {size = size} {s = s} (next_token {here = here} {after = after} {token = t} {tokens = ts} a x f g xs)
+    (next_token {here = here'} {after = after'} {token = t'} {tokens = ts'} b y f' g' ys) h k =
     let e = separates_same a b in
     let p = spelled_same x (subst (λ (z : List ℕ). Spelled z t'.meaning after') (sym e) y) in
     let more = lexes_same xs (subst (λ (z : List ℕ). LexesFirst size z ts' s) (sym p.1) ys) h k in

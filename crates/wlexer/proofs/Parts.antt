@@ -7,7 +7,8 @@ use Rattle.wlexer.specs.declared.keyword.Keyword.{Keyword}
 use Rattle.wlexer.specs.declared.token.Symbol.{Symbol}
 use Rattle.wlexer.specs.Bytes.{apostrophe, double_quote, kind_of, spoils_number}
 use Rattle.wlexer.specs.Keywords.{keyword_of}
-use Rattle.wlexer.specs.Spelling.{front, behind, StopsBefore, Quoted, number_of, Spelled, keyword_word, name_word, quoted_name, quoted_text, digits, symbol_pair, single_symbol}
+use Rattle.wlexer.specs.Spelling.{front, behind, StopsBefore, Quoted, number_of, Spelled, keyword_word, name_word}
+use Rattle.wlexer.specs.Spelling.{quoted_name, quoted_text, digits, symbol_pair, single_symbol}
 use Rattle.wlexer.specs.Symbols.{symbol_of_one, symbol_of_two, IsNoPair}
 use Rattle.wlexer.specs.Token.{TokenMeaning, KeywordToken, NameToken, NumberToken, TextToken, SymbolToken}
 
@@ -22,7 +23,9 @@ pub record IsShortName (word : List ℕ) (token : TokenMeaning) : Type 0 where
   pub short : length word ≤ 63
   pub is : token ≡ NameToken (map to_ascii_lowercase word)
 
-pub word_parts : {b : ℕ} {text rest : List ℕ} {token : TokenMeaning} → kind_of b ≡ kinds.Word → Spelled (b ∷ text) token rest → (rest ≡ behind stretches.Word (b ∷ text)) × (IsKeyword (front stretches.Word (b ∷ text)) token ⊎ IsShortName (front stretches.Word (b ∷ text)) token)
+pub word_parts : {b : ℕ} {text rest : List ℕ} {token : TokenMeaning} → kind_of b ≡ kinds.Word
+    → Spelled (b ∷ text) token rest → (rest ≡ behind stretches.Word (b ∷ text))
+    × (IsKeyword (front stretches.Word (b ∷ text)) token ⊎ IsShortName (front stretches.Word (b ∷ text)) token)
 word_parts h (keyword_word {k = k} g e) = (refl, inl (record { keyword = k; spells = e; is = refl }))
 word_parts h (name_word g e l) = (refl, inr (record { spells = e; short = l; is = refl }))
 word_parts h (quoted_name g q l m) = absurd (cc)
@@ -39,7 +42,8 @@ pub record IsQuotedName (text rest : List ℕ) (token : TokenMeaning) : Type 0 w
   pub short : length name ≤ 63
   pub is : token ≡ NameToken name
 
-pub quoted_name_parts : {b : ℕ} {text rest : List ℕ} {token : TokenMeaning} → kind_of b ≡ kinds.QuotedName → Spelled (b ∷ text) token rest → IsQuotedName text rest token
+pub quoted_name_parts : {b : ℕ} {text rest : List ℕ} {token : TokenMeaning} → kind_of b ≡ kinds.QuotedName
+    → Spelled (b ∷ text) token rest → IsQuotedName text rest token
 quoted_name_parts h (keyword_word g e) = absurd (cc)
 quoted_name_parts h (name_word g e l) = absurd (cc)
 quoted_name_parts h (quoted_name {name = n} g q l m) = record { name = n; quoted = q; some = l; short = m; is = refl }
@@ -53,7 +57,8 @@ pub record IsQuotedText (text rest : List ℕ) (token : TokenMeaning) : Type 0 w
   pub quoted : Quoted apostrophe text body rest
   pub is : token ≡ TextToken body
 
-pub quoted_text_parts : {b : ℕ} {text rest : List ℕ} {token : TokenMeaning} → kind_of b ≡ kinds.Text → Spelled (b ∷ text) token rest → IsQuotedText text rest token
+pub quoted_text_parts : {b : ℕ} {text rest : List ℕ} {token : TokenMeaning} → kind_of b ≡ kinds.Text
+    → Spelled (b ∷ text) token rest → IsQuotedText text rest token
 quoted_text_parts h (keyword_word g e) = absurd (cc)
 quoted_text_parts h (name_word g e l) = absurd (cc)
 quoted_text_parts h (quoted_name g q l m) = absurd (cc)
@@ -69,7 +74,8 @@ pub record IsNumber (text rest : List ℕ) (token : TokenMeaning) : Type 0 where
   pub is : token ≡ NumberToken (number_of (front stretches.Digits text))
   pub ends : rest ≡ behind stretches.Digits text
 
-pub digits_parts : {b : ℕ} {text rest : List ℕ} {token : TokenMeaning} → kind_of b ≡ kinds.Number → Spelled (b ∷ text) token rest → IsNumber (b ∷ text) rest token
+pub digits_parts : {b : ℕ} {text rest : List ℕ} {token : TokenMeaning} → kind_of b ≡ kinds.Number
+    → Spelled (b ∷ text) token rest → IsNumber (b ∷ text) rest token
 digits_parts h (keyword_word g e) = absurd (cc)
 digits_parts h (name_word g e l) = absurd (cc)
 digits_parts h (quoted_name g q l m) = absurd (cc)
@@ -92,7 +98,8 @@ pub record IsSingle (a : ℕ) (text rest : List ℕ) (token : TokenMeaning) : Ty
   pub is : token ≡ SymbolToken symbol
   pub ends : text ≡ rest
 
-pub symbol_parts : {a : ℕ} {text rest : List ℕ} {token : TokenMeaning} → kind_of a ≡ kinds.Symbol → Spelled (a ∷ text) token rest → IsPair a text rest token ⊎ IsSingle a text rest token
+pub symbol_parts : {a : ℕ} {text rest : List ℕ} {token : TokenMeaning} → kind_of a ≡ kinds.Symbol
+    → Spelled (a ∷ text) token rest → IsPair a text rest token ⊎ IsSingle a text rest token
 symbol_parts h (keyword_word g e) = absurd (cc)
 symbol_parts h (name_word g e l) = absurd (cc)
 symbol_parts h (quoted_name g q l m) = absurd (cc)

@@ -1,5 +1,6 @@
 -- What stands in quotes can be read in one way only.
-use Rattle.std.proofs.Common.{◌≡◌, ℕ, suc, ◌<◌, List, [], ◌∷◌, ◌++◌, length, get_or, Bool, true, false, refl, sym, ap, subst, ◌∙◌, ◌⊎◌, inl, inr, ⊎_elim, nat_eq, if◌then◌else◌, append_assoc, arith}
+use Rattle.std.proofs.Common.{◌≡◌, ℕ, suc, ◌<◌, List, [], ◌∷◌, ◌++◌, length, get_or, Bool, true, false, refl, sym}
+use Rattle.std.proofs.Common.{ap, subst, ◌∙◌, ◌⊎◌, inl, inr, ⊎_elim, nat_eq, if◌then◌else◌, append_assoc, arith}
 use Rattle.std.proofs.lemmas.Bool.{eqb-true}
 use Rattle.std.proofs.lemmas.Bool.Decides.{eqb_tells}
 use Rattle.wlexer.specs.Spelling.{StopsBefore, with_quotes_doubled, Quoted}
@@ -25,25 +26,32 @@ by_cases true = inl refl
 by_cases false = inr refl
 
 -- one step of the doubling
-pub doubles_quote : (quote b : ℕ) (body : List ℕ) → nat_eq b quote ≡ true → with_quotes_doubled quote (b ∷ body) ≡ quote ∷ quote ∷ with_quotes_doubled quote body
-doubles_quote quote b body h = ap (λ (t : Bool). if t then quote ∷ quote ∷ with_quotes_doubled quote body else b ∷ with_quotes_doubled quote body) h
+pub doubles_quote : (quote b : ℕ) (body : List ℕ) → nat_eq b quote ≡ true → with_quotes_doubled quote (b ∷ body)
+    ≡ quote ∷ quote ∷ with_quotes_doubled quote body
+doubles_quote quote b body h = ap (λ (t : Bool). if t then quote ∷ quote ∷ with_quotes_doubled quote body else b
+    ∷ with_quotes_doubled quote body) h
 
-pub keeps_other : (quote b : ℕ) (body : List ℕ) → nat_eq b quote ≡ false → with_quotes_doubled quote (b ∷ body) ≡ b ∷ with_quotes_doubled quote body
-keeps_other quote b body h = ap (λ (t : Bool). if t then quote ∷ quote ∷ with_quotes_doubled quote body else b ∷ with_quotes_doubled quote body) h
+pub keeps_other : (quote b : ℕ) (body : List ℕ) → nat_eq b quote ≡ false → with_quotes_doubled quote (b ∷ body)
+    ≡ b ∷ with_quotes_doubled quote body
+keeps_other quote b body h = ap (λ (t : Bool). if t then quote ∷ quote ∷ with_quotes_doubled quote body else b
+    ∷ with_quotes_doubled quote body) h
 
 other_than : (quote b : ℕ) → nat_eq b quote ≡ false → quote ≡ b → ⊥
 other_than quote b h e = false_true (sym h ∙ ap (λ (x : ℕ). nat_eq x quote) (sym e) ∙ itself quote)
 
 -- a quote and what follows it begin with no other byte, and with two quotes only if another one follows
-closes_at_once : (quote c : ℕ) (y r s : List ℕ) → quote ∷ r ≡ with_quotes_doubled quote (c ∷ y) ++ s → StopsBefore (λ b. nat_eq b quote) r → ⊥
+closes_at_once : (quote c : ℕ) (y r s : List ℕ) → quote ∷ r ≡ with_quotes_doubled quote (c ∷ y) ++ s
+    → StopsBefore (λ b. nat_eq b quote) r → ⊥
 closes_at_once quote c y r s e h =
     ⊎_elim
-    (λ t. let f = same_tail (e ∙ ap (λ (z : List ℕ). z ++ s) (doubles_quote quote c y t)) in false_true (sym (subst (StopsBefore (λ b. nat_eq b quote)) f h) ∙ itself quote))
+    (λ t. let f = same_tail (e ∙ ap (λ (z : List ℕ). z ++ s) (doubles_quote quote c y t)) in
+    false_true (sym (subst (StopsBefore (λ b. nat_eq b quote)) f h) ∙ itself quote))
     (λ t. other_than quote c t (same_head (e ∙ ap (λ (z : List ℕ). z ++ s) (keeps_other quote c y t))))
     (by_cases (nat_eq c quote))
 
 -- two doublings that begin alike go on alike
-peel : (quote c d : ℕ) (x y r s : List ℕ) → with_quotes_doubled quote (c ∷ x) ++ r ≡ with_quotes_doubled quote (d ∷ y) ++ s → (c ≡ d) × (with_quotes_doubled quote x ++ r ≡ with_quotes_doubled quote y ++ s)
+peel : (quote c d : ℕ) (x y r s : List ℕ) → with_quotes_doubled quote (c ∷ x) ++ r ≡ with_quotes_doubled quote (d ∷ y) ++ s
+    → (c ≡ d) × (with_quotes_doubled quote x ++ r ≡ with_quotes_doubled quote y ++ s)
 peel quote c d x y r s e =
     ⊎_elim
     (λ p. ⊎_elim
@@ -68,7 +76,8 @@ peel quote c d x y r s e =
     right_other : nat_eq d quote ≡ false → with_quotes_doubled quote (d ∷ y) ++ s ≡ d ∷ with_quotes_doubled quote y ++ s
     right_other q = ap (λ (z : List ℕ). z ++ s) (keeps_other quote d y q)
 
-one_reading : (quote : ℕ) (x y r s : List ℕ) → with_quotes_doubled quote x ++ (quote ∷ r) ≡ with_quotes_doubled quote y ++ (quote ∷ s) → StopsBefore (λ b. nat_eq b quote) r → StopsBefore (λ b. nat_eq b quote) s → (x ≡ y) × (r ≡ s)
+one_reading : (quote : ℕ) (x y r s : List ℕ) → with_quotes_doubled quote x ++ (quote ∷ r) ≡ with_quotes_doubled quote y
+    ++ (quote ∷ s) → StopsBefore (λ b. nat_eq b quote) r → StopsBefore (λ b. nat_eq b quote) s → (x ≡ y) × (r ≡ s)
 one_reading quote [] [] r s e h k = (refl, same_tail e)
 one_reading quote [] (d ∷ y) r s e h k = absurd (closes_at_once quote d y r (quote ∷ s) e h)
 one_reading quote (c ∷ x) [] r s e h k = absurd (closes_at_once quote c x s (quote ∷ r) (sym e) k)
@@ -81,12 +90,15 @@ one_reading quote (c ∷ x) (d ∷ y) r s e h k =
 pub quoted_same : {quote : ℕ} {text x y r s : List ℕ} → Quoted quote text x r → Quoted quote text y s → (x ≡ y) × (r ≡ s)
 quoted_same {quote = quote} {x = x} {y = y} {r = r} {s = s} a b = one_reading quote x y r s (sym a.spelled ∙ b.spelled) a.closed b.closed
 
-doubled-append : (quote : ℕ) (xs ys : List ℕ) → with_quotes_doubled quote (xs ++ ys) ≡ with_quotes_doubled quote xs ++ with_quotes_doubled quote ys
+doubled-append : (quote : ℕ) (xs ys : List ℕ) → with_quotes_doubled quote (xs ++ ys) ≡ with_quotes_doubled quote xs
+    ++ with_quotes_doubled quote ys
 doubled-append quote [] ys = refl
 doubled-append quote (x ∷ xs) ys =
     ⊎_elim
-    (λ t. doubles_quote quote x (xs ++ ys) t ∙ ap (λ (z : List ℕ). quote ∷ quote ∷ z) (doubled-append quote xs ys) ∙ ap (λ (z : List ℕ). z ++ with_quotes_doubled quote ys) (sym (doubles_quote quote x xs t)))
-    (λ t. keeps_other quote x (xs ++ ys) t ∙ ap (λ (z : List ℕ). x ∷ z) (doubled-append quote xs ys) ∙ ap (λ (z : List ℕ). z ++ with_quotes_doubled quote ys) (sym (keeps_other quote x xs t)))
+    (λ t. doubles_quote quote x (xs ++ ys) t ∙ ap (λ (z : List ℕ). quote ∷ quote ∷ z) (doubled-append quote xs ys)
+    ∙ ap (λ (z : List ℕ). z ++ with_quotes_doubled quote ys) (sym (doubles_quote quote x xs t)))
+    (λ t. keeps_other quote x (xs ++ ys) t ∙ ap (λ (z : List ℕ). x ∷ z) (doubled-append quote xs ys)
+    ∙ ap (λ (z : List ℕ). z ++ with_quotes_doubled quote ys) (sym (keeps_other quote x xs t)))
     (by_cases (nat_eq x quote))
 
 -- no byte is the quote
@@ -99,10 +111,12 @@ differs quote b apart = ⊎_elim (λ h. absurd (apart h.1)) (λ h. h.0) (eqb_tel
 doubled-plain : (quote : ℕ) (xs : List ℕ) → HasNo quote xs → with_quotes_doubled quote xs ≡ xs
 doubled-plain quote [] none = refl
 doubled-plain quote (x ∷ xs) none =
-    keeps_other quote x xs (differs quote x (none 0 (omega arith))) ∙ ap (λ (z : List ℕ). x ∷ z) (doubled-plain quote xs (λ i lt e. none (suc i) (omega arith) e))
+    keeps_other quote x xs (differs quote x (none 0 (omega arith))) ∙ ap (λ (z : List ℕ). x ∷ z)
+    (doubled-plain quote xs (λ i lt e. none (suc i) (omega arith) e))
 
 -- a piece without quotes is spelled as it is
-pub more_spelled : (quote : ℕ) (text body left piece rest : List ℕ) → text ≡ with_quotes_doubled quote body ++ left → left ≡ piece ++ rest → HasNo quote piece → text ≡ with_quotes_doubled quote (body ++ piece) ++ rest
+pub more_spelled : (quote : ℕ) (text body left piece rest : List ℕ) → text ≡ with_quotes_doubled quote body ++ left
+    → left ≡ piece ++ rest → HasNo quote piece → text ≡ with_quotes_doubled quote (body ++ piece) ++ rest
 more_spelled quote text body left piece rest so_far p none =
     so_far ∙ ap (λ (z : List ℕ). with_quotes_doubled quote body ++ z) p
     ∙ sym (append_assoc (with_quotes_doubled quote body) piece rest)
@@ -110,15 +124,20 @@ more_spelled quote text body left piece rest so_far p none =
     ∙ ap (λ (z : List ℕ). z ++ rest) (sym (doubled-append quote body piece))
 
 -- the quote that closes
-pub closes : (quote : ℕ) (text body left piece after whole : List ℕ) → text ≡ with_quotes_doubled quote body ++ left → left ≡ piece ++ (quote ∷ after) → HasNo quote piece → StopsBefore (λ b. nat_eq b quote) after → whole ≡ body ++ piece → Quoted quote text whole after
+pub closes : (quote : ℕ) (text body left piece after whole : List ℕ) → text ≡ with_quotes_doubled quote body ++ left
+    → left ≡ piece ++ (quote ∷ after) → HasNo quote piece → StopsBefore (λ b. nat_eq b quote) after → whole ≡ body ++ piece
+    → Quoted quote text whole after
 closes quote text body left piece after whole so_far p none stops e =
     record {
-      spelled = more_spelled quote text body left piece (quote ∷ after) so_far p none ∙ ap (λ (z : List ℕ). with_quotes_doubled quote z ++ (quote ∷ after)) (sym e);
+      spelled = more_spelled quote text body left piece (quote ∷ after) so_far p none
+          ∙ ap (λ (z : List ℕ). with_quotes_doubled quote z ++ (quote ∷ after)) (sym e);
       closed = stops;
     }
 
 -- a quote that is written twice
-pub goes_on : (quote : ℕ) (text body left piece after further whole : List ℕ) → text ≡ with_quotes_doubled quote body ++ left → left ≡ piece ++ (quote ∷ after) → HasNo quote piece → after ≡ quote ∷ further → whole ≡ (body ++ piece) ++ (quote ∷ []) → text ≡ with_quotes_doubled quote whole ++ further
+pub goes_on : (quote : ℕ) (text body left piece after further whole : List ℕ)
+    → text ≡ with_quotes_doubled quote body ++ left → left ≡ piece ++ (quote ∷ after) → HasNo quote piece
+    → after ≡ quote ∷ further → whole ≡ (body ++ piece) ++ (quote ∷ []) → text ≡ with_quotes_doubled quote whole ++ further
 goes_on quote text body left piece after further whole so_far p none q e =
     more_spelled quote text body left piece (quote ∷ after) so_far p none
     ∙ ap (λ (z : List ℕ). with_quotes_doubled quote (body ++ piece) ++ (quote ∷ z)) q
@@ -131,13 +150,16 @@ holds_quote : (quote : ℕ) (xs rest : List ℕ) → HasNo quote (xs ++ (quote �
 holds_quote quote [] rest none = none 0 (omega arith) refl
 holds_quote quote (x ∷ xs) rest none = holds_quote quote xs rest (λ i lt e. none (suc i) (omega arith) e)
 
-without_end : (quote : ℕ) (body left name rest : List ℕ) → with_quotes_doubled quote body ++ left ≡ with_quotes_doubled quote name ++ (quote ∷ rest) → StopsBefore (λ b. nat_eq b quote) rest → HasNo quote left → ⊥
+without_end : (quote : ℕ) (body left name rest : List ℕ) → with_quotes_doubled quote body ++ left
+    ≡ with_quotes_doubled quote name ++ (quote ∷ rest) → StopsBefore (λ b. nat_eq b quote) rest → HasNo quote left → ⊥
 without_end quote [] left name rest e stops none = holds_quote quote (with_quotes_doubled quote name) rest (subst (HasNo quote) e none)
 without_end quote (c ∷ body) left [] rest e stops none = closes_at_once quote c body rest left (sym e) stops
-without_end quote (c ∷ body) left (d ∷ name) rest e stops none = without_end quote body left name rest (peel quote c d body name left (quote ∷ rest) e).1 stops none
+without_end quote (c ∷ body) left (d ∷ name) rest e stops none =
+    without_end quote body left name rest (peel quote c d body name left (quote ∷ rest) e).1 stops none
 
 -- no quote is left that could close
-pub stays_open : (quote : ℕ) (text body left : List ℕ) → text ≡ with_quotes_doubled quote body ++ left → HasNo quote left → (name rest : List ℕ) → Quoted quote text name rest → ⊥
+pub stays_open : (quote : ℕ) (text body left : List ℕ) → text ≡ with_quotes_doubled quote body ++ left → HasNo quote left
+    → (name rest : List ℕ) → Quoted quote text name rest → ⊥
 stays_open quote text body left so_far none name rest q = without_end quote body left name rest (sym so_far ∙ q.spelled) q.closed none
 
 -- a text that begins with no quote

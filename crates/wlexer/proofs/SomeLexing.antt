@@ -1,5 +1,6 @@
 -- Each text has tokens, or a first fault.
-use Rattle.std.proofs.Common.{◌≡◌, ℕ, zero, suc, ◌-◌, ◌<◌, ◌≤◌, ◌^◌, List, [], ◌∷◌, ◌++◌, length, get_or, Bool, true, false, Option, Some, None, refl, sym, ap, subst, ◌∙◌, ◌⊎◌, inl, inr, ⊎_elim, nat_eq, ◌&&◌, arith}
+use Rattle.std.proofs.Common.{◌≡◌, ℕ, zero, suc, ◌-◌, ◌<◌, ◌≤◌, ◌^◌, List, [], ◌∷◌, ◌++◌, length, get_or, Bool, true, false}
+use Rattle.std.proofs.Common.{Option, Some, None, refl, sym, ap, subst, ◌∙◌, ◌⊎◌, inl, inr, ⊎_elim, nat_eq, ◌&&◌, arith}
 use Rattle.std.proofs.lemmas.Bool.{eqb-true, cases_lt}
 use Rattle.wlexer.specs.declared.bytes.Stretch.TheVariants as stretches
 use Rattle.wlexer.specs.declared.bytes.TokenKind.{TokenKind}
@@ -8,7 +9,8 @@ use Rattle.wlexer.specs.Bytes.{dash, apostrophe, double_quote, is_blank, kind_of
 use Rattle.wlexer.specs.Keywords.{keyword_of}
 use Rattle.wlexer.specs.Lexing.{Separates, nothing, blank, LexesFirst, no_token, next_token, Lexes, HasFaultAt}
 use Rattle.wlexer.specs.Reading.{IsOpen}
-use Rattle.wlexer.specs.Spelling.{IsStuck, front, behind, StopsBefore, Quoted, number_of, with_quotes_doubled, Spelled, keyword_word, name_word, quoted_name, quoted_text, digits, symbol_pair, single_symbol}
+use Rattle.wlexer.specs.Spelling.{IsStuck, front, behind, StopsBefore, Quoted, number_of, with_quotes_doubled, Spelled, keyword_word}
+use Rattle.wlexer.specs.Spelling.{name_word, quoted_name, quoted_text, digits, symbol_pair, single_symbol}
 use Rattle.wlexer.specs.Symbols.{symbol_of_one, symbol_of_two, IsNoPair}
 use Rattle.wlexer.specs.Token.{TokenMeaning, PlacedToken}
 use Rattle.wlexer.proofs.OneLexing.{none_some}
@@ -58,22 +60,36 @@ other_byte quote a h i lt e = false_true (sym h ∙ ap (λ (z : ℕ). nat_eq z q
 no_byte : (quote : ℕ) → HasNo quote []
 no_byte quote i lt e = absurd (omega arith)
 
-quoted_or_open : (quote n : ℕ) (text body left : List ℕ) → length left ≤ n → text ≡ with_quotes_doubled quote body ++ left → IsQuoted quote text ⊎ IsOpen quote text
+quoted_or_open : (quote n : ℕ) (text body left : List ℕ) → length left ≤ n → text ≡ with_quotes_doubled quote body ++ left
+    → IsQuoted quote text ⊎ IsOpen quote text
 quoted_or_open quote n text body [] le so_far = inr (stays_open quote text body [] so_far (no_byte quote))
 quoted_or_open quote zero text body (a ∷ left) le so_far = absurd (omega arith)
 quoted_or_open quote (suc n) text body (a ∷ []) le so_far =
     ⊎_elim
-    (λ h. inl (record { body = body ++ []; rest = []; quoted = closes quote text body (a ∷ []) [] [] (body ++ []) so_far (ap (λ (z : ℕ). z ∷ []) (eqb-true a quote h)) (no_byte quote) tt refl }))
+    (λ h. inl (record {
+      body = body ++ [];
+      rest = [];
+      quoted = closes quote text body (a ∷ []) [] [] (body ++ []) so_far
+          (ap (λ (z : ℕ). z ∷ []) (eqb-true a quote h)) (no_byte quote) tt refl;
+    }))
     (λ h. inr (stays_open quote text body (a ∷ []) so_far (other_byte quote a h)))
     (by_cases (nat_eq a quote))
 quoted_or_open quote (suc n) text body (a ∷ b ∷ left) le so_far =
     ⊎_elim
     (λ h. ⊎_elim
     (λ k. quoted_or_open quote n text ((body ++ []) ++ (quote ∷ [])) left (omega arith)
-    (goes_on quote text body (a ∷ b ∷ left) [] (b ∷ left) left _ so_far (ap (λ (z : ℕ). z ∷ b ∷ left) (eqb-true a quote h)) (no_byte quote) (ap (λ (z : ℕ). z ∷ left) (eqb-true b quote k)) refl))
-    (λ k. inl (record { body = body ++ []; rest = b ∷ left; quoted = closes quote text body (a ∷ b ∷ left) [] (b ∷ left) (body ++ []) so_far (ap (λ (z : ℕ). z ∷ b ∷ left) (eqb-true a quote h)) (no_byte quote) k refl }))
+    (goes_on quote text body (a ∷ b ∷ left) [] (b ∷ left) left _ so_far (ap (λ (z : ℕ). z ∷ b ∷ left) (eqb-true a quote h))
+    (no_byte quote) (ap (λ (z : ℕ). z ∷ left) (eqb-true b quote k)) refl))
+    (λ k. inl (record {
+      body = body ++ [];
+      rest = b ∷ left;
+      quoted =
+          closes quote text body (a ∷ b ∷ left) [] (b ∷ left) (body ++ []) so_far
+          (ap (λ (z : ℕ). z ∷ b ∷ left) (eqb-true a quote h)) (no_byte quote) k refl;
+    }))
     (by_cases (nat_eq b quote)))
-    (λ h. quoted_or_open quote n text (body ++ (a ∷ [])) (b ∷ left) (omega arith) (more_spelled quote text body (a ∷ b ∷ left) (a ∷ []) (b ∷ left) so_far refl (other_byte quote a h)))
+    (λ h. quoted_or_open quote n text (body ++ (a ∷ [])) (b ∷ left) (omega arith)
+    (more_spelled quote text body (a ∷ b ∷ left) (a ∷ []) (b ∷ left) so_far refl (other_byte quote a h)))
     (by_cases (nat_eq a quote))
 
 -- a token that stands at the front
@@ -114,10 +130,12 @@ name_or_stuck : (b : ℕ) (text : List ℕ) → kind_of b ≡ kinds.QuotedName �
 name_or_stuck b text h =
     ⊎_elim
     (λ q. ⊎_elim
-    (λ long. inr (λ token rest x. let p = quoted_name_parts h x in let e = ap length (quoted_same q.quoted p.quoted).0 in let l = p.short in omega arith))
+    (λ long. inr (λ token rest x. let p = quoted_name_parts h x in let e = ap length (quoted_same q.quoted p.quoted).0 in
+    let l = p.short in omega arith))
     (λ short. ⊎_elim
     (λ some. inl (record { token = _; rest = _; spelled = quoted_name h q.quoted some short }))
-    (λ none. inr (λ token rest x. let p = quoted_name_parts h x in let e = ap length (quoted_same q.quoted p.quoted).0 in let l = p.some in omega arith))
+    (λ none. inr (λ token rest x. let p = quoted_name_parts h x in let e = ap length (quoted_same q.quoted p.quoted).0 in
+    let l = p.some in omega arith))
     (cases_lt 0 (length q.body)))
     (cases_lt 63 (length q.body)))
     (λ open_quote. inr (λ token rest x. let p = quoted_name_parts h x in open_quote p.name rest p.quoted))
@@ -160,7 +178,8 @@ record GoesAsFar (size : ℕ) (text : List ℕ) : Type 0 where
   pub within : length rest ≤ length text
   pub ends : (rest ≡ []) ⊎ ((0 < length rest) × IsStuck rest)
 
-one_token : (size : ℕ) (text here : List ℕ) → Separates text here → length text ≤ size → HasToken here → ((after : List ℕ) → length after < length text → GoesAsFar size after) → GoesAsFar size text
+one_token : (size : ℕ) (text here : List ℕ) → Separates text here → length text ≤ size → HasToken here
+    → ((after : List ℕ) → length after < length text → GoesAsFar size after) → GoesAsFar size text
 one_token size text here x le t go =
     let shorter = separates_shorter x in
     let less = spelled_shorter t.spelled in
@@ -174,7 +193,8 @@ one_token size text here x le t go =
       ends = more.ends;
     }
 
-far_from : (size : ℕ) (text here : List ℕ) → length text ≤ size → Separates text here → ((after : List ℕ) → length after < length text → GoesAsFar size after) → GoesAsFar size text
+far_from : (size : ℕ) (text here : List ℕ) → length text ≤ size → Separates text here
+    → ((after : List ℕ) → length after < length text → GoesAsFar size after) → GoesAsFar size text
 far_from size text [] fits x go = record { tokens = []; rest = []; lexed = no_token x; within = omega arith; ends = inl refl }
 far_from size text (b ∷ here) fits x go =
     ⊎_elim
@@ -184,13 +204,26 @@ far_from size text (b ∷ here) fits x go =
 
 far : (size n : ℕ) (text : List ℕ) → length text ≤ n → length text ≤ size → GoesAsFar size text
 far size zero text le fits = let x = separated zero text le in far_from size text x.0 fits x.1 (λ after lt. absurd (omega arith))
-far size (suc n) text le fits = let x = separated (suc n) text le in far_from size text x.0 fits x.1 (λ after lt. far size n after (omega arith) (omega arith))
+far size (suc n) text le fits = let x = separated (suc n) text le in
+    far_from size text x.0 fits x.1 (λ after lt. far size n after (omega arith) (omega arith))
 
-end_or_fault : (text : List ℕ) → GoesAsFar (length text) text → ((tokens : List PlacedToken) × Lexes text tokens) ⊎ ((place : ℕ) × HasFaultAt text place)
+end_or_fault : (text : List ℕ) → GoesAsFar (length text) text → ((tokens : List PlacedToken) × Lexes text tokens)
+    ⊎ ((place : ℕ) × HasFaultAt text place)
 end_or_fault text f =
     ⊎_elim
     (λ e. inl (f.tokens, subst (λ (z : List ℕ). LexesFirst (length text) text f.tokens z) e f.lexed))
-    (λ e. let within = f.within in inr (length text - length f.rest, record { tokens = f.tokens; rest = f.rest; before = f.lexed; here = omega arith; left = e.0; stuck = e.1 }))
+    (λ e. let within = f.within in inr (
+      length text - length f.rest,
+      record {
+        tokens = f.tokens;
+        rest = f.rest;
+        before =
+            f.lexed;
+        here = omega arith;
+        left = e.0;
+        stuck = e.1;
+      },
+    ))
     f.ends
 
 pub some_lexing : (text : List ℕ) → ((tokens : List PlacedToken) × Lexes text tokens) ⊎ ((place : ℕ) × HasFaultAt text place)

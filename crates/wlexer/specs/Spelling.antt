@@ -1,5 +1,6 @@
 -- How a token is spelled at the front of a text, as long as it can be (ISO/IEC 9075-2, <token>).
-use Rattle.std.specs.Prelude.{◌≡◌, ◌==◌, ℕ, ◌+◌, ◌-◌, ◌*◌, ◌<◌, ◌≤◌, ◌^◌, List, [], ◌∷◌, ◌++◌, length, map, fold, take, drop, Bool, false, Some, None, if◌then◌else◌}
+use Rattle.std.specs.Prelude.{◌≡◌, ◌==◌, ℕ, ◌+◌, ◌-◌, ◌*◌, ◌<◌, ◌≤◌, ◌^◌, List, [], ◌∷◌, ◌++◌, length}
+use Rattle.std.specs.Prelude.{map, fold, take, drop, Bool, false, Some, None, if◌then◌else◌}
 use Rattle.std.specs.Char.{to_ascii_lowercase}
 use Rattle.std.specs.List.{prefix_len}
 use Rattle.wlexer.specs.declared.bytes.Stretch.{Stretch}
@@ -28,7 +29,8 @@ StopsBefore test (b ∷ rest) = test b ≡ false
 -- each quote written twice
 abbrev pub with_quotes_doubled : ℕ → List ℕ → List ℕ
 with_quotes_doubled quote [] = []
-with_quotes_doubled quote (b ∷ body) = if b == quote then quote ∷ quote ∷ with_quotes_doubled quote body else b ∷ with_quotes_doubled quote body
+with_quotes_doubled quote (b ∷ body) = if b == quote then quote ∷ quote ∷ with_quotes_doubled quote body else b
+    ∷ with_quotes_doubled quote body
 
 -- behind an opening quote: the body, its quotes doubled, a quote that closes it, and a rest that goes on with none
 pub record Quoted (quote : ℕ) (text body rest : List ℕ) : Type 0 where

@@ -20,7 +20,8 @@ pub const LONGEST_TEXT: usize = 65_536;
 
 /// What follows a blank or a comment, where one stands at the front.
 fn behind_separator(text: &str) -> Option<&str>
-    ensures some { IfSome result (λ x. (length x.now < length text.now) × ((rest : List ℕ) → Separates x.now rest → Separates text.now rest)) }
+    ensures some { IfSome result (λ x. (length x.now < length text.now) × ((rest : List ℕ) → Separates x.now rest
+        → Separates text.now rest)) }
     ensures none { IfNone result (IsBare text.now) }
 {
     let (first, after) = first_ascii(text)?;

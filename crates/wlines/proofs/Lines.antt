@@ -1,5 +1,6 @@
 -- What was read, and that it begins with no line or no body.
-use Rattle.std.proofs.Common.{Bool, true, false, ◌≡◌, ◌≢◌, ℕ, ◌+◌, ◌<◌, ◌≤◌, List, [], ◌∷◌, ◌++◌, length, Option, None, Some, IfSome, refl, sym, ap, ◌∙◌, subst, arith, length-append}
+use Rattle.std.proofs.Common.{Bool, true, false, ◌≡◌, ◌≢◌, ℕ, ◌+◌, ◌<◌, ◌≤◌, List, [], ◌∷◌, ◌++◌, length, Option}
+use Rattle.std.proofs.Common.{None, Some, IfSome, refl, sym, ap, ◌∙◌, subst, arith, length-append}
 use Rattle.std.specs.Io.KnownBytes.{Keeps, Consumes, IsAtEnd}
 use Rattle.std.proofs.KnownBytes.{Consumes-whole, Consumes-kept, Consumes-trans}
 use Rattle.wlines.specs.Words.{Lacks}
@@ -9,7 +10,8 @@ use Rattle.wlines.specs.Reads.{LineReads, HasNoLine, HasNoBody, SkipReads, FeedR
 use Rattle.wlines.proofs.Cuts.{no_cut}
 
 -- what holds of the bytes that were read, whatever is left, holds of all that there was
-pub front_of : (a b : Option (List ℕ)) (bs : List ℕ) (P : List ℕ → Type 0) → Consumes a b bs → ((rest : List ℕ) → P (bs ++ rest)) → IfSome a P
+pub front_of : (a b : Option (List ℕ)) (bs : List ℕ) (P : List ℕ → Type 0) → Consumes a b bs
+    → ((rest : List ℕ) → P (bs ++ rest)) → IfSome a P
 front_of None b bs P k h = tt
 front_of (Some xs) None bs P k h = absurd k
 front_of (Some xs) (Some ys) bs P k h = subst P (sym k) (h ys)
@@ -19,14 +21,17 @@ kept_none None b k = k
 kept_none (Some xs) None k = k
 kept_none (Some xs) (Some ys) k = sym k
 
-closed_line : (a b c : Option (List ℕ)) (line : List ℕ) → Consumes a b line → Keeps b c → IsAtEnd c → Lacks 10 line → line ≢ [] → IfSome a (λ xs. (xs ≢ []) × HasNoLine xs)
+closed_line : (a b c : Option (List ℕ)) (line : List ℕ) → Consumes a b line → Keeps b c → IsAtEnd c → Lacks 10 line
+    → line ≢ [] → IfSome a (λ xs. (xs ≢ []) × HasNoLine xs)
 closed_line a b c line k kept end lacks ne =
     Consumes-whole a c line (λ xs. (xs ≢ []) × HasNoLine xs) (Consumes-kept a b c line k kept) end
     (ne, λ l r lk sh e. no_cut 10 line l r lacks e)
 
-pub ended_line : (end : LineEnd) (a b c : Option (List ℕ)) (line : List ℕ) → Consumes a b line → Keeps b c → IsAtEnd c → Lacks 10 line → end ≢ ends.Whole → (end ≡ ends.Closed → line ≡ []) → (end ≡ ends.Malformed → line ≢ []) → LineReads end a c line
+pub ended_line : (end : LineEnd) (a b c : Option (List ℕ)) (line : List ℕ) → Consumes a b line → Keeps b c → IsAtEnd c
+    → Lacks 10 line → end ≢ ends.Whole → (end ≡ ends.Closed → line ≡ []) → (end ≡ ends.Malformed → line ≢ []) → LineReads end a c line
 ended_line ends.Whole a b c line k kept end lacks unfed closed malformed = absurd (unfed refl)
-ended_line ends.Closed a b c line k kept end lacks unfed closed malformed = (kept_none a c (Consumes-kept a b c [] (subst (Consumes a b) (closed refl) k) kept), end)
+ended_line ends.Closed a b c line k kept end lacks unfed closed malformed =
+    (kept_none a c (Consumes-kept a b c [] (subst (Consumes a b) (closed refl) k) kept), end)
 ended_line ends.Malformed a b c line k kept end lacks unfed closed malformed = closed_line a b c line k kept end lacks (malformed refl)
 
 -- a longer front has no such byte
@@ -43,15 +48,18 @@ push_not_empty : (xs : List ℕ) (y : ℕ) (more : List ℕ) → (xs ++ y ∷ []
 push_not_empty [] y more e = cc
 push_not_empty (x ∷ xs) y more e = cc
 
-pub full_line : (a b c : Option (List ℕ)) (line : List ℕ) (byte : ℕ) → Consumes a b line → Consumes b c (byte ∷ []) → Lacks 10 line → byte ≢ 10 → length line ≡ 200 → IfSome a (λ xs. (xs ≢ []) × HasNoLine xs)
+pub full_line : (a b c : Option (List ℕ)) (line : List ℕ) (byte : ℕ) → Consumes a b line → Consumes b c (byte ∷ [])
+    → Lacks 10 line → byte ≢ 10 → length line ≡ 200 → IfSome a (λ xs. (xs ≢ []) × HasNoLine xs)
 full_line a b c line byte k k2 lacks ne full =
     front_of a c (line ++ byte ∷ []) (λ xs. (xs ≢ []) × HasNoLine xs) (Consumes-trans a b c line (byte ∷ []) k k2)
     (λ rest. (
       push_not_empty line byte rest,
-      λ l r lk sh e. no_early_cut 10 (line ++ byte ∷ []) rest l r (Lacks-push 10 line byte lacks ne) (omega (arith, length-append line (byte ∷ []))) e,
+      λ l r lk sh e. no_early_cut 10 (line ++ byte ∷ []) rest l r (Lacks-push 10 line byte lacks ne)
+          (omega (arith, length-append line (byte ∷ []))) e,
     ))
 
-pub ended_body : (n : ℕ) (a b c : Option (List ℕ)) (taken : List ℕ) → Consumes a b taken → Keeps b c → IsAtEnd c → length taken ≤ n → IfSome a (λ xs. HasNoBody n xs)
+pub ended_body : (n : ℕ) (a b c : Option (List ℕ)) (taken : List ℕ) → Consumes a b taken → Keeps b c → IsAtEnd c
+    → length taken ≤ n → IfSome a (λ xs. HasNoBody n xs)
 ended_body n a b c taken k kept end short =
     Consumes-whole a c taken (λ xs. HasNoBody n xs) (Consumes-kept a b c taken k kept) end
     (λ body r len e. omega (arith, ap length e, length-append body (10 ∷ r)))
@@ -63,13 +71,15 @@ no_feed [] (b ∷ body) rest ys h e = absurd (omega arith)
 no_feed (a ∷ taken) [] rest ys h e = absurd (omega arith)
 no_feed (a ∷ taken) (b ∷ body) rest ys h e = no_feed taken body rest ys (omega arith) cc
 
-pub unfed_body : (n : ℕ) (a b : Option (List ℕ)) (taken : List ℕ) → Consumes a b taken → length taken ≡ n → IfSome b (λ ys. (rest : List ℕ) → ys ≢ 10 ∷ rest) → IfSome a (λ xs. HasNoBody n xs)
+pub unfed_body : (n : ℕ) (a b : Option (List ℕ)) (taken : List ℕ) → Consumes a b taken → length taken ≡ n
+    → IfSome b (λ ys. (rest : List ℕ) → ys ≢ 10 ∷ rest) → IfSome a (λ xs. HasNoBody n xs)
 unfed_body n None b taken k len none = tt
 unfed_body n (Some xs) None taken k len none = absurd k
 unfed_body n (Some xs) (Some ys) taken k len none = λ body rest size e. none rest (no_feed taken body rest ys (len ∙ sym size) (sym k ∙ e))
 
 -- what looking for the line feed behind a body told
-pub fed_body : (found : Bool) (n : ℕ) (a b c : Option (List ℕ)) (taken : List ℕ) → Consumes a b taken → length taken ≡ n → FeedReads found b c → SkipReads found n a c
+pub fed_body : (found : Bool) (n : ℕ) (a b c : Option (List ℕ)) (taken : List ℕ) → Consumes a b taken → length taken ≡ n
+    → FeedReads found b c → SkipReads found n a c
 fed_body true n a b c taken k len feed = (taken, Consumes-trans a b c taken (10 ∷ []) k feed, len)
 fed_body false n a b c taken k len feed = unfed_body n a b taken k len feed
 
@@ -81,7 +91,8 @@ line_lacks line new byte e lacks ne = subst (Lacks 10) (sym e) (Lacks-push 10 li
 pub line_longer : (line new : List ℕ) (byte : ℕ) → new ≡ line ++ byte ∷ [] → length new ≡ length line + 1
 line_longer line new byte e = ap length e ∙ length-append line (byte ∷ [])
 
-pub line_consumed : (a b c : Option (List ℕ)) (line new : List ℕ) (byte : ℕ) → new ≡ line ++ byte ∷ [] → Consumes a b line → Consumes b c (byte ∷ []) → Consumes a c new
+pub line_consumed : (a b c : Option (List ℕ)) (line new : List ℕ) (byte : ℕ) → new ≡ line ++ byte ∷ [] → Consumes a b line
+    → Consumes b c (byte ∷ []) → Consumes a c new
 line_consumed a b c line new byte e k k2 = subst (Consumes a c) (sym e) (Consumes-trans a b c line (byte ∷ []) k k2)
 
 below_full : (n : ℕ) → n ≤ 200 → n ≢ 200 → n + 1 ≤ 200

@@ -18,7 +18,8 @@ pub record IsReady {R W : Type 0} (source : Block) (input : Counts R) (output : 
   pub writer : IsSoundWriter output
 
 -- no reply was said and no line read; more can be read, or the fault has its cause
-pub record Leaves {A R W : Type 0} (contents : W → Option (List ℕ)) (result : Result A ReadFault) (old_outbox : Waiting) (old_output : Counts W) (source : Block) (input : Counts R) (outbox : Waiting) (output : Counts W) : Type 0 where
+pub record Leaves {A R W : Type 0} (contents : W → Option (List ℕ)) (result : Result A ReadFault) (old_outbox : Waiting)
+    (old_output : Counts W) (source : Block) (input : Counts R) (outbox : Waiting) (output : Counts W) : Type 0 where
   pub says : Says (sent contents old_outbox old_output) (sent contents outbox output) []
   pub owed : outbox.is_answered ≡ old_outbox.is_answered
   pub ready : OnOk result (IsReady source input output)

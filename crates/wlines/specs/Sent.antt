@@ -13,7 +13,10 @@ abbrev pub handed : List ℕ → ℕ → Block
 handed held taken = record { held = held; taken = taken }
 
 abbrev pub coded_block : Coded Block
-coded_block = code_by (List ℕ × ℕ) (coded× (coded_list coded_ℕ) coded_ℕ) (λ b. (b.held, b.taken)) (λ p. record { held = p.0; taken = p.1 }) (λ _. refl)
+coded_block = code_by (List ℕ × ℕ) (coded× (coded_list coded_ℕ) coded_ℕ) (λ b. (b.held, b.taken)) (λ p. record {
+  held = p.0;
+  taken = p.1;
+}) (λ _. refl)
 
 -- nothing is held of a read of which no byte was handed out: so the last read was asked for because its first byte was needed
 abbrev pub IsUsed : Block → Type 0
@@ -28,7 +31,8 @@ abbrev pub waiting : List ℕ → Bool → Waiting
 waiting bytes is_answered = record { bytes = bytes; is_answered = is_answered }
 
 abbrev pub coded_waiting : Coded Waiting
-coded_waiting = code_by (List ℕ × Bool) (coded× (coded_list coded_ℕ) coded_bool) (λ w. (w.bytes, w.is_answered)) (λ p. record { bytes = p.0; is_answered = p.1 }) (λ _. refl)
+coded_waiting = code_by (List ℕ × Bool) (coded× (coded_list coded_ℕ) coded_bool) (λ w. (w.bytes, w.is_answered))
+    (λ p. record { bytes = p.0; is_answered = p.1 }) (λ _. refl)
 
 -- the bytes that a writer holds, where these are known, and those that wait to be written behind them
 pub record Sent : Type 0 where

@@ -1,5 +1,6 @@
 //! Reads in blocks, and hands the bytes out.
-ghost use Rattle.std.specs.Prelude.{take, vec_len, ◌-◌, ◌≡◌, ◌≢◌, ◌+◌, ◌<◌, ◌≤◌, ◌↔◌, List, ℕ, [], ◌∷◌, length, drop, OnOk, IfOk, IfErr, IfSome, IfNone, IsTrue, false};
+ghost use Rattle.std.specs.Prelude.{take, vec_len, ◌-◌, ◌≡◌, ◌≢◌, ◌+◌, ◌<◌, ◌≤◌, ◌↔◌, List, ℕ, [], ◌∷◌};
+ghost use Rattle.std.specs.Prelude.{length, drop, OnOk, IfOk, IfErr, IfSome, IfNone, IsTrue, false};
 ghost use Rattle.std.specs.Io.KnownBytes.{Keeps, Consumes, IsAtEnd};
 ghost use Rattle.wlines.specs.Pending.{block, left, budget, IsSound, IsSoundWriter, ReadFailed};
 
@@ -63,7 +64,8 @@ impl BlockReader {
         ensures bytes { Keeps (left R.remaining self.old.held input.old) (left R.remaining self.new.held input.new) }
         ensures sound { OnOk result (IsSound input.new) }
         ensures reads { input.old.reads ≤ input.new.reads }
-        ensures more { IfOk result (λ more. IsTrue more → (0 < length self.new.held) × (length self.new.held ≤ block) × (input.new.reads ≡ input.old.reads + 1)) }
+        ensures more { IfOk result (λ more. IsTrue more → (0 < length self.new.held) × (length self.new.held ≤ block)
+            × (input.new.reads ≡ input.old.reads + 1)) }
         ensures end { IfOk result (λ more. (more ≡ false) → (self.new.held ≡ []) × IsAtEnd (R.remaining input.new.inner)) }
         ensures fault { IfErr result (λ fault. (fault ≡ ReadFault.Reader) × ReadFailed input.new) }
     {
@@ -154,9 +156,11 @@ impl BlockReader {
         requires input { IsSound input.old }
         requires output { IsSoundWriter output.old }
         ensures leaves { Leaves W.contents result outbox.old output.old self.new input.new outbox.new output.new }
-        ensures some { IfOk result (λ o. IfSome o (λ b. Consumes (left R.remaining self.old.held input.old) (left R.remaining self.new.held input.new) (b ∷ []))) }
+        ensures some { IfOk result (λ o. IfSome o (λ b. Consumes (left R.remaining self.old.held input.old)
+            (left R.remaining self.new.held input.new) (b ∷ []))) }
         ensures falls { IfOk result (λ o. IfSome o (λ _. budget self.new.held input.new < budget self.old.held input.old)) }
-        ensures kept { IfOk result (λ o. IfNone o (Keeps (left R.remaining self.old.held input.old) (left R.remaining self.new.held input.new))) }
+        ensures kept { IfOk result (λ o. IfNone o (Keeps (left R.remaining self.old.held input.old)
+            (left R.remaining self.new.held input.new))) }
         ensures end { IfOk result (λ o. IfNone o (IsAtEnd (left R.remaining self.new.held input.new))) }
     {
         if !self.top_up(input, outbox, output)? {

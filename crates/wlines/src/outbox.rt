@@ -113,7 +113,8 @@ impl Outbox {
         ensures ok { OnOk result (Says (sent W.contents self.old output.old) (sent W.contents self.new output.new) piece.now) }
         ensures answered { OnOk result (self.new.is_answered ≡ true) }
         ensures sound { OnOk result (IsSoundWriter output.new) }
-        ensures front { OnErr result ((n : ℕ) × Says (sent W.contents self.old output.old) (sent W.contents self.new output.new) (take n piece.now)) }
+        ensures front { OnErr result ((n : ℕ)
+            × Says (sent W.contents self.old output.old) (sent W.contents self.new output.new) (take n piece.now)) }
         ensures failed { OnErr result (output.new.failures ≡ 1) }
     {
         self.is_answered = true;
@@ -142,7 +143,8 @@ impl Outbox {
         ensures ok { OnOk result (Says (sent W.contents self.old output.old) (sent W.contents self.new output.new) piece.now) }
         ensures answered { OnOk result (self.new.is_answered ≡ true) }
         ensures sound { OnOk result (IsSoundWriter output.new) }
-        ensures front { OnErr result ((n : ℕ) × Says (sent W.contents self.old output.old) (sent W.contents self.new output.new) (take n piece.now)) }
+        ensures front { OnErr result ((n : ℕ)
+            × Says (sent W.contents self.old output.old) (sent W.contents self.new output.new) (take n piece.now)) }
         ensures failed { OnErr result (output.new.failures ≡ 1) }
     {
         if let Err(fault) = self.make_room(output, piece.len()) {

@@ -1,5 +1,6 @@
 //! Reads lines and bodies from a source.
-ghost use Rattle.std.specs.Prelude.{◌≡◌, ◌≢◌, ℕ, ◌+◌, ◌<◌, ◌≤◌, List, [], length, true, false, vec_len, vec_capacity, IsTrue, IfOk, IfErr, OnOk};
+ghost use Rattle.std.specs.Prelude.{◌≡◌, ◌≢◌, ℕ, ◌+◌, ◌<◌, ◌≤◌, List, [], length, true, false};
+ghost use Rattle.std.specs.Prelude.{vec_len, vec_capacity, IsTrue, IfOk, IfErr, OnOk};
 ghost use Rattle.std.specs.Io.KnownBytes.{Consumes, IsAtEnd};
 ghost use Rattle.wlines.specs.Failing.{HasFailed, IsReady, Leaves};
 ghost use Rattle.wlines.specs.Pending.{left, budget, IsSound, IsSoundWriter};
@@ -42,7 +43,8 @@ pub fn read_line<R: Read, W: Write>(
     ensures says { Says (sent W.contents outbox.old output.old) (sent W.contents outbox.new output.new) [] }
     ensures owes { IfOk result (λ end. end ≡ LineEnd.Whole → outbox.new.is_answered ≡ false) }
     ensures ready { OnOk result (IsReady source.new input.new output.new) }
-    ensures reads { IfOk result (λ end. LineReads end (left R.remaining source.old.held input.old) (left R.remaining source.new.held input.new) line.new) }
+    ensures reads { IfOk result (λ end. LineReads end (left R.remaining source.old.held input.old)
+        (left R.remaining source.new.held input.new) line.new) }
     ensures falls { IfOk result (λ end. end ≡ LineEnd.Whole → budget source.new.held input.new < budget source.old.held input.old) }
     ensures fault { IfErr result (λ fault. HasFailed fault input.new outbox.new output.new) }
 {
@@ -94,9 +96,11 @@ fn fill<R: Read, W: Write>(
     requires empty { bytes.old.items ≡ [] }
     requires room { len ≤ vec_capacity bytes.old }
     ensures leaves { Leaves W.contents result outbox.old output.old source.new input.new outbox.new output.new }
-    ensures taken { OnOk result (Consumes (left R.remaining source.old.held input.old) (left R.remaining source.new.held input.new) bytes.new.items) }
+    ensures taken { OnOk result (Consumes (left R.remaining source.old.held input.old)
+        (left R.remaining source.new.held input.new) bytes.new.items) }
     ensures whole { IfOk result (λ whole. IsTrue whole → length bytes.new.items ≡ len) }
-    ensures end { IfOk result (λ whole. whole ≡ false → IsAtEnd (left R.remaining source.new.held input.new) × (length bytes.new.items < len)) }
+    ensures end { IfOk result (λ whole. whole ≡ false → IsAtEnd (left R.remaining source.new.held input.new)
+        × (length bytes.new.items < len)) }
     ensures falls { OnOk result (budget source.new.held input.new + length bytes.new.items ≤ budget source.old.held input.old) }
 {
     'pieces: while bytes.len() < len {
@@ -119,8 +123,11 @@ fn skip<R: Read, W: Write>(
 ) -> Result<bool, ReadFault>
     requires ready { IsReady source.old input.old output.old }
     ensures leaves { Leaves W.contents result outbox.old output.old source.new input.new outbox.new output.new }
-    ensures whole { IfOk result (λ whole. IsTrue whole → (taken : List ℕ) × Consumes (left R.remaining source.old.held input.old) (left R.remaining source.new.held input.new) taken × (length taken ≡ len)) }
-    ensures end { IfOk result (λ whole. whole ≡ false → (taken : List ℕ) × Consumes (left R.remaining source.old.held input.old) (left R.remaining source.new.held input.new) taken × IsAtEnd (left R.remaining source.new.held input.new) × (length taken < len)) }
+    ensures whole { IfOk result (λ whole. IsTrue whole → (taken : List ℕ)
+        × Consumes (left R.remaining source.old.held input.old) (left R.remaining source.new.held input.new) taken × (length taken ≡ len)) }
+    ensures end { IfOk result (λ whole. whole ≡ false → (taken : List ℕ)
+        × Consumes (left R.remaining source.old.held input.old) (left R.remaining source.new.held input.new) taken
+        × IsAtEnd (left R.remaining source.new.held input.new) × (length taken < len)) }
     ensures falls { OnOk result (budget source.new.held input.new ≤ budget source.old.held input.old) }
 {
     let mut count = 0;
@@ -144,7 +151,8 @@ fn take_feed<R: Read, W: Write>(
 ) -> Result<bool, ReadFault>
     requires ready { IsReady source.old input.old output.old }
     ensures leaves { Leaves W.contents result outbox.old output.old source.new input.new outbox.new output.new }
-    ensures reads { IfOk result (λ found. FeedReads found (left R.remaining source.old.held input.old) (left R.remaining source.new.held input.new)) }
+    ensures reads { IfOk result (λ found. FeedReads found (left R.remaining source.old.held input.old)
+        (left R.remaining source.new.held input.new)) }
     ensures falls { IfOk result (λ found. IsTrue found → budget source.new.held input.new < budget source.old.held input.old) }
 {
     let next = source.next(input, outbox, output)?;
@@ -166,7 +174,8 @@ pub fn skip_body<R: Read, W: Write>(
 ) -> Result<bool, ReadFault>
     requires ready { IsReady source.old input.old output.old }
     ensures leaves { Leaves W.contents result outbox.old output.old source.new input.new outbox.new output.new }
-    ensures reads { IfOk result (λ found. SkipReads found len (left R.remaining source.old.held input.old) (left R.remaining source.new.held input.new)) }
+    ensures reads { IfOk result (λ found. SkipReads found len (left R.remaining source.old.held input.old)
+        (left R.remaining source.new.held input.new)) }
     ensures falls { IfOk result (λ found. IsTrue found → budget source.new.held input.new < budget source.old.held input.old) }
 {
     if !skip(source, input, outbox, output, len)? {
@@ -190,7 +199,8 @@ fn read_into<R: Read, W: Write>(
     requires empty { bytes.items ≡ [] }
     requires room { len ≤ vec_capacity bytes }
     ensures leaves { Leaves W.contents result outbox.old output.old source.new input.new outbox.new output.new }
-    ensures reads { IfOk result (λ body. BodyReads body len (left R.remaining source.old.held input.old) (left R.remaining source.new.held input.new)) }
+    ensures reads { IfOk result (λ body. BodyReads body len (left R.remaining source.old.held input.old)
+        (left R.remaining source.new.held input.new)) }
     ensures falls { IfOk result (λ body. body ≢ Body.Malformed → budget source.new.held input.new < budget source.old.held input.old) }
 {
     let mut bytes = bytes;
@@ -216,7 +226,8 @@ pub fn read_body<R: Read, W: Write>(
 ) -> Result<Body, ReadFault>
     requires ready { IsReady source.old input.old output.old }
     ensures leaves { Leaves W.contents result outbox.old output.old source.new input.new outbox.new output.new }
-    ensures reads { IfOk result (λ body. BodyReads body len (left R.remaining source.old.held input.old) (left R.remaining source.new.held input.new)) }
+    ensures reads { IfOk result (λ body. BodyReads body len (left R.remaining source.old.held input.old)
+        (left R.remaining source.new.held input.new)) }
     ensures falls { IfOk result (λ body. body ≢ Body.Malformed → budget source.new.held input.new < budget source.old.held input.old) }
 {
     if let Ok(bytes) = Vec::with_capacity(alloc, len) {

@@ -1,5 +1,6 @@
 //! Words of a header line.
-ghost use Rattle.std.specs.Prelude.{◌≡◌, List, ℕ, ◌∷◌, ◌++◌, ◌<◌, length, slice_index_or, take, IfSome, IsSomeAnd, MatchOption, IsTrue, ◌↔◌};
+ghost use Rattle.std.specs.Prelude.{◌≡◌, List, ℕ, ◌∷◌, ◌++◌, ◌<◌, length, slice_index_or};
+ghost use Rattle.std.specs.Prelude.{take, IfSome, IsSomeAnd, MatchOption, IsTrue, ◌↔◌};
 ghost use Rattle.wlines.specs.Words.{Lacks, IsWord};
 
 // The place of the first space.
@@ -19,7 +20,8 @@ fn space_at(line: &[u8]) -> Option<usize>
 pub fn split_word(line: &[u8]) -> Option<(&[u8], &[u8])>
     ensures found { IfSome result (λ parts. line.now ≡ parts.0.now ++ (32 ∷ parts.1.now)) }
     ensures first { IfSome result (λ parts. Lacks 32 parts.0.now) }
-    ensures only { (a b : List ℕ) → Lacks 32 a → line.now ≡ a ++ (32 ∷ b) → IsSomeAnd result (λ parts. (parts.0.now ≡ a) × (parts.1.now ≡ b)) }
+    ensures only { (a b : List ℕ) → Lacks 32 a → line.now ≡ a ++ (32 ∷ b) → IsSomeAnd result (λ parts. (parts.0.now ≡ a)
+        × (parts.1.now ≡ b)) }
 {
     let Some(place) = space_at(line) else {
         return None;

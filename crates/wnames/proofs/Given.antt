@@ -15,7 +15,8 @@ passes_end holds [] n h = refl
 passes_end holds (x ∷ xs) zero h = absurd (omega arith)
 passes_end holds (x ∷ xs) (suc n) h = passes_end holds xs n (omega arith)
 
-pub passes_here : (holds : Tree → Bool) (xs : List Expression) (n : ℕ) (e : Expression) → n < length xs → e ≡ get_or xs n e → passes_at n holds (trees (views xs)) ≡ holds (view e)
+pub passes_here : (holds : Tree → Bool) (xs : List Expression) (n : ℕ) (e : Expression) → n < length xs → e ≡ get_or xs n e
+    → passes_at n holds (trees (views xs)) ≡ holds (view e)
 passes_here holds [] n e h is = absurd (omega arith)
 passes_here holds (x ∷ xs) zero e h is = ap (λ (y : Expression). holds (view y)) (sym is)
 passes_here holds (x ∷ xs) (suc n) e h is = passes_here holds xs n e (omega arith) is
@@ -24,8 +25,10 @@ pub count_is : (xs : List Expression) → count_trees (trees (views xs)) ≡ len
 count_is [] = refl
 count_is (x ∷ xs) = ap suc (count_is xs)
 
-pub bad_call_is : (c : Call) (name : List ℕ) (f : Option Function) (given : Bool) → f ≡ function_of name → name ≡ rc_str_bytes c.name → given ≡ is_well_given f (view_arguments c.arguments) → not given ≡ is_bad_call (view_call c)
+pub bad_call_is : (c : Call) (name : List ℕ) (f : Option Function) (given : Bool) → f ≡ function_of name
+    → name ≡ rc_str_bytes c.name → given ≡ is_well_given f (view_arguments c.arguments) → not given ≡ is_bad_call (view_call c)
 bad_call_is c name f given ef en eg = rw (eg, ef, en) (sym (ap is_bad_call (view_call_is c)))
 
-pub zeroth_is : (c : Call) (name : List ℕ) (f : Option Function) (given : Bool) → f ≡ function_of name → name ≡ rc_str_bytes c.name → given ≡ counts_some f (view_arguments c.arguments) → not given ≡ is_zeroth (view_call c)
+pub zeroth_is : (c : Call) (name : List ℕ) (f : Option Function) (given : Bool) → f ≡ function_of name
+    → name ≡ rc_str_bytes c.name → given ≡ counts_some f (view_arguments c.arguments) → not given ≡ is_zeroth (view_call c)
 zeroth_is c name f given ef en eg = rw (eg, ef, en) (sym (ap is_zeroth (view_call_is c)))

@@ -17,25 +17,40 @@ use Rattle.wnames.specs.Types.{all_trees, is_value, is_integer, is_text, suits_f
 use Rattle.wsame.proofs.Equal.{view_of_listed, view_of_columns}
 use Rattle.wsame.proofs.Views.{view_of_in}
 
-pub listed_given : (a : Arguments) (f : Function) (v : Vec Expression Global) (us : List Expression) (r : Bool) → a ≡ given.Listed v → us ≡ v.items → r ≡ (takes f (count_trees (trees (views us))) && are_literal f (trees (views us))) → r ≡ is_well_given (Some f) (view_arguments a)
+pub listed_given : (a : Arguments) (f : Function) (v : Vec Expression Global) (us : List Expression) (r : Bool)
+    → a ≡ given.Listed v → us ≡ v.items → r ≡ (takes f (count_trees (trees (views us))) && are_literal f (trees (views us)))
+    → r ≡ is_well_given (Some f) (view_arguments a)
 listed_given a f v us r ea eu er =
-    er ∙ ap (λ (zs : List Expression). takes f (count_trees (trees (views zs))) && are_literal f (trees (views zs))) eu ∙ sym (ap (λ (x : Arguments). is_well_given (Some f) (view_arguments x)) ea ∙ ap (is_well_given (Some f)) (view_of_listed v))
+    er ∙ ap (λ (zs : List Expression). takes f (count_trees (trees (views zs))) && are_literal f (trees (views zs))) eu
+    ∙ sym (ap (λ (x : Arguments). is_well_given (Some f) (view_arguments x)) ea ∙ ap (is_well_given (Some f)) (view_of_listed v))
 
 -- GROUPING of not too many columns, whether or not there is a function of its name
-given_columns : (f : Option Function) (g : Given) (ts : Trees) → g ≡ Columns ts → is_well_given f g ≡ nat_le (count_trees ts) most_grouping_columns
+given_columns : (f : Option Function) (g : Given) (ts : Trees) → g ≡ Columns ts
+    → is_well_given f g ≡ nat_le (count_trees ts) most_grouping_columns
 given_columns None g ts e = ap (is_well_given None) e
 given_columns (Some f) g ts e = ap (is_well_given (Some f)) e
 
-pub columns_given : (a : Arguments) (f : Option Function) (v : Vec Expression Global) (us : List Expression) (r : Bool) → a ≡ given.Columns v → us ≡ v.items → r ≡ nat_le (count_trees (trees (views us))) most_grouping_columns → r ≡ is_well_given f (view_arguments a)
+pub columns_given : (a : Arguments) (f : Option Function) (v : Vec Expression Global) (us : List Expression) (r : Bool)
+    → a ≡ given.Columns v → us ≡ v.items → r ≡ nat_le (count_trees (trees (views us))) most_grouping_columns
+    → r ≡ is_well_given f (view_arguments a)
 columns_given a f v us r ea eu er =
-    er ∙ ap (λ (zs : List Expression). nat_le (count_trees (trees (views zs))) most_grouping_columns) eu ∙ sym (given_columns f (view_arguments a) (trees (views v.items)) (ap view_arguments ea ∙ view_of_columns v))
+    er ∙ ap (λ (zs : List Expression). nat_le (count_trees (trees (views zs))) most_grouping_columns) eu
+    ∙ sym (given_columns f (view_arguments a) (trees (views v.items)) (ap view_arguments ea ∙ view_of_columns v))
 
-pub listed_typed : (cs : List Titled) (a : Arguments) (f : Option Function) (v : Vec Expression Global) (us : List Expression) (r : Bool) → a ≡ given.Listed v → us ≡ v.items → r ≡ (all_trees (is_value cs) (trees (views us)) && suits_function cs f (trees (views us))) → r ≡ are_typed cs f (view_arguments a)
+pub listed_typed : (cs : List Titled) (a : Arguments) (f : Option Function) (v : Vec Expression Global)
+    (us : List Expression) (r : Bool) → a ≡ given.Listed v → us ≡ v.items
+    → r ≡ (all_trees (is_value cs) (trees (views us)) && suits_function cs f (trees (views us))) → r ≡ are_typed cs f (view_arguments a)
 listed_typed cs a f v us r ea eu er =
-    er ∙ ap (λ (zs : List Expression). all_trees (is_value cs) (trees (views zs)) && suits_function cs f (trees (views zs))) eu ∙ sym (ap (λ (x : Arguments). are_typed cs f (view_arguments x)) ea ∙ ap (are_typed cs f) (view_of_listed v))
+    er ∙ ap (λ (zs : List Expression). all_trees (is_value cs) (trees (views zs)) && suits_function cs f (trees (views zs)))
+    eu ∙ sym (ap (λ (x : Arguments). are_typed cs f (view_arguments x)) ea ∙ ap (are_typed cs f) (view_of_listed v))
 
-pub typed_in : (cs : List Titled) (e d : Expression) (n : Bool) (x : Box Expression Global) (v : Vec Expression Global) (us : List Expression) (r : Bool) → e ≡ queries.In n x v → d ≡ x.value → us ≡ v.items → r ≡ not ((is_integer cs (view d) && all_trees (is_integer cs) (trees (views us))) || (is_text cs (view d) && all_trees (is_text cs) (trees (views us)))) → r ≡ is_ill_typed cs (view e)
+pub typed_in : (cs : List Titled) (e d : Expression) (n : Bool) (x : Box Expression Global) (v : Vec Expression Global)
+    (us : List Expression) (r : Bool) → e ≡ queries.In n x v → d ≡ x.value → us ≡ v.items
+    → r ≡ not ((is_integer cs (view d) && all_trees (is_integer cs) (trees (views us)))
+    || (is_text cs (view d) && all_trees (is_text cs) (trees (views us)))) → r ≡ is_ill_typed cs (view e)
 typed_in cs e d n x v us r is ed eu er =
-    er ∙ ap (λ (z : Expression). not ((is_integer cs (view z) && all_trees (is_integer cs) (trees (views us))) || (is_text cs (view z) && all_trees (is_text cs) (trees (views us))))) ed
-    ∙ ap (λ (zs : List Expression). not ((is_integer cs (view x.value) && all_trees (is_integer cs) (trees (views zs))) || (is_text cs (view x.value) && all_trees (is_text cs) (trees (views zs))))) eu
+    er ∙ ap (λ (z : Expression). not ((is_integer cs (view z) && all_trees (is_integer cs) (trees (views us)))
+    || (is_text cs (view z) && all_trees (is_text cs) (trees (views us))))) ed
+    ∙ ap (λ (zs : List Expression). not ((is_integer cs (view x.value) && all_trees (is_integer cs) (trees (views zs)))
+    || (is_text cs (view x.value) && all_trees (is_text cs) (trees (views zs))))) eu
     ∙ sym (ap (λ (z : Expression). is_ill_typed cs (view z)) is ∙ ap (is_ill_typed cs) (view_of_in n x v))

@@ -1,7 +1,8 @@
 -- The rules on what a call is given: Q13, Q18 and Q25. (SQL, `<window function>` and `<filter clause>`; PostgreSQL, Window
 -- Functions.)
 use Rattle.std.specs.Prelude.{ℕ, zero, suc, Bool, true, false, ◌&&◌, not, nat_le, List, Option, Some, None}
-use Rattle.wquery.specs.Tree.{Tree, NullWord, Numeral, Quoted, Invoked, Signed, Trees, NoTrees, MoreTrees, Given, Everything, These, Columns, FilteredBy}
+use Rattle.wquery.specs.Tree.{Tree, NullWord, Numeral, Quoted, Invoked, Signed, Trees, NoTrees}
+use Rattle.wquery.specs.Tree.{MoreTrees, Given, Everything, These, Columns, FilteredBy}
 use Rattle.wquery.specs.QueryTree.{Clauses}
 use Rattle.wscope.specs.declared.function.Function.{Function}
 use Rattle.wscope.specs.declared.function.Function.TheVariants as functions

@@ -29,7 +29,8 @@ is_misqualified alias _ = false
 -- Q10: FROM names another table than the declared one, or a qualifier is not the source's alias
 abbrev pub breaks_tables : List ℕ → List ℕ → List Titled → Clauses → SourceTree → Bool
 breaks_tables table alias cs c source =
-    names_other_table table source || (some_anywhere cs c (finds (is_misqualified alias)) || list_any (is_misqualified alias) (all_columns c.grouping))
+    names_other_table table source || (some_anywhere cs c (finds (is_misqualified alias))
+    || list_any (is_misqualified alias) (all_columns c.grouping))
 
 -- a column that the source lacks
 abbrev pub is_missing : List Titled → Tree → Bool

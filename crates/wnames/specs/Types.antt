@@ -3,7 +3,9 @@ use Rattle.std.specs.Prelude.{Bool, true, false, ◌||◌, ◌&&◌, not, List, 
 use Rattle.std.specs.List.{list_any}
 use Rattle.wquery.specs.declared.expression.ChainKind.{ChainKind}
 use Rattle.wquery.specs.declared.expression.ChainKind.TheVariants.{Disjunction, Conjunction, Sum, Product}
-use Rattle.wquery.specs.Tree.{Tree, Invoked, Negated, Signed, Joined, Compared, Within, Among, Trees, NoTrees, MoreTrees, Links, NoLinks, Further, Given, Everything, These, Columns, Filter, Unfiltered, FilteredBy, Reach, ItsGroup, ThatWindow, OwnWindow, Keys, NoKeys, MoreKeys, KeyTree, own_window}
+use Rattle.wquery.specs.Tree.{Tree, Invoked, Negated, Signed, Joined, Compared, Within, Among, Trees, NoTrees, MoreTrees}
+use Rattle.wquery.specs.Tree.{Links, NoLinks, Further, Given, Everything, These, Columns, Filter, Unfiltered, FilteredBy}
+use Rattle.wquery.specs.Tree.{Reach, ItsGroup, ThatWindow, OwnWindow, Keys, NoKeys, MoreKeys, KeyTree, own_window}
 use Rattle.wquery.specs.QueryTree.{Clauses, ItemTree, AllColumns, Computed, EntryTree}
 use Rattle.wscope.specs.declared.function.Function.{Function}
 use Rattle.wscope.specs.declared.function.Function.TheVariants as functions
@@ -78,13 +80,15 @@ are_typed cs f (These ts) = all_trees (is_value cs) ts && suits_function cs f ts
 
 -- operands of another type than their operator or function takes
 abbrev pub is_ill_typed : List Titled → Tree → Bool
-is_ill_typed cs (Invoked name given filter reach) = not (are_typed cs (function_of name) given && (is_filter_typed cs filter && is_window_typed cs reach))
+is_ill_typed cs (Invoked name given filter reach) =
+    not (are_typed cs (function_of name) given && (is_filter_typed cs filter && is_window_typed cs reach))
 is_ill_typed cs (Negated t) = not (is_condition cs t)
 is_ill_typed cs (Signed minus t) = not (is_integer cs t)
 is_ill_typed cs (Joined kind first links) = not (suits cs kind first && all_links (suits cs kind) links)
 is_ill_typed cs (Compared comparison l r) = not (agree (type_of cs l ∷ type_of cs r ∷ []))
 is_ill_typed cs (Within negated t l h) = not (agree (type_of cs t ∷ type_of cs l ∷ type_of cs h ∷ []))
-is_ill_typed cs (Among negated t list) = not ((is_integer cs t && all_trees (is_integer cs) list) || (is_text cs t && all_trees (is_text cs) list))
+is_ill_typed cs (Among negated t list) =
+    not ((is_integer cs t && all_trees (is_integer cs) list) || (is_text cs t && all_trees (is_text cs) list))
 is_ill_typed cs _ = false
 
 -- what WHERE or HAVING says is no truth

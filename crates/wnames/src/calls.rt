@@ -5,7 +5,12 @@ ghost use Rattle.wquery.specs.Tree.{Tree, view, views, trees, view_call, view_ar
 ghost use Rattle.wscope.specs.Functions.{takes as may_take};
 ghost use Rattle.wscope.specs.Scoped.{scope_clauses, scope_columns};
 ghost use Rattle.wscope.specs.Finding.{finds, count_trees};
-ghost use Rattle.wnames.specs.Calls.{is_count as is_count_function, passes_at, are_literal as are_literals, is_number as is_numeral, is_literal as is_constant, is_nonzero as is_some_number, is_well_given as suits_function, is_bad_call as is_bad, is_aggregate_name as is_name_of_aggregate, is_group_function as is_function_of_group, most_grouping_columns, is_bad_filter, counts_some as is_some_count, is_zeroth as is_none_count, breaks_calls, breaks_filters, breaks_zeroths};
+ghost use Rattle.wnames.specs.Calls.{is_count as is_count_function, passes_at, are_literal as are_literals, is_number as is_numeral};
+ghost use Rattle.wnames.specs.Calls.{is_literal as is_constant, is_nonzero as is_some_number, is_well_given as suits_function};
+ghost use Rattle.wnames.specs.Calls.{is_bad_call as is_bad, is_aggregate_name as is_name_of_aggregate};
+ghost use Rattle.wnames.specs.Calls.{is_group_function as is_function_of_group, most_grouping_columns, is_bad_filter};
+ghost use Rattle.wnames.specs.Calls.{counts_some as is_some_count, is_zeroth as is_none_count, breaks_calls, breaks_filters};
+ghost use Rattle.wnames.specs.Calls.{breaks_zeroths};
 
 use wquery::{Arguments, Call, Expression};
 use wscope::{Function, Look, NodeTest, Scope, any_anywhere, found_if, function_of};

@@ -10,7 +10,10 @@ ghost use Rattle.wscope.specs.Scoped.{scope_clauses, scope_columns};
 ghost use Rattle.wscope.specs.Sources.{all_titled};
 ghost use Rattle.wscope.specs.declared.look.Look.TheVariants.{Found, Below};
 ghost use Rattle.wscope.specs.Finding.{finds};
-ghost use Rattle.wnames.specs.Groups.{is_window_call as is_call_over, is_misplaced_window_call as is_misplaced, is_group_call as is_call_of_group, is_nested_group_call as is_nested, has_columns, sees_ungrouped, is_ungrouped_column as is_outside, names_ungrouped as names_outside, is_grouped as has_groups, breaks_window_places, breaks_aggregate_places, breaks_grouping};
+ghost use Rattle.wnames.specs.Groups.{is_window_call as is_call_over, is_misplaced_window_call as is_misplaced};
+ghost use Rattle.wnames.specs.Groups.{is_group_call as is_call_of_group, is_nested_group_call as is_nested, has_columns};
+ghost use Rattle.wnames.specs.Groups.{sees_ungrouped, is_ungrouped_column as is_outside, names_ungrouped as names_outside};
+ghost use Rattle.wnames.specs.Groups.{is_grouped as has_groups, breaks_window_places, breaks_aggregate_places, breaks_grouping};
 
 use crate::calls::is_group_function;
 use wquery::{Arguments, Expression, Item};
@@ -214,7 +217,8 @@ fn has_star(items: &[Item]) -> bool
 }
 
 fn stars_ungrouped(scope: &Scope) -> bool
-    ensures { result ≡ (list_any is_star (scope_clauses scope.now).items && list_any (is_outside (all_columns (scope_clauses scope.now).grouping)) (scope_columns scope.now)) }
+    ensures { result ≡ (list_any is_star (scope_clauses scope.now).items
+        && list_any (is_outside (all_columns (scope_clauses scope.now).grouping)) (scope_columns scope.now)) }
 {
     if !has_star(scope.query.items.as_slice()) {
         return false;

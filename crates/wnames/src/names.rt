@@ -9,7 +9,8 @@ ghost use Rattle.wscope.specs.Scoped.{scope_clauses, scope_columns, scope_source
 ghost use Rattle.wscope.specs.Sources.{all_titled, written_out};
 ghost use Rattle.wscope.specs.Finding.{finds};
 ghost use Rattle.wscope.specs.Groups.{lent_columns};
-ghost use Rattle.wnames.specs.Names.{names_other_table as is_other_table, is_misqualified, is_missing, is_ambiguous, count_named, is_ambiguous_key as is_key_ambiguous, breaks_tables, breaks_columns, breaks_ambiguity};
+ghost use Rattle.wnames.specs.Names.{names_other_table as is_other_table, is_misqualified, is_missing, is_ambiguous, count_named};
+ghost use Rattle.wnames.specs.Names.{is_ambiguous_key as is_key_ambiguous, breaks_tables, breaks_columns, breaks_ambiguity};
 
 use wquery::{Column, Expression, Key, Source};
 use wscope::{Look, NodeTest, Scope, SourceColumn, any_anywhere, found_if, has_column};
@@ -146,7 +147,8 @@ fn names_other_table(table: &str, source: &Source) -> bool
 
 /// Q10.
 pub fn names_unknown_table(scope: &Scope) -> bool
-    ensures { result ≡ breaks_tables scope.now.table.now scope.now.alias.now (scope_columns scope.now) (scope_clauses scope.now) (scope_source scope.now) }
+    ensures { result ≡ breaks_tables scope.now.table.now scope.now.alias.now (scope_columns scope.now)
+        (scope_clauses scope.now) (scope_source scope.now) }
 {
     if names_other_table(scope.table, &scope.query.source) {
         return true;
@@ -173,7 +175,8 @@ pub fn names_unknown_column(scope: &Scope) -> bool
 
 #[tactic(auto, unfolding(wquery::specs::Tree::view))]
 fn is_ambiguous_name<'a>(scope: &Scope<'a>, key: &'a Expression) -> bool
-    ensures { result ≡ is_key_ambiguous (scope_columns scope.now) (written_out (scope_columns scope.now) (scope_clauses scope.now).items) (view key.now) }
+    ensures { result ≡ is_key_ambiguous (scope_columns scope.now) (written_out (scope_columns scope.now)
+        (scope_clauses scope.now).items) (view key.now) }
 {
     match key {
         Expression::Column(column) => match &column.qualifier {
@@ -186,13 +189,15 @@ fn is_ambiguous_name<'a>(scope: &Scope<'a>, key: &'a Expression) -> bool
 
 #[tactic(auto, unfolding(wquery::specs::Tree::view, wquery::specs::Tree::view_key))]
 fn is_ambiguous_key<'a>(scope: &Scope<'a>, key: &'a Key) -> bool
-    ensures { result ≡ is_key_ambiguous (scope_columns scope.now) (written_out (scope_columns scope.now) (scope_clauses scope.now).items) (view_key key.now).expression }
+    ensures { result ≡ is_key_ambiguous (scope_columns scope.now) (written_out (scope_columns scope.now)
+        (scope_clauses scope.now).items) (view_key key.now).expression }
 {
     is_ambiguous_name(scope, &key.expression)
 }
 
 fn any_ambiguous_key<'a>(scope: &Scope<'a>, order: &'a [Key]) -> bool
-    ensures { result ≡ list_any (λ (k : KeyTree). is_key_ambiguous (scope_columns scope.now) (written_out (scope_columns scope.now) (scope_clauses scope.now).items) k.expression) (map view_key order.now) }
+    ensures { result ≡ list_any (λ (k : KeyTree). is_key_ambiguous (scope_columns scope.now)
+        (written_out (scope_columns scope.now) (scope_clauses scope.now).items) k.expression) (map view_key order.now) }
 {
     'keys: for key in order {
         if is_ambiguous_key(scope, key) {

@@ -3,13 +3,19 @@
 ghost use Rattle.std.specs.Prelude.{◌≡◌, ◌||◌, ◌&&◌, not, map, [], ◌∷◌};
 ghost use Rattle.std.specs.List.{list_any};
 ghost use Rattle.wquery.specs.declared.expression.ChainKind.{ChainKind};
-ghost use Rattle.wquery.specs.Tree.{Tree, view, views, trees, keys, view_keys, view_key, view_link, linked, NoLinks, view_call, view_arguments, view_optional, view_optional_over, view_window, filter_of, reach_of, own_window};
+ghost use Rattle.wquery.specs.Tree.{Tree, view, views, trees, keys, view_keys, view_key, view_link, linked, NoLinks, view_call};
+ghost use Rattle.wquery.specs.Tree.{view_arguments, view_optional, view_optional_over, view_window, filter_of, reach_of, own_window};
 ghost use Rattle.wquery.specs.QueryTree.{view_item, view_entry};
 ghost use Rattle.wscope.specs.Scoped.{scope_clauses, scope_columns};
 ghost use Rattle.wscope.specs.Sources.{all_titled};
 ghost use Rattle.wscope.specs.Types.{is_truth as is_truth_type, fits_integer as suits_integer, fits_text as suits_text, agree as do_agree};
 ghost use Rattle.wscope.specs.Finding.{finds};
-ghost use Rattle.wnames.specs.Types.{is_condition as is_truth, is_value as is_no_truth, is_integer as is_of_integers, is_text as is_of_texts, all_trees, all_links, all_keys, suits as is_suited, is_window_typed as has_typed_window, is_filter_typed as has_typed_filter, has_fit_default as is_default_fit, suits_function as are_suited, are_typed as are_arguments_typed, is_ill_typed as is_wrong, is_no_condition as is_other, is_truth_item as has_truth, is_truth_key as is_key_of_truth, is_truth_entry as is_entry_of_truth, breaks_types};
+ghost use Rattle.wnames.specs.Types.{is_condition as is_truth, is_value as is_no_truth, is_integer as is_of_integers};
+ghost use Rattle.wnames.specs.Types.{is_text as is_of_texts, all_trees, all_links, all_keys, suits as is_suited};
+ghost use Rattle.wnames.specs.Types.{is_window_typed as has_typed_window, is_filter_typed as has_typed_filter};
+ghost use Rattle.wnames.specs.Types.{has_fit_default as is_default_fit, suits_function as are_suited, are_typed as are_arguments_typed};
+ghost use Rattle.wnames.specs.Types.{is_ill_typed as is_wrong, is_no_condition as is_other, is_truth_item as has_truth};
+ghost use Rattle.wnames.specs.Types.{is_truth_key as is_key_of_truth, is_truth_entry as is_entry_of_truth, breaks_types};
 
 use wquery::{Arguments, Call, ChainKind, Expression, Item, Key, Link, Over, Window, WindowEntry};
 use wscope::{
@@ -193,7 +199,8 @@ fn suits_function(columns: &[SourceColumn], function: Option<Function>, list: &[
 }
 
 fn is_list_typed(columns: &[SourceColumn], function: Option<Function>, list: &[Expression]) -> bool
-    ensures { result ≡ (all_trees (is_no_truth (all_titled columns.now)) (trees (views list.now)) && are_suited (all_titled columns.now) function (trees (views list.now))) }
+    ensures { result ≡ (all_trees (is_no_truth (all_titled columns.now)) (trees (views list.now)) && are_suited
+        (all_titled columns.now) function (trees (views list.now))) }
 {
     if !all_values(columns, list) {
         return false;
@@ -235,7 +242,8 @@ fn is_ill_typed_chain(
     first: &Expression,
     links: &[Link],
 ) -> bool
-    ensures { result ≡ not (is_suited (all_titled columns.now) kind (view first.now) && all_links (is_suited (all_titled columns.now) kind) (linked NoLinks (map view_link links.now))) }
+    ensures { result ≡ not (is_suited (all_titled columns.now) kind (view first.now)
+        && all_links (is_suited (all_titled columns.now) kind) (linked NoLinks (map view_link links.now))) }
 {
     if !suits(columns, kind, first) {
         return true;
@@ -244,7 +252,10 @@ fn is_ill_typed_chain(
 }
 
 fn is_ill_typed_list(columns: &[SourceColumn], operand: &Expression, list: &[Expression]) -> bool
-    ensures { result ≡ not ((is_of_integers (all_titled columns.now) (view operand.now) && all_trees (is_of_integers (all_titled columns.now)) (trees (views list.now))) || (is_of_texts (all_titled columns.now) (view operand.now) && all_trees (is_of_texts (all_titled columns.now)) (trees (views list.now)))) }
+    ensures { result ≡ not ((is_of_integers (all_titled columns.now) (view operand.now)
+        && all_trees (is_of_integers (all_titled columns.now)) (trees (views list.now)))
+        || (is_of_texts (all_titled columns.now) (view operand.now) && all_trees (is_of_texts (all_titled columns.now))
+        (trees (views list.now)))) }
 {
     if is_integer(columns, operand) && all_integers(columns, list) {
         return false;

@@ -11,14 +11,16 @@ ghost use Rattle.wplaces.specs.Tile.{tile_sizes, pieces, tile_of};
 
 /// The rank of a row is the number of the first of its peers.
 pub fn ranks_tell_first_peers()
-    ensures { (p : Partition) (i first : ℕ) → AreOrdered (keys_cmp p.order) p.keys → i < length p.keys → IsFirstPeer p i first → rank_of p i ≡ row_number_of p first }
+    ensures { (p : Partition) (i first : ℕ) → AreOrdered (keys_cmp p.order) p.keys → i < length p.keys
+        → IsFirstPeer p i first → rank_of p i ≡ row_number_of p first }
 {}
 
 /// The tiles are as many as asked for and share out the rows, and the tile told for a row has it.
 pub fn tiles_share_the_rows()
     ensures count { (rows tiles : ℕ) → 1 ≤ tiles → length (tile_sizes rows tiles) ≡ tiles }
     ensures shared { (rows tiles : ℕ) → 1 ≤ tiles → sum (tile_sizes rows tiles) ≡ rows }
-    ensures told { (rows tiles i : ℕ) → 1 ≤ tiles → i < rows → is_in_span (span_at (pieces 0 (tile_sizes rows tiles)) (tile_of rows tiles i - 1)) i ≡ true }
+    ensures told { (rows tiles i : ℕ) → 1 ≤ tiles → i < rows
+        → is_in_span (span_at (pieces 0 (tile_sizes rows tiles)) (tile_of rows tiles i - 1)) i ≡ true }
 {}
 
 /// Rows with the same keys have the same ranks, wherever among their peers they stand. So a finer order may serve.

@@ -14,10 +14,14 @@ pub operand_is : (l : Further) → operand_of l ≡ record { operator = l.operat
 unfolding operand_of formula
 operand_is l = fold_out-Further Formula Operand expr_step further_step l
 
-pub formula_chain : (first : Box Expr Global) (links : Vec Further Global) → formula (Chain first links) ≡ chained (formula first.value) (map operand_of links.items)
+pub formula_chain : (first : Box Expr Global) (links : Vec Further Global)
+    → formula (Chain first links) ≡ chained (formula first.value) (map operand_of links.items)
 unfolding formula operand_of
-formula_chain first links = ap (fold-Expr Formula Operand expr_step further_step) (sym (rolls-Chain first links)) ∙ fold-roll-Expr Formula Operand expr_step further_step (layer.Chain first links)
+formula_chain first links = ap (fold-Expr Formula Operand expr_step further_step) (sym (rolls-Chain first links))
+    ∙ fold-roll-Expr Formula Operand expr_step further_step (layer.Chain first links)
 
-pub formula_in : (negated : Bool) (operand : Box Expr Global) (list : Vec Expr Global) → formula (In negated operand list) ≡ Among negated (formula operand.value) (formulas (map formula list.items))
+pub formula_in : (negated : Bool) (operand : Box Expr Global) (list : Vec Expr Global) → formula (In negated operand list)
+    ≡ Among negated (formula operand.value) (formulas (map formula list.items))
 unfolding formula operand_of
-formula_in negated operand list = ap (fold-Expr Formula Operand expr_step further_step) (sym (rolls-In negated operand list)) ∙ fold-roll-Expr Formula Operand expr_step further_step (layer.In negated operand list)
+formula_in negated operand list = ap (fold-Expr Formula Operand expr_step further_step)
+    (sym (rolls-In negated operand list)) ∙ fold-roll-Expr Formula Operand expr_step further_step (layer.In negated operand list)

@@ -77,7 +77,8 @@ pub record OutputPlan : Type 0 where
   pub name : List ℕ
   pub value : Formula
 
--- One SELECT. The condition is over the source's rows, the windows and their calls are over kept rows or group rows, and items and keys are over these rows with what the calls answer behind their cells
+-- One SELECT. The condition is over the source's rows, the windows and their calls are over kept rows or group rows, and items
+-- and keys are over these rows with what the calls answer behind their cells
 pub record SelectPlan : Type 0 where
   pub condition : Option Formula
   pub grouping : Option GroupingPlan
@@ -100,7 +101,13 @@ group_call_plan (group_calls.Aggregated a) = GroupAggregate (aggregate_plan a)
 group_call_plan (group_calls.GroupingOf columns) = GroupingOf columns.items
 
 abbrev pub grouping_plan : Grouping → GroupingPlan
-grouping_plan g = record { columns = g.columns.items; sets = map (λ set. set.items) g.sets.items; calls = map group_call_plan g.calls.items; having = optional_formula g.having }
+grouping_plan g = record {
+  columns = g.columns.items;
+  sets = map (λ set. set.items) g.sets.items;
+  calls =
+      map group_call_plan g.calls.items;
+  having = optional_formula g.having;
+}
 
 abbrev pub optional_grouping : Option Grouping → Option GroupingPlan
 optional_grouping None = None
@@ -131,7 +138,18 @@ abbrev pub output_plan : Output → OutputPlan
 output_plan o = record { name = rc_str_bytes o.name; value = formula o.value }
 
 abbrev pub select_plan : Selection → SelectPlan
-select_plan s = record { condition = optional_formula s.condition; grouping = optional_grouping s.grouping; windows = map window_plan s.windows.items; calls = map call_plan s.calls.items; items = map output_plan s.items.items; keys = map key_plan s.keys.items; offset = s.offset; limit = s.limit }
+select_plan s = record {
+  condition = optional_formula s.condition;
+  grouping = optional_grouping s.grouping;
+  windows =
+      map window_plan s.windows.items;
+  calls = map call_plan s.calls.items;
+  items = map output_plan s.items.items;
+  keys =
+      map key_plan s.keys.items;
+  offset = s.offset;
+  limit = s.limit;
+}
 
 -- a query says its SELECTs, of which the innermost stands first: each is over the rows that the one before answers, numbered by place
 abbrev pub plans : Resolved → List SelectPlan

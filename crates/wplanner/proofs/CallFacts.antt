@@ -1,5 +1,6 @@
 -- Calls window by window: the columns that are computed so are those that a query means.
-use Rattle.std.proofs.Common.{◌≡◌, ℕ, zero, suc, ◌+◌, ◌<◌, ◌==◌, Bool, true, false, ◌&&◌, ◌||◌, cond, List, [], ◌∷◌, length, map, filter, take, get_or, nat_lt, Option, Some, None, Result, Ok, Err, refl, sym, ap, ◌∙◌, subst, arith}
+use Rattle.std.proofs.Common.{◌≡◌, ℕ, zero, suc, ◌+◌, ◌<◌, ◌==◌, Bool, true, false, ◌&&◌, ◌||◌, cond, List, [], ◌∷◌, length, map, filter}
+use Rattle.std.proofs.Common.{take, get_or, nat_lt, Option, Some, None, Result, Ok, Err, refl, sym, ap, ◌∙◌, subst, arith}
 use Rattle.std.proofs.lemmas.Bool.Decides.{nat_tests}
 use Rattle.std.specs.List.{AllByRecursion, list_all, list_any, slice_get}
 use Rattle.wvalues.specs.Meaning.{Meaning}
@@ -8,7 +9,8 @@ use Rattle.wframe.specs.declared.frame.FrameBound.TheVariants.{CurrentRow}
 use Rattle.wframe.specs.declared.frame.FrameExclusion.TheVariants.{NoOthers}
 use Rattle.wframe.specs.Places.{places_from}
 use Rattle.wplan.specs.Formula.{Formula}
-use Rattle.wplan.specs.Plans.{CallPlan, FunctionPlan, SelectPlan, WindowPlan, RowNumber, Rank, DenseRank, Tile, Lag, Lead, FirstValue, LastValue, NthValue, Aggregated}
+use Rattle.wplan.specs.Plans.{CallPlan, FunctionPlan, SelectPlan, WindowPlan, RowNumber, Rank, DenseRank}
+use Rattle.wplan.specs.Plans.{Tile, Lag, Lead, FirstValue, LastValue, NthValue, Aggregated}
 use Rattle.wrows.specs.declared.fault.AnswerFault.{AnswerFault}
 use Rattle.wrows.specs.declared.fault.AnswerFault.TheVariants.{OutOfRange, TooManyRows, NoMemory}
 use Rattle.wrows.specs.Outcomes.{◌>>=◌, each, unless}
@@ -45,7 +47,8 @@ unfolding IsSimple
 simple_unless true x = tt {0}
 simple_unless false x = tt {0}
 
-simple_then : {A B : Type 0} (r : Result A AnswerFault) (k : A → Result B AnswerFault) → IsSimple r → ((x : A) → IsSimple (k x)) → IsSimple (r >>= k)
+simple_then : {A B : Type 0} (r : Result A AnswerFault) (k : A → Result B AnswerFault) → IsSimple r
+    → ((x : A) → IsSimple (k x)) → IsSimple (r >>= k)
 unfolding IsSimple
 simple_then (Ok x) k s h = h x
 simple_then (Err OutOfRange) k s h = tt {0}
@@ -60,7 +63,9 @@ simple_lists : (ts : List Formula) (rows : List Row) → IsSimple (lists_of ts r
 simple_lists ts rows = simple_unless _ _
 
 simple_window : (rows : List Row) (w : WindowPlan) → IsSimple (windowed rows w)
-simple_window rows w = simple_then (lists_of w.partition rows) _ (simple_lists w.partition rows) (λ values. simple_then (lists_of (map (λ k. k.value) w.keys) rows) _ (simple_lists (map (λ k. k.value) w.keys) rows) (λ keys. simple_ok _))
+simple_window rows w = simple_then (lists_of w.partition rows) _ (simple_lists w.partition rows)
+    (λ values. simple_then (lists_of (map (λ k. k.value) w.keys) rows) _ (simple_lists (map (λ k. k.value) w.keys) rows)
+    (λ keys. simple_ok _))
 
 simple_column : (rows : List Row) (w : Windowed) (f : FunctionPlan) → IsSimple (function_column rows w f)
 simple_column rows w RowNumber = simple_ok _
@@ -72,7 +77,8 @@ simple_column rows w (Lead t n d) = simple_then _ _ (simple_unless _ _) (λ valu
 simple_column rows w (FirstValue t) = simple_then _ _ (simple_unless _ _) (λ values. simple_ok _)
 simple_column rows w (LastValue t) = simple_then _ _ (simple_unless _ _) (λ values. simple_ok _)
 simple_column rows w (NthValue t n) = simple_then _ _ (simple_unless _ _) (λ values. simple_ok _)
-simple_column rows w (Aggregated a) = simple_then _ _ (simple_then _ _ (simple_unless _ _) (λ values. simple_then _ _ (simple_filter a.filter rows) (λ tests. simple_ok _))) (λ feed. simple_unless _ _)
+simple_column rows w (Aggregated a) = simple_then _ _ (simple_then _ _ (simple_unless _ _)
+    (λ values. simple_then _ _ (simple_filter a.filter rows) (λ tests. simple_ok _))) (λ feed. simple_unless _ _)
 
 -- several results, of which each is out of range or a value
 module _ {A B : Type 0} (d : B) (f : A → Result B AnswerFault) (simple : (x : A) → IsSimple (f x)) where
@@ -85,8 +91,11 @@ module _ {A B : Type 0} (d : B) (f : A → Result B AnswerFault) (simple : (x : 
   each_is [] = refl
   each_is (x ∷ xs) = go (f x) (simple x) (each_is xs)
     where
-      go : (r : Result B AnswerFault) → IsSimple r → each f xs ≡ unless (list_any (λ x. is_refused (f x)) xs) OutOfRange (map (λ x. value_or d (f x)) xs) → (r >>= λ y. each f xs >>= λ ys. Ok (y ∷ ys)) ≡ unless (is_refused r || list_any (λ x. is_refused (f x)) xs) OutOfRange (value_or d r ∷ map (λ x. value_or d (f x)) xs)
-      go (Ok y) s rest = ap (λ r. r >>= λ ys. Ok (y ∷ ys)) rest ∙ push (list_any (λ x. is_refused (f x)) xs) y (map (λ x. value_or d (f x)) xs)
+      go : (r : Result B AnswerFault) → IsSimple r → each f xs ≡ unless (list_any (λ x. is_refused (f x)) xs) OutOfRange
+          (map (λ x. value_or d (f x)) xs) → (r >>= λ y. each f xs >>= λ ys. Ok (y ∷ ys))
+          ≡ unless (is_refused r || list_any (λ x. is_refused (f x)) xs) OutOfRange (value_or d r ∷ map (λ x. value_or d (f x)) xs)
+      go (Ok y) s rest = ap (λ r. r >>= λ ys. Ok (y ∷ ys)) rest ∙ push (list_any (λ x. is_refused (f x)) xs) y
+          (map (λ x. value_or d (f x)) xs)
       go (Err OutOfRange) s rest = refl
       go (Err TooManyRows) s rest = absurd s
       go (Err NoMemory) s rest = absurd s
@@ -97,7 +106,8 @@ exchange false true true d = refl
 exchange false true false d = refl
 exchange false false c d = refl
 
-both : {X : Type 0} (a b : Bool) (x : X) (xs : List X) → (unless a OutOfRange x >>= λ y. unless b OutOfRange xs >>= λ ys. Ok (y ∷ ys)) ≡ unless (a || b) OutOfRange (x ∷ xs)
+both : {X : Type 0} (a b : Bool) (x : X) (xs : List X)
+    → (unless a OutOfRange x >>= λ y. unless b OutOfRange xs >>= λ ys. Ok (y ∷ ys)) ≡ unless (a || b) OutOfRange (x ∷ xs)
 both true b x xs = refl
 both false true x xs = refl
 both false false x xs = refl
@@ -129,7 +139,8 @@ all_at P (y ∷ ys) zero x all e = subst P (inside e) all.0
 all_at P (y ∷ ys) (suc i) x all e = all_at P ys i x all.1 e
 
 -- elements by their places
-listed : {X Y : Type 0} (h : X → Y) (g : ℕ → Y) (xs : List X) (a : ℕ) → ((j : ℕ) (x : X) → slice_get xs j ≡ Some x → g (a + j) ≡ h x) → map g (places_from a (length xs)) ≡ map h xs
+listed : {X Y : Type 0} (h : X → Y) (g : ℕ → Y) (xs : List X) (a : ℕ) → ((j : ℕ) (x : X) → slice_get xs j ≡ Some x
+    → g (a + j) ≡ h x) → map g (places_from a (length xs)) ≡ map h xs
 listed h g [] a e = refl
 listed h g (x ∷ xs) a e =
     let here : a ≡ a + 0 = omega arith in
@@ -137,14 +148,16 @@ listed h g (x ∷ xs) a e =
     ∙ ap (λ l. h x ∷ l) (listed h g xs (a + 1) (λ j y s. let next : a + 1 + j ≡ a + suc j = omega arith in ap g next ∙ e (suc j) y s))
 
 -- the call of a number is the one that so many earlier calls over its window tell
-nth_call : (calls : List CallPlan) (j : ℕ) (c : CallPlan) (w : ℕ) → slice_get calls j ≡ Some c → c.window ≡ w → slice_get (functions_over calls w) (calls_before calls w j) ≡ Some c.function
+nth_call : (calls : List CallPlan) (j : ℕ) (c : CallPlan) (w : ℕ) → slice_get calls j ≡ Some c → c.window ≡ w
+    → slice_get (functions_over calls w) (calls_before calls w j) ≡ Some c.function
 nth_call [] j c w e h = absurd (cc)
 nth_call (x ∷ xs) zero c w e h = go (x.window == w) (same_number x.window w (ap (λ (y : CallPlan). y.window) same ∙ h))
   where
     same : x ≡ c
     same = cc
 
-    go : (b : Bool) → b ≡ true → slice_get (map (λ (y : CallPlan). y.function) (cond b (x ∷ filter (λ (y : CallPlan). y.window == w) xs) (filter (λ (y : CallPlan). y.window == w) xs))) 0 ≡ Some c.function
+    go : (b : Bool) → b ≡ true → slice_get (map (λ (y : CallPlan). y.function)
+        (cond b (x ∷ filter (λ (y : CallPlan). y.window == w) xs) (filter (λ (y : CallPlan). y.window == w) xs))) 0 ≡ Some c.function
     go true k = ap (λ (y : CallPlan). Some y.function) same
     go false k = absurd (cc)
 nth_call (x ∷ xs) (suc j) c w e h = go (x.window == w) (nth_call xs j c w e h)
@@ -152,12 +165,25 @@ nth_call (x ∷ xs) (suc j) c w e h = go (x.window == w) (nth_call xs j c w e h)
     p : CallPlan → Bool
     p y = y.window == w
 
-    go : (b : Bool) → slice_get (functions_over xs w) (calls_before xs w j) ≡ Some c.function → slice_get (map (λ (y : CallPlan). y.function) (cond b (x ∷ filter p xs) (filter p xs))) (length (cond b (x ∷ filter p (take j xs)) (filter p (take j xs)))) ≡ Some c.function
+    go : (b : Bool) → slice_get (functions_over xs w) (calls_before xs w j) ≡ Some c.function
+        → slice_get (map (λ (y : CallPlan). y.function) (cond b (x ∷ filter p xs) (filter p xs)))
+        (length (cond b (x ∷ filter p (take j xs)) (filter p (take j xs)))) ≡ Some c.function
     go true rest = rest
     go false rest = rest
 
 no_window : Windowed
-no_window = record { values = []; value_order = []; keys = []; order = []; frame = record { mode = Rows; start = CurrentRow; end = CurrentRow; exclusion = NoOthers } }
+no_window = record {
+  values = [];
+  value_order = [];
+  keys = [];
+  order = [];
+  frame = record {
+    mode = Rows;
+    start = CurrentRow;
+    end = CurrentRow;
+    exclusion = NoOthers;
+  };
+}
 
 module _ (rows : List Row) where
   abbrev bad_window : WindowPlan → Bool
@@ -173,11 +199,13 @@ module _ (rows : List Row) where
   column y f = value_or [] (function_column rows y f)
 
   -- the columns of one window
-  one_window : (w : WindowPlan) (fs : List FunctionPlan) → window_columns w fs rows ≡ unless (bad_window w || list_any (bad_call (seen w)) fs) OutOfRange (map (column (seen w)) fs)
+  one_window : (w : WindowPlan) (fs : List FunctionPlan)
+      → window_columns w fs rows ≡ unless (bad_window w || list_any (bad_call (seen w)) fs) OutOfRange (map (column (seen w)) fs)
   unfolding IsSimple
   one_window w fs = go (windowed rows w) (simple_window rows w)
     where
-      go : (r : Result Windowed AnswerFault) → IsSimple r → (r >>= λ y. each (function_column rows y) fs) ≡ unless (is_refused r || list_any (bad_call (value_or no_window r)) fs) OutOfRange (map (column (value_or no_window r)) fs)
+      go : (r : Result Windowed AnswerFault) → IsSimple r → (r >>= λ y. each (function_column rows y) fs)
+          ≡ unless (is_refused r || list_any (bad_call (value_or no_window r)) fs) OutOfRange (map (column (value_or no_window r)) fs)
       go (Ok y) s = each_is [] (function_column rows y) (simple_column rows y) fs
       go (Err OutOfRange) s = refl
       go (Err TooManyRows) s = absurd s
@@ -191,12 +219,15 @@ module _ (rows : List Row) where
   columns_on cs k [] = []
   columns_on cs k (w ∷ ws) = map (column (seen w)) (functions_over cs k) ∷ columns_on cs (k + 1) ws
 
-  from_is : (cs : List CallPlan) (k : ℕ) (ws : List WindowPlan) → columns_from rows cs k ws ≡ unless (any_from cs k ws) OutOfRange (columns_on cs k ws)
+  from_is : (cs : List CallPlan) (k : ℕ) (ws : List WindowPlan)
+      → columns_from rows cs k ws ≡ unless (any_from cs k ws) OutOfRange (columns_on cs k ws)
   from_is cs k [] = refl
   from_is cs k (w ∷ ws) =
       ap (λ r. r >>= λ columns. columns_from rows cs (k + 1) ws >>= λ others. Ok (columns ∷ others)) (one_window w (functions_over cs k))
-      ∙ ap (λ r. unless (bad_window w || list_any (bad_call (seen w)) (functions_over cs k)) OutOfRange (map (column (seen w)) (functions_over cs k)) >>= λ columns. r >>= λ others. Ok (columns ∷ others)) (from_is cs (k + 1) ws)
-      ∙ both (bad_window w || list_any (bad_call (seen w)) (functions_over cs k)) (any_from cs (k + 1) ws) (map (column (seen w)) (functions_over cs k)) (columns_on cs (k + 1) ws)
+      ∙ ap (λ r. unless (bad_window w || list_any (bad_call (seen w)) (functions_over cs k)) OutOfRange
+      (map (column (seen w)) (functions_over cs k)) >>= λ columns. r >>= λ others. Ok (columns ∷ others)) (from_is cs (k + 1) ws)
+      ∙ both (bad_window w || list_any (bad_call (seen w)) (functions_over cs k)) (any_from cs (k + 1) ws)
+      (map (column (seen w)) (functions_over cs k)) (columns_on cs (k + 1) ws)
 
   -- whether a call of some windows is refused
   abbrev hit : CallPlan → ℕ → List WindowPlan → Bool
@@ -217,25 +248,33 @@ module _ (rows : List Row) where
   no_calls k [] = refl
   no_calls k (w ∷ ws) = no_calls (k + 1) ws
 
-  first_call : (q : FunctionPlan → Bool) (c : CallPlan) (cs : List CallPlan) (k : ℕ) → list_any q (functions_over (c ∷ cs) k) ≡ (((c.window == k) && q c.function) || list_any q (functions_over cs k))
+  first_call : (q : FunctionPlan → Bool) (c : CallPlan) (cs : List CallPlan) (k : ℕ)
+      → list_any q (functions_over (c ∷ cs) k) ≡ (((c.window == k) && q c.function) || list_any q (functions_over cs k))
   first_call q c cs k = go (c.window == k)
     where
-      go : (b : Bool) → list_any q (map (λ (y : CallPlan). y.function) (cond b (c ∷ filter (λ (y : CallPlan). y.window == k) cs) (filter (λ (y : CallPlan). y.window == k) cs))) ≡ ((b && q c.function) || list_any q (functions_over cs k))
+      go : (b : Bool) → list_any q (map (λ (y : CallPlan). y.function)
+          (cond b (c ∷ filter (λ (y : CallPlan). y.window == k) cs) (filter (λ (y : CallPlan). y.window == k) cs)))
+          ≡ ((b && q c.function) || list_any q (functions_over cs k))
       go true = refl
       go false = refl
 
-  more_calls : (c : CallPlan) (cs : List CallPlan) (k : ℕ) (ws : List WindowPlan) → calls_from (c ∷ cs) k ws ≡ (hit c k ws || calls_from cs k ws)
+  more_calls : (c : CallPlan) (cs : List CallPlan) (k : ℕ) (ws : List WindowPlan)
+      → calls_from (c ∷ cs) k ws ≡ (hit c k ws || calls_from cs k ws)
   more_calls c cs k [] = refl
   more_calls c cs k (w ∷ ws) =
       ap (λ b. b || calls_from (c ∷ cs) (k + 1) ws) (first_call (bad_call (seen w)) c cs k)
-      ∙ ap (λ b. (((c.window == k) && bad_call (seen w) c.function) || list_any (bad_call (seen w)) (functions_over cs k)) || b) (more_calls c cs (k + 1) ws)
-      ∙ exchange ((c.window == k) && bad_call (seen w) c.function) (list_any (bad_call (seen w)) (functions_over cs k)) (hit c (k + 1) ws) (calls_from cs (k + 1) ws)
+      ∙ ap (λ b. (((c.window == k) && bad_call (seen w) c.function) || list_any (bad_call (seen w)) (functions_over cs k))
+      || b) (more_calls c cs (k + 1) ws)
+      ∙ exchange ((c.window == k) && bad_call (seen w) c.function) (list_any (bad_call (seen w)) (functions_over cs k))
+      (hit c (k + 1) ws) (calls_from cs (k + 1) ws)
 
   miss : (c : CallPlan) (k : ℕ) (ws : List WindowPlan) → c.window < k → hit c k ws ≡ false
   miss c k [] h = refl
-  miss c k (w ∷ ws) h = ap (λ b. (b && bad_call (seen w) c.function) || hit c (k + 1) ws) (other_number c.window k h) ∙ miss c (k + 1) ws (omega arith)
+  miss c k (w ∷ ws) h = ap (λ b. (b && bad_call (seen w) c.function) || hit c (k + 1) ws) (other_number c.window k h)
+      ∙ miss c (k + 1) ws (omega arith)
 
-  hit_is : (c : CallPlan) (k i : ℕ) (ws : List WindowPlan) → c.window ≡ k + i → i < length ws → hit c k ws ≡ is_refused (column_in rows c.function (slice_get (map seen ws) i))
+  hit_is : (c : CallPlan) (k i : ℕ) (ws : List WindowPlan) → c.window ≡ k + i → i < length ws
+      → hit c k ws ≡ is_refused (column_in rows c.function (slice_get (map seen ws) i))
   hit_is c k i [] e h = absurd (omega arith)
   hit_is c k zero (w ∷ ws) e h =
       ap (λ b. (b && bad_call (seen w) c.function) || hit c (k + 1) ws) (same_number c.window k (omega arith))
@@ -245,9 +284,11 @@ module _ (rows : List Row) where
       or_false true = refl
       or_false false = refl
   hit_is c k (suc i) (w ∷ ws) e h =
-      ap (λ b. (b && bad_call (seen w) c.function) || hit c (k + 1) ws) (greater_number c.window k (omega arith)) ∙ hit_is c (k + 1) i ws (omega arith) (omega arith)
+      ap (λ b. (b && bad_call (seen w) c.function) || hit c (k + 1) ws) (greater_number c.window k (omega arith))
+      ∙ hit_is c (k + 1) i ws (omega arith) (omega arith)
 
-  all_calls : (cs : List CallPlan) (ws : List WindowPlan) → AllByRecursion (λ (c : CallPlan). c.window < length ws) cs → calls_from cs 0 ws ≡ list_any (λ c. is_refused (call_column rows (map seen ws) c)) cs
+  all_calls : (cs : List CallPlan) (ws : List WindowPlan) → AllByRecursion (λ (c : CallPlan). c.window < length ws) cs
+      → calls_from cs 0 ws ≡ list_any (λ c. is_refused (call_column rows (map seen ws) c)) cs
   all_calls [] ws all = no_calls 0 ws
   all_calls (c ∷ cs) ws all =
       more_calls c cs 0 ws ∙ ap (λ b. b || calls_from cs 0 ws) (hit_is c 0 c.window ws (omega arith) all.0)
@@ -258,17 +299,21 @@ module _ (rows : List Row) where
   over fs None = []
   over fs (Some y) = map (column y) fs
 
-  columns_at : (cs : List CallPlan) (k i : ℕ) (ws : List WindowPlan) → i < length ws → get_or (columns_on cs k ws) i [] ≡ over (functions_over cs (k + i)) (slice_get (map seen ws) i)
+  columns_at : (cs : List CallPlan) (k i : ℕ) (ws : List WindowPlan) → i < length ws → get_or (columns_on cs k ws) i []
+      ≡ over (functions_over cs (k + i)) (slice_get (map seen ws) i)
   columns_at cs k i [] h = absurd (omega arith)
   columns_at cs k zero (w ∷ ws) h = let e : k ≡ k + 0 = omega arith in ap (λ n. map (column (seen w)) (functions_over cs n)) e
   columns_at cs k (suc i) (w ∷ ws) h =
       let e : k + 1 + i ≡ k + suc i = omega arith in
       columns_at cs (k + 1) i ws (omega arith) ∙ ap (λ n. over (functions_over cs n) (slice_get (map seen ws) i)) e
 
-  column_is : (cs : List CallPlan) (ws : List WindowPlan) (j : ℕ) (c : CallPlan) → c.window < length ws → slice_get cs j ≡ Some c → column_found (columns_on cs 0 ws) cs j (slice_get cs j) ≡ value_or [] (call_column rows (map seen ws) c)
+  column_is : (cs : List CallPlan) (ws : List WindowPlan) (j : ℕ) (c : CallPlan) → c.window < length ws
+      → slice_get cs j ≡ Some c → column_found (columns_on cs 0 ws) cs j (slice_get cs j) ≡ value_or [] (call_column rows (map seen ws) c)
   column_is cs ws j c h e =
       ap (column_found (columns_on cs 0 ws) cs j) e
-      ∙ ap (λ l. get_or l (calls_before cs c.window j) []) (columns_at cs 0 c.window ws h ∙ ap (λ n. over (functions_over cs n) (slice_get (map seen ws) c.window)) (let here : 0 + c.window ≡ c.window = omega arith in here))
+      ∙ ap (λ l. get_or l (calls_before cs c.window j) []) (columns_at cs 0 c.window ws h
+      ∙ ap (λ n. over (functions_over cs n) (slice_get (map seen ws) c.window)) (let here : 0 + c.window ≡ c.window =
+      omega arith in here))
       ∙ go (slice_get (map seen ws) c.window)
     where
       none : List (List Meaning)
@@ -277,21 +322,27 @@ module _ (rows : List Row) where
       nothing : (n : ℕ) → get_or none n [] ≡ []
       nothing n = refl
 
-      go : (o : Option Windowed) → get_or (over (functions_over cs c.window) o) (calls_before cs c.window j) [] ≡ value_or [] (column_in rows c.function o)
+      go : (o : Option Windowed) → get_or (over (functions_over cs c.window) o) (calls_before cs c.window j) []
+          ≡ value_or [] (column_in rows c.function o)
       go None = nothing (calls_before cs c.window j)
-      go (Some y) = element_mapped (column y) (functions_over cs c.window) (calls_before cs c.window j) c.function [] (nth_call cs j c c.window e refl)
+      go (Some y) = element_mapped (column y) (functions_over cs c.window) (calls_before cs c.window j) c.function []
+          (nth_call cs j c c.window e refl)
 
-  columns_same : (cs : List CallPlan) (ws : List WindowPlan) → AllByRecursion (λ (c : CallPlan). c.window < length ws) cs → columns_of_calls (columns_on cs 0 ws) cs ≡ map (λ c. value_or [] (call_column rows (map seen ws) c)) cs
+  columns_same : (cs : List CallPlan) (ws : List WindowPlan) → AllByRecursion (λ (c : CallPlan). c.window < length ws) cs
+      → columns_of_calls (columns_on cs 0 ws) cs ≡ map (λ c. value_or [] (call_column rows (map seen ws) c)) cs
   columns_same cs ws all =
       listed (λ c. value_or [] (call_column rows (map seen ws) c)) (λ j. column_found (columns_on cs 0 ws) cs j (slice_get cs j)) cs 0
-      (λ j c e. let here : 0 + j ≡ j = omega arith in ap (λ n. column_found (columns_on cs 0 ws) cs n (slice_get cs n)) here ∙ column_is cs ws j c (all_at (λ (c : CallPlan). c.window < length ws) cs j c all e) e)
+      (λ j c e. let here : 0 + j ≡ j = omega arith in ap (λ n. column_found (columns_on cs 0 ws) cs n (slice_get cs n)) here
+      ∙ column_is cs ws j c (all_at (λ (c : CallPlan). c.window < length ws) cs j c all e) e)
 
   -- the calls' columns by window are those that are meant
-  pub by_window : (s : SelectPlan) → AllByRecursion (λ (c : CallPlan). c.window < length s.windows) s.calls → call_columns s rows ≡ (columns_from rows s.calls 0 s.windows >>= λ answers. Ok (columns_of_calls answers s.calls))
+  pub by_window : (s : SelectPlan) → AllByRecursion (λ (c : CallPlan). c.window < length s.windows) s.calls
+      → call_columns s rows ≡ (columns_from rows s.calls 0 s.windows >>= λ answers. Ok (columns_of_calls answers s.calls))
   by_window s all =
       ap (λ r. r >>= λ windows. each (call_column rows windows) s.calls) (each_is no_window (windowed rows) (simple_window rows) s.windows)
       ∙ after (list_any bad_window s.windows)
-      ∙ ap (λ b. unless b OutOfRange columns) (ap (λ b. list_any bad_window s.windows || b) (sym (all_calls s.calls s.windows all)) ∙ sym (apart s.calls 0 s.windows))
+      ∙ ap (λ b. unless b OutOfRange columns) (ap (λ b. list_any bad_window s.windows || b)
+      (sym (all_calls s.calls s.windows all)) ∙ sym (apart s.calls 0 s.windows))
       ∙ ap (λ cs. unless (any_from s.calls 0 s.windows) OutOfRange cs) (sym (columns_same s.calls s.windows all))
       ∙ sym (answered (any_from s.calls 0 s.windows))
       ∙ sym (ap (λ r. r >>= λ answers. Ok (columns_of_calls answers s.calls)) (from_is s.calls 0 s.windows))
@@ -299,21 +350,35 @@ module _ (rows : List Row) where
       columns : List (List Meaning)
       columns = map (λ c. value_or [] (call_column rows (map seen s.windows) c)) s.calls
 
-      after : (b : Bool) → (unless b OutOfRange (map seen s.windows) >>= λ windows. each (call_column rows windows) s.calls) ≡ unless (b || list_any (λ c. is_refused (call_column rows (map seen s.windows) c)) s.calls) OutOfRange columns
+      after : (b : Bool) → (unless b OutOfRange (map seen s.windows) >>= λ windows. each (call_column rows windows) s.calls)
+          ≡ unless (b || list_any (λ c. is_refused (call_column rows (map seen s.windows) c)) s.calls) OutOfRange columns
       after true = refl
-      after false = each_is [] (call_column rows (map seen s.windows)) (λ c. simple_in c.function (slice_get (map seen s.windows) c.window)) s.calls
+      after false = each_is [] (call_column rows (map seen s.windows))
+          (λ c. simple_in c.function (slice_get (map seen s.windows) c.window)) s.calls
         where
           simple_in : (f : FunctionPlan) (o : Option Windowed) → IsSimple (column_in rows f o)
           simple_in f None = simple_ok []
           simple_in f (Some y) = simple_column rows y f
 
-      answered : (b : Bool) → (unless b OutOfRange (columns_on s.calls 0 s.windows) >>= λ answers. Ok (columns_of_calls answers s.calls)) ≡ unless b OutOfRange (columns_of_calls (columns_on s.calls 0 s.windows) s.calls)
+      answered : (b : Bool) → (unless b OutOfRange (columns_on s.calls 0 s.windows) >>= λ answers.
+          Ok (columns_of_calls answers s.calls)) ≡ unless b OutOfRange (columns_of_calls (columns_on s.calls 0 s.windows) s.calls)
       answered true = refl
       answered false = refl
 
 -- sound calls are over their windows, and their functions are sound
-sound_parts : (n : ℕ) (c : CallPlan) (b : Bool) → (is_sound_call n c && b) ≡ true → (c.window < n) × (is_sound_function c.function ≡ true) × (b ≡ true)
-sound_parts n c b e = (grind (arith, nat_tests, first (nat_lt c.window n) (is_sound_function c.function) (first (is_sound_call n c) b e)), second (nat_lt c.window n) (is_sound_function c.function) (first (is_sound_call n c) b e), second (is_sound_call n c) b e)
+sound_parts : (n : ℕ) (c : CallPlan) (b : Bool) → (is_sound_call n c && b) ≡ true → (c.window < n)
+    × (is_sound_function c.function ≡ true) × (b ≡ true)
+sound_parts n c b e = (
+  grind (
+    arith,
+    nat_tests,
+    first (nat_lt c.window n) (is_sound_function c.function)
+        (first (is_sound_call n c) b e),
+  ),
+  second (nat_lt c.window n) (is_sound_function c.function)
+      (first (is_sound_call n c) b e),
+  second (is_sound_call n c) b e,
+)
   where
     first : (a b : Bool) → (a && b) ≡ true → a ≡ true
     first true b k = refl
@@ -327,12 +392,15 @@ pub sound_windows : (n : ℕ) (cs : List CallPlan) → list_all (is_sound_call n
 sound_windows n [] e = tt
 sound_windows n (c ∷ cs) e = let p = sound_parts n c (list_all (is_sound_call n) cs) e in (p.0, sound_windows n cs p.2)
 
-pub sound_functions : (n w : ℕ) (cs : List CallPlan) → list_all (is_sound_call n) cs ≡ true → list_all is_sound_function (functions_over cs w) ≡ true
+pub sound_functions : (n w : ℕ) (cs : List CallPlan) → list_all (is_sound_call n) cs ≡ true
+    → list_all is_sound_function (functions_over cs w) ≡ true
 sound_functions n w [] e = refl
 sound_functions n w (c ∷ cs) e =
     let p = sound_parts n c (list_all (is_sound_call n) cs) e in
     go (c.window == w) p.1 (sound_functions n w cs p.2)
   where
-    go : (b : Bool) → is_sound_function c.function ≡ true → list_all is_sound_function (functions_over cs w) ≡ true → list_all is_sound_function (map (λ (y : CallPlan). y.function) (cond b (c ∷ filter (λ (y : CallPlan). y.window == w) cs) (filter (λ (y : CallPlan). y.window == w) cs))) ≡ true
+    go : (b : Bool) → is_sound_function c.function ≡ true → list_all is_sound_function (functions_over cs w) ≡ true
+        → list_all is_sound_function (map (λ (y : CallPlan). y.function)
+        (cond b (c ∷ filter (λ (y : CallPlan). y.window == w) cs) (filter (λ (y : CallPlan). y.window == w) cs))) ≡ true
     go true here rest = ap (λ b. b && list_all is_sound_function (functions_over cs w)) here ∙ rest
     go false here rest = rest

@@ -23,17 +23,21 @@ one_is (s ∷ t ∷ ss) d one = absurd (omega arith)
 abbrev printed_of : SelectPlan → Result (List Row) AnswerFault → Result (List ℕ) AskFault
 printed_of s r = printed ((r >>= λ rows. Ok rows) >>= λ rows. Ok (record { names = map (λ o. o.name) s.items; rows = rows }))
 
-pub plan_is : (s : SelectPlan) (rows : List Row) (bytes : List ℕ) → text_in s (select_of s rows) ≡ Ok bytes → plan_answer (s ∷ []) rows ≡ Ok bytes
+pub plan_is : (s : SelectPlan) (rows : List Row) (bytes : List ℕ) → text_in s (select_of s rows) ≡ Ok bytes
+    → plan_answer (s ∷ []) rows ≡ Ok bytes
 plan_is s rows bytes h = go (select_of s rows) h
   where
     go : (r : Result (List Row) AnswerFault) → text_in s r ≡ Ok bytes → printed_of s r ≡ Ok bytes
     go (Ok cells) h = let same : table_text (map (λ o. o.name) s.items) cells ≡ bytes = cc in ap Ok same
     go (Err fault) h = absurd (cc)
 
-pub plan_fails : {Y : Type 0} (whole : Y → List ℕ) (s : SelectPlan) (rows : List Row) (fault : AnswerFault) (asked : AskFault) → asked ≡ unanswered fault → Gives whole (Err fault) (text_in s (select_of s rows)) → (asked ≡ faults.NoMemory) ⊎ (plan_answer (s ∷ []) rows ≡ Err asked)
+pub plan_fails : {Y : Type 0} (whole : Y → List ℕ) (s : SelectPlan) (rows : List Row) (fault : AnswerFault)
+    (asked : AskFault) → asked ≡ unanswered fault → Gives whole (Err fault) (text_in s (select_of s rows))
+    → (asked ≡ faults.NoMemory) ⊎ (plan_answer (s ∷ []) rows ≡ Err asked)
 plan_fails {Y} whole s rows fault asked e h = go (select_of s rows) fault e h
   where
-    go : (r : Result (List Row) AnswerFault) (fault : AnswerFault) → asked ≡ unanswered fault → Gives whole (Err fault) (text_in s r) → (asked ≡ faults.NoMemory) ⊎ (printed_of s r ≡ Err asked)
+    go : (r : Result (List Row) AnswerFault) (fault : AnswerFault) → asked ≡ unanswered fault
+        → Gives whole (Err fault) (text_in s r) → (asked ≡ faults.NoMemory) ⊎ (printed_of s r ≡ Err asked)
     go r NoMemory e h = inl e
     go (Ok cells) OutOfRange e h = absurd (cc)
     go (Ok cells) TooManyRows e h = absurd (cc)

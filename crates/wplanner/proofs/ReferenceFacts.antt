@@ -1,5 +1,6 @@
 -- The text of the rows that references tell.
-use Rattle.std.proofs.Common.{◌≡◌, ℕ, ◌<◌, ◌^◌, Bool, true, false, List, [], ◌∷◌, append-nil, length, map, nat_lt, None, Result, Ok, Err, refl, sym, ap, ◌∙◌, subst, arith}
+use Rattle.std.proofs.Common.{◌≡◌, ℕ, ◌<◌, ◌^◌, Bool, true, false, List, [], ◌∷◌, append-nil, length}
+use Rattle.std.proofs.Common.{map, nat_lt, None, Result, Ok, Err, refl, sym, ap, ◌∙◌, subst, arith}
 use Rattle.std.proofs.lemmas.Bool.Decides.{nat_tests}
 use Rattle.std.proofs.lemmas.Cmp.{on_total}
 use Rattle.std.proofs.lemmas.List.{length-map}
@@ -37,12 +38,14 @@ use Rattle.wplanner.proofs.PlanFacts.{beside_nothing}
 long_given : (plans : List KeyPlan) (rows : List Row) (numbers : List ℕ) → by_keys plans [] rows ≡ Ok numbers → length numbers ≡ length rows
 long_given plans rows numbers e = go (lists_of (map (λ k. k.value) plans) (beside rows [])) e
   where
-    go : (by : Result (List (List Meaning)) AnswerFault) → (by >>= λ by. Ok (numbers_by (map (λ k. k.order) plans) by (length (beside rows [])))) ≡ Ok numbers → length numbers ≡ length rows
+    go : (by : Result (List (List Meaning)) AnswerFault)
+        → (by >>= λ by. Ok (numbers_by (map (λ k. k.order) plans) by (length (beside rows [])))) ≡ Ok numbers → length numbers ≡ length rows
     go (Ok by) h =
         let n = length (beside rows []) in
         let same : numbers_by (map (λ k. k.order) plans) by n ≡ numbers = cc in
         let cmp = on (key_at by) (keys_cmp (map (λ k. k.order) plans)) in
-        ap length (sym same) ∙ length_sorted cmp (on_total (key_at by) (keys_total (map (λ k. k.order) plans))) (places n) ∙ length-places 0 n
+        ap length (sym same) ∙ length_sorted cmp (on_total (key_at by) (keys_total (map (λ k. k.order) plans))) (places n)
+        ∙ length-places 0 n
         ∙ length-map (places (length rows)) _ ∙ length-places 0 (length rows)
     go (Err fault) h = absurd (cc)
 
@@ -52,11 +55,14 @@ few_alike rows found long few =
     let fits : nat_lt 2147483647 (length rows) ≡ false = grind (arith, nat_tests, long, few) in
     ap (λ b. unless b TooManyRows rows) fits
 
-many_alike : {X Y : Type 0} (view : X → List Row) (whole : Y → List Row) (fault : AnswerFault) (rows found : List Row) → length found ≡ length rows → Gives view (Err fault) (not_too_many found) → Gives whole (Err fault) (not_too_many rows)
+many_alike : {X Y : Type 0} (view : X → List Row) (whole : Y → List Row) (fault : AnswerFault) (rows found : List Row)
+    → length found ≡ length rows → Gives view (Err fault) (not_too_many found) → Gives whole (Err fault) (not_too_many rows)
 many_alike {X} {Y} view whole fault rows found long refused =
-    subst (λ n. Gives whole (Err fault) (unless (nat_lt 2147483647 n) TooManyRows rows)) long (go (nat_lt 2147483647 (length found)) fault refused)
+    subst (λ n. Gives whole (Err fault) (unless (nat_lt 2147483647 n) TooManyRows rows)) long
+    (go (nat_lt 2147483647 (length found)) fault refused)
   where
-    go : (b : Bool) (fault : AnswerFault) → Gives view (Err fault) (unless b TooManyRows found) → Gives whole (Err fault) (unless b TooManyRows rows)
+    go : (b : Bool) (fault : AnswerFault) → Gives view (Err fault) (unless b TooManyRows found)
+        → Gives whole (Err fault) (unless b TooManyRows rows)
     go b NoMemory h = tt
     go true OutOfRange h = absurd (cc)
     go true TooManyRows h = refl
@@ -66,9 +72,12 @@ many_alike {X} {Y} view whole fault rows found long refused =
 -- rows of numbers, beside which nothing stands
 none_beside : (rows : List Row) (numbers : List ℕ) → map (row_beside rows []) numbers ≡ map (key_at rows) numbers
 none_beside rows [] = refl
-none_beside rows (i ∷ numbers) = ap (λ r. r ∷ map (row_beside rows []) numbers) (append-nil (key_at rows i)) ∙ ap (λ l. key_at rows i ∷ l) (none_beside rows numbers)
+none_beside rows (i ∷ numbers) = ap (λ r. r ∷ map (row_beside rows []) numbers) (append-nil (key_at rows i))
+    ∙ ap (λ l. key_at rows i ∷ l) (none_beside rows numbers)
 
-module _ (s : SelectPlan) (ps : List ℕ) (reads : ReadsPlaces s ps) (sound : is_sound_select s ≡ true) (none : length s.windows ≡ 0) (all : s.condition ≡ None) (segments : List (List Row)) (refs : List RowRef) (of : IsOrderFor segments (by_keys s.keys []) refs) where
+module _ (s : SelectPlan) (ps : List ℕ) (reads : ReadsPlaces s ps) (sound : is_sound_select s ≡ true)
+    (none : length s.windows ≡ 0) (all : s.condition ≡ None) (segments : List (List Row)) (refs : List RowRef)
+    (of : IsOrderFor segments (by_keys s.keys []) refs) where
   abbrev rows : List Row
   rows = joined segments
 
@@ -91,18 +100,23 @@ module _ (s : SelectPlan) (ps : List ℕ) (reads : ReadsPlaces s ps) (sound : is
   text_of rows = table_text (map (λ o. o.name) s.items) (map (values_at ps) rows)
 
   -- the rows of the numbers, as they are asked for
-  asked_are : (found : List Row) → found ≡ map (referenced_row segments) refs → cut s.offset s.limit (beside found []) ≡ map (row_beside rows []) (cut s.offset s.limit numbers)
+  asked_are : (found : List Row) → found ≡ map (referenced_row segments) refs → cut s.offset s.limit (beside found [])
+      ≡ map (row_beside rows []) (cut s.offset s.limit numbers)
   asked_are found is =
-      ap (cut s.offset s.limit) (beside_nothing found ∙ is ∙ sym are_presorted ∙ sym (none_beside rows numbers)) ∙ sym (map-cut (row_beside rows []) s.offset s.limit numbers)
+      ap (cut s.offset s.limit) (beside_nothing found ∙ is ∙ sym are_presorted ∙ sym (none_beside rows numbers))
+      ∙ sym (map-cut (row_beside rows []) s.offset s.limit numbers)
 
   -- the text of all rows, as references tell them
-  pub referenced_is : (found : List Row) (bytes : List ℕ) → not_too_many (map (referenced_row segments) refs) ≡ Ok found → bytes ≡ text_of (cut s.offset s.limit (beside found [])) → text_in s (select_of s rows) ≡ Ok bytes
+  pub referenced_is : (found : List Row) (bytes : List ℕ) → not_too_many (map (referenced_row segments) refs) ≡ Ok found
+      → bytes ≡ text_of (cut s.offset s.limit (beside found [])) → text_in s (select_of s rows) ≡ Ok bytes
   referenced_is found bytes judged printed =
       let few = few_is (map (referenced_row segments) refs) found judged in
       kept_is s ps reads rows rows (kept_all ∙ few_alike rows found (ap length few.0 ∙ long) few.1)
       ∙ sorted_is s ps reads rows numbers bytes sound none in_order (printed ∙ ap text_of (asked_are found few.0))
 
-  pub referenced_fails : {X Y : Type 0} (view : X → List Row) (whole : Y → List ℕ) (fault : AnswerFault) → Gives view (Err fault) (not_too_many (map (referenced_row segments) refs)) → Gives whole (Err fault) (text_in s (select_of s rows))
+  pub referenced_fails : {X Y : Type 0} (view : X → List Row) (whole : Y → List ℕ) (fault : AnswerFault)
+      → Gives view (Err fault) (not_too_many (map (referenced_row segments) refs)) → Gives whole (Err fault) (text_in s (select_of s rows))
   referenced_fails {X} view whole fault refused =
       let P : Result (List Row) AnswerFault → Type 0 = λ r. Gives view (Err fault) r in
-      kept_fails s ps reads view whole fault rows (subst P (sym kept_all) (many_alike view view fault rows (map (referenced_row segments) refs) long refused))
+      kept_fails s ps reads view whole fault rows
+      (subst P (sym kept_all) (many_alike view view fault rows (map (referenced_row segments) refs) long refused))

@@ -10,7 +10,8 @@ use Rattle.wquery.specs.declared.frame.FrameExclusion.TheVariants.{NoOthers, Tie
 use Rattle.wplan.specs.declared.resolved.ResolvedFrame.{ResolvedFrame}
 use Rattle.wplan.specs.declared.resolved.AggregateFunction.TheVariants.{CountRows, Sum, Max}
 use Rattle.wplan.specs.Formula.{Formula, Constant, At, Applied, Compared, Among, NoFormulas, MoreFormulas}
-use Rattle.wplan.specs.Plans.{AggregatePlan, GroupCallPlan, GroupAggregate, GroupingOf, KeyPlan, WindowPlan, FunctionPlan, OutputPlan, SelectPlan, RowNumber, Rank, Tile, Lag, Lead, NthValue, Aggregated}
+use Rattle.wplan.specs.Plans.{AggregatePlan, GroupCallPlan, GroupAggregate, GroupingOf, KeyPlan, WindowPlan, FunctionPlan}
+use Rattle.wplan.specs.Plans.{OutputPlan, SelectPlan, RowNumber, Rank, Tile, Lag, Lead, NthValue, Aggregated}
 use Rattle.wrows.specs.declared.fault.AnswerFault.{AnswerFault}
 use Rattle.wrows.specs.declared.fault.AnswerFault.TheVariants.{OutOfRange}
 use Rattle.wrows.specs.Outcomes.{◌>>=◌}
@@ -70,7 +71,10 @@ rows_counted = record { function = CountRows; argument = Constant Null; filter =
 
 -- groups by sets of some columns
 abbrev by_sets : List ℕ → List (List ℕ) → List GroupCallPlan → List OutputPlan → SelectPlan
-by_sets columns sets calls items = record (plain items) { grouping = Some (record { columns = columns; sets = sets; calls = calls; having = None }) }
+by_sets columns sets calls items = record (plain items) {
+  grouping =
+      Some (record { columns = columns; sets = sets; calls = calls; having = None });
+}
 
 -- groups by some columns
 abbrev grouped : List ℕ → List AggregatePlan → List OutputPlan → SelectPlan
@@ -94,20 +98,23 @@ unfolding digits
 no_rows = refl
 
 -- a running sum up to the last peer
-running_sum : printed (over (by_day all_before) (Aggregated (total amount)) (named (codes "day") day ∷ named (codes "sum") first_call ∷ []) ∷ []) sales ≡ Ok (codes "day,sum\n1,10\n2,35\n2,35\n4,35\n")
+running_sum : printed (over (by_day all_before) (Aggregated (total amount)) (named (codes "day") day ∷ named (codes "sum")
+    first_call ∷ []) ∷ []) sales ≡ Ok (codes "day,sum\n1,10\n2,35\n2,35\n4,35\n")
 unfolding digits
 running_sum = refl
 
 -- two groups of peers, without the row's own
 groups_counted :
-    printed (over (by_day (record { mode = Groups; start = Preceding 1; end = CurrentRow; exclusion = Ties })) (Aggregated rows_counted) (named (codes "count") first_call ∷ []) ∷ []) sales
+    printed (over (by_day (record { mode = Groups; start = Preceding 1; end = CurrentRow; exclusion = Ties }))
+    (Aggregated rows_counted) (named (codes "count") first_call ∷ []) ∷ []) sales
     ≡ Ok (codes "count\n1\n2\n2\n3\n")
 unfolding digits
 groups_counted = refl
 
 -- three rows
 three_rows :
-    printed (over (by_day (record { mode = Rows; start = Preceding 2; end = CurrentRow; exclusion = NoOthers })) (Aggregated (total amount)) (named (codes "sum") first_call ∷ []) ∷ []) sales
+    printed (over (by_day (record { mode = Rows; start = Preceding 2; end = CurrentRow; exclusion = NoOthers }))
+    (Aggregated (total amount)) (named (codes "sum") first_call ∷ []) ∷ []) sales
     ≡ Ok (codes "sum\n10\n30\n35\n25\n")
 unfolding digits
 three_rows = refl
@@ -124,7 +131,8 @@ rows_numbered = refl
 
 -- a rank over groups
 groups_ranked :
-    printed (record (grouped (1 ∷ []) (total amount ∷ []) (named (codes "shop") (At 0) ∷ named (codes "sum") (At 1) ∷ named (codes "rank") (At 2) ∷ [])) {
+    printed (record (grouped (1 ∷ []) (total amount ∷ []) (named (codes "shop") (At 0) ∷ named (codes "sum") (At 1) ∷ named
+    (codes "rank") (At 2) ∷ [])) {
       windows = record { partition = []; keys = down (At 1) ∷ []; frame = all_before } ∷ [];
       calls = record { window = 0; function = Rank } ∷ [];
     } ∷ []) sales
@@ -134,45 +142,61 @@ groups_ranked = refl
 
 -- HAVING leaves no group
 no_group_left :
-    printed (record (plain (named (codes "count") (At 0) ∷ [])) { grouping = Some (record { columns = []; sets = [] ∷ []; calls = GroupAggregate rows_counted ∷ []; having = Some (Compared Greater (At 0) (Constant (int 9))) }) } ∷ []) sales
+    printed (record (plain (named (codes "count") (At 0) ∷ [])) {
+      grouping =
+          Some (record {
+            columns = [];
+            sets = [] ∷ [];
+            calls = GroupAggregate rows_counted ∷ [];
+            having =
+                Some (Compared Greater (At 0) (Constant (int 9)));
+          });
+    } ∷ []) sales
     ≡ Ok (codes "count\n")
 unfolding digits
 no_group_left = refl
 
 -- sums of shops, and of all rows
 rollup_of_shops :
-    printed (by_sets (1 ∷ []) ((1 ∷ []) ∷ [] ∷ []) (GroupAggregate (total amount) ∷ GroupingOf (1 ∷ []) ∷ []) (named (codes "shop") (At 0) ∷ named (codes "sum") (At 1) ∷ named (codes "grouping") (At 2) ∷ []) ∷ []) sales
+    printed (by_sets (1 ∷ []) ((1 ∷ []) ∷ [] ∷ []) (GroupAggregate (total amount) ∷ GroupingOf (1 ∷ []) ∷ [])
+    (named (codes "shop") (At 0) ∷ named (codes "sum") (At 1) ∷ named (codes "grouping") (At 2) ∷ []) ∷ []) sales
     ≡ Ok (codes "shop,sum,grouping\na,30,0\nb,5,0\n,35,1\n")
 unfolding digits
 rollup_of_shops = refl
 
 -- each choice of day and shop
 cube_of_days :
-    printed (by_sets (0 ∷ 1 ∷ []) ((0 ∷ 1 ∷ []) ∷ (0 ∷ []) ∷ (1 ∷ []) ∷ [] ∷ []) (GroupAggregate rows_counted ∷ GroupingOf (0 ∷ 1 ∷ []) ∷ [])
-    (named (codes "day") (At 0) ∷ named (codes "shop") (At 1) ∷ named (codes "count") (At 2) ∷ named (codes "grouping") (At 3) ∷ []) ∷ []) sales
+    printed (by_sets (0 ∷ 1 ∷ []) ((0 ∷ 1 ∷ []) ∷ (0 ∷ []) ∷ (1 ∷ []) ∷ [] ∷ []) (GroupAggregate rows_counted ∷ GroupingOf
+    (0 ∷ 1 ∷ []) ∷ [])
+    (named (codes "day") (At 0) ∷ named (codes "shop") (At 1) ∷ named (codes "count") (At 2) ∷ named (codes "grouping")
+    (At 3) ∷ []) ∷ []) sales
     ≡ Ok (codes "day,shop,count,grouping\n1,a,1,0\n2,a,1,0\n2,b,1,0\n4,a,1,0\n1,,1,1\n2,,2,1\n4,,1,1\n,a,3,2\n,b,1,2\n,,4,3\n")
 unfolding digits
 cube_of_days = refl
 
 -- a null key is no column that the set lacks
 null_and_lacking :
-    printed (by_sets (2 ∷ []) ((2 ∷ []) ∷ [] ∷ []) (GroupAggregate rows_counted ∷ GroupingOf (2 ∷ []) ∷ []) (named (codes "amount") (At 0) ∷ named (codes "count") (At 1) ∷ named (codes "grouping") (At 2) ∷ []) ∷ []) sales
+    printed (by_sets (2 ∷ []) ((2 ∷ []) ∷ [] ∷ []) (GroupAggregate rows_counted ∷ GroupingOf (2 ∷ []) ∷ [])
+    (named (codes "amount") (At 0) ∷ named (codes "count") (At 1) ∷ named (codes "grouping") (At 2) ∷ []) ∷ []) sales
     ≡ Ok (codes "amount,count,grouping\n5,1,0\n10,1,0\n20,1,0\n,1,0\n,4,1\n")
 unfolding digits
 null_and_lacking = refl
 
 -- of no rows the empty set has a group, and another set has none
-sets_of_no_rows : printed (by_sets (1 ∷ []) ((1 ∷ []) ∷ [] ∷ []) (GroupAggregate rows_counted ∷ []) (named (codes "shop") (At 0) ∷ named (codes "count") (At 1) ∷ []) ∷ []) [] ≡ Ok (codes "shop,count\n,0\n")
+sets_of_no_rows : printed (by_sets (1 ∷ []) ((1 ∷ []) ∷ [] ∷ []) (GroupAggregate rows_counted ∷ [])
+    (named (codes "shop") (At 0) ∷ named (codes "count") (At 1) ∷ []) ∷ []) [] ≡ Ok (codes "shop,count\n,0\n")
 unfolding digits
 sets_of_no_rows = refl
 
-no_group_of_no_rows : printed (grouped (1 ∷ []) (rows_counted ∷ []) (named (codes "shop") (At 0) ∷ named (codes "count") (At 1) ∷ []) ∷ []) [] ≡ Ok (codes "shop,count\n")
+no_group_of_no_rows : printed (grouped (1 ∷ []) (rows_counted ∷ []) (named (codes "shop") (At 0) ∷ named (codes "count")
+    (At 1) ∷ []) ∷ []) [] ≡ Ok (codes "shop,count\n")
 unfolding digits
 no_group_of_no_rows = refl
 
 -- a rank within each set
 sets_ranked :
-    printed (record (by_sets (1 ∷ []) ((1 ∷ []) ∷ [] ∷ []) (GroupingOf (1 ∷ []) ∷ GroupAggregate (total amount) ∷ []) (named (codes "shop") (At 0) ∷ named (codes "rank") (At 3) ∷ [])) {
+    printed (record (by_sets (1 ∷ []) ((1 ∷ []) ∷ [] ∷ []) (GroupingOf (1 ∷ []) ∷ GroupAggregate (total amount) ∷ [])
+    (named (codes "shop") (At 0) ∷ named (codes "rank") (At 3) ∷ [])) {
       windows = record { partition = At 1 ∷ []; keys = down (At 2) ∷ []; frame = all_before } ∷ [];
       calls = record { window = 0; function = Rank } ∷ [];
     } ∷ []) sales
@@ -183,16 +207,25 @@ sets_ranked = refl
 abbrev greatest : Formula
 greatest = Constant (int 39614081257132168796771975167)
 
-greatest_printed : printed (record (plain (named (codes "n") greatest ∷ [])) { limit = Some 1 } ∷ []) sales ≡ Ok (codes "n\n39614081257132168796771975167\n")
+greatest_printed : printed (record (plain (named (codes "n") greatest ∷ [])) { limit = Some 1 } ∷ []) sales
+    ≡ Ok (codes "n\n39614081257132168796771975167\n")
 unfolding digits
 greatest_printed = refl
 
 -- out of range, though no row is asked for
-nothing_skipped : printed (record (plain (named [] (Applied Plus greatest (Constant (int 1))) ∷ [])) { limit = Some 0 } ∷ []) sales ≡ Err OutOfRange
+nothing_skipped : printed (record (plain (named [] (Applied Plus greatest (Constant (int 1))) ∷ [])) {
+  limit =
+      Some 0;
+} ∷ []) sales ≡ Err OutOfRange
 nothing_skipped = refl
 
 -- nulls first, then from the greatest amount on
-by_amount : printed (record (plain (named (codes "day") day ∷ [])) { keys = down amount ∷ []; offset = 1; limit = Some 2 } ∷ []) sales ≡ Ok (codes "day\n2\n1\n")
+by_amount : printed (record (plain (named (codes "day") day ∷ [])) {
+  keys = down amount ∷ [];
+  offset = 1;
+  limit =
+      Some 2;
+} ∷ []) sales ≡ Ok (codes "day\n2\n1\n")
 unfolding digits
 by_amount = refl
 
@@ -202,7 +235,8 @@ quoted_name = refl
 
 -- a derived table: the greatest of the running sums
 greatest_sum :
-    printed (over (by_day all_before) (Aggregated (total amount)) (named (codes "sum") first_call ∷ []) ∷ grouped [] (record (total (At 0)) { function = Max } ∷ []) (named (codes "max") (At 0) ∷ []) ∷ []) sales
+    printed (over (by_day all_before) (Aggregated (total amount)) (named (codes "sum") first_call ∷ []) ∷ grouped []
+    (record (total (At 0)) { function = Max } ∷ []) (named (codes "max") (At 0) ∷ []) ∷ []) sales
     ≡ Ok (codes "max\n35\n")
 unfolding digits
 greatest_sum = refl
@@ -210,23 +244,27 @@ greatest_sum = refl
 -- amount IN (5, NULL) OR day >= 4
 kept_by_condition :
     printed (record (plain (named (codes "day") day ∷ named (codes "amount") amount ∷ [])) {
-      condition = Some (Applied Or (Among false amount (MoreFormulas (Constant (int 5)) (MoreFormulas (Constant Null) NoFormulas))) (Compared GreaterOrEqual day (Constant (int 4))));
+      condition = Some (Applied Or (Among false amount
+          (MoreFormulas (Constant (int 5)) (MoreFormulas (Constant Null) NoFormulas))) (Compared GreaterOrEqual day (Constant (int 4))));
     } ∷ []) sales
     ≡ Ok (codes "day,amount\n2,5\n4,\n")
 unfolding digits
 kept_by_condition = refl
 
-lagging : printed (over (by_day all_before) (Lag shop 2 (Text [])) (named (codes "lag") first_call ∷ []) ∷ []) sales ≡ Ok (codes "lag\n\"\"\n\"\"\na\na\n")
+lagging : printed (over (by_day all_before) (Lag shop 2 (Text [])) (named (codes "lag") first_call ∷ []) ∷ []) sales
+    ≡ Ok (codes "lag\n\"\"\n\"\"\na\na\n")
 unfolding digits
 lagging = refl
 
 leading :
-    printed (over (record { partition = shop ∷ []; keys = up day ∷ []; frame = all_before }) (Lead day 1 Null) (named (codes "lead") first_call ∷ []) ∷ []) sales
+    printed (over (record { partition = shop ∷ []; keys = up day ∷ []; frame = all_before }) (Lead day 1 Null)
+    (named (codes "lead") first_call ∷ []) ∷ []) sales
     ≡ Ok (codes "lead\n2\n4\n\n\n")
 unfolding digits
 leading = refl
 
-seconds : printed (over (by_day all_before) (NthValue amount 2) (named (codes "nth_value") first_call ∷ []) ∷ []) sales ≡ Ok (codes "nth_value\n\n20\n20\n20\n")
+seconds : printed (over (by_day all_before) (NthValue amount 2) (named (codes "nth_value") first_call ∷ []) ∷ []) sales
+    ≡ Ok (codes "nth_value\n\n20\n20\n20\n")
 unfolding digits
 seconds = refl
 
@@ -241,13 +279,17 @@ by_amounts = refl
 
 -- the sums of the groups, summed
 sums_summed :
-    printed (record (grouped (1 ∷ []) (total amount ∷ []) (named (codes "sum") (At 2) ∷ [])) { windows = everything ∷ []; calls = record { window = 0; function = Aggregated (total (At 1)) } ∷ [] } ∷ []) sales
+    printed (record (grouped (1 ∷ []) (total amount ∷ []) (named (codes "sum") (At 2) ∷ [])) {
+      windows = everything ∷ [];
+      calls = record { window = 0; function = Aggregated (total (At 1)) } ∷ [];
+    } ∷ []) sales
     ≡ Ok (codes "sum\n35\n35\n")
 unfolding digits
 sums_summed = refl
 
 -- rows of an answer are numbered by their places in it
 lag_of_answer :
-    answer_of (record (plain (named [] day ∷ [])) { keys = down day ∷ []; limit = Some 2 } ∷ over everything (Lag (At 0) 1 Null) (named [] (At 1) ∷ []) ∷ []) sales
+    answer_of (record (plain (named [] day ∷ [])) { keys = down day ∷ []; limit = Some 2 } ∷ over everything
+    (Lag (At 0) 1 Null) (named [] (At 1) ∷ []) ∷ []) sales
     ≡ Ok ((Null ∷ []) ∷ (int 4 ∷ []) ∷ [])
 lag_of_answer = refl

@@ -26,7 +26,8 @@ columns_from rows calls w (window ∷ windows) = do
 -- the most joins, over so many rows, of the functions over each window, of which the first has this number
 abbrev pub most_from : ℕ → List CallPlan → ℕ → List WindowPlan → ℕ
 most_from rows calls w [] = 0
-most_from rows calls w (window ∷ windows) = most_of_functions (frame_of window.frame).exclusion rows (functions_over calls w) + most_from rows calls (w + 1) windows
+most_from rows calls w (window ∷ windows) = most_of_functions (frame_of window.frame).exclusion rows
+    (functions_over calls w) + most_from rows calls (w + 1) windows
 
 -- how many of the first calls are over the window of a number
 abbrev pub calls_before : List CallPlan → ℕ → ℕ → ℕ

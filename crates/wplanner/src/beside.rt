@@ -67,7 +67,9 @@ fn picked_text(
     columns: &[&[Value]],
     numbers: &[usize],
 ) -> Result<Vec<u8>, AllocError>
-    ensures { IfOk result (λ bytes. bytes.items ≡ table_text (map (λ o. o.name) (select_plan select.now).items) (map (values_at places.now) (map (row_beside (rows_seen rows.now) (rows_seen columns.now)) (cut select.now.offset select.now.limit numbers.now)))) }
+    ensures { IfOk result (λ bytes. bytes.items ≡ table_text (map (λ o. o.name) (select_plan select.now).items)
+        (map (values_at places.now) (map (row_beside (rows_seen rows.now) (rows_seen columns.now))
+        (cut select.now.offset select.now.limit numbers.now)))) }
 {
     let names = item_names(alloc, &select.items)?;
     let picked = PickedRows {
@@ -86,7 +88,8 @@ pub(crate) fn standing_text(
     rows: &[&[Value]],
     columns: &[&[Value]],
 ) -> Result<Vec<u8>, AllocError>
-    ensures { IfOk result (λ bytes. bytes.items ≡ table_text (map (λ o. o.name) (select_plan select.now).items) (map (values_at places.now) (cut select.now.offset select.now.limit (beside (rows_seen rows.now) (rows_seen columns.now))))) }
+    ensures { IfOk result (λ bytes. bytes.items ≡ table_text (map (λ o. o.name) (select_plan select.now).items)
+        (map (values_at places.now) (cut select.now.offset select.now.limit (beside (rows_seen rows.now) (rows_seen columns.now))))) }
 {
     let names = item_names(alloc, &select.items)?;
     let from = at_most(select.offset, rows.len());
@@ -109,9 +112,11 @@ fn text_beside(
     presorted: &Option<Vec<usize>>,
 ) -> Result<Vec<u8>, AllocError>
     requires reads { ReadsPlaces (select_plan select.now) places.now }
-    requires presorted { IfSome presorted.now (λ numbers. by_keys (select_plan select.now).keys (rows_seen columns.now) (rows_seen rows.now) ≡ Ok numbers.items) }
+    requires presorted { IfSome presorted.now (λ numbers. by_keys (select_plan select.now).keys (rows_seen columns.now)
+        (rows_seen rows.now) ≡ Ok numbers.items) }
     requires standing { presorted.now ≡ None → length (select_plan select.now).keys ≡ 0 }
-    ensures { IfOk result (λ bytes. text_in (select_plan select.now) (items_of (select_plan select.now) (beside (rows_seen rows.now) (rows_seen columns.now))) ≡ Ok bytes.items) }
+    ensures { IfOk result (λ bytes. text_in (select_plan select.now)
+        (items_of (select_plan select.now) (beside (rows_seen rows.now) (rows_seen columns.now))) ≡ Ok bytes.items) }
 {
     match presorted {
         None => standing_text(alloc, select, places, rows, columns),
@@ -132,7 +137,8 @@ fn called_text(
     requires few { length rows.now < 2 ^ 31 }
     requires presorted { ArePresorted (rows_seen rows.now) (select_plan select.now).keys presorted }
     requires standing { presorted.keys ≡ None → length (select_plan select.now).keys ≡ 0 }
-    ensures { Gives (λ bytes. bytes.items) result (text_in (select_plan select.now) (left_items (select_plan select.now) (rows_seen rows.now))) }
+    ensures { Gives (λ bytes. bytes.items) result
+        (text_in (select_plan select.now) (left_items (select_plan select.now) (rows_seen rows.now))) }
 {
     let PresortedOrders { windows, keys } = presorted;
     let mut work = Work::new();
@@ -174,7 +180,8 @@ fn sorted_text(
     requires reads { ReadsPlaces (select_plan select.now) places.now }
     requires sound { is_sound_select (select_plan select.now) ≡ true }
     requires unwindowed { length (select_plan select.now).windows ≡ 0 }
-    ensures { Gives (λ bytes. bytes.items) result (text_in (select_plan select.now) (left_items (select_plan select.now) (rows_seen rows.now))) }
+    ensures { Gives (λ bytes. bytes.items) result
+        (text_in (select_plan select.now) (left_items (select_plan select.now) (rows_seen rows.now))) }
 {
     let numbers = key_numbers(alloc, select, rows)?;
     let bytes = picked_text(alloc, select, places, rows, &[], &numbers)?;
@@ -208,7 +215,8 @@ fn made_text(
     requires sound { is_sound_select (select_plan select.now) ≡ true }
     requires few { length rows.items < 2 ^ 31 }
     requires presorted { ArePresorted (rows_seen rows.items) (select_plan select.now).keys presorted }
-    ensures { Gives (λ bytes. bytes.items) result (text_in (select_plan select.now) (left_items (select_plan select.now) (rows_seen rows.entry.items))) }
+    ensures { Gives (λ bytes. bytes.items) result
+        (text_in (select_plan select.now) (left_items (select_plan select.now) (rows_seen rows.entry.items))) }
 {
     let mut work = Work::new();
     let cells = made_items(alloc, select, rows, presorted, &mut work)?;
@@ -248,7 +256,8 @@ pub(crate) fn rows_text(
     requires sound { is_sound_select (select_plan select.now) ≡ true }
     requires few { length rows.items < 2 ^ 31 }
     requires presorted { ArePresorted (rows_seen rows.items) (select_plan select.now).keys presorted }
-    ensures { Gives (λ bytes. bytes.items) result (text_in (select_plan select.now) (left_items (select_plan select.now) (rows_seen rows.entry.items))) }
+    ensures { Gives (λ bytes. bytes.items) result
+        (text_in (select_plan select.now) (left_items (select_plan select.now) (rows_seen rows.entry.items))) }
 {
     if is_presorted(select, &presorted) {
         called_text(alloc, select, places, &rows, presorted)

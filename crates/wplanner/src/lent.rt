@@ -33,7 +33,8 @@ fn few_text(
 ) -> Result<Option<Vec<u8>>, AnswerFault>
     requires reads { ReadsPlaces (select_plan select.now) places.now }
     requires sound { is_sound_select (select_plan select.now) ≡ true }
-    ensures { MayGive (λ bytes. bytes.items) result (text_in (select_plan select.now) (select_of (select_plan select.now) (rows_of_set set.now))) }
+    ensures { MayGive (λ bytes. bytes.items) result
+        (text_in (select_plan select.now) (select_of (select_plan select.now) (rows_of_set set.now))) }
 {
     let found = few_kept_rows(alloc, select, set)?;
     match found {
@@ -54,7 +55,8 @@ fn unordered_text(
 ) -> Result<Vec<u8>, AnswerFault>
     requires reads { ReadsPlaces (select_plan select.now) places.now }
     requires sound { is_sound_select (select_plan select.now) ≡ true }
-    ensures { Gives (λ bytes. bytes.items) result (text_in (select_plan select.now) (select_of (select_plan select.now) (rows_of_set set.now))) }
+    ensures { Gives (λ bytes. bytes.items) result
+        (text_in (select_plan select.now) (select_of (select_plan select.now) (rows_of_set set.now))) }
 {
     let kept = kept_table_rows(alloc, &select.condition, set)?;
     rows_text(alloc, select, places, kept, PresortedOrders::none(alloc))
@@ -73,7 +75,8 @@ fn referenced_text(
     requires unwindowed { length (select_plan select.now).windows ≡ 0 }
     requires all { (select_plan select.now).condition ≡ None }
     requires order { IsOrderFor (live_rows set.now) (by_keys (select_plan select.now).keys []) refs.now }
-    ensures { Gives (λ bytes. bytes.items) result (text_in (select_plan select.now) (select_of (select_plan select.now) (rows_of_set set.now))) }
+    ensures { Gives (λ bytes. bytes.items) result
+        (text_in (select_plan select.now) (select_of (select_plan select.now) (rows_of_set set.now))) }
 {
     let rows = referenced_rows(alloc, set, refs)?;
     let bytes = standing_text(alloc, select, places, &rows, &[])?;
@@ -93,7 +96,8 @@ fn all_text(
     requires unwindowed { length (select_plan select.now).windows ≡ 0 }
     requires all { (select_plan select.now).condition ≡ None }
     requires orders { AreTableOrders (live_rows set.now) (select_plan select.now).keys orders.now }
-    ensures { Gives (λ bytes. bytes.items) result (text_in (select_plan select.now) (select_of (select_plan select.now) (rows_of_set set.now))) }
+    ensures { Gives (λ bytes. bytes.items) result
+        (text_in (select_plan select.now) (select_of (select_plan select.now) (rows_of_set set.now))) }
 {
     match &orders.keys {
         None => unordered_text(alloc, select, places, set),
@@ -113,7 +117,8 @@ fn presorted_text(
     requires reads { ReadsPlaces (select_plan select.now) places.now }
     requires sound { is_sound_select (select_plan select.now) ≡ true }
     requires orders { AreTableOrders (live_rows set.now) (select_plan select.now).keys orders }
-    ensures { Gives (λ bytes. bytes.items) result (text_in (select_plan select.now) (select_of (select_plan select.now) (rows_of_set set.now))) }
+    ensures { Gives (λ bytes. bytes.items) result
+        (text_in (select_plan select.now) (select_of (select_plan select.now) (rows_of_set set.now))) }
 {
     if select.condition.is_none() && is_unwindowed(select) {
         return all_text(alloc, select, places, set, &orders);
@@ -133,7 +138,8 @@ fn text_by_runs(
 ) -> Result<Vec<u8>, AnswerFault>
     requires reads { ReadsPlaces (select_plan select.now) places.now }
     requires sound { is_sound_select (select_plan select.now) ≡ true }
-    ensures text { Gives (λ bytes. bytes.items) result (text_in (select_plan select.now) (select_of (select_plan select.now) (rows_of_set set.old))) }
+    ensures text { Gives (λ bytes. bytes.items) result
+        (text_in (select_plan select.now) (select_of (select_plan select.now) (rows_of_set set.old))) }
     ensures same { Becomes set.old set.old.view set.new }
 {
     let orders = table_orders(alloc, select, set)?;
@@ -155,7 +161,8 @@ pub(crate) fn lent_text(
 ) -> Result<Vec<u8>, AnswerFault>
     requires reads { ReadsPlaces (select_plan select.now) places.now }
     requires sound { is_sound_select (select_plan select.now) ≡ true }
-    ensures text { Gives (λ bytes. bytes.items) result (text_in (select_plan select.now) (select_of (select_plan select.now) (rows_of_set set.old))) }
+    ensures text { Gives (λ bytes. bytes.items) result
+        (text_in (select_plan select.now) (select_of (select_plan select.now) (rows_of_set set.old))) }
     ensures same { Becomes set.old set.old.view set.new }
 {
     let few = few_text(alloc, select, places, set)?;

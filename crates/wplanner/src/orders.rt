@@ -30,7 +30,8 @@ pub(crate) struct KeptOrder<'a> {
 fn place_shared(kept: &[KeptOrder], window: &ResolvedWindow) -> Option<usize>
     ensures found { is_some result ≡ list_any (serves window.now) kept.now }
     ensures place { IfSome result (λ place. place < length kept.now) }
-    ensures order { (rows : List Row) → AreOrdersOf rows kept.now → IfSome result (λ place. (d : KeptOrder) → ordered_rows rows (window_plan window.now) ≡ Ok (slice_index_or kept.now place d).order) }
+    ensures order { (rows : List Row) → AreOrdersOf rows kept.now → IfSome result (λ place. (d : KeptOrder)
+        → ordered_rows rows (window_plan window.now) ≡ Ok (slice_index_or kept.now place d).order) }
 {
     for (place, shared) in kept.iter().enumerate() {
         if share_order(shared.window, window) {
@@ -46,7 +47,8 @@ fn take_shared<'a>(
     window: &ResolvedWindow,
 ) -> Option<WindowOrder<'a>>
     ensures found { is_some result ≡ list_any (serves window.now) kept.old.items }
-    ensures order { (rows : List Row) → AreOrdersOf rows kept.old.items → IfSome result (λ order. ordered_rows rows (window_plan window.now) ≡ Ok order) }
+    ensures order { (rows : List Row) → AreOrdersOf rows kept.old.items
+        → IfSome result (λ order. ordered_rows rows (window_plan window.now) ≡ Ok order) }
     ensures others { (rows : List Row) → AreOrdersOf rows kept.old.items → AreOrdersOf rows kept.new.items }
     ensures fewer { length kept.new.items ≤ length kept.old.items }
 {
@@ -106,7 +108,8 @@ pub(crate) fn order_of<'a>(
 fn place_sharing(windows: &[ResolvedWindow], window: &ResolvedWindow) -> Option<usize>
     ensures found { is_some result ≡ list_any (is_same_order window.now) windows.now }
     ensures place { IfSome result (λ place. place < length windows.now) }
-    ensures order { (rows : List Row) → IfSome result (λ place. (d : ResolvedWindow) → ordered_rows rows (window_plan window.now) ≡ ordered_rows rows (window_plan (slice_index_or windows.now place d))) }
+    ensures order { (rows : List Row) → IfSome result (λ place. (d : ResolvedWindow)
+        → ordered_rows rows (window_plan window.now) ≡ ordered_rows rows (window_plan (slice_index_or windows.now place d))) }
 {
     for (place, other) in windows.iter().enumerate() {
         if share_order(window, other) {
@@ -123,8 +126,13 @@ pub(crate) fn keep_shared<'a>(
     order: WindowOrder<'a>,
     later: &[ResolvedWindow],
 ) -> Result<(), AllocError>
-    ensures kept { OnOk result (kept.new.items ≡ with_shared later.now (record { window = window.entry; order = order.entry }) kept.old.items) }
-    ensures orders { (rows : List Row) → ordered_rows rows (window_plan window.entry.now) ≡ Ok order.entry → AreOrdersOf rows kept.old.items → AreOrdersOf rows kept.new.items }
+    ensures kept { OnOk result (kept.new.items ≡ with_shared later.now (record {
+      window = window.entry;
+      order =
+          order.entry;
+    }) kept.old.items) }
+    ensures orders { (rows : List Row) → ordered_rows rows (window_plan window.entry.now) ≡ Ok order.entry
+        → AreOrdersOf rows kept.old.items → AreOrdersOf rows kept.new.items }
 {
     match place_sharing(later, window) {
         None => Ok(()),

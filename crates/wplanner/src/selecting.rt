@@ -90,7 +90,8 @@ fn items_by(
     rows: &[&[Value]],
     presorted: Option<Vec<usize>>,
 ) -> Result<Cells, AnswerFault>
-    requires { IfSome presorted (λ numbers. (columns : List (List Meaning)) → by_keys (select_plan select.now).keys columns (rows_seen rows.now) ≡ Ok numbers.items) }
+    requires { IfSome presorted (λ numbers. (columns : List (List Meaning))
+        → by_keys (select_plan select.now).keys columns (rows_seen rows.now) ≡ Ok numbers.items) }
     ensures rows { Gives rows_in result (items_of (select_plan select.now) (rows_seen rows.now)) }
     ensures width { IfOk result (λ cells. cells.width ≡ length select.now.items.items) }
 {
@@ -108,7 +109,8 @@ fn items_beside_by(
     columns: &[&[Value]],
     presorted: Option<Vec<usize>>,
 ) -> Result<Cells, AnswerFault>
-    requires { IfSome presorted (λ numbers. (columns : List (List Meaning)) → by_keys (select_plan select.now).keys columns (rows_seen rows.now) ≡ Ok numbers.items) }
+    requires { IfSome presorted (λ numbers. (columns : List (List Meaning))
+        → by_keys (select_plan select.now).keys columns (rows_seen rows.now) ≡ Ok numbers.items) }
     ensures rows { Gives rows_in result (items_of (select_plan select.now) (beside (rows_seen rows.now) (rows_seen columns.now))) }
     ensures width { IfOk result (λ cells. cells.width ≡ length select.now.items.items) }
 {

@@ -61,12 +61,15 @@ fn answers_over<'a>(
     requires functions { list_all is_sound_function (functions_over (map call_plan calls.now) number) ≡ true }
     requires kept { AreOrdersOf (rows_seen rows.now) kept.old.items }
     requires presorted { ArePresortedOf (rows_seen rows.now) presorted.old.items }
-    ensures columns { Gives rows_in result (window_columns (window_plan window.now) (functions_over (map call_plan calls.now) number) (rows_seen rows.now)) }
+    ensures columns { Gives rows_in result (window_columns (window_plan window.now)
+        (functions_over (map call_plan calls.now) number) (rows_seen rows.now)) }
     ensures kept { AreOrdersOf (rows_seen rows.now) kept.new.items }
     ensures presorted { ArePresortedOf (rows_seen rows.now) presorted.new.items }
-    ensures let_go { OnOk result (length kept.new.items ≤ length kept.old.items + (if list_any (is_same_order window.entry.now) later.now then 1 else 0)) }
+    ensures let_go { OnOk result (length kept.new.items ≤ length kept.old.items
+        + (if list_any (is_same_order window.entry.now) later.now then 1 else 0)) }
     ensures made { work.new.orders ≤ work.old.orders + (if list_any (serves window.entry.now) kept.old.items then 0 else 1) }
-    ensures joins { work.new.joins ≤ work.old.joins + most_of_functions (frame_of (window_plan window.entry.now).frame).exclusion (length rows.now) (functions_over (map call_plan calls.now) number) }
+    ensures joins { work.new.joins ≤ work.old.joins + most_of_functions
+        (frame_of (window_plan window.entry.now).frame).exclusion (length rows.now) (functions_over (map call_plan calls.now) number) }
 {
     let functions = functions_over(alloc, calls, number)?;
     let order = order_of(alloc, window, rows, kept, presorted, &mut work.orders)?;
@@ -90,8 +93,10 @@ pub(crate) fn window_answers<'a>(
     requires calls { list_all (is_sound_call (length windows.now)) (map call_plan calls.now) ≡ true }
     requires presorted { ArePresortedOf (rows_seen rows.now) presorted.items }
     ensures made { work.new.orders ≤ work.old.orders + length windows.now }
-    ensures joins { work.new.joins ≤ work.old.joins + most_from (length rows.now) (map call_plan calls.now) 0 (map window_plan windows.now) }
-    ensures answers { Gives (λ answers. map rows_in answers.items) result (columns_from (rows_seen rows.now) (map call_plan calls.now) 0 (map window_plan windows.now)) }
+    ensures joins { work.new.joins ≤ work.old.joins + most_from (length rows.now) (map call_plan calls.now) 0
+        (map window_plan windows.now) }
+    ensures answers { Gives (λ answers. map rows_in answers.items) result
+        (columns_from (rows_seen rows.now) (map call_plan calls.now) 0 (map window_plan windows.now)) }
 {
     let mut answers = Vec::with_capacity(alloc, windows.len())?;
     let mut kept = Vec::new(alloc);

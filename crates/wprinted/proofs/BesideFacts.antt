@@ -9,11 +9,14 @@ use Rattle.wvalues.specs.declared.value.Value.{Value}
 use Rattle.wprinted.specs.Beside.{rows_beside, rows_from, seen, whole}
 
 -- what the column at a place has for a row
-pub behind_is : (columns : List (Bor (List Value))) (number place : ℕ) (column : Bor (List Value)) → place < length columns → column ≡ get_or columns place column → get_or (map meaning column.now) number Null ≡ get_or (map (λ column. get_or column number Null) (seen columns)) place Null
+pub behind_is : (columns : List (Bor (List Value))) (number place : ℕ) (column : Bor (List Value)) → place < length columns
+    → column ≡ get_or columns place column → get_or (map meaning column.now) number Null
+    ≡ get_or (map (λ column. get_or column number Null) (seen columns)) place Null
 behind_is columns number place column h e =
     ap (λ (b : Bor (List Value)). get_or (map meaning b.now) number Null) e
     ∙ ap (λ l. get_or l number Null) (sym (get_or-map (λ (b : Bor (List Value)). map meaning b.now) columns place column [] h))
-    ∙ sym (get_or-map (λ l. get_or l number Null) (seen columns) place [] Null (omega (arith, h, length-map columns (λ (b : Bor (List Value)). map meaning b.now))))
+    ∙ sym (get_or-map (λ l. get_or l number Null) (seen columns) place [] Null
+    (omega (arith, h, length-map columns (λ (b : Bor (List Value)). map meaning b.now))))
 
 module _ (rows columns : List (List Meaning)) where
   abbrev row_of : ℕ → List Meaning
@@ -31,12 +34,15 @@ module _ (rows columns : List (List Meaning)) where
   pub from_within : (from count number : ℕ) → number < length (rows_from rows columns from count) → from + number < length rows
   from_within from count number h = omega (arith, h, from_long from count)
 
-  pub from_at : (from count number : ℕ) → number < length (rows_from rows columns from count) → get_or (rows_from rows columns from count) number [] ≡ row_of (from + number)
+  pub from_at : (from count number : ℕ) → number < length (rows_from rows columns from count)
+      → get_or (rows_from rows columns from count) number [] ≡ row_of (from + number)
   from_at from count number h =
       let within : from + number < length rows = from_within from count number h in
       let below : number < count = omega (arith, h, from_long from count) in
       let there : from + number < length (range_with_len 0 (length rows)) = omega (arith, within, length-range_with_len 0 (length rows)) in
-      let same : get_or (range_with_len 0 (length rows)) (from + number) 0 ≡ from + number = get_or-range_with_len 0 (length rows) (from + number) 0 within ∙ (let e : 0 + (from + number) ≡ from + number = omega arith in e) in
+      let same : get_or (range_with_len 0 (length rows)) (from + number) 0 ≡ from + number =
+      get_or-range_with_len 0 (length rows) (from + number) 0 within ∙ (let e : 0 + (from + number) ≡ from + number =
+      omega arith in e) in
       get_or-take count (drop from (rows_beside rows columns)) number [] below
       ∙ get_or-drop from (rows_beside rows columns) number []
       ∙ get_or-map row_of (range_with_len 0 (length rows)) (from + number) 0 [] there

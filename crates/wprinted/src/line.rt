@@ -81,7 +81,8 @@ fn write_byte(byte: u8, line: &mut [u8], end: usize) -> Option<usize>
 // Writes a value before a line that begins at a place, with a comma between where the line has a field already.
 fn write_field(value: &Value, is_last: bool, line: &mut [u8], end: usize) -> Option<usize>
     requires { end ≤ length line.old }
-    ensures written { IfSome result (λ start. drop start line.new ≡ field_text (meaning value.now) ++ (if is_last then drop end line.old else (comma ∷ drop end line.old))) }
+    ensures written { IfSome result (λ start. drop start line.new ≡ field_text (meaning value.now)
+        ++ (if is_last then drop end line.old else (comma ∷ drop end line.old))) }
     ensures within { IfSome result (λ start. start ≤ end) }
     ensures room { length line.new ≡ length line.old }
 {

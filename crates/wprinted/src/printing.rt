@@ -74,7 +74,8 @@ fn push_rows<R: Rows>(
     places: &[usize],
 ) -> Result<(), AllocError>
     requires { meaning null.now ≡ Null }
-    ensures { OnOk result (bytes.new.items ≡ bytes.old.items ++ flat_map (λ row. line_text (map field_text row)) (map (values_at places.now) (R.rows rows.now))) }
+    ensures { OnOk result (bytes.new.items ≡ bytes.old.items ++ flat_map (λ row. line_text (map field_text row))
+        (map (values_at places.now) (R.rows rows.now))) }
 {
     let mut line = [0u8; LINE];
     for row in 0..rows.count() {

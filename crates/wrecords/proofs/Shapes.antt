@@ -20,7 +20,8 @@ one_number m n h k e = decimal_injective m n (omega (arith, h.fits)) (omega (ari
 
 pub one_name : (m n : NameParts) → IsName m → IsName n → m.origin ≡ n.origin → decimal m.number ≡ decimal n.number → m ≡ n
 one_name m n h k o e =
-    let number : m.number ≡ n.number = decimal_injective m.number n.number (omega (arith, h.number.high)) (omega (arith, k.number.high)) e in
+    let number : m.number ≡ n.number = decimal_injective m.number n.number (omega (arith, h.number.high))
+    (omega (arith, k.number.high)) e in
     λ i. record { origin = o i; number = number i }
 
 names_same : (m n : NameParts) → IsName m → IsName n → name_words m ≡ name_words n → m ≡ n
@@ -28,10 +29,13 @@ names_same m n h k e =
     let cut = cut_once 32 m.origin n.origin (decimal m.number) (decimal n.number) (origin_no_space m h) (origin_no_space n k) e in
     one_name m n h k cut.0 cut.1
 
-contents_same : (m n : NameParts) (a b : ℕ) → IsName m → IsName n → IsNumber a → IsNumber b → content_words m a ≡ content_words n b → (m ≡ n) × (a ≡ b)
+contents_same : (m n : NameParts) (a b : ℕ) → IsName m → IsName n → IsNumber a → IsNumber b
+    → content_words m a ≡ content_words n b → (m ≡ n) × (a ≡ b)
 contents_same m n a b h k p q e =
-    let cut = cut_once 32 m.origin n.origin (decimal m.number ++ (32 ∷ decimal a)) (decimal n.number ++ (32 ∷ decimal b)) (origin_no_space m h) (origin_no_space n k) e in
-    let rest = cut_once 32 (decimal m.number) (decimal n.number) (decimal a) (decimal b) (number_no_space m h) (number_no_space n k) cut.1 in
+    let cut = cut_once 32 m.origin n.origin (decimal m.number ++ (32 ∷ decimal a)) (decimal n.number ++ (32 ∷ decimal b))
+    (origin_no_space m h) (origin_no_space n k) e in
+    let rest = cut_once 32 (decimal m.number) (decimal n.number) (decimal a) (decimal b) (number_no_space m h)
+    (number_no_space n k) cut.1 in
     (one_name m n h k cut.0 rest.0, one_number a b p q rest.1)
 
 pub one_form : (f g : Form) → IsForm f → IsForm g → line_of f ≡ line_of g → f ≡ g

@@ -21,8 +21,11 @@ and_second false b e = cc
 spelled_lacks : (c : ℕ) (bytes : List ℕ) → is_origin_byte c ≡ false → list_all is_origin_byte bytes ≡ true → Lacks c bytes
 spelled_lacks c [] other all = tt
 spelled_lacks c (x ∷ xs) other all =
-    let first : is_origin_byte x ≡ true = and_first (is_origin_byte x) (list_all is_origin_byte xs) all in
-    (λ e. let same : is_origin_byte x ≡ is_origin_byte c = ap is_origin_byte e in cc, spelled_lacks c xs other (and_second (is_origin_byte x) (list_all is_origin_byte xs) all))
+    let first : is_origin_byte x ≡ true = and_first (is_origin_byte x) (list_all is_origin_byte xs) all in (
+      λ e. let same : is_origin_byte x ≡ is_origin_byte c = ap is_origin_byte e in
+          cc,
+      spelled_lacks c xs other (and_second (is_origin_byte x) (list_all is_origin_byte xs) all),
+    )
 
 pub origin_no_space : (n : NameParts) → IsName n → Lacks 32 n.origin
 origin_no_space n h = spelled_lacks 32 n.origin refl h.origin.spelled
@@ -52,14 +55,18 @@ begun letter rest ne k = (ne, ((λ e. omega (arith, e)), k))
 digits_lack : (c : ℕ) (bytes : List ℕ) → is_digest_digit c ≡ false → list_all is_digest_digit bytes ≡ true → Lacks c bytes
 digits_lack c [] other all = tt
 digits_lack c (x ∷ xs) other all =
-    let first : is_digest_digit x ≡ true = and_first (is_digest_digit x) (list_all is_digest_digit xs) all in
-    (λ e. let same : is_digest_digit x ≡ is_digest_digit c = ap is_digest_digit e in cc, digits_lack c xs other (and_second (is_digest_digit x) (list_all is_digest_digit xs) all))
+    let first : is_digest_digit x ≡ true = and_first (is_digest_digit x) (list_all is_digest_digit xs) all in (
+      λ e. let same : is_digest_digit x ≡ is_digest_digit c = ap is_digest_digit e in
+          cc,
+      digits_lack c xs other (and_second (is_digest_digit x) (list_all is_digest_digit xs) all),
+    )
 
 -- a header line has no line feed in it
 pub line_lacks : (f : Form) → IsForm f → Lacks 10 (line_of f)
 line_lacks (forms.Table len) h = begun 84 _ (λ e. omega (arith, e)) (no_feed len h)
 line_lacks (forms.Content n len) h =
-    begun 83 _ (λ e. omega (arith, e)) (spaced n.origin _ (origin_no_feed n h.0) (spaced (decimal n.number) _ (number_no_feed n h.0) (no_feed len h.1)))
+    begun 83 _ (λ e. omega (arith, e)) (spaced n.origin _ (origin_no_feed n h.0)
+    (spaced (decimal n.number) _ (number_no_feed n h.0) (no_feed len h.1)))
 line_lacks (forms.Dispute n) h = begun 68 _ (λ e. omega (arith, e)) (spaced n.origin _ (origin_no_feed n h) (number_no_feed n h))
 line_lacks (forms.Retirement n) h = begun 82 _ (λ e. omega (arith, e)) (spaced n.origin _ (origin_no_feed n h) (number_no_feed n h))
 line_lacks (forms.End count) h = begun 69 _ (λ e. omega (arith, e)) (no_feed count h)

@@ -92,8 +92,10 @@ fn table_form(words: &[u8]) -> Option<Form>
 
 // The words behind `S`.
 fn content_form(words: &[u8]) -> Option<Form>
-    ensures found { IfSome result (λ f. (name : NameParts) × (len : ℕ) × IsForm (Form.Content name len) × (f ≡ Form.Content name len) × (words.now ≡ content_words name len)) }
-    ensures only { (name : NameParts) (len : ℕ) → IsForm (Form.Content name len) → words.now ≡ content_words name len → result ≡ Some (Form.Content name len) }
+    ensures found { IfSome result (λ f. (name : NameParts) × (len : ℕ) × IsForm (Form.Content name len)
+        × (f ≡ Form.Content name len) × (words.now ≡ content_words name len)) }
+    ensures only { (name : NameParts) (len : ℕ) → IsForm (Form.Content name len) → words.now ≡ content_words name len
+        → result ≡ Some (Form.Content name len) }
 {
     match read_content(words) {
         Some((name, len)) => Some(Form::Content(name, len)),
@@ -103,7 +105,8 @@ fn content_form(words: &[u8]) -> Option<Form>
 
 // The words behind `D`.
 fn dispute_form(words: &[u8]) -> Option<Form>
-    ensures found { IfSome result (λ f. (name : NameParts) × IsForm (Form.Dispute name) × (f ≡ Form.Dispute name) × (words.now ≡ name_words name)) }
+    ensures found { IfSome result (λ f. (name : NameParts) × IsForm (Form.Dispute name) × (f ≡ Form.Dispute name)
+        × (words.now ≡ name_words name)) }
     ensures only { (name : NameParts) → IsForm (Form.Dispute name) → words.now ≡ name_words name → result ≡ Some (Form.Dispute name) }
 {
     match read_name(words) {
@@ -114,7 +117,8 @@ fn dispute_form(words: &[u8]) -> Option<Form>
 
 // The words behind `R`.
 fn retirement_form(words: &[u8]) -> Option<Form>
-    ensures found { IfSome result (λ f. (name : NameParts) × IsForm (Form.Retirement name) × (f ≡ Form.Retirement name) × (words.now ≡ name_words name)) }
+    ensures found { IfSome result (λ f. (name : NameParts) × IsForm (Form.Retirement name) × (f ≡ Form.Retirement name)
+        × (words.now ≡ name_words name)) }
     ensures only { (name : NameParts) → IsForm (Form.Retirement name) → words.now ≡ name_words name → result ≡ Some (Form.Retirement name) }
 {
     match read_name(words) {
@@ -125,7 +129,8 @@ fn retirement_form(words: &[u8]) -> Option<Form>
 
 // The words behind `U`.
 fn floor_form(words: &[u8]) -> Option<Form>
-    ensures found { IfSome result (λ f. (name : NameParts) × IsForm (Form.Floor name) × (f ≡ Form.Floor name) × (words.now ≡ name_words name)) }
+    ensures found { IfSome result (λ f. (name : NameParts) × IsForm (Form.Floor name) × (f ≡ Form.Floor name)
+        × (words.now ≡ name_words name)) }
     ensures only { (name : NameParts) → IsForm (Form.Floor name) → words.now ≡ name_words name → result ≡ Some (Form.Floor name) }
 {
     match read_name(words) {

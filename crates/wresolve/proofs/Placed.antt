@@ -11,7 +11,8 @@ item_at_past [] n h = refl
 item_at_past (o ∷ os) zero h = absurd (omega arith)
 item_at_past (o ∷ os) (suc n) h = item_at_past os n (omega arith)
 
-pub item_at_here : (os : List ShownOutput) (n : ℕ) (o : ShownOutput) → n < length os → o ≡ get_or os n o → item_at n (shown_items os) ≡ shown_of o.value
+pub item_at_here : (os : List ShownOutput) (n : ℕ) (o : ShownOutput) → n < length os → o ≡ get_or os n o
+    → item_at n (shown_items os) ≡ shown_of o.value
 item_at_here [] n o h is = absurd (omega arith)
 item_at_here (x ∷ xs) zero o h is = ap (λ (y : ShownOutput). shown_of y.value) (sym is)
 item_at_here (x ∷ xs) (suc n) o h is = item_at_here xs n o (omega arith) is

@@ -26,7 +26,8 @@ plans_made m = map select_plan m.selections.items
 -- its sets
 abbrev pub rule_over : Declaration → Option Rule → List Titled → Query → Option Rule
 rule_over d last cs q =
-    or_else (least_broken d.table (origin_of d (view_source q.source)).alias cs (clauses_in q) (view_source q.source)) (or_else last (sets_rule (view_query q)))
+    or_else (least_broken d.table (origin_of d (view_source q.source)).alias cs (clauses_in q) (view_source q.source))
+    (or_else last (sets_rule (view_query q)))
 
 -- a SELECT over these columns
 abbrev pub ResolvesOver : Declaration → Option Rule → List Titled → Query → Result Selection ResolveFault → Type 0
@@ -35,14 +36,17 @@ ResolvesOver d last cs q (Err (Broken rule)) = rule_over d last cs q ≡ Some ru
 ResolvesOver d last cs q (Err NoMemory) = Unit {0}
 
 -- a query: its SELECTs go behind those so far, and the columns of its answer are told
-abbrev pub ResolvesQuery : Declaration → Option Rule → QueryTree → List SelectPlan → List SelectPlan → Result (Vec SourceColumn Global) ResolveFault → Type 0
+abbrev pub ResolvesQuery : Declaration → Option Rule → QueryTree → List SelectPlan → List SelectPlan
+    → Result (Vec SourceColumn Global) ResolveFault → Type 0
 ResolvesQuery d last q old new (Ok cs) =
-    (or_else (least d q) (or_else last (sets_rule q)) ≡ None) × (all_titled cs.items ≡ answer_columns d q) × (new ≡ old ++ resolved_query d q)
+    (or_else (least d q) (or_else last (sets_rule q)) ≡ None) × (all_titled cs.items ≡ answer_columns d q)
+    × (new ≡ old ++ resolved_query d q)
 ResolvesQuery d last q old new (Err (Broken rule)) = or_else (least d q) (or_else last (sets_rule q)) ≡ Some rule
 ResolvesQuery d last q old new (Err NoMemory) = Unit {0}
 
 -- a source: the SELECTs of a derived table go behind those so far, and the columns of the source are told
-abbrev pub ResolvesSource : Declaration → SourceTree → List SelectPlan → List SelectPlan → Result (Vec SourceColumn Global) ResolveFault → Type 0
+abbrev pub ResolvesSource : Declaration → SourceTree → List SelectPlan → List SelectPlan
+    → Result (Vec SourceColumn Global) ResolveFault → Type 0
 ResolvesSource d s old new (Ok cs) =
     (least_source d s ≡ None) × (all_titled cs.items ≡ (origin_of d s).columns) × (new ≡ old ++ resolved_source d s)
 ResolvesSource d s old new (Err (Broken rule)) = least_source d s ≡ Some rule

@@ -1,6 +1,7 @@
 -- The SELECTs that a query stands for, with each name and default resolved. (SQL, `<query specification>`, `<group by
 -- clause>`, `<window clause>`, `<window function>`; PostgreSQL, SELECT, ORDER BY Clause.)
-use Rattle.std.specs.Prelude.{ℕ, zero, suc, ◌-◌, Bool, true, false, ◌||◌, List, [], ◌∷◌, ◌++◌, map, length, Option, Some, None, is_some, if◌then◌else◌, unwrap_or}
+use Rattle.std.specs.Prelude.{ℕ, zero, suc, ◌-◌, Bool, true, false, ◌||◌, List, [], ◌∷◌, ◌++◌, map}
+use Rattle.std.specs.Prelude.{length, Option, Some, None, is_some, if◌then◌else◌, unwrap_or}
 use Rattle.std.specs.Str.{bytes_eq}
 use Rattle.wsegment.specs.Declaration.{Declaration}
 use Rattle.wquery.specs.declared.expression.NullOrder.{NullOrder}
@@ -10,7 +11,8 @@ use Rattle.wquery.specs.declared.frame.FrameMode.TheVariants.{Range}
 use Rattle.wquery.specs.declared.frame.FrameBound.TheVariants.{UnboundedPreceding, CurrentRow}
 use Rattle.wquery.specs.declared.frame.FrameExclusion.{FrameExclusion}
 use Rattle.wquery.specs.declared.frame.FrameExclusion.TheVariants.{NoOthers}
-use Rattle.wquery.specs.Tree.{Tree, NullWord, Numeral, Field, Invoked, Trees, NoTrees, MoreTrees, Reach, ItsGroup, ThatWindow, OwnWindow, Keys, NoKeys, MoreKeys, KeyTree}
+use Rattle.wquery.specs.Tree.{Tree, NullWord, Numeral, Field, Invoked, Trees, NoTrees, MoreTrees, Reach}
+use Rattle.wquery.specs.Tree.{ItsGroup, ThatWindow, OwnWindow, Keys, NoKeys, MoreKeys, KeyTree}
 use Rattle.wquery.specs.GroupElements.{Element, all_columns}
 use Rattle.wquery.specs.QueryTree.{Clauses, QueryTree, Selected, SourceTree, FromTable, FromQuery}
 use Rattle.wvalues.specs.declared.key.SortKey.{SortKey}
@@ -112,7 +114,8 @@ place_over ws next _ = next
 abbrev pub calls_made : Layout → List NamedWindow → ℕ → List Tree → List CallPlan
 calls_made l ws next [] = []
 calls_made l ws next (t ∷ ts) =
-    record { window = place_over ws next t; function = call_function l t } ∷ calls_made l ws (if has_own_window t then suc next else next) ts
+    record { window = place_over ws next t; function = call_function l t } ∷ calls_made l ws
+    (if has_own_window t then suc next else next) ts
 
 -- one SELECT
 
@@ -127,7 +130,12 @@ is_grouped c grouped = has_some c.grouping || (is_some c.having || has_some grou
 -- the row of windows, items and keys: the source's, or GROUP BY's columns and what the group's calls answer; behind it what
 -- the calls with OVER answer
 abbrev pub shown_row : List Titled → Clauses → List Tree → List Tree → Layout
-shown_row cs c grouped windowed = record { columns = cs; grouping = if is_grouped c grouped then Some (group_columns cs c) else None; calls = grouped ++ windowed }
+shown_row cs c grouped windowed = record {
+  columns = cs;
+  grouping = if is_grouped c grouped then Some (group_columns cs c)
+      else None;
+  calls = grouped ++ windowed;
+}
 
 abbrev pub shown_formula : Layout → Shown → Formula
 shown_formula l (Placed place) = At (cell_of l place)
@@ -160,7 +168,13 @@ order_made l items k = key_made (shown_formula l (key_shown items k.expression))
 -- and GROUPING are over the source's row, HAVING over the group's
 abbrev pub grouping_over : List Titled → List (Element ℕ) → List Tree → Layout → Clauses → Option (List ℕ) → Option GroupingPlan
 grouping_over cs elements grouped l c None = None
-grouping_over cs elements grouped l c (Some places) = Some (record { columns = places; sets = query_sets elements; calls = map (group_call_made (source_row cs)) grouped; having = resolved_option l c.having })
+grouping_over cs elements grouped l c (Some places) =
+    Some (record {
+      columns = places;
+      sets = query_sets elements;
+      calls = map (group_call_made (source_row cs)) grouped;
+      having = resolved_option l c.having;
+    })
 
 -- those of WINDOW entries, used or not, and behind them those of calls
 abbrev pub windows_made : Layout → List NamedWindow → List Tree → List WindowPlan

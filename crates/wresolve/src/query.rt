@@ -92,7 +92,10 @@ fn push_over(
     last: Option<Rule>,
 ) -> Result<Vec<SourceColumn>, ResolveFault>
     ensures counted { made.new.judged ≡ min (2 ^ 64 - 1) (made.old.judged + 1) }
-    ensures answer { (before : List SelectPlan) → least_source schema.now (view_source query.now.source) ≡ None → all_titled columns.now ≡ (origin_of schema.now (view_source query.now.source)).columns → plans_made made.old ≡ before ++ resolved_source schema.now (view_source query.now.source) → ResolvesQuery schema.now last (view_query query.now) before (plans_made made.new) result }
+    ensures answer { (before : List SelectPlan) → least_source schema.now (view_source query.now.source) ≡ None
+        → all_titled columns.now ≡ (origin_of schema.now (view_source query.now.source)).columns
+        → plans_made made.old ≡ before ++ resolved_source schema.now (view_source query.now.source)
+        → ResolvesQuery schema.now last (view_query query.now) before (plans_made made.new) result }
 {
     count(&mut made.judged);
     match select(alloc, schema, columns, query, last) {

@@ -4,7 +4,8 @@ ghost use Rattle.std.specs.Prelude.{◌≡◌, [], ◌||◌, IfOk, map, length, 
 ghost use Rattle.wquery.specs.GroupElements.{view_element};
 ghost use Rattle.wquery.specs.Tree.{view_key, view_optional};
 ghost use Rattle.wplan.specs.Formula.{formula};
-ghost use Rattle.wplan.specs.Plans.{group_call_plan, grouping_plan, optional_formula, optional_grouping, output_plan, key_plan, select_plan, window_plan, call_plan};
+ghost use Rattle.wplan.specs.Plans.{group_call_plan, grouping_plan, optional_formula, optional_grouping};
+ghost use Rattle.wplan.specs.Plans.{output_plan, key_plan, select_plan, window_plan, call_plan};
 ghost use Rattle.wscope.specs.Sources.{all_titled, written_out as items_written};
 ghost use Rattle.wscope.specs.Earlier.{windows_in};
 ghost use Rattle.wscope.specs.Scoped.{IsExpanded, scope_clauses, scope_columns};
@@ -18,7 +19,8 @@ ghost use Rattle.wbinding.specs.Resolving.{layout_of, row_calls, places_of, sour
 ghost use Rattle.wbinding.specs.Groups.{group_call_made};
 ghost use Rattle.wresolve.specs.Shown.{shown_of, shown_item, shown_items};
 ghost use Rattle.wnames.specs.Groups.{has_some};
-ghost use Rattle.wresolve.specs.Selecting.{output_made, order_made, shown_formula, grouping_over, windows_made, calls_made, is_grouped as is_grouped_query, select_over, select_with, select_made};
+ghost use Rattle.wresolve.specs.Selecting.{output_made, order_made, shown_formula, grouping_over, windows_made, calls_made};
+ghost use Rattle.wresolve.specs.Selecting.{is_grouped as is_grouped_query, select_over, select_with, select_made};
 
 use crate::shown::{ShownOutput, ShownValue, key_value, written_out};
 use crate::windows::{build_calls, build_entries, push_own_windows, sort_key};
@@ -102,7 +104,8 @@ fn build_order(
     shown: &[ShownOutput],
     order: &[Key],
 ) -> Result<Vec<ResolvedKey>, AllocError>
-    ensures { IfOk result (λ made. map key_plan made.items ≡ map (order_made (layout_of layout.now) (shown_items shown.now)) (map view_key order.now)) }
+    ensures { IfOk result (λ made. map key_plan made.items ≡ map (order_made (layout_of layout.now) (shown_items shown.now))
+        (map view_key order.now)) }
 {
     let mut made = Vec::with_capacity(alloc, order.len())?;
     'keys: for key in order {
@@ -113,7 +116,8 @@ fn build_order(
 }
 
 fn is_grouped(query: &Query, grouped: &[&Call]) -> bool
-    ensures { result ≡ (has_some (map view_element query.now.grouping.items) || (is_some (view_optional query.now.having) || has_some (call_trees grouped.now))) }
+    ensures { result ≡ (has_some (map view_element query.now.grouping.items) || (is_some (view_optional query.now.having)
+        || has_some (call_trees grouped.now))) }
 {
     !query.grouping.is_empty() || (query.having.is_some() || !grouped.is_empty())
 }
@@ -129,7 +133,12 @@ fn row_layout<'a, 'b, 'c>(
     grouping: Option<&'a [usize]>,
     calls: &'b RowCalls<'c>,
 ) -> RowLayout<'a, 'b, 'c>
-    ensures { layout_of result ≡ record { columns = all_titled columns.now; grouping = places_of grouping.entry; calls = row_calls calls.now } }
+    ensures { layout_of result ≡ record {
+      columns = all_titled columns.now;
+      grouping = places_of grouping.entry;
+      calls =
+          row_calls calls.now;
+    } }
 {
     RowLayout {
         columns,
@@ -156,7 +165,14 @@ fn build_grouping(
     grouped: &[&Call],
     layout: &RowLayout,
 ) -> Result<Grouping, AllocError>
-    ensures { IfOk result (λ g. grouping_plan g ≡ record { columns = places.now; sets = sets_of (map element_in elements.now); calls = map (group_call_made (source_row (scope_columns scope.now))) (call_trees grouped.now); having = resolved_option (layout_of layout.now) (scope_clauses scope.now).having }) }
+    ensures { IfOk result (λ g. grouping_plan g ≡ record {
+      columns = places.now;
+      sets =
+          sets_of (map element_in elements.now);
+      calls = map (group_call_made (source_row (scope_columns scope.now)))
+          (call_trees grouped.now);
+      having = resolved_option (layout_of layout.now) (scope_clauses scope.now).having;
+    }) }
 {
     let none = RowCalls::none(alloc);
     let source = source_layout(scope.columns, &none);
@@ -179,7 +195,8 @@ fn build_optional_grouping(
     grouped: &[&Call],
     layout: &RowLayout,
 ) -> Result<Option<Grouping>, AllocError>
-    ensures { IfOk result (λ g. optional_grouping g ≡ grouping_over (scope_columns scope.now) (map element_in elements.now) (call_trees grouped.now) (layout_of layout.now) (scope_clauses scope.now) (layout_of layout.now).grouping) }
+    ensures { IfOk result (λ g. optional_grouping g ≡ grouping_over (scope_columns scope.now) (map element_in elements.now)
+        (call_trees grouped.now) (layout_of layout.now) (scope_clauses scope.now) (layout_of layout.now).grouping) }
 {
     match layout.grouping {
         None => Ok(None),
@@ -196,7 +213,8 @@ fn build_windows(
     entries: &WindowIndex,
     windowed: &[&Call],
 ) -> Result<Vec<ResolvedWindow>, AllocError>
-    ensures { IfOk result (λ made. map window_plan made.items ≡ windows_made (layout_of layout.now) (windows_in entries.now) (call_trees windowed.now)) }
+    ensures { IfOk result (λ made. map window_plan made.items ≡ windows_made (layout_of layout.now) (windows_in entries.now)
+        (call_trees windowed.now)) }
 {
     let mut windows = build_entries(alloc, layout, entries.entries.as_slice())?;
     push_own_windows(alloc, layout, entries, &mut windows, windowed)?;
@@ -209,7 +227,8 @@ fn build_window_calls(
     entries: &WindowIndex,
     windowed: &[&Call],
 ) -> Result<Vec<CallOver>, AllocError>
-    ensures { IfOk result (λ made. map call_plan made.items ≡ calls_made (layout_of layout.now) (windows_in entries.now) (length (windows_in entries.now)) (call_trees windowed.now)) }
+    ensures { IfOk result (λ made. map call_plan made.items ≡ calls_made (layout_of layout.now) (windows_in entries.now)
+        (length (windows_in entries.now)) (call_trees windowed.now)) }
 {
     let first = entries.entries.as_slice().len();
     build_calls(alloc, layout, entries, first, windowed)
@@ -217,7 +236,8 @@ fn build_window_calls(
 
 // The condition of a SELECT, over a row of its source.
 fn build_condition(alloc: Global, scope: &Scope) -> Result<Option<Expr>, AllocError>
-    ensures { IfOk result (λ made. optional_formula made ≡ resolved_option (source_row (scope_columns scope.now)) (scope_clauses scope.now).condition) }
+    ensures { IfOk result (λ made. optional_formula made ≡ resolved_option (source_row (scope_columns scope.now))
+        (scope_clauses scope.now).condition) }
 {
     let none = RowCalls::none(alloc);
     let source = source_layout(scope.columns, &none);
@@ -233,8 +253,11 @@ fn build_called(
     windowed: &[&Call],
 ) -> Result<(Vec<ResolvedWindow>, Vec<CallOver>), AllocError>
     requires { IsExpanded scope.now }
-    ensures windows { IfOk result (λ made. map window_plan made.0.items ≡ windows_made (layout_of layout.now) (expanded_entries [] (scope_clauses scope.now).windows) (call_trees windowed.now)) }
-    ensures calls { IfOk result (λ made. map call_plan made.1.items ≡ calls_made (layout_of layout.now) (expanded_entries [] (scope_clauses scope.now).windows) (length (expanded_entries [] (scope_clauses scope.now).windows)) (call_trees windowed.now)) }
+    ensures windows { IfOk result (λ made. map window_plan made.0.items ≡ windows_made (layout_of layout.now)
+        (expanded_entries [] (scope_clauses scope.now).windows) (call_trees windowed.now)) }
+    ensures calls { IfOk result (λ made. map call_plan made.1.items ≡ calls_made (layout_of layout.now)
+        (expanded_entries [] (scope_clauses scope.now).windows)
+        (length (expanded_entries [] (scope_clauses scope.now).windows)) (call_trees windowed.now)) }
 {
     let windows = build_windows(alloc, layout, &scope.windows, windowed)?;
     let calls = build_window_calls(alloc, layout, &scope.windows, windowed)?;
@@ -247,8 +270,11 @@ fn build_items(
     scope: &Scope,
     layout: &RowLayout,
 ) -> Result<(Vec<Output>, Vec<ResolvedKey>), AllocError>
-    ensures items { IfOk result (λ made. map output_plan made.0.items ≡ map (output_made (layout_of layout.now)) (items_written (scope_columns scope.now) (scope_clauses scope.now).items)) }
-    ensures keys { IfOk result (λ made. map key_plan made.1.items ≡ map (order_made (layout_of layout.now) (items_written (scope_columns scope.now) (scope_clauses scope.now).items)) (scope_clauses scope.now).order) }
+    ensures items { IfOk result (λ made. map output_plan made.0.items ≡ map (output_made (layout_of layout.now))
+        (items_written (scope_columns scope.now) (scope_clauses scope.now).items)) }
+    ensures keys { IfOk result (λ made. map key_plan made.1.items
+        ≡ map (order_made (layout_of layout.now) (items_written (scope_columns scope.now) (scope_clauses scope.now).items))
+        (scope_clauses scope.now).order) }
 {
     let query = scope.query;
     let shown = written_out(alloc, scope.columns, query.items.as_slice())?;
@@ -266,7 +292,8 @@ fn build_selection(
     layout: &RowLayout,
 ) -> Result<Selection, AllocError>
     requires { IsExpanded scope.now }
-    ensures { IfOk result (λ s. select_plan s ≡ select_over (scope_columns scope.now) (map element_in elements.now) (call_trees grouped.now) (call_trees windowed.now) (layout_of layout.now) (scope_clauses scope.now)) }
+    ensures { IfOk result (λ s. select_plan s ≡ select_over (scope_columns scope.now) (map element_in elements.now)
+        (call_trees grouped.now) (call_trees windowed.now) (layout_of layout.now) (scope_clauses scope.now)) }
 {
     let condition = build_condition(alloc, scope)?;
     let grouping = build_optional_grouping(alloc, scope, elements, grouped, layout)?;
@@ -311,7 +338,13 @@ fn build_over(
     places: &[usize],
 ) -> Result<Selection, AllocError>
     requires { IsExpanded scope.now }
-    ensures { IfOk result (λ s. select_plan s ≡ select_over (scope_columns scope.now) (map element_in elements.now) (calls_in calls.now.grouped) (calls_in calls.now.windowed) (record { columns = scope_columns scope.now; grouping = if is_grouped_query (scope_clauses scope.now) (calls_in calls.now.grouped) then Some places.now else None; calls = row_calls calls.now }) (scope_clauses scope.now)) }
+    ensures { IfOk result (λ s. select_plan s ≡ select_over (scope_columns scope.now) (map element_in elements.now)
+        (calls_in calls.now.grouped) (calls_in calls.now.windowed) (record {
+          columns = scope_columns scope.now;
+          grouping =
+              if is_grouped_query (scope_clauses scope.now) (calls_in calls.now.grouped) then Some places.now else None;
+          calls = row_calls calls.now;
+        }) (scope_clauses scope.now)) }
 {
     let grouped = calls.grouped.listed(alloc)?;
     let windowed = calls.windowed.listed(alloc)?;
@@ -330,7 +363,8 @@ fn build_over(
 
 fn build_with(alloc: Global, scope: &Scope, calls: &RowCalls) -> Result<Selection, AllocError>
     requires { IsExpanded scope.now }
-    ensures { IfOk result (λ s. select_plan s ≡ select_with (scope_columns scope.now) (scope_clauses scope.now) (calls_in calls.now.grouped) (calls_in calls.now.windowed)) }
+    ensures { IfOk result (λ s. select_plan s ≡ select_with (scope_columns scope.now) (scope_clauses scope.now)
+        (calls_in calls.now.grouped) (calls_in calls.now.windowed)) }
 {
     let elements = build_elements(alloc, scope.columns, scope.query.grouping.as_slice())?;
     let places = group_columns(alloc, elements.as_slice())?;

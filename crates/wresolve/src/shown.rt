@@ -65,7 +65,8 @@ fn push_value<'a>(
     expression: &'a Expression,
     alias: &'a Option<RcStr>,
 ) -> Result<(), AllocError>
-    ensures { OnOk result (shown_items shown.new.items ≡ shown_items shown.old.items ++ all_shown (all_titled columns.now) (Computed (view expression.now) (name_bytes alias.now) ∷ [])) }
+    ensures { OnOk result (shown_items shown.new.items ≡ shown_items shown.old.items ++ all_shown (all_titled columns.now)
+        (Computed (view expression.now) (name_bytes alias.now) ∷ [])) }
 {
     shown.push(ShownOutput {
         name: output_name(expression, alias),
@@ -80,7 +81,8 @@ fn push_item<'a>(
     columns: &'a [SourceColumn],
     item: &'a Item,
 ) -> Result<(), AllocError>
-    ensures { OnOk result (shown_items shown.new.items ≡ shown_items shown.old.items ++ all_shown (all_titled columns.now) (view_item item.now ∷ [])) }
+    ensures { OnOk result (shown_items shown.new.items ≡ shown_items shown.old.items ++ all_shown (all_titled columns.now)
+        (view_item item.now ∷ [])) }
 {
     match item {
         Item::All => push_columns(shown, columns),

@@ -9,7 +9,11 @@ ghost use Rattle.wscope.specs.Windows.{named_windows, expanded_window};
 ghost use Rattle.wdistinct.specs.Calls.{call_trees};
 ghost use Rattle.wbinding.specs.Resolving.{layout_of, resolved};
 ghost use Rattle.wbinding.specs.Functions.{call_function as function_of_call};
-ghost use Rattle.wresolve.specs.Selecting.{nulls_first as stand_first, sort_key as sort_key_of, key_made, trees_made, keys_made, frame_made, or_no_others, window_made, entries_made, own_window, window_of_reach, place_of_reach, is_own_window as is_with_own, own_windows as windows_of_calls, window_place as place_of_window, place_over as place_of_call, has_own_window as is_with_window, calls_made};
+ghost use Rattle.wresolve.specs.Selecting.{nulls_first as stand_first, sort_key as sort_key_of, key_made, trees_made, keys_made};
+ghost use Rattle.wresolve.specs.Selecting.{frame_made, or_no_others, window_made, entries_made, own_window, window_of_reach};
+ghost use Rattle.wresolve.specs.Selecting.{place_of_reach, is_own_window as is_with_own, own_windows as windows_of_calls};
+ghost use Rattle.wresolve.specs.Selecting.{window_place as place_of_window, place_over as place_of_call};
+ghost use Rattle.wresolve.specs.Selecting.{has_own_window as is_with_window, calls_made};
 
 use std::alloc::{AllocError, Global};
 use wbinding::{RowLayout, build, build_function, build_listed};
@@ -44,7 +48,8 @@ pub(crate) fn sort_key(descending: bool, nulls: Option<NullOrder>) -> SortKey
 
 #[tactic(auto, unfolding(wquery::specs::Tree::view_key, wquery::specs::Tree::view))]
 fn build_key(alloc: Global, layout: &RowLayout, key: &Key) -> Result<ResolvedKey, AllocError>
-    ensures { IfOk result (λ k. key_plan k ≡ key_made (resolved (layout_of layout.now) (view_key key.now).expression) (view_key key.now).descending (view_key key.now).nulls) }
+    ensures { IfOk result (λ k. key_plan k ≡ key_made (resolved (layout_of layout.now) (view_key key.now).expression)
+        (view_key key.now).descending (view_key key.now).nulls) }
 {
     let value = build(alloc, layout, &key.expression)?;
     Ok(ResolvedKey {
@@ -157,7 +162,8 @@ fn push_window_over(
     windows: &mut Vec<ResolvedWindow>,
     over: &Over,
 ) -> Result<(), AllocError>
-    ensures { OnOk result (map window_plan windows.new.items ≡ map window_plan windows.old.items ++ window_of_reach (layout_of layout.now) (windows_in entries.now) (view_over over.now)) }
+    ensures { OnOk result (map window_plan windows.new.items ≡ map window_plan windows.old.items ++ window_of_reach
+        (layout_of layout.now) (windows_in entries.now) (view_over over.now)) }
 {
     match over {
         Over::Named(_) => Ok(()),
@@ -181,7 +187,8 @@ fn push_optional_window(
     windows: &mut Vec<ResolvedWindow>,
     over: &Option<Over>,
 ) -> Result<(), AllocError>
-    ensures { OnOk result (map window_plan windows.new.items ≡ map window_plan windows.old.items ++ window_of_reach (layout_of layout.now) (windows_in entries.now) (reach_of (view_optional_over over.now))) }
+    ensures { OnOk result (map window_plan windows.new.items ≡ map window_plan windows.old.items ++ window_of_reach
+        (layout_of layout.now) (windows_in entries.now) (reach_of (view_optional_over over.now))) }
 {
     match over {
         None => Ok(()),
@@ -196,7 +203,8 @@ fn push_own_window(
     windows: &mut Vec<ResolvedWindow>,
     call: &Call,
 ) -> Result<(), AllocError>
-    ensures { OnOk result (map window_plan windows.new.items ≡ map window_plan windows.old.items ++ own_window (layout_of layout.now) (windows_in entries.now) (view_call call.now)) }
+    ensures { OnOk result (map window_plan windows.new.items ≡ map window_plan windows.old.items ++ own_window
+        (layout_of layout.now) (windows_in entries.now) (view_call call.now)) }
 {
     push_optional_window(alloc, layout, entries, windows, &call.over)
 }
@@ -209,7 +217,8 @@ pub(crate) fn push_own_windows(
     windows: &mut Vec<ResolvedWindow>,
     calls: &[&Call],
 ) -> Result<(), AllocError>
-    ensures { OnOk result (map window_plan windows.new.items ≡ map window_plan windows.old.items ++ windows_of_calls (layout_of layout.now) (windows_in entries.now) (call_trees calls.now)) }
+    ensures { OnOk result (map window_plan windows.new.items ≡ map window_plan windows.old.items ++ windows_of_calls
+        (layout_of layout.now) (windows_in entries.now) (call_trees calls.now)) }
 {
     'calls: for call in calls {
         push_own_window(alloc, layout, entries, windows, call)?;
@@ -271,7 +280,12 @@ fn build_call(
     next: usize,
     call: &Call,
 ) -> Result<CallOver, AllocError>
-    ensures { IfOk result (λ c. call_plan c ≡ record { window = place_of_call (windows_in entries.now) next (view_call call.now); function = function_of_call (layout_of layout.now) (view_call call.now) }) }
+    ensures { IfOk result (λ c. call_plan c ≡ record {
+      window =
+          place_of_call (windows_in entries.now) next (view_call call.now);
+      function =
+          function_of_call (layout_of layout.now) (view_call call.now);
+    }) }
 {
     let function = build_function(alloc, layout, call)?;
     Ok(CallOver {
@@ -289,7 +303,8 @@ pub(crate) fn build_calls(
     calls: &[&Call],
 ) -> Result<Vec<CallOver>, AllocError>
     requires { first < 2 ^ 63 }
-    ensures { IfOk result (λ made. map call_plan made.items ≡ calls_made (layout_of layout.now) (windows_in entries.now) first (call_trees calls.now)) }
+    ensures { IfOk result (λ made. map call_plan made.items ≡ calls_made (layout_of layout.now) (windows_in entries.now)
+        first (call_trees calls.now)) }
 {
     let mut made = Vec::with_capacity(alloc, calls.len())?;
     let mut next = first;

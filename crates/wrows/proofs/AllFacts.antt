@@ -27,13 +27,15 @@ no_lists rows = ap (λ b. unless b OutOfRange (map (λ row. []) rows)) (none_ref
 stay : (by told : List (List Meaning)) → ordered [] by told ≡ told
 stay by told = ap (map (key_at told)) (by_no_key [] by (places (length told)) 0 refl) ∙ all_rows told
 
-pub as_they_stand : (ts ks : List Formula) (order : List SortKey) (offset : ℕ) (limit : Option ℕ) (rows : List Row) → length ks ≡ length order → length order ≡ 0 → offset ≡ 0 → limit ≡ None → lists_of ts rows ≡ ordered_of ts ks order offset limit rows
+pub as_they_stand : (ts ks : List Formula) (order : List SortKey) (offset : ℕ) (limit : Option ℕ) (rows : List Row)
+    → length ks ≡ length order → length order ≡ 0 → offset ≡ 0 → limit ≡ None → lists_of ts rows ≡ ordered_of ts ks order offset limit rows
 as_they_stand ts [] [] offset limit rows k o f l = go (lists_of ts rows)
   where
     keys : List (List Meaning)
     keys = map (λ row. []) rows
 
-    go : (lists : Result (List (List Meaning)) AnswerFault) → lists ≡ (lists >>= λ told. lists_of [] rows >>= λ by. Ok (cut offset limit (ordered [] by told)))
+    go : (lists : Result (List (List Meaning)) AnswerFault)
+        → lists ≡ (lists >>= λ told. lists_of [] rows >>= λ by. Ok (cut offset limit (ordered [] by told)))
     go (Err fault) = refl
     go (Ok told) = sym
         (then_ok keys (lists_of [] rows) (λ by. Ok (cut offset limit (ordered [] by told))) (no_lists rows)

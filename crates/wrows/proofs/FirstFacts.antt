@@ -23,7 +23,8 @@ use Rattle.wrows.proofs.RowFacts.{length-places, places_below}
 use Rattle.wrows.proofs.CutFacts.{cut_of_first, first_below, numbers_long}
 
 -- rows sorted by a rule for their keys are sorted by the keys listed
-pub sorted_listed : (order : List SortKey) (key : ℕ → List Meaning) (n : ℕ) → sorted (on key (keys_cmp order)) (places n) ≡ numbers_by order (map key (places n)) n
+pub sorted_listed : (order : List SortKey) (key : ℕ → List Meaning) (n : ℕ) → sorted (on key (keys_cmp order)) (places n)
+    ≡ numbers_by order (map key (places n)) n
 sorted_listed order key n =
     sorted_same (λ i. i < n) (on key (keys_cmp order)) (on (key_at (map key (places n))) (keys_cmp order))
     (λ i j h k. ap (λ a. keys_cmp order a (key j)) (listed i h) ∙ ap (keys_cmp order (key_at (map key (places n)) i)) (listed j k))
@@ -38,7 +39,8 @@ abbrev numbers_told : Result (List ℕ) AnswerFault → List ℕ
 numbers_told (Ok numbers) = numbers
 numbers_told (Err fault) = []
 
-module _ (order : List SortKey) (offset : ℕ) (limit : Option ℕ) (n from count : ℕ) (f : from ≡ min offset n) (c : count ≡ at_most_limit limit (n - from)) (within : from + count ≤ n) where
+module _ (order : List SortKey) (offset : ℕ) (limit : Option ℕ) (n from count : ℕ) (f : from ≡ min offset n)
+    (c : count ≡ at_most_limit limit (n - from)) (within : from + count ≤ n) where
   abbrev firsts : Result (List (List Meaning)) AnswerFault → Result (List ℕ) AnswerFault
   firsts by = by >>= λ by. Ok (take (from + count) (numbers_by order by n))
 
@@ -48,12 +50,15 @@ module _ (order : List SortKey) (offset : ℕ) (limit : Option ℕ) (n from coun
   numbers_in : (by : List (List Meaning)) (first : List ℕ) → firsts (Ok by) ≡ Ok first → first ≡ take (from + count) (numbers_by order by n)
   numbers_in by first e = sym (ap numbers_told e)
 
-  asked_by : (by : Result (List (List Meaning)) AnswerFault) (first : List ℕ) → firsts by ≡ Ok first → asked by ≡ Ok (cut offset limit first)
+  asked_by : (by : Result (List (List Meaning)) AnswerFault) (first : List ℕ) → firsts by ≡ Ok first
+      → asked by ≡ Ok (cut offset limit first)
   asked_by (Ok by) first e =
-      ap Ok (sym (cut_of_first offset limit (numbers_by order by n) n from count (numbers_long order by n) f c within) ∙ ap (cut offset limit) (sym (numbers_in by first e)))
+      ap Ok (sym (cut_of_first offset limit (numbers_by order by n) n from count (numbers_long order by n) f c within)
+      ∙ ap (cut offset limit) (sym (numbers_in by first e)))
   asked_by (Err fault) first e = absurd (cc)
 
-  below_by : (by : Result (List (List Meaning)) AnswerFault) (first : List ℕ) → firsts by ≡ Ok first → All (λ i. i < n) (cut offset limit first)
+  below_by : (by : Result (List (List Meaning)) AnswerFault) (first : List ℕ) → firsts by ≡ Ok first
+      → All (λ i. i < n) (cut offset limit first)
   below_by (Ok by) first e = cut_below n offset limit first (first_below order by n (from + count) first (numbers_in by first e))
   below_by (Err fault) first e = absurd (cc)
 
@@ -69,18 +74,21 @@ module _ (order : List SortKey) (offset : ℕ) (limit : Option ℕ) (n from coun
     asked_is = ap (λ k. lists_of keys all >>= λ by. Ok (cut offset limit (numbers_by order by k))) long
 
     -- what is asked for is cut from the first ones
-    pub asked_of_first : (first : List ℕ) → first_of keys order (from + count) all ≡ Ok first → asked_of keys order offset limit all ≡ Ok (cut offset limit first)
+    pub asked_of_first : (first : List ℕ) → first_of keys order (from + count) all ≡ Ok first
+        → asked_of keys order offset limit all ≡ Ok (cut offset limit first)
     asked_of_first first e = asked_is ∙ asked_by (lists_of keys all) first (firsts_are ∙ e)
 
     pub asked_below : (first : List ℕ) → first_of keys order (from + count) all ≡ Ok first → All (λ i. i < n) (cut offset limit first)
     asked_below first e = below_by (lists_of keys all) first (firsts_are ∙ e)
 
-    pub asked_refused : {X Y : Type 0} (view : X → List ℕ) (other : Y → List ℕ) (fault : AnswerFault) → Gives view (Err fault) (first_of keys order (from + count) all) → Gives other (Err fault) (asked_of keys order offset limit all)
+    pub asked_refused : {X Y : Type 0} (view : X → List ℕ) (other : Y → List ℕ) (fault : AnswerFault)
+        → Gives view (Err fault) (first_of keys order (from + count) all) → Gives other (Err fault) (asked_of keys order offset limit all)
     asked_refused view other OutOfRange e = asked_is ∙ refused_by (lists_of keys all) OutOfRange (firsts_are ∙ e)
     asked_refused view other TooManyRows e = asked_is ∙ refused_by (lists_of keys all) TooManyRows (firsts_are ∙ e)
     asked_refused view other NoMemory e = tt
 
 -- what is found is what is meant
-pub found_is : {V : Type 0} (items : V → List ℕ) (found : Option V) (first : List ℕ) (meant : Result (List ℕ) AnswerFault) → IfSome found (λ v. items v ≡ first) → meant ≡ Ok first → IfSome found (λ v. meant ≡ Ok (items v))
+pub found_is : {V : Type 0} (items : V → List ℕ) (found : Option V) (first : List ℕ) (meant : Result (List ℕ) AnswerFault)
+    → IfSome found (λ v. items v ≡ first) → meant ≡ Ok first → IfSome found (λ v. meant ≡ Ok (items v))
 found_is items None first meant h e = tt
 found_is items (Some v) first meant h e = e ∙ ap Ok (sym h)

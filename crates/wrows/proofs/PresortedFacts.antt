@@ -27,10 +27,12 @@ lists_long ts rows lists e = go _ e
 
 module _ (ts ks : List Formula) (order : List SortKey) (offset : ℕ) (limit : Option ℕ) (rows : List Row) where
   -- the rows of the numbers that are asked for
-  pub asked_is : (taken : List ℕ) → asked_of ks order offset limit rows ≡ Ok taken → items_at ts taken rows ≡ ordered_of ts ks order offset limit rows
+  pub asked_is : (taken : List ℕ) → asked_of ks order offset limit rows ≡ Ok taken
+      → items_at ts taken rows ≡ ordered_of ts ks order offset limit rows
   asked_is taken asked = go (lists_of ts rows) refl
     where
-      go : (lists : Result (List (List Meaning)) AnswerFault) → lists_of ts rows ≡ lists → items_at ts taken rows ≡ ordered_of ts ks order offset limit rows
+      go : (lists : Result (List (List Meaning)) AnswerFault) → lists_of ts rows ≡ lists
+          → items_at ts taken rows ≡ ordered_of ts ks order offset limit rows
       go (Ok lists) e =
           then_ok lists (lists_of ts rows) (λ lists. Ok (map (key_at lists) taken)) e
           ∙ sym (items_asked ts ks order offset limit rows lists taken e (lists_long ts rows lists e) asked)
@@ -39,7 +41,8 @@ module _ (ts ks : List Formula) (order : List SortKey) (offset : ℕ) (limit : O
           ∙ sym (ap (λ r. r >>= λ lists. lists_of ks rows >>= λ by. Ok (cut offset limit (ordered order by lists))) e)
 
   -- where no numbers are told, since a key is out of range, nothing is
-  pub asked_fails : {X Y : Type 0} (numbers : X → List ℕ) (view : Y → List Row) (fault : AnswerFault) → Gives numbers (Err fault) (asked_of ks order offset limit rows) → Gives view (Err fault) (ordered_of ts ks order offset limit rows)
+  pub asked_fails : {X Y : Type 0} (numbers : X → List ℕ) (view : Y → List Row) (fault : AnswerFault)
+      → Gives numbers (Err fault) (asked_of ks order offset limit rows) → Gives view (Err fault) (ordered_of ts ks order offset limit rows)
   asked_fails {X} {Y} numbers view fault gives = go _ _ fault gives
     where
       told : List Row
@@ -48,8 +51,10 @@ module _ (ts ks : List Formula) (order : List SortKey) (offset : ℕ) (limit : O
       by : List (List Meaning)
       by = map (λ row. map (λ t. value_on t row) ks) rows
 
-      go : (a b : Bool) (fault : AnswerFault) → Gives numbers (Err fault) (unless a OutOfRange by >>= λ by. Ok (cut offset limit (numbers_by order by (length rows))))
-          → Gives view (Err fault) (unless b OutOfRange told >>= λ told. unless a OutOfRange by >>= λ by. Ok (cut offset limit (ordered order by told)))
+      go : (a b : Bool) (fault : AnswerFault)
+          → Gives numbers (Err fault) (unless a OutOfRange by >>= λ by. Ok (cut offset limit (numbers_by order by (length rows))))
+          → Gives view (Err fault) (unless b OutOfRange told >>= λ told. unless a OutOfRange by >>= λ by.
+          Ok (cut offset limit (ordered order by told)))
       go true true OutOfRange h = refl
       go true false OutOfRange h = refl
       go false b OutOfRange h = absurd (cc)
@@ -58,12 +63,15 @@ module _ (ts ks : List Formula) (order : List SortKey) (offset : ℕ) (limit : O
       go a b NoMemory h = tt
 
   -- the numbers that are asked for are cut from those of all
-  asked_told : (numbers taken : List ℕ) → numbers_of ks order rows ≡ Ok numbers → taken ≡ cut offset limit numbers → asked_of ks order offset limit rows ≡ Ok taken
+  asked_told : (numbers taken : List ℕ) → numbers_of ks order rows ≡ Ok numbers → taken ≡ cut offset limit numbers
+      → asked_of ks order offset limit rows ≡ Ok taken
   asked_told numbers taken told is = go (lists_of ks rows) told
     where
-      go : (by : Result (List (List Meaning)) AnswerFault) → (by >>= λ by. Ok (numbers_by order by (length rows))) ≡ Ok numbers → (by >>= λ by. Ok (cut offset limit (numbers_by order by (length rows)))) ≡ Ok taken
+      go : (by : Result (List (List Meaning)) AnswerFault) → (by >>= λ by. Ok (numbers_by order by (length rows)))
+          ≡ Ok numbers → (by >>= λ by. Ok (cut offset limit (numbers_by order by (length rows)))) ≡ Ok taken
       go (Ok by) h = let same : numbers_by order by (length rows) ≡ numbers = cc in ap (λ l. Ok (cut offset limit l)) same ∙ ap Ok (sym is)
       go (Err fault) h = absurd (cc)
 
-  pub told_is : (numbers taken : List ℕ) → numbers_of ks order rows ≡ Ok numbers → taken ≡ cut offset limit numbers → items_at ts taken rows ≡ ordered_of ts ks order offset limit rows
+  pub told_is : (numbers taken : List ℕ) → numbers_of ks order rows ≡ Ok numbers → taken ≡ cut offset limit numbers
+      → items_at ts taken rows ≡ ordered_of ts ks order offset limit rows
   told_is numbers taken told is = asked_is taken (asked_told numbers taken told is)

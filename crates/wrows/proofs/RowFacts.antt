@@ -1,5 +1,7 @@
 -- Steps of loops over rows, and cells by their rows.
-use Rattle.std.proofs.Common.{◌≡◌, ℕ, zero, suc, ◌+◌, ◌*◌, ◌<◌, ◌≤◌, ◌||◌, Bool, true, false, cond, List, [], ◌∷◌, ◌++◌, length, map, filter, take, drop, Result, Ok, Err, Option, Some, None, take_all, take_at, drop_at, length-append, length-drop, min, ◌-◌, get_or, refl, sym, ap, ◌∙◌, arith}
+use Rattle.std.proofs.Common.{◌≡◌, ℕ, zero, suc, ◌+◌, ◌*◌, ◌<◌, ◌≤◌, ◌||◌, Bool, true, false, cond, List, [], ◌∷◌, ◌++◌}
+use Rattle.std.proofs.Common.{length, map, filter, take, drop, Result, Ok, Err, Option, Some, None, take_all, take_at}
+use Rattle.std.proofs.Common.{drop_at, length-append, length-drop, min, ◌-◌, get_or, refl, sym, ap, ◌∙◌, arith}
 use Rattle.std.specs.List.{list_any, flat_map, AllByRecursion}
 use Rattle.std.proofs.lemmas.List.{take_more, map-append, flat_map_more}
 use Rattle.std.proofs.lemmas.List.Folds.{list_any_more, list_any_at}
@@ -23,17 +25,19 @@ any-map p f (x ∷ xs) = ap (λ b. p (f x) || b) (any-map p f xs)
 
 pub filter-map : {X Y : Type 0} (p : Y → Bool) (f : X → Y) (xs : List X) → filter p (map f xs) ≡ map f (filter (λ x. p (f x)) xs)
 filter-map p f [] = refl
-filter-map p f (x ∷ xs) = elim (p (f x)) as (λ b. cond b (f x ∷ filter p (map f xs)) (filter p (map f xs)) ≡ map f (cond b (x ∷ filter (λ x. p (f x)) xs) (filter (λ x. p (f x)) xs))) [
-  | true ↦ ap (λ l. f x ∷ l) (filter-map p f xs)
-  | false ↦ filter-map p f xs
-]
+filter-map p f (x ∷ xs) = elim (p (f x)) as (λ b. cond b (f x ∷ filter p (map f xs)) (filter p (map f xs))
+    ≡ map f (cond b (x ∷ filter (λ x. p (f x)) xs) (filter (λ x. p (f x)) xs))) [
+      | true ↦ ap (λ l. f x ∷ l) (filter-map p f xs)
+      | false ↦ filter-map p f xs
+    ]
 
 unless_ok : {A : Type 0} (b : Bool) (fault : AnswerFault) (x y : A) → b ≡ false → x ≡ y → unless b fault x ≡ Ok y
 unless_ok true fault x y h e = absurd (cc)
 unless_ok false fault x y h e = ap Ok e
 
 -- a loop over all rows kept those that pass a test, and none is at fault
-pub kept_all : {X Y : Type 0} (p h : Y → Bool) (f : X → Y) (fault : AnswerFault) (xs ys : List X) (n : ℕ) → length xs ≤ n → list_any (λ x. p (f x)) (take n xs) ≡ false → ys ≡ filter (λ x. h (f x)) (take n xs)
+pub kept_all : {X Y : Type 0} (p h : Y → Bool) (f : X → Y) (fault : AnswerFault) (xs ys : List X) (n : ℕ) → length xs ≤ n
+    → list_any (λ x. p (f x)) (take n xs) ≡ false → ys ≡ filter (λ x. h (f x)) (take n xs)
     → unless (list_any p (map f xs)) fault (filter h (map f xs)) ≡ Ok (map f ys)
 kept_all p h f fault xs ys n long none kept =
     let all : take n xs ≡ xs = take_all n xs long in
@@ -41,7 +45,8 @@ kept_all p h f fault xs ys n long none kept =
     (filter-map h f xs ∙ ap (λ l. map f (filter (λ x. h (f x)) l)) (sym all) ∙ ap (map f) (sym kept))
 
 -- a loop over all rows told a value for each, and none is at fault
-pub told_all : {X Y Z : Type 0} (p : Y → Bool) (g : Y → Z) (f : X → Y) (fault : AnswerFault) (xs : List X) (zs : List Z) (n : ℕ) → length xs ≤ n → list_any (λ x. p (f x)) (take n xs) ≡ false → zs ≡ map (λ x. g (f x)) (take n xs)
+pub told_all : {X Y Z : Type 0} (p : Y → Bool) (g : Y → Z) (f : X → Y) (fault : AnswerFault) (xs : List X) (zs : List Z)
+    (n : ℕ) → length xs ≤ n → list_any (λ x. p (f x)) (take n xs) ≡ false → zs ≡ map (λ x. g (f x)) (take n xs)
     → unless (list_any p (map f xs)) fault (map g (map f xs)) ≡ Ok zs
 told_all p g f fault xs zs n long none told =
     let all : take n xs ≡ xs = take_all n xs long in
@@ -59,7 +64,8 @@ map-rest (suc w) [] = refl
 map-rest (suc w) (x ∷ xs) = map-rest w xs
 
 -- rows that were laid one after another
-pub laid_rows : {X : Type 0} (w : ℕ) (f : X → List Meaning) (xs : List X) → AllByRecursion (λ x. length (f x) ≡ w) xs → (cells : List Value) → map meaning cells ≡ flat_map f xs → laid w (length xs) cells ≡ map f xs
+pub laid_rows : {X : Type 0} (w : ℕ) (f : X → List Meaning) (xs : List X) → AllByRecursion (λ x. length (f x) ≡ w) xs
+    → (cells : List Value) → map meaning cells ≡ flat_map f xs → laid w (length xs) cells ≡ map f xs
 laid_rows w f [] wide cells e = refl
 laid_rows w f (x ∷ xs) wide cells e =
     let first : map meaning (take w cells) ≡ f x = map-front w cells ∙ ap (take w) e ∙ take_at (f x) (flat_map f xs) w wide.0 in
@@ -70,7 +76,8 @@ pub all_of_each : {X : Type 0} (P : X → Type 0) → ((x : X) → P x) → (xs 
 all_of_each P h [] = tt
 all_of_each P h (x ∷ xs) = (h x, all_of_each P h xs)
 
-pub laid_length : {X : Type 0} (w : ℕ) (f : X → List Meaning) (xs : List X) → AllByRecursion (λ x. length (f x) ≡ w) xs → length (flat_map f xs) ≡ length xs * w
+pub laid_length : {X : Type 0} (w : ℕ) (f : X → List Meaning) (xs : List X) → AllByRecursion (λ x. length (f x) ≡ w) xs
+    → length (flat_map f xs) ≡ length xs * w
 laid_length w f [] wide = let e : 0 ≡ 0 * w = omega arith in e
 laid_length w f (x ∷ xs) wide =
     let one : length (f x ++ flat_map f xs) ≡ length (f x) + length (flat_map f xs) = length-append (f x) (flat_map f xs) in
@@ -79,26 +86,34 @@ laid_length w f (x ∷ xs) wide =
     let e : suc (length xs) * w ≡ w + length xs * w = omega arith in
     omega (arith, one, more, here, e)
 
-pub none_of_all : {X Y : Type 0} (p : Y → Bool) (f : X → Y) (fault : AnswerFault) (xs : List X) (n : ℕ) → length xs ≤ n → list_any (λ x. p (f x)) (take n xs) ≡ false → unless (list_any p (map f xs)) fault (tt {0}) ≡ Ok (tt {0})
+pub none_of_all : {X Y : Type 0} (p : Y → Bool) (f : X → Y) (fault : AnswerFault) (xs : List X) (n : ℕ) → length xs ≤ n
+    → list_any (λ x. p (f x)) (take n xs) ≡ false → unless (list_any p (map f xs)) fault (tt {0}) ≡ Ok (tt {0})
 none_of_all p f fault xs n long none =
     unless_ok _ fault (tt {0}) (tt {0}) (any-map p f xs ∙ ap (list_any (λ x. p (f x))) (sym (take_all n xs long)) ∙ none) refl
 
-pub added_all : {X Y Z : Type 0} (g : Y → Z) (f : X → Y) (xs : List X) (n : ℕ) (before after : List Z) → length xs ≤ n → after ≡ before ++ map (λ x. g (f x)) (take n xs) → after ≡ before ++ map g (map f xs)
-added_all g f xs n before after long e = e ∙ ap (λ l. before ++ map (λ x. g (f x)) l) (take_all n xs long) ∙ ap (λ l. before ++ l) (sym (map-map g f xs))
+pub added_all : {X Y Z : Type 0} (g : Y → Z) (f : X → Y) (xs : List X) (n : ℕ) (before after : List Z) → length xs ≤ n
+    → after ≡ before ++ map (λ x. g (f x)) (take n xs) → after ≡ before ++ map g (map f xs)
+added_all g f xs n before after long e = e ∙ ap (λ l. before ++ map (λ x. g (f x)) l) (take_all n xs long)
+    ∙ ap (λ l. before ++ l) (sym (map-map g f xs))
 
-pub any_next : {X : Type 0} (p : X → Bool) (xs : List X) (i : ℕ) (x : X) → i < length xs → x ≡ get_or xs i x → list_any p (take i xs) ≡ false → p x ≡ false → list_any p (take (i + 1) xs) ≡ false
+pub any_next : {X : Type 0} (p : X → Bool) (xs : List X) (i : ℕ) (x : X) → i < length xs → x ≡ get_or xs i x
+    → list_any p (take i xs) ≡ false → p x ≡ false → list_any p (take (i + 1) xs) ≡ false
 any_next p xs i x h e none here = list_any_more p xs i x h ∙ ap (λ b. b || p (get_or xs i x)) none ∙ sym (ap p e) ∙ here
 
-pub flat_next : {X Y : Type 0} (f : X → List Y) (xs : List X) (i : ℕ) (x : X) (before after : List Y) → i < length xs → x ≡ get_or xs i x → before ≡ flat_map f (take i xs) → after ≡ before ++ f x → after ≡ flat_map f (take (i + 1) xs)
+pub flat_next : {X Y : Type 0} (f : X → List Y) (xs : List X) (i : ℕ) (x : X) (before after : List Y) → i < length xs
+    → x ≡ get_or xs i x → before ≡ flat_map f (take i xs) → after ≡ before ++ f x → after ≡ flat_map f (take (i + 1) xs)
 flat_next f xs i x before after h e told more =
-    more ∙ ap (λ l. l ++ f x) told ∙ flat_map_more f [] (take i xs) x ∙ ap (λ y. flat_map f (take i xs ++ y ∷ [])) e ∙ ap (flat_map f) (sym (take_more xs i x h))
+    more ∙ ap (λ l. l ++ f x) told ∙ flat_map_more f [] (take i xs) x ∙ ap (λ y. flat_map f (take i xs ++ y ∷ [])) e
+    ∙ ap (flat_map f) (sym (take_more xs i x h))
 
 pub ok_is_false : {A : Type 0} (b : Bool) (x y : A) → unless b OutOfRange x ≡ Ok y → b ≡ false
 ok_is_false true x y h = absurd (cc)
 ok_is_false false x y h = refl
 
 -- a fault of one row is one of all
-pub refused : {X Y : Type 0} (view : X → Y) (fault : AnswerFault) (b all : Bool) (x : Y) → Gives {X = Unit {0}} (λ u. u) (Err fault) (unless b OutOfRange (tt {0})) → (b ≡ true → all ≡ true) → Gives view (Err fault) (unless all OutOfRange x)
+pub refused : {X Y : Type 0} (view : X → Y) (fault : AnswerFault) (b all : Bool) (x : Y)
+    → Gives {X = Unit {0}} (λ u. u) (Err fault) (unless b OutOfRange (tt {0})) → (b ≡ true → all ≡ true)
+    → Gives view (Err fault) (unless all OutOfRange x)
 refused view OutOfRange true all x h at = let e : all ≡ true = at refl in rw e refl
 refused view OutOfRange false all x h at = absurd (cc)
 refused view TooManyRows true all x h at = absurd (cc)
@@ -106,23 +121,27 @@ refused view TooManyRows false all x h at = absurd (cc)
 refused view NoMemory b all x h at = tt
 
 -- the same, where the row gives something else than all do
-pub refused_by : {A B X Y : Type 0} (inner : A → B) (view : X → Y) (fault : AnswerFault) (b all : Bool) (a : B) (x : Y) → Gives inner (Err fault) (unless b OutOfRange a) → (b ≡ true → all ≡ true) → Gives view (Err fault) (unless all OutOfRange x)
+pub refused_by : {A B X Y : Type 0} (inner : A → B) (view : X → Y) (fault : AnswerFault) (b all : Bool) (a : B) (x : Y)
+    → Gives inner (Err fault) (unless b OutOfRange a) → (b ≡ true → all ≡ true) → Gives view (Err fault) (unless all OutOfRange x)
 refused_by inner view OutOfRange true all a x h at = let e : all ≡ true = at refl in rw e refl
 refused_by inner view OutOfRange false all a x h at = absurd (cc)
 refused_by inner view TooManyRows true all a x h at = absurd (cc)
 refused_by inner view TooManyRows false all a x h at = absurd (cc)
 refused_by inner view NoMemory b all a x h at = tt
 
-pub any_of_all : {X Y : Type 0} (p : Y → Bool) (f : X → Y) (xs : List X) (i : ℕ) (x : X) → i < length xs → x ≡ get_or xs i x → p (f x) ≡ true → list_any p (map f xs) ≡ true
+pub any_of_all : {X Y : Type 0} (p : Y → Bool) (f : X → Y) (xs : List X) (i : ℕ) (x : X) → i < length xs → x ≡ get_or xs i x
+    → p (f x) ≡ true → list_any p (map f xs) ≡ true
 any_of_all p f xs i x h e here = any-map p f xs ∙ list_any_at (λ x. p (f x)) xs i x h (sym (ap (λ x. p (f x)) e) ∙ here)
 
 -- a fault of the first part is one of the whole
-pub then_refused : {X Y A B : Type 0} (view : X → A) (whole : Y → B) (fault : AnswerFault) (first : Result A AnswerFault) (others : A → Result B AnswerFault) → Gives view (Err fault) first → Gives whole (Err fault) (first >>= others)
+pub then_refused : {X Y A B : Type 0} (view : X → A) (whole : Y → B) (fault : AnswerFault) (first : Result A AnswerFault)
+    (others : A → Result B AnswerFault) → Gives view (Err fault) first → Gives whole (Err fault) (first >>= others)
 then_refused view whole OutOfRange first others h = ap (λ r. r >>= others) h
 then_refused view whole TooManyRows first others h = ap (λ r. r >>= others) h
 then_refused view whole NoMemory first others h = tt
 
-pub then_ok : {A B : Type 0} (x : A) (first : Result A AnswerFault) (others : A → Result B AnswerFault) → first ≡ Ok x → first >>= others ≡ others x
+pub then_ok : {A B : Type 0} (x : A) (first : Result A AnswerFault) (others : A → Result B AnswerFault) → first ≡ Ok x
+    → first >>= others ≡ others x
 then_ok x first others h = ap (λ r. r >>= others) h
 
 pub take_least : {X : Type 0} (limit : ℕ) (xs : List X) → take (min limit (length xs)) xs ≡ take limit xs
@@ -139,12 +158,14 @@ drop_least (suc offset) (x ∷ xs) =
     let e : min (suc offset) (suc (length xs)) ≡ suc (min offset (length xs)) = omega arith in
     ap (λ n. drop n (x ∷ xs)) e ∙ drop_least offset xs
 
-pub cut_numbers : {X : Type 0} (offset : ℕ) (limit : Option ℕ) (xs : List X) (from count : ℕ) → from ≡ min offset (length xs) → count ≡ at_most_limit limit (length xs - from) → take count (drop from xs) ≡ cut offset limit xs
+pub cut_numbers : {X : Type 0} (offset : ℕ) (limit : Option ℕ) (xs : List X) (from count : ℕ)
+    → from ≡ min offset (length xs) → count ≡ at_most_limit limit (length xs - from) → take count (drop from xs) ≡ cut offset limit xs
 cut_numbers offset None xs from count e f =
     take_all count (drop from xs) (omega (arith, length-drop from xs, f)) ∙ ap (λ n. drop n xs) e ∙ drop_least offset xs
 cut_numbers offset (Some limit) xs from count e f =
     let long : length (drop from xs) ≡ length xs - from = length-drop from xs in
-    ap (λ n. take n (drop from xs)) (f ∙ ap (min limit) (sym long)) ∙ take_least limit (drop from xs) ∙ ap (take limit) (ap (λ n. drop n xs) e ∙ drop_least offset xs)
+    ap (λ n. take n (drop from xs)) (f ∙ ap (min limit) (sym long)) ∙ take_least limit (drop from xs)
+    ∙ ap (take limit) (ap (λ n. drop n xs) e ∙ drop_least offset xs)
 
 pub map-taken : {X Y : Type 0} (f : X → Y) (n : ℕ) (xs : List X) → map f (take n xs) ≡ take n (map f xs)
 map-taken f zero xs = refl
@@ -156,7 +177,8 @@ map-dropped f zero xs = refl
 map-dropped f (suc n) [] = refl
 map-dropped f (suc n) (x ∷ xs) = map-dropped f n xs
 
-pub rows_wide : (w n : ℕ) (cells : List Value) → length cells ≡ n * w → (numbers : List ℕ) → AllByRecursion (λ i. i < n) numbers → AllByRecursion (λ i. length (get_or (laid w n cells) i []) ≡ w) numbers
+pub rows_wide : (w n : ℕ) (cells : List Value) → length cells ≡ n * w → (numbers : List ℕ)
+    → AllByRecursion (λ i. i < n) numbers → AllByRecursion (λ i. length (get_or (laid w n cells) i []) ≡ w) numbers
 rows_wide w n cells laid [] all = tt
 rows_wide w n cells laid (i ∷ numbers) all = (row_wide w n cells i laid all.0, rows_wide w n cells laid numbers all.1)
 
@@ -165,12 +187,14 @@ same_at [] i d e h = absurd (omega arith)
 same_at (x ∷ xs) zero d e h = refl
 same_at (x ∷ xs) (suc i) d e h = same_at xs i d e (omega arith)
 
-pub map-cut : {X Y : Type 0} (f : X → Y) (offset : ℕ) (limit : Option ℕ) (xs : List X) → map f (cut offset limit xs) ≡ cut offset limit (map f xs)
+pub map-cut : {X Y : Type 0} (f : X → Y) (offset : ℕ) (limit : Option ℕ) (xs : List X)
+    → map f (cut offset limit xs) ≡ cut offset limit (map f xs)
 map-cut f offset None xs = map-dropped f offset xs
 map-cut f offset (Some limit) xs = map-taken f limit (drop offset xs) ∙ ap (take limit) (map-dropped f offset xs)
 
 -- a row more that is lent
-pub lent_more : (w n : ℕ) (cells : List Value) (i : ℕ) (rows : List (Bor (List Value))) (slice : Bor (List Value)) (more : List (Bor (List Value))) → i < n → rows_seen rows ≡ take i (laid w n cells) → slice.now ≡ take w (drop (i * w) cells)
+pub lent_more : (w n : ℕ) (cells : List Value) (i : ℕ) (rows : List (Bor (List Value))) (slice : Bor (List Value))
+    (more : List (Bor (List Value))) → i < n → rows_seen rows ≡ take i (laid w n cells) → slice.now ≡ take w (drop (i * w) cells)
     → more ≡ rows ++ slice ∷ [] → rows_seen more ≡ take (i + 1) (laid w n cells)
 lent_more w n cells i rows slice more h so_far is e =
     let within : i < length (laid w n cells) = omega (arith, length-laid w n cells) in
@@ -179,8 +203,10 @@ lent_more w n cells i rows slice more h so_far is e =
     ∙ sym (take_more (laid w n cells) i [] within)
 
 -- the rows of some of the sorted numbers are a cut of the rows in order
-pub cut_rows : (order : List SortKey) (keys told rows : List (List Meaning)) (numbers : List ℕ) (offset : ℕ) (limit : Option ℕ) (from count : ℕ)
-    → numbers ≡ numbers_by order keys (length told) → from ≡ min offset (length numbers) → count ≡ at_most_limit limit (length numbers - from)
+pub cut_rows : (order : List SortKey) (keys told rows : List (List Meaning)) (numbers : List ℕ) (offset : ℕ)
+    (limit : Option ℕ) (from count : ℕ)
+    → numbers ≡ numbers_by order keys (length told) → from ≡ min offset (length numbers)
+    → count ≡ at_most_limit limit (length numbers - from)
     → rows ≡ map (key_at told) (take count (drop from numbers)) → cut offset limit (ordered order keys told) ≡ rows
 cut_rows order keys told rows numbers offset limit from count is_sorted e f g =
     sym (map-cut (key_at told) offset limit (numbers_by order keys (length told)))

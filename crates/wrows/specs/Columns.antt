@@ -32,7 +32,8 @@ column_of t rows = unless (list_any (is_out_of_range t) rows) OutOfRange (map (v
 
 -- the values of several expressions on each row
 abbrev pub lists_of : List Formula → List Row → Result (List (List Meaning)) AnswerFault
-lists_of ts rows = unless (list_any (λ row. list_any (λ t. is_out_of_range t row) ts) rows) OutOfRange (map (λ row. map (λ t. value_on t row) ts) rows)
+lists_of ts rows = unless (list_any (λ row. list_any (λ t. is_out_of_range t row) ts) rows) OutOfRange
+    (map (λ row. map (λ t. value_on t row) ts) rows)
 
 -- whether a filter is true on each row, if there is one
 abbrev pub filter_of : Option Formula → List Row → Result (Option (List Bool)) AnswerFault

@@ -55,7 +55,8 @@ fn have_texts<'a>(
     numbers: &[usize],
 ) -> bool
     requires { meaning null.now ≡ Null }
-    ensures { result ≡ list_any (λ place. list_any (λ i. is_text (value_at (row_beside (rows_seen rows.now) (rows_seen columns.now) i) place)) numbers.now) places.now }
+    ensures { result ≡ list_any (λ place. list_any
+        (λ i. is_text (value_at (row_beside (rows_seen rows.now) (rows_seen columns.now) i) place)) numbers.now) places.now }
 {
     let mut found = false;
     for place in places {
@@ -87,8 +88,10 @@ fn push_without_texts<'a>(
     cells: &mut Vec<Value>,
 ) -> Result<(), AllocError>
     requires null { meaning null.now ≡ Null }
-    requires none { list_any (λ place. is_text (value_at (with_columns (map meaning own.now) (rows_seen columns.now) row) place)) places.now ≡ false }
-    ensures { OnOk result (map meaning cells.new.items ≡ map meaning cells.old.items ++ map (value_at (with_columns (map meaning own.now) (rows_seen columns.now) row)) places.now) }
+    requires none { list_any (λ place. is_text (value_at (with_columns (map meaning own.now) (rows_seen columns.now) row)
+        place)) places.now ≡ false }
+    ensures { OnOk result (map meaning cells.new.items ≡ map meaning cells.old.items ++ map
+        (value_at (with_columns (map meaning own.now) (rows_seen columns.now) row)) places.now) }
 {
     for place in places {
         cells.push(copy_of(value_of(own, columns, null, row, *place)))?;
@@ -107,7 +110,8 @@ fn push_batch<'a>(
     cells: &mut Vec<Value>,
 ) -> Result<(), AllocError>
     requires { meaning null.now ≡ Null }
-    ensures { OnOk result (map meaning cells.new.items ≡ map meaning cells.old.items ++ flat_map (picked places.now (rows_seen rows.now) (rows_seen columns.now)) numbers.now) }
+    ensures { OnOk result (map meaning cells.new.items ≡ map meaning cells.old.items ++ flat_map
+        (picked places.now (rows_seen rows.now) (rows_seen columns.now)) numbers.now) }
 {
     let some_text = have_texts(rows, columns, null, places, numbers);
     for number in numbers {
@@ -144,7 +148,8 @@ fn push_rows<'a>(
     cells: &mut Vec<Value>,
 ) -> Result<(), AllocError>
     requires { meaning null.now ≡ Null }
-    ensures { OnOk result (map meaning cells.new.items ≡ map meaning cells.old.items ++ flat_map (picked places.now (rows_seen rows.now) (rows_seen columns.now)) numbers.now) }
+    ensures { OnOk result (map meaning cells.new.items ≡ map meaning cells.old.items ++ flat_map
+        (picked places.now (rows_seen rows.now) (rows_seen columns.now)) numbers.now) }
 {
     let mut done = 0;
     while done < numbers.len() {
@@ -165,7 +170,8 @@ pub(crate) fn picked_rows(
     numbers: &[usize],
 ) -> Result<Vec<Value>, AllocError>
     requires { meaning null.now ≡ Null }
-    ensures rows { IfOk result (λ cells. laid (length places.now) (length numbers.now) cells.items ≡ map (picked places.now (rows_seen rows.now) (rows_seen columns.now)) numbers.now) }
+    ensures rows { IfOk result (λ cells. laid (length places.now) (length numbers.now) cells.items
+        ≡ map (picked places.now (rows_seen rows.now) (rows_seen columns.now)) numbers.now) }
     ensures laid { IfOk result (λ cells. length cells.items ≡ length numbers.now * length places.now) }
 {
     let mut cells = Vec::with_capacity(alloc, numbers.len().saturating_mul(places.len()))?;

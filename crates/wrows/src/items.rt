@@ -105,7 +105,8 @@ fn asked_numbers(
     columns: &[&[Value]],
 ) -> Result<Vec<usize>, AnswerFault>
     requires { length keys.now ≡ length order.now }
-    ensures gives { Gives (λ numbers. numbers.items) result (asked_of (formulas_seen keys.now) order.now asked.offset asked.limit (beside (rows_seen rows.now) (rows_seen columns.now))) }
+    ensures gives { Gives (λ numbers. numbers.items) result (asked_of (formulas_seen keys.now) order.now asked.offset
+        asked.limit (beside (rows_seen rows.now) (rows_seen columns.now))) }
     ensures below { IfOk result (λ numbers. All (λ i. i < length rows.now) numbers.items) }
 {
     let (from, count) = asked_for(asked, rows.len());
@@ -162,7 +163,8 @@ pub fn joined_items(
 ) -> Result<Cells, AnswerFault>
     requires { length keys.now ≡ length order.now }
     ensures width { IfOk result (λ cells. cells.width ≡ length items.now) }
-    ensures rows { Gives rows_in result (ordered_of (formulas_seen items.now) (formulas_seen keys.now) order.now asked.offset asked.limit (beside (rows_seen rows.now) (rows_seen columns.now))) }
+    ensures rows { Gives rows_in result (ordered_of (formulas_seen items.now) (formulas_seen keys.now) order.now
+        asked.offset asked.limit (beside (rows_seen rows.now) (rows_seen columns.now))) }
 {
     if asks_for_all(order, asked) {
         return all_items(alloc, items, rows, columns);
@@ -182,7 +184,8 @@ pub fn ordered_items(
 ) -> Result<Cells, AnswerFault>
     requires { length keys.now ≡ length order.now }
     ensures width { IfOk result (λ cells. cells.width ≡ length items.now) }
-    ensures rows { Gives rows_in result (ordered_of (formulas_seen items.now) (formulas_seen keys.now) order.now asked.offset asked.limit (rows_seen rows.now)) }
+    ensures rows { Gives rows_in result (ordered_of (formulas_seen items.now) (formulas_seen keys.now) order.now
+        asked.offset asked.limit (rows_seen rows.now)) }
 {
     joined_items(alloc, items, keys, order, asked, rows, &[])
 }

@@ -26,7 +26,8 @@ fn value_of(column: &[Value], row: usize) -> Result<Value, AllocError>
 
 // Appends what some columns have for a row.
 fn push_answers(cells: &mut Vec<Value>, columns: &[&[Value]], row: usize) -> Result<(), AllocError>
-    ensures { OnOk result (map meaning cells.new.items ≡ map meaning cells.old.items ++ map (λ column. value_at (map meaning column.now) row) columns.now) }
+    ensures { OnOk result (map meaning cells.new.items ≡ map meaning cells.old.items ++ map
+        (λ column. value_at (map meaning column.now) row) columns.now) }
 {
     for column in columns {
         cells.push(value_of(column, row)?)?;
@@ -41,7 +42,8 @@ fn fill(
     columns: &[&[Value]],
     number: usize,
 ) -> Result<(), AllocError>
-    ensures { OnOk result (map meaning joined.new.items ≡ map meaning row.now ++ map (λ column. value_at (map meaning column.now) number) columns.now) }
+    ensures { OnOk result (map meaning joined.new.items ≡ map meaning row.now ++ map
+        (λ column. value_at (map meaning column.now) number) columns.now) }
 {
     joined.clear();
     push_row(joined, row)?;
@@ -57,7 +59,8 @@ pub(crate) fn joined_lists(
     rows: &[&[Value]],
     columns: &[&[Value]],
 ) -> Result<Vec<Value>, AnswerFault>
-    ensures gives { Gives (λ cells. laid (length exprs.now) (length rows.now) cells.items) result (lists_of (formulas_seen exprs.now) (beside (rows_seen rows.now) (rows_seen columns.now))) }
+    ensures gives { Gives (λ cells. laid (length exprs.now) (length rows.now) cells.items) result
+        (lists_of (formulas_seen exprs.now) (beside (rows_seen rows.now) (rows_seen columns.now))) }
     ensures laid { IfOk result (λ cells. length cells.items ≡ length rows.now * length exprs.now) }
 {
     let mut cells = Vec::new(alloc);

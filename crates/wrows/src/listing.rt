@@ -20,7 +20,8 @@ pub(crate) fn evaluated_lists(
     rows: &[&[Value]],
     columns: &[&[Value]],
 ) -> Result<Vec<Value>, AnswerFault>
-    ensures gives { Gives (λ cells. laid (length exprs.now) (length rows.now) cells.items) result (lists_of (formulas_seen exprs.now) (beside (rows_seen rows.now) (rows_seen columns.now))) }
+    ensures gives { Gives (λ cells. laid (length exprs.now) (length rows.now) cells.items) result
+        (lists_of (formulas_seen exprs.now) (beside (rows_seen rows.now) (rows_seen columns.now))) }
     ensures laid { IfOk result (λ cells. length cells.items ≡ length rows.now * length exprs.now) }
 {
     if columns.is_empty() {
@@ -38,7 +39,8 @@ pub(crate) fn evaluated_beside(
     rows: &[&[Value]],
     columns: &[&[Value]],
 ) -> Result<Vec<Value>, AnswerFault>
-    ensures gives { Gives (λ cells. laid (length exprs.now) (length rows.now) cells.items) result (lists_of (formulas_seen exprs.now) (beside (rows_seen rows.now) (rows_seen columns.now))) }
+    ensures gives { Gives (λ cells. laid (length exprs.now) (length rows.now) cells.items) result
+        (lists_of (formulas_seen exprs.now) (beside (rows_seen rows.now) (rows_seen columns.now))) }
     ensures laid { IfOk result (λ cells. length cells.items ≡ length rows.now * length exprs.now) }
 {
     let plain = places_of(alloc, exprs)?;
@@ -54,7 +56,8 @@ pub(crate) fn evaluated_beside(
 /// `OutOfRange` where one is so on any; where all are plain columns, which cannot be out of range, they are read where
 /// they lie.
 pub fn lists(alloc: Global, exprs: &[&Expr], rows: &[&[Value]]) -> Result<Vec<Value>, AnswerFault>
-    ensures gives { Gives (λ cells. laid (length exprs.now) (length rows.now) cells.items) result (lists_of (formulas_seen exprs.now) (rows_seen rows.now)) }
+    ensures gives { Gives (λ cells. laid (length exprs.now) (length rows.now) cells.items) result
+        (lists_of (formulas_seen exprs.now) (rows_seen rows.now)) }
     ensures laid { IfOk result (λ cells. length cells.items ≡ length rows.now * length exprs.now) }
 {
     evaluated_beside(alloc, exprs, rows, &[])

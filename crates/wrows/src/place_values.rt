@@ -117,7 +117,8 @@ pub(crate) fn push_picked(
     cells: &mut Vec<Value>,
 ) -> Result<(), AllocError>
     requires { meaning null.now ≡ Null }
-    ensures { OnOk result (map meaning cells.new.items ≡ map meaning cells.old.items ++ map (value_at (with_columns (map meaning own.now) (rows_seen columns.now) row)) places.now) }
+    ensures { OnOk result (map meaning cells.new.items ≡ map meaning cells.old.items ++ map
+        (value_at (with_columns (map meaning own.now) (rows_seen columns.now) row)) places.now) }
 {
     for place in places {
         cells.push(value_of(own, columns, null, row, *place).duplicate()?)?;
@@ -134,7 +135,8 @@ pub(crate) fn picked_lists(
     null: &Value,
 ) -> Result<Vec<Value>, AllocError>
     requires { meaning null.now ≡ Null }
-    ensures gives { IfOk result (λ cells. lists_of (map At places.now) (beside (rows_seen rows.now) (rows_seen columns.now)) ≡ Ok (laid (length places.now) (length rows.now) cells.items)) }
+    ensures gives { IfOk result (λ cells. lists_of (map At places.now) (beside (rows_seen rows.now) (rows_seen columns.now))
+        ≡ Ok (laid (length places.now) (length rows.now) cells.items)) }
     ensures laid { IfOk result (λ cells. length cells.items ≡ length rows.now * length places.now) }
 {
     let mut cells = Vec::with_capacity(alloc, rows.len().saturating_mul(places.len()))?;

@@ -28,7 +28,8 @@ fn evaluated_at(
 ) -> Result<Cells, AnswerFault>
     requires { All (λ i. i < length rows.now) numbers.now }
     ensures width { IfOk result (λ cells. cells.width ≡ length items.now) }
-    ensures rows { Gives rows_in result (items_at (formulas_seen items.now) numbers.now (beside (rows_seen rows.now) (rows_seen columns.now))) }
+    ensures rows { Gives rows_in result (items_at (formulas_seen items.now) numbers.now
+        (beside (rows_seen rows.now) (rows_seen columns.now))) }
 {
     let told = evaluated_lists(alloc, items, rows, columns)?;
     let cells = gathered(alloc, &told, items.len(), rows.len(), numbers)?;
@@ -49,7 +50,8 @@ fn plain_at(
 ) -> Result<Cells, AllocError>
     requires { All (λ i. i < length rows.now) numbers.now }
     ensures width { IfOk result (λ cells. cells.width ≡ length places.now) }
-    ensures rows { IfOk result (λ cells. items_at (map At places.now) numbers.now (beside (rows_seen rows.now) (rows_seen columns.now)) ≡ Ok (rows_in cells)) }
+    ensures rows { IfOk result (λ cells. items_at (map At places.now) numbers.now
+        (beside (rows_seen rows.now) (rows_seen columns.now)) ≡ Ok (rows_in cells)) }
 {
     let null = Value::Null;
     let cells = picked_rows(alloc, rows, columns, &null, places, numbers)?;
@@ -70,7 +72,8 @@ pub(crate) fn items_at(
 ) -> Result<Cells, AnswerFault>
     requires { All (λ i. i < length rows.now) numbers.now }
     ensures width { IfOk result (λ cells. cells.width ≡ length items.now) }
-    ensures rows { Gives rows_in result (items_at (formulas_seen items.now) numbers.now (beside (rows_seen rows.now) (rows_seen columns.now))) }
+    ensures rows { Gives rows_in result (items_at (formulas_seen items.now) numbers.now
+        (beside (rows_seen rows.now) (rows_seen columns.now))) }
 {
     let plain = places_of(alloc, items)?;
     let Some(places) = plain else {
@@ -93,7 +96,10 @@ pub fn presorted_items(
 ) -> Result<Cells, AnswerFault>
     requires { All (λ i. i < length rows.now) numbers.items }
     ensures width { IfOk result (λ cells. cells.width ≡ length items.now) }
-    ensures rows { (keys : List Formula) (order : List SortKey) → numbers_of keys order (beside (rows_seen rows.now) (rows_seen columns.now)) ≡ Ok numbers.items → Gives rows_in result (ordered_of (formulas_seen items.now) keys order asked.offset asked.limit (beside (rows_seen rows.now) (rows_seen columns.now))) }
+    ensures rows { (keys : List Formula) (order : List SortKey)
+        → numbers_of keys order (beside (rows_seen rows.now) (rows_seen columns.now)) ≡ Ok numbers.items
+        → Gives rows_in result (ordered_of (formulas_seen items.now) keys order asked.offset asked.limit
+        (beside (rows_seen rows.now) (rows_seen columns.now))) }
 {
     let taken = cut_numbers(alloc, numbers, asked)?;
     items_at(alloc, items, &taken, rows, columns)

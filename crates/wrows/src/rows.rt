@@ -81,8 +81,10 @@ pub(crate) fn push_values(
     row: &[Value],
     cells: &mut Vec<Value>,
 ) -> Result<(), AnswerFault>
-    ensures gives { Gives (λ u. u) result (unless (list_any (λ t. is_out_of_range t (map meaning row.now)) (formulas_seen exprs.now)) OutOfRange tt) }
-    ensures added { OnOk result (map meaning cells.new.items ≡ map meaning cells.old.items ++ map (λ t. value_on t (map meaning row.now)) (formulas_seen exprs.now)) }
+    ensures gives { Gives (λ u. u) result
+        (unless (list_any (λ t. is_out_of_range t (map meaning row.now)) (formulas_seen exprs.now)) OutOfRange tt) }
+    ensures added { OnOk result (map meaning cells.new.items ≡ map meaning cells.old.items ++ map
+        (λ t. value_on t (map meaning row.now)) (formulas_seen exprs.now)) }
 {
     for expr in exprs {
         cells.push(value(expr, row)?)?;
@@ -96,7 +98,8 @@ pub(crate) fn row_lists(
     exprs: &[&Expr],
     rows: &[&[Value]],
 ) -> Result<Vec<Value>, AnswerFault>
-    ensures gives { Gives (λ cells. laid (length exprs.now) (length rows.now) cells.items) result (lists_of (formulas_seen exprs.now) (rows_seen rows.now)) }
+    ensures gives { Gives (λ cells. laid (length exprs.now) (length rows.now) cells.items) result
+        (lists_of (formulas_seen exprs.now) (rows_seen rows.now)) }
     ensures laid { IfOk result (λ cells. length cells.items ≡ length rows.now * length exprs.now) }
 {
     let mut cells = Vec::with_capacity(alloc, rows.len().saturating_mul(exprs.len()))?;

@@ -20,7 +20,8 @@ fn is_yes(truth: Truth) -> bool
 
 /// Whether a condition is true on a row, `OutOfRange` where a part of it is so there.
 pub fn holds(condition: &Expr, row: &[Value]) -> Result<bool, AnswerFault>
-    ensures { Gives (λ b. b) result (unless (is_out_of_range (formula condition.now) (map meaning row.now)) OutOfRange (holds_on (formula condition.now) (map meaning row.now))) }
+    ensures { Gives (λ b. b) result (unless (is_out_of_range (formula condition.now) (map meaning row.now)) OutOfRange
+        (holds_on (formula condition.now) (map meaning row.now))) }
 {
     match eval(condition, row) {
         Ok(cell) => Ok(is_yes(cell.truth())),
@@ -31,7 +32,8 @@ pub fn holds(condition: &Expr, row: &[Value]) -> Result<bool, AnswerFault>
 
 /// The value of an expression on a row.
 pub(crate) fn value(expr: &Expr, row: &[Value]) -> Result<Value, AnswerFault>
-    ensures { Gives meaning result (unless (is_out_of_range (formula expr.now) (map meaning row.now)) OutOfRange (value_on (formula expr.now) (map meaning row.now))) }
+    ensures { Gives meaning result (unless (is_out_of_range (formula expr.now) (map meaning row.now)) OutOfRange
+        (value_on (formula expr.now) (map meaning row.now))) }
 {
     match eval(expr, row) {
         Ok(cell) => Ok(cell.into_value()),

@@ -8,10 +8,12 @@ use Rattle.wrules.specs.declared.rule.Rule.{Rule}
 use Rattle.wrules.specs.Rules.{or_else, first_of_names, first_of_windows, least_broken}
 
 -- no rule on names is broken
-pub none_first : (table alias : List ℕ) (cs : List Titled) (c : Clauses) (s : SourceTree) (ws : List NamedWindow) → None ≡ first_of_names table alias cs c s → ws ≡ windows_of c → first_of_windows ws cs c ≡ least_broken table alias cs c s
+pub none_first : (table alias : List ℕ) (cs : List Titled) (c : Clauses) (s : SourceTree) (ws : List NamedWindow)
+    → None ≡ first_of_names table alias cs c s → ws ≡ windows_of c → first_of_windows ws cs c ≡ least_broken table alias cs c s
 none_first table alias cs c s ws e w =
     ap (λ (x : List NamedWindow). first_of_windows x cs c) w ∙ ap (λ (o : Option Rule). or_else o (first_of_windows (windows_of c) cs c)) e
 
 -- a rule on names is broken
-pub some_first : (table alias : List ℕ) (cs : List Titled) (c : Clauses) (s : SourceTree) (r : Rule) → Some r ≡ first_of_names table alias cs c s → Some r ≡ least_broken table alias cs c s
+pub some_first : (table alias : List ℕ) (cs : List Titled) (c : Clauses) (s : SourceTree) (r : Rule)
+    → Some r ≡ first_of_names table alias cs c s → Some r ≡ least_broken table alias cs c s
 some_first table alias cs c s r e = ap (λ (o : Option Rule). or_else o (first_of_windows (windows_of c) cs c)) e

@@ -9,15 +9,27 @@ use Rattle.wquery.specs.declared.frame.Frame.{Frame}
 use Rattle.wquery.specs.declared.frame.FrameMode.TheVariants as modes
 use Rattle.wquery.specs.declared.frame.FrameBound.{FrameBound}
 use Rattle.wquery.specs.declared.frame.FrameBound.TheVariants as bounds
-use Rattle.wquery.specs.Tree.{Tree, NullWord, Numeral, Quoted, Field, Invoked, Signed, Joined, NoLinks, Further, Compared, Everything, These, Columns, trees, Unfiltered, FilteredBy, Reach, ItsGroup, ThatWindow, OwnWindow, NoKeys, MoreKeys, NoTrees, KeyTree}
+use Rattle.wquery.specs.Tree.{Tree, NullWord, Numeral, Quoted, Field, Invoked, Signed, Joined, NoLinks, Further}
+use Rattle.wquery.specs.Tree.{Compared, Everything, These, Columns, trees, Unfiltered, FilteredBy, Reach}
+use Rattle.wquery.specs.Tree.{ItsGroup, ThatWindow, OwnWindow, NoKeys, MoreKeys, NoTrees, KeyTree}
 use Rattle.wquery.specs.GroupElements.{OneSet, Rollup, Cube, Element}
 use Rattle.wquery.specs.QueryTree.{Clauses, ItemTree, Computed, AllColumns, QueryTree, Selected, FromTable, FromQuery, EntryTree}
-use Rattle.wrules.specs.declared.rule.Rule.TheVariants.{UnknownTable, UnknownColumn, AmbiguousName, WrongCall, WrongType, MisplacedWindowCall, MisplacedAggregate, UngroupedColumn, WrongFilter, UnknownWindow, RepeatedWindow, WrongCopy, WrongBounds, UnorderedGroups, WrongRangeKey, ZeroCount, WrongPlace, OverLimit, TooManySets}
+use Rattle.wrules.specs.declared.rule.Rule.TheVariants.{UnknownTable, UnknownColumn, AmbiguousName, WrongCall, WrongType}
+use Rattle.wrules.specs.declared.rule.Rule.TheVariants.{MisplacedWindowCall, MisplacedAggregate, UngroupedColumn, WrongFilter}
+use Rattle.wrules.specs.declared.rule.Rule.TheVariants.{UnknownWindow, RepeatedWindow, WrongCopy, WrongBounds, UnorderedGroups}
+use Rattle.wrules.specs.declared.rule.Rule.TheVariants.{WrongRangeKey, ZeroCount, WrongPlace, OverLimit, TooManySets}
 use Rattle.wrules.specs.declared.rule.Rule.{Rule}
 use Rattle.wrules.specs.Rules.{first_broken_rule}
 
 abbrev pub declared : Declaration
-declared = record { table = codes "sales"; columns = record { name = codes "day"; kind = kinds.Integer } ∷ record { name = codes "shop"; kind = kinds.Text } ∷ record { name = codes "amount"; kind = kinds.Integer } ∷ [] }
+declared = record {
+  table = codes "sales";
+  columns = record { name = codes "day"; kind = kinds.Integer } ∷ record {
+    name =
+        codes "shop";
+    kind = kinds.Text;
+  } ∷ record { name = codes "amount"; kind = kinds.Integer } ∷ [];
+}
 
 abbrev pub column : List ℕ → Tree
 column name = Field None name
@@ -50,7 +62,17 @@ abbrev unordered : Option Frame → Reach
 unordered f = OwnWindow None NoTrees NoKeys f
 
 abbrev pub clauses : List ItemTree → Clauses
-clauses items = record { items = items; condition = None; grouping = []; having = None; windows = []; order = []; limit = None; offset = None }
+clauses items = record {
+  items = items;
+  condition = None;
+  grouping = [];
+  having = None;
+  windows = [];
+  order = [];
+  limit =
+      None;
+  offset = None;
+}
 
 abbrev pub item : Tree → ItemTree
 item t = Computed t None
@@ -90,7 +112,8 @@ well_typed = refl
 two_outputs : judged (select_by (named day (codes "d") ∷ named shop (codes "d") ∷ []) (column (codes "d"))) ≡ Some AmbiguousName
 two_outputs = refl
 
-equal_outputs : judged (select_by (named day (codes "d") ∷ named (Field (Some (codes "sales")) (codes "day")) (codes "d") ∷ []) (column (codes "d"))) ≡ None
+equal_outputs : judged (select_by (named day (codes "d") ∷ named (Field (Some (codes "sales")) (codes "day")) (codes "d")
+    ∷ []) (column (codes "d"))) ≡ None
 equal_outputs = refl
 
 starred_twice : judged (select_by (AllColumns ∷ item day ∷ AllColumns ∷ []) day) ≡ None
@@ -120,7 +143,10 @@ text_place = refl
 ungrouped : judged (select (item day ∷ item (count_all ItsGroup) ∷ [])) ≡ Some UngroupedColumn
 ungrouped = refl
 
-counted_rows : judged (from_sales (record (clauses (item day ∷ [])) { condition = Some (Compared Greater (count_all ItsGroup) (Numeral 1)) })) ≡ Some MisplacedAggregate
+counted_rows : judged (from_sales (record (clauses (item day ∷ [])) {
+  condition =
+      Some (Compared Greater (count_all ItsGroup) (Numeral 1));
+})) ≡ Some MisplacedAggregate
 counted_rows = refl
 
 bare_rank : judged (select_one (call (codes "rank") [] ItsGroup)) ≡ Some MisplacedWindowCall
@@ -133,14 +159,18 @@ starred_group = refl
 nested_sum : judged (select_one (call (codes "sum") (call (codes "sum") (amount ∷ []) ItsGroup ∷ []) ItsGroup)) ≡ Some MisplacedAggregate
 nested_sum = refl
 
-sum_of_sums : judged (from_sales (record (clauses (item (call (codes "sum") (call (codes "sum") (amount ∷ []) ItsGroup ∷ []) (unordered None)) ∷ [])) { grouping = (OneSet (shop ∷ []) ∷ []) ∷ [] })) ≡ None
+sum_of_sums : judged (from_sales (record
+    (clauses (item (call (codes "sum") (call (codes "sum") (amount ∷ []) ItsGroup ∷ []) (unordered None))
+    ∷ [])) { grouping = (OneSet (shop ∷ []) ∷ []) ∷ [] })) ≡ None
 sum_of_sums = refl
 
 -- a FILTER with an aggregate: without OVER, and with OVER
-filtered_by_count : judged (select_one (Invoked (codes "count") Everything (FilteredBy (Compared Greater (count_all ItsGroup) (Numeral 1))) ItsGroup)) ≡ Some MisplacedAggregate
+filtered_by_count : judged (select_one (Invoked (codes "count") Everything
+    (FilteredBy (Compared Greater (count_all ItsGroup) (Numeral 1))) ItsGroup)) ≡ Some MisplacedAggregate
 filtered_by_count = refl
 
-filtered_over : judged (select_one (Invoked (codes "count") Everything (FilteredBy (Compared Greater (count_all ItsGroup) (Numeral 1))) (unordered None))) ≡ None
+filtered_over : judged (select_one (Invoked (codes "count") Everything
+    (FilteredBy (Compared Greater (count_all ItsGroup) (Numeral 1))) (unordered None))) ≡ None
 filtered_over = refl
 
 -- SELECT f(day) FROM sales; lag(day, day) OVER (); lag(day, 1, 'a') OVER (); lag(day, 1, NULL) OVER (); rank(*) OVER ()
@@ -163,7 +193,8 @@ rank_of_all : judged (select_one (Invoked (codes "rank") Everything Unfiltered (
 rank_of_all = refl
 
 -- rank() FILTER (WHERE day > 1) OVER ()
-filtered_rank : judged (select_one (Invoked (codes "rank") (These NoTrees) (FilteredBy (Compared Greater day (Numeral 1))) (unordered None))) ≡ Some WrongFilter
+filtered_rank : judged (select_one (Invoked (codes "rank") (These NoTrees) (FilteredBy (Compared Greater day (Numeral 1)))
+    (unordered None))) ≡ Some WrongFilter
 filtered_rank = refl
 
 -- count(*) OVER v
@@ -177,7 +208,8 @@ abbrev with_windows : List EntryTree → Tree → QueryTree
 with_windows es t = from_sales (record (clauses (item t ∷ [])) { windows = es })
 
 -- WINDOW v AS (w), w AS (); WINDOW w AS (), w AS (); the windows are used by nobody
-later_window : judged (with_windows (entry (codes "v") (Some (codes "w")) [] None ∷ entry (codes "w") None [] None ∷ []) day) ≡ Some UnknownWindow
+later_window : judged (with_windows (entry (codes "v") (Some (codes "w")) [] None ∷ entry (codes "w") None [] None ∷ [])
+    day) ≡ Some UnknownWindow
 later_window = refl
 
 two_windows : judged (with_windows (entry (codes "w") None [] None ∷ entry (codes "w") None [] None ∷ []) day) ≡ Some RepeatedWindow
@@ -187,14 +219,16 @@ two_windows = refl
 abbrev w_by_day : EntryTree
 w_by_day = entry (codes "w") None (ascending day ∷ []) (frame (bounds.Preceding 2) None)
 
-copied_frame : judged (with_windows (w_by_day ∷ []) (call (codes "sum") (amount ∷ []) (OwnWindow (Some (codes "w")) NoTrees NoKeys (frame (bounds.Preceding 1) None)))) ≡ Some WrongCopy
+copied_frame : judged (with_windows (w_by_day ∷ []) (call (codes "sum") (amount ∷ []) (OwnWindow (Some (codes "w")) NoTrees
+    NoKeys (frame (bounds.Preceding 1) None)))) ≡ Some WrongCopy
 copied_frame = refl
 
 whole_window : judged (with_windows (w_by_day ∷ []) (call (codes "sum") (amount ∷ []) (ThatWindow (codes "w")))) ≡ None
 whole_window = refl
 
 -- an order that is inherited twice: WINDOW w AS (ORDER BY day), v AS (w), u AS (v ORDER BY day)
-ordered_again : judged (with_windows (entry (codes "w") None (ascending day ∷ []) None ∷ entry (codes "v") (Some (codes "w")) [] None ∷ entry (codes "u") (Some (codes "v")) (ascending day ∷ []) None ∷ []) day) ≡ Some WrongCopy
+ordered_again : judged (with_windows (entry (codes "w") None (ascending day ∷ []) None ∷ entry (codes "v")
+    (Some (codes "w")) [] None ∷ entry (codes "u") (Some (codes "v")) (ascending day ∷ []) None ∷ []) day) ≡ Some WrongCopy
 ordered_again = refl
 
 -- ROWS BETWEEN 7 PRECEDING AND 8 PRECEDING; ROWS 2 FOLLOWING; an unused window with ROWS 2 FOLLOWING
@@ -214,11 +248,13 @@ ranged key start end = count_all (by key (Some (record { mode = modes.Range; sta
 longest : judged (select_one (ranged day (bounds.Preceding 9223372036854775807) (Some (bounds.Following 9223372036854775807)))) ≡ None
 longest = refl
 
-too_long : judged (select_one (ranged day (bounds.Preceding 9223372036854775808) (Some (bounds.Following 9223372036854775807)))) ≡ Some WrongBounds
+too_long : judged (select_one (ranged day (bounds.Preceding 9223372036854775808)
+    (Some (bounds.Following 9223372036854775807)))) ≡ Some WrongBounds
 too_long = refl
 
 -- count(*) OVER (GROUPS 1 PRECEDING); sum(day) OVER (ORDER BY shop RANGE 1 PRECEDING); ORDER BY NULL RANGE 1 PRECEDING
-no_groups : judged (select_one (count_all (unordered (Some (record { mode = modes.Groups; start = bounds.Preceding 1; end = None; exclusion = None }))))) ≡ Some UnorderedGroups
+no_groups : judged (select_one (count_all
+    (unordered (Some (record { mode = modes.Groups; start = bounds.Preceding 1; end = None; exclusion = None }))))) ≡ Some UnorderedGroups
 no_groups = refl
 
 text_key : judged (select_one (ranged shop (bounds.Preceding 1) None)) ≡ Some WrongRangeKey
@@ -251,10 +287,12 @@ inner_rule : judged (derived (item (Field (Some (codes "x")) (codes "a")) ∷ []
 inner_rule = refl
 
 -- SELECT sum(a) FROM (SELECT NULL AS a FROM sales) AS q; max(a)
-null_is_text : judged (derived (item (call (codes "sum") (column (codes "a") ∷ []) ItsGroup) ∷ []) (select (named NullWord (codes "a") ∷ []))) ≡ Some WrongType
+null_is_text : judged (derived (item (call (codes "sum") (column (codes "a") ∷ []) ItsGroup) ∷ [])
+    (select (named NullWord (codes "a") ∷ []))) ≡ Some WrongType
 null_is_text = refl
 
-null_has_maximum : judged (derived (item (call (codes "max") (column (codes "a") ∷ []) ItsGroup) ∷ []) (select (named NullWord (codes "a") ∷ []))) ≡ None
+null_has_maximum : judged (derived (item (call (codes "max") (column (codes "a") ∷ []) ItsGroup) ∷ [])
+    (select (named NullWord (codes "a") ∷ []))) ≡ None
 null_has_maximum = refl
 
 -- derived tables one in another; the outermost query's own rules come first
@@ -330,7 +368,10 @@ grouping columns = Invoked (codes "grouping") (Columns (trees columns)) Unfilter
 grouping_alone : judged (select_one (grouping (day ∷ []))) ≡ Some UngroupedColumn
 grouping_alone = refl
 
-grouping_in_where : judged (from_sales (record (clauses (item day ∷ [])) { condition = Some (Compared Greater (grouping (day ∷ [])) (Numeral 0)) })) ≡ Some MisplacedAggregate
+grouping_in_where : judged (from_sales (record (clauses (item day ∷ [])) {
+  condition =
+      Some (Compared Greater (grouping (day ∷ [])) (Numeral 0));
+})) ≡ Some MisplacedAggregate
 grouping_in_where = refl
 
 abbrev by_day : Tree → QueryTree

@@ -6,12 +6,16 @@ use Rattle.wscope.specs.Types.{Titled, Origin}
 use Rattle.wscope.specs.Sources.{origin_of}
 use Rattle.wscope.specs.Windows.{NamedWindow}
 use Rattle.wrules.specs.declared.rule.Rule.{Rule}
-use Rattle.wrules.specs.declared.rule.Rule.TheVariants.{UnknownTable, UnknownColumn, AmbiguousName, WrongCall, WrongType, MisplacedWindowCall, MisplacedAggregate, UngroupedColumn, WrongFilter, UnknownWindow, RepeatedWindow, WrongCopy, WrongBounds, UnorderedGroups, WrongRangeKey, ZeroCount, WrongPlace, OverLimit, TooManySets}
+use Rattle.wrules.specs.declared.rule.Rule.TheVariants.{UnknownTable, UnknownColumn, AmbiguousName, WrongCall, WrongType}
+use Rattle.wrules.specs.declared.rule.Rule.TheVariants.{MisplacedWindowCall, MisplacedAggregate, UngroupedColumn, WrongFilter}
+use Rattle.wrules.specs.declared.rule.Rule.TheVariants.{UnknownWindow, RepeatedWindow, WrongCopy, WrongBounds, UnorderedGroups}
+use Rattle.wrules.specs.declared.rule.Rule.TheVariants.{WrongRangeKey, ZeroCount, WrongPlace, OverLimit, TooManySets}
 use Rattle.wnames.specs.Names.{breaks_tables, breaks_columns, breaks_ambiguity}
 use Rattle.wnames.specs.Calls.{breaks_calls, breaks_filters, breaks_zeroths}
 use Rattle.wnames.specs.Types.{breaks_types}
 use Rattle.wnames.specs.Groups.{breaks_window_places, breaks_aggregate_places, breaks_grouping}
-use Rattle.wwindows.specs.Windows.{windows_of, breaks_window_names, breaks_entries, breaks_copies, breaks_bounds, breaks_groups, breaks_ranges}
+use Rattle.wwindows.specs.Windows.{windows_of, breaks_window_names, breaks_entries, breaks_copies}
+use Rattle.wwindows.specs.Windows.{breaks_bounds, breaks_groups, breaks_ranges}
 use Rattle.wwindows.specs.Order.{breaks_places}
 use Rattle.wwindows.specs.Limits.{breaks_limits}
 use Rattle.wgroupby.specs.Rules.{breaks_sets}
@@ -53,7 +57,8 @@ abbrev pub first_of_names : List ℕ → List ℕ → List Titled → Clauses �
 first_of_names table alias cs c source = first_of (
     (UnknownTable, breaks_tables table alias cs c source) ∷ (UnknownColumn, breaks_columns cs c) ∷ (AmbiguousName, breaks_ambiguity cs c)
     ∷ (WrongCall, breaks_calls cs c) ∷ (WrongType, breaks_types cs c)
-    ∷ (MisplacedWindowCall, breaks_window_places cs c) ∷ (MisplacedAggregate, breaks_aggregate_places cs c) ∷ (UngroupedColumn, breaks_grouping cs c)
+    ∷ (MisplacedWindowCall, breaks_window_places cs c) ∷ (MisplacedAggregate, breaks_aggregate_places cs c)
+    ∷ (UngroupedColumn, breaks_grouping cs c)
     ∷ (WrongFilter, breaks_filters cs c) ∷ [])
 
 -- the rules on windows, places and limits, Q19 to Q27

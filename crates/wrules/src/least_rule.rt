@@ -4,7 +4,8 @@ ghost use Rattle.std.specs.Prelude.{◌≡◌, nat_lt};
 ghost use Rattle.wquery.specs.QueryTree.{view_query};
 ghost use Rattle.wscope.specs.Earlier.{windows_in};
 ghost use Rattle.wscope.specs.Scoped.{IsExpanded, scope_clauses, scope_columns, scope_source};
-ghost use Rattle.wrules.specs.Rules.{depth, depth_rule as rule_on_depth, first_of_names as first_on_names, first_of_windows as first_on_windows, least_broken, or_else as rule_or, sets_rule as rule_on_sets};
+ghost use Rattle.wrules.specs.Rules.{depth, depth_rule as rule_on_depth, first_of_names as first_on_names};
+ghost use Rattle.wrules.specs.Rules.{first_of_windows as first_on_windows, least_broken, or_else as rule_or, sets_rule as rule_on_sets};
 
 use crate::rule::Rule;
 use wgroupby::has_too_many_sets;
@@ -22,7 +23,8 @@ use wwindows::{
 
 /// The first rule that is broken of those on names, calls, types and groups.
 fn first_of_names(scope: &Scope) -> Option<Rule>
-    ensures { result ≡ first_on_names scope.now.table.now scope.now.alias.now (scope_columns scope.now) (scope_clauses scope.now) (scope_source scope.now) }
+    ensures { result ≡ first_on_names scope.now.table.now scope.now.alias.now (scope_columns scope.now)
+        (scope_clauses scope.now) (scope_source scope.now) }
 {
     if names_unknown_table(scope) {
         return Some(Rule::UnknownTable);
@@ -92,7 +94,8 @@ fn first_of_windows(scope: &Scope) -> Option<Rule>
 /// The least rule that a SELECT breaks, its derived table and the number of its sets aside.
 fn least_rule(scope: &Scope) -> Option<Rule>
     requires { IsExpanded scope.now }
-    ensures { result ≡ least_broken scope.now.table.now scope.now.alias.now (scope_columns scope.now) (scope_clauses scope.now) (scope_source scope.now) }
+    ensures { result ≡ least_broken scope.now.table.now scope.now.alias.now (scope_columns scope.now)
+        (scope_clauses scope.now) (scope_source scope.now) }
 {
     match first_of_names(scope) {
         Some(rule) => Some(rule),
@@ -124,7 +127,8 @@ fn sets_rule(query: &Query) -> Option<Rule>
 /// where it is broken.
 pub fn broken_rule(scope: &Scope, last: Option<Rule>) -> Option<Rule>
     requires { IsExpanded scope.now }
-    ensures { result ≡ rule_or (least_broken scope.now.table.now scope.now.alias.now (scope_columns scope.now) (scope_clauses scope.now) (scope_source scope.now)) (rule_or last (rule_on_sets (view_query scope.now.query.now))) }
+    ensures { result ≡ rule_or (least_broken scope.now.table.now scope.now.alias.now (scope_columns scope.now)
+        (scope_clauses scope.now) (scope_source scope.now)) (rule_or last (rule_on_sets (view_query scope.now.query.now))) }
 {
     or_else(least_rule(scope), or_else(last, sets_rule(scope.query)))
 }

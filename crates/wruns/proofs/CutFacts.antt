@@ -1,5 +1,6 @@
 -- The pieces of a list that is cut.
-use Rattle.std.proofs.Common.{◌≡◌, ℕ, zero, suc, ◌+◌, ◌-◌, ◌<◌, ◌≤◌, List, [], ◌∷◌, ◌++◌, length, map, take, drop, get_or, Option, Some, None, Vec, refl, sym, ap, ◌∙◌, arith}
+use Rattle.std.proofs.Common.{◌≡◌, ℕ, zero, suc, ◌+◌, ◌-◌, ◌<◌, ◌≤◌, List, [], ◌∷◌, ◌++◌, length, map}
+use Rattle.std.proofs.Common.{take, drop, get_or, Option, Some, None, Vec, refl, sym, ap, ◌∙◌, arith}
 use Rattle.std.specs.Global.{Global}
 use Rattle.std.specs.List.{AllByRecursion}
 use Rattle.std.proofs.lemmas.List.{drop_all, drop-drop, get_or-map, take-append-drop}
@@ -7,7 +8,8 @@ use Rattle.wruns.specs.Cuts.{between, cut, start_of, pieces_of, AreEnds, AreEnds
 use Rattle.wruns.specs.Runs.{joined}
 
 -- the pieces are the list
-joined_cut : {X : Type 0} (from : ℕ) (ends : List ℕ) (xs : List X) → AreEnds from ends (length xs) → joined (cut from ends xs) ≡ drop from xs
+joined_cut : {X : Type 0} (from : ℕ) (ends : List ℕ) (xs : List X) → AreEnds from ends (length xs)
+    → joined (cut from ends xs) ≡ drop from xs
 joined_cut from [] xs h = sym (drop_all from xs (omega (arith, h)))
 joined_cut from (end ∷ ends) xs h =
     let e : from + (end - from) ≡ end = omega (arith, h.0) in
@@ -32,23 +34,27 @@ pub length-pieces : {X : Type 0} (ends : List ℕ) (xs : List X) → length (cut
 length-pieces ends xs = length-cut 0 ends xs
 
 -- the piece of a number
-piece_at : {X : Type 0} (from : ℕ) (ends : List ℕ) (xs : List X) (i : ℕ) → i < length ends → get_or (cut from ends xs) i [] ≡ between (start_of from ends i) (get_or ends i 0) xs
+piece_at : {X : Type 0} (from : ℕ) (ends : List ℕ) (xs : List X) (i : ℕ) → i < length ends
+    → get_or (cut from ends xs) i [] ≡ between (start_of from ends i) (get_or ends i 0) xs
 piece_at from [] xs i h = absurd (omega (arith, h))
 piece_at from (end ∷ ends) xs zero h = refl
 piece_at from (end ∷ ends) xs (suc zero) h = piece_at end ends xs 0 (omega (arith, h))
 piece_at from (end ∷ ends) xs (suc (suc i)) h = piece_at end ends xs (suc i) (omega (arith, h))
 
-pub piece_is : {X : Type 0} (ends : List ℕ) (xs : List X) (i : ℕ) → i < length ends → get_or (cut 0 ends xs) i [] ≡ between (start_of 0 ends i) (get_or ends i 0) xs
+pub piece_is : {X : Type 0} (ends : List ℕ) (xs : List X) (i : ℕ) → i < length ends
+    → get_or (cut 0 ends xs) i [] ≡ between (start_of 0 ends i) (get_or ends i 0) xs
 piece_is ends xs i h = piece_at 0 ends xs i h
 
-ends_at : (from : ℕ) (ends : List ℕ) (to i : ℕ) → AreEnds from ends to → i < length ends → (start_of from ends i < get_or ends i 0) × (get_or ends i 0 ≤ to)
+ends_at : (from : ℕ) (ends : List ℕ) (to i : ℕ) → AreEnds from ends to → i < length ends
+    → (start_of from ends i < get_or ends i 0) × (get_or ends i 0 ≤ to)
 ends_at from [] to i h lt = absurd (omega (arith, lt))
 ends_at from (end ∷ ends) to zero h lt = (h.0, h.1)
 ends_at from (end ∷ ends) to (suc zero) h lt = ends_at end ends to 0 h.2 (omega (arith, lt))
 ends_at from (end ∷ ends) to (suc (suc i)) h lt = ends_at end ends to (suc i) h.2 (omega (arith, lt))
 
 -- a piece lies in the list
-pub piece_within : (ends : List ℕ) (to i : ℕ) → AreEnds 0 ends to → i < length ends → (start_of 0 ends i < get_or ends i 0) × (get_or ends i 0 ≤ to)
+pub piece_within : (ends : List ℕ) (to i : ℕ) → AreEnds 0 ends to → i < length ends → (start_of 0 ends i < get_or ends i 0)
+    × (get_or ends i 0 ≤ to)
 piece_within ends to i h lt = ends_at 0 ends to i h lt
 
 take_one : {X : Type 0} (xs : List X) (i : ℕ) (d : X) → i < length xs → take 1 (drop i xs) ≡ get_or xs i d ∷ []
@@ -70,10 +76,13 @@ ends_from from (end ∷ ends) first next h lt = (h.0, omega (arith, h.1, lt), en
 pub ends_more : (ends : List ℕ) (first next : ℕ) → AreEnds 0 ends first → first < next → AreEnds 0 (ends ++ next ∷ []) next
 ends_more ends first next h lt = ends_from 0 ends first next h lt
 
-all_more : {X : Type 0} (P : List X → Type 0) (xs : List X) (from : ℕ) (ends : List ℕ) (first next : ℕ) → AreEnds from ends first → AllByRecursion P (cut from ends xs) → P (between first next xs) → AllByRecursion P (cut from (ends ++ next ∷ []) xs)
+all_more : {X : Type 0} (P : List X → Type 0) (xs : List X) (from : ℕ) (ends : List ℕ) (first next : ℕ)
+    → AreEnds from ends first → AllByRecursion P (cut from ends xs) → P (between first next xs)
+    → AllByRecursion P (cut from (ends ++ next ∷ []) xs)
 all_more P xs from [] first next h all here = (rw h here, tt)
 all_more P xs from (end ∷ ends) first next h all here = (all.0, all_more P xs end ends first next h.2 all.1 here)
 
 -- one piece more
-pub pieces_more : {X : Type 0} (P : List X → Type 0) (xs : List X) (ends : List ℕ) (first next : ℕ) → AreEnds 0 ends first → AllByRecursion P (cut 0 ends xs) → P (between first next xs) → AllByRecursion P (cut 0 (ends ++ next ∷ []) xs)
+pub pieces_more : {X : Type 0} (P : List X → Type 0) (xs : List X) (ends : List ℕ) (first next : ℕ) → AreEnds 0 ends first
+    → AllByRecursion P (cut 0 ends xs) → P (between first next xs) → AllByRecursion P (cut 0 (ends ++ next ∷ []) xs)
 pieces_more P xs ends first next h all here = all_more P xs 0 ends first next h all here

@@ -1,5 +1,6 @@
 -- References to rows: their order is total and tells all apart, and a run's references are in it.
-use Rattle.std.proofs.Common.{◌≡◌, ℕ, zero, suc, ◌+◌, ◌<◌, List, [], ◌∷◌, ◌++◌, length, map, refl, sym, ap, subst, ◌∙◌, arith, Ordering, Less, Equal, Greater}
+use Rattle.std.proofs.Common.{◌≡◌, ℕ, zero, suc, ◌+◌, ◌<◌, List, [], ◌∷◌, ◌++◌, length, map, refl}
+use Rattle.std.proofs.Common.{sym, ap, subst, ◌∙◌, arith, Ordering, Less, Equal, Greater}
 use Rattle.std.specs.Prelude.{All, IsPermutation}
 use Rattle.std.specs.List.{AllByRecursion, flat_map}
 use Rattle.std.specs.List.Sorted.{IsSortedBy}
@@ -60,24 +61,30 @@ rising i a zero = tt
 rising i a (suc n) = (later i a n (a + 1) (omega arith), rising i (a + 1) n)
 
 -- a run's references are the segment's references in order
-pub run_in_order : (keys : List SortKey) (segments : List (List (List Meaning))) (i : ℕ) (rows : List (List Meaning)) (found : List ℕ) → rows_at segments i ≡ rows → found ≡ run_of keys rows
+pub run_in_order : (keys : List SortKey) (segments : List (List (List Meaning))) (i : ℕ) (rows : List (List Meaning))
+    (found : List ℕ) → rows_at segments i ≡ rows → found ≡ run_of keys rows
     → map (ref i) found ≡ sorted (ref_cmp keys segments) (map (ref i) (places (length rows)))
 run_in_order keys segments i rows found at is =
     let of : ℕ → List Meaning = λ row. keys_at keys (rows_at segments i) row in
-    let same : run_of keys rows ≡ sorted (on of (keys_cmp keys)) (places (length rows)) = ap (λ l. sorted (on (keys_at keys l) (keys_cmp keys)) (places (length rows))) (sym at) in
+    let same : run_of keys rows ≡ sorted (on of (keys_cmp keys)) (places (length rows)) =
+    ap (λ l. sorted (on (keys_at keys l) (keys_cmp keys)) (places (length rows))) (sym at) in
     ap (map (ref i)) (is ∙ same)
     ∙ sym (sorted_map (on (ref_keys keys segments) (keys_cmp keys)) (ref i) (places (length rows)))
-    ∙ sym (sorted_then (on (ref_keys keys segments) (keys_cmp keys)) number_cmp (map (ref i) (places (length rows))) (rising i 0 (length rows)))
+    ∙ sym (sorted_then (on (ref_keys keys segments) (keys_cmp keys)) number_cmp (map (ref i) (places (length rows)))
+    (rising i 0 (length rows)))
 
-run_by_keys : (keys : List SortKey) (segments : List (List (List Meaning))) (i : ℕ) (rows : List (List Meaning)) (found : List ℕ) → rows_at segments i ≡ rows → found ≡ run_of keys rows
+run_by_keys : (keys : List SortKey) (segments : List (List (List Meaning))) (i : ℕ) (rows : List (List Meaning))
+    (found : List ℕ) → rows_at segments i ≡ rows → found ≡ run_of keys rows
     → map (ref i) found ≡ sorted (on (ref_keys keys segments) (keys_cmp keys)) (map (ref i) (places (length rows)))
 run_by_keys keys segments i rows found at is =
     let of : ℕ → List Meaning = λ row. keys_at keys (rows_at segments i) row in
-    let same : run_of keys rows ≡ sorted (on of (keys_cmp keys)) (places (length rows)) = ap (λ l. sorted (on (keys_at keys l) (keys_cmp keys)) (places (length rows))) (sym at) in
+    let same : run_of keys rows ≡ sorted (on of (keys_cmp keys)) (places (length rows)) =
+    ap (λ l. sorted (on (keys_at keys l) (keys_cmp keys)) (places (length rows))) (sym at) in
     ap (map (ref i)) (is ∙ same) ∙ sym (sorted_map (on (ref_keys keys segments) (keys_cmp keys)) (ref i) (places (length rows)))
 
 -- the references of each of some runs stand by their keys
-pub all_by_keys : (keys : List SortKey) (segments : List (List (List Meaning))) (i : ℕ) (ss : List SegmentRun) → ((k : ℕ) → k < length ss → rows_at segments (i + k) ≡ rows_at (rows_seen ss) k) → AllByRecursion (has_keys keys) ss
+pub all_by_keys : (keys : List SortKey) (segments : List (List (List Meaning))) (i : ℕ) (ss : List SegmentRun)
+    → ((k : ℕ) → k < length ss → rows_at segments (i + k) ≡ rows_at (rows_seen ss) k) → AllByRecursion (has_keys keys) ss
     → lists_from i ss ≡ map (λ p. sorted (on (ref_keys keys segments) (keys_cmp keys)) p) (pieces_from i (rows_seen ss))
 all_by_keys keys segments i [] at h = refl
 all_by_keys keys segments i (s ∷ more) at h =
@@ -89,7 +96,8 @@ all_by_keys keys segments i (s ∷ more) at h =
     ∙ ap (λ l. sorted order (map (ref i) (places (length s.segment.now.rows))) ∷ l) next
 
 -- so are the references of each of some runs
-pub all_in_order : (keys : List SortKey) (segments : List (List (List Meaning))) (i : ℕ) (ss : List SegmentRun) → ((k : ℕ) → k < length ss → rows_at segments (i + k) ≡ rows_at (rows_seen ss) k) → AllByRecursion (has_keys keys) ss
+pub all_in_order : (keys : List SortKey) (segments : List (List (List Meaning))) (i : ℕ) (ss : List SegmentRun)
+    → ((k : ℕ) → k < length ss → rows_at segments (i + k) ≡ rows_at (rows_seen ss) k) → AllByRecursion (has_keys keys) ss
     → lists_from i ss ≡ map (λ p. sorted (ref_cmp keys segments) p) (pieces_from i (rows_seen ss))
 all_in_order keys segments i [] at h = refl
 all_in_order keys segments i (s ∷ more) at h =
@@ -103,33 +111,44 @@ pub flat-mapped : {X Y : Type 0} (f : X → List Y) (xs : List X) → flat_map (
 flat-mapped f [] = refl
 flat-mapped f (x ∷ xs) = ap (λ l. f x ++ l) (flat-mapped f xs)
 
-each_sorted : (keys : List SortKey) (segments : List (List (List Meaning))) (ps : List (List RowRef)) → AllByRecursion (IsSortedBy (comes_first keys segments)) (map (λ p. sorted (ref_cmp keys segments) p) ps)
+each_sorted : (keys : List SortKey) (segments : List (List (List Meaning))) (ps : List (List RowRef))
+    → AllByRecursion (IsSortedBy (comes_first keys segments)) (map (λ p. sorted (ref_cmp keys segments) p) ps)
 each_sorted keys segments [] = tt
-each_sorted keys segments (p ∷ ps) =
-    (sorted_by_up (ref_cmp keys segments) (ref_total keys segments) (sorted (ref_cmp keys segments) p) (up_sorted (ref_cmp keys segments) (ref_total keys segments) p), each_sorted keys segments ps)
+each_sorted keys segments (p ∷ ps) = (
+  sorted_by_up (ref_cmp keys segments) (ref_total keys segments) (sorted (ref_cmp keys segments) p)
+      (up_sorted (ref_cmp keys segments) (ref_total keys segments) p),
+  each_sorted keys segments ps,
+)
 
 -- the lists of runs are sorted
-pub lists_sorted : (keys : List SortKey) (ss : List SegmentRun) → AllByRecursion (has_keys keys) ss → All (IsSortedBy (comes_first keys (rows_seen ss))) (lists_from 0 ss)
+pub lists_sorted : (keys : List SortKey) (ss : List SegmentRun) → AllByRecursion (has_keys keys) ss
+    → All (IsSortedBy (comes_first keys (rows_seen ss))) (lists_from 0 ss)
 lists_sorted keys ss h =
     let R = rows_seen ss in
     let e = all_in_order keys R 0 ss (λ k l. ap (rows_at R) (omega arith)) h in
-    subst (All (IsSortedBy (comes_first keys R))) (sym e) (All-from_recursion (IsSortedBy (comes_first keys R)) (map (λ p. sorted (ref_cmp keys R) p) (pieces_from 0 R)) (each_sorted keys R (pieces_from 0 R)))
+    subst (All (IsSortedBy (comes_first keys R))) (sym e) (All-from_recursion (IsSortedBy (comes_first keys R))
+    (map (λ p. sorted (ref_cmp keys R) p) (pieces_from 0 R)) (each_sorted keys R (pieces_from 0 R)))
 
 -- what is sorted and has the rows of all runs is the one list
-pub one_list : (keys : List SortKey) (ss : List SegmentRun) (found : List RowRef) → AllByRecursion (has_keys keys) ss → IsPermutation (joined_lists (lists_from 0 ss)) found → IsSortedBy (comes_first keys (rows_seen ss)) found
+pub one_list : (keys : List SortKey) (ss : List SegmentRun) (found : List RowRef) → AllByRecursion (has_keys keys) ss
+    → IsPermutation (joined_lists (lists_from 0 ss)) found → IsSortedBy (comes_first keys (rows_seen ss)) found
     → found ≡ refs_by keys (rows_seen ss)
 one_list keys ss found h p s =
     let R = rows_seen ss in
     let ps = pieces_from 0 R in
     let e : joined_lists (lists_from 0 ss) ≡ flat_map (λ p. sorted (ref_cmp keys R) p) ps =
-    ap (λ ls. flat_map (λ l. l) ls) (all_in_order keys R 0 ss (λ k l. ap (rows_at R) (omega arith)) h) ∙ flat-mapped (λ p. sorted (ref_cmp keys R) p) ps in
+    ap (λ ls. flat_map (λ l. l) ls) (all_in_order keys R 0 ss (λ k l. ap (rows_at R) (omega arith)) h)
+    ∙ flat-mapped (λ p. sorted (ref_cmp keys R) p) ps in
     one_sorted (ref_cmp keys R) (ref_total keys R) (ref_exact keys R) (joined_lists (lists_from 0 ss)) found p s
     ∙ ap (sorted (ref_cmp keys R)) e ∙ sorted_pieces (ref_cmp keys R) (ref_total keys R) ps
 
 -- what is left of a list comes from it
 pub yields_all : {X : Type 0} (l : List X) → AlwaysYields (YieldsFirst (λ left. left)) (λ x. x) l l
 yields_all [] = λ x j h. absurd (cc)
-yields_all {X} (y ∷ ys) = (λ j h. absurd (cc), λ x j h. (first x j h, subst (λ l. AlwaysYields (YieldsFirst (λ left. left)) (λ x. x) l ys) (rest x j h) (yields_all ys)))
+yields_all {X} (y ∷ ys) = (
+  λ j h. absurd (cc),
+  λ x j h. (first x j h, subst (λ l. AlwaysYields (YieldsFirst (λ left. left)) (λ x. x) l ys) (rest x j h) (yields_all ys)),
+)
   where
     first : (x : X) (j : List X) → y ∷ ys ≡ x ∷ j → x ≡ y
     first x j h = cc
@@ -137,6 +156,11 @@ yields_all {X} (y ∷ ys) = (λ j h. absurd (cc), λ x j h. (first x j h, subst 
     rest : (x : X) (j : List X) → y ∷ ys ≡ x ∷ j → ys ≡ j
     rest x j h = cc
 
-pub sources_give : {X : Type 0} (gives : List X → List X → Type 0) → ((u j : List X) → gives u j → j ≡ u) → (us : List (List X)) → SourcesGive gives (YieldsFirst (λ left. left)) us us
+pub sources_give : {X : Type 0} (gives : List X → List X → Type 0) → ((u j : List X) → gives u j → j ≡ u)
+    → (us : List (List X)) → SourcesGive gives (YieldsFirst (λ left. left)) us us
 sources_give gives same [] = tt
-sources_give gives same (u ∷ us) = (λ j g. subst (λ l. AlwaysYields (YieldsFirst (λ left. left)) (λ x. x) l u) (sym (same u j g)) (yields_all u), sources_give gives same us)
+sources_give gives same (u ∷ us) = (
+  λ j g. subst (λ l. AlwaysYields (YieldsFirst (λ left. left)) (λ x. x) l u)
+      (sym (same u j g)) (yields_all u),
+  sources_give gives same us,
+)

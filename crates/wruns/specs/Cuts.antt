@@ -1,5 +1,6 @@
 -- A list that is cut at places.
-use Rattle.std.specs.Prelude.{◌≡◌, ◌-◌, ◌<◌, ◌≤◌, ℕ, zero, suc, List, [], ◌∷◌, Vec, Option, Some, None, ⊤, map, length, take, drop, slice_index_or}
+use Rattle.std.specs.Prelude.{◌≡◌, ◌-◌, ◌<◌, ◌≤◌, ℕ, zero, suc, List, [], ◌∷◌, Vec, Option}
+use Rattle.std.specs.Prelude.{Some, None, ⊤, map, length, take, drop, slice_index_or}
 use Rattle.std.specs.Global.{Global}
 
 -- what stands from one place up to another

@@ -20,8 +20,10 @@ HaveOneCode a b = All (λ codes. code_at codes.items a ≡ code_at codes.items b
 
 -- rows of which each list has one code share their keys
 abbrev pub TellShared : List SortKey → List (List Meaning) → List (Vec ℕ Global) → Type 0
-TellShared keys rows codes = (a b : ℕ) → a < length rows → b < length rows → HaveOneCode a b codes → keys_at keys rows a ≡ keys_at keys rows b
+TellShared keys rows codes = (a b : ℕ) → a < length rows → b < length rows → HaveOneCode a b codes
+    → keys_at keys rows a ≡ keys_at keys rows b
 
 -- the same where the first of the rows has this number, and the next ones the next
 abbrev pub TellSharedFrom : ℕ → List SortKey → List (List Meaning) → List (Vec ℕ Global) → Type 0
-TellSharedFrom start keys rows codes = (a b : ℕ) → a < length rows → b < length rows → HaveOneCode (start + a) (start + b) codes → keys_at keys rows a ≡ keys_at keys rows b
+TellSharedFrom start keys rows codes = (a b : ℕ) → a < length rows → b < length rows
+    → HaveOneCode (start + a) (start + b) codes → keys_at keys rows a ≡ keys_at keys rows b

@@ -15,7 +15,8 @@ groups_seen = map (λ s. s.run.now.groups)
 -- the heads of groups of the run of a number, of which the first has this number
 abbrev pub heads_of : ℕ → ℕ → List (List ℕ) → List Head
 heads_of segment group [] = []
-heads_of segment group (g ∷ gs) = record { first = ref segment (first_or 0 g); group = group; is_single = length g == 1 } ∷ heads_of segment (group + 1) gs
+heads_of segment group (g ∷ gs) = record { first = ref segment (first_or 0 g); group = group; is_single = length g == 1 }
+    ∷ heads_of segment (group + 1) gs
 
 -- those of all runs, of which the first has this number
 abbrev pub heads_from : ℕ → List SegmentRun → List Head

@@ -26,9 +26,11 @@ kept_numbers holds segments found =
 
 -- an ordering of the table's rows, of which those are left that are kept, is the ordering of the kept rows
 abbrev pub KeptInOrder : Type 0
-KeptInOrder = (holds : List Meaning → Bool) (keys : List SortKey) (segments : List (List (List Meaning))) → kept_numbers holds segments (refs_by keys segments) ≡ run_of keys (filter holds (joined segments))
+KeptInOrder = (holds : List Meaning → Bool) (keys : List SortKey) (segments : List (List (List Meaning)))
+    → kept_numbers holds segments (refs_by keys segments) ≡ run_of keys (filter holds (joined segments))
 
 -- a run by partition values and then by keys is the order of a window
 abbrev pub WindowInOrder : Type 0
 WindowInOrder = (partition keys : List SortKey) (rows : List (List Meaning)) →
-    run_of (partition ++ keys) rows ≡ sorted (then_cmp (on (key_at (map (row_keys partition) rows)) (keys_cmp partition)) (on (key_at (map (row_keys keys) rows)) (keys_cmp keys))) (places (length rows))
+    run_of (partition ++ keys) rows ≡ sorted (then_cmp (on (key_at (map (row_keys partition) rows)) (keys_cmp partition))
+    (on (key_at (map (row_keys keys) rows)) (keys_cmp keys))) (places (length rows))

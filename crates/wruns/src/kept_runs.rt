@@ -1,5 +1,6 @@
 //! The runs that are kept of a segment.
-ghost use Rattle.std.specs.Prelude.{◌≡◌, ◌↔◌, ◌≤◌, ◌^◌, ◌++◌, ◌∷◌, [], All, IfOk, IfSome, IsOk, IsTrue, List, OnErr, OnOk, is_some, length, map};
+ghost use Rattle.std.specs.Prelude.{◌≡◌, ◌↔◌, ◌≤◌, ◌^◌, ◌++◌, ◌∷◌, [], All, IfOk, IfSome, IsOk};
+ghost use Rattle.std.specs.Prelude.{IsTrue, List, OnErr, OnOk, is_some, length, map};
 ghost use Rattle.std.specs.List.{IsAmong};
 ghost use Rattle.circular_buffer.specs.Buffer.{keep_last};
 ghost use Rattle.wvalues.specs.Meaning.{Meaning};
@@ -53,7 +54,8 @@ fn is_by(run: &Run, keys: &[SortKey]) -> bool
 fn find_in<'a>(runs: &'a HeapCircularBuffer<Rc<Run>>, keys: &[SortKey]) -> Option<&'a Run>
     ensures found { IsTrue (is_some result) ↔ IsAmong (keys_kept runs.now.items) keys.now }
     ensures keys { IfSome result (λ run. run.now.keys ≡ keys.now) }
-    ensures one { (rows : List (List Meaning)) → All (λ r. IsRunOf rows r.value) runs.now.items → IfSome result (λ run. IsRunOf rows run.now) }
+    ensures one { (rows : List (List Meaning)) → All (λ r. IsRunOf rows r.value) runs.now.items
+        → IfSome result (λ run. IsRunOf rows run.now) }
 {
     for i in 0..runs.len() {
         let Some(run) = runs.get(i) else {
@@ -127,7 +129,8 @@ impl KeptRuns {
     pub fn make(&mut self, keys: &[SortKey]) -> Result<(), AllocError>
         ensures content { self.new.content ≡ self.old.content }
         ensures kept { IsAmong self.old.orders keys.now → self.new.orders ≡ self.old.orders }
-        ensures made { (IsAmong self.old.orders keys.now → ⊥) → OnOk result (self.new.orders ≡ keep_last 4 (self.old.orders ++ keys.now ∷ [])) }
+        ensures made { (IsAmong self.old.orders keys.now → ⊥)
+            → OnOk result (self.new.orders ≡ keep_last 4 (self.old.orders ++ keys.now ∷ [])) }
         ensures has { OnOk result (IsAmong self.new.orders keys.now) }
         ensures err { OnErr result (self.new ≡ self.old) }
     {
@@ -147,7 +150,8 @@ impl KeptRuns {
         requires { IsRunOf self.old.content.rows run.value }
         ensures content { self.new.content ≡ self.old.content }
         ensures kept { IsAmong self.old.orders run.value.keys → self.new.orders ≡ self.old.orders }
-        ensures made { (IsAmong self.old.orders run.value.keys → ⊥) → OnOk result (self.new.orders ≡ keep_last 4 (self.old.orders ++ run.value.keys ∷ [])) }
+        ensures made { (IsAmong self.old.orders run.value.keys → ⊥)
+            → OnOk result (self.new.orders ≡ keep_last 4 (self.old.orders ++ run.value.keys ∷ [])) }
         ensures has { OnOk result (IsAmong self.new.orders run.value.keys) }
         ensures err { OnErr result (self.new ≡ self.old) }
     {

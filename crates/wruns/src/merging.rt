@@ -52,7 +52,8 @@ struct ByKeys<'a> {
 impl<'a> ByKeys<'a> {
     // The order of two rows by the keys.
     fn compare_keys(&self, a: &RowRef, b: &RowRef) -> Ordering
-        ensures { result ≡ keys_cmp self.now.keys.now (ref_keys self.now.keys.now (rows_seen self.now.sources.now) a.now) (ref_keys self.now.keys.now (rows_seen self.now.sources.now) b.now) }
+        ensures { result ≡ keys_cmp self.now.keys.now (ref_keys self.now.keys.now (rows_seen self.now.sources.now) a.now)
+            (ref_keys self.now.keys.now (rows_seen self.now.sources.now) b.now) }
     {
         for (i, key) in self.keys.iter().enumerate() {
             let x = value_of(self.sources, a, key.col, self.null);

@@ -169,7 +169,8 @@ pub(crate) struct KeyedRows<'a> {
 
 // Whether two rows share their keys.
 fn share_keys(table: &KeyedRows, a: u32, b: u32) -> bool
-    ensures { result ≡ true → keys_at table.now.keys.now table.now.segment.now.rows a ≡ keys_at table.now.keys.now table.now.segment.now.rows b }
+    ensures { result ≡ true → keys_at table.now.keys.now table.now.segment.now.rows a ≡ keys_at table.now.keys.now
+        table.now.segment.now.rows b }
 {
     let count = table.segment.rows();
     let a = a as usize;

@@ -15,7 +15,9 @@ use Rattle.wquery.specs.declared.frame.FrameBound.{FrameBound}
 use Rattle.wquery.specs.declared.frame.FrameBound.TheVariants.{Preceding, Following}
 use Rattle.wquery.specs.declared.frame.FrameExclusion.{FrameExclusion}
 use Rattle.wquery.specs.declared.frame.FrameExclusion.TheVariants.{CurrentRow, Group, Ties, NoOthers}
-use Rattle.wquery.specs.Tree.{Tree, NullWord, Numeral, Quoted, Field, Invoked, Negated, Signed, Joined, Compared, NullTest, Within, Among, Trees, NoTrees, MoreTrees, Links, NoLinks, Further, Given, Everything, These, Columns, Filter, Unfiltered, FilteredBy, Reach, ItsGroup, ThatWindow, OwnWindow, Keys, NoKeys, MoreKeys, Branch, KeyTree, same_kind}
+use Rattle.wquery.specs.Tree.{Tree, NullWord, Numeral, Quoted, Field, Invoked, Negated, Signed, Joined, Compared, NullTest, Within, Among}
+use Rattle.wquery.specs.Tree.{Trees, NoTrees, MoreTrees, Links, NoLinks, Further, Given, Everything, These, Columns, Filter, Unfiltered}
+use Rattle.wquery.specs.Tree.{FilteredBy, Reach, ItsGroup, ThatWindow, OwnWindow, Keys, NoKeys, MoreKeys, Branch, KeyTree, same_kind}
 use Rattle.wsame.specs.Bounds.{place_of_bound, end_of}
 
 abbrev pub same_bool : Bool → Bool → Bool
@@ -70,7 +72,8 @@ abbrev pub same_frame : Option Frame → Option Frame → Bool
 same_frame None None = true
 same_frame (Some f) (Some g) =
     nat_eq (mode_number f.mode) (mode_number g.mode)
-    && (same_bound f.start g.start && (same_bound (end_of f) (end_of g) && nat_eq (exclusion_number f.exclusion) (exclusion_number g.exclusion)))
+    && (same_bound f.start g.start && (same_bound (end_of f) (end_of g) && nat_eq (exclusion_number f.exclusion)
+    (exclusion_number g.exclusion)))
 same_frame _ _ = false
 
 abbrev pub same_copied : Option (List ℕ) → Option (List ℕ) → Bool
@@ -126,7 +129,8 @@ abbrev mutual
   -- ASC is the same as nothing
   pub are_same_keys : Keys → Keys → Bool
   are_same_keys NoKeys NoKeys = true
-  are_same_keys (MoreKeys t a m ts) (MoreKeys u b n us) = is_same t u && (same_bool a b && (nat_eq (nulls_number m) (nulls_number n) && are_same_keys ts us))
+  are_same_keys (MoreKeys t a m ts) (MoreKeys u b n us) =
+      is_same t u && (same_bool a b && (nat_eq (nulls_number m) (nulls_number n) && are_same_keys ts us))
   are_same_keys _ _ = false
 
 -- an operator with the operand behind it
@@ -134,4 +138,5 @@ abbrev pub is_same_branch : Branch → Branch → Bool
 is_same_branch a b = nat_eq (operator_number a.operator) (operator_number b.operator) && is_same a.operand b.operand
 
 abbrev pub is_same_key : KeyTree → KeyTree → Bool
-is_same_key a b = is_same a.expression b.expression && (same_bool a.descending b.descending && nat_eq (nulls_number a.nulls) (nulls_number b.nulls))
+is_same_key a b = is_same a.expression b.expression && (same_bool a.descending b.descending && nat_eq (nulls_number a.nulls)
+    (nulls_number b.nulls))

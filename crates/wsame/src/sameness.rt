@@ -3,8 +3,15 @@
 ghost use Rattle.std.specs.Prelude.{◌≡◌, map, Some, nat_eq};
 ghost use Rattle.std.specs.Rc.{rc_str_bytes};
 ghost use Rattle.std.specs.Str.{bytes_eq};
-ghost use Rattle.wquery.specs.Tree.{view, view_over, view_window, view_call, view_key, view_link, view_arguments, view_optional, view_optional_over, filter_of, reach_of, trees, views, keys, view_keys, own_window, linked, name_bytes, view_column, NullWord, Numeral, Quoted, Negated, Signed, Joined, Compared, NullTest, Within, Among, NoLinks, same_kind as is_same_kind};
-ghost use Rattle.wsame.specs.Sameness.{is_same, is_same_branch, is_same_key, are_same, are_same_links, are_same_given, is_same_filter, is_same_reach, are_same_keys, same_bool, same_frame as is_same_frame, same_bound as is_same_bound, same_copied as is_same_copied, operator_number as number_of_operator, comparison_number as number_of_comparison, nulls_number as number_of_nulls, mode_number as number_of_mode, exclusion_number as number_of_exclusion, offset_in};
+ghost use Rattle.wquery.specs.Tree.{view, view_over, view_window, view_call, view_key, view_link, view_arguments, view_optional};
+ghost use Rattle.wquery.specs.Tree.{view_optional_over, filter_of, reach_of, trees, views, keys, view_keys, own_window};
+ghost use Rattle.wquery.specs.Tree.{linked, name_bytes, view_column, NullWord, Numeral, Quoted, Negated, Signed, Joined};
+ghost use Rattle.wquery.specs.Tree.{Compared, NullTest, Within, Among, NoLinks, same_kind as is_same_kind};
+ghost use Rattle.wsame.specs.Sameness.{is_same, is_same_branch, is_same_key, are_same, are_same_links, are_same_given, is_same_filter};
+ghost use Rattle.wsame.specs.Sameness.{is_same_reach, are_same_keys, same_bool, same_frame as is_same_frame, same_bound as is_same_bound};
+ghost use Rattle.wsame.specs.Sameness.{same_copied as is_same_copied, operator_number as number_of_operator};
+ghost use Rattle.wsame.specs.Sameness.{comparison_number as number_of_comparison, nulls_number as number_of_nulls};
+ghost use Rattle.wsame.specs.Sameness.{mode_number as number_of_mode, exclusion_number as number_of_exclusion, offset_in};
 
 use crate::bounds::{bound_place, frame_end};
 use std::rc::RcStr;

@@ -2,7 +2,8 @@
 use Rattle.std.proofs.Common.{◌≡◌, ◌++◌, List, [], ◌∷◌, refl, ap, sym, ◌∙◌, append_assoc, add_assoc, arith}
 use Rattle.std.proofs.lemmas.List.{append-nil}
 use Rattle.wquery.specs.declared.expression.Call.{Call}
-use Rattle.wquery.specs.Tree.{Tree, Links, NoLinks, Further, Branch, Reach, linked, view_call, view_arguments, view_optional, view_optional_over, filter_of, reach_of}
+use Rattle.wquery.specs.Tree.{Tree, Links, NoLinks, Further, Branch, Reach, linked, view_call, view_arguments}
+use Rattle.wquery.specs.Tree.{view_optional, view_optional_over, filter_of, reach_of}
 use Rattle.wsame.proofs.Views.{view_call_is}
 use Rattle.wscope.specs.Seeking.{Findings, seeking, found, found_below, found_links, found_given, found_filter, found_reach}
 use Rattle.wscope.specs.Children.{standing, children_of, children_in, found_all, operands, sizing}
@@ -12,12 +13,14 @@ use Rattle.wscope.proofs.Related.{Relates, related_below, related_reach}
 
 linked_on : (front : Links) (bs : List Branch) → found_links standing (linked front bs) ≡ found_links standing front ++ operands bs
 linked_on front [] = sym (append-nil (found_links standing front))
-linked_on front (b ∷ bs) = linked_on (Further front b.operator b.operand) bs ∙ append_assoc (found_links standing front) (b.operand ∷ []) (operands bs)
+linked_on front (b ∷ bs) = linked_on (Further front b.operator b.operand) bs ∙ append_assoc (found_links standing front)
+    (b.operand ∷ []) (operands bs)
 
 pub linked_all : (bs : List Branch) → found_links standing (linked NoLinks bs) ≡ operands bs
 linked_all bs = linked_on NoLinks bs
 
-pub call_children : (c : Call) → children_of (view_call c) ≡ found_given standing (view_arguments c.arguments) ++ (found_filter standing (filter_of (view_optional c.filter)) ++ found_reach standing (reach_of (view_optional_over c.over)))
+pub call_children : (c : Call) → children_of (view_call c) ≡ found_given standing (view_arguments c.arguments)
+    ++ (found_filter standing (filter_of (view_optional c.filter)) ++ found_reach standing (reach_of (view_optional_over c.over)))
 call_children c = ap children_of (view_call_is c)
 
 -- putting together in any way, from the left or from the right, with none that adds nothing

@@ -15,9 +15,14 @@ use Rattle.wscope.specs.declared.called.Called.{Called}
 use Rattle.wscope.proofs.Indexed.{found_some}
 use Rattle.wscope.proofs.WrittenOut.{item_named}
 
-pub named_by : (m : BTreeMap (Bor (List ℕ)) Called) (cs : List Titled) (xs ys : List Item) → xs ≡ ys → IsIndex m cs (written_out cs (map view_item xs)) → (n : Bor (List ℕ)) → is_some (get by_text m n) ≡ list_any (item_has_name cs n.now) (map view_item ys)
+pub named_by : (m : BTreeMap (Bor (List ℕ)) Called) (cs : List Titled) (xs ys : List Item) → xs ≡ ys
+    → IsIndex m cs (written_out cs (map view_item xs)) → (n : Bor (List ℕ))
+    → is_some (get by_text m n) ≡ list_any (item_has_name cs n.now) (map view_item ys)
 named_by m cs xs ys e h n =
-    found_some (get by_text m n) ∙ ap is_some (h.first n) ∙ sym (item_named n.now cs (map view_item xs)) ∙ ap (λ (zs : List Item). list_any (item_has_name cs n.now) (map view_item zs)) e
+    found_some (get by_text m n) ∙ ap is_some (h.first n) ∙ sym (item_named n.now cs (map view_item xs))
+    ∙ ap (λ (zs : List Item). list_any (item_has_name cs n.now) (map view_item zs)) e
 
-pub told_by : (m : BTreeMap (Bor (List ℕ)) Called) (cs : List Titled) (xs ys : List Item) → xs ≡ ys → IsIndex m cs (written_out cs (map view_item xs)) → (n : Bor (List ℕ)) → is_told (get by_text m n) ≡ has_unlike cs (map view_item ys) n.now
+pub told_by : (m : BTreeMap (Bor (List ℕ)) Called) (cs : List Titled) (xs ys : List Item) → xs ≡ ys
+    → IsIndex m cs (written_out cs (map view_item xs)) → (n : Bor (List ℕ))
+    → is_told (get by_text m n) ≡ has_unlike cs (map view_item ys) n.now
 told_by m cs xs ys e h n = h.told n ∙ ap (λ (zs : List Item). has_unlike cs (map view_item zs) n.now) e

@@ -16,14 +16,18 @@ type_at_end cs [] n h = refl
 type_at_end cs (x ∷ xs) zero h = absurd (omega arith)
 type_at_end cs (x ∷ xs) (suc n) h = type_at_end cs xs n (omega arith)
 
-pub type_at_here : (cs : List Titled) (xs : List Expression) (n : ℕ) (e : Expression) → n < length xs → e ≡ get_or xs n e → type_at cs n (trees (views xs)) ≡ type_of cs (view e)
+pub type_at_here : (cs : List Titled) (xs : List Expression) (n : ℕ) (e : Expression) → n < length xs → e ≡ get_or xs n e
+    → type_at cs n (trees (views xs)) ≡ type_of cs (view e)
 type_at_here cs [] n e h is = absurd (omega arith)
 type_at_here cs (x ∷ xs) zero e h is = ap (λ (y : Expression). type_of cs (view y)) (sym is)
 type_at_here cs (x ∷ xs) (suc n) e h is = type_at_here cs xs n e (omega arith) is
 
-pub call_type_is : (cs : List Titled) (c : Call) → type_of cs (view_call c) ≡ call_type (function_of (rc_str_bytes c.name)) (given_type cs 0 (view_arguments c.arguments)) (given_type cs 2 (view_arguments c.arguments))
+pub call_type_is : (cs : List Titled) (c : Call) → type_of cs (view_call c) ≡ call_type (function_of (rc_str_bytes c.name))
+    (given_type cs 0 (view_arguments c.arguments)) (given_type cs 2 (view_arguments c.arguments))
 call_type_is cs c = ap (type_of cs) (view_call_is c)
 
-pub call_type_from : (cs : List Titled) (c : Call) (name : List ℕ) (f : Option Function) (v d : DataType) → f ≡ function_of name → name ≡ rc_str_bytes c.name → v ≡ given_type cs 0 (view_arguments c.arguments) → d ≡ given_type cs 2 (view_arguments c.arguments) → call_type f v d ≡ type_of cs (view_call c)
+pub call_type_from : (cs : List Titled) (c : Call) (name : List ℕ) (f : Option Function) (v d : DataType)
+    → f ≡ function_of name → name ≡ rc_str_bytes c.name → v ≡ given_type cs 0 (view_arguments c.arguments)
+    → d ≡ given_type cs 2 (view_arguments c.arguments) → call_type f v d ≡ type_of cs (view_call c)
 call_type_from cs c name f v d ef en ev ed =
     rw (ef, en, ev, ed) (sym (call_type_is cs c))

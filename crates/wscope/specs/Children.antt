@@ -35,4 +35,5 @@ standing_in ts = found_trees standing (trees ts)
 
 -- the nodes that stand side by side in memory
 unfoldable pub nodes_left : Children → List Tree
-nodes_left c = standing_in (views c.first.now) ++ (standing_in (views c.second.now) ++ (standing_in (views c.third.now) ++ (operands (map view_link c.links.now) ++ found_keys standing (keys (view_keys c.keys.now)))))
+nodes_left c = standing_in (views c.first.now) ++ (standing_in (views c.second.now) ++ (standing_in (views c.third.now)
+    ++ (operands (map view_link c.links.now) ++ found_keys standing (keys (view_keys c.keys.now)))))

@@ -7,4 +7,15 @@ use Rattle.wquery.specs.QueryTree.{Clauses, view_item, view_entry}
 
 -- what a query says beside its source
 abbrev pub clauses_in : Query → Clauses
-clauses_in q = record { items = map view_item q.items.items; condition = view_optional q.condition; grouping = map view_element q.grouping.items; having = view_optional q.having; windows = map view_entry q.windows.items; order = view_keys q.order.items; limit = q.limit; offset = q.offset }
+clauses_in q = record {
+  items = map view_item q.items.items;
+  condition = view_optional q.condition;
+  grouping =
+      map view_element q.grouping.items;
+  having = view_optional q.having;
+  windows = map view_entry q.windows.items;
+  order =
+      view_keys q.order.items;
+  limit = q.limit;
+  offset = q.offset;
+}

@@ -3,7 +3,8 @@
 use Rattle.std.specs.Prelude.{ℕ, Bool, true, false, ◌&&◌, ◌==◌, List, Option, Some, None, codes, if◌then◌else◌, nat_le}
 use Rattle.std.specs.Str.{bytes_eq}
 use Rattle.wscope.specs.declared.function.Function.{Function}
-use Rattle.wscope.specs.declared.function.Function.TheVariants.{RowNumber, Rank, DenseRank, Ntile, Lag, Lead, FirstValue, LastValue, NthValue, Count, Sum, Min, Max}
+use Rattle.wscope.specs.declared.function.Function.TheVariants.{RowNumber, Rank, DenseRank, Ntile, Lag, Lead, FirstValue}
+use Rattle.wscope.specs.declared.function.Function.TheVariants.{LastValue, NthValue, Count, Sum, Min, Max}
 
 -- the function of this name
 abbrev pub function_of : List ℕ → Option Function

@@ -49,7 +49,12 @@ copied_from ws (Some name) = window_named ws name
 -- a window over the one that was found for the name that it copies
 abbrev pub over : Option Expanded → Option (List ℕ) → Trees → Keys → Option Frame → Expanded
 over found None partition order frame = record { partition = partition; order = order; frame = frame }
-over found (Some name) partition order frame = record { partition = (or_none found).partition; order = keys_or order (or_none found).order; frame = frame }
+over found (Some name) partition order frame = record {
+  partition = (or_none found).partition;
+  order =
+      keys_or order (or_none found).order;
+  frame = frame;
+}
 
 abbrev pub expanded_over : Option Expanded → WindowTree → Expanded
 expanded_over found w = over found w.copied (trees w.partition) (keys w.order) w.frame

@@ -2,7 +2,9 @@
 -- of each node whether it is found, whether to look below it, or whether it is closed to the look. (SQL, `<value
 -- expression>` and what "simply contains" means there.)
 use Rattle.std.specs.Prelude.{Bool, true, false, ◌||◌}
-use Rattle.wquery.specs.Tree.{Tree, NullWord, Numeral, Quoted, Field, Invoked, Negated, Signed, Joined, Compared, NullTest, Within, Among, Trees, NoTrees, MoreTrees, Links, NoLinks, Further, Given, Everything, These, Columns, Filter, Unfiltered, FilteredBy, Reach, ItsGroup, ThatWindow, OwnWindow, Keys, NoKeys, MoreKeys}
+use Rattle.wquery.specs.Tree.{Tree, NullWord, Numeral, Quoted, Field, Invoked, Negated, Signed, Joined, Compared, NullTest, Within}
+use Rattle.wquery.specs.Tree.{Among, Trees, NoTrees, MoreTrees, Links, NoLinks, Further, Given, Everything, These, Columns, Filter}
+use Rattle.wquery.specs.Tree.{Unfiltered, FilteredBy, Reach, ItsGroup, ThatWindow, OwnWindow, Keys, NoKeys, MoreKeys}
 use Rattle.wscope.specs.declared.look.Look.{Look}
 use Rattle.wscope.specs.declared.look.Look.TheVariants.{Found, Closed, Below}
 

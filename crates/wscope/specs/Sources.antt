@@ -52,7 +52,12 @@ columns_from place (c ∷ cs) = record { name = c.name; type = c.type; shown = P
 abbrev pub written_out : List Titled → List ItemTree → List ShownItem
 written_out cs [] = []
 written_out cs (AllColumns ∷ items) = columns_from 0 cs ++ written_out cs items
-written_out cs (Computed t alias ∷ items) = record { name = output_name t alias; type = type_of cs t; shown = Spelled t } ∷ written_out cs items
+written_out cs (Computed t alias ∷ items) = record {
+  name = output_name t alias;
+  type = type_of cs t;
+  shown =
+      Spelled t;
+} ∷ written_out cs items
 
 -- a derived column of type null is a text
 abbrev pub known : DataType → DataType

@@ -42,7 +42,12 @@ keys_or (MoreKeys t descending nulls more) copied = MoreKeys t descending nulls 
 abbrev pub expand : List NamedWindow → Option (List ℕ) → Trees → Keys → Option Frame → Expanded
 expand earlier None partition order frame = record { partition = partition; order = order; frame = frame }
 expand earlier (Some name) partition order frame =
-    record { partition = (or_none (window_named earlier name)).partition; order = keys_or order (or_none (window_named earlier name)).order; frame = frame }
+    record {
+      partition = (or_none (window_named earlier name)).partition;
+      order =
+          keys_or order (or_none (window_named earlier name)).order;
+      frame = frame;
+    }
 
 -- the same of a window that was written
 abbrev pub expand_tree : List NamedWindow → WindowTree → Expanded

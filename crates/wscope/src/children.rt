@@ -1,7 +1,8 @@
 //! The nodes right below a node of an expression.
 
 ghost use Rattle.std.specs.Prelude.{◌≡◌, ◌∷◌, ◌++◌, [], map, MatchOption};
-ghost use Rattle.wquery.specs.Tree.{NoLinks, filter_of, keys, linked, own_window, reach_of, view, view_arguments, view_call, view_keys, view_link, view_optional, view_optional_over, view_window, views};
+ghost use Rattle.wquery.specs.Tree.{NoLinks, filter_of, keys, linked, own_window, reach_of, view, view_arguments, view_call};
+ghost use Rattle.wquery.specs.Tree.{view_keys, view_link, view_optional, view_optional_over, view_window, views};
 ghost use Rattle.wscope.specs.Seeking.{found_filter, found_given, found_keys, found_links};
 ghost use Rattle.wscope.specs.Children.{children_in, children_of, nodes_left, standing, standing_in};
 
@@ -80,7 +81,8 @@ impl<'a> Children<'a> {
         third: &'a [Expression],
         order: &'a [Key],
     ) -> Children<'a>
-        ensures { nodes_left result ≡ standing_in (views first.now) ++ (standing_in (views second.now) ++ (standing_in (views third.now) ++ found_keys standing (keys (view_keys order.now)))) }
+        ensures { nodes_left result ≡ standing_in (views first.now)
+            ++ (standing_in (views second.now) ++ (standing_in (views third.now) ++ found_keys standing (keys (view_keys order.now)))) }
     {
         Children {
             first,
@@ -97,7 +99,8 @@ impl<'a> Children<'a> {
         second: &'a [Expression],
         window: &'a Window,
     ) -> Children<'a>
-        ensures { nodes_left result ≡ standing_in (views first.now) ++ (standing_in (views second.now) ++ children_in (own_window (view_window window.now))) }
+        ensures { nodes_left result ≡ standing_in (views first.now) ++ (standing_in (views second.now) ++ children_in
+            (own_window (view_window window.now))) }
     {
         Children::sorted(
             first,
@@ -120,7 +123,8 @@ impl<'a> Children<'a> {
         filter: &'a [Expression],
         over: &'a Option<Over>,
     ) -> Children<'a>
-        ensures { nodes_left result ≡ standing_in (views given.now) ++ (standing_in (views filter.now) ++ children_in (reach_of (view_optional_over over.now))) }
+        ensures { nodes_left result ≡ standing_in (views given.now) ++ (standing_in (views filter.now) ++ children_in
+            (reach_of (view_optional_over over.now))) }
     {
         match over {
             None => Children::listed(given, filter, &[]),

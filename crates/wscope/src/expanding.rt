@@ -4,7 +4,8 @@ ghost use Rattle.std.specs.Prelude.{◌≡◌, ◌++◌, ◌∷◌, [], ℕ, Lis
 ghost use Rattle.std.specs.Option.{option_copied};
 ghost use Rattle.wquery.specs.QueryTree.{view_entry};
 ghost use Rattle.wquery.specs.Tree.{keys, view_keys, view_window};
-ghost use Rattle.wscope.specs.Windows.{NamedWindow, Expanded, keys_or, lent_frame, named_window, named_windows, optional_window, or_none, expand_tree, expand_all as expanded_entries, expanded_window, window_named};
+ghost use Rattle.wscope.specs.Windows.{NamedWindow, Expanded, keys_or, lent_frame, named_window, named_windows, optional_window};
+ghost use Rattle.wscope.specs.Windows.{or_none, expand_tree, expand_all as expanded_entries, expanded_window, window_named};
 ghost use Rattle.wscope.specs.Earlier.{seen, windows_in};
 ghost use Rattle.wscope.specs.Indexes.{ArePlaces, copied_from, place_of, expanded_over, up_to};
 
@@ -20,7 +21,8 @@ fn window_below<'a>(
     place: usize,
     before: usize,
 ) -> Option<FullWindow<'a>>
-    ensures { (name : List ℕ) → place_of name (named_windows entries.now) ≡ Some place → optional_window result ≡ window_named (take before (named_windows entries.now)) name }
+    ensures { (name : List ℕ) → place_of name (named_windows entries.now) ≡ Some place
+        → optional_window result ≡ window_named (take before (named_windows entries.now)) name }
 {
     if place >= before {
         return None;
@@ -33,7 +35,8 @@ fn window_below<'a>(
 }
 
 fn window_of<'a>(entries: &[FullEntry<'a>], place: usize) -> Option<FullWindow<'a>>
-    ensures { (name : List ℕ) → place_of name (named_windows entries.now) ≡ Some place → optional_window result ≡ window_named (named_windows entries.now) name }
+    ensures { (name : List ℕ) → place_of name (named_windows entries.now) ≡ Some place
+        → optional_window result ≡ window_named (named_windows entries.now) name }
 {
     if place >= entries.len() {
         return None;
@@ -47,7 +50,8 @@ fn window_at<'a>(
     place: usize,
     before: Option<usize>,
 ) -> Option<FullWindow<'a>>
-    ensures { (name : List ℕ) → place_of name (named_windows entries.now) ≡ Some place → optional_window result ≡ window_named (up_to before (named_windows entries.now)) name }
+    ensures { (name : List ℕ) → place_of name (named_windows entries.now) ≡ Some place
+        → optional_window result ≡ window_named (up_to before (named_windows entries.now)) name }
 {
     match before {
         None => window_of(entries, place),
@@ -60,7 +64,8 @@ fn window_found<'a>(
     found: Option<&usize>,
     before: Option<usize>,
 ) -> Option<FullWindow<'a>>
-    ensures { (name : List ℕ) → option_copied found.entry ≡ place_of name (named_windows entries.now) → optional_window result ≡ window_named (up_to before (named_windows entries.now)) name }
+    ensures { (name : List ℕ) → option_copied found.entry ≡ place_of name (named_windows entries.now)
+        → optional_window result ≡ window_named (up_to before (named_windows entries.now)) name }
 {
     match found {
         None => None,
@@ -137,7 +142,8 @@ fn add_place(
     name: &str,
     place: usize,
 ) -> Result<(), AllocError>
-    ensures { (ws : List NamedWindow) (window : Expanded) → place ≡ length ws → ArePlaces places.old ws → OnOk result (ArePlaces places.new (ws ++ record { name = name.now; window = window } ∷ [])) }
+    ensures { (ws : List NamedWindow) (window : Expanded) → place ≡ length ws → ArePlaces places.old ws
+        → OnOk result (ArePlaces places.new (ws ++ record { name = name.now; window = window } ∷ [])) }
 {
     if places.contains_key(name) {
         return Ok(());
@@ -168,7 +174,11 @@ fn expand_entry<'a>(
     entry: &'a WindowEntry,
 ) -> FullEntry<'a>
     requires { ArePlaces places.now (named_windows entries.now) }
-    ensures { named_window result ≡ record { name = (view_entry entry.now).name; window = expand_tree (named_windows entries.now) (view_entry entry.now).window } }
+    ensures { named_window result ≡ record {
+      name = (view_entry entry.now).name;
+      window =
+          expand_tree (named_windows entries.now) (view_entry entry.now).window;
+    } }
 {
     let found = copied_of(entries, places, &entry.window);
     let window = expand_over(found, &entry.window);

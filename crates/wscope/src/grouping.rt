@@ -41,7 +41,8 @@ fn push_entry<'a>(made: &mut Vec<&'a Column>, entry: &'a GroupEntry) -> Result<(
 }
 
 fn push_entries<'a>(made: &mut Vec<&'a Column>, entries: &'a [GroupEntry]) -> Result<(), AllocError>
-    ensures { OnOk result (lent_columns made.new.items ≡ lent_columns made.old.items ++ flat_map entry_columns (map view_group_entry entries.now)) }
+    ensures { OnOk result (lent_columns made.new.items ≡ lent_columns made.old.items ++ flat_map entry_columns
+        (map view_group_entry entries.now)) }
 {
     'entries: for entry in entries {
         push_entry(made, entry)?;

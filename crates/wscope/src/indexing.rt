@@ -25,7 +25,8 @@ fn with_item<'a>(
     output: Output<'a>,
 ) -> Called<'a>
     ensures first { shown result.first ≡ first_or (first_of (option_copied known.entry)) (shown output.entry) }
-    ensures ambiguous { result.is_ambiguous ≡ (is_told (option_copied known.entry) || not (same_shown (all_titled columns.now) (shown result.first) (shown output.entry))) }
+    ensures ambiguous { result.is_ambiguous
+        ≡ (is_told (option_copied known.entry) || not (same_shown (all_titled columns.now) (shown result.first) (shown output.entry))) }
 {
     match known {
         None => Called {
@@ -46,7 +47,13 @@ fn add<'a>(
     name: &'a str,
     output: Output<'a>,
 ) -> Result<(), AllocError>
-    ensures { (is : List ShownItem) (type_of : DataType) → IsIndex called.old (all_titled columns.now) is → OnOk result (IsIndex called.new (all_titled columns.now) (is ++ record { name = name.now; type = type_of; shown = shown output.entry } ∷ [])) }
+    ensures { (is : List ShownItem) (type_of : DataType) → IsIndex called.old (all_titled columns.now) is
+        → OnOk result (IsIndex called.new (all_titled columns.now) (is ++ record {
+          name = name.now;
+          type = type_of;
+          shown =
+              shown output.entry;
+        } ∷ [])) }
 {
     let next = with_item(columns, called.get(&name), output);
     called.insert(name, next)?;
@@ -58,7 +65,8 @@ fn add_columns<'a>(
     called: &mut BTreeMap<&'a str, Called<'a>>,
     columns: &'a [SourceColumn],
 ) -> Result<(), AllocError>
-    ensures { (is : List ShownItem) → IsIndex called.old (all_titled columns.now) is → OnOk result (IsIndex called.new (all_titled columns.now) (is ++ columns_from 0 (all_titled columns.now))) }
+    ensures { (is : List ShownItem) → IsIndex called.old (all_titled columns.now) is
+        → OnOk result (IsIndex called.new (all_titled columns.now) (is ++ columns_from 0 (all_titled columns.now))) }
 {
     let mut place = 0;
     'columns: for column in columns {
@@ -74,7 +82,10 @@ fn add_star<'a>(
     columns: &'a [SourceColumn],
     is_repeated: bool,
 ) -> Result<(), AllocError>
-    ensures { (items : List ItemTree) → is_repeated ≡ list_any is_star items → IsIndex called.old (all_titled columns.now) (written_out (all_titled columns.now) items) → OnOk result (IsIndex called.new (all_titled columns.now) (written_out (all_titled columns.now) items ++ columns_from 0 (all_titled columns.now))) }
+    ensures { (items : List ItemTree) → is_repeated ≡ list_any is_star items
+        → IsIndex called.old (all_titled columns.now) (written_out (all_titled columns.now) items)
+        → OnOk result (IsIndex called.new (all_titled columns.now) (written_out (all_titled columns.now) items
+        ++ columns_from 0 (all_titled columns.now))) }
 {
     if is_repeated {
         return Ok(());
@@ -88,7 +99,10 @@ fn add_item<'a>(
     item: &'a Item,
     is_repeated: bool,
 ) -> Result<(), AllocError>
-    ensures { (items : List ItemTree) → is_repeated ≡ list_any is_star items → IsIndex called.old (all_titled columns.now) (written_out (all_titled columns.now) items) → OnOk result (IsIndex called.new (all_titled columns.now) (written_out (all_titled columns.now) (items ++ view_item item.now ∷ []))) }
+    ensures { (items : List ItemTree) → is_repeated ≡ list_any is_star items
+        → IsIndex called.old (all_titled columns.now) (written_out (all_titled columns.now) items)
+        → OnOk result (IsIndex called.new (all_titled columns.now) (written_out (all_titled columns.now)
+        (items ++ view_item item.now ∷ []))) }
 {
     match item {
         Item::All => add_star(called, columns, is_repeated),

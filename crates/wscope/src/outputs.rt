@@ -2,7 +2,8 @@
 
 ghost use Rattle.std.specs.Prelude.{◌≡◌, ◌++◌, [], ◌∷◌, map, IfOk};
 ghost use Rattle.wquery.specs.QueryTree.{view_item};
-ghost use Rattle.wscope.specs.Sources.{all_titled, titled, kind_type, declared_columns as columns_of_table, known as known_type, answered, derived_column};
+ghost use Rattle.wscope.specs.Sources.{all_titled, titled, kind_type, declared_columns as columns_of_table};
+ghost use Rattle.wscope.specs.Sources.{known as known_type, answered, derived_column};
 
 use crate::data_type::DataType;
 use crate::names::output_name;
@@ -81,7 +82,8 @@ fn push_output(
     columns: &[SourceColumn],
     item: &Item,
 ) -> Result<(), AllocError>
-    ensures { IfOk result (λ _. all_titled made.new.items ≡ all_titled made.old.items ++ answered (all_titled columns.now) (view_item item.now ∷ [])) }
+    ensures { IfOk result (λ _. all_titled made.new.items ≡ all_titled made.old.items ++ answered (all_titled columns.now)
+        (view_item item.now ∷ [])) }
 {
     match item {
         Item::All => push_columns(made, columns),

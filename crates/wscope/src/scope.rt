@@ -40,8 +40,11 @@ pub struct Scope<'a> {
     pub grouped: Vec<&'a Column>,
     /// Their names.
     pub(crate) grouping: BTreeSet<String>,
-    ghost named: { (q : Bor (List ℕ)) → is_some (get by_text outputs q) ≡ list_any (item_has_name (all_titled columns.now) q.now) (clauses_in query.now).items },
-    ghost told: { (q : Bor (List ℕ)) → is_told (get by_text outputs q) ≡ has_unlike (all_titled columns.now) (clauses_in query.now).items q.now },
-    pub ghost listed: { (p : Tree → Bool) → list_any p (lent_columns grouped.items) ≡ list_any p (all_columns (clauses_in query.now).grouping) },
+    ghost named: { (q : Bor (List ℕ)) → is_some (get by_text outputs q)
+        ≡ list_any (item_has_name (all_titled columns.now) q.now) (clauses_in query.now).items },
+    ghost told: { (q : Bor (List ℕ)) → is_told (get by_text outputs q) ≡ has_unlike (all_titled columns.now)
+        (clauses_in query.now).items q.now },
+    pub ghost listed: { (p : Tree → Bool) → list_any p (lent_columns grouped.items)
+        ≡ list_any p (all_columns (clauses_in query.now).grouping) },
     ghost kept: { (q : List ℕ) → contains_text grouping q ≡ list_any (names q) (all_columns (clauses_in query.now).grouping) },
 }

@@ -1,11 +1,13 @@
 -- From lines and bodies to commands.
-use Rattle.std.proofs.Common.{◌≡◌, ◌≢◌, ℕ, Bool, true, false, List, [], ◌∷◌, ◌++◌, length, Option, None, Some, IfSome, Result, refl, sym, ap, ◌∙◌, append_assoc}
+use Rattle.std.proofs.Common.{◌≡◌, ◌≢◌, ℕ, Bool, true, false, List, [], ◌∷◌, ◌++◌, length, Option}
+use Rattle.std.proofs.Common.{None, Some, IfSome, Result, refl, sym, ap, ◌∙◌, append_assoc}
 use Rattle.std.specs.Io.KnownBytes.{Consumes}
 use Rattle.wvalues.specs.Names.{NameParts}
 use Rattle.wvalues.specs.NameReading.{ReadsName}
 use Rattle.wvalues.specs.declared.name.NameFault.{NameFault}
 use Rattle.wlines.specs.Reads.{HasNoBody}
-use Rattle.wscript.specs.Commands.{DeclareForm, TakeForm, RetireForm, FloorForm, ListForm, AskForm, FeedForm, PutForm, GetForm, Command, Declare, Take, Retire, RetireTo, Listing, Ask, Feed, Put, Get}
+use Rattle.wscript.specs.Commands.{DeclareForm, TakeForm, RetireForm, FloorForm, ListForm, AskForm, FeedForm, PutForm}
+use Rattle.wscript.specs.Commands.{GetForm, Command, Declare, Take, Retire, RetireTo, Listing, Ask, Feed, Put, Get}
 use Rattle.wscript.specs.Requests.{IsBadBehind, Behind, follows_declaration}
 use Rattle.wscript.specs.declared.header_lines.Header.{Header}
 use Rattle.wscript.specs.declared.header_lines.Header.TheVariants as headers
@@ -27,7 +29,8 @@ declare_bad len d xs none (Feed n p) rest h a e = h
 declare_bad len d xs none (Put n k) rest h a e = h
 declare_bad len d xs none (Get k n) rest h a e = h
 
-take_bad : (node : ℕ) (name : Result NameParts NameFault) (len : ℕ) (d : Bool) (xs : List ℕ) → HasNoBody len xs → IsBadBehind (headers.Take node name len) d xs
+take_bad : (node : ℕ) (name : Result NameParts NameFault) (len : ℕ) (d : Bool) (xs : List ℕ) → HasNoBody len xs
+    → IsBadBehind (headers.Take node name len) d xs
 take_bad node name len d xs none (Declare s) rest h a e = h
 take_bad node name len d xs none (Take n o m b) rest h a e = none b rest h.2 (e ∙ append_assoc b (10 ∷ []) rest)
 take_bad node name len d xs none (Retire n o m) rest h a e = h
@@ -60,17 +63,25 @@ feed_bad node len d xs none (Feed n p) rest h a e = none p rest h.1 (e ∙ appen
 feed_bad node len d xs none (Put n k) rest h a e = h
 feed_bad node len d xs none (Get k n) rest h a e = h
 
-pub no_piece : (node len : ℕ) (d : Bool) (old : Option (List ℕ)) → IfSome old (λ xs. HasNoBody len xs) → IfSome old (λ xs. IsBadBehind (headers.Feed node len) d xs)
-no_piece node len d old h = some_weaker old (λ xs. HasNoBody len xs) (λ xs. IsBadBehind (headers.Feed node len) d xs) h (λ xs. feed_bad node len d xs)
+pub no_piece : (node len : ℕ) (d : Bool) (old : Option (List ℕ)) → IfSome old (λ xs. HasNoBody len xs)
+    → IfSome old (λ xs. IsBadBehind (headers.Feed node len) d xs)
+no_piece node len d old h = some_weaker old (λ xs. HasNoBody len xs) (λ xs. IsBadBehind (headers.Feed node len) d xs) h
+    (λ xs. feed_bad node len d xs)
 
-pub no_declaration : (len : ℕ) (d : Bool) (old : Option (List ℕ)) → IfSome old (λ xs. HasNoBody len xs) → IfSome old (λ xs. IsBadBehind (headers.Declare len) d xs)
-no_declaration len d old h = some_weaker old (λ xs. HasNoBody len xs) (λ xs. IsBadBehind (headers.Declare len) d xs) h (λ xs. declare_bad len d xs)
+pub no_declaration : (len : ℕ) (d : Bool) (old : Option (List ℕ)) → IfSome old (λ xs. HasNoBody len xs)
+    → IfSome old (λ xs. IsBadBehind (headers.Declare len) d xs)
+no_declaration len d old h = some_weaker old (λ xs. HasNoBody len xs) (λ xs. IsBadBehind (headers.Declare len) d xs) h
+    (λ xs. declare_bad len d xs)
 
-pub no_segment : (node : ℕ) (name : Result NameParts NameFault) (len : ℕ) (d : Bool) (old : Option (List ℕ)) → IfSome old (λ xs. HasNoBody len xs) → IfSome old (λ xs. IsBadBehind (headers.Take node name len) d xs)
-no_segment node name len d old h = some_weaker old (λ xs. HasNoBody len xs) (λ xs. IsBadBehind (headers.Take node name len) d xs) h (λ xs. take_bad node name len d xs)
+pub no_segment : (node : ℕ) (name : Result NameParts NameFault) (len : ℕ) (d : Bool) (old : Option (List ℕ))
+    → IfSome old (λ xs. HasNoBody len xs) → IfSome old (λ xs. IsBadBehind (headers.Take node name len) d xs)
+no_segment node name len d old h = some_weaker old (λ xs. HasNoBody len xs) (λ xs. IsBadBehind (headers.Take node name len)
+    d xs) h (λ xs. take_bad node name len d xs)
 
-pub no_query : (node len : ℕ) (d : Bool) (old : Option (List ℕ)) → IfSome old (λ xs. HasNoBody len xs) → IfSome old (λ xs. IsBadBehind (headers.Ask node len) d xs)
-no_query node len d old h = some_weaker old (λ xs. HasNoBody len xs) (λ xs. IsBadBehind (headers.Ask node len) d xs) h (λ xs. ask_bad node len d xs)
+pub no_query : (node len : ℕ) (d : Bool) (old : Option (List ℕ)) → IfSome old (λ xs. HasNoBody len xs)
+    → IfSome old (λ xs. IsBadBehind (headers.Ask node len) d xs)
+no_query node len d old h = some_weaker old (λ xs. HasNoBody len xs) (λ xs. IsBadBehind (headers.Ask node len) d xs) h
+    (λ xs. ask_bad node len d xs)
 
 -- ---- a header in the wrong place
 
@@ -160,7 +171,8 @@ no_order (headers.Get slot node) d xs ne (Get k n) rest h a e = ne (sym a)
 -- ---- a body that is there
 
 module _ (P : Command → Type 0) (old new : Option (List ℕ)) where
-  pub declared_behind : (len : ℕ) (bytes : List ℕ) → P (Declare bytes) → Consumes old new (bytes ++ 10 ∷ []) → length bytes ≡ len → Behind (headers.Declare len) false P old new
+  pub declared_behind : (len : ℕ) (bytes : List ℕ) → P (Declare bytes) → Consumes old new (bytes ++ 10 ∷ [])
+      → length bytes ≡ len → Behind (headers.Declare len) false P old new
   declared_behind len bytes p k size (DeclareForm m) e = (Declare bytes, ap DeclareForm (size ∙ sym e), p, refl, k)
   declared_behind len bytes p k size (TakeForm n o j m) e = absurd e
   declared_behind len bytes p k size (RetireForm n o j) e = absurd e
@@ -171,7 +183,9 @@ module _ (P : Command → Type 0) (old new : Option (List ℕ)) where
   declared_behind len bytes p k size (PutForm n m) e = absurd e
   declared_behind len bytes p k size (GetForm m n) e = absurd e
 
-  pub segment_behind : (node : ℕ) (name : Result NameParts NameFault) (len : ℕ) (bytes : List ℕ) → ((origin number : List ℕ) → ReadsName origin number name → P (Take node origin number bytes)) → Consumes old new (bytes ++ 10 ∷ []) → length bytes ≡ len → Behind (headers.Take node name len) true P old new
+  pub segment_behind : (node : ℕ) (name : Result NameParts NameFault) (len : ℕ) (bytes : List ℕ)
+      → ((origin number : List ℕ) → ReadsName origin number name → P (Take node origin number bytes))
+      → Consumes old new (bytes ++ 10 ∷ []) → length bytes ≡ len → Behind (headers.Take node name len) true P old new
   segment_behind node name len bytes p k size (DeclareForm m) e = absurd e
   segment_behind node name len bytes p k size (TakeForm n o j m) e = (Take node o j bytes, cc (e.0, e.2, size), p o j e.1, refl, k)
   segment_behind node name len bytes p k size (RetireForm n o j) e = absurd e
@@ -182,7 +196,8 @@ module _ (P : Command → Type 0) (old new : Option (List ℕ)) where
   segment_behind node name len bytes p k size (PutForm n m) e = absurd e
   segment_behind node name len bytes p k size (GetForm m n) e = absurd e
 
-  pub query_behind : (node len : ℕ) (text : List ℕ) → P (Ask node text) → Consumes old new (text ++ 10 ∷ []) → length text ≡ len → Behind (headers.Ask node len) true P old new
+  pub query_behind : (node len : ℕ) (text : List ℕ) → P (Ask node text) → Consumes old new (text ++ 10 ∷ [])
+      → length text ≡ len → Behind (headers.Ask node len) true P old new
   query_behind node len text p k size (DeclareForm m) e = absurd e
   query_behind node len text p k size (TakeForm n o j m) e = absurd e
   query_behind node len text p k size (RetireForm n o j) e = absurd e
@@ -193,7 +208,8 @@ module _ (P : Command → Type 0) (old new : Option (List ℕ)) where
   query_behind node len text p k size (PutForm n m) e = absurd e
   query_behind node len text p k size (GetForm m n) e = absurd e
 
-  pub piece_behind : (node len : ℕ) (piece : List ℕ) → P (Feed node piece) → Consumes old new (piece ++ 10 ∷ []) → length piece ≡ len → Behind (headers.Feed node len) true P old new
+  pub piece_behind : (node len : ℕ) (piece : List ℕ) → P (Feed node piece) → Consumes old new (piece ++ 10 ∷ [])
+      → length piece ≡ len → Behind (headers.Feed node len) true P old new
   piece_behind node len piece p k size (DeclareForm m) e = absurd e
   piece_behind node len piece p k size (TakeForm n o j m) e = absurd e
   piece_behind node len piece p k size (RetireForm n o j) e = absurd e
@@ -204,7 +220,9 @@ module _ (P : Command → Type 0) (old new : Option (List ℕ)) where
   piece_behind node len piece p k size (PutForm n m) e = absurd e
   piece_behind node len piece p k size (GetForm m n) e = absurd e
 
-  pub retired_behind : (node : ℕ) (name : Result NameParts NameFault) → ((origin number : List ℕ) → ReadsName origin number name → P (Retire node origin number)) → Consumes old new [] → Behind (headers.Retire node name) true P old new
+  pub retired_behind : (node : ℕ) (name : Result NameParts NameFault)
+      → ((origin number : List ℕ) → ReadsName origin number name → P (Retire node origin number)) → Consumes old new []
+      → Behind (headers.Retire node name) true P old new
   retired_behind node name p k (DeclareForm m) e = absurd e
   retired_behind node name p k (TakeForm n o j m) e = absurd e
   retired_behind node name p k (RetireForm n o j) e = (Retire node o j, ap (λ n. RetireForm n o j) (sym e.0), p o j e.1, refl, k)
@@ -215,7 +233,9 @@ module _ (P : Command → Type 0) (old new : Option (List ℕ)) where
   retired_behind node name p k (PutForm n m) e = absurd e
   retired_behind node name p k (GetForm m n) e = absurd e
 
-  pub floored_behind : (node : ℕ) (name : Result NameParts NameFault) → ((origin number : List ℕ) → ReadsName origin number name → P (RetireTo node origin number)) → Consumes old new [] → Behind (headers.RetireTo node name) true P old new
+  pub floored_behind : (node : ℕ) (name : Result NameParts NameFault)
+      → ((origin number : List ℕ) → ReadsName origin number name → P (RetireTo node origin number)) → Consumes old new []
+      → Behind (headers.RetireTo node name) true P old new
   floored_behind node name p k (DeclareForm m) e = absurd e
   floored_behind node name p k (TakeForm n o j m) e = absurd e
   floored_behind node name p k (RetireForm n o j) e = absurd e

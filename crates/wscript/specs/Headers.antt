@@ -2,7 +2,8 @@
 use Rattle.std.specs.Prelude.{◌≡◌, ℕ, List, Option, IfSome, IsSomeAnd}
 use Rattle.std.specs.Fmt.{decimal}
 use Rattle.wvalues.specs.NameReading.{ReadsName}
-use Rattle.wscript.specs.Commands.{Form, DeclareForm, TakeForm, RetireForm, FloorForm, ListForm, AskForm, FeedForm, PutForm, GetForm, IsForm, pair_words}
+use Rattle.wscript.specs.Commands.{Form, DeclareForm, TakeForm, RetireForm, FloorForm, ListForm}
+use Rattle.wscript.specs.Commands.{AskForm, FeedForm, PutForm, GetForm, IsForm, pair_words}
 use Rattle.wscript.specs.declared.header_lines.Header.{Header}
 use Rattle.wscript.specs.declared.header_lines.Header.TheVariants as headers
 
@@ -28,5 +29,7 @@ IsNumberRead form word header =
 -- and so are two words
 abbrev pub IsPairRead : (ℕ → ℕ → Form) → List ℕ → Option Header → Type 0
 IsPairRead form words header =
-    IfSome header (λ h. (first : ℕ) × (second : ℕ) × IsForm (form first second) × IsHeaderOf h (form first second) × (words ≡ pair_words first second))
-    × ((first second : ℕ) → IsForm (form first second) → words ≡ pair_words first second → IsSomeAnd header (λ h. IsHeaderOf h (form first second)))
+    IfSome header (λ h. (first : ℕ) × (second : ℕ) × IsForm (form first second) × IsHeaderOf h (form first second)
+    × (words ≡ pair_words first second))
+    × ((first second : ℕ) → IsForm (form first second) → words ≡ pair_words first second
+    → IsSomeAnd header (λ h. IsHeaderOf h (form first second)))

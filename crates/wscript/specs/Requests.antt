@@ -1,10 +1,12 @@
 -- What a request of the code stands for, and what was read where it was: old was left before it and new after it.
-use Rattle.std.specs.Prelude.{◌≡◌, ◌≢◌, ⊤, ℕ, ◌<◌, ◌≤◌, nat_le, Bool, true, false, List, [], ◌∷◌, ◌++◌, length, Option, Some, None, IfSome, Ok, Err}
+use Rattle.std.specs.Prelude.{◌≡◌, ◌≢◌, ⊤, ℕ, ◌<◌, ◌≤◌, nat_le, Bool, true, false, List, []}
+use Rattle.std.specs.Prelude.{◌∷◌, ◌++◌, length, Option, Some, None, IfSome, Ok, Err}
 use Rattle.std.specs.Io.KnownBytes.{Keeps, Consumes, IsAtEnd}
 use Rattle.wvalues.specs.Names.{NameParts}
 use Rattle.wvalues.specs.NameReading.{ReadsName}
 use Rattle.wlines.specs.Reads.{HasNoBody}
-use Rattle.wscript.specs.Commands.{Form, Command, Declare, Take, Retire, RetireTo, Listing, Ask, Feed, Put, Get, AreName, IsAllowed, IsCommand, IsShortDeclaration, IsMalformed, form_of, behind, longest_segment, longest_text, spell}
+use Rattle.wscript.specs.Commands.{Form, Command, Declare, Take, Retire, RetireTo, Listing, Ask, Feed, Put, Get, AreName, IsAllowed}
+use Rattle.wscript.specs.Commands.{IsCommand, IsShortDeclaration, IsMalformed, form_of, behind, longest_segment, longest_text, spell}
 use Rattle.wscript.specs.Headers.{IsHeaderOf}
 use Rattle.wscript.specs.declared.header_lines.Header.{Header}
 use Rattle.wscript.specs.declared.header_lines.Header.TheVariants as headers
@@ -25,13 +27,15 @@ IsRefusedAs refusals.LongDeclaration (Declare bytes) = longest_text < length byt
 IsRefusedAs (refusals.BadName fault) (Take node origin number bytes) = ReadsName origin number (Err fault)
 IsRefusedAs (refusals.BadName fault) (Retire node origin number) = ReadsName origin number (Err fault)
 IsRefusedAs (refusals.BadName fault) (RetireTo node origin number) = ReadsName origin number (Err fault)
-IsRefusedAs refusals.LongSegment (Take node origin number bytes) = (name : NameParts) × ReadsName origin number (Ok name) × (longest_segment < length bytes)
+IsRefusedAs refusals.LongSegment (Take node origin number bytes) = (name : NameParts) × ReadsName origin number (Ok name)
+    × (longest_segment < length bytes)
 IsRefusedAs refusals.LongQuery (Ask node text) = longest_text < length text
 IsRefusedAs _ _ = ⊥
 
 -- a node is told, asked, put or gets this; its body is within its limit
 abbrev pub IsOrderAt : ℕ → Order → Command → Type 0
-IsOrderAt n (orders.Take name kept) (Take node origin number bytes) = (node ≡ n) × ReadsName origin number (Ok name) × (bytes ≡ kept.items) × (length bytes ≤ longest_segment)
+IsOrderAt n (orders.Take name kept) (Take node origin number bytes) = (node ≡ n) × ReadsName origin number (Ok name)
+    × (bytes ≡ kept.items) × (length bytes ≤ longest_segment)
 IsOrderAt n (orders.Retire name) (Retire node origin number) = (node ≡ n) × ReadsName origin number (Ok name)
 IsOrderAt n (orders.RetireTo name) (RetireTo node origin number) = (node ≡ n) × ReadsName origin number (Ok name)
 IsOrderAt n orders.List (Listing node) = node ≡ n
@@ -76,7 +80,8 @@ keeps_body _ = false
 
 -- a body of the header's length was consumed, one that is kept or one that is not
 abbrev pub HasBody : Header → Bool → List ℕ → Option (List ℕ) → Option (List ℕ) → Type 0
-HasBody header kept bytes old new = (body_length header ≡ Some (length bytes)) × (keeps_body header ≡ kept) × Consumes old new (bytes ++ 10 ∷ [])
+HasBody header kept bytes old new = (body_length header ≡ Some (length bytes)) × (keeps_body header ≡ kept)
+    × Consumes old new (bytes ++ 10 ∷ [])
 
 -- such a body was consumed, and nothing of it is left
 pub record PassesBody (header : Header) (kept : Bool) (old new : Option (List ℕ)) : Type 0 where
@@ -93,11 +98,13 @@ FoundBehind header None old new = (n : ℕ) × (body_length header ≡ Some n) �
 
 -- the bytes are not what stands behind this header, for any command
 abbrev pub IsBadBehind : Header → Bool → List ℕ → Type 0
-IsBadBehind header declared xs = (c : Command) (rest : List ℕ) → IsHeaderOf header (form_of c) → IsAllowed declared c → xs ≢ behind c ++ rest
+IsBadBehind header declared xs = (c : Command) (rest : List ℕ) → IsHeaderOf header (form_of c) → IsAllowed declared c
+    → xs ≢ behind c ++ rest
 
 -- the bytes that were consumed stand behind this header, as those of a command with the property P
 abbrev pub Behind : Header → Bool → (Command → Type 0) → Option (List ℕ) → Option (List ℕ) → Type 0
-Behind header declared P old new = (f : Form) → IsHeaderOf header f → (c : Command) × (form_of c ≡ f) × P c × IsAllowed declared c × Consumes old new (behind c)
+Behind header declared P old new = (f : Form) → IsHeaderOf header f → (c : Command) × (form_of c ≡ f) × P c
+    × IsAllowed declared c × Consumes old new (behind c)
 
 -- the body of the command, which is no declaration, is kept: it is within its limit, and the words of its name are one
 abbrev pub KeepsBody : Command → Type 0

@@ -1,9 +1,11 @@
 //! Header lines of commands.
 ghost use Rattle.std.specs.Prelude.{◌≡◌, ℕ, ◌^◌, ◌<◌, List, ◌∷◌, ◌++◌, IfSome, IsSomeAnd, decimal, Some};
 ghost use Rattle.wlines.specs.Words.{IsWord};
-ghost use Rattle.wscript.specs.Commands.{AskForm, DeclareForm, FeedForm, FloorForm, Form, GetForm, IsForm, ListForm, PutForm, RetireForm, TakeForm, line_of, pair_words, retire_words, take_words};
+ghost use Rattle.wscript.specs.Commands.{AskForm, DeclareForm, FeedForm, FloorForm, Form, GetForm, IsForm, ListForm, PutForm};
+ghost use Rattle.wscript.specs.Commands.{RetireForm, TakeForm, line_of, pair_words, retire_words, take_words};
 ghost use Rattle.wscript.specs.Headers.{IsHeaderOf, IsNumberRead, IsPairRead};
-ghost use Rattle.wscript.specs.Requests.{body_length as length_of_body, follows_declaration as is_behind_declaration, keeps_body as is_body_kept};
+ghost use Rattle.wscript.specs.Requests.{body_length as length_of_body, follows_declaration as is_behind_declaration};
+ghost use Rattle.wscript.specs.Requests.{keeps_body as is_body_kept};
 
 use crate::numbers::{NodeNumber, SlotNumber};
 use wlines::{is_word, split_word};
@@ -74,7 +76,8 @@ impl Header {
 // The number in front, and the words behind it.
 fn split_number(words: &[u8]) -> Option<(u32, &[u8])>
     ensures found { IfSome result (λ parts. words.now ≡ decimal parts.0 ++ (32 ∷ parts.1.now)) }
-    ensures only { (number : ℕ) (rest : List ℕ) → number < 2 ^ 32 → words.now ≡ decimal number ++ (32 ∷ rest) → IsSomeAnd result (λ parts. (parts.0 ≡ number) × (parts.1.now ≡ rest)) }
+    ensures only { (number : ℕ) (rest : List ℕ) → number < 2 ^ 32 → words.now ≡ decimal number ++ (32 ∷ rest)
+        → IsSomeAnd result (λ parts. (parts.0 ≡ number) × (parts.1.now ≡ rest)) }
 {
     let Some((first, rest)) = split_word(words) else {
         return None;
@@ -88,7 +91,8 @@ fn split_number(words: &[u8]) -> Option<(u32, &[u8])>
 // Two numbers.
 fn two_numbers(words: &[u8]) -> Option<(u32, u32)>
     ensures found { IfSome result (λ pair. words.now ≡ pair_words pair.0 pair.1) }
-    ensures only { (first second : ℕ) → first < 2 ^ 32 → second < 2 ^ 32 → words.now ≡ pair_words first second → result ≡ Some (first, second) }
+    ensures only { (first second : ℕ) → first < 2 ^ 32 → second < 2 ^ 32 → words.now ≡ pair_words first second
+        → result ≡ Some (first, second) }
 {
     let Some((first, last)) = split_number(words) else {
         return None;
@@ -102,7 +106,8 @@ fn two_numbers(words: &[u8]) -> Option<(u32, u32)>
 // The word in front, and the words behind it.
 fn split_any(words: &[u8]) -> Option<(&[u8], &[u8])>
     ensures found { IfSome result (λ parts. IsWord parts.0.now × (words.now ≡ parts.0.now ++ (32 ∷ parts.1.now))) }
-    ensures only { (word rest : List ℕ) → IsWord word → words.now ≡ word ++ (32 ∷ rest) → IsSomeAnd result (λ parts. (parts.0.now ≡ word) × (parts.1.now ≡ rest)) }
+    ensures only { (word rest : List ℕ) → IsWord word → words.now ≡ word ++ (32 ∷ rest)
+        → IsSomeAnd result (λ parts. (parts.0.now ≡ word) × (parts.1.now ≡ rest)) }
 {
     let Some((first, rest)) = split_word(words) else {
         return None;
@@ -125,8 +130,11 @@ fn declare_header(words: &[u8]) -> Option<Header>
 
 // The words behind `S`.
 fn take_header(words: &[u8]) -> Option<Header>
-    ensures found { IfSome result (λ h. (node : ℕ) × (origin : List ℕ) × (number : List ℕ) × (len : ℕ) × IsForm (TakeForm node origin number len) × IsHeaderOf h (TakeForm node origin number len) × (words.now ≡ take_words node origin number len)) }
-    ensures only { (node : ℕ) (origin number : List ℕ) (len : ℕ) → IsForm (TakeForm node origin number len) → words.now ≡ take_words node origin number len → IsSomeAnd result (λ h. IsHeaderOf h (TakeForm node origin number len)) }
+    ensures found { IfSome result (λ h. (node : ℕ) × (origin : List ℕ) × (number : List ℕ) × (len : ℕ)
+        × IsForm (TakeForm node origin number len) × IsHeaderOf h (TakeForm node origin number len)
+        × (words.now ≡ take_words node origin number len)) }
+    ensures only { (node : ℕ) (origin number : List ℕ) (len : ℕ) → IsForm (TakeForm node origin number len)
+        → words.now ≡ take_words node origin number len → IsSomeAnd result (λ h. IsHeaderOf h (TakeForm node origin number len)) }
 {
     let Some((first, rest)) = split_number(words) else {
         return None;
@@ -148,8 +156,11 @@ fn take_header(words: &[u8]) -> Option<Header>
 
 // The words behind `R`.
 fn retire_header(words: &[u8]) -> Option<Header>
-    ensures found { IfSome result (λ h. (node : ℕ) × (origin : List ℕ) × (number : List ℕ) × IsForm (RetireForm node origin number) × IsHeaderOf h (RetireForm node origin number) × (words.now ≡ retire_words node origin number)) }
-    ensures only { (node : ℕ) (origin number : List ℕ) → IsForm (RetireForm node origin number) → words.now ≡ retire_words node origin number → IsSomeAnd result (λ h. IsHeaderOf h (RetireForm node origin number)) }
+    ensures found { IfSome result (λ h. (node : ℕ) × (origin : List ℕ) × (number : List ℕ)
+        × IsForm (RetireForm node origin number) × IsHeaderOf h (RetireForm node origin number)
+        × (words.now ≡ retire_words node origin number)) }
+    ensures only { (node : ℕ) (origin number : List ℕ) → IsForm (RetireForm node origin number)
+        → words.now ≡ retire_words node origin number → IsSomeAnd result (λ h. IsHeaderOf h (RetireForm node origin number)) }
 {
     let Some((first, rest)) = split_number(words) else {
         return None;
@@ -168,8 +179,11 @@ fn retire_header(words: &[u8]) -> Option<Header>
 
 // The words behind `U`.
 fn floor_header(words: &[u8]) -> Option<Header>
-    ensures found { IfSome result (λ h. (node : ℕ) × (origin : List ℕ) × (number : List ℕ) × IsForm (FloorForm node origin number) × IsHeaderOf h (FloorForm node origin number) × (words.now ≡ retire_words node origin number)) }
-    ensures only { (node : ℕ) (origin number : List ℕ) → IsForm (FloorForm node origin number) → words.now ≡ retire_words node origin number → IsSomeAnd result (λ h. IsHeaderOf h (FloorForm node origin number)) }
+    ensures found { IfSome result (λ h. (node : ℕ) × (origin : List ℕ) × (number : List ℕ)
+        × IsForm (FloorForm node origin number) × IsHeaderOf h (FloorForm node origin number)
+        × (words.now ≡ retire_words node origin number)) }
+    ensures only { (node : ℕ) (origin number : List ℕ) → IsForm (FloorForm node origin number)
+        → words.now ≡ retire_words node origin number → IsSomeAnd result (λ h. IsHeaderOf h (FloorForm node origin number)) }
 {
     let Some((first, rest)) = split_number(words) else {
         return None;

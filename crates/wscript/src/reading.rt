@@ -28,7 +28,8 @@ fn read_found<R: Read, W: Write>(
 ) -> Result<Option<Found>, ReadFault>
     requires ready { IsReady source.old input.old output.old }
     ensures leaves { Leaves W.contents result outbox.old output.old source.new input.new outbox.new output.new }
-    ensures reads { IfOk result (λ found. FoundBehind header.now found (left R.remaining source.old.held input.old) (left R.remaining source.new.held input.new)) }
+    ensures reads { IfOk result (λ found. FoundBehind header.now found (left R.remaining source.old.held input.old)
+        (left R.remaining source.new.held input.new)) }
     ensures falls { IfOk result (λ found. OnSome found (budget source.new.held input.new ≤ budget source.old.held input.old)) }
 {
     let Some(len) = header.body_length() else {
@@ -50,7 +51,8 @@ fn read_found<R: Read, W: Write>(
 // A declaration.
 #[tactic(auto, using(crate::proofs::Bodies::declaration_kept, crate::proofs::Bodies::declaration_dropped, crate::proofs::Bodies::declaration_lacking))]
 fn declaration_request(found: Found) -> Request
-    ensures { (len : ℕ) (old new : Option (List ℕ)) → FoundBehind (Header.Declare len) (Some found) old new → BehindReads result (Header.Declare len) false old new }
+    ensures { (len : ℕ) (old new : Option (List ℕ)) → FoundBehind (Header.Declare len) (Some found) old new
+        → BehindReads result (Header.Declare len) false old new }
 {
     match found {
         Found::Kept(bytes) => Request::Whole(Command::Declare(bytes)),
@@ -63,7 +65,8 @@ fn declaration_request(found: Found) -> Request
 // A segment whose name was read.
 #[tactic(auto, using(crate::proofs::Bodies::segment_kept, crate::proofs::Bodies::segment_dropped, crate::proofs::Bodies::segment_lacking))]
 fn segment_request(node: NodeNumber, name: Name, found: Found) -> Request
-    ensures { (len : ℕ) (old new : Option (List ℕ)) → FoundBehind (Header.Take node (Ok name) len) (Some found) old new → BehindReads result (Header.Take node (Ok name) len) true old new }
+    ensures { (len : ℕ) (old new : Option (List ℕ)) → FoundBehind (Header.Take node (Ok name) len) (Some found) old new
+        → BehindReads result (Header.Take node (Ok name) len) true old new }
 {
     match found {
         Found::Kept(bytes) => Request::Whole(Command::At(node, Order::Take(name, bytes))),
@@ -76,7 +79,8 @@ fn segment_request(node: NodeNumber, name: Name, found: Found) -> Request
 // A segment whose words spell no name.
 #[tactic(auto, using(crate::proofs::Bodies::nameless_dropped))]
 fn nameless_request(node: NodeNumber, fault: NameFault, found: Found) -> Request
-    ensures { (len : ℕ) (old new : Option (List ℕ)) → FoundBehind (Header.Take node (Err fault) len) (Some found) old new → BehindReads result (Header.Take node (Err fault) len) true old new }
+    ensures { (len : ℕ) (old new : Option (List ℕ)) → FoundBehind (Header.Take node (Err fault) len) (Some found) old new
+        → BehindReads result (Header.Take node (Err fault) len) true old new }
 {
     match found {
         Found::Dropped => Request::Whole(Command::Refused(Refusal::BadName(fault))),
@@ -86,7 +90,8 @@ fn nameless_request(node: NodeNumber, fault: NameFault, found: Found) -> Request
 
 // A segment.
 fn take_request(node: NodeNumber, name: Result<Name, NameFault>, found: Found) -> Request
-    ensures { (len : ℕ) (old new : Option (List ℕ)) → FoundBehind (Header.Take node name len) (Some found) old new → BehindReads result (Header.Take node name len) true old new }
+    ensures { (len : ℕ) (old new : Option (List ℕ)) → FoundBehind (Header.Take node name len) (Some found) old new
+        → BehindReads result (Header.Take node name len) true old new }
 {
     match name {
         Ok(name) => segment_request(node, name, found),
@@ -97,7 +102,8 @@ fn take_request(node: NodeNumber, name: Result<Name, NameFault>, found: Found) -
 // The text of a query.
 #[tactic(auto, using(crate::proofs::Bodies::query_kept, crate::proofs::Bodies::query_dropped, crate::proofs::Bodies::query_lacking))]
 fn query_request(node: NodeNumber, found: Found) -> Request
-    ensures { (len : ℕ) (old new : Option (List ℕ)) → FoundBehind (Header.Ask node len) (Some found) old new → BehindReads result (Header.Ask node len) true old new }
+    ensures { (len : ℕ) (old new : Option (List ℕ)) → FoundBehind (Header.Ask node len) (Some found) old new
+        → BehindReads result (Header.Ask node len) true old new }
 {
     match found {
         Found::Kept(text) => Request::Whole(Command::At(node, Order::Ask(text))),
@@ -110,7 +116,8 @@ fn query_request(node: NodeNumber, found: Found) -> Request
 // A piece of a delivery stream.
 #[tactic(auto, using(crate::proofs::Bodies::piece_kept, crate::proofs::Bodies::piece_lacking))]
 fn piece_request(node: NodeNumber, found: Found) -> Request
-    ensures { (len : ℕ) (old new : Option (List ℕ)) → FoundBehind (Header.Feed node len) (Some found) old new → BehindReads result (Header.Feed node len) true old new }
+    ensures { (len : ℕ) (old new : Option (List ℕ)) → FoundBehind (Header.Feed node len) (Some found) old new
+        → BehindReads result (Header.Feed node len) true old new }
 {
     match found {
         Found::Kept(piece) => Request::Whole(Command::Feed(node, piece)),
@@ -144,7 +151,8 @@ fn floor_request(node: NodeNumber, name: Result<Name, NameFault>) -> Request
 // The command of a header line and of what was found behind it.
 #[tactic(auto, using(crate::proofs::Bodies::listing_found, crate::proofs::Bodies::put_found, crate::proofs::Bodies::get_found, crate::proofs::Bodies::bare))]
 fn request_of(header: Header, found: Found) -> Request
-    ensures { (old new : Option (List ℕ)) → FoundBehind header (Some found) old new → BehindReads result header (follows_declaration header) old new }
+    ensures { (old new : Option (List ℕ)) → FoundBehind header (Some found) old new
+        → BehindReads result header (follows_declaration header) old new }
 {
     match header {
         Header::Declare(_) => declaration_request(found),
@@ -172,7 +180,8 @@ fn read_behind<R: Read, W: Write>(
 ) -> Result<Request, ReadFault>
     requires ready { IsReady source.old input.old output.old }
     ensures leaves { Leaves W.contents result outbox.old output.old source.new input.new outbox.new output.new }
-    ensures reads { IfOk result (λ request. BehindReads request header declared (left R.remaining source.old.held input.old) (left R.remaining source.new.held input.new)) }
+    ensures reads { IfOk result (λ request. BehindReads request header declared (left R.remaining source.old.held input.old)
+        (left R.remaining source.new.held input.new)) }
     ensures falls { IfOk result (λ request. GoesOn request → budget source.new.held input.new ≤ budget source.old.held input.old) }
 {
     if header.follows_declaration() != declared {
@@ -199,7 +208,8 @@ pub fn read_command<R: Read, W: Write>(
     requires answered { outbox.old.is_answered ≡ true }
     ensures says { Says (sent W.contents outbox.old output.old) (sent W.contents outbox.new output.new) [] }
     ensures ready { OnOk result (IsReady source.new input.new output.new) }
-    ensures reads { IfOk result (λ request. RequestReads request declared (left R.remaining source.old.held input.old) (left R.remaining source.new.held input.new)) }
+    ensures reads { IfOk result (λ request. RequestReads request declared (left R.remaining source.old.held input.old)
+        (left R.remaining source.new.held input.new)) }
     ensures falls { IfOk result (λ request. GoesOn request → budget source.new.held input.new < budget source.old.held input.old) }
     ensures fault { IfErr result (λ fault. HasFailed fault input.new outbox.new output.new) }
 {

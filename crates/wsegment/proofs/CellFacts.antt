@@ -15,10 +15,12 @@ cell-no_text row kind field refused = by (is_utf8 field) refl
     by true e = absurd (refused (IsUtf8-from_is_utf8 field e))
     by false e = rw e refl
 
-pub cell-empty : (row : ℕ) (kind : Kind) (field text : List ℕ) → text ≡ field → IsUtf8 field → true ≡ (length text == 0) → cell_of row kind field ≡ Ok Null
+pub cell-empty : (row : ℕ) (kind : Kind) (field text : List ℕ) → text ≡ field → IsUtf8 field → true ≡ (length text == 0)
+    → cell_of row kind field ≡ Ok Null
 unfolding cell_of
 cell-empty row kind field text same utf8 e = rw (is_utf8-from_IsUtf8 field utf8, ← same, ← e) refl
 
-pub cell-typed : (row : ℕ) (kind : Kind) (field text : List ℕ) → text ≡ field → IsUtf8 field → false ≡ (length text == 0) → cell_of row kind field ≡ typed row kind text
+pub cell-typed : (row : ℕ) (kind : Kind) (field text : List ℕ) → text ≡ field → IsUtf8 field → false ≡ (length text == 0)
+    → cell_of row kind field ≡ typed row kind text
 unfolding cell_of
 cell-typed row kind field text same utf8 e = rw (is_utf8-from_IsUtf8 field utf8, ← same, ← e) refl

@@ -10,6 +10,7 @@ pub front-nil : {A : Type 0} (read : Result (List A) SegmentFault) → with_fron
 front-nil (Ok xs) = refl
 front-nil (Err f) = refl
 
-pub regroup : {A : Type 0} (front : List A) (x : A) (read : Result (List A) SegmentFault) → with_front front (read >>= λ xs. Ok (x ∷ xs)) ≡ with_front (front ++ x ∷ []) read
+pub regroup : {A : Type 0} (front : List A) (x : A) (read : Result (List A) SegmentFault)
+    → with_front front (read >>= λ xs. Ok (x ∷ xs)) ≡ with_front (front ++ x ∷ []) read
 regroup {A} front x (Ok xs) = ap (λ (ys : List A). Ok ys) (sym (append_assoc front (x ∷ []) xs))
 regroup front x (Err f) = refl

@@ -19,10 +19,13 @@ pub rows_counted : (a : Inside) (content : Content) → content_of a ≡ content
 rows_counted a content e = sym (rows-count a) ∙ ap (λ (c : Content). length c.rows) e
 
 -- a value by its place in a row
-pub row-value : (values : List Value) (rows : List (List Meaning)) (row col : ℕ) (v : Value) → v ≡ get_or values col v → col < length values → map meaning values ≡ get_or rows row [] → meaning v ≡ cell rows row col
-row-value values rows row col v is within same = ap meaning is ∙ sym (get_or-map meaning values col v Null within) ∙ ap (λ cells. get_or cells col Null) same
+pub row-value : (values : List Value) (rows : List (List Meaning)) (row col : ℕ) (v : Value) → v ≡ get_or values col v
+    → col < length values → map meaning values ≡ get_or rows row [] → meaning v ≡ cell rows row col
+row-value values rows row col v is within same = ap meaning is ∙ sym (get_or-map meaning values col v Null within)
+    ∙ ap (λ cells. get_or cells col Null) same
 
 -- rows that are kept are as many as are counted
 pub counted-kept : (r : Rows) (d : Declaration) (bytes : List ℕ) → rows_of d bytes ≡ Ok (rows_kept r) → IsJudged d bytes r.count
 counted-kept r d bytes e =
-    ap (λ (read : Result (List (List Meaning)) SegmentFault). counted read) e ∙ ap (λ (n : ℕ). Ok n) (length-laid r.width r.count r.cells.items)
+    ap (λ (read : Result (List (List Meaning)) SegmentFault). counted read) e
+    ∙ ap (λ (n : ℕ). Ok n) (length-laid r.width r.count r.cells.items)

@@ -1,5 +1,6 @@
 -- Tests of what elements are seen as.
-use Rattle.std.proofs.Common.{◌≡◌, ◌∙◌, ◌||◌, ◌<◌, Bool, not, ℕ, zero, suc, List, [], ◌∷◌, Some, None, drop, drop-cons, get_or, length, map, refl, sym, ap, arith}
+use Rattle.std.proofs.Common.{◌≡◌, ◌∙◌, ◌||◌, ◌<◌, Bool, not, ℕ, zero, suc, List, [], ◌∷◌, Some}
+use Rattle.std.proofs.Common.{None, drop, drop-cons, get_or, length, map, refl, sym, ap, arith}
 use Rattle.std.proofs.lemmas.List.{length-map}
 use Rattle.std.specs.List.{list_any, position, prefix_len}
 use Rattle.csv.specs.Records.{field_at}

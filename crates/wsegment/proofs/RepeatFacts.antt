@@ -1,5 +1,6 @@
 -- Two columns of one name.
-use Rattle.std.proofs.Common.{◌≡◌, ◌∙◌, ◌++◌, ◌||◌, ◌<◌, ◌+◌, Bool, true, false, cond, not, ℕ, List, [], ◌∷◌, drop, take, get_or, length, refl, sym, ap}
+use Rattle.std.proofs.Common.{◌≡◌, ◌∙◌, ◌++◌, ◌||◌, ◌<◌, ◌+◌, Bool, true, false, cond, not}
+use Rattle.std.proofs.Common.{ℕ, List, [], ◌∷◌, drop, take, get_or, length, refl, sym, ap}
 use Rattle.std.proofs.lemmas.List.{take-append-drop, take_more}
 use Rattle.std.proofs.lemmas.List.Folds.{list_any-append}
 use Rattle.std.proofs.lemmas.Map.Text.{is_eq-slice_cmp}
@@ -43,7 +44,8 @@ repeats-push (c ∷ cs) x =
 
 pub repeats-front : (cs ds : List Described) → repeats_name cs ≡ true → repeats_name (cs ++ ds) ≡ true
 repeats-front [] ds e = cc e
-repeats-front (c ∷ cs) ds e = rw (list_any-append (λ (other : Described). bytes_eq other.name c.name) cs ds) (by (has_name c.name cs) (has_name c.name ds) (repeats_name cs) (repeats_name (cs ++ ds)) e (repeats-front cs ds))
+repeats-front (c ∷ cs) ds e = rw (list_any-append (λ (other : Described). bytes_eq other.name c.name) cs ds)
+    (by (has_name c.name cs) (has_name c.name ds) (repeats_name cs) (repeats_name (cs ++ ds)) e (repeats-front cs ds))
   where
     by : (a b r s : Bool) → (a || r) ≡ true → (r ≡ true → s ≡ true) → ((a || b) || s) ≡ true
     by true b r s e h = refl
@@ -51,13 +53,15 @@ repeats-front (c ∷ cs) ds e = rw (list_any-append (λ (other : Described). byt
     by false false r s e h = h e
 
 -- a name that an earlier column has, and one that none has
-pub repeats-found : (cs : List Described) (i : ℕ) (x : Described) → i < length cs → x ≡ get_or cs i x → has_name x.name (take i cs) ≡ true → repeats_name cs ≡ true
+pub repeats-found : (cs : List Described) (i : ℕ) (x : Described) → i < length cs → x ≡ get_or cs i x
+    → has_name x.name (take i cs) ≡ true → repeats_name cs ≡ true
 repeats-found cs i x lt is found =
     let more : take (i + 1) cs ≡ take i cs ++ x ∷ [] = take_more cs i x lt ∙ ap (λ y. take i cs ++ y ∷ []) (sym is) in
     let front : repeats_name (take (i + 1) cs) ≡ true = rw (more, repeats-push (take i cs) x, found) refl in
     ap repeats_name (sym (take-append-drop (i + 1) cs)) ∙ repeats-front (take (i + 1) cs) (drop (i + 1) cs) front
 
-pub repeats-none : (cs : List Described) (i : ℕ) (x : Described) → i < length cs → x ≡ get_or cs i x → has_name x.name (take i cs) ≡ false → repeats_name (take i cs) ≡ false → repeats_name (take (i + 1) cs) ≡ false
+pub repeats-none : (cs : List Described) (i : ℕ) (x : Described) → i < length cs → x ≡ get_or cs i x
+    → has_name x.name (take i cs) ≡ false → repeats_name (take i cs) ≡ false → repeats_name (take (i + 1) cs) ≡ false
 repeats-none cs i x lt is none so_far = rw (take_more cs i x lt, ← is, repeats-push (take i cs) x, none, so_far) refl
 
 abbrev pub by_text : Bor (List ℕ) → Bor (List ℕ) → Ordering
@@ -70,12 +74,16 @@ or-cond false true = refl
 or-cond false false = refl
 
 -- a name goes among those that were seen
-pub names-go : (old new : BTreeSet (Bor (List ℕ))) (name : Bor (List ℕ)) (cs : List Described) (i : ℕ) (x : Described) → i < length cs → x ≡ get_or cs i x → name.now ≡ x.name → Updates by_text old new name true
-    → ((q : Bor (List ℕ)) → contains by_text old q ≡ has_name q.now (take i cs)) → (q : Bor (List ℕ)) → contains by_text new q ≡ has_name q.now (take (i + 1) cs)
+pub names-go : (old new : BTreeSet (Bor (List ℕ))) (name : Bor (List ℕ)) (cs : List Described) (i : ℕ) (x : Described)
+    → i < length cs → x ≡ get_or cs i x → name.now ≡ x.name → Updates by_text old new name true
+    → ((q : Bor (List ℕ)) → contains by_text old q ≡ has_name q.now (take i cs)) → (q : Bor (List ℕ))
+    → contains by_text new q ≡ has_name q.now (take (i + 1) cs)
 names-go old new name cs i x lt is same updates known q =
     let more : take (i + 1) cs ≡ take i cs ++ x ∷ [] = take_more cs i x lt ∙ ap (λ y. take i cs ++ y ∷ []) (sym is) in
-    let after : has_name q.now (take (i + 1) cs) ≡ (has_name q.now (take i cs) || (bytes_eq x.name q.now || false)) = rw more (list_any-append (λ (c : Described). bytes_eq c.name q.now) (take i cs) (x ∷ [])) in
-    let is_new : is_eq (slice_cmp nat_cmp name.now q.now) ≡ bytes_eq x.name q.now = is_eq-slice_cmp name.now q.now ∙ ap (λ n. bytes_eq n q.now) same in
+    let after : has_name q.now (take (i + 1) cs) ≡ (has_name q.now (take i cs) || (bytes_eq x.name q.now || false)) =
+    rw more (list_any-append (λ (c : Described). bytes_eq c.name q.now) (take i cs) (x ∷ [])) in
+    let is_new : is_eq (slice_cmp nat_cmp name.now q.now) ≡ bytes_eq x.name q.now = is_eq-slice_cmp name.now q.now
+    ∙ ap (λ n. bytes_eq n q.now) same in
     updates.0 q ∙ rw (is_new, known q) (or-cond (bytes_eq x.name q.now) (has_name q.now (take i cs))) ∙ sym after
 
 -- what the answer of an insert says

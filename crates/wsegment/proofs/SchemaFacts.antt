@@ -11,13 +11,24 @@ spells : (d : Declaration) (bytes : List ℕ) → IsDeclaration d → bytes ≡ 
 spells d bytes is e = rw e is.spelled
 
 -- a declaration, by what was found out about it
-pub declared : (d : Declaration) (bytes : List ℕ) → length bytes ≤ 65536 → is_name d.table ≡ true → AllByRecursion HasName d.columns → bytes ≡ declaration_text d → repeats_name d.columns ≡ false → 0 < length d.columns → length d.columns ≤ 64
+pub declared : (d : Declaration) (bytes : List ℕ) → length bytes ≤ 65536 → is_name d.table ≡ true
+    → AllByRecursion HasName d.columns → bytes ≡ declaration_text d → repeats_name d.columns ≡ false → 0 < length d.columns
+    → length d.columns ≤ 64
     → ReadsDeclaration bytes (Ok d)
-declared d bytes short table columns text once some few =
-    (record { spelled = rw (← text) (record { short = short; table = table; columns = columns; text = text }); distinct = once; some = some; few = few }, text)
+declared d bytes short table columns text once some few = (
+  record {
+    spelled = rw (← text) (record { short = short; table = table; columns = columns; text = text });
+    distinct =
+        once;
+    some = some;
+    few = few;
+  },
+  text,
+)
 
 -- one that is well formed is read as itself
-pub only : (bytes : List ℕ) (r : Result Declaration SchemaFault) → ReadsDeclaration bytes r → (d : Declaration) → IsDeclaration d → bytes ≡ declaration_text d → MatchResult r (λ schema. schema ≡ d) (λ fault. fault ≡ faults.NoMemory)
+pub only : (bytes : List ℕ) (r : Result Declaration SchemaFault) → ReadsDeclaration bytes r → (d : Declaration)
+    → IsDeclaration d → bytes ≡ declaration_text d → MatchResult r (λ schema. schema ≡ d) (λ fault. fault ≡ faults.NoMemory)
 only bytes (Ok s) reads d is e = spells-one s d bytes (spells s bytes reads.0 reads.1) (spells d bytes is e)
 only bytes (Err faults.Syntax) reads d is e = absurd (reads d (spells d bytes is e))
 only bytes (Err faults.RepeatedColumn) reads d is e =

@@ -11,5 +11,6 @@ all_mapped f y (x ∷ xs) h = by (all_mapped f y xs (λ k d lt. h (suc k) d (ome
     by rest (suc k) d lt = rest k d (omega (arith, lt))
 
 -- a place of a list is one of what the list is seen as
-pub within : {X Y : Type 0} (f : X → Y) (xs : List X) {ys : List Y} {k last : ℕ} → map f xs ≡ ys → k ≤ last → last < length xs → k < length ys
+pub within : {X Y : Type 0} (f : X → Y) (xs : List X) {ys : List Y} {k last : ℕ} → map f xs ≡ ys → k ≤ last
+    → last < length xs → k < length ys
 within f xs {k = k} e le lt = subst (λ v. k < length v) e (omega (arith, length-map xs f, le, lt))

@@ -11,7 +11,11 @@ use Rattle.wsegment.proofs.OnLiterals.{rows_on_literals}
 abbrev sales : Declaration
 sales = record {
   table = codes "sales";
-  columns = record { name = codes "day"; kind = kinds.Integer } ∷ record { name = codes "shop"; kind = kinds.Text } ∷ record { name = codes "amount"; kind = kinds.Integer } ∷ [];
+  columns = record { name = codes "day"; kind = kinds.Integer } ∷ record {
+    name = codes "shop";
+    kind =
+        kinds.Text;
+  } ∷ record { name = codes "amount"; kind = kinds.Integer } ∷ [];
 }
 
 abbrev read : List ℕ → Result (List (List Meaning)) SegmentFault

@@ -1,5 +1,6 @@
 -- A table's declaration: the table's name and its columns, and the one text that spells it.
-use Rattle.std.specs.Prelude.{◌≡◌, ℕ, Bool, true, false, List, ◌++◌, ◌==◌, ◌&&◌, ◌||◌, not, codes, length, nat_le, nat_lt, slice_index, position, Option, refl}
+use Rattle.std.specs.Prelude.{◌≡◌, ℕ, Bool, true, false, List, ◌++◌, ◌==◌, ◌&&◌, ◌||◌, not, codes}
+use Rattle.std.specs.Prelude.{length, nat_le, nat_lt, slice_index, position, Option, refl}
 use Rattle.std.specs.Char.{is_ascii_digit, is_ascii_lowercase}
 use Rattle.std.specs.Coded.{Coded, code_by, coded×, coded_bool, coded_list, coded_ℕ}
 use Rattle.std.specs.List.{flat_map, list_all}
@@ -62,7 +63,9 @@ abbrev pub coded_kind : Coded Kind
 coded_kind = code_by Bool coded_bool is_text kind_from kind-back
 
 abbrev pub coded_described : Coded Described
-coded_described = code_by (List ℕ × Kind) (coded× (coded_list coded_ℕ) coded_kind) (λ c. (c.name, c.kind)) (λ p. record { name = p.0; kind = p.1 }) (λ _. refl)
+coded_described = code_by (List ℕ × Kind) (coded× (coded_list coded_ℕ) coded_kind) (λ c. (c.name, c.kind))
+    (λ p. record { name = p.0; kind = p.1 }) (λ _. refl)
 
 abbrev pub coded_declaration : Coded Declaration
-coded_declaration = code_by (List ℕ × List Described) (coded× (coded_list coded_ℕ) (coded_list coded_described)) (λ d. (d.table, d.columns)) (λ p. record { table = p.0; columns = p.1 }) (λ _. refl)
+coded_declaration = code_by (List ℕ × List Described) (coded× (coded_list coded_ℕ) (coded_list coded_described))
+    (λ d. (d.table, d.columns)) (λ p. record { table = p.0; columns = p.1 }) (λ _. refl)

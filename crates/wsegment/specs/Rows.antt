@@ -35,7 +35,8 @@ rows_of_records d (header ∷ below) = named_each d.columns [] header >>= rows_u
 
 -- the rows of bytes
 unfoldable pub rows_of : Declaration → List ℕ → Result (List (List Meaning)) SegmentFault
-rows_of d bytes = if nat_lt 67108864 (length bytes) then Err faults.TooLong else rows_of_records d (records default_config (strip_bom bytes))
+rows_of d bytes = if nat_lt 67108864 (length bytes) then Err faults.TooLong else rows_of_records d
+    (records default_config (strip_bom bytes))
 
 -- how a content is stored: as the triple of its parts
 abbrev is_cell : Meaning → Unit {0} ⊎ (ℤ ⊎ List ℕ)
@@ -58,5 +59,6 @@ coded_meaning = code_by (Unit {0} ⊎ (ℤ ⊎ List ℕ)) (coded⊎ coded_unit (
 
 abbrev pub coded_content : Coded Content
 coded_content =
-    code_by (List ℕ × (ℕ × List (List Meaning))) (coded× (coded_list coded_ℕ) (coded× coded_ℕ (coded_list (coded_list coded_meaning)))) (λ c. (c.bytes, (c.columns, c.rows)))
+    code_by (List ℕ × (ℕ × List (List Meaning)))
+    (coded× (coded_list coded_ℕ) (coded× coded_ℕ (coded_list (coded_list coded_meaning)))) (λ c. (c.bytes, (c.columns, c.rows)))
     (λ p. record { bytes = p.0; columns = p.1.0; rows = p.1.1 }) (λ _. refl)

@@ -32,7 +32,8 @@ pub record IsDeclaration (d : Declaration) : Type 0 where
 abbrev pub IsRefusedFor : List ℕ → SchemaFault → Type 0
 IsRefusedFor bytes faults.Syntax = (d : Declaration) → Spells d bytes → ⊥
 IsRefusedFor bytes faults.RepeatedColumn = (d : Declaration) × Spells d bytes × (repeats_name d.columns ≡ true)
-IsRefusedFor bytes faults.ColumnCount = (d : Declaration) × Spells d bytes × (repeats_name d.columns ≡ false) × ((length d.columns ≡ 0) ⊎ (64 < length d.columns))
+IsRefusedFor bytes faults.ColumnCount = (d : Declaration) × Spells d bytes × (repeats_name d.columns ≡ false)
+    × ((length d.columns ≡ 0) ⊎ (64 < length d.columns))
 IsRefusedFor bytes faults.NoMemory = ⊤
 
 -- what reading bytes gives: the declaration that they spell, or their fault, unless memory ran out

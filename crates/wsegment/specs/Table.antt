@@ -14,7 +14,8 @@ use Rattle.wsegment.specs.Rows.{cell}
 abbrev pub field_at : List (List (List ℕ)) → ℕ → ℕ → List ℕ
 field_at below row field = slice_index_or (slice_index_or below row []) field []
 
--- the bytes are not too many; the records are a header that names each column once and nothing else, and rows of its length; each value is what its field says
+-- the bytes are not too many; the records are a header that names each column once and nothing else, and rows of its length;
+-- each value is what its field says
 pub record IsTable (d : Declaration) (bytes : List ℕ) (rows : List (List Meaning)) : Type 0 where
   pub short : length bytes ≤ 67108864
   pub header : List (List ℕ)
@@ -26,5 +27,7 @@ pub record IsTable (d : Declaration) (bytes : List ℕ) (rows : List (List Meani
   pub distinct : (i j : ℕ) → i < j → j < length header → slice_index_or header i [] ≢ slice_index_or header j []
   pub complete : list_all (λ c. is_some (position (λ word. bytes_eq word c.name) header)) d.columns ≡ true
   pub widths : (row : ℕ) → row < length rows → length (slice_index_or below row []) ≡ length header
-  pub values : (name : List ℕ) (c : Described) (row column field : ℕ) → row < length rows → column_named name d.columns ≡ Some c → place_of name d.columns ≡ Some column → position (λ word. bytes_eq word name) header ≡ Some field
+  pub values : (name : List ℕ) (c : Described) (row column field : ℕ) → row < length rows
+      → column_named name d.columns ≡ Some c → place_of name d.columns ≡ Some column
+      → position (λ word. bytes_eq word name) header ≡ Some field
       → cell_of (row + 1) c.kind (field_at below row field) ≡ Ok (cell rows row column)

@@ -1,5 +1,6 @@
 //! The header: the column of each field, and the field of each column.
-ghost use Rattle.std.specs.Prelude.{◌≡◌, ◌<◌, [], All, Ok, Some, IfOk, length, map, option_map, is_some, position, MatchResult, true, false, ◌⊎◌};
+ghost use Rattle.std.specs.Prelude.{◌≡◌, ◌<◌, [], All, Ok, Some, IfOk, length, map, option_map};
+ghost use Rattle.std.specs.Prelude.{is_some, position, MatchResult, true, false, ◌⊎◌};
 ghost use Rattle.std.specs.List.{find, list_any};
 ghost use Rattle.std.specs.Str.{bytes_eq};
 ghost use Rattle.csv.specs.Records.{fields_of};
@@ -81,7 +82,8 @@ pub(crate) fn column_fields(
     header: &[&Column],
 ) -> Result<Vec<usize>, SegmentFault>
     ensures gives { MatchResult result
-        (λ fields. (is_complete columns.now (all_now header.now) ≡ true) × (map Some fields.items ≡ map (field_of (all_now header.now)) columns.now))
+        (λ fields. (is_complete columns.now (all_now header.now) ≡ true)
+        × (map Some fields.items ≡ map (field_of (all_now header.now)) columns.now))
         (λ fault. (fault ≡ NoMemory) ⊎ ((fault ≡ MissingColumn) × (is_complete columns.now (all_now header.now) ≡ false))) }
     ensures within { IfOk result (λ fields. All (λ field. field < length header.now) fields.items) }
 {

@@ -80,7 +80,12 @@ impl Judged {
     ) -> Result<Judged, AllocError>
         requires judged { IsJudged schema.now bytes.now rows }
         requires few { rows ≤ 1000000 }
-        ensures { IfOk result (λ judged. judged ≡ record { bytes = bytes.now; columns = length schema.now.columns; rows = where_good (rows_of schema.now bytes.now) }) }
+        ensures { IfOk result (λ judged. judged ≡ record {
+          bytes = bytes.now;
+          columns = length schema.now.columns;
+          rows =
+              where_good (rows_of schema.now bytes.now);
+        }) }
     {
         let bytes = Vec::from_slice(alloc, bytes)?;
         let schema = schema.copy()?;

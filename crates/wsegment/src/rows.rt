@@ -37,7 +37,8 @@ fn push_row(
 ) -> Result<(), SegmentFault>
     ensures before { OnOk result (take (length cells.old.items) cells.new.items ≡ cells.old.items) }
     ensures added { OnOk result (length cells.new.items ≡ length cells.old.items + length header.now) }
-    ensures row { OnOk result (row_of number (kinds_of (all_now header.now)) (fields_of row.now) ≡ Ok (map meaning (drop (length cells.old.items) cells.new.items))) }
+    ensures row { OnOk result (row_of number (kinds_of (all_now header.now)) (fields_of row.now)
+        ≡ Ok (map meaning (drop (length cells.old.items) cells.new.items))) }
     ensures fault { IfErr result (λ fault. Fails fault (row_of number (kinds_of (all_now header.now)) (fields_of row.now))) }
 {
     if row.len() != header.len() {
@@ -118,7 +119,8 @@ pub(crate) fn read_rows(
 ) -> Result<Rows, SegmentFault>
     requires reading { IsReading reader.old }
     requires within { All (λ field. field < length header.now) fields.now }
-    ensures gives { Gives rows_kept result (in_order_of fields.now (rows_from (kinds_of (all_now header.now)) 1 (records_left reader.old))) }
+    ensures gives { Gives rows_kept result
+        (in_order_of fields.now (rows_from (kinds_of (all_now header.now)) 1 (records_left reader.old))) }
     ensures filled { IfOk result (λ rows. length rows.cells.items ≡ rows.count * rows.width) }
     ensures width { IfOk result (λ rows. rows.width ≡ length fields.now) }
     ensures few { IfOk result (λ rows. rows.count ≤ 1000000) }

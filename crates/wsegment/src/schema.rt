@@ -52,7 +52,8 @@ impl Schema {
     pub fn read(alloc: Global, bytes: &[u8]) -> Result<Schema, SchemaFault>
         ensures reads { ReadsDeclaration bytes.now result }
         ensures long { 65536 < length bytes.now → result ≡ Err SchemaFault.Syntax }
-        ensures only { (d : Declaration) → IsDeclaration d → bytes.now ≡ declaration_text d → MatchResult result (λ schema. schema ≡ d) (λ fault. fault ≡ NoMemory) }
+        ensures only { (d : Declaration) → IsDeclaration d → bytes.now ≡ declaration_text d
+            → MatchResult result (λ schema. schema ≡ d) (λ fault. fault ≡ NoMemory) }
     {
         if bytes.len() > MAX_BYTES {
             return Err(SchemaFault::Syntax);

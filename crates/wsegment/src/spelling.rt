@@ -65,7 +65,8 @@ fn word_len(bytes: &[u8]) -> usize
 
 // The kind at the front, and what stands behind it.
 fn kind_at(bytes: &[u8]) -> Option<(Kind, &[u8])>
-    ensures { MatchOption result ((kind : Kind) (rest : List ℕ) → bytes.now ≡ kind_text kind ++ rest → ⊥) (λ found. bytes.now ≡ kind_text found.0 ++ found.1.now) }
+    ensures { MatchOption result ((kind : Kind) (rest : List ℕ) → bytes.now ≡ kind_text kind ++ rest
+        → ⊥) (λ found. bytes.now ≡ kind_text found.0 ++ found.1.now) }
 {
     if let Some(rest) = bytes.strip_prefix(b" integer\n") {
         return Some((Kind::Integer, rest));
@@ -78,8 +79,10 @@ fn kind_at(bytes: &[u8]) -> Option<(Kind, &[u8])>
 
 // The name at the front, and what stands behind it, which is no byte of a name.
 fn name_at(alloc: Global, bytes: &[u8]) -> Result<Option<(String, &[u8])>, AllocError>
-    ensures none { IfOk result (λ o. IfNone o ((name rest : List ℕ) → is_name name ≡ true → prefix_len is_name_byte rest ≡ 0 → bytes.now ≡ name ++ rest → ⊥)) }
-    ensures found { IfOk result (λ o. IfSome o (λ found. (is_name (string_bytes found.0) ≡ true) × (prefix_len is_name_byte found.1.now ≡ 0) × (bytes.now ≡ string_bytes found.0 ++ found.1.now))) }
+    ensures none { IfOk result (λ o. IfNone o ((name rest : List ℕ) → is_name name ≡ true → prefix_len is_name_byte rest ≡ 0
+        → bytes.now ≡ name ++ rest → ⊥)) }
+    ensures found { IfOk result (λ o. IfSome o (λ found. (is_name (string_bytes found.0) ≡ true)
+        × (prefix_len is_name_byte found.1.now ≡ 0) × (bytes.now ≡ string_bytes found.0 ++ found.1.now))) }
 {
     let (word, rest) = bytes.split_at(word_len(bytes));
     if !is_name_text(word) {
@@ -94,7 +97,8 @@ fn name_at(alloc: Global, bytes: &[u8]) -> Result<Option<(String, &[u8])>, Alloc
 
 // The column at the front, and what stands behind it.
 fn column_at(alloc: Global, bytes: &[u8]) -> Result<Option<(Column, &[u8])>, AllocError>
-    ensures none { IfOk result (λ o. IfNone o ((column : Described) (rest : List ℕ) → HasName column → bytes.now ≡ column_text column ++ rest → ⊥)) }
+    ensures none { IfOk result (λ o. IfNone o ((column : Described) (rest : List ℕ) → HasName column
+        → bytes.now ≡ column_text column ++ rest → ⊥)) }
     ensures found { IfOk result (λ o. IfSome o (λ found. HasName found.0 × (bytes.now ≡ column_text found.0 ++ found.1.now))) }
 {
     let Some((name, rest)) = name_at(alloc, bytes)? else {
@@ -109,7 +113,8 @@ fn column_at(alloc: Global, bytes: &[u8]) -> Result<Option<(Column, &[u8])>, All
 /// The line of the table at the front, and what stands behind it.
 pub(crate) fn table_at(alloc: Global, bytes: &[u8]) -> Result<Option<(String, &[u8])>, AllocError>
     ensures none { IfOk result (λ o. IfNone o ((table rest : List ℕ) → is_name table ≡ true → bytes.now ≡ table_text table ++ rest → ⊥)) }
-    ensures found { IfOk result (λ o. IfSome o (λ found. (is_name (string_bytes found.0) ≡ true) × (bytes.now ≡ table_text (string_bytes found.0) ++ found.1.now))) }
+    ensures found { IfOk result (λ o. IfSome o (λ found. (is_name (string_bytes found.0) ≡ true)
+        × (bytes.now ≡ table_text (string_bytes found.0) ++ found.1.now))) }
 {
     let Some(line) = behind(bytes, b"table ") else {
         return Ok(None);
@@ -125,7 +130,8 @@ pub(crate) fn table_at(alloc: Global, bytes: &[u8]) -> Result<Option<(String, &[
 
 /// The columns that all these bytes spell.
 pub(crate) fn columns_of(alloc: Global, bytes: &[u8]) -> Result<Option<Vec<Column>>, AllocError>
-    ensures none { IfOk result (λ o. IfNone o ((columns : List Described) → AllByRecursion HasName columns → bytes.now ≡ flat_map column_text columns → ⊥)) }
+    ensures none { IfOk result (λ o. IfNone o ((columns : List Described) → AllByRecursion HasName columns
+        → bytes.now ≡ flat_map column_text columns → ⊥)) }
     ensures found { IfOk result (λ o. IfSome o (λ v. AllByRecursion HasName v.items × (bytes.now ≡ flat_map column_text v.items))) }
 {
     let mut columns = Vec::new(alloc);

@@ -106,7 +106,8 @@ impl Texts {
     /// Where memory runs out nothing has changed.
     pub(crate) fn shared(&mut self, alloc: Global, text: &str) -> Result<RcStr, AllocError>
         ensures text { IfOk result (λ shared. rc_str_bytes shared ≡ text.now) }
-        ensures slots { OnOk result ((self.new ≡ self.old) ⊎ ((slot : ℕ) × (slot < length self.old) × (self.new ≡ set self.old slot text.now))) }
+        ensures slots { OnOk result ((self.new ≡ self.old) ⊎ ((slot : ℕ) × (slot < length self.old)
+            × (self.new ≡ set self.old slot text.now))) }
         ensures err { OnErr result (self.new ≡ self.old) }
     {
         let slot = slot_of(text.as_bytes(), self.last);

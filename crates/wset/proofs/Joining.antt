@@ -1,5 +1,6 @@
 -- Joining views name by name, without what is below a floor.
-use Rattle.std.proofs.Common.{◌≡◌, ℕ, Bool, true, false, cond, List, [], ◌∷◌, ◌++◌, Option, None, Some, is_some, option_map, refl, sym, ap, ◌∙◌, ◌||◌, ◌⊎◌, inl, inr, ⊎_elim}
+use Rattle.std.proofs.Common.{◌≡◌, ℕ, Bool, true, false, cond, List, [], ◌∷◌, ◌++◌, Option, None, Some}
+use Rattle.std.proofs.Common.{is_some, option_map, refl, sym, ap, ◌∙◌, ◌||◌, ◌⊎◌, inl, inr, ⊎_elim}
 use Rattle.std.proofs.lemmas.Bool.{or_cases, or_left, or_right}
 use Rattle.std.specs.List.{list_any, filter_map}
 use Rattle.std.proofs.lemmas.List.Folds.{list_any-append}
@@ -36,7 +37,8 @@ known_comm (Live a) Retired = refl
 known_comm (Live a) Disputed = refl
 known_comm (Live a) (Live b) = live_comm a b (same_bytes a b) refl (same_bytes-symm a b)
   where
-    live_comm : (a b : List ℕ) (t : Bool) → same_bytes a b ≡ t → same_bytes a b ≡ same_bytes b a → cond (same_bytes a b) (Live a) Disputed ≡ cond (same_bytes b a) (Live b) Disputed
+    live_comm : (a b : List ℕ) (t : Bool) → same_bytes a b ≡ t → same_bytes a b ≡ same_bytes b a
+        → cond (same_bytes a b) (Live a) Disputed ≡ cond (same_bytes b a) (Live b) Disputed
     live_comm a b true e s = rw (← s, e) (ap Live (same_bytes-true a b e))
     live_comm a b false e s = rw (← s, e) refl
 
@@ -49,9 +51,11 @@ known_idem (Live a) = rw (same_bytes-refl a) refl
 live_assoc : (a b c : List ℕ) → join_known (join_known (Live a) (Live b)) (Live c) ≡ join_known (Live a) (join_known (Live b) (Live c))
 live_assoc a b c = by_tests (same_bytes a b) (same_bytes b c) refl refl
   where
-    by_tests : (t u : Bool) → same_bytes a b ≡ t → same_bytes b c ≡ u → join_known (join_known (Live a) (Live b)) (Live c) ≡ join_known (Live a) (join_known (Live b) (Live c))
+    by_tests : (t u : Bool) → same_bytes a b ≡ t → same_bytes b c ≡ u → join_known (join_known (Live a) (Live b)) (Live c)
+        ≡ join_known (Live a) (join_known (Live b) (Live c))
     by_tests true true e f =
-        let ends : same_bytes a c ≡ true = ap (λ x. same_bytes a x) (sym (same_bytes-true a b e ∙ same_bytes-true b c f)) ∙ same_bytes-refl a in
+        let ends : same_bytes a c ≡ true = ap (λ x. same_bytes a x) (sym (same_bytes-true a b e ∙ same_bytes-true b c f))
+        ∙ same_bytes-refl a in
         rw (e, f) (rw (ends, e) refl)
     by_tests true false e f =
         let ends : same_bytes a c ≡ false = ap (λ x. same_bytes x c) (same_bytes-true a b e) ∙ f in
@@ -153,7 +157,8 @@ known_floor (Live a) (Live b) e = absurd (live_no_floor a b (same_bytes a b) e)
 told_floor : (i j : Option Known) → join_told i j ≡ Some Floor → (i ≡ Some Floor) ⊎ (j ≡ Some Floor)
 told_floor None j e = inr e
 told_floor (Some i) None e = inl e
-told_floor (Some i) (Some j) e = ⊎_elim (λ x. inl (ap (λ (k : Known). Some k) x)) (λ x. inr (ap (λ (k : Known). Some k) x)) (known_floor i j (same_some _ Floor e))
+told_floor (Some i) (Some j) e = ⊎_elim (λ x. inl (ap (λ (k : Known). Some k) x)) (λ x. inr (ap (λ (k : Known). Some k) x))
+    (known_floor i j (same_some _ Floor e))
 
 -- ---- what a view tells
 
@@ -162,18 +167,22 @@ abbrev told_entries : (NameParts → Option Known) → List NameParts → List (
 told_entries told ns = filter_map (λ n. option_map (λ k. (n, k)) (told n)) ns
 
 -- one more name, of which this is told, before others
-one_told : (told : NameParts → Option Known) (n q : NameParts) (ns : List NameParts) (a : Bool) → find name_cmp q (told_entries told ns) ≡ cond a (told q) None → (o : Option Known) → told n ≡ o → (b : Bool) → same_name q n ≡ b → find name_cmp q (told_entries told (n ∷ ns)) ≡ cond (same_name q n || a) (told q) None
+one_told : (told : NameParts → Option Known) (n q : NameParts) (ns : List NameParts) (a : Bool)
+    → find name_cmp q (told_entries told ns) ≡ cond a (told q) None → (o : Option Known) → told n ≡ o → (b : Bool)
+    → same_name q n ≡ b → find name_cmp q (told_entries told (n ∷ ns)) ≡ cond (same_name q n || a) (told q) None
 one_told told n q ns true rest None is true same = rw (is, same) rest
 one_told told n q ns false rest None is true same = rw (is, same) (rest ∙ sym (ap told (same_name-true q n same) ∙ is))
 one_told told n q ns a rest None is false same = rw (is, same) rest
 one_told told n q ns a rest (Some k) is true same = rw (is, same) (sym (ap told (same_name-true q n same) ∙ is))
 one_told told n q ns a rest (Some k) is false same = rw (is, same) rest
 
-find-telling : (told : NameParts → Option Known) (ns : List NameParts) (q : NameParts) → find name_cmp q (told_entries told ns) ≡ cond (list_any (same_name q) ns) (told q) None
+find-telling : (told : NameParts → Option Known) (ns : List NameParts) (q : NameParts)
+    → find name_cmp q (told_entries told ns) ≡ cond (list_any (same_name q) ns) (told q) None
 find-telling told [] q = refl
 find-telling told (n ∷ ns) q = one_told told n q ns (list_any (same_name q) ns) (find-telling told ns q) (told n) refl (same_name q n) refl
 
-pub get-telling : (told : NameParts → Option Known) (ns : List NameParts) (q : NameParts) → get (view_telling told ns) q ≡ cond (list_any (same_name q) ns) (told q) None
+pub get-telling : (told : NameParts → Option Known) (ns : List NameParts) (q : NameParts)
+    → get (view_telling told ns) q ≡ cond (list_any (same_name q) ns) (told q) None
 get-telling told ns q = get-from_entries names_total _ q ∙ find-telling told ns q
 
 pub or_first : (a b : Bool) → (a || b) ≡ false → a ≡ false
@@ -192,13 +201,17 @@ no_key : (v : View) (q : NameParts) → list_any (same_name q) (keys v) ≡ fals
 no_key v q e = none_of (get v q) (contains_key-keys v q ∙ e)
 
 pub get-join_names : (v w : View) (q : NameParts) → get (join_names v w) q ≡ join_told (get v q) (get w q)
-get-join_names v w q = get-telling (λ n. join_told (get v n) (get w n)) (keys v ++ keys w) q ∙ by (list_any (same_name q) (keys v ++ keys w)) refl
+get-join_names v w q = get-telling (λ n. join_told (get v n) (get w n)) (keys v ++ keys w) q
+    ∙ by (list_any (same_name q) (keys v ++ keys w)) refl
   where
-    by : (b : Bool) → list_any (same_name q) (keys v ++ keys w) ≡ b → cond b (join_told (get v q) (get w q)) None ≡ join_told (get v q) (get w q)
+    by : (b : Bool) → list_any (same_name q) (keys v ++ keys w) ≡ b → cond b (join_told (get v q) (get w q)) None
+        ≡ join_told (get v q) (get w q)
     by true e = refl
     by false e =
-        let split : (list_any (same_name q) (keys v) || list_any (same_name q) (keys w)) ≡ false = sym (list_any-append (same_name q) (keys v) (keys w)) ∙ e in
-        sym (ap (λ o. join_told o (get w q)) (no_key v q (or_first _ _ split)) ∙ no_key w q (or_second (list_any (same_name q) (keys v)) _ split))
+        let split : (list_any (same_name q) (keys v) || list_any (same_name q) (keys w)) ≡ false =
+        sym (list_any-append (same_name q) (keys v) (keys w)) ∙ e in
+        sym (ap (λ o. join_told o (get w q)) (no_key v q (or_first _ _ split))
+        ∙ no_key w q (or_second (list_any (same_name q) (keys v)) _ split))
 
 pub below-join_names : (v w : View) (q : NameParts) → is_below (join_names v w) q ≡ (is_below v q || is_below w q)
 below-join_names v w q = same_test _ _ (λ h.
@@ -210,7 +223,8 @@ below-join_names v w q = same_test _ _ (λ h.
     ours : is_below v q ≡ true → is_below (join_names v w) q ≡ true
     ours h =
         let t = top_floor v q h in
-        below_floor (join_names v w) q t.floor (get-join_names v w t.floor ∙ ap (λ o. join_told o (get w t.floor)) t.found ∙ floor_first (get w t.floor)) t.above
+        below_floor (join_names v w) q t.floor (get-join_names v w t.floor ∙ ap (λ o. join_told o (get w t.floor)) t.found
+        ∙ floor_first (get w t.floor)) t.above
       where
         floor_first : (o : Option Known) → join_told (Some Floor) o ≡ Some Floor
         floor_first None = refl
@@ -219,7 +233,8 @@ below-join_names v w q = same_test _ _ (λ h.
     theirs : is_below w q ≡ true → is_below (join_names v w) q ≡ true
     theirs h =
         let t = top_floor w q h in
-        below_floor (join_names v w) q t.floor (get-join_names v w t.floor ∙ ap (join_told (get v t.floor)) t.found ∙ with_floor (get v t.floor)) t.above
+        below_floor (join_names v w) q t.floor (get-join_names v w t.floor ∙ ap (join_told (get v t.floor)) t.found
+        ∙ with_floor (get v t.floor)) t.above
 
 -- ---- what a join tells
 
@@ -235,7 +250,9 @@ get-join v w q =
 pub same_view : (v w : View) → ((q : NameParts) → get v q ≡ get w q) → v ≡ w
 same_view = same_map names_total exact_names
 
-assoc_at : (a b c : Bool) (i j k : Option Known) → cond ((a || b) || c) None (join_told (cond (a || b) None (join_told i j)) k) ≡ cond (a || (b || c)) None (join_told i (cond (b || c) None (join_told j k)))
+assoc_at : (a b c : Bool) (i j k : Option Known)
+    → cond ((a || b) || c) None (join_told (cond (a || b) None (join_told i j)) k) ≡ cond (a || (b || c)) None
+    (join_told i (cond (b || c) None (join_told j k)))
 assoc_at true b c i j k = refl
 assoc_at false true c i j k = refl
 assoc_at false false true i j k = refl
@@ -261,7 +278,8 @@ join_laws = record {
       ∙ sym (get-join u (join v w) q
       ∙ ap (λ b. cond (is_below u q || b) None (join_told (get u q) (get (join v w) q))) (below-join v w q)
       ∙ ap (λ o. cond (is_below u q || (is_below v q || is_below w q)) None (join_told (get u q) o)) (get-join v w q)));
-  commutative = λ v w. same_view _ _ (λ q. get-join v w q ∙ comm_at (is_below v q) (is_below w q) (get v q) (get w q) ∙ sym (get-join w v q));
+  commutative = λ v w. same_view _ _ (λ q. get-join v w q ∙ comm_at (is_below v q) (is_below w q) (get v q) (get w q)
+      ∙ sym (get-join w v q));
   idempotent = λ v h. same_view _ _ (λ q. get-join v v q ∙ idem_at (is_below v q) (get v q) (h q));
   settled = λ v w. settled-settled (join_names v w);
 }

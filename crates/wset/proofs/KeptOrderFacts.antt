@@ -17,11 +17,15 @@ packed_is w s r n lt e =
     ap (unpacked w) e ∙ ap (λ k. ref k ((s * w + r) % w)) (div-mul-add s w r lt) ∙ ap (λ k. ref s k) (mod-mul-add s w r lt)
 
 -- what is kept of a list of rows is an order of them
-pub order_of : (o : Option KeptOrder) (keys : List SortKey) (refs : List RowRef) (segments : List (List (List Meaning))) → IfSome o (λ order. order.keys.items ≡ keys) → IfSome o (λ order. 0 < order.width) → IfSome o (λ order. map (unpacked order.width) order.rows.items ≡ refs) → refs ≡ refs_by keys segments → IfSome o (IsOrderOf segments)
+pub order_of : (o : Option KeptOrder) (keys : List SortKey) (refs : List RowRef) (segments : List (List (List Meaning)))
+    → IfSome o (λ order. order.keys.items ≡ keys) → IfSome o (λ order. 0 < order.width)
+    → IfSome o (λ order. map (unpacked order.width) order.rows.items ≡ refs) → refs ≡ refs_by keys segments
+    → IfSome o (IsOrderOf segments)
 order_of None keys refs segments by wide told is = tt
 order_of (Some order) keys refs segments by wide told is = record { wide = wide; list = told ∙ is ∙ ap (λ k. refs_by k segments) (sym by) }
 
-pub kept_list : (o : Option KeptOrder) (order : KeptOrder) (segments : List (List (List Meaning))) → o ≡ Some order → IfSome o (IsOrderOf segments) → map (unpacked order.width) order.rows.items ≡ refs_by order.keys.items segments
+pub kept_list : (o : Option KeptOrder) (order : KeptOrder) (segments : List (List (List Meaning))) → o ≡ Some order
+    → IfSome o (IsOrderOf segments) → map (unpacked order.width) order.rows.items ≡ refs_by order.keys.items segments
 kept_list o order segments is h = (subst (λ x. IfSome x (IsOrderOf segments)) is h).list
 
 pub at_any_rate : {T E W : Type 0} (r : Result T E) → W → OnOk r W

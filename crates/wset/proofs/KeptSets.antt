@@ -27,21 +27,27 @@ names_told a s h is = sym (entries-is (flat a.blocks.items) s.view h.rising (ap 
 pub names_counted : (a : Inside) (s : DeclaredView) → IsOrderly a → declared_view a ≡ s → a.count ≡ length (entries s.view)
 names_counted a s h is = h.counted ∙ sym (length-known_entries (flat a.blocks.items)) ∙ ap length (names_told a s h is)
 
-pub names_listed : (a : Inside) (s : DeclaredView) → IsOrderly a → declared_view a ≡ s → map listing_of (flat a.blocks.items) ≡ map (listed s.schema) (entries s.view)
+pub names_listed : (a : Inside) (s : DeclaredView) → IsOrderly a → declared_view a ≡ s
+    → map listing_of (flat a.blocks.items) ≡ map (listed s.schema) (entries s.view)
 names_listed a s h is =
     listed_entries a.schema (flat a.blocks.items) h.read ∙ ap (map (listed a.schema)) (names_told a s h is)
     ∙ ap (λ x. map (listed x.schema) (entries s.view)) is
 
-content_bytes : (ks : List (NameParts × KeptParts)) → map {B = NameParts × List ℕ} (λ e. (e.0, e.1.bytes)) (map named_content ks) ≡ map (λ k. (k.0, k.1.content.bytes)) ks
+content_bytes : (ks : List (NameParts × KeptParts))
+    → map {B = NameParts × List ℕ} (λ e. (e.0, e.1.bytes)) (map named_content ks) ≡ map (λ k. (k.0, k.1.content.bytes)) ks
 content_bytes [] = refl
 content_bytes (k ∷ ks) = ap (λ l. (k.0, k.1.content.bytes) ∷ l) (content_bytes ks)
 
-pub lives_known : (a : Inside) (s : DeclaredView) → IsOrderly a → declared_view a ≡ s → map (λ e. (e.0, e.1.bytes)) (contents (flat a.blocks.items)) ≡ lives s.view
+pub lives_known : (a : Inside) (s : DeclaredView) → IsOrderly a → declared_view a ≡ s
+    → map (λ e. (e.0, e.1.bytes)) (contents (flat a.blocks.items)) ≡ lives s.view
 lives_known a s h is = content_bytes (kept_in (flat a.blocks.items)) ∙ lives_kept a s h is
 
-contents_read : (d : Declaration) (ks : List (NameParts × KeptParts)) → AllByRecursion (λ k. IsReadBy d k.1.content) ks → AllByRecursion (λ (e : NameParts × Content). IsReadBy d e.1) (map named_content ks)
+contents_read : (d : Declaration) (ks : List (NameParts × KeptParts)) → AllByRecursion (λ k. IsReadBy d k.1.content) ks
+    → AllByRecursion (λ (e : NameParts × Content). IsReadBy d e.1) (map named_content ks)
 contents_read d [] all = tt
 contents_read d (k ∷ ks) all = (all.0, contents_read d ks all.1)
 
-pub lives_read : (a : Inside) (s : DeclaredView) → IsOrderly a → declared_view a ≡ s → AllByRecursion (λ e. IsReadBy s.schema e.1) (contents (flat a.blocks.items))
-lives_read a s h is = subst (λ x. AllByRecursion (λ e. IsReadBy x.schema e.1) (contents (flat a.blocks.items))) is (contents_read a.schema (kept_in (flat a.blocks.items)) (kept_read a.schema (flat a.blocks.items) h.read))
+pub lives_read : (a : Inside) (s : DeclaredView) → IsOrderly a → declared_view a ≡ s
+    → AllByRecursion (λ e. IsReadBy s.schema e.1) (contents (flat a.blocks.items))
+lives_read a s h is = subst (λ x. AllByRecursion (λ e. IsReadBy x.schema e.1) (contents (flat a.blocks.items))) is
+    (contents_read a.schema (kept_in (flat a.blocks.items)) (kept_read a.schema (flat a.blocks.items) h.read))

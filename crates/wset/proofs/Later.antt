@@ -25,7 +25,8 @@ greater e n h = turned e.0 n Less h
 put_last : (n : NameParts) (k : Known) (es : List (NameParts × Known)) → AreBelow n es → put name_cmp n k es ≡ es ++ (n, k) ∷ []
 put_last n k [] h = refl
 put_last n k (e ∷ es) h =
-    ap (λ o. by_order o ((n, k) ∷ e ∷ es) ((e.0, k) ∷ es) (e ∷ put name_cmp n k es)) (greater e n h.0) ∙ ap (λ l. e ∷ l) (put_last n k es h.1)
+    ap (λ o. by_order o ((n, k) ∷ e ∷ es) ((e.0, k) ∷ es) (e ∷ put name_cmp n k es)) (greater e n h.0)
+    ∙ ap (λ l. e ∷ l) (put_last n k es h.1)
 
 find_last : (n : NameParts) (es : List (NameParts × Known)) → AreBelow n es → find name_cmp n es ≡ None
 find_last n [] h = refl
@@ -43,13 +44,16 @@ high v n h = not_low n (entries v) h
 no_floor : (v : View) (n : NameParts) → IsAbove v n → get v n ≡ Some Floor → ⊥
 no_floor v n h e = let none : None ≡ Some Floor = sym (unknown v n h) ∙ e in cc
 
-pub take_later : (v : View) (n : NameParts) (bytes : List ℕ) → IsSettled v → IsAbove v n → entries (join v (view_of_item (SegmentItem n bytes))) ≡ entries v ++ (n, Live bytes) ∷ []
+pub take_later : (v : View) (n : NameParts) (bytes : List ℕ) → IsSettled v → IsAbove v n
+    → entries (join v (view_of_item (SegmentItem n bytes))) ≡ entries v ++ (n, Live bytes) ∷ []
 take_later v n bytes s h = ap entries (sym (take_new v n bytes s (high v n h) (unknown v n h))) ∙ inserted v n (Live bytes) h
 
-pub retire_later : (v : View) (n : NameParts) → IsSettled v → IsAbove v n → entries (join v (view_of_item (RetirementItem n))) ≡ entries v ++ (n, Retired) ∷ []
+pub retire_later : (v : View) (n : NameParts) → IsSettled v → IsAbove v n
+    → entries (join v (view_of_item (RetirementItem n))) ≡ entries v ++ (n, Retired) ∷ []
 retire_later v n s h = ap entries (sym (retire_other v n s (high v n h) (no_floor v n h))) ∙ inserted v n Retired h
 
-pub dispute_later : (v : View) (n : NameParts) → IsSettled v → IsAbove v n → entries (join v (only_disputed n)) ≡ entries v ++ (n, Disputed) ∷ []
+pub dispute_later : (v : View) (n : NameParts) → IsSettled v → IsAbove v n → entries (join v (only_disputed n))
+    ≡ entries v ++ (n, Disputed) ∷ []
 dispute_later v n s h = ap entries (sym (dispute_new v n s (high v n h) (unknown v n h))) ∙ inserted v n Disputed h
 
 -- ---- a floor behind all origins
@@ -65,25 +69,33 @@ not_equal : Less ≡ Equal → ⊥
 not_equal e = cc
 
 -- a name of this origin is unknown
-unknown_of_origin : (n q : NameParts) (es : List (NameParts × Known)) → is_above q n ≡ true → AreOriginsBelow n.origin es → find name_cmp q es ≡ None
+unknown_of_origin : (n q : NameParts) (es : List (NameParts × Known)) → is_above q n ≡ true → AreOriginsBelow n.origin es
+    → find name_cmp q es ≡ None
 unknown_of_origin n q [] over h = refl
 unknown_of_origin n q (e ∷ es) over h = by (same_name q e.0) refl (unknown_of_origin n q es over h.1)
   where
     by : (b : Bool) → same_name q e.0 ≡ b → find name_cmp q es ≡ None → find name_cmp q (e ∷ es) ≡ None
     by true same rest =
         let origin : q.origin ≡ n.origin = same_bytes-true q.origin n.origin (and_parts (same_bytes q.origin n.origin) _ over).0 in
-        absurd (not_equal (sym h.0 ∙ ap (λ x. slice_cmp nat_cmp x.origin n.origin) (sym (same_name-true q e.0 same)) ∙ ap (λ o. slice_cmp nat_cmp o n.origin) origin ∙ tied_itself nat_list_cmp_total n.origin))
+        absurd (not_equal (sym h.0 ∙ ap (λ x. slice_cmp nat_cmp x.origin n.origin) (sym (same_name-true q e.0 same))
+        ∙ ap (λ o. slice_cmp nat_cmp o n.origin) origin ∙ tied_itself nat_list_cmp_total n.origin))
     by false same rest = ap (λ b. cond b (Some e.1) (find name_cmp q es)) same ∙ rest
 
 floor_inserted : (v : View) (n : NameParts) → IsSettled v → IsBehindOrigins v n → insert v n Floor ≡ join v (view_of_item (FloorItem n))
-floor_inserted v n s h = same_view _ _ (λ q. get-insert names_total v n Floor q ∙ by q (is_above q n) refl (same_name q n) refl ∙ sym (joined_floor v n q))
+floor_inserted v n s h = same_view _ _ (λ q. get-insert names_total v n Floor q ∙ by q (is_above q n) refl (same_name q n)
+    refl ∙ sym (joined_floor v n q))
   where
-    by : (q : NameParts) (a : Bool) → is_above q n ≡ a → (b : Bool) → same_name q n ≡ b → cond (same_name q n) (Some Floor) (get v q) ≡ cond (is_below v q || is_above q n) None (join_told (get v q) (cond (same_name q n) (Some Floor) None))
+    by : (q : NameParts) (a : Bool) → is_above q n ≡ a → (b : Bool) → same_name q n ≡ b
+        → cond (same_name q n) (Some Floor) (get v q) ≡ cond (is_below v q || is_above q n) None
+        (join_told (get v q) (cond (same_name q n) (Some Floor) None))
     by q true over true same = absurd (both_cases _ (ap (λ x. is_above x n) (sym (same_name-true q n same)) ∙ over) (not_above n))
-    by q true over false same = rw same (get-entries v q ∙ unknown_of_origin n q (entries v) over h ∙ sym (ap (λ c. cond c None (join_told (get v q) None)) (or_right _ _ over)))
+    by q true over false same = rw same (get-entries v q ∙ unknown_of_origin n q (entries v) over h
+        ∙ sym (ap (λ c. cond c None (join_told (get v q) None)) (or_right _ _ over)))
     by q false over true same =
-        rw (over, same) (sym (ap (λ b. cond (b || false) None (join_told (get v q) (Some Floor))) (ap (is_below v) (same_name-true q n same) ∙ high v n (above_all v n h)) ∙ with_floor (get v q)))
+        rw (over, same) (sym (ap (λ b. cond (b || false) None (join_told (get v q) (Some Floor)))
+        (ap (is_below v) (same_name-true q n same) ∙ high v n (above_all v n h)) ∙ with_floor (get v q)))
     by q false over false same = rw (over, same) (sym (told_nothing v q s))
 
-pub floor_later : (v : View) (n : NameParts) → IsSettled v → IsBehindOrigins v n → entries (join v (view_of_item (FloorItem n))) ≡ entries v ++ (n, Floor) ∷ []
+pub floor_later : (v : View) (n : NameParts) → IsSettled v → IsBehindOrigins v n
+    → entries (join v (view_of_item (FloorItem n))) ≡ entries v ++ (n, Floor) ∷ []
 floor_later v n s h = ap entries (sym (floor_inserted v n s h)) ∙ inserted v n Floor (above_all v n h)

@@ -29,16 +29,19 @@ use Rattle.wentries.proofs.Lives.{count_same, plain_live}
 use Rattle.wentries.proofs.Lists.{same_length}
 
 -- what is seen of all entries is what is seen of each block
-pub flat_plain : (xs ys : List (List Entry)) → map plain_block xs ≡ map plain_block ys → map plain_entry (flat xs) ≡ map plain_entry (flat ys)
+pub flat_plain : (xs ys : List (List Entry)) → map plain_block xs ≡ map plain_block ys
+    → map plain_entry (flat xs) ≡ map plain_entry (flat ys)
 flat_plain [] [] e = refl
 flat_plain [] (y ∷ ys) e = absurd (cc)
 flat_plain (x ∷ xs) [] e = absurd (cc)
 flat_plain (x ∷ xs) (y ∷ ys) e =
     let h : plain_block x ≡ plain_block y = cc in
     let t : map plain_block xs ≡ map plain_block ys = cc in
-    map-append plain_entry x (flat xs) ∙ ap (λ l. l ++ map plain_entry (flat xs)) h ∙ ap (λ l. map plain_entry y ++ l) (flat_plain xs ys t) ∙ sym (map-append plain_entry y (flat ys))
+    map-append plain_entry x (flat xs) ∙ ap (λ l. l ++ map plain_entry (flat xs)) h ∙ ap (λ l. map plain_entry y ++ l)
+    (flat_plain xs ys t) ∙ sym (map-append plain_entry y (flat ys))
 
-take_plain : (xs ys : List (List Entry)) (k : ℕ) → map plain_block xs ≡ map plain_block ys → map plain_block (take k xs) ≡ map plain_block (take k ys)
+take_plain : (xs ys : List (List Entry)) (k : ℕ) → map plain_block xs ≡ map plain_block ys
+    → map plain_block (take k xs) ≡ map plain_block (take k ys)
 take_plain xs ys zero e = refl
 take_plain [] [] (suc k) e = refl
 take_plain [] (y ∷ ys) (suc k) e = absurd (cc)
@@ -49,8 +52,10 @@ take_plain (x ∷ xs) (y ∷ ys) (suc k) e =
     ap (λ b. b ∷ map plain_block (take k xs)) h ∙ ap (λ l. plain_block y ∷ l) (take_plain xs ys k t)
 
 -- and the same numbers of them stand before each block
-pub starts_same : (xs ys : List (List Entry)) (starts : List ℕ) → map plain_block ys ≡ map plain_block xs → AreStarts xs starts → AreStarts ys starts
-starts_same xs ys starts e h k lt = h k lt ∙ sym (count_same (flat (take k ys)) (flat (take k xs)) (flat_plain (take k ys) (take k xs) (take_plain ys xs k e)))
+pub starts_same : (xs ys : List (List Entry)) (starts : List ℕ) → map plain_block ys ≡ map plain_block xs
+    → AreStarts xs starts → AreStarts ys starts
+starts_same xs ys starts e h k lt = h k lt
+    ∙ sym (count_same (flat (take k ys)) (flat (take k xs)) (flat_plain (take k ys) (take k xs) (take_plain ys xs k e)))
 
 abbrev told : NameParts × Option (Option (Option Content)) → NameParts × Known
 told (n, None) = (n, Floor)
@@ -66,7 +71,8 @@ told_entry n held.Floor = refl
 
 told_entries : (es : List Entry) → map told (map plain_entry es) ≡ known_entries es
 told_entries [] = refl
-told_entries (e ∷ es) = ap (λ k. k ∷ map told (map plain_entry es)) (told_entry e.name e.held) ∙ ap (λ l. known_entry e ∷ l) (told_entries es)
+told_entries (e ∷ es) = ap (λ k. k ∷ map told (map plain_entry es)) (told_entry e.name e.held) ∙ ap (λ l. known_entry e ∷ l)
+    (told_entries es)
 
 -- what is known is the same
 pub known_same : (a b : List Entry) → map plain_entry a ≡ map plain_entry b → known_entries a ≡ known_entries b
@@ -103,7 +109,8 @@ plain_rows : (es : List Entry) → map (λ c. c.rows) (filter_map plain_live (ma
 plain_rows [] = refl
 plain_rows (e ∷ es) = by e.name e.held (plain_rows es)
   where
-    by : (n : NameParts) (h : Held) → map (λ c. c.rows) (filter_map plain_live (map plain_entry es)) ≡ rows_in es → map (λ c. c.rows) (filter_map plain_live ((n, plain_held h) ∷ map plain_entry es)) ≡ rows_in (record { name = n; held = h } ∷ es)
+    by : (n : NameParts) (h : Held) → map (λ c. c.rows) (filter_map plain_live (map plain_entry es)) ≡ rows_in es
+        → map (λ c. c.rows) (filter_map plain_live ((n, plain_held h) ∷ map plain_entry es)) ≡ rows_in (record { name = n; held = h } ∷ es)
     by n (held.Live kept) rest = ap (λ l. kept.content.rows ∷ l) rest
     by n held.Disputed rest = rest
     by n held.Retired rest = rest
@@ -114,7 +121,8 @@ rows_same : (a b : List Entry) → map plain_entry a ≡ map plain_entry b → r
 rows_same a b e = sym (plain_rows a) ∙ ap (λ l. map (λ c. c.rows) (filter_map plain_live l)) e ∙ plain_rows b
 
 -- a set that holds the same, with whatever runs, is as orderly
-pub orderly_same : (a b : Inside) → b.schema ≡ a.schema → b.count ≡ a.count → b.starts.items ≡ a.starts.items → b.order ≡ a.order → map plain_block b.blocks.items ≡ map plain_block a.blocks.items → IsOrderly a → IsOrderly b
+pub orderly_same : (a b : Inside) → b.schema ≡ a.schema → b.count ≡ a.count → b.starts.items ≡ a.starts.items
+    → b.order ≡ a.order → map plain_block b.blocks.items ≡ map plain_block a.blocks.items → IsOrderly a → IsOrderly b
 orderly_same a b schema count starts order plain h =
     let bs = b.blocks.items in
     let old = a.blocks.items in
@@ -128,14 +136,17 @@ orderly_same a b schema count starts order plain h =
       read = subst (λ d. AllHeldBy d (flat bs)) (sym schema) (read_same a.schema (flat bs) (flat old) same h.read);
       placed = ap length starts ∙ h.placed ∙ sym (same_length plain_block bs old plain);
       starts = subst (AreStarts bs) (sym starts) (starts_same old bs a.starts.items plain h.starts);
-      ordered = subst (λ o. IfSome o (IsOrderOf (rows_in (flat bs)))) (sym order) (subst (λ l. IfSome a.order (IsOrderOf l)) (sym (rows_same (flat bs) (flat old) same)) h.ordered);
+      ordered = subst (λ o. IfSome o (IsOrderOf (rows_in (flat bs)))) (sym order) (subst (λ l. IfSome a.order (IsOrderOf l))
+          (sym (rows_same (flat bs) (flat old) same)) h.ordered);
     }
 
-run_among : (keys : List SortKey) (es : List Entry) → AllByRecursion (λ e. HeldHasRun keys e.held) es → AllByRecursion (λ o. IsAmong o keys) (orders_in es)
+run_among : (keys : List SortKey) (es : List Entry) → AllByRecursion (λ e. HeldHasRun keys e.held) es
+    → AllByRecursion (λ o. IsAmong o keys) (orders_in es)
 run_among keys [] all = tt
 run_among keys (e ∷ es) all = by e.name e.held all.0 (run_among keys es all.1)
   where
-    by : (n : NameParts) (h : Held) → HeldHasRun keys h → AllByRecursion (λ o. IsAmong o keys) (orders_in es) → AllByRecursion (λ o. IsAmong o keys) (orders_in (record { name = n; held = h } ∷ es))
+    by : (n : NameParts) (h : Held) → HeldHasRun keys h → AllByRecursion (λ o. IsAmong o keys) (orders_in es)
+        → AllByRecursion (λ o. IsAmong o keys) (orders_in (record { name = n; held = h } ∷ es))
     by n (held.Live kept) one rest = (one, rest)
     by n held.Disputed one rest = rest
     by n held.Retired one rest = rest
@@ -146,26 +157,35 @@ all_flat P [] all = All-nil P
 all_flat P (b ∷ bs) all = All-append P b (flat bs) all.0 (all_flat P bs all.1)
 
 -- each live segment has the run
-pub all_have : (keys : List SortKey) (bs : List (List Entry)) → All (All (λ e. HeldHasRun keys e.held)) bs → AllByRecursion (λ o. IsAmong o keys) (orders_in (flat bs))
+pub all_have : (keys : List SortKey) (bs : List (List Entry)) → All (All (λ e. HeldHasRun keys e.held)) bs
+    → AllByRecursion (λ o. IsAmong o keys) (orders_in (flat bs))
 all_have keys bs all =
-    run_among keys (flat bs) (recursion_from_All (λ e. HeldHasRun keys e.held) (flat bs) (all_flat (λ e. HeldHasRun keys e.held) bs (recursion_from_All (All (λ e. HeldHasRun keys e.held)) bs all)))
+    run_among keys (flat bs) (recursion_from_All (λ e. HeldHasRun keys e.held) (flat bs)
+    (all_flat (λ e. HeldHasRun keys e.held) bs (recursion_from_All (All (λ e. HeldHasRun keys e.held)) bs all)))
 
 -- the rows of entries are those of the live contents
-rows_told : (d : Declaration) (es : List Entry) → AllHeldBy d es → rows_in es ≡ map (λ e. content_rows d e.1) (filter_map live_of (known_entries es))
+rows_told : (d : Declaration) (es : List Entry) → AllHeldBy d es
+    → rows_in es ≡ map (λ e. content_rows d e.1) (filter_map live_of (known_entries es))
 rows_told d [] all = refl
 rows_told d (e ∷ es) all = by e.name e.held all.0 (rows_told d es all.1)
   where
-    by : (n : NameParts) (h : Held) → IsHeldBy d h → rows_in es ≡ map (λ e. content_rows d e.1) (filter_map live_of (known_entries es)) → rows_in (record { name = n; held = h } ∷ es) ≡ map (λ e. content_rows d e.1) (filter_map live_of ((n, known_of h) ∷ known_entries es))
-    by n (held.Live kept) read rest = ap (λ r. r ∷ rows_in es) (sym (ap rows_or_none read.rows)) ∙ ap (λ l. content_rows d kept.content.bytes ∷ l) rest
+    by : (n : NameParts) (h : Held) → IsHeldBy d h
+        → rows_in es ≡ map (λ e. content_rows d e.1) (filter_map live_of (known_entries es))
+        → rows_in (record { name = n; held = h } ∷ es) ≡ map (λ e. content_rows d e.1)
+        (filter_map live_of ((n, known_of h) ∷ known_entries es))
+    by n (held.Live kept) read rest = ap (λ r. r ∷ rows_in es) (sym (ap rows_or_none read.rows))
+        ∙ ap (λ l. content_rows d kept.content.bytes ∷ l) rest
     by n held.Disputed read rest = rest
     by n held.Retired read rest = rest
     by n held.Floor read rest = rest
 
 pub rows_live : (a : Inside) (s : DeclaredView) → IsOrderly a → declared_view a ≡ s → rows_in (flat a.blocks.items) ≡ live_rows s
 rows_live a s h is =
-    rows_told a.schema (flat a.blocks.items) h.read ∙ ap (map (λ e. content_rows a.schema e.1)) (sym (lives-view (flat a.blocks.items) s.view h.rising (ap (λ (x : DeclaredView). x.view) is)))
+    rows_told a.schema (flat a.blocks.items) h.read ∙ ap (map (λ e. content_rows a.schema e.1))
+    (sym (lives-view (flat a.blocks.items) s.view h.rising (ap (λ (x : DeclaredView). x.view) is)))
     ∙ ap (λ (x : DeclaredView). map (λ e. content_rows x.schema e.1) (lives s.view)) is
 
 -- a view that stays has the same rows
 pub live_same : (s t : DeclaredView) → Becomes s s.view t → live_rows t ≡ live_rows s
-live_same s t b = ap (λ d. map (λ e. content_rows d e.1) (lives t.view)) b.schema ∙ ap (λ v. map (λ e. content_rows s.schema e.1) (lives v)) b.view
+live_same s t b = ap (λ d. map (λ e. content_rows d e.1) (lives t.view)) b.schema
+    ∙ ap (λ v. map (λ e. content_rows s.schema e.1) (lives v)) b.view

@@ -4,7 +4,8 @@ use Rattle.std.specs.List.{list_any}
 use Rattle.std.specs.Ordering.{ordering_reverse}
 use Rattle.std.specs.declared.cmp.Ordering.TheVariants.{Less, Greater}
 use Rattle.std.specs.FinMap.Entries.{find-where_key, is_sorted-where_key, where_key}
-use Rattle.std.specs.FinMap.{entries, entries-from_sorted, entries_sorted, from_sorted, get-entries, get-from_sorted, get-retain_keys, is_sorted}
+use Rattle.std.specs.FinMap.{entries, entries-from_sorted, entries_sorted, from_sorted}
+use Rattle.std.specs.FinMap.{get-entries, get-from_sorted, get-retain_keys, is_sorted}
 use Rattle.wvalues.specs.Names.{NameParts, name_cmp, names_total}
 use Rattle.wentries.specs.Knowledge.{Known, is_over}
 use Rattle.wset.specs.Views.{View, IsSettled, join, join_names, settled}
@@ -23,7 +24,8 @@ entries-settled v =
     let same : settled v ≡ from_sorted (where_key name_cmp p (entries v)) = same_view _ _ (λ q.
     get-retain_keys v p q (λ x h. ap p (sym (exact_names q x h)))
     ∙ ap (λ o. cond (p q) o None) (get-entries v q)
-    ∙ sym (get-from_sorted name_cmp (where_key name_cmp p (entries v)) q sorted ∙ find-where_key name_cmp p q (λ x h. ap p (sym (exact_names q x h))) (entries v))) in
+    ∙ sym (get-from_sorted name_cmp (where_key name_cmp p (entries v)) q sorted ∙ find-where_key name_cmp p q
+    (λ x h. ap p (sym (exact_names q x h))) (entries v))) in
     ap entries same ∙ entries-from_sorted name_cmp (where_key name_cmp p (entries v)) sorted
 
 pub entries-join : (v w : View) → entries (join v w) ≡ above_floors (join_lists (entries v) (entries w))

@@ -1,5 +1,6 @@
 -- Joining what one item tells.
-use Rattle.std.proofs.Common.{◌≡◌, ℕ, Bool, true, false, cond, List, [], ◌∷◌, ◌||◌, Option, None, Some, refl, sym, ap, ◌∙◌, ◌⊎◌, inl, inr, ⊎_elim}
+use Rattle.std.proofs.Common.{◌≡◌, ℕ, Bool, true, false, cond, List, [], ◌∷◌, ◌||◌, Option}
+use Rattle.std.proofs.Common.{None, Some, refl, sym, ap, ◌∙◌, ◌⊎◌, inl, inr, ⊎_elim}
 use Rattle.std.proofs.lemmas.Bool.{true≢false, or_cases, or_from, or_right}
 use Rattle.std.specs.Ordering.{eq_by_cmp}
 use Rattle.std.specs.FinMap.{get, insert, empty, get-insert, get-empty}
@@ -10,7 +11,8 @@ use Rattle.wset.specs.Items.{SegmentItem, RetirementItem, FloorItem, mark_of, vi
 use Rattle.wset.specs.Words.{is_floor, is_reached}
 use Rattle.wset.specs.Merging.{join_with}
 use Rattle.wset.proofs.ViewFloors.{same_test, top_floor, below_floor}
-use Rattle.wentries.proofs.Floors.{both_cases, same_name-true, same_name-refl, same_bytes-refl, same_bytes-true, not_above_itself, above_trans, no_some, same_some}
+use Rattle.wentries.proofs.Floors.{both_cases, same_name-true, same_name-refl, same_bytes-refl, same_bytes-true}
+use Rattle.wentries.proofs.Floors.{not_above_itself, above_trans, no_some, same_some}
 use Rattle.wset.proofs.Joining.{same_view, get-join, with_none, with_floor}
 use Rattle.wset.proofs.Union.{get-view_of, unnamed}
 use Rattle.wset.proofs.Merging.{with_some}
@@ -43,7 +45,8 @@ not_above n = by (is_above n n) refl
 pub floor_single : (n : NameParts) → IsSingle (view_of_item (FloorItem n)) n Floor
 floor_single n q = get-view_of (FloorItem n ∷ []) q ∙ by (is_above q n) refl (same_name q n) refl
   where
-    by : (a : Bool) → is_above q n ≡ a → (b : Bool) → same_name q n ≡ b → cond (a || false) None (mark_of (FloorItem n ∷ []) q) ≡ cond b (Some Floor) None
+    by : (a : Bool) → is_above q n ≡ a → (b : Bool) → same_name q n ≡ b
+        → cond (a || false) None (mark_of (FloorItem n ∷ []) q) ≡ cond b (Some Floor) None
     by true over true same = absurd (both_cases _ (ap (λ x. is_above x n) (sym (same_name-true q n same)) ∙ over) (not_above n))
     by true over false same = refl
     by false over true same = rw same refl
@@ -70,14 +73,17 @@ below_floor_item n q = same_test _ _ (λ h.
     (λ h. below_floor (view_of_item (FloorItem n)) q n (floor_single n n ∙ ap (λ b. cond b (Some Floor) None) (same_name-refl n)) h)
 
 -- what a join with such a view tells
-joined_single : (v w : View) (n q : NameParts) (k : Known) → IsSingle w n k → (k ≡ Floor → ⊥) → get (join v w) q ≡ cond (is_below v q || false) None (join_told (get v q) (cond (same_name q n) (Some k) None))
+joined_single : (v w : View) (n q : NameParts) (k : Known) → IsSingle w n k → (k ≡ Floor → ⊥)
+    → get (join v w) q ≡ cond (is_below v q || false) None (join_told (get v q) (cond (same_name q n) (Some k) None))
 joined_single v w n q k single other =
     get-join v w q ∙ ap (λ b. cond (is_below v q || b) None (join_told (get v q) (get w q))) (below_single w n k single other q)
     ∙ ap (λ o. cond (is_below v q || false) None (join_told (get v q) o)) (single q)
 
-pub joined_floor : (v : View) (n q : NameParts) → get (join v (view_of_item (FloorItem n))) q ≡ cond (is_below v q || is_above q n) None (join_told (get v q) (cond (same_name q n) (Some Floor) None))
+pub joined_floor : (v : View) (n q : NameParts) → get (join v (view_of_item (FloorItem n))) q
+    ≡ cond (is_below v q || is_above q n) None (join_told (get v q) (cond (same_name q n) (Some Floor) None))
 joined_floor v n q =
-    get-join v (view_of_item (FloorItem n)) q ∙ ap (λ b. cond (is_below v q || b) None (join_told (get v q) (get (view_of_item (FloorItem n)) q))) (below_floor_item n q)
+    get-join v (view_of_item (FloorItem n)) q
+    ∙ ap (λ b. cond (is_below v q || b) None (join_told (get v q) (get (view_of_item (FloorItem n)) q))) (below_floor_item n q)
     ∙ ap (λ o. cond (is_below v q || is_above q n) None (join_told (get v q) o)) (floor_single n q)
 
 -- a name of which nothing is learned
@@ -88,11 +94,13 @@ told_nothing v q h = by (is_below v q) refl
     by true low = sym (h q low)
     by false low = sym (with_none (get v q))
 
-put_joins : (v w : View) (n : NameParts) (k : Known) → IsSettled v → is_below v n ≡ false → (k ≡ Floor → ⊥) → IsSingle w n k → insert v n (join_with (get v n) k) ≡ join v w
+put_joins : (v w : View) (n : NameParts) (k : Known) → IsSettled v → is_below v n ≡ false → (k ≡ Floor → ⊥) → IsSingle w n k
+    → insert v n (join_with (get v n) k) ≡ join v w
 put_joins v w n k h high other single = same_view _ _ (λ q.
     get-insert names_total v n (join_with (get v n) k) q ∙ by q (same_name q n) refl ∙ sym (joined_single v w n q k single other))
   where
-    by : (q : NameParts) (b : Bool) → same_name q n ≡ b → cond (eq_by_cmp name_cmp q n) (Some (join_with (get v n) k)) (get v q) ≡ cond (is_below v q || false) None (join_told (get v q) (cond (same_name q n) (Some k) None))
+    by : (q : NameParts) (b : Bool) → same_name q n ≡ b → cond (eq_by_cmp name_cmp q n) (Some (join_with (get v n) k))
+        (get v q) ≡ cond (is_below v q || false) None (join_told (get v q) (cond (same_name q n) (Some k) None))
     by q true same =
         rw same (with_some (get v n) k
         ∙ ap (λ x. join_told (get v x) (Some k)) (sym (same_name-true q n same))
@@ -100,7 +108,8 @@ put_joins v w n k h high other single = same_view _ _ (λ q.
     by q false same = rw same (sym (told_nothing v q h))
 
 -- what is known of the name already
-kept_joins : (v w : View) (n : NameParts) (j k : Known) → IsSettled v → (k ≡ Floor → ⊥) → IsSingle w n k → get v n ≡ Some j → join_known j k ≡ j → v ≡ join v w
+kept_joins : (v w : View) (n : NameParts) (j k : Known) → IsSettled v → (k ≡ Floor → ⊥) → IsSingle w n k → get v n ≡ Some j
+    → join_known j k ≡ j → v ≡ join v w
 kept_joins v w n j k h other single e keeps = same_view _ _ (λ q. by q (same_name q n) refl ∙ sym (joined_single v w n q k single other))
   where
     high : is_below v n ≡ false
@@ -110,7 +119,8 @@ kept_joins v w n j k h other single e keeps = same_view _ _ (λ q. by q (same_na
         by_test true is = absurd (no_some j (sym (h n is) ∙ e))
         by_test false is = is
 
-    by : (q : NameParts) (b : Bool) → same_name q n ≡ b → get v q ≡ cond (is_below v q || false) None (join_told (get v q) (cond (same_name q n) (Some k) None))
+    by : (q : NameParts) (b : Bool) → same_name q n ≡ b
+        → get v q ≡ cond (is_below v q || false) None (join_told (get v q) (cond (same_name q n) (Some k) None))
     by q true same =
         let is = same_name-true q n same in
         rw same (ap (get v) is ∙ e ∙ sym (ap (λ (x : Known). Some x) keeps) ∙ ap (λ o. join_told o (Some k)) (sym (ap (get v) is ∙ e))
@@ -121,10 +131,12 @@ kept_joins v w n j k h other single e keeps = same_view _ _ (λ q. by q (same_na
 low_joins : (v w : View) (n : NameParts) (k : Known) → IsSettled v → is_below v n ≡ true → (k ≡ Floor → ⊥) → IsSingle w n k → v ≡ join v w
 low_joins v w n k h low other single = same_view _ _ (λ q. by q (same_name q n) refl ∙ sym (joined_single v w n q k single other))
   where
-    by : (q : NameParts) (b : Bool) → same_name q n ≡ b → get v q ≡ cond (is_below v q || false) None (join_told (get v q) (cond (same_name q n) (Some k) None))
+    by : (q : NameParts) (b : Bool) → same_name q n ≡ b
+        → get v q ≡ cond (is_below v q || false) None (join_told (get v q) (cond (same_name q n) (Some k) None))
     by q true same =
         let is = same_name-true q n same in
-        ap (get v) is ∙ h n low ∙ sym (ap (λ b. cond (b || false) None (join_told (get v q) (cond (same_name q n) (Some k) None))) (ap (is_below v) is ∙ low))
+        ap (get v) is ∙ h n low ∙ sym (ap
+        (λ b. cond (b || false) None (join_told (get v q) (cond (same_name q n) (Some k) None))) (ap (is_below v) is ∙ low))
     by q false same = rw same (sym (told_nothing v q h))
 
 -- ---- by what was known of the name
@@ -138,13 +150,18 @@ disputed_no_floor e = cc
 retired_no_floor : Retired ≡ Floor → ⊥
 retired_no_floor e = cc
 
-pub take_new : (v : View) (n : NameParts) (bytes : List ℕ) → IsSettled v → is_below v n ≡ false → get v n ≡ None → insert v n (Live bytes) ≡ join v (view_of_item (SegmentItem n bytes))
-take_new v n bytes h high e = ap (insert v n) (sym (ap (λ o. join_with o (Live bytes)) e)) ∙ put_joins v _ n (Live bytes) h high (live_no_floor bytes) (segment_single n bytes)
+pub take_new : (v : View) (n : NameParts) (bytes : List ℕ) → IsSettled v → is_below v n ≡ false → get v n ≡ None
+    → insert v n (Live bytes) ≡ join v (view_of_item (SegmentItem n bytes))
+take_new v n bytes h high e = ap (insert v n) (sym (ap (λ o. join_with o (Live bytes)) e)) ∙ put_joins v _ n (Live bytes) h
+    high (live_no_floor bytes) (segment_single n bytes)
 
-pub take_same : (v : View) (n : NameParts) (a b : List ℕ) → IsSettled v → get v n ≡ Some (Live a) → a ≡ b → v ≡ join v (view_of_item (SegmentItem n b))
-take_same v n a b h e same = kept_joins v _ n (Live a) (Live b) h (live_no_floor b) (segment_single n b) e (rw (← same) (rw (same_bytes-refl a) refl))
+pub take_same : (v : View) (n : NameParts) (a b : List ℕ) → IsSettled v → get v n ≡ Some (Live a) → a ≡ b
+    → v ≡ join v (view_of_item (SegmentItem n b))
+take_same v n a b h e same = kept_joins v _ n (Live a) (Live b) h (live_no_floor b) (segment_single n b) e
+    (rw (← same) (rw (same_bytes-refl a) refl))
 
-pub take_other : (v : View) (n : NameParts) (a b : List ℕ) → IsSettled v → is_below v n ≡ false → get v n ≡ Some (Live a) → same_bytes a b ≡ false → insert v n Disputed ≡ join v (view_of_item (SegmentItem n b))
+pub take_other : (v : View) (n : NameParts) (a b : List ℕ) → IsSettled v → is_below v n ≡ false → get v n ≡ Some (Live a)
+    → same_bytes a b ≡ false → insert v n Disputed ≡ join v (view_of_item (SegmentItem n b))
 take_other v n a b h high e other =
     let joined : join_with (get v n) (Live b) ≡ Disputed = ap (λ o. join_with o (Live b)) e ∙ rw other refl in
     ap (insert v n) (sym joined) ∙ put_joins v _ n (Live b) h high (live_no_floor b) (segment_single n b)
@@ -153,17 +170,21 @@ pub take_low : (v : View) (n : NameParts) (b : List ℕ) → IsSettled v → is_
 take_low v n b h low = low_joins v _ n (Live b) h low (live_no_floor b) (segment_single n b)
 
 -- disputed, retired or a floor
-pub take_beaten : (v : View) (n : NameParts) (j : Known) (b : List ℕ) → IsSettled v → get v n ≡ Some j → join_known j (Live b) ≡ j → v ≡ join v (view_of_item (SegmentItem n b))
+pub take_beaten : (v : View) (n : NameParts) (j : Known) (b : List ℕ) → IsSettled v → get v n ≡ Some j
+    → join_known j (Live b) ≡ j → v ≡ join v (view_of_item (SegmentItem n b))
 take_beaten v n j b h e keeps = kept_joins v _ n j (Live b) h (live_no_floor b) (segment_single n b) e keeps
 
 pub retire_low : (v : View) (n : NameParts) → IsSettled v → is_below v n ≡ true → v ≡ join v (view_of_item (RetirementItem n))
 retire_low v n h low = low_joins v _ n Retired h low retired_no_floor (retirement_single n)
 
-pub retire_kept : (v : View) (n : NameParts) (j : Known) → IsSettled v → get v n ≡ Some j → join_known j Retired ≡ j → v ≡ join v (view_of_item (RetirementItem n))
+pub retire_kept : (v : View) (n : NameParts) (j : Known) → IsSettled v → get v n ≡ Some j → join_known j Retired ≡ j
+    → v ≡ join v (view_of_item (RetirementItem n))
 retire_kept v n j h e keeps = kept_joins v _ n j Retired h retired_no_floor (retirement_single n) e keeps
 
-pub retire_other : (v : View) (n : NameParts) → IsSettled v → is_below v n ≡ false → (get v n ≡ Some Floor → ⊥) → insert v n Retired ≡ join v (view_of_item (RetirementItem n))
-retire_other v n h high other = ap (insert v n) (sym (by (get v n) other)) ∙ put_joins v _ n Retired h high retired_no_floor (retirement_single n)
+pub retire_other : (v : View) (n : NameParts) → IsSettled v → is_below v n ≡ false → (get v n ≡ Some Floor → ⊥)
+    → insert v n Retired ≡ join v (view_of_item (RetirementItem n))
+retire_other v n h high other = ap (insert v n) (sym (by (get v n) other)) ∙ put_joins v _ n Retired h high retired_no_floor
+    (retirement_single n)
   where
     by : (o : Option Known) → (o ≡ Some Floor → ⊥) → join_with o Retired ≡ Retired
     by None no_floor = refl
@@ -183,7 +204,8 @@ retire_known v n h known = by (is_below v n) refl known
     at_entry (Some Retired) is e = retire_kept v n Retired h is refl
     at_entry (Some Floor) is e = retire_kept v n Floor h is refl
 
-    by : (b : Bool) → is_below v n ≡ b → cond b (Some Retired) (own_status (get v n)) ≡ Some Retired → v ≡ join v (view_of_item (RetirementItem n))
+    by : (b : Bool) → is_below v n ≡ b → cond b (Some Retired) (own_status (get v n)) ≡ Some Retired
+        → v ≡ join v (view_of_item (RetirementItem n))
     by true low e = retire_low v n h low
     by false low e = at_entry (get v n) refl e
 
@@ -192,11 +214,15 @@ retire_known v n h known = by (is_below v n) refl known
 disputed_single : (n : NameParts) → IsSingle (insert empty n Disputed) n Disputed
 disputed_single n q = get-insert names_total empty n Disputed q ∙ ap (cond (eq_by_cmp name_cmp q n) (Some Disputed)) (get-empty name_cmp q)
 
-pub dispute_new : (v : View) (n : NameParts) → IsSettled v → is_below v n ≡ false → get v n ≡ None → insert v n Disputed ≡ join v (insert empty n Disputed)
-dispute_new v n h high e = ap (insert v n) (sym (ap (λ o. join_with o Disputed) e)) ∙ put_joins v _ n Disputed h high disputed_no_floor (disputed_single n)
+pub dispute_new : (v : View) (n : NameParts) → IsSettled v → is_below v n ≡ false → get v n ≡ None
+    → insert v n Disputed ≡ join v (insert empty n Disputed)
+dispute_new v n h high e = ap (insert v n) (sym (ap (λ o. join_with o Disputed) e)) ∙ put_joins v _ n Disputed h high
+    disputed_no_floor (disputed_single n)
 
-pub dispute_live : (v : View) (n : NameParts) (a : List ℕ) → IsSettled v → is_below v n ≡ false → get v n ≡ Some (Live a) → insert v n Disputed ≡ join v (insert empty n Disputed)
-dispute_live v n a h high e = ap (insert v n) (sym (ap (λ o. join_with o Disputed) e)) ∙ put_joins v _ n Disputed h high disputed_no_floor (disputed_single n)
+pub dispute_live : (v : View) (n : NameParts) (a : List ℕ) → IsSettled v → is_below v n ≡ false → get v n ≡ Some (Live a)
+    → insert v n Disputed ≡ join v (insert empty n Disputed)
+dispute_live v n a h high e = ap (insert v n) (sym (ap (λ o. join_with o Disputed) e)) ∙ put_joins v _ n Disputed h high
+    disputed_no_floor (disputed_single n)
 
 -- ---- a floor
 
@@ -223,16 +249,20 @@ floor_reached v n h reached = same_view _ _ (λ q. by q (is_above q n) refl (sam
         by_low : (b : Bool) → is_below v q ≡ b → get v q ≡ cond (b || false) None (join_told (get v q) (Some Floor))
         by_low true low = h q low
         by_low false low =
-            let found : get v q ≡ Some Floor = ⊎_elim (λ x. absurd (both_cases _ (ap (is_below v) is ∙ x) low)) (λ x. ap (get v) is ∙ floor_entry (get v n) x) (or_cases (is_below v n) _ reached) in
+            let found : get v q ≡ Some Floor = ⊎_elim (λ x. absurd (both_cases _ (ap (is_below v) is ∙ x) low))
+            (λ x. ap (get v) is ∙ floor_entry (get v n) x) (or_cases (is_below v n) _ reached) in
             found ∙ sym (with_floor (get v q))
 
-    by : (q : NameParts) (a : Bool) → is_above q n ≡ a → (b : Bool) → same_name q n ≡ b → get v q ≡ cond (is_below v q || is_above q n) None (join_told (get v q) (cond (same_name q n) (Some Floor) None))
-    by q true over b same = h q (low_above q over) ∙ sym (ap (λ c. cond c None (join_told (get v q) (cond (same_name q n) (Some Floor) None))) (or_right _ _ over))
+    by : (q : NameParts) (a : Bool) → is_above q n ≡ a → (b : Bool) → same_name q n ≡ b
+        → get v q ≡ cond (is_below v q || is_above q n) None (join_told (get v q) (cond (same_name q n) (Some Floor) None))
+    by q true over b same = h q (low_above q over)
+        ∙ sym (ap (λ c. cond c None (join_told (get v q) (cond (same_name q n) (Some Floor) None))) (or_right _ _ over))
     by q false over true same = rw (over, same) (at_name q (same_name-true q n same))
     by q false over false same = rw (over, same) (sym (told_nothing v q h))
 
 -- a content that is not the known one
-pub other_content : (v : View) (n : NameParts) (a b : List ℕ) (r : Bool) → (r ≡ true → get v n ≡ Some (Live b)) × (get v n ≡ Some (Live b) → r ≡ true) → r ≡ false → get v n ≡ Some (Live a) → same_bytes a b ≡ false
+pub other_content : (v : View) (n : NameParts) (a b : List ℕ) (r : Bool) → (r ≡ true → get v n ≡ Some (Live b))
+    × (get v n ≡ Some (Live b) → r ≡ true) → r ≡ false → get v n ≡ Some (Live a) → same_bytes a b ≡ false
 other_content v n a b r known other was = by (same_bytes a b) refl
   where
     by : (t : Bool) → same_bytes a b ≡ t → same_bytes a b ≡ false
@@ -244,10 +274,12 @@ known_high v n o high is = ap (λ b. cond b (Some Retired) (own_status (get v n)
 
 -- ---- disputes by what is known
 
-pub dispute_settled : (v : View) (n : NameParts) → IsSettled v → (known_in v n ≡ Some Disputed) ⊎ (known_in v n ≡ Some Retired) → v ≡ join v (insert empty n Disputed)
+pub dispute_settled : (v : View) (n : NameParts) → IsSettled v → (known_in v n ≡ Some Disputed)
+    ⊎ (known_in v n ≡ Some Retired) → v ≡ join v (insert empty n Disputed)
 dispute_settled v n h known = by (is_below v n) refl known
   where
-    at_entry : (o : Option Known) → get v n ≡ o → (own_status o ≡ Some Disputed) ⊎ (own_status o ≡ Some Retired) → v ≡ join v (insert empty n Disputed)
+    at_entry : (o : Option Known) → get v n ≡ o → (own_status o ≡ Some Disputed) ⊎ (own_status o ≡ Some Retired)
+        → v ≡ join v (insert empty n Disputed)
     at_entry None is e = absurd (⊎_elim (λ x. no_some Disputed x) (λ x. no_some Retired x) e)
     at_entry (Some (Live b)) is e = absurd (⊎_elim live_disputed live_retired e)
       where
@@ -260,15 +292,19 @@ dispute_settled v n h known = by (is_below v n) refl known
     at_entry (Some Retired) is e = kept_joins v _ n Retired Disputed h disputed_no_floor (disputed_single n) is refl
     at_entry (Some Floor) is e = kept_joins v _ n Floor Disputed h disputed_no_floor (disputed_single n) is refl
 
-    by : (b : Bool) → is_below v n ≡ b → (cond b (Some Retired) (own_status (get v n)) ≡ Some Disputed) ⊎ (cond b (Some Retired) (own_status (get v n)) ≡ Some Retired) → v ≡ join v (insert empty n Disputed)
+    by : (b : Bool) → is_below v n ≡ b → (cond b (Some Retired) (own_status (get v n)) ≡ Some Disputed)
+        ⊎ (cond b (Some Retired) (own_status (get v n)) ≡ Some Retired) → v ≡ join v (insert empty n Disputed)
     by true low e = low_joins v _ n Disputed h low disputed_no_floor (disputed_single n)
     by false low e = at_entry (get v n) refl e
 
-pub dispute_other : (v : View) (n : NameParts) (b : Bool) → IsSettled v → ((known_in v n ≡ Some Disputed) ⊎ (known_in v n ≡ Some Retired) → b ≡ true) → is_below v n ≡ false → b ≡ false → insert v n Disputed ≡ join v (insert empty n Disputed)
+pub dispute_other : (v : View) (n : NameParts) (b : Bool) → IsSettled v
+    → ((known_in v n ≡ Some Disputed) ⊎ (known_in v n ≡ Some Retired) → b ≡ true) → is_below v n ≡ false → b ≡ false
+    → insert v n Disputed ≡ join v (insert empty n Disputed)
 dispute_other v n b h settled high other = by (get v n) refl
   where
     not_settled : (o : Option Known) → get v n ≡ o → (own_status o ≡ Some Disputed) ⊎ (own_status o ≡ Some Retired) → ⊥
-    not_settled o is e = true≢false (sym (settled (⊎_elim (λ x. inl (known_high v n o high is ∙ x)) (λ x. inr (known_high v n o high is ∙ x)) e)) ∙ other)
+    not_settled o is e = true≢false (sym
+        (settled (⊎_elim (λ x. inl (known_high v n o high is ∙ x)) (λ x. inr (known_high v n o high is ∙ x)) e)) ∙ other)
 
     by : (o : Option Known) → get v n ≡ o → insert v n Disputed ≡ join v (insert empty n Disputed)
     by None is = dispute_new v n h high is

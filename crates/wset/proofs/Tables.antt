@@ -29,17 +29,21 @@ listed_entries d (e ∷ es) all =
     ∙ ap (λ l. listed d (known_entry e) ∷ l) (listed_entries d es all.1)
 
 -- a live content before others
-ok_first : (d : Declaration) (x : NameParts × List ℕ) (xs : List (NameParts × List ℕ)) → IsOk (rows_of d x.1) → All (λ e. IsOk (rows_of d e.1)) xs → All (λ e. IsOk (rows_of d e.1)) (x ∷ xs)
+ok_first : (d : Declaration) (x : NameParts × List ℕ) (xs : List (NameParts × List ℕ)) → IsOk (rows_of d x.1)
+    → All (λ e. IsOk (rows_of d e.1)) xs → All (λ e. IsOk (rows_of d e.1)) (x ∷ xs)
 ok_first d x xs one rest zero e lt = one
 ok_first d x xs one rest (suc k) e lt = rest k e (omega arith)
 
 -- each live content is a segment by the declaration
-pub read_lives : (d : Declaration) (es : List Entry) → AllHeldBy d es → All (λ e. IsOk (rows_of d e.1)) (filter_map live_of (known_entries es))
+pub read_lives : (d : Declaration) (es : List Entry) → AllHeldBy d es
+    → All (λ e. IsOk (rows_of d e.1)) (filter_map live_of (known_entries es))
 read_lives d [] all = λ k e lt. absurd (omega arith)
 read_lives d (x ∷ es) all = by x.name x.held all.0 (read_lives d es all.1)
   where
-    by : (n : NameParts) (h : Held) → IsHeldBy d h → All (λ e. IsOk (rows_of d e.1)) (filter_map live_of (known_entries es)) → All (λ e. IsOk (rows_of d e.1)) (filter_map live_of ((n, known_of h) ∷ known_entries es))
-    by n (held.Live kept) h rest = ok_first d (n, kept.content.bytes) (filter_map live_of (known_entries es)) (subst IsOk (sym h.rows) refl) rest
+    by : (n : NameParts) (h : Held) → IsHeldBy d h → All (λ e. IsOk (rows_of d e.1)) (filter_map live_of (known_entries es))
+        → All (λ e. IsOk (rows_of d e.1)) (filter_map live_of ((n, known_of h) ∷ known_entries es))
+    by n (held.Live kept) h rest = ok_first d (n, kept.content.bytes) (filter_map live_of (known_entries es))
+        (subst IsOk (sym h.rows) refl) rest
     by n held.Disputed h rest = rest
     by n held.Retired h rest = rest
     by n held.Floor h rest = rest

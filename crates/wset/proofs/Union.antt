@@ -1,6 +1,8 @@
 -- What a view of items tells, and the view of two lists of items.
-use Rattle.std.proofs.Common.{◌≡◌, ℕ, zero, suc, ◌<◌, Bool, true, false, cond, List, [], ◌∷◌, ◌++◌, map, Option, None, Some, refl, sym, ap, ◌∙◌, arith, ◌||◌, ◌&&◌, append-nil, inl, inr, ◌⊎◌, ⊎_elim}
-use Rattle.std.proofs.lemmas.Bool.{true≢false, or_cases, or_left, or_right, or_from, and_parts, and_from, leb-true, le-leb, lt-ltb, ltb-true, cases_order}
+use Rattle.std.proofs.Common.{◌≡◌, ℕ, zero, suc, ◌<◌, Bool, true, false, cond, List, [], ◌∷◌, ◌++◌, map, Option, None}
+use Rattle.std.proofs.Common.{Some, refl, sym, ap, ◌∙◌, arith, ◌||◌, ◌&&◌, append-nil, inl, inr, ◌⊎◌, ⊎_elim}
+use Rattle.std.proofs.lemmas.Bool.{true≢false, or_cases, or_left, or_right, or_from, and_parts}
+use Rattle.std.proofs.lemmas.Bool.{and_from, leb-true, le-leb, lt-ltb, ltb-true, cases_order}
 use Rattle.std.specs.Prelude.{leb}
 use Rattle.std.specs.List.{list_any, list_all, filter_map, IsAmong}
 use Rattle.std.proofs.lemmas.List.Elements.{filter_map-append}
@@ -9,7 +11,8 @@ use Rattle.std.specs.FinMap.{get}
 use Rattle.wvalues.specs.Names.{NameParts}
 use Rattle.wentries.specs.Knowledge.{Known, Live, Disputed, Retired, Floor, same_name, same_bytes, is_above}
 use Rattle.wset.specs.Views.{View, is_below, own_status, view_telling, join_told, join}
-use Rattle.wset.specs.Items.{Item, SegmentItem, RetirementItem, FloorItem, name_of, is_retirement_of, is_floor_at, content_of, agreed, status_of, mark_of, view_of, view_of_item}
+use Rattle.wset.specs.Items.{Item, SegmentItem, RetirementItem, FloorItem, name_of, is_retirement_of, is_floor_at}
+use Rattle.wset.specs.Items.{content_of, agreed, status_of, mark_of, view_of, view_of_item}
 use Rattle.wset.specs.Laws.{ViewOfUnion, ViewTellsStatus, ViewsAreSettled, AreAmong, SameItemsSameView}
 use Rattle.wentries.proofs.Floors.{same_name-true, same_name-refl, same_bytes-true, same_bytes-refl, both_cases, no_some}
 use Rattle.wset.proofs.ViewFloors.{same_test, top_floor, below_floor, get-settled, below-settled, settled-settled}
@@ -30,12 +33,14 @@ marks items = view_telling (mark_of items) (map name_of items)
 above_named : (m x q : NameParts) → same_name m x ≡ true → is_above q m ≡ true → is_above q x ≡ true
 above_named m x q same above = ap (is_above q) (sym (same_name-true m x same)) ∙ above
 
-over_from_at : (items : List Item) (q m : NameParts) → list_any (is_floor_at m) items ≡ true → is_above q m ≡ true → list_any (is_floor_over q) items ≡ true
+over_from_at : (items : List Item) (q m : NameParts) → list_any (is_floor_at m) items ≡ true → is_above q m ≡ true
+    → list_any (is_floor_over q) items ≡ true
 over_from_at [] q m h above = h
 over_from_at (SegmentItem x b ∷ items) q m h above = over_from_at items q m h above
 over_from_at (RetirementItem x ∷ items) q m h above = over_from_at items q m h above
 over_from_at (FloorItem x ∷ items) q m h above =
-    ⊎_elim (λ same. or_left _ _ (above_named m x q same above)) (λ later. or_right _ _ (over_from_at items q m later above)) (or_cases (same_name m x) _ h)
+    ⊎_elim (λ same. or_left _ _ (above_named m x q same above)) (λ later. or_right _ _ (over_from_at items q m later above))
+    (or_cases (same_name m x) _ h)
 
 -- a floor above the name
 record HasFloorItem (items : List Item) (q : NameParts) : Type 0 where
@@ -58,7 +63,8 @@ named_at : (items : List Item) (m : NameParts) → list_any (is_floor_at m) item
 named_at [] m h = h
 named_at (SegmentItem x b ∷ items) m h = or_right _ _ (named_at items m h)
 named_at (RetirementItem x ∷ items) m h = or_right _ _ (named_at items m h)
-named_at (FloorItem x ∷ items) m h = ⊎_elim (λ same. or_left _ _ same) (λ later. or_right _ _ (named_at items m later)) (or_cases (same_name m x) _ h)
+named_at (FloorItem x ∷ items) m h = ⊎_elim (λ same. or_left _ _ same) (λ later. or_right _ _ (named_at items m later))
+    (or_cases (same_name m x) _ h)
 
 agreed_no_floor : (cs : List (List ℕ)) → agreed cs ≡ Some Floor → ⊥
 agreed_no_floor [] e = cc
@@ -79,7 +85,8 @@ status_no_floor items q = by (list_any (is_retirement_of q) items) (filter_map (
 marked_floor : (items : List Item) (m : NameParts) → mark_of items m ≡ Some Floor → list_any (is_floor_at m) items ≡ true
 marked_floor items m = by (list_any (is_floor_at m) items) refl
   where
-    by : (b : Bool) → list_any (is_floor_at m) items ≡ b → cond b (Some Floor) (status_of items m) ≡ Some Floor → list_any (is_floor_at m) items ≡ true
+    by : (b : Bool) → list_any (is_floor_at m) items ≡ b → cond b (Some Floor) (status_of items m) ≡ Some Floor
+        → list_any (is_floor_at m) items ≡ true
     by true is e = is
     by false is e = absurd (status_no_floor items m e)
 
@@ -97,26 +104,33 @@ below-marks items q = same_test _ _ (λ h.
     (λ h.
     let r = at_from_over items q h in
     below_floor (marks items) q r.floor
-    (get-telling (mark_of items) (map name_of items) r.floor ∙ ap (λ b. cond b (mark_of items r.floor) None) (named_at items r.floor r.is_told) ∙ ap (λ b. cond b (Some Floor) (status_of items r.floor)) r.is_told)
+    (get-telling (mark_of items) (map name_of items) r.floor ∙ ap (λ b. cond b (mark_of items r.floor) None)
+    (named_at items r.floor r.is_told) ∙ ap (λ b. cond b (Some Floor) (status_of items r.floor)) r.is_told)
     r.above)
 
 -- ---- names that no item speaks of
 
-no_retirement : (items : List Item) (q : NameParts) → list_any (same_name q) (map name_of items) ≡ false → list_any (is_floor_over q) items ≡ false → list_any (is_retirement_of q) items ≡ false
+no_retirement : (items : List Item) (q : NameParts) → list_any (same_name q) (map name_of items) ≡ false
+    → list_any (is_floor_over q) items ≡ false → list_any (is_retirement_of q) items ≡ false
 no_retirement [] q e over = refl
 no_retirement (SegmentItem m b ∷ items) q e over = no_retirement items q (or_second (same_name q m) _ e) over
-no_retirement (RetirementItem m ∷ items) q e over = rw (or_first (same_name q m) _ e) (no_retirement items q (or_second (same_name q m) _ e) over)
+no_retirement (RetirementItem m ∷ items) q e over =
+    rw (or_first (same_name q m) _ e) (no_retirement items q (or_second (same_name q m) _ e) over)
 no_retirement (FloorItem m ∷ items) q e over =
-    or_from _ _ (by (is_retirement_of q (FloorItem m)) refl (or_first (same_name q m) _ e) (or_first (is_above q m) _ over)) (no_retirement items q (or_second (same_name q m) _ e) (or_second (is_above q m) _ over))
+    or_from _ _ (by (is_retirement_of q (FloorItem m)) refl (or_first (same_name q m) _ e) (or_first (is_above q m) _ over))
+    (no_retirement items q (or_second (same_name q m) _ e) (or_second (is_above q m) _ over))
   where
-    by : (b : Bool) → is_retirement_of q (FloorItem m) ≡ b → same_name q m ≡ false → is_above q m ≡ false → is_retirement_of q (FloorItem m) ≡ false
+    by : (b : Bool) → is_retirement_of q (FloorItem m) ≡ b → same_name q m ≡ false → is_above q m ≡ false
+        → is_retirement_of q (FloorItem m) ≡ false
     by false is other low = is
     by true is other low =
         let p = and_parts (same_bytes q.origin m.origin) _ is in
         let origin = same_bytes-true q.origin m.origin p.0 in
         absurd (⊎_elim
-        (λ same. both_cases (same_name q m) (ap (λ (x : List ℕ × ℕ). same_name q (record { origin = x.0; number = x.1 })) (λ i. (sym origin i, sym same i)) ∙ same_name-refl q) other)
-        (λ o. ⊎_elim (λ less. both_cases (is_above q m) (and_from _ _ p.0 (lt-ltb q.number m.number less)) low) (λ more. absurd (omega (arith, more, leb-true q.number m.number p.1))) o)
+        (λ same. both_cases (same_name q m) (ap (λ (x : List ℕ × ℕ). same_name q (record { origin = x.0; number = x.1 }))
+        (λ i. (sym origin i, sym same i)) ∙ same_name-refl q) other)
+        (λ o. ⊎_elim (λ less. both_cases (is_above q m) (and_from _ _ p.0 (lt-ltb q.number m.number less)) low)
+        (λ more. absurd (omega (arith, more, leb-true q.number m.number p.1))) o)
         (cases_order q.number m.number))
 
 no_content : (items : List Item) (q : NameParts) → list_any (same_name q) (map name_of items) ≡ false → filter_map (content_of q) items ≡ []
@@ -132,7 +146,8 @@ no_floor items q e = by (list_any (is_floor_at q) items) refl
     by true is = absurd (both_cases _ (named_at items q is) e)
     by false is = is
 
-pub unnamed : (items : List Item) (q : NameParts) → list_any (same_name q) (map name_of items) ≡ false → list_any (is_floor_over q) items ≡ false → mark_of items q ≡ None
+pub unnamed : (items : List Item) (q : NameParts) → list_any (same_name q) (map name_of items) ≡ false
+    → list_any (is_floor_over q) items ≡ false → mark_of items q ≡ None
 unnamed items q e over = rw (no_floor items q e) (rw (no_retirement items q e over, no_content items q e) refl)
 
 -- ---- what a view of items tells
@@ -140,9 +155,11 @@ unnamed items q e over = rw (no_floor items q e) (rw (no_retirement items q e ov
 pub below-view_of : (items : List Item) (q : NameParts) → is_below (view_of items) q ≡ list_any (is_floor_over q) items
 below-view_of items q = below-settled (marks items) q ∙ below-marks items q
 
-pub get-view_of : (items : List Item) (q : NameParts) → get (view_of items) q ≡ cond (list_any (is_floor_over q) items) None (mark_of items q)
+pub get-view_of : (items : List Item) (q : NameParts) → get (view_of items) q ≡ cond (list_any (is_floor_over q) items) None
+    (mark_of items q)
 get-view_of items q =
-    get-settled (marks items) q ∙ ap (λ b. cond b None (get (marks items) q)) (below-marks items q) ∙ by (list_any (is_floor_over q) items) refl
+    get-settled (marks items) q ∙ ap (λ b. cond b None (get (marks items) q)) (below-marks items q)
+    ∙ by (list_any (is_floor_over q) items) refl
   where
     by : (b : Bool) → list_any (is_floor_over q) items ≡ b → cond b None (get (marks items) q) ≡ cond b None (mark_of items q)
     by true over = refl
@@ -170,7 +187,8 @@ retired_at [] q h = h
 retired_at (SegmentItem m b ∷ items) q h = retired_at items q h
 retired_at (RetirementItem m ∷ items) q h = or_right _ _ (retired_at items q h)
 retired_at (FloorItem m ∷ items) q h =
-    ⊎_elim (λ same. or_left _ _ (ap (λ x. is_retirement_of x (FloorItem m)) (same_name-true q m same) ∙ itself m)) (λ later. or_right _ _ (retired_at items q later)) (or_cases (same_name q m) _ h)
+    ⊎_elim (λ same. or_left _ _ (ap (λ x. is_retirement_of x (FloorItem m)) (same_name-true q m same) ∙ itself m))
+    (λ later. or_right _ _ (retired_at items q later)) (or_cases (same_name q m) _ h)
   where
     itself : (m : NameParts) → is_retirement_of m (FloorItem m) ≡ true
     itself m = and_from _ _ (same_bytes-refl m.origin) (le-leb m.number m.number (omega arith))
@@ -193,7 +211,8 @@ view_tells_status items q =
     ∙ ap (λ o. cond (list_any (is_floor_over q) items) (Some Retired) (own_status o)) (get-view_of items q)
     ∙ by (list_any (is_floor_over q) items) refl
   where
-    by : (b : Bool) → list_any (is_floor_over q) items ≡ b → cond b (Some Retired) (own_status (cond b None (mark_of items q))) ≡ status_of items q
+    by : (b : Bool) → list_any (is_floor_over q) items ≡ b
+        → cond b (Some Retired) (own_status (cond b None (mark_of items q))) ≡ status_of items q
     by true over = rw (retired_over items q over) refl
     by false over = by_mark (list_any (is_floor_at q) items) refl
       where
@@ -206,7 +225,8 @@ views_are_settled items = settled-settled (marks items)
 
 -- ---- the view of two sets of items
 
-two_contents : (a b t : Bool) (c d : List ℕ) → same_bytes c d ≡ t → cond (a && (t && b)) (Some (Live c)) (Some Disputed) ≡ join_told (cond a (Some (Live c)) (Some Disputed)) (cond b (Some (Live d)) (Some Disputed))
+two_contents : (a b t : Bool) (c d : List ℕ) → same_bytes c d ≡ t → cond (a && (t && b)) (Some (Live c)) (Some Disputed)
+    ≡ join_told (cond a (Some (Live c)) (Some Disputed)) (cond b (Some (Live d)) (Some Disputed))
 two_contents true true true c d e = rw e refl
 two_contents true true false c d e = rw e refl
 two_contents true false true c d e = refl
@@ -218,7 +238,8 @@ agreed-append : (cs ds : List (List ℕ)) → agreed (cs ++ ds) ≡ join_told (a
 agreed-append [] ds = refl
 agreed-append (c ∷ cs) [] = ap agreed (append-nil (c ∷ cs)) ∙ with_none (agreed (c ∷ cs))
 agreed-append (c ∷ cs) (d ∷ ds) =
-    ap (λ b. cond b (Some (Live c)) (Some Disputed)) (list_all-append (same_bytes c) cs (d ∷ ds) ∙ ap (λ b. list_all (same_bytes c) cs && b) (by (same_bytes c d) refl))
+    ap (λ b. cond b (Some (Live c)) (Some Disputed)) (list_all-append (same_bytes c) cs (d ∷ ds)
+    ∙ ap (λ b. list_all (same_bytes c) cs && b) (by (same_bytes c d) refl))
     ∙ two_contents (list_all (same_bytes c) cs) (list_all (same_bytes d) ds) (same_bytes c d) c d refl
   where
     by : (t : Bool) → same_bytes c d ≡ t → (same_bytes c d && list_all (same_bytes c) ds) ≡ (same_bytes c d && list_all (same_bytes d) ds)
@@ -242,20 +263,23 @@ retired_agreed (c ∷ cs) = by (list_all (same_bytes c) cs)
     by true = refl
     by false = refl
 
-status_two : (x y : Bool) (cs ds : List (List ℕ)) → cond (x || y) (Some Retired) (agreed (cs ++ ds)) ≡ join_told (cond x (Some Retired) (agreed cs)) (cond y (Some Retired) (agreed ds))
+status_two : (x y : Bool) (cs ds : List (List ℕ)) → cond (x || y) (Some Retired) (agreed (cs ++ ds))
+    ≡ join_told (cond x (Some Retired) (agreed cs)) (cond y (Some Retired) (agreed ds))
 status_two true true cs ds = refl
 status_two true false cs ds = retired_agreed ds
 status_two false true cs ds = agreed_retired cs
 status_two false false cs ds = agreed-append cs ds
 
 pub status_of-append : (j k : List Item) (q : NameParts) → status_of (j ++ k) q ≡ join_told (status_of j q) (status_of k q)
-status_of-append j k q = rw (list_any-append (is_retirement_of q) j k, filter_map-append (content_of q) j k) (status_two _ _ (filter_map (content_of q) j) (filter_map (content_of q) k))
+status_of-append j k q = rw (list_any-append (is_retirement_of q) j k, filter_map-append (content_of q) j k)
+    (status_two _ _ (filter_map (content_of q) j) (filter_map (content_of q) k))
 
 floor_first : (o : Option Known) → Some Floor ≡ join_told (Some Floor) o
 floor_first None = refl
 floor_first (Some k) = refl
 
-mark_two : (x y : Bool) (s t : Option Known) → cond (x || y) (Some Floor) (join_told s t) ≡ join_told (cond x (Some Floor) s) (cond y (Some Floor) t)
+mark_two : (x y : Bool) (s t : Option Known) → cond (x || y) (Some Floor) (join_told s t)
+    ≡ join_told (cond x (Some Floor) s) (cond y (Some Floor) t)
 mark_two true y s t = floor_first (cond y (Some Floor) t)
 mark_two false true s t = sym (with_floor s)
 mark_two false false s t = refl
@@ -266,7 +290,8 @@ mark_of-append j k q =
     ∙ ap (cond (list_any (is_floor_at q) j || list_any (is_floor_at q) k) (Some Floor)) (status_of-append j k q)
     ∙ mark_two (list_any (is_floor_at q) j) (list_any (is_floor_at q) k) (status_of j q) (status_of k q)
 
-union_at : (a b : Bool) (i j : Option Known) → cond (a || b) None (join_told i j) ≡ cond (a || b) None (join_told (cond a None i) (cond b None j))
+union_at : (a b : Bool) (i j : Option Known) → cond (a || b) None (join_told i j)
+    ≡ cond (a || b) None (join_told (cond a None i) (cond b None j))
 union_at true b i j = refl
 union_at false true i j = refl
 union_at false false i j = refl
@@ -311,8 +336,10 @@ absorbed (y ∷ ys) i h =
     let t = view_of_item y in
     let w = view_of ys in
     ap (join s) (one_item y ys) ∙ (elim (first_or_later y ys i h) [
-      | inl e ↦ ap (λ x. join (view_of_item x) (join t w)) e ∙ sym (join_laws.associative t t w) ∙ ap (λ v. join v w) (join_laws.idempotent t (views_are_settled (y ∷ [])))
-      | inr r ↦ sym (join_laws.associative s t w) ∙ ap (λ v. join v w) (join_laws.commutative s t) ∙ join_laws.associative t s w ∙ ap (join t) (absorbed ys i r)
+      | inl e ↦ ap (λ x. join (view_of_item x) (join t w)) e ∙ sym (join_laws.associative t t w)
+          ∙ ap (λ v. join v w) (join_laws.idempotent t (views_are_settled (y ∷ [])))
+      | inr r ↦ sym (join_laws.associative s t w) ∙ ap (λ v. join v w) (join_laws.commutative s t)
+          ∙ join_laws.associative t s w ∙ ap (join t) (absorbed ys i r)
     ]) ∙ sym (one_item y ys)
 
 all_absorbed : (j k : List Item) → AreAmong j k → join (view_of j) (view_of k) ≡ view_of k

@@ -36,7 +36,8 @@ cond-not true x y = refl
 cond-not false x y = refl
 
 pub get-settled : (v : View) (q : NameParts) → get (settled v) q ≡ cond (is_below v q) None (get v q)
-get-settled v q = get-retain_keys v (λ n. not (is_below v n)) q (λ x same. ap (λ n. not (is_below v n)) (sym (exact_names q x same))) ∙ cond-not (is_below v q) (get v q) None
+get-settled v q = get-retain_keys v (λ n. not (is_below v n)) q (λ x same. ap (λ n. not (is_below v n))
+    (sym (exact_names q x same))) ∙ cond-not (is_below v q) (get v q) None
 
 not_dropped : (b : Bool) (o : Option Known) (k : Known) → cond b None o ≡ Some k → o ≡ Some k
 not_dropped true o k e = absurd (no_some k e)

@@ -43,5 +43,6 @@ coded_key =
 
 abbrev pub coded_declared_view : Coded DeclaredView
 coded_declared_view =
-    code_by (Declaration × (View × List (List (List SortKey)))) (coded× coded_declaration (coded× coded_view (coded_list (coded_list (coded_list coded_key)))))
+    code_by (Declaration × (View × List (List (List SortKey))))
+    (coded× coded_declaration (coded× coded_view (coded_list (coded_list (coded_list coded_key)))))
     (λ s. (s.schema, (s.view, s.orders))) (λ p. record { schema = p.0; view = p.1.0; orders = p.1.1 }) (λ _. refl)

@@ -47,8 +47,12 @@ ViewHasGreatestFloors = (items : List Item) (o : List ℕ) (n : ℕ) → (floor_
 
 -- a name behind all that are known is added at the end
 pub record LaterNames : Type 0 where
-  pub take : (v : View) (n : NameParts) (bytes : List ℕ) → IsSettled v → IsAbove v n → entries (join v (view_of_item (SegmentItem n bytes))) ≡ entries v ++ (n, Live bytes) ∷ []
-  pub retire : (v : View) (n : NameParts) → IsSettled v → IsAbove v n → entries (join v (view_of_item (RetirementItem n))) ≡ entries v ++ (n, Retired) ∷ []
-  pub dispute : (v : View) (n : NameParts) → IsSettled v → IsAbove v n → entries (join v (only_disputed n)) ≡ entries v ++ (n, Disputed) ∷ []
+  pub take : (v : View) (n : NameParts) (bytes : List ℕ) → IsSettled v → IsAbove v n
+      → entries (join v (view_of_item (SegmentItem n bytes))) ≡ entries v ++ (n, Live bytes) ∷ []
+  pub retire : (v : View) (n : NameParts) → IsSettled v → IsAbove v n → entries (join v (view_of_item (RetirementItem n)))
+      ≡ entries v ++ (n, Retired) ∷ []
+  pub dispute : (v : View) (n : NameParts) → IsSettled v → IsAbove v n → entries (join v (only_disputed n))
+      ≡ entries v ++ (n, Disputed) ∷ []
   -- a floor, where no name of its origin is known
-  pub retire_to : (v : View) (n : NameParts) → IsSettled v → IsBehindOrigins v n → entries (join v (view_of_item (FloorItem n))) ≡ entries v ++ (n, Floor) ∷ []
+  pub retire_to : (v : View) (n : NameParts) → IsSettled v → IsBehindOrigins v n
+      → entries (join v (view_of_item (FloorItem n))) ≡ entries v ++ (n, Floor) ∷ []

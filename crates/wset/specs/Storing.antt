@@ -11,7 +11,12 @@ use Rattle.wset.specs.declared.set.SegmentSet.TheInside.{Inside}
 
 -- the view of the entries, under the declaration
 abbrev pub declared_view : Inside → DeclaredView
-declared_view s = record { schema = s.schema; view = from_sorted (known_entries (flat s.blocks.items)); orders = orders_in (flat s.blocks.items) }
+declared_view s = record {
+  schema = s.schema;
+  view = from_sorted (known_entries (flat s.blocks.items));
+  orders =
+      orders_in (flat s.blocks.items);
+}
 
 -- the names rise, none is below a floor, they are counted by a number of 64 bits, each segment was read by the
 -- declaration, the live names before each block are counted, and an order that is kept is that of the rows that are live

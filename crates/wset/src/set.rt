@@ -1,5 +1,6 @@
 //! A set of segments and retirements under one declaration.
-ghost use Rattle.std.specs.Prelude.{true, false, ◌≡◌, ◌≢◌, ◌↔◌, ◌⊎◌, ◌<◌, [], All, IsTrue, IfSome, is_some, length, map as list_map, option_map, slice_get, slice_index_or, Some, Ok, Err, IsOk, IfOk, IfErr, OnOk, OnErr};
+ghost use Rattle.std.specs.Prelude.{true, false, ◌≡◌, ◌≢◌, ◌↔◌, ◌⊎◌, ◌<◌, [], All, IsTrue, IfSome, is_some, length, map as list_map};
+ghost use Rattle.std.specs.Prelude.{option_map, slice_get, slice_index_or, Some, Ok, Err, IsOk, IfOk, IfErr, OnOk, OnErr};
 ghost use Rattle.std.specs.FinMap as map;
 ghost use Rattle.std.specs.Option.{option_copied};
 ghost use Rattle.wsegment.specs.Outcome.{Fails};

@@ -1,4 +1,5 @@
--- When two expressions over a row are written alike, and when two windows order rows alike: expressions that are written alike are of one formula. Two of one formula can be written apart, as a chain of which the first operand is a chain.
+-- When two expressions over a row are written alike, and when two windows order rows alike: expressions that are written alike
+-- are of one formula. Two of one formula can be written apart, as a chain of which the first operand is a chain.
 use Rattle.std.specs.Prelude.{ℕ, ℤ, Bool, true, false, ◌&&◌, List, nat_eq}
 use Rattle.std.proofs.Math.Bool.{beq}
 use Rattle.std.specs.Cmp.Lexicographic.{pointwise}

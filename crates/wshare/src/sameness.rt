@@ -6,9 +6,12 @@ ghost use Rattle.std.proofs.Math.Bool.{beq};
 ghost use Rattle.std.specs.Rc.{rc_str_bytes};
 ghost use Rattle.wvalues.specs.Meaning.{Null, Int, Text};
 ghost use Rattle.wplan.specs.declared.expr.Expr.{out-Expr};
-ghost use Rattle.wplan.specs.Formula.{Constant, At, Negation, Signed, Compared, NullTest, Within, Among, chained, formula, formulas, operand_of};
+ghost use Rattle.wplan.specs.Formula.{Constant, At, Negation, Signed, Compared, NullTest, Within};
+ghost use Rattle.wplan.specs.Formula.{Among, chained, formula, formulas, operand_of};
 ghost use Rattle.wplan.specs.Plans.{key_plan, window_plan};
-ghost use Rattle.wshare.specs.Sameness.{is_null_word, is_number, is_text, is_place, is_negation, is_sign, is_chain, is_comparison, is_null_test, is_range_test, is_list_test, is_same, is_same_key, is_same_link, is_same_order, same_comparison, same_operator, same_sort_key};
+ghost use Rattle.wshare.specs.Sameness.{is_null_word, is_number, is_text, is_place, is_negation, is_sign, is_chain, is_comparison};
+ghost use Rattle.wshare.specs.Sameness.{is_null_test, is_range_test, is_list_test, is_same, is_same_key, is_same_link};
+ghost use Rattle.wshare.specs.Sameness.{is_same_order, same_comparison, same_operator, same_sort_key};
 
 use std::rc::RcStr;
 use wplan::{Expr, Further, ResolvedKey, ResolvedWindow};

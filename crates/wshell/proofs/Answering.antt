@@ -1,5 +1,7 @@
 -- What texts are told, one after the other.
-use Rattle.std.proofs.Common.{◌≡◌, ◌⊎◌, inl, inr, ◌∙◌, ◌||◌, ℕ, ◌+◌, ◌<◌, ◌≤◌, Bool, true, false, List, [], ◌∷◌, ◌++◌, length, take, min, Option, Result, Ok, Err, IfErr, OnErr, OnOk, refl, sym, ap, subst, arith, append_assoc, append-nil, length-take}
+use Rattle.std.proofs.Common.{◌≡◌, ◌⊎◌, inl, inr, ◌∙◌, ◌||◌, ℕ, ◌+◌, ◌<◌, ◌≤◌, Bool, true, false, List}
+use Rattle.std.proofs.Common.{[], ◌∷◌, ◌++◌, length, take, min, Option, Result, Ok, Err, IfErr, OnErr, OnOk}
+use Rattle.std.proofs.Common.{refl, sym, ap, subst, arith, append_assoc, append-nil, length-take}
 use Rattle.std.specs.Prelude.{is_err}
 use Rattle.std.specs.List.{flat_map, list_any}
 use Rattle.std.specs.Io.KnownBytes.{Appends}
@@ -31,32 +33,39 @@ Answer = Result (List ℕ) AskFault
 abbrev told_any : Bool → Told
 told_any b = record { is_any = true; is_refused = b }
 
-module _ (d : Declaration) (v : View) (text bytes : List ℕ) (old new : Option (List ℕ)) (told new_told : Told) (is_refused : Bool) (filled : ¬ (IsBlank text)) (reply : IsReply d v text bytes is_refused) where
-  pub replied_whole : {A : Type 0} (r : Result A ShellFault) → OnOk r (Appends old new (reply_behind told.is_any bytes) × (new_told ≡ record { is_any = true; is_refused = told.is_refused || is_refused }))
+module _ (d : Declaration) (v : View) (text bytes : List ℕ) (old new : Option (List ℕ)) (told new_told : Told)
+    (is_refused : Bool) (filled : ¬ (IsBlank text)) (reply : IsReply d v text bytes is_refused) where
+  pub replied_whole : {A : Type 0} (r : Result A ShellFault) → OnOk r (Appends old new (reply_behind told.is_any bytes)
+      × (new_told ≡ record { is_any = true; is_refused = told.is_refused || is_refused }))
       → OnOk r (TellsOne d v text old new told new_told)
   replied_whole (Ok x) w =
       Answered reply.answer filled reply.answers (subst (λ t. Appends old new (reply_behind told.is_any t)) reply.text_is w.0)
       (w.1 ∙ ap (λ (b : Bool). told_any (told.is_refused || b)) reply.refused_is)
   replied_whole (Err e) w = tt
 
-  pub replied_part : {A : Type 0} (r : Result A ShellFault) → OnErr r ((n : ℕ) × Appends old new (take n (reply_behind told.is_any bytes))) → OnErr r (TellsPart d v text old new told)
+  pub replied_part : {A : Type 0} (r : Result A ShellFault)
+      → OnErr r ((n : ℕ) × Appends old new (take n (reply_behind told.is_any bytes))) → OnErr r (TellsPart d v text old new told)
   replied_part (Ok x) w = tt
-  replied_part (Err e) w = Front reply.answer w.0 filled reply.answers (subst (λ t. Appends old new (take w.0 (reply_behind told.is_any t))) reply.text_is w.1)
+  replied_part (Err e) w = Front reply.answer w.0 filled reply.answers
+      (subst (λ t. Appends old new (take w.0 (reply_behind told.is_any t))) reply.text_is w.1)
 
-pub reply_cause : {A W : Type 0} (r : Result A ShellFault) (output : Counts W) → OnErr r (output.failures ≡ 1) → IfErr r (λ e. e ≡ ends.Write) → IfErr r (λ fault. HasTellCause fault output)
+pub reply_cause : {A W : Type 0} (r : Result A ShellFault) (output : Counts W) → OnErr r (output.failures ≡ 1)
+    → IfErr r (λ e. e ≡ ends.Write) → IfErr r (λ fault. HasTellCause fault output)
 reply_cause (Ok x) output failed is = tt
 reply_cause {W = W} (Err e) output failed is = subst (λ (f : ShellFault). HasTellCause {W = W} f output) (sym is) failed
 
 -- ---- one text more
 
-pub passed_last : (d : Declaration) (v : View) (texts : List (List ℕ)) (answers : List Answer) (text : List ℕ) → IsBlank text → Tells d v texts answers → Tells d v (texts ++ text ∷ []) answers
+pub passed_last : (d : Declaration) (v : View) (texts : List (List ℕ)) (answers : List Answer) (text : List ℕ)
+    → IsBlank text → Tells d v texts answers → Tells d v (texts ++ text ∷ []) answers
 passed_last d v [] [] text blank t = (blank, tt)
 passed_last d v [] (a ∷ more) text blank t = absurd t
 passed_last d v (s ∷ ss) [] text blank t = (t.0, passed_last d v ss [] text blank t.1)
 passed_last d v (s ∷ ss) (a ∷ more) text blank (inl t) = inl (t.0, passed_last d v ss (a ∷ more) text blank t.1)
 passed_last d v (s ∷ ss) (a ∷ more) text blank (inr t) = inr (t.0, t.1, passed_last d v ss more text blank t.2)
 
-pub replied_last : (d : Declaration) (v : View) (texts : List (List ℕ)) (answers : List Answer) (text : List ℕ) (answer : Answer) → ¬ (IsBlank text) → IsAnswer d v text answer → Tells d v texts answers
+pub replied_last : (d : Declaration) (v : View) (texts : List (List ℕ)) (answers : List Answer) (text : List ℕ)
+    (answer : Answer) → ¬ (IsBlank text) → IsAnswer d v text answer → Tells d v texts answers
     → Tells d v (texts ++ text ∷ []) (answers ++ answer ∷ [])
 replied_last d v [] [] text answer filled is t = inr (filled, is, tt)
 replied_last d v [] (a ∷ more) text answer filled is t = absurd t
@@ -64,7 +73,8 @@ replied_last d v (s ∷ ss) [] text answer filled is t = inl (t.0, replied_last 
 replied_last d v (s ∷ ss) (a ∷ more) text answer filled is (inl t) = inl (t.0, replied_last d v ss (a ∷ more) text answer filled is t.1)
 replied_last d v (s ∷ ss) (a ∷ more) text answer filled is (inr t) = inr (t.0, t.1, replied_last d v ss more text answer filled is t.2)
 
-replies_last : (answers : List Answer) (answer : Answer) → replies_text answers ++ reply_behind (has_any answers) (reply_text answer) ≡ replies_text (answers ++ answer ∷ [])
+replies_last : (answers : List Answer) (answer : Answer)
+    → replies_text answers ++ reply_behind (has_any answers) (reply_text answer) ≡ replies_text (answers ++ answer ∷ [])
 replies_last [] answer = sym (append-nil (reply_text answer))
 replies_last (a ∷ more) answer =
     append_assoc (reply_text a) (flat_map next_reply_text more) (next_reply_text answer)
@@ -80,7 +90,8 @@ or_false : (b : Bool) → b ≡ (b || false)
 or_false true = refl
 or_false false = refl
 
-refused_last : (answers : List Answer) (answer : Answer) → (list_any is_err answers || is_err answer) ≡ list_any is_err (answers ++ answer ∷ [])
+refused_last : (answers : List Answer) (answer : Answer) → (list_any is_err answers || is_err answer)
+    ≡ list_any is_err (answers ++ answer ∷ [])
 refused_last answers answer =
     ap (λ b. list_any is_err answers || b) (or_false (is_err answer))
     ∙ sym (list_any-append is_err answers (answer ∷ []))
@@ -100,7 +111,8 @@ kept_long text many =
 too_many : (n : ℕ) → 65536 < n → n ≤ 65536 → ⊥
 too_many n many few = omega (arith, many, few)
 
-long_answer : (d : Declaration) (v : View) (kept text : List ℕ) (answer : Answer) → 65536 < length kept → 65536 < length text → IsAnswer d v kept answer → IsAnswer d v text answer
+long_answer : (d : Declaration) (v : View) (kept text : List ℕ) (answer : Answer) → 65536 < length kept
+    → 65536 < length text → IsAnswer d v kept answer → IsAnswer d v text answer
 long_answer d v kept text (Ok bytes) m l is = absurd (too_many (length kept) m is.1.0.0)
 long_answer d v kept text (Err faults.NoMemory) m l is = absurd is
 long_answer d v kept text (Err faults.TooLong) m l is = inl l
@@ -118,27 +130,34 @@ long_answer d v kept text (Err faults.OutOfRange) m l (inr is) = absurd (too_man
 long_answer d v kept text (Err faults.TooManyRows) m l (inr is) = absurd (too_many (length kept) m is.1.0.0)
 
 -- what is told of what is kept is told of the text
-told_whole : (d : Declaration) (v : View) (text : List ℕ) (old new : Option (List ℕ)) (told new_told : Told) → TellsOne d v (take room text) old new told new_told → TellsOne d v text old new told new_told
+told_whole : (d : Declaration) (v : View) (text : List ℕ) (old new : Option (List ℕ)) (told new_told : Told)
+    → TellsOne d v (take room text) old new told new_told → TellsOne d v text old new told new_told
 told_whole d v text old new told new_told t = by t (cases_lt 65536 (length (take room text)))
   where
-    by : TellsOne d v (take room text) old new told new_told → (65536 < length (take room text)) ⊎ (length (take room text) ≤ 65536) → TellsOne d v text old new told new_told
+    by : TellsOne d v (take room text) old new told new_told → (65536 < length (take room text))
+        ⊎ (length (take room text) ≤ 65536) → TellsOne d v text old new told new_told
     by t (inr few) = subst (λ k. TellsOne d v k old new told new_told) (kept_whole text few) t
     by (Passed blank a e) (inl many) = absurd (too_many _ many blank.is_text.0)
     by (Answered answer filled is a e) (inl many) =
-        Answered answer (λ (blank : IsBlank text). too_many _ (kept_long text many) blank.is_text.0) (long_answer d v _ text answer many (kept_long text many) is) a e
+        Answered answer (λ (blank : IsBlank text). too_many _ (kept_long text many) blank.is_text.0)
+        (long_answer d v _ text answer many (kept_long text many) is) a e
 
-part_whole : (d : Declaration) (v : View) (text : List ℕ) (old new : Option (List ℕ)) (told : Told) → TellsPart d v (take room text) old new told → TellsPart d v text old new told
+part_whole : (d : Declaration) (v : View) (text : List ℕ) (old new : Option (List ℕ)) (told : Told)
+    → TellsPart d v (take room text) old new told → TellsPart d v text old new told
 part_whole d v text old new told t = by t (cases_lt 65536 (length (take room text)))
   where
-    by : TellsPart d v (take room text) old new told → (65536 < length (take room text)) ⊎ (length (take room text) ≤ 65536) → TellsPart d v text old new told
+    by : TellsPart d v (take room text) old new told → (65536 < length (take room text)) ⊎ (length (take room text) ≤ 65536)
+        → TellsPart d v text old new told
     by t (inr few) = subst (λ k. TellsPart d v k old new told) (kept_whole text few) t
     by (Unanswered a) (inl many) = Unanswered a
     by (Front answer n filled is a) (inl many) =
-        Front answer n (λ (blank : IsBlank text). too_many _ (kept_long text many) blank.is_text.0) (long_answer d v _ text answer many (kept_long text many) is) a
+        Front answer n (λ (blank : IsBlank text). too_many _ (kept_long text many) blank.is_text.0)
+        (long_answer d v _ text answer many (kept_long text many) is) a
 
 -- ---- a text behind others
 
-module _ (d : Declaration) (v : View) (texts : List (List ℕ)) (text : List ℕ) (first old new : Option (List ℕ)) (told : Told) (so_far : SoFar d v texts first old told) where
+module _ (d : Declaration) (v : View) (texts : List (List ℕ)) (text : List ℕ) (first old new : Option (List ℕ))
+    (told : Told) (so_far : SoFar d v texts first old told) where
   behind_them : (answer : Answer) (bytes : List ℕ) → Appends old new bytes → Appends first new (replies_text so_far.answers ++ bytes)
   behind_them answer bytes a = Appends-trans first old new (replies_text so_far.answers) bytes so_far.appends a
 
@@ -149,7 +168,8 @@ module _ (d : Declaration) (v : View) (texts : List (List ℕ)) (text : List ℕ
       by (Passed blank a e) = record {
         answers = so_far.answers;
         tells = passed_last d v texts so_far.answers text blank so_far.tells;
-        appends = subst (Appends first new) (append-nil (replies_text so_far.answers)) (Appends-trans first old new (replies_text so_far.answers) [] so_far.appends a);
+        appends = subst (Appends first new) (append-nil (replies_text so_far.answers))
+            (Appends-trans first old new (replies_text so_far.answers) [] so_far.appends a);
         any_is = ap (λ (k : Told). k.is_any) e ∙ so_far.any_is;
         refused_is = ap (λ (k : Told). k.is_refused) e ∙ so_far.refused_is;
       }
@@ -160,11 +180,13 @@ module _ (d : Declaration) (v : View) (texts : List (List ℕ)) (text : List ℕ
             (ap (λ b. replies_text so_far.answers ++ reply_behind b (reply_text answer)) so_far.any_is ∙ replies_last so_far.answers answer)
             (Appends-trans first old new (replies_text so_far.answers) (reply_behind told.is_any (reply_text answer)) so_far.appends a);
         any_is = ap (λ (k : Told). k.is_any) e ∙ any_last so_far.answers answer;
-        refused_is = ap (λ (k : Told). k.is_refused) e ∙ ap (λ b. b || is_err answer) so_far.refused_is ∙ refused_last so_far.answers answer;
+        refused_is = ap (λ (k : Told). k.is_refused) e ∙ ap (λ b. b || is_err answer) so_far.refused_is
+            ∙ refused_last so_far.answers answer;
       }
 
   -- all that was told before, where nothing of the text is written, else a front of what it is told too
-  pub one_part : TellsPart d v (take room text) old new told → FrontSoFar d v texts first new ⊎ FrontSoFar d v (texts ++ text ∷ []) first new
+  pub one_part : TellsPart d v (take room text) old new told → FrontSoFar d v texts first new
+      ⊎ FrontSoFar d v (texts ++ text ∷ []) first new
   one_part t = by (part_whole d v text old new told t)
     where
       by : TellsPart d v text old new told → FrontSoFar d v texts first new ⊎ FrontSoFar d v (texts ++ text ∷ []) first new
@@ -172,7 +194,8 @@ module _ (d : Declaration) (v : View) (texts : List (List ℕ)) (text : List ℕ
         answers = so_far.answers;
         n = length (replies_text so_far.answers);
         tells = so_far.tells;
-        appends = subst (Appends first new) (append-nil (replies_text so_far.answers) ∙ sym (take_all (length (replies_text so_far.answers)) (replies_text so_far.answers) (omega arith)))
+        appends = subst (Appends first new) (append-nil (replies_text so_far.answers)
+            ∙ sym (take_all (length (replies_text so_far.answers)) (replies_text so_far.answers) (omega arith)))
             (Appends-trans first old new (replies_text so_far.answers) [] so_far.appends a);
       })
       by (Front answer n filled is a) = inr (record {
@@ -181,9 +204,13 @@ module _ (d : Declaration) (v : View) (texts : List (List ℕ)) (text : List ℕ
         tells = replied_last d v texts so_far.answers text answer filled is so_far.tells;
         appends = subst (Appends first new)
             (sym (take-append-add (replies_text so_far.answers) (reply_behind told.is_any (reply_text answer)) n)
-            ∙ ap (take (length (replies_text so_far.answers) + n)) (ap (λ b. replies_text so_far.answers ++ reply_behind b (reply_text answer)) so_far.any_is ∙ replies_last so_far.answers answer))
-            (Appends-trans first old new (replies_text so_far.answers) (take n (reply_behind told.is_any (reply_text answer))) so_far.appends a);
+            ∙ ap (take (length (replies_text so_far.answers) + n))
+            (ap (λ b. replies_text so_far.answers ++ reply_behind b (reply_text answer)) so_far.any_is
+            ∙ replies_last so_far.answers answer))
+            (Appends-trans first old new (replies_text so_far.answers)
+            (take n (reply_behind told.is_any (reply_text answer))) so_far.appends a);
       })
 
-pub nothing_told : (d : Declaration) (v : View) (first : Option (List ℕ)) (told : Told) → Appends first first [] → told.is_any ≡ false → told.is_refused ≡ false → SoFar d v [] first first told
+pub nothing_told : (d : Declaration) (v : View) (first : Option (List ℕ)) (told : Told) → Appends first first []
+    → told.is_any ≡ false → told.is_refused ≡ false → SoFar d v [] first first told
 nothing_told d v first told a any refused = record { answers = []; tells = tt; appends = a; any_is = any; refused_is = refused }

@@ -1,5 +1,7 @@
 -- An input that is read and answered.
-use Rattle.std.proofs.Common.{◌≡◌, ◌⊎◌, inl, inr, ◌∙◌, ℕ, suc, ◌+◌, ◌<◌, false, List, [], ◌∷◌, ◌++◌, take, drop, take-append-drop, get_or, length, Option, Some, None, IfSome, Result, Ok, Err, OnOk, OnErr, refl, sym, ap, subst, arith, append_assoc, append-nil}
+use Rattle.std.proofs.Common.{◌≡◌, ◌⊎◌, inl, inr, ◌∙◌, ℕ, suc, ◌+◌, ◌<◌, false, List, [], ◌∷◌, ◌++◌, take}
+use Rattle.std.proofs.Common.{drop, take-append-drop, get_or, length, Option, Some, None, IfSome, Result, Ok}
+use Rattle.std.proofs.Common.{Err, OnOk, OnErr, refl, sym, ap, subst, arith, append_assoc, append-nil}
 use Rattle.std.specs.List.{flat_map}
 use Rattle.std.specs.Io.KnownBytes.{Appends, Consumes, IsAtEnd, Keeps}
 use Rattle.std.proofs.KnownBytes.{Appends-nil, Consumes-kept, Consumes-nil, Consumes-trans}
@@ -14,11 +16,13 @@ use Rattle.wshell.specs.Splitting.{EndsAt, Splits, ended, may_end}
 use Rattle.wshell.specs.Pending.{IsPending, Kept}
 use Rattle.wshell.specs.declared.fault.ShellFault.{ShellFault}
 use Rattle.wshell.specs.Telling.{TellsOne, TellsPart}
-use Rattle.wshell.specs.Runs.{All, First, FrontSoFar, GivesUp, GoesOn, IsBegun, KeepsUp, Replies, RepliesBegun, SoFar, StandsAfter, StandsBehind, TakesFront}
+use Rattle.wshell.specs.Runs.{All, First, FrontSoFar, GivesUp, GoesOn, IsBegun, KeepsUp, Replies}
+use Rattle.wshell.specs.Runs.{RepliesBegun, SoFar, StandsAfter, StandsBehind, TakesFront}
 use Rattle.wshell.proofs.Splitting.{splits_add, splits_end, splits_nothing}
 use Rattle.wshell.proofs.Answering.{nothing_told, one_more, one_part}
 
-pub stands_first : (d : Declaration) (v : View) (first : Option (List ℕ)) (pending : Kept) (told : Told) → IsPending pending [] → told.is_any ≡ false → told.is_refused ≡ false → StandsBehind d v first [] first pending told
+pub stands_first : (d : Declaration) (v : View) (first : Option (List ℕ)) (pending : Kept) (told : Told)
+    → IsPending pending [] → told.is_any ≡ false → told.is_refused ≡ false → StandsBehind d v first [] first pending told
 stands_first d v first pending told is any refused = record {
   queries = [];
   rest = [];
@@ -28,17 +32,21 @@ stands_first d v first pending told is any refused = record {
 }
 
 -- all of what was told so far
-pub whole_front : (d : Declaration) (v : View) (texts : List (List ℕ)) (first contents : Option (List ℕ)) (told : Told) → SoFar d v texts first contents told → FrontSoFar d v texts first contents
+pub whole_front : (d : Declaration) (v : View) (texts : List (List ℕ)) (first contents : Option (List ℕ)) (told : Told)
+    → SoFar d v texts first contents told → FrontSoFar d v texts first contents
 whole_front d v texts first contents told s = record {
   answers = s.answers;
   n = length (replies_text s.answers);
   tells = s.tells;
-  appends = subst (Appends first contents) (sym (take_all (length (replies_text s.answers)) (replies_text s.answers) (omega arith))) s.appends;
+  appends = subst (Appends first contents) (sym (take_all (length (replies_text s.answers)) (replies_text s.answers)
+      (omega arith))) s.appends;
 }
 
-module _ (d : Declaration) (v : View) (first : Option (List ℕ)) (input : List ℕ) (contents : Option (List ℕ)) (pending : Kept) (told : Told) (stands : StandsBehind d v first input contents pending told) where
+module _ (d : Declaration) (v : View) (first : Option (List ℕ)) (input : List ℕ) (contents : Option (List ℕ))
+    (pending : Kept) (told : Told) (stands : StandsBehind d v first input contents pending told) where
   -- a byte that belongs to the query
-  pub stands_more : (b : ℕ) (new_pending : Kept) → ¬ (EndsAt pending.mode b) → ((text : List ℕ) → IsPending pending text → IsPending new_pending (text ++ b ∷ []))
+  pub stands_more : (b : ℕ) (new_pending : Kept) → ¬ (EndsAt pending.mode b) → ((text : List ℕ) → IsPending pending text
+      → IsPending new_pending (text ++ b ∷ []))
       → StandsBehind d v first (input ++ b ∷ []) contents new_pending told
   stands_more b new_pending other adds = record {
     queries = stands.queries;
@@ -53,19 +61,24 @@ module _ (d : Declaration) (v : View) (first : Option (List ℕ)) (input : List 
     ends = splits_end input stands.queries stands.rest b stands.splits end.0 (sym (ap may_end stands.is.mode_is) ∙ end.1)
 
     -- the byte that ends the query, which is told so
-    pub stands_told : (new : Option (List ℕ)) (new_pending : Kept) (new_told : Told) → TellsOne d v pending.text contents new told new_told → IsPending new_pending [] → StandsBehind d v first (input ++ b ∷ []) new new_pending new_told
+    pub stands_told : (new : Option (List ℕ)) (new_pending : Kept) (new_told : Told)
+        → TellsOne d v pending.text contents new told new_told → IsPending new_pending []
+        → StandsBehind d v first (input ++ b ∷ []) new new_pending new_told
     stands_told new new_pending new_told t empty = record {
       queries = stands.queries ++ stands.rest ∷ [];
       rest = [];
       splits = ends;
       is = empty;
-      so_far = one_more d v stands.queries stands.rest first contents new told stands.so_far new_told (subst (λ k. TellsOne d v k contents new told new_told) stands.is.text_is t);
+      so_far = one_more d v stands.queries stands.rest first contents new told stands.so_far new_told
+          (subst (λ k. TellsOne d v k contents new told new_told) stands.is.text_is t);
     }
 
     pub begun_told : (new : Option (List ℕ)) → TellsPart d v pending.text contents new told → IsBegun d v first (input ++ b ∷ []) new
-    begun_told new t = by (one_part d v stands.queries stands.rest first contents new told stands.so_far (subst (λ k. TellsPart d v k contents new told) stands.is.text_is t))
+    begun_told new t = by (one_part d v stands.queries stands.rest first contents new told stands.so_far
+        (subst (λ k. TellsPart d v k contents new told) stands.is.text_is t))
       where
-        by : FrontSoFar d v stands.queries first new ⊎ FrontSoFar d v (stands.queries ++ stands.rest ∷ []) first new → IsBegun d v first (input ++ b ∷ []) new
+        by : FrontSoFar d v stands.queries first new ⊎ FrontSoFar d v (stands.queries ++ stands.rest ∷ []) first new
+            → IsBegun d v first (input ++ b ∷ []) new
         by (inl front) = record {
           queries = stands.queries;
           more = stands.rest ++ b ∷ [];
@@ -92,9 +105,11 @@ module _ (d : Declaration) (v : View) (first : Option (List ℕ)) (input : List 
   }
 
   -- the end of the input
-  pub replies_all : (new : Option (List ℕ)) (new_told : Told) → TellsOne d v pending.text contents new told new_told → (written : List ℕ) × Appends first new written × Replies d v input written new_told.is_refused
+  pub replies_all : (new : Option (List ℕ)) (new_told : Told) → TellsOne d v pending.text contents new told new_told
+      → (written : List ℕ) × Appends first new written × Replies d v input written new_told.is_refused
   replies_all new new_told t =
-      let last = one_more d v stands.queries stands.rest first contents new told stands.so_far new_told (subst (λ k. TellsOne d v k contents new told new_told) stands.is.text_is t) in (
+      let last = one_more d v stands.queries stands.rest first contents new told stands.so_far new_told
+      (subst (λ k. TellsOne d v k contents new told new_told) stands.is.text_is t) in (
         replies_text last.answers,
         last.appends,
         record {
@@ -108,10 +123,13 @@ module _ (d : Declaration) (v : View) (first : Option (List ℕ)) (input : List 
         },
       )
 
-  pub replies_part : (new : Option (List ℕ)) → TellsPart d v pending.text contents new told → (written : List ℕ) × Appends first new written × RepliesBegun d v input written
-  replies_part new t = by (one_part d v stands.queries stands.rest first contents new told stands.so_far (subst (λ k. TellsPart d v k contents new told) stands.is.text_is t))
+  pub replies_part : (new : Option (List ℕ)) → TellsPart d v pending.text contents new told → (written : List ℕ)
+      × Appends first new written × RepliesBegun d v input written
+  replies_part new t = by (one_part d v stands.queries stands.rest first contents new told stands.so_far
+      (subst (λ k. TellsPart d v k contents new told) stands.is.text_is t))
     where
-      by : FrontSoFar d v stands.queries first new ⊎ FrontSoFar d v (stands.queries ++ stands.rest ∷ []) first new → (written : List ℕ) × Appends first new written × RepliesBegun d v input written
+      by : FrontSoFar d v stands.queries first new ⊎ FrontSoFar d v (stands.queries ++ stands.rest ∷ []) first new
+          → (written : List ℕ) × Appends first new written × RepliesBegun d v input written
       by (inl front) = (
         take front.n (replies_text front.answers),
         front.appends,
@@ -138,7 +156,8 @@ module _ (d : Declaration) (v : View) (first : Option (List ℕ)) (input : List 
       )
 
 -- more of the input behind it
-pub begun_more : (d : Declaration) (v : View) (first : Option (List ℕ)) (input more : List ℕ) (contents : Option (List ℕ)) → IsBegun d v first input contents → IsBegun d v first (input ++ more) contents
+pub begun_more : (d : Declaration) (v : View) (first : Option (List ℕ)) (input more : List ℕ) (contents : Option (List ℕ))
+    → IsBegun d v first input contents → IsBegun d v first (input ++ more) contents
 begun_more d v first input more contents begun = record {
   queries = begun.queries;
   more = begun.more ++ more;
@@ -156,44 +175,57 @@ taken_more block i b other more is =
 
 module _ (d : Declaration) (v : View) where
   -- a query that has ended
-  pub goes_on_told : {A : Type 0} (r : Result A ShellFault) (b : ℕ) (old new : Option (List ℕ)) (pending new_pending : Kept) (told new_told : Told) → EndsAt pending.mode b → OnOk r (TellsOne d v pending.text old new told new_told)
+  pub goes_on_told : {A : Type 0} (r : Result A ShellFault) (b : ℕ) (old new : Option (List ℕ)) (pending new_pending : Kept)
+      (told new_told : Told) → EndsAt pending.mode b → OnOk r (TellsOne d v pending.text old new told new_told)
       → OnOk r (IsPending new_pending []) → OnOk r (GoesOn d v (b ∷ []) old new pending new_pending told new_told)
-  goes_on_told (Ok x) b old new pending new_pending told new_told end t empty = λ first input stands. stands_told d v first input old pending told stands b end new new_pending new_told t empty
+  goes_on_told (Ok x) b old new pending new_pending told new_told end t empty =
+      λ first input stands. stands_told d v first input old pending told stands b end new new_pending new_told t empty
   goes_on_told (Err e) b old new pending new_pending told new_told end t empty = tt
 
-  pub gives_up_told : {A : Type 0} (r : Result A ShellFault) (b : ℕ) (old new : Option (List ℕ)) (pending : Kept) (told : Told) → EndsAt pending.mode b → OnErr r (TellsPart d v pending.text old new told) → OnErr r (GivesUp d v (b ∷ []) old new pending told)
+  pub gives_up_told : {A : Type 0} (r : Result A ShellFault) (b : ℕ) (old new : Option (List ℕ)) (pending : Kept)
+      (told : Told) → EndsAt pending.mode b → OnErr r (TellsPart d v pending.text old new told)
+      → OnErr r (GivesUp d v (b ∷ []) old new pending told)
   gives_up_told (Ok x) b old new pending told end t = tt
   gives_up_told (Err e) b old new pending told end t = λ first input stands. begun_told d v first input old pending told stands b end new t
 
   -- a byte that belongs to the query
-  pub goes_on_more : (b : ℕ) (old : Option (List ℕ)) (pending new_pending : Kept) (told : Told) → ¬ (EndsAt pending.mode b) → ((text : List ℕ) → IsPending pending text → IsPending new_pending (text ++ b ∷ []))
+  pub goes_on_more : (b : ℕ) (old : Option (List ℕ)) (pending new_pending : Kept) (told : Told) → ¬ (EndsAt pending.mode b)
+      → ((text : List ℕ) → IsPending pending text → IsPending new_pending (text ++ b ∷ []))
       → GoesOn d v (b ∷ []) old old pending new_pending told told
-  goes_on_more b old pending new_pending told other adds = λ first input stands. stands_more d v first input old pending told stands b new_pending other adds
+  goes_on_more b old pending new_pending told other adds = λ first input stands. stands_more d v first input old pending
+      told stands b new_pending other adds
 
   -- no byte
   pub goes_on_nothing : (old : Option (List ℕ)) (pending : Kept) (told : Told) → GoesOn d v [] old old pending pending told told
-  goes_on_nothing old pending told = λ first input stands. subst (λ i. StandsBehind d v first i old pending told) (sym (append-nil input)) stands
+  goes_on_nothing old pending told = λ first input stands. subst (λ i. StandsBehind d v first i old pending told)
+      (sym (append-nil input)) stands
 
   -- a block behind a block
-  pub goes_on_trans : (xs ys : List ℕ) (a b c : Option (List ℕ)) (p q r : Kept) (k l m : Told) → GoesOn d v xs a b p q k l → GoesOn d v ys b c q r l m → GoesOn d v (xs ++ ys) a c p r k m
+  pub goes_on_trans : (xs ys : List ℕ) (a b c : Option (List ℕ)) (p q r : Kept) (k l m : Told) → GoesOn d v xs a b p q k l
+      → GoesOn d v ys b c q r l m → GoesOn d v (xs ++ ys) a c p r k m
   goes_on_trans xs ys a b c p q r k l m one two = λ first input stands.
       subst (λ i. StandsBehind d v first i c r m) (append_assoc input xs ys) (two first (input ++ xs) (one first input stands))
 
-  pub gives_up_trans : (xs ys : List ℕ) (a b c : Option (List ℕ)) (p q : Kept) (k l : Told) → GoesOn d v xs a b p q k l → GivesUp d v ys b c q l → GivesUp d v (xs ++ ys) a c p k
+  pub gives_up_trans : (xs ys : List ℕ) (a b c : Option (List ℕ)) (p q : Kept) (k l : Told) → GoesOn d v xs a b p q k l
+      → GivesUp d v ys b c q l → GivesUp d v (xs ++ ys) a c p k
   gives_up_trans xs ys a b c p q k l one two = λ first input stands.
       subst (λ i. IsBegun d v first i c) (append_assoc input xs ys) (two first (input ++ xs) (one first input stands))
 
-  pub gives_up_more : (xs ys : List ℕ) (a c : Option (List ℕ)) (p : Kept) (k : Told) → GivesUp d v xs a c p k → GivesUp d v (xs ++ ys) a c p k
+  pub gives_up_more : (xs ys : List ℕ) (a c : Option (List ℕ)) (p : Kept) (k : Told) → GivesUp d v xs a c p k
+      → GivesUp d v (xs ++ ys) a c p k
   gives_up_more xs ys a c p k one = λ first input stands.
       subst (λ i. IsBegun d v first i c) (append_assoc input xs ys) (begun_more d v first (input ++ xs) ys c (one first input stands))
 
   -- the next byte of a block
-  pub next_byte : (block : List ℕ) (i b other : ℕ) (x y z : Option (List ℕ)) (p q r : Kept) (k l m : Told) → i < length block → b ≡ get_or block i other → GoesOn d v (take i block) x y p q k l → GoesOn d v (b ∷ []) y z q r l m
+  pub next_byte : (block : List ℕ) (i b other : ℕ) (x y z : Option (List ℕ)) (p q r : Kept) (k l m : Told)
+      → i < length block → b ≡ get_or block i other → GoesOn d v (take i block) x y p q k l → GoesOn d v (b ∷ []) y z q r l m
       → GoesOn d v (take (i + 1) block) x z p r k m
   next_byte block i b other x y z p q r k l m more is one two =
-      subst (λ bs. GoesOn d v bs x z p r k m) (taken_more block i b other more is) (goes_on_trans (take i block) (b ∷ []) x y z p q r k l m one two)
+      subst (λ bs. GoesOn d v bs x z p r k m) (taken_more block i b other more is) (goes_on_trans (take i block) (b ∷ []) x
+      y z p q r k l m one two)
 
-  pub last_byte : (block : List ℕ) (i b other : ℕ) (x y z : Option (List ℕ)) (p q : Kept) (k l : Told) → i < length block → b ≡ get_or block i other → GoesOn d v (take i block) x y p q k l → GivesUp d v (b ∷ []) y z q l → GivesUp d v block x z p k
+  pub last_byte : (block : List ℕ) (i b other : ℕ) (x y z : Option (List ℕ)) (p q : Kept) (k l : Told) → i < length block
+      → b ≡ get_or block i other → GoesOn d v (take i block) x y p q k l → GivesUp d v (b ∷ []) y z q l → GivesUp d v block x z p k
   last_byte block i b other x y z p q k l more is one two =
       subst (λ bs. GivesUp d v bs x z p k)
       (ap (λ bs. bs ++ drop (i + 1) block) (taken_more block i b other more is) ∙ take-append-drop (i + 1) block)
@@ -201,20 +233,31 @@ module _ (d : Declaration) (v : View) where
 
   -- ---- the input so far
 
-  pub after_nothing : (left first : Option (List ℕ)) (pending : Kept) (told : Told) → StandsBehind d v first [] first pending told → StandsAfter d v left left first first pending told
+  pub after_nothing : (left first : Option (List ℕ)) (pending : Kept) (told : Told)
+      → StandsBehind d v first [] first pending told → StandsAfter d v left left first first pending told
   after_nothing left first pending told stands = record { input = []; consumes = Consumes-nil left; stands = stands }
 
-  pub after_kept : (left mid new first contents : Option (List ℕ)) (pending : Kept) (told : Told) → StandsAfter d v left mid first contents pending told → Keeps mid new → StandsAfter d v left new first contents pending told
-  after_kept left mid new first contents pending told s kept = record { input = s.input; consumes = Consumes-kept left mid new s.input s.consumes kept; stands = s.stands }
+  pub after_kept : (left mid new first contents : Option (List ℕ)) (pending : Kept) (told : Told)
+      → StandsAfter d v left mid first contents pending told → Keeps mid new → StandsAfter d v left new first contents pending told
+  after_kept left mid new first contents pending told s kept = record {
+    input = s.input;
+    consumes =
+        Consumes-kept left mid new s.input s.consumes kept;
+    stands = s.stands;
+  }
 
-  pub after_block : (block : List ℕ) (left mid new first old contents : Option (List ℕ)) (p q : Kept) (k l : Told) → StandsAfter d v left mid first old p k → Consumes mid new block → GoesOn d v block old contents p q k l → StandsAfter d v left new first contents q l
+  pub after_block : (block : List ℕ) (left mid new first old contents : Option (List ℕ)) (p q : Kept) (k l : Told)
+      → StandsAfter d v left mid first old p k → Consumes mid new block → GoesOn d v block old contents p q k l
+      → StandsAfter d v left new first contents q l
   after_block block left mid new first old contents p q k l s eats on = record {
     input = s.input ++ block;
     consumes = Consumes-trans left mid new s.input block s.consumes eats;
     stands = on first s.input s.stands;
   }
 
-  pub front_block : (block : List ℕ) (left mid new first old contents : Option (List ℕ)) (p : Kept) (k : Told) → StandsAfter d v left mid first old p k → Consumes mid new block → GivesUp d v block old contents p k → TakesFront d v left first contents
+  pub front_block : (block : List ℕ) (left mid new first old contents : Option (List ℕ)) (p : Kept) (k : Told)
+      → StandsAfter d v left mid first old p k → Consumes mid new block → GivesUp d v block old contents p k
+      → TakesFront d v left first contents
   front_block block left mid new first old contents p k s eats up = record {
     input = s.input ++ block;
     new_left = new;
@@ -222,7 +265,8 @@ module _ (d : Declaration) (v : View) where
     begun = up first s.input s.stands;
   }
 
-  pub front_after : (left mid first contents : Option (List ℕ)) (pending : Kept) (told : Told) → StandsAfter d v left mid first contents pending told → TakesFront d v left first contents
+  pub front_after : (left mid first contents : Option (List ℕ)) (pending : Kept) (told : Told)
+      → StandsAfter d v left mid first contents pending told → TakesFront d v left first contents
   front_after left mid first contents pending told s = record {
     input = s.input;
     new_left = mid;
@@ -231,7 +275,8 @@ module _ (d : Declaration) (v : View) where
   }
 
   -- no reply waits
-  pub keeps_up : (left mid first contents : Option (List ℕ)) (pending : Kept) (told : Told) → StandsAfter d v left mid first contents pending told → KeepsUp d v left mid first contents
+  pub keeps_up : (left mid first contents : Option (List ℕ)) (pending : Kept) (told : Told)
+      → StandsAfter d v left mid first contents pending told → KeepsUp d v left mid first contents
   keeps_up left mid first contents pending told s = record {
     input = s.input;
     queries = s.stands.queries;
@@ -246,14 +291,19 @@ module _ (d : Declaration) (v : View) where
 -- ---- the bytes of the reader
 
 -- a node that stayed as it was
-module _ (node new_node : NodeState) (kept text : List ℕ) (old new : Option (List ℕ)) (told : Told) (same : new_node ≡ node) (is : text ≡ kept) where
-  pub same_one : (new_told : Told) → TellsOne new_node.schema new_node.view text old new told new_told → TellsOne node.schema node.view kept old new told new_told
-  same_one new_told t = subst (λ (n : NodeState). TellsOne n.schema n.view kept old new told new_told) same (subst (λ x. TellsOne new_node.schema new_node.view x old new told new_told) is t)
+module _ (node new_node : NodeState) (kept text : List ℕ) (old new : Option (List ℕ)) (told : Told) (same : new_node ≡ node)
+    (is : text ≡ kept) where
+  pub same_one : (new_told : Told) → TellsOne new_node.schema new_node.view text old new told new_told
+      → TellsOne node.schema node.view kept old new told new_told
+  same_one new_told t = subst (λ (n : NodeState). TellsOne n.schema n.view kept old new told new_told) same
+      (subst (λ x. TellsOne new_node.schema new_node.view x old new told new_told) is t)
 
   pub same_part : TellsPart new_node.schema new_node.view text old new told → TellsPart node.schema node.view kept old new told
-  same_part t = subst (λ (n : NodeState). TellsPart n.schema n.view kept old new told) same (subst (λ x. TellsPart new_node.schema new_node.view x old new told) is t)
+  same_part t = subst (λ (n : NodeState). TellsPart n.schema n.view kept old new told) same
+      (subst (λ x. TellsPart new_node.schema new_node.view x old new told) is t)
 
-at_end : (left new_left : Option (List ℕ)) (input : List ℕ) → Consumes left new_left input → IsAtEnd new_left → IfSome left (λ bytes. bytes ≡ input)
+at_end : (left new_left : Option (List ℕ)) (input : List ℕ) → Consumes left new_left input → IsAtEnd new_left
+    → IfSome left (λ bytes. bytes ≡ input)
 at_end None new_left input k e = tt
 at_end (Some xs) None input k e = absurd k
 at_end (Some xs) (Some ys) input k e = k ∙ ap (λ l. input ++ l) e ∙ append-nil input
@@ -263,26 +313,34 @@ if_some None P Q h f = tt
 if_some (Some x) P Q h f = f x h
 
 -- the whole input is answered
-pub all_replied : (d : Declaration) (v : View) (left new_left first contents new : Option (List ℕ)) (pending : Kept) (told new_told : Told) → StandsAfter d v left new_left first contents pending told → IsAtEnd new_left → TellsOne d v pending.text contents new told new_told
+pub all_replied : (d : Declaration) (v : View) (left new_left first contents new : Option (List ℕ)) (pending : Kept)
+    (told new_told : Told) → StandsAfter d v left new_left first contents pending told → IsAtEnd new_left
+    → TellsOne d v pending.text contents new told new_told
     → IfSome left (λ bytes. (written : List ℕ) × Appends first new written × Replies d v bytes written new_told.is_refused)
 all_replied d v left new_left first contents new pending told new_told takes end t =
     if_some left _ _ (at_end left new_left takes.input takes.consumes end) (λ bytes e.
-    subst (λ (b : List ℕ). (written : List ℕ) × Appends first new written × Replies d v b written new_told.is_refused) (sym e) (replies_all d v first takes.input contents pending told takes.stands new new_told t))
+    subst (λ (b : List ℕ). (written : List ℕ) × Appends first new written × Replies d v b written new_told.is_refused)
+    (sym e) (replies_all d v first takes.input contents pending told takes.stands new new_told t))
 
-pub all_begun : (d : Declaration) (v : View) (left new_left first contents new : Option (List ℕ)) (pending : Kept) (told : Told) → StandsAfter d v left new_left first contents pending told → IsAtEnd new_left → TellsPart d v pending.text contents new told
+pub all_begun : (d : Declaration) (v : View) (left new_left first contents new : Option (List ℕ)) (pending : Kept)
+    (told : Told) → StandsAfter d v left new_left first contents pending told → IsAtEnd new_left
+    → TellsPart d v pending.text contents new told
     → IfSome left (λ bytes. (written : List ℕ) × Appends first new written × RepliesBegun d v bytes written)
 all_begun d v left new_left first contents new pending told takes end t =
     if_some left _ _ (at_end left new_left takes.input takes.consumes end) (λ bytes e.
-    subst (λ (b : List ℕ). (written : List ℕ) × Appends first new written × RepliesBegun d v b written) (sym e) (replies_part d v first takes.input contents pending told takes.stands new t))
+    subst (λ (b : List ℕ). (written : List ℕ) × Appends first new written × RepliesBegun d v b written) (sym e)
+    (replies_part d v first takes.input contents pending told takes.stands new t))
 
 -- a front of the input
-pub front_begun : (d : Declaration) (v : View) (left first contents : Option (List ℕ)) → TakesFront d v left first contents → IfSome left (λ bytes. (written : List ℕ) × Appends first contents written × RepliesBegun d v bytes written)
+pub front_begun : (d : Declaration) (v : View) (left first contents : Option (List ℕ)) → TakesFront d v left first contents
+    → IfSome left (λ bytes. (written : List ℕ) × Appends first contents written × RepliesBegun d v bytes written)
 front_begun d v left first contents takes = by left takes.new_left takes.consumes
   where
     front : List ℕ
     front = take takes.begun.front.n (replies_text takes.begun.front.answers)
 
-    by : (left new_left : Option (List ℕ)) → Consumes left new_left takes.input → IfSome left (λ bytes. (written : List ℕ) × Appends first contents written × RepliesBegun d v bytes written)
+    by : (left new_left : Option (List ℕ)) → Consumes left new_left takes.input
+        → IfSome left (λ bytes. (written : List ℕ) × Appends first contents written × RepliesBegun d v bytes written)
     by None new_left k = tt
     by (Some xs) None k = absurd k
     by (Some xs) (Some ys) k = (
@@ -301,7 +359,8 @@ front_begun d v left first contents takes = by left takes.new_left takes.consume
     )
 
 -- nothing was read and nothing written
-pub nothing_begun : (d : Declaration) (v : View) (left first : Option (List ℕ)) → IfSome left (λ bytes. (written : List ℕ) × Appends first first written × RepliesBegun d v bytes written)
+pub nothing_begun : (d : Declaration) (v : View) (left first : Option (List ℕ))
+    → IfSome left (λ bytes. (written : List ℕ) × Appends first first written × RepliesBegun d v bytes written)
 nothing_begun d v None first = tt
 nothing_begun d v (Some xs) first = (
   [],

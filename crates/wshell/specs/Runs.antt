@@ -27,7 +27,8 @@ pub record Replies (d : Declaration) (v : View) (input output : List ℕ) (is_re
 
 -- the texts are the first queries of the input, or all of them and what stands behind the last semicolon
 pub data Begins (input : List ℕ) : List (List ℕ) → Type 0 where
-  First : (queries : List (List ℕ)) (more : List ℕ) → input ≡ flat_map ended queries ++ more → AllByRecursion IsEnded queries → Begins input queries
+  First : (queries : List (List ℕ)) (more : List ℕ) → input ≡ flat_map ended queries ++ more
+      → AllByRecursion IsEnded queries → Begins input queries
   All : (queries : List (List ℕ)) (rest : List ℕ) → Splits input queries rest → Begins input (queries ++ rest ∷ [])
 
 -- the output is a beginning of what the first texts of the input are told
@@ -78,7 +79,8 @@ pub record FrontSoFar (d : Declaration) (v : View) (texts : List (List ℕ)) (fi
   pub appends : Appends first contents (take n (replies_text answers))
 
 -- behind these bytes of the input: the queries that ended in them were told so, and a text stands behind the last of them
-pub record StandsBehind (d : Declaration) (v : View) (first : Option (List ℕ)) (input : List ℕ) (contents : Option (List ℕ)) (pending : Kept) (told : Told) : Type 0 where
+pub record StandsBehind (d : Declaration) (v : View) (first : Option (List ℕ)) (input : List ℕ) (contents : Option (List ℕ))
+    (pending : Kept) (told : Told) : Type 0 where
   pub queries : List (List ℕ)
   pub rest : List ℕ
   pub splits : Splits input queries rest
@@ -96,14 +98,17 @@ pub record IsBegun (d : Declaration) (v : View) (first : Option (List ℕ)) (inp
 -- whatever was told before these bytes of the input, it stands so behind them
 abbrev pub GoesOn : Declaration → View → List ℕ → Option (List ℕ) → Option (List ℕ) → Kept → Kept → Told → Told → Type 0
 GoesOn d v bytes old new pending new_pending told new_told =
-    (first : Option (List ℕ)) (input : List ℕ) → StandsBehind d v first input old pending told → StandsBehind d v first (input ++ bytes) new new_pending new_told
+    (first : Option (List ℕ)) (input : List ℕ) → StandsBehind d v first input old pending told
+    → StandsBehind d v first (input ++ bytes) new new_pending new_told
 
 -- or a front of the replies was written
 abbrev pub GivesUp : Declaration → View → List ℕ → Option (List ℕ) → Option (List ℕ) → Kept → Told → Type 0
-GivesUp d v bytes old new pending told = (first : Option (List ℕ)) (input : List ℕ) → StandsBehind d v first input old pending told → IsBegun d v first (input ++ bytes) new
+GivesUp d v bytes old new pending told = (first : Option (List ℕ)) (input : List ℕ)
+    → StandsBehind d v first input old pending told → IsBegun d v first (input ++ bytes) new
 
 -- this much of the input was read, and it stands so behind it
-pub record StandsAfter (d : Declaration) (v : View) (left new_left first contents : Option (List ℕ)) (pending : Kept) (told : Told) : Type 0 where
+pub record StandsAfter (d : Declaration) (v : View) (left new_left first contents : Option (List ℕ)) (pending : Kept)
+    (told : Told) : Type 0 where
   pub input : List ℕ
   pub consumes : Consumes left new_left input
   pub stands : StandsBehind d v first input contents pending told

@@ -24,7 +24,8 @@ abbrev pub Tells : Declaration → View → List (List ℕ) → List (Result (Li
 Tells d v [] [] = ⊤
 Tells d v [] (answer ∷ answers) = ⊥
 Tells d v (text ∷ texts) [] = IsBlank text × Tells d v texts []
-Tells d v (text ∷ texts) (answer ∷ answers) = (IsBlank text × Tells d v texts (answer ∷ answers)) ⊎ (¬ (IsBlank text) × IsAnswer d v text answer × Tells d v texts answers)
+Tells d v (text ∷ texts) (answer ∷ answers) = (IsBlank text × Tells d v texts (answer ∷ answers))
+    ⊎ (¬ (IsBlank text) × IsAnswer d v text answer × Tells d v texts answers)
 
 -- a reply, behind an empty line where others stand before it
 abbrev pub reply_behind : Bool → List ℕ → List ℕ
@@ -34,13 +35,15 @@ reply_behind true text = 10 ∷ text
 -- one text was told so
 pub data TellsOne (d : Declaration) (v : View) (text : List ℕ) (old new : Option (List ℕ)) (told new_told : Told) : Type 0 where
   Passed : IsBlank text → Appends old new [] → new_told ≡ told → TellsOne d v text old new told new_told
-  Answered : (answer : Result (List ℕ) AskFault) → ¬ (IsBlank text) → IsAnswer d v text answer → Appends old new (reply_behind told.is_any (reply_text answer))
+  Answered : (answer : Result (List ℕ) AskFault) → ¬ (IsBlank text) → IsAnswer d v text answer
+      → Appends old new (reply_behind told.is_any (reply_text answer))
       → new_told ≡ record { is_any = true; is_refused = told.is_refused || is_err answer } → TellsOne d v text old new told new_told
 
 -- nothing was written, or a front of the reply
 pub data TellsPart (d : Declaration) (v : View) (text : List ℕ) (old new : Option (List ℕ)) (told : Told) : Type 0 where
   Unanswered : Appends old new [] → TellsPart d v text old new told
-  Front : (answer : Result (List ℕ) AskFault) (n : ℕ) → ¬ (IsBlank text) → IsAnswer d v text answer → Appends old new (take n (reply_behind told.is_any (reply_text answer))) → TellsPart d v text old new told
+  Front : (answer : Result (List ℕ) AskFault) (n : ℕ) → ¬ (IsBlank text) → IsAnswer d v text answer
+      → Appends old new (take n (reply_behind told.is_any (reply_text answer))) → TellsPart d v text old new told
 
 -- the cause of a fault of a reply: the reader has no part in it
 abbrev pub HasTellCause : {W : Type 0} → ShellFault → Counts W → Type 0

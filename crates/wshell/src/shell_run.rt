@@ -38,10 +38,12 @@ fn end_query<W: Write>(
 ) -> Result<(), ShellFault>
     requires { IsSoundWriter output.old }
     ensures same { node.new ≡ node.old }
-    ensures ok { OnOk result (TellsOne node.old.schema node.old.view pending.old.text (W.contents output.old.inner) (W.contents output.new.inner) told.old told.new) }
+    ensures ok { OnOk result (TellsOne node.old.schema node.old.view pending.old.text (W.contents output.old.inner)
+        (W.contents output.new.inner) told.old told.new) }
     ensures empty { OnOk result (IsPending pending.new []) }
     ensures sound { OnOk result (IsSoundWriter output.new) }
-    ensures part { OnErr result (TellsPart node.old.schema node.old.view pending.old.text (W.contents output.old.inner) (W.contents output.new.inner) told.old) }
+    ensures part { OnErr result (TellsPart node.old.schema node.old.view pending.old.text (W.contents output.old.inner)
+        (W.contents output.new.inner) told.old) }
     ensures cause { IfErr result (λ fault. HasTellCause fault output.new) }
 {
     if let Err(fault) = tell(alloc, node, output, told, pending.as_slice()) {
@@ -62,9 +64,11 @@ fn take_byte<W: Write>(
 ) -> Result<(), ShellFault>
     requires { IsSoundWriter output.old }
     ensures same { node.new ≡ node.old }
-    ensures ok { OnOk result (GoesOn node.old.schema node.old.view (byte ∷ []) (W.contents output.old.inner) (W.contents output.new.inner) pending.old pending.new told.old told.new) }
+    ensures ok { OnOk result (GoesOn node.old.schema node.old.view (byte ∷ []) (W.contents output.old.inner)
+        (W.contents output.new.inner) pending.old pending.new told.old told.new) }
     ensures sound { OnOk result (IsSoundWriter output.new) }
-    ensures part { OnErr result (GivesUp node.old.schema node.old.view (byte ∷ []) (W.contents output.old.inner) (W.contents output.new.inner) pending.old told.old) }
+    ensures part { OnErr result (GivesUp node.old.schema node.old.view (byte ∷ []) (W.contents output.old.inner)
+        (W.contents output.new.inner) pending.old told.old) }
     ensures cause { IfErr result (λ fault. HasTellCause fault output.new) }
 {
     if ends(pending, byte) {
@@ -85,9 +89,11 @@ fn take_block<W: Write>(
 ) -> Result<(), ShellFault>
     requires { IsSoundWriter output.old }
     ensures same { node.new ≡ node.old }
-    ensures ok { OnOk result (GoesOn node.old.schema node.old.view block.now (W.contents output.old.inner) (W.contents output.new.inner) pending.old pending.new told.old told.new) }
+    ensures ok { OnOk result (GoesOn node.old.schema node.old.view block.now (W.contents output.old.inner)
+        (W.contents output.new.inner) pending.old pending.new told.old told.new) }
     ensures sound { OnOk result (IsSoundWriter output.new) }
-    ensures part { OnErr result (GivesUp node.old.schema node.old.view block.now (W.contents output.old.inner) (W.contents output.new.inner) pending.old told.old) }
+    ensures part { OnErr result (GivesUp node.old.schema node.old.view block.now (W.contents output.old.inner)
+        (W.contents output.new.inner) pending.old told.old) }
     ensures cause { IfErr result (λ fault. HasTellCause fault output.new) }
 {
     'bytes: for byte in block {
@@ -103,7 +109,8 @@ fn take_block<W: Write>(
 fn read_block<R: Read>(input: &mut Counted<R>, block: &mut [u8]) -> Result<usize, ShellFault>
     requires sound { IsSound input.old }
     requires room { 0 < length block.old }
-    ensures bytes { IfOk result (λ count. Consumes (R.remaining input.old.inner) (R.remaining input.new.inner) (take count block.new) × (count ≤ length block.new)) }
+    ensures bytes { IfOk result (λ count. Consumes (R.remaining input.old.inner) (R.remaining input.new.inner)
+        (take count block.new) × (count ≤ length block.new)) }
     ensures end { IfOk result (λ count. count ≡ 0 → IsAtEnd (R.remaining input.new.inner)) }
     ensures sound { OnOk result (IsSound input.new) }
     ensures falls { OnOk result (most_reads - input.new.reads < most_reads - input.old.reads) }
@@ -131,14 +138,18 @@ fn take_all<R: Read, W: Write>(
 ) -> Result<(), ShellFault>
     requires input { IsSound input.old }
     requires output { IsSoundWriter output.old }
-    requires stands { StandsBehind node.old.schema node.old.view (W.contents output.old.inner) [] (W.contents output.old.inner) pending.old told.old }
+    requires stands { StandsBehind node.old.schema node.old.view (W.contents output.old.inner) []
+        (W.contents output.old.inner) pending.old told.old }
     ensures same { node.new ≡ node.old }
-    ensures ok { OnOk result (StandsAfter node.old.schema node.old.view (R.remaining input.old.inner) (R.remaining input.new.inner) (W.contents output.old.inner) (W.contents output.new.inner) pending.new told.new) }
+    ensures ok { OnOk result (StandsAfter node.old.schema node.old.view (R.remaining input.old.inner)
+        (R.remaining input.new.inner) (W.contents output.old.inner) (W.contents output.new.inner) pending.new told.new) }
     ensures end { OnOk result (IsAtEnd (R.remaining input.new.inner)) }
     ensures sound { OnOk result (IsSound input.new × IsSoundWriter output.new) }
-    ensures part { OnErr result (TakesFront node.old.schema node.old.view (R.remaining input.old.inner) (W.contents output.old.inner) (W.contents output.new.inner)) }
+    ensures part { OnErr result (TakesFront node.old.schema node.old.view (R.remaining input.old.inner)
+        (W.contents output.old.inner) (W.contents output.new.inner)) }
     ensures read { IfErr result (λ fault. fault ≡ ShellFault.Read
-        → KeepsUp node.old.schema node.old.view (R.remaining input.old.inner) (R.remaining input.new.inner) (W.contents output.old.inner) (W.contents output.new.inner)) }
+        → KeepsUp node.old.schema node.old.view (R.remaining input.old.inner) (R.remaining input.new.inner)
+        (W.contents output.old.inner) (W.contents output.new.inner)) }
     ensures cause { IfErr result (λ fault. HasCause fault input.new output.new) }
 {
     let mut block = [0u8; BLOCK];
@@ -169,13 +180,16 @@ pub fn run<R: Read, W: Write>(
     ensures same { node.new ≡ node.old }
     // The output is the replies to the queries of the input.
     ensures replies { IfOk result (λ is_refused. IfSome (R.remaining input.old.inner) (λ bytes.
-        (written : List ℕ) × Appends (W.contents output.old.inner) (W.contents output.new.inner) written × Replies node.old.schema node.old.view bytes written is_refused)) }
+        (written : List ℕ) × Appends (W.contents output.old.inner) (W.contents output.new.inner) written
+        × Replies node.old.schema node.old.view bytes written is_refused)) }
     // At a fault it is a beginning of them.
     ensures begun { OnErr result (IfSome (R.remaining input.old.inner) (λ bytes.
-        (written : List ℕ) × Appends (W.contents output.old.inner) (W.contents output.new.inner) written × RepliesBegun node.old.schema node.old.view bytes written)) }
+        (written : List ℕ) × Appends (W.contents output.old.inner) (W.contents output.new.inner) written
+        × RepliesBegun node.old.schema node.old.view bytes written)) }
     // Where a read fails, each query that ended in what was read before was answered, and its reply written.
     ensures prompt { IfErr result (λ fault. fault ≡ ShellFault.Read
-        → KeepsUp node.old.schema node.old.view (R.remaining input.old.inner) (R.remaining input.new.inner) (W.contents output.old.inner) (W.contents output.new.inner)) }
+        → KeepsUp node.old.schema node.old.view (R.remaining input.old.inner) (R.remaining input.new.inner)
+        (W.contents output.old.inner) (W.contents output.new.inner)) }
     // A run that ends has seen no failure, and a fault has its cause.
     ensures sound { OnOk result (IsSound input.new × IsSoundWriter output.new) }
     ensures cause { IfErr result (λ fault. HasCause fault input.new output.new) }

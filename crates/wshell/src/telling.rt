@@ -71,7 +71,8 @@ fn write_behind<W: Write>(
     requires { IsSoundWriter output.old }
     ensures ok { OnOk result (Appends (W.contents output.old.inner) (W.contents output.new.inner) (reply_behind is_any text.now)) }
     ensures sound { OnOk result (IsSoundWriter output.new) }
-    ensures front { OnErr result ((n : ℕ) × Appends (W.contents output.old.inner) (W.contents output.new.inner) (take n (reply_behind is_any text.now))) }
+    ensures front { OnErr result ((n : ℕ) × Appends (W.contents output.old.inner) (W.contents output.new.inner)
+        (take n (reply_behind is_any text.now))) }
     ensures failed { OnErr result (output.new.failures ≡ 1) }
     ensures fault { IfErr result (λ e. e ≡ ShellFault.Write) }
 {
@@ -88,9 +89,12 @@ fn write_told<W: Write>(
     reply: &QueryReply,
 ) -> Result<(), ShellFault>
     requires { IsSoundWriter output.old }
-    ensures ok { OnOk result (Appends (W.contents output.old.inner) (W.contents output.new.inner) (reply_behind told.old.is_any (bytes_of reply.now.text)) × (told.new ≡ record { is_any = true; is_refused = told.old.is_refused || reply.now.is_refused })) }
+    ensures ok { OnOk result (Appends (W.contents output.old.inner) (W.contents output.new.inner)
+        (reply_behind told.old.is_any (bytes_of reply.now.text))
+        × (told.new ≡ record { is_any = true; is_refused = told.old.is_refused || reply.now.is_refused })) }
     ensures sound { OnOk result (IsSoundWriter output.new) }
-    ensures front { OnErr result ((n : ℕ) × Appends (W.contents output.old.inner) (W.contents output.new.inner) (take n (reply_behind told.old.is_any (bytes_of reply.now.text)))) }
+    ensures front { OnErr result ((n : ℕ) × Appends (W.contents output.old.inner) (W.contents output.new.inner)
+        (take n (reply_behind told.old.is_any (bytes_of reply.now.text)))) }
     ensures failed { OnErr result (output.new.failures ≡ 1) }
     ensures fault { IfErr result (λ e. e ≡ ShellFault.Write) }
 {
@@ -112,9 +116,11 @@ pub(crate) fn tell<W: Write>(
 ) -> Result<(), ShellFault>
     requires { IsSoundWriter output.old }
     ensures same { node.new ≡ node.old }
-    ensures ok { OnOk result (TellsOne node.old.schema node.old.view text.now (W.contents output.old.inner) (W.contents output.new.inner) told.old told.new) }
+    ensures ok { OnOk result (TellsOne node.old.schema node.old.view text.now (W.contents output.old.inner)
+        (W.contents output.new.inner) told.old told.new) }
     ensures sound { OnOk result (IsSoundWriter output.new) }
-    ensures part { OnErr result (TellsPart node.old.schema node.old.view text.now (W.contents output.old.inner) (W.contents output.new.inner) told.old) }
+    ensures part { OnErr result (TellsPart node.old.schema node.old.view text.now (W.contents output.old.inner)
+        (W.contents output.new.inner) told.old) }
     ensures cause { IfErr result (λ fault. HasTellCause fault output.new) }
 {
     match is_blank(alloc, text) {

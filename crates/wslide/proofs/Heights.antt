@@ -22,7 +22,8 @@ chosen k n m false e h = h (lt_of_test m (2 ^ k) e)
 from_enough : (tries k m : ℕ) → m ≤ tries + 2 ^ k → m ≤ 2 ^ (least_from tries k m)
 from_enough zero k m h = omega arith
 from_enough (suc tries) k m h =
-    chosen k (least_from tries (k + 1) m) m (nat_le m (2 ^ k)) refl (λ lt. from_enough tries (k + 1) m (rw (pow_more 2 k) (omega (arith, pow_pos k))))
+    chosen k (least_from tries (k + 1) m) m (nat_le m (2 ^ k)) refl
+    (λ lt. from_enough tries (k + 1) m (rw (pow_more 2 k) (omega (arith, pow_pos k))))
 
 pub height_enough : (m : ℕ) → m ≤ 2 ^ height m
 unfolding height
@@ -40,7 +41,10 @@ from_least : (tries k m e : ℕ) → m ≤ 2 ^ e → k ≤ e → least_from trie
 from_least zero k m e h l = l
 from_least (suc tries) k m e h l =
     least_chosen k (least_from tries (k + 1) m) e m (nat_le m (2 ^ k)) refl l
-    (λ lt. from_least tries (k + 1) m e h (elim (cases_lt k e) [ inl below ↦ omega arith | inr above ↦ absurd (omega (arith, pow_mono above)) ]))
+    (λ lt. from_least tries (k + 1) m e h (elim (cases_lt k e) [
+      | inl below ↦ omega arith
+      | inr above ↦ absurd (omega (arith, pow_mono above))
+    ]))
 
 pub height_least : (m e : ℕ) → m ≤ 2 ^ e → height m ≤ e
 unfolding height

@@ -1,5 +1,6 @@
 -- What the steps of a queue keep of the parts that it holds.
-use Rattle.std.proofs.Common.{◌≡◌, ℕ, suc, ◌+◌, ◌-◌, ◌<◌, List, [], ◌∷◌, ◌++◌, length, take, drop, Some, sym, ap, ◌∙◌, refl, arith, append_assoc}
+use Rattle.std.proofs.Common.{◌≡◌, ℕ, suc, ◌+◌, ◌-◌, ◌<◌, List, [], ◌∷◌, ◌++◌, length, take}
+use Rattle.std.proofs.Common.{drop, Some, sym, ap, ◌∙◌, refl, arith, append_assoc}
 use Rattle.std.specs.Prelude.{All, reverse, slice_get}
 use Rattle.std.proofs.lemmas.List.{reverse-append}
 use Rattle.std.proofs.lemmas.List.Elements.{All-append, All-take}
@@ -12,7 +13,8 @@ use Rattle.wslide.proofs.Stacks.{running-take, length-running, top_running, gath
 module _ {P : Type 0} (is_part : P → Type 0) (neutral : P) (joined : P → P → P) where
   -- what a queue holds are parts
   pub filled_parts : (held : List P) (q : FoldQueue P) → IsFilledBy is_part neutral joined held q → All is_part held
-  filled_parts held q h = rw h.parts (All-append is_part (reverse h.older) q.back.items (All-reversed is_part h.older h.older_parts) h.kept.back)
+  filled_parts held q h = rw h.parts (All-append is_part (reverse h.older) q.back.items
+      (All-reversed is_part h.older h.older_parts) h.kept.back)
 
   drop_reversed : (xs ys : List P) → 0 < length xs → drop 1 (reverse xs ++ ys) ≡ reverse (take (length xs - 1) xs) ++ ys
   drop_reversed [] ys h = absurd (omega (arith, h))
@@ -25,14 +27,17 @@ module _ {P : Type 0} (is_part : P → Type 0) (neutral : P) (joined : P → P �
       ap (drop 1) (ap (λ l. l ++ ys) (reverse-append (x ∷ []) (z ∷ zs)) ∙ append_assoc (reverse (z ∷ zs)) (x ∷ []) ys)
       ∙ drop_reversed (z ∷ zs) (x ∷ ys) some
       ∙ ap (λ n. reverse (take n (z ∷ zs)) ++ x ∷ ys) l
-      ∙ sym (ap (λ n. reverse (take n (x ∷ z ∷ zs)) ++ ys) two ∙ ap (λ l. l ++ ys) (reverse-append (x ∷ []) rest) ∙ append_assoc (reverse rest) (x ∷ []) ys)
+      ∙ sym (ap (λ n. reverse (take n (x ∷ z ∷ zs)) ++ ys) two ∙ ap (λ l. l ++ ys) (reverse-append (x ∷ []) rest)
+      ∙ append_assoc (reverse rest) (x ∷ []) ys)
 
   length-drop_one : (xs : List P) (n : ℕ) → length xs ≡ n + 1 → length (drop 1 xs) ≡ n
   length-drop_one [] n e = omega (arith, e)
   length-drop_one (x ∷ xs) n e = omega (arith, e)
 
   -- without the oldest part
-  pub filled_less : (held : List P) (q next : FoldQueue P) (some : ℕ) → some ≡ length q.front.items → 0 < some → next.front.items ≡ take (some - 1) q.front.items → next.back.items ≡ q.back.items → next.back_fold ≡ q.back_fold → part_count next + 1 ≡ part_count q → KeepsParts is_part next
+  pub filled_less : (held : List P) (q next : FoldQueue P) (some : ℕ) → some ≡ length q.front.items → 0 < some
+      → next.front.items ≡ take (some - 1) q.front.items → next.back.items ≡ q.back.items → next.back_fold ≡ q.back_fold
+      → part_count next + 1 ≡ part_count q → KeepsParts is_part next
       → IsFilledBy is_part neutral joined held q → IsFilledBy is_part neutral joined (drop 1 held) next
   filled_less held q next some m l f b e n k h =
       let long : some ≡ length h.older = m ∙ ap length h.front ∙ length-running joined neutral h.older in
@@ -49,9 +54,12 @@ module _ {P : Type 0} (is_part : P → Type 0) (neutral : P) (joined : P → P �
       }
 
   -- the fold of what a queue holds, where a part is among the folds
-  pub both_total : FoldLaws is_part neutral joined → (held : List P) (q : FoldQueue P) (top : P) → Some top ≡ slice_get q.front.items (length q.front.items - 1) → IsFilledBy is_part neutral joined held q → joined top q.back_fold ≡ total neutral joined held
+  pub both_total : FoldLaws is_part neutral joined → (held : List P) (q : FoldQueue P) (top : P)
+      → Some top ≡ slice_get q.front.items (length q.front.items - 1) → IsFilledBy is_part neutral joined held q
+      → joined top q.back_fold ≡ total neutral joined held
   both_total laws held q top s h =
       let whole = top_running joined neutral h.older q.front.items top h.front s in
       ap (λ t. joined t q.back_fold) (whole ∙ gathered_is_total laws h.older h.older_parts)
       ∙ ap (joined (total neutral joined (reverse h.older))) h.back_fold
-      ∙ sym (ap (total neutral joined) h.parts ∙ total-append laws (reverse h.older) q.back.items (All-reversed is_part h.older h.older_parts) h.kept.back)
+      ∙ sym (ap (total neutral joined) h.parts ∙ total-append laws (reverse h.older) q.back.items
+      (All-reversed is_part h.older h.older_parts) h.kept.back)

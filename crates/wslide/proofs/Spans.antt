@@ -1,5 +1,6 @@
 -- The parts of a run of rows.
-use Rattle.std.proofs.Common.{◌≡◌, ℕ, zero, suc, ◌+◌, ◌-◌, ◌<◌, ◌≤◌, List, [], ◌∷◌, ◌++◌, length, take, drop, map, sym, ap, ◌∙◌, refl, arith, subst, length-append, append_assoc}
+use Rattle.std.proofs.Common.{◌≡◌, ℕ, zero, suc, ◌+◌, ◌-◌, ◌<◌, ◌≤◌, List, [], ◌∷◌, ◌++◌, length, take}
+use Rattle.std.proofs.Common.{drop, map, sym, ap, ◌∙◌, refl, arith, subst, length-append, append_assoc}
 use Rattle.std.specs.Prelude.{slice_range, All}
 use Rattle.std.specs.List.{fold}
 use Rattle.std.proofs.Common.{get_or}
@@ -55,7 +56,8 @@ module _ {P : Type 0} (part_at : ℕ → P) where
   length-parts_from row (suc n) = ap suc (length-parts_from (row + 1) n)
 
   -- one row more
-  pub parts_from-push : (from row : ℕ) → from ≤ row → parts_from part_at from (row + 1 - from) ≡ parts_from part_at from (row - from) ++ part_at row ∷ []
+  pub parts_from-push : (from row : ℕ) → from ≤ row → parts_from part_at from (row + 1 - from) ≡ parts_from part_at from
+      (row - from) ++ part_at row ∷ []
   parts_from-push from row h =
       let e : row + 1 - from ≡ suc (row - from) = omega arith in
       let at : from + (row - from) ≡ row = omega arith in
@@ -68,7 +70,8 @@ module _ {P : Type 0} (part_at : ℕ → P) where
   parts_from_next row = ap (map part_at) (places_next row) ∙ map-append part_at (places row) (row ∷ [])
 
   -- without its first row
-  pub parts_from-drop : (from to : ℕ) → from < to → drop 1 (parts_from part_at from (to - from)) ≡ parts_from part_at (from + 1) (to - (from + 1))
+  pub parts_from-drop : (from to : ℕ) → from < to → drop 1 (parts_from part_at from (to - from))
+      ≡ parts_from part_at (from + 1) (to - (from + 1))
   parts_from-drop from to h =
       let e : to - from ≡ suc (to - (from + 1)) = omega arith in
       ap (λ n. drop 1 (parts_from part_at from n)) e
@@ -91,12 +94,14 @@ module _ {P : Type 0} (part_at : ℕ → P) where
   parts_from-take row (suc n) (suc k) h = let l : k ≤ n = omega arith in ap (λ ps. part_at row ∷ ps) (parts_from-take (row + 1) n k l)
 
   -- a span of all rows' parts
-  pub range_parts : (rows from to : ℕ) → from ≤ to → to ≤ rows → slice_range (parts_from part_at 0 rows) from to ≡ parts_from part_at from (to - from)
+  pub range_parts : (rows from to : ℕ) → from ≤ to → to ≤ rows → slice_range (parts_from part_at 0 rows) from to
+      ≡ parts_from part_at from (to - from)
   range_parts rows from to h k =
       let l : from ≤ rows = omega arith in
       let n : to - from ≤ rows - from = omega arith in
       let e : 0 + from ≡ from = omega arith in
-      ap (take (to - from)) (parts_from-drop_more 0 rows from l) ∙ parts_from-take (0 + from) (rows - from) (to - from) n ∙ ap (λ r. parts_from part_at r (to - from)) e
+      ap (take (to - from)) (parts_from-drop_more 0 rows from l) ∙ parts_from-take (0 + from) (rows - from) (to - from) n
+      ∙ ap (λ r. parts_from part_at r (to - from)) e
 
   -- one span more
   pub spans_parts-push : (ss : List Span) (s : Span) → spans_parts part_at (ss ++ s ∷ []) ≡ spans_parts part_at ss ++ span_parts part_at s
@@ -104,15 +109,21 @@ module _ {P : Type 0} (part_at : ℕ → P) where
   spans_parts-push (t ∷ ts) s =
       map-append part_at (span_places t) (spans_places (ts ++ s ∷ []))
       ∙ ap (λ ps. span_parts part_at t ++ ps) (spans_parts-push ts s)
-      ∙ sym (ap (λ ps. ps ++ span_parts part_at s) (map-append part_at (span_places t) (spans_places ts)) ∙ append_assoc (span_parts part_at t) (spans_parts part_at ts) (span_parts part_at s))
+      ∙ sym (ap (λ ps. ps ++ span_parts part_at s) (map-append part_at (span_places t) (spans_places ts))
+      ∙ append_assoc (span_parts part_at t) (spans_parts part_at ts) (span_parts part_at s))
 
-module _ {P : Type 0} {is_part : P → Type 0} {neutral : P} {joined : P → P → P} (laws : FoldLaws is_part neutral joined) (part_at : ℕ → P) where
+module _ {P : Type 0} {is_part : P → Type 0} {neutral : P} {joined : P → P → P} (laws : FoldLaws is_part neutral joined)
+    (part_at : ℕ → P) where
   -- the fold of one span more
-  pub spans_more : (rows : ℕ) (ss : List Span) (s : Span) (sum part : P) → All is_part (parts_from part_at 0 rows) → IsWithin rows s → is_part sum → sum ≡ total neutral joined (spans_parts part_at ss) → part ≡ total neutral joined (slice_range (parts_from part_at 0 rows) s.from s.to) → joined sum part ≡ total neutral joined (spans_parts part_at (ss ++ s ∷ []))
+  pub spans_more : (rows : ℕ) (ss : List Span) (s : Span) (sum part : P) → All is_part (parts_from part_at 0 rows)
+      → IsWithin rows s → is_part sum → sum ≡ total neutral joined (spans_parts part_at ss)
+      → part ≡ total neutral joined (slice_range (parts_from part_at 0 rows) s.from s.to)
+      → joined sum part ≡ total neutral joined (spans_parts part_at (ss ++ s ∷ []))
   spans_more rows ss s sum part hs within hsum e f =
       let ys = span_parts part_at s in
       let r = range_parts part_at rows s.from s.to within.ordered within.to in
-      let hys = subst (All is_part) r (All-take is_part (s.to - s.from) (drop s.from (parts_from part_at 0 rows)) (All-drop is_part s.from (parts_from part_at 0 rows) hs)) in
+      let hys = subst (All is_part) r (All-take is_part (s.to - s.from) (drop s.from (parts_from part_at 0 rows))
+      (All-drop is_part s.from (parts_from part_at 0 rows) hs)) in
       ap (joined sum) (f ∙ ap (total neutral joined) r)
       ∙ sym (fold_from laws sum ys hsum (recursion_from_All is_part ys hys))
       ∙ ap (λ a. fold joined a ys) e
@@ -122,7 +133,8 @@ module _ {P : Type 0} {is_part : P → Type 0} {neutral : P} {joined : P → P �
 -- one span more
 pub spans_places-push : (ss : List Span) (s : Span) → spans_places (ss ++ s ∷ []) ≡ spans_places ss ++ span_places s
 spans_places-push [] s = append-nil (span_places s)
-spans_places-push (t ∷ ts) s = ap (λ ps. span_places t ++ ps) (spans_places-push ts s) ∙ sym (append_assoc (span_places t) (spans_places ts) (span_places s))
+spans_places-push (t ∷ ts) s = ap (λ ps. span_places t ++ ps) (spans_places-push ts s)
+    ∙ sym (append_assoc (span_places t) (spans_places ts) (span_places s))
 
 -- the first of several spans have no more places than all
 pub spans_places-take : (k : ℕ) (ss : List Span) → length (spans_places (take k ss)) ≤ length (spans_places ss)
@@ -133,7 +145,8 @@ spans_places-take (suc k) (s ∷ ss) =
     omega (arith, length-append (span_places s) (spans_places (take k ss)), length-append (span_places s) (spans_places ss))
 
 -- the places of one span more among the first of several
-pub length-spans_more : (ss : List Span) (k : ℕ) (d : Span) → k < length ss → length (spans_places (take (k + 1) ss)) ≡ length (spans_places (take k ss)) + ((get_or ss k d).to - (get_or ss k d).from)
+pub length-spans_more : (ss : List Span) (k : ℕ) (d : Span) → k < length ss → length (spans_places (take (k + 1) ss))
+    ≡ length (spans_places (take k ss)) + ((get_or ss k d).to - (get_or ss k d).from)
 length-spans_more ss k d h =
     let s = get_or ss k d in
     ap (λ ts. length (spans_places ts)) (take_more ss k d h)

@@ -22,6 +22,7 @@ module _ {P : Type 0} {is_part : P → Type 0} {neutral : P} {joined : P → P �
   pub total_is : (xs : List P) → All is_part xs → is_part (total neutral joined xs)
   total_is xs hs = fold_is neutral xs laws.neutral_is (recursion_from_All is_part xs hs)
 
-  pub total-append : (xs ys : List P) → All is_part xs → All is_part ys → total neutral joined (xs ++ ys) ≡ joined (total neutral joined xs) (total neutral joined ys)
+  pub total-append : (xs ys : List P) → All is_part xs → All is_part ys → total neutral joined (xs ++ ys)
+      ≡ joined (total neutral joined xs) (total neutral joined ys)
   total-append xs ys hx hy =
       fold-append joined neutral xs ys ∙ fold_from (total neutral joined xs) ys (total_is xs hx) (recursion_from_All is_part ys hy)

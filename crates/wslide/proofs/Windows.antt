@@ -1,5 +1,6 @@
 -- The folds of one partition after another.
-use Rattle.std.proofs.Common.{◌≡◌, ℕ, zero, suc, ◌+◌, ◌*◌, ◌-◌, ◌<◌, ◌≤◌, List, [], ◌∷◌, ◌++◌, length, map, take, drop, refl, sym, ap, ◌∙◌, arith, subst, length-take-le, length-drop}
+use Rattle.std.proofs.Common.{◌≡◌, ℕ, zero, suc, ◌+◌, ◌*◌, ◌-◌, ◌<◌, ◌≤◌, List, [], ◌∷◌, ◌++◌, length, map}
+use Rattle.std.proofs.Common.{take, drop, refl, sym, ap, ◌∙◌, arith, subst, length-take-le, length-drop}
 use Rattle.std.specs.List.{flat_map}
 use Rattle.std.proofs.lemmas.List.{take_more, flat_map_more}
 use Rattle.wframe.specs.declared.frame.Span.{Span}
@@ -43,7 +44,8 @@ reached_within low [] high (suc k) t = omega (arith, t)
 reached_within low (s ∷ ss) high (suc k) t = reached_within s.to ss high k t.2
 
 -- a partition more
-pub one_more : {X : Type 0} (f : Span → List X) (ss : List Span) (k : ℕ) → k < length ss → flat_map f (take (k + 1) ss) ≡ flat_map f (take k ss) ++ f (span_at ss k)
+pub one_more : {X : Type 0} (f : Span → List X) (ss : List Span) (k : ℕ) → k < length ss
+    → flat_map f (take (k + 1) ss) ≡ flat_map f (take k ss) ++ f (span_at ss k)
 one_more f ss k h =
     ap (flat_map f) (take_more ss k (record { from = 0; to = 0 }) h)
     ∙ sym (flat_map_more f [] (take k ss) (span_at ss k))
@@ -56,14 +58,18 @@ module _ {P : Type 0} (neutral : P) (joined : P → P → P) (part_at : ℕ → 
   mapped from [] = refl
   mapped from (row ∷ rows) = ap (λ ps. part_at (from + row) ∷ ps) (mapped from rows)
 
-  frames_alike : (from : ℕ) (rows_of : ℕ → List ℕ) (xs : List ℕ) → map (λ x. rows_fold neutral joined (λ row. part_at (from + row)) (rows_of x)) xs ≡ map (λ x. rows_fold neutral joined part_at (map (λ j. from + j) (rows_of x))) xs
+  frames_alike : (from : ℕ) (rows_of : ℕ → List ℕ) (xs : List ℕ)
+      → map (λ x. rows_fold neutral joined (λ row. part_at (from + row)) (rows_of x)) xs
+      ≡ map (λ x. rows_fold neutral joined part_at (map (λ j. from + j) (rows_of x))) xs
   frames_alike from rows_of [] = refl
   frames_alike from rows_of (x ∷ xs) =
-      ap (λ y. y ∷ map (λ x. rows_fold neutral joined (λ row. part_at (from + row)) (rows_of x)) xs) (ap (total neutral joined) (mapped from (rows_of x)))
+      ap (λ y. y ∷ map (λ x. rows_fold neutral joined (λ row. part_at (from + row)) (rows_of x)) xs)
+      (ap (total neutral joined) (mapped from (rows_of x)))
       ∙ ap (λ ys. rows_fold neutral joined part_at (map (λ j. from + j) (rows_of x)) ∷ ys) (frames_alike from rows_of xs)
 
   -- the folds of a partition, by places there and by places among all rows
-  pub folds_alike : (all : Partitioned) (s : Span) → folds_of_frames neutral joined (λ row. part_at (s.from + row)) (partition_of all s) ≡ in_each_frame (rows_fold neutral joined part_at) all s
+  pub folds_alike : (all : Partitioned) (s : Span) → folds_of_frames neutral joined (λ row. part_at (s.from + row))
+      (partition_of all s) ≡ in_each_frame (rows_fold neutral joined part_at) all s
   folds_alike all s = frames_alike s.from (frame_rows (partition_of all s)) (places (length (partition_of all s).keys))
 
 -- the joins of some rows and of some more
@@ -92,7 +98,9 @@ few_joins Group n = omega arith
 few_joins Ties n = omega arith
 
 -- the joins of a partition more
-pub joins_more : (e other : FrameExclusion) (start before after from to : ℕ) → other ≡ e → from ≤ to → before ≤ start + most_by_queues e from → after ≤ before + most other (to - from) → after ≤ before + most_by_two_queues (to - from) → after ≤ start + most_by_queues e to
+pub joins_more : (e other : FrameExclusion) (start before after from to : ℕ) → other ≡ e → from ≤ to
+    → before ≤ start + most_by_queues e from → after ≤ before + most other (to - from)
+    → after ≤ before + most_by_two_queues (to - from) → after ≤ start + most_by_queues e to
 joins_more e other start before after from to same h so_far by few =
     let at : after ≤ before + most e (to - from) = subst (λ x. after ≤ before + most x (to - from)) same by in
     let own : after - before ≤ most_by_queues e (to - from) = joins_least e (to - from) (after - before) (omega arith) (omega arith) in
@@ -101,5 +109,6 @@ joins_more e other start before after from to same h so_far by few =
     let all = ap (most_by_queues e) whole in
     omega arith
 
-pub joins_within : (e : FrameExclusion) (start joins m n : ℕ) → m ≤ n → joins ≤ start + most_by_queues e m → joins ≤ start + most_by_queues e n
+pub joins_within : (e : FrameExclusion) (start joins m n : ℕ) → m ≤ n → joins ≤ start + most_by_queues e m
+    → joins ≤ start + most_by_queues e n
 joins_within e start joins m n h few = let more = rising_joins e m n h in omega arith

@@ -1,5 +1,6 @@
 -- What the aggregates of a list of rows are (ISO/IEC 9075-2, <aggregate function>, <filter clause>).
-use Rattle.std.specs.Prelude.{◌≡◌, ℕ, ℤ, pos, ◌+ℤ◌, Bool, true, false, List, [], ◌∷◌, ◌++◌, map, Option, Some, None, slice_index_or, if◌then◌else◌, All}
+use Rattle.std.specs.Prelude.{◌≡◌, ℕ, ℤ, pos, ◌+ℤ◌, Bool, true, false, List, [], ◌∷◌, ◌++◌}
+use Rattle.std.specs.Prelude.{map, Option, Some, None, slice_index_or, if◌then◌else◌, All}
 use Rattle.std.specs.Borrow.{Bor}
 use Rattle.std.specs.List.{count_by, list_any}
 use Rattle.std.specs.Ordering.{is_lt, is_gt}
@@ -76,7 +77,8 @@ abbrev pub by_value_descending : Meaning → Meaning → Ordering
 by_value_descending = by_value_in true
 
 -- the list is cut at its least row, all of whose left rows that feed a value feed a greater one, and no right row a smaller one
-pub record IsLeastBetween (order : Meaning → Meaning → Ordering) (feed : ℕ → Meaning) (rows left : List ℕ) (least : ℕ) (right : List ℕ) : Type 0 where
+pub record IsLeastBetween (order : Meaning → Meaning → Ordering) (feed : ℕ → Meaning) (rows left : List ℕ) (least : ℕ)
+    (right : List ℕ) : Type 0 where
   pub cut : rows ≡ left ++ least ∷ right
   pub feeds : is_value (feed least) ≡ true
   pub before : All (λ row. is_value (feed row) ≡ true → is_lt (order (feed least) (feed row)) ≡ true) left

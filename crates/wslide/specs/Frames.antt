@@ -37,7 +37,8 @@ most_by_queue rows = 3 * rows
 abbrev pub most_by_tree : ℕ → ℕ
 most_by_tree rows = rows * (6 * height rows + 16)
 
--- by two queues, with one row at most between them: twice those of one; for each frame one for that row, and one for what both queues come to
+-- by two queues, with one row at most between them: twice those of one; for each frame one for that row, and one for what both
+-- queues come to
 abbrev pub most_by_two_queues : ℕ → ℕ
 most_by_two_queues rows = 8 * rows
 

@@ -1,5 +1,6 @@
 -- The joins of the folds obey the laws of a fold.
-use Rattle.std.specs.Prelude.{◌≡◌, ℕ, ℤ, pos, negsuc, neg_ℤ, ◌+ℤ◌, ◌-ℤ◌, ◌*ℤ◌, ◌<◌, ◌^◌, int_lt, List, Bool, true, false, Option, Some, None, length, if◌then◌else◌, refl}
+use Rattle.std.specs.Prelude.{◌≡◌, ℕ, ℤ, pos, negsuc, neg_ℤ, ◌+ℤ◌, ◌-ℤ◌, ◌*ℤ◌, ◌<◌, ◌^◌, int_lt, List}
+use Rattle.std.specs.Prelude.{Bool, true, false, Option, Some, None, length, if◌then◌else◌, refl}
 use Rattle.std.specs.Ordering.{is_lt, is_gt, ordering_reverse}
 use Rattle.std.specs.Cmp.{IsTotalOrder, upto, alike_right}
 use Rattle.std.specs.declared.cmp.Ordering.{Ordering}
@@ -41,7 +42,16 @@ wrapped_assoc x y z hx hy hz =
     let right = wrapped_short y z hy hz in
     let both = wrapped_short (wrapped (x +ℤ y)) z left hz in
     let other = wrapped_short x (wrapped (y +ℤ z)) hx right in
-    omega (arith, ints, (wrapped_by (x +ℤ y)).1, (wrapped_by (y +ℤ z)).1, (wrapped_by (wrapped (x +ℤ y) +ℤ z)).1, (wrapped_by (x +ℤ wrapped (y +ℤ z))).1, both, other)
+    omega (
+      arith,
+      ints,
+      (wrapped_by (x +ℤ y)).1,
+      (wrapped_by (y +ℤ z)).1,
+      (wrapped_by (wrapped (x +ℤ y) +ℤ z)).1,
+      (wrapped_by (x +ℤ wrapped (y +ℤ z))).1,
+      both,
+      other,
+    )
 
 sum_assoc : (x y z : Option ℤ) → IsSum x → IsSum y → IsSum z → sums_joined (sums_joined x y) z ≡ sums_joined x (sums_joined y z)
 sum_assoc None y z hx hy hz = refl
@@ -67,11 +77,13 @@ sum_laws = record {
   assoc = sum_assoc;
 }
 
-chosen : (values : List Meaning) (i j : ℕ) (b : Bool) → i < length values → j < length values → IsPlace values (if b then Some j else Some i)
+chosen : (values : List Meaning) (i j : ℕ) (b : Bool) → i < length values → j < length values
+    → IsPlace values (if b then Some j else Some i)
 chosen values i j true hx hy = hy
 chosen values i j false hx hy = hx
 
-closed : (order : Meaning → Meaning → Ordering) (values : List Meaning) (x y : Option ℕ) → IsPlace values x → IsPlace values y → IsPlace values (leasts_joined order values x y)
+closed : (order : Meaning → Meaning → Ordering) (values : List Meaning) (x y : Option ℕ) → IsPlace values x
+    → IsPlace values y → IsPlace values (leasts_joined order values x y)
 closed order values None y hx hy = hy
 closed order values (Some i) None hx hy = hx
 closed order values (Some i) (Some j) hx hy = chosen values i j (is_less_right order values i j) hx hy
@@ -114,7 +126,8 @@ module _ {order : Meaning → Meaning → Ordering} (total : IsTotalOrder order)
 
   module _ (values : List Meaning) where
     assoc_by : (i j k : ℕ) (b c : Bool) → is_less_right order values i j ≡ b → is_less_right order values j k ≡ c →
-        leasts_joined order values (leasts_joined order values (Some i) (Some j)) (Some k) ≡ leasts_joined order values (Some i) (leasts_joined order values (Some j) (Some k))
+        leasts_joined order values (leasts_joined order values (Some i) (Some j)) (Some k) ≡ leasts_joined order values
+        (Some i) (leasts_joined order values (Some j) (Some k))
     assoc_by i j k true true h l =
         let m : is_less_right order values i k ≡ true = less_chain (value_at values k) (value_at values j) (value_at values i) l h in
         rw (h, l, m)
@@ -124,7 +137,8 @@ module _ {order : Meaning → Meaning → Ordering} (total : IsTotalOrder order)
         let m : is_less_right order values i k ≡ false = not_less_chain (value_at values i) (value_at values j) (value_at values k) h l in
         rw (h, l, h, m)
 
-    assoc : (x y z : Option ℕ) → leasts_joined order values (leasts_joined order values x y) z ≡ leasts_joined order values x (leasts_joined order values y z)
+    assoc : (x y z : Option ℕ) → leasts_joined order values (leasts_joined order values x y) z ≡ leasts_joined order values
+        x (leasts_joined order values y z)
     assoc None y z = refl
     assoc (Some i) None z = refl
     assoc (Some i) (Some j) None = right_none order values (leasts_joined order values (Some i) (Some j))

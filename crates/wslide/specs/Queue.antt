@@ -24,7 +24,8 @@ pub record KeepsParts {P : Type 0} (is_part : P → Type 0) (q : FoldQueue P) : 
   pub back_fold : is_part q.back_fold
 
 -- the queue was filled by this fold, and these parts are what it holds, the oldest first
-pub record IsFilledBy {P : Type 0} (is_part : P → Type 0) (neutral : P) (joined : P → P → P) (held : List P) (q : FoldQueue P) : Type 0 where
+pub record IsFilledBy {P : Type 0} (is_part : P → Type 0) (neutral : P) (joined : P → P
+    → P) (held : List P) (q : FoldQueue P) : Type 0 where
   pub kept : KeepsParts is_part q
   -- the older ones, the newest first, of which it keeps folds alone
   pub older : List P

@@ -28,21 +28,27 @@ fn advance_both<F: Fold>(
     held: Sides,
     next: Sides,
 )
-    requires before_filled { IsFilledBy (F.is_part fold.now) (F.neutral fold.now) (F.joined fold.now) (span_parts (F.part_at fold.now) held.before) before.old }
+    requires before_filled { IsFilledBy (F.is_part fold.now) (F.neutral fold.now) (F.joined fold.now)
+        (span_parts (F.part_at fold.now) held.before) before.old }
     requires before_ordered { held.before.from ≤ held.before.to }
     requires before_rises { IsRisen (F.rows fold.now) held.before next.before }
     requires before_space { F.rows fold.now ≤ capacity before.old }
-    requires behind_filled { IsFilledBy (F.is_part fold.now) (F.neutral fold.now) (F.joined fold.now) (span_parts (F.part_at fold.now) held.behind) behind.old }
+    requires behind_filled { IsFilledBy (F.is_part fold.now) (F.neutral fold.now) (F.joined fold.now)
+        (span_parts (F.part_at fold.now) held.behind) behind.old }
     requires behind_ordered { held.behind.from ≤ held.behind.to }
     requires behind_rises { IsRisen (F.rows fold.now) held.behind next.behind }
     requires behind_space { F.rows fold.now ≤ capacity behind.old }
-    requires room { F.count meter.old + owed before.old + owed behind.old + 2 * (next.before.to - held.before.to) + 2 * (next.behind.to - held.behind.to) + F.rows fold.now < 2 ^ 64 }
-    ensures before_filled { IsFilledBy (F.is_part fold.now) (F.neutral fold.now) (F.joined fold.now) (span_parts (F.part_at fold.now) next.before) before.new }
+    requires room { F.count meter.old + owed before.old + owed behind.old + 2 * (next.before.to - held.before.to)
+        + 2 * (next.behind.to - held.behind.to) + F.rows fold.now < 2 ^ 64 }
+    ensures before_filled { IsFilledBy (F.is_part fold.now) (F.neutral fold.now) (F.joined fold.now)
+        (span_parts (F.part_at fold.now) next.before) before.new }
     ensures before_capacity { capacity before.new ≡ capacity before.old }
-    ensures behind_filled { IsFilledBy (F.is_part fold.now) (F.neutral fold.now) (F.joined fold.now) (span_parts (F.part_at fold.now) next.behind) behind.new }
+    ensures behind_filled { IsFilledBy (F.is_part fold.now) (F.neutral fold.now) (F.joined fold.now)
+        (span_parts (F.part_at fold.now) next.behind) behind.new }
     ensures behind_capacity { capacity behind.new ≡ capacity behind.old }
     ensures not_less { F.count meter.old ≤ F.count meter.new }
-    ensures joins { F.count meter.new + owed before.new + owed behind.new ≤ F.count meter.old + owed before.old + owed behind.old + 2 * (next.before.to - held.before.to) + 2 * (next.behind.to - held.behind.to) }
+    ensures joins { F.count meter.new + owed before.new + owed behind.new ≤ F.count meter.old + owed before.old + owed
+        behind.old + 2 * (next.before.to - held.before.to) + 2 * (next.behind.to - held.behind.to) }
 {
     advance(before, fold, meter, held.before, next.before);
     advance(behind, fold, meter, held.behind, next.behind);
@@ -57,13 +63,16 @@ fn fold_around<F: Fold>(
     held: Sides,
     within: Span,
 ) -> F::Part
-    requires before_filled { IsFilledBy (F.is_part fold.now) (F.neutral fold.now) (F.joined fold.now) (span_parts (F.part_at fold.now) held.before) before.now }
-    requires behind_filled { IsFilledBy (F.is_part fold.now) (F.neutral fold.now) (F.joined fold.now) (span_parts (F.part_at fold.now) held.behind) behind.now }
+    requires before_filled { IsFilledBy (F.is_part fold.now) (F.neutral fold.now) (F.joined fold.now)
+        (span_parts (F.part_at fold.now) held.before) before.now }
+    requires behind_filled { IsFilledBy (F.is_part fold.now) (F.neutral fold.now) (F.joined fold.now)
+        (span_parts (F.part_at fold.now) held.behind) behind.now }
     requires ordered { within.from ≤ within.to }
     requires small { within.to ≤ within.from + 1 }
     requires rows { within.to ≤ F.rows fold.now }
     requires room { F.count meter.old + 4 < 2 ^ 64 }
-    ensures value { result ≡ total (F.neutral fold.now) (F.joined fold.now) (spans_parts (F.part_at fold.now) (held.before ∷ within ∷ held.behind ∷ [])) }
+    ensures value { result ≡ total (F.neutral fold.now) (F.joined fold.now)
+        (spans_parts (F.part_at fold.now) (held.before ∷ within ∷ held.behind ∷ [])) }
     ensures part { F.is_part fold.now result }
     ensures not_less { F.count meter.old ≤ F.count meter.new }
     ensures joins { F.count meter.new ≤ F.count meter.old + 4 }
@@ -89,8 +98,10 @@ pub(crate) fn push_excluded_folds<F: Fold>(
     requires before_space { F.rows fold.now ≤ capacity before.old }
     requires behind_space { F.rows fold.now ≤ capacity behind.old }
     requires room { F.count meter.old + (most_by_two_queues (F.rows fold.now) + F.rows fold.now) < 2 ^ 64 }
-    ensures folds { OnOk result (folds.new.items ≡ folds.old.items ++ folds_of_frames (F.neutral fold.now) (F.joined fold.now) (F.part_at fold.now) frames.now) }
-    ensures parts { OnOk result (All (F.is_part fold.now) (folds_of_frames (F.neutral fold.now) (F.joined fold.now) (F.part_at fold.now) frames.now)) }
+    ensures folds { OnOk result (folds.new.items ≡ folds.old.items ++ folds_of_frames (F.neutral fold.now)
+        (F.joined fold.now) (F.part_at fold.now) frames.now) }
+    ensures parts { OnOk result (All (F.is_part fold.now) (folds_of_frames (F.neutral fold.now) (F.joined fold.now)
+        (F.part_at fold.now) frames.now)) }
     ensures before_capacity { capacity before.new ≡ capacity before.old }
     ensures behind_capacity { capacity behind.new ≡ capacity behind.old }
     ensures not_less { F.count meter.old ≤ F.count meter.new }

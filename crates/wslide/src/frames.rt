@@ -47,8 +47,10 @@ pub fn push_frame_folds<F: Fold>(
     requires rows { length frames.now.keys ≡ F.rows fold.now }
     requires space { HasRoom (F.rows fold.now) queues.old }
     requires room { F.count meter.old + (most frames.now.frame.exclusion (F.rows fold.now) + F.rows fold.now) < 2 ^ 64 }
-    ensures folds { OnOk result (folds.new.items ≡ folds.old.items ++ folds_of_frames (F.neutral fold.now) (F.joined fold.now) (F.part_at fold.now) frames.now) }
-    ensures parts { OnOk result (All (F.is_part fold.now) (folds_of_frames (F.neutral fold.now) (F.joined fold.now) (F.part_at fold.now) frames.now)) }
+    ensures folds { OnOk result (folds.new.items ≡ folds.old.items ++ folds_of_frames (F.neutral fold.now)
+        (F.joined fold.now) (F.part_at fold.now) frames.now) }
+    ensures parts { OnOk result (All (F.is_part fold.now) (folds_of_frames (F.neutral fold.now) (F.joined fold.now)
+        (F.part_at fold.now) frames.now)) }
     ensures space { (rows : ℕ) → HasRoom rows queues.old → HasRoom rows queues.new }
     ensures not_less { F.count meter.old ≤ F.count meter.new }
     ensures joins { F.count meter.new ≤ F.count meter.old + most frames.now.frame.exclusion (F.rows fold.now) }
@@ -72,7 +74,8 @@ pub fn frame_folds<F: Fold>(
 ) -> Result<Vec<F::Part>, AllocError>
     requires rows { length frames.now.keys ≡ F.rows fold.now }
     requires room { F.count meter.old + (most frames.now.frame.exclusion (F.rows fold.now) + F.rows fold.now) < 2 ^ 64 }
-    ensures folds { IfOk result (λ folds. folds.items ≡ folds_of_frames (F.neutral fold.now) (F.joined fold.now) (F.part_at fold.now) frames.now) }
+    ensures folds { IfOk result (λ folds. folds.items ≡ folds_of_frames (F.neutral fold.now) (F.joined fold.now)
+        (F.part_at fold.now) frames.now) }
     ensures parts { IfOk result (λ folds. All (F.is_part fold.now) folds.items) }
     ensures not_less { F.count meter.old ≤ F.count meter.new }
     ensures joins { F.count meter.new ≤ F.count meter.old + most frames.now.frame.exclusion (F.rows fold.now) }

@@ -56,7 +56,8 @@ pub fn plain_folds<F: Fold>(
 ) -> Result<Vec<F::Part>, AllocError>
     requires rows { length frames.now.keys ≡ F.rows fold.now }
     requires room { F.count meter.old + F.rows fold.now * F.rows fold.now < 2 ^ 64 }
-    ensures folds { IfOk result (λ folds. folds.items ≡ folds_of_frames (F.neutral fold.now) (F.joined fold.now) (F.part_at fold.now) frames.now) }
+    ensures folds { IfOk result (λ folds. folds.items ≡ folds_of_frames (F.neutral fold.now) (F.joined fold.now)
+        (F.part_at fold.now) frames.now) }
     ensures parts { IfOk result (λ folds. All (F.is_part fold.now) folds.items) }
     ensures not_less { F.count meter.old ≤ F.count meter.new }
     ensures joins { F.count meter.new ≤ F.count meter.old + F.rows fold.now * F.rows fold.now }

@@ -78,7 +78,8 @@ impl<P: Copy> FoldQueue<P> {
         requires part { F.is_part fold.now part }
         requires space { part_count self.old < capacity self.old }
         requires room { F.count meter.old + 1 < 2 ^ 64 }
-        ensures filled { (held : List P) → IsFilledBy (F.is_part fold.now) (F.neutral fold.now) (F.joined fold.now) held self.old → IsFilledBy (F.is_part fold.now) (F.neutral fold.now) (F.joined fold.now) (held ++ part ∷ []) self.new }
+        ensures filled { (held : List P) → IsFilledBy (F.is_part fold.now) (F.neutral fold.now) (F.joined fold.now) held
+            self.old → IsFilledBy (F.is_part fold.now) (F.neutral fold.now) (F.joined fold.now) (held ++ part ∷ []) self.new }
         ensures kept { KeepsParts (F.is_part fold.now) self.new }
         ensures count { part_count self.new ≡ part_count self.old + 1 }
         ensures capacity { capacity self.new ≡ capacity self.old }
@@ -93,7 +94,8 @@ impl<P: Copy> FoldQueue<P> {
     pub fn fold<F: Fold<Part = P>>(&self, fold: &F, meter: &mut F::Meter) -> P
         requires kept { KeepsParts (F.is_part fold.now) self.now }
         requires room { F.count meter.old + 1 < 2 ^ 64 }
-        ensures value { (held : List P) → IsFilledBy (F.is_part fold.now) (F.neutral fold.now) (F.joined fold.now) held self.now → result ≡ total (F.neutral fold.now) (F.joined fold.now) held }
+        ensures value { (held : List P) → IsFilledBy (F.is_part fold.now) (F.neutral fold.now) (F.joined fold.now) held
+            self.now → result ≡ total (F.neutral fold.now) (F.joined fold.now) held }
         ensures part { F.is_part fold.now result }
         ensures not_less { F.count meter.old ≤ F.count meter.new }
         ensures joins { F.count meter.new ≤ F.count meter.old + 1 }
@@ -111,7 +113,8 @@ impl<P: Copy> FoldQueue<P> {
         requires kept { KeepsParts (F.is_part fold.now) self.old }
         requires some { 0 < part_count self.old }
         requires room { F.count meter.old + part_count self.old < 2 ^ 64 }
-        ensures filled { (held : List P) → IsFilledBy (F.is_part fold.now) (F.neutral fold.now) (F.joined fold.now) held self.old → IsFilledBy (F.is_part fold.now) (F.neutral fold.now) (F.joined fold.now) (drop 1 held) self.new }
+        ensures filled { (held : List P) → IsFilledBy (F.is_part fold.now) (F.neutral fold.now) (F.joined fold.now) held
+            self.old → IsFilledBy (F.is_part fold.now) (F.neutral fold.now) (F.joined fold.now) (drop 1 held) self.new }
         ensures kept { KeepsParts (F.is_part fold.now) self.new }
         ensures count { part_count self.new + 1 ≡ part_count self.old }
         ensures capacity { capacity self.new ≡ capacity self.old }
@@ -129,7 +132,8 @@ impl<P: Copy> FoldQueue<P> {
     fn take_front<F: Fold<Part = P>>(&mut self, fold: &F)
         requires kept { KeepsParts (F.is_part fold.now) self.old }
         requires some { 0 < vec_len self.old.front }
-        ensures filled { (held : List P) → IsFilledBy (F.is_part fold.now) (F.neutral fold.now) (F.joined fold.now) held self.old → IsFilledBy (F.is_part fold.now) (F.neutral fold.now) (F.joined fold.now) (drop 1 held) self.new }
+        ensures filled { (held : List P) → IsFilledBy (F.is_part fold.now) (F.neutral fold.now) (F.joined fold.now) held
+            self.old → IsFilledBy (F.is_part fold.now) (F.neutral fold.now) (F.joined fold.now) (drop 1 held) self.new }
         ensures kept { KeepsParts (F.is_part fold.now) self.new }
         ensures count { part_count self.new + 1 ≡ part_count self.old }
         ensures capacity { capacity self.new ≡ capacity self.old }
@@ -143,7 +147,8 @@ impl<P: Copy> FoldQueue<P> {
         requires kept { KeepsParts (F.is_part fold.now) self.old }
         requires empty { self.old.front.items ≡ [] }
         requires room { F.count meter.old + owed self.old < 2 ^ 64 }
-        ensures filled { (held : List P) → IsFilledBy (F.is_part fold.now) (F.neutral fold.now) (F.joined fold.now) held self.old → IsFilledBy (F.is_part fold.now) (F.neutral fold.now) (F.joined fold.now) held self.new }
+        ensures filled { (held : List P) → IsFilledBy (F.is_part fold.now) (F.neutral fold.now) (F.joined fold.now) held
+            self.old → IsFilledBy (F.is_part fold.now) (F.neutral fold.now) (F.joined fold.now) held self.new }
         ensures kept { KeepsParts (F.is_part fold.now) self.new }
         ensures count { part_count self.new ≡ part_count self.old }
         ensures empty { self.new.back.items ≡ [] }

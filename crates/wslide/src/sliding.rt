@@ -18,12 +18,14 @@ pub(crate) fn advance<F: Fold>(
     held: Span,
     span: Span,
 )
-    requires filled { IsFilledBy (F.is_part fold.now) (F.neutral fold.now) (F.joined fold.now) (span_parts (F.part_at fold.now) held) queue.old }
+    requires filled { IsFilledBy (F.is_part fold.now) (F.neutral fold.now) (F.joined fold.now)
+        (span_parts (F.part_at fold.now) held) queue.old }
     requires ordered { held.from ≤ held.to }
     requires rises { IsRisen (F.rows fold.now) held span }
     requires space { F.rows fold.now ≤ capacity queue.old }
     requires room { F.count meter.old + owed queue.old + 2 * (span.to - held.to) + F.rows fold.now < 2 ^ 64 }
-    ensures filled { IsFilledBy (F.is_part fold.now) (F.neutral fold.now) (F.joined fold.now) (span_parts (F.part_at fold.now) span) queue.new }
+    ensures filled { IsFilledBy (F.is_part fold.now) (F.neutral fold.now) (F.joined fold.now)
+        (span_parts (F.part_at fold.now) span) queue.new }
     ensures capacity { capacity queue.new ≡ capacity queue.old }
     ensures not_less { F.count meter.old ≤ F.count meter.new }
     ensures joins { F.count meter.new + owed queue.new ≤ F.count meter.old + owed queue.old + 2 * (span.to - held.to) }
@@ -43,7 +45,8 @@ fn held_fold<F: Fold>(
     meter: &mut F::Meter,
     held: Span,
 ) -> F::Part
-    requires filled { IsFilledBy (F.is_part fold.now) (F.neutral fold.now) (F.joined fold.now) (span_parts (F.part_at fold.now) held) queue.now }
+    requires filled { IsFilledBy (F.is_part fold.now) (F.neutral fold.now) (F.joined fold.now)
+        (span_parts (F.part_at fold.now) held) queue.now }
     requires ordered { held.from ≤ held.to }
     requires within { held.to ≤ F.rows fold.now }
     requires room { F.count meter.old + F.rows fold.now < 2 ^ 64 }
@@ -68,8 +71,10 @@ pub(crate) fn push_sliding_folds<F: Fold>(
     requires single { frames.now.frame.exclusion ≡ FrameExclusion.NoOthers }
     requires space { F.rows fold.now ≤ capacity queue.old }
     requires room { F.count meter.old + (most_by_queue (F.rows fold.now) + F.rows fold.now) < 2 ^ 64 }
-    ensures folds { OnOk result (folds.new.items ≡ folds.old.items ++ folds_of_frames (F.neutral fold.now) (F.joined fold.now) (F.part_at fold.now) frames.now) }
-    ensures parts { OnOk result (All (F.is_part fold.now) (folds_of_frames (F.neutral fold.now) (F.joined fold.now) (F.part_at fold.now) frames.now)) }
+    ensures folds { OnOk result (folds.new.items ≡ folds.old.items ++ folds_of_frames (F.neutral fold.now)
+        (F.joined fold.now) (F.part_at fold.now) frames.now) }
+    ensures parts { OnOk result (All (F.is_part fold.now) (folds_of_frames (F.neutral fold.now) (F.joined fold.now)
+        (F.part_at fold.now) frames.now)) }
     ensures capacity { capacity queue.new ≡ capacity queue.old }
     ensures not_less { F.count meter.old ≤ F.count meter.new }
     ensures joins { F.count meter.new ≤ F.count meter.old + most_by_queue (F.rows fold.now) }

@@ -51,7 +51,9 @@ fn take_left<F: Fold>(
     requires within { span.to ≤ length level.now }
     requires room { F.count meter.old + 1 < 2 ^ 64 }
     ensures part { F.is_part fold.now result.0 }
-    ensures kept { let sum = total (F.neutral fold.now) (F.joined fold.now) in F.joined fold.now result.0 (sum (slice_range level.now result.1 span.to)) ≡ F.joined fold.now left (sum (slice_range level.now span.from span.to)) }
+    ensures kept { let sum = total (F.neutral fold.now) (F.joined fold.now) in
+        F.joined fold.now result.0 (sum (slice_range level.now result.1 span.to)) ≡ F.joined fold.now left
+        (sum (slice_range level.now span.from span.to)) }
     ensures from { span.from ≤ result.1 }
     ensures to { result.1 ≤ span.to }
     ensures even { result.1 < span.to → result.1 % 2 ≡ 0 }
@@ -80,7 +82,9 @@ fn take_right<F: Fold>(
     requires even { span.from < span.to → span.from % 2 ≡ 0 }
     requires room { F.count meter.old + 1 < 2 ^ 64 }
     ensures part { F.is_part fold.now result.0 }
-    ensures kept { let sum = total (F.neutral fold.now) (F.joined fold.now) in F.joined fold.now (sum (slice_range level.now span.from result.1)) result.0 ≡ F.joined fold.now (sum (slice_range level.now span.from span.to)) right }
+    ensures kept { let sum = total (F.neutral fold.now) (F.joined fold.now) in
+        F.joined fold.now (sum (slice_range level.now span.from result.1)) result.0
+        ≡ F.joined fold.now (sum (slice_range level.now span.from span.to)) right }
     ensures from { span.from ≤ result.1 }
     ensures to { result.1 ≤ span.to }
     ensures even { span.from < result.1 → result.1 % 2 ≡ 0 }

@@ -56,7 +56,8 @@ impl<'a, F: Fold> Fold for SpanFold<'a, F> {
 
 // How many rows the longest partition has.
 fn longest(partitions: &Partitions) -> usize
-    ensures { (k : ℕ) → k < length partitions.now.spans → (span_at partitions.now.spans k).to - (span_at partitions.now.spans k).from ≤ result }
+    ensures { (k : ℕ) → k < length partitions.now.spans
+        → (span_at partitions.now.spans k).to - (span_at partitions.now.spans k).from ≤ result }
 {
     let mut longest = 0;
     for number in 0..partitions.count() {
@@ -83,8 +84,10 @@ pub fn push_window_folds<F: Fold>(
     requires rows { length partitions.now.keys ≡ F.rows fold.now }
     requires few { F.rows fold.now < 2 ^ 31 }
     requires room { F.count meter.old < 2 ^ 63 }
-    ensures folds { OnOk result (folds.new.items ≡ folds.old.items ++ folds_of_partitions (F.neutral fold.now) (F.joined fold.now) (F.part_at fold.now) partitions.now) }
-    ensures parts { OnOk result (All (F.is_part fold.now) (folds_of_partitions (F.neutral fold.now) (F.joined fold.now) (F.part_at fold.now) partitions.now)) }
+    ensures folds { OnOk result (folds.new.items ≡ folds.old.items ++ folds_of_partitions (F.neutral fold.now)
+        (F.joined fold.now) (F.part_at fold.now) partitions.now) }
+    ensures parts { OnOk result (All (F.is_part fold.now) (folds_of_partitions (F.neutral fold.now) (F.joined fold.now)
+        (F.part_at fold.now) partitions.now)) }
     ensures not_less { F.count meter.old ≤ F.count meter.new }
     ensures joins { F.count meter.new ≤ F.count meter.old + most_by_queues partitions.now.frame.exclusion (F.rows fold.now) }
 {

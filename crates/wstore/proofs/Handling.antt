@@ -1,5 +1,7 @@
 -- Messages of a stream that are handled one after the other.
-use Rattle.std.proofs.Common.{◌≡◌, ℕ, zero, suc, ◌+◌, ◌<◌, ◌≤◌, Bool, true, false, List, [], ◌∷◌, ◌++◌, ◌||◌, cond, None, map, take, length, Result, Ok, Err, IfOk, OnOk, OnErr, ◌⊎◌, inl, inr, refl, sym, ap, ◌∙◌, subst, arith, append_assoc, append-nil, length-append}
+use Rattle.std.proofs.Common.{◌≡◌, ℕ, zero, suc, ◌+◌, ◌<◌, ◌≤◌, Bool, true, false, List, [], ◌∷◌, ◌++◌, ◌||◌}
+use Rattle.std.proofs.Common.{cond, None, map, take, length, Result, Ok, Err, IfOk, OnOk, OnErr, ◌⊎◌, inl, inr}
+use Rattle.std.proofs.Common.{refl, sym, ap, ◌∙◌, subst, arith, append_assoc, append-nil, length-append}
 use Rattle.std.specs.List.{flat_map, AllByRecursion}
 use Rattle.std.specs.FinMap.{get}
 use Rattle.wlines.specs.Sent.{Sent, Says}
@@ -94,34 +96,90 @@ record LineTold (d : Declaration) (v w : View) (item : Item) (text : List ℕ) :
   view_is : IsSettled v → w ≡ join v (view_of (line_items line))
   text_is : text ≡ line_text line
 
-line_told : (d : Declaration) (v w : View) (item : Item) (reply : Reply) (text : List ℕ) → IsTold d v item reply w → IsTextOf reply text → LineTold d v w item text
-line_told d v w (SegmentItem n b) (replies.Taken word) text t is = record { line = TookLine n b word; item_is = refl; answers = (t.0, t.1); view_is = λ s. t.2; text_is = is }
-line_told d v w (SegmentItem n b) (replies.Refused fault) text t (inl is) = record { line = RefusedLine n b fault; item_is = refl; answers = t.0; view_is = λ s. t.1 ∙ join_nothing v s; text_is = is }
-line_told d v w (SegmentItem n b) (replies.Refused fault) text t (inr is) = record { line = SpentLine (SegmentItem n b); item_is = refl; answers = t.2; view_is = λ s. t.1 ∙ join_nothing v s; text_is = is }
+line_told : (d : Declaration) (v w : View) (item : Item) (reply : Reply) (text : List ℕ) → IsTold d v item reply w
+    → IsTextOf reply text → LineTold d v w item text
+line_told d v w (SegmentItem n b) (replies.Taken word) text t is = record {
+  line = TookLine n b word;
+  item_is = refl;
+  answers = (t.0, t.1);
+  view_is = λ s. t.2;
+  text_is = is;
+}
+line_told d v w (SegmentItem n b) (replies.Refused fault) text t (inl is) = record {
+  line = RefusedLine n b fault;
+  item_is =
+      refl;
+  answers = t.0;
+  view_is = λ s. t.1 ∙ join_nothing v s;
+  text_is = is;
+}
+line_told d v w (SegmentItem n b) (replies.Refused fault) text t (inr is) = record {
+  line = SpentLine (SegmentItem n b);
+  item_is = refl;
+  answers = t.2;
+  view_is = λ s. t.1 ∙ join_nothing v s;
+  text_is = is;
+}
 line_told d v w (SegmentItem n b) (replies.Retired word) text t is = absurd t
-line_told d v w (SegmentItem n b) replies.NoMemory text t is = record { line = SpentLine (SegmentItem n b); item_is = refl; answers = t.1; view_is = λ s. t.0 ∙ join_nothing v s; text_is = is }
-line_told d v w (RetirementItem n) (replies.Retired word) text t is = record { line = WasLine n word; item_is = refl; answers = t.0; view_is = λ s. t.1; text_is = is }
+line_told d v w (SegmentItem n b) replies.NoMemory text t is = record {
+  line = SpentLine (SegmentItem n b);
+  item_is = refl;
+  answers = t.1;
+  view_is = λ s. t.0 ∙ join_nothing v s;
+  text_is = is;
+}
+line_told d v w (RetirementItem n) (replies.Retired word) text t is = record {
+  line = WasLine n word;
+  item_is = refl;
+  answers = t.0;
+  view_is = λ s. t.1;
+  text_is = is;
+}
 line_told d v w (RetirementItem n) (replies.Taken word) text t is = absurd t
 line_told d v w (RetirementItem n) (replies.Refused fault) text t is = absurd t
-line_told d v w (RetirementItem n) replies.NoMemory text t is = record { line = SpentLine (RetirementItem n); item_is = refl; answers = t.1; view_is = λ s. t.0 ∙ join_nothing v s; text_is = is }
-line_told d v w (FloorItem n) (replies.Retired word) text t is = record { line = FloorLine n word; item_is = refl; answers = t.0; view_is = λ s. t.1; text_is = is }
+line_told d v w (RetirementItem n) replies.NoMemory text t is = record {
+  line = SpentLine (RetirementItem n);
+  item_is =
+      refl;
+  answers = t.1;
+  view_is = λ s. t.0 ∙ join_nothing v s;
+  text_is = is;
+}
+line_told d v w (FloorItem n) (replies.Retired word) text t is = record {
+  line = FloorLine n word;
+  item_is = refl;
+  answers =
+      t.0;
+  view_is = λ s. t.1;
+  text_is = is;
+}
 line_told d v w (FloorItem n) (replies.Taken word) text t is = absurd t
 line_told d v w (FloorItem n) (replies.Refused fault) text t is = absurd t
-line_told d v w (FloorItem n) replies.NoMemory text t is = record { line = SpentLine (FloorItem n); item_is = refl; answers = t.1; view_is = λ s. t.0 ∙ join_nothing v s; text_is = is }
+line_told d v w (FloorItem n) replies.NoMemory text t is = record {
+  line = SpentLine (FloorItem n);
+  item_is = refl;
+  answers = t.1;
+  view_is = λ s. t.0 ∙ join_nothing v s;
+  text_is = is;
+}
 
 view-push : (v : View) (ls : List Line) (l : Line) → told_view v (ls ++ l ∷ []) ≡ join (told_view v ls) (view_of (line_items l))
 view-push v [] l = refl
 view-push v (x ∷ ls) l = view-push (join v (view_of (line_items x))) ls l
 
-answers-push : (d : Declaration) (v : View) (ls : List Line) (l : Line) → LinesAnswer d v ls → LineAnswers d (told_view v ls) l → LinesAnswer d v (ls ++ l ∷ [])
+answers-push : (d : Declaration) (v : View) (ls : List Line) (l : Line) → LinesAnswer d v ls
+    → LineAnswers d (told_view v ls) l → LinesAnswer d v (ls ++ l ∷ [])
 answers-push d v [] l h k = (k, tt)
 answers-push d v (x ∷ ls) l h k = (h.0, answers-push d (join v (view_of (line_items x))) ls l h.1 k)
 
-each-push : (ls : List Line) (l : Line) → AllByRecursion IsMessage (map line_item ls) → IsMessage (line_item l) → AllByRecursion IsMessage (map line_item (ls ++ l ∷ []))
+each-push : (ls : List Line) (l : Line) → AllByRecursion IsMessage (map line_item ls) → IsMessage (line_item l)
+    → AllByRecursion IsMessage (map line_item (ls ++ l ∷ []))
 each-push [] l h k = (k, tt)
 each-push (x ∷ ls) l h k = (h.0, each-push ls l h.1 k)
 
-messages-push : (ls : List Line) (l : Line) (rest : List ℕ) → flat_map message_text (map line_item ls) ++ (message_text (line_item l) ++ rest) ≡ flat_map message_text (map line_item (ls ++ l ∷ [])) ++ rest
+messages-push : (ls : List Line) (l : Line) (rest : List ℕ)
+    → flat_map message_text (map line_item ls) ++ (message_text (line_item l) ++ rest)
+    ≡ flat_map message_text (map line_item (ls ++ l ∷ [])) ++ rest
 messages-push [] l rest = ap (λ x. x ++ rest) (sym (append-nil (message_text (line_item l))))
 messages-push (x ∷ ls) l rest =
     append_assoc (message_text (line_item x)) (flat_map message_text (map line_item ls)) (message_text (line_item l) ++ rest)
@@ -146,11 +204,15 @@ module _ (old mid new : NodeState) (a b c : Sent) (count : ℕ) (so_far : SoFar 
     more : Tells old (so_far.lines ++ last.line ∷ []) new
     more = record {
       schema_is = handles.schema_is ∙ so_far.tells.schema_is;
-      view_is = λ s. last.view_is (mid_settled s) ∙ ap (λ v. join v (view_of (line_items last.line))) (so_far.tells.view_is s) ∙ sym (view-push old.view so_far.lines last.line);
-      answers = λ s. answers-push old.schema old.view so_far.lines last.line (so_far.tells.answers s) (subst (λ v. LineAnswers old.schema v last.line) (so_far.tells.view_is s) (subst (λ d. LineAnswers d mid.view last.line) so_far.tells.schema_is last.answers));
+      view_is = λ s. last.view_is (mid_settled s) ∙ ap (λ v. join v (view_of (line_items last.line)))
+          (so_far.tells.view_is s) ∙ sym (view-push old.view so_far.lines last.line);
+      answers = λ s. answers-push old.schema old.view so_far.lines last.line (so_far.tells.answers s)
+          (subst (λ v. LineAnswers old.schema v last.line) (so_far.tells.view_is s)
+          (subst (λ d. LineAnswers d mid.view last.line) so_far.tells.schema_is last.answers));
       each = each-push so_far.lines last.line so_far.tells.each (subst IsMessage (sym last.item_is) handles.is);
       held_is =
-          so_far.tells.held_is ∙ ap (λ x. flat_map message_text (map line_item so_far.lines) ++ x) (handles.held_is ∙ ap (λ i. message_text i ++ new.held) (sym last.item_is))
+          so_far.tells.held_is ∙ ap (λ x. flat_map message_text (map line_item so_far.lines) ++ x) (handles.held_is
+          ∙ ap (λ i. message_text i ++ new.held) (sym last.item_is))
           ∙ messages-push so_far.lines last.line new.held;
       good = handles.good.1 ∙ sym handles.good.0 ∙ so_far.tells.good;
     }
@@ -159,13 +221,15 @@ module _ (old mid new : NodeState) (a b c : Sent) (count : ℕ) (so_far : SoFar 
     one_more k = record {
       lines = so_far.lines ++ last.line ∷ [];
       tells = more;
-      appends = subst (Says a c) (texts-push so_far.lines last.line) (says_more a b c (flat_map line_text so_far.lines) (line_text last.line) so_far.appends (subst (Says b c) last.text_is k));
+      appends = subst (Says a c) (texts-push so_far.lines last.line) (says_more a b c (flat_map line_text so_far.lines)
+          (line_text last.line) so_far.appends (subst (Says b c) last.text_is k));
       count_is = ap (λ n. n + 1) so_far.count_is ∙ sym (length-push so_far.lines last.line);
     }
 
     pub some_told : ((n : ℕ) × Says b c (take n text)) → SendsPart old a c
     some_told w =
-        let f = front_behind a b c (flat_map line_text so_far.lines) (line_text last.line) so_far.appends (w.0, subst (λ t. Says b c (take w.0 t)) last.text_is w.1) in
+        let f = front_behind a b c (flat_map line_text so_far.lines) (line_text last.line) so_far.appends
+        (w.0, subst (λ t. Says b c (take w.0 t)) last.text_is w.1) in
         inl (record {
           lines = so_far.lines ++ last.line ∷ [];
           new = new;
@@ -179,7 +243,13 @@ module _ (old mid new : NodeState) (a b c : Sent) (count : ℕ) (so_far : SoFar 
     last_text = fed_text (length so_far.lines) bad
 
     all : (end : TellsAll old so_far.lines bad new) → Says b c last_text → SendsAll old new a c
-    all end k = record { lines = so_far.lines; bad = bad; tells = end; appends = says_more a b c (flat_map line_text so_far.lines) last_text so_far.appends k }
+    all end k = record {
+      lines = so_far.lines;
+      bad = bad;
+      tells = end;
+      appends =
+          says_more a b c (flat_map line_text so_far.lines) last_text so_far.appends k;
+    }
 
     part : (end : TellsAll old so_far.lines bad new) → ((n : ℕ) × Says b c (take n last_text)) → SendsPart old a c
     part end w =
@@ -222,10 +292,22 @@ text_some (FloorItem n) = omega arith
 
 many : (ls : List Line) → length ls ≤ length (flat_map message_text (map line_item ls))
 many [] = omega arith
-many (l ∷ ls) = omega (arith, many ls, text_some (line_item l), length-append (message_text (line_item l)) (flat_map message_text (map line_item ls)))
+many (l ∷ ls) = omega (
+  arith,
+  many ls,
+  text_some (line_item l),
+  length-append (message_text (line_item l))
+      (flat_map message_text (map line_item ls)),
+)
 
 pub room : (old new : NodeState) (a b : Sent) (count : ℕ) → SoFar old new a b count → count + length new.held ≤ length old.held
-room old new a b count s = omega (arith, s.count_is, many s.lines, ap length s.tells.held_is, length-append (flat_map message_text (map line_item s.lines)) new.held)
+room old new a b count s = omega (
+  arith,
+  s.count_is,
+  many s.lines,
+  ap length s.tells.held_is,
+  length-append (flat_map message_text (map line_item s.lines)) new.held,
+)
 
 pub fewer : (mid new : NodeState) (reply : Reply) → Handles mid reply new → length new.held < length mid.held
 fewer mid new reply h = omega (arith, ap length h.held_is, length-append (message_text h.item) new.held, text_some h.item)

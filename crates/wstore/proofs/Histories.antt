@@ -1,5 +1,6 @@
 -- What histories tell, item by item, and the laws of nodes that know the same.
-use Rattle.std.proofs.Common.{◌≡◌, ◌≢◌, ℕ, zero, suc, Bool, true, false, List, [], ◌∷◌, ◌++◌, map, Option, None, Some, Result, Ok, Err, ◌⊎◌, inl, inr, refl, sym, ap, ◌∙◌, subst, arith, append-nil}
+use Rattle.std.proofs.Common.{◌≡◌, ◌≢◌, ℕ, zero, suc, Bool, true, false, List, [], ◌∷◌, ◌++◌, map, Option, None, Some}
+use Rattle.std.proofs.Common.{Result, Ok, Err, ◌⊎◌, inl, inr, refl, sym, ap, ◌∙◌, subst, arith, append-nil}
 use Rattle.std.specs.FinMap.{entries}
 use Rattle.std.specs.List.{IsAmong}
 use Rattle.wsegment.specs.Declaration.{Declaration}
@@ -14,7 +15,8 @@ use Rattle.wscript.specs.Commands.{Command, Listing, Ask, Put, Get}
 use Rattle.wstore.specs.Replies.{Reply, Names, Done, NoMemory}
 use Rattle.wask.specs.Answer.{IsAnswer}
 use Rattle.wask.proofs.OneAnswer.{one_answer}
-use Rattle.wstore.specs.History.{Step, Answers, AnswersUnder, declaration, delivers, gets, puts, drawn, replaced, known, held, is_put, is_put_by, file_if, slot_file, file_reply, FileAnswers, query_reply}
+use Rattle.wstore.specs.History.{Step, Answers, AnswersUnder, declaration, delivers, gets, puts, drawn, replaced, known}
+use Rattle.wstore.specs.History.{held, is_put, is_put_by, file_if, slot_file, file_reply, FileAnswers, query_reply}
 use Rattle.wstore.specs.Laws.{Drawn, Replaced, Knows, Holds, ListsAreExact, SlotsJoin, SameViews, SameFiles, SameAnswers, SameLists}
 use Rattle.wstore.proofs.Soundness.{no_file}
 use Rattle.wstore.proofs.Standing.{drawn_here}
@@ -55,19 +57,23 @@ among_either (x ∷ xs) ys i h = elim (first_or_later x (xs ++ ys) i h) [
 
 -- ---- what is drawn and replaced
 
-draws : (o : Option ℕ) (f : ℕ → List Item) (P : ℕ → Type 0) (i : Item) → ((k : ℕ) → IsAmong (f k) i → P k) → IsAmong (drawn o f) i → Drawn o P
+draws : (o : Option ℕ) (f : ℕ → List Item) (P : ℕ → Type 0) (i : Item) → ((k : ℕ) → IsAmong (f k) i → P k)
+    → IsAmong (drawn o f) i → Drawn o P
 draws None f P i to h = absurd (no_item i h)
 draws (Some k) f P i to h = to k h
 
-drawn_back : (o : Option ℕ) (f : ℕ → List Item) (P : ℕ → Type 0) (i : Item) → ((k : ℕ) → P k → IsAmong (f k) i) → Drawn o P → IsAmong (drawn o f) i
+drawn_back : (o : Option ℕ) (f : ℕ → List Item) (P : ℕ → Type 0) (i : Item) → ((k : ℕ) → P k → IsAmong (f k) i) → Drawn o P
+    → IsAmong (drawn o f) i
 drawn_back None f P i back h = absurd h
 drawn_back (Some k) f P i back h = back k h
 
-replaces : (o : Option ℕ) (f : ℕ → List Item) (P : ℕ → Type 0) (old : List Item) (Q : Type 0) (i : Item) → ((k : ℕ) → IsAmong (f k) i → P k) → (IsAmong old i → Q) → IsAmong (replaced o f old) i → Replaced o P Q
+replaces : (o : Option ℕ) (f : ℕ → List Item) (P : ℕ → Type 0) (old : List Item) (Q : Type 0) (i : Item)
+    → ((k : ℕ) → IsAmong (f k) i → P k) → (IsAmong old i → Q) → IsAmong (replaced o f old) i → Replaced o P Q
 replaces None f P old Q i to rest h = rest h
 replaces (Some k) f P old Q i to rest h = to k h
 
-replaced_back : (o : Option ℕ) (f : ℕ → List Item) (P : ℕ → Type 0) (old : List Item) (Q : Type 0) (i : Item) → ((k : ℕ) → P k → IsAmong (f k) i) → (Q → IsAmong old i) → Replaced o P Q → IsAmong (replaced o f old) i
+replaced_back : (o : Option ℕ) (f : ℕ → List Item) (P : ℕ → Type 0) (old : List Item) (Q : Type 0) (i : Item)
+    → ((k : ℕ) → P k → IsAmong (f k) i) → (Q → IsAmong old i) → Replaced o P Q → IsAmong (replaced o f old) i
 replaced_back None f P old Q i back rest h = rest h
 replaced_back (Some k) f P old Q i back rest h = back k h
 
@@ -87,22 +93,28 @@ exact [] = record {
 exact (s ∷ h) =
     let e = exact h in
     record {
-      to_knows = λ n i x. elim (among_either (known h n ++ drawn (gets s.command s.reply n) (λ k. held h k)) (delivers s.command s.reply n) i x) [
-        | inl a ↦ elim (among_either (known h n) (drawn (gets s.command s.reply n) (λ k. held h k)) i a) [
-          | inl b ↦ inl (e.to_knows n i b)
-          | inr b ↦ inr (inl (draws (gets s.command s.reply n) (λ k. held h k) (λ k. Holds h k i) i (λ k. e.to_holds k i) b))
-        ]
-        | inr a ↦ inr (inr a)
-      ];
+      to_knows = λ n i x. elim (among_either (known h n ++ drawn (gets s.command s.reply n) (λ k. held h k))
+          (delivers s.command s.reply n) i x) [
+            | inl a ↦ elim (among_either (known h n) (drawn (gets s.command s.reply n) (λ k. held h k)) i a) [
+              | inl b ↦ inl (e.to_knows n i b)
+              | inr b ↦ inr (inl (draws (gets s.command s.reply n) (λ k. held h k) (λ k. Holds h k i) i (λ k. e.to_holds k i) b))
+            ]
+            | inr a ↦ inr (inr a)
+          ];
       from_knows = λ n i x. elim x [
-        | inl a ↦ among_left (known h n ++ drawn (gets s.command s.reply n) (λ k. held h k)) (delivers s.command s.reply n) i (among_left (known h n) (drawn (gets s.command s.reply n) (λ k. held h k)) i (e.from_knows n i a))
+        | inl a ↦ among_left (known h n ++ drawn (gets s.command s.reply n) (λ k. held h k)) (delivers s.command s.reply n)
+            i (among_left (known h n) (drawn (gets s.command s.reply n) (λ k. held h k)) i (e.from_knows n i a))
         | inr b ↦ elim b [
-          | inl c ↦ among_left (known h n ++ drawn (gets s.command s.reply n) (λ k. held h k)) (delivers s.command s.reply n) i (among_right (known h n) (drawn (gets s.command s.reply n) (λ k. held h k)) i (drawn_back (gets s.command s.reply n) (λ k. held h k) (λ k. Holds h k i) i (λ k. e.from_holds k i) c))
+          | inl c ↦ among_left (known h n ++ drawn (gets s.command s.reply n) (λ k. held h k))
+              (delivers s.command s.reply n) i (among_right (known h n) (drawn (gets s.command s.reply n) (λ k. held h k)) i
+              (drawn_back (gets s.command s.reply n) (λ k. held h k) (λ k. Holds h k i) i (λ k. e.from_holds k i) c))
           | inr c ↦ among_right (known h n ++ drawn (gets s.command s.reply n) (λ k. held h k)) (delivers s.command s.reply n) i c
         ]
       ];
-      to_holds = λ k i x. replaces (puts s.command s.reply k) (λ n. known h n) (λ n. Knows h n i) (held h k) (Holds h k i) i (λ n. e.to_knows n i) (e.to_holds k i) x;
-      from_holds = λ k i x. replaced_back (puts s.command s.reply k) (λ n. known h n) (λ n. Knows h n i) (held h k) (Holds h k i) i (λ n. e.from_knows n i) (e.from_holds k i) x;
+      to_holds = λ k i x. replaces (puts s.command s.reply k) (λ n. known h n) (λ n. Knows h n i) (held h k) (Holds h k i) i
+          (λ n. e.to_knows n i) (e.to_holds k i) x;
+      from_holds = λ k i x. replaced_back (puts s.command s.reply k) (λ n. known h n) (λ n. Knows h n i) (held h k)
+          (Holds h k i) i (λ n. e.from_knows n i) (e.from_holds k i) x;
     }
 
 pub exact_lists : ListsAreExact
@@ -148,14 +160,16 @@ same_views g h m n same =
     (λ i x. (exact g).from_knows m i (same.back i ((exact h).to_knows n i x)))
 
 -- the file that a node puts is that of its view
-put_file : (h : List Step) (d : Declaration) (m k : ℕ) → slot_file d (record { command = Put m k; reply = Done } ∷ h) k ≡ file_of d (view_of (known h m))
+put_file : (h : List Step) (d : Declaration) (m k : ℕ) → slot_file d (record { command = Put m k; reply = Done } ∷ h) k
+    ≡ file_of d (view_of (known h m))
 put_file h d m k = ap (λ o. file_if (is_put_by o (is_put h k)) d (replaced o (λ n. known h n) (held h k))) (drawn_here k k m refl)
 
 pub same_files : SameFiles
 same_files g h m n j k d same = put_file g d m j ∙ ap (file_of d) (same_views g h m n same) ∙ sym (put_file h d n k)
 
 -- a reply that is not for lack of memory is told under the declaration in force
-told : (h : List Step) (d : Declaration) (c : Command) (r : Reply) → declaration h ≡ Some d → Answers h c r → r ≢ NoMemory → AnswersUnder (Some d) h c r
+told : (h : List Step) (d : Declaration) (c : Command) (r : Reply) → declaration h ≡ Some d → Answers h c r → r ≢ NoMemory
+    → AnswersUnder (Some d) h c r
 told h d c r is answers some = elim answers [
   | inl a ↦ subst (λ o. AnswersUnder o h c r) is a
   | inr b ↦ absurd (some b.1)
@@ -165,7 +179,8 @@ pub same_answers : SameAnswers
 same_answers g h m n d text r s same at_g at_h by_g by_h some_r some_s =
     let one = told g d (Ask m text) r at_g by_g some_r in
     let other = told h d (Ask n text) s at_h by_h some_s in
-    one.2 ∙ ap query_reply (one_answer d (view_of (known h n)) text one.0 other.0 (subst (λ v. IsAnswer d v text one.0) (same_views g h m n same) one.1) other.1) ∙ sym other.2
+    one.2 ∙ ap query_reply (one_answer d (view_of (known h n)) text one.0 other.0 (subst (λ v. IsAnswer d v text one.0)
+    (same_views g h m n same) one.1) other.1) ∙ sym other.2
 
 pub same_lists : SameLists
 same_lists g h m n d r s same at_g at_h by_g by_h some_r some_s =

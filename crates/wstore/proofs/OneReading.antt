@@ -1,5 +1,6 @@
 -- An input has one reading as commands.
-use Rattle.std.proofs.Common.{◌≡◌, ◌≢◌, ℕ, ◌^◌, ◌<◌, Bool, true, false, List, [], ◌∷◌, ◌++◌, map, length, Option, None, Some, is_some, Ok, inl, inr, refl, sym, ap, ◌∙◌, subst, arith, append_assoc, length-append}
+use Rattle.std.proofs.Common.{◌≡◌, ◌≢◌, ℕ, ◌^◌, ◌<◌, Bool, true, false, List, [], ◌∷◌, ◌++◌, map, length, Option, None, Some}
+use Rattle.std.proofs.Common.{is_some, Ok, inl, inr, refl, sym, ap, ◌∙◌, subst, arith, append_assoc, length-append}
 use Rattle.std.specs.Fmt.{decimal}
 use Rattle.std.proofs.lemmas.Fmt.{decimal_injective}
 use Rattle.wlines.specs.Words.{IsWord}
@@ -10,8 +11,10 @@ use Rattle.wsegment.specs.declared.schema_fault.SchemaFault.{SchemaFault}
 use Rattle.wsegment.specs.declared.schema_fault.SchemaFault.TheVariants as tables
 use Rattle.wsegment.proofs.SpellingFacts.{spells-one}
 use Rattle.wrecords.proofs.Lines.{same_front}
-use Rattle.wscript.specs.Commands.{Command, Declare, Take, Retire, RetireTo, Listing, Ask, Feed, Put, Get, IsForm, IsNode, IsSlot, IsPieceLength, IsAllowed, IsCommand, line_of, form_of, behind, spell, pair_words}
-use Rattle.wstore.specs.Replies.{Reply, Declared, RefusedTable, Took, Was, RefusedName, RefusedSegment, Names, Answered, RefusedQuery, Fed, Done, RefusedFile, NoMemory}
+use Rattle.wscript.specs.Commands.{Command, Declare, Take, Retire, RetireTo, Listing, Ask, Feed, Put, Get, IsForm, IsNode, IsSlot}
+use Rattle.wscript.specs.Commands.{IsPieceLength, IsAllowed, IsCommand, line_of, form_of, behind, spell, pair_words}
+use Rattle.wstore.specs.Replies.{Reply, Declared, RefusedTable, Took, Was, RefusedName, RefusedSegment}
+use Rattle.wstore.specs.Replies.{Names, Answered, RefusedQuery, Fed, Done, RefusedFile, NoMemory}
 use Rattle.wstore.specs.History.{Step, Answers, AnswersUnder, DeclareAnswers, declaration, declared_by, is_declared}
 use Rattle.wstore.specs.Runs.{Ran, asked}
 use Rattle.wstore.specs.Laws.{EndsRun, OneReading}
@@ -65,7 +68,8 @@ one_body a b xs ys size e =
 -- ---- one command
 
 -- a line and what stands behind it are those of one command
-one_command : (c e : Command) (xs ys : List ℕ) → IsForm (form_of c) → IsForm (form_of e) → line_of (form_of c) ≡ line_of (form_of e) → behind c ++ xs ≡ behind e ++ ys → (c ≡ e) × (xs ≡ ys)
+one_command : (c e : Command) (xs ys : List ℕ) → IsForm (form_of c) → IsForm (form_of e)
+    → line_of (form_of c) ≡ line_of (form_of e) → behind c ++ xs ≡ behind e ++ ys → (c ≡ e) × (xs ≡ ys)
 one_command (Declare a) (Declare b) xs ys h k l r =
     let size = one_number (length a) (length b) h.fits k.fits (behind_two 84 32 84 32 _ _ l) in
     let body = one_body a b xs ys size r in
@@ -145,7 +149,8 @@ one_command (Feed n a) (RetireTo i p j) xs ys h k l r = absurd (omega (arith, fi
 one_command (Feed n a) (Listing i) xs ys h k l r = absurd (omega (arith, first_byte 70 76 _ _ l))
 one_command (Feed n a) (Ask i b) xs ys h k l r = absurd (omega (arith, first_byte 70 81 _ _ l))
 one_command (Feed n a) (Feed i b) xs ys h k l r =
-    let pair = one_pair n (length a) i (length b) (node_fits n h.0) (piece_fits (length a) h.1) (node_fits i k.0) (piece_fits (length b) k.1) (behind_two 70 32 70 32 _ _ l) in
+    let pair = one_pair n (length a) i (length b) (node_fits n h.0) (piece_fits (length a) h.1) (node_fits i k.0)
+    (piece_fits (length b) k.1) (behind_two 70 32 70 32 _ _ l) in
     let body = one_body a b xs ys pair.1 r in
     (λ t. Feed (pair.0 t) (body.0 t), body.1)
 one_command (Feed n a) (Put i s) xs ys h k l r = absurd (omega (arith, first_byte 70 80 _ _ l))
@@ -173,10 +178,12 @@ one_command (Get q n) (Get s i) xs ys h k l r =
     let pair = one_pair q n s i (slot_fits q h.0) (node_fits n h.1) (slot_fits s k.0) (node_fits i k.1) (behind_two 71 32 71 32 _ _ l) in
     (λ t. Get (pair.0 t) (pair.1 t), r)
 
-spell_front : (d : Bool) (c e : Command) (xs ys : List ℕ) → IsCommand d c → IsCommand d e → spell c ++ xs ≡ spell e ++ ys → (c ≡ e) × (xs ≡ ys)
+spell_front : (d : Bool) (c e : Command) (xs ys : List ℕ) → IsCommand d c → IsCommand d e → spell c ++ xs ≡ spell e ++ ys
+    → (c ≡ e) × (xs ≡ ys)
 spell_front d c e xs ys h k same =
     let cut =
-    cut_once 10 (line_of (form_of c)) (line_of (form_of e)) (behind c ++ xs) (behind e ++ ys) (line_lacks (form_of c) h.form) (line_lacks (form_of e) k.form)
+    cut_once 10 (line_of (form_of c)) (line_of (form_of e)) (behind c ++ xs) (behind e ++ ys)
+    (line_lacks (form_of c) h.form) (line_lacks (form_of e) k.form)
     (sym (append_assoc (line_of (form_of c)) (10 ∷ behind c) xs) ∙ same ∙ append_assoc (line_of (form_of e)) (10 ∷ behind e) ys) in
     one_command c e xs ys h.form k.form cut.0 cut.1
 
@@ -206,7 +213,8 @@ none_of None e = refl
 none_of (Some d) e = cc
 
 -- bytes that spell a declaration have no fault
-pub no_fault : (bytes : List ℕ) (d : Declaration) (fault : SchemaFault) → ReadsDeclaration bytes (Ok d) → fault ≢ tables.NoMemory → IsRefusedFor bytes fault → ⊥
+pub no_fault : (bytes : List ℕ) (d : Declaration) (fault : SchemaFault) → ReadsDeclaration bytes (Ok d)
+    → fault ≢ tables.NoMemory → IsRefusedFor bytes fault → ⊥
 no_fault bytes d tables.Syntax is some h = h d (subst (Spells d) (sym is.1) is.0.spelled)
 no_fault bytes d tables.RepeatedColumn is some h =
     let same : d ≡ h.0 = spells-one d h.0 bytes (subst (Spells d) (sym is.1) is.0.spelled) h.1 in
@@ -240,12 +248,15 @@ told_of bytes NoMemory a = absurd a
 
 -- two replies to a declaration both declare, or neither does
 alike : (bytes : List ℕ) (r q : Reply) → IsTold bytes r → IsTold bytes q → is_some (declared_by r None) ≡ is_some (declared_by q None)
-alike bytes r q (with_table d is e) (with_table f also k) = ap (λ x. is_some (declared_by x None)) e ∙ sym (ap (λ x. is_some (declared_by x None)) k)
+alike bytes r q (with_table d is e) (with_table f also k) = ap (λ x. is_some (declared_by x None)) e
+    ∙ sym (ap (λ x. is_some (declared_by x None)) k)
 alike bytes r q (with_table d is e) (with_fault fault some h k) = absurd (no_fault bytes d fault is some h)
 alike bytes r q (with_fault fault some h k) (with_table d is e) = absurd (no_fault bytes d fault is some h)
-alike bytes r q (with_fault fault some h e) (with_fault other some' h' k) = ap (λ x. is_some (declared_by x None)) e ∙ sym (ap (λ x. is_some (declared_by x None)) k)
+alike bytes r q (with_fault fault some h e) (with_fault other some' h' k) = ap (λ x. is_some (declared_by x None)) e
+    ∙ sym (ap (λ x. is_some (declared_by x None)) k)
 
-declared_alike : (g h : List Step) (c : Command) (r q : Reply) → IsAllowed (is_declared g) c → Answers g c r → Answers h c q → is_declared g ≡ is_declared h → is_some (declared_by r (declaration g)) ≡ is_some (declared_by q (declaration h))
+declared_alike : (g h : List Step) (c : Command) (r q : Reply) → IsAllowed (is_declared g) c → Answers g c r → Answers h c q
+    → is_declared g ≡ is_declared h → is_some (declared_by r (declaration g)) ≡ is_some (declared_by q (declaration h))
 declared_alike g h (Declare bytes) r q allowed a b same =
     let none_g : declaration g ≡ None = none_of (declaration g) allowed in
     let none_h : declaration h ≡ None = none_of (declaration h) (sym same ∙ allowed) in
@@ -255,12 +266,16 @@ declared_alike g h (Declare bytes) r q allowed a b same =
   where
     told : (h : List Step) → declaration h ≡ None → (r : Reply) → Answers h (Declare bytes) r → DeclareAnswers bytes r
     told h is r a = elim a [ inl x ↦ subst (λ o. AnswersUnder o h (Declare bytes) r) is x | inr x ↦ absurd x.0 ]
-declared_alike g h (Take n o m bytes) r q allowed a b same = stays r (declaration g) allowed ∙ sym (stays q (declaration h) (sym same ∙ allowed))
-declared_alike g h (Retire n o m) r q allowed a b same = stays r (declaration g) allowed ∙ sym (stays q (declaration h) (sym same ∙ allowed))
-declared_alike g h (RetireTo n o m) r q allowed a b same = stays r (declaration g) allowed ∙ sym (stays q (declaration h) (sym same ∙ allowed))
+declared_alike g h (Take n o m bytes) r q allowed a b same = stays r (declaration g) allowed
+    ∙ sym (stays q (declaration h) (sym same ∙ allowed))
+declared_alike g h (Retire n o m) r q allowed a b same = stays r (declaration g) allowed
+    ∙ sym (stays q (declaration h) (sym same ∙ allowed))
+declared_alike g h (RetireTo n o m) r q allowed a b same = stays r (declaration g) allowed
+    ∙ sym (stays q (declaration h) (sym same ∙ allowed))
 declared_alike g h (Listing n) r q allowed a b same = stays r (declaration g) allowed ∙ sym (stays q (declaration h) (sym same ∙ allowed))
 declared_alike g h (Ask n text) r q allowed a b same = stays r (declaration g) allowed ∙ sym (stays q (declaration h) (sym same ∙ allowed))
-declared_alike g h (Feed n piece) r q allowed a b same = stays r (declaration g) allowed ∙ sym (stays q (declaration h) (sym same ∙ allowed))
+declared_alike g h (Feed n piece) r q allowed a b same = stays r (declaration g) allowed
+    ∙ sym (stays q (declaration h) (sym same ∙ allowed))
 declared_alike g h (Put n k) r q allowed a b same = stays r (declaration g) allowed ∙ sym (stays q (declaration h) (sym same ∙ allowed))
 declared_alike g h (Get k n) r q allowed a b same = stays r (declaration g) allowed ∙ sym (stays q (declaration h) (sym same ∙ allowed))
 
@@ -269,17 +284,23 @@ declared_alike g h (Get k n) r q allowed a b same = stays r (declaration g) allo
 no_more : (h : List Step) (rest xs : List ℕ) (c : Command) → EndsRun h rest → IsCommand (is_declared h) c → rest ≡ spell c ++ xs → ⊥
 no_more h rest xs c ends is e = elim ends [ inl none ↦ spell_some c xs (sym e ∙ none) | inr bad ↦ bad.none c xs is e ]
 
-reads_alike : (old first : List Step) (s t g h : List Step) (rest more : List ℕ) → is_declared old ≡ is_declared first → Ran old s g → Ran first t h → EndsRun g rest → EndsRun h more → asked s ++ rest ≡ asked t ++ more → (map (λ x. x.command) s ≡ map (λ x. x.command) t) × (rest ≡ more)
+reads_alike : (old first : List Step) (s t g h : List Step) (rest more : List ℕ) → is_declared old ≡ is_declared first
+    → Ran old s g → Ran first t h → EndsRun g rest → EndsRun h more → asked s ++ rest ≡ asked t ++ more
+    → (map (λ x. x.command) s ≡ map (λ x. x.command) t) × (rest ≡ more)
 reads_alike old first [] [] g h rest more same r q ends stops e = (refl, e)
 reads_alike old first [] (y ∷ ys) g h rest more same r q ends stops e =
-    absurd (no_more old rest (asked ys ++ more) y.command (subst (λ l. EndsRun l rest) r ends) (subst (λ b. IsCommand b y.command) (sym same) q.0) (e ∙ append_assoc (spell y.command) (asked ys) more))
+    absurd (no_more old rest (asked ys ++ more) y.command (subst (λ l. EndsRun l rest) r ends)
+    (subst (λ b. IsCommand b y.command) (sym same) q.0) (e ∙ append_assoc (spell y.command) (asked ys) more))
 reads_alike old first (x ∷ xs) [] g h rest more same r q ends stops e =
-    absurd (no_more first more (asked xs ++ rest) x.command (subst (λ l. EndsRun l more) q stops) (subst (λ b. IsCommand b x.command) same r.0) (sym e ∙ append_assoc (spell x.command) (asked xs) rest))
+    absurd (no_more first more (asked xs ++ rest) x.command (subst (λ l. EndsRun l more) q stops)
+    (subst (λ b. IsCommand b x.command) same r.0) (sym e ∙ append_assoc (spell x.command) (asked xs) rest))
 reads_alike old first (x ∷ xs) (y ∷ ys) g h rest more same r q ends stops e =
     let one =
-    spell_front (is_declared old) x.command y.command (asked xs ++ rest) (asked ys ++ more) r.0 (subst (λ b. IsCommand b y.command) (sym same) q.0)
+    spell_front (is_declared old) x.command y.command (asked xs ++ rest) (asked ys ++ more) r.0
+    (subst (λ b. IsCommand b y.command) (sym same) q.0)
     (sym (append_assoc (spell x.command) (asked xs) rest) ∙ e ∙ append_assoc (spell y.command) (asked ys) more) in
-    let still = declared_alike old first x.command x.reply y.reply r.0.allowed r.1 (subst (λ c. Answers first c y.reply) (sym one.0) q.1) same in
+    let still = declared_alike old first x.command x.reply y.reply r.0.allowed r.1 (subst (λ c. Answers first c y.reply)
+    (sym one.0) q.1) same in
     let others = reads_alike (x ∷ old) (y ∷ first) xs ys g h rest more still r.2 q.2 ends stops one.1 in
     (λ i. one.0 i ∷ others.0 i, others.1)
 

@@ -12,8 +12,10 @@ use Rattle.wset.specs.Views.{View}
 use Rattle.wexchange.specs.declared.fault.FileFault.{FileFault}
 use Rattle.wplanner.specs.declared.fault.AskFault.{AskFault}
 use Rattle.wscript.specs.Commands.{Command, Declare, Take, Retire, RetireTo, Listing, Ask, Feed, Put, Get}
-use Rattle.wstore.specs.Replies.{Reply, Declared, RefusedTable, Took, Was, RefusedName, RefusedSegment, Names, Answered, RefusedQuery, Fed, Done, RefusedFile, NoMemory}
-use Rattle.wstore.specs.History.{Step, Answers, AnswersUnder, declaration, is_bad, segment_reply, take_reply, retire_reply, floor_reply, query_reply, file_reply}
+use Rattle.wstore.specs.Replies.{Reply, Declared, RefusedTable, Took, Was, RefusedName, RefusedSegment}
+use Rattle.wstore.specs.Replies.{Names, Answered, RefusedQuery, Fed, Done, RefusedFile, NoMemory}
+use Rattle.wstore.specs.History.{Step, Answers, AnswersUnder, declaration, is_bad, segment_reply}
+use Rattle.wstore.specs.History.{take_reply, retire_reply, floor_reply, query_reply, file_reply}
 use Rattle.wstore.specs.Runs.{Ran}
 use Rattle.wstore.specs.Laws.{HasMemory, IsOfTable, OneRun}
 use Rattle.wstore.proofs.OneReading.{one_reading}
@@ -21,7 +23,8 @@ use Rattle.wstore.proofs.OneReply.{fed_of, one_reply}
 
 -- ---- what is declared
 
-no_segment : (d : Declaration) (rows : Result (List (List Meaning)) SegmentFault) (v : View) (name : NameParts) (bytes : List ℕ) → Declared d ≡ segment_reply rows v name bytes → ⊥
+no_segment : (d : Declaration) (rows : Result (List (List Meaning)) SegmentFault) (v : View) (name : NameParts)
+    (bytes : List ℕ) → Declared d ≡ segment_reply rows v name bytes → ⊥
 no_segment d (Ok rows) v name bytes e = cc
 no_segment d (Err fault) v name bytes e = cc
 
@@ -49,7 +52,8 @@ no_other : (d : Declaration) (r : Reply) → Declared d ≡ r → r ≡ Done →
 no_other d r e f = cc
 
 -- what a reply declares is a declaration
-under_declares : (o : Option Declaration) (h : List Step) (c : Command) (d : Declaration) → AnswersUnder o h c (Declared d) → IsDeclaration d
+under_declares : (o : Option Declaration) (h : List Step) (c : Command) (d : Declaration) → AnswersUnder o h c (Declared d)
+    → IsDeclaration d
 under_declares None h (Declare bytes) d a = a.0
 under_declares None h (Take n o m bytes) d a = absurd a
 under_declares None h (Retire n o m) d a = absurd a
@@ -128,7 +132,8 @@ none a cs e = cc
 abbrev HaveMemory : List Step → Type 0
 HaveMemory s = AllByRecursion (λ x. HasMemory x.reply) s
 
-same_steps : (s t old g h : List Step) → HasTable old → Ran old s g → Ran old t h → map command_of s ≡ map command_of t → HaveMemory s → HaveMemory t → s ≡ t
+same_steps : (s t old g h : List Step) → HasTable old → Ran old s g → Ran old t h → map command_of s ≡ map command_of t
+    → HaveMemory s → HaveMemory t → s ≡ t
 same_steps [] [] old g h table a b e some also = refl
 same_steps [] (y ∷ t) old g h table a b e some also = absurd (none y.command (map command_of t) e)
 same_steps (x ∷ s) [] old g h table a b e some also = absurd (none x.command (map command_of s) (sym e))

@@ -1,5 +1,6 @@
 -- What is known of names is sound: each is a name, and each content a segment.
-use Rattle.std.proofs.Common.{◌≡◌, ℕ, Bool, true, false, cond, ◌||◌, T, List, [], ◌∷◌, ◌++◌, length, Option, None, Some, IsOk, is_eq, nat_lt, refl, sym, ap, ◌∙◌, subst, arith, append-nil}
+use Rattle.std.proofs.Common.{◌≡◌, ℕ, Bool, true, false, cond, ◌||◌, T, List, [], ◌∷◌, ◌++◌, length, Option}
+use Rattle.std.proofs.Common.{None, Some, IsOk, is_eq, nat_lt, refl, sym, ap, ◌∙◌, subst, arith, append-nil}
 use Rattle.std.proofs.lemmas.Bool.Decides.{nat_tests}
 use Rattle.std.specs.List.{AllByRecursion}
 use Rattle.std.specs.Ordering.{ordering_reverse}
@@ -61,14 +62,16 @@ joined d n (Live a) (Live b) h k = by (same_bytes a b)
     by true = h
     by false = h.0
 
-told : (d : Declaration) (n : NameParts) (o p : Option Known) (j : Known) → ((k : Known) → o ≡ Some k → IsRecord d (n, k)) → ((k : Known) → p ≡ Some k → IsRecord d (n, k)) → join_told o p ≡ Some j → IsRecord d (n, j)
+told : (d : Declaration) (n : NameParts) (o p : Option Known) (j : Known) → ((k : Known) → o ≡ Some k → IsRecord d (n, k))
+    → ((k : Known) → p ≡ Some k → IsRecord d (n, k)) → join_told o p ≡ Some j → IsRecord d (n, j)
 told d n None p j f g e = g j e
 told d n (Some a) None j f g e = f j e
 told d n (Some a) (Some b) j f g e = subst (λ k. IsRecord d (n, k)) (one_known (join_known a b) j e) (joined d n a b (f a refl) (g b refl))
 
 pub sound_both : (d : Declaration) (xs ys : List Item) → IsSound d xs → IsSound d ys → IsSound d (xs ++ ys)
 sound_both d xs ys f g n j e =
-    by (is_below (view_of xs) n || is_below (view_of ys) n) (sym (get-join (view_of xs) (view_of ys) n) ∙ ap (λ v. get v n) (sym (view_of_union xs ys)) ∙ e)
+    by (is_below (view_of xs) n || is_below (view_of ys) n) (sym (get-join (view_of xs) (view_of ys) n)
+    ∙ ap (λ v. get v n) (sym (view_of_union xs ys)) ∙ e)
   where
     by : (b : Bool) → cond b None (join_told (get (view_of xs) n) (get (view_of ys) n)) ≡ Some j → IsRecord d (n, j)
     by true e = absurd (no_known j e)
@@ -88,15 +91,18 @@ fits d bytes ok = by (nat_lt 67108864 (length bytes)) refl
     by true e = absurd (refused true e refl)
     by false e = record { fits = grind (arith, nat_tests) }
 
-sound_single : (d : Declaration) (v : View) (m : NameParts) (j : Known) → IsSingle v m j → IsRecord d (m, j) → (q : NameParts) (k : Known) → get v q ≡ Some k → IsRecord d (q, k)
+sound_single : (d : Declaration) (v : View) (m : NameParts) (j : Known) → IsSingle v m j → IsRecord d (m, j)
+    → (q : NameParts) (k : Known) → get v q ≡ Some k → IsRecord d (q, k)
 sound_single d v m j single record_is q k e = by (same_name q m) refl (sym (single q) ∙ e)
   where
     by : (b : Bool) → same_name q m ≡ b → cond b (Some j) None ≡ Some k → IsRecord d (q, k)
     by true s e = subst (λ i. IsRecord d (q, i)) (one_known j k e) (subst (λ n. IsRecord d (n, j)) (sym (same_name-true q m s)) record_is)
     by false s e = absurd (no_known k e)
 
-pub sound_segment : (d : Declaration) (m : NameParts) (bytes : List ℕ) → IsName m → IsOk (rows_of d bytes) → IsSound d (SegmentItem m bytes ∷ [])
-sound_segment d m bytes name read = sound_single d (view_of_item (SegmentItem m bytes)) m (Live bytes) (segment_single m bytes) (name, read, fits d bytes read)
+pub sound_segment : (d : Declaration) (m : NameParts) (bytes : List ℕ) → IsName m → IsOk (rows_of d bytes)
+    → IsSound d (SegmentItem m bytes ∷ [])
+sound_segment d m bytes name read = sound_single d (view_of_item (SegmentItem m bytes)) m (Live bytes)
+    (segment_single m bytes) (name, read, fits d bytes read)
 
 pub sound_retirement : (d : Declaration) (m : NameParts) → IsName m → IsSound d (RetirementItem m ∷ [])
 sound_retirement d m name = sound_single d (view_of_item (RetirementItem m)) m Retired (retirement_single m) name
@@ -118,11 +124,16 @@ same_self x = by (name_cmp x x) refl
     by Equal e = e
     by Greater e = let w : Greater ≡ Less = sym e ∙ names_total.antisymm x x ∙ ap ordering_reverse e in cc
 
-all_found : (d : Declaration) (es : List (NameParts × Known)) → T (is_sorted name_cmp es) → ((n : NameParts) (k : Known) → find name_cmp n es ≡ Some k → IsRecord d (n, k)) → AllByRecursion (IsRecord d) es
+all_found : (d : Declaration) (es : List (NameParts × Known)) → T (is_sorted name_cmp es)
+    → ((n : NameParts) (k : Known) → find name_cmp n es ≡ Some k → IsRecord d (n, k)) → AllByRecursion (IsRecord d) es
 all_found d [] h f = tt
-all_found d (e ∷ es) h f = (f e.0 e.1 (ap (λ o. cond (is_eq o) (Some e.1) (find name_cmp e.0 es)) (same_self e.0)), all_found d es (second _ _ h) (λ n k found. f n k (later n k (name_cmp n e.0) refl found)))
+all_found d (e ∷ es) h f = (
+  f e.0 e.1 (ap (λ o. cond (is_eq o) (Some e.1) (find name_cmp e.0 es)) (same_self e.0)),
+  all_found d es (second _ _ h) (λ n k found. f n k (later n k (name_cmp n e.0) refl found)),
+)
   where
-    later : (n : NameParts) (k : Known) (o : Ordering) → name_cmp n e.0 ≡ o → find name_cmp n es ≡ Some k → find name_cmp n (e ∷ es) ≡ Some k
+    later : (n : NameParts) (k : Known) (o : Ordering) → name_cmp n e.0 ≡ o → find name_cmp n es ≡ Some k
+        → find name_cmp n (e ∷ es) ≡ Some k
     later n k Less c found = ap (λ o. cond (is_eq o) (Some e.1) (find name_cmp n es)) c ∙ found
     later n k Greater c found = ap (λ o. cond (is_eq o) (Some e.1) (find name_cmp n es)) c ∙ found
     later n k Equal c found =
@@ -130,7 +141,8 @@ all_found d (e ∷ es) h f = (f e.0 e.1 (ap (λ o. cond (is_eq o) (Some e.1) (fi
         absurd (no_known k (sym (find_below e.0 es (first _ _ h)) ∙ ap (λ m. find name_cmp m es) (sym same) ∙ found))
 
 pub records : (d : Declaration) (items : List Item) → IsSound d items → AreRecords d (view_of items)
-records d items sound = all_found d (entries (view_of items)) (entries_sorted (view_of items)) (λ n k found. sound n k (get-entries (view_of items) n ∙ found))
+records d items sound = all_found d (entries (view_of items)) (entries_sorted (view_of items))
+    (λ n k found. sound n k (get-entries (view_of items) n ∙ found))
 
 -- ---- the file of a slot
 
@@ -143,6 +155,8 @@ no_file d One v more e = no_bytes 87 _ e
 no_file d Two v more e = no_bytes 87 _ e
 
 -- the view whose file a slot holds is that of its items
-pub slot_view : (d : Declaration) (b : Bool) (items : List Item) (v : View) → IsFileOf d v (file_if b d items) → IsSound d items → v ≡ view_of items
-slot_view d true items v f sound = (one_text d f.version Two v (view_of items) f.is_view.records (records d items sound) (sym f.bytes_are)).1
+pub slot_view : (d : Declaration) (b : Bool) (items : List Item) (v : View) → IsFileOf d v (file_if b d items)
+    → IsSound d items → v ≡ view_of items
+slot_view d true items v f sound = (one_text d f.version Two v (view_of items) f.is_view.records (records d items sound)
+    (sym f.bytes_are)).1
 slot_view d false items v f sound = absurd (no_file d f.version v [] (f.bytes_are ∙ sym (append-nil (text_of f.version d v))))

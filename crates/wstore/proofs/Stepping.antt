@@ -2,7 +2,8 @@
 use Rattle.std.proofs.Common.{◌≡◌, ℕ, Bool, true, List, [], take, Option, None, Some, IfSome, is_some, ◌++◌, inl, inr, refl, sym, ap, subst}
 use Rattle.std.specs.Io.KnownBytes.{Consumes}
 use Rattle.wlines.specs.Sent.{Sent, Says}
-use Rattle.wscript.specs.Commands.{Command, Declare, Take, Retire, RetireTo, Listing, Ask, Feed, Put, Get, IsAllowed, IsCommand, IsMalformed, spell}
+use Rattle.wscript.specs.Commands.{Command, Declare, Take, Retire, RetireTo, Listing, Ask, Feed}
+use Rattle.wscript.specs.Commands.{Put, Get, IsAllowed, IsCommand, IsMalformed, spell}
 use Rattle.wstore.specs.History.{Step, is_declared}
 use Rattle.std.specs.List.{flat_map}
 use Rattle.wstore.specs.Replies.{line_text, text_of, bad_script}
@@ -37,7 +38,8 @@ order_allowed n order (Feed m p) d is allowed = allowed
 order_allowed n order (Put m s) d is allowed = allowed
 order_allowed n order (Get s m) d is allowed = allowed
 
-pub may_stand : (session : Session) (command : code.Command) (c : Command) → IsCommandOf command c → IsAllowed (is_some session.cluster) c → MayStand session command
+pub may_stand : (session : Session) (command : code.Command) (c : Command) → IsCommandOf command c
+    → IsAllowed (is_some session.cluster) c → MayStand session command
 may_stand session (commands.Declare bytes) c is allowed = tt
 may_stand session (commands.Refused refusal) c is allowed = tt
 may_stand session (commands.Feed node kept) (Feed n p) is allowed = allowed
@@ -52,16 +54,20 @@ may_stand session (commands.Feed node kept) (Get k n) is allowed = absurd is
 may_stand session (commands.At node order) c is allowed = order_allowed node order c (is_some session.cluster) is allowed
 
 -- nothing more could be read, and nothing was said
-pub read_fails : (h : List Step) (left : Option (List ℕ)) (held new_held : Sent) → Says held new_held [] → StepFails faults.Read h left held new_held
+pub read_fails : (h : List Step) (left : Option (List ℕ)) (held new_held : Sent) → Says held new_held []
+    → StepFails faults.Read h left held new_held
 read_fails h None held new_held k = tt
 read_fails h (Some xs) held new_held k = ([], refl, k)
 
-pub write_fails : (h : List Step) (left : Option (List ℕ)) (held new_held : Sent) → Says held new_held [] → StepFails faults.Write h left held new_held
+pub write_fails : (h : List Step) (left : Option (List ℕ)) (held new_held : Sent) → Says held new_held []
+    → StepFails faults.Write h left held new_held
 write_fails h None held new_held k = tt
 write_fails h (Some xs) held new_held k = ([], nothing, k)
 
 -- a front of the last line was written
-pub fails_at_last : (fault : RunFault) (h : List Step) (left : Option (List ℕ)) (held new_held : Sent) (n : ℕ) → fault ≡ faults.Write → IfSome left (λ xs. IsMalformed (is_declared h) xs) → Says held new_held (take n bad_script) → StepFails fault h left held new_held
+pub fails_at_last : (fault : RunFault) (h : List Step) (left : Option (List ℕ)) (held new_held : Sent) (n : ℕ)
+    → fault ≡ faults.Write → IfSome left (λ xs. IsMalformed (is_declared h) xs) → Says held new_held (take n bad_script)
+    → StepFails fault h left held new_held
 fails_at_last fault h left held new_held n e bad k = subst (λ f. StepFails f h left held new_held) (sym e) (by left bad)
   where
     by : (left : Option (List ℕ)) → IfSome left (λ xs. IsMalformed (is_declared h) xs) → StepFails faults.Write h left held new_held
@@ -69,14 +75,22 @@ fails_at_last fault h left held new_held n e bad k = subst (λ f. StepFails f h 
     by (Some xs) bad = (take n bad_script, last n bad, k)
 
 -- a command was read, and not answered in full
-pub fails_at_answer : (fault : RunFault) (h : List Step) (left new_left : Option (List ℕ)) (held new_held : Sent) (c : Command) → IsCommand (is_declared h) c → Consumes left new_left (spell c) → Unanswered fault h c held new_held → StepFails fault h left held new_held
+pub fails_at_answer : (fault : RunFault) (h : List Step) (left new_left : Option (List ℕ)) (held new_held : Sent)
+    (c : Command) → IsCommand (is_declared h) c → Consumes left new_left (spell c) → Unanswered fault h c held new_held
+    → StepFails fault h left held new_held
 fails_at_answer faults.Read h left new_left held new_held c is k part = absurd part
 fails_at_answer faults.Write h left new_left held new_held c is k (inl part) =
     front_of left new_left (spell c) (λ xs. (p : List ℕ) × Begins h xs p × Says held new_held p) k
     (λ rest. (take part.n (text_of part.reply), answer c rest part.reply part.n is refl part.answers, part.appends))
 fails_at_answer faults.Write h left new_left held new_held c is k (inr part) =
     front_of left new_left (spell c) (λ xs. (p : List ℕ) × Begins h xs p × Says held new_held p) k
-    (λ rest. (take part.n (flat_map line_text part.lines), lines part.d part.node part.piece rest part.lines part.n (subst (IsCommand (is_declared h)) part.command_is is) (ap (λ q. spell q ++ rest) part.command_is) part.declared part.begins, part.appends))
+    (λ rest. (
+      take part.n (flat_map line_text part.lines),
+      lines part.d part.node part.piece rest part.lines part.n
+          (subst (IsCommand (is_declared h)) part.command_is is) (ap (λ q. spell q ++ rest) part.command_is) part.declared
+          part.begins,
+      part.appends,
+    ))
 fails_at_answer faults.NoMemory h left new_left held new_held (Declare bytes) is k part =
     front_of left new_left (spell (Declare bytes)) (λ xs. (p : List ℕ) × Stops faults.NoMemory h xs p × Says held new_held p) k
     (λ rest. ([], (refl, record { bytes = bytes; fits = part.0; more = rest; command = is; rest_is = refl }), part.1))

@@ -1,5 +1,6 @@
 -- A run, step by step.
-use Rattle.std.proofs.Common.{◌≡◌, ℕ, List, [], ◌∷◌, ◌++◌, take, length, zero, suc, ◌⊎◌, arith, Option, None, Some, IfSome, refl, sym, ap, ◌∙◌, subst, inl, inr, append_assoc, append-nil}
+use Rattle.std.proofs.Common.{◌≡◌, ℕ, List, [], ◌∷◌, ◌++◌, take, length, zero, suc, ◌⊎◌, arith, Option, None}
+use Rattle.std.proofs.Common.{Some, IfSome, refl, sym, ap, ◌∙◌, subst, inl, inr, append_assoc, append-nil}
 use Rattle.std.specs.Io.KnownBytes.{Appends, Consumes, prepend_known}
 use Rattle.std.proofs.KnownBytes.{Appends-nil, Consumes-nil, Consumes-trans, Consumes-whole, Consumes-kept}
 use Rattle.std.proofs.lemmas.List.{take_all}
@@ -9,7 +10,8 @@ use Rattle.std.specs.List.{flat_map}
 use Rattle.wscript.specs.Commands.{IsCommand, IsMalformed, spell}
 use Rattle.wstore.specs.History.{Step, Answers, is_declared}
 use Rattle.wstore.specs.Replies.{text_of, line_text, bad_script}
-use Rattle.wstore.specs.Runs.{Ran, asked, told, RepliesDone, RepliesBad, RepliesBegun, Replies, Stops, StopsRun, Begins, nothing, answer, lines, last}
+use Rattle.wstore.specs.Runs.{Ran, asked, told, RepliesDone, RepliesBad, RepliesBegun, Replies}
+use Rattle.wstore.specs.Runs.{Stops, StopsRun, Begins, nothing, answer, lines, last}
 use Rattle.wstore.specs.Sessions.{Stands}
 use Rattle.wstore.specs.Steps.{StepsOn, StepEnds, StepFails}
 use Rattle.wstore.specs.declared.script_run.End.{End}
@@ -29,10 +31,20 @@ pub record SoFar (session : Session) (first left : Option (List ℕ)) (begun hel
   pub written : Says begun held (told steps)
 
 pub none_so_far : (session : Session) (first : Option (List ℕ)) (begun : Sent) → Stands session [] → SoFar session first first begun begun
-none_so_far session first begun stands = record { steps = []; history = []; ran = refl; stands = stands; consumed = Consumes-nil first; written = says_nothing begun }
+none_so_far session first begun stands = record {
+  steps = [];
+  history = [];
+  ran = refl;
+  stands = stands;
+  consumed =
+      Consumes-nil first;
+  written = says_nothing begun;
+}
 
-Ran-more : (old mid : List Step) (xs : List Step) (s : Step) → Ran old xs mid → IsCommand (is_declared mid) s.command → Answers mid s.command s.reply → Ran old (xs ++ s ∷ []) (s ∷ mid)
-Ran-more old mid [] s r is a = subst (λ h. IsCommand (is_declared h) s.command × Answers h s.command s.reply × (s ∷ mid ≡ s ∷ h)) r (is, a, refl)
+Ran-more : (old mid : List Step) (xs : List Step) (s : Step) → Ran old xs mid → IsCommand (is_declared mid) s.command
+    → Answers mid s.command s.reply → Ran old (xs ++ s ∷ []) (s ∷ mid)
+Ran-more old mid [] s r is a = subst (λ h. IsCommand (is_declared h) s.command × Answers h s.command s.reply
+    × (s ∷ mid ≡ s ∷ h)) r (is, a, refl)
 Ran-more old mid (y ∷ ys) s r is a = (r.0, r.1, Ran-more (y ∷ old) mid ys s r.2 is a)
 
 asked-more : (xs : List Step) (s : Step) → asked (xs ++ s ∷ []) ≡ asked xs ++ spell s.command
@@ -43,7 +55,9 @@ told-more : (xs : List Step) (s : Step) → told (xs ++ s ∷ []) ≡ told xs ++
 told-more [] s = append-nil (text_of s.reply)
 told-more (y ∷ ys) s = ap (λ l. text_of y.reply ++ l) (told-more ys s) ∙ sym (append_assoc (text_of y.reply) (told ys) (text_of s.reply))
 
-pub one_step_more : (session new : Session) (first left new_left : Option (List ℕ)) (begun held new_held : Sent) → SoFar session first left begun held → ((h : List Step) → Stands session h → StepsOn new h left new_left held new_held) → SoFar new first new_left begun new_held
+pub one_step_more : (session new : Session) (first left new_left : Option (List ℕ)) (begun held new_held : Sent)
+    → SoFar session first left begun held → ((h : List Step) → Stands session h → StepsOn new h left new_left held new_held)
+    → SoFar new first new_left begun new_held
 one_step_more session new first left new_left begun held new_held so tells =
     let t = tells so.history so.stands in
     let s : Step = record { command = t.command; reply = t.answered.reply } in
@@ -52,14 +66,18 @@ one_step_more session new first left new_left begun held new_held so tells =
       history = s ∷ so.history;
       ran = Ran-more [] so.history so.steps s so.ran t.is t.answered.answers;
       stands = t.answered.stands;
-      consumed = subst (Consumes first new_left) (sym (asked-more so.steps s)) (Consumes-trans first left new_left (asked so.steps) (spell t.command) so.consumed t.consumes);
-      written = subst (Says begun new_held) (sym (told-more so.steps s)) (says_more begun held new_held (told so.steps) (text_of t.answered.reply) so.written t.answered.appends);
+      consumed = subst (Consumes first new_left) (sym (asked-more so.steps s)) (Consumes-trans first left new_left
+          (asked so.steps) (spell t.command) so.consumed t.consumes);
+      written = subst (Says begun new_held) (sym (told-more so.steps s)) (says_more begun held new_held (told so.steps)
+          (text_of t.answered.reply) so.written t.answered.appends);
     }
 
 -- ---- the end of a run
 
-module _ (session : Session) (first left new_left : Option (List ℕ)) (begun held new_held : Sent) (so : SoFar session first left begun held) where
-  pub run_ends : (end : End) → ((h : List Step) → Stands session h → StepEnds end h left new_left held new_held) → IfSome first (λ bytes. (written : List ℕ) × Says begun new_held written × Replies end bytes written)
+module _ (session : Session) (first left new_left : Option (List ℕ)) (begun held new_held : Sent)
+    (so : SoFar session first left begun held) where
+  pub run_ends : (end : End) → ((h : List Step) → Stands session h → StepEnds end h left new_left held new_held)
+      → IfSome first (λ bytes. (written : List ℕ) × Says begun new_held written × Replies end bytes written)
   run_ends Done tells =
       let e = tells so.history so.stands in
       Consumes-whole first new_left (asked so.steps) (λ bytes. (written : List ℕ) × Says begun new_held written × RepliesDone bytes written)
@@ -70,21 +88,36 @@ module _ (session : Session) (first left new_left : Option (List ℕ)) (begun he
       )
   run_ends Bad tells =
       let e = tells so.history so.stands in
-      lift_front first left (asked so.steps) (λ xs. IsMalformed (is_declared so.history) xs) (λ bytes. (written : List ℕ) × Says begun new_held written × RepliesBad bytes written) so.consumed e.0
+      lift_front first left (asked so.steps) (λ xs. IsMalformed (is_declared so.history) xs) (λ bytes. (written : List ℕ)
+      × Says begun new_held written × RepliesBad bytes written) so.consumed e.0
       (λ rest bad. (
         told so.steps ++ bad_script,
         says_more begun held new_held (told so.steps) bad_script so.written e.1,
         record { steps = so.steps; history = so.history; rest = rest; ran = so.ran; malformed = bad; input_is = refl; output_is = refl },
       ))
 
-  pub run_fails : (fault : RunFault) (reads : ℕ) → ((h : List Step) → Stands session h → StepFails fault h left held new_held) → IfSome first (λ bytes. (written : List ℕ) × Says begun new_held written × RepliesBegun fault reads bytes written)
+  pub run_fails : (fault : RunFault) (reads : ℕ) → ((h : List Step) → Stands session h
+      → StepFails fault h left held new_held) → IfSome first (λ bytes. (written : List ℕ) × Says begun new_held written
+      × RepliesBegun fault reads bytes written)
   run_fails fault reads fails =
-      lift_front first left (asked so.steps) (λ xs. (part : List ℕ) × Stops fault so.history xs part × Says held new_held part) (λ bytes. (written : List ℕ) × Says begun new_held written × RepliesBegun fault reads bytes written) so.consumed
+      lift_front first left (asked so.steps) (λ xs. (part : List ℕ) × Stops fault so.history xs part
+      × Says held new_held part) (λ bytes. (written : List ℕ) × Says begun new_held written
+      × RepliesBegun fault reads bytes written) so.consumed
       (fails so.history so.stands)
       (λ rest p. (
         told so.steps ++ p.0,
         says_more begun held new_held (told so.steps) p.0 so.written p.2,
-        record { steps = so.steps; history = so.history; rest = rest; part = p.0; ran = so.ran; stops = inl p.1; input_is = refl; output_is = refl },
+        record {
+          steps = so.steps;
+          history = so.history;
+          rest = rest;
+          part = p.0;
+          ran = so.ran;
+          stops = inl p.1;
+          input_is =
+              refl;
+          output_is = refl;
+        },
       ))
 
 -- ---- a front of what was said
@@ -107,7 +140,8 @@ front_over [] ys n = inr (n, refl)
 front_over (x ∷ xs) ys zero = inl refl
 front_over (x ∷ xs) ys (suc n) = by (front_over xs ys n)
   where
-    by : (take n (xs ++ ys) ≡ take n xs) ⊎ ((m : ℕ) × (take n (xs ++ ys) ≡ xs ++ take m ys)) → (take (suc n) (x ∷ (xs ++ ys)) ≡ take (suc n) (x ∷ xs)) ⊎ ((m : ℕ) × (take (suc n) (x ∷ (xs ++ ys)) ≡ x ∷ (xs ++ take m ys)))
+    by : (take n (xs ++ ys) ≡ take n xs) ⊎ ((m : ℕ) × (take n (xs ++ ys) ≡ xs ++ take m ys))
+        → (take (suc n) (x ∷ (xs ++ ys)) ≡ take (suc n) (x ∷ xs)) ⊎ ((m : ℕ) × (take (suc n) (x ∷ (xs ++ ys)) ≡ x ∷ (xs ++ take m ys)))
     by (inl e) = inl (ap (λ l. x ∷ l) e)
     by (inr e) = inr (e.0, ap (λ l. x ∷ l) e.1)
 
@@ -135,8 +169,10 @@ record Begun (old : List Step) (input output : List ℕ) : Type 0 where
   output_is : output ≡ told steps ++ part
 
 -- the front ends in the reply to the first command, or behind it
-cut_step : (old : List Step) (s : Step) (steps : List Step) (rest part : List ℕ) (n : ℕ) → IsCommand (is_declared old) s.command → Answers old s.command s.reply
-    → (take n (text_of s.reply ++ (told steps ++ part)) ≡ take n (text_of s.reply)) ⊎ ((m : ℕ) × (take n (text_of s.reply ++ (told steps ++ part)) ≡ text_of s.reply ++ take m (told steps ++ part)))
+cut_step : (old : List Step) (s : Step) (steps : List Step) (rest part : List ℕ) (n : ℕ)
+    → IsCommand (is_declared old) s.command → Answers old s.command s.reply
+    → (take n (text_of s.reply ++ (told steps ++ part)) ≡ take n (text_of s.reply))
+    ⊎ ((m : ℕ) × (take n (text_of s.reply ++ (told steps ++ part)) ≡ text_of s.reply ++ take m (told steps ++ part)))
     → ((m : ℕ) → Begun (s ∷ old) (asked steps ++ rest) (take m (told steps ++ part)))
     → Begun old (asked (s ∷ steps) ++ rest) (take n (told (s ∷ steps) ++ part))
 cut_step old s steps rest part n is answers (inl e) cut_rest = record {
@@ -158,13 +194,28 @@ cut_step old s steps rest part n is answers (inr e) cut_rest =
       part = more.part;
       ran = (is, answers, more.ran);
       begins = more.begins;
-      input_is = append_assoc (spell s.command) (asked steps) rest ∙ ap (λ l. spell s.command ++ l) more.input_is ∙ sym (append_assoc (spell s.command) (asked more.steps) more.rest);
-      output_is = ap (take n) (append_assoc (text_of s.reply) (told steps) part) ∙ e.1 ∙ ap (λ l. text_of s.reply ++ l) more.output_is ∙ sym (append_assoc (text_of s.reply) (told more.steps) more.part);
+      input_is = append_assoc (spell s.command) (asked steps) rest ∙ ap (λ l. spell s.command ++ l) more.input_is
+          ∙ sym (append_assoc (spell s.command) (asked more.steps) more.rest);
+      output_is = ap (take n) (append_assoc (text_of s.reply) (told steps) part) ∙ e.1 ∙ ap (λ l. text_of s.reply ++ l)
+          more.output_is ∙ sym (append_assoc (text_of s.reply) (told more.steps) more.part);
     }
 
-cut : (old h steps : List Step) (rest part : List ℕ) (n : ℕ) → Ran old steps h → Begins h rest part → Begun old (asked steps ++ rest) (take n (told steps ++ part))
-cut old h [] rest part n ran begins = record { steps = []; history = h; rest = rest; part = take n part; ran = ran; begins = begins_front h rest part n begins; input_is = refl; output_is = refl }
-cut old h (s ∷ steps) rest part n ran begins = cut_step old s steps rest part n ran.0 ran.1 (front_over (text_of s.reply) (told steps ++ part) n) (λ m. cut (s ∷ old) h steps rest part m ran.2 begins)
+cut : (old h steps : List Step) (rest part : List ℕ) (n : ℕ) → Ran old steps h → Begins h rest part
+    → Begun old (asked steps ++ rest) (take n (told steps ++ part))
+cut old h [] rest part n ran begins = record {
+  steps = [];
+  history = h;
+  rest = rest;
+  part = take n part;
+  ran = ran;
+  begins =
+      begins_front h rest part n begins;
+  input_is = refl;
+  output_is = refl;
+}
+cut old h (s ∷ steps) rest part n ran begins =
+    cut_step old s steps rest part n ran.0 ran.1 (front_over (text_of s.reply) (told steps ++ part) n)
+    (λ m. cut (s ∷ old) h steps rest part m ran.2 begins)
 
 -- where a run stopped, what was said behind the replies begins what comes next
 stops_begins : (fault : RunFault) (reads : ℕ) (h : List Step) (rest part : List ℕ) → StopsRun fault reads h rest part → Begins h rest part
@@ -175,19 +226,32 @@ stops_begins faults.NoMemory reads h rest part (inl stops) = subst (Begins h res
 
 -- so a front of what was said is a beginning of the replies
 module _ (reads : ℕ) (input output : List ℕ) (n : ℕ) where
-  by_cut : (h steps : List Step) (rest part : List ℕ) → Ran [] steps h → Begins h rest part → input ≡ asked steps ++ rest → output ≡ told steps ++ part → RepliesBegun faults.Write reads input (take n output)
+  by_cut : (h steps : List Step) (rest part : List ℕ) → Ran [] steps h → Begins h rest part → input ≡ asked steps ++ rest
+      → output ≡ told steps ++ part → RepliesBegun faults.Write reads input (take n output)
   by_cut h steps rest part ran begins i o =
       let b = cut [] h steps rest part n ran begins in
-      record { steps = b.steps; history = b.history; rest = b.rest; part = b.part; ran = b.ran; stops = inl b.begins; input_is = i ∙ b.input_is; output_is = ap (take n) o ∙ b.output_is }
+      record {
+        steps = b.steps;
+        history = b.history;
+        rest = b.rest;
+        part = b.part;
+        ran = b.ran;
+        stops = inl b.begins;
+        input_is = i ∙ b.input_is;
+        output_is = ap (take n) o ∙ b.output_is;
+      }
 
   front_of_replies : (end : End) → Replies end input output → RepliesBegun faults.Write reads input (take n output)
-  front_of_replies Done r = by_cut r.history r.steps [] [] r.ran nothing (r.input_is ∙ sym (append-nil (asked r.steps))) (r.output_is ∙ sym (append-nil (told r.steps)))
+  front_of_replies Done r = by_cut r.history r.steps [] [] r.ran nothing (r.input_is ∙ sym (append-nil (asked r.steps)))
+      (r.output_is ∙ sym (append-nil (told r.steps)))
   front_of_replies Bad r =
       let whole : take (length bad_script) bad_script ≡ bad_script = take_all (length bad_script) bad_script (omega arith) in
-      by_cut r.history r.steps r.rest bad_script r.ran (subst (Begins r.history r.rest) whole (last (length bad_script) r.malformed)) r.input_is r.output_is
+      by_cut r.history r.steps r.rest bad_script r.ran (subst (Begins r.history r.rest) whole
+      (last (length bad_script) r.malformed)) r.input_is r.output_is
 
   front_of_begun : (fault : RunFault) → RepliesBegun fault reads input output → RepliesBegun faults.Write reads input (take n output)
-  front_of_begun fault r = by_cut r.history r.steps r.rest r.part r.ran (stops_begins fault reads r.history r.rest r.part r.stops) r.input_is r.output_is
+  front_of_begun fault r = by_cut r.history r.steps r.rest r.part r.ran (stops_begins fault reads r.history r.rest r.part
+      r.stops) r.input_is r.output_is
 
 -- ---- what was written at the end of a run, where nothing waited before it, and the source held nothing
 
@@ -203,31 +267,55 @@ module _ (reads : ℕ) (first : Option (List ℕ)) (old : List ℕ) (none : old 
   from_start P (Some xs) said = (said.0, said.1, subst (λ bytes. P bytes said.0) (ap (λ l. l ++ xs) none) said.2)
 
   -- all that waited was written
-  whole : (new : Sent) (P : List ℕ → List ℕ → Type 0) → Says held new [] → new.waiting ≡ [] → (a : Option (List ℕ)) → Said P a → Written new P a
+  whole : (new : Sent) (P : List ℕ → List ℕ → Type 0) → Says held new [] → new.waiting ≡ [] → (a : Option (List ℕ))
+      → Said P a → Written new P a
   whole new P rest all None said = tt
-  whole new P rest all (Some bytes) said = (said.0, says_all begun new said.0 fresh all (says_ended begun held new said.0 said.1 rest), said.2)
+  whole new P rest all (Some bytes) said =
+      (said.0, says_all begun new said.0 fresh all (says_ended begun held new said.0 said.1 rest), said.2)
 
-  pub written_whole : (new : Sent) (P : List ℕ → List ℕ → Type 0) → Says held new [] → new.waiting ≡ [] → Said P (prepend_known old first) → Written new P first
+  pub written_whole : (new : Sent) (P : List ℕ → List ℕ → Type 0) → Says held new [] → new.waiting ≡ []
+      → Said P (prepend_known old first) → Written new P first
   written_whole new P rest all said = whole new P rest all first (from_start P first said)
 
   -- a front was
-  front : (new : Sent) (P : List ℕ → List ℕ → Type 0) → ((bytes written : List ℕ) (n : ℕ) → P bytes written → RepliesBegun faults.Write reads bytes (take n written)) → Says held new []
+  front : (new : Sent) (P : List ℕ → List ℕ → Type 0) → ((bytes written : List ℕ) (n : ℕ) → P bytes written
+      → RepliesBegun faults.Write reads bytes (take n written)) → Says held new []
       → (a : Option (List ℕ)) → Said P a → Written new (RepliesBegun faults.Write reads) a
   front new P cut_at rest None said = tt
   front new P cut_at rest (Some bytes) said =
       let f = says_begun begun new said.0 fresh (says_ended begun held new said.0 said.1 rest) in
       (take f.0 said.0, f.1, cut_at bytes said.0 f.0 said.2)
 
-  pub ended_front : (new : Sent) (end : End) (fault : RunFault) → fault ≡ faults.Write → Says held new [] → Said (Replies end) (prepend_known old first) → Written new (RepliesBegun fault reads) first
+  pub ended_front : (new : Sent) (end : End) (fault : RunFault) → fault ≡ faults.Write → Says held new []
+      → Said (Replies end) (prepend_known old first) → Written new (RepliesBegun fault reads) first
   ended_front new end fault e rest said =
-      subst (λ f. Written new (RepliesBegun f reads) first) (sym e) (front new (Replies end) (λ bytes written n r. front_of_replies reads bytes written n end r) rest first (from_start (Replies end) first said))
+      subst (λ f. Written new (RepliesBegun f reads) first) (sym e)
+      (front new (Replies end) (λ bytes written n r. front_of_replies reads bytes written n end r) rest first
+      (from_start (Replies end) first said))
 
-  pub failed_front : (new : Sent) (before fault : RunFault) → fault ≡ faults.Write → Says held new [] → Said (RepliesBegun before reads) (prepend_known old first) → Written new (RepliesBegun fault reads) first
+  pub failed_front : (new : Sent) (before fault : RunFault) → fault ≡ faults.Write → Says held new []
+      → Said (RepliesBegun before reads) (prepend_known old first) → Written new (RepliesBegun fault reads) first
   failed_front new before fault e rest said =
-      subst (λ f. Written new (RepliesBegun f reads) first) (sym e) (front new (RepliesBegun before reads) (λ bytes written n r. front_of_begun reads bytes written n before r) rest first (from_start (RepliesBegun before reads) first said))
+      subst (λ f. Written new (RepliesBegun f reads) first) (sym e) (front new (RepliesBegun before reads)
+      (λ bytes written n r. front_of_begun reads bytes written n before r) rest first
+      (from_start (RepliesBegun before reads) first said))
 
 -- nothing was read, and nothing written
-pub run_not_begun : (reads : ℕ) (first held : Option (List ℕ)) → reads ≡ 0 → IfSome first (λ bytes. (written : List ℕ) × Appends held held written × RepliesBegun faults.NoMemory reads bytes written)
+pub run_not_begun : (reads : ℕ) (first held : Option (List ℕ)) → reads ≡ 0
+    → IfSome first (λ bytes. (written : List ℕ) × Appends held held written × RepliesBegun faults.NoMemory reads bytes written)
 run_not_begun reads None held none = tt
-run_not_begun reads (Some xs) held none =
-    ([], Appends-nil held, record { steps = []; history = []; rest = xs; part = []; ran = refl; stops = inr (refl, none, refl); input_is = refl; output_is = refl })
+run_not_begun reads (Some xs) held none = (
+  [],
+  Appends-nil held,
+  record {
+    steps = [];
+    history = [];
+    rest = xs;
+    part = [];
+    ran = refl;
+    stops =
+        inr (refl, none, refl);
+    input_is = refl;
+    output_is = refl;
+  },
+)

@@ -17,25 +17,53 @@ use Rattle.wstore.specs.declared.session.Session.{Session}
 
 module _ (session : Session) (h : List Step) (c : Command) (text : List ℕ) (held new_held : Sent) (tells : Tells session h c text) where
   pub answered : Says held new_held text → Answered session h c held new_held
-  answered k = record { reply = tells.reply; answers = tells.answers; appends = subst (Says held new_held) tells.text_is k; stands = tells.stands }
+  answered k = record {
+    reply = tells.reply;
+    answers = tells.answers;
+    appends = subst (Says held new_held) tells.text_is k;
+    stands = tells.stands;
+  }
 
   pub answered_part : (n : ℕ) → Says held new_held (take n text) → AnsweredPart h c held new_held
-  answered_part n k = record { reply = tells.reply; n = n; answers = tells.answers; appends = subst (λ t. Says held new_held (take n t)) tells.text_is k }
+  answered_part n k = record {
+    reply = tells.reply;
+    n = n;
+    answers = tells.answers;
+    appends =
+        subst (λ t. Says held new_held (take n t)) tells.text_is k;
+  }
 
 -- a write fault leaves a front
-pub unanswered : (fault : RunFault) (h : List Step) (c : Command) (held new_held : Sent) → fault ≡ faults.Write → AnsweredPart h c held new_held → Unanswered fault h c held new_held
+pub unanswered : (fault : RunFault) (h : List Step) (c : Command) (held new_held : Sent) → fault ≡ faults.Write
+    → AnsweredPart h c held new_held → Unanswered fault h c held new_held
 unanswered fault h c held new_held e part = subst (λ f. Unanswered f h c held new_held) (sym e) (inl part)
 
-pub unanswered_feed : (fault : RunFault) (h : List Step) (c : Command) (held new_held : Sent) → fault ≡ faults.Write → AnsweredPart h c held new_held ⊎ AnsweredLines h c held new_held → Unanswered fault h c held new_held
+pub unanswered_feed : (fault : RunFault) (h : List Step) (c : Command) (held new_held : Sent) → fault ≡ faults.Write
+    → AnsweredPart h c held new_held ⊎ AnsweredLines h c held new_held → Unanswered fault h c held new_held
 unanswered_feed fault h c held new_held e part = subst (λ f. Unanswered f h c held new_held) (sym e) part
 
 -- where nothing was said before
-pub answered_behind : (session : Session) (h : List Step) (c : Command) (before held new_held : Sent) → Says before held [] → Answered session h c held new_held → Answered session h c before new_held
-answered_behind session h c before held new_held still a = record { reply = a.reply; answers = a.answers; appends = says_behind before held new_held (text_of a.reply) still a.appends; stands = a.stands }
+pub answered_behind : (session : Session) (h : List Step) (c : Command) (before held new_held : Sent) → Says before held []
+    → Answered session h c held new_held → Answered session h c before new_held
+answered_behind session h c before held new_held still a = record {
+  reply = a.reply;
+  answers = a.answers;
+  appends =
+      says_behind before held new_held (text_of a.reply) still a.appends;
+  stands = a.stands;
+}
 
-pub unanswered_behind : (fault : RunFault) (h : List Step) (c : Command) (before held new_held : Sent) → Says before held [] → Unanswered fault h c held new_held → Unanswered fault h c before new_held
+pub unanswered_behind : (fault : RunFault) (h : List Step) (c : Command) (before held new_held : Sent) → Says before held []
+    → Unanswered fault h c held new_held → Unanswered fault h c before new_held
 unanswered_behind faults.Read h c before held new_held still u = absurd u
-unanswered_behind faults.Write h c before held new_held still (inl part) = inl (record { reply = part.reply; n = part.n; answers = part.answers; appends = says_behind before held new_held (take part.n (text_of part.reply)) still part.appends })
+unanswered_behind faults.Write h c before held new_held still (inl part) =
+    inl (record {
+      reply = part.reply;
+      n = part.n;
+      answers = part.answers;
+      appends =
+          says_behind before held new_held (take part.n (text_of part.reply)) still part.appends;
+    })
 unanswered_behind faults.Write h c before held new_held still (inr part) = inr (record {
   d = part.d;
   node = part.node;
@@ -74,7 +102,8 @@ kept_may_lack h (Put m s) kept = tt
 kept_may_lack h (Get s m) kept = absurd kept
 
 -- so may what a node is told, asked, puts or gets, where the slot that it gets was put
-pub order_may_lack : (n : ℕ) (order : Order) (h : List Step) (c : Command) → IsOrderAt n order c → ((k : ℕ) → order ≡ orders.Get k → is_put h k ≡ true) → MayLackMemory h c
+pub order_may_lack : (n : ℕ) (order : Order) (h : List Step) (c : Command) → IsOrderAt n order c
+    → ((k : ℕ) → order ≡ orders.Get k → is_put h k ≡ true) → MayLackMemory h c
 order_may_lack n (orders.Take name kept) h (Take m o k b) is put = ((name, is.1), is.3)
 order_may_lack n (orders.Take name kept) h (Declare s) is put = is
 order_may_lack n (orders.Take name kept) h (Retire m o k) is put = absurd is

@@ -1,5 +1,7 @@
--- What nodes are told by a history of commands and replies, item by item, and the replies that it allows. A history has its newest step first.
-use Rattle.std.specs.Prelude.{◌≡◌, ◌≢◌, ℕ, ◌≤◌, Bool, false, true, List, [], ◌∷◌, ◌++◌, length, map, ◌==◌, ◌⊎◌, if◌then◌else◌, Option, None, Some, is_some, Result, Ok, Err, IsOk, ⊤, ◌||◌}
+-- What nodes are told by a history of commands and replies, item by item, and the replies that it allows. A history has its
+-- newest step first.
+use Rattle.std.specs.Prelude.{◌≡◌, ◌≢◌, ℕ, ◌≤◌, Bool, false, true, List, [], ◌∷◌, ◌++◌, length, map, ◌==◌, ◌⊎◌}
+use Rattle.std.specs.Prelude.{if◌then◌else◌, Option, None, Some, is_some, Result, Ok, Err, IsOk, ⊤, ◌||◌}
 use Rattle.std.specs.List.{flat_map, AllByRecursion}
 use Rattle.std.specs.FinMap.{entries}
 use Rattle.wvalues.specs.Names.{NameParts}
@@ -21,8 +23,11 @@ use Rattle.wexchange.specs.Judging.{Judges}
 use Rattle.wstream.specs.Messages.{IsMessage, IsOpen, IsBad, Splits, message_text}
 use Rattle.wexchange.specs.declared.fault.FileFault.{FileFault}
 use Rattle.wexchange.specs.declared.fault.FileFault.TheVariants as files
-use Rattle.wscript.specs.Commands.{Command, Declare, Take, Retire, RetireTo, Listing, Ask, Feed, Put, Get, AreName, longest_segment, longest_text}
-use Rattle.wstore.specs.Replies.{Reply, Line, TookLine, WasLine, FloorLine, RefusedLine, SpentLine, line_item, line_items, Fed, Declared, RefusedTable, Took, Was, RefusedName, RefusedSegment, Names, Answered, RefusedQuery, Done, RefusedFile, NoMemory}
+use Rattle.wscript.specs.Commands.{Command, Declare, Take, Retire, RetireTo, Listing, Ask}
+use Rattle.wscript.specs.Commands.{Feed, Put, Get, AreName, longest_segment, longest_text}
+use Rattle.wstore.specs.Replies.{Reply, Line, TookLine, WasLine, FloorLine, RefusedLine, SpentLine, line_item}
+use Rattle.wstore.specs.Replies.{line_items, Fed, Declared, RefusedTable, Took, Was, RefusedName, RefusedSegment}
+use Rattle.wstore.specs.Replies.{Names, Answered, RefusedQuery, Done, RefusedFile, NoMemory}
 use Rattle.wask.specs.Answer.{IsAnswer}
 use Rattle.wplanner.specs.declared.fault.AskFault.{AskFault}
 
@@ -171,7 +176,8 @@ query_reply (Err fault) = RefusedQuery fault
 
 -- the reply to a command at a node of this view, under this declaration
 abbrev pub NodeAnswers : Declaration → View → Command → Reply → Type 0
-NodeAnswers d v (Take n origin number bytes) r = (name : Result NameParts NameFault) × ReadsName origin number name × (r ≡ take_reply name d v bytes)
+NodeAnswers d v (Take n origin number bytes) r = (name : Result NameParts NameFault) × ReadsName origin number name
+    × (r ≡ take_reply name d v bytes)
 NodeAnswers d v (Retire n origin number) r = (name : Result NameParts NameFault) × ReadsName origin number name × (r ≡ retire_reply name v)
 NodeAnswers d v (RetireTo n origin number) r = (name : Result NameParts NameFault) × ReadsName origin number name × (r ≡ floor_reply name v)
 NodeAnswers d v (Listing n) r = r ≡ Names (map (listed d) (entries v))
@@ -248,7 +254,8 @@ AnswersUnder (Some d) h (Feed n piece) r = PieceAnswers (is_bad h n) d h n piece
 AnswersUnder (Some d) h (Put n slot) r = r ≡ Done
 AnswersUnder (Some d) h (Get slot n) r = FileAnswers d (slot_file d h slot) r
 
--- the commands that may find no memory; any other is answered without it: a declaration, a name that is none, a body over its limit, and a slot that was not put
+-- the commands that may find no memory; any other is answered without it: a declaration, a name that is none, a body over its
+-- limit, and a slot that was not put
 abbrev pub MayLackMemory : List Step → Command → Type 0
 MayLackMemory h (Declare bytes) = ⊥
 MayLackMemory h (Take n origin number bytes) = AreName origin number × (length bytes ≤ longest_segment)

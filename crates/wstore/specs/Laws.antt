@@ -38,7 +38,8 @@ pub record ListsAreExact : Type 0 where
 -- a slot that was got was put, and makes the view of its node the join of its view with the slot's
 abbrev pub SlotsJoin : Type 0
 SlotsJoin = (h : List Step) (k n : ℕ) (d : Declaration) → declaration h ≡ Some d → Answers h (Get k n) Done →
-    (is_put h k ≡ true) × (view_of (known (record { command = Get k n; reply = Done } ∷ h) n) ≡ join (view_of (known h n)) (view_of (held h k)))
+    (is_put h k ≡ true) × (view_of (known (record { command = Get k n; reply = Done } ∷ h) n) ≡ join (view_of (known h n))
+    (view_of (held h k)))
 
 -- two nodes, at any moments of any two histories, know the same items
 pub record KnowTheSame (g h : List Step) (m n : ℕ) : Type 0 where
@@ -56,12 +57,14 @@ SameFiles = (g h : List Step) (m n j k : ℕ) (d : Declaration) → KnowTheSame 
 
 -- under one declaration they answer the same to every query, where both answer
 abbrev pub SameAnswers : Type 0
-SameAnswers = (g h : List Step) (m n : ℕ) (d : Declaration) (text : List ℕ) (r s : Reply) → KnowTheSame g h m n → declaration g ≡ Some d → declaration h ≡ Some d →
+SameAnswers = (g h : List Step) (m n : ℕ) (d : Declaration) (text : List ℕ) (r s : Reply) → KnowTheSame g h m n
+    → declaration g ≡ Some d → declaration h ≡ Some d →
     Answers g (Ask m text) r → Answers h (Ask n text) s → r ≢ NoMemory → s ≢ NoMemory → r ≡ s
 
 -- and list the same
 abbrev pub SameLists : Type 0
-SameLists = (g h : List Step) (m n : ℕ) (d : Declaration) (r s : Reply) → KnowTheSame g h m n → declaration g ≡ Some d → declaration h ≡ Some d →
+SameLists = (g h : List Step) (m n : ℕ) (d : Declaration) (r s : Reply) → KnowTheSame g h m n → declaration g ≡ Some d
+    → declaration h ≡ Some d →
     Answers g (Listing m) r → Answers h (Listing n) s → r ≢ NoMemory → s ≢ NoMemory → r ≡ s
 
 -- a message that was not spent for want of memory
@@ -96,4 +99,5 @@ OneReading = (s t : List Step) (g h : List Step) (rest more : List ℕ) → Ran 
 -- an input has one run in which no want of memory has part: its commands, their replies, and what is left behind them
 abbrev pub OneRun : Type 0
 OneRun = (s t : List Step) (g h : List Step) (rest more : List ℕ) → Ran [] s g → Ran [] t h → EndsRun g rest → EndsRun h more →
-    asked s ++ rest ≡ asked t ++ more → AllByRecursion (λ x. HasMemory x.reply) s → AllByRecursion (λ x. HasMemory x.reply) t → (s ≡ t) × (rest ≡ more)
+    asked s ++ rest ≡ asked t ++ more → AllByRecursion (λ x. HasMemory x.reply) s
+    → AllByRecursion (λ x. HasMemory x.reply) t → (s ≡ t) × (rest ≡ more)

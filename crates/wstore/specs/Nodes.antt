@@ -40,9 +40,11 @@ pub record LearnsFile (old : NodeState) (bytes : List ℕ) (new : NodeState) : T
 
 -- a message was told this, as its command would be, and the view is this then; what needs no memory is neither refused nor finds none
 abbrev pub IsTold : Declaration → View → Item → Reply → View → Type 0
-IsTold d v (SegmentItem n bytes) (replies.Taken word) w = IsOk (rows_of d bytes) × (word ≡ taken_word (known_in v n) bytes) × (w ≡ join v (view_of_item (SegmentItem n bytes)))
+IsTold d v (SegmentItem n bytes) (replies.Taken word) w = IsOk (rows_of d bytes) × (word ≡ taken_word (known_in v n) bytes)
+    × (w ≡ join v (view_of_item (SegmentItem n bytes)))
 IsTold d v (SegmentItem n bytes) (replies.Refused fault) w = (rows_of d bytes ≡ Err fault) × (w ≡ v) × MayNeedMemory v (SegmentItem n bytes)
-IsTold d v (RetirementItem n) (replies.Retired word) w = (word ≡ retired_word (known_in v n)) × (w ≡ join v (view_of_item (RetirementItem n)))
+IsTold d v (RetirementItem n) (replies.Retired word) w = (word ≡ retired_word (known_in v n))
+    × (w ≡ join v (view_of_item (RetirementItem n)))
 IsTold d v (FloorItem n) (replies.Retired word) w = (word ≡ floor_word v n) × (w ≡ join v (view_of_item (FloorItem n)))
 IsTold d v i replies.NoMemory w = (w ≡ v) × MayNeedMemory v i
 IsTold d v i r w = ⊥

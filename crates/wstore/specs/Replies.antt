@@ -14,7 +14,8 @@ use Rattle.wset.specs.declared.outcomes.Retired.{Retired}
 use Rattle.wentries.specs.declared.status.Listed.{Listed}
 use Rattle.wexchange.specs.declared.fault.FileFault.{FileFault}
 use Rattle.wplanner.specs.declared.fault.AskFault.{AskFault}
-use Rattle.wreplies.specs.Spelling.{answer_text, file_text, name_text, names_text, no_memory, query_text, retired_text, segment_text, table_text, taken_text}
+use Rattle.wreplies.specs.Spelling.{answer_text, file_text, name_text, names_text, no_memory, query_text}
+use Rattle.wreplies.specs.Spelling.{retired_text, segment_text, table_text, taken_text}
 
 -- a message of a delivery stream, and what it was told
 pub data Line : Type 0 where

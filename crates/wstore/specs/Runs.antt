@@ -40,11 +40,15 @@ pub record RepliesBad (input output : List ℕ) : Type 0 where
   pub input_is : input ≡ asked steps ++ rest
   pub output_is : output ≡ told steps ++ bad_script
 
--- what comes next may begin so: a front of a reply to the next command, or of what the first messages of a piece are told, or of the last line
+-- what comes next may begin so: a front of a reply to the next command, or of what the first messages of a piece are told, or
+-- of the last line
 pub data Begins (h : List Step) (rest : List ℕ) : List ℕ → Type 0 where
   nothing : Begins h rest []
-  answer : (c : Command) (more : List ℕ) (reply : Reply) (n : ℕ) → IsCommand (is_declared h) c → rest ≡ spell c ++ more → Answers h c reply → Begins h rest (take n (text_of reply))
-  lines : (d : Declaration) (node : ℕ) (piece more : List ℕ) (told : List Line) (n : ℕ) → IsCommand (is_declared h) (Feed node piece) → rest ≡ spell (Feed node piece) ++ more → declaration h ≡ Some d → FeedBegins d h node piece told → Begins h rest (take n (flat_map line_text told))
+  answer : (c : Command) (more : List ℕ) (reply : Reply) (n : ℕ) → IsCommand (is_declared h) c → rest ≡ spell c ++ more
+      → Answers h c reply → Begins h rest (take n (text_of reply))
+  lines : (d : Declaration) (node : ℕ) (piece more : List ℕ) (told : List Line) (n : ℕ)
+      → IsCommand (is_declared h) (Feed node piece) → rest ≡ spell (Feed node piece) ++ more → declaration h ≡ Some d
+      → FeedBegins d h node piece told → Begins h rest (take n (flat_map line_text told))
   last : (n : ℕ) → IsMalformed (is_declared h) rest → Begins h rest (take n bad_script)
 
 -- the rest begins with a declaration within its limit, which may stand there
@@ -55,7 +59,8 @@ pub record IsDeclaring (h : List Step) (rest : List ℕ) : Type 0 where
   pub command : IsCommand (is_declared h) (Declare bytes)
   pub rest_is : rest ≡ spell (Declare bytes) ++ more
 
--- what was written behind the replies, by the fault that ended the run: nothing, or for a write fault a front of what comes next. Want of memory comes at a declaration within its limit
+-- what was written behind the replies, by the fault that ended the run: nothing, or for a write fault a front of what comes
+-- next. Want of memory comes at a declaration within its limit
 abbrev pub Stops : RunFault → List Step → List ℕ → List ℕ → Type 0
 Stops Read h rest part = part ≡ []
 Stops Write h rest part = Begins h rest part

@@ -5,7 +5,8 @@ ghost use Rattle.wlines.specs.Sent.{sent};
 ghost use Rattle.std.specs.FinMap as map;
 ghost use Rattle.wsegment.specs.Declaration.{Declaration};
 ghost use Rattle.wvalues.specs.NameReading.{ReadsName};
-ghost use Rattle.wscript.specs.Commands.{Command as Spelled, Take, Retire as Retiring, RetireTo as RetiringTo, Listing, Ask, Put, Get, longest_segment, longest_text, node_count, slot_count};
+ghost use Rattle.wscript.specs.Commands.{Command as Spelled, Take, Retire as Retiring, RetireTo as RetiringTo, Listing};
+ghost use Rattle.wscript.specs.Commands.{Ask, Put, Get, longest_segment, longest_text, node_count, slot_count};
 ghost use Rattle.wstore.specs.History.{Step, is_put};
 ghost use Rattle.wstore.specs.Nodes.{fresh_node};
 ghost use Rattle.wstore.specs.Replies.{ask_text, get_text, take_text};
@@ -153,7 +154,9 @@ impl Cluster {
         name: Name,
         bytes: &[u8],
     ) -> Result<Text, AllocError>
-        ensures answers { IfOk result (λ text. (d : Declaration) (h : List Step) (origin number : List ℕ) → length bytes.now ≤ longest_segment → ReadsName origin number (Ok name) → StandAt d self.old h → AnswersAs d self.new h (Take node origin number bytes.now) (bytes_of text)) }
+        ensures answers { IfOk result (λ text. (d : Declaration) (h : List Step) (origin number : List ℕ)
+            → length bytes.now ≤ longest_segment → ReadsName origin number (Ok name) → StandAt d self.old h
+            → AnswersAs d self.new h (Take node origin number bytes.now) (bytes_of text)) }
         ensures err { OnErr result (self.new ≡ self.old) }
     {
         let place = node.place();
@@ -163,7 +166,9 @@ impl Cluster {
 
     /// Retires a name at a node.
     pub(crate) fn retire(&mut self, node: NodeNumber, name: Name) -> Result<Text, AllocError>
-        ensures answers { IfOk result (λ text. (d : Declaration) (h : List Step) (origin number : List ℕ) → ReadsName origin number (Ok name) → StandAt d self.old h → AnswersAs d self.new h (Retiring node origin number) (bytes_of text)) }
+        ensures answers { IfOk result (λ text. (d : Declaration) (h : List Step) (origin number : List ℕ)
+            → ReadsName origin number (Ok name) → StandAt d self.old h
+            → AnswersAs d self.new h (Retiring node origin number) (bytes_of text)) }
         ensures err { OnErr result (self.new ≡ self.old) }
     {
         let place = node.place();
@@ -173,7 +178,9 @@ impl Cluster {
 
     /// Retires all names up to one at a node.
     pub(crate) fn retire_to(&mut self, node: NodeNumber, name: Name) -> Result<Text, AllocError>
-        ensures answers { IfOk result (λ text. (d : Declaration) (h : List Step) (origin number : List ℕ) → ReadsName origin number (Ok name) → StandAt d self.old h → AnswersAs d self.new h (RetiringTo node origin number) (bytes_of text)) }
+        ensures answers { IfOk result (λ text. (d : Declaration) (h : List Step) (origin number : List ℕ)
+            → ReadsName origin number (Ok name) → StandAt d self.old h
+            → AnswersAs d self.new h (RetiringTo node origin number) (bytes_of text)) }
         ensures err { OnErr result (self.new ≡ self.old) }
     {
         let place = node.place();
@@ -183,7 +190,8 @@ impl Cluster {
 
     /// Lists the names that a node knows.
     pub(crate) fn list(&self, node: NodeNumber) -> Result<Text, AllocError>
-        ensures { IfOk result (λ text. (d : Declaration) (h : List Step) → StandAt d self.now h → AnswersAs d self.now h (Listing node) (bytes_of text)) }
+        ensures { IfOk result (λ text. (d : Declaration) (h : List Step) → StandAt d self.now h
+            → AnswersAs d self.now h (Listing node) (bytes_of text)) }
     {
         let all = self.node(node).list()?;
         let text = names(self.alloc, &all)?;
@@ -192,7 +200,8 @@ impl Cluster {
 
     /// Asks a node.
     pub(crate) fn ask(&mut self, node: NodeNumber, text: &[u8]) -> Result<Text, AllocError>
-        ensures answers { IfOk result (λ reply. (d : Declaration) (h : List Step) → length text.now ≤ longest_text → StandAt d self.old h → AnswersAs d self.new h (Ask node text.now) (bytes_of reply)) }
+        ensures answers { IfOk result (λ reply. (d : Declaration) (h : List Step) → length text.now ≤ longest_text
+            → StandAt d self.old h → AnswersAs d self.new h (Ask node text.now) (bytes_of reply)) }
         ensures same { self.new ≡ self.old }
     {
         let place = node.place();
@@ -202,7 +211,8 @@ impl Cluster {
 
     /// Puts the exchange file of what a node knows into a slot. Later steps of the node do not reach it.
     pub(crate) fn put(&mut self, node: NodeNumber, slot: SlotNumber) -> Result<Text, AllocError>
-        ensures answers { IfOk result (λ text. (d : Declaration) (h : List Step) → StandAt d self.old h → AnswersAs d self.new h (Put node slot) (bytes_of text)) }
+        ensures answers { IfOk result (λ text. (d : Declaration) (h : List Step) → StandAt d self.old h
+            → AnswersAs d self.new h (Put node slot) (bytes_of text)) }
         ensures err { OnErr result (self.new ≡ self.old) }
     {
         let from = node.place();
@@ -215,7 +225,8 @@ impl Cluster {
     /// Joins what the file of a slot tells into a node, or refuses the slot's bytes. A slot that was not put needs no
     /// memory.
     pub(crate) fn get(&mut self, slot: SlotNumber, node: NodeNumber) -> Result<Text, AllocError>
-        ensures answers { IfOk result (λ text. (d : Declaration) (h : List Step) → StandAt d self.old h → AnswersAs d self.new h (Get slot node) (bytes_of text)) }
+        ensures answers { IfOk result (λ text. (d : Declaration) (h : List Step) → StandAt d self.old h
+            → AnswersAs d self.new h (Get slot node) (bytes_of text)) }
         ensures err { OnErr result (self.new ≡ self.old) }
         ensures lacks { OnErr result ((d : Declaration) (h : List Step) → StandAt d self.old h → is_put h slot ≡ true) }
     {
@@ -235,10 +246,12 @@ impl Cluster {
         piece: &[u8],
     ) -> Result<(), RunFault>
         requires { IsSoundWriter output.old }
-        ensures ok { OnOk result ((d : Declaration) (h : List Step) → StandAt d self.old h → FedAs d self.new h node piece.now (sent W.contents outbox.old output.old) (sent W.contents outbox.new output.new)) }
+        ensures ok { OnOk result ((d : Declaration) (h : List Step) → StandAt d self.old h
+            → FedAs d self.new h node piece.now (sent W.contents outbox.old output.old) (sent W.contents outbox.new output.new)) }
         ensures answered { OnOk result (outbox.new.is_answered ≡ true) }
         ensures sound { OnOk result (IsSoundWriter output.new) }
-        ensures part { OnErr result ((d : Declaration) (h : List Step) → StandAt d self.old h → FedPart h node piece.now (sent W.contents outbox.old output.old) (sent W.contents outbox.new output.new)) }
+        ensures part { OnErr result ((d : Declaration) (h : List Step) → StandAt d self.old h
+            → FedPart h node piece.now (sent W.contents outbox.old output.old) (sent W.contents outbox.new output.new)) }
         ensures fault { IfErr result (λ e. e ≡ RunFault.Write) }
         ensures cause { OnErr result (output.new.failures ≡ 1) }
     {
@@ -248,9 +261,11 @@ impl Cluster {
 
     /// The reply of a node.
     pub(crate) fn answer(&mut self, node: NodeNumber, order: &Order) -> Result<Text, AllocError>
-        ensures answers { IfOk result (λ text. (d : Declaration) (h : List Step) (c : Spelled) → IsOrderAt node order.now c → StandAt d self.old h → AnswersAs d self.new h c (bytes_of text)) }
+        ensures answers { IfOk result (λ text. (d : Declaration) (h : List Step) (c : Spelled) → IsOrderAt node order.now c
+            → StandAt d self.old h → AnswersAs d self.new h c (bytes_of text)) }
         ensures err { OnErr result (self.new ≡ self.old) }
-        ensures lacks { OnErr result ((slot : ℕ) (d : Declaration) (h : List Step) → order.now ≡ Order.Get slot → StandAt d self.old h → is_put h slot ≡ true) }
+        ensures lacks { OnErr result ((slot : ℕ) (d : Declaration) (h : List Step) → order.now ≡ Order.Get slot
+            → StandAt d self.old h → is_put h slot ≡ true) }
     {
         match order {
             Order::Take(name, bytes) => self.take(node, *name, bytes),

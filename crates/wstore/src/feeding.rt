@@ -42,7 +42,8 @@ fn send_digits<W: Write>(
     ensures answered { OnOk result (outbox.new.is_answered ≡ true) }
     ensures sound { OnOk result (IsSoundWriter output.new) }
     ensures fault { IfErr result (λ e. e ≡ RunFault.Write) }
-    ensures front { OnErr result ((n : ℕ) × Says (sent W.contents outbox.old output.old) (sent W.contents outbox.new output.new) (take n (decimal number))) }
+    ensures front { OnErr result ((n : ℕ)
+        × Says (sent W.contents outbox.old output.old) (sent W.contents outbox.new output.new) (take n (decimal number))) }
     ensures cause { OnErr result (output.new.failures ≡ 1) }
 {
     let mut buffer = Buffer::new();
@@ -56,11 +57,13 @@ fn send_number<W: Write>(
     number: usize,
 ) -> Result<(), RunFault>
     requires { IsSoundWriter output.old }
-    ensures ok { OnOk result (Says (sent W.contents outbox.old output.old) (sent W.contents outbox.new output.new) (decimal number ++ 10 ∷ [])) }
+    ensures ok { OnOk result (Says (sent W.contents outbox.old output.old) (sent W.contents outbox.new output.new)
+        (decimal number ++ 10 ∷ [])) }
     ensures answered { OnOk result (outbox.new.is_answered ≡ true) }
     ensures sound { OnOk result (IsSoundWriter output.new) }
     ensures fault { IfErr result (λ e. e ≡ RunFault.Write) }
-    ensures front { OnErr result ((n : ℕ) × Says (sent W.contents outbox.old output.old) (sent W.contents outbox.new output.new) (take n (decimal number ++ 10 ∷ []))) }
+    ensures front { OnErr result ((n : ℕ)
+        × Says (sent W.contents outbox.old output.old) (sent W.contents outbox.new output.new) (take n (decimal number ++ 10 ∷ []))) }
     ensures cause { OnErr result (output.new.failures ≡ 1) }
 {
     if let Err(fault) = send_digits(outbox, output, number) {
@@ -80,7 +83,8 @@ fn send_fed<W: Write>(
     ensures answered { OnOk result (outbox.new.is_answered ≡ true) }
     ensures sound { OnOk result (IsSoundWriter output.new) }
     ensures fault { IfErr result (λ e. e ≡ RunFault.Write) }
-    ensures front { OnErr result ((n : ℕ) × Says (sent W.contents outbox.old output.old) (sent W.contents outbox.new output.new) (take n (fed_text count false))) }
+    ensures front { OnErr result ((n : ℕ)
+        × Says (sent W.contents outbox.old output.old) (sent W.contents outbox.new output.new) (take n (fed_text count false))) }
     ensures cause { OnErr result (output.new.failures ≡ 1) }
 {
     if let Err(fault) = send(outbox, output, b"fed ") {
@@ -130,10 +134,12 @@ pub(crate) fn feed_node<W: Write>(
     piece: &[u8],
 ) -> Result<(), RunFault>
     requires { IsSoundWriter output.old }
-    ensures ok { OnOk result (Feeds node.old piece.now node.new (sent W.contents outbox.old output.old) (sent W.contents outbox.new output.new)) }
+    ensures ok { OnOk result (Feeds node.old piece.now node.new (sent W.contents outbox.old output.old)
+        (sent W.contents outbox.new output.new)) }
     ensures answered { OnOk result (outbox.new.is_answered ≡ true) }
     ensures sound { OnOk result (IsSoundWriter output.new) }
-    ensures part { OnErr result (FeedsPart node.old piece.now (sent W.contents outbox.old output.old) (sent W.contents outbox.new output.new)) }
+    ensures part { OnErr result (FeedsPart node.old piece.now (sent W.contents outbox.old output.old)
+        (sent W.contents outbox.new output.new)) }
     ensures fault { IfErr result (λ e. e ≡ RunFault.Write) }
     ensures cause { OnErr result (output.new.failures ≡ 1) }
 {

@@ -1,5 +1,6 @@
 //! One node.
-ghost use Rattle.std.specs.Prelude.{◌≡◌, ◌⊎◌, ◌<◌, ◌++◌, length, map as list_map, true, false, Ok, Err, IsOk, IfOk, IfErr, OnOk, OnErr, MatchResult};
+ghost use Rattle.std.specs.Prelude.{◌≡◌, ◌⊎◌, ◌<◌, ◌++◌, length, map as list_map, true, false};
+ghost use Rattle.std.specs.Prelude.{Ok, Err, IsOk, IfOk, IfErr, OnOk, OnErr, MatchResult};
 ghost use Rattle.std.specs.FinMap as map;
 ghost use Rattle.wsegment.specs.Outcome.{Fails};
 ghost use Rattle.wsegment.specs.Rows.{rows_of};
@@ -143,7 +144,10 @@ impl Node {
     pub fn take_judged(&mut self, name: Name, judged: &Rc<Judged>) -> Result<Taken, AllocError>
         requires { IsReadBy self.old.schema judged.now.value }
         ensures word { IfOk result (λ word. word ≡ taken_word (known_in self.old.view name) judged.now.value.bytes) }
-        ensures ok { OnOk result (self.new ≡ record self.old { view = join self.old.view (view_of_item (SegmentItem name judged.now.value.bytes)) }) }
+        ensures ok { OnOk result (self.new ≡ record self.old {
+          view =
+              join self.old.view (view_of_item (SegmentItem name judged.now.value.bytes));
+        }) }
         ensures err { OnErr result (self.new ≡ self.old) }
         ensures lacks { OnErr result (MayNeedMemory self.old.view (SegmentItem name judged.now.value.bytes)) }
     {

@@ -1,5 +1,6 @@
 //! Runs a script.
-ghost use Rattle.std.specs.Prelude.{[], false, ◌≡◌, ℕ, ◌<◌, ◌≤◌, length, take, List, Some, None, IfOk, IfErr, OnOk, OnErr, IfSome, IsNone, is_some, true};
+ghost use Rattle.std.specs.Prelude.{[], false, ◌≡◌, ℕ, ◌<◌, ◌≤◌, length, take, List, Some, None};
+ghost use Rattle.std.specs.Prelude.{IfOk, IfErr, OnOk, OnErr, IfSome, IsNone, is_some, true};
 ghost use Rattle.std.specs.Io.KnownBytes.{Appends};
 ghost use Rattle.wlines.specs.Pending.{left, budget, IsNew, IsSound, IsSoundWriter};
 ghost use Rattle.wlines.specs.Failing.{IsReady};
@@ -53,7 +54,8 @@ pub(crate) fn send<W: Write>(
     ensures answered { OnOk result (outbox.new.is_answered ≡ true) }
     ensures sound { OnOk result (IsSoundWriter output.new) }
     ensures fault { IfErr result (λ e. e ≡ RunFault.Write) }
-    ensures front { OnErr result ((n : ℕ) × Says (sent W.contents outbox.old output.old) (sent W.contents outbox.new output.new) (take n reply.now)) }
+    ensures front { OnErr result ((n : ℕ)
+        × Says (sent W.contents outbox.old output.old) (sent W.contents outbox.new output.new) (take n reply.now)) }
     ensures cause { OnErr result (output.new.failures ≡ 1) }
 {
     match outbox.say(output, reply) {
@@ -70,10 +72,13 @@ fn declare<W: Write>(
     bytes: &[u8],
 ) -> Result<(), RunFault>
     requires { IsSoundWriter output.old }
-    ensures ok { OnOk result ((h : List Step) → is_declared h ≡ false → Stands session.old h → Answered session.new h (Declare bytes.now) (sent W.contents outbox.old output.old) (sent W.contents outbox.new output.new)) }
+    ensures ok { OnOk result ((h : List Step) → is_declared h ≡ false → Stands session.old h
+        → Answered session.new h (Declare bytes.now) (sent W.contents outbox.old output.old) (sent W.contents outbox.new output.new)) }
     ensures answered { OnOk result (outbox.new.is_answered ≡ true) }
     ensures sound { OnOk result (IsSoundWriter output.new) }
-    ensures part { IfErr result (λ fault. (h : List Step) → length bytes.now ≤ longest_text → is_declared h ≡ false → Stands session.old h → Unanswered fault h (Declare bytes.now) (sent W.contents outbox.old output.old) (sent W.contents outbox.new output.new)) }
+    ensures part { IfErr result (λ fault. (h : List Step) → length bytes.now ≤ longest_text → is_declared h ≡ false
+        → Stands session.old h → Unanswered fault h (Declare bytes.now) (sent W.contents outbox.old output.old)
+        (sent W.contents outbox.new output.new)) }
     ensures cause { IfErr result (λ e. HasWriteCause e output.new) }
 {
     let Ok(text) = session.declare(bytes) else {
@@ -95,10 +100,12 @@ fn speak<W: Write>(
 ) -> Result<(), RunFault>
     requires output { IsSoundWriter output.old }
     requires declared { is_some session.old.cluster ≡ true }
-    ensures ok { OnOk result ((h : List Step) (c : Spelled) → IsOrderAt node order.now c → Stands session.old h → Answered session.new h c (sent W.contents outbox.old output.old) (sent W.contents outbox.new output.new)) }
+    ensures ok { OnOk result ((h : List Step) (c : Spelled) → IsOrderAt node order.now c → Stands session.old h
+        → Answered session.new h c (sent W.contents outbox.old output.old) (sent W.contents outbox.new output.new)) }
     ensures answered { OnOk result (outbox.new.is_answered ≡ true) }
     ensures sound { OnOk result (IsSoundWriter output.new) }
-    ensures part { IfErr result (λ fault. (h : List Step) (c : Spelled) → IsOrderAt node order.now c → Stands session.old h → Unanswered fault h c (sent W.contents outbox.old output.old) (sent W.contents outbox.new output.new)) }
+    ensures part { IfErr result (λ fault. (h : List Step) (c : Spelled) → IsOrderAt node order.now c → Stands session.old h
+        → Unanswered fault h c (sent W.contents outbox.old output.old) (sent W.contents outbox.new output.new)) }
     ensures cause { IfErr result (λ e. HasWriteCause e output.new) }
 {
     let text = session.reply(node, order);
@@ -118,10 +125,12 @@ fn feed<W: Write>(
 ) -> Result<(), RunFault>
     requires output { IsSoundWriter output.old }
     requires declared { is_some session.old.cluster ≡ true }
-    ensures ok { OnOk result ((h : List Step) (c : Spelled) → IsFeedOf node piece.now c → Stands session.old h → Answered session.new h c (sent W.contents outbox.old output.old) (sent W.contents outbox.new output.new)) }
+    ensures ok { OnOk result ((h : List Step) (c : Spelled) → IsFeedOf node piece.now c → Stands session.old h
+        → Answered session.new h c (sent W.contents outbox.old output.old) (sent W.contents outbox.new output.new)) }
     ensures answered { OnOk result (outbox.new.is_answered ≡ true) }
     ensures sound { OnOk result (IsSoundWriter output.new) }
-    ensures part { IfErr result (λ fault. (h : List Step) (c : Spelled) → IsFeedOf node piece.now c → Stands session.old h → Unanswered fault h c (sent W.contents outbox.old output.old) (sent W.contents outbox.new output.new)) }
+    ensures part { IfErr result (λ fault. (h : List Step) (c : Spelled) → IsFeedOf node piece.now c → Stands session.old h
+        → Unanswered fault h c (sent W.contents outbox.old output.old) (sent W.contents outbox.new output.new)) }
     ensures cause { IfErr result (λ e. HasWriteCause e output.new) }
 {
     if let Err(fault) = session.feed(outbox, output, node, piece) {
@@ -137,10 +146,14 @@ fn turn_down<W: Write>(
     refusal: Refusal,
 ) -> Result<(), RunFault>
     requires { IsSoundWriter output.old }
-    ensures ok { OnOk result ((session : Session) (h : List Step) (c : Spelled) → IsRefusedAs refusal c → IsAllowed (is_declared h) c → Stands session h → Answered session h c (sent W.contents outbox.old output.old) (sent W.contents outbox.new output.new)) }
+    ensures ok { OnOk result ((session : Session) (h : List Step) (c : Spelled) → IsRefusedAs refusal c
+        → IsAllowed (is_declared h) c → Stands session h → Answered session h c (sent W.contents outbox.old output.old)
+        (sent W.contents outbox.new output.new)) }
     ensures answered { OnOk result (outbox.new.is_answered ≡ true) }
     ensures sound { OnOk result (IsSoundWriter output.new) }
-    ensures part { IfErr result (λ fault. (session : Session) (h : List Step) (c : Spelled) → IsRefusedAs refusal c → IsAllowed (is_declared h) c → Stands session h → Unanswered fault h c (sent W.contents outbox.old output.old) (sent W.contents outbox.new output.new)) }
+    ensures part { IfErr result (λ fault. (session : Session) (h : List Step) (c : Spelled) → IsRefusedAs refusal c
+        → IsAllowed (is_declared h) c → Stands session h → Unanswered fault h c (sent W.contents outbox.old output.old)
+        (sent W.contents outbox.new output.new)) }
     ensures cause { IfErr result (λ e. HasWriteCause e output.new) }
 {
     if let Err(fault) = send(outbox, output, refuse(refusal)) {
@@ -158,10 +171,13 @@ fn answer_command<W: Write>(
 ) -> Result<(), RunFault>
     requires output { IsSoundWriter output.old }
     requires suits { MayStand session.old command.now }
-    ensures ok { OnOk result ((h : List Step) (c : Spelled) → IsCommandOf command.now c → IsAllowed (is_declared h) c → Stands session.old h → Answered session.new h c (sent W.contents outbox.old output.old) (sent W.contents outbox.new output.new)) }
+    ensures ok { OnOk result ((h : List Step) (c : Spelled) → IsCommandOf command.now c → IsAllowed (is_declared h) c
+        → Stands session.old h → Answered session.new h c (sent W.contents outbox.old output.old) (sent W.contents outbox.new output.new)) }
     ensures answered { OnOk result (outbox.new.is_answered ≡ true) }
     ensures sound { OnOk result (IsSoundWriter output.new) }
-    ensures part { IfErr result (λ fault. (h : List Step) (c : Spelled) → IsCommandOf command.now c → IsAllowed (is_declared h) c → Stands session.old h → Unanswered fault h c (sent W.contents outbox.old output.old) (sent W.contents outbox.new output.new)) }
+    ensures part { IfErr result (λ fault. (h : List Step) (c : Spelled) → IsCommandOf command.now c
+        → IsAllowed (is_declared h) c → Stands session.old h → Unanswered fault h c (sent W.contents outbox.old output.old)
+        (sent W.contents outbox.new output.new)) }
     ensures cause { IfErr result (λ e. HasWriteCause e output.new) }
 {
     match command {
@@ -187,9 +203,11 @@ fn next_request<R: Read, W: Write>(
     requires answered { outbox.old.is_answered ≡ true }
     ensures says { Says (sent W.contents outbox.old output.old) (sent W.contents outbox.new output.new) [] }
     ensures ready { OnOk result (IsReady source.new input.new output.new) }
-    ensures reads { IfOk result (λ request. RequestReads request declared (left R.remaining source.old.held input.old) (left R.remaining source.new.held input.new)) }
+    ensures reads { IfOk result (λ request. RequestReads request declared (left R.remaining source.old.held input.old)
+        (left R.remaining source.new.held input.new)) }
     ensures falls { IfOk result (λ request. GoesOn request → budget source.new.held input.new < budget source.old.held input.old) }
-    ensures fails { IfErr result (λ fault. (h : List Step) → StepFails fault h (left R.remaining source.old.held input.old) (sent W.contents outbox.old output.old) (sent W.contents outbox.new output.new)) }
+    ensures fails { IfErr result (λ fault. (h : List Step) → StepFails fault h (left R.remaining source.old.held input.old)
+        (sent W.contents outbox.old output.old) (sent W.contents outbox.new output.new)) }
     ensures cause { IfErr result (λ e. HasStepCause e input.new outbox.new output.new) }
 {
     match read_command(alloc, source, input, outbox, output, declared) {
@@ -211,11 +229,15 @@ fn step<R: Read, W: Write>(
     requires input { IsSound input.old }
     requires output { IsSoundWriter output.old }
     requires answered { outbox.old.is_answered ≡ true }
-    ensures tells { IfOk result (λ end. (h : List Step) → Stands session.old h → StepTells end session.new h (left R.remaining source.old.held input.old) (left R.remaining source.new.held input.new) (sent W.contents outbox.old output.old) (sent W.contents outbox.new output.new)) }
+    ensures tells { IfOk result (λ end. (h : List Step) → Stands session.old h
+        → StepTells end session.new h (left R.remaining source.old.held input.old)
+        (left R.remaining source.new.held input.new) (sent W.contents outbox.old output.old) (sent W.contents outbox.new output.new)) }
     ensures answered { IfOk result (λ end. IsNone end → outbox.new.is_answered ≡ true) }
     ensures ready { OnOk result (IsReady source.new input.new output.new) }
     ensures falls { IfOk result (λ end. IsNone end → budget source.new.held input.new < budget source.old.held input.old) }
-    ensures fails { IfErr result (λ fault. (h : List Step) → Stands session.old h → StepFails fault h (left R.remaining source.old.held input.old) (sent W.contents outbox.old output.old) (sent W.contents outbox.new output.new)) }
+    ensures fails { IfErr result (λ fault. (h : List Step) → Stands session.old h
+        → StepFails fault h (left R.remaining source.old.held input.old) (sent W.contents outbox.old output.old)
+        (sent W.contents outbox.new output.new)) }
     ensures cause { IfErr result (λ e. HasStepCause e input.new outbox.new output.new) }
 {
     let declared = session.is_declared();
@@ -253,9 +275,11 @@ fn answer_all<R: Read, W: Write>(
     requires output { IsSoundWriter output.old }
     requires answered { outbox.old.is_answered ≡ true }
     ensures replies { IfOk result (λ end. IfSome (left R.remaining source.old.held input.old) (λ bytes.
-        (written : List ℕ) × Says (sent W.contents outbox.old output.old) (sent W.contents outbox.new output.new) written × Replies end bytes written)) }
+        (written : List ℕ) × Says (sent W.contents outbox.old output.old) (sent W.contents outbox.new output.new) written
+        × Replies end bytes written)) }
     ensures begun { IfErr result (λ fault. IfSome (left R.remaining source.old.held input.old) (λ bytes.
-        (written : List ℕ) × Says (sent W.contents outbox.old output.old) (sent W.contents outbox.new output.new) written × RepliesBegun fault input.new.reads bytes written)) }
+        (written : List ℕ) × Says (sent W.contents outbox.old output.old) (sent W.contents outbox.new output.new) written
+        × RepliesBegun fault input.new.reads bytes written)) }
     ensures sound { OnOk result (IsSound input.new × IsSoundWriter output.new) }
     ensures cause { IfErr result (λ fault. HasStepCause fault input.new outbox.new output.new) }
 {
@@ -297,7 +321,8 @@ pub fn run<R: Read, W: Write>(
         (written : List ℕ) × Appends (W.contents output.old.inner) (W.contents output.new.inner) written × Replies end bytes written)) }
     // At a fault it is a beginning of them.
     ensures begun { IfErr result (λ fault. IfSome (R.remaining input.old.inner) (λ bytes.
-        (written : List ℕ) × Appends (W.contents output.old.inner) (W.contents output.new.inner) written × RepliesBegun fault input.new.reads bytes written)) }
+        (written : List ℕ) × Appends (W.contents output.old.inner) (W.contents output.new.inner) written
+        × RepliesBegun fault input.new.reads bytes written)) }
     // A run that ends has seen no failure.
     ensures sound { OnOk result (IsSound input.new × IsSoundWriter output.new) }
     // A read fault comes only where a read failed or the reads are used up, a write fault only where a write failed,

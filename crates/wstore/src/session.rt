@@ -47,7 +47,8 @@ impl Session {
 
     /// Declares the table, if its bytes do. Where it finds no memory, nothing is changed.
     pub(crate) fn declare(&mut self, bytes: &[u8]) -> Result<Text, AllocError>
-        ensures tells { IfOk result (λ text. (h : List Step) → is_declared h ≡ false → Stands self.old h → Tells self.new h (Declare bytes.now) (bytes_of text)) }
+        ensures tells { IfOk result (λ text. (h : List Step) → is_declared h ≡ false → Stands self.old h
+            → Tells self.new h (Declare bytes.now) (bytes_of text)) }
         ensures err { OnErr result (self.new ≡ self.old) }
     {
         match Schema::read(self.alloc, bytes) {
@@ -66,7 +67,8 @@ impl Session {
     /// What a node answers. Where it finds no memory, nothing is changed.
     fn order(&mut self, node: NodeNumber, order: &Order) -> Result<Text, AllocError>
         requires { is_some self.old.cluster ≡ true }
-        ensures tells { IfOk result (λ text. (h : List Step) (c : Spelled) → IsOrderAt node order.now c → Stands self.old h → Tells self.new h c (bytes_of text)) }
+        ensures tells { IfOk result (λ text. (h : List Step) (c : Spelled) → IsOrderAt node order.now c → Stands self.old h
+            → Tells self.new h c (bytes_of text)) }
         ensures err { OnErr result ((h : List Step) → Stands self.old h → Stands self.new h) }
         ensures lacks { OnErr result ((h : List Step) (c : Spelled) → IsOrderAt node order.now c → Stands self.old h → MayLackMemory h c) }
     {
@@ -87,10 +89,12 @@ impl Session {
     ) -> Result<(), RunFault>
         requires output { IsSoundWriter output.old }
         requires declared { is_some self.old.cluster ≡ true }
-        ensures ok { OnOk result ((h : List Step) → Stands self.old h → Answered self.new h (Feed node piece.now) (sent W.contents outbox.old output.old) (sent W.contents outbox.new output.new)) }
+        ensures ok { OnOk result ((h : List Step) → Stands self.old h
+            → Answered self.new h (Feed node piece.now) (sent W.contents outbox.old output.old) (sent W.contents outbox.new output.new)) }
         ensures answered { OnOk result (outbox.new.is_answered ≡ true) }
         ensures sound { OnOk result (IsSoundWriter output.new) }
-        ensures part { OnErr result ((h : List Step) → Stands self.old h → FedPart h node piece.now (sent W.contents outbox.old output.old) (sent W.contents outbox.new output.new)) }
+        ensures part { OnErr result ((h : List Step) → Stands self.old h
+            → FedPart h node piece.now (sent W.contents outbox.old output.old) (sent W.contents outbox.new output.new)) }
         ensures fault { IfErr result (λ e. e ≡ RunFault.Write) }
         ensures cause { OnErr result (output.new.failures ≡ 1) }
     {
@@ -126,7 +130,8 @@ fn refusal(reason: Refusal) -> &'static [u8]
 
 /// The refusal of a command whose form alone refuses it.
 pub(crate) fn refuse(reason: Refusal) -> &'static [u8]
-    ensures { (session : Session) (h : List Step) (c : Spelled) → IsRefusedAs reason c → IsAllowed (is_declared h) c → Stands session h → Tells session h c result.now }
+    ensures { (session : Session) (h : List Step) (c : Spelled) → IsRefusedAs reason c → IsAllowed (is_declared h) c
+        → Stands session h → Tells session h c result.now }
 {
     refusal(reason)
 }

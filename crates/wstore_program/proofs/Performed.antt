@@ -1,5 +1,6 @@
 -- What is done on the bytes that were read, and what becomes of the store then.
-use Rattle.std.proofs.Common.{◌≡◌, ◌∙◌, ◌⊎◌, inl, inr, refl, sym, ap, subst, ℕ, true, false, List, [], ◌∷◌, Option, None, Some, Result, Ok, Err, IfOk, IfErr, OnErr, is_some, true≢false, option_map}
+use Rattle.std.proofs.Common.{◌≡◌, ◌∙◌, ◌⊎◌, inl, inr, refl, sym, ap, subst, ℕ, true, false, List, [], ◌∷◌, Option}
+use Rattle.std.proofs.Common.{None, Some, Result, Ok, Err, IfOk, IfErr, OnErr, is_some, true≢false, option_map}
 use Rattle.std.specs.Borrow.{Bor}
 use Rattle.wcommand.specs.declared.choice.Choice.{Choice}
 use Rattle.wcommand.specs.declared.choice.Paths.{Paths}
@@ -11,7 +12,9 @@ use Rattle.wfiles.specs.declared.fault.Fault.{Fault}
 use Rattle.wfiles.specs.declared.replacing.NotReplaced.{NotReplaced}
 use Rattle.wact.specs.declared.acted.Acted.{Acted}
 use Rattle.wact.specs.Acts.{Acts}
-use Rattle.wstore_program.specs.Performing.{All, Input, IsDone, IsGivenUp, IsPerformed, IsUndone, IsNotCarriedOut, NoInput, NotPut, OnlyReads, Put, Puts, ReadsInput, ReadsWhole, CarriesOut, Undone, Unfound, Unread, Unready, NotCarriedOut, Untouched, input_path, new_store, read_files, read_locked}
+use Rattle.wstore_program.specs.Performing.{All, Input, IsDone, IsGivenUp, IsPerformed, IsUndone, IsNotCarriedOut, NoInput, NotPut}
+use Rattle.wstore_program.specs.Performing.{OnlyReads, Put, Puts, ReadsInput, ReadsWhole, CarriesOut, Undone, Unfound, Unread, Unready}
+use Rattle.wstore_program.specs.Performing.{NotCarriedOut, Untouched, input_path, new_store, read_files, read_locked}
 
 -- where a call gives a fault
 pub on_err : {A E : Type 0} {P : Type 0} (r : Result A E) → P → OnErr r P
@@ -34,7 +37,8 @@ begins path old new (inl same) = no_readings old new same
 begins path old new (inr more) = record { since = Began path more.0 ∷ []; is = more.1; readings = tt }
 
 -- the same behind another
-pub begins_behind : (name path : List ℕ) (held : Option (List ℕ)) (old read new : List Call) → read ≡ Found name held ∷ old → MayBegin path read new → OnlyReads old new
+pub begins_behind : (name path : List ℕ) (held : Option (List ℕ)) (old read new : List Call) → read ≡ Found name held ∷ old
+    → MayBegin path read new → OnlyReads old new
 begins_behind name path held old read new is (inl same) = record { since = Found name held ∷ []; is = same ∙ is; readings = tt }
 begins_behind name path held old read new is (inr more) = record {
   since = Began path more.0 ∷ Found name held ∷ [];
@@ -47,87 +51,120 @@ path_is : (choice : Choice) (path : Bor (List ℕ)) → input_of choice ≡ Some
 path_is choice path is = ap (option_map (λ (p : Bor (List ℕ)). p.now)) is
 
 -- an input is read
-pub input_read : {A : Type 0} (choice : Choice) (path : Bor (List ℕ)) (old new : List Call) (r : Result A Fault) (items : A → List ℕ) → input_of choice ≡ Some path → IfOk r (λ bytes. new ≡ Found path.now (Some (items bytes)) ∷ old)
+pub input_read : {A : Type 0} (choice : Choice) (path : Bor (List ℕ)) (old new : List Call) (r : Result A Fault) (items : A
+    → List ℕ) → input_of choice ≡ Some path → IfOk r (λ bytes. new ≡ Found path.now (Some (items bytes)) ∷ old)
     → IfOk r (λ bytes. ReadsWhole choice (items bytes) old new)
 input_read choice path old new (Err fault) items is read = tt
 input_read choice path old new (Ok bytes) items is read = Input path.now (path_is choice path is) read
 
 -- or not to its end
-pub input_unread : {A : Type 0} (path : List ℕ) (old new : List Call) (r : Result A Fault) → OnErr r (MayBegin path old new) → OnErr r (OnlyReads old new)
+pub input_unread : {A : Type 0} (path : List ℕ) (old new : List Call) (r : Result A Fault) → OnErr r (MayBegin path old new)
+    → OnErr r (OnlyReads old new)
 input_unread path old new (Ok bytes) begun = tt
 input_unread path old new (Err fault) begun = begins path old new begun
 
 -- ---- what becomes of the store
 
 -- the lock, then the reading
-pub found_locked : (path : List ℕ) (held : Option (List ℕ)) (old locked read : List Call) → locked ≡ Locked true ∷ old → read ≡ Found path held ∷ locked → read ≡ read_locked path held old
+pub found_locked : (path : List ℕ) (held : Option (List ℕ)) (old locked read : List Call) → locked ≡ Locked true ∷ old
+    → read ≡ Found path held ∷ locked → read ≡ read_locked path held old
 found_locked path held old locked read l r = r ∙ ap (λ cs. Found path held ∷ cs) l
 
 -- a store that is not read to its end
-pub unfound : (choice : Choice) (table other path : List ℕ) (fault : Fault) (old locked new : List Call) → locked ≡ Locked true ∷ old → MayBegin path locked new → IsNotCarriedOut choice table other fault old new
+pub unfound : (choice : Choice) (table other path : List ℕ) (fault : Fault) (old locked new : List Call)
+    → locked ≡ Locked true ∷ old → MayBegin path locked new → IsNotCarriedOut choice table other fault old new
 unfound choice table other path fault old locked new l begun = Unfound path (subst (λ cs. MayBegin path cs new) l begun)
 
 -- a new store is put in the place of what was read
-pub put_in_place : (choice : Choice) (acted : Acted) (table : List ℕ) (store held : Option (List ℕ)) (other path : List ℕ) (old locked read new : List Call) → Acts choice table held other acted → locked ≡ Locked true ∷ old
+pub put_in_place : (choice : Choice) (acted : Acted) (table : List ℕ) (store held : Option (List ℕ)) (other path : List ℕ)
+    (old locked read new : List Call) → Acts choice table held other acted → locked ≡ Locked true ∷ old
     → read ≡ Found path held ∷ locked → Puts path (new_store acted) (Ok tt) read new → CarriesOut choice table store other acted old new
-put_in_place choice acted table store held other path old locked read new acts l r puts = Put path held acts (subst (λ cs. Puts path (new_store acted) (Ok tt) cs new) (found_locked path held old locked read l r) puts)
+put_in_place choice acted table store held other path old locked read new acts l r puts =
+    Put path held acts (subst (λ cs. Puts path (new_store acted) (Ok tt) cs new) (found_locked path held old locked read l r) puts)
 
 -- a new store is not put there
-pub not_put : (choice : Choice) (acted : Acted) (table : List ℕ) (held : Option (List ℕ)) (other path : List ℕ) (old locked read new : List Call) (why : NotReplaced) (fault : Fault) → Acts choice table held other acted
-    → locked ≡ Locked true ∷ old → read ≡ Found path held ∷ locked → Puts path (new_store acted) (Err why) read new → fault ≡ fault_of why → IsNotCarriedOut choice table other fault old new
+pub not_put : (choice : Choice) (acted : Acted) (table : List ℕ) (held : Option (List ℕ)) (other path : List ℕ)
+    (old locked read new : List Call) (why : NotReplaced) (fault : Fault) → Acts choice table held other acted
+    → locked ≡ Locked true ∷ old → read ≡ Found path held ∷ locked → Puts path (new_store acted) (Err why) read new
+    → fault ≡ fault_of why → IsNotCarriedOut choice table other fault old new
 not_put choice acted table held other path old locked read new why fault acts l r puts is =
-    NotPut held acted path why acts is (subst (λ cs. Puts path (new_store acted) (Err why) cs new) (found_locked path held old locked read l r) puts)
+    NotPut held acted path why acts is (subst (λ cs. Puts path (new_store acted) (Err why) cs new)
+    (found_locked path held old locked read l r) puts)
 
 none_mapped : {A B : Type 0} (f : A → B) (o : Option A) → is_some o ≡ false → option_map f o ≡ None
 none_mapped f None e = refl
 none_mapped f (Some v) e = absurd (true≢false e)
 
 -- there is no new store
-pub untouched : (choice : Choice) (acted : Acted) (table : List ℕ) (store : Option (List ℕ)) (other : List ℕ) (calls : List Call) → Acts choice table store other acted → is_some acted.store ≡ false
+pub untouched : (choice : Choice) (acted : Acted) (table : List ℕ) (store : Option (List ℕ)) (other : List ℕ)
+    (calls : List Call) → Acts choice table store other acted → is_some acted.store ≡ false
     → CarriesOut choice table store other acted calls calls
 untouched choice acted table store other calls acts e = Untouched acts (none_mapped _ acted.store e) refl
 
 -- ---- the whole
 
 -- the input is read, and then it is carried out
-pub done_by : (choice : Choice) (table : List ℕ) (store : Option (List ℕ)) (other : List ℕ) (old read new : List Call) (r : Result Acted Fault) → ReadsInput choice table store other old read
+pub done_by : (choice : Choice) (table : List ℕ) (store : Option (List ℕ)) (other : List ℕ) (old read new : List Call)
+    (r : Result Acted Fault) → ReadsInput choice table store other old read
     → IfOk r (λ acted. CarriesOut choice table store other acted read new) → IfOk r (λ acted. IsDone choice table store acted old new)
 done_by choice table store other old read new (Err fault) input carried_out = tt
-done_by choice table store other old read new (Ok acted) input carried_out = record { other = other; read = read; input = input; carried_out = carried_out }
+done_by choice table store other old read new (Ok acted) input carried_out = record {
+  other = other;
+  read = read;
+  input =
+      input;
+  carried_out = carried_out;
+}
 
-pub undone_by : (choice : Choice) (table : List ℕ) (store : Option (List ℕ)) (other : List ℕ) (old read new : List Call) (r : Result Acted Fault) → ReadsInput choice table store other old read
+pub undone_by : (choice : Choice) (table : List ℕ) (store : Option (List ℕ)) (other : List ℕ) (old read new : List Call)
+    (r : Result Acted Fault) → ReadsInput choice table store other old read
     → IfErr r (λ fault. IsNotCarriedOut choice table other fault read new) → IfErr r (λ fault. IsUndone choice table store fault old new)
 undone_by choice table store other old read new (Ok acted) input not_carried_out = tt
 undone_by choice table store other old read new (Err fault) input not_carried_out = NotCarriedOut other read input not_carried_out
 
 -- a stream that was read whole
-pub fed_whole : (choice : Choice) (table : List ℕ) (store : Option (List ℕ)) (path stream : List ℕ) (old read new : List Call) (r : Result Acted Fault) → input_path choice ≡ Some path → read ≡ Found path (Some stream) ∷ old
+pub fed_whole : (choice : Choice) (table : List ℕ) (store : Option (List ℕ)) (path stream : List ℕ)
+    (old read new : List Call) (r : Result Acted Fault) → input_path choice ≡ Some path → read ≡ Found path (Some stream) ∷ old
     → IfOk r (λ acted. CarriesOut choice table store stream acted read new) → IfOk r (λ acted. IsDone choice table store acted old new)
-fed_whole choice table store path stream old read new r named found carried_out = done_by choice table store stream old read new r (All (Input path named found)) carried_out
+fed_whole choice table store path stream old read new r named found carried_out =
+    done_by choice table store stream old read new r (All (Input path named found)) carried_out
 
-pub unfed_whole : (choice : Choice) (table : List ℕ) (store : Option (List ℕ)) (path stream : List ℕ) (old read new : List Call) (r : Result Acted Fault) → input_path choice ≡ Some path → read ≡ Found path (Some stream) ∷ old
+pub unfed_whole : (choice : Choice) (table : List ℕ) (store : Option (List ℕ)) (path stream : List ℕ)
+    (old read new : List Call) (r : Result Acted Fault) → input_path choice ≡ Some path → read ≡ Found path (Some stream) ∷ old
     → IfErr r (λ fault. IsNotCarriedOut choice table stream fault read new) → IfErr r (λ fault. IsUndone choice table store fault old new)
-unfed_whole choice table store path stream old read new r named found not_carried_out = undone_by choice table store stream old read new r (All (Input path named found)) not_carried_out
+unfed_whole choice table store path stream old read new r named found not_carried_out =
+    undone_by choice table store stream old read new r (All (Input path named found)) not_carried_out
 
 -- nothing was done yet
-pub undone_at_once : (choice : Choice) (table : List ℕ) (store : Option (List ℕ)) (fault : Fault) (calls : List Call) → IsUndone choice table store fault calls calls
+pub undone_at_once : (choice : Choice) (table : List ℕ) (store : Option (List ℕ)) (fault : Fault) (calls : List Call)
+    → IsUndone choice table store fault calls calls
 undone_at_once choice table store fault calls = Unready (no_readings calls calls refl)
 
 -- bytes that are lent
-pub done_on_bytes : (choice : Choice) (table : List ℕ) (store : Option (List ℕ)) (lent other : List ℕ) (old read new : List Call) (r : Result Acted Fault) → lent ≡ other → ReadsWhole choice other old read
+pub done_on_bytes : (choice : Choice) (table : List ℕ) (store : Option (List ℕ)) (lent other : List ℕ)
+    (old read new : List Call) (r : Result Acted Fault) → lent ≡ other → ReadsWhole choice other old read
     → IfOk r (λ acted. CarriesOut choice table store lent acted read new) → IfOk r (λ acted. IsDone choice table store acted old new)
-done_on_bytes choice table store lent other old read new r same input carried_out = done_by choice table store lent old read new r (All (subst (λ (bytes : List ℕ). ReadsWhole choice bytes old read) (sym same) input)) carried_out
+done_on_bytes choice table store lent other old read new r same input carried_out =
+    done_by choice table store lent old read new r
+    (All (subst (λ (bytes : List ℕ). ReadsWhole choice bytes old read) (sym same) input)) carried_out
 
-pub undone_on_bytes : (choice : Choice) (table : List ℕ) (store : Option (List ℕ)) (lent other : List ℕ) (old read new : List Call) (r : Result Acted Fault) → lent ≡ other → ReadsWhole choice other old read
+pub undone_on_bytes : (choice : Choice) (table : List ℕ) (store : Option (List ℕ)) (lent other : List ℕ)
+    (old read new : List Call) (r : Result Acted Fault) → lent ≡ other → ReadsWhole choice other old read
     → IfErr r (λ fault. IsNotCarriedOut choice table lent fault read new) → IfErr r (λ fault. IsUndone choice table store fault old new)
-undone_on_bytes choice table store lent other old read new r same input not_carried_out = undone_by choice table store lent old read new r (All (subst (λ (bytes : List ℕ). ReadsWhole choice bytes old read) (sym same) input)) not_carried_out
+undone_on_bytes choice table store lent other old read new r same input not_carried_out =
+    undone_by choice table store lent old read new r
+    (All (subst (λ (bytes : List ℕ). ReadsWhole choice bytes old read) (sym same) input)) not_carried_out
 
 -- the files that the words name are read
-files_read : (paths : Paths) (table : List ℕ) (store : Option (List ℕ)) (old first read : List Call) → first ≡ Found paths.table.now (Some table) ∷ old → read ≡ Found paths.store.now store ∷ first → read ≡ read_files paths table store old
+files_read : (paths : Paths) (table : List ℕ) (store : Option (List ℕ)) (old first read : List Call)
+    → first ≡ Found paths.table.now (Some table) ∷ old → read ≡ Found paths.store.now store ∷ first
+    → read ≡ read_files paths table store old
 files_read paths table store old first read t s = s ∙ ap (λ cs. Found paths.store.now store ∷ cs) t
 
-pub performed_by : (choice : Choice) (paths : Paths) (lent table : List ℕ) (store : Option (List ℕ)) (old first read new : List Call) (r : Result Acted Fault) → paths_of choice ≡ Some paths → lent ≡ table
-    → first ≡ Found paths.table.now (Some table) ∷ old → read ≡ Found paths.store.now store ∷ first → IfOk r (λ acted. IsDone choice lent store acted read new) → IfOk r (λ acted. IsPerformed choice acted old new)
+pub performed_by : (choice : Choice) (paths : Paths) (lent table : List ℕ) (store : Option (List ℕ))
+    (old first read new : List Call) (r : Result Acted Fault) → paths_of choice ≡ Some paths → lent ≡ table
+    → first ≡ Found paths.table.now (Some table) ∷ old → read ≡ Found paths.store.now store ∷ first
+    → IfOk r (λ acted. IsDone choice lent store acted read new) → IfOk r (λ acted. IsPerformed choice acted old new)
 performed_by choice paths lent table store old first read new (Err fault) named same t s done = tt
 performed_by choice paths lent table store old first read new (Ok acted) named same t s done = record {
   paths = paths;
@@ -139,8 +176,10 @@ performed_by choice paths lent table store old first read new (Ok acted) named s
       (subst (λ (bytes : List ℕ). IsDone choice bytes store acted read new) same done);
 }
 
-pub given_up_by : (choice : Choice) (paths : Paths) (lent table : List ℕ) (store : Option (List ℕ)) (old first read new : List Call) (r : Result Acted Fault) → paths_of choice ≡ Some paths → lent ≡ table
-    → first ≡ Found paths.table.now (Some table) ∷ old → read ≡ Found paths.store.now store ∷ first → IfErr r (λ fault. IsUndone choice lent store fault read new) → IfErr r (λ fault. IsGivenUp choice fault old new)
+pub given_up_by : (choice : Choice) (paths : Paths) (lent table : List ℕ) (store : Option (List ℕ))
+    (old first read new : List Call) (r : Result Acted Fault) → paths_of choice ≡ Some paths → lent ≡ table
+    → first ≡ Found paths.table.now (Some table) ∷ old → read ≡ Found paths.store.now store ∷ first
+    → IfErr r (λ fault. IsUndone choice lent store fault read new) → IfErr r (λ fault. IsGivenUp choice fault old new)
 given_up_by choice paths lent table store old first read new (Ok acted) named same t s undone = tt
 given_up_by choice paths lent table store old first read new (Err fault) named same t s undone =
     Undone paths table store named
@@ -148,8 +187,10 @@ given_up_by choice paths lent table store old first read new (Err fault) named s
     (subst (λ (bytes : List ℕ). IsUndone choice bytes store fault read new) same undone))
 
 -- the table or the store is not read
-pub table_unread : (choice : Choice) (path : List ℕ) (fault : Fault) (old new : List Call) → MayBegin path old new → IsGivenUp choice fault old new
+pub table_unread : (choice : Choice) (path : List ℕ) (fault : Fault) (old new : List Call) → MayBegin path old new
+    → IsGivenUp choice fault old new
 table_unread choice path fault old new begun = Unread (begins path old new begun)
 
-pub store_unread : (choice : Choice) (name path : List ℕ) (held : Option (List ℕ)) (fault : Fault) (old read new : List Call) → read ≡ Found name held ∷ old → MayBegin path read new → IsGivenUp choice fault old new
+pub store_unread : (choice : Choice) (name path : List ℕ) (held : Option (List ℕ)) (fault : Fault)
+    (old read new : List Call) → read ≡ Found name held ∷ old → MayBegin path read new → IsGivenUp choice fault old new
 store_unread choice name path held fault old read new is begun = Unread (begins_behind name path held old read new is begun)

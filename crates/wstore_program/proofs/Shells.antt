@@ -15,22 +15,40 @@ use Rattle.wstore_program.specs.Performing.{OnlyReads}
 use Rattle.wstore_program.specs.Shelling.{IsOpened, IsRun}
 
 -- what is opened on the files that were read
-pub opened : (paths : Paths) (lent table : List ℕ) (store : Option (List ℕ)) (old first read : List Call) (result : Result Opened Fault) → lent ≡ table → first ≡ Found paths.table.now (Some table) ∷ old
+pub opened : (paths : Paths) (lent table : List ℕ) (store : Option (List ℕ)) (old first read : List Call)
+    (result : Result Opened Fault) → lent ≡ table → first ≡ Found paths.table.now (Some table) ∷ old
     → read ≡ Found paths.store.now store ∷ first → IfOk result (λ o. Opens lent store o) → IfOk result (λ o. IsOpened paths o old read)
 opened paths lent table store old first read (Ok o) same t s opens =
-    record { table = table; store = store; read = s ∙ ap (λ cs. Found paths.store.now store ∷ cs) t; opens = subst (λ (bytes : List ℕ). Opens bytes store o) same opens }
+    record {
+      table = table;
+      store = store;
+      read = s ∙ ap (λ cs. Found paths.store.now store ∷ cs) t;
+      opens =
+          subst (λ (bytes : List ℕ). Opens bytes store o) same opens;
+    }
 opened paths lent table store old first read (Err fault) same t s opens = tt
 
 -- or there was no memory to open it
-pub unopened : {A : Type 0} (paths : Paths) (table : List ℕ) (store : Option (List ℕ)) (old first read : List Call) (result : Result A Fault) → first ≡ Found paths.table.now (Some table) ∷ old → read ≡ Found paths.store.now store ∷ first
+pub unopened : {A : Type 0} (paths : Paths) (table : List ℕ) (store : Option (List ℕ)) (old first read : List Call)
+    (result : Result A Fault) → first ≡ Found paths.table.now (Some table) ∷ old → read ≡ Found paths.store.now store ∷ first
     → OnErr result (OnlyReads old read)
 unopened paths table store old first read (Ok o) t s = tt
-unopened paths table store old first read (Err fault) t s = record { since = Found paths.store.now store ∷ Found paths.table.now (Some table) ∷ []; is = s ∙ ap (λ cs. Found paths.store.now store ∷ cs) t; readings = tt }
+unopened paths table store old first read (Err fault) t s =
+    record {
+      since = Found paths.store.now store ∷ Found paths.table.now (Some table) ∷ [];
+      is =
+          s ∙ ap (λ cs. Found paths.store.now store ∷ cs) t;
+      readings = tt;
+    }
 
 -- how a run ended
-pub run_outcome : {I W : Type 0} (node : NodeState) (left new_left : Option (List ℕ)) (input : Counts I) (old new : Option (List ℕ)) (output : Counts W) (end : Result Bool ShellFault)
-    → IfOk end (λ is_refused. IfSome left (λ bytes. (written : List ℕ) × Appends old new written × runs.Replies node.schema node.view bytes written is_refused))
-    → OnErr end (IfSome left (λ bytes. (written : List ℕ) × Appends old new written × runs.RepliesBegun node.schema node.view bytes written))
-    → IfErr end (λ fault. fault ≡ ends.Read → runs.KeepsUp node.schema node.view left new_left old new) → IfErr end (λ fault. runs.HasCause fault input output) → IsRun node left new_left input old new output end
+pub run_outcome : {I W : Type 0} (node : NodeState) (left new_left : Option (List ℕ)) (input : Counts I)
+    (old new : Option (List ℕ)) (output : Counts W) (end : Result Bool ShellFault)
+    → IfOk end (λ is_refused. IfSome left (λ bytes. (written : List ℕ) × Appends old new written
+    × runs.Replies node.schema node.view bytes written is_refused))
+    → OnErr end (IfSome left (λ bytes. (written : List ℕ) × Appends old new written
+    × runs.RepliesBegun node.schema node.view bytes written))
+    → IfErr end (λ fault. fault ≡ ends.Read → runs.KeepsUp node.schema node.view left new_left old new)
+    → IfErr end (λ fault. runs.HasCause fault input output) → IsRun node left new_left input old new output end
 run_outcome node left new_left input old new output (Ok is_refused) replies begun prompt cause = replies
 run_outcome node left new_left input old new output (Err fault) replies begun prompt cause = (begun, prompt, cause)

@@ -1,5 +1,6 @@
 -- A stream that is fed to a store.
-use Rattle.std.proofs.Common.{◌≡◌, ◌≢◌, ◌∙◌, ◌⊎◌, inl, inr, refl, sym, ap, subst, ℕ, ◌≤◌, false, List, [], ◌∷◌, ◌++◌, length, take, append-nil, Option, None, Some, Result, Ok, Err, IfOk, IfErr, IfSome, IfNone, is_some}
+use Rattle.std.proofs.Common.{◌≡◌, ◌≢◌, ◌∙◌, ◌⊎◌, inl, inr, refl, sym, ap, subst, ℕ, ◌≤◌, false, List, [], ◌∷◌, ◌++◌, length}
+use Rattle.std.proofs.Common.{take, append-nil, Option, None, Some, Result, Ok, Err, IfOk, IfErr, IfSome, IfNone, is_some}
 use Rattle.std.specs.Io.KnownBytes.{Consumes, IsAtEnd}
 use Rattle.std.proofs.KnownBytes.{Consumes-trans}
 use Rattle.wsegment.specs.Declaration.{Declaration}
@@ -43,50 +44,67 @@ stops_undelivered d stream stops.Bad m = inl m
 stops_undelivered d stream stops.NoMemory m = tt
 
 -- it is refused in a block
-pub refused_in_block : (n : ℕ) (block : List ℕ) (d e : Declaration) (left mid new_left : Option (List ℕ)) (read : List ℕ) (stopped : Option Stop) (reason : Stop) (old before new : List Call) → e ≡ d → Consumes left mid read
-    → Consumes mid new_left (take n block) → stopped ≡ None → (stopped ≡ Some reason) ⊎ Stops e (read ++ take n block) reason → n ≢ 0 → n ≤ length block → before ≡ read_more read old → new ≡ read_on (take n block) before
+pub refused_in_block : (n : ℕ) (block : List ℕ) (d e : Declaration) (left mid new_left : Option (List ℕ)) (read : List ℕ)
+    (stopped : Option Stop) (reason : Stop) (old before new : List Call) → e ≡ d → Consumes left mid read
+    → Consumes mid new_left (take n block) → stopped ≡ None → (stopped ≡ Some reason)
+    ⊎ Stops e (read ++ take n block) reason → n ≢ 0 → n ≤ length block → before ≡ read_more read old
+    → new ≡ read_on (take n block) before
     → RefusesRead d left new_left old new reason
 refused_in_block n block d e left mid new_left read stopped reason old before new same p q goes_on why some bound noted is =
     InFront (read ++ take n block) (Consumes-trans left mid new_left read (take n block) p q)
-    (subst (λ f. Stops f (read ++ take n block) reason) same (goes_on_to stopped reason (Stops e (read ++ take n block) reason) goes_on why))
+    (subst (λ f. Stops f (read ++ take n block) reason) same
+    (goes_on_to stopped reason (Stops e (read ++ take n block) reason) goes_on why))
     (reads_on n block read old before new some bound noted is)
 
 -- it is refused at its end
-pub refused_at_end : (n : ℕ) (block : List ℕ) (d e : Declaration) (left mid new_left : Option (List ℕ)) (read : List ℕ) (stopped : Option Stop) (r : Option Stop) (old before new : List Call) → e ≡ d → Consumes left mid read
-    → Consumes mid new_left (take n block) → IsAtEnd new_left → stopped ≡ None → IfSome r (λ reason. (stopped ≡ Some reason) ⊎ IsUndelivered e read reason) → n ≡ 0 → before ≡ read_more read old → new ≡ read_on (take n block) before
+pub refused_at_end : (n : ℕ) (block : List ℕ) (d e : Declaration) (left mid new_left : Option (List ℕ)) (read : List ℕ)
+    (stopped : Option Stop) (r : Option Stop) (old before new : List Call) → e ≡ d → Consumes left mid read
+    → Consumes mid new_left (take n block) → IsAtEnd new_left → stopped ≡ None
+    → IfSome r (λ reason. (stopped ≡ Some reason) ⊎ IsUndelivered e read reason) → n ≡ 0 → before ≡ read_more read old
+    → new ≡ read_on (take n block) before
     → IfSome r (RefusesRead d left new_left old new)
 refused_at_end n block d e left mid new_left read stopped None old before new same p q end goes_on why none noted is = tt
 refused_at_end n block d e left mid new_left read stopped (Some reason) old before new same p q end goes_on why none noted is =
-    AtEnd read (subst (Consumes left new_left) (ap (λ n. read ++ take n block) none ∙ append-nil read) (Consumes-trans left mid new_left read (take n block) p q)) end
-    (subst (λ f. IsUndelivered f read reason) same (goes_on_to stopped reason (IsUndelivered e read reason) goes_on why)) (reads_end n block read old before new none noted is)
+    AtEnd read (subst (Consumes left new_left) (ap (λ n. read ++ take n block) none ∙ append-nil read)
+    (Consumes-trans left mid new_left read (take n block) p q)) end
+    (subst (λ f. IsUndelivered f read reason) same (goes_on_to stopped reason (IsUndelivered e read reason) goes_on why))
+    (reads_end n block read old before new none noted is)
 
 -- and where it is not, it is noted whole
-pub noted_at_end : (n : ℕ) (block read : List ℕ) (r : Option Stop) (old before new : List Call) → n ≡ 0 → before ≡ read_more read old → new ≡ read_on (take n block) before → IfNone r (new ≡ read_to_end (read_more read old))
+pub noted_at_end : (n : ℕ) (block read : List ℕ) (r : Option Stop) (old before new : List Call) → n ≡ 0
+    → before ≡ read_more read old → new ≡ read_on (take n block) before → IfNone r (new ≡ read_to_end (read_more read old))
 noted_at_end n block read None old before new none noted is = reads_end n block read old before new none noted is
 noted_at_end n block read (Some reason) old before new none noted is = tt
 
 -- it is refused under its path
-pub refused_under : (d : Declaration) (path : List ℕ) (left new_left : Option (List ℕ)) (old begun read new : List Call) (r : Result (Option Stop) Fault) → begun ≡ Began path [] ∷ old → new ≡ read
-    → IfOk r (λ stopped. IfSome stopped (RefusesRead d left new_left begun read)) → IfOk r (λ stopped. IfSome stopped (IsRefusedStream d path old new))
+pub refused_under : (d : Declaration) (path : List ℕ) (left new_left : Option (List ℕ)) (old begun read new : List Call)
+    (r : Result (Option Stop) Fault) → begun ≡ Began path [] ∷ old → new ≡ read
+    → IfOk r (λ stopped. IfSome stopped (RefusesRead d left new_left begun read))
+    → IfOk r (λ stopped. IfSome stopped (IsRefusedStream d path old new))
 refused_under d path left new_left old begun read new (Err fault) is same why = tt
 refused_under d path left new_left old begun read new (Ok None) is same why = tt
-refused_under d path left new_left old begun read new (Ok (Some reason)) is same (InFront front consumes stops reads) = ByFront front stops (same ∙ reads ∙ ap (read_more front) is)
-refused_under d path left new_left old begun read new (Ok (Some reason)) is same (AtEnd stream consumes end undelivered reads) = ByAll stream undelivered (found_whole path stream old begun new is (same ∙ reads))
+refused_under d path left new_left old begun read new (Ok (Some reason)) is same (InFront front consumes stops reads) =
+    ByFront front stops (same ∙ reads ∙ ap (read_more front) is)
+refused_under d path left new_left old begun read new (Ok (Some reason)) is same (AtEnd stream consumes end undelivered
+    reads) = ByAll stream undelivered (found_whole path stream old begun new is (same ∙ reads))
 
 -- only files were read where it is refused
-pub refused_reads : (d : Declaration) (path : List ℕ) (old new : List Call) (reason : Stop) → IsRefusedStream d path old new reason → OnlyReads old new
+pub refused_reads : (d : Declaration) (path : List ℕ) (old new : List Call) (reason : Stop)
+    → IsRefusedStream d path old new reason → OnlyReads old new
 refused_reads d path old new reason (ByFront front stops is) = record { since = Began path front ∷ []; is = is; readings = tt }
 refused_reads d path old new reason (ByAll stream undelivered is) = record { since = Found path (Some stream) ∷ []; is = is; readings = tt }
 
 -- ---- feeding it
 
 -- the declaration of the node that is opened is the table's
-pub declared_by : (d : Declaration) (table : List ℕ) (store : Option (List ℕ)) (node : NodeState) → Opens table store (opens.Node node) → d ≡ node.schema → ReadsDeclaration table (Ok d)
+pub declared_by : (d : Declaration) (table : List ℕ) (store : Option (List ℕ)) (node : NodeState)
+    → Opens table store (opens.Node node) → d ≡ node.schema → ReadsDeclaration table (Ok d)
 declared_by d table store node (TableRead e reads by) same = subst (λ f. ReadsDeclaration table (Ok f)) (sym (same ∙ by.0)) reads
 declared_by d table store node (TableRefused fault reads refused) same = absurd refused
 
 -- a table or a store that is refused
-pub refused_open : (choice : Choice) (table : List ℕ) (store : Option (List ℕ)) (text : Text) (acted : Acted) (calls : List Call) → IsFeed choice → Opens table store (opens.Refused text) → IsRefused acted (bytes_of text)
+pub refused_open : (choice : Choice) (table : List ℕ) (store : Option (List ℕ)) (text : Text) (acted : Acted)
+    (calls : List Call) → IsFeed choice → Opens table store (opens.Refused text) → IsRefused acted (bytes_of text)
     → IsDone choice table store acted calls calls
 refused_open choice table store text acted calls is opened told = record {
   other = [];
@@ -108,16 +126,22 @@ is_told stops.Bad acted told = λ e. cc
 is_told stops.NoMemory acted told = absurd told
 
 -- what is told of it is what feeding it gives
-told_feeds : (choice : Choice) (table : List ℕ) (store : Option (List ℕ)) (node : NodeState) (d : Declaration) (stream : List ℕ) (reason : Stop) (acted : Acted) (calls : List Call) → IsFeed choice → Opens table store (opens.Node node)
-    → d ≡ node.schema → IsUndelivered d stream reason → IsToldUndelivered reason acted → CarriesOut choice table store stream acted calls calls
+told_feeds : (choice : Choice) (table : List ℕ) (store : Option (List ℕ)) (node : NodeState) (d : Declaration)
+    (stream : List ℕ) (reason : Stop) (acted : Acted) (calls : List Call) → IsFeed choice → Opens table store (opens.Node node)
+    → d ≡ node.schema → IsUndelivered d stream reason → IsToldUndelivered reason acted
+    → CarriesOut choice table store stream acted calls calls
 told_feeds choice table store node d stream reason acted calls is opened same why told =
     let feeds : Feeds node.schema node.view store stream acted =
-    subst (λ e. Feeds e node.view store stream acted) same (feeds_refused {E = Unit {0}} d node.view store stream reason (Ok acted) why told) in
-    untouched choice acted table store stream calls (acts_opened choice table store stream node acted opened is feeds) (stores_nothing reason acted told)
+    subst (λ e. Feeds e node.view store stream acted) same (feeds_refused {E = Unit {0}} d node.view store stream reason
+    (Ok acted) why told) in
+    untouched choice acted table store stream calls (acts_opened choice table store stream node acted opened is feeds)
+    (stores_nothing reason acted told)
 
 -- a stream that is refused
-pub refused_stream : (choice : Choice) (table : List ℕ) (store : Option (List ℕ)) (node : NodeState) (d : Declaration) (path : List ℕ) (reason : Stop) (acted : Acted) (old new : List Call) → IsFeed choice → input_path choice ≡ Some path
-    → Opens table store (opens.Node node) → d ≡ node.schema → IsRefusedStream d path old new reason → IsToldUndelivered reason acted → IsDone choice table store acted old new
+pub refused_stream : (choice : Choice) (table : List ℕ) (store : Option (List ℕ)) (node : NodeState) (d : Declaration)
+    (path : List ℕ) (reason : Stop) (acted : Acted) (old new : List Call) → IsFeed choice → input_path choice ≡ Some path
+    → Opens table store (opens.Node node) → d ≡ node.schema → IsRefusedStream d path old new reason
+    → IsToldUndelivered reason acted → IsDone choice table store acted old new
 refused_stream choice table store node d path reason acted old new is named opened same (ByFront front stops read) told = record {
   other = front;
   read = new;
@@ -132,12 +156,17 @@ refused_stream choice table store node d path reason acted old new is named open
 }
 
 -- as it was told, or there was no memory to tell it
-pub told_refused : (choice : Choice) (table : List ℕ) (store : Option (List ℕ)) (node : NodeState) (d : Declaration) (path : List ℕ) (reason : Stop) (r : Result Acted Fault) (old new : List Call) → IsFeed choice
-    → input_path choice ≡ Some path → Opens table store (opens.Node node) → d ≡ node.schema → IsRefusedStream d path old new reason → IfOk r (IsToldUndelivered reason) → IfOk r (λ acted. IsDone choice table store acted old new)
+pub told_refused : (choice : Choice) (table : List ℕ) (store : Option (List ℕ)) (node : NodeState) (d : Declaration)
+    (path : List ℕ) (reason : Stop) (r : Result Acted Fault) (old new : List Call) → IsFeed choice
+    → input_path choice ≡ Some path → Opens table store (opens.Node node) → d ≡ node.schema
+    → IsRefusedStream d path old new reason → IfOk r (IsToldUndelivered reason)
+    → IfOk r (λ acted. IsDone choice table store acted old new)
 told_refused choice table store node d path reason (Err fault) old new is named opened same why told = tt
-told_refused choice table store node d path reason (Ok acted) old new is named opened same why told = refused_stream choice table store node d path reason acted old new is named opened same why told
+told_refused choice table store node d path reason (Ok acted) old new is named opened same why told =
+    refused_stream choice table store node d path reason acted old new is named opened same why told
 
-pub untold_refused : (choice : Choice) (table : List ℕ) (store : Option (List ℕ)) (d : Declaration) (path : List ℕ) (reason : Stop) (r : Result Acted Fault) (old new : List Call) → IsRefusedStream d path old new reason
+pub untold_refused : (choice : Choice) (table : List ℕ) (store : Option (List ℕ)) (d : Declaration) (path : List ℕ)
+    (reason : Stop) (r : Result Acted Fault) (old new : List Call) → IsRefusedStream d path old new reason
     → IfErr r (λ fault. IsUndone choice table store fault old new)
 untold_refused choice table store d path reason (Ok acted) old new why = tt
 untold_refused choice table store d path reason (Err fault) old new why = Unready (refused_reads d path old new reason why)

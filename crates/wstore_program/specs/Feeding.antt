@@ -21,8 +21,10 @@ pub data IsRefusedStream (d : Declaration) (path : List ℕ) (old new : List Cal
 
 -- what a reader gave is not delivered for this reason: some of what it had left, or all of it
 pub data RefusesRead (d : Declaration) (left new_left : Option (List ℕ)) (old new : List Call) (reason : Stop) : Type 0 where
-  InFront : (front : List ℕ) → Consumes left new_left front → Stops d front reason → new ≡ read_more front old → RefusesRead d left new_left old new reason
-  AtEnd : (stream : List ℕ) → Consumes left new_left stream → IsAtEnd new_left → IsUndelivered d stream reason → new ≡ read_to_end (read_more stream old) → RefusesRead d left new_left old new reason
+  InFront : (front : List ℕ) → Consumes left new_left front → Stops d front reason → new ≡ read_more front old
+      → RefusesRead d left new_left old new reason
+  AtEnd : (stream : List ℕ) → Consumes left new_left stream → IsAtEnd new_left → IsUndelivered d stream reason
+      → new ≡ read_to_end (read_more stream old) → RefusesRead d left new_left old new reason
 
 -- the bytes that a subcommand is given: those that a batch was filled from
 abbrev pub given_bytes : Given → List ℕ

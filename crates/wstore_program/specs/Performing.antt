@@ -39,9 +39,11 @@ pub data ReadsWhole (choice : Choice) (other : List ℕ) (old new : List Call) :
 -- not delivered whatever follows them, or nothing, where the table or the store is refused
 pub data ReadsInput (choice : Choice) (table : List ℕ) (store : Option (List ℕ)) (other : List ℕ) (old new : List Call) : Type 0 where
   All : ReadsWhole choice other old new → ReadsInput choice table store other old new
-  Front : (path : List ℕ) (d : Declaration) (reason : Stop) → IsFeed choice → input_path choice ≡ Some path → new ≡ Began path other ∷ old → ReadsDeclaration table (Ok d) → Stops d other reason → reason ≢ stops.NoMemory
+  Front : (path : List ℕ) (d : Declaration) (reason : Stop) → IsFeed choice → input_path choice ≡ Some path
+      → new ≡ Began path other ∷ old → ReadsDeclaration table (Ok d) → Stops d other reason → reason ≢ stops.NoMemory
       → ReadsInput choice table store other old new
-  Nothing : (text : Text) → IsFeed choice → Opens table store (opens.Refused text) → other ≡ [] → new ≡ old → ReadsInput choice table store other old new
+  Nothing : (text : Text) → IsFeed choice → Opens table store (opens.Refused text) → other ≡ [] → new ≡ old
+      → ReadsInput choice table store other old new
 
 -- these calls read files, or began to
 abbrev pub AreReadings : List Call → Type 0
@@ -73,9 +75,11 @@ Puts path (Some bytes) result old new = Replaces path bytes result old new
 
 -- it is what the subcommand gives on this table and input, and on the store that was read, whose file is not touched where there is
 -- no new store; or on the store that was found under the lock, in whose place the new one is put
-pub data CarriesOut (choice : Choice) (table : List ℕ) (store : Option (List ℕ)) (other : List ℕ) (acted : Acted) (old new : List Call) : Type 0 where
+pub data CarriesOut (choice : Choice) (table : List ℕ) (store : Option (List ℕ)) (other : List ℕ) (acted : Acted)
+    (old new : List Call) : Type 0 where
   Untouched : Acts choice table store other acted → new_store acted ≡ None → new ≡ old → CarriesOut choice table store other acted old new
-  Put : (path : List ℕ) (held : Option (List ℕ)) → Acts choice table held other acted → Puts path (new_store acted) (Ok tt) (read_locked path held old) new → CarriesOut choice table store other acted old new
+  Put : (path : List ℕ) (held : Option (List ℕ)) → Acts choice table held other acted
+      → Puts path (new_store acted) (Ok tt) (read_locked path held old) new → CarriesOut choice table store other acted old new
 
 -- the store is not touched: nothing is done, or the lock is tried for, or the store is read under it, or not to its end; or the new
 -- store that the subcommand gives on the bytes that were found there is not put in its place, or may not stay there
@@ -83,7 +87,8 @@ pub data IsNotCarriedOut (choice : Choice) (table other : List ℕ) (fault : Fau
   Unlocked : MayLock old new → IsNotCarriedOut choice table other fault old new
   Unfound : (path : List ℕ) → MayBegin path (Locked true ∷ old) new → IsNotCarriedOut choice table other fault old new
   Unchanged : (path : List ℕ) (held : Option (List ℕ)) → new ≡ read_locked path held old → IsNotCarriedOut choice table other fault old new
-  NotPut : (held : Option (List ℕ)) (acted : Acted) (path : List ℕ) (why : NotReplaced) → Acts choice table held other acted → fault ≡ fault_of why
+  NotPut : (held : Option (List ℕ)) (acted : Acted) (path : List ℕ) (why : NotReplaced) → Acts choice table held other acted
+      → fault ≡ fault_of why
       → Puts path (new_store acted) (Err why) (read_locked path held old) new → IsNotCarriedOut choice table other fault old new
 
 -- ---- the whole subcommand
@@ -98,7 +103,8 @@ pub record IsDone (choice : Choice) (table : List ℕ) (store : Option (List ℕ
 -- what is done then at a fault: the input is not read to its end, or there is no memory behind it; or the store is not replaced
 pub data IsUndone (choice : Choice) (table : List ℕ) (store : Option (List ℕ)) (fault : Fault) (old new : List Call) : Type 0 where
   Unready : OnlyReads old new → IsUndone choice table store fault old new
-  NotCarriedOut : (other : List ℕ) (read : List Call) → ReadsInput choice table store other old read → IsNotCarriedOut choice table other fault read new → IsUndone choice table store fault old new
+  NotCarriedOut : (other : List ℕ) (read : List Call) → ReadsInput choice table store other old read
+      → IsNotCarriedOut choice table other fault read new → IsUndone choice table store fault old new
 
 -- it is what the subcommand gives on the bytes of the table, the store and the input that the words name, as they were read there
 pub record IsPerformed (choice : Choice) (acted : Acted) (old new : List Call) : Type 0 where
@@ -112,4 +118,5 @@ pub record IsPerformed (choice : Choice) (acted : Acted) (old new : List Call) :
 -- not stay there
 pub data IsGivenUp (choice : Choice) (fault : Fault) (old new : List Call) : Type 0 where
   Unread : OnlyReads old new → IsGivenUp choice fault old new
-  Undone : (paths : Paths) (table : List ℕ) (store : Option (List ℕ)) → paths_of choice ≡ Some paths → IsUndone choice table store fault (read_files paths table store old) new → IsGivenUp choice fault old new
+  Undone : (paths : Paths) (table : List ℕ) (store : Option (List ℕ)) → paths_of choice ≡ Some paths
+      → IsUndone choice table store fault (read_files paths table store old) new → IsGivenUp choice fault old new

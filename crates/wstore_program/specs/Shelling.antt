@@ -36,22 +36,31 @@ pub data IsRefusal (text : List ℕ) (old new : Option (List ℕ)) (failures sta
   Unwritten : (n : ℕ) → Appends old new (take n text) → failures ≡ 1 → status ≡ 3 → IsRefusal text old new failures status
 
 -- what a run on the queries of an input has written, where it ended so; where a read failed, no reply waited for it
-abbrev pub IsRun : {I W : Type 0} → NodeState → Option (List ℕ) → Option (List ℕ) → Counts I → Option (List ℕ) → Option (List ℕ) → Counts W → Result Bool ShellFault → Type 0
-IsRun node left new_left input old new output (Ok is_refused) = IfSome left (λ bytes. (written : List ℕ) × Appends old new written × runs.Replies node.schema node.view bytes written is_refused)
+abbrev pub IsRun : {I W : Type 0} → NodeState → Option (List ℕ) → Option (List ℕ) → Counts I → Option (List ℕ)
+    → Option (List ℕ) → Counts W → Result Bool ShellFault → Type 0
+IsRun node left new_left input old new output (Ok is_refused) = IfSome left (λ bytes. (written : List ℕ)
+    × Appends old new written × runs.Replies node.schema node.view bytes written is_refused)
 IsRun node left new_left input old new output (Err fault) =
     IfSome left (λ bytes. (written : List ℕ) × Appends old new written × runs.RepliesBegun node.schema node.view bytes written)
     × (fault ≡ faults.Read → runs.KeepsUp node.schema node.view left new_left old new)
     × runs.HasCause fault input output
 
 -- a node answers the queries of an input
-pub record Answers {I W : Type 0} (node : NodeState) (left new_left : Option (List ℕ)) (input : Counts I) (old new : Option (List ℕ)) (output : Counts W) (status : ℕ) : Type 0 where
+pub record Answers {I W : Type 0} (node : NodeState) (left new_left : Option (List ℕ)) (input : Counts I)
+    (old new : Option (List ℕ)) (output : Counts W) (status : ℕ) : Type 0 where
   pub end : Result Bool ShellFault
   pub ran : IsRun node left new_left input old new output end
   pub status_is : status ≡ shell_status end
 
 -- the files are not read, and a fault has its cause; or the table or the store is refused; or the queries are answered on the node
 -- that they open. Which files were read the calls tell, before and after
-pub data HasShellStatus {I W : Type 0} (paths : Paths) (counts : CallCounts) (before after : List Call) (left new_left : Option (List ℕ)) (input : Counts I) (old new : Option (List ℕ)) (output : Counts W) (status : ℕ) : Type 0 where
-  NotOpened : (fault : Fault) → HasCause fault counts → OnlyReads before after → Keeps old new → status ≡ 3 → HasShellStatus paths counts before after left new_left input old new output status
-  Refused : (text : Text) → IsOpened paths (opens.Refused text) before after → IsRefusal (bytes_of text) old new output.failures status → HasShellStatus paths counts before after left new_left input old new output status
-  Ran : (node : NodeState) → IsOpened paths (opens.Node node) before after → Answers node left new_left input old new output status → HasShellStatus paths counts before after left new_left input old new output status
+pub data HasShellStatus {I W : Type 0} (paths : Paths) (counts : CallCounts) (before after : List Call)
+    (left new_left : Option (List ℕ)) (input : Counts I) (old new : Option (List ℕ)) (output : Counts W) (status : ℕ) : Type 0 where
+  NotOpened : (fault : Fault) → HasCause fault counts → OnlyReads before after → Keeps old new → status ≡ 3
+      → HasShellStatus paths counts before after left new_left input old new output status
+  Refused : (text : Text) → IsOpened paths (opens.Refused text) before after
+      → IsRefusal (bytes_of text) old new output.failures status
+      → HasShellStatus paths counts before after left new_left input old new output status
+  Ran : (node : NodeState) → IsOpened paths (opens.Node node) before after
+      → Answers node left new_left input old new output status
+      → HasShellStatus paths counts before after left new_left input old new output status

@@ -33,6 +33,9 @@ HasWordsStatus words.NoMemory calls old new status = Keeps old new × (status �
 
 -- of a subcommand on files: a fault with its cause, of which nothing is printed; or what the subcommand gives, printed, with its
 -- status. What was done to the store the calls on its folder tell, before and after
-pub data HasFileStatus (choice : Choice) (counts : CallCounts) (before after : List Call) (old new : Option (List ℕ)) (status : ℕ) : Type 0 where
-  Failed : (fault : Fault) → HasCause fault counts → IsGivenUp choice fault before after → Keeps old new → status ≡ 3 → HasFileStatus choice counts before after old new status
-  Told : (acted : Acted) → IsPerformed choice acted before after → IsPrinted (bytes_of acted.output) acted.status counts old new status → HasFileStatus choice counts before after old new status
+pub data HasFileStatus (choice : Choice) (counts : CallCounts) (before after : List Call) (old new : Option (List ℕ))
+    (status : ℕ) : Type 0 where
+  Failed : (fault : Fault) → HasCause fault counts → IsGivenUp choice fault before after → Keeps old new → status ≡ 3
+      → HasFileStatus choice counts before after old new status
+  Told : (acted : Acted) → IsPerformed choice acted before after → IsPrinted (bytes_of acted.output) acted.status counts old
+      new status → HasFileStatus choice counts before after old new status

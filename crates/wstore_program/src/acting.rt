@@ -10,7 +10,8 @@ ghost use Rattle.wact.specs.Streams.{Feeds};
 ghost use Rattle.wact.specs.declared.opening.Opened.TheVariants as opens;
 ghost use Rattle.wcommand.specs.declared.choice.Choice as choices;
 ghost use Rattle.wstore_program.specs.Feeding.{IsGiven, given_bytes};
-ghost use Rattle.wstore_program.specs.Performing.{IsDone, IsGivenUp, IsPerformed, IsUndone, IsNotCarriedOut, OnlyReads, Puts, ReadsWhole, CarriesOut, input_path};
+ghost use Rattle.wstore_program.specs.Performing.{IsDone, IsGivenUp, IsPerformed, IsUndone, IsNotCarriedOut};
+ghost use Rattle.wstore_program.specs.Performing.{OnlyReads, Puts, ReadsWhole, CarriesOut, input_path};
 ghost use Rattle.wfiles.specs.Calls.{HasCause, IsSound};
 ghost use Rattle.wfiles.specs.Model.{IsLocked};
 ghost use Rattle.wfiles.specs.Replacing.{fault_of};
@@ -54,7 +55,8 @@ fn fed_to(
 ) -> Result<Acted, AllocError>
     requires declared { ReadsDeclaration table.now (Ok batch.now.schema) }
     requires whole { batch.now.held ≡ [] }
-    ensures { IfOk result (λ acted. (choice : choices.Choice) → IsFeed choice → Acts choice table.now (option_map (λ bytes. bytes.items) store.now) (stream_of batch.now) acted) }
+    ensures { IfOk result (λ acted. (choice : choices.Choice) → IsFeed choice
+        → Acts choice table.now (option_map (λ bytes. bytes.items) store.now) (stream_of batch.now) acted) }
 {
     match store {
         Some(bytes) => feed_store(alloc, table, Some(bytes.as_slice()), batch),
@@ -114,7 +116,8 @@ fn acted_again<R>(
     requires given { IsGiven choice.now table.now given.now }
     requires first { Acts choice.now table.now (option_map (λ bytes. bytes.items) before.now) (given_bytes given.now) first }
     requires sound { IsSound system.old }
-    ensures acts { IfOk result (λ acted. Acts choice.now table.now (option_map (λ bytes. bytes.items) now.now) (given_bytes given.now) acted) }
+    ensures acts { IfOk result (λ acted. Acts choice.now table.now (option_map (λ bytes. bytes.items) now.now)
+        (given_bytes given.now) acted) }
     ensures sound { OnOk result (IsSound system.new) }
     ensures cause { IfErr result (λ fault. HasCause fault system.new) }
 {
@@ -134,7 +137,8 @@ fn put<R: Files<File = File> + AllocGlobal>(
 ) -> Result<(), NotReplaced>
     requires locked { IsLocked calls.old.calls }
     requires sound { IsSound system.old }
-    ensures puts { Puts (string_bytes place.now.target.path) (option_map (λ store. store.items) acted.now.store) result calls.old.calls calls.new.calls }
+    ensures puts { Puts (string_bytes place.now.target.path) (option_map (λ store. store.items) acted.now.store) result
+        calls.old.calls calls.new.calls }
     ensures sound { OnOk result (IsSound system.new) }
     ensures cause { IfErr result (λ fault. HasCause (fault_of fault) system.new) }
 {
@@ -161,8 +165,10 @@ fn carry_out<R: Files<File = File> + AllocGlobal + Clock + Eprint>(
     requires given { IsGiven choice.now table.now given.now }
     requires first { Acts choice.now table.now (option_map (λ bytes. bytes.items) store.now) (given_bytes given.now) first }
     requires sound { IsSound system.old }
-    ensures carried_out { IfOk result (λ acted. CarriesOut choice.now table.now (option_map (λ bytes. bytes.items) store.now) (given_bytes given.now) acted calls.old.calls calls.new.calls) }
-    ensures not_carried_out { IfErr result (λ fault. IsNotCarriedOut choice.now table.now (given_bytes given.now) fault calls.old.calls calls.new.calls) }
+    ensures carried_out { IfOk result (λ acted. CarriesOut choice.now table.now
+        (option_map (λ bytes. bytes.items) store.now) (given_bytes given.now) acted calls.old.calls calls.new.calls) }
+    ensures not_carried_out { IfErr result (λ fault. IsNotCarriedOut choice.now table.now (given_bytes given.now) fault
+        calls.old.calls calls.new.calls) }
     ensures sound { OnOk result (IsSound system.new) }
     ensures cause { IfErr result (λ fault. HasCause fault system.new) }
 {
@@ -200,8 +206,10 @@ fn finish<R: Files<File = File> + AllocGlobal + Clock + Eprint>(
     requires given { IsGiven choice.now table.now given.now }
     requires first { Acts choice.now table.now (option_map (λ bytes. bytes.items) store.now) (given_bytes given.now) first }
     requires sound { IsSound system.old }
-    ensures carried_out { IfOk result (λ acted. CarriesOut choice.now table.now (option_map (λ bytes. bytes.items) store.now) (given_bytes given.now) acted calls.old.calls calls.new.calls) }
-    ensures not_carried_out { IfErr result (λ fault. IsNotCarriedOut choice.now table.now (given_bytes given.now) fault calls.old.calls calls.new.calls) }
+    ensures carried_out { IfOk result (λ acted. CarriesOut choice.now table.now
+        (option_map (λ bytes. bytes.items) store.now) (given_bytes given.now) acted calls.old.calls calls.new.calls) }
+    ensures not_carried_out { IfErr result (λ fault. IsNotCarriedOut choice.now table.now (given_bytes given.now) fault
+        calls.old.calls calls.new.calls) }
     ensures sound { OnOk result (IsSound system.new) }
     ensures cause { IfErr result (λ fault. HasCause fault system.new) }
 {
@@ -225,8 +233,10 @@ fn perform_on_bytes<R: Files<File = File> + AllocGlobal + Clock + Eprint>(
 ) -> Result<Acted, Fault>
     requires choice { is_act choice.now ≡ true }
     requires sound { IsSound system.old }
-    ensures done { IfOk result (λ acted. IsDone choice.now table.now (option_map (λ bytes. bytes.items) store.now) acted calls.old.calls calls.new.calls) }
-    ensures undone { IfErr result (λ fault. IsUndone choice.now table.now (option_map (λ bytes. bytes.items) store.now) fault calls.old.calls calls.new.calls) }
+    ensures done { IfOk result (λ acted. IsDone choice.now table.now (option_map (λ bytes. bytes.items) store.now) acted
+        calls.old.calls calls.new.calls) }
+    ensures undone { IfErr result (λ fault. IsUndone choice.now table.now (option_map (λ bytes. bytes.items) store.now)
+        fault calls.old.calls calls.new.calls) }
     ensures sound { OnOk result (IsSound system.new) }
     ensures cause { IfErr result (λ fault. HasCause fault system.new) }
 {
@@ -277,7 +287,8 @@ fn fed<R>(
     requires declared { batch.now.schema ≡ node.schema }
     requires whole { batch.now.held ≡ [] }
     requires sound { IsSound system.old }
-    ensures feeds { IfOk result (λ acted. Feeds node.schema node.view (option_map (λ bytes. bytes.items) store.now) (stream_of batch.now) acted) }
+    ensures feeds { IfOk result (λ acted. Feeds node.schema node.view (option_map (λ bytes. bytes.items) store.now)
+        (stream_of batch.now) acted) }
     ensures sound { OnOk result (IsSound system.new) }
     ensures cause { IfErr result (λ fault. HasCause fault system.new) }
 {
@@ -301,8 +312,10 @@ fn deliver<R: Files<File = File> + AllocGlobal + Clock + Eprint>(
     requires declared { batch.now.schema ≡ node.schema }
     requires whole { batch.now.held ≡ [] }
     requires sound { IsSound system.old }
-    ensures carried_out { IfOk result (λ acted. CarriesOut choice.now table.now (option_map (λ bytes. bytes.items) store.now) (stream_of batch.now) acted calls.old.calls calls.new.calls) }
-    ensures not_carried_out { IfErr result (λ fault. IsNotCarriedOut choice.now table.now (stream_of batch.now) fault calls.old.calls calls.new.calls) }
+    ensures carried_out { IfOk result (λ acted. CarriesOut choice.now table.now
+        (option_map (λ bytes. bytes.items) store.now) (stream_of batch.now) acted calls.old.calls calls.new.calls) }
+    ensures not_carried_out { IfErr result (λ fault. IsNotCarriedOut choice.now table.now (stream_of batch.now) fault
+        calls.old.calls calls.new.calls) }
     ensures sound { OnOk result (IsSound system.new) }
     ensures cause { IfErr result (λ fault. HasCause fault system.new) }
 {
@@ -359,8 +372,10 @@ fn feed_from<R: Files<File = File> + AllocGlobal + Clock + Eprint>(
     requires stream { input_path choice.now ≡ Some stream.now }
     requires opens { Opens table.now (option_map (λ bytes. bytes.items) store.now) (opens.Node node) }
     requires sound { IsSound system.old }
-    ensures done { IfOk result (λ acted. IsDone choice.now table.now (option_map (λ bytes. bytes.items) store.now) acted calls.old.calls calls.new.calls) }
-    ensures undone { IfErr result (λ fault. IsUndone choice.now table.now (option_map (λ bytes. bytes.items) store.now) fault calls.old.calls calls.new.calls) }
+    ensures done { IfOk result (λ acted. IsDone choice.now table.now (option_map (λ bytes. bytes.items) store.now) acted
+        calls.old.calls calls.new.calls) }
+    ensures undone { IfErr result (λ fault. IsUndone choice.now table.now (option_map (λ bytes. bytes.items) store.now)
+        fault calls.old.calls calls.new.calls) }
     ensures sound { OnOk result (IsSound system.new) }
     ensures cause { IfErr result (λ fault. HasCause fault system.new) }
 {
@@ -397,8 +412,10 @@ fn perform_feed<R: Files<File = File> + AllocGlobal + Clock + Eprint>(
     requires choice { IsFeed choice.now }
     requires stream { input_path choice.now ≡ Some stream.now }
     requires sound { IsSound system.old }
-    ensures done { IfOk result (λ acted. IsDone choice.now table.now (option_map (λ bytes. bytes.items) store.now) acted calls.old.calls calls.new.calls) }
-    ensures undone { IfErr result (λ fault. IsUndone choice.now table.now (option_map (λ bytes. bytes.items) store.now) fault calls.old.calls calls.new.calls) }
+    ensures done { IfOk result (λ acted. IsDone choice.now table.now (option_map (λ bytes. bytes.items) store.now) acted
+        calls.old.calls calls.new.calls) }
+    ensures undone { IfErr result (λ fault. IsUndone choice.now table.now (option_map (λ bytes. bytes.items) store.now)
+        fault calls.old.calls calls.new.calls) }
     ensures sound { OnOk result (IsSound system.new) }
     ensures cause { IfErr result (λ fault. HasCause fault system.new) }
 {
@@ -438,8 +455,10 @@ fn perform_on<R: Files<File = File> + AllocGlobal + Clock + Eprint>(
 ) -> Result<Acted, Fault>
     requires choice { is_act choice.now ≡ true }
     requires sound { IsSound system.old }
-    ensures done { IfOk result (λ acted. IsDone choice.now table.now (option_map (λ bytes. bytes.items) store.now) acted calls.old.calls calls.new.calls) }
-    ensures undone { IfErr result (λ fault. IsUndone choice.now table.now (option_map (λ bytes. bytes.items) store.now) fault calls.old.calls calls.new.calls) }
+    ensures done { IfOk result (λ acted. IsDone choice.now table.now (option_map (λ bytes. bytes.items) store.now) acted
+        calls.old.calls calls.new.calls) }
+    ensures undone { IfErr result (λ fault. IsUndone choice.now table.now (option_map (λ bytes. bytes.items) store.now)
+        fault calls.old.calls calls.new.calls) }
     ensures sound { OnOk result (IsSound system.new) }
     ensures cause { IfErr result (λ fault. HasCause fault system.new) }
 {

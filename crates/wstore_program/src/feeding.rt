@@ -20,7 +20,8 @@ const BLOCK: usize = 65_536;
 // Why a stream that ends here is refused, if it is.
 fn ended(batch: &Batch) -> Option<Stop>
     ensures whole { IfNone result (batch.now.held ≡ []) }
-    ensures refused { IfSome result (λ reason. (batch.now.stopped ≡ Some reason) ⊎ IsUndelivered batch.now.schema (stream_of batch.now) reason) }
+    ensures refused { IfSome result (λ reason. (batch.now.stopped ≡ Some reason)
+        ⊎ IsUndelivered batch.now.schema (stream_of batch.now) reason) }
 {
     match batch.end() {
         Ok(()) => None,
@@ -38,10 +39,13 @@ fn fill<R, T: Read>(
     requires new { stream_of batch.old ≡ [] }
     requires goes_on { batch.old.stopped ≡ None }
     ensures schema { OnOk result (batch.new.schema ≡ batch.old.schema) }
-    ensures read { IfOk result (λ stopped. IfNone stopped (Consumes (T.remaining reading.old.reader) (T.remaining reading.new.reader) (stream_of batch.new) × IsAtEnd (T.remaining reading.new.reader))) }
-    ensures noted { IfOk result (λ stopped. IfNone stopped (reading.new.calls ≡ read_to_end (read_more (stream_of batch.new) reading.old.calls))) }
+    ensures read { IfOk result (λ stopped. IfNone stopped (Consumes (T.remaining reading.old.reader)
+        (T.remaining reading.new.reader) (stream_of batch.new) × IsAtEnd (T.remaining reading.new.reader))) }
+    ensures noted { IfOk result (λ stopped. IfNone stopped (reading.new.calls
+        ≡ read_to_end (read_more (stream_of batch.new) reading.old.calls))) }
     ensures whole { IfOk result (λ stopped. IfNone stopped (batch.new.held ≡ [])) }
-    ensures refused { IfOk result (λ stopped. IfSome stopped (RefusesRead batch.old.schema (T.remaining reading.old.reader) (T.remaining reading.new.reader) reading.old.calls reading.new.calls)) }
+    ensures refused { IfOk result (λ stopped. IfSome stopped (RefusesRead batch.old.schema (T.remaining reading.old.reader)
+        (T.remaining reading.new.reader) reading.old.calls reading.new.calls)) }
     ensures begun { OnErr result (ReadsMore reading.old.calls reading.new.calls) }
     ensures sound { OnOk result (IsSound system.new) }
     ensures cause { IfErr result (λ fault. HasCause fault system.new) }
@@ -75,7 +79,8 @@ pub(crate) fn fill_from<R: Files<File = File> + AllocGlobal>(
     requires goes_on { batch.old.stopped ≡ None }
     ensures schema { OnOk result (batch.new.schema ≡ batch.old.schema) }
     ensures whole { IfOk result (λ stopped. IfNone stopped (batch.new.held ≡ [])) }
-    ensures found { IfOk result (λ stopped. IfNone stopped (calls.new.calls ≡ Found path.now (Some (stream_of batch.new)) ∷ calls.old.calls)) }
+    ensures found { IfOk result (λ stopped. IfNone stopped (calls.new.calls ≡ Found path.now (Some (stream_of batch.new))
+        ∷ calls.old.calls)) }
     ensures refused { IfOk result (λ stopped. IfSome stopped (IsRefusedStream batch.old.schema path.now calls.old.calls calls.new.calls)) }
     ensures begun { OnErr result (MayBegin path.now calls.old.calls calls.new.calls) }
     ensures sound { OnOk result (IsSound system.new) }

@@ -117,7 +117,8 @@ fn run_on_files<R: Files<File = File> + AllocGlobal + Clock + Eprint, W: Write>(
     requires choice { is_act choice.now ≡ true }
     requires named { paths_of choice.now ≡ Some paths }
     requires sound { IsSound system.old }
-    ensures { HasFileStatus choice.now system.new calls.old.calls calls.new.calls (W.contents output.old) (W.contents output.new) (exit_status result) }
+    ensures { HasFileStatus choice.now system.new calls.old.calls calls.new.calls (W.contents output.old)
+        (W.contents output.new) (exit_status result) }
 {
     match perform(rt, system, calls, choice, paths) {
         Ok(acted) => print(rt, system, output, acted.output.as_slice(), acted.status),

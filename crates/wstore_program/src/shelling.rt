@@ -75,7 +75,8 @@ fn answer<R: AllocGlobal + Eprint, I: Read, W: Write>(
 ) -> ExitCode
     requires input { IsNew input.old }
     requires output { IsNew output.old }
-    ensures { Answers node (I.remaining input.old.inner) (I.remaining input.new.inner) input.new (W.contents output.old.inner) (W.contents output.new.inner) output.new (exit_status result) }
+    ensures { Answers node (I.remaining input.old.inner) (I.remaining input.new.inner) input.new
+        (W.contents output.old.inner) (W.contents output.new.inner) output.new (exit_status result) }
 {
     let mut node = node;
     let end = run(rt.alloc(), &mut node, input, output);
@@ -96,7 +97,9 @@ pub(crate) fn run_shell<R: Files<File = File> + AllocGlobal + Eprint, I: Read, W
     requires sound { IsSound system.old }
     requires input { IsNew input.old }
     requires output { IsNew output.old }
-    ensures { HasShellStatus paths.entry system.new calls.old.calls calls.new.calls (I.remaining input.old.inner) (I.remaining input.new.inner) input.new (W.contents output.old.inner) (W.contents output.new.inner) output.new (exit_status result) }
+    ensures { HasShellStatus paths.entry system.new calls.old.calls calls.new.calls (I.remaining input.old.inner)
+        (I.remaining input.new.inner) input.new (W.contents output.old.inner) (W.contents output.new.inner) output.new
+        (exit_status result) }
 {
     match open_files(rt, system, calls, paths) {
         Ok(Opened::Node(node)) => answer(rt, node, input, output),

@@ -1,5 +1,6 @@
 -- What stands first in a stream.
-use Rattle.std.proofs.Common.{◌≡◌, ◌≢◌, ℕ, zero, suc, ◌+◌, ◌-◌, ◌^◌, ◌<◌, ◌≤◌, List, [], ◌∷◌, ◌++◌, length, take, drop, get_or, inl, inr, refl, sym, ap, ◌∙◌, arith, append_assoc, length-append, take-append-drop, drop-cons}
+use Rattle.std.proofs.Common.{◌≡◌, ◌≢◌, ℕ, zero, suc, ◌+◌, ◌-◌, ◌^◌, ◌<◌, ◌≤◌, List, [], ◌∷◌, ◌++◌, length, take, drop, get_or}
+use Rattle.std.proofs.Common.{inl, inr, refl, sym, ap, ◌∙◌, arith, append_assoc, length-append, take-append-drop, drop-cons}
 use Rattle.std.specs.Fmt.{decimal}
 use Rattle.std.proofs.lemmas.Fmt.{length-decimal-le}
 use Rattle.std.proofs.lemmas.List.{length-take-le}
@@ -50,7 +51,8 @@ message_is_form (RetirementItem n) h = h
 message_is_form (FloorItem n) h = h
 
 -- the line of a message is cut off in one way
-message_line : (i : Item) (line rest more : List ℕ) → IsMessage i → Lacks 10 line → line ++ (10 ∷ rest) ≡ message_text i ++ more → (line ≡ line_of (message_form i)) × (rest ≡ message_rest i ++ more)
+message_line : (i : Item) (line rest more : List ℕ) → IsMessage i → Lacks 10 line
+    → line ++ (10 ∷ rest) ≡ message_text i ++ more → (line ≡ line_of (message_form i)) × (rest ≡ message_rest i ++ more)
 message_line i line rest more h lacks e =
     cut_once 10 line (line_of (message_form i)) rest (message_rest i ++ more) lacks (line_lacks (message_form i) (message_is_form i h))
     (e ∙ ap (λ l. l ++ more) (message_is i) ∙ append_assoc (line_of (message_form i)) (10 ∷ message_rest i) more)
@@ -69,11 +71,13 @@ bad_line bytes line rest lacks is no_content no_retirement no_floor = record { c
     closed (inl l) = no_cut 10 bytes line rest l.lacks is
     closed (inr b) =
         let form : IsForm (forms.Content b.name b.len) = (b.is_name, few b.len b.within) in
-        let cut = cut_once 10 line (line_of (forms.Content b.name b.len)) rest b.behind lacks (line_lacks (forms.Content b.name b.len) form) (sym is ∙ b.rest_is) in
+        let cut = cut_once 10 line (line_of (forms.Content b.name b.len)) rest b.behind lacks
+        (line_lacks (forms.Content b.name b.len) form) (sym is ∙ b.rest_is) in
         no_content b.name b.len b.is_name b.within cut.0
 
     none : (i : Item) (more : List ℕ) → IsMessage i → bytes ≢ message_text i ++ more
-    none (SegmentItem n bs) more h e = no_content n (length bs) h.0 h.1 (message_line (SegmentItem n bs) line rest more h lacks (sym is ∙ e)).0
+    none (SegmentItem n bs) more h e = no_content n (length bs) h.0 h.1 (message_line (SegmentItem n bs) line rest more h
+        lacks (sym is ∙ e)).0
     none (RetirementItem n) more h e = no_retirement n h (message_line (RetirementItem n) line rest more h lacks (sym is ∙ e)).0
     none (FloorItem n) more h e = no_floor n h (message_line (FloorItem n) line rest more h lacks (sym is ∙ e)).0
 
@@ -94,7 +98,8 @@ same_behind (x ∷ xs) [] a b more rest h e = absurd (omega arith)
 same_behind (x ∷ xs) (y ∷ ys) a b more rest h e = same_behind xs ys a b more rest (omega arith) cc
 
 -- a body without its line feed makes the stream bad
-pub bad_body : (bytes rest : List ℕ) (n : NameParts) (len : ℕ) → IsName n → len ≤ most_bytes → bytes ≡ line_of (forms.Content n len) ++ (10 ∷ rest) → IsUnfed len rest → IsBad bytes
+pub bad_body : (bytes rest : List ℕ) (n : NameParts) (len : ℕ) → IsName n → len ≤ most_bytes
+    → bytes ≡ line_of (forms.Content n len) ++ (10 ∷ rest) → IsUnfed len rest → IsBad bytes
 bad_body bytes rest n len name within is u = record { closed = closed; none = none }
   where
     line : List ℕ
@@ -110,15 +115,18 @@ bad_body bytes rest n len name within is u = record { closed = closed; none = no
     closed (inl l) = no_cut 10 bytes (line_of (forms.Content n len)) rest l.lacks is
     closed (inr b) =
         let other : IsForm (forms.Content b.name b.len) = (b.is_name, few b.len b.within) in
-        let cut = cut_once 10 (line_of (forms.Content n len)) (line_of (forms.Content b.name b.len)) rest b.behind lacks (line_lacks (forms.Content b.name b.len) other) (sym is ∙ b.rest_is) in
+        let cut = cut_once 10 (line_of (forms.Content n len)) (line_of (forms.Content b.name b.len)) rest b.behind lacks
+        (line_lacks (forms.Content b.name b.len) other) (sym is ∙ b.rest_is) in
         let same = same_content n b.name len b.len (one_form (forms.Content n len) (forms.Content b.name b.len) form other cut.0) in
         omega (arith, same, b.short, ap length cut.1, ap length u.bytes_are, length-append u.body (u.byte ∷ u.more), u.length_is)
 
     none : (i : Item) (more : List ℕ) → IsMessage i → bytes ≢ message_text i ++ more
     none (SegmentItem m bs) more h e =
         let cut = message_line (SegmentItem m bs) (line_of (forms.Content n len)) rest more h lacks (sym is ∙ e) in
-        let same = same_content n m len (length bs) (one_form (forms.Content n len) (forms.Content m (length bs)) form (message_is_form (SegmentItem m bs) h) cut.0) in
-        u.other (same_behind u.body bs u.byte 10 u.more more (u.length_is ∙ same) (sym u.bytes_are ∙ cut.1 ∙ append_assoc bs (10 ∷ []) more))
+        let same = same_content n m len (length bs) (one_form (forms.Content n len) (forms.Content m (length bs)) form
+        (message_is_form (SegmentItem m bs) h) cut.0) in
+        u.other (same_behind u.body bs u.byte 10 u.more more (u.length_is ∙ same) (sym u.bytes_are ∙ cut.1
+        ∙ append_assoc bs (10 ∷ []) more))
     none (RetirementItem m) more h e =
         let cut = message_line (RetirementItem m) (line_of (forms.Content n len)) rest more h lacks (sym is ∙ e) in
         other_forms n m len (one_form (forms.Content n len) (forms.Retirement m) form h cut.0)
@@ -128,7 +136,8 @@ bad_body bytes rest n len name within is u = record { closed = closed; none = no
 
 -- ---- whole
 
-pub begins_retired : (bytes rest : List ℕ) (n : NameParts) → IsName n → bytes ≡ line_of (forms.Retirement n) ++ (10 ∷ rest) → BeginsWith bytes (RetirementItem n) (length bytes - length rest)
+pub begins_retired : (bytes rest : List ℕ) (n : NameParts) → IsName n → bytes ≡ line_of (forms.Retirement n) ++ (10 ∷ rest)
+    → BeginsWith bytes (RetirementItem n) (length bytes - length rest)
 begins_retired bytes rest n h is =
     let whole = line_of (forms.Retirement n) ++ (10 ∷ []) in
     let cut : bytes ≡ whole ++ rest = is ∙ sym (append_assoc (line_of (forms.Retirement n)) (10 ∷ []) rest) in
@@ -139,7 +148,8 @@ begins_retired bytes rest n h is =
       bytes_are = cut ∙ ap (λ l. whole ++ l) (sym (ap (λ k. drop k bytes) size ∙ ap (drop (length whole)) cut ∙ drop_front whole rest));
     }
 
-pub begins_floor : (bytes rest : List ℕ) (n : NameParts) → IsName n → bytes ≡ line_of (forms.Floor n) ++ (10 ∷ rest) → BeginsWith bytes (FloorItem n) (length bytes - length rest)
+pub begins_floor : (bytes rest : List ℕ) (n : NameParts) → IsName n → bytes ≡ line_of (forms.Floor n) ++ (10 ∷ rest)
+    → BeginsWith bytes (FloorItem n) (length bytes - length rest)
 begins_floor bytes rest n h is =
     let whole = line_of (forms.Floor n) ++ (10 ∷ []) in
     let cut : bytes ≡ whole ++ rest = is ∙ sym (append_assoc (line_of (forms.Floor n)) (10 ∷ []) rest) in
@@ -150,18 +160,23 @@ begins_floor bytes rest n h is =
       bytes_are = cut ∙ ap (λ l. whole ++ l) (sym (ap (λ k. drop k bytes) size ∙ ap (drop (length whole)) cut ∙ drop_front whole rest));
     }
 
-pub begins_content : (bytes body rest : List ℕ) (n : NameParts) (len : ℕ) → IsName n → len ≤ most_bytes → length body ≡ len → bytes ≡ line_of (forms.Content n len) ++ (10 ∷ (body ++ (10 ∷ rest)))
-    → BeginsWith bytes (SegmentItem n (body_in bytes (length body) (length bytes - length rest))) (length bytes - length rest) × (length body < length bytes - length rest)
+pub begins_content : (bytes body rest : List ℕ) (n : NameParts) (len : ℕ) → IsName n → len ≤ most_bytes → length body ≡ len
+    → bytes ≡ line_of (forms.Content n len) ++ (10 ∷ (body ++ (10 ∷ rest)))
+    → BeginsWith bytes (SegmentItem n (body_in bytes (length body) (length bytes - length rest)))
+    (length bytes - length rest) × (length body < length bytes - length rest)
 begins_content bytes body rest n len name within size is =
     let front = line_of (forms.Content n len) ++ (10 ∷ []) in
     let whole = line_of (forms.Content n len) ++ (10 ∷ (body ++ 10 ∷ [])) in
-    let cut : bytes ≡ whole ++ rest = is ∙ ap (λ l. line_of (forms.Content n len) ++ (10 ∷ l)) (sym (append_assoc body (10 ∷ []) rest)) ∙ sym (append_assoc (line_of (forms.Content n len)) (10 ∷ (body ++ 10 ∷ [])) rest) in
-    let cut_body : bytes ≡ front ++ (body ++ (10 ∷ rest)) = is ∙ sym (append_assoc (line_of (forms.Content n len)) (10 ∷ []) (body ++ (10 ∷ rest))) in
+    let cut : bytes ≡ whole ++ rest = is ∙ ap (λ l. line_of (forms.Content n len) ++ (10 ∷ l))
+    (sym (append_assoc body (10 ∷ []) rest)) ∙ sym (append_assoc (line_of (forms.Content n len)) (10 ∷ (body ++ 10 ∷ [])) rest) in
+    let cut_body : bytes ≡ front ++ (body ++ (10 ∷ rest)) =
+    is ∙ sym (append_assoc (line_of (forms.Content n len)) (10 ∷ []) (body ++ (10 ∷ rest))) in
     let taken : length bytes - length rest ≡ length whole = omega (arith, ap length cut, length-append whole rest) in
     let before : (length bytes - length rest) - (length body + 1) ≡ length front =
     omega (arith, ap length cut_body, length-append front (body ++ (10 ∷ rest)), length-append body (10 ∷ rest)) in
     let found : body_in bytes (length body) (length bytes - length rest) ≡ body =
-    ap (λ k. take (length body) (drop k bytes)) before ∙ ap (λ l. take (length body) (drop (length front) l)) cut_body ∙ ap (take (length body)) (drop_front front (body ++ (10 ∷ rest))) ∙ take_front body (10 ∷ rest) in
+    ap (λ k. take (length body) (drop k bytes)) before ∙ ap (λ l. take (length body) (drop (length front) l)) cut_body
+    ∙ ap (take (length body)) (drop_front front (body ++ (10 ∷ rest))) ∙ take_front body (10 ∷ rest) in
     let text : message_text (SegmentItem n body) ≡ whole = ap (λ k. line_of (forms.Content n k) ++ (10 ∷ (body ++ 10 ∷ []))) size in (
       record {
         is = (name, omega (arith, ap length found));
@@ -169,7 +184,13 @@ begins_content bytes body rest n len name within size is =
         bytes_are = cut ∙ ap (λ l. whole ++ l) (sym (ap (λ k. drop k bytes) taken ∙ ap (drop (length whole)) cut ∙ drop_front whole rest))
             ∙ ap (λ l. l ++ drop (length bytes - length rest) bytes) (sym text ∙ ap (λ b. message_text (SegmentItem n b)) (sym found));
       },
-      omega (arith, ap length cut_body, length-append front (body ++ (10 ∷ rest)), length-append body (10 ∷ rest), length-append (line_of (forms.Content n len)) (10 ∷ [])),
+      omega (
+        arith,
+        ap length cut_body,
+        length-append front (body ++ (10 ∷ rest)),
+        length-append body (10 ∷ rest),
+        length-append (line_of (forms.Content n len)) (10 ∷ []),
+      ),
     )
 
 -- ---- how a header line and a body are cut off
@@ -228,9 +249,11 @@ bad_form bytes rest f h is other =
     (λ n name e. no_retirement f n other (one_form f (forms.Retirement n) h name e))
     (λ n name e. no_floor f n other (one_form f (forms.Floor n) h name e))
 
-pub bad_unread : (bytes line rest : List ℕ) → Lacks 10 line → bytes ≡ line ++ (10 ∷ rest) → ((f : Form) → IsForm f → line ≢ line_of f) → IsBad bytes
+pub bad_unread : (bytes line rest : List ℕ) → Lacks 10 line → bytes ≡ line ++ (10 ∷ rest)
+    → ((f : Form) → IsForm f → line ≢ line_of f) → IsBad bytes
 bad_unread bytes line rest lacks is none =
-    bad_line bytes line rest lacks is (λ n len name within e. none (forms.Content n len) (name, few len within) e) (λ n name e. none (forms.Retirement n) name e) (λ n name e. none (forms.Floor n) name e)
+    bad_line bytes line rest lacks is (λ n len name within e. none (forms.Content n len) (name, few len within) e)
+    (λ n name e. none (forms.Retirement n) name e) (λ n name e. none (forms.Floor n) name e)
 
 -- ---- a line that is too long
 
@@ -248,7 +271,8 @@ content_short : (n : NameParts) (len : ℕ) → IsName n → len ≤ most_bytes 
 content_short n len h k =
     let number = number_short n.number (omega (arith, h.number.high)) in
     let size = number_short len (omega (arith, k)) in
-    let inner : length (decimal n.number ++ (32 ∷ decimal len)) ≤ 21 = omega (arith, number, size, length-append (decimal n.number) (32 ∷ decimal len)) in
+    let inner : length (decimal n.number ++ (32 ∷ decimal len)) ≤ 21 =
+    omega (arith, number, size, length-append (decimal n.number) (32 ∷ decimal len)) in
     omega (arith, inner, h.origin.short, length-append n.origin (32 ∷ (decimal n.number ++ (32 ∷ decimal len))))
 
 retirement_short : (n : NameParts) → IsName n → length (line_of (forms.Retirement n)) < 201
@@ -267,12 +291,16 @@ bad_start bytes long lacks = record { closed = closed; none = none }
   where
     closed : ¬ (IsOpen bytes)
     closed (inl l) = omega (arith, l.short, long)
-    closed (inr b) = no_early 201 bytes (line_of (forms.Content b.name b.len)) b.behind lacks (content_short b.name b.len b.is_name b.within) b.rest_is
+    closed (inr b) = no_early 201 bytes (line_of (forms.Content b.name b.len)) b.behind lacks
+        (content_short b.name b.len b.is_name b.within) b.rest_is
 
     none : (i : Item) (more : List ℕ) → IsMessage i → bytes ≢ message_text i ++ more
     none (SegmentItem n bs) more h e =
-        no_early 201 bytes (line_of (forms.Content n (length bs))) ((bs ++ 10 ∷ []) ++ more) lacks (content_short n (length bs) h.0 h.1) (e ∙ append_assoc (line_of (forms.Content n (length bs))) (10 ∷ (bs ++ 10 ∷ [])) more)
+        no_early 201 bytes (line_of (forms.Content n (length bs))) ((bs ++ 10 ∷ []) ++ more) lacks
+        (content_short n (length bs) h.0 h.1) (e ∙ append_assoc (line_of (forms.Content n (length bs))) (10 ∷ (bs ++ 10 ∷ [])) more)
     none (RetirementItem n) more h e =
-        no_early 201 bytes (line_of (forms.Retirement n)) more lacks (retirement_short n h) (e ∙ append_assoc (line_of (forms.Retirement n)) (10 ∷ []) more)
+        no_early 201 bytes (line_of (forms.Retirement n)) more lacks (retirement_short n h)
+        (e ∙ append_assoc (line_of (forms.Retirement n)) (10 ∷ []) more)
     none (FloorItem n) more h e =
-        no_early 201 bytes (line_of (forms.Floor n)) more lacks (floor_short n h) (e ∙ append_assoc (line_of (forms.Floor n)) (10 ∷ []) more)
+        no_early 201 bytes (line_of (forms.Floor n)) more lacks (floor_short n h)
+        (e ∙ append_assoc (line_of (forms.Floor n)) (10 ∷ []) more)

@@ -1,5 +1,6 @@
 -- What an inbox stands for, what its calls tell, and how its steps lie in its bytes.
-use Rattle.std.specs.Prelude.{◌≡◌, ℕ, ◌-◌, ◌+◌, ◌<◌, ◌≤◌, Bool, true, false, List, ◌++◌, take, drop, length, Option, None, Some, Result, Ok, Err, ◌⊎◌}
+use Rattle.std.specs.Prelude.{◌≡◌, ℕ, ◌-◌, ◌+◌, ◌<◌, ◌≤◌, Bool, true, false, List, ◌++◌, take}
+use Rattle.std.specs.Prelude.{drop, length, Option, None, Some, Result, Ok, Err, ◌⊎◌}
 use Rattle.wset.specs.Items.{Item, SegmentItem, RetirementItem, FloorItem}
 use Rattle.wstream.specs.Messages.{IsMessage, IsOpen, IsBad, message_text}
 use Rattle.wstream.specs.declared.found.Found.{Found}
@@ -72,11 +73,15 @@ pending bytes start is_bad = record { held = drop start bytes; is_bad = is_bad }
 -- what a step tells
 abbrev pub Steps : List ℕ → ℕ → Bool → ℕ → Bool → Step → Type 0
 Steps bytes start is_bad new_start new_bad steps.Bad = ((is_bad ≡ true) ⊎ IsBad (drop start bytes)) × (new_start ≡ start) × (new_bad ≡ true)
-Steps bytes start is_bad new_start new_bad steps.Open = IsOpen (drop start bytes) × (is_bad ≡ false) × (new_start ≡ start) × (new_bad ≡ is_bad)
+Steps bytes start is_bad new_start new_bad steps.Open = IsOpen (drop start bytes) × (is_bad ≡ false) × (new_start ≡ start)
+    × (new_bad ≡ is_bad)
 Steps bytes start is_bad new_start new_bad (steps.Take name from to) =
-    (is_bad ≡ false) × TakesOff (pending bytes start is_bad) (SegmentItem name (between bytes from to)) (pending bytes new_start new_bad) × (from ≤ to) × (to ≤ length bytes)
-Steps bytes start is_bad new_start new_bad (steps.Retire name) = (is_bad ≡ false) × TakesOff (pending bytes start is_bad) (RetirementItem name) (pending bytes new_start new_bad)
-Steps bytes start is_bad new_start new_bad (steps.RetireTo name) = (is_bad ≡ false) × TakesOff (pending bytes start is_bad) (FloorItem name) (pending bytes new_start new_bad)
+    (is_bad ≡ false) × TakesOff (pending bytes start is_bad) (SegmentItem name (between bytes from to))
+    (pending bytes new_start new_bad) × (from ≤ to) × (to ≤ length bytes)
+Steps bytes start is_bad new_start new_bad (steps.Retire name) = (is_bad ≡ false)
+    × TakesOff (pending bytes start is_bad) (RetirementItem name) (pending bytes new_start new_bad)
+Steps bytes start is_bad new_start new_bad (steps.RetireTo name) = (is_bad ≡ false)
+    × TakesOff (pending bytes start is_bad) (FloorItem name) (pending bytes new_start new_bad)
 
 -- the item that a step handed out, none where nothing was whole, and nothing at all where the stream was bad
 abbrev pub handed_of : List ℕ → Step → Option (Option Item)
@@ -103,7 +108,8 @@ IsHanded _ _ = ⊥
 abbrev pub MovesTo : Inbox → Inbox → Option (Option Item) → Type 0
 MovesTo old new None = ((old.is_bad ≡ true) ⊎ IsBad old.held) × (new.held ≡ old.held) × (new.is_bad ≡ true)
 MovesTo old new (Some None) = (old.is_bad ≡ false) × IsOpen old.held × (new.held ≡ old.held) × (new.is_bad ≡ false)
-MovesTo old new (Some (Some item)) = (old.is_bad ≡ false) × IsMessage item × (old.held ≡ message_text item ++ new.held) × (new.is_bad ≡ false)
+MovesTo old new (Some (Some item)) = (old.is_bad ≡ false) × IsMessage item × (old.held ≡ message_text item ++ new.held)
+    × (new.is_bad ≡ false)
 
 abbrev pub MovesOn : Inbox → Inbox → Type 0
 MovesOn old new = MovesTo old new new.handed

@@ -1,5 +1,6 @@
 -- The rows of live segments: as many values as the table has columns, and one after another the rows of the table.
-use Rattle.std.proofs.Common.{◌≡◌, ℕ, List, [], ◌∷◌, ◌++◌, length, map, cond, nat_lt, Bool, true, false, Result, Ok, Err, refl, sym, ap, ◌∙◌}
+use Rattle.std.proofs.Common.{◌≡◌, ℕ, List, [], ◌∷◌, ◌++◌, length, map, cond, nat_lt}
+use Rattle.std.proofs.Common.{Bool, true, false, Result, Ok, Err, refl, sym, ap, ◌∙◌}
 use Rattle.std.specs.List.{AllByRecursion, flat_map}
 use Rattle.std.proofs.lemmas.List.{length-map}
 use Rattle.wvalues.specs.Names.{NameParts}
@@ -30,7 +31,8 @@ module _ (d : Declaration) where
   wide_mapped header [] = tt
   wide_mapped header (row ∷ rows) = (length-map d.columns _, wide_mapped header rows)
 
-  wide_raw : (header : List Described) (raw : Result (List (List Meaning)) SegmentFault) → AreWide (rows_or_none (raw >>= λ rows. Ok (map (in_table_order d.columns header) rows)))
+  wide_raw : (header : List Described) (raw : Result (List (List Meaning)) SegmentFault)
+      → AreWide (rows_or_none (raw >>= λ rows. Ok (map (in_table_order d.columns header) rows)))
   wide_raw header (Ok rows) = wide_mapped header rows
   wide_raw header (Err fault) = tt
 
@@ -38,11 +40,13 @@ module _ (d : Declaration) where
   unfolding rows_under
   wide_under below header = go (is_complete d.columns header)
     where
-      go : (b : Bool) → AreWide (rows_or_none (cond b (rows_from (kinds_of header) 1 below >>= λ rows. Ok (map (in_table_order d.columns header) rows)) (Err MissingColumn)))
+      go : (b : Bool) → AreWide (rows_or_none
+          (cond b (rows_from (kinds_of header) 1 below >>= λ rows. Ok (map (in_table_order d.columns header) rows)) (Err MissingColumn)))
       go true = wide_raw header (rows_from (kinds_of header) 1 below)
       go false = tt
 
-  wide_named : (below : List (List (List ℕ))) (named : Result (List Described) SegmentFault) → AreWide (rows_or_none (named >>= rows_under d below))
+  wide_named : (below : List (List (List ℕ))) (named : Result (List Described) SegmentFault)
+      → AreWide (rows_or_none (named >>= rows_under d below))
   wide_named below (Ok header) = wide_under below header
   wide_named below (Err fault) = tt
 
@@ -67,7 +71,8 @@ module _ (d : Declaration) where
   wide_lives [] = tt
   wide_lives (e ∷ all) = both_wide (content_rows d e.1) (joined (map (λ e. content_rows d e.1) all)) (wide_content e.1) (wide_lives all)
 
-  joined_lives : (all : List (NameParts × List ℕ)) → joined (map (λ e. content_rows d e.1) all) ≡ map (λ row. row.cells) (flat_map (segment_rows d) all)
+  joined_lives : (all : List (NameParts × List ℕ)) → joined (map (λ e. content_rows d e.1) all) ≡ map (λ row. row.cells)
+      (flat_map (segment_rows d) all)
   joined_lives all = flat all ∙ table_is d all
     where
       flat : (all : List (NameParts × List ℕ)) → joined (map (λ e. content_rows d e.1) all) ≡ flat_map (named_rows d) all
@@ -84,7 +89,8 @@ live_joined s = joined_lives s.schema (lives s.view)
 
 -- they do not depend on the runs that are kept
 pub live_same : (old new : DeclaredView) → Becomes old old.view new → live_rows new ≡ live_rows old
-live_same old new b = ap (λ d. map (λ e. content_rows d e.1) (lives new.view)) b.schema ∙ ap (λ v. map (λ e. content_rows old.schema e.1) (lives v)) b.view
+live_same old new b = ap (λ d. map (λ e. content_rows d e.1) (lives new.view)) b.schema
+    ∙ ap (λ v. map (λ e. content_rows old.schema e.1) (lives v)) b.view
 
 pub rows_same : (old new : DeclaredView) → Becomes old old.view new → rows_of_set new ≡ rows_of_set old
 rows_same old new b = sym (live_joined new) ∙ ap joined (live_same old new b) ∙ live_joined old
@@ -94,9 +100,13 @@ pub same_then : (old mid new : DeclaredView) → Becomes old old.view mid → Be
 same_then old mid new a b = record { schema = b.schema ∙ a.schema; view = b.view ∙ a.view }
 
 -- the segments that are lent have the rows of the live ones
-pub lent_rows_are : (s : DeclaredView) (segments : List (NameParts × Content)) → AreLivesOf s segments → map (λ e. e.1.rows) segments ≡ live_rows s
+pub lent_rows_are : (s : DeclaredView) (segments : List (NameParts × Content)) → AreLivesOf s segments
+    → map (λ e. e.1.rows) segments ≡ live_rows s
 lent_rows_are s segments are = each segments are.read ∙ ap (map (λ e. content_rows s.schema e.1)) are.known
   where
-    each : (segments : List (NameParts × Content)) → AllByRecursion (λ e. IsReadBy s.schema e.1) segments → map (λ e. e.1.rows) segments ≡ map (λ (e : NameParts × List ℕ). content_rows s.schema e.1) (map (λ (e : NameParts × Content). (e.0, e.1.bytes)) segments)
+    each : (segments : List (NameParts × Content)) → AllByRecursion (λ e. IsReadBy s.schema e.1) segments
+        → map (λ e. e.1.rows) segments ≡ map (λ (e : NameParts × List ℕ). content_rows s.schema e.1)
+        (map (λ (e : NameParts × Content). (e.0, e.1.bytes)) segments)
     each [] all = refl
-    each (e ∷ more) all = ap (λ r. r ∷ map (λ e. e.1.rows) more) (sym (ap rows_or_none all.0.rows)) ∙ ap (λ l. content_rows s.schema e.1.bytes ∷ l) (each more all.1)
+    each (e ∷ more) all = ap (λ r. r ∷ map (λ e. e.1.rows) more) (sym (ap rows_or_none all.0.rows))
+        ∙ ap (λ l. content_rows s.schema e.1.bytes ∷ l) (each more all.1)

@@ -1,5 +1,6 @@
 -- The rows of segments, one after another, are the table.
-use Rattle.std.proofs.Common.{◌≡◌, ℕ, zero, suc, ◌+◌, ◌<◌, ◌≤◌, List, [], ◌∷◌, ◌++◌, length, map, take, drop, get_or, drop-cons, take_all, refl, sym, ap, ◌∙◌, arith, append_assoc}
+use Rattle.std.proofs.Common.{◌≡◌, ℕ, zero, suc, ◌+◌, ◌<◌, ◌≤◌, List, [], ◌∷◌, ◌++◌, length, map, take, drop}
+use Rattle.std.proofs.Common.{get_or, drop-cons, take_all, refl, sym, ap, ◌∙◌, arith, append_assoc}
 use Rattle.std.specs.List.{enumerate_from, flat_map, AllByRecursion}
 use Rattle.std.proofs.lemmas.List.{map-append}
 use Rattle.wvalues.specs.Names.{NameParts}
@@ -15,12 +16,14 @@ use Rattle.wset.specs.Tables.{TableRow, content_rows, rows_or_none, segment_rows
 use Rattle.wframe.specs.Places.{places_from, places}
 
 -- the elements at some places
-at_places : {X : Type 0} (d : X) (xs : List X) (a n : ℕ) → a + n ≤ length xs → map (λ j. get_or xs j d) (places_from a n) ≡ take n (drop a xs)
+at_places : {X : Type 0} (d : X) (xs : List X) (a n : ℕ) → a + n ≤ length xs → map (λ j. get_or xs j d) (places_from a n)
+    ≡ take n (drop a xs)
 at_places d xs a zero h = refl
 at_places d xs a (suc n) h =
     let l : a < length xs = omega arith in
     let s : suc a ≡ a + 1 = omega arith in
-    ap (λ l. get_or xs a d ∷ l) (at_places d xs (a + 1) n (omega arith) ∙ ap (λ k. take n (drop k xs)) (sym s)) ∙ sym (ap (take (suc n)) (drop-cons xs a d l))
+    ap (λ l. get_or xs a d ∷ l) (at_places d xs (a + 1) n (omega arith) ∙ ap (λ k. take n (drop k xs)) (sym s))
+    ∙ sym (ap (take (suc n)) (drop-cons xs a d l))
 
 pub all_places : {X : Type 0} (d : X) (xs : List X) → map (λ j. get_or xs j d) (places (length xs)) ≡ xs
 all_places d xs = at_places d xs 0 (length xs) (omega arith) ∙ take_all (length xs) xs (omega arith)
@@ -29,12 +32,15 @@ all_places d xs = at_places d xs 0 (length xs) (omega arith) ∙ take_all (lengt
 abbrev pub live_rows : Declaration → (NameParts × List ℕ) → List (List Meaning)
 live_rows d (n, bytes) = content_rows d bytes
 
-cells_given : (n : NameParts) (k : ℕ) (rows : List (List Meaning)) → map (λ (r : TableRow). r.cells) (map (λ (r : ℕ × List Meaning). record { name = n; place = r.0; cells = r.1 }) (enumerate_from k rows)) ≡ rows
+cells_given : (n : NameParts) (k : ℕ) (rows : List (List Meaning))
+    → map (λ (r : TableRow). r.cells) (map (λ (r : ℕ × List Meaning). record { name = n; place = r.0; cells = r.1 })
+    (enumerate_from k rows)) ≡ rows
 cells_given n k [] = refl
 cells_given n k (row ∷ rows) = ap (λ l. row ∷ l) (cells_given n (k + 1) rows)
 
 -- the rows of the table are those of the live names
-pub table_is : (d : Declaration) (all : List (NameParts × List ℕ)) → flat_map (live_rows d) all ≡ map (λ (r : TableRow). r.cells) (flat_map (segment_rows d) all)
+pub table_is : (d : Declaration) (all : List (NameParts × List ℕ))
+    → flat_map (live_rows d) all ≡ map (λ (r : TableRow). r.cells) (flat_map (segment_rows d) all)
 table_is d [] = refl
 table_is d ((n, bytes) ∷ all) =
     ap (λ l. l ++ flat_map (live_rows d) all) (sym (cells_given n 0 (content_rows d bytes)))
@@ -42,15 +48,22 @@ table_is d ((n, bytes) ∷ all) =
     ∙ sym (map-append (λ (r : TableRow). r.cells) (segment_rows d (n, bytes)) (flat_map (segment_rows d) all))
 
 -- the segments of live names have the rows of the table
-each_referenced : (d : Declaration) (segments : List (NameParts × Content)) → AllByRecursion (λ e. IsReadBy d e.1) segments → flat_map (λ e. e.1.rows) segments ≡ flat_map (live_rows d) (map (λ e. (e.0, e.1.bytes)) segments)
+each_referenced : (d : Declaration) (segments : List (NameParts × Content)) → AllByRecursion (λ e. IsReadBy d e.1) segments
+    → flat_map (λ e. e.1.rows) segments ≡ flat_map (live_rows d) (map (λ e. (e.0, e.1.bytes)) segments)
 each_referenced d [] all = refl
-each_referenced d ((n, content) ∷ segments) all = ap (λ l. l ++ flat_map (λ e. e.1.rows) segments) (sym (ap rows_or_none all.0.rows)) ∙ ap (λ l. live_rows d (n, content.bytes) ++ l) (each_referenced d segments all.1)
+each_referenced d ((n, content) ∷ segments) all =
+    ap (λ l. l ++ flat_map (λ e. e.1.rows) segments) (sym (ap rows_or_none all.0.rows))
+    ∙ ap (λ l. live_rows d (n, content.bytes) ++ l) (each_referenced d segments all.1)
 
-pub set_rows : (s : DeclaredView) (segments : List (NameParts × Content)) → AreLivesOf s segments → flat_map (λ e. e.1.rows) segments ≡ rows_of_set s
-set_rows s segments are = each_referenced s.schema segments are.read ∙ ap (flat_map (live_rows s.schema)) are.known ∙ table_is s.schema (lives s.view)
+pub set_rows : (s : DeclaredView) (segments : List (NameParts × Content)) → AreLivesOf s segments
+    → flat_map (λ e. e.1.rows) segments ≡ rows_of_set s
+set_rows s segments are = each_referenced s.schema segments are.read ∙ ap (flat_map (live_rows s.schema)) are.known
+    ∙ table_is s.schema (lives s.view)
 
 -- the rows of one segment more
-pub more_rows : (old now all : List (List Meaning)) (segments left : List (NameParts × Content)) (e : NameParts × Content) → segments ≡ e ∷ left → old ++ flat_map (λ e. e.1.rows) segments ≡ all → now ≡ old ++ e.1.rows → now ++ flat_map (λ e. e.1.rows) left ≡ all
+pub more_rows : (old now all : List (List Meaning)) (segments left : List (NameParts × Content)) (e : NameParts × Content)
+    → segments ≡ e ∷ left → old ++ flat_map (λ e. e.1.rows) segments ≡ all → now ≡ old ++ e.1.rows
+    → now ++ flat_map (λ e. e.1.rows) left ≡ all
 more_rows old now all segments left e is before more =
     ap (λ l. l ++ flat_map (λ e. e.1.rows) left) more ∙ append_assoc old e.1.rows (flat_map (λ e. e.1.rows) left)
     ∙ ap (λ l. old ++ flat_map (λ e. e.1.rows) l) (sym is) ∙ before

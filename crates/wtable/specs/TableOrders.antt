@@ -1,5 +1,6 @@
 -- Orders of the table's rows by columns, of which those rows are left that a condition keeps.
-use Rattle.std.specs.Prelude.{◌≡◌, ◌<◌, ◌+◌, ◌-◌, ◌^◌, ℕ, Bool, true, false, if◌then◌else◌, List, [], ◌∷◌, All, IfSome, filter, length, map, min, nat_lt, Option, Some, None, Result, Ok, slice_index_or, Vec}
+use Rattle.std.specs.Prelude.{◌≡◌, ◌<◌, ◌+◌, ◌-◌, ◌^◌, ℕ, Bool, true, false, if◌then◌else◌, List, [], ◌∷◌, All, IfSome}
+use Rattle.std.specs.Prelude.{filter, length, map, min, nat_lt, Option, Some, None, Result, Ok, slice_index_or, Vec}
 use Rattle.std.specs.Borrow.{Bor}
 use Rattle.std.specs.Global.{Global}
 use Rattle.wvalues.specs.declared.key.SortKey.{SortKey}
@@ -86,7 +87,8 @@ left_out = 2 ^ 32 - 1
 -- for each row how many are kept before it, if it is kept, where so many were kept before all of them
 abbrev pub numbers_kept : (Row → Bool) → ℕ → List Row → List ℕ
 numbers_kept holds before [] = []
-numbers_kept holds before (row ∷ rows) = if holds row then min before left_out ∷ numbers_kept holds (before + 1) rows else left_out ∷ numbers_kept holds before rows
+numbers_kept holds before (row ∷ rows) = if holds row then min before left_out ∷ numbers_kept holds (before + 1) rows
+    else left_out ∷ numbers_kept holds before rows
 
 -- a number, if it is not that of a row that is left out
 abbrev pub number_kept : ℕ → Option ℕ

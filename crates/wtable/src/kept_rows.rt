@@ -53,7 +53,8 @@ pub(crate) fn push_where<'a>(
     row: &'a [Value],
 ) -> Result<(), AnswerFault>
     ensures gives { Gives (λ u. u) result (unless (is_out_of_range (formula condition.now) (map meaning row.entry.now)) OutOfRange tt) }
-    ensures added { OnOk result (rows_seen held.new.items ≡ (if holds_on (formula condition.now) (map meaning row.entry.now) then rows_seen held.old.items ++ map meaning row.entry.now ∷ [] else rows_seen held.old.items)) }
+    ensures added { OnOk result (rows_seen held.new.items ≡ (if holds_on (formula condition.now) (map meaning row.entry.now)
+        then rows_seen held.old.items ++ map meaning row.entry.now ∷ [] else rows_seen held.old.items)) }
 {
     if holds(condition, row)? {
         held.push(row)?;
@@ -67,8 +68,10 @@ fn push_rows_where<'a>(
     condition: &Expr,
     kept: &'a Kept,
 ) -> Result<(), AnswerFault>
-    ensures gives { Gives (λ u. u) result (unless (list_any (is_out_of_range (formula condition.now)) kept.now.content.rows) OutOfRange tt) }
-    ensures added { OnOk result (rows_seen held.new.items ≡ rows_seen held.old.items ++ filter (holds_on (formula condition.now)) kept.now.content.rows) }
+    ensures gives { Gives (λ u. u) result (unless (list_any (is_out_of_range (formula condition.now)) kept.now.content.rows)
+        OutOfRange tt) }
+    ensures added { OnOk result (rows_seen held.new.items ≡ rows_seen held.old.items ++ filter
+        (holds_on (formula condition.now)) kept.now.content.rows) }
 {
     let segment = kept.segment()?;
     for row in 0..segment.rows() {
@@ -134,7 +137,8 @@ fn push_few_where<'a>(
     most: usize,
 ) -> Result<bool, AnswerFault>
     ensures gives { GivesAtEnd result (unless (list_any (is_out_of_range (formula condition.now)) kept.now.content.rows) OutOfRange tt) }
-    ensures added { IfOk result (λ all. all ≡ true → rows_seen held.new.items ≡ rows_seen held.old.items ++ filter (holds_on (formula condition.now)) kept.now.content.rows) }
+    ensures added { IfOk result (λ all. all ≡ true → rows_seen held.new.items ≡ rows_seen held.old.items ++ filter
+        (holds_on (formula condition.now)) kept.now.content.rows) }
 {
     let segment = kept.segment()?;
     for row in 0..segment.rows() {

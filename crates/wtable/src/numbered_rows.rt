@@ -1,5 +1,6 @@
 //! The rows that WHERE keeps, with what tells the number among them of each row of the table.
-ghost use Rattle.std.specs.Prelude.{◌≡◌, ◌<◌, ◌^◌, ◌++◌, ◌∷◌, [], if◌then◌else◌, IfOk, List, None, OnOk, Option, Some, filter, length, map, min, nat_lt, slice_index_or};
+ghost use Rattle.std.specs.Prelude.{◌≡◌, ◌<◌, ◌^◌, ◌++◌, ◌∷◌, [], if◌then◌else◌, IfOk, List, None, OnOk};
+ghost use Rattle.std.specs.Prelude.{Option, Some, filter, length, map, min, nat_lt, slice_index_or};
 ghost use Rattle.std.specs.List.{list_any};
 ghost use Rattle.wvalues.specs.Meaning.{meaning};
 ghost use Rattle.wplan.specs.Formula.{Formula, formula};
@@ -10,7 +11,8 @@ ghost use Rattle.wrows.specs.Laid.{rows_seen};
 ghost use Rattle.wrows.specs.Outcomes.{Gives, unless};
 ghost use Rattle.wrows.specs.Plain.{kept_of};
 ghost use Rattle.wset.specs.Running.{live_rows};
-ghost use Rattle.wtable.specs.TableOrders.{AreNumbers, IsNumbered, all_present, left_out, number_among, number_in, number_kept, numbers_kept, presorted_numbers, starts_from};
+ghost use Rattle.wtable.specs.TableOrders.{AreNumbers, IsNumbered, all_present, left_out, number_among, number_in};
+ghost use Rattle.wtable.specs.TableOrders.{number_kept, numbers_kept, presorted_numbers, starts_from};
 ghost use Rattle.wtable.specs.Tables.{rows_of_set};
 
 use crate::kept_rows::{push_rows, push_where};
@@ -55,8 +57,10 @@ fn push_numbered<'a>(
     row: &'a [Value],
 ) -> Result<(), AnswerFault>
     ensures gives { Gives (λ u. u) result (unless (is_out_of_range (formula condition.now) (map meaning row.entry.now)) OutOfRange tt) }
-    ensures added { OnOk result (rows_seen held.new.items ≡ (if holds_on (formula condition.now) (map meaning row.entry.now) then rows_seen held.old.items ++ map meaning row.entry.now ∷ [] else rows_seen held.old.items)) }
-    ensures numbered { OnOk result (numbers.new.items ≡ numbers.old.items ++ numbers_kept (holds_on (formula condition.now)) (length held.old.items) (map meaning row.entry.now ∷ [])) }
+    ensures added { OnOk result (rows_seen held.new.items ≡ (if holds_on (formula condition.now) (map meaning row.entry.now)
+        then rows_seen held.old.items ++ map meaning row.entry.now ∷ [] else rows_seen held.old.items)) }
+    ensures numbered { OnOk result (numbers.new.items ≡ numbers.old.items ++ numbers_kept (holds_on (formula condition.now))
+        (length held.old.items) (map meaning row.entry.now ∷ [])) }
 {
     let before = held.len();
     push_where(held, condition, row)?;
@@ -71,9 +75,12 @@ fn push_rows_numbered<'a>(
     condition: &Expr,
     kept: &'a Kept,
 ) -> Result<(), AnswerFault>
-    ensures gives { Gives (λ u. u) result (unless (list_any (is_out_of_range (formula condition.now)) kept.now.content.rows) OutOfRange tt) }
-    ensures added { OnOk result (rows_seen held.new.items ≡ rows_seen held.old.items ++ filter (holds_on (formula condition.now)) kept.now.content.rows) }
-    ensures numbered { OnOk result (numbers.new.items ≡ numbers.old.items ++ numbers_kept (holds_on (formula condition.now)) (length held.old.items) kept.now.content.rows) }
+    ensures gives { Gives (λ u. u) result (unless (list_any (is_out_of_range (formula condition.now)) kept.now.content.rows)
+        OutOfRange tt) }
+    ensures added { OnOk result (rows_seen held.new.items ≡ rows_seen held.old.items ++ filter
+        (holds_on (formula condition.now)) kept.now.content.rows) }
+    ensures numbered { OnOk result (numbers.new.items ≡ numbers.old.items ++ numbers_kept (holds_on (formula condition.now))
+        (length held.old.items) kept.now.content.rows) }
 {
     let segment = kept.segment()?;
     numbers.reserve(segment.rows())?;

@@ -93,7 +93,8 @@ fn partition_columns(
     partition: &[Expr],
     width: usize,
 ) -> Result<Option<Vec<SortKey>>, AllocError>
-    ensures { IfOk result (λ found. IfSome found (λ keys. AreColumns width (map formula partition.now) (ascending (map formula partition.now)) keys.items)) }
+    ensures { IfOk result (λ found. IfSome found (λ keys. AreColumns width (map formula partition.now)
+        (ascending (map formula partition.now)) keys.items)) }
 {
     let mut keys = Vec::with_capacity(alloc, partition.len())?;
     for value in partition {
@@ -111,7 +112,9 @@ fn key_columns(
     asked_keys: &[ResolvedKey],
     width: usize,
 ) -> Result<Option<Vec<SortKey>>, AllocError>
-    ensures { IfOk result (λ found. IfSome found (λ keys. AreColumns width (map (λ k. k.value) (map key_plan asked_keys.now)) (map (λ k. k.order) (map key_plan asked_keys.now)) keys.items)) }
+    ensures { IfOk result (λ found. IfSome found
+        (λ keys. AreColumns width (map (λ k. k.value) (map key_plan asked_keys.now))
+        (map (λ k. k.order) (map key_plan asked_keys.now)) keys.items)) }
 {
     let mut keys = Vec::with_capacity(alloc, asked_keys.len())?;
     for asked in asked_keys {
@@ -130,7 +133,8 @@ fn window_columns(
     window: &ResolvedWindow,
     width: usize,
 ) -> Result<Option<Vec<SortKey>>, AllocError>
-    ensures { IfOk result (λ found. IfSome found (λ keys. (rows : List Row) → by_window (window_plan window.now) rows ≡ Ok (run_of keys.items rows))) }
+    ensures { IfOk result (λ found. IfSome found (λ keys. (rows : List Row) → by_window (window_plan window.now) rows
+        ≡ Ok (run_of keys.items rows))) }
 {
     let partition = partition_columns(alloc, &window.partition, width)?;
     let Some(mut keys) = partition else {
@@ -239,7 +243,8 @@ fn key_order(
     taken: usize,
     set: &mut SegmentSet,
 ) -> Result<Option<Vec<RowRef>>, AllocError>
-    ensures order { IfOk result (λ found. IfSome found (λ refs. (columns : List (List Meaning)) → IsOrderFor (live_rows set.old) (by_keys (select_plan select.now).keys columns) refs.items)) }
+    ensures order { IfOk result (λ found. IfSome found (λ refs. (columns : List (List Meaning))
+        → IsOrderFor (live_rows set.old) (by_keys (select_plan select.now).keys columns) refs.items)) }
     ensures same { Becomes set.old set.old.view set.new }
 {
     if is_left_out(select, taken) {

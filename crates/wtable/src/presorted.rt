@@ -5,7 +5,8 @@ ghost use Rattle.wplan.specs.Plans.{KeyPlan, window_plan};
 ghost use Rattle.wrows.specs.Columns.{Row};
 ghost use Rattle.wrows.specs.Laid.{rows_seen};
 ghost use Rattle.wcalls.specs.Ordered.{window_numbers};
-ghost use Rattle.wtable.specs.TableOrders.{AreTableOrders, ArePresorted, ArePresortedOf, IsNumbered, IsTableOrder, IsPresortedOf, presorted_numbers};
+ghost use Rattle.wtable.specs.TableOrders.{AreTableOrders, ArePresorted, ArePresortedOf, IsNumbered};
+ghost use Rattle.wtable.specs.TableOrders.{IsTableOrder, IsPresortedOf, presorted_numbers};
 
 use crate::numbered_rows::{NumberedRows, presorted_numbers};
 use crate::orders::{TableOrder, TableOrders};
@@ -51,7 +52,8 @@ fn presorted_window<'a>(
     order: TableOrder<'a>,
     kept: &NumberedRows,
 ) -> Result<PresortedOrder<'a>, AllocError>
-    ensures { (condition : Option Formula) (segments : List (List Row)) → IsNumbered condition segments kept.now → IsTableOrder segments order.entry → IfOk result (IsPresortedOf (rows_seen kept.now.rows.items)) }
+    ensures { (condition : Option Formula) (segments : List (List Row)) → IsNumbered condition segments kept.now
+        → IsTableOrder segments order.entry → IfOk result (IsPresortedOf (rows_seen kept.now.rows.items)) }
 {
     let numbers = presorted_numbers(alloc, &order.rows, kept)?;
     Ok(PresortedOrder {
@@ -66,7 +68,9 @@ fn presorted_windows<'a>(
     orders: Vec<TableOrder<'a>>,
     kept: &NumberedRows,
 ) -> Result<Vec<PresortedOrder<'a>>, AllocError>
-    ensures { (condition : Option Formula) (segments : List (List Row)) → IsNumbered condition segments kept.now → All (IsTableOrder segments) orders.entry.items → IfOk result (λ presorted. ArePresortedOf (rows_seen kept.now.rows.items) presorted.items) }
+    ensures { (condition : Option Formula) (segments : List (List Row)) → IsNumbered condition segments kept.now
+        → All (IsTableOrder segments) orders.entry.items
+        → IfOk result (λ presorted. ArePresortedOf (rows_seen kept.now.rows.items) presorted.items) }
 {
     let mut left = orders;
     let mut presorted = Vec::with_capacity(alloc, left.len())?;
@@ -82,7 +86,8 @@ fn presorted_keys(
     order: &Option<Vec<RowRef>>,
     kept: &NumberedRows,
 ) -> Result<Option<Vec<usize>>, AllocError>
-    ensures { IfOk result (λ found. option_map (λ numbers. numbers.items) found ≡ option_map (λ rows. presorted_numbers kept.now rows.items) order.now) }
+    ensures { IfOk result (λ found. option_map (λ numbers. numbers.items) found
+        ≡ option_map (λ rows. presorted_numbers kept.now rows.items) order.now) }
 {
     match order {
         None => Ok(None),
@@ -100,7 +105,9 @@ pub fn presorted_orders<'a>(
     orders: TableOrders<'a>,
     kept: &NumberedRows,
 ) -> Result<PresortedOrders<'a>, AllocError>
-    ensures { (condition : Option Formula) (segments : List (List Row)) (keys : List KeyPlan) → IsNumbered condition segments kept.now → AreTableOrders segments keys orders.entry → IfOk result (ArePresorted (rows_seen kept.now.rows.items) keys) }
+    ensures { (condition : Option Formula) (segments : List (List Row)) (keys : List KeyPlan)
+        → IsNumbered condition segments kept.now → AreTableOrders segments keys orders.entry
+        → IfOk result (ArePresorted (rows_seen kept.now.rows.items) keys) }
 {
     let TableOrders { windows, keys } = orders;
     let windows = presorted_windows(alloc, windows, kept)?;
@@ -111,7 +118,8 @@ pub fn presorted_orders<'a>(
 // The place of an order that is also that of a window.
 fn place_presorted(presorted: &[PresortedOrder], window: &ResolvedWindow) -> Option<usize>
     ensures place { IfSome result (λ place. place < length presorted.now) }
-    ensures order { (rows : List Row) → ArePresortedOf rows presorted.now → IfSome result (λ place. (d : PresortedOrder) → window_numbers rows (window_plan window.now) ≡ Ok (slice_index_or presorted.now place d).numbers.items) }
+    ensures order { (rows : List Row) → ArePresortedOf rows presorted.now → IfSome result (λ place. (d : PresortedOrder)
+        → window_numbers rows (window_plan window.now) ≡ Ok (slice_index_or presorted.now place d).numbers.items) }
 {
     for (place, order) in presorted.iter().enumerate() {
         if share_order(order.window, window) {
@@ -127,7 +135,8 @@ pub fn take_presorted(
     presorted: &mut Vec<PresortedOrder>,
     window: &ResolvedWindow,
 ) -> Option<Vec<usize>>
-    ensures order { (rows : List Row) → ArePresortedOf rows presorted.old.items → IfSome result (λ numbers. window_numbers rows (window_plan window.now) ≡ Ok numbers.items) }
+    ensures order { (rows : List Row) → ArePresortedOf rows presorted.old.items
+        → IfSome result (λ numbers. window_numbers rows (window_plan window.now) ≡ Ok numbers.items) }
     ensures others { (rows : List Row) → ArePresortedOf rows presorted.old.items → ArePresortedOf rows presorted.new.items }
 {
     match place_presorted(presorted.as_slice(), window) {

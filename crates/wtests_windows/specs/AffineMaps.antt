@@ -37,7 +37,9 @@ pub map_laws : FoldLaws IsMap (1, 0) maps_joined
 map_laws = record {
   neutral_is = (omega arith, omega arith);
   closed = λ m n hm hn. (omega arith, omega arith);
-  left_neutral = λ m hm. let h = hm.0 in let k = hm.1 in same ((1 * m.0) % 2 ^ 64) ((1 * m.1 + 0) % 2 ^ 64) m.0 m.1 (omega arith) (omega arith);
-  right_neutral = λ m hm. let h = hm.0 in let k = hm.1 in same ((m.0 * 1) % 2 ^ 64) ((m.0 * 0 + m.1) % 2 ^ 64) m.0 m.1 (omega arith) (omega arith);
+  left_neutral = λ m hm. let h = hm.0 in let k = hm.1 in same ((1 * m.0) % 2 ^ 64) ((1 * m.1 + 0) % 2 ^ 64) m.0 m.1
+      (omega arith) (omega arith);
+  right_neutral = λ m hm. let h = hm.0 in let k = hm.1 in same ((m.0 * 1) % 2 ^ 64) ((m.0 * 0 + m.1) % 2 ^ 64) m.0 m.1
+      (omega arith) (omega arith);
   assoc = λ m n p hm hn hp. same _ _ _ _ (scales (2 ^ 64) m.0 n.0 p.0) (shifts (2 ^ 64) m.0 n.0 m.1 n.1 p.1);
 }

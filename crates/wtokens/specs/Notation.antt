@@ -56,11 +56,14 @@ pub data Listed {X : Type 0} (P : Row X) : List X → List TokenMeaning → List
 -- {operator row} behind a first operand, joined from the left
 pub data GoesOn (kind : ChainKind) (P : Row Tree) : Tree → Tree → List TokenMeaning → List TokenMeaning → Type 0 where
   ended : {tree : Tree} {rest : List TokenMeaning} → GoesOn kind P tree tree rest rest
-  further : {token : TokenMeaning} {operator : Operator} {first operand tree : Tree} {ts us rest : List TokenMeaning} → operator_of kind token ≡ Some operator → P operand ts us → GoesOn kind P (joined kind first operator operand) tree us rest → GoesOn kind P first tree (token ∷ ts) rest
+  further : {token : TokenMeaning} {operator : Operator} {first operand tree : Tree} {ts us rest : List TokenMeaning}
+      → operator_of kind token ≡ Some operator → P operand ts us → GoesOn kind P (joined kind first operator operand) tree
+      us rest → GoesOn kind P first tree (token ∷ ts) rest
 
 -- row {operator row}
 pub data Chain (kind : ChainKind) (P : Row Tree) : Tree → List TokenMeaning → List TokenMeaning → Type 0 where
-  chaining : {first tree : Tree} {ts us rest : List TokenMeaning} → P first ts us → GoesOn kind P first tree us rest → Chain kind P tree ts rest
+  chaining : {first tree : Tree} {ts us rest : List TokenMeaning} → P first ts us → GoesOn kind P first tree us rest
+      → Chain kind P tree ts rest
 
 -- a row, for something made of what it has read
 abbrev pub As : {X Y : Type 0} → (X → Y) → Row X → Row Y

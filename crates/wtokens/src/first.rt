@@ -3,7 +3,8 @@
 ghost use Rattle.std.specs.Prelude.{◌≡◌, ◌≢◌, true, false, [], ◌∷◌, MatchOption};
 ghost use Rattle.std.specs.Rc.{rc_str_bytes};
 ghost use Rattle.wlexer.specs.Token.{lexeme_meaning, KeywordToken, SymbolToken};
-ghost use Rattle.wtokens.specs.Words.{CommaSign, name_of, number_of, text_of, operator_of, comparison_of, sign_of, direction_of, null_order_of, mode_of};
+ghost use Rattle.wtokens.specs.Words.{CommaSign, name_of, number_of, text_of, operator_of, comparison_of};
+ghost use Rattle.wtokens.specs.Words.{sign_of, direction_of, null_order_of, mode_of};
 ghost use Rattle.wtokens.specs.Notation.{Tokens, meanings, One, Never};
 
 use std::rc::RcStr;
@@ -20,7 +21,8 @@ fn front(tokens: &[Token]) -> Option<(&Lexeme, &[Token])>
 
 /// What follows this keyword, where it comes first.
 pub fn keyword(tokens: &[Token], wanted: Keyword) -> Option<&[Token]>
-    ensures { MatchOption result ((ts : Tokens) → meanings tokens.now ≢ KeywordToken wanted ∷ ts) (λ x. meanings tokens.now ≡ KeywordToken wanted ∷ meanings x.now) }
+    ensures { MatchOption result ((ts : Tokens) → meanings tokens.now ≢ KeywordToken wanted ∷ ts) (λ x. meanings tokens.now
+        ≡ KeywordToken wanted ∷ meanings x.now) }
 {
     let (lexeme, rest) = front(tokens)?;
     if is_keyword(lexeme, wanted) {
@@ -32,7 +34,8 @@ pub fn keyword(tokens: &[Token], wanted: Keyword) -> Option<&[Token]>
 
 /// What follows these two keywords, where they come first.
 pub fn keyword_pair(tokens: &[Token], one: Keyword, other: Keyword) -> Option<&[Token]>
-    ensures { MatchOption result ((ts : Tokens) → meanings tokens.now ≢ KeywordToken one ∷ KeywordToken other ∷ ts) (λ x. meanings tokens.now ≡ KeywordToken one ∷ KeywordToken other ∷ meanings x.now) }
+    ensures { MatchOption result ((ts : Tokens) → meanings tokens.now ≢ KeywordToken one ∷ KeywordToken other ∷ ts)
+        (λ x. meanings tokens.now ≡ KeywordToken one ∷ KeywordToken other ∷ meanings x.now) }
 {
     let after = keyword(tokens, one)?;
     keyword(after, other)
@@ -50,7 +53,8 @@ fn is_keyword(lexeme: &Lexeme, wanted: Keyword) -> bool
 
 /// What follows this symbol, where it comes first.
 pub fn symbol(tokens: &[Token], wanted: Symbol) -> Option<&[Token]>
-    ensures { MatchOption result ((ts : Tokens) → meanings tokens.now ≢ SymbolToken wanted ∷ ts) (λ x. meanings tokens.now ≡ SymbolToken wanted ∷ meanings x.now) }
+    ensures { MatchOption result ((ts : Tokens) → meanings tokens.now ≢ SymbolToken wanted ∷ ts) (λ x. meanings tokens.now
+        ≡ SymbolToken wanted ∷ meanings x.now) }
 {
     let (lexeme, rest) = front(tokens)?;
     if is_symbol(lexeme, wanted) {
@@ -62,7 +66,8 @@ pub fn symbol(tokens: &[Token], wanted: Symbol) -> Option<&[Token]>
 
 /// What follows a comma, where one comes first.
 pub fn behind_comma(tokens: &[Token]) -> Option<&[Token]>
-    ensures { MatchOption result ((ts : Tokens) → meanings tokens.now ≢ CommaSign ∷ ts) (λ x. meanings tokens.now ≡ CommaSign ∷ meanings x.now) }
+    ensures { MatchOption result ((ts : Tokens) → meanings tokens.now ≢ CommaSign ∷ ts) (λ x. meanings tokens.now
+        ≡ CommaSign ∷ meanings x.now) }
 {
     symbol(tokens, Symbol::Comma)
 }
@@ -79,7 +84,8 @@ fn is_symbol(lexeme: &Lexeme, wanted: Symbol) -> bool
 
 /// A name, where one comes first, and what follows it.
 pub fn name(tokens: &[Token]) -> Option<(&RcStr, &[Token])>
-    ensures { MatchOption result (Never (One name_of) (meanings tokens.now)) (λ x. One name_of (rc_str_bytes x.0.now) (meanings tokens.now) (meanings x.1.now)) }
+    ensures { MatchOption result (Never (One name_of) (meanings tokens.now)) (λ x. One name_of (rc_str_bytes x.0.now)
+        (meanings tokens.now) (meanings x.1.now)) }
 {
     let (lexeme, rest) = front(tokens)?;
     match lexeme {
@@ -90,7 +96,8 @@ pub fn name(tokens: &[Token]) -> Option<(&RcStr, &[Token])>
 
 /// A text, where one comes first, and what follows it.
 pub fn text(tokens: &[Token]) -> Option<(&RcStr, &[Token])>
-    ensures { MatchOption result (Never (One text_of) (meanings tokens.now)) (λ x. One text_of (rc_str_bytes x.0.now) (meanings tokens.now) (meanings x.1.now)) }
+    ensures { MatchOption result (Never (One text_of) (meanings tokens.now)) (λ x. One text_of (rc_str_bytes x.0.now)
+        (meanings tokens.now) (meanings x.1.now)) }
 {
     let (lexeme, rest) = front(tokens)?;
     match lexeme {
@@ -101,7 +108,8 @@ pub fn text(tokens: &[Token]) -> Option<(&RcStr, &[Token])>
 
 /// A number, where one comes first, and what follows it.
 pub fn number(tokens: &[Token]) -> Option<(&Number, &[Token])>
-    ensures { MatchOption result (Never (One number_of) (meanings tokens.now)) (λ x. One number_of (x.0.now) (meanings tokens.now) (meanings x.1.now)) }
+    ensures { MatchOption result (Never (One number_of) (meanings tokens.now))
+        (λ x. One number_of (x.0.now) (meanings tokens.now) (meanings x.1.now)) }
 {
     let (lexeme, rest) = front(tokens)?;
     match lexeme {
@@ -131,7 +139,8 @@ fn operator_of(kind: ChainKind, lexeme: &Lexeme) -> Option<Operator>
 
 /// The operator of a chain, where one comes first, and what follows it.
 pub fn operator(kind: ChainKind, tokens: &[Token]) -> Option<(Operator, &[Token])>
-    ensures { MatchOption result (Never (One (operator_of kind)) (meanings tokens.now)) (λ x. One (operator_of kind) (x.0) (meanings tokens.now) (meanings x.1.now)) }
+    ensures { MatchOption result (Never (One (operator_of kind)) (meanings tokens.now))
+        (λ x. One (operator_of kind) (x.0) (meanings tokens.now) (meanings x.1.now)) }
 {
     let (lexeme, rest) = front(tokens)?;
     let operator = operator_of(kind, lexeme)?;
@@ -157,7 +166,8 @@ fn comparison_of(lexeme: &Lexeme) -> Option<Comparison>
 
 /// The operator of a comparison, where one comes first, and what follows it.
 pub fn comparison_operator(tokens: &[Token]) -> Option<(Comparison, &[Token])>
-    ensures { MatchOption result (Never (One comparison_of) (meanings tokens.now)) (λ x. One comparison_of (x.0) (meanings tokens.now) (meanings x.1.now)) }
+    ensures { MatchOption result (Never (One comparison_of) (meanings tokens.now))
+        (λ x. One comparison_of (x.0) (meanings tokens.now) (meanings x.1.now)) }
 {
     let (lexeme, rest) = front(tokens)?;
     let comparison = comparison_of(lexeme)?;
@@ -176,7 +186,8 @@ fn sign_of(lexeme: &Lexeme) -> Option<bool>
 
 /// Whether a leading sign is a minus, where one comes first, and what follows it.
 pub fn leading_sign(tokens: &[Token]) -> Option<(bool, &[Token])>
-    ensures { MatchOption result (Never (One sign_of) (meanings tokens.now)) (λ x. One sign_of (x.0) (meanings tokens.now) (meanings x.1.now)) }
+    ensures { MatchOption result (Never (One sign_of) (meanings tokens.now)) (λ x. One sign_of (x.0) (meanings tokens.now)
+        (meanings x.1.now)) }
 {
     let (lexeme, rest) = front(tokens)?;
     let minus = sign_of(lexeme)?;
@@ -195,7 +206,8 @@ fn direction_of(lexeme: &Lexeme) -> Option<bool>
 
 /// Whether a direction descends, where one comes first, and what follows it.
 pub fn direction(tokens: &[Token]) -> Option<(bool, &[Token])>
-    ensures { MatchOption result (Never (One direction_of) (meanings tokens.now)) (λ x. One direction_of (x.0) (meanings tokens.now) (meanings x.1.now)) }
+    ensures { MatchOption result (Never (One direction_of) (meanings tokens.now))
+        (λ x. One direction_of (x.0) (meanings tokens.now) (meanings x.1.now)) }
 {
     let (lexeme, rest) = front(tokens)?;
     let descends = direction_of(lexeme)?;
@@ -214,7 +226,8 @@ fn null_order_of(lexeme: &Lexeme) -> Option<NullOrder>
 
 /// A place of nulls, where one comes first, and what follows it.
 pub fn null_order(tokens: &[Token]) -> Option<(NullOrder, &[Token])>
-    ensures { MatchOption result (Never (One null_order_of) (meanings tokens.now)) (λ x. One null_order_of (x.0) (meanings tokens.now) (meanings x.1.now)) }
+    ensures { MatchOption result (Never (One null_order_of) (meanings tokens.now))
+        (λ x. One null_order_of (x.0) (meanings tokens.now) (meanings x.1.now)) }
 {
     let (lexeme, rest) = front(tokens)?;
     let nulls = null_order_of(lexeme)?;
@@ -234,7 +247,8 @@ fn mode_of(lexeme: &Lexeme) -> Option<FrameMode>
 
 /// A frame's mode, where one comes first, and what follows it.
 pub fn mode(tokens: &[Token]) -> Option<(FrameMode, &[Token])>
-    ensures { MatchOption result (Never (One mode_of) (meanings tokens.now)) (λ x. One mode_of (x.0) (meanings tokens.now) (meanings x.1.now)) }
+    ensures { MatchOption result (Never (One mode_of) (meanings tokens.now)) (λ x. One mode_of (x.0) (meanings tokens.now)
+        (meanings x.1.now)) }
 {
     let (lexeme, rest) = front(tokens)?;
     let mode = mode_of(lexeme)?;

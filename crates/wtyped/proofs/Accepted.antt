@@ -38,10 +38,12 @@ plan_typed cs c b k e v =
     let p = plan_of cs c b in let gs = group_cells cs c b in let ts = all_cells cs c b in let l = row_of cs c b in
     let s = rows.shown cs c b k e in
     let shown = shown_items cs c b k e v s in
-    ap₂ (λ (x : Bool) (y : Option (List DataType)). unless_ill x (shown_types p y)) (selects.condition_typed (source_row cs) (types_of cs) c.condition (rows.fit_condition cs c k) k.condition) (selects.row_typed cs c b k e)
+    ap₂ (λ (x : Bool) (y : Option (List DataType)). unless_ill x (shown_types p y)) (selects.condition_typed (source_row cs)
+    (types_of cs) c.condition (rows.fit_condition cs c k) k.condition) (selects.row_typed cs c b k e)
     ∙ ap₂ (λ (x : Bool) (y : Option (List DataType)). unless_ill x (answer_types p (with_types (Some gs) y)))
     (and_from _ _ (selects.having_typed cs c b k s) (selects.windows_typed cs c b k s)) (selects.over_typed cs c b s)
-    ∙ ap₂ (λ (x : Bool) (y : Option (List DataType)). unless_ill x y) (keys_typed l ts c.items c.order shown (rows.fit_order cs c b s) k.order) (answer_typed l ts (written_out cs c.items) shown)
+    ∙ ap₂ (λ (x : Bool) (y : Option (List DataType)). unless_ill x y) (keys_typed l ts c.items c.order shown
+    (rows.fit_order cs c b s) k.order) (answer_typed l ts (written_out cs c.items) shown)
 
 select_values : (cs : List Titled) (c : Clauses) (b : Bool) → rules.Kept cs c → made.is_grouped c (group_calls c) ≡ b → AreValues cs
     → AreValues (answered cs c.items)
@@ -83,7 +85,9 @@ with_select : (d : Declaration) (c : Clauses) (s : SourceTree)
     → IsSourceTyped d s → IsTyped d (Selected c s)
 with_select d c s shaped e a =
     let cs = (origin_of d s).columns in let k = kept_select d c s shaped e in (
-      behind (table_types d) (resolved_source d s) (select_made cs c) ∙ ap (λ (x : Option (List DataType)). next_types x (select_made cs c)) a.0 ∙ plan_typed cs c (made.is_grouped c (group_calls c)) k refl a.1,
+      behind (table_types d) (resolved_source d s) (select_made cs c)
+          ∙ ap (λ (x : Option (List DataType)). next_types x (select_made cs c)) a.0
+          ∙ plan_typed cs c (made.is_grouped c (group_calls c)) k refl a.1,
       select_values cs c (made.is_grouped c (group_calls c)) k refl a.1,
     )
 

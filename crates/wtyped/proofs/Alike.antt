@@ -1,5 +1,6 @@
 -- Expressions that are one have one type, and each call of a SELECT has its place among those that are listed.
-use Rattle.std.proofs.Common.{◌≡◌, Bool, true, false, ◌&&◌, ◌||◌, ℕ, zero, suc, ◌+◌, List, [], ◌∷◌, ◌++◌, length, map, Some, refl, sym, ap, ap₂, ◌∙◌, true≢false, arith}
+use Rattle.std.proofs.Common.{◌≡◌, Bool, true, false, ◌&&◌, ◌||◌, ℕ, zero, suc, ◌+◌, List, [], ◌∷◌}
+use Rattle.std.proofs.Common.{◌++◌, length, map, Some, refl, sym, ap, ap₂, ◌∙◌, true≢false, arith}
 use Rattle.std.specs.Prelude.{if◌then◌else◌}
 use Rattle.std.specs.List.{list_all, list_any}
 use Rattle.std.proofs.lemmas.Bool.{and_parts, or_left, or_right}
@@ -77,17 +78,20 @@ all_listed found (t ∷ ts) =
   where
     here : (b : Bool) → is_listed found t ≡ b → is_listed (with_new (if is_listed found t then found else found ++ (t ∷ [])) ts) t ≡ true
     here true e =
-        still (if is_listed found t then found else found ++ (t ∷ [])) ts t (ap (λ (b : Bool). is_listed (if b then found else found ++ (t ∷ [])) t) e ∙ e)
+        still (if is_listed found t then found else found ++ (t ∷ [])) ts t
+        (ap (λ (b : Bool). is_listed (if b then found else found ++ (t ∷ [])) t) e ∙ e)
     here false e =
         still (if is_listed found t then found else found ++ (t ∷ [])) ts t
-        (ap (λ (b : Bool). is_listed (if b then found else found ++ (t ∷ [])) t) e ∙ list_any-append (λ (x : Tree). is_same x t) found (t ∷ []) ∙ or_right _ _ (or_left _ _ (same_equiv.refl t)))
+        (ap (λ (b : Bool). is_listed (if b then found else found ++ (t ∷ [])) t) e
+        ∙ list_any-append (λ (x : Tree). is_same x t) found (t ∷ []) ∙ or_right _ _ (or_left _ _ (same_equiv.refl t)))
 
 -- what holds of all that is listed holds of each once
 pub each_once : (p : Tree → Bool) (found ts : List Tree) → list_all p found ≡ true → list_all p ts ≡ true
     → list_all p (with_new found ts) ≡ true
 each_once p found [] a b = a
 each_once p found (t ∷ ts) a b =
-    let parts = and_parts _ _ b in each_once p (if is_listed found t then found else found ++ (t ∷ [])) ts (more (is_listed found t) parts.0) parts.1
+    let parts = and_parts _ _ b in each_once p (if is_listed found t then found else found ++ (t ∷ [])) ts
+    (more (is_listed found t) parts.0) parts.1
   where
     more : (known : Bool) → p t ≡ true → list_all p (if known then found else found ++ (t ∷ [])) ≡ true
     more true e = a

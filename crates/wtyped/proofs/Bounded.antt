@@ -1,5 +1,6 @@
 -- What an accepted query asks for is within the limits.
-use Rattle.std.proofs.Common.{◌≡◌, Bool, true, false, not, ◌||◌, ℕ, suc, ◌+◌, ◌*◌, ◌^◌, ◌≤◌, nat_lt, nat_le, List, [], ◌∷◌, ◌++◌, length, map, None, refl, ap, ap₂, ◌∙◌, length-append, arith}
+use Rattle.std.proofs.Common.{◌≡◌, Bool, true, false, not, ◌||◌, ℕ, suc, ◌+◌, ◌*◌, ◌^◌, ◌≤◌, nat_lt, nat_le, List}
+use Rattle.std.proofs.Common.{[], ◌∷◌, ◌++◌, length, map, None, refl, ap, ap₂, ◌∙◌, length-append, arith}
 use Rattle.std.specs.Prelude.{if◌then◌else◌}
 use Rattle.std.specs.List.{list_all, list_any}
 use Rattle.std.proofs.lemmas.Bool.{or_parts, and_parts, and_from, not-true, le-leb, ltb-false}
@@ -7,8 +8,10 @@ use Rattle.std.proofs.lemmas.List.{length-map}
 use Rattle.std.proofs.lemmas.List.Folds.{list_all-append}
 use Rattle.wsegment.specs.Declaration.{Declaration}
 use Rattle.wquery.specs.GroupElements.{Element, Entry, OneSet, Rollup, Cube}
-use Rattle.wquery.specs.QueryTree.{Clauses, QueryTree, Selected, SourceTree, FromTable, FromQuery, ItemTree, AllColumns, Computed, EntryTree}
-use Rattle.wquery.specs.Tree.{Tree, Invoked, Trees, NoTrees, MoreTrees, Reach, ItsGroup, ThatWindow, OwnWindow, Keys, NoKeys, MoreKeys, KeyTree, keys, trees}
+use Rattle.wquery.specs.QueryTree.{Clauses, QueryTree, Selected, SourceTree, FromTable, FromQuery}
+use Rattle.wquery.specs.QueryTree.{ItemTree, AllColumns, Computed, EntryTree}
+use Rattle.wquery.specs.Tree.{Tree, Invoked, Trees, NoTrees, MoreTrees, Reach, ItsGroup, ThatWindow}
+use Rattle.wquery.specs.Tree.{OwnWindow, Keys, NoKeys, MoreKeys, KeyTree, keys, trees}
 use Rattle.wscope.specs.Finding.{count_keys, count_trees, finds}
 use Rattle.wscope.specs.Scope.{some_anywhere}
 use Rattle.wscope.specs.Seeking.{found_below}
@@ -16,21 +19,26 @@ use Rattle.wscope.specs.Sources.{origin_of, written_out}
 use Rattle.wscope.specs.Types.{Titled}
 use Rattle.wscope.specs.Windows.{NamedWindow, Expanded, expand, expand_all, expand_tree}
 use Rattle.wscope.proofs.Related.{Relates, related}
-use Rattle.wwindows.specs.Limits.{breaks_limits, count_over, count_windows, counting, has_long_list, is_long_entry, over_items, over_order, with_own}
+use Rattle.wwindows.specs.Limits.{breaks_limits, count_over, count_windows, counting, has_long_list}
+use Rattle.wwindows.specs.Limits.{is_long_entry, over_items, over_order, with_own}
 use Rattle.wwindows.specs.Order.{count_items}
 use Rattle.wwindows.specs.Windows.{reach_is, windows_of}
 use Rattle.wrules.specs.declared.rule.Rule.TheVariants.{OverLimit, TooManySets}
 use Rattle.wrules.specs.Rules.{depth, depth_rule, judged, least, least_source, or_else, sets_rule, source_depth}
 use Rattle.wgroupby.specs.Laws.{CountsSets}
-use Rattle.wgroupby.specs.Rules.{are_parts_long, breaks_lists, breaks_sets, element_by, elements_by, entry_by, is_element_long, is_entry_long, is_long}
+use Rattle.wgroupby.specs.Rules.{are_parts_long, breaks_lists, breaks_sets, element_by, elements_by}
+use Rattle.wgroupby.specs.Rules.{entry_by, is_element_long, is_entry_long, is_long}
 use Rattle.wgroupby.specs.Sets.{element_count, entry_count, query_sets, sets_count}
 use Rattle.wdistinct.specs.declared.distinct_calls.CallKind.TheVariants.{Windowed}
-use Rattle.wdistinct.specs.Calls.{group_calls, is_call_of, node_or, nodes_below, nodes_in, nodes_in_items, nodes_in_order, picking, window_calls, with_new}
+use Rattle.wdistinct.specs.Calls.{group_calls, is_call_of, node_or, nodes_below, nodes_in, nodes_in_items}
+use Rattle.wdistinct.specs.Calls.{nodes_in_order, picking, window_calls, with_new}
 use Rattle.wbinding.specs.Groups.{column_place, elements_made}
 use Rattle.wbinding.specs.Resolving.{Layout}
 use Rattle.wresolve.specs.Selecting as made
-use Rattle.wresolve.specs.Selecting.{entries_made, keys_made, order_made, output_made, own_windows, resolved_query, resolved_source, select_made, select_over, trees_made, window_made, window_of_reach, windows_made}
-use Rattle.wtyped.specs.Bounded.{AcceptedIsBounded, has_few_entries, has_few_sets, has_short_entries, has_short_grouping, has_short_lists, has_short_parts, is_bounded, is_short, is_short_query, is_short_source}
+use Rattle.wresolve.specs.Selecting.{entries_made, keys_made, order_made, output_made, own_windows, resolved_query, resolved_source}
+use Rattle.wresolve.specs.Selecting.{select_made, select_over, trees_made, window_made, window_of_reach, windows_made}
+use Rattle.wtyped.specs.Bounded.{AcceptedIsBounded, has_few_entries, has_few_sets, has_short_entries, has_short_grouping}
+use Rattle.wtyped.specs.Bounded.{has_short_lists, has_short_parts, is_bounded, is_short, is_short_query, is_short_source}
 use Rattle.wtyped.proofs.Alike.{is_listed}
 use Rattle.wtyped.proofs.Rows as rows
 use Rattle.wtyped.proofs.Rows.{row_of}
@@ -65,7 +73,8 @@ sets_few : CountsSets ℕ → (cs : List Titled) (c : Clauses) (b : Bool) → br
     → has_few_sets (made.grouping_over cs (elements_made cs c.grouping) (group_calls c) (row_of cs c b) c (row_of cs c b).grouping) ≡ true
 sets_few count cs c false e = refl
 sets_few count cs c true e =
-    few_of 64 (length (query_sets (elements_made cs c.grouping))) (sets_count c.grouping) (count (elements_made cs c.grouping) ∙ sets_same (column_place cs) c.grouping) e
+    few_of 64 (length (query_sets (elements_made cs c.grouping))) (sets_count c.grouping)
+    (count (elements_made cs c.grouping) ∙ sets_same (column_place cs) c.grouping) e
 
 -- the lists of GROUP BY
 
@@ -134,7 +143,8 @@ entries_few es e = all_made FewParts FewKeys (refl, refl) (λ xs. list_any is_lo
 
 window_few : (l : Layout) (w : Expanded) → IsFew w → has_few_entries (window_made l w) ≡ true
 window_few l w a =
-    and_from _ _ (few_of 16 (length (trees_made l w.partition)) (count_trees w.partition) (trees_length l w.partition) a.0) (few_of 16 (length (keys_made l w.order)) (count_keys w.order) (keys_length l w.order) a.1)
+    and_from _ _ (few_of 16 (length (trees_made l w.partition)) (count_trees w.partition) (trees_length l w.partition) a.0)
+    (few_of 16 (length (keys_made l w.order)) (count_keys w.order) (keys_length l w.order) a.1)
 
 named_windows : (l : Layout) (ws : List NamedWindow) → AreFew ws → list_all has_few_entries (entries_made l ws) ≡ true
 named_windows l [] a = refl
@@ -206,7 +216,8 @@ below_within : (t : Tree) (n below : ℕ) → n ≤ below → n ≤ with_own t b
 below_within (Invoked name given filter reach) n below e = omega (arith, e)
 below_within t n below e = e
 
-at_node : (t : Tree) (below : ℕ) → owns (nodes_below (is_call_of Windowed) t) ≤ below → owns (nodes_in (is_call_of Windowed) t) ≤ with_own t below
+at_node : (t : Tree) (below : ℕ) → owns (nodes_below (is_call_of Windowed) t) ≤ below
+    → owns (nodes_in (is_call_of Windowed) t) ≤ with_own t below
 at_node t below rest = go (is_call_of Windowed t)
   where
     go : (b : Bool) → owns (node_or b t (nodes_below (is_call_of Windowed) t)) ≤ with_own t below
@@ -214,7 +225,12 @@ at_node t below rest = go (is_call_of Windowed t)
     go false = below_within t (owns (nodes_below (is_call_of Windowed) t)) below rest
 
 owned : Relates (λ xs m n. owns xs ≤ m) (picking (is_call_of Windowed)) counting counting
-owned = record { none = omega arith; both = λ xs ys m n k l a b. both xs ys m n a b; at = λ t rest. at_node t (found_below counting t) rest }
+owned = record {
+  none = omega arith;
+  both = λ xs ys m n k l a b. both xs ys m n a b;
+  at =
+      λ t rest. at_node t (found_below counting t) rest;
+}
 
 in_tree : (t : Tree) → owns (nodes_in (is_call_of Windowed) t) ≤ count_over t
 in_tree t = related _ (picking (is_call_of Windowed)) counting counting owned t
@@ -223,17 +239,20 @@ in_items : (is : List ItemTree) → owns (nodes_in_items (is_call_of Windowed) i
 in_items [] = omega arith
 in_items (AllColumns ∷ is) = in_items is
 in_items (Computed t alias ∷ is) =
-    both (nodes_in (is_call_of Windowed) t) (nodes_in_items (is_call_of Windowed) is) (count_over t) (over_items is) (in_tree t) (in_items is)
+    both (nodes_in (is_call_of Windowed) t) (nodes_in_items (is_call_of Windowed) is) (count_over t) (over_items is)
+    (in_tree t) (in_items is)
 
 in_order : (ks : List KeyTree) → owns (nodes_in_order (is_call_of Windowed) ks) ≤ over_order ks
 in_order [] = omega arith
 in_order (k ∷ ks) =
-    both (nodes_in (is_call_of Windowed) k.expression) (nodes_in_order (is_call_of Windowed) ks) (count_over k.expression) (over_order ks) (in_tree k.expression) (in_order ks)
+    both (nodes_in (is_call_of Windowed) k.expression) (nodes_in_order (is_call_of Windowed) ks) (count_over k.expression)
+    (over_order ks) (in_tree k.expression) (in_order ks)
 
 each_once : (found ts : List Tree) → owns (with_new found ts) ≤ owns found + owns ts
 each_once found [] = omega arith
 each_once found (t ∷ ts) =
-    let rest = each_once (if is_listed found t then found else found ++ (t ∷ [])) ts in let here = go (is_listed found t) in omega (arith, rest, here)
+    let rest = each_once (if is_listed found t then found else found ++ (t ∷ [])) ts in let here = go (is_listed found t) in
+    omega (arith, rest, here)
   where
     go : (b : Bool) → owns (if b then found else found ++ (t ∷ [])) ≤ owns found + own_count t
     go true = omega arith
@@ -256,9 +275,13 @@ windows_few l c e =
 
 -- what the limits say
 limits : (cs : List Titled) (c : Clauses) → breaks_limits cs c ≡ false
-    → AreFalse (nat_lt 64 (count_items cs c.items)) (nat_lt 32 (count_windows c) ∷ (breaks_lists c.grouping || nat_lt 16 (length c.order)) ∷ list_any is_long_entry c.windows ∷ some_anywhere cs c (finds (reach_is has_long_list)) ∷ [])
+    → AreFalse (nat_lt 64 (count_items cs c.items))
+    (nat_lt 32 (count_windows c) ∷ (breaks_lists c.grouping || nat_lt 16 (length c.order)) ∷ list_any is_long_entry
+    c.windows ∷ some_anywhere cs c (finds (reach_is has_long_list)) ∷ [])
 limits cs c e =
-    are_false (nat_lt 64 (count_items cs c.items)) (nat_lt 32 (count_windows c) ∷ (breaks_lists c.grouping || nat_lt 16 (length c.order)) ∷ list_any is_long_entry c.windows ∷ some_anywhere cs c (finds (reach_is has_long_list)) ∷ []) e
+    are_false (nat_lt 64 (count_items cs c.items))
+    (nat_lt 32 (count_windows c) ∷ (breaks_lists c.grouping || nat_lt 16 (length c.order)) ∷ list_any is_long_entry
+    c.windows ∷ some_anywhere cs c (finds (reach_is has_long_list)) ∷ []) e
 
 -- one SELECT
 
@@ -269,14 +292,21 @@ select_few count cs c b e f =
     let i = limits cs c e in let n = i.1.1.1 in
     let o = or_parts _ _ i.1.1.0 in
     let ws = windows_of c in let a = entries_few c.windows n.0 in
-    are_true (nat_le (length p.items) 64) (nat_le (length p.windows) 32 ∷ list_all has_few_entries p.windows ∷ nat_le (length p.keys) 16 ∷ has_few_sets p.grouping ∷ []) (
-      few_of 64 (length p.items) (count_items cs c.items) (length-map (written_out cs c.items) (output_made l) ∙ items_length cs c.items) i.0,
+    are_true (nat_le (length p.items) 64) (nat_le (length p.windows) 32 ∷ list_all has_few_entries p.windows ∷ nat_le
+    (length p.keys) 16 ∷ has_few_sets p.grouping ∷ []) (
+      few_of 64 (length p.items) (count_items cs c.items) (length-map (written_out cs c.items) (output_made l)
+          ∙ items_length cs c.items) i.0,
       (
         windows_few l c i.1.0,
         (
           list_all-append has_few_entries (entries_made l ws) (own_windows l ws (window_calls c))
-              ∙ and_from _ _ (named_windows l ws a) (owns_few l ws (window_calls c) a (rows.windows_without cs c (reach_is has_long_list) (nowhere cs c (finds (reach_is has_long_list)) n.1))),
-          (few_of 16 (length p.keys) (length c.order) (length-map c.order (order_made l (written_out cs c.items))) o.1, sets_few count cs c b f),
+              ∙ and_from _ _ (named_windows l ws a)
+              (owns_few l ws (window_calls c) a (rows.windows_without cs c (reach_is has_long_list)
+              (nowhere cs c (finds (reach_is has_long_list)) n.1))),
+          (
+            few_of 16 (length p.keys) (length c.order) (length-map c.order (order_made l (written_out cs c.items))) o.1,
+            sets_few count cs c b f,
+          ),
         ),
       ),
     )
@@ -288,7 +318,8 @@ no_limit_broken d c s e = let o = origin_of d s in (rules_kept d.table o.alias o
 one_select : CountsSets ℕ → (d : Declaration) (c : Clauses) (s : SourceTree) → judged d.table (origin_of d s) c s ≡ None
     → sets_rule (Selected c s) ≡ None → is_bounded (select_made (origin_of d s).columns c) ≡ true
 one_select count d c s e f =
-    select_few count (origin_of d s).columns c (made.is_grouped c (group_calls c)) (no_limit_broken d c s e) (not_broken TooManySets (breaks_sets c.grouping) f)
+    select_few count (origin_of d s).columns c (made.is_grouped c (group_calls c)) (no_limit_broken d c s e)
+    (not_broken TooManySets (breaks_sets c.grouping) f)
 
 no_long_list : (cs : List Titled) (c : Clauses) → breaks_limits cs c ≡ false → breaks_lists c.grouping ≡ false
 no_long_list cs c e = (or_parts _ _ (limits cs c e).1.1.0).0

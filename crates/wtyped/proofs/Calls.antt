@@ -1,11 +1,13 @@
 -- Calls that no rule refuses have the types that their names and arguments say.
-use Rattle.std.proofs.Common.{◌≡◌, Bool, true, false, not, ◌||◌, ℕ, zero, suc, pos, neg_ℤ, ◌^◌, nat_lt, List, [], ◌∷◌, codes, Option, Some, None, refl, sym, ap, ap₂, ◌∙◌, true≢false}
+use Rattle.std.proofs.Common.{◌≡◌, Bool, true, false, not, ◌||◌, ℕ, zero, suc, pos, neg_ℤ, ◌^◌, nat_lt, List}
+use Rattle.std.proofs.Common.{[], ◌∷◌, codes, Option, Some, None, refl, sym, ap, ap₂, ◌∙◌, true≢false}
 use Rattle.std.specs.Prelude.{if◌then◌else◌}
 use Rattle.std.specs.List.{list_all, list_any}
 use Rattle.std.specs.Str.{bytes_eq}
 use Rattle.std.specs.Cmp.Lexicographic.{bytes_decides}
 use Rattle.std.proofs.lemmas.Bool.{or_parts, and_parts, and_from, not-true, not-false}
-use Rattle.wquery.specs.Tree.{Tree, NullWord, Numeral, Quoted, Field, Invoked, Signed, Trees, NoTrees, MoreTrees, Given, Everything, These, Columns, Filter, Unfiltered, FilteredBy, Reach, ItsGroup, ThatWindow, OwnWindow}
+use Rattle.wquery.specs.Tree.{Tree, NullWord, Numeral, Quoted, Field, Invoked, Signed, Trees, NoTrees, MoreTrees, Given, Everything}
+use Rattle.wquery.specs.Tree.{These, Columns, Filter, Unfiltered, FilteredBy, Reach, ItsGroup, ThatWindow, OwnWindow}
 use Rattle.wquery.specs.GroupElements.{all_columns}
 use Rattle.wquery.specs.QueryTree.{Clauses}
 use Rattle.wvalues.specs.Meaning as meanings
@@ -105,7 +107,8 @@ fits l ts name given filter reach well fit below =
     let u = or_parts _ _ fit in
     let t = and_parts _ _ (not-false _ u.0) in
     let o = and_parts _ _ t.1 in
-    let b = are_false (some_given (sees_misfit l ts) given) (some_filter (sees_misfit l ts) filter ∷ some_reach (sees_misfit l ts) reach ∷ []) below in
+    let b = are_false (some_given (sees_misfit l ts) given) (some_filter (sees_misfit l ts) filter ∷ some_reach
+    (sees_misfit l ts) reach ∷ []) below in
     record {
       given_well = well;
       given_typed = t.0;
@@ -166,7 +169,8 @@ grouping_name name e = ap function_of ((bytes_decides name (codes "grouping")).0
 pub group_call : (cs : List Titled) (c : Clauses) (places : List ℕ) (name : List ℕ) (given : Given) (filter : Filter) (reach : Reach)
     (ts : List DataType) → Fits (source_row cs) ts name given filter reach → is_group_call (Invoked name given filter reach) ≡ true
     → ((us : Trees) → given ≡ Columns us → list_all (λ p. is_among p places) (column_places cs us) ≡ true)
-    → group_call_type ts places (group_call_made (source_row cs) (Invoked name given filter reach)) ≡ Some (type_of cs (Invoked name given filter reach))
+    → group_call_type ts places (group_call_made (source_row cs) (Invoked name given filter reach))
+    ≡ Some (type_of cs (Invoked name given filter reach))
 group_call cs c places name (Columns us) filter ItsGroup ts f g named =
     ap (λ (b : Bool). where_holds b Integer) (named us refl)
     ∙ ap (λ (x : Option Function). Some (call_type x Null Null)) (sym (grouping_name name (and_parts _ _ f.shaped).0))
@@ -229,7 +233,9 @@ neighbor l ts us e w s =
     let p = and_parts _ _ w in
     let literal = and_parts _ _ p.1 in
     let d = and_parts _ _ s in
-    ap₂ (λ (x : Option DataType) (y : DataType). beside x (Some y)) (tree_typed l ts 0 us e) (default_typed l ts 2 us literal.1 e) ∙ either_type (type_at l.columns 0 us) (type_at l.columns 2 us) (fit_default l.columns us d.1 d.0)
+    ap₂ (λ (x : Option DataType) (y : DataType). beside x (Some y)) (tree_typed l ts 0 us e)
+    (default_typed l ts 2 us literal.1 e) ∙ either_type (type_at l.columns 0 us) (type_at l.columns 2 us)
+    (fit_default l.columns us d.1 d.0)
 
 pub function_typed : (l : Layout) (ts : List DataType) (f : Option Function) (given : Given) (filter : Filter)
     → is_well_given f given ≡ true → is_condition ts (filter_made l filter) ≡ true → some_given (sees_misfit l ts) given ≡ false

@@ -1,5 +1,6 @@
 -- The cells of columns: of the source's row, and of a group's.
-use Rattle.std.proofs.Common.{◌≡◌, Bool, true, false, ◌&&◌, ◌||◌, ◌==◌, ℕ, zero, suc, List, [], ◌∷◌, ◌++◌, length, map, Option, Some, None, refl, sym, ap, ap₂, ◌∙◌, true≢false}
+use Rattle.std.proofs.Common.{◌≡◌, Bool, true, false, ◌&&◌, ◌||◌, ◌==◌, ℕ, zero, suc, List, [], ◌∷◌, ◌++◌}
+use Rattle.std.proofs.Common.{length, map, Option, Some, None, refl, sym, ap, ap₂, ◌∙◌, true≢false}
 use Rattle.std.specs.Prelude.{if◌then◌else◌}
 use Rattle.std.specs.List.{flat_map, list_all, list_any}
 use Rattle.std.specs.Str.{bytes_eq}
@@ -174,11 +175,13 @@ groups_there cs grouping f e =
 pub group_among : (cs : List Titled) (grouping : List (Element Tree)) (name : List ℕ) → list_any (names name) (all_columns grouping) ≡ true
     → is_among (place_named cs name) (group_places cs grouping) ≡ true
 group_among cs grouping name e =
-    found [] (all_columns (elements_made cs grouping)) (place_named cs name) (ap (is_among (place_named cs name)) (all_places (column_place cs) grouping) ∙ named_among cs name (all_columns grouping) e)
+    found [] (all_columns (elements_made cs grouping)) (place_named cs name) (ap (is_among (place_named cs name))
+    (all_places (column_place cs) grouping) ∙ named_among cs name (all_columns grouping) e)
 
 pub group_cell : (cs : List Titled) (grouping : List (Element Tree)) (name : List ℕ) (more : List DataType)
     → list_any (names name) (all_columns grouping) ≡ true → list_any (has_name name) cs ≡ true
     → type_at (place_among (place_named cs name) (group_places cs grouping))
     (cells (group_places cs grouping) (types_of cs) ++ more) ≡ Some (type_named cs name)
 group_cell cs grouping name more g e =
-    cell_among (group_places cs grouping) (types_of cs) more (place_named cs name) (type_named cs name) (group_among cs grouping name g) (source_cell cs name e)
+    cell_among (group_places cs grouping) (types_of cs) more (place_named cs name) (type_named cs name)
+    (group_among cs grouping name g) (source_cell cs name e)

@@ -6,21 +6,27 @@ use Rattle.std.specs.Str.{bytes_eq}
 use Rattle.wquery.specs.declared.frame.Frame.{Frame}
 use Rattle.wquery.specs.declared.frame.FrameExclusion.{FrameExclusion}
 use Rattle.wquery.specs.declared.frame.FrameExclusion.TheVariants as exclusions
-use Rattle.wquery.specs.Tree.{Tree, Numeral, Field, Invoked, Negated, Signed, Joined, Compared, NullTest, Within, Among, Trees, NoTrees, MoreTrees, Links, NoLinks, Further, Given, Everything, These, Columns, Filter, Unfiltered, FilteredBy, Reach, ItsGroup, OwnWindow, Keys, NoKeys, MoreKeys, same_kind}
+use Rattle.wquery.specs.Tree.{Tree, Numeral, Field, Invoked, Negated, Signed, Joined, Compared, NullTest, Within, Among}
+use Rattle.wquery.specs.Tree.{Trees, NoTrees, MoreTrees, Links, NoLinks, Further, Given, Everything, These, Columns, Filter}
+use Rattle.wquery.specs.Tree.{Unfiltered, FilteredBy, Reach, ItsGroup, OwnWindow, Keys, NoKeys, MoreKeys, same_kind}
 use Rattle.wsame.specs.Bounds.{end_of}
-use Rattle.wsame.specs.Sameness.{are_same, are_same_given, are_same_keys, are_same_links, comparison_number, exclusion_number, is_same, is_same_filter, is_same_reach, mode_number, nulls_number, operator_number, same_bool, same_bound, same_copied, same_frame}
+use Rattle.wsame.specs.Sameness.{are_same, are_same_given, are_same_keys, are_same_links, comparison_number}
+use Rattle.wsame.specs.Sameness.{exclusion_number, is_same, is_same_filter, is_same_reach, mode_number, nulls_number}
+use Rattle.wsame.specs.Sameness.{operator_number, same_bool, same_bound, same_copied, same_frame}
 use Rattle.wscope.specs.declared.function.Function.{Function}
 use Rattle.wscope.specs.declared.function.Function.TheVariants as functions
 use Rattle.wscope.specs.Functions.{function_of}
 use Rattle.wscope.specs.Types.{Titled}
 use Rattle.wscope.specs.Windows.{NamedWindow, keys_or, or_none, expand, window_named}
 use Rattle.wdistinct.specs.Places.{place_of_same}
-use Rattle.wdistinct.specs.Same.{plain, plain_exclusion, plain_filter, plain_frame, plain_given, plain_keys, plain_links, plain_number, plain_reach, plain_trees, same_equiv}
+use Rattle.wdistinct.specs.Same.{plain, plain_exclusion, plain_filter, plain_frame, plain_given, plain_keys}
+use Rattle.wdistinct.specs.Same.{plain_links, plain_number, plain_reach, plain_trees, same_equiv}
 use Rattle.wplan.specs.Formula as row
 use Rattle.wplan.specs.Formula.{Formula}
 use Rattle.wplan.specs.Plans as plans
 use Rattle.wplan.specs.Plans.{WindowPlan}
-use Rattle.wbinding.specs.Functions.{aggregate_function, aggregated, argument, call_function, filter_made, function_made, literal_of, number_or, tree_at}
+use Rattle.wbinding.specs.Functions.{aggregate_function, aggregated, argument, call_function, filter_made}
+use Rattle.wbinding.specs.Functions.{function_made, literal_of, number_or, tree_at}
 use Rattle.wbinding.specs.Groups.{column_place, column_places, group_call_made, group_called}
 use Rattle.wbinding.specs.Resolving.{Layout, resolved, resolved_links, resolved_trees, width}
 use Rattle.wresolve.specs.Selecting.{frame_made, key_made, keys_made, or_no_others, own_window, place_over, trees_made, window_made}
@@ -31,7 +37,9 @@ use Rattle.wtyped.proofs.Alike.{one_of}
 
 looked_frame : (f g : Option Frame) → same_frame (plain_frame f) g ≡ same_frame f g
 looked_frame (Some f) (Some g) =
-    λ i. nat_eq (mode_number f.mode) (mode_number g.mode) && (same_bound f.start g.start && (same_bound (end_of f) (end_of g) && nat_eq (plain_number f.exclusion i) (exclusion_number g.exclusion)))
+    λ i. nat_eq (mode_number f.mode) (mode_number g.mode)
+    && (same_bound f.start g.start && (same_bound (end_of f) (end_of g) && nat_eq (plain_number f.exclusion i)
+    (exclusion_number g.exclusion)))
 looked_frame _ _ = refl
 
 mutual
@@ -130,7 +138,12 @@ expanded : (l : Layout) (ws : List NamedWindow) (copied : Option (List ℕ)) (ts
     → window_made l (expand ws copied (plain_trees ts) (plain_keys ks) (plain_frame f)) ≡ window_made l (expand ws copied ts ks f)
 expanded l ws None ts ks f = λ i. record { partition = parts l ts i; keys = keys l ks i; frame = frame f i }
 expanded l ws (Some name) ts ks f =
-    λ i. record { partition = trees_made l (or_none (window_named ws name)).partition; keys = own_or l ks (or_none (window_named ws name)).order i; frame = frame f i }
+    λ i. record {
+      partition = trees_made l (or_none (window_named ws name)).partition;
+      keys =
+          own_or l ks (or_none (window_named ws name)).order i;
+      frame = frame f i;
+    }
 
 own : (l : Layout) (ws : List NamedWindow) (t : Tree) → own_window l ws (plain t) ≡ own_window l ws t
 own l ws (Invoked name given filter (OwnWindow copied ts ks f)) = ap (λ (w : WindowPlan). w ∷ []) (expanded l ws copied ts ks f)
@@ -152,7 +165,8 @@ plain_argument n (These ts) = at n ts
 plain_argument n _ = refl
 
 -- what is read of an argument
-read : {X : Type 0} (f : Tree → X) → ((t : Tree) → f (plain t) ≡ f t) → (n : ℕ) (g : Given) → f (argument n (plain_given g)) ≡ f (argument n g)
+read : {X : Type 0} (f : Tree → X) → ((t : Tree) → f (plain t) ≡ f t) → (n : ℕ) (g : Given)
+    → f (argument n (plain_given g)) ≡ f (argument n g)
 read f same n g = ap f (plain_argument n g) ∙ same (argument n g)
 
 number : (d : ℕ) (t : Tree) → number_or d (plain t) ≡ number_or d t
@@ -174,7 +188,8 @@ kind (Some functions.Max) g = refl
 kind _ Everything = refl
 kind _ _ = refl
 
-aggregate : (l : Layout) (x : Option Function) (g : Given) (f : Filter) → aggregated l x (plain_given g) (plain_filter f) ≡ aggregated l x g f
+aggregate : (l : Layout) (x : Option Function) (g : Given) (f : Filter) → aggregated l x (plain_given g) (plain_filter f)
+    ≡ aggregated l x g f
 aggregate l x g f = λ i. record { function = kind x g i; argument = read (resolved l) (value l) 0 g i; filter = filtered l f i }
 
 function : (l : Layout) (x : Option Function) (g : Given) (f : Filter)
@@ -204,7 +219,8 @@ columns : (cs : List Titled) (ts : Trees) → column_places cs (plain_trees ts) 
 columns cs NoTrees = refl
 columns cs (MoreTrees t ts) = ap₂ (λ (p : ℕ) (ps : List ℕ). p ∷ ps) (column cs t) (columns cs ts)
 
-given_group : (l : Layout) (name : List ℕ) (g : Given) (f : Filter) → group_called l name (plain_given g) (plain_filter f) ≡ group_called l name g f
+given_group : (l : Layout) (name : List ℕ) (g : Given) (f : Filter) → group_called l name (plain_given g) (plain_filter f)
+    ≡ group_called l name g f
 given_group l name (Columns ts) f = ap plans.GroupingOf (columns l.columns ts)
 given_group l name g f = ap plans.GroupAggregate (aggregate l (function_of name) g f)
 

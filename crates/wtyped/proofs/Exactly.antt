@@ -1,5 +1,6 @@
 -- A well typed expression comes to a value of its type, and nothing stands in for what it lacks.
-use Rattle.std.proofs.Common.{◌≡◌, ℤ, ◌+ℤ◌, ◌-ℤ◌, ◌*ℤ◌, Bool, true, false, ◌&&◌, ℕ, zero, suc, List, [], ◌∷◌, Option, Some, None, get_or, refl, sym, ap, ap₂, ◌∙◌, true≢false}
+use Rattle.std.proofs.Common.{◌≡◌, ℤ, ◌+ℤ◌, ◌-ℤ◌, ◌*ℤ◌, Bool, true, false, ◌&&◌, ℕ, zero, suc, List, []}
+use Rattle.std.proofs.Common.{◌∷◌, Option, Some, None, get_or, refl, sym, ap, ap₂, ◌∙◌, true≢false}
 use Rattle.std.proofs.lemmas.Bool.{and_parts}
 use Rattle.wquery.specs.declared.expression.Operator.{Operator}
 use Rattle.wquery.specs.declared.expression.Operator.TheVariants.{Or, And, Plus, Minus, Times}
@@ -12,12 +13,15 @@ use Rattle.wvalues.specs.declared.truth.Truth.{Truth}
 use Rattle.wvalues.specs.declared.truth.Truth.TheVariants.{No}
 use Rattle.wscope.specs.declared.data_type.DataType.{DataType}
 use Rattle.wscope.specs.declared.data_type.DataType.TheVariants as types
-use Rattle.wplan.specs.Formula.{Formula, Constant, At, Negation, Signed, Applied, Compared, NullTest, Within, Among, Formulas, NoFormulas, MoreFormulas}
+use Rattle.wplan.specs.Formula.{Formula, Constant, At, Negation, Signed, Applied, Compared, NullTest}
+use Rattle.wplan.specs.Formula.{Within, Among, Formulas, NoFormulas, MoreFormulas}
 use Rattle.weval.specs.Values as values
-use Rattle.weval.specs.Values.{Outcome, Held, Judged, TooLarge, after, apply, is_among, is_null, on_numbers, ranged, truth_of, turned, value_in, value_of}
+use Rattle.weval.specs.Values.{Outcome, Held, Judged, TooLarge, after, apply, is_among, is_null}
+use Rattle.weval.specs.Values.{on_numbers, ranged, truth_of, turned, value_in, value_of}
 use Rattle.wscope.specs.Types.{is_truth}
 use Rattle.wtyped.specs.Typing.{beside, beside_all, constant_type, formula_type, gives, has, is_number, takes, type_at, valued}
-use Rattle.wtyped.specs.Exact.{TypedIsExact, applied, are_of, between, cell_at, comes_as, compared, exact_among, exact_value, is_of, joined, made_of, of_numbers, of_truth, of_truths, signed, outcome_of}
+use Rattle.wtyped.specs.Exact.{TypedIsExact, applied, are_of, between, cell_at, comes_as, compared, exact_among, exact_value}
+use Rattle.wtyped.specs.Exact.{is_of, joined, made_of, of_numbers, of_truth, of_truths, signed, outcome_of}
 use Rattle.wtyped.proofs.Types as found
 use Rattle.wtyped.proofs.Types.{common_family, common_fits, family, fits, number_fits}
 use Rattle.wtyped.proofs.Lists.{none_some, some_is}
@@ -136,10 +140,14 @@ comparison k c (Held m) (Judged t) f d e = absurd (no_truth k k t f e)
 
 range : (k : DataType) (negated : Bool) (v w z : Outcome) → fits k k ≡ true → comes_as k v ≡ true → comes_as k w ≡ true
     → comes_as k z ≡ true
-    → Says types.Truth (made_of (Some v) (λ a. made_of (Some w) (λ b. made_of (Some z) (λ c. made_of (outcome_of (between a b c)) (of_truth (turned negated))))))
+    → Says types.Truth (made_of (Some v)
+    (λ a. made_of (Some w) (λ b. made_of (Some z) (λ c. made_of (outcome_of (between a b c)) (of_truth (turned negated))))))
     (after v (λ a. after w (λ b. after z (λ c. Judged (turned negated (values.between (value_in a) (value_in b) (value_in c)))))))
-range k negated (Held m) (Held n) (Held o) f d e g =
-    (ap₂ (λ s t. made_of (outcome_of (joined truths.both s t)) (of_truth (turned negated))) (one k GreaterOrEqual m n d e) (one k LessOrEqual m o d g), refl)
+range k negated (Held m) (Held n) (Held o) f d e g = (
+  ap₂ (λ s t. made_of (outcome_of (joined truths.both s t)) (of_truth (turned negated))) (one k GreaterOrEqual m n d e)
+      (one k LessOrEqual m o d g),
+  refl,
+)
 range k negated (Held m) (Held n) TooLarge f d e g = (refl, refl)
 range k negated (Held m) TooLarge z f d e g = (refl, refl)
 range k negated TooLarge w z f d e g = (refl, refl)
@@ -201,8 +209,11 @@ with_two h t x y v w u e f s =
 with_three : (h : Outcome → Outcome → Outcome → Option Outcome) (t : DataType) (x y z : Option Outcome) (v w u r : Outcome) → x ≡ Some v
     → y ≡ Some w → z ≡ Some u → Says t (made_of (Some v) (λ a. made_of (Some w) (λ b. made_of (Some u) (h a b)))) r
     → Says t (made_of x (λ a. made_of y (λ b. made_of z (h a b)))) r
-with_three h t x y z v w u r e f g s =
-    (ap₂ (λ (o p : Option Outcome). made_of o (λ a. made_of p (λ b. made_of z (h a b)))) e f ∙ ap (λ (q : Option Outcome). made_of (Some v) (λ a. made_of (Some w) (λ b. made_of q (h a b)))) g ∙ s.0, s.1)
+with_three h t x y z v w u r e f g s = (
+  ap₂ (λ (o p : Option Outcome). made_of o (λ a. made_of p (λ b. made_of z (h a b)))) e f
+      ∙ ap (λ (q : Option Outcome). made_of (Some v) (λ a. made_of (Some w) (λ b. made_of q (h a b)))) g ∙ s.0,
+  s.1,
+)
 
 of_type : (a t : DataType) (x : Option Outcome) (v : Outcome) → a ≡ t → Says a x v → Says t x v
 of_type a t x v e s = (s.0, ap (λ (u : DataType). comes_as u v) (sym e) ∙ s.1)
@@ -216,12 +227,14 @@ mutual
       let is = found.held (has is_truth (formula_type ts f)) types.Truth t e in
       let p = found.has_type is_truth (formula_type ts f) is.0 in
       let s = exactly ts row f p.type r p.is in
-      of_type types.Truth t _ _ is.1 (with_one _ types.Truth _ (value_of row f) _ s.0 (negation truths.opposite (value_of row f) (of_truth' p.type (value_of row f) p.passes s.1)))
+      of_type types.Truth t _ _ is.1 (with_one _ types.Truth _ (value_of row f) _ s.0
+      (negation truths.opposite (value_of row f) (of_truth' p.type (value_of row f) p.passes s.1)))
   exactly ts row (Signed minus f) t r e =
       let is = found.held (has is_number (formula_type ts f)) types.Integer t e in
       let p = found.has_type is_number (formula_type ts f) is.0 in
       let s = exactly ts row f p.type r p.is in
-      of_type types.Integer t _ _ is.1 (with_one _ types.Integer _ (value_of row f) _ s.0 (sign minus (value_of row f) (widened types.Integer p.type (value_of row f) (number_fits p.type p.passes) s.1)))
+      of_type types.Integer t _ _ is.1 (with_one _ types.Integer _ (value_of row f) _ s.0
+      (sign minus (value_of row f) (widened types.Integer p.type (value_of row f) (number_fits p.type p.passes) s.1)))
   exactly ts row (Applied o f g) t r e =
       let is = found.held (has (takes o) (formula_type ts f) && has (takes o) (formula_type ts g)) (gives o) t e in
       let both = and_parts _ _ is.0 in
@@ -229,15 +242,18 @@ mutual
       let q = found.has_type (takes o) (formula_type ts g) both.1 in
       let a = exactly ts row f p.type r p.is in
       let b = exactly ts row g q.type r q.is in
-      of_type (gives o) t _ _ is.1 (with_two (applied o) (gives o) _ _ (value_of row f) (value_of row g) _ a.0 b.0 (operator o p.type q.type (value_of row f) (value_of row g) p.passes q.passes a.1 b.1))
+      of_type (gives o) t _ _ is.1 (with_two (applied o) (gives o) _ _ (value_of row f) (value_of row g) _ a.0 b.0
+      (operator o p.type q.type (value_of row f) (value_of row g) p.passes q.passes a.1 b.1))
   exactly ts row (Compared c f g) t r e =
       let is = found.is_judged (beside (formula_type ts f) (formula_type ts g)) t e in
       let p = found.parts (formula_type ts f) (formula_type ts g) is.0.type is.0.is in
       let k = common_fits (family is.0.type) p.left p.right is.0.type (common_family p.left p.right is.0.type p.one) p.one in
       let a = exactly ts row f p.left r p.is_left in
       let b = exactly ts row g p.right r p.is_right in
-      of_type types.Truth t _ _ is.1 (with_two (λ x y. outcome_of (compared c x y)) types.Truth _ _ (value_of row f) (value_of row g) _ a.0 b.0
-      (comparison (family is.0.type) c _ _ (self_fits (family is.0.type) p.left k.0) (widened (family is.0.type) p.left _ k.0 a.1) (widened (family is.0.type) p.right _ k.1 b.1)))
+      of_type types.Truth t _ _ is.1 (with_two (λ x y. outcome_of (compared c x y)) types.Truth _ _ (value_of row f)
+      (value_of row g) _ a.0 b.0
+      (comparison (family is.0.type) c _ _ (self_fits (family is.0.type) p.left k.0) (widened (family is.0.type) p.left _
+      k.0 a.1) (widened (family is.0.type) p.right _ k.1 b.1)))
   exactly ts row (NullTest negated f) t r e =
       let is = found.is_judged (formula_type ts f) t e in
       let s = exactly ts row f is.0.type r is.0.is in
@@ -251,15 +267,20 @@ mutual
       let a = exactly ts row f q.left r q.is_left in
       let b = exactly ts row low q.right r q.is_right in
       let c = exactly ts row high p.right r p.is_right in
-      of_type types.Truth t _ _ is.1 (with_three (λ x y z. made_of (outcome_of (between x y z)) (of_truth (turned negated))) types.Truth _ _ _ (value_of row f) (value_of row low) (value_of row high) _ a.0 b.0 c.0
-      (range (family is.0.type) negated _ _ _ (self_fits (family is.0.type) p.left k.0) (widened (family is.0.type) q.left _ j.0 a.1) (widened (family is.0.type) q.right _ j.1 b.1) (widened (family is.0.type) p.right _ k.1 c.1)))
+      of_type types.Truth t _ _ is.1 (with_three (λ x y z. made_of (outcome_of (between x y z)) (of_truth (turned negated)))
+      types.Truth _ _ _ (value_of row f) (value_of row low) (value_of row high) _ a.0 b.0 c.0
+      (range (family is.0.type) negated _ _ _ (self_fits (family is.0.type) p.left k.0) (widened (family is.0.type) q.left _
+      j.0 a.1) (widened (family is.0.type) q.right _ j.1 b.1) (widened (family is.0.type) p.right _ k.1 c.1)))
   exactly ts row (Among negated f list) t r e =
       let is = found.is_judged (beside_all ts (valued (formula_type ts f)) list) t e in
       let k = found.all_valued ts (valued (formula_type ts f)) list (found.valued_is (formula_type ts f)) is.0.type is.0.is in
       let p = found.all_fit ts (valued (formula_type ts f)) list (family is.0.type) is.0.type k is.0.is in
       let a = exactly ts row f p.type r (found.valued_family (formula_type ts f) p.type p.is).0 in
-      of_type types.Truth t _ _ is.1 (with_one (λ x. made_of (exact_among row x (Some No) list) (of_truth (turned negated))) types.Truth _ (value_of row f) _ a.0
-      (listed negated (family is.0.type) (value_of row f) (λ x. exact_among row x (Some No) list) (λ m. is_among row m No list) (self_fits (family is.0.type) is.0.type k) (widened (family is.0.type) p.type (value_of row f) p.passes a.1)
+      of_type types.Truth t _ _ is.1 (with_one (λ x. made_of (exact_among row x (Some No) list) (of_truth (turned negated)))
+      types.Truth _ (value_of row f) _ a.0
+      (listed negated (family is.0.type) (value_of row f) (λ x. exact_among row x (Some No) list)
+      (λ m. is_among row m No list) (self_fits (family is.0.type) is.0.type k)
+      (widened (family is.0.type) p.type (value_of row f) p.passes a.1)
       (among ts row list (family is.0.type) (valued (formula_type ts f)) is.0.type r k is.0.is No)))
 
   among : (ts : List DataType) (row : List Meaning) (fs : Formulas) (k : DataType) (o : Option DataType) (t : DataType)
@@ -272,8 +293,10 @@ mutual
       let is = found.parts o (formula_type ts g) rest.type rest.is in
       let fit = common_fits k is.left is.right rest.type rest.passes is.one in
       let s = exactly ts row g is.right r is.is_right in
-      with_one (λ y. exact_among row (Held m) (joined truths.either (Some so_far) (compared Equal (Held m) y)) fs) types.Truth _ (value_of row g) _ s.0
-      (next k m (value_of row g) so_far (λ u. exact_among row (Held m) u fs) (λ u. is_among row m u fs) (self_fits k is.left fit.0) d (widened k is.right (value_of row g) fit.1 s.1)
+      with_one (λ y. exact_among row (Held m) (joined truths.either (Some so_far) (compared Equal (Held m) y)) fs)
+      types.Truth _ (value_of row g) _ s.0
+      (next k m (value_of row g) so_far (λ u. exact_among row (Held m) u fs) (λ u. is_among row m u fs)
+      (self_fits k is.left fit.0) d (widened k is.right (value_of row g) fit.1 s.1)
       (λ u. among ts row fs k (beside o (formula_type ts g)) t r f e u m d))
 
 pub typed_is_exact : TypedIsExact

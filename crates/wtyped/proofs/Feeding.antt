@@ -1,5 +1,6 @@
 -- What expressions, aggregates and functions come to on rows of some types has their types.
-use Rattle.std.proofs.Common.{◌≡◌, Bool, true, false, ℕ, ℤ, List, [], ◌∷◌, map, Option, Some, None, Ok, IfOk, refl, sym, ap, ◌∙◌, true≢false}
+use Rattle.std.proofs.Common.{◌≡◌, Bool, true, false, ℕ, ℤ, List, [], ◌∷◌, map, Option}
+use Rattle.std.proofs.Common.{Some, None, Ok, IfOk, refl, sym, ap, ◌∙◌, true≢false}
 use Rattle.std.specs.Prelude.{if◌then◌else◌, option_map, slice_index_or, unwrap_or}
 use Rattle.std.specs.List.{AllByRecursion, list_all, list_any}
 use Rattle.std.specs.Option as options
@@ -86,7 +87,8 @@ value_exact ts f t rows e a =
     let v = value_is (formula_type ts f) t e in
     exact_rows (on_each rows f) ts t v.is (λ x c. suits_value t x v.nullable c) rows a
 
-pub some_value_exact : (ts : List DataType) (rows : List Row) (f : Formula) → AllOf ts rows → is_value ts f ≡ true → IsExact (on_each rows f)
+pub some_value_exact : (ts : List DataType) (rows : List Row) (f : Formula) → AllOf ts rows → is_value ts f ≡ true
+    → IsExact (on_each rows f)
 some_value_exact ts rows f a e =
     let p = has_type is_any (valued (formula_type ts f)) e in value_exact ts f p.type rows p.is a
 
@@ -94,8 +96,11 @@ pub condition_exact : (ts : List DataType) (f : Option Formula) (rows : List Row
     → AllByRecursion IsExact (condition_on rows f)
 condition_exact ts None rows e a = tt
 condition_exact ts (Some f) rows e a =
-    let p = has_type is_truth (formula_type ts f) e in
-    (exact_rows (record { is_condition = true; expression = f; rows = rows }) ts p.type p.is (λ x c. suits_truth p.type x p.passes c) rows a, tt)
+    let p = has_type is_truth (formula_type ts f) e in (
+      exact_rows (record { is_condition = true; expression = f; rows = rows }) ts p.type p.is
+          (λ x c. suits_truth p.type x p.passes c) rows a,
+      tt,
+    )
 
 value_typed : (t : DataType) (v : Outcome) → is_nullable t ≡ true → comes_as t v ≡ true → is_of t (value_in v) ≡ true
 value_typed t (Held m) n e = e
@@ -120,7 +125,10 @@ FedBy t feed = Each t feed.values
 feed_typed : (ts : List DataType) (a : AggregatePlan) (t : DataType) (rows : List Row) → formula_type ts a.argument ≡ Some t
     → is_nullable t ≡ true → AllOf ts rows → IfOk (feed_of a rows) (FedBy t)
 feed_typed ts a t rows e n h =
-    then_ok (column_of a.argument rows) (λ values. filter_of a.filter rows >>= λ filter. Ok (record { values = values; filter = filter })) (Each t) (FedBy t) (column_typed ts a.argument t rows e n h)
+    then_ok (column_of a.argument rows) (λ values. filter_of a.filter rows >>= λ filter. Ok (record {
+      values = values;
+      filter = filter;
+    })) (Each t) (FedBy t) (column_typed ts a.argument t rows e n h)
     (λ values c. then_any (filter_of a.filter rows) (λ filter. Ok (record { values = values; filter = filter })) (FedBy t) (λ filter. c))
 
 fed_typed : (t : DataType) (feed : Feed) (row : ℕ) → is_nullable t ≡ true → FedBy t feed → is_of t (fed feed.values feed.filter row) ≡ true
@@ -132,7 +140,8 @@ fed_typed t feed row n e = go (passes feed.filter row)
 
 all_fed : (t : DataType) (feed : Feed) (rows : List ℕ) → is_nullable t ≡ true → FedBy t feed → Each t (fed_values feed rows)
 all_fed t feed rows n e =
-    filtered_all (is_of t) slides.is_value (map (fed feed.values feed.filter) rows) (each_mapped (is_of t) (fed feed.values feed.filter) rows (λ row. fed_typed t feed row n e))
+    filtered_all (is_of t) slides.is_value (map (fed feed.values feed.filter) rows)
+    (each_mapped (is_of t) (fed feed.values feed.filter) rows (λ row. fed_typed t feed row n e))
 
 first_typed : (t : DataType) (values : List Meaning) → is_nullable t ≡ true → Each t values → is_of t (first_or_null values) ≡ true
 first_typed t [] n e = n
@@ -154,11 +163,14 @@ aggregate_typed : (function : AggregateFunction) (feed : Feed) (t u : DataType) 
 aggregate_typed CountRows feed t u rows e n h = as_type types.Integer u _ (some_is types.Integer u e) refl
 aggregate_typed Count feed t u rows e n h = as_type types.Integer u _ (some_is types.Integer u e) refl
 aggregate_typed Sum feed t u rows e n h =
-    as_type types.Integer u _ (found.held (is_number t) types.Integer u e).1 (sum_typed (fed_values feed rows) (sum_of (fed feed.values feed.filter) rows))
+    as_type types.Integer u _ (found.held (is_number t) types.Integer u e).1
+    (sum_typed (fed_values feed rows) (sum_of (fed feed.values feed.filter) rows))
 aggregate_typed Min feed t u rows e n h =
-    as_type t u _ (some_is t u e) (first_typed t (sorted by_value (fed_values feed rows)) n (sorted_all (is_of t) by_value (fed_values feed rows) (all_fed t feed rows n h)))
+    as_type t u _ (some_is t u e) (first_typed t (sorted by_value (fed_values feed rows)) n
+    (sorted_all (is_of t) by_value (fed_values feed rows) (all_fed t feed rows n h)))
 aggregate_typed Max feed t u rows e n h =
-    as_type t u _ (some_is t u e) (first_typed t (sorted by_value_descending (fed_values feed rows)) n (sorted_all (is_of t) by_value_descending (fed_values feed rows) (all_fed t feed rows n h)))
+    as_type t u _ (some_is t u e) (first_typed t (sorted by_value_descending (fed_values feed rows)) n
+    (sorted_all (is_of t) by_value_descending (fed_values feed rows) (all_fed t feed rows n h)))
 
 nullable_is : (t u : DataType) → t ≡ u → is_nullable t ≡ true → is_nullable u ≡ true
 nullable_is t u e n = ap is_nullable (sym e) ∙ n
@@ -201,11 +213,14 @@ aggregate_is ts a u e =
       filter = w.0;
     }
 
-pub aggregate_exact : (ts : List DataType) (a : AggregatePlan) (u : DataType) (rows : List Row) → aggregate_type ts a ≡ Some u → AllOf ts rows
+pub aggregate_exact : (ts : List DataType) (a : AggregatePlan) (u : DataType) (rows : List Row)
+    → aggregate_type ts a ≡ Some u → AllOf ts rows
     → AllByRecursion IsExact (aggregate_on rows a)
 aggregate_exact ts a u rows e h =
-    let is = aggregate_is ts a u e in
-    (exact_rows (on_each rows a.argument) ts is.argument is.is (λ x c. suits_value is.argument x is.nullable c) rows h, condition_exact ts a.filter rows is.filter h)
+    let is = aggregate_is ts a u e in (
+      exact_rows (on_each rows a.argument) ts is.argument is.is (λ x c. suits_value is.argument x is.nullable c) rows h,
+      condition_exact ts a.filter rows is.filter h,
+    )
 
 pub is_aggregate_nullable : (ts : List DataType) (a : AggregatePlan) (u : DataType) → aggregate_type ts a ≡ Some u → is_nullable u ≡ true
 is_aggregate_nullable ts a u e = let is = aggregate_is ts a u e in aggregate_nullable a.function is.argument u is.gives is.nullable
@@ -217,11 +232,14 @@ in_range_typed t results e =
     (mapped_all (λ r. is_of t (unwrap_or r Null)) (is_of t) (λ r. unwrap_or r Null) results (λ r h. h) e)
 
 -- an aggregate of several lists of rows
-pub folded_typed : {G : Type 0} (ts : List DataType) (a : AggregatePlan) (u : DataType) (rows : List Row) (numbers : G → List ℕ) (gs : List G)
+pub folded_typed : {G : Type 0} (ts : List DataType) (a : AggregatePlan) (u : DataType) (rows : List Row) (numbers : G
+    → List ℕ) (gs : List G)
     → aggregate_type ts a ≡ Some u → AllOf ts rows
     → IfOk (feed_of a rows >>= λ feed. in_range (map (λ g. aggregating.aggregate_of a.function feed (numbers g)) gs)) (Each u)
 folded_typed ts a u rows numbers gs e h =
     let is = aggregate_is ts a u e in
-    then_ok (feed_of a rows) (λ feed. in_range (map (λ g. aggregating.aggregate_of a.function feed (numbers g)) gs)) (FedBy is.argument) (Each u) (feed_typed ts a is.argument rows is.is is.nullable h)
+    then_ok (feed_of a rows) (λ feed. in_range (map (λ g. aggregating.aggregate_of a.function feed (numbers g)) gs))
+    (FedBy is.argument) (Each u) (feed_typed ts a is.argument rows is.is is.nullable h)
     (λ feed f. in_range_typed u (map (λ g. aggregating.aggregate_of a.function feed (numbers g)) gs)
-    (each_mapped (λ r. is_of u (unwrap_or r Null)) (λ g. aggregating.aggregate_of a.function feed (numbers g)) gs (λ g. aggregate_typed a.function feed is.argument u (numbers g) is.gives is.nullable f)))
+    (each_mapped (λ r. is_of u (unwrap_or r Null)) (λ g. aggregating.aggregate_of a.function feed (numbers g)) gs
+    (λ g. aggregate_typed a.function feed is.argument u (numbers g) is.gives is.nullable f)))

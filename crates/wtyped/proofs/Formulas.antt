@@ -1,5 +1,6 @@
 -- An expression in which no node is ill typed and each cell has its column's type resolves to one of its type.
-use Rattle.std.proofs.Common.{◌≡◌, ◌⊎◌, inl, inr, Bool, true, false, not, ◌&&◌, ◌||◌, ℕ, pos, ◌^◌, nat_lt, List, [], ◌∷◌, Option, Some, refl, sym, ap, ap₂, ◌∙◌, true≢false}
+use Rattle.std.proofs.Common.{◌≡◌, ◌⊎◌, inl, inr, Bool, true, false, not, ◌&&◌, ◌||◌, ℕ, pos, ◌^◌, nat_lt}
+use Rattle.std.proofs.Common.{List, [], ◌∷◌, Option, Some, refl, sym, ap, ap₂, ◌∙◌, true≢false}
 use Rattle.std.specs.Prelude.{if◌then◌else◌}
 use Rattle.std.specs.List.{list_all}
 use Rattle.std.proofs.lemmas.Bool.{or_cases, or_parts, and_parts, not-false}
@@ -8,7 +9,8 @@ use Rattle.wquery.specs.declared.expression.ChainKind.TheVariants.{Disjunction, 
 use Rattle.wquery.specs.declared.expression.Operator.{Operator}
 use Rattle.wquery.specs.declared.expression.Operator.TheVariants.{Or, And, Plus, Minus, Times}
 use Rattle.wquery.specs.Lefts.{chain_kind}
-use Rattle.wquery.specs.Tree.{Tree, NullWord, Numeral, Quoted, Field, Invoked, Negated, Signed, Joined, Compared, NullTest, Within, Among, Trees, NoTrees, MoreTrees, Links, NoLinks, Further, same_kind}
+use Rattle.wquery.specs.Tree.{Tree, NullWord, Numeral, Quoted, Field, Invoked, Negated, Signed, Joined, Compared, NullTest}
+use Rattle.wquery.specs.Tree.{Within, Among, Trees, NoTrees, MoreTrees, Links, NoLinks, Further, same_kind}
 use Rattle.wvalues.specs.Meaning as meanings
 use Rattle.wscope.specs.declared.data_type.DataType.{DataType}
 use Rattle.wscope.specs.declared.data_type.DataType.TheVariants.{Integer, Text, Truth, Null}
@@ -19,7 +21,8 @@ use Rattle.wscope.specs.Types.{Titled, agree, chain_type, fits_integer, fits_tex
 use Rattle.wnames.specs.Types.{all_links, all_trees, is_ill_typed, is_integer, is_text, suits}
 use Rattle.wplan.specs.Formula.{Formula}
 use Rattle.wbinding.specs.Resolving.{Layout, resolved, resolved_links, resolved_trees}
-use Rattle.wtyped.specs.Typing.{beside, beside_all, common, constant_type, formula_type, gives, has, is_number, judged, takes, valued, where_holds}
+use Rattle.wtyped.specs.Typing.{beside, beside_all, common, constant_type, formula_type, gives}
+use Rattle.wtyped.specs.Typing.{has, is_number, judged, takes, valued, where_holds}
 use Rattle.wtyped.specs.Shapes.{are_links, are_of_kind, is_misshapen}
 use Rattle.wtyped.proofs.Walks.{open_find}
 use Rattle.wtyped.proofs.Types.{Passes, fits, has_type}
@@ -49,7 +52,8 @@ is_typed_cell l ts n = has (same_type (type_of l.columns n)) (formula_type ts (r
 pub cell_typed : (l : Layout) (ts : List DataType) (n : Tree) → is_typed_cell l ts n ≡ true
     → formula_type ts (resolved l n) ≡ Some (type_of l.columns n)
 cell_typed l ts n e =
-    let p = has_type (same_type (type_of l.columns n)) (formula_type ts (resolved l n)) e in p.is ∙ ap Some (sym (one_type _ p.type p.passes))
+    let p = has_type (same_type (type_of l.columns n)) (formula_type ts (resolved l n)) e in
+    p.is ∙ ap Some (sym (one_type _ p.type p.passes))
 
 pub typed_cell : (l : Layout) (ts : List DataType) (n : Tree) → formula_type ts (resolved l n) ≡ Some (type_of l.columns n)
     → is_typed_cell l ts n ≡ true
@@ -197,7 +201,8 @@ mutual
   typed l ts (Field qualifier name) e =
       cell_typed l ts (Field qualifier name) (not-false _ (open_find (not (is_typed_cell l ts (Field qualifier name))) false e).0)
   typed l ts (Invoked name given filter reach) e =
-      cell_typed l ts (Invoked name given filter reach) (shut_look (is_typed_cell l ts (Invoked name given filter reach)) (some_below (sees_misfit l ts) (Invoked name given filter reach)) e)
+      cell_typed l ts (Invoked name given filter reach) (shut_look (is_typed_cell l ts (Invoked name given filter reach))
+      (some_below (sees_misfit l ts) (Invoked name given filter reach)) e)
   typed l ts (Negated t) e =
       let o = open_find (is_unfit l.columns (Negated t)) (some_node (sees_misfit l ts) t) e in
       held_one is_truth Truth _ _ (typed l ts t o.1) (not-false _ (or_parts _ _ o.0).0)
@@ -206,31 +211,37 @@ mutual
       held_one is_number Integer _ _ (typed l ts t o.1)
       (number_is (type_of l.columns t) (not-false _ (or_parts _ _ o.0).0))
   typed l ts (Joined kind t links) e =
-      let o = open_find (is_unfit l.columns (Joined kind t links)) (some_node (sees_misfit l ts) t || some_link (sees_misfit l ts) links) e in
+      let o = open_find (is_unfit l.columns (Joined kind t links)) (some_node (sees_misfit l ts) t
+      || some_link (sees_misfit l ts) links) e in
       let u = or_parts _ _ o.0 in
       let s = and_parts _ _ (not-false _ u.0) in
       let below = or_parts _ _ o.1 in
       chain l ts kind links _ _ (typed l ts t below.0) (suited l.columns kind t s.0) s.1 (not-false _ u.1) below.1
   typed l ts (Compared comparison t u) e =
-      let o = open_find (is_unfit l.columns (Compared comparison t u)) (some_node (sees_misfit l ts) t || some_node (sees_misfit l ts) u) e in
+      let o = open_find (is_unfit l.columns (Compared comparison t u)) (some_node (sees_misfit l ts) t
+      || some_node (sees_misfit l ts) u) e in
       let a = not-false _ (or_parts _ _ o.0).0 in
       let below = or_parts _ _ o.1 in
       truth_of _ (two _ _ _ _ a (typed l ts t below.0) (typed l ts u below.1))
   typed l ts (NullTest negated t) e =
       let o = open_find (is_unfit l.columns (NullTest negated t)) (some_node (sees_misfit l ts) t) e in ap judged (typed l ts t o.1)
   typed l ts (Within negated t u v) e =
-      let o = open_find (is_unfit l.columns (Within negated t u v)) (some_node (sees_misfit l ts) t || (some_node (sees_misfit l ts) u || some_node (sees_misfit l ts) v)) e in
+      let o = open_find (is_unfit l.columns (Within negated t u v)) (some_node (sees_misfit l ts) t
+      || (some_node (sees_misfit l ts) u || some_node (sees_misfit l ts) v)) e in
       let a = not-false _ (or_parts _ _ o.0).0 in
       let below = or_parts _ _ o.1 in
       let behind = or_parts _ _ below.1 in
       truth_of _ (three _ _ _ _ _ _ a (typed l ts t below.0) (typed l ts u behind.0) (typed l ts v behind.1))
   typed l ts (Among negated t list) e =
-      let o = open_find (is_unfit l.columns (Among negated t list)) (some_node (sees_misfit l ts) t || some_tree (sees_misfit l ts) list) e in
+      let o = open_find (is_unfit l.columns (Among negated t list)) (some_node (sees_misfit l ts) t
+      || some_tree (sees_misfit l ts) list) e in
       let one = not-false _ (or_parts _ _ o.0).0 in
       let below = or_parts _ _ o.1 in
       let first = typed l ts t below.0 in
-      truth_of (beside_all ts (valued (formula_type ts (resolved l t))) (resolved_trees l list)) (one_kind l.columns t list (beside_all ts (valued (formula_type ts (resolved l t))) (resolved_trees l list)) one
-      (λ k a b. all_listed l ts list k (valued (formula_type ts (resolved l t))) (type_of l.columns t) (ap valued first ∙ value_of k (type_of l.columns t) a) a b below.1))
+      truth_of (beside_all ts (valued (formula_type ts (resolved l t))) (resolved_trees l list))
+      (one_kind l.columns t list (beside_all ts (valued (formula_type ts (resolved l t))) (resolved_trees l list)) one
+      (λ k a b. all_listed l ts list k (valued (formula_type ts (resolved l t))) (type_of l.columns t) (ap valued first
+      ∙ value_of k (type_of l.columns t) a) a b below.1))
 
   front_typed : (l : Layout) (ts : List DataType) (kind : ChainKind) (links : Links) (f : Formula) (a : DataType)
       → formula_type ts f ≡ Some a → suits_type kind a ≡ true
@@ -242,7 +253,12 @@ mutual
       let x = and_parts _ _ all in
       let y = or_parts _ _ e in
       let p = front_typed l ts kind front f a is s x.0 k.0 y.0 in
-      record { type = chain_type kind; is = applied operator kind _ _ _ _ k.1 p.is (typed l ts t y.1) p.passes (suited l.columns kind t x.1); passes = chain_suits kind }
+      record {
+        type = chain_type kind;
+        is = applied operator kind _ _ _ _ k.1 p.is (typed l ts t y.1) p.passes
+            (suited l.columns kind t x.1);
+        passes = chain_suits kind;
+      }
 
   chain : (l : Layout) (ts : List DataType) (kind : ChainKind) (links : Links) (f : Formula) (a : DataType) → formula_type ts f ≡ Some a
       → suits_type kind a ≡ true

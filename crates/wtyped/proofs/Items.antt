@@ -1,5 +1,6 @@
 -- Items and keys of a SELECT that no rule refuses are well typed.
-use Rattle.std.proofs.Common.{◌≡◌, Bool, true, false, not, ◌&&◌, ◌||◌, ℕ, zero, suc, ◌-◌, ◌<◌, nat_lt, List, [], ◌∷◌, ◌++◌, length, map, Some, None, refl, sym, subst, ap, ap₂, ◌∙◌, append_assoc, length-append, true≢false, arith}
+use Rattle.std.proofs.Common.{◌≡◌, Bool, true, false, not, ◌&&◌, ◌||◌, ℕ, zero, suc, ◌-◌, ◌<◌, nat_lt, List, [], ◌∷◌, ◌++◌, length}
+use Rattle.std.proofs.Common.{map, Some, None, refl, sym, subst, ap, ap₂, ◌∙◌, append_assoc, length-append, true≢false, arith}
 use Rattle.std.specs.Prelude.{if◌then◌else◌}
 use Rattle.std.specs.List.{list_any}
 use Rattle.std.specs.Str.{bytes_eq}
@@ -146,14 +147,19 @@ star_cell c true more pre rest x clear starred =
     let named = not-false _ (or_parts _ _ starred).0 in
     let place = own_place pre rest x (one_column cs (all_columns c.grouping) x.name clear named) in
     let there = there_is pre rest x in
-    let type = some_is (type_named cs x.name) x.type (sym (source_cell cs x.name there) ∙ ap (λ (n : ℕ). type_at n (types_of cs)) place ∙ ap (type_at (length pre)) (sym (append-nil (types_of cs))) ∙ at_length pre rest x []) in
-    ap (λ (n : ℕ). type_at (cell_in (row_of cs c true).grouping n) (first_cells cs c true ++ more)) (sym place) ∙ column_cell cs c true more x.name there named ∙ ap Some type
+    let type = some_is (type_named cs x.name) x.type (sym (source_cell cs x.name there)
+    ∙ ap (λ (n : ℕ). type_at n (types_of cs)) place ∙ ap (type_at (length pre)) (sym (append-nil (types_of cs)))
+    ∙ at_length pre rest x []) in
+    ap (λ (n : ℕ). type_at (cell_in (row_of cs c true).grouping n) (first_cells cs c true ++ more)) (sym place)
+    ∙ column_cell cs c true more x.name there named ∙ ap Some type
 
 star_at : (cs : List Titled) (c : Clauses) (b : Bool) (more : List DataType) (pre rest : List Titled) (x : Titled) → pre ++ x ∷ rest ≡ cs
     → list_any (is_ambiguous cs) (all_columns c.grouping) ≡ false → IsStarred cs c b (x ∷ rest)
     → type_at (cell_in (row_of cs c b).grouping (length pre)) (first_cells cs c b ++ more) ≡ Some x.type
 star_at cs c b more pre rest x e =
-    subst (λ (ds : List Titled). list_any (is_ambiguous ds) (all_columns c.grouping) ≡ false → IsStarred ds c b (x ∷ rest) → type_at (cell_in (row_of ds c b).grouping (length pre)) (first_cells ds c b ++ more) ≡ Some x.type) e (star_cell c b more pre rest x)
+    subst (λ (ds : List Titled). list_any (is_ambiguous ds) (all_columns c.grouping) ≡ false → IsStarred ds c b (x ∷ rest)
+    → type_at (cell_in (row_of ds c b).grouping (length pre)) (first_cells ds c b ++ more) ≡ Some x.type) e
+    (star_cell c b more pre rest x)
 
 later_starred : (cs : List Titled) (c : Clauses) (b : Bool) (x : Titled) (rest : List Titled) → IsStarred cs c b (x ∷ rest)
     → IsStarred cs c b rest
@@ -168,8 +174,13 @@ star_shown : (cs : List Titled) (c : Clauses) (b : Bool) (ts more : List DataTyp
 star_shown cs c b ts more same clear pre [] place e p starred v = tt
 star_shown cs c b ts more same clear pre (x ∷ rest) place e p starred v =
     let longer = length-append pre (x ∷ []) in let next : suc place ≡ length (pre ++ x ∷ []) = omega (arith, p, longer) in (
-      (ap₂ (λ (n : ℕ) (us : List DataType). type_at (cell_in (row_of cs c b).grouping n) us) p same ∙ star_at cs c b more pre rest x e clear starred, v.0),
-      star_shown cs c b ts more same clear (pre ++ x ∷ []) rest (suc place) (append_assoc pre (x ∷ []) rest ∙ e) next (later_starred cs c b x rest starred) v.1,
+      (
+        ap₂ (λ (n : ℕ) (us : List DataType). type_at (cell_in (row_of cs c b).grouping n) us) p same
+            ∙ star_at cs c b more pre rest x e clear starred,
+        v.0,
+      ),
+      star_shown cs c b ts more same clear (pre ++ x ∷ []) rest (suc place) (append_assoc pre (x ∷ []) rest ∙ e) next
+          (later_starred cs c b x rest starred) v.1,
     )
 
 items_shown : (cs : List Titled) (c : Clauses) (b : Bool) (ts more : List DataType) → ts ≡ first_cells cs c b ++ more
@@ -178,7 +189,8 @@ items_shown : (cs : List Titled) (c : Clauses) (b : Bool) (ts more : List DataTy
     → list_any (is_truth_item cs) is ≡ false → AreShown (row_of cs c b) ts (written_out cs is)
 items_shown cs c b ts more same clear v [] star e f = tt
 items_shown cs c b ts more same clear v (AllColumns ∷ is) star e f =
-    behind_shown (row_of cs c b) ts (columns_from 0 cs) (written_out cs is) (star_shown cs c b ts more same clear [] cs 0 refl refl (star refl) v) (items_shown cs c b ts more same clear v is (λ s. star refl) e f)
+    behind_shown (row_of cs c b) ts (columns_from 0 cs) (written_out cs is) (star_shown cs c b ts more same clear [] cs 0
+    refl refl (star refl) v) (items_shown cs c b ts more same clear v is (λ s. star refl) e f)
 items_shown cs c b ts more same clear v (Computed t alias ∷ is) star e f =
     let p = or_parts _ _ e in
     let q = or_parts _ _ f in
@@ -197,7 +209,8 @@ starred cs c true k e s = and_rest _ _ s (rows.star_named cs c k e)
 pub shown_items : (cs : List Titled) (c : Clauses) (b : Bool) → rules.Kept cs c → made.is_grouped c (group_calls c) ≡ b → AreValues cs
     → rows.Shown cs c b → AreShown (row_of cs c b) (all_cells cs c b) (written_out cs c.items)
 shown_items cs c b k e v s =
-    items_shown cs c b (all_cells cs c b) (map (type_of cs) (group_calls c) ++ map (type_of cs) (window_calls c)) (all_same cs c b) k.ambiguous v c.items (starred cs c b k e) (rows.fit_items cs c b s) k.items
+    items_shown cs c b (all_cells cs c b) (map (type_of cs) (group_calls c) ++ map (type_of cs) (window_calls c))
+    (all_same cs c b) k.ambiguous v c.items (starred cs c b k e) (rows.fit_items cs c b s) k.items
 
 -- keys
 
@@ -220,7 +233,8 @@ called_value l ts otherwise name [] a h = h refl
 called_value l ts otherwise name (i ∷ is) a h = go (bytes_eq i.name name) h (λ g. called_value l ts otherwise name is a.1 g)
   where
     go : (b : Bool) → ((b || list_any (is_called name) is) ≡ false → is_value ts (shown_formula l otherwise) ≡ true)
-        → ((list_any (is_called name) is ≡ false → is_value ts (shown_formula l otherwise) ≡ true) → is_value ts (shown_formula l (called_or otherwise name is)) ≡ true)
+        → ((list_any (is_called name) is ≡ false → is_value ts (shown_formula l otherwise) ≡ true)
+        → is_value ts (shown_formula l (called_or otherwise name is)) ≡ true)
         → is_value ts (shown_formula l (if b then i.shown else called_or otherwise name is)) ≡ true
     go true g rest = good l ts i a.0
     go false g rest = rest g
@@ -234,7 +248,8 @@ pub items_called : (cs : List Titled) (name : List ℕ) (is : List ItemTree)
     → list_any (is_called name) (written_out cs is) ≡ list_any (item_has_name cs name) is
 items_called cs name [] = refl
 items_called cs name (AllColumns ∷ is) =
-    list_any-append (is_called name) (columns_from 0 cs) (written_out cs is) ∙ ap₂ (λ x y. x || y) (columns_called name 0 cs) (items_called cs name is)
+    list_any-append (is_called name) (columns_from 0 cs) (written_out cs is)
+    ∙ ap₂ (λ x y. x || y) (columns_called name 0 cs) (items_called cs name is)
 items_called cs name (Computed t alias ∷ is) = ap (λ (x : Bool). bytes_eq (output_name t alias) name || x) (items_called cs name is)
 
 spelled : (l : Layout) (ts : List DataType) (t : Tree) → some_node (sees_misfit l ts) t ≡ false → judged.is_value l.columns t ≡ true
@@ -253,7 +268,8 @@ key_value l ts is (Numeral n) a e f = item_value l ts (n - 1) (written_out l.col
 key_value l ts is (Field None name) a e f =
     called_value l ts (Spelled (Field None name)) name (written_out l.columns is) a
     (λ none. let out = sym (items_called l.columns name is) ∙ none in
-    spelled l ts (Field None name) (guarded (list_any (item_has_name l.columns name) is) (some_node (sees_misfit l ts) (Field None name)) out e)
+    spelled l ts (Field None name) (guarded (list_any (item_has_name l.columns name) is)
+    (some_node (sees_misfit l ts) (Field None name)) out e)
     (not-false _ (guarded (list_any (item_has_name l.columns name) is) (not (judged.is_value l.columns (Field None name))) out f)))
 key_value l ts is (Field (Some q) name) a e f =
     spelled l ts (Field (Some q) name) e (not-false _ f)

@@ -11,7 +11,8 @@ use Rattle.wscope.specs.Seeking.{some_node}
 use Rattle.wscope.specs.Types.{Titled}
 use Rattle.wdistinct.specs.declared.distinct_calls.CallKind.{CallKind}
 use Rattle.wdistinct.specs.declared.distinct_calls.CallKind.TheVariants.{Grouped, Windowed}
-use Rattle.wdistinct.specs.Calls.{group_calls, is_call_of, nodes_in, nodes_in_entries, nodes_in_items, nodes_in_option, nodes_in_order, nodes_in_reach, window_calls}
+use Rattle.wdistinct.specs.Calls.{group_calls, is_call_of, nodes_in, nodes_in_entries, nodes_in_items}
+use Rattle.wdistinct.specs.Calls.{nodes_in_option, nodes_in_order, nodes_in_reach, window_calls}
 use Rattle.wtyped.proofs.Alike.{all_listed, each_once, is_listed}
 use Rattle.wtyped.proofs.Walks.{Kept, Shut, Unseen, listed_in, listed_window, passed_in, passed_window, sees_failed}
 
@@ -43,7 +44,8 @@ entries_kept : (s : Tree → Bool) (w : Tree → Look) (K : Tree → Bool) → K
 entries_kept s w K h c [] e = refl
 entries_kept s w K h c (entry ∷ es) e =
     let p = or_parts _ _ e in
-    both K (nodes_in_reach s (own_window entry.window)) (nodes_in_entries s es) (listed_window s w K h c (own_window entry.window) p.0) (entries_kept s w K h c es p.1)
+    both K (nodes_in_reach s (own_window entry.window)) (nodes_in_entries s es)
+    (listed_window s w K h c (own_window entry.window) p.0) (entries_kept s w K h c es p.1)
 
 -- below a key that stands for an item there is no call
 key_kept : (cs : List Titled) (is : List ItemTree) (kind : CallKind) (w : Tree → Look) (K : Tree → Bool) → Kept (is_call_of kind) w K
@@ -59,23 +61,29 @@ order_kept : (cs : List Titled) (is : List ItemTree) (kind : CallKind) (w : Tree
 order_kept cs is kind w K h c [] e = refl
 order_kept cs is kind w K h c (k ∷ ks) e =
     let p = or_parts _ _ e in
-    both K (nodes_in (is_call_of kind) k.expression) (nodes_in_order (is_call_of kind) ks) (key_kept cs is kind w K h c k.expression p.0) (order_kept cs is kind w K h c ks p.1)
+    both K (nodes_in (is_call_of kind) k.expression) (nodes_in_order (is_call_of kind) ks)
+    (key_kept cs is kind w K h c k.expression p.0) (order_kept cs is kind w K h c ks p.1)
 
 pub group_kept : (cs : List Titled) (c : Clauses) (w : Tree → Look) (K : Tree → Bool) → Kept (is_call_of Grouped) w K
     → Shut (is_call_of Grouped) w K → Unseen cs c w → list_all K (group_calls c) ≡ true
 group_kept cs c w K h shut u =
     let s = is_call_of Grouped in
-    each_once K [] (nodes_in_items s c.items ++ (nodes_in_option s c.having ++ (nodes_in_entries s c.windows ++ nodes_in_order s c.order))) refl
-    (both K (nodes_in_items s c.items) (nodes_in_option s c.having ++ (nodes_in_entries s c.windows ++ nodes_in_order s c.order)) (items_kept s w K h shut c.items u.items)
-    (both K (nodes_in_option s c.having) (nodes_in_entries s c.windows ++ nodes_in_order s c.order) (option_kept s w K h shut c.having u.having)
-    (both K (nodes_in_entries s c.windows) (nodes_in_order s c.order) (entries_kept s w K h shut c.windows u.entries) (order_kept cs c.items Grouped w K h shut c.order u.order))))
+    each_once K [] (nodes_in_items s c.items
+    ++ (nodes_in_option s c.having ++ (nodes_in_entries s c.windows ++ nodes_in_order s c.order))) refl
+    (both K (nodes_in_items s c.items) (nodes_in_option s c.having ++ (nodes_in_entries s c.windows ++ nodes_in_order s
+    c.order)) (items_kept s w K h shut c.items u.items)
+    (both K (nodes_in_option s c.having) (nodes_in_entries s c.windows ++ nodes_in_order s c.order)
+    (option_kept s w K h shut c.having u.having)
+    (both K (nodes_in_entries s c.windows) (nodes_in_order s c.order) (entries_kept s w K h shut c.windows u.entries)
+    (order_kept cs c.items Grouped w K h shut c.order u.order))))
 
 pub window_kept : (cs : List Titled) (c : Clauses) (w : Tree → Look) (K : Tree → Bool) → Kept (is_call_of Windowed) w K
     → Shut (is_call_of Windowed) w K → Unseen cs c w → list_all K (window_calls c) ≡ true
 window_kept cs c w K h shut u =
     let s = is_call_of Windowed in
     each_once K [] (nodes_in_items s c.items ++ nodes_in_order s c.order) refl
-    (both K (nodes_in_items s c.items) (nodes_in_order s c.order) (items_kept s w K h shut c.items u.items) (order_kept cs c.items Windowed w K h shut c.order u.order))
+    (both K (nodes_in_items s c.items) (nodes_in_order s c.order) (items_kept s w K h shut c.items u.items)
+    (order_kept cs c.items Windowed w K h shut c.order u.order))
 
 -- the looks that find what is not listed
 
@@ -83,7 +91,8 @@ items_passed : (s K : Tree → Bool) (is : List ItemTree) → list_all K (nodes_
 items_passed s K [] e = refl
 items_passed s K (AllColumns ∷ is) e = items_passed s K is e
 items_passed s K (Computed t alias ∷ is) e =
-    or_from _ _ (passed_in s K t (front K (nodes_in s t) (nodes_in_items s is) e)) (items_passed s K is (back K (nodes_in s t) (nodes_in_items s is) e))
+    or_from _ _ (passed_in s K t (front K (nodes_in s t) (nodes_in_items s is) e))
+    (items_passed s K is (back K (nodes_in s t) (nodes_in_items s is) e))
 
 option_passed : (s K : Tree → Bool) (t : Option Tree) → list_all K (nodes_in_option s t) ≡ true → some_option (sees_failed s K) t ≡ false
 option_passed s K None e = refl
@@ -94,14 +103,16 @@ entries_passed : (s K : Tree → Bool) (es : List EntryTree) → list_all K (nod
 entries_passed s K [] e = refl
 entries_passed s K (entry ∷ es) e =
     or_from _ _
-    (passed_window s K (own_window entry.window) (front K (nodes_in_reach s (own_window entry.window)) (nodes_in_entries s es) e)) (entries_passed s K es (back K (nodes_in_reach s (own_window entry.window)) (nodes_in_entries s es) e))
+    (passed_window s K (own_window entry.window) (front K (nodes_in_reach s (own_window entry.window))
+    (nodes_in_entries s es) e)) (entries_passed s K es (back K (nodes_in_reach s (own_window entry.window)) (nodes_in_entries s es) e))
 
 order_passed : (cs : List Titled) (is : List ItemTree) (s K : Tree → Bool) (ks : List KeyTree) → list_all K (nodes_in_order s ks) ≡ true
     → some_sort cs is (sees_failed s K) ks ≡ false
 order_passed cs is s K [] e = refl
 order_passed cs is s K (k ∷ ks) e =
     or_from _ _
-    (and_right (not (is_output cs is k.expression)) (some_node (sees_failed s K) k.expression) (passed_in s K k.expression (front K (nodes_in s k.expression) (nodes_in_order s ks) e)))
+    (and_right (not (is_output cs is k.expression)) (some_node (sees_failed s K) k.expression)
+    (passed_in s K k.expression (front K (nodes_in s k.expression) (nodes_in_order s ks) e)))
     (order_passed cs is s K ks (back K (nodes_in s k.expression) (nodes_in_order s ks) e))
 
 abbrev pub sees_group_unlisted : Clauses → Tree → Look
@@ -114,12 +125,15 @@ pub group_listed : (cs : List Titled) (c : Clauses) → Unseen cs c (sees_group_
 group_listed cs c =
     let s = is_call_of Grouped in
     let K = is_listed (group_calls c) in
-    let all = all_listed [] (nodes_in_items s c.items ++ (nodes_in_option s c.having ++ (nodes_in_entries s c.windows ++ nodes_in_order s c.order))) in
-    let rest = back K (nodes_in_items s c.items) (nodes_in_option s c.having ++ (nodes_in_entries s c.windows ++ nodes_in_order s c.order)) all in
+    let all = all_listed [] (nodes_in_items s c.items
+    ++ (nodes_in_option s c.having ++ (nodes_in_entries s c.windows ++ nodes_in_order s c.order))) in
+    let rest = back K (nodes_in_items s c.items)
+    (nodes_in_option s c.having ++ (nodes_in_entries s c.windows ++ nodes_in_order s c.order)) all in
     let last = back K (nodes_in_option s c.having) (nodes_in_entries s c.windows ++ nodes_in_order s c.order) rest in
     record {
       items =
-          items_passed s K c.items (front K (nodes_in_items s c.items) (nodes_in_option s c.having ++ (nodes_in_entries s c.windows ++ nodes_in_order s c.order)) all);
+          items_passed s K c.items (front K (nodes_in_items s c.items)
+          (nodes_in_option s c.having ++ (nodes_in_entries s c.windows ++ nodes_in_order s c.order)) all);
       having =
           option_passed s K c.having (front K (nodes_in_option s c.having) (nodes_in_entries s c.windows ++ nodes_in_order s c.order) rest);
       entries = entries_passed s K c.windows (front K (nodes_in_entries s c.windows) (nodes_in_order s c.order) last);
@@ -133,9 +147,12 @@ pub record WindowListed (cs : List Titled) (c : Clauses) : Type 0 where
 pub window_listed : (cs : List Titled) (c : Clauses) → WindowListed cs c
 window_listed cs c = record {
   items =
-      items_passed (is_call_of Windowed) (is_listed (window_calls c)) c.items (front (is_listed (window_calls c)) (nodes_in_items (is_call_of Windowed) c.items) (nodes_in_order (is_call_of Windowed) c.order) all);
+      items_passed (is_call_of Windowed) (is_listed (window_calls c)) c.items (front (is_listed (window_calls c))
+      (nodes_in_items (is_call_of Windowed) c.items) (nodes_in_order (is_call_of Windowed) c.order) all);
   order =
-      order_passed cs c.items (is_call_of Windowed) (is_listed (window_calls c)) c.order (back (is_listed (window_calls c)) (nodes_in_items (is_call_of Windowed) c.items) (nodes_in_order (is_call_of Windowed) c.order) all);
+      order_passed cs c.items (is_call_of Windowed) (is_listed (window_calls c)) c.order
+      (back (is_listed (window_calls c)) (nodes_in_items (is_call_of Windowed) c.items)
+      (nodes_in_order (is_call_of Windowed) c.order) all);
 }
   where
     all : list_all (is_listed (window_calls c))

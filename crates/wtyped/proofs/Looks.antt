@@ -34,7 +34,8 @@ group_look false bad known = find bad
 abbrev pub sees_shown : Layout → List DataType → (Tree → Bool) → Tree → Look
 sees_shown l ts K (Field qualifier name) = find (is_bad l.columns (Field qualifier name) || not (is_typed_cell l ts (Field qualifier name)))
 sees_shown l ts K (Invoked name given filter reach) =
-    group_look (is_group_call (Invoked name given filter reach)) (is_bad l.columns (Invoked name given filter reach)) (K (Invoked name given filter reach))
+    group_look (is_group_call (Invoked name given filter reach)) (is_bad l.columns (Invoked name given filter reach))
+    (K (Invoked name given filter reach))
 sees_shown l ts K n = find (is_bad l.columns n)
 
 -- a test that finds no more than another one
@@ -98,10 +99,12 @@ sought false false u h = absurd (true≢false (sym (h refl)))
 -- what a node has that no rule refuses
 
 abbrev Good : List Titled → Tree → Type 0
-Good cs n = AreFalse (is_misshapen n) (is_missing cs n ∷ is_ill_typed cs n ∷ is_bad_call n ∷ is_misplaced_window_call n ∷ is_nested_group_call n ∷ [])
+Good cs n = AreFalse (is_misshapen n) (is_missing cs n ∷ is_ill_typed cs n ∷ is_bad_call n ∷ is_misplaced_window_call n
+    ∷ is_nested_group_call n ∷ [])
 
 good : (cs : List Titled) (n : Tree) → is_bad cs n ≡ false → Good cs n
-good cs n e = are_false (is_misshapen n) (is_missing cs n ∷ is_ill_typed cs n ∷ is_bad_call n ∷ is_misplaced_window_call n ∷ is_nested_group_call n ∷ []) e
+good cs n e = are_false (is_misshapen n) (is_missing cs n ∷ is_ill_typed cs n ∷ is_bad_call n ∷ is_misplaced_window_call n
+    ∷ is_nested_group_call n ∷ []) e
 
 pub is_there : (cs : List Titled) (qualifier : Option (List ℕ)) (name : List ℕ) → is_bad cs (Field qualifier name) ≡ false
     → list_any (has_name name) cs ≡ true
@@ -141,13 +144,15 @@ plain_shown l ts h (Field q name) =
     twice (find b) (find (b || not t)) (weaker b (b || not t) (λ e. or_from _ _ e (ap not (h q name (is_there l.columns q name e)))))
 plain_shown l ts h (Invoked name given filter reach) =
     let n = Invoked name given filter reach in
-    twice (find (is_bad l.columns n)) (group_look (is_group_call n) (is_bad l.columns n) true) (a_call (is_bad l.columns n) (is_group_call n))
+    twice (find (is_bad l.columns n)) (group_look (is_group_call n) (is_bad l.columns n) true)
+    (a_call (is_bad l.columns n) (is_group_call n))
 plain_shown l ts h n =
     twice (find (is_bad l.columns n)) (find (is_bad l.columns n)) (weaker (is_bad l.columns n) (is_bad l.columns n) (λ e. e))
 
 -- so do those of GROUP BY
 pub group_shown : (l : Layout) (ts : List DataType) (grouping : List Tree)
-    → ((q : Option (List ℕ)) (name : List ℕ) → list_any (has_name name) l.columns ≡ true → list_any (names name) grouping ≡ true → is_typed_cell l ts (Field q name) ≡ true)
+    → ((q : Option (List ℕ)) (name : List ℕ) → list_any (has_name name) l.columns ≡ true
+    → list_any (names name) grouping ≡ true → is_typed_cell l ts (Field q name) ≡ true)
     → (n : Tree) → covers (finds (is_bad l.columns) n) (sees_ungrouped grouping n) (sees_shown l ts (λ x. true) n) ≡ true
 group_shown l ts grouping h (Field q name) =
     let b = is_bad l.columns (Field q name) in let t = is_typed_cell l ts (Field q name) in
@@ -162,7 +167,8 @@ pub shown_known : (l : Layout) (ts : List DataType) (K : Tree → Bool) (n : Tre
     → covers (sees_shown l ts (λ x. true) n) (sees_failed (is_call_of Grouped) K n) (sees_shown l ts K n) ≡ true
 shown_known l ts K (Invoked name given filter reach) =
     let n = Invoked name given filter reach in
-    ap (λ (x : Bool). covers (group_look (is_group_call n) (is_bad l.columns n) true) (unless_passed x (K n)) (group_look (is_group_call n) (is_bad l.columns n) (K n))) (alike name given filter reach)
+    ap (λ (x : Bool). covers (group_look (is_group_call n) (is_bad l.columns n) true) (unless_passed x (K n))
+    (group_look (is_group_call n) (is_bad l.columns n) (K n))) (alike name given filter reach)
     ∙ an_unlisted (is_group_call n) (is_bad l.columns n) (K n)
 shown_known l ts K (Field q name) = weaker (is_bad l.columns (Field q name) || not (is_typed_cell l ts (Field q name))) _ (λ e. e)
 shown_known l ts K n = weaker (is_bad l.columns n) (is_bad l.columns n) (λ e. e)
@@ -173,25 +179,32 @@ still b t u h = weaker (b || not t) (not u) (λ e. ap not (h (not-false t (or_pa
 -- items and keys, over a row with the answers of all calls
 pub misfit_shown : (l : Layout) (ts us : List DataType) (K W : Tree → Bool)
     → ((q : Option (List ℕ)) (name : List ℕ) → is_typed_cell l ts (Field q name) ≡ true → is_typed_cell l us (Field q name) ≡ true)
-    → ((name : List ℕ) (given : Given) (filter : Filter) (reach : Reach) → K (Invoked name given filter reach) ≡ true → is_typed_cell l us (Invoked name given filter reach) ≡ true)
-    → ((name : List ℕ) (given : Given) (filter : Filter) (reach : Reach) → W (Invoked name given filter reach) ≡ true → is_typed_cell l us (Invoked name given filter reach) ≡ true)
+    → ((name : List ℕ) (given : Given) (filter : Filter) (reach : Reach) → K (Invoked name given filter reach) ≡ true
+    → is_typed_cell l us (Invoked name given filter reach) ≡ true)
+    → ((name : List ℕ) (given : Given) (filter : Filter) (reach : Reach) → W (Invoked name given filter reach) ≡ true
+    → is_typed_cell l us (Invoked name given filter reach) ≡ true)
     → (n : Tree) → covers (sees_shown l ts K n) (sees_failed (is_call_of Windowed) W n) (sees_misfit l us n) ≡ true
 misfit_shown l ts us K W cell group window (Field q name) =
     still (is_bad l.columns (Field q name)) (is_typed_cell l ts (Field q name)) (is_typed_cell l us (Field q name)) (cell q name)
 misfit_shown l ts us K W cell group window (Invoked name given filter reach) =
     let n = Invoked name given filter reach in
-    a_cell (is_group_call n) (has_over reach) (is_bad l.columns n) (K n) (W n) (is_typed_cell l us n) (λ g k. group name given filter reach k) (window name given filter reach) (λ g b. (outer name given filter reach (is_placed l.columns n b) g).1)
+    a_cell (is_group_call n) (has_over reach) (is_bad l.columns n) (K n) (W n) (is_typed_cell l us n)
+    (λ g k. group name given filter reach k) (window name given filter reach)
+    (λ g b. (outer name given filter reach (is_placed l.columns n b) g).1)
 misfit_shown l ts us K W cell group window n = weaker (is_bad l.columns n) (is_unfit l.columns n) (is_fit l.columns n)
 
 -- what calls with OVER, windows and HAVING are over
 pub misfit_inner : (l : Layout) (ts : List DataType) (K : Tree → Bool)
-    → ((name : List ℕ) (given : Given) (filter : Filter) (reach : Reach) → K (Invoked name given filter reach) ≡ true → is_typed_cell l ts (Invoked name given filter reach) ≡ true)
+    → ((name : List ℕ) (given : Given) (filter : Filter) (reach : Reach) → K (Invoked name given filter reach) ≡ true
+    → is_typed_cell l ts (Invoked name given filter reach) ≡ true)
     → (n : Tree) → covers (sees_shown l ts K n) (finds is_window_call n) (sees_misfit l ts n) ≡ true
 misfit_inner l ts K group (Field q name) =
     still (is_bad l.columns (Field q name)) (is_typed_cell l ts (Field q name)) (is_typed_cell l ts (Field q name)) (λ e. e)
 misfit_inner l ts K group (Invoked name given filter reach) =
     let n = Invoked name given filter reach in
-    a_cell (is_group_call n) (is_over reach) (is_bad l.columns n) (K n) false (is_typed_cell l ts n) (λ g k. group name given filter reach k) (λ e. absurd (true≢false (sym e))) (λ g b. (outer name given filter reach (is_placed l.columns n b) g).0)
+    a_cell (is_group_call n) (is_over reach) (is_bad l.columns n) (K n) false (is_typed_cell l ts n)
+    (λ g k. group name given filter reach k) (λ e. absurd (true≢false (sym e)))
+    (λ g b. (outer name given filter reach (is_placed l.columns n b) g).0)
 misfit_inner l ts K group n = weaker (is_bad l.columns n) (is_unfit l.columns n) (is_fit l.columns n)
 
 -- a call of either kind
@@ -211,9 +224,11 @@ pub misfit_source : (l : Layout) (ts : List DataType)
     → ((q : Option (List ℕ)) (name : List ℕ) → list_any (has_name name) l.columns ≡ true → is_typed_cell l ts (Field q name) ≡ true)
     → (n : Tree) → covers (finds (is_bad l.columns) n) (finds is_any_call n) (sees_misfit l ts n) ≡ true
 misfit_source l ts cell (Field q name) =
-    weaker (is_bad l.columns (Field q name)) (not (is_typed_cell l ts (Field q name))) (λ e. ap not (cell q name (is_there l.columns q name e)))
+    weaker (is_bad l.columns (Field q name)) (not (is_typed_cell l ts (Field q name)))
+    (λ e. ap not (cell q name (is_there l.columns q name e)))
 misfit_source l ts cell (Invoked name given filter reach) =
-    let n = Invoked name given filter reach in sought (is_bad l.columns n) (is_any_call n) (is_typed_cell l ts n) (λ b. any_call name given filter reach (is_placed l.columns n b))
+    let n = Invoked name given filter reach in sought (is_bad l.columns n) (is_any_call n) (is_typed_cell l ts n)
+    (λ b. any_call name given filter reach (is_placed l.columns n b))
 misfit_source l ts cell n = weaker (is_bad l.columns n) (is_unfit l.columns n) (is_fit l.columns n)
 
 -- looks that are open

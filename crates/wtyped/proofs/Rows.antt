@@ -1,5 +1,6 @@
 -- The row of windows, items and keys of a SELECT that breaks no rule, and what looks at its clauses find.
-use Rattle.std.proofs.Common.{◌≡◌, Bool, true, false, not, ◌&&◌, ◌||◌, ℕ, zero, suc, ◌+◌, List, [], ◌∷◌, ◌++◌, length, map, Option, Some, None, is_some, refl, sym, ap, ◌∙◌, append_assoc, true≢false}
+use Rattle.std.proofs.Common.{◌≡◌, Bool, true, false, not, ◌&&◌, ◌||◌, ℕ, zero, suc, ◌+◌, List, [], ◌∷◌, ◌++◌, length}
+use Rattle.std.proofs.Common.{map, Option, Some, None, is_some, refl, sym, ap, ◌∙◌, append_assoc, true≢false}
 use Rattle.std.specs.Prelude.{if◌then◌else◌}
 use Rattle.std.specs.List.{list_all, list_any}
 use Rattle.std.proofs.lemmas.Bool.{and_from, or_parts, or_right}
@@ -35,12 +36,18 @@ use Rattle.wtyped.proofs.Looks.{group_look, sees_shown}
 use Rattle.wtyped.proofs.Rules.{is_bad}
 use Rattle.wtyped.proofs.Rules as rules
 use Rattle.wtyped.proofs.Tests.{and_rest}
-use Rattle.wtyped.proofs.Walks.{Covers, Kept, Nowhere, Shut, Unseen, either_test, entries, items, listed_parts, open_find, option, parts_below, sorts, unseen, unseen_in}
+use Rattle.wtyped.proofs.Walks.{Covers, Kept, Nowhere, Shut, Unseen, either_test, entries, items, listed_parts}
+use Rattle.wtyped.proofs.Walks.{open_find, option, parts_below, sorts, unseen, unseen_in}
 use Rattle.std.proofs.lemmas.List.{append-nil, length-map, map-append}
 
 -- the row, where the query is grouped or not
 abbrev pub row_of : List Titled → Clauses → Bool → Layout
-row_of cs c b = record { columns = cs; grouping = if b then Some (made.group_columns cs c) else None; calls = group_calls c ++ window_calls c }
+row_of cs c b = record {
+  columns = cs;
+  grouping = if b then Some (made.group_columns cs c) else None;
+  calls =
+      group_calls c ++ window_calls c;
+}
 
 -- the types of the columns that it has, of these and what aggregates answer, and of all its cells
 abbrev pub first_cells : List Titled → Clauses → Bool → List DataType
@@ -77,7 +84,8 @@ column_typed cs c b more q name e g =
 pub source_typed : (cs : List Titled) (q : Option (List ℕ)) (name : List ℕ) → list_any (has_name name) cs ≡ true
     → is_typed_cell (source_row cs) (types_of cs) (Field q name) ≡ true
 source_typed cs q name e =
-    typed_cell (source_row cs) (types_of cs) (Field q name) (ap (type_at (place_named cs name)) (sym (append-nil (types_of cs))) ∙ plain_cell cs name [] e)
+    typed_cell (source_row cs) (types_of cs) (Field q name) (ap (type_at (place_named cs name))
+    (sym (append-nil (types_of cs))) ∙ plain_cell cs name [] e)
 
 -- calls
 
@@ -107,28 +115,34 @@ window_call_cell : (cs : List Titled) (c : Clauses) (b : Bool) (t : Tree) → is
     → type_at (width (row_of cs c b) + place_of_same (group_calls c ++ window_calls c) t) (all_cells cs c b) ≡ Some (type_of cs t)
 window_call_cell cs c b t e =
     let place = place_of_same (group_calls c ++ window_calls c) t in
-    ap (type_at (width (row_of cs c b) + place)) (append_assoc (first_cells cs c b) (map (type_of cs) (group_calls c)) (map (type_of cs) (window_calls c)) ∙ ap (λ ts. first_cells cs c b ++ ts) (sym (map-append (type_of cs) (group_calls c) (window_calls c))))
+    ap (type_at (width (row_of cs c b) + place)) (append_assoc (first_cells cs c b) (map (type_of cs) (group_calls c))
+    (map (type_of cs) (window_calls c)) ∙ ap (λ ts. first_cells cs c b ++ ts)
+    (sym (map-append (type_of cs) (group_calls c) (window_calls c))))
     ∙ at_width cs c b (map (type_of cs) (group_calls c ++ window_calls c)) place
     ∙ ap (type_at place) (sym (append-nil (map (type_of cs) (group_calls c ++ window_calls c))))
-    ∙ listed_type cs (group_calls c ++ window_calls c) t [] (list_any-append (λ (u : Tree). is_same u t) (group_calls c) (window_calls c) ∙ or_right _ _ e)
+    ∙ listed_type cs (group_calls c ++ window_calls c) t [] (list_any-append (λ (u : Tree). is_same u t) (group_calls c)
+    (window_calls c) ∙ or_right _ _ e)
 
 pub group_call_typed : (cs : List Titled) (c : Clauses) (b : Bool) (name : List ℕ) (given : Given) (filter : Filter) (reach : Reach)
     → is_listed (group_calls c) (Invoked name given filter reach) ≡ true
     → is_typed_cell (row_of cs c b) (group_cells cs c b) (Invoked name given filter reach) ≡ true
 group_call_typed cs c b name given filter reach e =
-    typed_cell (row_of cs c b) (group_cells cs c b) (Invoked name given filter reach) (group_call_cell cs c b (Invoked name given filter reach) e)
+    typed_cell (row_of cs c b) (group_cells cs c b) (Invoked name given filter reach)
+    (group_call_cell cs c b (Invoked name given filter reach) e)
 
 group_call_typed_too : (cs : List Titled) (c : Clauses) (b : Bool) (name : List ℕ) (given : Given) (filter : Filter) (reach : Reach)
     → is_listed (group_calls c) (Invoked name given filter reach) ≡ true
     → is_typed_cell (row_of cs c b) (all_cells cs c b) (Invoked name given filter reach) ≡ true
 group_call_typed_too cs c b name given filter reach e =
-    typed_cell (row_of cs c b) (all_cells cs c b) (Invoked name given filter reach) (before (group_cells cs c b) (map (type_of cs) (window_calls c)) _ _ (group_call_cell cs c b (Invoked name given filter reach) e))
+    typed_cell (row_of cs c b) (all_cells cs c b) (Invoked name given filter reach)
+    (before (group_cells cs c b) (map (type_of cs) (window_calls c)) _ _ (group_call_cell cs c b (Invoked name given filter reach) e))
 
 window_call_typed : (cs : List Titled) (c : Clauses) (b : Bool) (name : List ℕ) (given : Given) (filter : Filter) (reach : Reach)
     → is_listed (window_calls c) (Invoked name given filter reach) ≡ true
     → is_typed_cell (row_of cs c b) (all_cells cs c b) (Invoked name given filter reach) ≡ true
 window_call_typed cs c b name given filter reach e =
-    typed_cell (row_of cs c b) (all_cells cs c b) (Invoked name given filter reach) (window_call_cell cs c b (Invoked name given filter reach) e)
+    typed_cell (row_of cs c b) (all_cells cs c b) (Invoked name given filter reach)
+    (window_call_cell cs c b (Invoked name given filter reach) e)
 
 -- a query that is made a grouped one is judged as one
 
@@ -158,7 +172,9 @@ none_such (t ∷ ts) e = absurd (true≢false (sym e))
 no_group_call : (cs : List Titled) (c : Clauses) → some_shown cs c (finds is_group_call) ≡ false → is_some c.having ≡ false
     → judged.has_some (group_calls c) ≡ false
 no_group_call cs c e h =
-    none_such (group_calls c) (group_kept cs c (finds is_group_call) (λ n. false) (never (is_call_of Grouped) is_group_call (λ n. false) is_grouped_call) (open_finds (is_call_of Grouped) is_group_call (λ n. false)) (unseen_in cs c (finds is_group_call) e (no_option c.having h)))
+    none_such (group_calls c) (group_kept cs c (finds is_group_call) (λ n. false) (never (is_call_of Grouped) is_group_call
+    (λ n. false) is_grouped_call) (open_finds (is_call_of Grouped) is_group_call (λ n. false))
+    (unseen_in cs c (finds is_group_call) e (no_option c.having h)))
   where
     no_option : (t : Option Tree) → is_some t ≡ false → some_option (finds is_group_call) t ≡ false
     no_option None f = refl
@@ -172,7 +188,8 @@ three_ways false false z false h e = absurd (true≢false (sym e ∙ h refl refl
 
 judged_grouped : (cs : List Titled) (c : Clauses) → made.is_grouped c (group_calls c) ≡ true → judged.is_grouped cs c ≡ true
 judged_grouped cs c e =
-    three_ways (judged.has_some c.grouping) (is_some c.having) (judged.has_some (group_calls c)) (some_shown cs c (finds is_group_call)) (no_group_call cs c) e
+    three_ways (judged.has_some c.grouping) (is_some c.having) (judged.has_some (group_calls c))
+    (some_shown cs c (finds is_group_call)) (no_group_call cs c) e
 
 pub is_named_so : (cs : List Titled) (c : Clauses) → rules.Kept cs c → made.is_grouped c (group_calls c) ≡ true
     → names_ungrouped cs c ≡ false
@@ -197,10 +214,12 @@ columns : (cs : List Titled) (c : Clauses) (b : Bool) → rules.Kept cs c → ma
     → Unseen cs c (sees_shown (row_of cs c b) (group_cells cs c b) (λ n. true))
 columns cs c false k e =
     let more = map (type_of cs) (group_calls c) in
-    unseen (looks.plain_shown (row_of cs c false) (group_cells cs c false) (λ q name there. column_typed cs c false more q name there tt)) k.bad.shown k.bad.shown
+    unseen (looks.plain_shown (row_of cs c false) (group_cells cs c false) (λ q name there. column_typed cs c false more q
+    name there tt)) k.bad.shown k.bad.shown
 columns cs c true k e =
     let more = map (type_of cs) (group_calls c) in
-    unseen (looks.group_shown (row_of cs c true) (group_cells cs c true) (all_columns c.grouping) (λ q name there named. column_typed cs c true more q name there named)) k.bad.shown (names_grouped cs c k e).0
+    unseen (looks.group_shown (row_of cs c true) (group_cells cs c true) (all_columns c.grouping)
+    (λ q name there named. column_typed cs c true more q name there named)) k.bad.shown (names_grouped cs c k e).0
 
 abbrev pub Shown : List Titled → Clauses → Bool → Type 0
 Shown cs c b = Unseen cs c (sees_row cs c b)
@@ -217,12 +236,15 @@ still_typed : (cs : List Titled) (c : Clauses) (b : Bool) (q : Option (List ℕ)
     → is_typed_cell (row_of cs c b) (all_cells cs c b) (Field q name) ≡ true
 still_typed cs c b q name e =
     typed_cell (row_of cs c b) (all_cells cs c b) (Field q name)
-    (before (group_cells cs c b) (map (type_of cs) (window_calls c)) (cell_in (row_of cs c b).grouping (place_named cs name)) (type_named cs name) (cell_typed (row_of cs c b) (group_cells cs c b) (Field q name) e))
+    (before (group_cells cs c b) (map (type_of cs) (window_calls c))
+    (cell_in (row_of cs c b).grouping (place_named cs name)) (type_named cs name)
+    (cell_typed (row_of cs c b) (group_cells cs c b) (Field q name) e))
 
 whole : (cs : List Titled) (c : Clauses) (b : Bool)
     → Covers (sees_row cs c b) (sees_window_unlisted c) (sees_misfit (row_of cs c b) (all_cells cs c b))
 whole cs c b =
-    looks.misfit_shown (row_of cs c b) (group_cells cs c b) (all_cells cs c b) (is_listed (group_calls c)) (is_listed (window_calls c)) (still_typed cs c b) (group_call_typed_too cs c b) (window_call_typed cs c b)
+    looks.misfit_shown (row_of cs c b) (group_cells cs c b) (all_cells cs c b) (is_listed (group_calls c))
+    (is_listed (window_calls c)) (still_typed cs c b) (group_call_typed_too cs c b) (window_call_typed cs c b)
 
 pub fit_items : (cs : List Titled) (c : Clauses) (b : Bool) → Shown cs c b
     → some_item (sees_misfit (row_of cs c b) (all_cells cs c b)) c.items ≡ false
@@ -258,7 +280,8 @@ no_calls t e f = parts_below _ _ _ (either_test is_window_call is_group_call) t 
 pub fit_condition : (cs : List Titled) (c : Clauses) → rules.Kept cs c
     → some_option (sees_misfit (source_row cs) (types_of cs)) c.condition ≡ false
 fit_condition cs c k =
-    option _ _ _ (source cs) c.condition k.bad.condition (option _ _ _ (either_test is_window_call is_group_call) c.condition k.condition_windows k.condition_groups)
+    option _ _ _ (source cs) c.condition k.bad.condition (option _ _ _ (either_test is_window_call is_group_call)
+    c.condition k.condition_windows k.condition_groups)
 
 -- the calls that are listed
 
@@ -287,8 +310,10 @@ shut_row cs c b K (Invoked name given filter reach) out shut = go (is_group_call
     go false is e =
         absurd (group_shut (is_bad cs (Invoked name given filter reach)) (is_listed (group_calls c) (Invoked name given filter reach)) e)
     go true is e =
-        listed_parts (is_call_of Windowed) (finds is_window_call) K (never (is_call_of Windowed) is_window_call K is_windowed_call) (open_finds (is_call_of Windowed) is_window_call K) (Invoked name given filter reach)
-        (looks.no_inner_window name given filter reach (looks.is_placed cs (Invoked name given filter reach) (shut_not (is_bad cs (Invoked name given filter reach)) (is_listed (group_calls c) (Invoked name given filter reach)) e)))
+        listed_parts (is_call_of Windowed) (finds is_window_call) K (never (is_call_of Windowed) is_window_call K
+        is_windowed_call) (open_finds (is_call_of Windowed) is_window_call K) (Invoked name given filter reach)
+        (looks.no_inner_window name given filter reach (looks.is_placed cs (Invoked name given filter reach)
+        (shut_not (is_bad cs (Invoked name given filter reach)) (is_listed (group_calls c) (Invoked name given filter reach)) e)))
 shut_row cs c b K (Field q name) out shut =
     absurd (looks.find_open (is_bad cs (Field q name) || not (is_typed_cell (row_of cs c b) (group_cells cs c b) (Field q name))) shut)
 shut_row cs c b K n out shut = absurd (looks.find_open (is_bad cs n) shut)
@@ -300,16 +325,19 @@ window_rows cs c b s =
     let w = sees_row cs c b in window_kept cs c w (is_clear Windowed w) (kept_clear Windowed w) (shut_row cs c b (is_clear Windowed w)) s
 
 -- its aggregates
-pub group_sources : (cs : List Titled) (c : Clauses) → rules.Kept cs c → list_all (is_clear Grouped (finds (is_bad cs))) (group_calls c) ≡ true
+pub group_sources : (cs : List Titled) (c : Clauses) → rules.Kept cs c
+    → list_all (is_clear Grouped (finds (is_bad cs))) (group_calls c) ≡ true
 group_sources cs c k =
     let w = finds (is_bad cs) in
-    group_kept cs c w (is_clear Grouped w) (kept_clear Grouped w) (open_finds (is_call_of Grouped) (is_bad cs) (is_clear Grouped w)) k.bad.shown
+    group_kept cs c w (is_clear Grouped w) (kept_clear Grouped w) (open_finds (is_call_of Grouped) (is_bad cs)
+    (is_clear Grouped w)) k.bad.shown
 
 ungrouped_shut : (g : List Tree) (K : Tree → Bool) → Shut (is_call_of Grouped) (sees_ungrouped g) K
 ungrouped_shut g K (Field q name) out shut = absurd (looks.field_open (list_any (names name) g) shut)
 ungrouped_shut g K (Invoked name (Columns us) filter reach) out shut = absurd (looks.below_open shut)
 ungrouped_shut g K (Invoked name given filter reach) out shut =
-    absurd (true≢false (sym (looks.closed_call (is_group_call (Invoked name given filter reach)) shut) ∙ sym (looks.alike name given filter reach) ∙ out))
+    absurd (true≢false (sym (looks.closed_call (is_group_call (Invoked name given filter reach)) shut)
+    ∙ sym (looks.alike name given filter reach) ∙ out))
 ungrouped_shut g K _ out shut = absurd (looks.below_open shut)
 
 pub group_columns_named : (cs : List Titled) (c : Clauses) → rules.Kept cs c → made.is_grouped c (group_calls c) ≡ true
@@ -334,7 +362,8 @@ without s r n sought e = ap not (open_find (r n) (some_below (finds r) n) e).0
 pub windows_without : (cs : List Titled) (c : Clauses) (r : Tree → Bool) → Nowhere cs c (finds r)
     → list_all (λ (n : Tree). not (r n)) (window_calls c) ≡ true
 windows_without cs c r e =
-    window_kept cs c (finds r) (λ n. not (r n)) (without (is_call_of Windowed) r) (open_finds (is_call_of Windowed) r (λ n. not (r n))) e.shown
+    window_kept cs c (finds r) (λ n. not (r n)) (without (is_call_of Windowed) r) (open_finds (is_call_of Windowed) r
+    (λ n. not (r n))) e.shown
 
 -- `*` in a grouped query
 pub star_named : (cs : List Titled) (c : Clauses) → rules.Kept cs c → made.is_grouped c (group_calls c) ≡ true

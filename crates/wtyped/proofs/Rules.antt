@@ -12,14 +12,19 @@ use Rattle.wscope.specs.Seeking.{some_node}
 use Rattle.wscope.specs.Types.{Titled}
 use Rattle.wnames.specs.Calls.{breaks_calls, breaks_filters, breaks_zeroths, is_bad_call}
 use Rattle.wnames.specs.Names.{breaks_ambiguity, breaks_columns, breaks_tables, is_ambiguous, is_ambiguous_key, is_missing}
-use Rattle.wnames.specs.Groups.{breaks_aggregate_places, breaks_grouping, breaks_window_places, is_group_call, is_misplaced_window_call, is_nested_group_call, is_window_call}
+use Rattle.wnames.specs.Groups.{breaks_aggregate_places, breaks_grouping, breaks_window_places, is_group_call}
+use Rattle.wnames.specs.Groups.{is_misplaced_window_call, is_nested_group_call, is_window_call}
 use Rattle.wnames.specs.Types.{breaks_types, is_ill_typed, is_no_condition, is_truth_entry, is_truth_item, is_truth_key}
 use Rattle.wscope.specs.Sources.{written_out}
 use Rattle.wwindows.specs.Limits.{breaks_limits}
 use Rattle.wwindows.specs.Order.{breaks_places}
-use Rattle.wwindows.specs.Windows.{breaks_bounds, breaks_copies, breaks_entries, breaks_groups, breaks_ranges, breaks_window_names, windows_of}
+use Rattle.wwindows.specs.Windows.{breaks_bounds, breaks_copies, breaks_entries, breaks_groups}
+use Rattle.wwindows.specs.Windows.{breaks_ranges, breaks_window_names, windows_of}
 use Rattle.wrules.specs.declared.rule.Rule.{Rule}
-use Rattle.wrules.specs.declared.rule.Rule.TheVariants.{UnknownTable, UnknownColumn, AmbiguousName, WrongCall, WrongType, MisplacedWindowCall, MisplacedAggregate, UngroupedColumn, WrongFilter, UnknownWindow, RepeatedWindow, WrongCopy, WrongBounds, UnorderedGroups, WrongRangeKey, ZeroCount, WrongPlace, OverLimit}
+use Rattle.wrules.specs.declared.rule.Rule.TheVariants.{UnknownTable, UnknownColumn, AmbiguousName, WrongCall, WrongType}
+use Rattle.wrules.specs.declared.rule.Rule.TheVariants.{MisplacedWindowCall, MisplacedAggregate, UngroupedColumn, WrongFilter}
+use Rattle.wrules.specs.declared.rule.Rule.TheVariants.{UnknownWindow, RepeatedWindow, WrongCopy, WrongBounds, UnorderedGroups}
+use Rattle.wrules.specs.declared.rule.Rule.TheVariants.{WrongRangeKey, ZeroCount, WrongPlace, OverLimit}
 use Rattle.wrules.specs.Rules.{first_of, first_of_names, first_of_windows, least_broken, or_else}
 use Rattle.wtyped.specs.Shapes.{has_misshapen, is_field, is_key_misshapen, is_misshapen}
 use Rattle.wtyped.proofs.Walks.{Nowhere, all_nowhere, both_nowhere, some_of}
@@ -43,7 +48,8 @@ abbrev AreKept : List (Rule × Bool) → Type 0
 AreKept [] = Unit {0}
 AreKept (r ∷ rs) = (r.1 ≡ false) × AreKept rs
 
-none_first : (rule : Rule) (b : Bool) (rs : List (Rule × Bool)) → (if b then Some rule else first_of rs) ≡ None → (b ≡ false) × (first_of rs ≡ None)
+none_first : (rule : Rule) (b : Bool) (rs : List (Rule × Bool)) → (if b then Some rule else first_of rs) ≡ None
+    → (b ≡ false) × (first_of rs ≡ None)
 none_first rule true rs e = absurd (some_or_none rule e)
 none_first rule false rs e = (refl, e)
 
@@ -76,11 +82,15 @@ pub rules_kept : (table alias : List ℕ) (cs : List Titled) (c : Clauses) (s : 
 rules_kept table alias cs c s e =
     let ws = windows_of c in let n = neither (first_of_names table alias cs c s) (first_of_windows ws cs c) e in
     let names = are_kept (
-    (UnknownTable, breaks_tables table alias cs c s) ∷ (UnknownColumn, breaks_columns cs c) ∷ (AmbiguousName, breaks_ambiguity cs c) ∷ (WrongCall, breaks_calls cs c) ∷ (WrongType, breaks_types cs c)
-    ∷ (MisplacedWindowCall, breaks_window_places cs c) ∷ (MisplacedAggregate, breaks_aggregate_places cs c) ∷ (UngroupedColumn, breaks_grouping cs c) ∷ (WrongFilter, breaks_filters cs c) ∷ []) n.0 in
+    (UnknownTable, breaks_tables table alias cs c s) ∷ (UnknownColumn, breaks_columns cs c)
+    ∷ (AmbiguousName, breaks_ambiguity cs c) ∷ (WrongCall, breaks_calls cs c) ∷ (WrongType, breaks_types cs c)
+    ∷ (MisplacedWindowCall, breaks_window_places cs c) ∷ (MisplacedAggregate, breaks_aggregate_places cs c)
+    ∷ (UngroupedColumn, breaks_grouping cs c) ∷ (WrongFilter, breaks_filters cs c) ∷ []) n.0 in
     let windows = are_kept (
-    (UnknownWindow, breaks_window_names ws cs c) ∷ (RepeatedWindow, breaks_entries c.windows) ∷ (WrongCopy, breaks_copies ws cs c) ∷ (WrongBounds, breaks_bounds ws cs c) ∷ (UnorderedGroups, breaks_groups ws cs c)
-    ∷ (WrongRangeKey, breaks_ranges ws cs c) ∷ (ZeroCount, breaks_zeroths cs c) ∷ (WrongPlace, breaks_places cs c) ∷ (OverLimit, breaks_limits cs c) ∷ []) n.1 in
+    (UnknownWindow, breaks_window_names ws cs c) ∷ (RepeatedWindow, breaks_entries c.windows)
+    ∷ (WrongCopy, breaks_copies ws cs c) ∷ (WrongBounds, breaks_bounds ws cs c) ∷ (UnorderedGroups, breaks_groups ws cs c)
+    ∷ (WrongRangeKey, breaks_ranges ws cs c) ∷ (ZeroCount, breaks_zeroths cs c) ∷ (WrongPlace, breaks_places cs c)
+    ∷ (OverLimit, breaks_limits cs c) ∷ []) n.1 in
     let types = names.1.1.1.1 in let groups = windows.1.1.1.1 in
     record {
       tables = names.0;
@@ -123,9 +133,19 @@ shaped_keys cs is (k ∷ ks) e =
 well_shaped : (cs : List Titled) (c : Clauses) → has_misshapen c ≡ false → Nowhere cs c (finds is_misshapen)
 well_shaped cs c e =
     let w = finds is_misshapen in
-    let a = are_false (some_item w c.items) (some_option w c.condition ∷ some_option w c.having ∷ some_entry w c.windows ∷ list_any is_key_misshapen c.order ∷ []) e in
+    let a = are_false (some_item w c.items) (some_option w c.condition ∷ some_option w c.having ∷ some_entry w c.windows
+    ∷ list_any is_key_misshapen c.order ∷ []) e in
     let rest = a.1.1.1 in
-    record { shown = record { items = a.0; entries = rest.0; order = shaped_keys cs c.items c.order rest.1; having = a.1.1.0 }; condition = a.1.0 }
+    record {
+      shown = record {
+        items = a.0;
+        entries = rest.0;
+        order = shaped_keys cs c.items c.order rest.1;
+        having =
+            a.1.1.0;
+      };
+      condition = a.1.0;
+    }
 
 pub record Kept (cs : List Titled) (c : Clauses) : Type 0 where
   pub bad : Nowhere cs c (finds (is_bad cs))
@@ -153,12 +173,18 @@ kept table alias cs c s e shaped =
     let n = rules_kept table alias cs c s e in
     let sh = and_parts _ _ shaped in
     let missing = or_parts _ _ n.columns in
-    let ambiguous = are_false (some_anywhere cs c (finds (is_ambiguous cs))) (list_any (is_ambiguous cs) (all_columns c.grouping) ∷ list_any (λ (k : KeyTree). is_ambiguous_key cs (written_out cs c.items) k.expression) c.order ∷ []) n.ambiguity in
-    let t = are_false (some_anywhere cs c (finds (is_ill_typed cs))) (is_no_condition cs c.condition ∷ is_no_condition cs c.having ∷ list_any (is_truth_item cs) c.items ∷ list_any (is_truth_entry cs) c.windows ∷ list_any (is_truth_key cs c.items) c.order ∷ []) n.types in
+    let ambiguous = are_false (some_anywhere cs c (finds (is_ambiguous cs)))
+    (list_any (is_ambiguous cs) (all_columns c.grouping) ∷ list_any (λ (k : KeyTree). is_ambiguous_key cs
+    (written_out cs c.items) k.expression) c.order ∷ []) n.ambiguity in
+    let t = are_false (some_anywhere cs c (finds (is_ill_typed cs))) (is_no_condition cs c.condition ∷ is_no_condition cs
+    c.having ∷ list_any (is_truth_item cs) c.items ∷ list_any (is_truth_entry cs) c.windows ∷ list_any
+    (is_truth_key cs c.items) c.order ∷ []) n.types in
     let values = t.1.1.1 in
-    let v = are_false (some_option (finds is_window_call) c.condition) (some_option (finds is_window_call) c.having ∷ some_entry (finds is_window_call) c.windows ∷ some_anywhere cs c (finds is_misplaced_window_call) ∷ []) n.window_places in
+    let v = are_false (some_option (finds is_window_call) c.condition) (some_option (finds is_window_call) c.having
+    ∷ some_entry (finds is_window_call) c.windows ∷ some_anywhere cs c (finds is_misplaced_window_call) ∷ []) n.window_places in
     let g = or_parts _ _ n.aggregates in
-    let judged = all_nowhere cs c (is_missing cs) (is_ill_typed cs ∷ is_bad_call ∷ is_misplaced_window_call ∷ is_nested_group_call ∷ []) (missing.0, (t.0, (n.calls, (v.1.1.1, g.1)))) in
+    let judged = all_nowhere cs c (is_missing cs) (is_ill_typed cs ∷ is_bad_call ∷ is_misplaced_window_call
+    ∷ is_nested_group_call ∷ []) (missing.0, (t.0, (n.calls, (v.1.1.1, g.1)))) in
     record {
       bad = both_nowhere is_misshapen (is_refused cs) (well_shaped cs c (not-true _ sh.1)) judged;
       columns = missing.1;

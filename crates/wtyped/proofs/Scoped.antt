@@ -1,5 +1,7 @@
 -- The words of a query that no rule refuses denote what is there.
-use Rattle.std.proofs.Common.{◌≡◌, Bool, true, false, not, ◌&&◌, ◌||◌, ◌==◌, ℕ, zero, suc, ◌+◌, ◌≤◌, nat_lt, nat_le, List, [], ◌∷◌, ◌++◌, Option, Some, None, is_some, length, take, refl, sym, subst, ap, ap₂, ◌∙◌, append_assoc, length-append, true≢false, arith}
+use Rattle.std.proofs.Common.{◌≡◌, Bool, true, false, not, ◌&&◌, ◌||◌, ◌==◌, ℕ, zero, suc, ◌+◌, ◌≤◌, nat_lt}
+use Rattle.std.proofs.Common.{nat_le, List, [], ◌∷◌, ◌++◌, Option, Some, None, is_some, length, take, refl}
+use Rattle.std.proofs.Common.{sym, subst, ap, ap₂, ◌∙◌, append_assoc, length-append, true≢false, arith}
 use Rattle.std.specs.Prelude.{if◌then◌else◌}
 use Rattle.std.specs.List.{list_any}
 use Rattle.std.specs.Str.{bytes_eq}
@@ -7,8 +9,11 @@ use Rattle.std.proofs.lemmas.Bool.{or_parts, or_from, and_parts, and_from, not-f
 use Rattle.std.proofs.lemmas.List.{append-nil, take_at}
 use Rattle.wsegment.specs.Declaration.{Declaration}
 use Rattle.wquery.specs.GroupElements.{all_columns}
-use Rattle.wquery.specs.QueryTree.{Clauses, QueryTree, Selected, SourceTree, FromTable, FromQuery, ItemTree, AllColumns, Computed, EntryTree}
-use Rattle.wquery.specs.Tree.{Tree, NullWord, Numeral, Quoted, Field, Invoked, Signed, Trees, NoTrees, MoreTrees, Given, Everything, These, Columns, Filter, Unfiltered, FilteredBy, Reach, ItsGroup, ThatWindow, OwnWindow, Keys, NoKeys, MoreKeys, KeyTree, own_window}
+use Rattle.wquery.specs.QueryTree.{Clauses, QueryTree, Selected, SourceTree, FromTable, FromQuery}
+use Rattle.wquery.specs.QueryTree.{ItemTree, AllColumns, Computed, EntryTree}
+use Rattle.wquery.specs.Tree.{Tree, NullWord, Numeral, Quoted, Field, Invoked, Signed, Trees, NoTrees, MoreTrees}
+use Rattle.wquery.specs.Tree.{Given, Everything, These, Columns, Filter, Unfiltered, FilteredBy, Reach, ItsGroup}
+use Rattle.wquery.specs.Tree.{ThatWindow, OwnWindow, Keys, NoKeys, MoreKeys, KeyTree, own_window}
 use Rattle.wscope.specs.Called.{first_called, is_column_at, is_unlike, same_shown}
 use Rattle.wscope.specs.declared.function.Function.{Function}
 use Rattle.wscope.specs.declared.function.Function.TheVariants as functions
@@ -25,13 +30,17 @@ use Rattle.wnames.specs.Calls.{counts_some, is_bad_call, is_bad_filter, is_numbe
 use Rattle.wnames.specs.Calls as judged
 use Rattle.wnames.specs.Names.{count_named, is_ambiguous, is_ambiguous_key, is_misqualified, is_missing, is_other, names_other_table}
 use Rattle.wwindows.specs.Order.{count_items, is_bad_place, is_behind_signs}
-use Rattle.wwindows.specs.Windows.{breaks_entries, copies_badly, copies_unknown, is_over_bad_copy, is_over_unknown, reach_is, some_entry_after, windows_of}
+use Rattle.wwindows.specs.Windows.{breaks_entries, copies_badly, copies_unknown, is_over_bad_copy}
+use Rattle.wwindows.specs.Windows.{is_over_unknown, reach_is, some_entry_after, windows_of}
 use Rattle.wwindows.specs.Windows as windows
 use Rattle.wrules.specs.Rules.{depth_rule, judged as rules_judged, least, least_source, or_else, sets_rule}
 use Rattle.wplan.specs.Formula.{At}
 use Rattle.wbinding.specs.Resolving.{Layout, cell_of, resolved}
 use Rattle.wresolve.specs.Selecting.{called_or, key_shown, shown_formula}
-use Rattle.wtyped.specs.Scoped.{AcceptedIsScoped, AreEntries, AreOneValue, Denotes, DenotesClauses, DenotesColumn, DenotesGroup, DenotesKey, DenotesName, DenotesOrder, DenotesQuery, DenotesSource, InEntries, InItems, InList, InOption, InReach, Throughout, are_none, copies, is_alias, is_called, is_constant, is_filtered, is_form, is_known_call, is_known_window, is_none, places_of, holding}
+use Rattle.wtyped.specs.Scoped.{AcceptedIsScoped, AreEntries, AreOneValue, Denotes, DenotesClauses, DenotesColumn, DenotesGroup}
+use Rattle.wtyped.specs.Scoped.{DenotesKey, DenotesName, DenotesOrder, DenotesQuery, DenotesSource, InEntries, InItems, InList}
+use Rattle.wtyped.specs.Scoped.{InOption, InReach, Throughout, are_none, copies, is_alias, is_called, is_constant, is_filtered}
+use Rattle.wtyped.specs.Scoped.{is_form, is_known_call, is_known_window, is_none, places_of, holding}
 use Rattle.wtyped.proofs.Equal as equal
 use Rattle.wtyped.proofs.Items.{items_called}
 use Rattle.wtyped.proofs.Rules.{neither, rules_kept}
@@ -43,7 +52,8 @@ use Rattle.wtyped.proofs.Walks.{all_nowhere, open_find, some_of}
 abbrev Says : (Tree → Bool) → (Tree → Type 0) → Type 0
 Says r P = (n : Tree) → r n ≡ false → P n
 
-all_inside : (r : Tree → Bool) (P : Tree → Type 0) → Says r P → Relates (λ (x : Bool) (X Y : Type 0). x ≡ false → X) (seeking (finds r)) (holding P) (holding P)
+all_inside : (r : Tree → Bool) (P : Tree → Type 0) → Says r P → Relates (λ (x : Bool) (X Y : Type 0). x ≡ false
+    → X) (seeking (finds r)) (holding P) (holding P)
 all_inside r P h = record {
   none = λ e. tt;
   both = λ x x' X X' Y Y' f g e. let p = or_parts x x' e in (f p.0, g p.1);
@@ -94,13 +104,16 @@ one_place place (c ∷ cs) name e f = go (bytes_eq c.name name) e f (λ g h. one
   where
     go : (b : Bool) → (b || list_any (has_name name) cs) ≡ true
         → nat_lt 1 (if b then suc (count_named name cs) else count_named name cs) ≡ false
-        → (list_any (has_name name) cs ≡ true → nat_lt 1 (count_named name cs) ≡ false → places_of (suc place) cs name ≡ (suc place + place_named cs name) ∷ [])
-        → (if b then place ∷ places_of (suc place) cs name else places_of (suc place) cs name) ≡ (place + (if b then 0 else suc (place_named cs name))) ∷ []
+        → (list_any (has_name name) cs ≡ true → nat_lt 1 (count_named name cs) ≡ false
+        → places_of (suc place) cs name ≡ (suc place + place_named cs name) ∷ [])
+        → (if b then place ∷ places_of (suc place) cs name else places_of (suc place) cs name)
+        ≡ (place + (if b then 0 else suc (place_named cs name))) ∷ []
     go true g h rest =
         let here : place ≡ place + 0 = omega arith in let few = ltb-false 1 (suc (count_named name cs)) h in
         ap₂ (λ (p : ℕ) (ps : List ℕ). p ∷ ps) here (no_places (suc place) cs name (omega (arith, few)))
     go false g h rest =
-        let next : suc place + place_named cs name ≡ place + suc (place_named cs name) = omega arith in rest g h ∙ ap (λ (p : ℕ). p ∷ []) next
+        let next : suc place + place_named cs name ≡ place + suc (place_named cs name) = omega arith in
+        rest g h ∙ ap (λ (p : ℕ). p ∷ []) next
 
 only_place : (cs : List Titled) (name : List ℕ) → list_any (has_name name) cs ≡ true → nat_lt 1 (count_named name cs) ≡ false
     → places_of 0 cs name ≡ place_named cs name ∷ []
@@ -254,15 +267,18 @@ window_known ws (OwnWindow (Some name) ts ks frame) a b =
 
 abbrev is_undenoted : Origin → List NamedWindow → Tree → Bool
 is_undenoted o ws = some_of (is_misqualified o.alias)
-    (is_missing o.columns ∷ is_ambiguous o.columns ∷ is_bad_call ∷ is_zeroth ∷ is_bad_filter ∷ reach_is (is_over_unknown ws) ∷ reach_is (is_over_bad_copy ws) ∷ [])
+    (is_missing o.columns ∷ is_ambiguous o.columns ∷ is_bad_call ∷ is_zeroth ∷ is_bad_filter ∷ reach_is (is_over_unknown ws)
+    ∷ reach_is (is_over_bad_copy ws) ∷ [])
 
 abbrev Eight : Origin → List NamedWindow → Tree → Type 0
 Eight o ws n =
-    AreFalse (is_misqualified o.alias n) (is_missing o.columns n ∷ is_ambiguous o.columns n ∷ is_bad_call n ∷ is_zeroth n ∷ is_bad_filter n ∷ reach_is (is_over_unknown ws) n ∷ reach_is (is_over_bad_copy ws) n ∷ [])
+    AreFalse (is_misqualified o.alias n) (is_missing o.columns n ∷ is_ambiguous o.columns n ∷ is_bad_call n ∷ is_zeroth n
+    ∷ is_bad_filter n ∷ reach_is (is_over_unknown ws) n ∷ reach_is (is_over_bad_copy ws) n ∷ [])
 
 eight : (o : Origin) (ws : List NamedWindow) (n : Tree) → is_undenoted o ws n ≡ false → Eight o ws n
 eight o ws n e =
-    are_false (is_misqualified o.alias n) (is_missing o.columns n ∷ is_ambiguous o.columns n ∷ is_bad_call n ∷ is_zeroth n ∷ is_bad_filter n ∷ reach_is (is_over_unknown ws) n ∷ reach_is (is_over_bad_copy ws) n ∷ []) e
+    are_false (is_misqualified o.alias n) (is_missing o.columns n ∷ is_ambiguous o.columns n ∷ is_bad_call n ∷ is_zeroth n
+    ∷ is_bad_filter n ∷ reach_is (is_over_unknown ws) n ∷ reach_is (is_over_bad_copy ws) n ∷ []) e
 
 denoted : (o : Origin) (ws : List NamedWindow) → Says (is_undenoted o ws) (Denotes o ws)
 denoted o ws (Field q name) e = let k = eight o ws (Field q name) e in column o q name k.0 k.1.0 k.1.1.0
@@ -314,7 +330,8 @@ named_behind [] x name = go (bytes_eq x.name name)
 named_behind (w ∷ ws) x name = go (bytes_eq w.name name) (named_behind ws x name)
   where
     go : (b : Bool) → is_some (window_named (ws ++ x ∷ []) name) ≡ (is_some (window_named ws name) || bytes_eq x.name name)
-        → is_some (if b then Some w.window else window_named (ws ++ x ∷ []) name) ≡ (is_some (if b then Some w.window else window_named ws name) || bytes_eq x.name name)
+        → is_some (if b then Some w.window else window_named (ws ++ x ∷ []) name)
+        ≡ (is_some (if b then Some w.window else window_named ws name) || bytes_eq x.name name)
     go true rest = refl
     go false rest = rest
 
@@ -345,8 +362,10 @@ entries_known all place earlier (e ∷ es) p a fresh apart unknown badly =
     let b = or_parts _ _ badly in
     let n = or_parts _ _ apart in (
       fresh.0,
-      window_known earlier (own_window e.window) (ap (λ (ws : List NamedWindow). copies_unknown ws e.window) (sym here) ∙ u.0) (ap (λ (ws : List NamedWindow). copies_badly ws e.window) (sym here) ∙ b.0),
-      entries_known all (suc place) (earlier ++ x ∷ []) es (ap suc p ∙ length_next earlier x) a (still_fresh earlier x es fresh.1 n.0) n.1 u.1 b.1,
+      window_known earlier (own_window e.window) (ap (λ (ws : List NamedWindow). copies_unknown ws e.window) (sym here)
+          ∙ u.0) (ap (λ (ws : List NamedWindow). copies_badly ws e.window) (sym here) ∙ b.0),
+      entries_known all (suc place) (earlier ++ x ∷ []) es (ap suc p ∙ length_next earlier x) a
+          (still_fresh earlier x es fresh.1 n.0) n.1 u.1 b.1,
     )
 
 -- keys
@@ -418,7 +437,8 @@ one_value cs g calls name is called e = go (first_called name is) refl (some_fir
         → AreOneValue (row_with cs g calls) name (shown_formula (row_with cs g calls) (called_or (Spelled (Field None name)) name is)) is
     go None f s h = absurd (true≢false (sym s))
     go (Some x) f s h =
-        subst (λ (y : Shown). AreOneValue (row_with cs g calls) name (shown_formula (row_with cs g calls) y) is) (sym (first_is name (Spelled (Field None name)) x is f)) (all_alike cs g calls name x is h)
+        subst (λ (y : Shown). AreOneValue (row_with cs g calls) name (shown_formula (row_with cs g calls) y) is)
+        (sym (first_is name (Spelled (Field None name)) x is f)) (all_alike cs g calls name x is h)
 
 constant_alike : (t : Tree) → is_constant t ≡ is_behind_signs t
 constant_alike (Signed minus t) = constant_alike t
@@ -468,14 +488,18 @@ clauses_denoted : (d : Declaration) (o : Origin) (c : Clauses) (s : SourceTree) 
 clauses_denoted d o c s e =
     let ws = windows_of c in let cs = o.columns in
     let k = rules_kept d.table o.alias cs c s e in
-    let tables = are_false (names_other_table d.table s) (some_anywhere cs c (finds (is_misqualified o.alias)) ∷ list_any (is_misqualified o.alias) (all_columns c.grouping) ∷ []) k.tables in
+    let tables = are_false (names_other_table d.table s) (some_anywhere cs c (finds (is_misqualified o.alias)) ∷ list_any
+    (is_misqualified o.alias) (all_columns c.grouping) ∷ []) k.tables in
     let missing = or_parts _ _ k.columns in
-    let ambiguous = are_false (some_anywhere cs c (finds (is_ambiguous cs))) (list_any (is_ambiguous cs) (all_columns c.grouping) ∷ list_any (λ (x : KeyTree). is_ambiguous_key cs (written_out cs c.items) x.expression) c.order ∷ []) k.ambiguity in
+    let ambiguous = are_false (some_anywhere cs c (finds (is_ambiguous cs)))
+    (list_any (is_ambiguous cs) (all_columns c.grouping) ∷ list_any (λ (x : KeyTree). is_ambiguous_key cs
+    (written_out cs c.items) x.expression) c.order ∷ []) k.ambiguity in
     let unknown = or_parts _ _ k.windows in
     let badly = or_parts _ _ k.copies in
     let r = is_undenoted o ws in
     let all = all_nowhere cs c (is_misqualified o.alias)
-    (is_missing cs ∷ is_ambiguous cs ∷ is_bad_call ∷ is_zeroth ∷ is_bad_filter ∷ reach_is (is_over_unknown ws) ∷ reach_is (is_over_bad_copy ws) ∷ [])
+    (is_missing cs ∷ is_ambiguous cs ∷ is_bad_call ∷ is_zeroth ∷ is_bad_filter ∷ reach_is (is_over_unknown ws) ∷ reach_is
+    (is_over_bad_copy ws) ∷ [])
     (tables.1.0, (missing.0, (ambiguous.0, (k.calls, (k.zeroths, (k.filters, (unknown.1, badly.1))))))) in (
       record {
         items = in_items r (Denotes o ws) (denoted o ws) c.items all.shown.items;

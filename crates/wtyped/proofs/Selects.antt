@@ -1,5 +1,6 @@
 -- A SELECT that no rule refuses is well typed.
-use Rattle.std.proofs.Common.{◌≡◌, Bool, true, false, not, ℕ, suc, List, [], ◌∷◌, ◌++◌, length, map, Option, Some, None, refl, sym, ap, ap₂, ◌∙◌, true≢false}
+use Rattle.std.proofs.Common.{◌≡◌, Bool, true, false, not, ℕ, suc, List, [], ◌∷◌, ◌++◌, length}
+use Rattle.std.proofs.Common.{map, Option, Some, None, refl, sym, ap, ap₂, ◌∙◌, true≢false}
 use Rattle.std.specs.Prelude.{if◌then◌else◌}
 use Rattle.std.specs.List.{list_all}
 use Rattle.std.proofs.lemmas.Bool.{or_parts, and_parts, and_from, not-true, not-false}
@@ -28,7 +29,8 @@ use Rattle.wresolve.specs.Selecting as made
 use Rattle.wresolve.specs.Selecting.{calls_made, entries_made, grouping_over, has_own_window, own_windows, windows_made}
 use Rattle.wgroupby.specs.Sets.{is_among}
 use Rattle.wtyped.specs.Laws.{types_of}
-use Rattle.wtyped.specs.Plans.{are_windows, call_types, function_type, group_call_type, group_call_types, is_condition, is_having, is_window, row_types, with_type, with_types}
+use Rattle.wtyped.specs.Plans.{are_windows, call_types, function_type, group_call_type, group_call_types}
+use Rattle.wtyped.specs.Plans.{is_condition, is_having, is_window, row_types, with_type, with_types}
 use Rattle.wtyped.specs.Typing.{formula_type}
 use Rattle.wtyped.proofs.Alike.{is_listed}
 use Rattle.wtyped.proofs.Calls as calls
@@ -79,7 +81,8 @@ named_columns cs c name (Columns vs) filter reach f e us is =
     ap (λ (x : Trees). list_all (λ p. is_among p (group_places cs c.grouping)) (column_places cs x)) (sym same)
     ∙ calls.all_named cs c vs fields.0 (or_parts _ _ e).0
 
-clear_parts : (kind : CallKind) (w : Tree → Look) (n : Tree) → is_clear kind w n ≡ true → (is_call_of kind n ≡ true) × (some_node w n ≡ false)
+clear_parts : (kind : CallKind) (w : Tree → Look) (n : Tree) → is_clear kind w n ≡ true → (is_call_of kind n ≡ true)
+    × (some_node w n ≡ false)
 clear_parts kind w n e = let p = and_parts _ _ e in (p.0, not-true _ p.1)
 
 group_type : (cs : List Titled) (c : Clauses) (t : Tree) → is_clear Grouped (finds (is_bad cs)) t ≡ true
@@ -90,7 +93,8 @@ group_type cs c (Invoked name given filter reach) e f =
     let p = clear_parts Grouped (finds (is_bad cs)) n e in let q = clear_parts Grouped (sees_ungrouped (all_columns c.grouping)) n f in
     let g = sym (looks.alike name given filter reach) ∙ p.0 in
     let fits = group_fits cs name given filter reach p.1 g in
-    calls.group_call cs c (group_places cs c.grouping) name given filter reach (types_of cs) fits g (named_columns cs c name given filter reach fits q.1)
+    calls.group_call cs c (group_places cs c.grouping) name given filter reach (types_of cs) fits g
+    (named_columns cs c name given filter reach fits q.1)
 group_type cs c _ e f = absurd (true≢false (sym e))
 
 group_types : (cs : List Titled) (c : Clauses) (gs : List Tree) → list_all (is_clear Grouped (finds (is_bad cs))) gs ≡ true
@@ -127,20 +131,24 @@ open_group true k x e = absurd (true≢false e)
 open_group false k x e = (refl, e)
 
 row_fits : (cs : List Titled) (c : Clauses) (b : Bool) (name : List ℕ) (given : Given) (filter : Filter) (reach : Reach)
-    → found_or (looks.group_look false (is_bad cs (Invoked name given filter reach)) (is_listed (group_calls c) (Invoked name given filter reach))) (some_below (sees_row cs c b) (Invoked name given filter reach)) ≡ false
+    → found_or (looks.group_look false (is_bad cs (Invoked name given filter reach))
+    (is_listed (group_calls c) (Invoked name given filter reach)))
+    (some_below (sees_row cs c b) (Invoked name given filter reach)) ≡ false
     → Fits (row_of cs c b) (group_cells cs c b) name given filter reach
 row_fits cs c b name given filter reach e =
     let n = Invoked name given filter reach in
     let o = open_group (is_bad cs n) (is_listed (group_calls c) n) (some_below (sees_row cs c b) n) e in
     calls.fits (row_of cs c b) (group_cells cs c b) name given filter reach (looks.is_given cs n o.0) (looks.is_fit cs n o.0)
-    (parts_below (sees_row cs c b) (finds is_window_call) (sees_misfit (row_of cs c b) (group_cells cs c b)) (rows.inner cs c b) n o.1 (looks.no_inner_window name given filter reach (looks.is_placed cs n o.0)))
+    (parts_below (sees_row cs c b) (finds is_window_call) (sees_misfit (row_of cs c b) (group_cells cs c b))
+    (rows.inner cs c b) n o.1 (looks.no_inner_window name given filter reach (looks.is_placed cs n o.0)))
 
 over_fits : (cs : List Titled) (c : Clauses) (b : Bool) (name : List ℕ) (given : Given) (filter : Filter) (reach : Reach)
     → is_clear Windowed (sees_row cs c b) (Invoked name given filter reach) ≡ true
     → Fits (row_of cs c b) (group_cells cs c b) name given filter reach
 over_fits cs c b name given filter ItsGroup e = absurd (true≢false (sym e))
 over_fits cs c b name given filter (ThatWindow window) e =
-    let n = Invoked name given filter (ThatWindow window) in row_fits cs c b name given filter (ThatWindow window) (clear_parts Windowed (sees_row cs c b) n e).1
+    let n = Invoked name given filter (ThatWindow window) in row_fits cs c b name given filter (ThatWindow window)
+    (clear_parts Windowed (sees_row cs c b) n e).1
 over_fits cs c b name given filter (OwnWindow copied partition order frame) e =
     let r = OwnWindow copied partition order frame in
     row_fits cs c b name given filter r (clear_parts Windowed (sees_row cs c b) (Invoked name given filter r) e).1
@@ -164,20 +172,23 @@ calls_typed cs c b ws next (t ∷ ts) e =
 -- a call with a window of its own whose frame does not fit
 abbrev lacks_frame : List NamedWindow → List Titled → Tree → Bool
 lacks_frame ws cs =
-    some_of (reach_is (own_window_is ws has_bad_frame)) (reach_is (own_window_is ws lacks_groups) ∷ reach_is (own_window_is ws (lacks_range_key cs)) ∷ [])
+    some_of (reach_is (own_window_is ws has_bad_frame)) (reach_is (own_window_is ws lacks_groups) ∷ reach_is
+    (own_window_is ws (lacks_range_key cs)) ∷ [])
 
 own_typed : (cs : List Titled) (c : Clauses) (b : Bool) (ws : List NamedWindow) (t : Tree)
     → windows.AreTyped (row_of cs c b) (group_cells cs c b) ws → is_clear Windowed (sees_row cs c b) t ≡ true → lacks_frame ws cs t ≡ false
     → are_windows (group_cells cs c b) (made.own_window (row_of cs c b) ws t) ≡ true
 own_typed cs c b ws (Invoked name given filter reach) a e k =
     let f = over_fits cs c b name given filter reach e in
-    let x = are_false (own_window_is ws has_bad_frame reach) (own_window_is ws lacks_groups reach ∷ own_window_is ws (lacks_range_key cs) reach ∷ []) k in
+    let x = are_false (own_window_is ws has_bad_frame reach) (own_window_is ws lacks_groups reach ∷ own_window_is ws
+    (lacks_range_key cs) reach ∷ []) k in
     windows.own_typed (row_of cs c b) (group_cells cs c b) ws reach a f.in_reach f.reach_typed x.0 x.1.0 x.1.1
 own_typed cs c b ws _ a e k = absurd (true≢false (sym e))
 
 owns_typed : (cs : List Titled) (c : Clauses) (b : Bool) (ws : List NamedWindow) (ts : List Tree)
     → windows.AreTyped (row_of cs c b) (group_cells cs c b) ws → list_all (is_clear Windowed (sees_row cs c b)) ts ≡ true
-    → list_all (λ (t : Tree). not (lacks_frame ws cs t)) ts ≡ true → are_windows (group_cells cs c b) (own_windows (row_of cs c b) ws ts) ≡ true
+    → list_all (λ (t : Tree). not (lacks_frame ws cs t)) ts ≡ true
+    → are_windows (group_cells cs c b) (own_windows (row_of cs c b) ws ts) ≡ true
 owns_typed cs c b ws [] a e k = refl
 owns_typed cs c b ws (t ∷ ts) a e k =
     let p = and_parts _ _ e in
@@ -197,7 +208,8 @@ windows_typed cs c b k s =
     list_all-append (is_window ts) (entries_made l ws) (own_windows l ws (window_calls c))
     ∙ and_from _ _ (windows.named_windows l ts ws a x.0 y.0 z.0)
     (owns_typed cs c b ws (window_calls c) a (rows.window_rows cs c b s) (rows.windows_without cs c (lacks_frame ws cs)
-    (all_nowhere cs c (reach_is (own_window_is ws has_bad_frame)) (reach_is (own_window_is ws lacks_groups) ∷ reach_is (own_window_is ws (lacks_range_key cs)) ∷ []) (x.1, (y.1, z.1)))))
+    (all_nowhere cs c (reach_is (own_window_is ws has_bad_frame)) (reach_is (own_window_is ws lacks_groups) ∷ reach_is
+    (own_window_is ws (lacks_range_key cs)) ∷ []) (x.1, (y.1, z.1)))))
 
 pub over_typed : (cs : List Titled) (c : Clauses) (b : Bool) → rows.Shown cs c b
     → call_types (group_cells cs c b)

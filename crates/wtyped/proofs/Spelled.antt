@@ -1,5 +1,6 @@
 -- What is read from a text has the shapes of the grammar.
-use Rattle.std.proofs.Common.{◌≡◌, Bool, true, false, not, ◌&&◌, ◌||◌, ℕ, zero, suc, nat_lt, ◌^◌, List, [], ◌∷◌, ◌++◌, map, Option, Some, refl, sym, ap, ap₂, ◌∙◌}
+use Rattle.std.proofs.Common.{◌≡◌, Bool, true, false, not, ◌&&◌, ◌||◌, ℕ, zero, suc, nat_lt, ◌^◌}
+use Rattle.std.proofs.Common.{List, [], ◌∷◌, ◌++◌, map, Option, Some, refl, sym, ap, ap₂, ◌∙◌}
 use Rattle.std.specs.Prelude.{if◌then◌else◌}
 use Rattle.std.specs.List.{flat_map, list_all, list_any}
 use Rattle.std.proofs.lemmas.Bool.{or_parts, or_from, and_from, not-false, lt-ltb}
@@ -14,15 +15,18 @@ use Rattle.wquery.specs.declared.expression.ChainKind.TheVariants.{Disjunction, 
 use Rattle.wquery.specs.declared.expression.Operator.{Operator}
 use Rattle.wquery.specs.declared.frame.FrameBound.{FrameBound}
 use Rattle.wquery.specs.Lefts.{chain_kind}
-use Rattle.wquery.specs.Tree.{Tree, KeyTree, WindowTree, Numeral, Invoked, Joined, Further, NoLinks, Links, Given, Filter, Reach, trees, keys, own_window, grouping_of, same_kind, is_chain, lengthened, joined}
+use Rattle.wquery.specs.Tree.{Tree, KeyTree, WindowTree, Numeral, Invoked, Joined, Further, NoLinks, Links, Given, Filter}
+use Rattle.wquery.specs.Tree.{Reach, trees, keys, own_window, grouping_of, same_kind, is_chain, lengthened, joined}
 use Rattle.wquery.specs.GroupElements.{Entry, Element, entry_columns}
 use Rattle.wquery.specs.QueryTree.{QueryTree, SourceTree, ItemTree, EntryTree, AllColumns, Computed, query_of}
 use Rattle.wtokens.specs.Words.{number_of}
 use Rattle.wtokens.specs.Notation.{Tokens, Row, One, Listed, Chain, As}
 use Rattle.wexpressions.specs.Grammar as grammar
-use Rattle.wexpressions.specs.Grammar.{Rank, ChainRank, NegationRank, SignRank, sign_over, negation_over, operand_over, row_over, deeper, condition, column}
+use Rattle.wexpressions.specs.Grammar.{Rank, ChainRank, NegationRank, SignRank, sign_over, negation_over}
+use Rattle.wexpressions.specs.Grammar.{operand_over, row_over, deeper, condition, column}
 use Rattle.wexpressions.proofs.Gives as rows
-use Rattle.wexpressions.proofs.Gives.{Are, one_gives, after_gives, then_gives, done_gives, perhaps_gives, either_gives, room_gives, as_gives, closed_gives, listed_gives, chain_gives, joined_holds, none_gives, weaker}
+use Rattle.wexpressions.proofs.Gives.{Are, one_gives, after_gives, then_gives, done_gives, perhaps_gives, either_gives, room_gives}
+use Rattle.wexpressions.proofs.Gives.{as_gives, closed_gives, listed_gives, chain_gives, joined_holds, none_gives, weaker}
 use Rattle.wexpressions.proofs.Heights.{same_self}
 use Rattle.wparser.specs.Queries as queries
 use Rattle.wparser.specs.Queries.{Spells, clauses, deeper_query, query_over}
@@ -30,7 +34,8 @@ use Rattle.wscope.specs.declared.look.Look.TheVariants.{Found, Below}
 use Rattle.wscope.specs.Finding.{finds}
 use Rattle.wscope.specs.Scope.{some_entry, some_item, some_option}
 use Rattle.wscope.specs.Seeking.{found_or, some_node, some_tree, some_link, some_given, some_filter, some_reach, some_key}
-use Rattle.wtyped.specs.Shapes.{are_fields, are_links, are_of_kind, is_field, is_given, is_key_misshapen, is_misshapen, is_shaped, is_shaped_source}
+use Rattle.wtyped.specs.Shapes.{are_fields, are_links, are_of_kind, is_field, is_given, is_key_misshapen}
+use Rattle.wtyped.specs.Shapes.{is_misshapen, is_shaped, is_shaped_source}
 use Rattle.wtyped.specs.Spelled.{SpelledIsShaped}
 use Rattle.wtyped.proofs.Walks.{open_find}
 use Rattle.wdistinct.specs.Same.{kinds}
@@ -79,7 +84,8 @@ same_operator operator k e = ap (same_kind (chain_kind operator)) (sym e) ∙ sa
 joined_new : (k : ChainKind) (t : Tree) (operator : Operator) (o : Tree) → chain_kind operator ≡ k → Fine t → Fine o
     → Fine (Joined k t (Further NoLinks operator o))
 joined_new k t operator o e a b =
-    make_find (not (true && same_kind (chain_kind operator) k)) (some_node (finds is_misshapen) t || (false || some_node (finds is_misshapen) o)) (ap not (same_operator operator k e))
+    make_find (not (true && same_kind (chain_kind operator) k)) (some_node (finds is_misshapen) t
+    || (false || some_node (finds is_misshapen) o)) (ap not (same_operator operator k e))
     (or_from _ _ a b)
 
 joined_more : (k j : ChainKind) (f : Tree) (links : Links) (operator : Operator) (o : Tree) → same_kind j k ≡ true
@@ -87,7 +93,8 @@ joined_more : (k j : ChainKind) (f : Tree) (links : Links) (operator : Operator)
 joined_more k j f links operator o same e a b =
     let p = open_find (not (are_links j links)) (some_node (finds is_misshapen) f || some_link (finds is_misshapen) links) a in
     let q = or_parts _ _ p.1 in
-    make_find (not (are_of_kind j links && same_kind (chain_kind operator) j)) (some_node (finds is_misshapen) f || (some_link (finds is_misshapen) links || some_node (finds is_misshapen) o))
+    make_find (not (are_of_kind j links && same_kind (chain_kind operator) j)) (some_node (finds is_misshapen) f
+    || (some_link (finds is_misshapen) links || some_node (finds is_misshapen) o))
     (ap not (and_from _ _ (linked j links (not-false _ p.0)) (same_operator operator j (e ∙ sym (kinds j k same)))))
     (or_from _ _ q.0 (or_from _ _ q.1 b))
 
@@ -98,7 +105,8 @@ lengthened_fine k _ operator o c e a b = a
 
 joined_fine : (k : ChainKind) (t : Tree) (operator : Operator) (o : Tree) → chain_kind operator ≡ k → Fine t → Fine o
     → Fine (joined k t operator o)
-joined_fine k t operator o e a b = joined_holds Fine k t operator o (λ is. lengthened_fine k t operator o is e a b) (λ is. joined_new k t operator o e a b)
+joined_fine k t operator o e a b = joined_holds Fine k t operator o (λ is. lengthened_fine k t operator o is e a b)
+    (λ is. joined_new k t operator o e a b)
 
 fine_chain : {kind : ChainKind} {P : Row Tree} → Gives Fine P → Gives Fine (Chain kind P)
 fine_chain {kind = kind} u = chain_gives Fine (λ t a. a) (joined_fine kind) u
@@ -124,24 +132,28 @@ toward_any = either_gives (after_gives (done_gives tt)) (after_gives (done_gives
 
 bound_any : Gives Any grammar.bound
 bound_any =
-    either_gives (after_gives toward_any) (either_gives (after_gives (after_gives (done_gives tt))) (then_gives Any any_one (λ n a. toward_any)))
+    either_gives (after_gives toward_any) (either_gives (after_gives (after_gives (done_gives tt)))
+    (then_gives Any any_one (λ n a. toward_any)))
 
 extent_any : Gives Any grammar.extent
 extent_any = either_gives (after_gives (then_gives Any bound_any (λ b a. after_gives (as_any bound_any)))) (as_any bound_any)
 
 exclusion_any : Gives Any grammar.exclusion
 exclusion_any =
-    either_gives (after_gives (after_gives (done_gives tt))) (either_gives (after_gives (done_gives tt)) (either_gives (after_gives (done_gives tt)) (after_gives (after_gives (done_gives tt)))))
+    either_gives (after_gives (after_gives (done_gives tt))) (either_gives (after_gives (done_gives tt))
+    (either_gives (after_gives (done_gives tt)) (after_gives (after_gives (done_gives tt)))))
 
 frame_any : Gives Any grammar.frame
 frame_any =
-    then_gives Any any_one (λ m a. then_gives Any extent_any (λ e b. then_gives Any (perhaps_gives tt (as_any (after_gives exclusion_any))) (λ x c. done_gives tt)))
+    then_gives Any any_one (λ m a. then_gives Any extent_any
+    (λ e b. then_gives Any (perhaps_gives tt (as_any (after_gives exclusion_any))) (λ x c. done_gives tt)))
 
 -- expressions
 
 key_gives : {C : Row Tree} → Gives Fine C → Gives FineKey (grammar.key C)
 key_gives u =
-    then_gives Fine u (λ e a. then_gives Any (perhaps_gives tt any_one) (λ d b. then_gives Any (perhaps_gives tt (as_any (after_gives any_one))) (λ n c. done_gives a)))
+    then_gives Fine u (λ e a. then_gives Any (perhaps_gives tt any_one)
+    (λ d b. then_gives Any (perhaps_gives tt (as_any (after_gives any_one))) (λ n c. done_gives a)))
 
 abbrev FineWindow : WindowTree → Type 0
 FineWindow w = some_reach (finds is_misshapen) (own_window w) ≡ false
@@ -151,7 +163,8 @@ order_gives u = perhaps_gives tt (after_gives (after_gives (all_give (key_gives 
 
 window_gives : {C : Row Tree} → Gives Fine C → Gives FineWindow (grammar.window C)
 window_gives u =
-    then_gives Any (perhaps_gives tt (as_any any_one)) (λ copied i. then_gives (All Fine) (perhaps_gives tt (after_gives (after_gives (all_give u)))) (λ p a.
+    then_gives Any (perhaps_gives tt (as_any any_one))
+    (λ copied i. then_gives (All Fine) (perhaps_gives tt (after_gives (after_gives (all_give u)))) (λ p a.
     then_gives (All FineKey) (order_gives u) (λ o b. then_gives Any (perhaps_gives tt (as_any frame_any)) (λ f j.
     done_gives (or_from _ _ (fine_trees p a) (fine_keys o b))))))
 
@@ -163,14 +176,16 @@ FineReach r = some_reach (finds is_misshapen) r ≡ false
 
 reach_gives : {n : ℕ} {C : Row Tree} → Gives Fine C → Gives FineReach (grammar.optional_over n C)
 reach_gives u =
-    perhaps_gives refl (after_gives (either_gives (as_gives Any any_one (λ x a. refl)) (after_gives (as_gives FineWindow (inside_gives u) (λ w a. a)))))
+    perhaps_gives refl (after_gives (either_gives (as_gives Any any_one (λ x a. refl))
+    (after_gives (as_gives FineWindow (inside_gives u) (λ w a. a)))))
 
 abbrev FineGiven : Given → Type 0
 FineGiven g = (some_given (finds is_misshapen) g ≡ false) × ((name : List ℕ) (f : Filter) (r : Reach) → is_given name g f r ≡ true)
 
 arguments_gives : {n : ℕ} {C : Row Tree} → Gives Fine C → Gives FineGiven (grammar.arguments n C)
 arguments_gives u =
-    either_gives (after_gives (done_gives (refl, λ name f r. refl))) (either_gives (after_gives (room_gives (after_gives (done_gives (refl, λ name f r. refl)))))
+    either_gives (after_gives (done_gives (refl, λ name f r. refl)))
+    (either_gives (after_gives (room_gives (after_gives (done_gives (refl, λ name f r. refl)))))
     (as_gives (All Fine) (closed_gives (all_give u)) (λ l a. (fine_trees l a, λ name f r. refl))))
 
 abbrev FineFilter : Filter → Type 0
@@ -181,12 +196,14 @@ filter_gives u = perhaps_gives refl (after_gives (after_gives (after_gives (as_g
 
 call_fine : (name : List ℕ) (g : Given) (f : Filter) (r : Reach) → FineGiven g → FineFilter f → FineReach r → Fine (Invoked name g f r)
 call_fine name g f r a b c =
-    make_find (not (is_given name g f r)) (some_given (finds is_misshapen) g || (some_filter (finds is_misshapen) f || some_reach (finds is_misshapen) r)) (ap not (a.1 name f r))
+    make_find (not (is_given name g f r)) (some_given (finds is_misshapen) g || (some_filter (finds is_misshapen) f
+    || some_reach (finds is_misshapen) r)) (ap not (a.1 name f r))
     (or_from _ _ a.0 (or_from _ _ b c))
 
 call_gives : {n : ℕ} {C : Row Tree} {name : List ℕ} → Gives Fine C → Gives Fine (grammar.call n C name)
 call_gives {name = name} u =
-    then_gives FineGiven (arguments_gives u) (λ g a. then_gives FineFilter (filter_gives u) (λ f b. then_gives FineReach (reach_gives u) (λ r c. done_gives (call_fine name g f r a b c))))
+    then_gives FineGiven (arguments_gives u) (λ g a. then_gives FineFilter (filter_gives u)
+    (λ f b. then_gives FineReach (reach_gives u) (λ r c. done_gives (call_fine name g f r a b c))))
 
 named_gives : {n : ℕ} {C : Row Tree} {name : List ℕ} → Gives Fine C → Gives Fine (grammar.column_or_call n C name)
 named_gives u = perhaps_gives refl (either_gives (after_gives (as_gives Any any_one (λ x a. refl))) (after_gives (call_gives u)))
@@ -206,7 +223,8 @@ field_trees (t ∷ ts) a =
 grouping_fine : (ts : List Tree) → All IsField ts → Fine (grouping_of ts)
 grouping_fine ts a =
     let r = field_trees ts a in
-    make_find (not (are_fields (trees ts) && true)) (some_tree (finds is_misshapen) (trees ts) || (false || false)) (ap not (and_from _ _ r.0 refl)) (or_from _ _ r.1 refl)
+    make_find (not (are_fields (trees ts) && true)) (some_tree (finds is_misshapen) (trees ts) || (false || false))
+    (ap not (and_from _ _ r.0 refl)) (or_from _ _ r.1 refl)
 
 grouping_call_gives : {n : ℕ} → Gives Fine (grammar.grouping_call n)
 grouping_call_gives =
@@ -224,8 +242,10 @@ numeral_fine n s = make_find (not (nat_lt n (2 ^ 95))) false (ap not s) refl
 
 primary_gives : {n : ℕ} {C : Row Tree} → Gives Fine C → Gives Fine (grammar.primary n C)
 primary_gives u =
-    either_gives (as_gives IsSmall (one_gives number_said) numeral_fine) (either_gives (as_gives Any any_one (λ x a. refl)) (either_gives (after_gives (done_gives refl))
-    (either_gives (then_gives Any any_one (λ x a. named_gives u)) (either_gives (after_gives grouping_call_gives) (after_gives (closed_gives u))))))
+    either_gives (as_gives IsSmall (one_gives number_said) numeral_fine) (either_gives (as_gives Any any_one (λ x a. refl))
+    (either_gives (after_gives (done_gives refl))
+    (either_gives (then_gives Any any_one (λ x a. named_gives u)) (either_gives (after_gives grouping_call_gives)
+    (after_gives (closed_gives u))))))
 
 sign_gives : {U P : Row Tree} → Gives Fine U → Gives Fine P → Gives Fine (grammar.sign_row U P)
 sign_gives u p = either_gives (then_gives Any any_one (λ m a. as_gives Fine u (λ e b. b))) p
@@ -254,7 +274,8 @@ module _ (n : ℕ) (U : Rank → Row Tree) (u : (rank : Rank) → Gives Fine (U 
 
   negations_give : Gives Fine (negation_over n U)
   negations_give =
-      either_gives (after_gives (as_gives Fine (u NegationRank) (λ e a. a))) (null_gives (comparison_gives (range_gives (fine_chain (fine_chain signs_give)) (u (ChainRank Sum)))))
+      either_gives (after_gives (as_gives Fine (u NegationRank) (λ e a. a)))
+      (null_gives (comparison_gives (range_gives (fine_chain (fine_chain signs_give)) (u (ChainRank Sum)))))
 
   operands_give : (kind : ChainKind) → Gives Fine (operand_over n U kind)
   operands_give Disjunction = fine_chain negations_give
@@ -286,7 +307,8 @@ alias_any = then_gives Any (perhaps_gives tt (after_gives (done_gives tt))) (λ 
 
 item_gives : (n : ℕ) → Gives FineItem (queries.item n)
 item_gives n =
-    either_gives (after_gives (done_gives tt)) (then_gives Fine (conditions_give n) (λ e a. as_gives Any (perhaps_gives tt (as_any alias_any)) (λ x b. a)))
+    either_gives (after_gives (done_gives tt)) (then_gives Fine (conditions_give n)
+    (λ e a. as_gives Any (perhaps_gives tt (as_any alias_any)) (λ x b. a)))
 
 fine_items : (is : List ItemTree) → All FineItem is → some_item (finds is_misshapen) is ≡ false
 fine_items [] a = refl
@@ -331,11 +353,14 @@ FineEntry e = AreFields (entry_columns e)
 
 lone_entry_gives : (n : ℕ) → Gives FineEntry (queries.lone_entry n)
 lone_entry_gives n =
-    either_gives (after_gives (as_gives (All AreFields) (parts_give n) (λ ps a. flat_all (λ part. part) ps a))) (either_gives (after_gives (as_gives (All AreFields) (parts_give n) (λ ps a. flat_all (λ part. part) ps a))) (as_gives AreFields lone_gives (λ c a. a)))
+    either_gives (after_gives (as_gives (All AreFields) (parts_give n) (λ ps a. flat_all (λ part. part) ps a)))
+    (either_gives (after_gives (as_gives (All AreFields) (parts_give n) (λ ps a. flat_all (λ part. part) ps a)))
+    (as_gives AreFields lone_gives (λ c a. a)))
 
 set_gives : (n : ℕ) → Gives FineEntry (queries.set n)
 set_gives n =
-    either_gives (lone_entry_gives n) (after_gives (as_gives AreFields (either_gives (after_gives (done_gives refl)) closed_columns) (λ c a. a)))
+    either_gives (lone_entry_gives n) (after_gives
+    (as_gives AreFields (either_gives (after_gives (done_gives refl)) closed_columns) (λ c a. a)))
 
 abbrev FineElement : Element Tree → Type 0
 FineElement e = AreFields (flat_map entry_columns e)
@@ -355,7 +380,8 @@ FineNamed e = FineWindow e.window
 
 entry_gives : (n : ℕ) → Gives FineNamed (queries.entry n)
 entry_gives n =
-    then_gives Any any_one (λ name i. after_gives (after_gives (as_gives FineWindow (inside_gives (deeper_gives n (ChainRank Disjunction))) (λ w a. a))))
+    then_gives Any any_one (λ name i. after_gives
+    (after_gives (as_gives FineWindow (inside_gives (deeper_gives n (ChainRank Disjunction))) (λ w a. a))))
 
 fine_entries : (es : List EntryTree) → All FineNamed es → some_entry (finds is_misshapen) es ≡ false
 fine_entries [] a = refl
@@ -371,7 +397,8 @@ count_any = perhaps_gives tt (as_any (after_gives any_one))
 
 limits_any : Gives Any queries.limits
 limits_any =
-    perhaps_gives tt (either_gives (after_gives (then_gives Any any_one (λ n a. as_any count_any))) (after_gives (then_gives Any any_one (λ n a. as_any count_any))))
+    perhaps_gives tt (either_gives (after_gives (then_gives Any any_one (λ n a. as_any count_any)))
+    (after_gives (then_gives Any any_one (λ n a. as_any count_any))))
 
 abbrev Shaped : QueryTree → Type 0
 Shaped q = is_shaped q ≡ true
@@ -385,12 +412,15 @@ query_fine : (is : List ItemTree) (s : SourceTree) (condition : Option Tree) (g 
     → Shaped (query_of is s condition g having ws o l)
 query_fine is s condition g having ws o l a b c d e f h =
     and_from _ _
-    (and_from _ _ (flat_all (flat_map entry_columns) g d) (ap not (or_from _ _ (fine_items is a) (or_from _ _ c (or_from _ _ e (or_from _ _ (fine_entries ws f) (fine_order o h))))))) b
+    (and_from _ _ (flat_all (flat_map entry_columns) g d)
+    (ap not (or_from _ _ (fine_items is a) (or_from _ _ c (or_from _ _ e (or_from _ _ (fine_entries ws f) (fine_order o h))))))) b
 
 clauses_give : (n : ℕ) (is : List ItemTree) (s : SourceTree) → All FineItem is → ShapedSource s → Gives Shaped (clauses n is s)
 clauses_give n is s a b =
-    then_gives FineOption (clause_gives _ n) (λ condition c. then_gives (All FineElement) (grouping_gives n) (λ g d. then_gives FineOption (clause_gives _ n) (λ having e.
-    then_gives (All FineNamed) (perhaps_gives tt (after_gives (all_give (entry_gives n)))) (λ ws f. then_gives (All FineKey) (order_gives (conditions_give n)) (λ o h.
+    then_gives FineOption (clause_gives _ n) (λ condition c. then_gives (All FineElement) (grouping_gives n)
+    (λ g d. then_gives FineOption (clause_gives _ n) (λ having e.
+    then_gives (All FineNamed) (perhaps_gives tt (after_gives (all_give (entry_gives n))))
+    (λ ws f. then_gives (All FineKey) (order_gives (conditions_give n)) (λ o h.
     then_gives Any limits_any (λ l i. done_gives (query_fine is s condition g having ws o l a b c d e f h)))))))
 
 source_gives : {U : Row QueryTree} → Gives Shaped U → Gives ShapedSource (queries.source U)
@@ -400,7 +430,8 @@ source_gives u =
 
 query_gives : (n : ℕ) {U : Row QueryTree} → Gives Shaped U → Gives Shaped (query_over n U)
 query_gives n u =
-    after_gives (then_gives (All FineItem) (all_give (item_gives n)) (λ is a. after_gives (then_gives ShapedSource (source_gives u) (λ s b. clauses_give n is s a b))))
+    after_gives (then_gives (All FineItem) (all_give (item_gives n))
+    (λ is a. after_gives (then_gives ShapedSource (source_gives u) (λ s b. clauses_give n is s a b))))
 
 queries_give : (n : ℕ) → Gives Shaped (deeper_query n)
 unfolding deeper_query
@@ -409,7 +440,8 @@ queries_give (suc n) = query_gives n (queries_give n)
 
 spelled : (q : QueryTree) (ts : Tokens) → Are IsShort ts → Spells q ts → Shaped q
 spelled q ts s p =
-    ((then_gives Shaped (query_gives 64 (queries_give 64)) (λ x a. then_gives Any (perhaps_gives tt (after_gives (done_gives tt))) (λ b i. done_gives a))).gives q ts [] s p).0
+    ((then_gives Shaped (query_gives 64 (queries_give 64))
+    (λ x a. then_gives Any (perhaps_gives tt (after_gives (done_gives tt))) (λ b i. done_gives a))).gives q ts [] s p).0
 
 -- tokens of a text
 
@@ -427,7 +459,8 @@ short_tokens : (size : ℕ) (text rest : List ℕ) (ts : List PlacedToken) → L
     → Are IsShort (map (λ (t : PlacedToken). t.meaning) ts)
 short_tokens size text rest ts (no_token s) = tt
 short_tokens size text rest ts (next_token {here =
-    here} {after = left} {token = token} {tokens = tokens} s p from to more) = (short_token here left token.meaning p, short_tokens size left rest tokens more)
+    here} {after = left} {token = token} {tokens = tokens} s p from to more) =
+    (short_token here left token.meaning p, short_tokens size left rest tokens more)
 
 pub spelled_is_shaped : SpelledIsShaped
 spelled_is_shaped text tokens q lexed spells =

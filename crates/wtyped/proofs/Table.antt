@@ -1,5 +1,6 @@
 -- The rows that live segments hold have cells of the declared types.
-use Rattle.std.proofs.Common.{◌≡◌, ◌+◌, ◌==◌, ◌⊎◌, inl, inr, Bool, true, false, not, cond, ℕ, ℤ, List, [], ◌∷◌, ◌++◌, map, length, get_or, Option, Some, None, Result, Ok, Err, IfOk, refl, sym, ap, subst, ◌∙◌, true≢false}
+use Rattle.std.proofs.Common.{◌≡◌, ◌+◌, ◌==◌, ◌⊎◌, inl, inr, Bool, true, false, not, cond, ℕ, ℤ, List, [], ◌∷◌, ◌++◌, map, length}
+use Rattle.std.proofs.Common.{get_or, Option, Some, None, Result, Ok, Err, IfOk, refl, sym, ap, subst, ◌∙◌, true≢false}
 use Rattle.std.specs.Prelude.{if◌then◌else◌, nat_lt}
 use Rattle.std.specs.List.{enumerate_from, list_all, list_any, position_or_len}
 use Rattle.std.specs.Str.{bytes_eq, is_utf8}
@@ -71,7 +72,8 @@ are_under (h ∷ hs) (m ∷ ms) = cond (is_of (kind_type h.kind) m) (are_under h
 abbrev Under : List Described → List Meaning → Type 0
 Under header cells = are_under header cells ≡ true
 
-one_under : (h : Described) (hs : List Described) (m : Meaning) (ms : List Meaning) → OfKind h.kind m → Under hs ms → Under (h ∷ hs) (m ∷ ms)
+one_under : (h : Described) (hs : List Described) (m : Meaning) (ms : List Meaning) → OfKind h.kind m → Under hs ms
+    → Under (h ∷ hs) (m ∷ ms)
 one_under h hs m ms first rest = ap (λ (b : Bool). cond b (are_under hs ms) false) first ∙ rest
 
 under_parts : (b c : Bool) → cond b c false ≡ true → (b ≡ true) × (c ≡ true)
@@ -87,8 +89,10 @@ unfolding cells_of
 cells_under row [] fields = refl
 cells_under row (h ∷ hs) [] = refl
 cells_under row (h ∷ hs) (f ∷ fs) =
-    then_read (cell_of row h.kind f) (λ x. cells_of row (kinds_of hs) fs >>= λ xs. Ok (x ∷ xs)) (OfKind h.kind) (Under (h ∷ hs)) (cell_typed row h.kind f)
-    (λ x first. then_read (cells_of row (kinds_of hs) fs) (λ xs. Ok (x ∷ xs)) (Under hs) (Under (h ∷ hs)) (cells_under row hs fs) (λ xs rest. one_under h hs x xs first rest))
+    then_read (cell_of row h.kind f) (λ x. cells_of row (kinds_of hs) fs >>= λ xs. Ok (x ∷ xs)) (OfKind h.kind)
+    (Under (h ∷ hs)) (cell_typed row h.kind f)
+    (λ x first. then_read (cells_of row (kinds_of hs) fs) (λ xs. Ok (x ∷ xs)) (Under hs) (Under (h ∷ hs))
+    (cells_under row hs fs) (λ xs rest. one_under h hs x xs first rest))
 
 row_under : (row : ℕ) (header : List Described) (fields : List (List ℕ)) → IfOk (row_of row (kinds_of header) fields) (Under header)
 unfolding row_of
@@ -102,8 +106,10 @@ unfolding rows_from
 rows_typed header row [] = refl
 rows_typed header row (r ∷ rs) =
     either_read (nat_lt 1000000 row) _ _ (AllUnder header) tt
-    (then_read (row_of row (kinds_of header) r) (λ x. rows_from (kinds_of header) (row + 1) rs >>= λ xs. Ok (x ∷ xs)) (Under header) (AllUnder header) (row_under row header r)
-    (λ x first. then_read (rows_from (kinds_of header) (row + 1) rs) (λ xs. Ok (x ∷ xs)) (AllUnder header) (AllUnder header) (rows_typed header (row + 1) rs)
+    (then_read (row_of row (kinds_of header) r) (λ x. rows_from (kinds_of header) (row + 1) rs >>= λ xs. Ok (x ∷ xs))
+    (Under header) (AllUnder header) (row_under row header r)
+    (λ x first. then_read (rows_from (kinds_of header) (row + 1) rs) (λ xs. Ok (x ∷ xs)) (AllUnder header) (AllUnder header)
+    (rows_typed header (row + 1) rs)
     (λ xs others. and_from _ _ first others)))
 
 -- columns by name
@@ -129,7 +135,8 @@ one_kind (x ∷ xs) c h e (inl is) (inr j) same =
     absurd (true≢false (sym same ∙ ap (λ (d : Described). bytes_eq h.name d.name) is ∙ no_other x.name xs h p.0 j))
 one_kind (x ∷ xs) c h e (inr i) (inl at) same =
     let p = or_parts _ _ e in
-    absurd (true≢false (sym (name_sym c.name h.name ∙ same) ∙ ap (λ (d : Described). bytes_eq c.name d.name) at ∙ no_other x.name xs c p.0 i))
+    absurd (true≢false (sym (name_sym c.name h.name ∙ same) ∙ ap (λ (d : Described). bytes_eq c.name d.name) at ∙ no_other
+    x.name xs c p.0 i))
 one_kind (x ∷ xs) c h e (inr i) (inr j) same =
     one_kind xs c h (or_parts _ _ e).1 i j same
 
@@ -155,7 +162,8 @@ fresh_in columns earlier (Some c) all =
 named_in : (columns earlier : List Described) (field : List ℕ) → IfOk (named columns earlier field) (λ c. IsIn c columns)
 unfolding named
 named_in columns earlier field =
-    either_read (is_utf8 field) _ _ (λ c. IsIn c columns) (fresh_in columns earlier (column_named field columns) (found_in field columns)) tt
+    either_read (is_utf8 field) _ _ (λ c. IsIn c columns) (fresh_in columns earlier (column_named field columns)
+    (found_in field columns)) tt
 
 with_one : (columns : List Described) (c : Described) (cs : List Described) → IsIn c columns → AreIn columns cs → AreIn columns (c ∷ cs)
 with_one columns c cs first rest h (inl is) = subst (λ (d : Described). IsIn d columns) (sym is) first
@@ -165,8 +173,10 @@ header_in : (columns earlier : List Described) (fields : List (List ℕ)) → If
 unfolding named_each
 header_in columns earlier [] = λ h i. elim i [ ]
 header_in columns earlier (f ∷ fs) =
-    then_read (named columns earlier f) (λ c. named_each columns (earlier ++ c ∷ []) fs >>= λ cs. Ok (c ∷ cs)) (λ c. IsIn c columns) (AreIn columns) (named_in columns earlier f)
-    (λ c first. then_read (named_each columns (earlier ++ c ∷ []) fs) (λ cs. Ok (c ∷ cs)) (AreIn columns) (AreIn columns) (header_in columns (earlier ++ c ∷ []) fs)
+    then_read (named columns earlier f) (λ c. named_each columns (earlier ++ c ∷ []) fs >>= λ cs. Ok (c ∷ cs))
+    (λ c. IsIn c columns) (AreIn columns) (named_in columns earlier f)
+    (λ c first. then_read (named_each columns (earlier ++ c ∷ []) fs) (λ cs. Ok (c ∷ cs)) (AreIn columns) (AreIn columns)
+    (header_in columns (earlier ++ c ∷ []) fs)
     (λ cs rest. with_one columns c cs first rest))
 
 -- a row in the order of the table's columns
@@ -187,10 +197,12 @@ at_field c (h ∷ hs) (m ∷ ms) a u =
     rest : ℕ
     rest = position_or_len (λ other. bytes_eq other.name c.name) hs
 
-    go : (b : Bool) → (b ≡ true → h.kind ≡ c.kind) → OfKind h.kind m → OfKind c.kind (get_or ms (position_or_len (λ other. bytes_eq other.name c.name) hs) Null)
+    go : (b : Bool) → (b ≡ true → h.kind ≡ c.kind) → OfKind h.kind m
+        → OfKind c.kind (get_or ms (position_or_len (λ other. bytes_eq other.name c.name) hs) Null)
         → OfKind c.kind (get_or (m ∷ ms) (cond (not b) (1 + position_or_len (λ other. bytes_eq other.name c.name) hs) 0) Null)
     go true same first others = ap (λ (k : Kind). is_of (kind_type k) m) (sym (same refl)) ∙ first
-    go false same first others = ap (λ (n : ℕ). is_of (kind_type c.kind) (get_or (m ∷ ms) n Null)) (one-add (position_or_len (λ other. bytes_eq other.name c.name) hs)) ∙ others
+    go false same first others = ap (λ (n : ℕ). is_of (kind_type c.kind) (get_or (m ∷ ms) n Null))
+        (one-add (position_or_len (λ other. bytes_eq other.name c.name) hs)) ∙ others
 
 cell_in_order : (c : Described) (header : List Described) (cells : List Meaning) → Agrees c header → Under header cells
     → OfKind c.kind (cell_at cells (field_of header c))
@@ -215,12 +227,14 @@ row_in_order (c ∷ cs) header cells a u =
 abbrev AllOf : Declaration → List (List Meaning) → Type 0
 AllOf d rows = all_of (table_types d.columns) rows ≡ true
 
-below_typed : (d : Declaration) (below : List (List (List ℕ))) (header : List Described) → repeats_name d.columns ≡ false → AreIn d.columns header
+below_typed : (d : Declaration) (below : List (List (List ℕ))) (header : List Described) → repeats_name d.columns ≡ false
+    → AreIn d.columns header
     → IfOk (rows_under d below header) (AllOf d)
 unfolding rows_under
 below_typed d below header e a =
     either_read (is_complete d.columns header) _ _ (AllOf d)
-    (then_read (rows_from (kinds_of header) 1 below) (λ rows. Ok (map (in_table_order d.columns header) rows)) (AllUnder header) (AllOf d) (rows_typed header 1 below)
+    (then_read (rows_from (kinds_of header) 1 below) (λ rows. Ok (map (in_table_order d.columns header) rows))
+    (AllUnder header) (AllOf d) (rows_typed header 1 below)
     (λ rows u. mapped_all (are_under header) (are_of (table_types d.columns)) (in_table_order d.columns header) rows
     (λ cells under. row_in_order d.columns header cells (λ c i h j same. one_kind d.columns c h e i (a h j) same) under) u)) tt
 
@@ -228,7 +242,8 @@ records_typed : (d : Declaration) (rs : List (List (List ℕ))) → repeats_name
 unfolding rows_of_records
 records_typed d [] e = tt
 records_typed d (header ∷ below) e =
-    then_read (named_each d.columns [] header) (rows_under d below) (AreIn d.columns) (AllOf d) (header_in d.columns [] header) (λ h a. below_typed d below h e a)
+    then_read (named_each d.columns [] header) (rows_under d below) (AreIn d.columns) (AllOf d)
+    (header_in d.columns [] header) (λ h a. below_typed d below h e a)
 
 segment_typed : (d : Declaration) (bytes : List ℕ) → repeats_name d.columns ≡ false → IfOk (rows_of d bytes) (AllOf d)
 unfolding rows_of
@@ -253,8 +268,10 @@ counted d n (row ∷ rows) a =
 
 live_typed : (d : Declaration) (s : NameParts × List ℕ) → repeats_name d.columns ≡ false → list_all (is_row d) (segment_rows d s) ≡ true
 live_typed d s e =
-    mapped_all (λ (r : ℕ × List Meaning). are_of (table_types d.columns) r.1) (is_row d) (λ (r : ℕ × List Meaning). record { name = s.0; place = r.0; cells = r.1 })
-    (enumerate_from 0 (content_rows d s.1)) (λ r h. h) (counted d 0 (content_rows d s.1) (or_none d (rows_of d s.1) (segment_typed d s.1 e)))
+    mapped_all (λ (r : ℕ × List Meaning). are_of (table_types d.columns) r.1) (is_row d)
+    (λ (r : ℕ × List Meaning). record { name = s.0; place = r.0; cells = r.1 })
+    (enumerate_from 0 (content_rows d s.1)) (λ r h. h)
+    (counted d 0 (content_rows d s.1) (or_none d (rows_of d s.1) (segment_typed d s.1 e)))
 
 pub table_typed : (d : Declaration) (v : View) → repeats_name d.columns ≡ false → AllOf d (rows_of_view d v)
 table_typed d v e =

@@ -1,5 +1,6 @@
 -- What a look at all nodes of an expression says, where it finds nothing: of a weaker look, and of the calls in it.
-use Rattle.std.proofs.Common.{◌≡◌, Bool, true, false, not, ◌&&◌, ◌||◌, List, [], ◌∷◌, ◌++◌, Option, Some, None, refl, sym, ap, ap₂, ◌∙◌, true≢false}
+use Rattle.std.proofs.Common.{◌≡◌, Bool, true, false, not, ◌&&◌, ◌||◌, List, [], ◌∷◌, ◌++◌}
+use Rattle.std.proofs.Common.{Option, Some, None, refl, sym, ap, ap₂, ◌∙◌, true≢false}
 use Rattle.std.specs.Prelude.{if◌then◌else◌}
 use Rattle.std.specs.List.{list_all}
 use Rattle.std.proofs.lemmas.Bool.{or_parts, or_from, and_parts}
@@ -184,7 +185,8 @@ listed s w K h c t rest e = go (s t) (w t) refl refl e
     go false Closed sought look f = c t sought look
     go false Below sought look f = rest f
 
-all_listed : (s : Tree → Bool) (w : Tree → Look) (K : Tree → Bool) → Kept s w K → Shut s w K → Relates (λ x xs ys. x ≡ false → list_all K xs ≡ true) (seeking w) (picking s) (picking s)
+all_listed : (s : Tree → Bool) (w : Tree → Look) (K : Tree → Bool) → Kept s w K → Shut s w K
+    → Relates (λ x xs ys. x ≡ false → list_all K xs ≡ true) (seeking w) (picking s) (picking s)
 all_listed s w K h c = record {
   none = λ e. refl;
   both = λ x x' xs xs' ys ys' g h. both K x x' xs xs' g h;
@@ -225,7 +227,8 @@ passed s K t rest e = go (s t) (K t) refl refl e
     go true false sought is f = absurd (true≢false (sym (and_parts _ _ f).0 ∙ is))
     go false k sought is f = rest f
 
-all_passed : (s K : Tree → Bool) → Relates (λ xs x y. list_all K xs ≡ true → x ≡ false) (picking s) (seeking (sees_failed s K)) (seeking (sees_failed s K))
+all_passed : (s K : Tree → Bool) → Relates (λ xs x y. list_all K xs ≡ true → x ≡ false) (picking s)
+    (seeking (sees_failed s K)) (seeking (sees_failed s K))
 all_passed s K = record { none = λ e. refl; both = λ xs xs' x x' y y' g h. none K x x' xs xs' g h; at = λ t rest. passed s K t rest }
 
 pub passed_in : (s K : Tree → Bool) (t : Tree) → list_all K (nodes_in s t) ≡ true → some_node (sees_failed s K) t ≡ false

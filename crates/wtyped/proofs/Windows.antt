@@ -1,5 +1,6 @@
 -- Windows that no rule refuses are well typed.
-use Rattle.std.proofs.Common.{◌≡◌, Bool, true, false, not, ◌&&◌, ◌||◌, ◌==◌, ℕ, ◌^◌, nat_lt, nat_le, List, [], ◌∷◌, ◌++◌, Option, Some, None, refl, sym, ap, ap₂, ◌∙◌, true≢false}
+use Rattle.std.proofs.Common.{◌≡◌, Bool, true, false, not, ◌&&◌, ◌||◌, ◌==◌, ℕ, ◌^◌, nat_lt, nat_le, List}
+use Rattle.std.proofs.Common.{[], ◌∷◌, ◌++◌, Option, Some, None, refl, sym, ap, ap₂, ◌∙◌, true≢false}
 use Rattle.std.specs.Prelude.{if◌then◌else◌}
 use Rattle.std.specs.List.{list_all, list_any}
 use Rattle.std.specs.Str.{bytes_eq}
@@ -22,10 +23,12 @@ use Rattle.wscope.specs.Windows.{NamedWindow, Expanded, keys_or, or_none, expand
 use Rattle.wnames.specs.Types.{all_keys, all_trees, is_truth_entry, is_window_typed}
 use Rattle.wnames.specs.Types as judged
 use Rattle.wwindows.specs.Windows as rules
-use Rattle.wwindows.specs.Windows.{entry_is, has_bad_bounds, has_bad_frame, has_range_key, is_long, is_text_type, lacks_groups, lacks_range_key, own_window_is}
+use Rattle.wwindows.specs.Windows.{entry_is, has_bad_bounds, has_bad_frame, has_range_key, is_long}
+use Rattle.wwindows.specs.Windows.{is_text_type, lacks_groups, lacks_range_key, own_window_is}
 use Rattle.wbinding.specs.Resolving.{Layout, resolved}
 use Rattle.wresolve.specs.Selecting.{entries_made, frame_made, keys_made, trees_made, window_made, window_of_reach}
-use Rattle.wtyped.specs.Plans.{are_bounds, are_keys, are_windows, has_keys, has_offset, is_any, is_frame, is_one_number, is_short, is_value, is_window, suits_keys}
+use Rattle.wtyped.specs.Plans.{are_bounds, are_keys, are_windows, has_keys, has_offset, is_any, is_frame}
+use Rattle.wtyped.specs.Plans.{is_one_number, is_short, is_value, is_window, suits_keys}
 use Rattle.wtyped.specs.Typing.{has, is_number}
 use Rattle.wtyped.proofs.Calls.{valued_as}
 use Rattle.wtyped.proofs.Formulas.{sees_misfit, typed}
@@ -51,7 +54,8 @@ module _ (P : Trees → Type 0) (Q : Keys → Type 0) (none : P NoTrees × Q NoK
   named_made [] name a = none
   named_made (w ∷ ws) name a = go (bytes_eq w.name name) (named_made ws name a.1)
     where
-      go : (b : Bool) → IsMade P Q (or_none (window_named ws name)) → IsMade P Q (or_none (if b then Some w.window else window_named ws name))
+      go : (b : Bool) → IsMade P Q (or_none (window_named ws name))
+          → IsMade P Q (or_none (if b then Some w.window else window_named ws name))
       go true rest = a.0
       go false rest = rest
 
@@ -100,7 +104,8 @@ reach_values l ts copied us ks frame e t =
 pub entries_typed : (l : Layout) (ts : List DataType) (es : List EntryTree) → some_entry (sees_misfit l ts) es ≡ false
     → list_any (is_truth_entry l.columns) es ≡ false → AreTyped l ts (expand_all [] es)
 entries_typed l ts es e f =
-    all_made (AreValues l ts) (AreKeys l ts) ((refl, refl), (refl, refl)) (λ xs. (some_entry (sees_misfit l ts) xs ≡ false) × (list_any (is_truth_entry l.columns) xs ≡ false)) each [] es tt (e, f)
+    all_made (AreValues l ts) (AreKeys l ts) ((refl, refl), (refl, refl)) (λ xs. (some_entry (sees_misfit l ts) xs ≡ false)
+    × (list_any (is_truth_entry l.columns) xs ≡ false)) each [] es tt (e, f)
   where
     each : (x : EntryTree) (xs : List EntryTree)
         → (some_entry (sees_misfit l ts) (x ∷ xs) ≡ false) × (list_any (is_truth_entry l.columns) (x ∷ xs) ≡ false)
@@ -153,11 +158,14 @@ short (Following n) e = lt-ltb n (2 ^ 63) (leb-false (2 ^ 63) n e)
 short _ e = refl
 
 bounds : (a b : FrameBound)
-    → ((place_of_bound a == 4) || ((place_of_bound b == 0) || (nat_lt (place_of_bound b) (place_of_bound a) || (is_long a || is_long b)))) ≡ false → are_bounds a b ≡ true
+    → ((place_of_bound a == 4) || ((place_of_bound b == 0) || (nat_lt (place_of_bound b) (place_of_bound a)
+    || (is_long a || is_long b)))) ≡ false → are_bounds a b ≡ true
 bounds a b e =
-    let p = are_false (place_of_bound a == 4) ((place_of_bound b == 0) ∷ nat_lt (place_of_bound b) (place_of_bound a) ∷ is_long a ∷ is_long b ∷ []) e in
+    let p = are_false (place_of_bound a == 4) ((place_of_bound b == 0) ∷ nat_lt (place_of_bound b) (place_of_bound a)
+    ∷ is_long a ∷ is_long b ∷ []) e in
     let long = p.1.1.1 in
-    are_true (nat_lt (place_of_bound a) 4) (nat_lt 0 (place_of_bound b) ∷ nat_le (place_of_bound a) (place_of_bound b) ∷ is_short a ∷ is_short b ∷ [])
+    are_true (nat_lt (place_of_bound a) 4) (nat_lt 0 (place_of_bound b) ∷ nat_le (place_of_bound a) (place_of_bound b)
+    ∷ is_short a ∷ is_short b ∷ [])
     (starts a p.0, (ends b p.1.0, (rises a b p.1.1.0, (short a long.0, short b long.1))))
 
 keyed : (l : Layout) (ks : Keys) → rules.has_keys ks ≡ true → has_keys (keys_made l ks) ≡ true
@@ -197,15 +205,18 @@ suited : (l : Layout) (ts : List DataType) (ks : Keys) (mode : FrameMode) (offse
 suited l ts ks Rows offset a g r = refl
 suited l ts ks Groups offset a g r = keyed l ks (not-false _ g)
 suited l ts ks Range offset a g r =
-    implied offset (has_range_key l.columns ks) (is_one_number ts (keys_made l ks)) (one_key l ts ks a) (asked offset (has_range_key l.columns ks) r)
+    implied offset (has_range_key l.columns ks) (is_one_number ts (keys_made l ks)) (one_key l ts ks a)
+    (asked offset (has_range_key l.columns ks) r)
 
 framed : (l : Layout) (ts : List DataType) (ks : Keys) (frame : Option Frame) → AreKeys l ts ks
     → rules.in_frame frame has_bad_bounds ≡ false → rules.in_frame frame (λ f. rules.is_groups f.mode && not (rules.has_keys ks)) ≡ false
-    → rules.in_frame frame (λ f. (rules.is_range f.mode && (rules.is_offset f.start || rules.is_offset (end_of f))) && not (has_range_key l.columns ks)) ≡ false → is_frame ts (keys_made l ks) (frame_made frame) ≡ true
+    → rules.in_frame frame (λ f. (rules.is_range f.mode && (rules.is_offset f.start || rules.is_offset (end_of f)))
+    && not (has_range_key l.columns ks)) ≡ false → is_frame ts (keys_made l ks) (frame_made frame) ≡ true
 framed l ts ks None a b g r = refl
 framed l ts ks (Some f) a b g r =
     and_from _ _ (bounds f.start (end_of f) b)
-    (ap (suits_keys ts (keys_made l ks) f.mode) (ap₂ (λ x y. x || y) (same_offset f.start) (same_offset (end_of f))) ∙ suited l ts ks f.mode (rules.is_offset f.start || rules.is_offset (end_of f)) a g r)
+    (ap (suits_keys ts (keys_made l ks) f.mode) (ap₂ (λ x y. x || y) (same_offset f.start) (same_offset (end_of f)))
+    ∙ suited l ts ks f.mode (rules.is_offset f.start || rules.is_offset (end_of f)) a g r)
 
 -- what the rules on frames say of a window
 abbrev pub HasFrame : List Titled → Expanded → Type 0

@@ -1,6 +1,7 @@
 -- For each rule a query that breaks it and no other, of which a law says what does not hold: so none can be dropped. The
 -- places of the rules count from 10.
-use Rattle.std.proofs.Common.{◌≡◌, Bool, true, false, ℕ, ◌+◌, List, [], ◌∷◌, Option, Some, None, codes, refl, sym, true≢false, if◌then◌else◌}
+use Rattle.std.proofs.Common.{◌≡◌, Bool, true, false, ℕ, ◌+◌, List, [], ◌∷◌, Option, Some}
+use Rattle.std.proofs.Common.{None, codes, refl, sym, true≢false, if◌then◌else◌}
 use Rattle.std.proofs.Math.ListN.{replicate}
 use Rattle.std.specs.List.{list_all}
 use Rattle.wsegment.specs.Declaration.{Declaration}
@@ -13,8 +14,10 @@ use Rattle.wquery.specs.declared.frame.FrameMode.TheVariants.{Rows, Range, Group
 use Rattle.wquery.specs.declared.frame.FrameBound.{FrameBound}
 use Rattle.wquery.specs.declared.frame.FrameBound.TheVariants.{UnboundedPreceding, Preceding, CurrentRow}
 use Rattle.wquery.specs.GroupElements.{Element, OneSet, Rollup, Cube}
-use Rattle.wquery.specs.QueryTree.{Clauses, QueryTree, Selected, SourceTree, FromTable, FromQuery, ItemTree, EntryTree, AllColumns, Computed}
-use Rattle.wquery.specs.Tree.{Tree, NullWord, Numeral, Field, Invoked, Joined, Compared, NoTrees, MoreTrees, NoLinks, Further, Everything, These, Filter, Unfiltered, FilteredBy, Reach, ItsGroup, OwnWindow, Keys, NoKeys, MoreKeys, no_window}
+use Rattle.wquery.specs.QueryTree.{Clauses, QueryTree, Selected, SourceTree, FromTable, FromQuery}
+use Rattle.wquery.specs.QueryTree.{ItemTree, EntryTree, AllColumns, Computed}
+use Rattle.wquery.specs.Tree.{Tree, NullWord, Numeral, Field, Invoked, Joined, Compared, NoTrees, MoreTrees, NoLinks, Further, Everything}
+use Rattle.wquery.specs.Tree.{These, Filter, Unfiltered, FilteredBy, Reach, ItsGroup, OwnWindow, Keys, NoKeys, MoreKeys, no_window}
 use Rattle.wscope.specs.declared.data_type.DataType.{DataType}
 use Rattle.wscope.specs.declared.data_type.DataType.TheVariants.{Integer, Text}
 use Rattle.wscope.specs.Sources.{answer_columns, declared_columns, origin_of}
@@ -24,7 +27,8 @@ use Rattle.wnames.specs.Groups.{breaks_aggregate_places, breaks_grouping, breaks
 use Rattle.wnames.specs.Types.{breaks_types}
 use Rattle.wwindows.specs.Limits.{breaks_limits}
 use Rattle.wwindows.specs.Order.{breaks_places}
-use Rattle.wwindows.specs.Windows.{breaks_bounds, breaks_copies, breaks_entries, breaks_groups, breaks_ranges, breaks_window_names, windows_of}
+use Rattle.wwindows.specs.Windows.{breaks_bounds, breaks_copies, breaks_entries, breaks_groups}
+use Rattle.wwindows.specs.Windows.{breaks_ranges, breaks_window_names, windows_of}
 use Rattle.wgroupby.specs.Rules.{breaks_sets}
 use Rattle.wrules.specs.Rules.{first_broken_rule}
 use Rattle.wresolve.specs.Selecting.{resolved_query}
@@ -34,7 +38,13 @@ use Rattle.wtyped.specs.Plans.{query_types}
 use Rattle.wtyped.specs.Scoped.{DenotesQuery}
 
 abbrev t : Declaration
-t = record { table = codes "t"; columns = record { name = codes "a"; kind = kinds.Integer } ∷ record { name = codes "b"; kind = kinds.Integer } ∷ record { name = codes "s"; kind = kinds.Text } ∷ [] }
+t = record {
+  table = codes "t";
+  columns = record { name = codes "a"; kind = kinds.Integer } ∷ record {
+    name = codes "b";
+    kind = kinds.Integer;
+  } ∷ record { name = codes "s"; kind = kinds.Text } ∷ [];
+}
 
 abbrev a : Tree
 a = Field None (codes "a")
@@ -74,7 +84,8 @@ abbrev rank : Filter → Reach → Tree
 rank filter reach = Invoked (codes "rank") (These NoTrees) filter reach
 
 abbrev ranked : FrameMode → FrameBound → Option FrameBound → Keys → QueryTree
-ranked mode start end keys = select (rank Unfiltered (OwnWindow None NoTrees keys (Some (record { mode = mode; start = start; end = end; exclusion = None }))))
+ranked mode start end keys = select (rank Unfiltered
+    (OwnWindow None NoTrees keys (Some (record { mode = mode; start = start; end = end; exclusion = None }))))
 
 abbrev over_all : Reach
 over_all = OwnWindow None NoTrees NoKeys None
@@ -83,8 +94,11 @@ over_all = OwnWindow None NoTrees NoKeys None
 abbrev tests : QueryTree → List Bool
 tests (Selected c source) =
     let o = origin_of t source in let cs = o.columns in let ws = windows_of c in
-    breaks_tables t.table o.alias cs c source ∷ breaks_columns cs c ∷ breaks_ambiguity cs c ∷ breaks_calls cs c ∷ breaks_types cs c ∷ breaks_window_places cs c ∷ breaks_aggregate_places cs c ∷ breaks_grouping cs c
-    ∷ breaks_filters cs c ∷ breaks_window_names ws cs c ∷ breaks_entries c.windows ∷ breaks_copies ws cs c ∷ breaks_bounds ws cs c ∷ breaks_groups ws cs c ∷ breaks_ranges ws cs c ∷ breaks_zeroths cs c ∷ breaks_places cs c ∷ breaks_limits cs c ∷ breaks_sets c.grouping ∷ []
+    breaks_tables t.table o.alias cs c source ∷ breaks_columns cs c ∷ breaks_ambiguity cs c ∷ breaks_calls cs c
+    ∷ breaks_types cs c ∷ breaks_window_places cs c ∷ breaks_aggregate_places cs c ∷ breaks_grouping cs c
+    ∷ breaks_filters cs c ∷ breaks_window_names ws cs c ∷ breaks_entries c.windows ∷ breaks_copies ws cs c ∷ breaks_bounds
+    ws cs c ∷ breaks_groups ws cs c ∷ breaks_ranges ws cs c ∷ breaks_zeroths cs c ∷ breaks_places cs c ∷ breaks_limits
+    cs c ∷ breaks_sets c.grouping ∷ []
 
 -- the places, from this one on, of those that are true
 abbrev places_true : ℕ → List Bool → List ℕ
@@ -127,16 +141,19 @@ no_column = (refl, refl)
 
 -- SELECT * FROM (SELECT a, a FROM t) d GROUP BY a
 abbrev two_columns : QueryTree
-two_columns = Selected (record (clauses (AllColumns ∷ [])) { grouping = (OneSet (a ∷ []) ∷ []) ∷ [] }) (FromQuery (Selected (clauses (Computed a None ∷ Computed a None ∷ [])) from) (codes "d"))
+two_columns = Selected (record (clauses (AllColumns ∷ [])) { grouping = (OneSet (a ∷ []) ∷ []) ∷ [] })
+    (FromQuery (Selected (clauses (Computed a None ∷ Computed a None ∷ [])) from) (codes "d"))
 
 two_columns_untyped : IsUntyped two_columns 12
 two_columns_untyped = (refl, refl)
 
 -- SELECT lag(NULL, 1, a) OVER () FROM t: of another type than its column
 abbrev column_for_literal : QueryTree
-column_for_literal = select (Invoked (codes "lag") (These (MoreTrees NullWord (MoreTrees (Numeral 1) (MoreTrees a NoTrees)))) Unfiltered over_all)
+column_for_literal = select (Invoked (codes "lag")
+    (These (MoreTrees NullWord (MoreTrees (Numeral 1) (MoreTrees a NoTrees)))) Unfiltered over_all)
 
-column_for_literal_typed : Breaks column_for_literal 13 × (typed column_for_literal ≡ Some (Text ∷ [])) × (types_of (answer_columns t column_for_literal) ≡ Integer ∷ [])
+column_for_literal_typed : Breaks column_for_literal 13 × (typed column_for_literal ≡ Some (Text ∷ []))
+    × (types_of (answer_columns t column_for_literal) ≡ Integer ∷ [])
 column_for_literal_typed = (refl, refl, refl)
 
 -- SELECT a + s FROM t
@@ -168,7 +185,8 @@ two_windows : IsUndenoted (with_windows a (w ∷ w ∷ [])) 20
 two_windows = (refl, λ h. true≢false h.0.entries.2.0)
 
 -- SELECT rank() OVER (w PARTITION BY a) FROM t WINDOW w AS ()
-copy_with_partition : IsUndenoted (with_windows (rank Unfiltered (OwnWindow (Some (codes "w")) (MoreTrees a NoTrees) NoKeys None)) (w ∷ [])) 21
+copy_with_partition : IsUndenoted (with_windows (rank Unfiltered (OwnWindow (Some (codes "w")) (MoreTrees a NoTrees) NoKeys
+    None)) (w ∷ [])) 21
 copy_with_partition = (refl, λ h. true≢false (sym h.0.items.0.0.1))
 
 -- SELECT rank() OVER (ROWS BETWEEN CURRENT ROW AND 1 PRECEDING) FROM t
@@ -211,7 +229,8 @@ many_columns_long = ((refl, refl), (refl, refl))
 
 -- SELECT a FROM t GROUP BY CUBE (a, b, s), CUBE (a, b), ROLLUP (a, b)
 abbrev many_sets : QueryTree
-many_sets = grouped ((Cube ((a ∷ []) ∷ (b ∷ []) ∷ (s ∷ []) ∷ []) ∷ []) ∷ (Cube ((a ∷ []) ∷ (b ∷ []) ∷ []) ∷ []) ∷ (Rollup ((a ∷ []) ∷ (b ∷ []) ∷ []) ∷ []) ∷ [])
+many_sets = grouped ((Cube ((a ∷ []) ∷ (b ∷ []) ∷ (s ∷ []) ∷ []) ∷ []) ∷ (Cube ((a ∷ []) ∷ (b ∷ []) ∷ []) ∷ [])
+    ∷ (Rollup ((a ∷ []) ∷ (b ∷ []) ∷ []) ∷ []) ∷ [])
 
 many_sets_unbounded : IsBounded false many_sets 28
 many_sets_unbounded = (refl, refl)

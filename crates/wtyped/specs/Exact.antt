@@ -14,7 +14,8 @@ use Rattle.wvalues.specs.declared.truth.Truth.{Truth}
 use Rattle.wvalues.specs.declared.truth.Truth.TheVariants.{No}
 use Rattle.wscope.specs.declared.data_type.DataType.{DataType}
 use Rattle.wscope.specs.declared.data_type.DataType.TheVariants as types
-use Rattle.wplan.specs.Formula.{Formula, Constant, At, Negation, Signed, Applied, Compared, NullTest, Within, Among, Formulas, NoFormulas, MoreFormulas}
+use Rattle.wplan.specs.Formula.{Formula, Constant, At, Negation, Signed, Applied, Compared, NullTest}
+use Rattle.wplan.specs.Formula.{Within, Among, Formulas, NoFormulas, MoreFormulas}
 use Rattle.weval.specs.Values.{Outcome, Held, Judged, TooLarge, ranged, judged, turned, is_null, value_of}
 use Rattle.wtyped.specs.Typing.{formula_type}
 

@@ -10,7 +10,8 @@ use Rattle.wscope.specs.declared.data_type.DataType.{DataType}
 use Rattle.wscope.specs.Sources.{answer_columns, declared_columns}
 use Rattle.wrules.specs.Rules.{first_broken_rule}
 use Rattle.wplan.specs.Formula.{Formula, At}
-use Rattle.wplan.specs.Plans.{AggregatePlan, GroupCallPlan, GroupAggregate, GroupingOf, GroupingPlan, WindowPlan, FunctionPlan, RowNumber, Rank, DenseRank, Tile, Lag, Lead, FirstValue, LastValue, NthValue, Aggregated, SelectPlan}
+use Rattle.wplan.specs.Plans.{AggregatePlan, GroupCallPlan, GroupAggregate, GroupingOf, GroupingPlan, WindowPlan, FunctionPlan, RowNumber}
+use Rattle.wplan.specs.Plans.{Rank, DenseRank, Tile, Lag, Lead, FirstValue, LastValue, NthValue, Aggregated, SelectPlan}
 use Rattle.weval.specs.Values.{Outcome, Held, Judged, TooLarge, value_of}
 use Rattle.wresolve.specs.Selecting.{resolved_query}
 use Rattle.wrows.specs.declared.fault.AnswerFault.{AnswerFault}
@@ -54,7 +55,8 @@ group_call_on rows (GroupingOf places) = []
 -- HAVING, on the rows of all groups
 abbrev pub having_on : GroupingPlan → List Row → List Group → List Evaluation
 having_on g rows groups =
-    after (each (grouping.call_column rows groups) g.calls) (λ columns. condition_on (beside (map (λ (group : Group). group.key) groups) columns) g.having)
+    after (each (grouping.call_column rows groups) g.calls)
+    (λ columns. condition_on (beside (map (λ (group : Group). group.key) groups) columns) g.having)
 
 -- the columns of GROUP BY and the calls on kept rows, and HAVING
 abbrev pub grouping_on : Option GroupingPlan → List Row → List Evaluation

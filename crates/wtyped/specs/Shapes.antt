@@ -4,7 +4,8 @@ use Rattle.std.specs.List.{list_all, list_any}
 use Rattle.std.specs.Str.{bytes_eq}
 use Rattle.wquery.specs.declared.expression.ChainKind.{ChainKind}
 use Rattle.wquery.specs.Lefts.{chain_kind}
-use Rattle.wquery.specs.Tree.{Tree, KeyTree, Field, Numeral, Invoked, Joined, Trees, NoTrees, MoreTrees, Links, NoLinks, Further, Given, Columns, Filter, Unfiltered, Reach, ItsGroup, same_kind}
+use Rattle.wquery.specs.Tree.{Tree, KeyTree, Field, Numeral, Invoked, Joined, Trees, NoTrees, MoreTrees, Links}
+use Rattle.wquery.specs.Tree.{NoLinks, Further, Given, Columns, Filter, Unfiltered, Reach, ItsGroup, same_kind}
 use Rattle.wquery.specs.GroupElements.{all_columns}
 use Rattle.wquery.specs.QueryTree.{Clauses, QueryTree, Selected, SourceTree, FromTable, FromQuery}
 use Rattle.wscope.specs.Finding.{finds}

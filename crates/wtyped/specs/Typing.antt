@@ -9,7 +9,8 @@ use Rattle.wvalues.specs.Meaning.{Meaning}
 use Rattle.wscope.specs.declared.data_type.DataType.{DataType}
 use Rattle.wscope.specs.declared.data_type.DataType.TheVariants.{Integer, Text, Truth, Null}
 use Rattle.wscope.specs.Types.{is_truth}
-use Rattle.wplan.specs.Formula.{Formula, Constant, At, Negation, Signed, Applied, Compared, NullTest, Within, Among, Formulas, NoFormulas, MoreFormulas}
+use Rattle.wplan.specs.Formula.{Formula, Constant, At, Negation, Signed, Applied, Compared, NullTest}
+use Rattle.wplan.specs.Formula.{Within, Among, Formulas, NoFormulas, MoreFormulas}
 
 -- of the cell at a place, counted from 0
 abbrev pub type_at : ℕ → List DataType → Option DataType

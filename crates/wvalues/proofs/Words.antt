@@ -29,7 +29,9 @@ decimal_plain n h = record {
 }
 
 -- what a plain word is parsed to is what it spells
-pub plain_found : {E : Type 0} (bs : List ℕ) (r : Result ℕ E) (n : ℕ) → ParsesUnsigned 32 10 bs r → IsPlain bs → r ≡ Ok n → (bs ≡ decimal n) × (n < 2 ^ 32)
+pub plain_found : {E : Type 0} (bs : List ℕ) (r : Result ℕ E) (n : ℕ) → ParsesUnsigned 32 10 bs r → IsPlain bs → r ≡ Ok n
+    → (bs ≡ decimal n) × (n < 2 ^ 32)
 plain_found {E} bs r n h p e =
-    let parsed = subst (λ (q : Result ℕ E). OkIff q (AllDigits 10 bs × (0 < length bs) × (digits_value 10 bs < 2 ^ 32)) (digits_value 10 bs)) e (parse_plain own 32 bs r h p.unsigned) in
+    let parsed = subst (λ (q : Result ℕ E). OkIff q (AllDigits 10 bs × (0 < length bs) × (digits_value 10 bs < 2 ^ 32))
+    (digits_value 10 bs)) e (parse_plain own 32 bs r h p.unsigned) in
     rw parsed.1 (sym (decimal-digits_value own bs parsed.0.0 parsed.0.1 p.canonical (omega (arith, parsed.0.2))), parsed.0.2)

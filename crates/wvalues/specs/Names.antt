@@ -14,7 +14,11 @@ pub record NameParts : Type 0 where
   pub number : ℕ
 
 abbrev pub coded_name : Coded NameParts
-coded_name = code_by (List ℕ × ℕ) (coded× (coded_list coded_ℕ) coded_ℕ) (λ n. (n.origin, n.number)) (λ p. record { origin = p.0; number = p.1 }) (λ _. refl)
+coded_name = code_by (List ℕ × ℕ) (coded× (coded_list coded_ℕ) coded_ℕ) (λ n. (n.origin, n.number)) (λ p. record {
+  origin =
+      p.0;
+  number = p.1;
+}) (λ _. refl)
 
 -- a small letter, a digit, '_' or '-'
 abbrev pub is_origin_byte : ℕ → Bool

@@ -41,6 +41,7 @@ meaning_decides (Text x) (Text y) = (λ e. ap Text ((bytes_decides x y).0 e), λ
 pub meaning_equiv : IsEquivalence same_meaning
 meaning_equiv = record {
   refl = λ x. (meaning_decides x x).1 refl;
-  symm = λ x y. one_answer (same_meaning x y) (same_meaning y x) (meaning_decides x y) (λ e. sym ((meaning_decides y x).0 e), λ e. (meaning_decides y x).1 (sym e));
+  symm = λ x y. one_answer (same_meaning x y) (same_meaning y x) (meaning_decides x y)
+      (λ e. sym ((meaning_decides y x).0 e), λ e. (meaning_decides y x).1 (sym e));
   congr = λ x y z e. ap (λ w. same_meaning w z) ((meaning_decides x y).0 e);
 }

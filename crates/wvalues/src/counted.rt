@@ -82,7 +82,8 @@ impl<W: Write> Counted<W> {
         ensures bytes { WriteAppends (W.contents self.old.inner) (W.contents self.new.inner) result piece.now }
         ensures reads { self.new.reads ≡ self.old.reads }
         ensures failures { MatchResult result
-            (λ n. (n ≡ 0 → 0 < length piece.now → self.new.failures ≡ self.old.failures + 1) × (0 < n → self.new.failures ≡ self.old.failures) × (length piece.now ≡ 0 → self.new.failures ≡ self.old.failures))
+            (λ n. (n ≡ 0 → 0 < length piece.now → self.new.failures ≡ self.old.failures + 1)
+            × (0 < n → self.new.failures ≡ self.old.failures) × (length piece.now ≡ 0 → self.new.failures ≡ self.old.failures))
             (λ _. self.new.failures ≡ self.old.failures + 1) }
     {
         let answer = self.inner.write(piece);

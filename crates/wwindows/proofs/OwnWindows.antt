@@ -24,12 +24,15 @@ added a b x m r e f g = omega arith
 
 -- what stands below a node
 pub below_counted : (t : Tree) (ts : List Tree) → ts ≡ children_of t → counted (found_all counting ts) ≡ counted (found_below counting t)
-below_counted t ts is = ap (λ (us : List Tree). counted (found_all counting us)) is ∙ sym (ap counted (below_all counting counting_joined t))
+below_counted t ts is = ap (λ (us : List Tree). counted (found_all counting us)) is
+    ∙ sym (ap counted (below_all counting counting_joined t))
 
 -- a node's own, and what stands below it
-pub node_counted : (t : Tree) (a b r : ℕ) → a ≡ with_own t 0 → b ≡ counted (found_below counting t) → r ≡ counted (a + b) → r ≡ counted (count_over t)
+pub node_counted : (t : Tree) (a b r : ℕ) → a ≡ with_own t 0 → b ≡ counted (found_below counting t) → r ≡ counted (a + b)
+    → r ≡ counted (count_over t)
 node_counted t a b r own below sum =
-    added a b (count_over t) (found_below counting t) r below sum (own_more t (found_below counting t) ∙ ap (λ (o : ℕ). o + found_below counting t) (sym own))
+    added a b (count_over t) (found_below counting t) r below sum (own_more t (found_below counting t)
+    ∙ ap (λ (o : ℕ). o + found_below counting t) (sym own))
 
 pub call_own : (c : Call) → with_own (view_call c) 0 ≡ has_own (reach_of (view_optional_over c.over)) + 0
 call_own c = ap (λ (t : Tree). with_own t 0) (view_call_is c)

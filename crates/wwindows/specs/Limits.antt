@@ -59,7 +59,8 @@ count_windows c = length c.windows + (over_items c.items + over_order c.order)
 
 -- too many entries in a list of a call's own window
 abbrev pub has_long_list : Reach → Bool
-has_long_list (OwnWindow copied partition order frame) = nat_lt most_entries (count_trees partition) || nat_lt most_entries (count_keys order)
+has_long_list (OwnWindow copied partition order frame) = nat_lt most_entries (count_trees partition) || nat_lt most_entries
+    (count_keys order)
 has_long_list _ = false
 
 abbrev pub is_long_entry : EntryTree → Bool

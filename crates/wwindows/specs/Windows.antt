@@ -1,5 +1,6 @@
 -- The rules on windows: Q19 to Q24. (SQL, `<window clause>` and `<window frame clause>`; PostgreSQL, Window Function Calls.)
-use Rattle.std.specs.Prelude.{ℕ, suc, Bool, true, false, ◌||◌, ◌&&◌, ◌^◌, ◌==◌, not, List, [], ◌∷◌, Option, Some, None, is_some, nat_le, nat_lt, take}
+use Rattle.std.specs.Prelude.{ℕ, suc, Bool, true, false, ◌||◌, ◌&&◌, ◌^◌, ◌==◌, not, List}
+use Rattle.std.specs.Prelude.{[], ◌∷◌, Option, Some, None, is_some, nat_le, nat_lt, take}
 use Rattle.std.specs.List.{list_any}
 use Rattle.std.specs.Str.{bytes_eq}
 use Rattle.wquery.specs.declared.frame.Frame.{Frame}
@@ -7,7 +8,8 @@ use Rattle.wquery.specs.declared.frame.FrameMode.{FrameMode}
 use Rattle.wquery.specs.declared.frame.FrameMode.TheVariants.{Rows, Range, Groups}
 use Rattle.wquery.specs.declared.frame.FrameBound.{FrameBound}
 use Rattle.wquery.specs.declared.frame.FrameBound.TheVariants.{Preceding, Following}
-use Rattle.wquery.specs.Tree.{Tree, Invoked, Keys, NoKeys, MoreKeys, keys, Trees, NoTrees, MoreTrees, trees, Reach, ItsGroup, ThatWindow, OwnWindow, WindowTree}
+use Rattle.wquery.specs.Tree.{Tree, Invoked, Keys, NoKeys, MoreKeys, keys, Trees, NoTrees, MoreTrees}
+use Rattle.wquery.specs.Tree.{trees, Reach, ItsGroup, ThatWindow, OwnWindow, WindowTree}
 use Rattle.wquery.specs.QueryTree.{Clauses, EntryTree}
 use Rattle.wsame.specs.Bounds.{place_of_bound, end_of}
 use Rattle.wscope.specs.declared.data_type.DataType.{DataType}
@@ -68,7 +70,8 @@ has_trees (MoreTrees t ts) = true
 abbrev pub is_bad_copy : List NamedWindow → Option (List ℕ) → Trees → Keys → Bool
 is_bad_copy ws None partition order = false
 is_bad_copy ws (Some name) partition order =
-    has_trees partition || ((has_keys order && has_keys (or_none (window_named ws name)).order) || is_some (or_none (window_named ws name)).frame)
+    has_trees partition || ((has_keys order && has_keys (or_none (window_named ws name)).order)
+    || is_some (or_none (window_named ws name)).frame)
 
 abbrev pub copies_badly : List NamedWindow → WindowTree → Bool
 copies_badly ws w = is_bad_copy ws w.copied (trees w.partition) (keys w.order)
@@ -151,7 +154,8 @@ has_range_key cs (MoreKeys t descending nulls NoKeys) = not (is_text_type (type_
 has_range_key cs _ = false
 
 abbrev pub lacks_range_key : List Titled → Expanded → Bool
-lacks_range_key cs w = in_frame w.frame (λ f. (is_range f.mode && (is_offset f.start || is_offset (end_of f))) && not (has_range_key cs w.order))
+lacks_range_key cs w = in_frame w.frame (λ f. (is_range f.mode && (is_offset f.start || is_offset (end_of f)))
+    && not (has_range_key cs w.order))
 
 -- Q24: RANGE with an offset bound in a window without exactly one key, or whose key is a text
 abbrev pub breaks_ranges : List NamedWindow → List Titled → Clauses → Bool

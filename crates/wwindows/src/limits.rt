@@ -8,7 +8,9 @@ ghost use Rattle.wscope.specs.Scoped.{scope_clauses, scope_columns};
 ghost use Rattle.wscope.specs.Finding.{count_trees, count_keys};
 ghost use Rattle.wgroupby.specs.Rules.{breaks_lists};
 ghost use Rattle.wwindows.specs.Order.{count_items as number_of_items};
-ghost use Rattle.wwindows.specs.Limits.{count_windows as number_of_windows, has_long_list as is_reach_long, is_long_entry as is_entry_long, breaks_limits, counted, most_entries, most_items, most_windows};
+ghost use Rattle.wwindows.specs.Limits.{count_windows as number_of_windows, has_long_list as is_reach_long};
+ghost use Rattle.wwindows.specs.Limits.{is_long_entry as is_entry_long, breaks_limits, counted, most_entries, most_items};
+ghost use Rattle.wwindows.specs.Limits.{most_windows};
 
 use crate::counting::{count_in_items, count_in_order, plus};
 use crate::order::count_items;
@@ -74,7 +76,8 @@ fn any_long_entry(entries: &[WindowEntry]) -> bool
 }
 
 fn exceeds_windows(entries: usize, in_items: u32, in_order: u32) -> bool
-    ensures { (items order : ℕ) → in_items ≡ counted items → in_order ≡ counted order → result ≡ nat_lt most_windows (entries + (items + order)) }
+    ensures { (items order : ℕ) → in_items ≡ counted items → in_order ≡ counted order
+        → result ≡ nat_lt most_windows (entries + (items + order)) }
 {
     if entries > MAX_WINDOWS {
         return true;

@@ -14,7 +14,14 @@ ghost use Rattle.wscope.specs.Scoped.{IsExpanded, scope_clauses, scope_columns};
 ghost use Rattle.wscope.specs.Sources.{all_titled};
 ghost use Rattle.wscope.specs.Types.{type_of as type_in};
 ghost use Rattle.wscope.specs.Windows.{Expanded, window_named, or_none, named_windows, expanded_window, expand_tree, lent_frame};
-ghost use Rattle.wwindows.specs.Windows.{reach_is, some_entry_after, is_unknown_window as is_no_window, copies_unknown as copies_no_window, is_over_unknown as is_over_no_window, breaks_entries, is_bad_copy as is_wrong_copy, copies_badly as is_copied_wrongly, is_over_bad_copy as is_over_wrong_copy, own_window_is, entry_is, has_keys, has_trees, some_window, breaks_window_names, breaks_copies, is_long as is_long_bound, is_offset as is_offset_bound, has_bad_bounds as are_bad_bounds, has_bad_frame, lacks_groups, is_groups, is_range, is_text_type as is_type_of_texts, has_range_key as is_range_key, lacks_range_key, breaks_bounds, breaks_groups, breaks_ranges};
+ghost use Rattle.wwindows.specs.Windows.{reach_is, some_entry_after, is_unknown_window as is_no_window};
+ghost use Rattle.wwindows.specs.Windows.{copies_unknown as copies_no_window, is_over_unknown as is_over_no_window, breaks_entries};
+ghost use Rattle.wwindows.specs.Windows.{is_bad_copy as is_wrong_copy, copies_badly as is_copied_wrongly};
+ghost use Rattle.wwindows.specs.Windows.{is_over_bad_copy as is_over_wrong_copy, own_window_is, entry_is, has_keys, has_trees};
+ghost use Rattle.wwindows.specs.Windows.{some_window, breaks_window_names, breaks_copies, is_long as is_long_bound};
+ghost use Rattle.wwindows.specs.Windows.{is_offset as is_offset_bound, has_bad_bounds as are_bad_bounds, has_bad_frame, lacks_groups};
+ghost use Rattle.wwindows.specs.Windows.{is_groups, is_range, is_text_type as is_type_of_texts, has_range_key as is_range_key};
+ghost use Rattle.wwindows.specs.Windows.{lacks_range_key, breaks_bounds, breaks_groups, breaks_ranges};
 
 use wquery::{Expression, Frame, FrameBound, FrameMode, Key, Over, Window, WindowEntry};
 use wsame::{bound_place, frame_end};

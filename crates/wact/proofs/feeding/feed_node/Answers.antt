@@ -6,4 +6,5 @@ returns c =
     let each = rw c.requires.declared at c.deliveries-deliveries.ensures.delivered in
     let delivers = rw c.new-text.ensures.items at c.in_ok-deliver_all.ensures in
     let stored = rw c.in_ok-add_count.ensures at c.stored.ensures in
-    feeds_all c.args.batch.now c.deliveries-deliveries.result.now c.args.node.now c.deliver_all.new.node _ c.deliver_all.new.text.items c.stored.result c.requires.whole c.deliveries-deliveries.ensures.items each delivers stored
+    feeds_all c.args.batch.now c.deliveries-deliveries.result.now c.args.node.now c.deliver_all.new.node _
+    c.deliver_all.new.text.items c.stored.result c.requires.whole c.deliveries-deliveries.ensures.items each delivers stored

@@ -10,8 +10,15 @@ returns-in-Ok-clause-replies c = record { answer = Ok c.in-Ok.answer.items; answ
 pub returns-in_ok-text-in-Err : goal.returns-in_ok-text-in-Err
 returns-in_ok-text-in-Err c =
     let other : c.in-Err.fault ≢ NoMemory = search rules in
-    let told : (c.in-Err.fault ≡ NoMemory) ⊎ IsAnswer c.args.node.now.schema c.args.node.now.view c.args.query.now (Err c.in-Err.fault) = search rules in
+    let told : (c.in-Err.fault ≡ NoMemory) ⊎ IsAnswer c.args.node.now.schema c.args.node.now.view c.args.query.now
+    (Err c.in-Err.fault) = search rules in
     record {
-      replies = record { answer = Err c.in-Err.fault; answers = but_memory other told; text_is = c.in_ok-text-in-Err.ensures.text; refused_is = refl };
+      replies = record {
+        answer = Err c.in-Err.fault;
+        answers = but_memory other told;
+        text_is =
+            c.in_ok-text-in-Err.ensures.text;
+        refused_is = refl;
+      };
       same = c.in-Err.ensures.same;
     }

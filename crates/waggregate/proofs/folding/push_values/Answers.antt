@@ -16,8 +16,10 @@ returns-in_err-value g c =
     let p = err_from_is_err_and c.from_residual.result c.from_residual.ensures.1 in
     let told = g.F.ToldFold.told c.args.fold.now in
     record {
-      gives = rw (p.1, p.2) (refused_part told c.in_err-value.field-0.0 c.args.parts.now c.loop-part.part-index c.part-item.result c.loop-part-test.true
-          (subst (λ part. Gives meaning (Err c.in_err-value.field-0.0) (told_or_out_of_range (told part))) c.part-item.is c.in_err-value.ensures));
+      gives = rw (p.1, p.2) (refused_part told c.in_err-value.field-0.0 c.args.parts.now c.loop-part.part-index
+          c.part-item.result c.loop-part-test.true
+          (subst (λ part. Gives meaning (Err c.in_err-value.field-0.0) (told_or_out_of_range (told part))) c.part-item.is
+          c.in_err-value.ensures));
       added = search rules;
     }
 
@@ -27,5 +29,6 @@ returns g c =
     let parts = c.args.parts.now in
     record {
       gives = none_of_all is_none told OutOfRange parts c.loop-part.part-index c.loop-part-test.false c.loop-part.invariant.in_range;
-      added = added_all (λ (r : _). unwrap_or r Null) told parts c.loop-part.part-index (map meaning c.args.told.now.items) (map meaning c.loop-part.told.items) c.loop-part-test.false c.loop-part.invariant.so_far;
+      added = added_all (λ (r : _). unwrap_or r Null) told parts c.loop-part.part-index (map meaning c.args.told.now.items)
+          (map meaning c.loop-part.told.items) c.loop-part-test.false c.loop-part.invariant.so_far;
     }

@@ -10,5 +10,6 @@ invariant-loop-part g l =
     let told = g.F.ToldFold.told l.fold in
     record {
       in_range : list_any (λ part. is_none (told part)) (take l.part-index l.parts) ≡ false;
-      so_far : map meaning l.told.items ≡ map meaning l.fn.told.items ++ map (λ part. unwrap_or (told part) Null) (take l.part-index l.parts);
+      so_far : map meaning l.told.items ≡ map meaning l.fn.told.items ++ map (λ part. unwrap_or (told part) Null)
+          (take l.part-index l.parts);
     }

@@ -6,7 +6,10 @@ use Rattle.waggregate.proofs.folding.put_at.Goals as goal
 
 pub returns-then-place-rows-clause-put : goal.returns-then-place-rows-clause-put
 returns-then-place-rows-clause-put c = λ values within is.
-    put_next meaning c.args.rows.now values c.args.place c.args.column.now _ c.args.value (put_all (map meaning c.args.column.now) (drop c.args.place c.args.rows.now) (drop c.args.place values)) c.if-place-rows.true within refl is refl
+    put_next meaning c.args.rows.now values c.args.place c.args.column.now _ c.args.value
+    (put_all (map meaning c.args.column.now) (drop c.args.place c.args.rows.now) (drop c.args.place values))
+    c.if-place-rows.true within refl is refl
 
 pub returns-else-place-rows-clause-put : goal.returns-else-place-rows-clause-put
-returns-else-place-rows-clause-put c = λ values within is. put_beyond (map meaning c.args.column.now) (drop (c.args.place + 1) values) (drop c.args.place values) c.args.rows.now c.args.place c.if-place-rows.false
+returns-else-place-rows-clause-put c = λ values within is. put_beyond (map meaning c.args.column.now)
+    (drop (c.args.place + 1) values) (drop c.args.place values) c.args.rows.now c.args.place c.if-place-rows.false

@@ -9,7 +9,9 @@ use Rattle.waggregate.proofs.folding.put_frame_aggregates.Goals as goal
 pub returns-in-CountRows-clause-answers : goal.returns-in-CountRows-clause-answers
 returns-in-CountRows-clause-answers c feed of =
     subst (λ results. Puts results c.args.rows.now c.put_folds.result c.args.column.now c.put_folds.new.column)
-    (row_counts_alike c.args.partitions.now feed c.args.rows.now c.args.values.now c.requires.values c.requires.few c.frames_are_rows.ensures.below c.frames_are_rows.ensures.few (tests c.lent-filter.result) of.picked (c.lent-filter.ensures.value ∙ of.tested)
+    (row_counts_alike c.args.partitions.now feed c.args.rows.now c.args.values.now c.requires.values c.requires.few
+    c.frames_are_rows.ensures.below c.frames_are_rows.ensures.few (tests c.lent-filter.result) of.picked
+    (c.lent-filter.ensures.value ∙ of.tested)
     c.counts_are_exact.ensures.rows c.picked_rows_feed_alike.ensures.rows
     ∙ ap (λ f. window_answers f feed c.args.partitions.now c.args.rows.now) (sym c.in-CountRows.is))
     c.put_folds.ensures.answers
@@ -17,7 +19,9 @@ returns-in-CountRows-clause-answers c feed of =
 pub returns-in-Count-clause-answers : goal.returns-in-Count-clause-answers
 returns-in-Count-clause-answers c feed of =
     subst (λ results. Puts results c.args.rows.now c.put_folds-in-Count.result c.args.column.now c.put_folds-in-Count.new.column)
-    (value_counts_alike c.args.partitions.now feed c.args.rows.now c.args.values.now c.requires.values c.requires.few c.frames_are_rows.ensures.below c.frames_are_rows.ensures.few (tests c.lent-filter.result) of.picked (c.lent-filter.ensures.value ∙ of.tested)
+    (value_counts_alike c.args.partitions.now feed c.args.rows.now c.args.values.now c.requires.values c.requires.few
+    c.frames_are_rows.ensures.below c.frames_are_rows.ensures.few (tests c.lent-filter.result) of.picked
+    (c.lent-filter.ensures.value ∙ of.tested)
     c.counts_are_exact.ensures.values c.picked_rows_feed_alike.ensures.count
     ∙ ap (λ f. window_answers f feed c.args.partitions.now c.args.rows.now) (sym c.in-Count.is))
     c.put_folds-in-Count.ensures.answers
@@ -25,23 +29,32 @@ returns-in-Count-clause-answers c feed of =
 pub returns-in-Sum-clause-answers : goal.returns-in-Sum-clause-answers
 returns-in-Sum-clause-answers c feed of =
     subst (λ results. Puts results c.args.rows.now c.put_folds-in-Sum.result c.args.column.now c.put_folds-in-Sum.new.column)
-    (sums_alike c.args.partitions.now feed c.args.rows.now c.args.values.now c.requires.values c.requires.few c.frames_are_rows.ensures.below c.frames_are_rows.ensures.few (tests c.lent-filter.result) of.picked (c.lent-filter.ensures.value ∙ of.tested)
-    c.sums_are_exact.ensures c.picked_rows_feed_alike.ensures.feed c.picked_rows_feed_alike.ensures.sum (c.see_ranges.ensures.fed (tests c.lent-filter.result))
+    (sums_alike c.args.partitions.now feed c.args.rows.now c.args.values.now c.requires.values c.requires.few
+    c.frames_are_rows.ensures.below c.frames_are_rows.ensures.few (tests c.lent-filter.result) of.picked
+    (c.lent-filter.ensures.value ∙ of.tested)
+    c.sums_are_exact.ensures c.picked_rows_feed_alike.ensures.feed c.picked_rows_feed_alike.ensures.sum
+    (c.see_ranges.ensures.fed (tests c.lent-filter.result))
     ∙ ap (λ f. window_answers f feed c.args.partitions.now c.args.rows.now) (sym c.in-Sum.is))
     c.put_folds-in-Sum.ensures.answers
 
 pub returns-in-Min-clause-answers : goal.returns-in-Min-clause-answers
 returns-in-Min-clause-answers c feed of =
     subst (λ results. Puts results c.args.rows.now c.put_folds-in-Min.result c.args.column.now c.put_folds-in-Min.new.column)
-    (firsts_alike c.args.partitions.now feed c.args.rows.now c.args.values.now c.requires.values c.requires.few c.frames_are_rows.ensures.below c.frames_are_rows.ensures.few (tests c.lent-filter.result) of.picked (c.lent-filter.ensures.value ∙ of.tested)
-    c.picked_rows_feed_alike.ensures.feed c.stable_sorts_agree.ensures.first by_value by_value_total c.places_are_least.ensures.least Min (λ rs. refl)
+    (firsts_alike c.args.partitions.now feed c.args.rows.now c.args.values.now c.requires.values c.requires.few
+    c.frames_are_rows.ensures.below c.frames_are_rows.ensures.few (tests c.lent-filter.result) of.picked
+    (c.lent-filter.ensures.value ∙ of.tested)
+    c.picked_rows_feed_alike.ensures.feed c.stable_sorts_agree.ensures.first by_value by_value_total
+    c.places_are_least.ensures.least Min (λ rs. refl)
     ∙ ap (λ f. window_answers f feed c.args.partitions.now c.args.rows.now) (sym c.in-Min.is))
     c.put_folds-in-Min.ensures.answers
 
 pub returns-in-Max-clause-answers : goal.returns-in-Max-clause-answers
 returns-in-Max-clause-answers c feed of =
     subst (λ results. Puts results c.args.rows.now c.put_folds-in-Max.result c.args.column.now c.put_folds-in-Max.new.column)
-    (firsts_alike c.args.partitions.now feed c.args.rows.now c.args.values.now c.requires.values c.requires.few c.frames_are_rows.ensures.below c.frames_are_rows.ensures.few (tests c.lent-filter.result) of.picked (c.lent-filter.ensures.value ∙ of.tested)
-    c.picked_rows_feed_alike.ensures.feed c.stable_sorts_agree.ensures.first by_value_descending by_value_descending_total c.places_are_least.ensures.greatest Max (λ rs. refl)
+    (firsts_alike c.args.partitions.now feed c.args.rows.now c.args.values.now c.requires.values c.requires.few
+    c.frames_are_rows.ensures.below c.frames_are_rows.ensures.few (tests c.lent-filter.result) of.picked
+    (c.lent-filter.ensures.value ∙ of.tested)
+    c.picked_rows_feed_alike.ensures.feed c.stable_sorts_agree.ensures.first by_value_descending by_value_descending_total
+    c.places_are_least.ensures.greatest Max (λ rs. refl)
     ∙ ap (λ f. window_answers f feed c.args.partitions.now c.args.rows.now) (sym c.in-Max.is))
     c.put_folds-in-Max.ensures.answers

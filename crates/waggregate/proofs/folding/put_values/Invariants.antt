@@ -12,5 +12,6 @@ invariant-loop-place g l =
     record {
       long : length l.column ≡ length l.fn.column;
       in_range : list_any (λ part. is_none (told part)) (take l.place l.parts) ≡ false;
-      put : put_all (map meaning l.column) (drop l.place l.rows) (drop l.place (values_or_null (map told l.parts))) ≡ put_all (map meaning l.fn.column) l.rows (values_or_null (map told l.parts));
+      put : put_all (map meaning l.column) (drop l.place l.rows) (drop l.place (values_or_null (map told l.parts)))
+          ≡ put_all (map meaning l.fn.column) l.rows (values_or_null (map told l.parts));
     }

@@ -12,7 +12,8 @@ returns-in-CountRows-clause-gives c = λ feed valued tested.
     let groups = c.args.groups.now in
     let order = c.args.order.now in
     given_alike c.fold_groups.result _ _
-    (rows_told groups order c.requires.few feed (meanings c.args.values.now) (tests c.lent-filter.result) valued (c.lent-filter.ensures.value ∙ tested) c.counts_are_exact.ensures.rows
+    (rows_told groups order c.requires.few feed (meanings c.args.values.now) (tests c.lent-filter.result) valued
+    (c.lent-filter.ensures.value ∙ tested) c.counts_are_exact.ensures.rows
     ∙ ap (λ f. map (λ g. aggregate_of f feed (rows_of_group groups g)) order) (sym c.in-CountRows.is))
     c.fold_groups.ensures.gives
 
@@ -21,7 +22,8 @@ returns-in-Count-clause-gives c = λ feed valued tested.
     let groups = c.args.groups.now in
     let order = c.args.order.now in
     given_alike c.fold_groups-in-Count.result _ _
-    (values_told groups order c.requires.few feed (meanings c.args.values.now) (tests c.lent-filter.result) valued (c.lent-filter.ensures.value ∙ tested) c.counts_are_exact.ensures.values
+    (values_told groups order c.requires.few feed (meanings c.args.values.now) (tests c.lent-filter.result) valued
+    (c.lent-filter.ensures.value ∙ tested) c.counts_are_exact.ensures.values
     ∙ ap (λ f. map (λ g. aggregate_of f feed (rows_of_group groups g)) order) (sym c.in-Count.is))
     c.fold_groups-in-Count.ensures.gives
 
@@ -30,7 +32,8 @@ returns-in-Sum-clause-gives c = λ feed valued tested.
     let groups = c.args.groups.now in
     let order = c.args.order.now in
     given_alike c.fold_groups-in-Sum.result _ _
-    (sums_told groups order c.requires.few feed (meanings c.args.values.now) (tests c.lent-filter.result) valued (c.lent-filter.ensures.value ∙ tested) c.sums_are_exact.ensures (c.see_ranges.ensures.fed (tests c.lent-filter.result))
+    (sums_told groups order c.requires.few feed (meanings c.args.values.now) (tests c.lent-filter.result) valued
+    (c.lent-filter.ensures.value ∙ tested) c.sums_are_exact.ensures (c.see_ranges.ensures.fed (tests c.lent-filter.result))
     ∙ ap (λ f. map (λ g. aggregate_of f feed (rows_of_group groups g)) order) (sym c.in-Sum.is))
     c.fold_groups-in-Sum.ensures.gives
 
@@ -39,7 +42,8 @@ returns-in-Min-clause-gives c = λ feed valued tested.
     let groups = c.args.groups.now in
     let order = c.args.order.now in
     given_alike c.fold_groups-in-Min.result _ _
-    (firsts_told groups order c.requires.few feed (meanings c.args.values.now) (tests c.lent-filter.result) valued (c.lent-filter.ensures.value ∙ tested) c.stable_sorts_agree.ensures.first by_value by_value_total c.places_are_least.ensures.least
+    (firsts_told groups order c.requires.few feed (meanings c.args.values.now) (tests c.lent-filter.result) valued
+    (c.lent-filter.ensures.value ∙ tested) c.stable_sorts_agree.ensures.first by_value by_value_total c.places_are_least.ensures.least
     ∙ ap (λ f. map (λ g. aggregate_of f feed (rows_of_group groups g)) order) (sym c.in-Min.is))
     c.fold_groups-in-Min.ensures.gives
 
@@ -48,6 +52,8 @@ returns-in-Max-clause-gives c = λ feed valued tested.
     let groups = c.args.groups.now in
     let order = c.args.order.now in
     given_alike c.fold_groups-in-Max.result _ _
-    (firsts_told groups order c.requires.few feed (meanings c.args.values.now) (tests c.lent-filter.result) valued (c.lent-filter.ensures.value ∙ tested) c.stable_sorts_agree.ensures.first by_value_descending by_value_descending_total c.places_are_least.ensures.greatest
+    (firsts_told groups order c.requires.few feed (meanings c.args.values.now) (tests c.lent-filter.result) valued
+    (c.lent-filter.ensures.value ∙ tested) c.stable_sorts_agree.ensures.first by_value_descending
+    by_value_descending_total c.places_are_least.ensures.greatest
     ∙ ap (λ f. map (λ g. aggregate_of f feed (rows_of_group groups g)) order) (sym c.in-Max.is))
     c.fold_groups-in-Max.ensures.gives

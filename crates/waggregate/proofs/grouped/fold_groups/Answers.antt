@@ -30,7 +30,8 @@ returns-in_err-push_values-clause-gives g c =
     let f = c.args.fold.now in
     let fold_of = λ (k : ℕ). rows_fold (g.F.Fold.neutral f) (g.F.Fold.joined f) (g.F.Fold.part_at f) (rows_of_group c.args.groups.now k) in
     let known = c.deref.ensures.value ∙ c.in_ok-parts.ensures.folds in
-    let same = told_in_order (g.F.ToldFold.told f) fold_of c.args.count c.deref.result.now c.in_ok-ordered.ordered.items c.deref-2.result.now c.args.order.now known c.in_ok-ordered.ensures c.requires.ordered c.deref-2.ensures.value in
+    let same = told_in_order (g.F.ToldFold.told f) fold_of c.args.count c.deref.result.now c.in_ok-ordered.ordered.items
+    c.deref-2.result.now c.args.order.now known c.in_ok-ordered.ensures c.requires.ordered c.deref-2.ensures.value in
     let p = err_from_is_err_and c.from_residual-in_err-push_values.result c.from_residual-in_err-push_values.ensures.1 in
     rw (p.1, p.2) (told_fault c.in_err-push_values.field-0.0 _ _ same c.in_err-push_values.ensures.gives)
 
@@ -39,13 +40,17 @@ returns-clause-gives g c =
     let f = c.args.fold.now in
     let fold_of = λ (k : ℕ). rows_fold (g.F.Fold.neutral f) (g.F.Fold.joined f) (g.F.Fold.part_at f) (rows_of_group c.args.groups.now k) in
     let known = c.deref.ensures.value ∙ c.in_ok-parts.ensures.folds in
-    let same = told_in_order (g.F.ToldFold.told f) fold_of c.args.count c.deref.result.now c.in_ok-ordered.ordered.items c.deref-2.result.now c.args.order.now known c.in_ok-ordered.ensures c.requires.ordered c.deref-2.ensures.value in
-    told_column c.in_ok-told.told.items c.push_values.new.told.items _ _ same c.in_ok-told.ensures.items c.in_ok-push_values.ensures.gives c.in_ok-push_values.ensures.added
+    let same = told_in_order (g.F.ToldFold.told f) fold_of c.args.count c.deref.result.now c.in_ok-ordered.ordered.items
+    c.deref-2.result.now c.args.order.now known c.in_ok-ordered.ensures c.requires.ordered c.deref-2.ensures.value in
+    told_column c.in_ok-told.told.items c.push_values.new.told.items _ _ same c.in_ok-told.ensures.items
+    c.in_ok-push_values.ensures.gives c.in_ok-push_values.ensures.added
 
 pub returns-clause-len : goal.returns-clause-len
 returns-clause-len g c =
     let f = c.args.fold.now in
     let fold_of = λ (k : ℕ). rows_fold (g.F.Fold.neutral f) (g.F.Fold.joined f) (g.F.Fold.part_at f) (rows_of_group c.args.groups.now k) in
     let known = c.deref.ensures.value ∙ c.in_ok-parts.ensures.folds in
-    let same = told_in_order (g.F.ToldFold.told f) fold_of c.args.count c.deref.result.now c.in_ok-ordered.ordered.items c.deref-2.result.now c.args.order.now known c.in_ok-ordered.ensures c.requires.ordered c.deref-2.ensures.value in
-    told_long c.in_ok-told.told.items c.push_values.new.told.items _ (λ k. g.F.ToldFold.told f (fold_of k)) c.args.order.now same c.in_ok-told.ensures.items c.in_ok-push_values.ensures.added
+    let same = told_in_order (g.F.ToldFold.told f) fold_of c.args.count c.deref.result.now c.in_ok-ordered.ordered.items
+    c.deref-2.result.now c.args.order.now known c.in_ok-ordered.ensures c.requires.ordered c.deref-2.ensures.value in
+    told_long c.in_ok-told.told.items c.push_values.new.told.items _ (λ k. g.F.ToldFold.told f (fold_of k)) c.args.order.now
+    same c.in_ok-told.ensures.items c.in_ok-push_values.ensures.added

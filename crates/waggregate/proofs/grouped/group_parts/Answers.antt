@@ -20,7 +20,9 @@ loop-row-preserved g c =
     let group = get_or groups row 0 in
     let parts = c.loop-row.parts.items in
     record {
-      folds = parts_more (g.F.Fold.neutral f) (g.F.Fold.joined f) (g.F.Fold.part_at f) groups row c.args.count group parts c.index.result.now c.of.result c.join.result c.loop-row.invariant.folds refl (c.requires.below row 0 (omega arith)) c.index.ensures c.of.ensures.value c.join.ensures.value;
+      folds = parts_more (g.F.Fold.neutral f) (g.F.Fold.joined f) (g.F.Fold.part_at f) groups row c.args.count group parts
+          c.index.result.now c.of.result c.join.result c.loop-row.invariant.folds refl
+          (c.requires.below row 0 (omega arith)) c.index.ensures c.of.ensures.value c.join.ensures.value;
       parts = All-set (g.F.Fold.is_part f) parts group c.join.result c.join.ensures.part c.loop-row.invariant.parts;
       len = length-set parts group c.join.result ∙ c.loop-row.invariant.len;
       joins = c.join.ensures.joins ∙ ap (λ n. n + 1) c.loop-row.invariant.joins;

@@ -4,4 +4,7 @@ use Rattle.wask.proofs.Accepted.{resolved_is_sound}
 use Rattle.wask.proofs.answer.answer.Goals as goal
 
 pub answer_text-requires : goal.answer_text-requires
-answer_text-requires c = record { sound = resolved_is_sound c.schema.result.now (view_query c.args.query.now) (plans c.in-Ok.resolved) c.in-Ok.ensures }
+answer_text-requires c = record {
+  sound = resolved_is_sound c.schema.result.now (view_query c.args.query.now)
+      (plans c.in-Ok.resolved) c.in-Ok.ensures;
+}

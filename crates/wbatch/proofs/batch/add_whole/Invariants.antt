@@ -7,7 +7,8 @@ use Rattle.wbatch.proofs.batch.add_whole.Given as goal
 abbrev pub invariant-messages : goal.invariant-messages
 invariant-messages l = record {
   ready : AllByRecursion (IsReady l.schema) l.deliveries.items;
-  same : stream_text (map item_of l.deliveries.items) l.inbox.held ≡ stream_text (map item_of l.initial.deliveries.items) l.initial.inbox.held;
+  same : stream_text (map item_of l.deliveries.items) l.inbox.held ≡ stream_text (map item_of l.initial.deliveries.items)
+      l.initial.inbox.held;
   good : l.inbox.is_bad ≡ false;
 }
 

@@ -7,4 +7,6 @@ use Rattle.wbinding.specs.Groups.{column_place}
 use Rattle.wbinding.proofs.groups.build_elements.Given as goal
 
 abbrev pub invariant-elements : goal.invariant-elements
-invariant-elements l = map element_in l.made.items ++ map (element_by (column_place (all_titled l.columns))) (map view_element (drop l.element-index l.elements)) ≡ map (element_by (column_place (all_titled l.columns))) (map view_element l.elements)
+invariant-elements l = map element_in l.made.items ++ map (element_by (column_place (all_titled l.columns)))
+    (map view_element (drop l.element-index l.elements)) ≡ map (element_by (column_place (all_titled l.columns)))
+    (map view_element l.elements)

@@ -7,4 +7,6 @@ use Rattle.wbinding.specs.Groups.{column_place}
 use Rattle.wbinding.proofs.groups.build_entries.Given as goal
 
 abbrev pub invariant-entries : goal.invariant-entries
-invariant-entries l = map entry_in l.made.items ++ map (entry_by (column_place (all_titled l.columns))) (map view_group_entry (drop l.entry-index l.entries)) ≡ map (entry_by (column_place (all_titled l.columns))) (map view_group_entry l.entries)
+invariant-entries l = map entry_in l.made.items ++ map (entry_by (column_place (all_titled l.columns)))
+    (map view_group_entry (drop l.entry-index l.entries)) ≡ map (entry_by (column_place (all_titled l.columns)))
+    (map view_group_entry l.entries)

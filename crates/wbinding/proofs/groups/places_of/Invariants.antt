@@ -5,4 +5,5 @@ use Rattle.wbinding.specs.Groups.{column_place}
 use Rattle.wbinding.proofs.groups.places_of.Given as goal
 
 abbrev pub invariant-list : goal.invariant-list
-invariant-list l = l.places.items ++ map (column_place (all_titled l.columns)) (views (drop l.e-index l.list)) ≡ map (column_place (all_titled l.columns)) (views l.list)
+invariant-list l = l.places.items ++ map (column_place (all_titled l.columns)) (views (drop l.e-index l.list))
+    ≡ map (column_place (all_titled l.columns)) (views l.list)

@@ -23,9 +23,12 @@ returns-in_err-tests-clause-column c w arranged =
     let filters = filter_of plan.filter (rows_seen c.args.arranged.now.rows.now) in
     let values = meanings c.args.values.items in
     let fed : Option (List Bool) → Result Feed AnswerFault = λ filter. Ok (record { values = values; filter = filter }) in
-    let answer : Feed → Result (List Meaning) AnswerFault = λ feed. in_range (each_row w (λ i. aggregate_of plan.function feed (frame_of w i))) in
-    rw (p.1, p.2) (subst (λ r. Gives view (Err fault) ((r >>= λ values. filters >>= λ filter. Ok (record { values = values; filter = filter })) >>= answer)) (sym c.requires.values)
-    (then_refused {X = Feed} (λ feed. feed) view fault (filters >>= fed) answer (then_refused {Y = Feed} seen (λ feed. feed) fault filters fed c.in_err-tests.ensures.gives)))
+    let answer : Feed → Result (List Meaning) AnswerFault =
+    λ feed. in_range (each_row w (λ i. aggregate_of plan.function feed (frame_of w i))) in
+    rw (p.1, p.2) (subst (λ r. Gives view (Err fault)
+    ((r >>= λ values. filters >>= λ filter. Ok (record { values = values; filter = filter })) >>= answer)) (sym c.requires.values)
+    (then_refused {X = Feed} (λ feed. feed) view fault (filters >>= fed) answer (then_refused {Y = Feed} seen (λ feed. feed)
+    fault filters fed c.in_err-tests.ensures.gives)))
 
 pub returns-clause-column : goal.returns-clause-column
 returns-clause-column c w arranged =
@@ -34,8 +37,15 @@ returns-clause-column c w arranged =
     let filters = filter_of plan.filter (rows_seen c.args.arranged.now.rows.now) in
     let values = meanings c.args.values.items in
     let fed : Option (List Bool) → Result Feed AnswerFault = λ filter. Ok (record { values = values; filter = filter }) in
-    let answer : Feed → Result (List Meaning) AnswerFault = λ feed. in_range (each_row w (λ i. aggregate_of plan.function feed (frame_of w i))) in
+    let answer : Feed → Result (List Meaning) AnswerFault =
+    λ feed. in_range (each_row w (λ i. aggregate_of plan.function feed (frame_of w i))) in
     let feed : Feed = record { values = values; filter = option_map (λ tests. tests.items) c.in_ok-tests.tests } in
     subst (Gives view c.put_aggregates.result)
-    (sym (ap (λ r. (r >>= λ values. filters >>= λ filter. Ok (record { values = values; filter = filter })) >>= answer) c.requires.values ∙ ap (λ r. (r >>= fed) >>= answer) c.in_ok-tests.ensures.gives))
-    (c.put_aggregates.ensures.column w feed arranged (record { picked = ap meanings c.deref-2.ensures.value ∙ c.in_ok-values.ensures.value ∙ ap (map meaning) c.deref.ensures.value ∙ c.in_ok-cells.ensures.value; tested = c.in_ok-filter.ensures.value }))
+    (sym (ap (λ r. (r >>= λ values. filters >>= λ filter. Ok (record { values = values; filter = filter })) >>= answer)
+    c.requires.values ∙ ap (λ r. (r >>= fed) >>= answer) c.in_ok-tests.ensures.gives))
+    (c.put_aggregates.ensures.column w feed arranged (record {
+      picked = ap meanings c.deref-2.ensures.value
+          ∙ c.in_ok-values.ensures.value ∙ ap (map meaning) c.deref.ensures.value ∙ c.in_ok-cells.ensures.value;
+      tested =
+          c.in_ok-filter.ensures.value;
+    }))

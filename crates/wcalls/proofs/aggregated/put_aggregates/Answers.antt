@@ -11,5 +11,6 @@ pub returns-clause-column : goal.returns-clause-column
 returns-clause-column c w feed arranged of =
     let answer : Answer = λ p rows place. aggregate_of c.args.function feed (frame_numbers p rows place) in
     let puts = c.put_frame_aggregates.ensures.answers feed of in
-    answers_given w c.args.arranged.now.order.now c.args.arranged.now.partitions.now arranged answer (map meaning c.args.column.now) (map meaning c.put_frame_aggregates.new.column)
+    answers_given w c.args.arranged.now.order.now c.args.arranged.now.partitions.now arranged answer
+    (map meaning c.args.column.now) (map meaning c.put_frame_aggregates.new.column)
     (length-map c.args.column.now meaning ∙ c.requires.room) c.put_frame_aggregates.result puts.gives puts.put

@@ -18,7 +18,8 @@ pub invariant_of-arranged-clause-listed : goal.invariant_of-arranged-clause-list
 invariant_of-arranged-clause-listed c =
     let rows = rows_seen c.args.rows.now in
     let plan = window_plan c.args.window.now in
-    ap length c.rows.ensures.rows ∙ rows_long rows plan c.args.order.now (opened rows plan c.args.order.now c.requires.order) ∙ length-map c.args.rows.now row_seen
+    ap length c.rows.ensures.rows ∙ rows_long rows plan c.args.order.now
+    (opened rows plan c.args.order.now c.requires.order) ∙ length-map c.args.rows.now row_seen
 
 pub invariant_of-arranged-clause-below : goal.invariant_of-arranged-clause-below
 invariant_of-arranged-clause-below c = subst (λ l. All (λ i. i < length l) l) (sym c.rows.ensures.rows) c.rows.ensures.below
@@ -34,5 +35,7 @@ returns-clause-columns c =
     let p = opened rows plan c.args.order.now c.requires.order in
     let P : Result (List (List Meaning)) AnswerFault → Type 0 = λ meant. Gives rows_in c.every_column.result meant in
     let arranged : IsArranged p.window c.rows.result.now c.in_ok-partitions.partitions
-    = subst (λ order. IsArranged p.window order c.in_ok-partitions.partitions) (sym c.rows.ensures.rows) (c.in_ok-partitions.ensures.arranged p.window p.order_is (c.frame_of.ensures ∙ sym p.frame)) in
-    subst P (sym (then_ok p.window (windowed rows plan) (λ w. each (function_column rows w) fs) p.is)) (c.every_column.ensures.columns p.window arranged)
+    = subst (λ order. IsArranged p.window order c.in_ok-partitions.partitions) (sym c.rows.ensures.rows)
+    (c.in_ok-partitions.ensures.arranged p.window p.order_is (c.frame_of.ensures ∙ sym p.frame)) in
+    subst P (sym (then_ok p.window (windowed rows plan) (λ w. each (function_column rows w) fs) p.is))
+    (c.every_column.ensures.columns p.window arranged)

@@ -7,4 +7,6 @@ use Rattle.wcalls.proofs.functions.other_row_column.Goals as goal
 
 pub returns : goal.returns
 returns g c w arranged =
-    reading_is w (formula c.args.expr.now) (rows_seen c.args.arranged.now.rows.now) (meaning c.args.default.now) (g.P.RowPlaces.place_read c.args.places) (values_seen c.in_ok-values.values) _ c.in_ok-values.ensures (c.in_ok-put_answers.ensures w arranged)
+    reading_is w (formula c.args.expr.now) (rows_seen c.args.arranged.now.rows.now) (meaning c.args.default.now)
+    (g.P.RowPlaces.place_read c.args.places) (values_seen c.in_ok-values.values) _ c.in_ok-values.ensures
+    (c.in_ok-put_answers.ensures w arranged)

@@ -7,10 +7,14 @@ use Rattle.wcalls.proofs.parts.key_values.Goals as goal
 
 pub loop-key-preserved : goal.loop-key-preserved
 loop-key-preserved c =
-    listed_more key_plan (λ o. o.value) c.args.keys.now c.loop-key.key-index c.key-item.result _ _ c.loop-key-test.true c.key-item.is c.loop-key.invariant (ap formulas_seen c.in_ok-push.ensures.items ∙ map-append formula_seen c.loop-key.values.items (_ ∷ []))
+    listed_more key_plan (λ o. o.value) c.args.keys.now c.loop-key.key-index c.key-item.result _ _ c.loop-key-test.true
+    c.key-item.is c.loop-key.invariant (ap formulas_seen c.in_ok-push.ensures.items
+    ∙ map-append formula_seen c.loop-key.values.items (_ ∷ []))
 
 pub returns-clause-values : goal.returns-clause-values
-returns-clause-values c = listed_all key_plan (λ o. o.value) c.args.keys.now c.loop-key.key-index _ c.loop-key-test.false c.loop-key.invariant
+returns-clause-values c = listed_all key_plan (λ o. o.value) c.args.keys.now c.loop-key.key-index _ c.loop-key-test.false
+    c.loop-key.invariant
 
 pub returns-clause-len : goal.returns-clause-len
-returns-clause-len c = sym (length-map c.loop-key.values.items formula_seen) ∙ listed_long key_plan (λ o. o.value) c.args.keys.now _ (returns-clause-values c)
+returns-clause-len c = sym (length-map c.loop-key.values.items formula_seen) ∙ listed_long key_plan (λ o. o.value)
+    c.args.keys.now _ (returns-clause-values c)

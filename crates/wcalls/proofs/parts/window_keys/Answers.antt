@@ -8,5 +8,6 @@ pub returns-clause-gives : goal.returns-clause-gives
 returns-clause-gives c =
     let rows = rows_seen c.args.rows.now in
     let answer : formulas_seen c.deref-2.result.now ≡ map (λ k. k.value) (map key_plan c.args.window.now.keys.items)
-    = ap formulas_seen c.deref-2.ensures.value ∙ c.in_ok-values.ensures.values ∙ ap (λ l. map (λ k. k.value) (map key_plan l)) c.deref.ensures.value in
+    = ap formulas_seen c.deref-2.ensures.value ∙ c.in_ok-values.ensures.values
+    ∙ ap (λ l. map (λ k. k.value) (map key_plan l)) c.deref.ensures.value in
     sym (ap (λ ts. lists_of ts rows) answer) ∙ c.in_ok-lists.ensures.gives

@@ -11,5 +11,8 @@ returns g c w arranged =
     let answer = g.T.RowFunction.answer c.args.call.now in
     let meant = g.T.RowFunction.meant c.args.call.now in
     let new = map meant c.loop-number.kept in
-    all_put w order all answer (map meant c.args.kept.now) new arranged (length-map c.args.kept.now meant ∙ c.requires) c.args.arranged.now.dealt
-    (sym (ap (put_in answer all order new) (drop_of_length-le all.spans (omega (arith, c.loop-number-test.false, c.count-number-end.ensures.count)))) ∙ c.loop-number.invariant.put)
+    all_put w order all answer (map meant c.args.kept.now) new arranged (length-map c.args.kept.now meant ∙ c.requires)
+    c.args.arranged.now.dealt
+    (sym (ap (put_in answer all order new)
+    (drop_of_length-le all.spans (omega (arith, c.loop-number-test.false, c.count-number-end.ensures.count))))
+    ∙ c.loop-number.invariant.put)

@@ -16,7 +16,8 @@ loop-row-preserved g c =
     record {
       long = length-set column k value ∙ c.loop-row.invariant.long;
       filled = λ j h. ap (λ cells. get_or cells j Null) (map-set meaning column k value)
-          ∙ filled_next (map meaning column) (map meant kept) k (meaning value) there (c.in_ok-value.ensures ∙ sym (get_or-map meant kept k 0 Null here)) c.loop-row.invariant.filled j h;
+          ∙ filled_next (map meaning column) (map meant kept) k (meaning value) there (c.in_ok-value.ensures
+          ∙ sym (get_or-map meant kept k 0 Null here)) c.loop-row.invariant.filled j h;
     }
 
 pub returns : goal.returns
@@ -24,5 +25,6 @@ returns g c =
     let meant = g.T.RowFunction.meant c.args.call.now in
     let kept = c.args.kept.now in
     let column = c.loop-row.column in
-    all_filled (map meaning column) (map meant kept) (length-map column meaning ∙ c.loop-row.invariant.long ∙ c.requires ∙ sym (length-map kept meant))
+    all_filled (map meaning column) (map meant kept) (length-map column meaning ∙ c.loop-row.invariant.long ∙ c.requires
+    ∙ sym (length-map kept meant))
     (λ j h. c.loop-row.invariant.filled j (omega (arith, h, c.loop-row-test.false, length-map kept meant)))

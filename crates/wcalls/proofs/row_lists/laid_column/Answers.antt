@@ -19,7 +19,8 @@ loop-row-preserved c =
     let slice = c.slice_of.result.now in
     let cell = c.index-slice_of-number.result in
     let room : c.args.number < length slice = omega (arith, c.requires, c.slice_of.ensures.len) in
-    cell_more c.args.number cells.width cells.count cells.cells.items c.loop-row.row c.loop-row.column.items c.push.new.self.items slice _ c.loop-row-test.true c.requires c.slice_of.ensures.len c.loop-row.invariant
+    cell_more c.args.number cells.width cells.count cells.cells.items c.loop-row.row c.loop-row.column.items
+    c.push.new.self.items slice _ c.loop-row-test.true c.requires c.slice_of.ensures.len c.loop-row.invariant
     (c.slice_of.ensures.list ∙ ap (λ l. take cells.width (drop (c.loop-row.row * cells.width) l)) c.deref.ensures.value)
     (c.index-slice_of-number.is ∙ get_or_default slice c.args.number cell values.Null room) c.in_ok-push.ensures.items
 
@@ -27,5 +28,12 @@ pub returns : goal.returns
 returns c =
     let cells = c.args.cells.now in
     let lists = rows_in cells in
-    let long : length (key_column c.args.number lists) ≤ c.loop-row.row = omega (arith, length-map lists (λ row. value_at row c.args.number), length-laid cells.width cells.count cells.cells.items, c.loop-row-test.false) in
+    let long : length (key_column c.args.number lists) ≤ c.loop-row.row =
+    omega (
+      arith,
+      length-map lists (λ row. value_at row c.args.number),
+      length-laid cells.width cells.count
+          cells.cells.items,
+      c.loop-row-test.false,
+    ) in
     c.loop-row.invariant ∙ take_all c.loop-row.row (key_column c.args.number lists) long

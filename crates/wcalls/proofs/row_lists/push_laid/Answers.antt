@@ -13,5 +13,6 @@ pub returns : goal.returns
 returns c =
     let cells = c.args.cells.now in
     c.in_ok-push_lent.ensures
-    ∙ ap (λ l. meanings c.args.lent.now.items ++ map meaning l) (c.slice_of.ensures.list ∙ ap (λ l. take cells.width (drop (c.args.row * cells.width) l)) c.deref.ensures.value)
+    ∙ ap (λ l. meanings c.args.lent.now.items ++ map meaning l) (c.slice_of.ensures.list
+    ∙ ap (λ l. take cells.width (drop (c.args.row * cells.width) l)) c.deref.ensures.value)
     ∙ ap (λ l. meanings c.args.lent.now.items ++ l) (sym (row_at cells.width cells.count cells.cells.items c.args.row c.requires))

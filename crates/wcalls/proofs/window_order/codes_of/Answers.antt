@@ -13,5 +13,6 @@ returns-in_ok-picked-in-Some c = λ keys lists h.
     let codes = c.in-Some.codes.items in
     let answer : AreRowCodes keys lists codes = rw c.in-Some.is at h in
     let below : All (λ i. i < length codes) rows = rw c.in-Some.is at c.requires in
-    let picked : c.in_ok-picked-in-Some.picked.items ≡ map (code_at codes) rows = c.in_ok-picked-in-Some.ensures ∙ ap (λ l. map (code_at l) rows) c.deref.ensures.value in
+    let picked : c.in_ok-picked-in-Some.picked.items ≡ map (code_at codes) rows = c.in_ok-picked-in-Some.ensures
+    ∙ ap (λ l. map (code_at l) rows) c.deref.ensures.value in
     subst (TellApart (keys_cmp keys) (map (key_at lists) rows)) (sym picked) (apart_by_codes keys lists rows codes answer below)

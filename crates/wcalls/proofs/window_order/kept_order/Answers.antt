@@ -16,7 +16,8 @@ invariant_of-result c =
     let V : List (List Meaning) = lists_in c.args.values.lists in
     let K : List (List Meaning) = lists_in c.args.keys.lists in
     let made = c.requires.order in
-    let is_sorted : rows ≡ numbers_in_order V vo K ko = by_both V vo K ko rows n (numbers_by ko K n) (sym c.requires.values) refl made.order in
+    let is_sorted : rows ≡ numbers_in_order V vo K ko = by_both V vo K ko rows n (numbers_by ko K n) (sym c.requires.values)
+    refl made.order in
     record {
       below = made.below;
       each_value = c.requires.values;
@@ -35,5 +36,6 @@ returns c =
     let n : ℕ = length rows in
     let V : List (List Meaning) = lists_in c.args.values.lists in
     let K : List (List Meaning) = lists_in c.args.keys.lists in
-    let is_sorted : rows ≡ numbers_in_order V vo K ko = by_both V vo K ko rows n (numbers_by ko K n) (sym c.requires.values) refl c.requires.order.order in
+    let is_sorted : rows ≡ numbers_in_order V vo K ko = by_both V vo K ko rows n (numbers_by ko K n) (sym c.requires.values)
+    refl c.requires.order.order in
     ordered_as V vo K ko rows is_sorted (map (key_at V) rows) (map (key_at K) rows) refl refl _ refl

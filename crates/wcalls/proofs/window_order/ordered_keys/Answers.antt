@@ -14,4 +14,5 @@ kept_order-requires-clause-order c =
     let values = c.args.values in
     let keys = c.args.keys in
     let made = c.in_ok-order.ensures in
-    subst (λ k. IsRowOrder values.orders.items (lists_in values.lists) keys.orders.items (lists_in keys.lists) k c.in_ok-order.order) (sym made.len) made
+    subst (λ k. IsRowOrder values.orders.items (lists_in values.lists) keys.orders.items (lists_in keys.lists) k
+    c.in_ok-order.order) (sym made.len) made

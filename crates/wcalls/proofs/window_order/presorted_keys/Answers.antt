@@ -18,7 +18,8 @@ presorted_order-requires-clause-order c =
     let V : List (List Meaning) = lists_in c.args.values.lists in
     let K : List (List Meaning) = lists_in c.args.keys.lists in
     let nest : List ℕ = sorted (on (key_at V) (keys_cmp vo)) (numbers_by ko K (length K)) in
-    let one : nest ≡ numbers_in_order V vo K ko = by_both V vo K ko nest (length K) (numbers_by ko K (length K)) (sym c.requires.count) refl refl in
+    let one : nest ≡ numbers_in_order V vo K ko = by_both V vo K ko nest (length K) (numbers_by ko K (length K))
+    (sym c.requires.count) refl refl in
     c.requires.order ∙ sym one
 
 pub presorted_order-requires-clause-below : goal.presorted_order-requires-clause-below
@@ -44,4 +45,5 @@ kept_order-requires-clause-order c =
     let values = c.args.values in
     let keys = c.args.keys in
     let made = c.in_ok-order.ensures in
-    subst (λ k. IsRowOrder values.orders.items (lists_in values.lists) keys.orders.items (lists_in keys.lists) k c.in_ok-order.order) (sym made.len) made
+    subst (λ k. IsRowOrder values.orders.items (lists_in values.lists) keys.orders.items (lists_in keys.lists) k
+    c.in_ok-order.order) (sym made.len) made

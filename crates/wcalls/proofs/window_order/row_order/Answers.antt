@@ -18,14 +18,16 @@ pub codes_of-requires : goal.codes_of-requires
 codes_of-requires c =
     let V = lists_in c.args.values.now.lists in
     subst (λ l. IfSome c.in_ok-value_codes.value_codes (λ codes. All (λ i. i < length codes.items) l)) (sym c.deref-2.ensures.value)
-    (codes_reach c.args.values.now.orders.items V c.in_ok-rows.rows.items (length V) c.in_ok-value_codes.value_codes refl c.in_ok-value_codes.ensures.codes c.in_ok-rows.ensures.below)
+    (codes_reach c.args.values.now.orders.items V c.in_ok-rows.rows.items (length V) c.in_ok-value_codes.value_codes refl
+    c.in_ok-value_codes.ensures.codes c.in_ok-rows.ensures.below)
 
 pub codes_of-requires-2 : goal.codes_of-requires-2
 codes_of-requires-2 c =
     let V = lists_in c.args.values.now.lists in
     let K = lists_in c.args.keys.now.lists in
     subst (λ l. IfSome c.in_ok-key_codes.key_codes (λ codes. All (λ i. i < length codes.items) l)) (sym c.deref-3.ensures.value)
-    (codes_reach c.args.keys.now.orders.items K c.in_ok-rows.rows.items (length V) c.in_ok-key_codes.key_codes (sym c.requires) c.in_ok-key_codes.ensures.codes c.in_ok-rows.ensures.below)
+    (codes_reach c.args.keys.now.orders.items K c.in_ok-rows.rows.items (length V) c.in_ok-key_codes.key_codes
+    (sym c.requires) c.in_ok-key_codes.ensures.codes c.in_ok-rows.ensures.below)
 
 pub coded_order-requires-clause-len : goal.coded_order-requires-clause-len
 coded_order-requires-clause-len c =
@@ -33,8 +35,10 @@ coded_order-requires-clause-len c =
     let ko = c.args.keys.now.orders.items in
     let V = lists_in c.args.values.now.lists in
     let K = lists_in c.args.keys.now.lists in
-    let firsts : AreRowCodes vo V c.deref.result.now = subst (AreRowCodes vo V) (sym c.deref.ensures.value) (rw c.in-Some-Some.is-0 at c.in_ok-value_codes.ensures.codes) in
-    let seconds : AreRowCodes ko K c.deref-in-Some-Some.result.now = subst (AreRowCodes ko K) (sym c.deref-in-Some-Some.ensures.value) (rw c.in-Some-Some.is-1 at c.in_ok-key_codes.ensures.codes) in
+    let firsts : AreRowCodes vo V c.deref.result.now =
+    subst (AreRowCodes vo V) (sym c.deref.ensures.value) (rw c.in-Some-Some.is-0 at c.in_ok-value_codes.ensures.codes) in
+    let seconds : AreRowCodes ko K c.deref-in-Some-Some.result.now =
+    subst (AreRowCodes ko K) (sym c.deref-in-Some-Some.ensures.value) (rw c.in-Some-Some.is-1 at c.in_ok-key_codes.ensures.codes) in
     omega (arith, firsts.len, seconds.len, c.requires)
 
 pub returns-in-Some-Some : goal.returns-in-Some-Some
@@ -43,8 +47,10 @@ returns-in-Some-Some c =
     let ko = c.args.keys.now.orders.items in
     let V = lists_in c.args.values.now.lists in
     let K = lists_in c.args.keys.now.lists in
-    let firsts : AreRowCodes vo V c.deref.result.now = subst (AreRowCodes vo V) (sym c.deref.ensures.value) (rw c.in-Some-Some.is-0 at c.in_ok-value_codes.ensures.codes) in
-    let seconds : AreRowCodes ko K c.deref-in-Some-Some.result.now = subst (AreRowCodes ko K) (sym c.deref-in-Some-Some.ensures.value) (rw c.in-Some-Some.is-1 at c.in_ok-key_codes.ensures.codes) in
+    let firsts : AreRowCodes vo V c.deref.result.now =
+    subst (AreRowCodes vo V) (sym c.deref.ensures.value) (rw c.in-Some-Some.is-0 at c.in_ok-value_codes.ensures.codes) in
+    let seconds : AreRowCodes ko K c.deref-in-Some-Some.result.now =
+    subst (AreRowCodes ko K) (sym c.deref-in-Some-Some.ensures.value) (rw c.in-Some-Some.is-1 at c.in_ok-key_codes.ensures.codes) in
     subst (λ count. IsRowOrder vo V ko K count c.in_ok-order.order) seconds.len (c.in_ok-order.ensures vo ko V K firsts seconds)
 
 pub returns : goal.returns
@@ -57,6 +63,9 @@ returns c =
       order = c.in_ok-rows.ensures.order ∙ ap (sorted (on (key_at V) (keys_cmp vo))) c.in_ok-by_key.ensures.order;
       below = subst (λ n. All (λ i. i < n) c.in_ok-rows.rows.items) c.requires c.in_ok-rows.ensures.below;
       len = c.in_ok-rows.ensures.len ∙ c.in_ok-by_key.ensures.len;
-      value_codes = subst (λ l. IfSome c.in_ok-value_codes-2.value_codes (λ codes. TellApart (keys_cmp vo) (map (key_at V) l) codes.items)) c.deref-2.ensures.value (c.in_ok-value_codes-2.ensures vo V c.in_ok-value_codes.ensures.codes);
-      key_codes = subst (λ l. IfSome c.in_ok-key_codes-2.key_codes (λ codes. TellApart (keys_cmp ko) (map (key_at K) l) codes.items)) c.deref-3.ensures.value (c.in_ok-key_codes-2.ensures ko K c.in_ok-key_codes.ensures.codes);
+      value_codes = subst (λ l. IfSome c.in_ok-value_codes-2.value_codes
+          (λ codes. TellApart (keys_cmp vo) (map (key_at V) l) codes.items)) c.deref-2.ensures.value
+          (c.in_ok-value_codes-2.ensures vo V c.in_ok-value_codes.ensures.codes);
+      key_codes = subst (λ l. IfSome c.in_ok-key_codes-2.key_codes (λ codes. TellApart (keys_cmp ko) (map (key_at K) l)
+          codes.items)) c.deref-3.ensures.value (c.in_ok-key_codes-2.ensures ko K c.in_ok-key_codes.ensures.codes);
     }

@@ -10,8 +10,11 @@ loop-value-preserved c =
     let of = c.in_ok-number.ensures in
     let inv = c.loop-value.invariant in
     record {
-      cells = cells_more c.args.column.now c.loop-value.value-index c.value-item.result values more c.loop-value.numbers.items c.push.new.self.items number c.loop-value-test.true c.value-item.is of.kept inv.below inv.cells of.same c.in_ok-push.ensures.items;
-      below = below_more c.loop-value.numbers.items c.push.new.self.items number (length values) (length more) inv.below of.longer of.within c.in_ok-push.ensures.items;
+      cells = cells_more c.args.column.now c.loop-value.value-index c.value-item.result values more
+          c.loop-value.numbers.items c.push.new.self.items number c.loop-value-test.true c.value-item.is of.kept inv.below
+          inv.cells of.same c.in_ok-push.ensures.items;
+      below = below_more c.loop-value.numbers.items c.push.new.self.items number (length values) (length more) inv.below
+          of.longer of.within c.in_ok-push.ensures.items;
       few = omega (arith, inv.few, of.few);
       slots = omega (arith, inv.slots, of.slots);
     }

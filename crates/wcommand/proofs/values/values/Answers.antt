@@ -1,4 +1,5 @@
-use Rattle.std.proofs.Common.{◌≡◌, ◌∙◌, sym, ap, refl, true, true≢false, option_map, map, Bor, List, ℕ, Option, Some, None, is_some, find, bytes_eq}
+use Rattle.std.proofs.Common.{◌≡◌, ◌∙◌, sym, ap, refl, true, true≢false, option_map, map}
+use Rattle.std.proofs.Common.{Bor, List, ℕ, Option, Some, None, is_some, find, bytes_eq}
 use Rattle.std.specs.Prelude.{option_and_then, slice_get}
 use Rattle.clap.specs.Words.{Row, Text, all_of, first_of, found_of}
 use Rattle.clap.proofs.CallerLemmas.{some_of_text}
@@ -14,7 +15,9 @@ all_there name rows there = go (find (λ r. bytes_eq r.id name) rows) there
     go (Some r) e = refl
 
 pub unwrap-requires : goal.unwrap-requires
-unwrap-requires c = some_of_text _ c.get_strs.result _ (c.get_strs.ensures ∙ raw_values-rows (found_of c.args.found.now) c.args.name.now) (all_there c.args.name.now _ c.requires)
+unwrap-requires c = some_of_text _ c.get_strs.result _ (c.get_strs.ensures ∙ raw_values-rows (found_of c.args.found.now)
+    c.args.name.now) (all_there c.args.name.now _ c.requires)
 
 pub returns : goal.returns
-returns c = sym (c.get_strs.ensures ∙ raw_values-rows (found_of c.args.found.now) c.args.name.now) ∙ ap (λ (o : Option (Bor (List (Bor (List ℕ))))). option_map (λ s. map (λ v. v.now) s.now) o) c.unwrap.ensures
+returns c = sym (c.get_strs.ensures ∙ raw_values-rows (found_of c.args.found.now) c.args.name.now)
+    ∙ ap (λ (o : Option (Bor (List (Bor (List ℕ))))). option_map (λ s. map (λ v. v.now) s.now) o) c.unwrap.ensures

@@ -16,7 +16,9 @@ decreases-collect_beside l = 3 * found_all sizing (nodes_left l.nodes) + 1
 
 abbrev pub invariant-collect_beside-nodes : goal.invariant-collect_beside-nodes
 invariant-collect_beside-nodes l =
-    (call_trees l.calls.items ++ found_all (picking (is_call_of l.kind)) (nodes_left l.rest) ≡ call_trees l.fn.calls.items ++ found_all (picking (is_call_of l.kind)) (nodes_left l.nodes)) × (found_all sizing (nodes_left l.rest) ≤ found_all sizing (nodes_left l.nodes))
+    (call_trees l.calls.items ++ found_all (picking (is_call_of l.kind)) (nodes_left l.rest) ≡ call_trees l.fn.calls.items
+    ++ found_all (picking (is_call_of l.kind)) (nodes_left l.nodes))
+    × (found_all sizing (nodes_left l.rest) ≤ found_all sizing (nodes_left l.nodes))
 
 abbrev pub decreases-collect_beside-nodes : goal.decreases-collect_beside-nodes
 decreases-collect_beside-nodes l = length (nodes_left l.rest)

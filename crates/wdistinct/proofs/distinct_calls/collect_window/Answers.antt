@@ -8,6 +8,10 @@ use Rattle.wdistinct.proofs.distinct_calls.collect_window.Goals as goal
 
 pub returns : goal.returns
 returns c =
-    behind c.collect_beside.result (call_trees c.args.calls.now.items) (call_trees c.collect_beside.new.calls.items) (found_all (picking (is_call_of c.args.kind)) (nodes_left c.of_window.result)) (nodes_in_reach (is_call_of c.args.kind) (own_window (view_window c.args.window.now)))
-    (ap (found_all (picking (is_call_of c.args.kind))) c.of_window.ensures ∙ sym (reach_all (picking (is_call_of c.args.kind)) (picking_joined (is_call_of c.args.kind)) (own_window (view_window c.args.window.now))))
+    behind c.collect_beside.result (call_trees c.args.calls.now.items) (call_trees c.collect_beside.new.calls.items)
+    (found_all (picking (is_call_of c.args.kind)) (nodes_left c.of_window.result))
+    (nodes_in_reach (is_call_of c.args.kind) (own_window (view_window c.args.window.now)))
+    (ap (found_all (picking (is_call_of c.args.kind))) c.of_window.ensures
+    ∙ sym (reach_all (picking (is_call_of c.args.kind)) (picking_joined (is_call_of c.args.kind))
+    (own_window (view_window c.args.window.now))))
     c.collect_beside.ensures

@@ -14,7 +14,8 @@ sketch_call-returns t c =
 
 pub sketch_links-returns : goal.sketch_links-returns
 sketch_links-returns t c =
-    c.mark.ensures ∙ ap (marked 12) (c.sketch_operands.ensures ∙ sym (sketched_linked NoLinks (map view_link c.args.links.now) c.args.state.now))
+    c.mark.ensures ∙ ap (marked 12) (c.sketch_operands.ensures
+    ∙ sym (sketched_linked NoLinks (map view_link c.args.links.now) c.args.state.now))
 
 pub sketch_parts-returns-in-Call : goal.sketch_parts-returns-in-Call
 sketch_parts-returns-in-Call t c =

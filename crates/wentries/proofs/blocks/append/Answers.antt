@@ -8,20 +8,23 @@ returns-then-end_full-clause-ok c = ap flat c.in_ok-begin.ensures.ok ∙ flat_be
 
 pub returns-clause-ok : goal.returns-clause-ok
 returns-clause-ok c =
-    let some : 0 < length c.args.blocks.now.items = subst (λ bs. 0 < length bs) c.deref.ensures.value (c.end_full.ensures.some c.if-end_full.false) in
+    let some : 0 < length c.args.blocks.now.items =
+    subst (λ bs. 0 < length bs) c.deref.ensures.value (c.end_full.ensures.some c.if-end_full.false) in
     let end : suc (c.len-last.result - 1) ≡ length c.args.blocks.now.items = omega (arith, some, c.len-last.ensures) in
     flat_grown c.args.blocks.now.items (c.len-last.result - 1) c.index_mut.result.now c.push.new.self (c.args.entry ∷ []) end
     (c.in_ok-push.ensures.ok ∙ ap (λ b. b ++ c.args.entry ∷ []) c.index_mut.ensures.value)
 
 pub returns-clause-filled : goal.returns-clause-filled
 returns-clause-filled c n le filled =
-    filled_pushed n c.args.blocks.now.items (c.len-last.result - 1) c.index_mut.result.now c.push.new.self c.args.entry c.index_mut.ensures.value c.in_ok-push.ensures.ok filled
+    filled_pushed n c.args.blocks.now.items (c.len-last.result - 1) c.index_mut.result.now c.push.new.self c.args.entry
+    c.index_mut.ensures.value c.in_ok-push.ensures.ok filled
 
 pub returns-then-end_full-clause-grown : goal.returns-then-end_full-clause-grown
 returns-then-end_full-clause-grown c = grown_begun c.args.blocks.now.items _ (c.args.entry ∷ []) c.in_ok-begin.ensures.ok
 
 pub returns-clause-grown : goal.returns-clause-grown
 returns-clause-grown c =
-    let some : 0 < length c.args.blocks.now.items = subst (λ bs. 0 < length bs) c.deref.ensures.value (c.end_full.ensures.some c.if-end_full.false) in
+    let some : 0 < length c.args.blocks.now.items =
+    subst (λ bs. 0 < length bs) c.deref.ensures.value (c.end_full.ensures.some c.if-end_full.false) in
     let end : suc (c.len-last.result - 1) ≡ length c.args.blocks.now.items = omega (arith, some, c.len-last.ensures) in
     grown_set c.args.blocks.now.items (c.len-last.result - 1) c.push.new.self end

@@ -24,26 +24,38 @@ returns-then-is_empty-clause-known c =
 pub trim_all-requires-clause-before : goal.trim_all-requires-clause-before
 trim_all-requires-clause-before c =
     subst (λ o. AreOriginsBelow o (known_entries (flat (take c.origin_home-start.result c.args.blocks.now.items)))) c.origin.ensures.origin
-    (subst (λ bs. AreOriginsBelow c.origin.result.now (known_entries (flat (take c.origin_home-start.result bs)))) c.deref.ensures.value c.origin_home-start.ensures.before)
+    (subst (λ bs. AreOriginsBelow c.origin.result.now (known_entries (flat (take c.origin_home-start.result bs))))
+    c.deref.ensures.value c.origin_home-start.ensures.before)
 
 pub trim_all-requires-clause-behind : goal.trim_all-requires-clause-behind
 trim_all-requires-clause-behind c =
-    subst (λ bs. AreBehind c.args.floor.now (known_entries (flat (drop (suc c.home-end.result) bs)))) c.deref-2.ensures.value c.home-end.ensures.behind
+    subst (λ bs. AreBehind c.args.floor.now (known_entries (flat (drop (suc c.home-end.result) bs))))
+    c.deref-2.ensures.value c.home-end.ensures.behind
 
 pub returns-clause-known : goal.returns-clause-known
 returns-clause-known c =
     let kept_blocks = filter_same _ (λ b. not (under c.args.floor.now b)) _ (λ x b f called. search rules) _ _ c.retain.ensures.filtered in
-    let all : flat c.retain.new.self.items ≡ kept c.args.floor.now (flat c.args.blocks.now.items) = ap flat (kept_blocks ∙ ap (filter (λ b. not (under c.args.floor.now b))) c.trim_all.ensures) ∙ flat_trimmed c.args.floor.now c.args.blocks.now.items in
+    let all : flat c.retain.new.self.items ≡ kept c.args.floor.now (flat c.args.blocks.now.items) =
+    ap flat (kept_blocks ∙ ap (filter (λ b. not (under c.args.floor.now b))) c.trim_all.ensures)
+    ∙ flat_trimmed c.args.floor.now c.args.blocks.now.items in
     ap known_entries all ∙ known_filter c.args.floor.now (flat c.args.blocks.now.items)
 
 pub returns-clause-read : goal.returns-clause-read
 returns-clause-read c d held =
     let kept_blocks = filter_same _ (λ b. not (under c.args.floor.now b)) _ (λ x b f called. search rules) _ _ c.retain.ensures.filtered in
-    let all : flat c.retain.new.self.items ≡ kept c.args.floor.now (flat c.args.blocks.now.items) = ap flat (kept_blocks ∙ ap (filter (λ b. not (under c.args.floor.now b))) c.trim_all.ensures) ∙ flat_trimmed c.args.floor.now c.args.blocks.now.items in
+    let all : flat c.retain.new.self.items ≡ kept c.args.floor.now (flat c.args.blocks.now.items) =
+    ap flat (kept_blocks ∙ ap (filter (λ b. not (under c.args.floor.now b))) c.trim_all.ensures)
+    ∙ flat_trimmed c.args.floor.now c.args.blocks.now.items in
     subst (AllHeldBy d) (sym all) (held_filter d (λ e. not (is_above e.name c.args.floor.now)) (flat c.args.blocks.now.items) held)
 
 pub returns-clause-fewer : goal.returns-clause-fewer
 returns-clause-fewer c =
     let kept_blocks = filter_same _ (λ b. not (under c.args.floor.now b)) _ (λ x b f called. search rules) _ _ c.retain.ensures.filtered in
     let all = kept_blocks ∙ ap (filter (λ b. not (under c.args.floor.now b))) c.trim_all.ensures in
-    omega (arith, ap length all, length-filter_both (λ b. not (under c.args.floor.now b)) (λ b. not (not (under c.args.floor.now b))) (λ b. refl) (map (trimmed c.args.floor.now) c.args.blocks.now.items), length-map c.args.blocks.now.items (trimmed c.args.floor.now))
+    omega (
+      arith,
+      ap length all,
+      length-filter_both (λ b. not (under c.args.floor.now b))
+          (λ b. not (not (under c.args.floor.now b))) (λ b. refl) (map (trimmed c.args.floor.now) c.args.blocks.now.items),
+      length-map c.args.blocks.now.items (trimmed c.args.floor.now),
+    )

@@ -12,6 +12,8 @@ returns c =
     let end : suc k ≡ length bs = omega (arith, some) in
     let block = c.index-blocks-last.result in
     let whole = flat_last bs k block end ∙ ap (λ b. flat (take k bs) ++ b) (sym c.index-blocks-last.is) in (
-      λ t. subst (λ es. AreBelow c.args.name.now (known_entries es)) (sym whole) (c.ends_before.ensures.before t (flat (take k bs)) (subst IsRising whole c.requires)),
-      λ below. c.ends_before.ensures.all (below_end (flat (take k bs)) block c.args.name.now (subst (λ es. AreBelow c.args.name.now (known_entries es)) whole below)),
+      λ t. subst (λ es. AreBelow c.args.name.now (known_entries es)) (sym whole)
+          (c.ends_before.ensures.before t (flat (take k bs)) (subst IsRising whole c.requires)),
+      λ below. c.ends_before.ensures.all (below_end (flat (take k bs)) block c.args.name.now
+          (subst (λ es. AreBelow c.args.name.now (known_entries es)) whole below)),
     )

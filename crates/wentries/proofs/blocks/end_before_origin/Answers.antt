@@ -13,6 +13,10 @@ returns c =
     let end : suc k ≡ length bs = omega (arith, some) in
     let block = c.index-blocks-last.result in
     let whole = flat_last bs k block end ∙ ap (λ b. flat (take k bs) ++ b) (sym c.index-blocks-last.is) in (
-      λ t. subst (λ es. AreOriginsBelow c.args.name.now.origin (known_entries es)) (sym whole) (subst (λ o. AreOriginsBelow o (known_entries (flat (take k bs) ++ block))) c.origin.ensures.origin (c.ends_before_origin.ensures.before t (flat (take k bs)) (subst IsRising whole c.requires))),
-      λ below. c.ends_before_origin.ensures.all (subst (λ o. AreOriginsBelow o (known_entries block)) (sym c.origin.ensures.origin) (origins_end (flat (take k bs)) block c.args.name.now (subst (λ es. AreOriginsBelow c.args.name.now.origin (known_entries es)) whole below))),
+      λ t. subst (λ es. AreOriginsBelow c.args.name.now.origin (known_entries es)) (sym whole)
+          (subst (λ o. AreOriginsBelow o (known_entries (flat (take k bs) ++ block))) c.origin.ensures.origin
+          (c.ends_before_origin.ensures.before t (flat (take k bs)) (subst IsRising whole c.requires))),
+      λ below. c.ends_before_origin.ensures.all (subst (λ o. AreOriginsBelow o (known_entries block))
+          (sym c.origin.ensures.origin) (origins_end (flat (take k bs)) block c.args.name.now
+          (subst (λ es. AreOriginsBelow c.args.name.now.origin (known_entries es)) whole below))),
     )

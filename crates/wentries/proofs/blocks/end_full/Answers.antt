@@ -14,7 +14,8 @@ returns-clause-full c = λ full n b le filled.
     let k = length bs - 1 in
     let some : 0 < length bs = search rules in
     let end : suc k ≡ length bs = omega (arith, some) in
-    let size : length (get_or bs k c.index-blocks-last.result) ≡ longest = ap length (sym c.index-blocks-last.is) ∙ c.is_full.ensures.full full in
+    let size : length (get_or bs k c.index-blocks-last.result) ≡ longest = ap length (sym c.index-blocks-last.is)
+    ∙ c.is_full.ensures.full full in
     filled_more n bs k c.index-blocks-last.result b end (omega (arith, size, le)) filled
 
 pub returns-clause-room : goal.returns-clause-room
@@ -23,4 +24,5 @@ returns-clause-room c = λ room d.
     let k = length bs - 1 in
     let some : 0 < length bs = search rules in
     let within : k < length bs = omega (arith, some) in
-    subst (λ b. length b < longest) (c.index-blocks-last.is ∙ block_at bs k c.index-blocks-last.result d within) (c.is_full.ensures.room room)
+    subst (λ b. length b < longest) (c.index-blocks-last.is ∙ block_at bs k c.index-blocks-last.result d within)
+    (c.is_full.ensures.room room)

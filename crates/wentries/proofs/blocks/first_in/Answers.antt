@@ -6,7 +6,8 @@ use Rattle.wentries.proofs.blocks.first_in.Goals as goal
 
 pub first_from-requires : goal.first_from-requires
 first_from-requires c =
-    subst IsRising (sym (c.entries.ensures.same ∙ c.index-blocks-k.is)) (rising_at c.args.blocks.now c.home-k.result c.index-blocks-k.result c.home-k.ensures.in_range c.requires)
+    subst IsRising (sym (c.entries.ensures.same ∙ c.index-blocks-k.is)) (rising_at c.args.blocks.now c.home-k.result
+    c.index-blocks-k.result c.home-k.ensures.in_range c.requires)
 
 pub returns-in-Some : goal.returns-in-Some
 returns-in-Some c =

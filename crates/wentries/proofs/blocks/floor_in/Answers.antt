@@ -9,4 +9,5 @@ pub returns : goal.returns
 returns c =
     c.floor_of.ensures
     ∙ ap (λ es. first_of (filter_map (floor_number c.args.origin.now) (known_entries es))) (c.entries.ensures.same ∙ c.index-blocks-k.is)
-    ∙ floor_home c.args.origin.now c.args.blocks.now c.origin_home-k.result c.index-blocks-k.result c.origin_home-k.ensures c.requires.rising c.requires.settled
+    ∙ floor_home c.args.origin.now c.args.blocks.now c.origin_home-k.result c.index-blocks-k.result c.origin_home-k.ensures
+    c.requires.rising c.requires.settled

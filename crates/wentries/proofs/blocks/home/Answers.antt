@@ -10,7 +10,8 @@ search-preserved-then-ends_before c =
     record {
       order = omega (arith, below);
       in_range = c.search.invariant.in_range;
-      before = below_next c.args.blocks.now middle c.index-blocks-middle.result c.args.name.now within c.index-blocks-middle.is c.requires.rising (c.ends_before.ensures.before c.if-ends_before.true);
+      before = below_next c.args.blocks.now middle c.index-blocks-middle.result c.args.name.now within
+          c.index-blocks-middle.is c.requires.rising (c.ends_before.ensures.before c.if-ends_before.true);
       behind = c.search.invariant.behind;
     }
 
@@ -23,5 +24,6 @@ search-preserved c =
       order = omega arith;
       in_range = within;
       before = c.search.invariant.before;
-      behind = behind_next c.args.blocks.now middle c.index-blocks-middle.result c.args.name.now within c.index-blocks-middle.is c.requires.rising (c.ends_before.ensures.behind c.if-ends_before.false);
+      behind = behind_next c.args.blocks.now middle c.index-blocks-middle.result c.args.name.now within
+          c.index-blocks-middle.is c.requires.rising (c.ends_before.ensures.behind c.if-ends_before.false);
     }

@@ -13,7 +13,8 @@ loop-i-init c =
     record {
       plain = refl;
       has = λ k d h. absurd (omega (arith, h));
-      runs = subst (λ l. BeginWithRuns c.args.keys.now l c.args.runs.now) (sym (rows_by_block bs)) (begin_all c.args.keys.now (rows_in (flat bs)) c.args.runs.now c.requires);
+      runs = subst (λ l. BeginWithRuns c.args.keys.now l c.args.runs.now) (sym (rows_by_block bs))
+          (begin_all c.args.keys.now (rows_in (flat bs)) c.args.runs.now c.requires);
     }
 
 pub keep_runs-requires : goal.keep_runs-requires
@@ -32,17 +33,27 @@ loop-i-preserved c =
     let long = same_length plain_block bs c.args.blocks.now.items c.loop-i.invariant.plain in
     let lt : i < length bs = omega (arith, c.loop-i-test.true, c.len-i-end.ensures, c.args.blocks.now.ok.0, long) in
     record {
-      plain = set_keeps plain_block bs i c.index_mut.result.now new c.index_mut.ensures.value c.in_ok-left.ensures.plain ∙ c.loop-i.invariant.plain;
+      plain = set_keeps plain_block bs i c.index_mut.result.now new c.index_mut.ensures.value c.in_ok-left.ensures.plain
+          ∙ c.loop-i.invariant.plain;
       has = all_more (All (λ e. HeldHasRun c.args.keys.now e.held)) bs i new lt c.loop-i.invariant.has c.in_ok-left.ensures.has;
-      runs = begin_next rows_in c.args.keys.now bs i c.index_mut.result.now new lt c.index_mut.ensures.value c.loop-i.left.now c.in_ok-left.left.now c.in_ok-left.ensures.left c.loop-i.invariant.runs;
+      runs = begin_next rows_in c.args.keys.now bs i c.index_mut.result.now new lt c.index_mut.ensures.value
+          c.loop-i.left.now c.in_ok-left.left.now c.in_ok-left.ensures.left c.loop-i.invariant.runs;
     }
 
 pub returns-in_err-left-clause-plain : goal.returns-in_err-left-clause-plain
 returns-in_err-left-clause-plain c =
-    set_keeps plain_block c.loop-i.blocks.items c.loop-i.i c.index_mut.result.now c.keep_runs.new.self c.index_mut.ensures.value c.keep_runs.ensures.plain ∙ c.loop-i.invariant.plain
+    set_keeps plain_block c.loop-i.blocks.items c.loop-i.i c.index_mut.result.now c.keep_runs.new.self
+    c.index_mut.ensures.value c.keep_runs.ensures.plain ∙ c.loop-i.invariant.plain
 
 pub returns-clause-has : goal.returns-clause-has
 returns-clause-has c =
     let bs = c.loop-i.blocks.items in
     let long = same_length plain_block bs c.args.blocks.now.items c.loop-i.invariant.plain in
-    All-same (All (λ e. HeldHasRun c.args.keys.now e.held)) bs _ (sym (take_all c.loop-i.i bs (omega (arith, c.loop-i-test.false, c.len-i-end.ensures, c.args.blocks.now.ok.0, long)))) c.loop-i.invariant.has
+    All-same (All (λ e. HeldHasRun c.args.keys.now e.held)) bs _
+    (sym (take_all c.loop-i.i bs (omega (
+      arith,
+      c.loop-i-test.false,
+      c.len-i-end.ensures,
+      c.args.blocks.now.ok.0,
+      long,
+    )))) c.loop-i.invariant.has

@@ -13,16 +13,25 @@ loop-i-preserved c =
     let long = same_length plain_block bs c.args.blocks.now.items c.loop-i.invariant.plain in
     let lt : i < length bs = omega (arith, c.loop-i-test.true, c.len-i-end.ensures, c.args.blocks.now.ok.0, long) in
     record {
-      plain = set_keeps plain_block bs i c.index_mut.result.now new c.index_mut.ensures.value c.in_ok-make_runs.ensures.plain ∙ c.loop-i.invariant.plain;
+      plain = set_keeps plain_block bs i c.index_mut.result.now new c.index_mut.ensures.value
+          c.in_ok-make_runs.ensures.plain ∙ c.loop-i.invariant.plain;
       has = all_more (All (λ e. HeldHasRun c.args.keys.now e.held)) bs i new lt c.loop-i.invariant.has c.in_ok-make_runs.ensures.has;
     }
 
 pub returns-in_err-make_runs-clause-plain : goal.returns-in_err-make_runs-clause-plain
 returns-in_err-make_runs-clause-plain c =
-    set_keeps plain_block c.loop-i.blocks.items c.loop-i.i c.index_mut.result.now c.make_runs.new.self c.index_mut.ensures.value c.make_runs.ensures.plain ∙ c.loop-i.invariant.plain
+    set_keeps plain_block c.loop-i.blocks.items c.loop-i.i c.index_mut.result.now c.make_runs.new.self
+    c.index_mut.ensures.value c.make_runs.ensures.plain ∙ c.loop-i.invariant.plain
 
 pub returns-clause-has : goal.returns-clause-has
 returns-clause-has c =
     let bs = c.loop-i.blocks.items in
     let long = same_length plain_block bs c.args.blocks.now.items c.loop-i.invariant.plain in
-    All-same (All (λ e. HeldHasRun c.args.keys.now e.held)) bs _ (sym (take_all c.loop-i.i bs (omega (arith, c.loop-i-test.false, c.len-i-end.ensures, c.args.blocks.now.ok.0, long)))) c.loop-i.invariant.has
+    All-same (All (λ e. HeldHasRun c.args.keys.now e.held)) bs _
+    (sym (take_all c.loop-i.i bs (omega (
+      arith,
+      c.loop-i-test.false,
+      c.len-i-end.ensures,
+      c.args.blocks.now.ok.0,
+      long,
+    )))) c.loop-i.invariant.has

@@ -23,7 +23,8 @@ search-preserved-then-ends_before_origin c =
     record {
       order = omega (arith, below);
       in_range = c.search.invariant.in_range;
-      before = origins_next c.args.blocks.now middle c.index-blocks-middle.result c.args.origin.now within c.index-blocks-middle.is c.requires.rising (c.ends_before_origin.ensures.before c.if-ends_before_origin.true);
+      before = origins_next c.args.blocks.now middle c.index-blocks-middle.result c.args.origin.now within
+          c.index-blocks-middle.is c.requires.rising (c.ends_before_origin.ensures.before c.if-ends_before_origin.true);
       reached = c.search.invariant.reached;
     }
 
@@ -36,5 +37,8 @@ search-preserved c =
       order = omega arith;
       in_range = within;
       before = c.search.invariant.before;
-      reached = inr (λ all. both_cases _ (c.ends_before_origin.ensures.all (subst (λ b. AreOriginsBelow c.args.origin.now (known_entries b)) (block_at c.args.blocks.now middle [] c.index-blocks-middle.result within ∙ sym c.index-blocks-middle.is) all)) c.if-ends_before_origin.false);
+      reached = inr (λ all. both_cases _
+          (c.ends_before_origin.ensures.all (subst (λ b. AreOriginsBelow c.args.origin.now (known_entries b))
+          (block_at c.args.blocks.now middle [] c.index-blocks-middle.result within ∙ sym c.index-blocks-middle.is)
+          all)) c.if-ends_before_origin.false);
     }

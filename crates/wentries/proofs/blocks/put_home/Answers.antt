@@ -8,7 +8,8 @@ use Rattle.wentries.proofs.blocks.put_home.Goals as goal
 
 pub put-requires-clause-rising : goal.put-requires-clause-rising
 put-requires-clause-rising c =
-    subst IsRising (sym c.index_mut-block.ensures.value) (rising_at c.args.blocks.now.items c.args.k c.index_mut-block.result.now c.requires.home.in_range c.requires.rising)
+    subst IsRising (sym c.index_mut-block.ensures.value) (rising_at c.args.blocks.now.items c.args.k
+    c.index_mut-block.result.now c.requires.home.in_range c.requires.rising)
 
 pub put-requires-clause-room : goal.put-requires-clause-room
 put-requires-clause-room c =
@@ -21,7 +22,8 @@ returns-clause-filled c =
 
 pub returns-clause-ok : goal.returns-clause-ok
 returns-clause-ok c =
-    put_home c.args.blocks.now.items c.args.name (known_of c.args.held) c.args.k c.index_mut-block.result.now c.put.new.self c.requires.home (rw c.index_mut-block.ensures.value at c.in_ok-put.ensures.ok)
+    put_home c.args.blocks.now.items c.args.name (known_of c.args.held) c.args.k c.index_mut-block.result.now c.put.new.self
+    c.requires.home (rw c.index_mut-block.ensures.value at c.in_ok-put.ensures.ok)
 
 pub returns-clause-read : goal.returns-clause-read
 returns-clause-read c d all held =

@@ -13,27 +13,41 @@ returns-clause-read c d all held = c.put_home.ensures.read d (subst (AllHeldBy d
 
 pub returns-then-end_before-clause-ok : goal.returns-then-end_before-clause-ok
 returns-then-end_before-clause-ok c =
-    let below = subst (λ bs. AreBelow c.args.name (known_entries (flat bs))) c.deref.ensures.value (c.end_before.ensures.0 c.if-end_before.true) in
-    ap known_entries c.in_ok-append.ensures.ok ∙ put_end (flat c.args.blocks.now.items) (record { name = c.args.name; held = c.args.held }) below
+    let below = subst (λ bs. AreBelow c.args.name (known_entries (flat bs))) c.deref.ensures.value
+    (c.end_before.ensures.0 c.if-end_before.true) in
+    ap known_entries c.in_ok-append.ensures.ok ∙ put_end (flat c.args.blocks.now.items) (record {
+      name = c.args.name;
+      held =
+          c.args.held;
+    }) below
 
 pub returns-then-end_before-clause-filled : goal.returns-then-end_before-clause-filled
 returns-then-end_before-clause-filled c = c.append.ensures.filled half (omega arith)
 
 pub returns-clause-few : goal.returns-clause-few
-returns-clause-few c = few_after (flat c.args.blocks.now.items) (flat c.put_home.new.blocks.items) c.args.name (known_of c.args.held) (c.in_ok-put_home.ensures.ok ∙ ap (λ es. put name_cmp c.args.name (known_of c.args.held) (known_entries es)) c.roomy_home.ensures.same)
+returns-clause-few c = few_after (flat c.args.blocks.now.items) (flat c.put_home.new.blocks.items) c.args.name
+    (known_of c.args.held) (c.in_ok-put_home.ensures.ok
+    ∙ ap (λ es. put name_cmp c.args.name (known_of c.args.held) (known_entries es)) c.roomy_home.ensures.same)
 
 pub returns-then-end_before-clause-few : goal.returns-then-end_before-clause-few
 returns-then-end_before-clause-few c =
-    let below = subst (λ bs. AreBelow c.args.name (known_entries (flat bs))) c.deref.ensures.value (c.end_before.ensures.0 c.if-end_before.true) in
+    let below = subst (λ bs. AreBelow c.args.name (known_entries (flat bs))) c.deref.ensures.value
+    (c.end_before.ensures.0 c.if-end_before.true) in
     few_after (flat c.args.blocks.now.items) (flat c.append.new.blocks.items) c.args.name (known_of c.args.held)
-    (ap known_entries c.in_ok-append.ensures.ok ∙ put_end (flat c.args.blocks.now.items) (record { name = c.args.name; held = c.args.held }) below)
+    (ap known_entries c.in_ok-append.ensures.ok ∙ put_end (flat c.args.blocks.now.items) (record {
+      name = c.args.name;
+      held = c.args.held;
+    }) below)
 
 pub returns-in_err-append-clause-few : goal.returns-in_err-append-clause-few
-returns-in_err-append-clause-few c = few_before (flat c.args.blocks.now.items) (flat c.append.new.blocks.items) c.args.name (known_of c.args.held) c.requires (ap flat c.in_err-append.ensures.err)
+returns-in_err-append-clause-few c = few_before (flat c.args.blocks.now.items) (flat c.append.new.blocks.items) c.args.name
+    (known_of c.args.held) c.requires (ap flat c.in_err-append.ensures.err)
 
 pub returns-in_err-k-clause-few : goal.returns-in_err-k-clause-few
-returns-in_err-k-clause-few c = few_before (flat c.args.blocks.now.items) (flat c.roomy_home.new.blocks.items) c.args.name (known_of c.args.held) c.requires c.roomy_home.ensures.same
+returns-in_err-k-clause-few c = few_before (flat c.args.blocks.now.items) (flat c.roomy_home.new.blocks.items) c.args.name
+    (known_of c.args.held) c.requires c.roomy_home.ensures.same
 
 pub returns-in_err-put_home-clause-few : goal.returns-in_err-put_home-clause-few
 returns-in_err-put_home-clause-few c =
-    few_before (flat c.args.blocks.now.items) (flat c.put_home.new.blocks.items) c.args.name (known_of c.args.held) c.requires (c.in_err-put_home.ensures.err ∙ c.roomy_home.ensures.same)
+    few_before (flat c.args.blocks.now.items) (flat c.put_home.new.blocks.items) c.args.name (known_of c.args.held)
+    c.requires (c.in_err-put_home.ensures.err ∙ c.roomy_home.ensures.same)

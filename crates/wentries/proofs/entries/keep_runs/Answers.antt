@@ -24,7 +24,8 @@ keep_run-requires c =
     let x = c.index_mut-entry.result.now in
     let long = same_length plain_entry xs c.args.entries.now.items c.loop-i.invariant.plain in
     let lt : c.loop-i.i < length xs = omega (arith, c.loop-i-test.true, c.len-i-end.ensures, c.args.entries.now.ok.0, long) in
-    begin_here (λ (e : Entry). rows_held e.held) c.args.keys.now xs c.loop-i.i x x lt c.index_mut-entry.ensures.value c.loop-i.left.now c.loop-i.invariant.runs
+    begin_here (λ (e : Entry). rows_held e.held) c.args.keys.now xs c.loop-i.i x x lt c.index_mut-entry.ensures.value
+    c.loop-i.left.now c.loop-i.invariant.runs
 
 pub loop-i-preserved : goal.loop-i-preserved
 loop-i-preserved c =
@@ -36,27 +37,39 @@ loop-i-preserved c =
     let lt : i < length xs = omega (arith, c.loop-i-test.true, c.len-i-end.ensures, c.args.entries.now.ok.0, long) in
     let f : Entry → _ = λ e. rows_held e.held in
     record {
-      plain = set_keeps plain_entry xs i x new c.index_mut-entry.ensures.value (ap (λ h. (x.name, h)) c.in_ok-left.ensures.plain) ∙ c.loop-i.invariant.plain;
+      plain = set_keeps plain_entry xs i x new c.index_mut-entry.ensures.value
+          (ap (λ h. (x.name, h)) c.in_ok-left.ensures.plain) ∙ c.loop-i.invariant.plain;
       has = all_more (λ e. HeldHasRun c.args.keys.now e.held) xs i new lt c.loop-i.invariant.has c.in_ok-left.ensures.has;
-      runs = begin_next f c.args.keys.now xs i x new lt c.index_mut-entry.ensures.value c.loop-i.left.now c.in_ok-left.left.now c.in_ok-left.ensures.left c.loop-i.invariant.runs;
-      left = left_next f c.args.keys.now xs i x new lt c.index_mut-entry.ensures.value c.loop-i.left.now c.in_ok-left.left.now c.in_ok-left.ensures.left ∙ c.loop-i.invariant.left;
+      runs = begin_next f c.args.keys.now xs i x new lt c.index_mut-entry.ensures.value c.loop-i.left.now
+          c.in_ok-left.left.now c.in_ok-left.ensures.left c.loop-i.invariant.runs;
+      left = left_next f c.args.keys.now xs i x new lt c.index_mut-entry.ensures.value c.loop-i.left.now
+          c.in_ok-left.left.now c.in_ok-left.ensures.left ∙ c.loop-i.invariant.left;
     }
 
 pub returns-in_err-left-clause-plain : goal.returns-in_err-left-clause-plain
 returns-in_err-left-clause-plain c =
     let x = c.index_mut-entry.result.now in
     let new : Entry = record { name = x.name; held = c.keep_run.new.self } in
-    set_keeps plain_entry c.loop-i.entries.items c.loop-i.i x new c.index_mut-entry.ensures.value (ap (λ h. (x.name, h)) c.keep_run.ensures.plain) ∙ c.loop-i.invariant.plain
+    set_keeps plain_entry c.loop-i.entries.items c.loop-i.i x new c.index_mut-entry.ensures.value
+    (ap (λ h. (x.name, h)) c.keep_run.ensures.plain) ∙ c.loop-i.invariant.plain
 
 pub returns-clause-has : goal.returns-clause-has
 returns-clause-has c =
     let xs = c.loop-i.entries.items in
     let long = same_length plain_entry xs c.args.entries.now.items c.loop-i.invariant.plain in
-    All-same (λ e. HeldHasRun c.args.keys.now e.held) xs _ (sym (take_all c.loop-i.i xs (omega (arith, c.loop-i-test.false, c.len-i-end.ensures, c.args.entries.now.ok.0, long)))) c.loop-i.invariant.has
+    All-same (λ e. HeldHasRun c.args.keys.now e.held) xs _
+    (sym (take_all c.loop-i.i xs (omega (
+      arith,
+      c.loop-i-test.false,
+      c.len-i-end.ensures,
+      c.args.entries.now.ok.0,
+      long,
+    )))) c.loop-i.invariant.has
 
 pub returns-clause-left : goal.returns-clause-left
 returns-clause-left c =
     let xs = c.loop-i.entries.items in
     let long = same_length plain_entry xs c.args.entries.now.items c.loop-i.invariant.plain in
-    let none : drop c.loop-i.i xs ≡ [] = drop_all c.loop-i.i xs (omega (arith, c.loop-i-test.false, c.len-i-end.ensures, c.args.entries.now.ok.0, long)) in
+    let none : drop c.loop-i.i xs ≡ [] =
+    drop_all c.loop-i.i xs (omega (arith, c.loop-i-test.false, c.len-i-end.ensures, c.args.entries.now.ok.0, long)) in
     sym (ap (λ l. drop (length (flat_map (λ (e : Entry). rows_held e.held) l)) c.loop-i.left.now) none) ∙ c.loop-i.invariant.left

@@ -11,5 +11,6 @@ invariant-loop-i l = record {
   plain : map plain_entry l.entries.items ≡ map plain_entry l.initial.entries.items;
   has : All (λ e. HeldHasRun l.keys e.held) (take l.i l.entries.items);
   runs : BeginWithRuns l.keys (rows_from (λ (e : Entry). rows_held e.held) l.i l.entries.items) l.left;
-  left : drop (length (rows_from (λ (e : Entry). rows_held e.held) l.i l.entries.items)) l.left ≡ drop (length (rows_in l.initial.entries.items)) l.initial.left;
+  left : drop (length (rows_from (λ (e : Entry). rows_held e.held) l.i l.entries.items)) l.left
+      ≡ drop (length (rows_in l.initial.entries.items)) l.initial.left;
 }

@@ -11,9 +11,11 @@ with_held e h = record { name = e.name; held = h }
 pub loop-i-preserved : goal.loop-i-preserved
 loop-i-preserved c =
     let x = c.index_mut-entry.result.now in
-    set_same c.loop-i.entries.items c.loop-i.i x (with_held x c.make_cells.new.self) c.index_mut-entry.ensures.value (ap (with_held x) c.in_ok-make_cells.ensures) ∙ c.loop-i.invariant
+    set_same c.loop-i.entries.items c.loop-i.i x (with_held x c.make_cells.new.self) c.index_mut-entry.ensures.value
+    (ap (with_held x) c.in_ok-make_cells.ensures) ∙ c.loop-i.invariant
 
 pub returns-in_err-make_cells : goal.returns-in_err-make_cells
 returns-in_err-make_cells c =
     let x = c.index_mut-entry.result.now in
-    set_same c.loop-i.entries.items c.loop-i.i x (with_held x c.make_cells.new.self) c.index_mut-entry.ensures.value (ap (with_held x) c.make_cells.ensures) ∙ c.loop-i.invariant
+    set_same c.loop-i.entries.items c.loop-i.i x (with_held x c.make_cells.new.self) c.index_mut-entry.ensures.value
+    (ap (with_held x) c.make_cells.ensures) ∙ c.loop-i.invariant

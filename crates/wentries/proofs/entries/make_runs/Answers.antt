@@ -14,7 +14,8 @@ loop-i-preserved c =
     let long = same_length plain_entry xs c.args.entries.now.items c.loop-i.invariant.plain in
     let lt : i < length xs = omega (arith, c.loop-i-test.true, c.len-i-end.ensures, c.args.entries.now.ok.0, long) in
     record {
-      plain = set_keeps plain_entry xs i x new c.index_mut-entry.ensures.value (ap (λ h. (x.name, h)) c.in_ok-make.ensures.plain) ∙ c.loop-i.invariant.plain;
+      plain = set_keeps plain_entry xs i x new c.index_mut-entry.ensures.value
+          (ap (λ h. (x.name, h)) c.in_ok-make.ensures.plain) ∙ c.loop-i.invariant.plain;
       has = all_more (λ e. HeldHasRun c.args.keys.now e.held) xs i new lt c.loop-i.invariant.has c.in_ok-make.ensures.has;
     }
 
@@ -22,10 +23,18 @@ pub returns-in_err-make-clause-plain : goal.returns-in_err-make-clause-plain
 returns-in_err-make-clause-plain c =
     let x = c.index_mut-entry.result.now in
     let new : Entry = record { name = x.name; held = c.make.new.self } in
-    set_keeps plain_entry c.loop-i.entries.items c.loop-i.i x new c.index_mut-entry.ensures.value (ap (λ h. (x.name, h)) c.make.ensures.plain) ∙ c.loop-i.invariant.plain
+    set_keeps plain_entry c.loop-i.entries.items c.loop-i.i x new c.index_mut-entry.ensures.value
+    (ap (λ h. (x.name, h)) c.make.ensures.plain) ∙ c.loop-i.invariant.plain
 
 pub returns-clause-has : goal.returns-clause-has
 returns-clause-has c =
     let xs = c.loop-i.entries.items in
     let long = same_length plain_entry xs c.args.entries.now.items c.loop-i.invariant.plain in
-    All-same (λ e. HeldHasRun c.args.keys.now e.held) xs _ (sym (take_all c.loop-i.i xs (omega (arith, c.loop-i-test.false, c.len-i-end.ensures, c.args.entries.now.ok.0, long)))) c.loop-i.invariant.has
+    All-same (λ e. HeldHasRun c.args.keys.now e.held) xs _
+    (sym (take_all c.loop-i.i xs (omega (
+      arith,
+      c.loop-i-test.false,
+      c.len-i-end.ensures,
+      c.args.entries.now.ok.0,
+      long,
+    )))) c.loop-i.invariant.has

@@ -10,5 +10,6 @@ pub returns-in-One-clause-fault : goal.returns-in-One-clause-fault
 returns-in-One-clause-fault c =
     err_then c.judge_rest.result _ _
     (λ fault h d v view may e. subst (IsFault d c.args.bytes.now) (sym h.0)
-    (more_behind_one d v c.args.after.now c.args.bytes.now h.1 view (subst (λ r. MayTell r v) c.in-One.is may) (subst (λ r. c.args.bytes.now ≡ counted r d (entries v) ++ c.args.after.now) c.in-One.is e)))
+    (more_behind_one d v c.args.after.now c.args.bytes.now h.1 view (subst (λ r. MayTell r v) c.in-One.is may)
+    (subst (λ r. c.args.bytes.now ≡ counted r d (entries v) ++ c.args.after.now) c.in-One.is e)))
     c.judge_rest.ensures.fault

@@ -7,4 +7,5 @@ pub returns-in_default : goal.returns-in_default
 returns-in_default c = perhaps_absent (never_then c.in_default.ensures)
 
 pub returns : goal.returns
-returns c = got_along (ap Some c.in_ok-name.ensures.cases) refl (perhaps_present (one_grips name_grip c.in-Some.ensures) (as_got (one_got c.in-Some.ensures)))
+returns c = got_along (ap Some c.in_ok-name.ensures.cases) refl (perhaps_present (one_grips name_grip c.in-Some.ensures)
+    (as_got (one_got c.in-Some.ensures)))

@@ -13,4 +13,5 @@ pub returns-in-None : goal.returns-in-None
 returns-in-None c = then_got (λ s. any_leads) c.in-Some.ensures (after_got c.in-Some-keyword.ensures (as_refused Syntax c.in-None.ensures))
 
 pub returns-in-Some-bound : goal.returns-in-Some-bound
-returns-in-Some-bound c = got_along c.ends.ensures refl (then_got (λ s. any_leads) c.in-Some.ensures (after_got c.in-Some-keyword.ensures (as_got c.in-Some-bound.ensures)))
+returns-in-Some-bound c = got_along c.ends.ensures refl (then_got (λ s. any_leads) c.in-Some.ensures
+    (after_got c.in-Some-keyword.ensures (as_got c.in-Some-bound.ensures)))

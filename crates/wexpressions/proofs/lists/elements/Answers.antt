@@ -22,13 +22,15 @@ pub returns-in-Err : goal.returns-in-Err
 returns-in-Err g c = listing_refused c.in-Err.fault (omega arith) c.elements.invariant c.in-Err.ensures.spelled
 
 pub returns-in-None : goal.returns-in-None
-returns-in-None g c = listing_got (omega arith) c.elements.invariant c.in-Ok.ensures.spelled c.in-None.ensures (one_more g.E.Element.said _ _ _ c.in-Ok-push.ensures.added)
+returns-in-None g c = listing_got (omega arith) c.elements.invariant c.in-Ok.ensures.spelled c.in-None.ensures
+    (one_more g.E.Element.said _ _ _ c.in-Ok-push.ensures.added)
 
 pub elements-smaller : goal.elements-smaller
 elements-smaller g c = fall_on _ _ _ c.in-Some.ensures c.in-Ok.ensures.shorter
 
 pub elements-preserved : goal.elements-preserved
-elements-preserved g c = listing_more (omega arith) c.elements.invariant c.in-Ok.ensures.spelled c.in-Some.ensures (one_more g.E.Element.said _ _ _ c.in-Ok-push.ensures.added)
+elements-preserved g c = listing_more (omega arith) c.elements.invariant c.in-Ok.ensures.spelled c.in-Some.ensures
+    (one_more g.E.Element.said _ _ _ c.in-Ok-push.ensures.added)
 
 pub returns-in-Err-push : goal.returns-in-Err-push
 returns-in-Err-push g c = short c.in-Err-push.fault c.in-Err-push.ensures.fault

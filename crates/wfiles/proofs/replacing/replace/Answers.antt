@@ -10,8 +10,10 @@ returns-in-Err-clause-replaces g c =
 
 pub returns-in-Err-put-clause-replaces : goal.returns-in-Err-put-clause-replaces
 returns-in-Err-put-clause-replaces g c =
-    gave_up _ _ (string_bytes c.in-Ok.new) _ _ _ _ _ _ _ _ c.requires.locked c.as_str.ensures.value c.as_str-in-Err-put.ensures.value c.in-Ok.ensures.made c.in-Err-put.ensures.left c.remove.ensures.calls
+    gave_up _ _ (string_bytes c.in-Ok.new) _ _ _ _ _ _ _ _ c.requires.locked c.as_str.ensures.value
+    c.as_str-in-Err-put.ensures.value c.in-Ok.ensures.made c.in-Err-put.ensures.left c.remove.ensures.calls
 
 pub returns-clause-replaces : goal.returns-clause-replaces
 returns-clause-replaces g c =
-    went_through _ _ (string_bytes c.in-Ok.new) _ c.sync_folder.result _ _ _ _ c.requires.locked c.as_str.ensures.value c.in-Ok.ensures.made c.in_default.ensures.placed c.sync_folder.ensures.unsynced c.sync_folder.ensures.calls
+    went_through _ _ (string_bytes c.in-Ok.new) _ c.sync_folder.result _ _ _ _ c.requires.locked c.as_str.ensures.value
+    c.in-Ok.ensures.made c.in_default.ensures.placed c.sync_folder.ensures.unsynced c.sync_folder.ensures.calls

@@ -15,4 +15,5 @@ pub push_group_cuts-requires-clause-alike : goal.push_group_cuts-requires-clause
 push_group_cuts-requires-clause-alike c i k j h =
     let rows = c.args.peers.now.rows in
     let ks = sort_keys rows in
-    ap not (ends_alike ks (key_lists rows) i k j j h (own_peer (keys_total ks) (key_lists rows) j) c.args.mode c.args.bound c.requires.together)
+    ap not (ends_alike ks (key_lists rows) i k j j h (own_peer (keys_total ks) (key_lists rows) j) c.args.mode c.args.bound
+    c.requires.together)

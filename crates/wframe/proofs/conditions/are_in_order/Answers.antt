@@ -10,5 +10,11 @@ returns c =
     let ks = sort_keys c.args.keys.now in
     let values = key_lists c.args.partition_values.now in
     let keys = key_lists c.args.keys.now in
-    let steps = λ (i : ℕ) (h : i + 1 < length values). c.loop-next.invariant i (omega arith) in
-    ((λ t. (in_order (keys_total vs) (keys_total ks) values keys steps, in_order_within (keys_total vs) (keys_total ks) values keys c.requires steps)), (λ h. search rules))
+    let steps = λ (i : ℕ) (h : i + 1 < length values). c.loop-next.invariant i (omega arith) in (
+      (λ t. (
+        in_order (keys_total vs) (keys_total ks) values keys steps,
+        in_order_within (keys_total vs) (keys_total ks)
+            values keys c.requires steps,
+      )),
+      (λ h. search rules),
+    )

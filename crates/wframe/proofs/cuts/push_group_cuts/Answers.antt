@@ -15,7 +15,8 @@ loop-row-preserved g c =
     let row = c.loop-row.row in
     let inv = c.loop-row.invariant in
     let hr : row < n = omega (arith, c.loop-row-test.true, c.count-rows.ensures, ap (λ r. length (key_lists r)) c.rows.ensures) in
-    let found = subst (λ m. CutsAt m (passes row) c.advance-end.result) (c.count-rows.ensures ∙ ap (λ r. length (key_lists r)) c.rows.ensures) c.advance-end.ensures in
+    let found = subst (λ m. CutsAt m (passes row) c.advance-end.result) (c.count-rows.ensures
+    ∙ ap (λ r. length (key_lists r)) c.rows.ensures) c.advance-end.ensures in
     let end = c.advance-end.result in
     let next = c.end-row.result in
     let peers = c.end-row.ensures in
@@ -32,5 +33,6 @@ loop-row-preserved g c =
       last = λ h. longer ∙ ap (λ x. x + 1) (sym here) ∙ peers.last h;
       stays = front_more c.args.cuts.now.items old new (first + end) pushed inv.stays;
       known = known_more first row next (first + end) ns old new pushed here peers.same inv.known;
-      each = cuts_more first n row next end passes ns old new pushed found here peers.same (λ i j l h. c.requires.alike row i j (peers.peers i l h)) inv.known inv.each;
+      each = cuts_more first n row next end passes ns old new pushed found here peers.same
+          (λ i j l h. c.requires.alike row i j (peers.peers i l h)) inv.known inv.each;
     }

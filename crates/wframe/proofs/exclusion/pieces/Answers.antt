@@ -8,7 +8,8 @@ returns-clause-rows c n h =
     let y = c.clip-b.ensures in
     let z = c.clip-c.ensures in
     let w = c.clip-d.ensures in
-    pieces_rows c.args.span.from c.args.span.to c.args.a c.args.b c.args.c c.args.d c.clip-a.result c.clip-b.result c.clip-c.result c.clip-d.result n
+    pieces_rows c.args.span.from c.args.span.to c.args.a c.args.b c.args.c c.args.d c.clip-a.result c.clip-b.result
+    c.clip-c.result c.clip-d.result n
     c.requires.span c.requires.first c.requires.second c.requires.third
     (record { low = x.low; high = x.high; before = x.before; after = x.after; inside = x.inside })
     (record { low = y.low; high = y.high; before = y.before; after = y.after; inside = y.inside })

@@ -14,7 +14,8 @@ returns-then-end-row-clause-number c =
     let p = c.args.peers.now in
     let row = c.args.row in
     let some : 0 < row = omega arith in
-    ap (λ n. n + 1) (c.requires.last some) ∙ other_before (keys_total (sort_keys p.rows)) (key_lists p.rows) p.ordered row some c.requires.row (c.end.ensures.others row (omega arith) c.requires.row)
+    ap (λ n. n + 1) (c.requires.last some) ∙ other_before (keys_total (sort_keys p.rows)) (key_lists p.rows) p.ordered row
+    some c.requires.row (c.end.ensures.others row (omega arith) c.requires.row)
 
 pub returns-clause-number : goal.returns-clause-number
 returns-clause-number c =
@@ -22,4 +23,5 @@ returns-clause-number c =
     let row = c.args.row in
     let some : 0 < row = omega arith in
     let more = c.end.ensures.more in
-    c.requires.last some ∙ peer_before (keys_total (sort_keys p.rows)) (key_lists p.rows) p.ordered row some (c.end.ensures.peers row (omega arith) (omega (arith, more)))
+    c.requires.last some ∙ peer_before (keys_total (sort_keys p.rows)) (key_lists p.rows) p.ordered row some
+    (c.end.ensures.peers row (omega arith) (omega (arith, more)))

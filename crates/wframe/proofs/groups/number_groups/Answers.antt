@@ -13,6 +13,8 @@ loop-row-preserved c =
     record {
       last = λ h. c.next_number-number.ensures.number ∙ ap at was;
       small = λ h. omega (arith, c.next_number-number.ensures.small);
-      long = long_more c.loop-row.numbers.items c.push.new.self.items row c.next_number-number.result c.in_ok-push.ensures.items c.loop-row.invariant.long;
-      each = numbers_more at c.loop-row.numbers.items c.push.new.self.items row c.next_number-number.result c.in_ok-push.ensures.items c.loop-row.invariant.long c.loop-row.invariant.each c.next_number-number.ensures.number;
+      long = long_more c.loop-row.numbers.items c.push.new.self.items row c.next_number-number.result
+          c.in_ok-push.ensures.items c.loop-row.invariant.long;
+      each = numbers_more at c.loop-row.numbers.items c.push.new.self.items row c.next_number-number.result
+          c.in_ok-push.ensures.items c.loop-row.invariant.long c.loop-row.invariant.each c.next_number-number.ensures.number;
     }

@@ -11,4 +11,5 @@ pub returns-clause-picked : goal.returns-clause-picked
 returns-clause-picked c = λ cmp p xs total. filter_sorted cmp total p xs
 
 pub returns-clause-first : goal.returns-clause-first
-returns-clause-first c = λ cmp none x left right total below above. first_of_sorted cmp total none x left right (recursion_from_All (λ y. is_lt (cmp x y) ≡ true) left below) (recursion_from_All (λ y. is_gt (cmp x y) ≡ false) right above)
+returns-clause-first c = λ cmp none x left right total below above. first_of_sorted cmp total none x left right
+    (recursion_from_All (λ y. is_lt (cmp x y) ≡ true) left below) (recursion_from_All (λ y. is_gt (cmp x y) ≡ false) right above)

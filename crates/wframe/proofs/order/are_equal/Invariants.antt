@@ -6,4 +6,5 @@ use Rattle.wframe.proofs.order.are_equal.Given as goal
 
 -- what is left decides
 abbrev pub invariant-loop-i : goal.invariant-loop-i
-invariant-loop-i l = is_eq (keys_cmp (drop l.i l.keys) (meanings (drop l.i l.a)) (meanings (drop l.i l.b))) ≡ is_eq (keys_cmp l.keys (meanings l.a) (meanings l.b))
+invariant-loop-i l = is_eq (keys_cmp (drop l.i l.keys) (meanings (drop l.i l.a)) (meanings (drop l.i l.b)))
+    ≡ is_eq (keys_cmp l.keys (meanings l.a) (meanings l.b))

@@ -18,7 +18,8 @@ loop-from-init c =
       within = omega arith;
       before = none_before (keys_total ks) keys c.requires;
       tiles = subst (λ ss. Tiles 0 ss 0) (sym c.new-spans.ensures.items) refl;
-      each = All-same (IsPartition (keys_cmp ks) keys) c.new-spans.result.items [] c.new-spans.ensures.items (All-nil (IsPartition (keys_cmp ks) keys));
+      each = All-same (IsPartition (keys_cmp ks) keys) c.new-spans.result.items [] c.new-spans.ensures.items
+          (All-nil (IsPartition (keys_cmp ks) keys));
     }
 
 pub loop-from-preserved : goal.loop-from-preserved
@@ -36,7 +37,16 @@ loop-from-preserved c =
     record {
       within = at.within;
       before = next_before (keys_total ks) keys c.requires from to hf at;
-      tiles = subst (λ ss. Tiles 0 ss to) (sym c.in_ok-push.ensures.items) (Tiles-push 0 from old s c.loop-from.invariant.tiles refl (peers_to (keys_total ks) keys n from from to hf before at));
+      tiles = subst (λ ss. Tiles 0 ss to) (sym c.in_ok-push.ensures.items)
+          (Tiles-push 0 from old s c.loop-from.invariant.tiles refl (peers_to (keys_total ks) keys n from from to hf before at));
       each = All-same (IsPartition (keys_cmp ks) keys) c.push.new.self.items (old ++ s ∷ []) c.in_ok-push.ensures.items
-          (All-push (IsPartition (keys_cmp ks) keys) old s c.loop-from.invariant.each (record { filtered = peers_filter (keys_total ks) keys n from from to hf before at; each = in_peers (keys_total ks) keys n from from to hf before at; some = peers_to (keys_total ks) keys n from from to hf before at; within = at.within }));
+          (All-push (IsPartition (keys_cmp ks) keys) old s c.loop-from.invariant.each (record {
+            filtered =
+                peers_filter (keys_total ks) keys n from from to hf before at;
+            each =
+                in_peers (keys_total ks) keys n from from to hf before at;
+            some =
+                peers_to (keys_total ks) keys n from from to hf before at;
+            within = at.within;
+          }));
     }

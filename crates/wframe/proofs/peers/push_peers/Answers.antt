@@ -27,7 +27,8 @@ overflow_sub-to c =
     let ks = sort_keys c.args.rows.now in
     let keys = key_lists c.args.rows.now in
     let h : c.loop-from.from < length keys = omega (arith, c.loop-from-test.true, c.count-count.ensures) in
-    let some = peers_to (keys_total ks) keys (length keys) c.loop-from.from c.loop-from.from c.agreeing_end-to.result h (c.loop-from.invariant.before h) c.agreeing_end-to.ensures in
+    let some = peers_to (keys_total ks) keys (length keys) c.loop-from.from c.loop-from.from c.agreeing_end-to.result h
+    (c.loop-from.invariant.before h) c.agreeing_end-to.ensures in
     omega (arith, some)
 
 pub loop-from-smaller : goal.loop-from-smaller
@@ -35,7 +36,8 @@ loop-from-smaller c =
     let ks = sort_keys c.args.rows.now in
     let keys = key_lists c.args.rows.now in
     let h : c.loop-from.from < length keys = omega (arith, c.loop-from-test.true, c.count-count.ensures) in
-    let some = peers_to (keys_total ks) keys (length keys) c.loop-from.from c.loop-from.from c.agreeing_end-to.result h (c.loop-from.invariant.before h) c.agreeing_end-to.ensures in
+    let some = peers_to (keys_total ks) keys (length keys) c.loop-from.from c.loop-from.from c.agreeing_end-to.result h
+    (c.loop-from.invariant.before h) c.agreeing_end-to.ensures in
     omega (arith, some, c.agreeing_end-to.ensures.within)
 
 pub loop-from-preserved : goal.loop-from-preserved
@@ -60,7 +62,8 @@ loop-from-preserved c =
     record {
       within = end.within;
       before = next_before (keys_total ks) keys c.requires.ordered from to hf end;
-      groups = more_groups (keys_total ks) keys first low from to ns ms es fs inv.groups inv.long inv.last c.in_ok-push_group.ensures.stays m c.in_ok-push_group.ensures.each c.in_ok-push_group.ensures.ends some at end;
+      groups = more_groups (keys_total ks) keys first low from to ns ms es fs inv.groups inv.long inv.last
+          c.in_ok-push_group.ensures.stays m c.in_ok-push_group.ensures.each c.in_ok-push_group.ensures.ends some at end;
       long = m;
       last = last_begin es fs (first + to) c.in_ok-push_group.ensures.ends;
       numbers_stay = begins_through c.args.numbers.now.items ns ms inv.numbers_stay c.in_ok-push_group.ensures.stays;

@@ -13,7 +13,8 @@ invariant-loop-groups l =
     let feed = fed_by l.values l.filter in
     let column = flat_map (λ list. map meaning list.items) l.answered.items in
     record {
-      so_far : in_range (flat_map (set_answers l.function feed) l.sets) ≡ answers_behind (set_answers l.function feed) column (drop l.groups-index l.sets);
+      so_far : in_range (flat_map (set_answers l.function feed) l.sets) ≡ answers_behind (set_answers l.function feed)
+          column (drop l.groups-index l.sets);
       known : AreAnswered l.function feed l.sets l.answered.items;
       as_many : length l.answered.items ≡ l.groups-index;
       len : length column + length (all_groups (drop l.groups-index l.sets)) ≡ length (all_groups l.sets);

@@ -17,17 +17,28 @@ aggregate_groups-requires-clause-below c =
     let f = c.args.set.now in
     let links = c.args.finer.now.numbers.items in
     let numbers : c.deref-4.result.now ≡ map (λ i. get_or links i 0) f.order.items
-    = c.deref-4.ensures.value ∙ c.in_ok-numbers.ensures ∙ ap (λ l. map (λ i. get_or l i 0) c.deref-2.result.now) c.deref.ensures.value ∙ ap (map (λ i. get_or links i 0)) c.deref-2.ensures.value in
+    = c.deref-4.ensures.value ∙ c.in_ok-numbers.ensures ∙ ap (λ l. map (λ i. get_or l i 0) c.deref-2.result.now)
+    c.deref.ensures.value ∙ ap (map (λ i. get_or links i 0)) c.deref-2.ensures.value in
     subst (All (λ i. i < c.args.groups.now.count)) (sym numbers)
-    (linked_below links f.order.items c.args.groups.now.count c.requires.made.below (subst (λ n. All (λ i. i < n) f.order.items) (sym c.requires.made.as_many) f.below))
+    (linked_below links f.order.items c.args.groups.now.count c.requires.made.below
+    (subst (λ n. All (λ i. i < n) f.order.items) (sym c.requires.made.as_many) f.below))
 
 pub aggregate_groups-requires-clause-few : goal.aggregate_groups-requires-clause-few
 aggregate_groups-requires-clause-few c =
     let f = c.args.set.now in
     let links = c.args.finer.now.numbers.items in
     let numbers : c.deref-4.result.now ≡ map (λ i. get_or links i 0) f.order.items
-    = c.deref-4.ensures.value ∙ c.in_ok-numbers.ensures ∙ ap (λ l. map (λ i. get_or l i 0) c.deref-2.result.now) c.deref.ensures.value ∙ ap (map (λ i. get_or links i 0)) c.deref-2.ensures.value in
-    omega (arith, ap length numbers, length-map f.order.items (λ i. get_or links i 0), order_long f c.requires.made.base, c.requires.made.base.fewer, ap length c.requires.made.same_rows, c.requires.few)
+    = c.deref-4.ensures.value ∙ c.in_ok-numbers.ensures ∙ ap (λ l. map (λ i. get_or l i 0) c.deref-2.result.now)
+    c.deref.ensures.value ∙ ap (map (λ i. get_or links i 0)) c.deref-2.ensures.value in
+    omega (
+      arith,
+      ap length numbers,
+      length-map f.order.items (λ i. get_or links i 0),
+      order_long f c.requires.made.base,
+      c.requires.made.base.fewer,
+      ap length c.requires.made.same_rows,
+      c.requires.few,
+    )
 
 pub returns-clause-gives : goal.returns-clause-gives
 returns-clause-gives c = λ feed known.
@@ -37,9 +48,11 @@ returns-clause-gives c = λ feed known.
     let links = c.args.finer.now.numbers.items in
     let parts : List Meaning = map meaning c.args.parts.now in
     let fed : Feed = record { values = parts; filter = None } in
-    let told : AggregateFunction → List ℕ → List ℕ → List (Option Meaning) = λ function numbers order. map (λ i. aggregate_of function fed (rows_of_group numbers i)) order in
+    let told : AggregateFunction → List ℕ → List ℕ → List (Option Meaning) =
+    λ function numbers order. map (λ i. aggregate_of function fed (rows_of_group numbers i)) order in
     let numbers : c.deref-4.result.now ≡ map (λ i. get_or links i 0) f.order.items
-    = c.deref-4.ensures.value ∙ c.in_ok-numbers.ensures ∙ ap (λ l. map (λ i. get_or l i 0) c.deref-2.result.now) c.deref.ensures.value ∙ ap (map (λ i. get_or links i 0)) c.deref-2.ensures.value in
+    = c.deref-4.ensures.value ∙ c.in_ok-numbers.ensures ∙ ap (λ l. map (λ i. get_or l i 0) c.deref-2.result.now)
+    c.deref.ensures.value ∙ ap (map (λ i. get_or links i 0)) c.deref-2.ensures.value in
     subst (λ l. Gives view c.aggregate_groups.result (in_range l))
     (ap (λ function. told function c.deref-4.result.now c.deref-5.result.now) c.function_of_parts-function.ensures
     ∙ ap (λ ns. told (function_of_parts c.args.function) ns c.deref-5.result.now) numbers

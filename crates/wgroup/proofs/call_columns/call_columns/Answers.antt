@@ -15,7 +15,9 @@ returns-in_err-column-clause-gives c =
     let f = column_over (rows_seen c.args.rows.now) c.args.sets.now in
     let view : Vec (Vec Value Global) Global → List (List Meaning) = λ columns. columns_in columns.items in
     let inner : Vec Value Global → List Meaning = λ column. map meaning column.items in
-    rw (p.1, p.2) (columns_fault f group_call_plan (columns_in c.loop-call.columns.items) c.args.calls.now c.loop-call.call-index c.call-item.result c.loop-call-test.true c.call-item.is _ c.loop-call.invariant.so_far c.in_err-column.field-0.0 view inner c.in_err-column.ensures.gives)
+    rw (p.1, p.2) (columns_fault f group_call_plan (columns_in c.loop-call.columns.items) c.args.calls.now
+    c.loop-call.call-index c.call-item.result c.loop-call-test.true c.call-item.is _ c.loop-call.invariant.so_far
+    c.in_err-column.field-0.0 view inner c.in_err-column.ensures.gives)
 
 pub loop-call-preserved : goal.loop-call-preserved
 loop-call-preserved c =
@@ -23,12 +25,16 @@ loop-call-preserved c =
     let made = c.loop-call.columns.items in
     let one : Vec Value Global → List Meaning = λ column. map meaning column.items in
     record {
-      so_far = columns_next f group_call_plan (columns_in made) c.args.calls.now c.loop-call.call-index c.call-item.result c.loop-call-test.true c.call-item.is _ c.loop-call.invariant.so_far _ _ c.in_ok-column.ensures.gives (ap columns_in c.in_ok-push.ensures.items ∙ map-append one made (_ ∷ []));
-      len = all_pushed (λ (column : Vec Value Global). length column.items ≡ length (all_groups c.args.sets.now)) made _ _ c.loop-call.invariant.len c.in_ok-column.ensures.len c.in_ok-push.ensures.items;
+      so_far = columns_next f group_call_plan (columns_in made) c.args.calls.now c.loop-call.call-index c.call-item.result
+          c.loop-call-test.true c.call-item.is _ c.loop-call.invariant.so_far _ _ c.in_ok-column.ensures.gives
+          (ap columns_in c.in_ok-push.ensures.items ∙ map-append one made (_ ∷ []));
+      len = all_pushed (λ (column : Vec Value Global). length column.items ≡ length (all_groups c.args.sets.now)) made _ _
+          c.loop-call.invariant.len c.in_ok-column.ensures.len c.in_ok-push.ensures.items;
       count = count_pushed made _ _ c.loop-call.call-index c.loop-call.invariant.count c.in_ok-push.ensures.items;
     }
 
 pub returns-clause-gives : goal.returns-clause-gives
 returns-clause-gives c =
     let f = column_over (rows_seen c.args.rows.now) c.args.sets.now in
-    columns_end f group_call_plan (columns_in c.loop-call.columns.items) c.args.calls.now c.loop-call.call-index _ c.loop-call-test.false c.loop-call.invariant.so_far
+    columns_end f group_call_plan (columns_in c.loop-call.columns.items) c.args.calls.now c.loop-call.call-index _
+    c.loop-call-test.false c.loop-call.invariant.so_far

@@ -8,7 +8,8 @@ use Rattle.wgroup.proofs.call_columns.call_columns.Given as goal
 
 abbrev pub invariant-loop-call : goal.invariant-loop-call
 invariant-loop-call l = record {
-  so_far : each (column_over (rows_seen l.rows) l.sets) (map group_call_plan l.calls) ≡ each_behind (column_over (rows_seen l.rows) l.sets) (columns_in l.columns.items) (map group_call_plan (drop l.call-index l.calls));
+  so_far : each (column_over (rows_seen l.rows) l.sets) (map group_call_plan l.calls)
+      ≡ each_behind (column_over (rows_seen l.rows) l.sets) (columns_in l.columns.items) (map group_call_plan (drop l.call-index l.calls));
   len : All (λ column. length column.items ≡ length (all_groups l.sets)) l.columns.items;
   count : length l.columns.items ≡ l.call-index;
 }

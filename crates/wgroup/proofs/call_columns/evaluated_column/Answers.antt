@@ -21,13 +21,17 @@ returns-in_err-cells-clause-gives c =
     let fault = c.in_err-cells.field-0.0 in
     let plan = aggregate_plan c.args.aggregate.now in
     let rows = rows_seen c.args.rows.now in
-    let fed : List Meaning → Result Feed AnswerFault = λ values. filter_of plan.filter rows >>= λ filter. Ok (record { values = values; filter = filter }) in
+    let fed : List Meaning → Result Feed AnswerFault = λ values. filter_of plan.filter rows >>= λ filter.
+    Ok (record { values = values; filter = filter }) in
     let told : Feed → Result (List Meaning) AnswerFault = λ feed. in_range (flat_map (set_answers plan.function feed) c.args.sets.now) in
-    rw (p.1, p.2) (then_refused {X = Feed} (λ feed. feed) view fault (feed_of plan rows) told (then_refused {Y = Feed} view (λ feed. feed) fault (column_of plan.argument rows) fed c.in_err-cells.ensures.gives))
+    rw (p.1, p.2) (then_refused {X = Feed} (λ feed. feed) view fault (feed_of plan rows) told (then_refused {Y =
+    Feed} view (λ feed. feed) fault (column_of plan.argument rows) fed c.in_err-cells.ensures.gives))
 
 pub fed_column-requires-clause-values : goal.fed_column-requires-clause-values
 fed_column-requires-clause-values c =
-    c.in_ok-cells.ensures.gives ∙ ap Ok (sym (ap meanings c.deref-2.ensures.value ∙ c.in_ok-values.ensures.value ∙ ap (map meaning) c.deref.ensures.value))
+    c.in_ok-cells.ensures.gives ∙ ap Ok (sym (ap meanings c.deref-2.ensures.value ∙ c.in_ok-values.ensures.value
+    ∙ ap (map meaning) c.deref.ensures.value))
 
 pub fed_column-requires-clause-wide : goal.fed_column-requires-clause-wide
-fed_column-requires-clause-wide c = ap length c.deref-2.ensures.value ∙ c.in_ok-values.ensures.len ∙ ap length c.deref.ensures.value ∙ c.in_ok-cells.ensures.len
+fed_column-requires-clause-wide c = ap length c.deref-2.ensures.value ∙ c.in_ok-values.ensures.len
+    ∙ ap length c.deref.ensures.value ∙ c.in_ok-cells.ensures.len

@@ -27,14 +27,19 @@ returns-in_err-filter-clause-gives c =
     let values = meanings c.args.values.now in
     let fed : Option (List Bool) → Result Feed AnswerFault = λ filter. Ok (record { values = values; filter = filter }) in
     let told : Feed → Result (List Meaning) AnswerFault = λ feed. in_range (flat_map (set_answers plan.function feed) c.args.sets.now) in
-    rw (p.1, p.2) (subst (λ r. Gives view (Err fault) ((r >>= λ values. filters >>= λ filter. Ok (record { values = values; filter = filter })) >>= told)) (sym c.requires.values)
-    (then_refused {X = Feed} (λ feed. feed) view fault (filters >>= fed) told (then_refused {Y = Feed} seen (λ feed. feed) fault filters fed c.in_err-filter.ensures.gives)))
+    rw (p.1, p.2) (subst (λ r. Gives view (Err fault)
+    ((r >>= λ values. filters >>= λ filter. Ok (record { values = values; filter = filter })) >>= told)) (sym c.requires.values)
+    (then_refused {X = Feed} (λ feed. feed) view fault (filters >>= fed) told (then_refused {Y = Feed} seen (λ feed. feed)
+    fault filters fed c.in_err-filter.ensures.gives)))
 
 pub aggregate_answers-requires-clause-len : goal.aggregate_answers-requires-clause-len
-aggregate_answers-requires-clause-len c = subst (λ n. All (λ (groups : memory.Groups). length groups.numbers.value.items ≡ n) c.args.sets.now) (sym c.requires.wide) c.requires.len
+aggregate_answers-requires-clause-len c =
+    subst (λ n. All (λ (groups : memory.Groups). length groups.numbers.value.items ≡ n) c.args.sets.now)
+    (sym c.requires.wide) c.requires.len
 
 pub aggregate_answers-requires-clause-tests : goal.aggregate_answers-requires-clause-tests
-aggregate_answers-requires-clause-tests c = subst (λ n. ForSome c.in_ok-filter.filter (λ tests. length tests.items ≡ n)) (sym c.requires.wide) c.in_ok-filter.ensures.len
+aggregate_answers-requires-clause-tests c = subst (λ n. ForSome c.in_ok-filter.filter (λ tests. length tests.items ≡ n))
+    (sym c.requires.wide) c.in_ok-filter.ensures.len
 
 pub returns-clause-gives : goal.returns-clause-gives
 returns-clause-gives c =
@@ -45,5 +50,6 @@ returns-clause-gives c =
     let fed : Option (List Bool) → Result Feed AnswerFault = λ filter. Ok (record { values = values; filter = filter }) in
     let told : Feed → Result (List Meaning) AnswerFault = λ feed. in_range (flat_map (set_answers plan.function feed) c.args.sets.now) in
     subst (Gives view c.aggregate_answers.result)
-    (sym (ap (λ r. (r >>= λ values. filters >>= λ filter. Ok (record { values = values; filter = filter })) >>= told) c.requires.values ∙ ap (λ r. (r >>= fed) >>= told) c.in_ok-filter.ensures.gives))
+    (sym (ap (λ r. (r >>= λ values. filters >>= λ filter. Ok (record { values = values; filter = filter })) >>= told)
+    c.requires.values ∙ ap (λ r. (r >>= fed) >>= told) c.in_ok-filter.ensures.gives))
     c.aggregate_answers.ensures.gives

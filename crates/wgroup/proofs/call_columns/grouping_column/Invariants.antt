@@ -8,6 +8,7 @@ use Rattle.wgroup.proofs.call_columns.grouping_column.Given as goal
 
 abbrev pub invariant-loop-groups : goal.invariant-loop-groups
 invariant-loop-groups l = record {
-  so_far : in_range (flat_map (set_grouping l.columns) l.sets) ≡ answers_behind (set_grouping l.columns) (map meaning l.column.items) (drop l.groups-index l.sets);
+  so_far : in_range (flat_map (set_grouping l.columns) l.sets) ≡ answers_behind (set_grouping l.columns)
+      (map meaning l.column.items) (drop l.groups-index l.sets);
   len : length l.column.items + length (all_groups (drop l.groups-index l.sets)) ≡ length (all_groups l.sets);
 }

@@ -4,4 +4,5 @@ use Rattle.wvalues.specs.Meaning.{meaning}
 use Rattle.wgroup.proofs.call_columns.joined.Given as goal
 
 abbrev pub invariant-loop-list : goal.invariant-loop-list
-invariant-loop-list l = flat_map (λ list. map meaning list.items) l.fn.lists.items ≡ map meaning l.column.items ++ flat_map (λ list. map meaning list.items) l.list-iterator.rest.items
+invariant-loop-list l = flat_map (λ list. map meaning list.items) l.fn.lists.items ≡ map meaning l.column.items ++ flat_map
+    (λ list. map meaning list.items) l.list-iterator.rest.items

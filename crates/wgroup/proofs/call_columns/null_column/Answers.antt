@@ -6,7 +6,8 @@ use Rattle.wgroup.proofs.call_columns.null_column.Goals as goal
 
 pub fed_column-requires-clause-values : goal.fed_column-requires-clause-values
 fed_column-requires-clause-values c =
-    ap (λ t. column_of t (rows_seen c.args.rows.now)) c.requires.null ∙ c.in_ok-values.ensures.value ∙ ap (λ vs. Ok (meanings vs)) (sym c.deref.ensures.value)
+    ap (λ t. column_of t (rows_seen c.args.rows.now)) c.requires.null ∙ c.in_ok-values.ensures.value
+    ∙ ap (λ vs. Ok (meanings vs)) (sym c.deref.ensures.value)
 
 pub fed_column-requires-clause-wide : goal.fed_column-requires-clause-wide
 fed_column-requires-clause-wide c = ap length c.deref.ensures.value ∙ c.in_ok-values.ensures.len

@@ -7,7 +7,10 @@ use Rattle.wgroup.proofs.counting.all_count.Goals as goal
 
 pub loop-call-preserved : goal.loop-call-preserved
 loop-call-preserved c = λ all.
-    c.loop-call.invariant (subst (λ l. AllByRecursion (λ c. c ≡ row_count) (map group_call_plan l)) (sym (drop_next c.args.calls.now c.loop-call.call-index c.call-item.result c.loop-call-test.true c.call-item.is)) (c.counts.ensures c.if-not-counts.false, all))
+    c.loop-call.invariant (subst (λ l. AllByRecursion (λ c. c ≡ row_count) (map group_call_plan l))
+    (sym (drop_next c.args.calls.now c.loop-call.call-index c.call-item.result c.loop-call-test.true c.call-item.is))
+    (c.counts.ensures c.if-not-counts.false, all))
 
 pub returns : goal.returns
-returns c = λ e. c.loop-call.invariant (subst (λ l. AllByRecursion (λ c. c ≡ row_count) (map group_call_plan l)) (sym (drop_whole c.loop-call.call-index c.args.calls.now c.loop-call-test.false)) tt)
+returns c = λ e. c.loop-call.invariant (subst (λ l. AllByRecursion (λ c. c ≡ row_count) (map group_call_plan l))
+    (sym (drop_whole c.loop-call.call-index c.args.calls.now c.loop-call-test.false)) tt)

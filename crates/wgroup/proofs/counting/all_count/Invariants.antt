@@ -6,4 +6,5 @@ use Rattle.wgroup.proofs.counting.all_count.Given as goal
 
 -- where those that are left count, all do
 abbrev pub invariant-loop-call : goal.invariant-loop-call
-invariant-loop-call l = AllByRecursion (λ c. c ≡ row_count) (map group_call_plan (drop l.call-index l.calls)) → AllByRecursion (λ c. c ≡ row_count) (map group_call_plan l.calls)
+invariant-loop-call l = AllByRecursion (λ c. c ≡ row_count) (map group_call_plan (drop l.call-index l.calls))
+    → AllByRecursion (λ c. c ≡ row_count) (map group_call_plan l.calls)

@@ -30,11 +30,19 @@ returns-clause-rows c = λ rows long.
     let is : map meaning cells ≡ map (λ x. count) calls = c.in_ok-cells.ensures ∙ ap (map (λ x. count)) c.deref.ensures.value in
     let width : c.len.result ≡ length calls = c.len.ensures ∙ g.calls.ok.0 in
     let told : map meaning (take c.len.result cells) ≡ map (λ x. count) plan.calls
-    = ap (map meaning) (take_all c.len.result cells (omega (arith, length-map cells meaning, length-map calls (λ x. count), ap length is, width))) ∙ is ∙ sym (map-map (λ x. count) group_call_plan calls) in
-    subst (Gives rows_in c.rows_held.result) (sym (rows_counted rows c.args.count long plan c.requires.counts ∙ ap (λ l. held_rows plan.having (l ∷ [])) (sym told))) c.rows_held.ensures.rows
+    = ap (map meaning) (take_all c.len.result cells (omega (
+      arith,
+      length-map cells meaning,
+      length-map calls (λ x. count),
+      ap length is,
+      width,
+    ))) ∙ is ∙ sym (map-map (λ x. count) group_call_plan calls) in
+    subst (Gives rows_in c.rows_held.result) (sym (rows_counted rows c.args.count long plan c.requires.counts
+    ∙ ap (λ l. held_rows plan.having (l ∷ [])) (sym told))) c.rows_held.ensures.rows
 
 pub returns-clause-width : goal.returns-clause-width
 returns-clause-width c =
     let g = c.args.grouping.now in
-    let width : c.len.result ≡ length g.columns.items + length g.calls.items = omega (arith, c.len.ensures, g.calls.ok.0, ap length c.requires.counts.columns) in
+    let width : c.len.result ≡ length g.columns.items + length g.calls.items =
+    omega (arith, c.len.ensures, g.calls.ok.0, ap length c.requires.counts.columns) in
     IfOk-weaker c.rows_held.result _ _ (λ held e. e ∙ width) c.rows_held.ensures.width

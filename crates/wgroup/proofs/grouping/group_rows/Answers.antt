@@ -21,9 +21,13 @@ returns-in_err-sets-clause-rows c =
     let fault = c.in_err-sets.field-0.0 in
     let plan = grouping_plan c.args.grouping.now in
     let rows = rows_seen c.args.rows.now in
-    let same : not_too_many (groups_of c.deref.result.now (lists_in c.deref-2.result.now) rows) ≡ not_too_many (groups_of plan.columns plan.sets rows)
-    = ap (λ cs. not_too_many (groups_of cs (lists_in c.deref-2.result.now) rows)) c.deref.ensures.value ∙ ap (λ ss. not_too_many (groups_of plan.columns (lists_in ss) rows)) c.deref-2.ensures.value in
-    rw (p.1, p.2) (then_refused view rows_in fault (not_too_many (groups_of plan.columns plan.sets rows)) (λ groups. each (call_column rows groups) plan.calls >>= λ columns. held_rows plan.having (beside (map (λ (group : Group). group.key) groups) columns))
+    let same : not_too_many (groups_of c.deref.result.now (lists_in c.deref-2.result.now) rows)
+    ≡ not_too_many (groups_of plan.columns plan.sets rows)
+    = ap (λ cs. not_too_many (groups_of cs (lists_in c.deref-2.result.now) rows)) c.deref.ensures.value
+    ∙ ap (λ ss. not_too_many (groups_of plan.columns (lists_in ss) rows)) c.deref-2.ensures.value in
+    rw (p.1, p.2) (then_refused view rows_in fault (not_too_many (groups_of plan.columns plan.sets rows))
+    (λ groups. each (call_column rows groups) plan.calls >>= λ columns. held_rows plan.having
+    (beside (map (λ (group : Group). group.key) groups) columns))
     (subst (λ m. Gives view (Err fault) m) same c.in_err-sets.ensures.groups))
 
 pub returns-in_err-columns-clause-rows : goal.returns-in_err-columns-clause-rows
@@ -35,11 +39,15 @@ returns-in_err-columns-clause-rows c =
     let rows = rows_seen c.args.rows.now in
     let sets = c.in_ok-sets.sets.items in
     let are : not_too_many (groups_of plan.columns plan.sets rows) ≡ Ok (all_groups sets)
-    = sym (ap (λ cs. not_too_many (groups_of cs (lists_in c.deref-2.result.now) rows)) c.deref.ensures.value ∙ ap (λ ss. not_too_many (groups_of plan.columns (lists_in ss) rows)) c.deref-2.ensures.value) ∙ c.in_ok-sets.ensures.groups in
-    let same : each (column_over rows c.deref-4.result.now) (map group_call_plan c.deref-3.result.now) ≡ each (column_over rows sets) plan.calls
-    = ap (λ ss. each (column_over rows ss) (map group_call_plan c.deref-3.result.now)) c.deref-4.ensures.value ∙ ap (λ calls. each (column_over rows sets) (map group_call_plan calls)) c.deref-3.ensures.value in
+    = sym (ap (λ cs. not_too_many (groups_of cs (lists_in c.deref-2.result.now) rows)) c.deref.ensures.value
+    ∙ ap (λ ss. not_too_many (groups_of plan.columns (lists_in ss) rows)) c.deref-2.ensures.value) ∙ c.in_ok-sets.ensures.groups in
+    let same : each (column_over rows c.deref-4.result.now) (map group_call_plan c.deref-3.result.now)
+    ≡ each (column_over rows sets) plan.calls
+    = ap (λ ss. each (column_over rows ss) (map group_call_plan c.deref-3.result.now)) c.deref-4.ensures.value
+    ∙ ap (λ calls. each (column_over rows sets) (map group_call_plan calls)) c.deref-3.ensures.value in
     rw (p.1, p.2) (subst (λ m. Gives rows_in (Err fault) m) (sym (grouped plan rows sets are))
-    (then_refused view rows_in fault (each (column_over rows sets) plan.calls) (λ columns. held_rows plan.having (beside (map (λ (group : Group). group.key) (all_groups sets)) columns))
+    (then_refused view rows_in fault (each (column_over rows sets) plan.calls)
+    (λ columns. held_rows plan.having (beside (map (λ (group : Group). group.key) (all_groups sets)) columns))
     (subst (λ m. Gives view (Err fault) m) same c.in_err-columns.ensures.gives)))
 
 pub group_cells-requires : goal.group_cells-requires
@@ -47,13 +55,19 @@ group_cells-requires c =
     let g = c.args.grouping.now in
     let sets = c.in_ok-sets.sets.items in
     let rows = rows_seen c.args.rows.now in
-    let few : length (all_groups sets) < 2 ^ 31 = few_from_ok (groups_of c.deref.result.now (lists_in c.deref-2.result.now) rows) (all_groups sets) c.in_ok-sets.ensures.groups in
+    let few : length (all_groups sets) < 2 ^ 31 =
+    few_from_ok (groups_of c.deref.result.now (lists_in c.deref-2.result.now) rows) (all_groups sets) c.in_ok-sets.ensures.groups in
     let width : length c.deref.result.now ≡ c.len.result = ap length c.deref.ensures.value ∙ sym (c.len.ensures ∙ g.columns.ok.0) in
     record {
-      wide = subst (λ w. All (λ (groups : memory.Groups). groups.width ≡ w) c.deref-5.result.now) width (subst (λ ss. All (λ (groups : memory.Groups). groups.width ≡ length c.deref.result.now) ss) (sym c.deref-5.ensures.value) c.in_ok-sets.ensures.width);
-      len = subst (λ ss. All (λ (column : Vec Value Global). length column.items ≡ length (all_groups ss)) c.deref-6.result.now) (sym c.deref-5.ensures.value)
-          (subst (λ xs. All (λ (column : Vec Value Global). length column.items ≡ length (all_groups sets)) xs) (sym c.deref-6.ensures.value)
-          (subst (λ ss. All (λ (column : Vec Value Global). length column.items ≡ length (all_groups ss)) c.in_ok-columns.columns.items) c.deref-4.ensures.value c.in_ok-columns.ensures.len));
+      wide = subst (λ w. All (λ (groups : memory.Groups). groups.width ≡ w) c.deref-5.result.now) width
+          (subst (λ ss. All (λ (groups : memory.Groups). groups.width ≡ length c.deref.result.now) ss)
+          (sym c.deref-5.ensures.value) c.in_ok-sets.ensures.width);
+      len = subst (λ ss. All (λ (column : Vec Value Global). length column.items ≡ length (all_groups ss))
+          c.deref-6.result.now) (sym c.deref-5.ensures.value)
+          (subst (λ xs. All (λ (column : Vec Value Global). length column.items ≡ length (all_groups sets)) xs)
+          (sym c.deref-6.ensures.value)
+          (subst (λ ss. All (λ (column : Vec Value Global). length column.items ≡ length (all_groups ss))
+          c.in_ok-columns.columns.items) c.deref-4.ensures.value c.in_ok-columns.ensures.len));
       few = subst (λ ss. length (all_groups ss) < 2 ^ 31) (sym c.deref-5.ensures.value) few;
       narrow = omega (arith, width, c.deref.type_inv);
     }
@@ -62,7 +76,8 @@ pub rows_held-requires : goal.rows_held-requires
 rows_held-requires c =
     let sets = c.in_ok-sets.sets.items in
     let rows = rows_seen c.args.rows.now in
-    let few : length (all_groups sets) < 2 ^ 31 = few_from_ok (groups_of c.deref.result.now (lists_in c.deref-2.result.now) rows) (all_groups sets) c.in_ok-sets.ensures.groups in
+    let few : length (all_groups sets) < 2 ^ 31 =
+    few_from_ok (groups_of c.deref.result.now (lists_in c.deref-2.result.now) rows) (all_groups sets) c.in_ok-sets.ensures.groups in
     omega (arith, few, c.in_ok-cells.ensures.count, ap (λ ss. length (all_groups ss)) c.deref-5.ensures.value)
 
 pub returns-clause-rows : goal.returns-clause-rows
@@ -72,11 +87,17 @@ returns-clause-rows c =
     let sets = c.in_ok-sets.sets.items in
     let keys = map (λ (group : Group). group.key) (all_groups sets) in
     let are : not_too_many (groups_of plan.columns plan.sets rows) ≡ Ok (all_groups sets)
-    = sym (ap (λ cs. not_too_many (groups_of cs (lists_in c.deref-2.result.now) rows)) c.deref.ensures.value ∙ ap (λ ss. not_too_many (groups_of plan.columns (lists_in ss) rows)) c.deref-2.ensures.value) ∙ c.in_ok-sets.ensures.groups in
-    let same : each (column_over rows c.deref-4.result.now) (map group_call_plan c.deref-3.result.now) ≡ each (column_over rows sets) plan.calls
-    = ap (λ ss. each (column_over rows ss) (map group_call_plan c.deref-3.result.now)) c.deref-4.ensures.value ∙ ap (λ calls. each (column_over rows sets) (map group_call_plan calls)) c.deref-3.ensures.value in
+    = sym (ap (λ cs. not_too_many (groups_of cs (lists_in c.deref-2.result.now) rows)) c.deref.ensures.value
+    ∙ ap (λ ss. not_too_many (groups_of plan.columns (lists_in ss) rows)) c.deref-2.ensures.value) ∙ c.in_ok-sets.ensures.groups in
+    let same : each (column_over rows c.deref-4.result.now) (map group_call_plan c.deref-3.result.now)
+    ≡ each (column_over rows sets) plan.calls
+    = ap (λ ss. each (column_over rows ss) (map group_call_plan c.deref-3.result.now)) c.deref-4.ensures.value
+    ∙ ap (λ calls. each (column_over rows sets) (map group_call_plan calls)) c.deref-3.ensures.value in
     let whole : group_rows plan rows ≡ held_rows plan.having (rows_in c.in_ok-cells.cells)
     = grouped plan rows sets are
-    ∙ then_ok (columns_in c.in_ok-columns.columns.items) (each (column_over rows sets) plan.calls) (λ columns. held_rows plan.having (beside keys columns)) (sym same ∙ c.in_ok-columns.ensures.gives)
-    ∙ ap (held_rows plan.having) (sym (c.in_ok-cells.ensures.rows ∙ ap (λ ss. beside (map (λ (group : Group). group.key) (all_groups ss)) (columns_in c.deref-6.result.now)) c.deref-5.ensures.value ∙ ap (λ xs. beside keys (columns_in xs)) c.deref-6.ensures.value)) in
+    ∙ then_ok (columns_in c.in_ok-columns.columns.items) (each (column_over rows sets) plan.calls)
+    (λ columns. held_rows plan.having (beside keys columns)) (sym same ∙ c.in_ok-columns.ensures.gives)
+    ∙ ap (held_rows plan.having) (sym (c.in_ok-cells.ensures.rows
+    ∙ ap (λ ss. beside (map (λ (group : Group). group.key) (all_groups ss)) (columns_in c.deref-6.result.now))
+    c.deref-5.ensures.value ∙ ap (λ xs. beside keys (columns_in xs)) c.deref-6.ensures.value)) in
     subst (Gives rows_in c.rows_held.result) (sym whole) c.rows_held.ensures.rows

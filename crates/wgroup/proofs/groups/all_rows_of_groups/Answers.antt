@@ -16,7 +16,8 @@ returns-clause-groups c =
     let one : List ℕ → List Group = λ rows. record { set = []; key = map (λ c. Null) c.args.columns.now; rows = rows } ∷ [] in
     c.in_ok-groups.ensures.groups ∙ ap (λ v. one (rows_of_group (map (λ i. get_or links i 0) v.items) 0)) c.in_ok-numbers.ensures.cases
     ∙ ap one (all_in_one (map (λ i. get_or links i 0) numbers) (length numbers)
-    (λ i h. get_or-map (λ i. get_or links i 0) numbers i 0 0 h ∙ ap (λ l. get_or l (get_or numbers i 0) 0) zeros ∙ zero_at c.args.finer.now.count (get_or numbers i 0)) (length-map numbers (λ i. get_or links i 0)))
+    (λ i h. get_or-map (λ i. get_or links i 0) numbers i 0 0 h ∙ ap (λ l. get_or l (get_or numbers i 0) 0) zeros
+    ∙ zero_at c.args.finer.now.count (get_or numbers i 0)) (length-map numbers (λ i. get_or links i 0)))
 
 pub returns-clause-len : goal.returns-clause-len
 returns-clause-len c = ap length (c.in_ok-groups.ensures.numbers ∙ ap (λ v. v.items) c.in_ok-numbers.ensures.cases)
@@ -36,6 +37,7 @@ returns-clause-made c = λ earlier at base.
         same_rows = c.in_ok-groups.ensures.numbers ∙ ap (λ v. v.items) c.in_ok-numbers.ensures.cases;
         as_many = long;
         below = zeros_below links f.count g.count (omega (arith, c.in_ok-groups.ensures.count)) zeros;
-        met = λ i h. list_any_at (λ j. j == i) links 0 0 first (are_equal (get_or links 0 0) i (ap (λ l. get_or l 0 0) zeros ∙ zero_at f.count 0 ∙ (omega (arith, h, c.in_ok-groups.ensures.count))));
+        met = λ i h. list_any_at (λ j. j == i) links 0 0 first (are_equal (get_or links 0 0) i (ap (λ l. get_or l 0 0) zeros
+            ∙ zero_at f.count 0 ∙ (omega (arith, h, c.in_ok-groups.ensures.count))));
       });
     })

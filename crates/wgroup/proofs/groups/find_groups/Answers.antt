@@ -13,7 +13,8 @@ returns-then-is_empty-clause-groups c =
     let set = c.args.set.now in
     let rows = c.args.rows.now in
     let all : List Group = record { set = []; key = map (λ c. Null) columns; rows = places (length rows) } ∷ [] in
-    subst (λ l. IfOk c.empty_set_groups.result (λ groups. groups_in groups ≡ l)) (of_no_columns columns set rows all (no_length set (sym c.is_empty.ensures ∙ c.if-is_empty.true)) refl) c.empty_set_groups.ensures.groups
+    subst (λ l. IfOk c.empty_set_groups.result (λ groups. groups_in groups ≡ l)) (of_no_columns columns set rows all
+    (no_length set (sym c.is_empty.ensures ∙ c.if-is_empty.true)) refl) c.empty_set_groups.ensures.groups
 
 pub returns-clause-groups : goal.returns-clause-groups
 returns-clause-groups c =

@@ -18,12 +18,15 @@ use Rattle.wgroup.proofs.groups.keyed_groups.Goals as goal
 pub invariant_of-result-clause-laid : goal.invariant_of-result-clause-laid
 invariant_of-result-clause-laid c =
     let columns = c.args.columns.now in
-    let wide : length c.deref-2.result.now ≡ length columns = ap length (c.deref-2.ensures.value ∙ c.in_ok-kept.ensures) ∙ columns_long columns c.args.set.now in
+    let wide : length c.deref-2.result.now ≡ length columns = ap length (c.deref-2.ensures.value ∙ c.in_ok-kept.ensures)
+    ∙ columns_long columns c.args.set.now in
     let count : c.len-count.result ≡ length c.args.firsts.items = c.len-count.ensures ∙ c.args.firsts.ok.0 in
-    c.in_ok-keys.ensures.laid ∙ ap (λ m. m * length c.deref-2.result.now) (ap length c.deref-3.ensures.value ∙ sym count) ∙ ap (λ w. c.len-count.result * w) wide
+    c.in_ok-keys.ensures.laid ∙ ap (λ m. m * length c.deref-2.result.now) (ap length c.deref-3.ensures.value ∙ sym count)
+    ∙ ap (λ w. c.len-count.result * w) wide
 
 pub invariant_of-result-clause-below : goal.invariant_of-result-clause-below
-invariant_of-result-clause-below c = subst (λ m. All (λ i. i < m) c.in_ok-order.order.items) (c.len.ensures ∙ sym c.len-count.ensures) c.in_ok-order.ensures.below
+invariant_of-result-clause-below c = subst (λ m. All (λ i. i < m) c.in_ok-order.order.items) (c.len.ensures
+    ∙ sym c.len-count.ensures) c.in_ok-order.ensures.below
 
 pub returns-clause-groups : goal.returns-clause-groups
 returns-clause-groups c =
@@ -41,17 +44,25 @@ returns-clause-groups c =
     let so_many : c.len-count.result ≡ length firsts = c.len-count.ensures ∙ c.args.firsts.ok.0 in
     let columns : by ≡ kept = c.deref-2.ensures.value ∙ c.in_ok-kept.ensures in
     let are_keys : laid w (length firsts) keys ≡ map (group_key kept told) firsts
-    = ap (λ k. laid (length k) (length firsts) keys) (sym columns) ∙ ap (λ f. laid (length by) (length f) keys) (sym c.deref-3.ensures.value) ∙ c.in_ok-keys.ensures.keys
+    = ap (λ k. laid (length k) (length firsts) keys) (sym columns) ∙ ap (λ f. laid (length by) (length f) keys)
+    (sym c.deref-3.ensures.value) ∙ c.in_ok-keys.ensures.keys
     ∙ ap (λ k. map (group_key k told) c.deref-3.result.now) columns ∙ ap (map (group_key kept told)) c.deref-3.ensures.value in
     let in_order : order ≡ numbers_by (ascending kept) (laid w (length firsts) keys) (length firsts)
     = c.in_ok-order.ensures.order
-    ∙ ap (λ ks. numbers_by ks (laid (length ks) m c.deref-4.result.now) m) (c.deref-5.ensures.value ∙ c.in_ok-ascending.ensures ∙ ap ascending (c.deref.ensures.value ∙ c.in_ok-kept.ensures))
+    ∙ ap (λ ks. numbers_by ks (laid (length ks) m c.deref-4.result.now) m) (c.deref-5.ensures.value
+    ∙ c.in_ok-ascending.ensures ∙ ap ascending (c.deref.ensures.value ∙ c.in_ok-kept.ensures))
     ∙ ap (λ k. numbers_by (ascending kept) (laid k m c.deref-4.result.now) m) (length_ascending kept)
     ∙ ap (λ xs. numbers_by (ascending kept) (laid w m xs) m) c.deref-4.ensures.value
     ∙ ap (λ k. numbers_by (ascending kept) (laid w k keys) k) count in
-    let group : ℕ → ℕ → Group = λ w i. record { set = c.in_ok-set.set.items; key = key_at (laid w c.len-count.result keys) i; rows = rows_of_group numbers i } in
+    let group : ℕ → ℕ → Group = λ w i. record {
+      set = c.in_ok-set.set.items;
+      key =
+          key_at (laid w c.len-count.result keys) i;
+      rows = rows_of_group numbers i;
+    } in
     ap (λ w. map (group w) order) (sym (columns_long c.args.columns.now c.args.set.now))
-    ∙ are_groups kept rows c.in_ok-set.set.items firsts order numbers keys c.len-count.result c.requires are_keys so_many in_order (subst (λ k. All (λ i. i < k) order) count c.in_ok-order.ensures.below)
+    ∙ are_groups kept rows c.in_ok-set.set.items firsts order numbers keys c.len-count.result c.requires are_keys so_many
+    in_order (subst (λ k. All (λ i. i < k) order) count c.in_ok-order.ensures.below)
     ∙ ap (λ s. groups_by s kept told) c.in_ok-set.ensures.items
 
 pub returns-clause-keyed : goal.returns-clause-keyed
@@ -65,5 +76,9 @@ returns-clause-keyed c =
       numbered = refl;
       of_finer = refl;
       as_many = so_many;
-      ordered = (on (key_at keys) (keys_cmp by), c.in_ok-order.ensures.order ∙ ap (λ n. sorted (on (key_at keys) (keys_cmp by)) (places n)) (c.len.ensures ∙ sym c.len-count.ensures));
+      ordered = (
+        on (key_at keys) (keys_cmp by),
+        c.in_ok-order.ensures.order
+            ∙ ap (λ n. sorted (on (key_at keys) (keys_cmp by)) (places n)) (c.len.ensures ∙ sym c.len-count.ensures),
+      );
     }

@@ -16,7 +16,8 @@ invariant_of-result-clause-laid c =
     omega (arith, length-map keys meaning, length-map cols (λ c. Null), ap length c.in_ok-keys.ensures.nulls)
 
 pub invariant_of-result-clause-below : goal.invariant_of-result-clause-below
-invariant_of-result-clause-below c = zeros_below c.in_ok-order.order.items 1 1 (omega arith) (c.in_ok-order.ensures.items_if_clones_equal (λ y same. same))
+invariant_of-result-clause-below c = zeros_below c.in_ok-order.order.items 1 1 (omega arith)
+    (c.in_ok-order.ensures.items_if_clones_equal (λ y same. same))
 
 pub returns-clause-groups : goal.returns-clause-groups
 returns-clause-groups c =
@@ -25,8 +26,18 @@ returns-clause-groups c =
     let w = length cols in
     let rows = rows_of_group (by_row c.args.numbers.value.items c.args.finer) 0 in
     let one : List ℕ → List Meaning → List Group = λ set key. record { set = set; key = key; rows = rows } ∷ [] in
-    let group : ℕ → Group = λ i. record { set = c.new.result.items; key = key_at (laid w 1 keys) i; rows = rows_of_group (by_row c.args.numbers.value.items c.args.finer) i } in
-    let long : length keys ≡ w = omega (arith, length-map keys meaning, length-map cols (λ c. Null), ap length c.in_ok-keys.ensures.nulls) in
+    let group : ℕ → Group = λ i. record {
+      set = c.new.result.items;
+      key = key_at (laid w 1 keys) i;
+      rows =
+          rows_of_group (by_row c.args.numbers.value.items c.args.finer) i;
+    } in
+    let long : length keys ≡ w = omega (
+      arith,
+      length-map keys meaning,
+      length-map cols (λ c. Null),
+      ap length c.in_ok-keys.ensures.nulls,
+    ) in
     ap (map group) (c.in_ok-order.ensures.items_if_clones_equal (λ y same. same))
     ∙ ap (λ s. one s (map meaning (take w keys))) c.new.ensures.items
     ∙ ap (λ l. one [] (map meaning l)) (take_all w keys (omega (arith, long)))

@@ -14,4 +14,5 @@ returns c =
     let rows = c.args.rows.now in
     let sight = c.in_ok-sight.sight in
     rows_agree columns rows c.in_ok-cells.cells.items c.in_ok-cells.ensures.keys sight.firsts.items sight.numbers.items
-    (subst (λ xs. IsSight (same_row (length columns) xs) (length rows) sight.firsts.items sight.numbers.items) c.deref.ensures.value c.in_ok-sight.ensures)
+    (subst (λ xs. IsSight (same_row (length columns) xs) (length rows) sight.firsts.items sight.numbers.items)
+    c.deref.ensures.value c.in_ok-sight.ensures)

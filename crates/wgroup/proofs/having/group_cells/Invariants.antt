@@ -7,6 +7,7 @@ use Rattle.wgroup.proofs.having.group_cells.Given as goal
 
 abbrev pub invariant-loop-groups : goal.invariant-loop-groups
 invariant-loop-groups l = record {
-  so_far : flat_map (λ row. row) (sets_rows (columns_in l.columns) 0 l.sets) ≡ map meaning l.cells.items ++ flat_map (λ row. row) (sets_rows (columns_in l.columns) l.count (drop l.groups-index l.sets));
+  so_far : flat_map (λ row. row) (sets_rows (columns_in l.columns) 0 l.sets) ≡ map meaning l.cells.items ++ flat_map
+      (λ row. row) (sets_rows (columns_in l.columns) l.count (drop l.groups-index l.sets));
   count : l.count + length (all_groups (drop l.groups-index l.sets)) ≡ length (all_groups l.sets);
 }

@@ -21,7 +21,8 @@ returns-in_err-kept-clause-rows c =
     let cells = c.args.cells.now in
     let inner : Vec (Bor (List Value)) Global → List Row = λ kept. rows_seen kept.items in
     rw (p.1, p.2) (same_fault inner rows_in c.in_err-kept.field-0.0 _ _
-    (ap (kept_of condition) c.in_ok-rows.ensures ∙ kept_is_held condition (rows_in cells) (omega (arith, length-laid cells.width cells.count cells.cells.items, c.requires)))
+    (ap (kept_of condition) c.in_ok-rows.ensures ∙ kept_is_held condition (rows_in cells)
+    (omega (arith, length-laid cells.width cells.count cells.cells.items, c.requires)))
     c.in_err-kept.ensures)
 
 pub invariant_of-result : goal.invariant_of-result
@@ -30,11 +31,15 @@ invariant_of-result c =
     let cells = c.args.cells.now in
     let rows = c.in_ok-rows.rows.items in
     let kept = c.in_ok-kept.kept.items in
-    let long : length rows ≡ cells.count = sym (length-map rows row_seen) ∙ ap length c.in_ok-rows.ensures ∙ length-laid cells.width cells.count cells.cells.items in
+    let long : length rows ≡ cells.count = sym (length-map rows row_seen) ∙ ap length c.in_ok-rows.ensures
+    ∙ length-laid cells.width cells.count cells.cells.items in
     let of_rows : kept_of condition (rows_seen rows) ≡ Ok (rows_seen kept) = c.in_ok-kept.ensures in
-    let wide = kept_wide cells.width cells.count cells.cells.items condition rows kept cells.laid c.in_ok-rows.ensures c.requires long of_rows in
+    let wide = kept_wide cells.width cells.count cells.cells.items condition rows kept cells.laid c.in_ok-rows.ensures
+    c.requires long of_rows in
     record {
-      laid = sym (length-map c.in_ok-held.held.items meaning) ∙ ap length (c.in_ok-held.ensures ∙ ap (flat_map row_seen) c.deref.ensures.value) ∙ laid_length cells.width row_seen kept wide ∙ ap (λ m. m * cells.width) (sym (c.len.ensures ∙ c.in_ok-kept.kept.ok.0));
+      laid = sym (length-map c.in_ok-held.held.items meaning)
+          ∙ ap length (c.in_ok-held.ensures ∙ ap (flat_map row_seen) c.deref.ensures.value)
+          ∙ laid_length cells.width row_seen kept wide ∙ ap (λ m. m * cells.width) (sym (c.len.ensures ∙ c.in_ok-kept.kept.ok.0));
     }
 
 pub returns-clause-rows : goal.returns-clause-rows
@@ -44,9 +49,16 @@ returns-clause-rows c =
     let rows = c.in_ok-rows.rows.items in
     let kept = c.in_ok-kept.kept.items in
     let held = c.in_ok-held.held.items in
-    let long : length rows ≡ cells.count = sym (length-map rows row_seen) ∙ ap length c.in_ok-rows.ensures ∙ length-laid cells.width cells.count cells.cells.items in
+    let long : length rows ≡ cells.count = sym (length-map rows row_seen) ∙ ap length c.in_ok-rows.ensures
+    ∙ length-laid cells.width cells.count cells.cells.items in
     let of_rows : kept_of condition (rows_seen rows) ≡ Ok (rows_seen kept) = c.in_ok-kept.ensures in
-    let wide = kept_wide cells.width cells.count cells.cells.items condition rows kept cells.laid c.in_ok-rows.ensures c.requires long of_rows in
+    let wide = kept_wide cells.width cells.count cells.cells.items condition rows kept cells.laid c.in_ok-rows.ensures
+    c.requires long of_rows in
     let told : laid cells.width c.len.result held ≡ rows_seen kept
-    = ap (λ m. laid cells.width m held) (c.len.ensures ∙ c.in_ok-kept.kept.ok.0) ∙ laid_rows cells.width row_seen kept wide held (c.in_ok-held.ensures ∙ ap (flat_map row_seen) c.deref.ensures.value) in
-    sym (kept_is_held condition (rows_in cells) (omega (arith, length-laid cells.width cells.count cells.cells.items, c.requires))) ∙ ap (kept_of condition) (sym c.in_ok-rows.ensures) ∙ of_rows ∙ ap Ok (sym told)
+    = ap (λ m. laid cells.width m held) (c.len.ensures ∙ c.in_ok-kept.kept.ok.0) ∙ laid_rows cells.width row_seen kept wide
+    held (c.in_ok-held.ensures ∙ ap (flat_map row_seen) c.deref.ensures.value) in
+    sym (kept_is_held condition (rows_in cells) (omega (
+      arith,
+      length-laid cells.width cells.count cells.cells.items,
+      c.requires,
+    ))) ∙ ap (kept_of condition) (sym c.in_ok-rows.ensures) ∙ of_rows ∙ ap Ok (sym told)

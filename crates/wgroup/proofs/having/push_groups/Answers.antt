@@ -16,7 +16,10 @@ loop-place-preserved c =
     let number = c.index-number.result.now in
     let there : place < length g.order.items = subst (λ m. place < m) (c.len-place-end.ensures ∙ g.order.ok.0) c.loop-place-test.true in
     let results = map (λ column. value_at column (from + place)) columns in
-    cells_more (group_row g columns from) (map meaning c.args.out.now.items) (map meaning c.loop-place.out.items) (map meaning c.slice_of.result.now) results _ place c.loop-place.invariant
+    cells_more (group_row g columns from) (map meaning c.args.out.now.items) (map meaning c.loop-place.out.items)
+    (map meaning c.slice_of.result.now) results _ place c.loop-place.invariant
     (c.in_ok-push_results.ensures ∙ ap (λ l. l ++ results) c.in_ok-push_row.ensures)
     (ap (λ l. l ++ results)
-    (ap (map meaning) (c.slice_of.ensures.list ∙ ap (λ xs. slice_at g.width xs number) c.deref.ensures.value ∙ ap (slice_at g.width g.keys.items) (c.index-number.ensures ∙ same_at g.order.items place number 0 there)) ∙ key_is g columns from place there))
+    (ap (map meaning) (c.slice_of.ensures.list ∙ ap (λ xs. slice_at g.width xs number) c.deref.ensures.value
+    ∙ ap (slice_at g.width g.keys.items) (c.index-number.ensures ∙ same_at g.order.items place number 0 there))
+    ∙ key_is g columns from place there))

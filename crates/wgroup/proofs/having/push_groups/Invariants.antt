@@ -6,4 +6,5 @@ use Rattle.wgroup.specs.Held.{columns_in, group_row}
 use Rattle.wgroup.proofs.having.push_groups.Given as goal
 
 abbrev pub invariant-loop-place : goal.invariant-loop-place
-invariant-loop-place l = map meaning l.out.items ≡ map meaning l.fn.out.items ++ flat_map (group_row l.groups (columns_in l.columns) l.from) (places l.place)
+invariant-loop-place l = map meaning l.out.items ≡ map meaning l.fn.out.items ++ flat_map
+    (group_row l.groups (columns_in l.columns) l.from) (places l.place)

@@ -14,7 +14,9 @@ loop-row-preserved c =
     let columns = c.args.columns.now in
     let firsts = c.args.firsts.now in
     let i = c.loop-row.row-index in
-    flat_next (group_key columns (rows_seen c.args.rows.now)) firsts i (get_or firsts i 0) (map meaning c.loop-row.cells.items) (map meaning c.push_key.new.cells.items) c.loop-row-test.true (same_at firsts i 0 (get_or firsts i 0) c.loop-row-test.true) c.loop-row.invariant
+    flat_next (group_key columns (rows_seen c.args.rows.now)) firsts i (get_or firsts i 0)
+    (map meaning c.loop-row.cells.items) (map meaning c.push_key.new.cells.items) c.loop-row-test.true
+    (same_at firsts i 0 (get_or firsts i 0) c.loop-row-test.true) c.loop-row.invariant
     (c.in_ok-push_key.ensures ∙ ap (λ r. map meaning c.loop-row.cells.items ++ key_in columns r) c.cells_at.ensures)
 
 pub returns-clause-keys : goal.returns-clause-keys
@@ -22,12 +24,14 @@ returns-clause-keys c =
     let columns = c.args.columns.now in
     let key = group_key columns (rows_seen c.args.rows.now) in
     let firsts = c.args.firsts.now in
-    laid_rows (length columns) key firsts (group_keys_wide columns (rows_seen c.args.rows.now) firsts) c.loop-row.cells.items (c.loop-row.invariant ∙ ap (flat_map key) (take_all c.loop-row.row-index firsts c.loop-row-test.false))
+    laid_rows (length columns) key firsts (group_keys_wide columns (rows_seen c.args.rows.now) firsts)
+    c.loop-row.cells.items (c.loop-row.invariant ∙ ap (flat_map key) (take_all c.loop-row.row-index firsts c.loop-row-test.false))
 
 pub returns-clause-laid : goal.returns-clause-laid
 returns-clause-laid c =
     let columns = c.args.columns.now in
     let key = group_key columns (rows_seen c.args.rows.now) in
     let firsts = c.args.firsts.now in
-    sym (length-map c.loop-row.cells.items meaning) ∙ ap length c.loop-row.invariant ∙ ap (λ l. length (flat_map key l)) (take_all c.loop-row.row-index firsts c.loop-row-test.false)
+    sym (length-map c.loop-row.cells.items meaning) ∙ ap length c.loop-row.invariant ∙ ap (λ l. length (flat_map key l))
+    (take_all c.loop-row.row-index firsts c.loop-row-test.false)
     ∙ laid_length (length columns) key firsts (group_keys_wide columns (rows_seen c.args.rows.now) firsts)

@@ -8,5 +8,6 @@ invariant-loop-place l = record {
   within : 0 < l.count → l.leader < l.count;
   begun : l.place ≡ 0 → l.leader ≡ 0;
   last : (j : ℕ) → suc j ≡ l.place → IsFirst (same_row l.width l.cells) l.count (get_or l.order.items j 0) l.leader;
-  done : (j : ℕ) → j < l.place → IsFirst (same_row l.width l.cells) l.count (get_or l.order.items j 0) (get_or l.leaders.items (get_or l.order.items j 0) 0);
+  done : (j : ℕ) → j < l.place → IsFirst (same_row l.width l.cells) l.count (get_or l.order.items j 0)
+      (get_or l.leaders.items (get_or l.order.items j 0) 0);
 }

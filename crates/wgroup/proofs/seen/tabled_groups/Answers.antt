@@ -17,6 +17,7 @@ loop-row-preserved c =
     record {
       held = c.in_ok-number_of.ensures.held;
       numbered = c.in_ok-push.ensures.items
-          ∙ numbers_next (alike keyed) (agree_equiv keyed.columns.now (rows_seen keyed.rows.now)) c.loop-row.row c.in_ok-number_of.field-0 c.loop-row.numbers.items c.loop-row.invariant.numbered c.in_ok-number_of.ensures.number;
+          ∙ numbers_next (alike keyed) (agree_equiv keyed.columns.now (rows_seen keyed.rows.now)) c.loop-row.row
+          c.in_ok-number_of.field-0 c.loop-row.numbers.items c.loop-row.invariant.numbered c.in_ok-number_of.ensures.number;
       few = c.is_slow.ensures c.if-is_slow.false;
     }

@@ -5,4 +5,5 @@ use Rattle.wgroupby.specs.Rules.{is_entry_long}
 use Rattle.wgroupby.proofs.lists.any_long_entry.Given as goal
 
 abbrev pub invariant-entries : goal.invariant-entries
-invariant-entries l = list_any is_entry_long (map view_group_entry l.entries) ≡ list_any is_entry_long (map view_group_entry (drop l.entry-index l.entries))
+invariant-entries l = list_any is_entry_long (map view_group_entry l.entries) ≡ list_any is_entry_long
+    (map view_group_entry (drop l.entry-index l.entries))

@@ -8,7 +8,8 @@ use Rattle.wlexer.proofs.lexer.lex_text.Given as goal
 abbrev pub invariant-tokens : goal.invariant-tokens
 invariant-tokens l = record {
   utf8 : shadow (Utf8 l.left);
-  so_far : (more : List PlacedToken) (rest : List ℕ) → LexesFirst (length l.text) l.left more rest → LexesFirst (length l.text) l.text (map placed l.tokens.items ++ more) rest;
+  so_far : (more : List PlacedToken) (rest : List ℕ) → LexesFirst (length l.text) l.left more rest
+      → LexesFirst (length l.text) l.text (map placed l.tokens.items ++ more) rest;
   within : length l.left ≤ length l.text;
 }
 

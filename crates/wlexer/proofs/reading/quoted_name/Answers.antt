@@ -8,7 +8,8 @@ pub returns-then-is_empty-clause-none : goal.returns-then-is_empty-clause-none
 returns-then-is_empty-clause-none c =
     let sized = c.in_ok-body.body.bytes.ok.0 in
     elim c.then-is_empty.branch [
-      | then-is_empty-via-then-is_empty w ↦ let none = eqb-true _ 0 (sym w.if-is_empty.ensures) in empty_name c.in_ok-body.ensures.found (omega arith)
+      | then-is_empty-via-then-is_empty w ↦ let none = eqb-true _ 0 (sym w.if-is_empty.ensures) in
+          empty_name c.in_ok-body.ensures.found (omega arith)
       | then-is_empty-via-else-is_empty+then-is_too_long w ↦ long_name c.in_ok-body.ensures.found (omega arith)
     ]
 

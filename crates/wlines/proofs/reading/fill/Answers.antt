@@ -13,7 +13,15 @@ pieces-preserved g c =
     let z = left g.R.Read.remaining c.take_piece.new.source.held c.top_up.new.input in
     let old = c.top_up.new.self.held in
     let moved : length c.take_piece.new.bytes.items + length c.take_piece.new.source.held ≡ length c.pieces.bytes.items + length old =
-    omega (arith, ap length m.kept_is, ap length m.held_is, length-append c.pieces.bytes.items (take m.n old), length-take m.n old, length-drop m.n old, m.within) in
+    omega (
+      arith,
+      ap length m.kept_is,
+      ap length m.held_is,
+      length-append c.pieces.bytes.items (take m.n old),
+      length-take m.n old,
+      length-drop m.n old,
+      m.within,
+    ) in
     record {
       ready = record {
         used = λ z. absurd (omega (arith, z, c.take_piece.ensures.used));
@@ -24,6 +32,8 @@ pieces-preserved g c =
       owed = c.top_up.ensures.owed ∙ c.pieces.invariant.owed;
       room = c.take_piece.ensures.room;
       short = omega (arith, c.take_piece.ensures.within);
-      taken = subst (Consumes a z) (sym m.kept_is) (piece_taken a (left g.R.Read.remaining c.pieces.source.held c.pieces.input) z d c.pieces.bytes.items m.n old c.take_piece.new.source.held c.pieces.invariant.taken c.in_ok-top_up.ensures.bytes refl m.held_is);
+      taken = subst (Consumes a z) (sym m.kept_is)
+          (piece_taken a (left g.R.Read.remaining c.pieces.source.held c.pieces.input) z d c.pieces.bytes.items m.n old
+          c.take_piece.new.source.held c.pieces.invariant.taken c.in_ok-top_up.ensures.bytes refl m.held_is);
       falls = omega (arith, moved, c.in_ok-top_up.ensures.falls, c.pieces.invariant.falls);
     }

@@ -12,7 +12,8 @@ invariant-pieces g l = record {
   owed : l.outbox.is_answered ≡ l.initial.outbox.is_answered;
   room : l.len ≤ vec_capacity l.bytes;
   short : length l.bytes.items ≤ l.len;
-  taken : Consumes (left g.R.Read.remaining l.initial.source.held l.initial.input) (left g.R.Read.remaining l.source.held l.input) l.bytes.items;
+  taken : Consumes (left g.R.Read.remaining l.initial.source.held l.initial.input) (left g.R.Read.remaining l.source.held
+      l.input) l.bytes.items;
   falls : budget l.source.held l.input + length l.bytes.items ≤ budget l.initial.source.held l.initial.input;
 }
 

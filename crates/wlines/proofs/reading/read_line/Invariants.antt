@@ -9,7 +9,8 @@ abbrev pub invariant-bytes : goal.invariant-bytes
 invariant-bytes g l = record {
   lacks : Lacks 10 l.line;
   short : length l.line ≤ 200;
-  consumed : Consumes (left g.R.Read.remaining l.initial.source.held l.initial.input) (left g.R.Read.remaining l.source.held l.input) l.line;
+  consumed : Consumes (left g.R.Read.remaining l.initial.source.held l.initial.input) (left g.R.Read.remaining l.source.held
+      l.input) l.line;
   sound : IsSound l.input;
   output : IsSoundWriter l.output;
   says : Says (sent g.W.Write.contents l.initial.outbox l.initial.output) (sent g.W.Write.contents l.outbox l.output) [];

@@ -25,6 +25,11 @@ pieces-preserved g c =
       says = says_still _ _ _ c.pieces.invariant.says c.top_up.ensures.says;
       owed = c.top_up.ensures.owed ∙ c.pieces.invariant.owed;
       short = omega arith;
-      taken = (t.0 ++ take n old, piece_taken a (left g.R.Read.remaining c.pieces.source.held c.pieces.input) z d t.0 n old c.advance.new.self.held t.1 c.in_ok-top_up.ensures.bytes refl (ap (λ b. b.held) handed_is), size);
+      taken = (
+        t.0 ++ take n old,
+        piece_taken a (left g.R.Read.remaining c.pieces.source.held c.pieces.input) z d t.0 n old
+            c.advance.new.self.held t.1 c.in_ok-top_up.ensures.bytes refl (ap (λ b. b.held) handed_is),
+        size,
+      );
       falls = omega (arith, ap (λ b. length b.held) handed_is, length-drop n old, c.in_ok-top_up.ensures.falls, c.pieces.invariant.falls);
     }

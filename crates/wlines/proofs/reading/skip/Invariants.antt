@@ -11,7 +11,8 @@ invariant-pieces g l = record {
   says : Says (sent g.W.Write.contents l.initial.outbox l.initial.output) (sent g.W.Write.contents l.outbox l.output) [];
   owed : l.outbox.is_answered ≡ l.initial.outbox.is_answered;
   short : l.count ≤ l.len;
-  taken : (taken : List ℕ) × Consumes (left g.R.Read.remaining l.initial.source.held l.initial.input) (left g.R.Read.remaining l.source.held l.input) taken × (length taken ≡ l.count);
+  taken : (taken : List ℕ) × Consumes (left g.R.Read.remaining l.initial.source.held l.initial.input)
+      (left g.R.Read.remaining l.source.held l.input) taken × (length taken ≡ l.count);
   falls : budget l.source.held l.input + l.count ≤ budget l.initial.source.held l.initial.input;
 }
 

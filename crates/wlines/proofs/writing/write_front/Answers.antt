@@ -18,5 +18,6 @@ loop-written-preserved g c =
     record {
       within = omega (arith, c.in-Ok.ensures.bound, length-take (length xs - w) (drop w xs), length-drop w xs);
       sound = record { reads = omega (arith, c.write.ensures.reads); failures = omega (arith, kept) };
-      appended = subst (Appends a d) joined (Appends-trans a (g.W.Write.contents c.loop-written.output.inner) d (take w xs) (take n piece) c.loop-written.invariant.appended c.in-Ok.ensures.bytes);
+      appended = subst (Appends a d) joined (Appends-trans a (g.W.Write.contents c.loop-written.output.inner) d (take w xs)
+          (take n piece) c.loop-written.invariant.appended c.in-Ok.ensures.bytes);
     }

@@ -8,4 +8,5 @@ returns c = sym (passes_end is_nonzero c.args.list.now c.args.place c.if-place-l
 
 pub returns-then-place-list : goal.returns-then-place-list
 returns-then-place-list c =
-    c.is_nonzero.ensures ∙ sym (passes_here is_nonzero c.args.list.now c.args.place c.index-list-place.result c.if-place-list.true c.index-list-place.is)
+    c.is_nonzero.ensures ∙ sym (passes_here is_nonzero c.args.list.now c.args.place c.index-list-place.result
+    c.if-place-list.true c.index-list-place.is)

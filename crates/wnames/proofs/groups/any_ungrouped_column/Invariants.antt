@@ -7,4 +7,5 @@ use Rattle.wnames.specs.Groups.{is_ungrouped_column}
 use Rattle.wnames.proofs.groups.any_ungrouped_column.Given as goal
 
 abbrev pub invariant-columns : goal.invariant-columns
-invariant-columns l = list_any (is_ungrouped_column (all_columns (scope_clauses l.scope).grouping)) (all_titled l.columns) ≡ list_any (is_ungrouped_column (all_columns (scope_clauses l.scope).grouping)) (all_titled (drop l.column-index l.columns))
+invariant-columns l = list_any (is_ungrouped_column (all_columns (scope_clauses l.scope).grouping)) (all_titled l.columns)
+    ≡ list_any (is_ungrouped_column (all_columns (scope_clauses l.scope).grouping)) (all_titled (drop l.column-index l.columns))

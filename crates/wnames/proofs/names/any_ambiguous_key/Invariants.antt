@@ -7,4 +7,7 @@ use Rattle.wnames.specs.Names.{is_ambiguous_key}
 use Rattle.wnames.proofs.names.any_ambiguous_key.Given as goal
 
 abbrev pub invariant-keys : goal.invariant-keys
-invariant-keys l = list_any (λ (k : KeyTree). is_ambiguous_key (scope_columns l.scope) (written_out (scope_columns l.scope) (scope_clauses l.scope).items) k.expression) (map view_key l.order) ≡ list_any (λ (k : KeyTree). is_ambiguous_key (scope_columns l.scope) (written_out (scope_columns l.scope) (scope_clauses l.scope).items) k.expression) (map view_key (drop l.key-index l.order))
+invariant-keys l = list_any (λ (k : KeyTree). is_ambiguous_key (scope_columns l.scope) (written_out (scope_columns l.scope)
+    (scope_clauses l.scope).items) k.expression) (map view_key l.order)
+    ≡ list_any (λ (k : KeyTree). is_ambiguous_key (scope_columns l.scope) (written_out (scope_columns l.scope)
+    (scope_clauses l.scope).items) k.expression) (map view_key (drop l.key-index l.order))

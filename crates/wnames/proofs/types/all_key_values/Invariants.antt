@@ -5,4 +5,5 @@ use Rattle.wnames.specs.Types.{all_keys, is_value}
 use Rattle.wnames.proofs.types.all_key_values.Given as goal
 
 abbrev pub invariant-keys : goal.invariant-keys
-invariant-keys l = all_keys (is_value (all_titled l.columns)) (keys (view_keys l.order)) ≡ all_keys (is_value (all_titled l.columns)) (keys (view_keys (drop l.key-index l.order)))
+invariant-keys l = all_keys (is_value (all_titled l.columns)) (keys (view_keys l.order))
+    ≡ all_keys (is_value (all_titled l.columns)) (keys (view_keys (drop l.key-index l.order)))

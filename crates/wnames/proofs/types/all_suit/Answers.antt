@@ -9,8 +9,10 @@ links-init c = all_linked _ NoLinks (map view_link c.args.links.now)
 
 pub links-preserved : goal.links-preserved
 links-preserved c =
-    c.links.invariant ∙ branch_step _ _ _ c.link-item.result c.links-test.true c.link-item.is ∙ and_second _ _ (sym c.suits.ensures ∙ c.if-not-suits.false)
+    c.links.invariant ∙ branch_step _ _ _ c.link-item.result c.links-test.true c.link-item.is
+    ∙ and_second _ _ (sym c.suits.ensures ∙ c.if-not-suits.false)
 
 pub returns-then-not-suits : goal.returns-then-not-suits
 returns-then-not-suits c =
-    sym (c.links.invariant ∙ branch_step _ _ _ c.link-item.result c.links-test.true c.link-item.is ∙ and_first _ _ (sym c.suits.ensures ∙ c.if-not-suits.true))
+    sym (c.links.invariant ∙ branch_step _ _ _ c.link-item.result c.links-test.true c.link-item.is
+    ∙ and_first _ _ (sym c.suits.ensures ∙ c.if-not-suits.true))

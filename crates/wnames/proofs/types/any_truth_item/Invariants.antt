@@ -6,4 +6,5 @@ use Rattle.wnames.specs.Types.{is_truth_item}
 use Rattle.wnames.proofs.types.any_truth_item.Given as goal
 
 abbrev pub invariant-items : goal.invariant-items
-invariant-items l = list_any (is_truth_item (all_titled l.columns)) (map view_item l.items) ≡ list_any (is_truth_item (all_titled l.columns)) (map view_item (drop l.item-index l.items))
+invariant-items l = list_any (is_truth_item (all_titled l.columns)) (map view_item l.items)
+    ≡ list_any (is_truth_item (all_titled l.columns)) (map view_item (drop l.item-index l.items))

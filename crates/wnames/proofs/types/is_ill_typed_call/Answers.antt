@@ -5,4 +5,6 @@ use Rattle.wnames.proofs.types.is_ill_typed_call.Goals as goal
 
 pub returns : goal.returns
 returns c =
-    c.is_one_false.ensures ∙ typed_call (all_titled c.args.columns.now) c.args.call.now c.as_str.result.now c.function_of-function.result c.are_typed.result c.is_filter_typed.result c.is_over_typed.result c.function_of-function.ensures c.as_str.ensures.value c.are_typed.ensures c.is_filter_typed.ensures c.is_over_typed.ensures
+    c.is_one_false.ensures ∙ typed_call (all_titled c.args.columns.now) c.args.call.now c.as_str.result.now
+    c.function_of-function.result c.are_typed.result c.is_filter_typed.result c.is_over_typed.result
+    c.function_of-function.ensures c.as_str.ensures.value c.are_typed.ensures c.is_filter_typed.ensures c.is_over_typed.ensures

@@ -5,5 +5,6 @@ use Rattle.wplaces.proofs.tiles.ntile.Goals as goal
 
 pub returns : goal.returns
 returns c =
-    column c.collect.result c.args.frames.now c.count.result (tile_of (length c.args.frames.now.keys) c.args.tiles) (tile_of (length c.args.frames.now.keys) c.args.tiles) c.collect.ensures.ran (cc) c.map.ensures.closure c.count.ensures.count
+    column c.collect.result c.args.frames.now c.count.result (tile_of (length c.args.frames.now.keys) c.args.tiles)
+    (tile_of (length c.args.frames.now.keys) c.args.tiles) c.collect.ensures.ran (cc) c.map.ensures.closure c.count.ensures.count
     (λ x r q k. search (rules, tests)) (λ j h. refl)

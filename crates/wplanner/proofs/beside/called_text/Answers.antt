@@ -15,7 +15,8 @@ returns-in_err-answers c =
     let p = err_from_is_err_and c.from_residual.result c.from_residual.ensures.1 in
     let view : Vec Cells Global → List (List Row) = λ answers. map rows_in answers.items in
     rw (p.1, p.2)
-    (called_fails (select_plan c.args.select.now) c.args.places.now c.requires.reads view (λ (bytes : Vec ℕ Global). bytes.items) c.in_err-answers.field-0.0 (rows_seen c.args.rows.now) c.requires.sound
+    (called_fails (select_plan c.args.select.now) c.args.places.now c.requires.reads view
+    (λ (bytes : Vec ℕ Global). bytes.items) c.in_err-answers.field-0.0 (rows_seen c.args.rows.now) c.requires.sound
     (rw (c.deref.ensures.value, c.deref-2.ensures.value) at c.in_err-answers.ensures.answers))
 
 pub returns : goal.returns
@@ -27,5 +28,7 @@ returns c =
     ap (λ l. beside rows (columns_of_calls answers (map call_plan l))) (sym c.deref-4.ensures.value)
     ∙ ap (λ l. beside rows (columns_of_calls (map rows_in l) (map call_plan c.deref-4.result.now))) (sym c.deref-3.ensures.value)
     ∙ ap (beside rows) (sym c.in_ok-columns.ensures) ∙ ap (λ l. beside rows (rows_seen l)) (sym c.deref-5.ensures.value) in
-    let answered : columns_from rows s.calls 0 s.windows ≡ Ok answers = rw (c.deref.ensures.value, c.deref-2.ensures.value) at c.in_ok-answers.ensures.answers in
-    called_gives s c.args.places.now c.requires.reads rows answers c.in_ok-bytes.bytes.items c.requires.sound answered (ap (λ l. text_in s (items_of s l)) same ∙ c.in_ok-bytes.ensures)
+    let answered : columns_from rows s.calls 0 s.windows ≡ Ok answers =
+    rw (c.deref.ensures.value, c.deref-2.ensures.value) at c.in_ok-answers.ensures.answers in
+    called_gives s c.args.places.now c.requires.reads rows answers c.in_ok-bytes.bytes.items c.requires.sound answered
+    (ap (λ l. text_in s (items_of s l)) same ∙ c.in_ok-bytes.ensures)

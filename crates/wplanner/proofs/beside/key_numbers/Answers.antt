@@ -20,7 +20,8 @@ returns-in_err-cells c =
     let rows = rows_seen c.args.rows.now in
     let view : Vec Value Global → List (List Meaning) = λ cells. laid (length c.deref-3.result.now) (length c.args.rows.now) cells.items in
     let fault = c.in_err-cells.field-0.0 in
-    let keys : formulas_seen c.deref-3.result.now ≡ map (λ k. k.value) s.keys = ap formulas_seen c.deref-3.ensures.value ∙ c.in_ok-keys.ensures.values ∙ ap (λ xs. map (λ k. k.value) (map key_plan xs)) c.deref.ensures.value in
+    let keys : formulas_seen c.deref-3.result.now ≡ map (λ k. k.value) s.keys = ap formulas_seen c.deref-3.ensures.value
+    ∙ c.in_ok-keys.ensures.values ∙ ap (λ xs. map (λ k. k.value) (map key_plan xs)) c.deref.ensures.value in
     let P : List Formula → Type 0 = λ ts. Gives view (Err fault) (lists_of ts rows) in
     rw (p.1, p.2) (keys_fail s.keys view (λ (numbers : Vec ℕ Global). numbers.items) fault rows (subst P keys c.in_err-cells.ensures.gives))
 
@@ -32,9 +33,13 @@ returns c =
     let cells = c.in_ok-cells.cells.items in
     let wide = length c.deref-3.result.now in
     let sorts = c.deref-5.result.now in
-    let keys : formulas_seen c.deref-3.result.now ≡ map (λ k. k.value) s.keys = ap formulas_seen c.deref-3.ensures.value ∙ c.in_ok-keys.ensures.values ∙ ap (λ xs. map (λ k. k.value) (map key_plan xs)) c.deref.ensures.value in
-    let orders : sorts ≡ map (λ k. k.order) s.keys = c.deref-5.ensures.value ∙ c.in_ok-order.ensures.orders ∙ ap (λ xs. map (λ k. k.order) (map key_plan xs)) c.deref-2.ensures.value in
-    let long : length sorts ≡ wide = ap length c.deref-5.ensures.value ∙ c.in_ok-order.ensures.len ∙ ap length c.deref-2.ensures.value ∙ sym (ap length c.deref.ensures.value) ∙ sym c.in_ok-keys.ensures.len ∙ sym (ap length c.deref-3.ensures.value) in
+    let keys : formulas_seen c.deref-3.result.now ≡ map (λ k. k.value) s.keys = ap formulas_seen c.deref-3.ensures.value
+    ∙ c.in_ok-keys.ensures.values ∙ ap (λ xs. map (λ k. k.value) (map key_plan xs)) c.deref.ensures.value in
+    let orders : sorts ≡ map (λ k. k.order) s.keys = c.deref-5.ensures.value ∙ c.in_ok-order.ensures.orders
+    ∙ ap (λ xs. map (λ k. k.order) (map key_plan xs)) c.deref-2.ensures.value in
+    let long : length sorts ≡ wide = ap length c.deref-5.ensures.value ∙ c.in_ok-order.ensures.len
+    ∙ ap length c.deref-2.ensures.value ∙ sym (ap length c.deref.ensures.value) ∙ sym c.in_ok-keys.ensures.len
+    ∙ sym (ap length c.deref-3.ensures.value) in
     numbers_are s.keys rows (laid wide n cells) c.in_ok-numbers.numbers.items
     (ap (λ ts. lists_of ts rows) (sym keys) ∙ c.in_ok-cells.ensures.gives)
     (c.in_ok-numbers.ensures.order

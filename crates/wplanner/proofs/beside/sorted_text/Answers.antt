@@ -13,7 +13,8 @@ returns-in_err-numbers c =
     let p = err_from_is_err_and c.from_residual.result c.from_residual.ensures.1 in
     let view : Vec ℕ Global → List ℕ = λ numbers. numbers.items in
     rw (p.1, p.2)
-    (sorted_fails (select_plan c.args.select.now) c.args.places.now c.requires.reads view view c.in_err-numbers.field-0.0 (rows_seen c.args.rows.now) c.requires.sound c.requires.unwindowed c.in_err-numbers.ensures)
+    (sorted_fails (select_plan c.args.select.now) c.args.places.now c.requires.reads view view c.in_err-numbers.field-0.0
+    (rows_seen c.args.rows.now) c.requires.sound c.requires.unwindowed c.in_err-numbers.ensures)
 
 pub returns : goal.returns
 returns c =
@@ -21,5 +22,7 @@ returns c =
     let s = select_plan select in
     let ps = c.args.places.now in
     let rows = rows_seen c.args.rows.now in
-    sorted_is s ps c.requires.reads rows c.in_ok-numbers.numbers.items c.in_ok-bytes.bytes.items c.requires.sound c.requires.unwindowed c.in_ok-numbers.ensures
-    (c.in_ok-bytes.ensures ∙ ap (λ l. table_text (map (λ o. o.name) s.items) (map (values_at ps) (map (row_beside rows []) (cut select.offset select.limit l)))) c.deref.ensures.value)
+    sorted_is s ps c.requires.reads rows c.in_ok-numbers.numbers.items c.in_ok-bytes.bytes.items c.requires.sound
+    c.requires.unwindowed c.in_ok-numbers.ensures
+    (c.in_ok-bytes.ensures ∙ ap (λ l. table_text (map (λ o. o.name) s.items)
+    (map (values_at ps) (map (row_beside rows []) (cut select.offset select.limit l)))) c.deref.ensures.value)

@@ -20,8 +20,13 @@ returns c =
     let from = c.at_most-from.result in
     let count = c.limited.result in
     let named : List (List ℕ) = map (λ o. o.name) (select_plan select).items in
-    let names : map rc_str_bytes c.deref-2.result.now ≡ named = ap (map rc_str_bytes) c.deref-2.ensures.value ∙ c.in_ok-names.ensures.names ∙ ap (λ xs. map (λ o. o.name) (map output_plan xs)) c.deref.ensures.value in
-    let asked : rows_from rows columns from count ≡ cut select.offset select.limit (beside rows columns) = standing_are rows columns select.offset select.limit (length c.args.rows.now) from count (sym (length-map c.args.rows.now row_seen)) c.at_most-from.ensures.value c.limited.ensures.value in
-    IfOk-weaker c.print_rows.result (λ (bytes : Vec ℕ Global). bytes.items ≡ table_text (map rc_str_bytes c.deref-2.result.now) (map (values_at ps) (rows_from rows columns from count)))
+    let names : map rc_str_bytes c.deref-2.result.now ≡ named = ap (map rc_str_bytes) c.deref-2.ensures.value
+    ∙ c.in_ok-names.ensures.names ∙ ap (λ xs. map (λ o. o.name) (map output_plan xs)) c.deref.ensures.value in
+    let asked : rows_from rows columns from count ≡ cut select.offset select.limit (beside rows columns) =
+    standing_are rows columns select.offset select.limit (length c.args.rows.now) from count
+    (sym (length-map c.args.rows.now row_seen)) c.at_most-from.ensures.value c.limited.ensures.value in
+    IfOk-weaker c.print_rows.result (λ (bytes : Vec ℕ Global). bytes.items
+    ≡ table_text (map rc_str_bytes c.deref-2.result.now) (map (values_at ps) (rows_from rows columns from count)))
     (λ (bytes : Vec ℕ Global). bytes.items ≡ table_text named (map (values_at ps) (cut select.offset select.limit (beside rows columns))))
-    (λ bytes h. h ∙ ap (λ n. table_text n (map (values_at ps) (rows_from rows columns from count))) names ∙ ap (λ l. table_text named (map (values_at ps) l)) asked) c.print_rows.ensures
+    (λ bytes h. h ∙ ap (λ n. table_text n (map (values_at ps) (rows_from rows columns from count))) names
+    ∙ ap (λ l. table_text named (map (values_at ps) l)) asked) c.print_rows.ensures

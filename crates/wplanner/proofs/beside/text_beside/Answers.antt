@@ -20,7 +20,8 @@ returns-in-None c =
     let ps = c.args.places.now in
     let rows = rows_seen c.args.rows.now in
     let columns = rows_seen c.args.columns.now in
-    IfOk-weaker c.standing_text.result (λ (bytes : Vec ℕ Global). bytes.items ≡ table_text (map (λ o. o.name) s.items) (map (values_at ps) (cut select.offset select.limit (beside rows columns))))
+    IfOk-weaker c.standing_text.result (λ (bytes : Vec ℕ Global). bytes.items ≡ table_text (map (λ o. o.name) s.items)
+    (map (values_at ps) (cut select.offset select.limit (beside rows columns))))
     (λ (bytes : Vec ℕ Global). text_in s (items_of s (beside rows columns)) ≡ Ok bytes.items)
     (λ bytes h. standing_is s ps c.requires.reads rows columns bytes.items (c.requires.standing c.in-None.is) h) c.standing_text.ensures
 
@@ -31,8 +32,12 @@ returns-in-Some c =
     let ps = c.args.places.now in
     let rows = rows_seen c.args.rows.now in
     let columns = rows_seen c.args.columns.now in
-    let presorted = some_presorted (λ (numbers : Vec ℕ Global). by_keys s.keys columns rows ≡ Ok numbers.items) c.args.presorted.now c.in-Some.numbers c.in-Some.is c.requires.presorted in
-    IfOk-weaker c.picked_text.result (λ (bytes : Vec ℕ Global). bytes.items ≡ table_text (map (λ o. o.name) s.items) (map (values_at ps) (map (row_beside rows columns) (cut select.offset select.limit c.deref.result.now))))
+    let presorted = some_presorted (λ (numbers : Vec ℕ Global). by_keys s.keys columns rows ≡ Ok numbers.items)
+    c.args.presorted.now c.in-Some.numbers c.in-Some.is c.requires.presorted in
+    IfOk-weaker c.picked_text.result (λ (bytes : Vec ℕ Global). bytes.items ≡ table_text (map (λ o. o.name) s.items)
+    (map (values_at ps) (map (row_beside rows columns) (cut select.offset select.limit c.deref.result.now))))
     (λ (bytes : Vec ℕ Global). text_in s (items_of s (beside rows columns)) ≡ Ok bytes.items)
     (λ bytes h. presorted_is s ps c.requires.reads rows columns c.in-Some.numbers.items bytes.items presorted
-    (h ∙ ap (λ l. table_text (map (λ o. o.name) s.items) (map (values_at ps) (map (row_beside rows columns) (cut select.offset select.limit l)))) c.deref.ensures.value)) c.picked_text.ensures
+    (h ∙ ap (λ l. table_text (map (λ o. o.name) s.items)
+    (map (values_at ps) (map (row_beside rows columns) (cut select.offset select.limit l)))) c.deref.ensures.value))
+    c.picked_text.ensures

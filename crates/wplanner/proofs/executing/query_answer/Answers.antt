@@ -15,7 +15,8 @@ output_names-requires c = some_select c.args.selects.now c.requires
 
 pub new-requires : goal.new-requires
 new-requires c =
-    table_wide c.args.selects.now c.in_ok-cells.cells.width 0 (map rc_str_bytes c.in_ok-names.names.items) c.requires c.in_ok-names.ensures c.in_ok-cells.ensures.width ∙ length-map c.in_ok-names.names.items rc_str_bytes ∙ sym c.in_ok-names.names.ok.0
+    table_wide c.args.selects.now c.in_ok-cells.cells.width 0 (map rc_str_bytes c.in_ok-names.names.items) c.requires
+    c.in_ok-names.ensures c.in_ok-cells.ensures.width ∙ length-map c.in_ok-names.names.items rc_str_bytes ∙ sym c.in_ok-names.names.ok.0
 
 pub returns-in_err-cells-clause-answer : goal.returns-in_err-cells-clause-answer
 returns-in_err-cells-clause-answer c =
@@ -23,4 +24,5 @@ returns-in_err-cells-clause-answer c =
     rw (p.1, p.2) (then_refused {Y = TableParts} rows_in (λ t. t) c.in_err-cells.field-0.0 _ _ c.in_err-cells.ensures.rows)
 
 pub returns-clause-answer : goal.returns-clause-answer
-returns-clause-answer c = table_given (map select_plan c.args.selects.now) (rows_of_set c.args.set.now) (rows_in c.in_ok-cells.cells) _ c.in_ok-cells.ensures.rows c.in_ok-names.ensures ∙ ap Ok (sym c.new.ensures)
+returns-clause-answer c = table_given (map select_plan c.args.selects.now) (rows_of_set c.args.set.now)
+    (rows_in c.in_ok-cells.cells) _ c.in_ok-cells.ensures.rows c.in_ok-names.ensures ∙ ap Ok (sym c.new.ensures)

@@ -11,5 +11,7 @@ pub referenced_text-requires-clause-order : goal.referenced_text-requires-clause
 referenced_text-requires-clause-order c =
     let segments = live_rows c.args.set.now in
     let plans = map key_plan c.args.select.now.keys.items in
-    let ordered = some_presorted (λ (refs : Vec RowRef Global). (columns : List (List Meaning)) → IsOrderFor segments (by_keys plans columns) refs.items) c.args.orders.now.keys c.in-Some.refs c.in-Some.is c.requires.orders.keys in
+    let ordered = some_presorted (λ (refs : Vec RowRef Global). (columns : List (List Meaning))
+    → IsOrderFor segments (by_keys plans columns) refs.items) c.args.orders.now.keys c.in-Some.refs c.in-Some.is
+    c.requires.orders.keys in
     subst (IsOrderFor segments (by_keys plans [])) (sym c.deref.ensures.value) (ordered [])

@@ -7,10 +7,14 @@ use Rattle.wplanner.proofs.parts.item_values.Goals as goal
 
 pub loop-item-preserved : goal.loop-item-preserved
 loop-item-preserved c =
-    listed_more output_plan (λ o. o.value) c.args.items.now c.loop-item.item-index c.item-item.result _ _ c.loop-item-test.true c.item-item.is c.loop-item.invariant (ap formulas_seen c.in_ok-push.ensures.items ∙ map-append formula_seen c.loop-item.values.items (_ ∷ []))
+    listed_more output_plan (λ o. o.value) c.args.items.now c.loop-item.item-index c.item-item.result _ _
+    c.loop-item-test.true c.item-item.is c.loop-item.invariant (ap formulas_seen c.in_ok-push.ensures.items
+    ∙ map-append formula_seen c.loop-item.values.items (_ ∷ []))
 
 pub returns-clause-values : goal.returns-clause-values
-returns-clause-values c = listed_all output_plan (λ o. o.value) c.args.items.now c.loop-item.item-index _ c.loop-item-test.false c.loop-item.invariant
+returns-clause-values c = listed_all output_plan (λ o. o.value) c.args.items.now c.loop-item.item-index _
+    c.loop-item-test.false c.loop-item.invariant
 
 pub returns-clause-len : goal.returns-clause-len
-returns-clause-len c = sym (length-map c.loop-item.values.items formula_seen) ∙ listed_long output_plan (λ o. o.value) c.args.items.now _ (returns-clause-values c)
+returns-clause-len c = sym (length-map c.loop-item.values.items formula_seen) ∙ listed_long output_plan (λ o. o.value)
+    c.args.items.now _ (returns-clause-values c)

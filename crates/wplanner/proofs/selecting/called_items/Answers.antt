@@ -19,7 +19,8 @@ returns-in_err-answers-clause-rows c =
     let view : Vec Cells Global → List (List Row) = λ answers. map rows_in answers.items in
     let P : Result (List Row) AnswerFault → Type 0 = λ meant. Gives rows_in c.from_residual.result meant in
     subst P (sym (called_is s (rows_seen c.args.rows.now) c.requires.sound))
-    (rw (p.1, p.2) (then_refused view rows_in c.in_err-answers.field-0.0 _ _ (rw (c.deref.ensures.value, c.deref-2.ensures.value) at c.in_err-answers.ensures.answers)))
+    (rw (p.1, p.2) (then_refused view rows_in c.in_err-answers.field-0.0 _ _
+    (rw (c.deref.ensures.value, c.deref-2.ensures.value) at c.in_err-answers.ensures.answers)))
 
 pub returns-clause-rows : goal.returns-clause-rows
 returns-clause-rows c =
@@ -31,5 +32,8 @@ returns-clause-rows c =
     ap (λ l. beside rows (rows_seen l)) c.deref-5.ensures.value ∙ ap (beside rows) c.in_ok-columns.ensures
     ∙ ap (λ l. beside rows (columns_of_calls (map rows_in l) (map call_plan c.deref-4.result.now))) c.deref-3.ensures.value
     ∙ ap (λ l. beside rows (columns_of_calls answers (map call_plan l))) c.deref-4.ensures.value in
-    let answered : columns_from rows s.calls 0 s.windows ≡ Ok answers = rw (c.deref.ensures.value, c.deref-2.ensures.value) at c.in_ok-answers.ensures.answers in
-    subst P (ap (items_of s) same ∙ sym (ap (λ r. r >>= λ answers. items_of s (beside rows (columns_of_calls answers s.calls))) answered) ∙ sym (called_is s rows c.requires.sound)) c.items_beside_by.ensures.rows
+    let answered : columns_from rows s.calls 0 s.windows ≡ Ok answers =
+    rw (c.deref.ensures.value, c.deref-2.ensures.value) at c.in_ok-answers.ensures.answers in
+    subst P (ap (items_of s) same ∙ sym (ap
+    (λ r. r >>= λ answers. items_of s (beside rows (columns_of_calls answers s.calls))) answered)
+    ∙ sym (called_is s rows c.requires.sound)) c.items_beside_by.ensures.rows

@@ -10,7 +10,11 @@ use Rattle.wplanner.proofs.selecting.items_beside.Goals as goal
 pub returns-clause-rows : goal.returns-clause-rows
 returns-clause-rows c =
     let P : Result (List Row) AnswerFault → Type 0 = λ meant. Gives rows_in c.joined_items.result meant in
-    subst P (items_from c.args.select.now (formulas_seen c.deref-4.result.now) (formulas_seen c.deref-5.result.now) c.deref-6.result.now (beside (rows_seen c.args.rows.now) (rows_seen c.args.columns.now))
-    (ap formulas_seen c.deref-4.ensures.value ∙ c.in_ok-items.ensures.values ∙ ap (λ xs. map (λ o. o.value) (map output_plan xs)) c.deref.ensures.value)
-    (ap formulas_seen c.deref-5.ensures.value ∙ c.in_ok-keys.ensures.values ∙ ap (λ xs. map (λ k. k.value) (map key_plan xs)) c.deref-2.ensures.value)
-    (c.deref-6.ensures.value ∙ c.in_ok-order.ensures.orders ∙ ap (λ xs. map (λ k. k.order) (map key_plan xs)) c.deref-3.ensures.value)) (rw (c.asked_of-asked.ensures.offset, c.asked_of-asked.ensures.limit) at c.joined_items.ensures.rows)
+    subst P (items_from c.args.select.now (formulas_seen c.deref-4.result.now) (formulas_seen c.deref-5.result.now)
+    c.deref-6.result.now (beside (rows_seen c.args.rows.now) (rows_seen c.args.columns.now))
+    (ap formulas_seen c.deref-4.ensures.value ∙ c.in_ok-items.ensures.values
+    ∙ ap (λ xs. map (λ o. o.value) (map output_plan xs)) c.deref.ensures.value)
+    (ap formulas_seen c.deref-5.ensures.value ∙ c.in_ok-keys.ensures.values
+    ∙ ap (λ xs. map (λ k. k.value) (map key_plan xs)) c.deref-2.ensures.value)
+    (c.deref-6.ensures.value ∙ c.in_ok-order.ensures.orders ∙ ap (λ xs. map (λ k. k.order) (map key_plan xs))
+    c.deref-3.ensures.value)) (rw (c.asked_of-asked.ensures.offset, c.asked_of-asked.ensures.limit) at c.joined_items.ensures.rows)

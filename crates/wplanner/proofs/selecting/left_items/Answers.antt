@@ -13,4 +13,6 @@ pub returns-then-is_empty-clause-rows : goal.returns-then-is_empty-clause-rows
 returns-then-is_empty-clause-rows c =
     let windows = c.args.select.now.windows.items in
     let P : Result (List Row) AnswerFault → Type 0 = λ meant. Gives rows_in c.items_by.result meant in
-    subst P (sym (no_calls (select_plan c.args.select.now) (rows_seen c.args.rows.now) (length-map windows window_plan ∙ none_there c.args.select.now.windows.len windows c.args.select.now.windows.ok.0 c.if-is_empty.ensures) c.requires.sound)) c.items_by.ensures.rows
+    subst P (sym (no_calls (select_plan c.args.select.now) (rows_seen c.args.rows.now) (length-map windows window_plan
+    ∙ none_there c.args.select.now.windows.len windows c.args.select.now.windows.ok.0 c.if-is_empty.ensures)
+    c.requires.sound)) c.items_by.ensures.rows

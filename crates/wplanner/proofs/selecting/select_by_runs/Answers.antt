@@ -6,4 +6,5 @@ use Rattle.wplanner.proofs.selecting.select_by_runs.Goals as goal
 
 pub select_ordered-requires-clause-orders : goal.select_ordered-requires-clause-orders
 select_ordered-requires-clause-orders c =
-    subst (λ segments. AreTableOrders segments (map key_plan c.args.select.now.keys.items) c.in_ok-orders.orders) (sym (live_same c.args.set.now c.table_orders.new.set c.in_ok-orders.ensures.same)) c.in_ok-orders.ensures.orders
+    subst (λ segments. AreTableOrders segments (map key_plan c.args.select.now.keys.items) c.in_ok-orders.orders)
+    (sym (live_same c.args.set.now c.table_orders.new.set c.in_ok-orders.ensures.same)) c.in_ok-orders.ensures.orders

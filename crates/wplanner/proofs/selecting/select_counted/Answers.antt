@@ -15,7 +15,8 @@ use Rattle.wplanner.proofs.selecting.select_counted.Goals as goal
 pub returns-in_err-count-clause-rows : goal.returns-in_err-count-clause-rows
 returns-in_err-count-clause-rows c =
     let p = err_from_is_err_and c.from_residual.result c.from_residual.ensures.1 in
-    rw (p.1, p.2) (select_refused (select_plan c.args.select.now) (grouping_plan c.args.grouping.now) (rows_of_set c.args.set.now) c.requires.all c.requires.own rows_in c.in_err-count.field-0.0 c.in_err-count.ensures.refused)
+    rw (p.1, p.2) (select_refused (select_plan c.args.select.now) (grouping_plan c.args.grouping.now)
+    (rows_of_set c.args.set.now) c.requires.all c.requires.own rows_in c.in_err-count.field-0.0 c.in_err-count.ensures.refused)
 
 pub returns-in_err-groups-clause-rows : goal.returns-in_err-groups-clause-rows
 returns-in_err-groups-clause-rows c =
@@ -24,14 +25,19 @@ returns-in_err-groups-clause-rows c =
     let g = grouping_plan c.args.grouping.now in
     let rows = rows_of_set c.args.set.now in
     let fault = c.in_err-groups.field-0.0 in
-    rw (p.1, p.2) (subst (Gives rows_in (Err fault)) (sym (select_counted plan g rows c.requires.all c.requires.own c.in_ok-count.ensures.kept))
-    (then_refused rows_in rows_in fault (group_rows g rows) (λ left. left_items plan left) (c.in_err-groups.ensures.rows rows c.in_ok-count.ensures.count)))
+    rw (p.1, p.2) (subst (Gives rows_in (Err fault))
+    (sym (select_counted plan g rows c.requires.all c.requires.own c.in_ok-count.ensures.kept))
+    (then_refused rows_in rows_in fault (group_rows g rows) (λ left. left_items plan left)
+    (c.in_err-groups.ensures.rows rows c.in_ok-count.ensures.count)))
 
 pub left_items-requires-clause-few : goal.left_items-requires-clause-few
 left_items-requires-clause-few c =
     let groups = c.in_ok-groups.groups in
-    let few : length (rows_in groups) < 2147483648 = groups_few (grouping_plan c.args.grouping.now) (rows_of_set c.args.set.now) (rows_in groups) (c.in_ok-groups.ensures.rows (rows_of_set c.args.set.now) c.in_ok-count.ensures.count) in
-    let same : length c.deref.result.now ≡ length (rows_in groups) = sym (length-map c.deref.result.now row_seen) ∙ ap (λ l. length (rows_seen l)) c.deref.ensures.value ∙ ap length c.in_ok-left.ensures in
+    let few : length (rows_in groups) < 2147483648 =
+    groups_few (grouping_plan c.args.grouping.now) (rows_of_set c.args.set.now) (rows_in groups)
+    (c.in_ok-groups.ensures.rows (rows_of_set c.args.set.now) c.in_ok-count.ensures.count) in
+    let same : length c.deref.result.now ≡ length (rows_in groups) = sym (length-map c.deref.result.now row_seen)
+    ∙ ap (λ l. length (rows_seen l)) c.deref.ensures.value ∙ ap length c.in_ok-left.ensures in
     omega (arith, few, same)
 
 pub returns-clause-rows : goal.returns-clause-rows
@@ -42,5 +48,7 @@ returns-clause-rows c =
     let groups = rows_in c.in_ok-groups.groups in
     let seen : rows_seen c.deref.result.now ≡ groups = ap rows_seen c.deref.ensures.value ∙ c.in_ok-left.ensures in
     subst (Gives rows_in c.left_items.result)
-    (sym (select_counted plan g rows c.requires.all c.requires.own c.in_ok-count.ensures.kept ∙ then_ok groups (group_rows g rows) (λ left. left_items plan left) (c.in_ok-groups.ensures.rows rows c.in_ok-count.ensures.count) ∙ ap (left_items plan) (sym seen)))
+    (sym (select_counted plan g rows c.requires.all c.requires.own c.in_ok-count.ensures.kept
+    ∙ then_ok groups (group_rows g rows) (λ left. left_items plan left)
+    (c.in_ok-groups.ensures.rows rows c.in_ok-count.ensures.count) ∙ ap (left_items plan) (sym seen)))
     c.left_items.ensures.rows

@@ -8,7 +8,8 @@ use Rattle.wplanner.specs.KeptOrders.{with_shared}
 use Rattle.wplanner.proofs.windows.answers_over.Goals as goal
 
 -- at most one order more is kept
-one_more : (later : List ResolvedWindow) (k : KeptOrder) (was kept now : List KeptOrder) → length kept ≤ length was → now ≡ with_shared later k kept → length now ≤ length was + cond (list_any (is_same_order k.window.now) later) 1 0
+one_more : (later : List ResolvedWindow) (k : KeptOrder) (was kept now : List KeptOrder) → length kept ≤ length was
+    → now ≡ with_shared later k kept → length now ≤ length was + cond (list_any (is_same_order k.window.now) later) 1 0
 one_more later k was kept now h e = go (list_any (is_same_order k.window.now) later) e
   where
     go : (b : Bool) → now ≡ cond b (kept ++ (k ∷ [])) kept → length now ≤ length was + cond b 1 0

@@ -7,4 +7,5 @@ use Rattle.wplanner.specs.ByWindow.{column_found}
 use Rattle.wplanner.proofs.windows.call_columns.Given as goal
 
 abbrev pub invariant-loop-number : goal.invariant-loop-number
-invariant-loop-number l = rows_seen l.columns.items ≡ map (λ c. column_found (map rows_in l.answers) (map call_plan l.calls) c (slice_get (map call_plan l.calls) c)) (places l.number)
+invariant-loop-number l = rows_seen l.columns.items ≡ map (λ c. column_found (map rows_in l.answers) (map call_plan l.calls)
+    c (slice_get (map call_plan l.calls) c)) (places l.number)

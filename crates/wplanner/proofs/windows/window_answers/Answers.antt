@@ -16,18 +16,24 @@ made_more false first old new i so_far here =
     omega arith
 
 pub answers_over-requires-clause-window : goal.answers_over-requires-clause-window
-answers_over-requires-clause-window c = sound_window_at c.args.windows.now c.loop-number.number c.index-windows-number.result c.loop-number-test.true c.index-windows-number.is c.requires.windows
+answers_over-requires-clause-window c = sound_window_at c.args.windows.now c.loop-number.number
+    c.index-windows-number.result c.loop-number-test.true c.index-windows-number.is c.requires.windows
 
 pub answers_over-requires-clause-functions : goal.answers_over-requires-clause-functions
-answers_over-requires-clause-functions c = sound_functions (length c.args.windows.now) c.loop-number.number (map call_plan c.args.calls.now) c.requires.calls
+answers_over-requires-clause-functions c = sound_functions (length c.args.windows.now) c.loop-number.number
+    (map call_plan c.args.calls.now) c.requires.calls
 
 pub returns-in-Err-clause-joins : goal.returns-in-Err-clause-joins
 returns-in-Err-clause-joins c =
-    joins_refused (length c.args.rows.now) (map call_plan c.args.calls.now) c.args.windows.now c.loop-number.number c.index-windows-number.result c.loop-number.work.joins c.answers_over.new.work.joins _ c.loop-number-test.true c.index-windows-number.is c.loop-number.invariant.joins c.in-Err.ensures.joins
+    joins_refused (length c.args.rows.now) (map call_plan c.args.calls.now) c.args.windows.now c.loop-number.number
+    c.index-windows-number.result c.loop-number.work.joins c.answers_over.new.work.joins _ c.loop-number-test.true
+    c.index-windows-number.is c.loop-number.invariant.joins c.in-Err.ensures.joins
 
 pub returns-in_err-push-in-Ok-clause-joins : goal.returns-in_err-push-in-Ok-clause-joins
 returns-in_err-push-in-Ok-clause-joins c =
-    joins_refused (length c.args.rows.now) (map call_plan c.args.calls.now) c.args.windows.now c.loop-number.number c.index-windows-number.result c.loop-number.work.joins c.answers_over.new.work.joins _ c.loop-number-test.true c.index-windows-number.is c.loop-number.invariant.joins c.in-Ok.ensures.joins
+    joins_refused (length c.args.rows.now) (map call_plan c.args.calls.now) c.args.windows.now c.loop-number.number
+    c.index-windows-number.result c.loop-number.work.joins c.answers_over.new.work.joins _ c.loop-number-test.true
+    c.index-windows-number.is c.loop-number.invariant.joins c.in-Ok.ensures.joins
 
 pub loop-number-preserved : goal.loop-number-preserved
 loop-number-preserved c =
@@ -35,10 +41,15 @@ loop-number-preserved c =
     let w = c.index-windows-number.result in
     let calls = map call_plan c.args.calls.now in
     record {
-      so_far = window_answered (rows_seen c.args.rows.now) calls ws (map rows_in c.loop-number.answers.items) (map rows_in c.push.new.self.items) c.loop-number.number w (rows_in c.in-Ok.columns) _ c.loop-number-test.true c.index-windows-number.is c.loop-number.invariant.so_far c.in-Ok.ensures.columns
+      so_far = window_answered (rows_seen c.args.rows.now) calls ws (map rows_in c.loop-number.answers.items)
+          (map rows_in c.push.new.self.items) c.loop-number.number w (rows_in c.in-Ok.columns) _ c.loop-number-test.true
+          c.index-windows-number.is c.loop-number.invariant.so_far c.in-Ok.ensures.columns
           (ap (map rows_in) c.in_ok-push-in-Ok.ensures.items ∙ map-append rows_in c.loop-number.answers.items (_ ∷ []));
       kept = c.in-Ok.ensures.kept;
       presorted = c.in-Ok.ensures.presorted;
-      made = made_more _ c.args.work.now.orders c.loop-number.work.orders c.answers_over.new.work.orders c.loop-number.number c.loop-number.invariant.made c.in-Ok.ensures.made;
-      joins = joins_answered (length c.args.rows.now) calls ws c.loop-number.number w c.loop-number.work.joins c.answers_over.new.work.joins _ c.loop-number-test.true c.index-windows-number.is c.loop-number.invariant.joins c.in-Ok.ensures.joins;
+      made = made_more _ c.args.work.now.orders c.loop-number.work.orders c.answers_over.new.work.orders
+          c.loop-number.number c.loop-number.invariant.made c.in-Ok.ensures.made;
+      joins = joins_answered (length c.args.rows.now) calls ws c.loop-number.number w c.loop-number.work.joins
+          c.answers_over.new.work.joins _ c.loop-number-test.true c.index-windows-number.is c.loop-number.invariant.joins
+          c.in-Ok.ensures.joins;
     }

@@ -9,9 +9,13 @@ use Rattle.wplanner.proofs.windows.window_answers.Given as goal
 
 abbrev pub invariant-loop-number : goal.invariant-loop-number
 invariant-loop-number l = record {
-  so_far : columns_from (rows_seen l.rows) (map call_plan l.calls) 0 (map window_plan l.windows) ≡ goes_with (rows_seen l.rows) (map call_plan l.calls) (map rows_in l.answers.items) l.number (map window_plan (drop l.number l.windows));
+  so_far : columns_from (rows_seen l.rows) (map call_plan l.calls) 0 (map window_plan l.windows)
+      ≡ goes_with (rows_seen l.rows) (map call_plan l.calls) (map rows_in l.answers.items) l.number
+      (map window_plan (drop l.number l.windows));
   kept : AreOrdersOf (rows_seen l.rows) l.kept.items;
   presorted : ArePresortedOf (rows_seen l.rows) l.presorted.items;
   made : l.work.orders ≤ l.fn.work.orders + l.number;
-  joins : l.work.joins + most_from (length l.rows) (map call_plan l.calls) l.number (map window_plan (drop l.number l.windows)) ≤ l.fn.work.joins + most_from (length l.rows) (map call_plan l.calls) 0 (map window_plan l.windows);
+  joins : l.work.joins + most_from (length l.rows) (map call_plan l.calls) l.number
+      (map window_plan (drop l.number l.windows)) ≤ l.fn.work.joins + most_from (length l.rows) (map call_plan l.calls) 0
+      (map window_plan l.windows);
 }

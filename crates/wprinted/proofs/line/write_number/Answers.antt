@@ -5,7 +5,14 @@ use Rattle.itoa.proofs.Decimal.{minus_first}
 use Rattle.wprinted.proofs.line.write_number.Goals as goal
 
 pub write_digits-start-requires : goal.write_digits-start-requires
-write_digits-start-requires c = (omega (arith, length-decimal-le 20 c.unsigned_abs-size.result (omega arith) (omega arith) (omega arith)), search rules)
+write_digits-start-requires c = (
+  omega (
+    arith,
+    length-decimal-le 20 c.unsigned_abs-size.result (omega arith) (omega arith)
+        (omega arith),
+  ),
+  search rules,
+)
 
 pub overflow_sub-line : goal.overflow_sub-line
 overflow_sub-line c = omega (arith, length-decimal-le 20 c.unsigned_abs-size.result (omega arith) (omega arith) (omega arith))

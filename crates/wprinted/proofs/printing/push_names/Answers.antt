@@ -9,10 +9,15 @@ use Rattle.wprinted.proofs.printing.push_names.Goals.{then-i-gt0+in_ok-push, els
 pub loop-i-preserved : goal.loop-i-preserved
 loop-i-preserved c =
     let text : RcStr Global → List ℕ = λ name. text_field (rc_str_bytes name) in
-    let pushed = c.in_ok-push_text.ensures ∙ ap (λ bytes. c.if-i-gt0.bytes.items ++ text_field bytes) (c.as_bytes.ensures.value ∙ c.as_str.ensures.value) in
+    let pushed = c.in_ok-push_text.ensures ∙ ap (λ bytes. c.if-i-gt0.bytes.items ++ text_field bytes)
+    (c.as_bytes.ensures.value ∙ c.as_str.ensures.value) in
     elim c.if-i-gt0.branch [
-      | then-i-gt0+in_ok-push w ↦ joined-more 44 text c.args.names.now c.loop-i.i c.index-names-i.result c.args.bytes.now.items c.loop-i.bytes.items c.if-i-gt0.bytes.items c.push_text.new.bytes.items
-          w.if-i-gt0.true c.loop-i-test.true c.index-names-i.is c.loop-i.invariant (ap (λ bytes. bytes.items) w.bytes-is ∙ w.in_ok-push.ensures.items) pushed
-      | else-i-gt0 w ↦ joined-first 44 text c.args.names.now c.loop-i.i c.index-names-i.result c.args.bytes.now.items c.if-i-gt0.bytes.items c.push_text.new.bytes.items
-          (omega (arith, w.if-i-gt0.false)) c.loop-i-test.true c.index-names-i.is (ap (λ bytes. bytes.items) w.bytes-is ∙ c.loop-i.invariant) pushed
+      | then-i-gt0+in_ok-push w ↦ joined-more 44 text c.args.names.now c.loop-i.i c.index-names-i.result
+          c.args.bytes.now.items c.loop-i.bytes.items c.if-i-gt0.bytes.items c.push_text.new.bytes.items
+          w.if-i-gt0.true c.loop-i-test.true c.index-names-i.is c.loop-i.invariant (ap (λ bytes. bytes.items) w.bytes-is
+          ∙ w.in_ok-push.ensures.items) pushed
+      | else-i-gt0 w ↦ joined-first 44 text c.args.names.now c.loop-i.i c.index-names-i.result c.args.bytes.now.items
+          c.if-i-gt0.bytes.items c.push_text.new.bytes.items
+          (omega (arith, w.if-i-gt0.false)) c.loop-i-test.true c.index-names-i.is (ap (λ bytes. bytes.items) w.bytes-is
+          ∙ c.loop-i.invariant) pushed
     ]

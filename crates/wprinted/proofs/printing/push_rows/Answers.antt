@@ -14,6 +14,8 @@ loop-row-preserved g c =
     let ps = c.args.places.now in
     let within : c.loop-row.row < length all = omega (arith, c.loop-row-test.true, c.count-row-end.ensures) in
     let seen = values_of c.row.result in
-    lines-more (map (values_at ps) all) c.loop-row.row (values_at ps seen) c.args.bytes.now.items c.loop-row.bytes.items (line_text (map field_text (values_at ps seen))) c.push_row.new.bytes.items
-    (omega (arith, within, length-map all (values_at ps))) (ap (values_at ps) c.row.ensures ∙ sym (get_or-map (values_at ps) all c.loop-row.row [] [] within)) c.loop-row.invariant refl
+    lines-more (map (values_at ps) all) c.loop-row.row (values_at ps seen) c.args.bytes.now.items c.loop-row.bytes.items
+    (line_text (map field_text (values_at ps seen))) c.push_row.new.bytes.items
+    (omega (arith, within, length-map all (values_at ps))) (ap (values_at ps) c.row.ensures
+    ∙ sym (get_or-map (values_at ps) all c.loop-row.row [] [] within)) c.loop-row.invariant refl
     (c.in_ok-push_row.ensures ∙ ap (λ front. front ++ line_text (map field_text (values_at ps seen))) c.in_ok-look_ahead.ensures)

@@ -7,4 +7,5 @@ use Rattle.wprinted.specs.Printing.{comma, field_text}
 use Rattle.wprinted.proofs.printing.push_values.Given as goal
 
 abbrev pub invariant-loop-i : goal.invariant-loop-i
-invariant-loop-i l = l.bytes.items ≡ l.fn.bytes.items ++ join_with_byte comma (map (λ place. field_text (slice_index_or (values_of l.row) place Null)) (take l.i l.places))
+invariant-loop-i l = l.bytes.items ≡ l.fn.bytes.items ++ join_with_byte comma
+    (map (λ place. field_text (slice_index_or (values_of l.row) place Null)) (take l.i l.places))

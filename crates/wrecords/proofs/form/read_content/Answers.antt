@@ -4,7 +4,8 @@ use Rattle.wrecords.proofs.Words.{origin_no_space, number_no_space}
 use Rattle.wrecords.proofs.form.read_content.Goals as goal
 
 pub returns-in_default-clause-only : goal.returns-in_default-clause-only
-returns-in_default-clause-only c = λ n len is number e. absurd (c.in_default.ensures.only n.origin (decimal n.number ++ (32 ∷ decimal len)) (origin_no_space n is) e)
+returns-in_default-clause-only c = λ n len is number e. absurd (c.in_default.ensures.only n.origin
+    (decimal n.number ++ (32 ∷ decimal len)) (origin_no_space n is) e)
 
 pub returns-in_default-split_word-clause-only : goal.returns-in_default-split_word-clause-only
 returns-in_default-split_word-clause-only c = λ n len is number e.

@@ -7,4 +7,5 @@ use Rattle.wresolve.specs.Selecting.{order_made}
 use Rattle.wresolve.proofs.selecting.build_order.Given as goal
 
 abbrev pub invariant-keys : goal.invariant-keys
-invariant-keys l = map key_plan l.made.items ++ map (order_made (layout_of l.layout) (shown_items l.shown)) (map view_key (drop l.key-index l.order)) ≡ map (order_made (layout_of l.layout) (shown_items l.shown)) (map view_key l.order)
+invariant-keys l = map key_plan l.made.items ++ map (order_made (layout_of l.layout) (shown_items l.shown))
+    (map view_key (drop l.key-index l.order)) ≡ map (order_made (layout_of l.layout) (shown_items l.shown)) (map view_key l.order)

@@ -6,4 +6,5 @@ use Rattle.wresolve.specs.Selecting.{output_made}
 use Rattle.wresolve.proofs.selecting.build_outputs.Given as goal
 
 abbrev pub invariant-shown : goal.invariant-shown
-invariant-shown l = map output_plan l.made.items ++ map (output_made (layout_of l.layout)) (shown_items (drop l.item-index l.shown)) ≡ map (output_made (layout_of l.layout)) (shown_items l.shown)
+invariant-shown l = map output_plan l.made.items ++ map (output_made (layout_of l.layout))
+    (shown_items (drop l.item-index l.shown)) ≡ map (output_made (layout_of l.layout)) (shown_items l.shown)

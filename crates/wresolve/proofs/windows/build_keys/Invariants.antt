@@ -6,4 +6,5 @@ use Rattle.wresolve.specs.Selecting.{keys_made}
 use Rattle.wresolve.proofs.windows.build_keys.Given as goal
 
 abbrev pub invariant-keys : goal.invariant-keys
-invariant-keys l = map key_plan l.made.items ++ keys_made (layout_of l.layout) (keys (view_keys (drop l.key-index l.order))) ≡ keys_made (layout_of l.layout) (keys (view_keys l.order))
+invariant-keys l = map key_plan l.made.items ++ keys_made (layout_of l.layout) (keys (view_keys (drop l.key-index l.order)))
+    ≡ keys_made (layout_of l.layout) (keys (view_keys l.order))

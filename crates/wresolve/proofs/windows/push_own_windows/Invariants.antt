@@ -7,4 +7,6 @@ use Rattle.wresolve.specs.Selecting.{own_windows}
 use Rattle.wresolve.proofs.windows.push_own_windows.Given as goal
 
 abbrev pub invariant-calls : goal.invariant-calls
-invariant-calls l = map window_plan l.windows.items ++ own_windows (layout_of l.layout) (windows_in l.entries) (call_trees (drop l.call-index l.calls)) ≡ map window_plan l.fn.windows.items ++ own_windows (layout_of l.layout) (windows_in l.entries) (call_trees l.calls)
+invariant-calls l = map window_plan l.windows.items ++ own_windows (layout_of l.layout) (windows_in l.entries)
+    (call_trees (drop l.call-index l.calls)) ≡ map window_plan l.fn.windows.items ++ own_windows (layout_of l.layout)
+    (windows_in l.entries) (call_trees l.calls)

@@ -6,4 +6,6 @@ use Rattle.wrows.specs.Picked.{is_text, row_beside}
 use Rattle.wrows.proofs.copied.have_texts.Given as goal
 
 abbrev pub invariant-loop-place : goal.invariant-loop-place
-invariant-loop-place l = l.found ≡ list_any (λ place. list_any (λ i. is_text (value_at (row_beside (rows_seen l.rows) (rows_seen l.columns) i) place)) l.numbers) (take l.place-index l.places)
+invariant-loop-place l = l.found ≡ list_any
+    (λ place. list_any (λ i. is_text (value_at (row_beside (rows_seen l.rows) (rows_seen l.columns) i) place)) l.numbers)
+    (take l.place-index l.places)

@@ -16,7 +16,8 @@ returns-clause-rows c =
     let columns = rows_seen c.args.columns.now in
     let told = c.in_ok-push_rows.ensures
     ∙ ap (λ cells. map meaning cells ++ flat_map (picked places rows columns) numbers) c.in_ok-cells.ensures.items in
-    laid_rows (length places) (picked places rows columns) numbers (picked_wide places rows columns numbers) c.push_rows.new.cells.items told
+    laid_rows (length places) (picked places rows columns) numbers (picked_wide places rows columns numbers)
+    c.push_rows.new.cells.items told
 
 pub returns-clause-laid : goal.returns-clause-laid
 returns-clause-laid c =

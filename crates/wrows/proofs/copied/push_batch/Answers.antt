@@ -13,4 +13,5 @@ push_without_texts-requires-clause-none c =
     let k = c.loop-number.number-index in
     let columns = rows_seen c.args.columns.now in
     ap (λ own. list_any (λ place. is_text (value_at (with_columns own columns (get_or numbers k 0)) place)) places) c.cells_at-own.ensures
-    ∙ none_of_row (λ place i. is_text (value_at (row_beside (rows_seen c.args.rows.now) columns i) place)) places numbers k (omega arith) (sym c.have_texts-some_text.ensures ∙ c.if-some_text.false)
+    ∙ none_of_row (λ place i. is_text (value_at (row_beside (rows_seen c.args.rows.now) columns i) place)) places numbers k
+    (omega arith) (sym c.have_texts-some_text.ensures ∙ c.if-some_text.false)

@@ -6,4 +6,5 @@ use Rattle.wrows.specs.Picked.{picked}
 use Rattle.wrows.proofs.copied.push_batch.Given as goal
 
 abbrev pub invariant-loop-number : goal.invariant-loop-number
-invariant-loop-number l = map meaning l.cells.items ≡ map meaning l.fn.cells.items ++ flat_map (picked l.places (rows_seen l.rows) (rows_seen l.columns)) (take l.number-index l.numbers)
+invariant-loop-number l = map meaning l.cells.items ≡ map meaning l.fn.cells.items ++ flat_map
+    (picked l.places (rows_seen l.rows) (rows_seen l.columns)) (take l.number-index l.numbers)

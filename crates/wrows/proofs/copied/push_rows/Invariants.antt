@@ -6,7 +6,9 @@ use Rattle.wrows.specs.Picked.{picked}
 use Rattle.wrows.proofs.copied.push_rows.Given as goal
 
 abbrev pub invariant-loop-done : goal.invariant-loop-done
-invariant-loop-done l = (l.done ≤ length l.numbers) × (map meaning l.cells.items ≡ map meaning l.fn.cells.items ++ flat_map (picked l.places (rows_seen l.rows) (rows_seen l.columns)) (take l.done l.numbers))
+invariant-loop-done l = (l.done ≤ length l.numbers)
+    × (map meaning l.cells.items ≡ map meaning l.fn.cells.items ++ flat_map (picked l.places (rows_seen l.rows)
+    (rows_seen l.columns)) (take l.done l.numbers))
 
 abbrev pub decreases-loop-done : goal.decreases-loop-done
 decreases-loop-done l = length l.numbers - l.done

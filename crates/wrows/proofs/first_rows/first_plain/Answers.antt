@@ -15,7 +15,8 @@ returns c =
     let all = beside (rows_seen c.args.rows.now) (rows_seen c.args.columns.now) in
     let cells = c.in_ok-cells.cells.items in
     then_ok (laid (length c.args.places.now) n cells) _ (λ by. Ok (take most (numbers_by keys by (length all)))) c.in_ok-cells.ensures.gives
-    ∙ ap (λ k. Ok (take most (numbers_by keys (laid (length c.args.places.now) n cells) k))) (beside_long c.args.rows.now c.args.columns.now)
+    ∙ ap (λ k. Ok (take most (numbers_by keys (laid (length c.args.places.now) n cells) k)))
+    (beside_long c.args.rows.now c.args.columns.now)
     ∙ ap (λ w. Ok (take most (numbers_by keys (laid w n cells) n))) c.requires
     ∙ ap (λ xs. Ok (take most (numbers_by keys (laid (length keys) n xs) n))) (sym c.deref.ensures.value)
     ∙ ap Ok (sym c.in_ok-numbers.ensures)

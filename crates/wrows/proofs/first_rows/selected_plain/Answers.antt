@@ -20,6 +20,7 @@ returns c =
     let all = beside (rows_seen c.args.rows.now) (rows_seen c.args.columns.now) in
     let key = picked c.args.places.now (rows_seen c.args.rows.now) (rows_seen c.args.columns.now) in
     found_is (λ numbers. numbers.items) c.in_ok-found.found (take most (sorted (on key (keys_cmp keys)) (places n))) _ c.in_ok-found.ensures
-    (then_ok (map key (places n)) _ (λ by. Ok (take most (numbers_by keys by (length all)))) (picked_lists c.args.places.now c.args.rows.now c.args.columns.now)
+    (then_ok (map key (places n)) _ (λ by. Ok (take most (numbers_by keys by (length all))))
+    (picked_lists c.args.places.now c.args.rows.now c.args.columns.now)
     ∙ ap (λ k. Ok (take most (numbers_by keys (map key (places n)) k))) (beside_long c.args.rows.now c.args.columns.now)
     ∙ ap (λ l. Ok (take most l)) (sym (sorted_listed keys key n)))

@@ -12,7 +12,8 @@ returns-clause-gives c =
     let n = length c.args.rows.now in
     let all = beside (rows_seen c.args.rows.now) (rows_seen c.args.columns.now) in
     let asked = c.asked_for-from in
-    asked_of_first c.args.order.now c.args.asked.offset c.args.asked.limit n asked.result.0 asked.result.1 asked.ensures.first asked.ensures.count asked.ensures.within
+    asked_of_first c.args.order.now c.args.asked.offset c.args.asked.limit n asked.result.0 asked.result.1
+    asked.ensures.first asked.ensures.count asked.ensures.within
     (formulas_seen c.args.keys.now) all (beside_long c.args.rows.now c.args.columns.now) c.in_ok-first.first.items c.in_ok-first.ensures
     ∙ ap Ok (sym c.in_ok-numbers.ensures)
 
@@ -21,6 +22,8 @@ returns-clause-below c =
     let n = length c.args.rows.now in
     let all = beside (rows_seen c.args.rows.now) (rows_seen c.args.columns.now) in
     let asked = c.asked_for-from in
-    All-same (λ i. i < n) c.in_ok-numbers.numbers.items (cut c.args.asked.offset c.args.asked.limit c.in_ok-first.first.items) c.in_ok-numbers.ensures
-    (asked_below c.args.order.now c.args.asked.offset c.args.asked.limit n asked.result.0 asked.result.1 asked.ensures.first asked.ensures.count asked.ensures.within
+    All-same (λ i. i < n) c.in_ok-numbers.numbers.items (cut c.args.asked.offset c.args.asked.limit
+    c.in_ok-first.first.items) c.in_ok-numbers.ensures
+    (asked_below c.args.order.now c.args.asked.offset c.args.asked.limit n asked.result.0 asked.result.1 asked.ensures.first
+    asked.ensures.count asked.ensures.within
     (formulas_seen c.args.keys.now) all (beside_long c.args.rows.now c.args.columns.now) c.in_ok-first.first.items c.in_ok-first.ensures)

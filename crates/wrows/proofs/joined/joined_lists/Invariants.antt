@@ -9,6 +9,9 @@ use Rattle.wrows.proofs.joined.joined_lists.Given as goal
 
 abbrev pub invariant-loop-number : goal.invariant-loop-number
 invariant-loop-number l = record {
-  in_range : list_any (λ i. list_any (λ t. is_out_of_range t (row_beside (rows_seen l.rows) (rows_seen l.columns) i)) (formulas_seen l.exprs)) (take l.number (places (length l.rows))) ≡ false;
-  so_far : map meaning l.cells.items ≡ flat_map (λ i. map (λ t. value_on t (row_beside (rows_seen l.rows) (rows_seen l.columns) i)) (formulas_seen l.exprs)) (take l.number (places (length l.rows)));
+  in_range : list_any (λ i. list_any (λ t. is_out_of_range t (row_beside (rows_seen l.rows) (rows_seen l.columns) i))
+      (formulas_seen l.exprs)) (take l.number (places (length l.rows))) ≡ false;
+  so_far : map meaning l.cells.items ≡ flat_map
+      (λ i. map (λ t. value_on t (row_beside (rows_seen l.rows) (rows_seen l.columns) i)) (formulas_seen l.exprs))
+      (take l.number (places (length l.rows)));
 }

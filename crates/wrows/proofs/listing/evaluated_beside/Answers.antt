@@ -8,11 +8,14 @@ use Rattle.wrows.proofs.listing.evaluated_beside.Goals as goal
 pub returns-clause-gives : goal.returns-clause-gives
 returns-clause-gives c =
     let is : formulas_seen c.args.exprs.now ≡ map At c.deref.result.now
-    = of_some (λ (places : Vec ℕ Global). formulas_seen c.args.exprs.now ≡ map At places.items) c.in_ok-plain.plain c.in-Some.places c.in-Some.is c.in_ok-plain.ensures.places ∙ ap (map At) (sym c.deref.ensures.value) in
-    plain_told c.args.exprs.now c.deref.result.now (beside (rows_seen c.args.rows.now) (rows_seen c.args.columns.now)) (length c.args.rows.now) c.in_ok-cells.cells.items is c.in_ok-cells.ensures.gives
+    = of_some (λ (places : Vec ℕ Global). formulas_seen c.args.exprs.now ≡ map At places.items) c.in_ok-plain.plain
+    c.in-Some.places c.in-Some.is c.in_ok-plain.ensures.places ∙ ap (map At) (sym c.deref.ensures.value) in
+    plain_told c.args.exprs.now c.deref.result.now (beside (rows_seen c.args.rows.now) (rows_seen c.args.columns.now))
+    (length c.args.rows.now) c.in_ok-cells.cells.items is c.in_ok-cells.ensures.gives
 
 pub returns-clause-laid : goal.returns-clause-laid
 returns-clause-laid c =
     let is : formulas_seen c.args.exprs.now ≡ map At c.deref.result.now
-    = of_some (λ (places : Vec ℕ Global). formulas_seen c.args.exprs.now ≡ map At places.items) c.in_ok-plain.plain c.in-Some.places c.in-Some.is c.in_ok-plain.ensures.places ∙ ap (map At) (sym c.deref.ensures.value) in
+    = of_some (λ (places : Vec ℕ Global). formulas_seen c.args.exprs.now ≡ map At places.items) c.in_ok-plain.plain
+    c.in-Some.places c.in-Some.is c.in_ok-plain.ensures.places ∙ ap (map At) (sym c.deref.ensures.value) in
     c.in_ok-cells.ensures.laid ∙ ap (λ w. length c.args.rows.now * w) (plain_count c.args.exprs.now c.deref.result.now is)

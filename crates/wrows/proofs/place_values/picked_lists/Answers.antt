@@ -15,8 +15,10 @@ loop-row-preserved c =
     let f = picked c.args.places.now (rows_seen c.args.rows.now) (rows_seen c.args.columns.now) in
     let row = c.loop-row.row in
     c.in_ok-push_picked.ensures
-    ∙ ap (λ own. map meaning c.loop-row.cells.items ++ map (value_at (with_columns own (rows_seen c.args.columns.now) row)) c.args.places.now) c.cells_at.ensures
-    ∙ ap (λ l. l ++ f row) c.loop-row.invariant ∙ flat_map_more f [] (places row) row ∙ ap (flat_map f) (sym (places_more 0 row row (omega arith)))
+    ∙ ap (λ own. map meaning c.loop-row.cells.items ++ map (value_at (with_columns own (rows_seen c.args.columns.now) row))
+    c.args.places.now) c.cells_at.ensures
+    ∙ ap (λ l. l ++ f row) c.loop-row.invariant ∙ flat_map_more f [] (places row) row
+    ∙ ap (flat_map f) (sym (places_more 0 row row (omega arith)))
 
 pub returns-clause-gives : goal.returns-clause-gives
 returns-clause-gives c =
@@ -26,7 +28,8 @@ returns-clause-gives c =
     let n : ℕ = length c.args.rows.now in
     let end : c.loop-row.row ≡ n = omega arith in
     let long : length (places n) ≡ n = length-places 0 n in
-    let told = laid_rows (length ps) (picked ps rows columns) (places n) (picked_wide ps rows columns (places n)) c.loop-row.cells.items (c.loop-row.invariant ∙ ap (λ k. flat_map (picked ps rows columns) (places k)) end) in
+    let told = laid_rows (length ps) (picked ps rows columns) (places n) (picked_wide ps rows columns (places n))
+    c.loop-row.cells.items (c.loop-row.invariant ∙ ap (λ k. flat_map (picked ps rows columns) (places k)) end) in
     all_told ps c.args.rows.now c.args.columns.now (places n) c.loop-row.cells.items refl told
 
 pub returns-clause-laid : goal.returns-clause-laid

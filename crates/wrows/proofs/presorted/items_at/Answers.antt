@@ -9,5 +9,7 @@ use Rattle.wrows.proofs.presorted.items_at.Goals as goal
 pub returns-clause-rows : goal.returns-clause-rows
 returns-clause-rows c =
     let is : formulas_seen c.args.items.now ≡ map At c.deref.result.now
-    = of_some (λ (places : Vec ℕ Global). formulas_seen c.args.items.now ≡ map At places.items) c.in_ok-plain.plain c.in-Some.places c.in-Some.is c.in_ok-plain.ensures.places ∙ ap (map At) (sym c.deref.ensures.value) in
-    ap (λ ts. items_at ts c.args.numbers.now (beside (rows_seen c.args.rows.now) (rows_seen c.args.columns.now))) is ∙ c.in_ok-cells.ensures.rows
+    = of_some (λ (places : Vec ℕ Global). formulas_seen c.args.items.now ≡ map At places.items) c.in_ok-plain.plain
+    c.in-Some.places c.in-Some.is c.in_ok-plain.ensures.places ∙ ap (map At) (sym c.deref.ensures.value) in
+    ap (λ ts. items_at ts c.args.numbers.now (beside (rows_seen c.args.rows.now) (rows_seen c.args.columns.now))) is
+    ∙ c.in_ok-cells.ensures.rows

@@ -12,10 +12,13 @@ use Rattle.wrows.proofs.presorted.presorted_items.Goals as goal
 pub items_at-requires : goal.items_at-requires
 items_at-requires c =
     let n = length c.args.rows.now in
-    All-same (λ i. i < n) c.deref.result.now (cut c.args.asked.offset c.args.asked.limit c.args.numbers.items) (c.deref.ensures.value ∙ c.in_ok-taken.ensures)
+    All-same (λ i. i < n) c.deref.result.now (cut c.args.asked.offset c.args.asked.limit c.args.numbers.items)
+    (c.deref.ensures.value ∙ c.in_ok-taken.ensures)
     (cut_below n c.args.asked.offset c.args.asked.limit c.args.numbers.items c.requires)
 
 pub returns-clause-rows : goal.returns-clause-rows
 returns-clause-rows c = λ keys order told.
     let P : Result (List Row) AnswerFault → Type 0 = λ meant. Gives rows_in c.items_at.result meant in
-    subst P (told_is (formulas_seen c.args.items.now) keys order c.args.asked.offset c.args.asked.limit (beside (rows_seen c.args.rows.now) (rows_seen c.args.columns.now)) c.args.numbers.items c.deref.result.now told (c.deref.ensures.value ∙ c.in_ok-taken.ensures)) c.items_at.ensures.rows
+    subst P (told_is (formulas_seen c.args.items.now) keys order c.args.asked.offset c.args.asked.limit
+    (beside (rows_seen c.args.rows.now) (rows_seen c.args.columns.now)) c.args.numbers.items c.deref.result.now told
+    (c.deref.ensures.value ∙ c.in_ok-taken.ensures)) c.items_at.ensures.rows

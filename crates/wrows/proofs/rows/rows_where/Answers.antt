@@ -17,10 +17,12 @@ returns-in_err-holds c =
     let row = row_seen c.row-item.result in
     let rows = rows_seen c.args.rows.now in
     let view : Vec (Bor (List Value)) Global → List Row = λ held. rows_seen held.items in
-    rw (p.1, p.2) (refused_by (λ (b : Bool). b) view c.in_err-holds.field-0.0 (is_out_of_range t row) (list_any (is_out_of_range t) rows) (holds_on t row) (filter (holds_on t) rows) c.in_err-holds.ensures
+    rw (p.1, p.2) (refused_by (λ (b : Bool). b) view c.in_err-holds.field-0.0 (is_out_of_range t row)
+    (list_any (is_out_of_range t) rows) (holds_on t row) (filter (holds_on t) rows) c.in_err-holds.ensures
     (any_of_all (is_out_of_range t) row_seen c.args.rows.now c.loop-row.row-index c.row-item.result c.loop-row-test.true c.row-item.is))
 
 pub returns : goal.returns
 returns c =
     let t = formula c.args.condition.now in
-    kept_all (is_out_of_range t) (holds_on t) row_seen OutOfRange c.args.rows.now c.loop-row.held.items c.loop-row.row-index c.loop-row-test.false c.loop-row.invariant.in_range c.loop-row.invariant.so_far
+    kept_all (is_out_of_range t) (holds_on t) row_seen OutOfRange c.args.rows.now c.loop-row.held.items c.loop-row.row-index
+    c.loop-row-test.false c.loop-row.invariant.in_range c.loop-row.invariant.so_far

@@ -25,7 +25,8 @@ loop-row-preserved c =
     record {
       dealt = c.in_ok-put.ensures.lists ∙ ap (put_in row.segment row.row) c.loop-row.invariant.dealt
           ∙ sym (map_put (λ (r : RowRef). r.row) row.segment row (dealt_by of (take i rows) 0 n))
-          ∙ ap (map (map (λ (r : RowRef). r.row))) (sym (dealt_more of (take i rows) row 0 n row.segment (omega arith) (c.requires.within i none (omega arith))))
+          ∙ ap (map (map (λ (r : RowRef). r.row)))
+          (sym (dealt_more of (take i rows) row 0 n row.segment (omega arith) (c.requires.within i none (omega arith))))
           ∙ ap (λ front. dealt_places front n) (sym (take_more rows i none (omega arith)));
       len = c.in_ok-put.ensures.len ∙ c.loop-row.invariant.len;
     }

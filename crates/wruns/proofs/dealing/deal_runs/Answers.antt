@@ -7,7 +7,8 @@ use Rattle.wruns.proofs.dealing.deal_runs.Goals as goal
 pub runs_dealt-requires : goal.runs_dealt-requires
 runs_dealt-requires c =
     let s = segment_rows c.args.segments.now in
-    c.deref-2.ensures.value ∙ c.in_ok-rows.ensures ∙ ap (map (ref_at (refs s))) c.in_ok-numbers.ensures.order ∙ rows_of_numbers c.args.keys.now s
+    c.deref-2.ensures.value ∙ c.in_ok-rows.ensures ∙ ap (map (ref_at (refs s))) c.in_ok-numbers.ensures.order
+    ∙ rows_of_numbers c.args.keys.now s
 
 pub returns-clause-rows : goal.returns-clause-rows
 returns-clause-rows c =

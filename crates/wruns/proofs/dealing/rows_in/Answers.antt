@@ -8,4 +8,5 @@ pub picked-requires : goal.picked-requires
 picked-requires c =
     let s = segment_rows c.args.table.now.segments.now in
     let long = ap length (c.deref.ensures.value ∙ c.in_ok-all.ensures) in
-    All-same (λ i. i < length c.deref.result.now) c.deref-2.result.now c.args.numbers.items c.deref-2.ensures.value (λ k d h. omega (arith, c.requires k d h, long, refs_count s, c.args.table.now.all))
+    All-same (λ i. i < length c.deref.result.now) c.deref-2.result.now c.args.numbers.items c.deref-2.ensures.value
+    (λ k d h. omega (arith, c.requires k d h, long, refs_count s, c.args.table.now.all))

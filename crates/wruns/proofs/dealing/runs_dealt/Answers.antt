@@ -14,7 +14,8 @@ places_dealt-requires c =
     let segments = c.args.table.now.segments.now in
     let s = segment_rows segments in
     let long = length-map segments (λ (x : Bor Content). x.now.rows) in
-    All-same (λ r. r.segment < length segments) c.args.rows.now (refs_by keys s) c.requires (λ k d h. omega (arith, segments_within keys s k d h, long))
+    All-same (λ r. r.segment < length segments) c.args.rows.now (refs_by keys s) c.requires
+    (λ k d h. omega (arith, segments_within keys s k d h, long))
 
 pub runs_of-requires : goal.runs_of-requires
 runs_of-requires c =

@@ -17,7 +17,8 @@ rows_in-requires-clause-heads c =
 pub rows_in-requires-clause-below : goal.rows_in-requires-clause-below
 rows_in-requires-clause-below c =
     let n = length-map c.args.heads.now (head_row (rows_seen c.args.sources.now)) in
-    All-same (λ i. i < length c.args.heads.now) c.deref.result.now c.in_ok-order.order.items c.deref.ensures.value (λ k d h. omega (arith, c.in_ok-order.ensures.below k d h, n))
+    All-same (λ i. i < length c.args.heads.now) c.deref.result.now c.in_ok-order.order.items c.deref.ensures.value
+    (λ k d h. omega (arith, c.in_ok-order.ensures.below k d h, n))
 
 pub returns : goal.returns
 returns c =
@@ -25,4 +26,5 @@ returns c =
     let keys = c.args.keys.now in
     let has = recursion_from_All (has_keys keys) ss c.requires.keys in
     c.in_ok-refs.ensures ∙ ap (λ hs. flat_map (λ i. group_refs (groups_seen ss) (head_at hs i)) c.deref.result.now) c.requires.heads
-    ∙ groups_in_order keys ss has c.deref.result.now (c.deref.ensures.value ∙ c.in_ok-order.ensures.order ∙ ap (λ hs. run_of keys (map (head_row (rows_seen ss)) hs)) c.requires.heads)
+    ∙ groups_in_order keys ss has c.deref.result.now (c.deref.ensures.value ∙ c.in_ok-order.ensures.order
+    ∙ ap (λ hs. run_of keys (map (head_row (rows_seen ss)) hs)) c.requires.heads)

@@ -9,7 +9,8 @@ use Rattle.wruns.proofs.run.group_ends.Goals as goal
 
 pub loop-place-init : goal.loop-place-init
 loop-place-init c =
-    subst (λ l. AreGrouped c.args.table.now.keys.now c.args.table.now.segment.now.rows c.args.rows.now l 0 1) (sym c.new-ends.ensures.items) (grouped_first c.args.table.now.keys.now c.args.table.now.segment.now.rows c.args.rows.now)
+    subst (λ l. AreGrouped c.args.table.now.keys.now c.args.table.now.segment.now.rows c.args.rows.now l 0 1)
+    (sym c.new-ends.ensures.items) (grouped_first c.args.table.now.keys.now c.args.table.now.segment.now.rows c.args.rows.now)
 
 pub returns-then-len-rows-clause-groups : goal.returns-then-len-rows-clause-groups
 returns-then-len-rows-clause-groups c = single_groups c.args.table.now.keys.now c.args.table.now.segment.now.rows c.args.rows.now
@@ -18,14 +19,18 @@ pub returns-clause-ends : goal.returns-clause-ends
 returns-clause-ends c =
     let rows = c.args.rows.now in
     let some = some_length rows c.if-is_empty.ensures in
-    let end : c.loop-place.place ≡ length rows = omega (arith, c.loop-place-test.false, c.loop-place.auto.place-end, c.loop-place.auto.place, some) in
+    let end : c.loop-place.place ≡ length rows =
+    omega (arith, c.loop-place-test.false, c.loop-place.auto.place-end, c.loop-place.auto.place, some) in
     subst (λ l. AreEnds 0 l (length rows)) (sym c.in_ok-push.ensures.items)
-    (grouped_all c.args.table.now.keys.now c.args.table.now.segment.now.rows rows c.loop-place.ends.items c.loop-place.first c.loop-place.place c.loop-place.invariant end).0
+    (grouped_all c.args.table.now.keys.now c.args.table.now.segment.now.rows rows c.loop-place.ends.items c.loop-place.first
+    c.loop-place.place c.loop-place.invariant end).0
 
 pub returns-clause-groups : goal.returns-clause-groups
 returns-clause-groups c =
     let rows = c.args.rows.now in
     let some = some_length rows c.if-is_empty.ensures in
-    let end : c.loop-place.place ≡ length rows = omega (arith, c.loop-place-test.false, c.loop-place.auto.place-end, c.loop-place.auto.place, some) in
+    let end : c.loop-place.place ≡ length rows =
+    omega (arith, c.loop-place-test.false, c.loop-place.auto.place-end, c.loop-place.auto.place, some) in
     subst (λ l. All (IsGroup c.args.table.now.keys.now c.args.table.now.segment.now.rows) (cut 0 l rows)) (sym c.in_ok-push.ensures.items)
-    (grouped_all c.args.table.now.keys.now c.args.table.now.segment.now.rows rows c.loop-place.ends.items c.loop-place.first c.loop-place.place c.loop-place.invariant end).1
+    (grouped_all c.args.table.now.keys.now c.args.table.now.segment.now.rows rows c.loop-place.ends.items c.loop-place.first
+    c.loop-place.place c.loop-place.invariant end).1

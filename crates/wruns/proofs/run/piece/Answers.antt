@@ -19,4 +19,5 @@ slice_bounds-result-end c = (piece_within c.args.ends.now (length c.args.rows.no
 pub returns : goal.returns
 returns c =
     let ends = c.args.ends.now in
-    ap (λ k. between k (get_or ends c.args.number 0) c.args.rows.now) c.start_of.ensures ∙ sym (piece_is ends c.args.rows.now c.args.number c.requires.number)
+    ap (λ k. between k (get_or ends c.args.number 0) c.args.rows.now) c.start_of.ensures
+    ∙ sym (piece_is ends c.args.rows.now c.args.number c.requires.number)

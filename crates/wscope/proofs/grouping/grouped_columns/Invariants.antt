@@ -4,4 +4,5 @@ use Rattle.wscope.specs.Groups.{lent_columns}
 use Rattle.wscope.proofs.grouping.grouped_columns.Given as goal
 
 abbrev pub invariant-grouping : goal.invariant-grouping
-invariant-grouping l = lent_columns l.made.items ++ all_columns (map view_element (drop l.element-index l.grouping)) ≡ all_columns (map view_element l.grouping)
+invariant-grouping l = lent_columns l.made.items ++ all_columns (map view_element (drop l.element-index l.grouping))
+    ≡ all_columns (map view_element l.grouping)

@@ -4,4 +4,5 @@ use Rattle.wscope.specs.Groups.{lent_columns}
 use Rattle.wscope.proofs.grouping.push_columns.Given as goal
 
 abbrev pub invariant-columns : goal.invariant-columns
-invariant-columns l = lent_columns l.made.items ++ map view_column (drop l.column-index l.columns) ≡ lent_columns l.fn.made.items ++ map view_column l.columns
+invariant-columns l = lent_columns l.made.items ++ map view_column (drop l.column-index l.columns)
+    ≡ lent_columns l.fn.made.items ++ map view_column l.columns

@@ -12,9 +12,12 @@ use Rattle.wscope.proofs.grouping.push_entry.Goals as goal
 pub returns-in-Rollup : goal.returns-in-Rollup
 returns-in-Rollup c =
     subst (λ (l : List Tree). OnOk c.push_parts.result (lent_columns c.push_parts.new.made.items ≡ lent_columns c.args.made.now.items ++ l))
-    (ap (λ (ps : List (Vec Column Global)). flat_map (λ part. part) (map view_part ps)) c.as_slice-in-Rollup.ensures.value ∙ sym (ap (λ (e : GroupEntry). entry_columns (view_group_entry e)) c.in-Rollup.is)) c.push_parts.ensures
+    (ap (λ (ps : List (Vec Column Global)). flat_map (λ part. part) (map view_part ps)) c.as_slice-in-Rollup.ensures.value
+    ∙ sym (ap (λ (e : GroupEntry). entry_columns (view_group_entry e)) c.in-Rollup.is)) c.push_parts.ensures
 
 pub returns-in-Cube : goal.returns-in-Cube
 returns-in-Cube c =
-    subst (λ (l : List Tree). OnOk c.push_parts-in-Cube.result (lent_columns c.push_parts-in-Cube.new.made.items ≡ lent_columns c.args.made.now.items ++ l))
-    (ap (λ (ps : List (Vec Column Global)). flat_map (λ part. part) (map view_part ps)) c.as_slice-in-Cube.ensures.value ∙ sym (ap (λ (e : GroupEntry). entry_columns (view_group_entry e)) c.in-Cube.is)) c.push_parts-in-Cube.ensures
+    subst (λ (l : List Tree). OnOk c.push_parts-in-Cube.result (lent_columns c.push_parts-in-Cube.new.made.items
+    ≡ lent_columns c.args.made.now.items ++ l))
+    (ap (λ (ps : List (Vec Column Global)). flat_map (λ part. part) (map view_part ps)) c.as_slice-in-Cube.ensures.value
+    ∙ sym (ap (λ (e : GroupEntry). entry_columns (view_group_entry e)) c.in-Cube.is)) c.push_parts-in-Cube.ensures

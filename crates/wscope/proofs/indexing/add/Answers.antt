@@ -8,7 +8,10 @@ use Rattle.wscope.proofs.indexing.add.Goals as goal
 
 pub returns : goal.returns
 returns c = λ is type_of known.
-    index_step c.args.called.now c.insert.new.self (all_titled c.args.columns.now) is c.args.name c.with_item-next.result (record { name = c.args.name.now; type = type_of; shown = shown c.args.output }) refl
+    index_step c.args.called.now c.insert.new.self (all_titled c.args.columns.now) is c.args.name c.with_item-next.result
+    (record { name = c.args.name.now; type = type_of; shown = shown c.args.output }) refl
     (c.with_item-next.ensures.first ∙ ap (λ (o : Option Called). first_or (first_of o) (shown c.args.output)) c.get.ensures.value)
-    (c.with_item-next.ensures.ambiguous ∙ ap (λ (o : Option Called). is_told o || not (same_shown (all_titled c.args.columns.now) (shown c.with_item-next.result.first) (shown c.args.output))) c.get.ensures.value)
+    (c.with_item-next.ensures.ambiguous ∙ ap (λ (o : Option Called). is_told o
+    || not (same_shown (all_titled c.args.columns.now) (shown c.with_item-next.result.first) (shown c.args.output)))
+    c.get.ensures.value)
     c.in_ok-insert.ensures.updates known

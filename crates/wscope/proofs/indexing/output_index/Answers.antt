@@ -14,10 +14,15 @@ items-init c = record {
 
 pub items-preserved : goal.items-preserved
 items-preserved c = record {
-  star = c.has_star_by-has_star.ensures ∙ star_step c.args.items.now c.items.item-index c.item-item.result c.items.has_star (is_star (view_item c.item-item.result)) c.items-test.true c.item-item.is c.items.invariant.star refl;
-  index = index_along c.add_item.new.called (all_titled c.args.columns.now) _ _ (ap (written_out (all_titled c.args.columns.now)) (items_more c.args.items.now c.items.item-index c.item-item.result c.items-test.true c.item-item.is))
+  star = c.has_star_by-has_star.ensures ∙ star_step c.args.items.now c.items.item-index c.item-item.result c.items.has_star
+      (is_star (view_item c.item-item.result)) c.items-test.true c.item-item.is c.items.invariant.star refl;
+  index = index_along c.add_item.new.called (all_titled c.args.columns.now) _ _
+      (ap (written_out (all_titled c.args.columns.now)) (items_more c.args.items.now c.items.item-index c.item-item.result
+      c.items-test.true c.item-item.is))
       (c.in_ok-add_item.ensures (map view_item (take c.items.item-index c.args.items.now)) c.items.invariant.star c.items.invariant.index);
 }
 
 pub returns : goal.returns
-returns c = index_along c.items.called (all_titled c.args.columns.now) _ _ (ap (λ (ys : List Item). written_out (all_titled c.args.columns.now) (map view_item ys)) (take_all c.items.item-index c.args.items.now c.items-test.false)) c.items.invariant.index
+returns c = index_along c.items.called (all_titled c.args.columns.now) _ _
+    (ap (λ (ys : List Item). written_out (all_titled c.args.columns.now) (map view_item ys))
+    (take_all c.items.item-index c.args.items.now c.items-test.false)) c.items.invariant.index

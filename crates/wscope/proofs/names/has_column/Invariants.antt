@@ -5,4 +5,5 @@ use Rattle.wscope.specs.Sources.{all_titled}
 use Rattle.wscope.proofs.names.has_column.Given as goal
 
 abbrev pub invariant-columns : goal.invariant-columns
-invariant-columns l = list_any (has_name l.name) (all_titled l.columns) ≡ list_any (has_name l.name) (all_titled (drop l.column-index l.columns))
+invariant-columns l = list_any (has_name l.name) (all_titled l.columns) ≡ list_any (has_name l.name)
+    (all_titled (drop l.column-index l.columns))

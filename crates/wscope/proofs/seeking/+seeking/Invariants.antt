@@ -15,7 +15,8 @@ decreases-any_beside g l = 3 * found_all sizing (nodes_left l.nodes) + 1
 
 abbrev pub invariant-any_beside-nodes : goal.invariant-any_beside-nodes
 invariant-any_beside-nodes g l =
-    (found_all (seeking (g.T.NodeTest.sees l.test)) (nodes_left l.nodes) ≡ found_all (seeking (g.T.NodeTest.sees l.test)) (nodes_left l.rest)) × (found_all sizing (nodes_left l.rest) ≤ found_all sizing (nodes_left l.nodes))
+    (found_all (seeking (g.T.NodeTest.sees l.test)) (nodes_left l.nodes) ≡ found_all (seeking (g.T.NodeTest.sees l.test))
+    (nodes_left l.rest)) × (found_all sizing (nodes_left l.rest) ≤ found_all sizing (nodes_left l.nodes))
 
 abbrev pub decreases-any_beside-nodes : goal.decreases-any_beside-nodes
 decreases-any_beside-nodes g l = length (nodes_left l.rest)

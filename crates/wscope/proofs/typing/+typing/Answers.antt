@@ -5,11 +5,14 @@ use Rattle.wscope.proofs.typing.+typing.Goals as goal
 
 pub type_of_call-returns : goal.type_of_call-returns
 type_of_call-returns t c =
-    c.of_call.ensures ∙ call_type_from (all_titled c.args.columns.now) c.args.call.now c.as_str.result.now c.function_of.result c.type_given-value.result c.type_given-default.result c.function_of.ensures c.as_str.ensures.value c.type_given-value.ensures c.type_given-default.ensures
+    c.of_call.ensures ∙ call_type_from (all_titled c.args.columns.now) c.args.call.now c.as_str.result.now
+    c.function_of.result c.type_given-value.result c.type_given-default.result c.function_of.ensures
+    c.as_str.ensures.value c.type_given-value.ensures c.type_given-default.ensures
 
 pub type_at_place-returns : goal.type_at_place-returns
 type_at_place-returns t c = sym (type_at_end (all_titled c.args.columns.now) c.args.list.now c.args.place c.if-place-list.false)
 
 pub type_at_place-returns-then-place-list : goal.type_at_place-returns-then-place-list
 type_at_place-returns-then-place-list t c =
-    c.type_of.ensures ∙ sym (type_at_here (all_titled c.args.columns.now) c.args.list.now c.args.place c.index-list-place.result c.if-place-list.true c.index-list-place.is)
+    c.type_of.ensures ∙ sym (type_at_here (all_titled c.args.columns.now) c.args.list.now c.args.place
+    c.index-list-place.result c.if-place-list.true c.index-list-place.is)

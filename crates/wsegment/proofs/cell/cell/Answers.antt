@@ -8,7 +8,8 @@ pub returns-in_default-clause-gives : goal.returns-in_default-clause-gives
 returns-in_default-clause-gives c = inr (cell-no_text c.args.row c.args.kind c.args.field.now c.in_default.ensures.cases.0)
 
 pub returns-then-is_empty-clause-gives : goal.returns-then-is_empty-clause-gives
-returns-then-is_empty-clause-gives c = cell-empty c.args.row c.args.kind c.args.field.now c.in-Ok.text.now c.in-Ok.ensures.cases.0 c.in-Ok.ensures.cases.1 c.if-is_empty.ensures
+returns-then-is_empty-clause-gives c = cell-empty c.args.row c.args.kind c.args.field.now c.in-Ok.text.now
+    c.in-Ok.ensures.cases.0 c.in-Ok.ensures.cases.1 c.if-is_empty.ensures
 
 pub returns-then-is_empty-clause-refused : goal.returns-then-is_empty-clause-refused
 returns-then-is_empty-clause-refused c = λ no_text. absurd (no_text c.in-Ok.ensures.cases.1)
@@ -18,4 +19,5 @@ returns-clause-refused c = λ no_text. absurd (no_text c.in-Ok.ensures.cases.1)
 
 pub returns-clause-gives : goal.returns-clause-gives
 returns-clause-gives c =
-    subst (Gives meaning c.typed.result) (sym (cell-typed c.args.row c.args.kind c.args.field.now c.in-Ok.text.now c.in-Ok.ensures.cases.0 c.in-Ok.ensures.cases.1 c.if-is_empty.ensures)) c.typed.ensures
+    subst (Gives meaning c.typed.result) (sym (cell-typed c.args.row c.args.kind c.args.field.now c.in-Ok.text.now
+    c.in-Ok.ensures.cases.0 c.in-Ok.ensures.cases.1 c.if-is_empty.ensures)) c.typed.ensures

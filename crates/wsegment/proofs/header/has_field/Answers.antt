@@ -8,5 +8,6 @@ use Rattle.wsegment.proofs.header.has_field.Goals as goal
 
 pub returns : goal.returns
 returns c =
-    let found = c.field_of.ensures ∙ sym (position-map (λ (other : Described). bytes_eq other.name c.args.column.now.name) (λ other. other.now) c.args.header.now) in
+    let found = c.field_of.ensures ∙ sym (position-map (λ (other : Described). bytes_eq other.name c.args.column.now.name)
+    (λ other. other.now) c.args.header.now) in
     c.is_some.ensures ∙ ap (λ (field : Option ℕ). is_some field) found

@@ -15,15 +15,20 @@ use Rattle.wsegment.proofs.judging.judge_fields.Goals as goal
 
 pub returns-then-len-header : goal.returns-then-len-header
 returns-then-len-header c =
-    sym (ap (λ (row : Result (List Meaning) SegmentFault). verdict row) (row-refused c.args.number (kinds_of (map (λ c. c.now) c.args.header.now)) (fields_of c.args.row.now) (λ e. c.if-len-header.true (c.len.ensures ∙ e ∙ kinds-long c.args.header.now))))
+    sym (ap (λ (row : Result (List Meaning) SegmentFault). verdict row)
+    (row-refused c.args.number (kinds_of (map (λ c. c.now) c.args.header.now)) (fields_of c.args.row.now)
+    (λ e. c.if-len-header.true (c.len.ensures ∙ e ∙ kinds-long c.args.header.now))))
 
 pub loop-i-init : goal.loop-i-init
 loop-i-init c = record {
-  so_far = sym (ap (λ (row : Result (List Meaning) SegmentFault). verdict row) (row-cells c.args.number (kinds_of (map (λ c. c.now) c.args.header.now)) (fields_of c.args.row.now) (sym c.len.ensures ∙ c.if-len-header.false ∙ sym (kinds-long c.args.header.now))));
+  so_far = sym (ap (λ (row : Result (List Meaning) SegmentFault). verdict row)
+      (row-cells c.args.number (kinds_of (map (λ c. c.now) c.args.header.now)) (fields_of c.args.row.now) (sym c.len.ensures
+      ∙ c.if-len-header.false ∙ sym (kinds-long c.args.header.now))));
 }
 
 pub unreachable-requires : goal.unreachable-requires
-unreachable-requires c = field-found (fields_of c.args.row.now) c.loop-i.i (rw (← c.len.ensures, c.if-len-header.false) c.loop-i-test.true) (sym c.in_default.ensures.value)
+unreachable-requires c = field-found (fields_of c.args.row.now) c.loop-i.i (rw (← c.len.ensures, c.if-len-header.false)
+    c.loop-i-test.true) (sym c.in_default.ensures.value)
 
 pub returns-in_err-judge_field : goal.returns-in_err-judge_field
 returns-in_err-judge_field c =
@@ -31,8 +36,10 @@ returns-in_err-judge_field c =
     let ks = kinds_of (map (λ c. c.now) c.args.header.now) in
     let fs = fields_of c.args.row.now in
     let i = c.loop-i.i in
-    rw (p.1, p.2) (cells-refused c.in_err-judge_field.field-0.0 c.args.number (drop i ks) (drop (suc i) ks) (drop i fs) (drop (suc i) fs) c.index-header-i.result.now.kind c.in-Some.field.now
-    (kind-drop c.args.header.now i c.index-header-i.result c.loop-i-test.true c.index-header-i.is) (field-drop fs i c.in-Some.field.now (sym c.in-Some.ensures.value))
+    rw (p.1, p.2) (cells-refused c.in_err-judge_field.field-0.0 c.args.number (drop i ks) (drop (suc i) ks) (drop i fs)
+    (drop (suc i) fs) c.index-header-i.result.now.kind c.in-Some.field.now
+    (kind-drop c.args.header.now i c.index-header-i.result c.loop-i-test.true c.index-header-i.is)
+    (field-drop fs i c.in-Some.field.now (sym c.in-Some.ensures.value))
     (rw c.kind.ensures at c.in_err-judge_field.ensures) ∙ c.loop-i.invariant.so_far)
 
 pub loop-i-preserved : goal.loop-i-preserved
@@ -41,8 +48,10 @@ loop-i-preserved c =
     let fs = fields_of c.args.row.now in
     let i = c.loop-i.i in
     record {
-      so_far = rw (add-one i) (sym (cells-judged c.args.number (drop i ks) (drop (suc i) ks) (drop i fs) (drop (suc i) fs) c.index-header-i.result.now.kind c.in-Some.field.now
-          (kind-drop c.args.header.now i c.index-header-i.result c.loop-i-test.true c.index-header-i.is) (field-drop fs i c.in-Some.field.now (sym c.in-Some.ensures.value))
+      so_far = rw (add-one i) (sym (cells-judged c.args.number (drop i ks) (drop (suc i) ks) (drop i fs) (drop (suc i) fs)
+          c.index-header-i.result.now.kind c.in-Some.field.now
+          (kind-drop c.args.header.now i c.index-header-i.result c.loop-i-test.true c.index-header-i.is)
+          (field-drop fs i c.in-Some.field.now (sym c.in-Some.ensures.value))
           (rw c.kind.ensures at c.in_ok-judge_field.ensures)) ∙ c.loop-i.invariant.so_far);
     }
 
@@ -51,4 +60,5 @@ returns c =
     let ks = kinds_of (map (λ c. c.now) c.args.header.now) in
     let fs = fields_of c.args.row.now in
     let i = c.loop-i.i in
-    sym (cells-over c.args.number (drop i ks) (drop i fs) (drop_all i ks (rw (kinds-long c.args.header.now) c.loop-i-test.false))) ∙ c.loop-i.invariant.so_far
+    sym (cells-over c.args.number (drop i ks) (drop i fs)
+    (drop_all i ks (rw (kinds-long c.args.header.now) c.loop-i-test.false))) ∙ c.loop-i.invariant.so_far

@@ -13,7 +13,8 @@ use Rattle.wsegment.proofs.rows.push_row.Goals as goal
 
 pub returns-then-len-header-clause-fault : goal.returns-then-len-header-clause-fault
 returns-then-len-header-clause-fault c =
-    inr (row-refused c.args.number (kinds_of (map (λ c. c.now) c.args.header.now)) (fields_of c.args.row.now) (λ e. c.if-len-header.true (c.len.ensures ∙ e ∙ kinds-long c.args.header.now)))
+    inr (row-refused c.args.number (kinds_of (map (λ c. c.now) c.args.header.now)) (fields_of c.args.row.now)
+    (λ e. c.if-len-header.true (c.len.ensures ∙ e ∙ kinds-long c.args.header.now)))
 
 pub loop-i-init : goal.loop-i-init
 loop-i-init c =
@@ -23,11 +24,13 @@ loop-i-init c =
     record {
       before = take_all (length cells) cells (omega arith);
       added = omega arith;
-      so_far = rw (drop_all (length cells) cells (omega arith)) (front-nil (cells_of c.args.number ks fs) ∙ sym (row-cells c.args.number ks fs (sym c.len.ensures ∙ c.if-len-header.false ∙ sym (kinds-long c.args.header.now))));
+      so_far = rw (drop_all (length cells) cells (omega arith)) (front-nil (cells_of c.args.number ks fs)
+          ∙ sym (row-cells c.args.number ks fs (sym c.len.ensures ∙ c.if-len-header.false ∙ sym (kinds-long c.args.header.now))));
     }
 
 pub unreachable-requires : goal.unreachable-requires
-unreachable-requires c = field-found (fields_of c.args.row.now) c.loop-i.i (rw (← c.len.ensures, c.if-len-header.false) c.loop-i-test.true) (sym c.in_default.ensures.value)
+unreachable-requires c = field-found (fields_of c.args.row.now) c.loop-i.i (rw (← c.len.ensures, c.if-len-header.false)
+    c.loop-i-test.true) (sym c.in_default.ensures.value)
 
 pub returns-in_err-value-clause-fault : goal.returns-in_err-value-clause-fault
 returns-in_err-value-clause-fault c =
@@ -35,9 +38,12 @@ returns-in_err-value-clause-fault c =
     let ks = kinds_of (map (λ c. c.now) c.args.header.now) in
     let fs = fields_of c.args.row.now in
     let i = c.loop-i.i in
-    rw (p.1, p.2) (cells-stop c.in_err-value.field-0.0 c.args.number (drop i ks) (drop (suc i) ks) (drop i fs) (drop (suc i) fs) c.index-header-i.result.now.kind c.in-Some.field.now
-    (map meaning (drop (length c.args.cells.now.items) c.loop-i.cells.items)) (row_of c.args.number ks fs) (kind-drop c.args.header.now i c.index-header-i.result c.loop-i-test.true c.index-header-i.is)
-    (field-drop fs i c.in-Some.field.now (sym c.in-Some.ensures.value)) (rw c.kind.ensures at c.in_err-value.ensures.gives) c.loop-i.invariant.so_far)
+    rw (p.1, p.2) (cells-stop c.in_err-value.field-0.0 c.args.number (drop i ks) (drop (suc i) ks) (drop i fs)
+    (drop (suc i) fs) c.index-header-i.result.now.kind c.in-Some.field.now
+    (map meaning (drop (length c.args.cells.now.items) c.loop-i.cells.items)) (row_of c.args.number ks fs)
+    (kind-drop c.args.header.now i c.index-header-i.result c.loop-i-test.true c.index-header-i.is)
+    (field-drop fs i c.in-Some.field.now (sym c.in-Some.ensures.value)) (rw c.kind.ensures at c.in_err-value.ensures.gives)
+    c.loop-i.invariant.so_far)
 
 pub loop-i-preserved : goal.loop-i-preserved
 loop-i-preserved c =
@@ -47,15 +53,21 @@ loop-i-preserved c =
     let fs = fields_of c.args.row.now in
     let i = c.loop-i.i in
     let some : start ≤ length cells = omega (arith, c.loop-i.invariant.added) in
-    let long : length c.push.new.self.items ≡ length cells + 1 = ap length c.in_ok-push.ensures.items ∙ length-append cells (c.in_ok-value.value ∷ []) in
+    let long : length c.push.new.self.items ≡ length cells + 1 = ap length c.in_ok-push.ensures.items
+    ∙ length-append cells (c.in_ok-value.value ∷ []) in
     let e : map meaning (drop start c.push.new.self.items) ≡ map meaning (drop start cells) ++ meaning c.in_ok-value.value ∷ []
-    = ap (λ items. map meaning (drop start items)) c.in_ok-push.ensures.items ∙ ap (map meaning) (drop-append-le start cells (c.in_ok-value.value ∷ []) some) ∙ map-append meaning (drop start cells) (c.in_ok-value.value ∷ []) in
+    = ap (λ items. map meaning (drop start items)) c.in_ok-push.ensures.items
+    ∙ ap (map meaning) (drop-append-le start cells (c.in_ok-value.value ∷ []) some)
+    ∙ map-append meaning (drop start cells) (c.in_ok-value.value ∷ []) in
     record {
       before = rw c.in_ok-push.ensures.items (take-append-le start cells (c.in_ok-value.value ∷ []) some ∙ c.loop-i.invariant.before);
       added = omega (arith, long, c.loop-i.invariant.added);
-      so_far = rw (e, add-one i) (cells-go c.args.number (drop i ks) (drop (suc i) ks) (drop i fs) (drop (suc i) fs) c.index-header-i.result.now.kind c.in-Some.field.now
-          (map meaning (drop start cells)) (meaning c.in_ok-value.value) (row_of c.args.number ks fs) (kind-drop c.args.header.now i c.index-header-i.result c.loop-i-test.true c.index-header-i.is)
-          (field-drop fs i c.in-Some.field.now (sym c.in-Some.ensures.value)) (rw c.kind.ensures at c.in_ok-value.ensures.gives) c.loop-i.invariant.so_far);
+      so_far = rw (e, add-one i) (cells-go c.args.number (drop i ks) (drop (suc i) ks) (drop i fs) (drop (suc i) fs)
+          c.index-header-i.result.now.kind c.in-Some.field.now
+          (map meaning (drop start cells)) (meaning c.in_ok-value.value) (row_of c.args.number ks fs)
+          (kind-drop c.args.header.now i c.index-header-i.result c.loop-i-test.true c.index-header-i.is)
+          (field-drop fs i c.in-Some.field.now (sym c.in-Some.ensures.value))
+          (rw c.kind.ensures at c.in_ok-value.ensures.gives) c.loop-i.invariant.so_far);
     }
 
 pub returns-clause-added : goal.returns-clause-added
@@ -66,5 +78,6 @@ returns-clause-row c =
     let ks = kinds_of (map (λ c. c.now) c.args.header.now) in
     let fs = fields_of c.args.row.now in
     let i = c.loop-i.i in
-    cells-end c.args.number (drop i ks) (drop i fs) (map meaning (drop (length c.args.cells.now.items) c.loop-i.cells.items)) (row_of c.args.number ks fs)
+    cells-end c.args.number (drop i ks) (drop i fs)
+    (map meaning (drop (length c.args.cells.now.items) c.loop-i.cells.items)) (row_of c.args.number ks fs)
     (drop_all i ks (rw (kinds-long c.args.header.now) c.loop-i-test.false)) c.loop-i.invariant.so_far

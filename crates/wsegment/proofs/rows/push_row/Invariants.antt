@@ -10,6 +10,7 @@ abbrev pub invariant-loop-i : goal.invariant-loop-i
 invariant-loop-i l = record {
   before : take (length l.fn.cells.items) l.cells.items ≡ l.fn.cells.items;
   added : length l.cells.items ≡ length l.fn.cells.items + l.i;
-  so_far : with_front (map meaning (drop (length l.fn.cells.items) l.cells.items)) (cells_of l.number (drop l.i (kinds_of (map (λ c. c.now) l.header))) (drop l.i (fields_of l.row)))
+  so_far : with_front (map meaning (drop (length l.fn.cells.items) l.cells.items))
+      (cells_of l.number (drop l.i (kinds_of (map (λ c. c.now) l.header))) (drop l.i (fields_of l.row)))
       ≡ row_of l.number (kinds_of (map (λ c. c.now) l.header)) (fields_of l.row);
 }

@@ -17,8 +17,10 @@ returns-in_err-read_row-clause-gives c =
     let fields = c.args.fields.now in
     let n = c.loop-row.count in
     let took = rw c.if-branch.true at c.in_ok-take_record.ensures in
-    rw (p.1, p.2) (rows-stop c.in_err-read_row.field-0.0 ks fields n (records_left c.loop-row.reader) (records_left c.take_record.new.reader) (fields_of c.take_record.new.row)
-    (laid (length fields) n c.loop-row.cells.items) (in_order_of fields (rows_from ks 1 (records_left c.args.reader.now))) c.loop-row.invariant.few took.1 c.in_err-read_row.ensures.fault c.loop-row.invariant.so_far)
+    rw (p.1, p.2) (rows-stop c.in_err-read_row.field-0.0 ks fields n (records_left c.loop-row.reader)
+    (records_left c.take_record.new.reader) (fields_of c.take_record.new.row)
+    (laid (length fields) n c.loop-row.cells.items) (in_order_of fields (rows_from ks 1 (records_left c.args.reader.now)))
+    c.loop-row.invariant.few took.1 c.in_err-read_row.ensures.fault c.loop-row.invariant.so_far)
 
 pub loop-row-preserved : goal.loop-row-preserved
 loop-row-preserved c =
@@ -31,13 +33,16 @@ loop-row-preserved c =
     let new = c.lay_row.new.cells.items in
     let found = c.read_row.new.cells.items in
     let took = rw c.if-branch.true at c.in_ok-take_record.ensures in
-    let more : laid width (n + 1) new ≡ laid width n old ++ map meaning (drop (length old) new) ∷ [] = rw (add-one n) (laid-more width n old new c.loop-row.invariant.full c.in_ok-lay_row.ensures.before c.in_ok-lay_row.ensures.added) in
+    let more : laid width (n + 1) new ≡ laid width n old ++ map meaning (drop (length old) new) ∷ [] =
+    rw (add-one n) (laid-more width n old new c.loop-row.invariant.full c.in_ok-lay_row.ensures.before c.in_ok-lay_row.ensures.added) in
     record {
       reading = took.0;
       few = row-room ks n r (map meaning found) c.loop-row.invariant.few c.in_ok-read_row.ensures.row;
       full = rows-filled n width (length old) (length new) c.loop-row.invariant.full c.in_ok-lay_row.ensures.added;
-      so_far = rw more (rows-go ks fields n (records_left c.loop-row.reader) (records_left c.take_record.new.reader) r (laid width n old) (map meaning found) (map meaning (drop (length old) new))
-          (in_order_of fields (rows_from ks 1 (records_left c.args.reader.now))) c.loop-row.invariant.few took.1 c.in_ok-read_row.ensures.row (rw c.deref.ensures.value at c.in_ok-lay_row.ensures.row) c.loop-row.invariant.so_far);
+      so_far = rw more (rows-go ks fields n (records_left c.loop-row.reader) (records_left c.take_record.new.reader) r
+          (laid width n old) (map meaning found) (map meaning (drop (length old) new))
+          (in_order_of fields (rows_from ks 1 (records_left c.args.reader.now))) c.loop-row.invariant.few took.1
+          c.in_ok-read_row.ensures.row (rw c.deref.ensures.value at c.in_ok-lay_row.ensures.row) c.loop-row.invariant.so_far);
     }
 
 pub returns-clause-gives : goal.returns-clause-gives
@@ -46,4 +51,5 @@ returns-clause-gives c =
     let fields = c.args.fields.now in
     let none = rw c.if-branch.false at c.in_ok-take_record.ensures in
     rw (c.rows_laid.ensures.width, c.rows_laid.ensures.count, c.rows_laid.ensures.cells)
-    (rows-end ks fields (c.loop-row.count + 1) (records_left c.loop-row.reader) (laid (length fields) c.loop-row.count c.loop-row.cells.items) (in_order_of fields (rows_from ks 1 (records_left c.args.reader.now))) none c.loop-row.invariant.so_far)
+    (rows-end ks fields (c.loop-row.count + 1) (records_left c.loop-row.reader) (laid (length fields) c.loop-row.count
+    c.loop-row.cells.items) (in_order_of fields (rows_from ks 1 (records_left c.args.reader.now))) none c.loop-row.invariant.so_far)

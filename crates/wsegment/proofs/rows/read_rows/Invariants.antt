@@ -11,7 +11,8 @@ invariant-loop-row l = record {
   reading : IsReading l.reader;
   few : l.count ≤ 1000000;
   full : length l.cells.items ≡ l.count * length l.fields;
-  so_far : with_front (laid (length l.fields) l.count l.cells.items) (in_order_of l.fields (rows_from (kinds_of (map (λ c. c.now) l.header)) (l.count + 1) (records_left l.reader)))
+  so_far : with_front (laid (length l.fields) l.count l.cells.items)
+      (in_order_of l.fields (rows_from (kinds_of (map (λ c. c.now) l.header)) (l.count + 1) (records_left l.reader)))
       ≡ in_order_of l.fields (rows_from (kinds_of (map (λ c. c.now) l.header)) 1 (records_left l.fn.reader));
 }
 

@@ -13,13 +13,15 @@ returns-then-bytes-gt-MAX_BYTES-clause-rows c = inr (rows-long c.args.schema.now
 pub returns-in_err-first-clause-rows : goal.returns-in_err-first-clause-rows
 returns-in_err-first-clause-rows c =
     let p = err_from_is_err_and c.from_residual-in_err-first.result c.from_residual-in_err-first.ensures.1 in
-    rw (p.1, p.2) (stop-first c.in_err-first.field-0.0 c.args.schema.now c.args.bytes.now c.if-bytes-gt-MAX_BYTES.false (records_left c.in_ok-reader.reader) c.in_ok-reader.ensures.all c.in_err-first.ensures.fault)
+    rw (p.1, p.2) (stop-first c.in_err-first.field-0.0 c.args.schema.now c.args.bytes.now c.if-bytes-gt-MAX_BYTES.false
+    (records_left c.in_ok-reader.reader) c.in_ok-reader.ensures.all c.in_err-first.ensures.fault)
 
 pub returns-in_err-header-clause-rows : goal.returns-in_err-header-clause-rows
 returns-in_err-header-clause-rows c =
     let took = c.in_ok-first.ensures.taken in
     let p = err_from_is_err_and c.from_residual-in_err-header.result c.from_residual-in_err-header.ensures.1 in
-    rw (p.1, p.2) (stop-header c.in_err-header.field-0.0 c.args.schema.now c.args.bytes.now (fields_of c.in_ok-first.first) (records_left c.take_header.new.reader)
+    rw (p.1, p.2) (stop-header c.in_err-header.field-0.0 c.args.schema.now c.args.bytes.now (fields_of c.in_ok-first.first)
+    (records_left c.take_header.new.reader)
     (record { short = c.if-bytes-gt-MAX_BYTES.false; all = sym c.in_ok-reader.ensures.all ∙ took.1 })
     (rw c.columns-columns.ensures.columns at c.in_err-header.ensures))
 
@@ -27,7 +29,8 @@ pub returns-in_err-fields-clause-rows : goal.returns-in_err-fields-clause-rows
 returns-in_err-fields-clause-rows c =
     let took = c.in_ok-first.ensures.taken in
     let p = err_from_is_err_and c.from_residual-in_err-fields.result c.from_residual-in_err-fields.ensures.1 in
-    rw (p.1, p.2) (stop-fields c.in_err-fields.field-0.0 c.args.schema.now c.args.bytes.now (fields_of c.in_ok-first.first) (records_left c.take_header.new.reader) (map (λ c. c.now) c.in_ok-header.header.items)
+    rw (p.1, p.2) (stop-fields c.in_err-fields.field-0.0 c.args.schema.now c.args.bytes.now (fields_of c.in_ok-first.first)
+    (records_left c.take_header.new.reader) (map (λ c. c.now) c.in_ok-header.header.items)
     (record { short = c.if-bytes-gt-MAX_BYTES.false; all = sym c.in_ok-reader.ensures.all ∙ took.1 })
     (rw c.columns-columns.ensures.columns at c.in_ok-header.ensures)
     (rw (c.deref.ensures.value, c.columns-columns.ensures.columns) at c.in_err-fields.ensures.gives))
@@ -37,7 +40,8 @@ returns-in_err-rows-clause-rows c =
     let took = c.in_ok-first.ensures.taken in
     let p = err_from_is_err_and c.from_residual-in_err-rows.result c.from_residual-in_err-rows.ensures.1 in
     let placed = rw (c.deref.ensures.value, c.columns-columns.ensures.columns) at c.in_ok-fields.ensures.gives in
-    rw (p.1, p.2) (stop-rows c.in_err-rows.field-0.0 c.args.schema.now c.args.bytes.now (fields_of c.in_ok-first.first) (records_left c.take_header.new.reader) (map (λ c. c.now) c.in_ok-header.header.items) c.in_ok-fields.fields.items
+    rw (p.1, p.2) (stop-rows c.in_err-rows.field-0.0 c.args.schema.now c.args.bytes.now (fields_of c.in_ok-first.first)
+    (records_left c.take_header.new.reader) (map (λ c. c.now) c.in_ok-header.header.items) c.in_ok-fields.fields.items
     (record { short = c.if-bytes-gt-MAX_BYTES.false; all = sym c.in_ok-reader.ensures.all ∙ took.1 })
     (rw c.columns-columns.ensures.columns at c.in_ok-header.ensures)
     placed.0
@@ -48,7 +52,8 @@ pub returns-clause-rows : goal.returns-clause-rows
 returns-clause-rows c =
     let took = c.in_ok-first.ensures.taken in
     let placed = rw (c.deref.ensures.value, c.columns-columns.ensures.columns) at c.in_ok-fields.ensures.gives in
-    all-rows c.args.schema.now c.args.bytes.now (fields_of c.in_ok-first.first) (records_left c.take_header.new.reader) (map (λ c. c.now) c.in_ok-header.header.items) c.in_ok-fields.fields.items (rows_kept c.in_ok-rows.rows)
+    all-rows c.args.schema.now c.args.bytes.now (fields_of c.in_ok-first.first) (records_left c.take_header.new.reader)
+    (map (λ c. c.now) c.in_ok-header.header.items) c.in_ok-fields.fields.items (rows_kept c.in_ok-rows.rows)
     (record { short = c.if-bytes-gt-MAX_BYTES.false; all = sym c.in_ok-reader.ensures.all ∙ took.1 })
     (rw c.columns-columns.ensures.columns at c.in_ok-header.ensures)
     placed.0
@@ -58,7 +63,9 @@ returns-clause-rows c =
 pub returns-clause-columns : goal.returns-clause-columns
 returns-clause-columns c =
     let placed = rw (c.deref.ensures.value, c.columns-columns.ensures.columns) at c.in_ok-fields.ensures.gives in
-    c.in_ok-rows.ensures.width ∙ ap length c.deref-3.ensures.value ∙ fields-long (map (λ c. c.now) c.in_ok-header.header.items) c.args.schema.now.columns c.in_ok-fields.fields.items placed.1
+    c.in_ok-rows.ensures.width ∙ ap length c.deref-3.ensures.value
+    ∙ fields-long (map (λ c. c.now) c.in_ok-header.header.items) c.args.schema.now.columns c.in_ok-fields.fields.items placed.1
 
 pub read_rows-requires-clause-within : goal.read_rows-requires-clause-within
-read_rows-requires-clause-within c = rw (c.deref-3.ensures.value, c.deref-2.ensures.value) (rw c.deref.ensures.value at c.in_ok-fields.ensures.within)
+read_rows-requires-clause-within c = rw (c.deref-3.ensures.value, c.deref-2.ensures.value)
+    (rw c.deref.ensures.value at c.in_ok-fields.ensures.within)

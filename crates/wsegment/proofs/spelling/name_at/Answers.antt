@@ -23,5 +23,10 @@ pub returns-clause-found : goal.returns-clause-found
 returns-clause-found c =
     let text : string_bytes c.in_ok-name.name ≡ c.split_at.result.0.now = c.in_ok-name.ensures.ok ∙ c.in-Ok.ensures.cases.0 in
     let named = sym c.if-not-is_name_text.ensures in
-    let none : prefix_len is_name_byte c.split_at.result.1.now ≡ 0 = rw (c.split_at.ensures.back, c.word_len.ensures) (word-rest c.args.bytes.now) in
-    (rw text named, none, rw (text, c.split_at.ensures.front, c.split_at.ensures.back) (sym (take-append-drop c.word_len.result c.args.bytes.now)))
+    let none : prefix_len is_name_byte c.split_at.result.1.now ≡ 0 =
+    rw (c.split_at.ensures.back, c.word_len.ensures) (word-rest c.args.bytes.now) in (
+      rw text named,
+      none,
+      rw (text, c.split_at.ensures.front, c.split_at.ensures.back)
+          (sym (take-append-drop c.word_len.result c.args.bytes.now)),
+    )

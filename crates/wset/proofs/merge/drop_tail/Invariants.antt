@@ -8,7 +8,8 @@ abbrev pub invariant-tail : goal.invariant-tail
 invariant-tail l = record {
   rising : IsRising l.all.items;
   behind : AreBelow l.floor (known_entries l.all.items);
-  same : filter (λ e. not (is_over e.name (l.floor, Floor))) l.all.items ≡ filter (λ e. not (is_over e.name (l.floor, Floor))) l.fn.all.items;
+  same : filter (λ e. not (is_over e.name (l.floor, Floor))) l.all.items
+      ≡ filter (λ e. not (is_over e.name (l.floor, Floor))) l.fn.all.items;
 }
 
 abbrev pub decreases-tail : goal.decreases-tail

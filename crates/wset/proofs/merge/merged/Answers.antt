@@ -10,7 +10,8 @@ returns-clause-read c d ours theirs = (c.merge.invariant.read d ours theirs).0
 
 pub merge-preserved : goal.merge-preserved
 merge-preserved c =
-    let j : Joins c.merge.ours.now c.merge.theirs.now c.in-Some.step.entry c.in-Some.step.ours.now c.in-Some.step.theirs.now = rw c.in-Some.is at c.in_ok-step.ensures in
+    let j : Joins c.merge.ours.now c.merge.theirs.now c.in-Some.step.entry c.in-Some.step.ours.now
+    c.in-Some.step.theirs.now = rw c.in-Some.is at c.in_ok-step.ensures in
     let items = c.in_ok-push_settled.ensures in
     record {
       merges = merged_step c.merge.all.items _ c.in-Some.step.entry _ _ _ j.joined c.merge.invariant.merges items;
@@ -24,7 +25,8 @@ merge-preserved c =
 
 pub merge-init : goal.merge-init
 merge-init c = record {
-  merges = merged_none c.new-all.result.items _ c.new-all.ensures.items (sorted_lists c.args.ours.now c.args.theirs.now c.requires.ours c.requires.theirs);
+  merges = merged_none c.new-all.result.items _ c.new-all.ensures.items (sorted_lists c.args.ours.now c.args.theirs.now
+      c.requires.ours c.requires.theirs);
   ours = c.requires.ours;
   theirs = c.requires.theirs;
   read = λ d ours theirs. (subst (AllHeldBy d) (sym c.new-all.ensures.items) tt, ours, theirs);
@@ -32,12 +34,14 @@ merge-init c = record {
 
 pub push_settled-requires-clause-rising : goal.push_settled-requires-clause-rising
 push_settled-requires-clause-rising c =
-    let j : Joins c.merge.ours.now c.merge.theirs.now c.in-Some.step.entry c.in-Some.step.ours.now c.in-Some.step.theirs.now = rw c.in-Some.is at c.in_ok-step.ensures in
+    let j : Joins c.merge.ours.now c.merge.theirs.now c.in-Some.step.entry c.in-Some.step.ours.now
+    c.in-Some.step.theirs.now = rw c.in-Some.is at c.in_ok-step.ensures in
     (merged_before c.merge.all.items c.in-Some.step.entry _ _ _ j.joined c.merge.invariant.merges).0
 
 pub push_settled-requires-clause-behind : goal.push_settled-requires-clause-behind
 push_settled-requires-clause-behind c =
-    let j : Joins c.merge.ours.now c.merge.theirs.now c.in-Some.step.entry c.in-Some.step.ours.now c.in-Some.step.theirs.now = rw c.in-Some.is at c.in_ok-step.ensures in
+    let j : Joins c.merge.ours.now c.merge.theirs.now c.in-Some.step.entry c.in-Some.step.ours.now
+    c.in-Some.step.theirs.now = rw c.in-Some.is at c.in_ok-step.ensures in
     (merged_before c.merge.all.items c.in-Some.step.entry _ _ _ j.joined c.merge.invariant.merges).1
 
 pub returns-clause-known : goal.returns-clause-known

@@ -10,7 +10,8 @@ pub returns-then-some_add-clause-new : goal.returns-then-some_add-clause-new
 returns-then-some_add-clause-new c = λ all.
     let P = IsKnownTo (flat c.args.ours.now) in
     let next = flat_next c.args.theirs.now c.theirs.block-index c.block-item.result c.theirs-test.true c.block-item.is in
-    let here = all_front P c.block-item.result (flat (drop (c.theirs.block-index + 1) c.args.theirs.now)) (subst (AllByRecursion P) next (c.theirs.invariant.new all)) in
+    let here = all_front P c.block-item.result (flat (drop (c.theirs.block-index + 1) c.args.theirs.now))
+    (subst (AllByRecursion P) next (c.theirs.invariant.new all)) in
     sym c.if-some_add.true ∙ c.some_add.ensures.new (subst (AllByRecursion P) (sym c.entries.ensures.same) here)
 
 pub theirs-preserved : goal.theirs-preserved

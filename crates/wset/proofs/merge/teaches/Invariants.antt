@@ -6,6 +6,8 @@ use Rattle.wset.proofs.merge.teaches.Given as goal
 
 abbrev pub invariant-theirs : goal.invariant-theirs
 invariant-theirs l = record {
-  known : AllByRecursion (IsKnownTo (flat l.ours)) (flat (drop l.block-index l.theirs)) → AllByRecursion (IsKnownTo (flat l.ours)) (flat l.theirs);
-  new : AllByRecursion (IsKnownTo (flat l.ours)) (flat l.theirs) → AllByRecursion (IsKnownTo (flat l.ours)) (flat (drop l.block-index l.theirs));
+  known : AllByRecursion (IsKnownTo (flat l.ours)) (flat (drop l.block-index l.theirs))
+      → AllByRecursion (IsKnownTo (flat l.ours)) (flat l.theirs);
+  new : AllByRecursion (IsKnownTo (flat l.ours)) (flat l.theirs)
+      → AllByRecursion (IsKnownTo (flat l.ours)) (flat (drop l.block-index l.theirs));
 }

@@ -8,5 +8,6 @@ blocks-2-preserved c = record {
   room = omega arith;
   in_range = omega arith;
   starts = subst (AreStarts c.args.blocks.now) (sym c.push_reserved.ensures.items)
-      (starts_more c.args.blocks.now c.blocks-2.starts.items _ (c.next_start-start.ensures ∙ ap (λ l. lives_before c.args.blocks.now (length l)) c.deref.ensures.value) c.blocks-2.invariant.starts);
+      (starts_more c.args.blocks.now c.blocks-2.starts.items _ (c.next_start-start.ensures
+      ∙ ap (λ l. lives_before c.args.blocks.now (length l)) c.deref.ensures.value) c.blocks-2.invariant.starts);
 }

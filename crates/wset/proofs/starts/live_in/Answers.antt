@@ -12,9 +12,13 @@ live_home-k-requires-clause-first c =
 
 pub live_at-requires : goal.live_at-requires
 live_at-requires c =
-    found_within c.args.blocks.now c.args.starts.now c.args.number c.live_home-k.result c.index-blocks-k.result c.entries.result.now c.requires.placed c.requires.starts c.live_home-k.ensures c.requires.in_range c.index-blocks-k.is c.entries.ensures.same
+    found_within c.args.blocks.now c.args.starts.now c.args.number c.live_home-k.result c.index-blocks-k.result
+    c.entries.result.now c.requires.placed c.requires.starts c.live_home-k.ensures c.requires.in_range
+    c.index-blocks-k.is c.entries.ensures.same
 
 pub returns : goal.returns
 returns c =
-    found_at c.args.blocks.now c.args.starts.now c.args.number c.live_home-k.result c.index-blocks-k.result c.entries.result.now c.requires.placed c.requires.starts c.live_home-k.ensures c.requires.in_range c.index-blocks-k.is c.entries.ensures.same
+    found_at c.args.blocks.now c.args.starts.now c.args.number c.live_home-k.result c.index-blocks-k.result
+    c.entries.result.now c.requires.placed c.requires.starts c.live_home-k.ensures c.requires.in_range
+    c.index-blocks-k.is c.entries.ensures.same
     ∙ c.live_at.ensures

@@ -8,7 +8,8 @@ invariant-reads g l = record {
   same : l.node ≡ l.initial.node;
   input_sound : IsSound l.input;
   output_sound : IsSoundWriter l.output;
-  after : StandsAfter l.initial.node.schema l.initial.node.view (g.R.Read.remaining l.initial.input.inner) (g.R.Read.remaining l.input.inner) (g.W.Write.contents l.initial.output.inner) (g.W.Write.contents l.output.inner) l.pending l.told;
+  after : StandsAfter l.initial.node.schema l.initial.node.view (g.R.Read.remaining l.initial.input.inner)
+      (g.R.Read.remaining l.input.inner) (g.W.Write.contents l.initial.output.inner) (g.W.Write.contents l.output.inner) l.pending l.told;
 }
 
 abbrev pub decreases-reads : goal.decreases-reads

@@ -2,7 +2,8 @@ use Rattle.wshell.proofs.Running.{gives_up_told, goes_on_more, goes_on_told}
 use Rattle.wshell.proofs.shell_run.take_byte.Goals as goal
 
 pub returns-then-ends-clause-ok : goal.returns-then-ends-clause-ok
-returns-then-ends-clause-ok g c = goes_on_told _ _ c.end_query.result c.args.byte _ _ _ _ _ _ c.if-ends.ensures c.end_query.ensures.ok c.end_query.ensures.empty
+returns-then-ends-clause-ok g c = goes_on_told _ _ c.end_query.result c.args.byte _ _ _ _ _ _ c.if-ends.ensures
+    c.end_query.ensures.ok c.end_query.ensures.empty
 
 pub returns-then-ends-clause-part : goal.returns-then-ends-clause-part
 returns-then-ends-clause-part g c = gives_up_told _ _ c.end_query.result c.args.byte _ _ _ _ c.if-ends.ensures c.end_query.ensures.part

@@ -3,7 +3,9 @@ use Rattle.wshell.proofs.Blanks.{not_blank}
 use Rattle.wshell.proofs.telling.tell.Goals as goal
 
 pub returns-in-Ok-clause-ok : goal.returns-in-Ok-clause-ok
-returns-in-Ok-clause-ok g c = replied_whole _ _ _ _ _ _ _ _ _ (not_blank _ _ c.in-Ok-false.ensures c.in-Ok-false.field-0-test) c.in-Ok.ensures.replies c.write_told.result c.write_told.ensures.ok
+returns-in-Ok-clause-ok g c = replied_whole _ _ _ _ _ _ _ _ _ (not_blank _ _ c.in-Ok-false.ensures
+    c.in-Ok-false.field-0-test) c.in-Ok.ensures.replies c.write_told.result c.write_told.ensures.ok
 
 pub returns-in-Ok-clause-part : goal.returns-in-Ok-clause-part
-returns-in-Ok-clause-part g c = replied_part _ _ _ _ _ _ _ c.write_told.new.told _ (not_blank _ _ c.in-Ok-false.ensures c.in-Ok-false.field-0-test) c.in-Ok.ensures.replies c.write_told.result c.write_told.ensures.front
+returns-in-Ok-clause-part g c = replied_part _ _ _ _ _ _ _ c.write_told.new.told _ (not_blank _ _ c.in-Ok-false.ensures
+    c.in-Ok-false.field-0-test) c.in-Ok.ensures.replies c.write_told.result c.write_told.ensures.front

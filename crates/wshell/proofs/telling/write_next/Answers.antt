@@ -9,4 +9,5 @@ pub returns-clause-ok : goal.returns-clause-ok
 returns-clause-ok g c = next_whole c.write_text-2.result _ _ _ (10 ∷ []) c.args.text.now c.in_default.ensures.ok c.write_text-2.ensures.ok
 
 pub returns-clause-front : goal.returns-clause-front
-returns-clause-front g c = next_front c.write_text-2.result _ _ _ (10 ∷ []) c.args.text.now c.in_default.ensures.ok c.write_text-2.ensures.front
+returns-clause-front g c = next_front c.write_text-2.result _ _ _ (10 ∷ []) c.args.text.now c.in_default.ensures.ok
+    c.write_text-2.ensures.front

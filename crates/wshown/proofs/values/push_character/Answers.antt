@@ -2,7 +2,8 @@ use Rattle.std.proofs.Common.{rules, ◌≡◌, ◌||◌, true}
 use Rattle.std.specs.Char.{is_control}
 use Rattle.wshown.specs.Shown.{is_hidden}
 use Rattle.wshown.proofs.values.push_character.Goals as goal
-use Rattle.wshown.proofs.values.push_character.Goals.{then-is_control-via-then-is_control, then-is_control-via-else-is_control+then-is_hidden}
+use Rattle.wshown.proofs.values.push_character.Goals.{then-is_control-via-then-is_control}
+use Rattle.wshown.proofs.values.push_character.Goals.{then-is_control-via-else-is_control+then-is_hidden}
 
 pub returns-then-is_control : goal.returns-then-is_control
 returns-then-is_control c =

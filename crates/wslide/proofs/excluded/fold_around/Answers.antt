@@ -14,7 +14,8 @@ returns-clause-value g c =
     let is_part = g.F.Fold.is_part f in
     let neutral = g.F.Fold.neutral f in
     let joined = g.F.Fold.joined f in
-    around (g.met.F.Fold.laws f) (g.F.Fold.part_at f) c.args.held.before c.args.within c.args.held.behind c.fold-front.result c.join_rows-middle.result c.fold-rear.result c.join.result
+    around (g.met.F.Fold.laws f) (g.F.Fold.part_at f) c.args.held.before c.args.within c.args.held.behind
+    c.fold-front.result c.join_rows-middle.result c.fold-rear.result c.join.result
     (c.fold-front.ensures.value _ c.requires.before_filled)
     c.join_rows-middle.ensures.value c.join_rows-middle.ensures.part
     (c.fold-rear.ensures.value _ c.requires.behind_filled)

@@ -31,25 +31,30 @@ loop-row-preserved g c =
     let behind_to = subst (λ s. IsRisen n c.loop-row.held.behind s) (sym right) (inv.behind_rises row (omega arith) small) in
     let fold_of = λ (r : ℕ). rows_fold neutral joined at (frame_rows p r) in
     let part = c.fold_around.result in
-    let value = (c.fold_around.ensures.value ∙ ap (λ ss. total neutral joined (map at (spans_places ss))) (three_spans spans _ _ _ c.frame.ensures.list) ∙ ap (λ rows. total neutral joined (map at rows)) c.frame.ensures.rows) in
-    let more = ap (map fold_of) (places_next row) ∙ map-append fold_of (places row) (row ∷ []) ∙ ap (λ x. map fold_of (places row) ++ x ∷ []) (sym value) in
+    let value = (c.fold_around.ensures.value ∙ ap (λ ss. total neutral joined (map at (spans_places ss)))
+    (three_spans spans _ _ _ c.frame.ensures.list) ∙ ap (λ rows. total neutral joined (map at rows)) c.frame.ensures.rows) in
+    let more = ap (map fold_of) (places_next row) ∙ map-append fold_of (places row) (row ∷ [])
+    ∙ ap (λ x. map fold_of (places row) ++ x ∷ []) (sym value) in
     record {
       before_filled = c.advance_both.ensures.before_filled;
       before_capacity = c.advance_both.ensures.before_capacity ∙ inv.before_capacity;
       before_ordered = before_to.ordered;
       before_within = omega (arith, before_to.within, c.count-rows.ensures.count);
-      before_rises = λ k a b. subst (λ s. IsRisen n s (before_span p k)) (sym left) (c.gaps_slide.ensures.before p row k ordered (omega arith) b);
+      before_rises = λ k a b. subst (λ s. IsRisen n s (before_span p k)) (sym left) (c.gaps_slide.ensures.before p row k
+          ordered (omega arith) b);
       behind_filled = c.advance_both.ensures.behind_filled;
       behind_capacity = c.advance_both.ensures.behind_capacity ∙ inv.behind_capacity;
       behind_ordered = behind_to.ordered;
       behind_within = omega (arith, behind_to.within, c.count-rows.ensures.count);
-      behind_rises = λ k a b. subst (λ s. IsRisen n s (behind_span p k)) (sym right) (c.gaps_slide.ensures.behind p row k ordered (omega arith) b);
+      behind_rises = λ k a b. subst (λ s. IsRisen n s (behind_span p k)) (sym right) (c.gaps_slide.ensures.behind p row k
+          ordered (omega arith) b);
       folds =
           c.in_ok-push.ensures.items
           ∙ ap (λ ps. ps ++ part ∷ []) inv.folds
           ∙ append_assoc c.args.folds.now.items (map fold_of (places row)) (part ∷ [])
           ∙ ap (λ ps. c.args.folds.now.items ++ ps) (sym more);
-      parts = All-same (g.F.Fold.is_part f) (map fold_of (places (row + 1))) (map fold_of (places row) ++ part ∷ []) more (All-push (g.F.Fold.is_part f) (map fold_of (places row)) part inv.parts c.fold_around.ensures.part);
+      parts = All-same (g.F.Fold.is_part f) (map fold_of (places (row + 1))) (map fold_of (places row) ++ part ∷ []) more
+          (All-push (g.F.Fold.is_part f) (map fold_of (places row)) part inv.parts c.fold_around.ensures.part);
       not_less = omega arith;
       joins = omega (arith, before_to.to, behind_to.to);
     }

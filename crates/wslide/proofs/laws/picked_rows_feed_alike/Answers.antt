@@ -7,10 +7,13 @@ pub returns-clause-feed : goal.returns-clause-feed
 returns-clause-feed c = fed_alike
 
 pub returns-clause-count : goal.returns-clause-count
-returns-clause-count c = λ values filter rows places all. count_alike values filter rows places (recursion_from_All (λ place. place < length rows) places all)
+returns-clause-count c = λ values filter rows places all. count_alike values filter rows places
+    (recursion_from_All (λ place. place < length rows) places all)
 
 pub returns-clause-rows : goal.returns-clause-rows
-returns-clause-rows c = λ filter rows places all. rows_alike filter rows places (recursion_from_All (λ place. place < length rows) places all)
+returns-clause-rows c = λ filter rows places all. rows_alike filter rows places
+    (recursion_from_All (λ place. place < length rows) places all)
 
 pub returns-clause-sum : goal.returns-clause-sum
-returns-clause-sum c = λ values filter rows places all. sum_alike values filter rows places (recursion_from_All (λ place. place < length rows) places all)
+returns-clause-sum c = λ values filter rows places all. sum_alike values filter rows places
+    (recursion_from_All (λ place. place < length rows) places all)

@@ -18,7 +18,8 @@ loop-row-preserved g c =
           c.join-sum.ensures.value
           ∙ ap (λ sum. joined sum c.of.result) c.loop-row.invariant.sum
           ∙ ap (joined (total c.args.start joined walked)) c.of.ensures.value
-          ∙ sym (ap (total c.args.start joined) (parts_from-push at from row (omega arith)) ∙ fold_push joined c.args.start walked (at row));
+          ∙ sym (ap (total c.args.start joined) (parts_from-push at from row (omega arith)) ∙ fold_push joined c.args.start
+          walked (at row));
       part = c.join-sum.ensures.part;
       joins = omega arith;
     }

@@ -11,10 +11,13 @@ abbrev none : Span
 none = record { from = 0; to = 0 }
 
 pub join_rows-sum-requires-clause-ordered : goal.join_rows-sum-requires-clause-ordered
-join_rows-sum-requires-clause-ordered g c = (apart_each 0 (g.F.Fold.rows c.args.fold.now) c.args.spans.now c.requires.apart c.loop-span.span-index none c.loop-span-test.true).ordered
+join_rows-sum-requires-clause-ordered g c =
+    (apart_each 0 (g.F.Fold.rows c.args.fold.now) c.args.spans.now c.requires.apart c.loop-span.span-index none
+    c.loop-span-test.true).ordered
 
 pub join_rows-sum-requires-clause-within : goal.join_rows-sum-requires-clause-within
-join_rows-sum-requires-clause-within g c = (apart_each 0 (g.F.Fold.rows c.args.fold.now) c.args.spans.now c.requires.apart c.loop-span.span-index none c.loop-span-test.true).to
+join_rows-sum-requires-clause-within g c =
+    (apart_each 0 (g.F.Fold.rows c.args.fold.now) c.args.spans.now c.requires.apart c.loop-span.span-index none c.loop-span-test.true).to
 
 pub join_rows-sum-requires-clause-room : goal.join_rows-sum-requires-clause-room
 join_rows-sum-requires-clause-room g c =

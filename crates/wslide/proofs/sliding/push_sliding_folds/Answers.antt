@@ -27,8 +27,10 @@ loop-row-preserved g c =
     let rises = inv.rises span c.extent-span.ensures.risen in
     let fold_of = λ (r : ℕ). rows_fold neutral joined at (frame_rows p r) in
     let part = c.held_fold.result in
-    let value = (c.held_fold.ensures.value ∙ ap (λ rows. total neutral joined (map at rows)) (c.extent-span.ensures.rows c.requires.single)) in
-    let more = ap (map fold_of) (places_next row) ∙ map-append fold_of (places row) (row ∷ []) ∙ ap (λ x. map fold_of (places row) ++ x ∷ []) (sym value) in
+    let value = (c.held_fold.ensures.value ∙ ap (λ rows. total neutral joined (map at rows))
+    (c.extent-span.ensures.rows c.requires.single)) in
+    let more = ap (map fold_of) (places_next row) ∙ map-append fold_of (places row) (row ∷ [])
+    ∙ ap (λ x. map fold_of (places row) ++ x ∷ []) (sym value) in
     record {
       filled = c.advance.ensures.filled;
       capacity = c.advance.ensures.capacity ∙ inv.capacity;
@@ -40,7 +42,8 @@ loop-row-preserved g c =
           ∙ ap (λ ps. ps ++ part ∷ []) inv.folds
           ∙ append_assoc c.args.folds.now.items (map fold_of (places row)) (part ∷ [])
           ∙ ap (λ ps. c.args.folds.now.items ++ ps) (sym more);
-      parts = All-same (g.F.Fold.is_part f) (map fold_of (places (row + 1))) (map fold_of (places row) ++ part ∷ []) more (All-push (g.F.Fold.is_part f) (map fold_of (places row)) part inv.parts c.held_fold.ensures.part);
+      parts = All-same (g.F.Fold.is_part f) (map fold_of (places (row + 1))) (map fold_of (places row) ++ part ∷ []) more
+          (All-push (g.F.Fold.is_part f) (map fold_of (places row)) part inv.parts c.held_fold.ensures.part);
       not_less = omega arith;
       joins = omega arith;
     }

@@ -17,9 +17,12 @@ invariant-loop-row g l =
       capacity : capacity l.queue ≡ capacity l.fn.queue;
       ordered : l.held.from ≤ l.held.to;
       within : l.held.to ≤ l.rows;
-      rises : (s : Span) → ((before : ℕ) → before ≤ l.row → IsRisen (length p.keys) (frame_extent p before) s) → IsRisen (length p.keys) l.held s;
-      folds : l.folds.items ≡ l.fn.folds.items ++ map (λ row. rows_fold (g.F.Fold.neutral f) (g.F.Fold.joined f) (g.F.Fold.part_at f) (frame_rows p row)) (places l.row);
-      parts : All (g.F.Fold.is_part f) (map (λ row. rows_fold (g.F.Fold.neutral f) (g.F.Fold.joined f) (g.F.Fold.part_at f) (frame_rows p row)) (places l.row));
+      rises : (s : Span) → ((before : ℕ) → before ≤ l.row → IsRisen (length p.keys) (frame_extent p before) s)
+          → IsRisen (length p.keys) l.held s;
+      folds : l.folds.items ≡ l.fn.folds.items ++ map (λ row. rows_fold (g.F.Fold.neutral f) (g.F.Fold.joined f)
+          (g.F.Fold.part_at f) (frame_rows p row)) (places l.row);
+      parts : All (g.F.Fold.is_part f) (map (λ row. rows_fold (g.F.Fold.neutral f) (g.F.Fold.joined f) (g.F.Fold.part_at f)
+          (frame_rows p row)) (places l.row));
       not_less : g.F.Fold.count l.fn.meter ≤ g.F.Fold.count l.meter;
       joins : g.F.Fold.count l.meter + owed l.queue ≤ g.F.Fold.count l.fn.meter + 2 * l.held.to + l.row;
     }

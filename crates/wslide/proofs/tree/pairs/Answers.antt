@@ -9,5 +9,6 @@ returns-clause-pairs g c =
 pub returns-clause-len : goal.returns-clause-len
 returns-clause-len g c =
     c.loop-i.next.ok.0
-    ∙ ap length (pairs_all (g.F.Fold.joined c.args.fold.now) c.args.level.now c.loop-i.next.items c.loop-i.i (omega arith) c.loop-i.invariant.pairs)
+    ∙ ap length (pairs_all (g.F.Fold.joined c.args.fold.now) c.args.level.now c.loop-i.next.items c.loop-i.i (omega arith)
+    c.loop-i.invariant.pairs)
     ∙ length-paired (g.F.Fold.joined c.args.fold.now) c.args.level.now

@@ -8,7 +8,9 @@ pub returns-in-Err-clause-front : goal.returns-in-Err-clause-front
 returns-in-Err-clause-front g c = front_first _ _ (decimal c.args.number) (10 ∷ []) c.in-Err.ensures.front
 
 pub returns-clause-front : goal.returns-clause-front
-returns-clause-front g c = on_err_then c.send.result _ _ (λ f. front_behind _ _ _ (decimal c.args.number) (10 ∷ []) c.in_default.ensures.ok f) c.send.ensures.front
+returns-clause-front g c = on_err_then c.send.result _ _ (λ f. front_behind _ _ _ (decimal c.args.number) (10 ∷ [])
+    c.in_default.ensures.ok f) c.send.ensures.front
 
 pub returns-clause-ok : goal.returns-clause-ok
-returns-clause-ok g c = on_ok_then c.send.result _ _ (λ k. says_more _ _ _ (decimal c.args.number) (10 ∷ []) c.in_default.ensures.ok k) c.send.ensures.ok
+returns-clause-ok g c = on_ok_then c.send.result _ _ (λ k. says_more _ _ _ (decimal c.args.number) (10 ∷ [])
+    c.in_default.ensures.ok k) c.send.ensures.ok

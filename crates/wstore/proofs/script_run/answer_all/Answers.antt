@@ -13,8 +13,10 @@ commands-preserved g c =
       output = c.in-Ok-None.ensures.ready.writer;
       answered = answered refl;
       so_far = one_step_more c.commands.session c.step.new.session (left g.R.Read.remaining c.args.source.now.held c.args.input.now)
-          (left g.R.Read.remaining c.commands.source.held c.commands.input) (left g.R.Read.remaining c.step.new.source.held c.step.new.input)
-          (sent g.W.Write.contents c.args.outbox.now c.args.output.now) (sent g.W.Write.contents c.commands.outbox c.commands.output) (sent g.W.Write.contents c.step.new.outbox c.step.new.output)
+          (left g.R.Read.remaining c.commands.source.held c.commands.input) (left g.R.Read.remaining c.step.new.source.held
+          c.step.new.input)
+          (sent g.W.Write.contents c.args.outbox.now c.args.output.now) (sent g.W.Write.contents c.commands.outbox
+          c.commands.output) (sent g.W.Write.contents c.step.new.outbox c.step.new.output)
           c.commands.invariant.so_far tells;
     }
 
@@ -23,12 +25,14 @@ returns-in-Ok-Some-clause-replies g c =
     let tells = rw c.in-Ok-Some.field-0-is at c.in-Ok-Some.ensures.tells in
     run_ends c.commands.session (left g.R.Read.remaining c.args.source.now.held c.args.input.now)
     (left g.R.Read.remaining c.commands.source.held c.commands.input) (left g.R.Read.remaining c.step.new.source.held c.step.new.input)
-    (sent g.W.Write.contents c.args.outbox.now c.args.output.now) (sent g.W.Write.contents c.commands.outbox c.commands.output) (sent g.W.Write.contents c.step.new.outbox c.step.new.output)
+    (sent g.W.Write.contents c.args.outbox.now c.args.output.now) (sent g.W.Write.contents c.commands.outbox
+    c.commands.output) (sent g.W.Write.contents c.step.new.outbox c.step.new.output)
     c.commands.invariant.so_far c.in-Ok-Some.end tells
 
 pub returns-in-Err-clause-begun : goal.returns-in-Err-clause-begun
 returns-in-Err-clause-begun g c =
     run_fails c.commands.session (left g.R.Read.remaining c.args.source.now.held c.args.input.now)
     (left g.R.Read.remaining c.commands.source.held c.commands.input) (left g.R.Read.remaining c.step.new.source.held c.step.new.input)
-    (sent g.W.Write.contents c.args.outbox.now c.args.output.now) (sent g.W.Write.contents c.commands.outbox c.commands.output) (sent g.W.Write.contents c.step.new.outbox c.step.new.output)
+    (sent g.W.Write.contents c.args.outbox.now c.args.output.now) (sent g.W.Write.contents c.commands.outbox
+    c.commands.output) (sent g.W.Write.contents c.step.new.outbox c.step.new.output)
     c.commands.invariant.so_far c.in-Err.fault c.step.new.input.reads c.in-Err.ensures.fails

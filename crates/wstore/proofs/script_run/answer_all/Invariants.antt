@@ -9,7 +9,8 @@ invariant-commands g l = record {
   input : IsSound l.input;
   output : IsSoundWriter l.output;
   answered : l.outbox.is_answered ≡ true;
-  so_far : SoFar l.session (left g.R.Read.remaining l.fn.source.held l.fn.input) (left g.R.Read.remaining l.source.held l.input) (sent g.W.Write.contents l.fn.outbox l.fn.output) (sent g.W.Write.contents l.outbox l.output);
+  so_far : SoFar l.session (left g.R.Read.remaining l.fn.source.held l.fn.input) (left g.R.Read.remaining l.source.held
+      l.input) (sent g.W.Write.contents l.fn.outbox l.fn.output) (sent g.W.Write.contents l.outbox l.output);
 }
 
 abbrev pub decreases-commands : goal.decreases-commands

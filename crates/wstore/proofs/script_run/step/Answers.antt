@@ -14,7 +14,8 @@ returns-in_err-send-in-Malformed-clause-fails g c =
     let failed = c.in_err-send-in-Malformed.ensures in
     rw (p.1, p.2) (λ h stands.
     let bad = rw (c.in-Malformed.is, c.is_declared-declared.ensures.history h stands) at c.in-Ok.ensures.reads in
-    fails_at_last c.in_err-send-in-Malformed.field-0.0 h (left g.R.Read.remaining c.args.source.now.held c.args.input.now) _ _ failed.front.0 failed.fault bad (says_behind _ _ _ _ c.next_request.ensures.says failed.front.1))
+    fails_at_last c.in_err-send-in-Malformed.field-0.0 h (left g.R.Read.remaining c.args.source.now.held c.args.input.now) _
+    _ failed.front.0 failed.fault bad (says_behind _ _ _ _ c.next_request.ensures.says failed.front.1))
 
 pub returns-in_err-send-in-NoMemory-clause-fails : goal.returns-in_err-send-in-NoMemory-clause-fails
 returns-in_err-send-in-NoMemory-clause-fails g c =
@@ -23,9 +24,11 @@ returns-in_err-send-in-NoMemory-clause-fails g c =
     let failed = c.in_err-send-in-NoMemory.ensures in
     rw (p.1, p.2) (λ h stands.
     let read = rw (c.in-NoMemory.is, c.is_declared-declared.ensures.history h stands) at c.in-Ok.ensures.reads in
-    fails_at_answer fault h (left g.R.Read.remaining c.args.source.now.held c.args.input.now) (left g.R.Read.remaining c.next_request.new.source.held c.next_request.new.input) _ _ read.0 read.2 read.3
+    fails_at_answer fault h (left g.R.Read.remaining c.args.source.now.held c.args.input.now)
+    (left g.R.Read.remaining c.next_request.new.source.held c.next_request.new.input) _ _ read.0 read.2 read.3
     (unanswered fault h read.0 _ _ failed.fault
-    (answered_part c.args.session.now h read.0 no_memory _ _ (finds_no_memory c.args.session.now h read.0 (kept_may_lack h read.0 read.1) stands) failed.front.0 (says_behind _ _ _ _ c.next_request.ensures.says failed.front.1))))
+    (answered_part c.args.session.now h read.0 no_memory _ _ (finds_no_memory c.args.session.now h read.0
+    (kept_may_lack h read.0 read.1) stands) failed.front.0 (says_behind _ _ _ _ c.next_request.ensures.says failed.front.1))))
 
 pub returns-in_ok-send-in-NoMemory-clause-tells : goal.returns-in_ok-send-in-NoMemory-clause-tells
 returns-in_ok-send-in-NoMemory-clause-tells g c = λ h stands.
@@ -34,7 +37,8 @@ returns-in_ok-send-in-NoMemory-clause-tells g c = λ h stands.
       command = read.0;
       is = read.2;
       consumes = read.3;
-      answered = answered c.args.session.now h read.0 no_memory _ _ (finds_no_memory c.args.session.now h read.0 (kept_may_lack h read.0 read.1) stands) (says_behind _ _ _ _ c.next_request.ensures.says c.in_ok-send-in-NoMemory.ensures.ok);
+      answered = answered c.args.session.now h read.0 no_memory _ _ (finds_no_memory c.args.session.now h read.0
+          (kept_may_lack h read.0 read.1) stands) (says_behind _ _ _ _ c.next_request.ensures.says c.in_ok-send-in-NoMemory.ensures.ok);
     }
 
 pub answer_command-requires-clause-suits : goal.answer_command-requires-clause-suits
@@ -44,11 +48,14 @@ answer_command-requires-clause-suits g c =
 
 pub returns-in_err-answer_command-in-Whole-clause-fails : goal.returns-in_err-answer_command-in-Whole-clause-fails
 returns-in_err-answer_command-in-Whole-clause-fails g c =
-    let p = err_from_is_err_and c.from_residual-in_err-answer_command-in-Whole.result c.from_residual-in_err-answer_command-in-Whole.ensures.1 in
+    let p = err_from_is_err_and c.from_residual-in_err-answer_command-in-Whole.result
+    c.from_residual-in_err-answer_command-in-Whole.ensures.1 in
     rw (p.1, p.2) (λ h stands.
     let read = rw (c.in-Whole.is, c.is_declared-declared.ensures.history h stands) at c.in-Ok.ensures.reads in
-    fails_at_answer c.in_err-answer_command-in-Whole.field-0.0 h (left g.R.Read.remaining c.args.source.now.held c.args.input.now) (left g.R.Read.remaining c.next_request.new.source.held c.next_request.new.input) _ _ read.0 read.2 read.3
-    (unanswered_behind c.in_err-answer_command-in-Whole.field-0.0 h read.0 _ _ _ c.next_request.ensures.says (c.in_err-answer_command-in-Whole.ensures.part h read.0 read.1 read.2.allowed stands)))
+    fails_at_answer c.in_err-answer_command-in-Whole.field-0.0 h (left g.R.Read.remaining c.args.source.now.held
+    c.args.input.now) (left g.R.Read.remaining c.next_request.new.source.held c.next_request.new.input) _ _ read.0 read.2 read.3
+    (unanswered_behind c.in_err-answer_command-in-Whole.field-0.0 h read.0 _ _ _ c.next_request.ensures.says
+    (c.in_err-answer_command-in-Whole.ensures.part h read.0 read.1 read.2.allowed stands)))
 
 pub returns-in_ok-send-in-Malformed-clause-tells : goal.returns-in_ok-send-in-Malformed-clause-tells
 returns-in_ok-send-in-Malformed-clause-tells g c = λ h stands.
@@ -62,5 +69,6 @@ returns-in_ok-answer_command-in-Whole-clause-tells g c = λ h stands.
       command = read.0;
       is = read.2;
       consumes = read.3;
-      answered = answered_behind _ h read.0 _ _ _ c.next_request.ensures.says (c.in_ok-answer_command-in-Whole.ensures.ok h read.0 read.1 read.2.allowed stands);
+      answered = answered_behind _ h read.0 _ _ _ c.next_request.ensures.says (c.in_ok-answer_command-in-Whole.ensures.ok h
+          read.0 read.1 read.2.allowed stands);
     }

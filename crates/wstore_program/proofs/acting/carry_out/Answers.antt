@@ -6,10 +6,13 @@ pub returns-in-Err-read-clause-not_carried_out : goal.returns-in-Err-read-clause
 returns-in-Err-read-clause-not_carried_out g c = unfound _ _ _ _ _ _ _ _ c.in-Ok.ensures.locked c.in-Err-read.ensures.begun
 
 pub returns-in-Err-acted_again-clause-not_carried_out : goal.returns-in-Err-acted_again-clause-not_carried_out
-returns-in-Err-acted_again-clause-not_carried_out g c = Unchanged _ _ (found_locked _ _ _ _ _ c.in-Ok.ensures.locked c.in-Ok-read.ensures.found)
+returns-in-Err-acted_again-clause-not_carried_out g c =
+    Unchanged _ _ (found_locked _ _ _ _ _ c.in-Ok.ensures.locked c.in-Ok-read.ensures.found)
 
 pub returns-in-Ok-put-clause-carried_out : goal.returns-in-Ok-put-clause-carried_out
-returns-in-Ok-put-clause-carried_out g c = put_in_place _ _ _ _ _ _ _ _ _ _ _ c.in-Ok-acted_again.ensures.acts c.in-Ok.ensures.locked c.in-Ok-read.ensures.found c.in-Ok-put.ensures.puts
+returns-in-Ok-put-clause-carried_out g c = put_in_place _ _ _ _ _ _ _ _ _ _ _ c.in-Ok-acted_again.ensures.acts
+    c.in-Ok.ensures.locked c.in-Ok-read.ensures.found c.in-Ok-put.ensures.puts
 
 pub returns-clause-not_carried_out : goal.returns-clause-not_carried_out
-returns-clause-not_carried_out g c = not_put _ _ _ _ _ _ _ _ _ _ _ _ c.in-Ok-acted_again.ensures.acts c.in-Ok.ensures.locked c.in-Ok-read.ensures.found c.in-Err-put.ensures.puts c.fault.ensures
+returns-clause-not_carried_out g c = not_put _ _ _ _ _ _ _ _ _ _ _ _ c.in-Ok-acted_again.ensures.acts c.in-Ok.ensures.locked
+    c.in-Ok-read.ensures.found c.in-Err-put.ensures.puts c.fault.ensures

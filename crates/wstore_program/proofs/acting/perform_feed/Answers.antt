@@ -6,4 +6,5 @@ feed_from-requires-clause-opens g c = rw c.in-Ok-Node.field-0-is at c.in-Ok-Node
 
 pub returns-in-Ok-Refused-clause-done : goal.returns-in-Ok-Refused-clause-done
 returns-in-Ok-Refused-clause-done g c =
-    refused_open _ _ _ c.in-Ok-Refused.text _ _ c.requires.choice (rw c.in-Ok-Refused.field-0-is at c.in-Ok-Refused.ensures.opens) c.refused-acted.ensures
+    refused_open _ _ _ c.in-Ok-Refused.text _ _ c.requires.choice
+    (rw c.in-Ok-Refused.field-0-is at c.in-Ok-Refused.ensures.opens) c.refused-acted.ensures

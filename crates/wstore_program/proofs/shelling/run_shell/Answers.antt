@@ -6,7 +6,8 @@ pub returns-in-Ok-Node : goal.returns-in-Ok-Node
 returns-in-Ok-Node g c = Ran c.in-Ok-Node.node (rw c.in-Ok-Node.field-0-is at c.in-Ok-Node.ensures.opened) c.answer.ensures
 
 pub returns-in-Ok-Refused : goal.returns-in-Ok-Refused
-returns-in-Ok-Refused g c = Refused c.in-Ok-Refused.text (rw c.in-Ok-Refused.field-0-is at c.in-Ok-Refused.ensures.opened) (rw c.as_slice.ensures at c.refuse.ensures)
+returns-in-Ok-Refused g c = Refused c.in-Ok-Refused.text (rw c.in-Ok-Refused.field-0-is at c.in-Ok-Refused.ensures.opened)
+    (rw c.as_slice.ensures at c.refuse.ensures)
 
 pub returns-in-Err : goal.returns-in-Err
 returns-in-Err g c = NotOpened c.in-Err.fault c.in-Err.ensures.cause c.in-Err.ensures.unread (Keeps-refl _) c.failed_on.ensures

@@ -12,13 +12,15 @@ segments-init c =
     let none : 0 + n ≡ n = omega arith in
     record {
       all = ap (λ l. min (0 + length (rows_left l)) (2 ^ 64 - 1)) c.into_iter-segment-iterator.ensures.into_iter_gives
-          ∙ ap (λ rows. min (0 + length rows) (2 ^ 64 - 1)) (set_rows set c.lives-segment-items.result c.lives-segment-items.ensures) ∙ ap (λ m. min m (2 ^ 64 - 1)) none;
+          ∙ ap (λ rows. min (0 + length rows) (2 ^ 64 - 1)) (set_rows set c.lives-segment-items.result
+          c.lives-segment-items.ensures) ∙ ap (λ m. min m (2 ^ 64 - 1)) none;
       small = omega arith;
     }
 
 pub segments-preserved : goal.segments-preserved
 segments-preserved c = record {
-  all = count_left c.segments.count _ _ _ _ _ c.rows.result c.in-Some.ensures.steps c.segments.invariant.all c.rows.ensures.count c.saturating_add-count.ensures;
+  all = count_left c.segments.count _ _ _ _ _ c.rows.result c.in-Some.ensures.steps c.segments.invariant.all
+      c.rows.ensures.count c.saturating_add-count.ensures;
   small = omega (arith, c.saturating_add-count.ensures);
 }
 

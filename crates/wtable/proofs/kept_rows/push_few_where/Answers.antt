@@ -17,7 +17,8 @@ returns-in_err-push_where-clause-gives c =
     let t = formula c.args.condition.now in
     let stored = c.in_ok-segment.segment.now.rows in
     let within : c.loop-row.row < length stored = omega (arith, c.loop-row-test.true, c.rows-row-end.ensures.count) in
-    rw (p.1, p.2, ← c.in_ok-segment.ensures) (refused (λ u. u) c.in_err-push_where.field-0.0 _ (list_any (is_out_of_range t) stored) tt c.in_err-push_where.ensures.gives
+    rw (p.1, p.2, ← c.in_ok-segment.ensures) (refused (λ u. u) c.in_err-push_where.field-0.0 _
+    (list_any (is_out_of_range t) stored) tt c.in_err-push_where.ensures.gives
     (λ here. list_any_at (is_out_of_range t) stored c.loop-row.row [] within (ap (is_out_of_range t) (sym c.row.ensures.values) ∙ here)))
 
 pub loop-row-preserved : goal.loop-row-preserved
@@ -26,20 +27,26 @@ loop-row-preserved c =
     let stored = c.in_ok-segment.segment.now.rows in
     let within : c.loop-row.row < length stored = omega (arith, c.loop-row-test.true, c.rows-row-end.ensures.count) in
     record {
-      in_range = in_range_more (is_out_of_range t) stored c.loop-row.row (row_seen c.row.result) within c.row.ensures.values c.loop-row.invariant.in_range (ok_is_false _ _ _ c.in_ok-push_where.ensures.gives);
-      so_far = held_more (holds_on t) stored (rows_seen c.args.held.now.items) (rows_seen c.loop-row.held.items) _ c.loop-row.row (row_seen c.row.result) within c.row.ensures.values c.loop-row.invariant.so_far c.in_ok-push_where.ensures.added;
+      in_range = in_range_more (is_out_of_range t) stored c.loop-row.row (row_seen c.row.result) within c.row.ensures.values
+          c.loop-row.invariant.in_range (ok_is_false _ _ _ c.in_ok-push_where.ensures.gives);
+      so_far = held_more (holds_on t) stored (rows_seen c.args.held.now.items) (rows_seen c.loop-row.held.items) _
+          c.loop-row.row (row_seen c.row.result) within c.row.ensures.values c.loop-row.invariant.so_far c.in_ok-push_where.ensures.added;
     }
 
 pub returns-clause-gives : goal.returns-clause-gives
 returns-clause-gives c =
     let t = formula c.args.condition.now in
     let stored = c.in_ok-segment.segment.now.rows in
-    let all : take c.loop-row.row stored ≡ stored = take_all c.loop-row.row stored (omega (arith, c.loop-row-test.false, c.rows-row-end.ensures.count)) in
-    rw (← c.in_ok-segment.ensures) (ap (λ b. unless b OutOfRange tt) (ap (list_any (is_out_of_range t)) (sym all) ∙ c.loop-row.invariant.in_range))
+    let all : take c.loop-row.row stored ≡ stored =
+    take_all c.loop-row.row stored (omega (arith, c.loop-row-test.false, c.rows-row-end.ensures.count)) in
+    rw (← c.in_ok-segment.ensures) (ap (λ b. unless b OutOfRange tt) (ap (list_any (is_out_of_range t)) (sym all)
+    ∙ c.loop-row.invariant.in_range))
 
 pub returns-clause-added : goal.returns-clause-added
 returns-clause-added c =
     let t = formula c.args.condition.now in
     let stored = c.in_ok-segment.segment.now.rows in
-    let all : take c.loop-row.row stored ≡ stored = take_all c.loop-row.row stored (omega (arith, c.loop-row-test.false, c.rows-row-end.ensures.count)) in
-    rw (← c.in_ok-segment.ensures) (λ whole. c.loop-row.invariant.so_far ∙ ap (λ l. rows_seen c.args.held.now.items ++ filter (holds_on t) l) all)
+    let all : take c.loop-row.row stored ≡ stored =
+    take_all c.loop-row.row stored (omega (arith, c.loop-row-test.false, c.rows-row-end.ensures.count)) in
+    rw (← c.in_ok-segment.ensures) (λ whole. c.loop-row.invariant.so_far
+    ∙ ap (λ l. rows_seen c.args.held.now.items ++ filter (holds_on t) l) all)

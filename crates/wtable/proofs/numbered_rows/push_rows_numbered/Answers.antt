@@ -20,7 +20,8 @@ returns-in_err-push_numbered-clause-gives c =
     let t = formula c.args.condition.now in
     let stored = c.in_ok-segment.segment.now.rows in
     let within : c.loop-row.row < length stored = omega (arith, c.loop-row-test.true, c.rows-row-end.ensures.count) in
-    rw (p.1, p.2, ← c.in_ok-segment.ensures) (refused (λ u. u) c.in_err-push_numbered.field-0.0 _ (list_any (is_out_of_range t) stored) tt c.in_err-push_numbered.ensures.gives
+    rw (p.1, p.2, ← c.in_ok-segment.ensures) (refused (λ u. u) c.in_err-push_numbered.field-0.0 _
+    (list_any (is_out_of_range t) stored) tt c.in_err-push_numbered.ensures.gives
     (λ here. list_any_at (is_out_of_range t) stored c.loop-row.row [] within (ap (is_out_of_range t) (sym c.row.ensures.values) ∙ here)))
 
 pub loop-row-preserved : goal.loop-row-preserved
@@ -30,29 +31,41 @@ loop-row-preserved c =
     let i = c.loop-row.row in
     let within : i < length stored = omega (arith, c.loop-row-test.true, c.rows-row-end.ensures.count) in
     record {
-      in_range = in_range_more (is_out_of_range t) stored i (row_seen c.row.result) within c.row.ensures.values c.loop-row.invariant.in_range (ok_is_false _ _ _ c.in_ok-push_numbered.ensures.gives);
-      so_far = held_more (holds_on t) stored (rows_seen c.args.held.now.items) (rows_seen c.loop-row.held.items) _ i (row_seen c.row.result) within c.row.ensures.values c.loop-row.invariant.so_far c.in_ok-push_numbered.ensures.added;
-      numbered = numbers_more (holds_on t) c.args.numbers.now.items c.loop-row.numbers.items _ (length c.args.held.now.items) (length c.loop-row.held.items) stored i (row_seen c.row.result) within c.row.ensures.values c.loop-row.invariant.numbered c.in_ok-push_numbered.ensures.numbered
-          (held_grown (holds_on t) (rows_seen c.args.held.now.items) (rows_seen c.loop-row.held.items) (take i stored) (length c.args.held.now.items) (length c.loop-row.held.items) (sym (length-map c.args.held.now.items row_seen)) (sym (length-map c.loop-row.held.items row_seen)) c.loop-row.invariant.so_far);
+      in_range = in_range_more (is_out_of_range t) stored i (row_seen c.row.result) within c.row.ensures.values
+          c.loop-row.invariant.in_range (ok_is_false _ _ _ c.in_ok-push_numbered.ensures.gives);
+      so_far = held_more (holds_on t) stored (rows_seen c.args.held.now.items) (rows_seen c.loop-row.held.items) _ i
+          (row_seen c.row.result) within c.row.ensures.values c.loop-row.invariant.so_far c.in_ok-push_numbered.ensures.added;
+      numbered = numbers_more (holds_on t) c.args.numbers.now.items c.loop-row.numbers.items _
+          (length c.args.held.now.items) (length c.loop-row.held.items) stored i (row_seen c.row.result) within
+          c.row.ensures.values c.loop-row.invariant.numbered c.in_ok-push_numbered.ensures.numbered
+          (held_grown (holds_on t) (rows_seen c.args.held.now.items) (rows_seen c.loop-row.held.items) (take i stored)
+          (length c.args.held.now.items) (length c.loop-row.held.items)
+          (sym (length-map c.args.held.now.items row_seen)) (sym (length-map c.loop-row.held.items row_seen))
+          c.loop-row.invariant.so_far);
     }
 
 pub returns-clause-gives : goal.returns-clause-gives
 returns-clause-gives c =
     let t = formula c.args.condition.now in
     let stored = c.in_ok-segment.segment.now.rows in
-    let all : take c.loop-row.row stored ≡ stored = take_all c.loop-row.row stored (omega (arith, c.loop-row-test.false, c.rows-row-end.ensures.count)) in
-    rw (← c.in_ok-segment.ensures) (ap (λ b. unless b OutOfRange tt) (ap (list_any (is_out_of_range t)) (sym all) ∙ c.loop-row.invariant.in_range))
+    let all : take c.loop-row.row stored ≡ stored =
+    take_all c.loop-row.row stored (omega (arith, c.loop-row-test.false, c.rows-row-end.ensures.count)) in
+    rw (← c.in_ok-segment.ensures) (ap (λ b. unless b OutOfRange tt) (ap (list_any (is_out_of_range t)) (sym all)
+    ∙ c.loop-row.invariant.in_range))
 
 pub returns-clause-added : goal.returns-clause-added
 returns-clause-added c =
     let t = formula c.args.condition.now in
     let stored = c.in_ok-segment.segment.now.rows in
-    let all : take c.loop-row.row stored ≡ stored = take_all c.loop-row.row stored (omega (arith, c.loop-row-test.false, c.rows-row-end.ensures.count)) in
+    let all : take c.loop-row.row stored ≡ stored =
+    take_all c.loop-row.row stored (omega (arith, c.loop-row-test.false, c.rows-row-end.ensures.count)) in
     rw (← c.in_ok-segment.ensures) (c.loop-row.invariant.so_far ∙ ap (λ l. rows_seen c.args.held.now.items ++ filter (holds_on t) l) all)
 
 pub returns-clause-numbered : goal.returns-clause-numbered
 returns-clause-numbered c =
     let t = formula c.args.condition.now in
     let stored = c.in_ok-segment.segment.now.rows in
-    let all : take c.loop-row.row stored ≡ stored = take_all c.loop-row.row stored (omega (arith, c.loop-row-test.false, c.rows-row-end.ensures.count)) in
-    rw (← c.in_ok-segment.ensures) (c.loop-row.invariant.numbered ∙ ap (λ l. c.args.numbers.now.items ++ numbers_kept (holds_on t) (length c.args.held.now.items) l) all)
+    let all : take c.loop-row.row stored ≡ stored =
+    take_all c.loop-row.row stored (omega (arith, c.loop-row-test.false, c.rows-row-end.ensures.count)) in
+    rw (← c.in_ok-segment.ensures) (c.loop-row.invariant.numbered
+    ∙ ap (λ l. c.args.numbers.now.items ++ numbers_kept (holds_on t) (length c.args.held.now.items) l) all)

@@ -21,12 +21,19 @@ use Rattle.wtable.proofs.numbered_rows.rows_where.Goals as goal
 pub segments-init : goal.segments-init
 segments-init c =
     let t = formula c.args.condition.now in
-    let all : flat_map (λ e. e.1.rows) c.lives-segment-items.result ≡ rows_of_set c.args.set.now = set_rows c.args.set.now c.lives-segment-items.result c.lives-segment-items.ensures in
+    let all : flat_map (λ e. e.1.rows) c.lives-segment-items.result ≡ rows_of_set c.args.set.now =
+    set_rows c.args.set.now c.lives-segment-items.result c.lives-segment-items.ensures in
     record {
-      in_range = ap (λ l. list_any (is_out_of_range t) (flat_map (λ e. e.1.rows) l)) c.into_iter-segment-iterator.ensures.into_iter_gives ∙ ap (list_any (is_out_of_range t)) all;
-      so_far = rw c.new-rows.ensures.items (ap (λ l. filter (holds_on t) (flat_map (λ e. e.1.rows) l)) c.into_iter-segment-iterator.ensures.into_iter_gives ∙ ap (filter (holds_on t)) all);
-      numbers = rw (c.new-rows.ensures.items, c.new-numbers.ensures.items) (ap (λ l. numbers_kept (holds_on t) 0 (flat_map (λ e. e.1.rows) l)) c.into_iter-segment-iterator.ensures.into_iter_gives ∙ ap (numbers_kept (holds_on t) 0) all);
-      starts = rw (c.new-numbers.ensures.items, c.new-starts.ensures.items) (ap (λ l. starts_from 0 (map (λ e. e.1.rows) l)) c.into_iter-segment-iterator.ensures.into_iter_gives ∙ ap (starts_from 0) (lent_rows_are c.args.set.now c.lives-segment-items.result c.lives-segment-items.ensures));
+      in_range = ap (λ l. list_any (is_out_of_range t) (flat_map (λ e. e.1.rows) l))
+          c.into_iter-segment-iterator.ensures.into_iter_gives ∙ ap (list_any (is_out_of_range t)) all;
+      so_far = rw c.new-rows.ensures.items (ap (λ l. filter (holds_on t) (flat_map (λ e. e.1.rows) l))
+          c.into_iter-segment-iterator.ensures.into_iter_gives ∙ ap (filter (holds_on t)) all);
+      numbers = rw (c.new-rows.ensures.items, c.new-numbers.ensures.items)
+          (ap (λ l. numbers_kept (holds_on t) 0 (flat_map (λ e. e.1.rows) l))
+          c.into_iter-segment-iterator.ensures.into_iter_gives ∙ ap (numbers_kept (holds_on t) 0) all);
+      starts = rw (c.new-numbers.ensures.items, c.new-starts.ensures.items) (ap (λ l. starts_from 0 (map (λ e. e.1.rows) l))
+          c.into_iter-segment-iterator.ensures.into_iter_gives
+          ∙ ap (starts_from 0) (lent_rows_are c.args.set.now c.lives-segment-items.result c.lives-segment-items.ensures));
     }
 
 pub returns-in_err-push_rows_numbered-clause-rows : goal.returns-in_err-push_rows_numbered-clause-rows
@@ -35,7 +42,8 @@ returns-in_err-push_rows_numbered-clause-rows c =
     let t = formula c.args.condition.now in
     let all = rows_of_set c.args.set.now in
     let view : NumberedRows → List Row = λ kept. rows_seen kept.rows.items in
-    rw (p.1, p.2) (refused view c.in_err-push_rows_numbered.field-0.0 _ (list_any (is_out_of_range t) all) (filter (holds_on t) all) c.in_err-push_rows_numbered.ensures.gives
+    rw (p.1, p.2) (refused view c.in_err-push_rows_numbered.field-0.0 _ (list_any (is_out_of_range t) all)
+    (filter (holds_on t) all) c.in_err-push_rows_numbered.ensures.gives
     (fault_left (is_out_of_range t) all _ _ _ c.in-Some.ensures.steps c.segments.invariant.in_range))
 
 pub segments-preserved : goal.segments-preserved
@@ -46,11 +54,18 @@ segments-preserved c =
     let after = c.push_rows_numbered.new.held.items in
     let pushed = c.in_ok-push_rows_numbered.ensures in
     record {
-      in_range = in_range_left (is_out_of_range t) all _ _ _ c.in-Some.ensures.steps c.segments.invariant.in_range (ok_is_false _ _ _ pushed.gives);
-      so_far = held_left (holds_on t) (rows_seen before) (rows_seen after) all _ _ _ c.in-Some.ensures.steps c.segments.invariant.so_far pushed.added;
-      numbers = numbers_left (holds_on t) (length before) (length after) c.segments.numbers.items c.push_rows_numbered.new.numbers.items all _ _ _ c.in-Some.ensures.steps c.segments.invariant.numbers pushed.numbered
-          (held_grown (holds_on t) (rows_seen before) (rows_seen after) _ (length before) (length after) (sym (length-map before row_seen)) (sym (length-map after row_seen)) pushed.added);
-      starts = starts_left (length c.segments.numbers.items) (length c.push_rows_numbered.new.numbers.items) c.segments.starts.items _ (starts_from 0 (live_rows c.args.set.now)) _ _ _ c.in-Some.ensures.steps c.segments.invariant.starts (c.in_ok-push.ensures.items ∙ ap (λ n. c.segments.starts.items ++ n ∷ []) (c.len.ensures ∙ c.segments.numbers.ok.0))
+      in_range = in_range_left (is_out_of_range t) all _ _ _ c.in-Some.ensures.steps c.segments.invariant.in_range
+          (ok_is_false _ _ _ pushed.gives);
+      so_far = held_left (holds_on t) (rows_seen before) (rows_seen after) all _ _ _ c.in-Some.ensures.steps
+          c.segments.invariant.so_far pushed.added;
+      numbers = numbers_left (holds_on t) (length before) (length after) c.segments.numbers.items
+          c.push_rows_numbered.new.numbers.items all _ _ _ c.in-Some.ensures.steps c.segments.invariant.numbers pushed.numbered
+          (held_grown (holds_on t) (rows_seen before) (rows_seen after) _ (length before) (length after)
+          (sym (length-map before row_seen)) (sym (length-map after row_seen)) pushed.added);
+      starts = starts_left (length c.segments.numbers.items) (length c.push_rows_numbered.new.numbers.items)
+          c.segments.starts.items _ (starts_from 0 (live_rows c.args.set.now)) _ _ _ c.in-Some.ensures.steps
+          c.segments.invariant.starts (c.in_ok-push.ensures.items ∙ ap (λ n. c.segments.starts.items ++ n ∷ [])
+          (c.len.ensures ∙ c.segments.numbers.ok.0))
           (numbered_grown (holds_on t) c.segments.numbers.items c.push_rows_numbered.new.numbers.items (length before) _ pushed.numbered);
     }
 
@@ -58,20 +73,33 @@ pub returns-clause-rows : goal.returns-clause-rows
 returns-clause-rows c =
     let t = formula c.args.condition.now in
     let all = rows_of_set c.args.set.now in
-    let none : list_any (is_out_of_range t) all ≡ false = sym c.segments.invariant.in_range ∙ ap (λ l. list_any (is_out_of_range t) (flat_map (λ e. e.1.rows) l)) c.in-None.ensures.steps.0 in
+    let none : list_any (is_out_of_range t) all ≡ false = sym c.segments.invariant.in_range
+    ∙ ap (λ l. list_any (is_out_of_range t) (flat_map (λ e. e.1.rows) l)) c.in-None.ensures.steps.0 in
     ap (λ b. unless b OutOfRange (filter (holds_on t) all)) none
-    ∙ ap (unless false OutOfRange) (sym (sym (append-nil (rows_seen c.segments.rows.items)) ∙ ap (λ l. rows_seen c.segments.rows.items ++ filter (holds_on t) (flat_map (λ e. e.1.rows) l)) (sym c.in-None.ensures.steps.0) ∙ c.segments.invariant.so_far))
+    ∙ ap (unless false OutOfRange) (sym (sym (append-nil (rows_seen c.segments.rows.items))
+    ∙ ap (λ l. rows_seen c.segments.rows.items ++ filter (holds_on t) (flat_map (λ e. e.1.rows) l))
+    (sym c.in-None.ensures.steps.0) ∙ c.segments.invariant.so_far))
 
 pub returns-clause-starts : goal.returns-clause-starts
 returns-clause-starts c =
-    sym (append-nil c.segments.starts.items) ∙ ap (λ l. c.segments.starts.items ++ starts_from (length c.segments.numbers.items) (map (λ e. e.1.rows) l)) (sym c.in-None.ensures.steps.0) ∙ c.segments.invariant.starts
+    sym (append-nil c.segments.starts.items)
+    ∙ ap (λ l. c.segments.starts.items ++ starts_from (length c.segments.numbers.items) (map (λ e. e.1.rows) l))
+    (sym c.in-None.ensures.steps.0) ∙ c.segments.invariant.starts
 
 pub returns-clause-numbers : goal.returns-clause-numbers
 returns-clause-numbers c =
     let t = formula c.args.condition.now in
-    sym (append-nil c.segments.numbers.items) ∙ ap (λ l. c.segments.numbers.items ++ numbers_kept (holds_on t) (length c.segments.rows.items) (flat_map (λ e. e.1.rows) l)) (sym c.in-None.ensures.steps.0) ∙ c.segments.invariant.numbers
+    sym (append-nil c.segments.numbers.items) ∙ ap (λ l. c.segments.numbers.items ++ numbers_kept (holds_on t)
+    (length c.segments.rows.items) (flat_map (λ e. e.1.rows) l)) (sym c.in-None.ensures.steps.0) ∙ c.segments.invariant.numbers
 
 pub returns-clause-fit : goal.returns-clause-fit
 returns-clause-fit c =
     let numbers = c.segments.numbers in
-    omega (arith, numbers.small, numbers.ok.0, numbers.ok.1, ap length (returns-clause-numbers c), numbers_long (holds_on (formula c.args.condition.now)) 0 (rows_of_set c.args.set.now))
+    omega (
+      arith,
+      numbers.small,
+      numbers.ok.0,
+      numbers.ok.1,
+      ap length (returns-clause-numbers c),
+      numbers_long (holds_on (formula c.args.condition.now)) 0 (rows_of_set c.args.set.now),
+    )

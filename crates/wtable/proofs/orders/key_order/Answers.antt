@@ -18,7 +18,13 @@ returns-clause-order c = λ columns.
     let keys = c.in-Some.keys.items in
     let wide : w ≡ length s.schema.columns = ap length (c.columns-width.ensures.columns ∙ ap (λ d. d.columns) c.schema.ensures.schema) in
     let are : AreColumns w (map (λ (k : KeyPlan). k.value) plans) (map (λ (k : KeyPlan). k.order) plans) keys =
-    subst (λ l. AreColumns w (map (λ (k : KeyPlan). k.value) (map key_plan l)) (map (λ (k : KeyPlan). k.order) (map key_plan l)) keys) c.deref.ensures.value
-    (some_presorted (λ (k : Vec SortKey Global). AreColumns w (map (λ (k : KeyPlan). k.value) (map key_plan c.deref.result.now)) (map (λ (k : KeyPlan). k.order) (map key_plan c.deref.result.now)) k.items) c.in_ok-found.found c.in-Some.keys c.in-Some.is c.in_ok-found.ensures) in
-    order_had w (live_rows s) (by_keys plans columns) keys c.in_ok-rows.rows.items c.kept_rows_stay_in_order.ensures (subst (λ n. AllByRecursion (λ row. length row ≡ n) (joined (live_rows s))) (sym wide) (live_wide s)) (keys_given w plans keys are columns)
+    subst (λ l. AreColumns w (map (λ (k : KeyPlan). k.value) (map key_plan l))
+    (map (λ (k : KeyPlan). k.order) (map key_plan l)) keys) c.deref.ensures.value
+    (some_presorted (λ (k : Vec SortKey Global). AreColumns w
+    (map (λ (k : KeyPlan). k.value) (map key_plan c.deref.result.now))
+    (map (λ (k : KeyPlan). k.order) (map key_plan c.deref.result.now)) k.items) c.in_ok-found.found c.in-Some.keys
+    c.in-Some.is c.in_ok-found.ensures) in
+    order_had w (live_rows s) (by_keys plans columns) keys c.in_ok-rows.rows.items c.kept_rows_stay_in_order.ensures
+    (subst (λ n. AllByRecursion (λ row. length row ≡ n) (joined (live_rows s))) (sym wide) (live_wide s))
+    (keys_given w plans keys are columns)
     (c.in_ok-rows.ensures.list ∙ ap (λ k. refs_by k (live_rows s)) c.deref-2.ensures.value)

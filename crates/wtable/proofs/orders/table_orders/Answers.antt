@@ -11,5 +11,7 @@ returns-clause-orders c =
     let plans = map key_plan c.args.select.now.keys.items in
     record {
       windows = c.in_ok-windows.ensures.orders;
-      keys = subst (λ segments. IfSome c.in_ok-keys.keys (λ refs. (columns : List (List Meaning)) → IsOrderFor segments (by_keys plans columns) refs.items)) (live_same c.args.set.now c.window_orders.new.set c.in_ok-windows.ensures.same) c.in_ok-keys.ensures.order;
+      keys = subst (λ segments. IfSome c.in_ok-keys.keys (λ refs. (columns : List (List Meaning))
+          → IsOrderFor segments (by_keys plans columns) refs.items)) (live_same c.args.set.now c.window_orders.new.set
+          c.in_ok-windows.ensures.same) c.in_ok-keys.ensures.order;
     }

@@ -14,9 +14,17 @@ returns c = λ rows.
     let plan = window_plan c.args.window.now in
     let first : AreColumns w plan.partition (ascending plan.partition) c.in-Some.keys.items =
     subst (λ l. AreColumns w (map formula l) (ascending (map formula l)) c.in-Some.keys.items) c.deref.ensures.value
-    (some_presorted (λ (k : Vec SortKey Global). AreColumns w (map formula c.deref.result.now) (ascending (map formula c.deref.result.now)) k.items) c.in_ok-partition.partition c.in-Some.keys c.in-Some.is c.in_ok-partition.ensures) in
-    let then : AreColumns w (map (λ (k : KeyPlan). k.value) plan.keys) (map (λ (k : KeyPlan). k.order) plan.keys) c.in-Some-others.others.items =
-    subst (λ l. AreColumns w (map (λ (k : KeyPlan). k.value) (map key_plan l)) (map (λ (k : KeyPlan). k.order) (map key_plan l)) c.in-Some-others.others.items) c.deref-2.ensures.value
-    (some_presorted (λ (k : Vec SortKey Global). AreColumns w (map (λ (k : KeyPlan). k.value) (map key_plan c.deref-2.result.now)) (map (λ (k : KeyPlan). k.order) (map key_plan c.deref-2.result.now)) k.items) c.in_ok-others.others c.in-Some-others.others c.in-Some-others.is c.in_ok-others.ensures) in
+    (some_presorted (λ (k : Vec SortKey Global). AreColumns w (map formula c.deref.result.now)
+    (ascending (map formula c.deref.result.now)) k.items) c.in_ok-partition.partition c.in-Some.keys c.in-Some.is
+    c.in_ok-partition.ensures) in
+    let then : AreColumns w (map (λ (k : KeyPlan). k.value) plan.keys) (map (λ (k : KeyPlan). k.order) plan.keys)
+    c.in-Some-others.others.items =
+    subst (λ l. AreColumns w (map (λ (k : KeyPlan). k.value) (map key_plan l))
+    (map (λ (k : KeyPlan). k.order) (map key_plan l)) c.in-Some-others.others.items) c.deref-2.ensures.value
+    (some_presorted (λ (k : Vec SortKey Global). AreColumns w
+    (map (λ (k : KeyPlan). k.value) (map key_plan c.deref-2.result.now))
+    (map (λ (k : KeyPlan). k.order) (map key_plan c.deref-2.result.now)) k.items) c.in_ok-others.others
+    c.in-Some-others.others c.in-Some-others.is c.in_ok-others.ensures) in
     window_presorted w plan c.in-Some.keys.items c.in-Some-others.others.items first then c.runs_order_windows.ensures rows
-    ∙ ap (λ l. Ok (run_of l rows)) (sym (c.in_ok-extend_from_slice.ensures.items ∙ ap (λ l. c.in-Some.keys.items ++ l) c.deref-3.ensures.value))
+    ∙ ap (λ l. Ok (run_of l rows)) (sym (c.in_ok-extend_from_slice.ensures.items ∙ ap (λ l. c.in-Some.keys.items ++ l)
+    c.deref-3.ensures.value))

@@ -10,17 +10,22 @@ use Rattle.wtable.proofs.NumberFacts.{order_presorted}
 use Rattle.wtable.proofs.presorted.presorted_orders.Goals as goal
 
 -- the order of ORDER BY, if there is one
-keys_of : (segments : List (List Row)) (plans : List KeyPlan) (rows : List Row) (f : List RowRef → List ℕ) (found : Option (Vec ℕ Global)) (order : Option (Vec RowRef Global)) → ((o : RowOrder) (refs : List RowRef) → IsOrderFor segments o refs → o rows ≡ Ok (f refs))
-    → option_map (λ (n : Vec ℕ Global). n.items) found ≡ option_map (λ (r : Vec RowRef Global). f r.items) order → IfSome order (λ refs. (columns : List (List Meaning)) → IsOrderFor segments (by_keys plans columns) refs.items)
+keys_of : (segments : List (List Row)) (plans : List KeyPlan) (rows : List Row) (f : List RowRef
+    → List ℕ) (found : Option (Vec ℕ Global)) (order : Option (Vec RowRef Global)) → ((o : RowOrder) (refs : List RowRef)
+    → IsOrderFor segments o refs → o rows ≡ Ok (f refs))
+    → option_map (λ (n : Vec ℕ Global). n.items) found ≡ option_map (λ (r : Vec RowRef Global). f r.items) order
+    → IfSome order (λ refs. (columns : List (List Meaning)) → IsOrderFor segments (by_keys plans columns) refs.items)
     → IfSome found (λ numbers. (columns : List (List Meaning)) → by_keys plans columns rows ≡ Ok numbers.items)
 keys_of segments plans rows f None order presorted e h = tt
 keys_of segments plans rows f (Some n) None presorted e h = absurd (cc)
-keys_of segments plans rows f (Some n) (Some r) presorted e h = λ columns. let same : n.items ≡ f r.items = cc in presorted (by_keys plans columns) r.items (h columns) ∙ ap Ok (sym same)
+keys_of segments plans rows f (Some n) (Some r) presorted e h = λ columns. let same : n.items ≡ f r.items = cc in
+    presorted (by_keys plans columns) r.items (h columns) ∙ ap Ok (sym same)
 
 pub returns : goal.returns
 returns c = λ condition segments plans is are.
     let kept = c.args.kept.now in
     record {
       windows = c.in_ok-windows.ensures condition segments is are.windows;
-      keys = keys_of segments plans (rows_seen kept.rows.items) (presorted_numbers kept) c.in_ok-keys.keys c.args.orders.keys (order_presorted condition segments kept is) c.in_ok-keys.ensures are.keys;
+      keys = keys_of segments plans (rows_seen kept.rows.items) (presorted_numbers kept) c.in_ok-keys.keys
+          c.args.orders.keys (order_presorted condition segments kept is) c.in_ok-keys.ensures are.keys;
     }

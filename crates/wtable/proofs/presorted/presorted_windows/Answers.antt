@@ -17,7 +17,9 @@ left-preserved c = λ condition segments is all.
     let Q = IsPresortedOf (rows_seen c.args.kept.now.rows.items) in
     let rest = c.pop.new.self.items in
     let split : c.left.left.items ≡ rest ++ c.in-Some.order ∷ [] = c.in-Some.ensures.items in
-    let last : P c.in-Some.order = last_of P rest c.in-Some.order (recursion_from_All P (rest ++ c.in-Some.order ∷ []) (All-same P (rest ++ c.in-Some.order ∷ []) c.left.left.items (sym split) before.0)) in (
+    let last : P c.in-Some.order = last_of P rest c.in-Some.order (recursion_from_All P (rest ++ c.in-Some.order ∷ [])
+    (All-same P (rest ++ c.in-Some.order ∷ []) c.left.left.items (sym split) before.0)) in (
       All-same P rest _ c.pop.ensures.rest (All-take P _ c.left.left.items before.0),
-      All-same Q c.push.new.self.items _ c.in_ok-push.ensures.items (All-append Q c.left.presorted.items _ before.1 (All-cons Q _ [] (c.in_ok-presorted_window.ensures condition segments is last) (All-nil Q))),
+      All-same Q c.push.new.self.items _ c.in_ok-push.ensures.items (All-append Q c.left.presorted.items _ before.1
+          (All-cons Q _ [] (c.in_ok-presorted_window.ensures condition segments is last) (All-nil Q))),
     )

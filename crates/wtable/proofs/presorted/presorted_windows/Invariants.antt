@@ -8,7 +8,9 @@ use Rattle.wtable.specs.TableOrders.{ArePresortedOf, IsNumbered, IsTableOrder}
 use Rattle.wtable.proofs.presorted.presorted_windows.Given as goal
 
 abbrev pub invariant-left : goal.invariant-left
-invariant-left l = (condition : Option Formula) (segments : List (List Row)) → IsNumbered condition segments l.kept → All (IsTableOrder segments) l.fn.orders.items → All (IsTableOrder segments) l.left.items × ArePresortedOf (rows_seen l.kept.rows.items) l.presorted.items
+invariant-left l = (condition : Option Formula) (segments : List (List Row)) → IsNumbered condition segments l.kept
+    → All (IsTableOrder segments) l.fn.orders.items → All (IsTableOrder segments) l.left.items
+    × ArePresortedOf (rows_seen l.kept.rows.items) l.presorted.items
 
 abbrev pub decreases-left : goal.decreases-left
 decreases-left l = length l.left.items

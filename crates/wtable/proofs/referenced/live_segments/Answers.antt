@@ -7,12 +7,15 @@ use Rattle.wtable.proofs.referenced.live_segments.Goals as goal
 
 pub live-init : goal.live-init
 live-init c =
-    rw c.new-segments.ensures.items (ap (map (λ e. e.1.rows)) c.into_iter-kept-iterator.ensures.into_iter_gives ∙ lent_rows_are c.args.set.now c.lives-kept-items.result c.lives-kept-items.ensures)
+    rw c.new-segments.ensures.items (ap (map (λ e. e.1.rows)) c.into_iter-kept-iterator.ensures.into_iter_gives
+    ∙ lent_rows_are c.args.set.now c.lives-kept-items.result c.lives-kept-items.ensures)
 
 pub live-preserved : goal.live-preserved
 live-preserved c =
-    segment_more c.live.segments.items c.push.new.self.items (live_rows c.args.set.now) _ _ _ _ c.in-Some.ensures.steps c.live.invariant c.in_ok-push.ensures.items c.in_ok-segment.ensures
+    segment_more c.live.segments.items c.push.new.self.items (live_rows c.args.set.now) _ _ _ _ c.in-Some.ensures.steps
+    c.live.invariant c.in_ok-push.ensures.items c.in_ok-segment.ensures
 
 pub returns : goal.returns
 returns c =
-    sym (append-nil (segments_seen c.live.segments.items)) ∙ ap (λ l. segments_seen c.live.segments.items ++ map (λ e. e.1.rows) l) (sym c.in-None.ensures.steps.0) ∙ c.live.invariant
+    sym (append-nil (segments_seen c.live.segments.items))
+    ∙ ap (λ l. segments_seen c.live.segments.items ++ map (λ e. e.1.rows) l) (sym c.in-None.ensures.steps.0) ∙ c.live.invariant

@@ -15,17 +15,20 @@ abbrev upto : KeyRows → ℕ → ℕ → Bool
 upto rows = is_upto (keys_cmp (sort_keys rows)) (key_lists rows)
 
 ordered_cut : (rows : KeyRows) → AreInOrder rows → IsCut (length (key_lists rows)) (upto rows)
-ordered_cut rows ordered = end_cut (keys_total (sort_keys rows)) (length (key_lists rows)) (key_at (key_lists rows)) (key_at (key_lists rows)) ordered ordered
+ordered_cut rows ordered = end_cut (keys_total (sort_keys rows)) (length (key_lists rows)) (key_at (key_lists rows))
+    (key_at (key_lists rows)) ordered ordered
 
 equal : (o : Ordering) → is_eq o ≡ true → o ≡ Equal
 equal Less h = cc
 equal Equal h = refl
 equal Greater h = cc
 
-peers_alike : (rows : KeyRows) (i k j : ℕ) → are_peers (keys_cmp (sort_keys rows)) (key_lists rows) i k ≡ true → upto rows i j ≡ upto rows k j
+peers_alike : (rows : KeyRows) (i k j : ℕ) → are_peers (keys_cmp (sort_keys rows)) (key_lists rows) i k ≡ true
+    → upto rows i j ≡ upto rows k j
 peers_alike rows i k j h =
     let key = key_at (key_lists rows) in
-    ap (λ o. not (is_lt o)) ((keys_total (sort_keys rows)).congr (key i) (key k) (key j) (equal (keys_cmp (sort_keys rows) (key i) (key k)) h))
+    ap (λ o. not (is_lt o)) ((keys_total (sort_keys rows)).congr (key i) (key k) (key j)
+    (equal (keys_cmp (sort_keys rows) (key i) (key k)) h))
 
 pub push_group_cuts-requires-clause-cut : goal.push_group_cuts-requires-clause-cut
 push_group_cuts-requires-clause-cut g c =
@@ -34,4 +37,5 @@ push_group_cuts-requires-clause-cut g c =
 
 pub push_group_cuts-requires-clause-alike : goal.push_group_cuts-requires-clause-alike
 push_group_cuts-requires-clause-alike g c i k j h =
-    peers_alike c.new-keys.result i k j (subst (λ rows. are_peers (keys_cmp (sort_keys rows)) (key_lists rows) i k ≡ true) c.new-peers.ensures.rows h)
+    peers_alike c.new-keys.result i k j (subst (λ rows. are_peers (keys_cmp (sort_keys rows)) (key_lists rows) i k ≡ true)
+    c.new-peers.ensures.rows h)

@@ -16,7 +16,8 @@ pub returns-in-Ok-parse-clause-found : goal.returns-in-Ok-parse-clause-found
 returns-in-Ok-parse-clause-found c =
     let text_is = c.in-Ok.ensures.cases.0 in
     let plain = c.is_plain.ensures.0 c.if-not-is_plain.false in
-    let found = plain_found c.in-Ok.text.now c.parse.result c.in-Ok-parse.number c.parse.ensures.value.0 (rw text_is plain) c.in-Ok-parse.is in
+    let found = plain_found c.in-Ok.text.now c.parse.result c.in-Ok-parse.number c.parse.ensures.value.0 (rw text_is plain)
+    c.in-Ok-parse.is in
     record { fits = found.1; digits = sym text_is ∙ found.0 }
 
 pub returns-in-Ok-parse-clause-only : goal.returns-in-Ok-parse-clause-only
@@ -30,4 +31,5 @@ returns-in-Err-parse-clause-only c = λ n h e.
     cc (c.in-Err-parse.is, read)
 
 pub returns-in-Err-clause-only : goal.returns-in-Err-clause-only
-returns-in-Err-clause-only c = λ n h e. absurd (c.in-Err.ensures.cases.0 (rw e (IsUtf8-from_ascii (decimal n) (IsAscii-decimal n (omega arith)))))
+returns-in-Err-clause-only c = λ n h e. absurd
+    (c.in-Err.ensures.cases.0 (rw e (IsUtf8-from_ascii (decimal n) (IsAscii-decimal n (omega arith)))))

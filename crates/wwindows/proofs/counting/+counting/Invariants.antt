@@ -16,7 +16,9 @@ decreases-count_beside l = 3 * found_all sizing (nodes_left l.nodes) + 1
 
 abbrev pub invariant-count_beside-nodes : goal.invariant-count_beside-nodes
 invariant-count_beside-nodes l =
-    (l.count ≤ 33) × (counted (found_all counting (nodes_left l.nodes)) ≡ counted (l.count + found_all counting (nodes_left l.rest))) × (found_all sizing (nodes_left l.rest) ≤ found_all sizing (nodes_left l.nodes))
+    (l.count ≤ 33) × (counted (found_all counting (nodes_left l.nodes))
+    ≡ counted (l.count + found_all counting (nodes_left l.rest)))
+    × (found_all sizing (nodes_left l.rest) ≤ found_all sizing (nodes_left l.nodes))
 
 abbrev pub decreases-count_beside-nodes : goal.decreases-count_beside-nodes
 decreases-count_beside-nodes l = length (nodes_left l.rest)

@@ -5,4 +5,5 @@ use Rattle.wwindows.specs.Windows.{entry_is}
 use Rattle.wwindows.proofs.windows.any_listed.Given as goal
 
 abbrev pub invariant-entries : goal.invariant-entries
-invariant-entries g l = list_any (entry_is (g.T.WindowTest.holds l.test)) (named_windows l.entries) ≡ list_any (entry_is (g.T.WindowTest.holds l.test)) (named_windows (drop l.entry-index l.entries))
+invariant-entries g l = list_any (entry_is (g.T.WindowTest.holds l.test)) (named_windows l.entries)
+    ≡ list_any (entry_is (g.T.WindowTest.holds l.test)) (named_windows (drop l.entry-index l.entries))

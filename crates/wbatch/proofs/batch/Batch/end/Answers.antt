@@ -6,4 +6,5 @@ pub returns-then-pending-gt0-clause-stops : goal.returns-then-pending-gt0-clause
 returns-then-pending-gt0-clause-stops c =
     let goes_on : c.self.inside.stopped ≡ None = search rules in
     let some : 0 < length c.self.inside.inbox.held = search rules in
-    rw (← c.self.view_is) (inr (inr (ends_inside c.self.inside.schema c.self.inside.deliveries.items c.self.inside.inbox.held c.self.invariant.ready (c.self.invariant.unfinished goes_on) some)))
+    rw (← c.self.view_is) (inr (inr (ends_inside c.self.inside.schema c.self.inside.deliveries.items
+    c.self.inside.inbox.held c.self.invariant.ready (c.self.invariant.unfinished goes_on) some)))

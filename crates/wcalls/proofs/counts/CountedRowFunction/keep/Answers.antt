@@ -16,10 +16,18 @@ loop-place-preserved g c =
     let meant : ℕ → Meaning = λ count. Int (pos count) in
     let answer : ℕ → Meaning = λ place. Int (pos (count_at place)) in
     let here : k < length rows = omega arith in
-    let is : c.next_count-count.result ≡ count_at k = c.next_count-count.ensures ∙ ap (λ n. g.N.Counts.count_at c.args.self.now.counts n frames k) (sym c.requires.len) in
+    let is : c.next_count-count.result ≡ count_at k = c.next_count-count.ensures
+    ∙ ap (λ n. g.N.Counts.count_at c.args.self.now.counts n frames k) (sym c.requires.len) in
     record {
-      long = ap length c.put_at.ensures ∙ length-set c.loop-place.kept (get_or rows k 0) c.next_count-count.result ∙ c.loop-place.invariant.long;
-      put = put_next meant rows (map answer (places (length rows))) k c.loop-place.kept c.put_at.new.column c.next_count-count.result _ here (omega (arith, here, length-map (places (length rows)) answer, length-places 0 (length rows))) c.put_at.ensures
+      long = ap length c.put_at.ensures ∙ length-set c.loop-place.kept (get_or rows k 0) c.next_count-count.result
+          ∙ c.loop-place.invariant.long;
+      put = put_next meant rows (map answer (places (length rows))) k c.loop-place.kept c.put_at.new.column
+          c.next_count-count.result _ here (omega (
+            arith,
+            here,
+            length-map (places (length rows)) answer,
+            length-places 0 (length rows),
+          )) c.put_at.ensures
           (ap meant is ∙ answer_at answer (length rows) k here) c.loop-place.invariant.put;
       before = λ j e. let at : k ≡ j = omega (arith, e) in is ∙ ap count_at at;
     }

@@ -10,7 +10,8 @@ use Rattle.waggregate.proofs.PutFacts.{put_next}
 use Rattle.wcalls.proofs.PutFacts.{answer_at}
 use Rattle.wcalls.proofs.other_rows.OtherRowRowFunction.keep.Goals as goal
 
-number_kept : (values : List Meaning) (rows : List ℕ) (default : Meaning) (place : Option ℕ) → value_of_number values default (number_read rows place) ≡ value_read values rows default place
+number_kept : (values : List Meaning) (rows : List ℕ) (default : Meaning) (place : Option ℕ)
+    → value_of_number values default (number_read rows place) ≡ value_read values rows default place
 number_kept values rows default None = refl
 number_kept values rows default (Some place) = refl
 
@@ -28,6 +29,14 @@ loop-place-preserved g c =
     let place = c.place_of-answer.result in
     record {
       long = ap length c.put_at.ensures ∙ length-set c.loop-place.kept (get_or rows k 0) c.number_read.result ∙ c.loop-place.invariant.long;
-      put = put_next meant rows (map answer (places (length rows))) k c.loop-place.kept c.put_at.new.column c.number_read.result _ here (omega (arith, here, length-map (places (length rows)) answer, length-places 0 (length rows))) c.put_at.ensures
-          (ap meant c.number_read.ensures ∙ number_kept values rows default place ∙ ap (value_read values rows default) (c.place_of-answer.ensures ∙ ap (λ n. place_read n k) (sym c.requires.len)) ∙ answer_at answer (length rows) k here) c.loop-place.invariant.put;
+      put = put_next meant rows (map answer (places (length rows))) k c.loop-place.kept c.put_at.new.column
+          c.number_read.result _ here (omega (
+            arith,
+            here,
+            length-map (places (length rows)) answer,
+            length-places 0 (length rows),
+          )) c.put_at.ensures
+          (ap meant c.number_read.ensures ∙ number_kept values rows default place ∙ ap (value_read values rows default)
+          (c.place_of-answer.ensures ∙ ap (λ n. place_read n k) (sym c.requires.len)) ∙ answer_at answer (length rows) k
+          here) c.loop-place.invariant.put;
     }

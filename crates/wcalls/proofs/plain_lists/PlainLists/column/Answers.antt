@@ -11,5 +11,6 @@ returns c =
     let rows = c.args.self.now.rows.now in
     let place = c.index-place.result.now in
     let is : place ≡ get_or ps c.args.number 0 = c.index-place.ensures ∙ same_at ps c.args.number place 0 c.requires in
-    c.loop-row.invariant ∙ ap (λ l. map (λ row. value_at row place) (rows_seen l)) (take_all c.loop-row.row-index rows c.loop-row-test.false)
+    c.loop-row.invariant ∙ ap (λ l. map (λ row. value_at row place) (rows_seen l)) (take_all c.loop-row.row-index rows
+    c.loop-row-test.false)
     ∙ column_at ps (rows_seen rows) c.args.number place c.requires is

@@ -6,4 +6,5 @@ use Rattle.wrows.specs.Laid.{rows_seen}
 use Rattle.wcalls.proofs.plain_lists.PlainLists.push_list.Given as goal
 
 abbrev pub invariant-loop-place : goal.invariant-loop-place
-invariant-loop-place l = meanings l.lent.items ≡ meanings l.fn.lent.items ++ map (value_at (key_at (rows_seen l.self.rows.now) l.row)) (take l.place-index l.self.places.items)
+invariant-loop-place l = meanings l.lent.items ≡ meanings l.fn.lent.items ++ map
+    (value_at (key_at (rows_seen l.self.rows.now) l.row)) (take l.place-index l.self.places.items)

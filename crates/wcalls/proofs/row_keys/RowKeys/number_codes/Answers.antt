@@ -16,7 +16,9 @@ returns c =
     let column = key_column 0 (lists_in keys.lists) in
     let one : length orders ≡ 1 = search rules in
     let few : length (lists_in keys.lists) ≤ 2 ^ 32 = search rules in
-    let key : c.index.result.now ≡ key_of orders 0 = c.index.ensures ∙ same_at orders 0 c.index.result.now (record { col = 0; desc = false; nulls_first = false }) (omega (arith, one)) in
+    let key : c.index.result.now ≡ key_of orders 0 = c.index.ensures ∙ same_at orders 0 c.index.result.now
+    (record { col = 0; desc = false; nulls_first = false }) (omega (arith, one)) in
     let seen : values_seen c.deref.result.now ≡ column = ap values_seen c.deref.ensures.value ∙ c.in_ok-column.ensures in
     let P : SortKey → List Meaning → Type 0 = λ k values. IfSome found (λ codes. AreCodes k values codes.items) in
-    one_key_found keys.lists orders found keys.wide one few (subst (λ k. P k column) key (subst (λ values. P c.index.result.now values) seen c.in_ok-found.ensures))
+    one_key_found keys.lists orders found keys.wide one few
+    (subst (λ k. P k column) key (subst (λ values. P c.index.result.now values) seen c.in_ok-found.ensures))

@@ -12,13 +12,16 @@ use Rattle.wcalls.proofs.row_keys.RowKeys.numbers.Goals as goal
 pub resorted-requires-clause-below : goal.resorted-requires-clause-below
 resorted-requires-clause-below c =
     let n = length (lists_in c.args.self.now.lists) in
-    All-same (λ i. i < n) c.in_ok-rows.rows.items (places n) (c.in_ok-rows.ensures ∙ ap places c.count.ensures) (All-from_recursion (λ i. i < n) (places n) (places_below 0 n n (omega arith)))
+    All-same (λ i. i < n) c.in_ok-rows.rows.items (places n) (c.in_ok-rows.ensures ∙ ap places c.count.ensures)
+    (All-from_recursion (λ i. i < n) (places n) (places_below 0 n n (omega arith)))
 
 pub returns-clause-order : goal.returns-clause-order
 returns-clause-order c =
     let lists = lists_in c.args.self.now.lists in
-    c.in_ok-order.ensures.order ∙ ap (sorted (on (key_at lists) (keys_cmp c.args.self.now.orders.items))) (c.in_ok-rows.ensures ∙ ap places c.count.ensures)
+    c.in_ok-order.ensures.order ∙ ap (sorted (on (key_at lists) (keys_cmp c.args.self.now.orders.items)))
+    (c.in_ok-rows.ensures ∙ ap places c.count.ensures)
 
 pub returns-clause-len : goal.returns-clause-len
 returns-clause-len c =
-    c.in_ok-order.ensures.len ∙ ap length (c.in_ok-rows.ensures ∙ ap places c.count.ensures) ∙ length-places 0 (length (lists_in c.args.self.now.lists))
+    c.in_ok-order.ensures.len ∙ ap length (c.in_ok-rows.ensures ∙ ap places c.count.ensures)
+    ∙ length-places 0 (length (lists_in c.args.self.now.lists))

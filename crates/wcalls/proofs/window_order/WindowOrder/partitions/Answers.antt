@@ -17,10 +17,14 @@ returns-clause-arranged c = λ w e f.
     let values = c.coded_rows-values.result in
     let by : sort_keys values ≡ orders = c.coded_rows-values.ensures.keys ∙ c.new-rows.ensures.keys ∙ c.deref-3.ensures.value in
     let lent : rows_of (length orders) (length o.rows.items) cells ≡ (order_of o).values
-    = subst (λ l. rows_of (length orders) (length l) cells ≡ map (key_at (lists_in o.values.lists)) l) c.deref.ensures.value c.in_ok-cells.ensures.rows in
+    = subst (λ l. rows_of (length orders) (length l) cells ≡ map (key_at (lists_in o.values.lists)) l) c.deref.ensures.value
+    c.in_ok-cells.ensures.rows in
     let listed : key_lists values ≡ (order_of o).values
-    = c.coded_rows-values.ensures.lists ∙ listed_by c.new-rows.result c.deref-3.result.now orders c.len.result (length o.rows.items) c.deref-2.result.now cells (order_of o).values c.new-rows.ensures.lists c.deref-3.ensures.value (c.len.ensures ∙ o.rows.ok.0) c.deref-2.ensures.value lent in
+    = c.coded_rows-values.ensures.lists ∙ listed_by c.new-rows.result c.deref-3.result.now orders c.len.result
+    (length o.rows.items) c.deref-2.result.now cells (order_of o).values c.new-rows.ensures.lists
+    c.deref-3.ensures.value (c.len.ensures ∙ o.rows.ok.0) c.deref-2.ensures.value lent in
     let built = c.in_ok-partitions.ensures in
     arranged_in w c.args.self.now c.in_ok-partitions.partitions values c.args.keys c.args.frame e f
-    (listed ∙ ap (λ (x : Ordered). x.values) c.self.view_is) (by ∙ ap (λ (x : Ordered). x.value_order) c.self.view_is) c.requires.keys c.requires.order
+    (listed ∙ ap (λ (x : Ordered). x.values) c.self.view_is) (by ∙ ap (λ (x : Ordered). x.value_order) c.self.view_is)
+    c.requires.keys c.requires.order
     built.order built.keys built.frame built.tiles built.each

@@ -7,16 +7,19 @@ use Rattle.wcalls.proofs.window_order.WindowOrder.presorted.Goals as goal
 
 pub presorted_keys-requires-clause-count : goal.presorted_keys-requires-clause-count
 presorted_keys-requires-clause-count c =
-    both_long (rows_seen c.args.rows.now) (window_plan c.args.window.now) (lists_in c.in_ok-values.values.lists) (lists_in c.in_ok-keys.keys.lists) c.in_ok-values.ensures.gives c.in_ok-keys.ensures.gives
+    both_long (rows_seen c.args.rows.now) (window_plan c.args.window.now) (lists_in c.in_ok-values.values.lists)
+    (lists_in c.in_ok-keys.keys.lists) c.in_ok-values.ensures.gives c.in_ok-keys.ensures.gives
 
 pub presorted_keys-requires-clause-order : goal.presorted_keys-requires-clause-order
 presorted_keys-requires-clause-order c =
     presorted_numbers (rows_seen c.args.rows.now) (window_plan c.args.window.now) c.args.numbers.items _ c.requires
-    (order_made (rows_seen c.args.rows.now) (window_plan c.args.window.now) (lists_in c.in_ok-values.values.lists) (lists_in c.in_ok-keys.keys.lists) c.in_ok-values.values.orders.items c.in_ok-keys.keys.orders.items
+    (order_made (rows_seen c.args.rows.now) (window_plan c.args.window.now) (lists_in c.in_ok-values.values.lists)
+    (lists_in c.in_ok-keys.keys.lists) c.in_ok-values.values.orders.items c.in_ok-keys.keys.orders.items
     c.in_ok-values.ensures.gives c.in_ok-keys.ensures.gives c.in_ok-values.ensures.orders c.in_ok-keys.ensures.orders)
 
 pub returns-clause-order : goal.returns-clause-order
 returns-clause-order c =
-    order_made (rows_seen c.args.rows.now) (window_plan c.args.window.now) (lists_in c.in_ok-values.values.lists) (lists_in c.in_ok-keys.keys.lists) c.in_ok-values.values.orders.items c.in_ok-keys.keys.orders.items
+    order_made (rows_seen c.args.rows.now) (window_plan c.args.window.now) (lists_in c.in_ok-values.values.lists)
+    (lists_in c.in_ok-keys.keys.lists) c.in_ok-values.values.orders.items c.in_ok-keys.keys.orders.items
     c.in_ok-values.ensures.gives c.in_ok-keys.ensures.gives c.in_ok-values.ensures.orders c.in_ok-keys.ensures.orders
     ∙ ap Ok (sym c.in_ok-order.ensures)

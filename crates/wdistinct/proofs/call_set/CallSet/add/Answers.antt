@@ -9,7 +9,8 @@ use Rattle.wdistinct.proofs.call_set.CallSet.add.Goals as goal
 pub returns-clause-ok : goal.returns-clause-ok
 unfolding calls_in
 returns-clause-ok c =
-    OnOk-map c.keep.result _ _ (λ kept. ap (map (λ (k : CallKey). view_call k.call.now)) kept ∙ added (λ (k : CallKey). view_call k.call.now) c.args.self.now.keys.keys (record { call = c.args.call })) c.keep.ensures.ok
+    OnOk-map c.keep.result _ _ (λ kept. ap (map (λ (k : CallKey). view_call k.call.now)) kept
+    ∙ added (λ (k : CallKey). view_call k.call.now) c.args.self.now.keys.keys (record { call = c.args.call })) c.keep.ensures.ok
 
 pub returns-clause-err : goal.returns-clause-err
 unfolding calls_in
@@ -18,4 +19,5 @@ returns-clause-err c = on_err c.keep.result (ap (map (λ (k : CallKey). view_cal
 pub returns-clause-other : goal.returns-clause-other
 unfolding calls_in
 returns-clause-other c =
-    on_err c.keep.result (absent (λ (k : CallKey). view_call k.call.now) c.args.self.now.keys.keys (record { call = c.args.call })) c.keep.ensures.other
+    on_err c.keep.result (absent (λ (k : CallKey). view_call k.call.now) c.args.self.now.keys.keys
+    (record { call = c.args.call })) c.keep.ensures.other

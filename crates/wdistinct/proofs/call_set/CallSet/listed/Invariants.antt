@@ -5,4 +5,5 @@ use Rattle.wdistinct.specs.Calls.{call_trees}
 use Rattle.wdistinct.proofs.call_set.CallSet.listed.Given as goal
 
 abbrev pub invariant-keys : goal.invariant-keys
-invariant-keys l = call_trees l.calls.items ++ map (λ (k : CallKey). view_call k.call.now) (drop l.key-index l.key-items) ≡ map (λ (k : CallKey). view_call k.call.now) l.key-items
+invariant-keys l = call_trees l.calls.items ++ map (λ (k : CallKey). view_call k.call.now) (drop l.key-index l.key-items)
+    ≡ map (λ (k : CallKey). view_call k.call.now) l.key-items

@@ -5,7 +5,15 @@ use Rattle.wentries.proofs.blocks.Block.push.Goals as goal
 
 pub overflow_add-self : goal.overflow_add-self
 overflow_add-self c =
-    let fits : c.self.inside.live + c.live_count-live.result < 2 ^ 64 = omega (arith, c.self.invariant.counted, c.self.invariant.bounded, kept_few c.self.inside.entries.items, kept_few (c.args.entry ∷ []), c.live_count-live.ensures) in
+    let fits : c.self.inside.live + c.live_count-live.result < 2 ^ 64 =
+    omega (
+      arith,
+      c.self.invariant.counted,
+      c.self.invariant.bounded,
+      kept_few c.self.inside.entries.items,
+      kept_few (c.args.entry ∷ []),
+      c.live_count-live.ensures,
+    ) in
     search rules
 
 pub invariant_of-self-2 : goal.invariant_of-self-2
@@ -16,5 +24,11 @@ invariant_of-self-2 c =
     record {
       some = omega (arith, long, ap length c.in_ok-push.ensures.items);
       bounded = omega (arith, long, ap length c.in_ok-push.ensures.items, room, c.requires);
-      counted = omega (arith, c.self.invariant.counted, c.live_count-live.ensures, length_kept es (c.args.entry ∷ []), ap (λ l. length (kept_in l)) c.in_ok-push.ensures.items);
+      counted = omega (
+        arith,
+        c.self.invariant.counted,
+        c.live_count-live.ensures,
+        length_kept es (c.args.entry ∷ []),
+        ap (λ l. length (kept_in l)) c.in_ok-push.ensures.items,
+      );
     }

@@ -11,9 +11,11 @@ use Rattle.wentries.proofs.blocks.Block.put.Goals as goal
 
 pub invariant_of-self-2 : goal.invariant_of-self-2
 invariant_of-self-2 c =
-    let sized = put_sized c.self.inside.entries.items c.put_entry.new.entries.items c.args.name (known_of c.args.held) (subst IsRising (sym c.self.view_is) c.requires.rising) c.in_ok-put_entry.ensures.ok in
+    let sized = put_sized c.self.inside.entries.items c.put_entry.new.entries.items c.args.name (known_of c.args.held)
+    (subst IsRising (sym c.self.view_is) c.requires.rising) c.in_ok-put_entry.ensures.ok in
     let room : length (put name_cmp c.args.name (known_of c.args.held) (known_entries c.self.inside.entries.items)) ≤ longest =
-    subst (λ es. length (put name_cmp c.args.name (known_of c.args.held) (known_entries es)) ≤ longest) (sym c.self.view_is) (c.requires.room (known_of c.args.held)) in
+    subst (λ es. length (put name_cmp c.args.name (known_of c.args.held) (known_entries es)) ≤ longest) (sym c.self.view_is)
+    (c.requires.room (known_of c.args.held)) in
     record {
       some = omega (arith, c.self.invariant.some, sized.0);
       bounded = omega (arith, room, ap length c.in_ok-put_entry.ensures.ok, length-known_entries c.put_entry.new.entries.items);
@@ -25,5 +27,6 @@ returns-clause-read c d all held = c.put_entry.ensures.read d (subst (AllHeldBy 
 
 pub returns-clause-more : goal.returns-clause-more
 returns-clause-more c =
-    let sized = put_sized c.self.inside.entries.items c.put_entry.new.entries.items c.args.name (known_of c.args.held) (subst IsRising (sym c.self.view_is) c.requires.rising) c.in_ok-put_entry.ensures.ok in
+    let sized = put_sized c.self.inside.entries.items c.put_entry.new.entries.items c.args.name (known_of c.args.held)
+    (subst IsRising (sym c.self.view_is) c.requires.rising) c.in_ok-put_entry.ensures.ok in
     omega (arith, sized.0, ap length c.self.view_is)

@@ -9,5 +9,6 @@ of_equal P (Err e) x is p = tt
 
 pub returns-clause-has : goal.returns-clause-has
 returns-clause-has c =
-    let has = subst (λ (r : RunParts). IsAmong c.keep_run.new.self.orders r.keys) c.in_ok-shared.ensures.cases c.in_ok-keep_run.ensures.has in
+    let has = subst (λ (r : RunParts). IsAmong c.keep_run.new.self.orders r.keys) c.in_ok-shared.ensures.cases
+    c.in_ok-keep_run.ensures.has in
     of_equal (λ kept. IsAmong kept.orders c.args.run.now.value.keys) c.of.result c.keep_run.new.self c.of.ensures has

@@ -7,4 +7,5 @@ of_equal P (Ok y) x is p = subst P (sym is) p
 of_equal P (Err e) x is p = tt
 
 pub returns-clause-has : goal.returns-clause-has
-returns-clause-has c = of_equal (λ kept. IsAmong kept.orders c.args.keys.now) c.of.result c.make.new.self c.of.ensures c.in_ok-make.ensures.has
+returns-clause-has c = of_equal (λ kept. IsAmong kept.orders c.args.keys.now) c.of.result c.make.new.self c.of.ensures
+    c.in_ok-make.ensures.has

@@ -22,9 +22,13 @@ returns-clause-within c =
 pub returns-clause-risen : goal.returns-clause-risen
 returns-clause-risen c before l =
     let p = c.args.self.now in
-    subst (IsRisen (length p.keys) (frame_extent p before)) (sym (frame_is p c.args.row c.found_extent.result c.found_extent.ensures.frame)) (spans_rise p before c.args.row c.found_extent.ensures.ordered l c.requires)
+    subst (IsRisen (length p.keys) (frame_extent p before))
+    (sym (frame_is p c.args.row c.found_extent.result c.found_extent.ensures.frame))
+    (spans_rise p before c.args.row c.found_extent.ensures.ordered l c.requires)
 
 pub returns-clause-rows : goal.returns-clause-rows
 returns-clause-rows c e =
     let p = c.args.self.now in
-    ap span_places (frame_is p c.args.row c.found_extent.result c.found_extent.ensures.frame) ∙ plain_rows p c.args.row (frame_start p c.args.row) (frame_end p c.args.row) c.found_extent.ensures.frame.start c.found_extent.ensures.frame.end e
+    ap span_places (frame_is p c.args.row c.found_extent.result c.found_extent.ensures.frame)
+    ∙ plain_rows p c.args.row (frame_start p c.args.row) (frame_end p c.args.row) c.found_extent.ensures.frame.start
+    c.found_extent.ensures.frame.end e

@@ -18,17 +18,20 @@ within c =
 pub returns-clause-rows : goal.returns-clause-rows
 returns-clause-rows c =
     let p = c.args.self.now in
-    frame_left p c.args.row c.found_extent.result c.peers.result c.self.inside.frame.exclusion c.without.result c.found_extent.ensures.frame.start c.found_extent.ensures.frame.end (is c)
+    frame_left p c.args.row c.found_extent.result c.peers.result c.self.inside.frame.exclusion c.without.result
+    c.found_extent.ensures.frame.start c.found_extent.ensures.frame.end (is c)
     (ap (λ q. q.frame.exclusion) c.self.view_is) c.peers.ensures.each (c.without.ensures.rows (length p.keys) (within c))
 
 pub returns-clause-within : goal.returns-clause-within
-returns-clause-within c = apart_wider c.found_extent.result.from c.found_extent.result.to 0 (length c.args.self.now.keys) c.without.result (omega arith) (within c) c.without.ensures.apart
+returns-clause-within c = apart_wider c.found_extent.result.from c.found_extent.result.to 0 (length c.args.self.now.keys)
+    c.without.result (omega arith) (within c) c.without.ensures.apart
 
 pub returns-clause-list : goal.returns-clause-list
 returns-clause-list c =
     let p = c.args.self.now in
     let row = c.args.row in
-    let pieces = λ (x : FrameExclusion) (s peers : Span). before_gap x s row peers ∷ within_gap x s row peers ∷ behind_gap x s row peers ∷ [] in
+    let pieces = λ (x : FrameExclusion) (s peers : Span). before_gap x s row peers ∷ within_gap x s row peers ∷ behind_gap x
+    s row peers ∷ [] in
     c.without.ensures.list
     ∙ ap (λ s. pieces c.self.inside.frame.exclusion s c.peers.result) (is c)
     ∙ ap (λ s. pieces c.self.inside.frame.exclusion (frame_extent p row) s) c.peers.ensures.span

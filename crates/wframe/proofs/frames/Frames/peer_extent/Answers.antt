@@ -19,9 +19,13 @@ returns c =
     let peers = c.found_peers-peers.result in
     let p : Partition = record { order = sort_keys f.rows; keys = key_lists f.rows; frame = f.frame } in
     subst (λ q. IsFrameOf q row c.moved_span.result) c.self.view_is
-    (frame_by_peers p row (moved_number f.start count peers.from) (moved_number f.end count peers.to) peers c.moved_span.result c.self.invariant.3.ordered
-    (subst (λ q. takes_groups q.frame.mode ≡ true) (sym c.self.view_is) c.requires.mode) (subst (λ q. moves_groups q.frame ≡ false) (sym c.self.view_is) c.requires.moves) (subst (λ q. row < length q.keys) (sym c.self.view_is) c.requires.row)
+    (frame_by_peers p row (moved_number f.start count peers.from) (moved_number f.end count peers.to) peers
+    c.moved_span.result c.self.invariant.3.ordered
+    (subst (λ q. takes_groups q.frame.mode ≡ true) (sym c.self.view_is) c.requires.mode)
+    (subst (λ q. moves_groups q.frame ≡ false) (sym c.self.view_is) c.requires.moves)
+    (subst (λ q. row < length q.keys) (sym c.self.view_is) c.requires.row)
     (subst (λ q. IsGroup (keys_cmp q.order) q.keys row peers) (sym c.self.view_is) c.found_peers-peers.ensures)
-    (ap (λ m. moved_number m count peers.from) c.self.invariant.1 ∙ ap (λ k. moved_number (move_of f.frame.start n) k peers.from) c.count.ensures)
+    (ap (λ m. moved_number m count peers.from) c.self.invariant.1
+    ∙ ap (λ k. moved_number (move_of f.frame.start n) k peers.from) c.count.ensures)
     (ap (λ m. moved_number m count peers.to) c.self.invariant.2 ∙ ap (λ k. moved_number (move_of f.frame.end n) k peers.to) c.count.ensures)
     c.moved_span.ensures.from c.moved_span.ensures.to)

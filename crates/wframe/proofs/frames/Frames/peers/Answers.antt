@@ -10,12 +10,14 @@ use Rattle.wframe.proofs.frames.Frames.peers.Goals as goal
 pub returns-clause-peers : goal.returns-clause-peers
 returns-clause-peers c =
     let p = c.args.self.now in
-    peers_filter (keys_total p.order) p.keys (length p.keys) c.args.row c.found_peers.result.from c.found_peers.result.to c.requires c.found_peers.ensures.start c.found_peers.ensures.end
+    peers_filter (keys_total p.order) p.keys (length p.keys) c.args.row c.found_peers.result.from c.found_peers.result.to
+    c.requires c.found_peers.ensures.start c.found_peers.ensures.end
 
 pub returns-clause-each : goal.returns-clause-each
 returns-clause-each c =
     let p = c.args.self.now in
-    in_peers (keys_total p.order) p.keys (length p.keys) c.args.row c.found_peers.result.from c.found_peers.result.to c.requires c.found_peers.ensures.start c.found_peers.ensures.end
+    in_peers (keys_total p.order) p.keys (length p.keys) c.args.row c.found_peers.result.from c.found_peers.result.to
+    c.requires c.found_peers.ensures.start c.found_peers.ensures.end
 
 pub returns-clause-smaller : goal.returns-clause-smaller
 returns-clause-smaller c =
@@ -25,12 +27,14 @@ returns-clause-smaller c =
 pub returns-clause-from : goal.returns-clause-from
 returns-clause-from c =
     let p = c.args.self.now in
-    peers_from (keys_total p.order) p.keys (length p.keys) c.args.row c.found_peers.result.from c.found_peers.result.to c.requires c.found_peers.ensures.start c.found_peers.ensures.end
+    peers_from (keys_total p.order) p.keys (length p.keys) c.args.row c.found_peers.result.from c.found_peers.result.to
+    c.requires c.found_peers.ensures.start c.found_peers.ensures.end
 
 pub returns-clause-to : goal.returns-clause-to
 returns-clause-to c =
     let p = c.args.self.now in
-    peers_to (keys_total p.order) p.keys (length p.keys) c.args.row c.found_peers.result.from c.found_peers.result.to c.requires c.found_peers.ensures.start c.found_peers.ensures.end
+    peers_to (keys_total p.order) p.keys (length p.keys) c.args.row c.found_peers.result.from c.found_peers.result.to
+    c.requires c.found_peers.ensures.start c.found_peers.ensures.end
 
 pub returns-clause-within : goal.returns-clause-within
 returns-clause-within c = c.found_peers.ensures.end.within

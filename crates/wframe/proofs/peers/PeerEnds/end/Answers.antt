@@ -8,13 +8,15 @@ pub returns-clause-more : goal.returns-clause-more
 returns-clause-more c =
     let p = c.args.self.now in
     let end = get_or p.ends.now (get_or p.numbers.now (p.first + c.args.row) 0) 0 in
-    end_behind (keys_total (sort_keys p.rows)) (key_lists p.rows) (length (key_lists p.rows)) c.args.row (end - p.first) c.requires (p.groups.end c.args.row c.requires).at
+    end_behind (keys_total (sort_keys p.rows)) (key_lists p.rows) (length (key_lists p.rows)) c.args.row (end - p.first)
+    c.requires (p.groups.end c.args.row c.requires).at
 
 pub returns-clause-others : goal.returns-clause-others
 returns-clause-others c =
     let p = c.args.self.now in
     let end = get_or p.ends.now (get_or p.numbers.now (p.first + c.args.row) 0) 0 in
-    no_peer (keys_total (sort_keys p.rows)) (key_lists p.rows) (length (key_lists p.rows)) c.args.row (end - p.first) (p.groups.end c.args.row c.requires).at
+    no_peer (keys_total (sort_keys p.rows)) (key_lists p.rows) (length (key_lists p.rows)) c.args.row (end - p.first)
+    (p.groups.end c.args.row c.requires).at
 
 pub returns-clause-same : goal.returns-clause-same
 returns-clause-same c j l h =

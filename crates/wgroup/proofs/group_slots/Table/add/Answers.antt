@@ -1,4 +1,5 @@
-use Rattle.std.proofs.Common.{◌≡◌, ◌≤◌, ◌<◌, ◌+◌, ◌-◌, ◌++◌, ◌∷◌, [], length, map, take, drop, set, get_or, refl, subst, sym, ap, ◌∙◌, arith}
+use Rattle.std.proofs.Common.{◌≡◌, ◌≤◌, ◌<◌, ◌+◌, ◌-◌, ◌++◌, ◌∷◌, [], length, map, take}
+use Rattle.std.proofs.Common.{drop, set, get_or, refl, subst, sym, ap, ◌∙◌, arith}
 use Rattle.std.specs.Prelude.{Some, nat_le}
 use Rattle.std.specs.List.{position}
 use Rattle.std.proofs.lemmas.List.{length-set}
@@ -26,18 +27,31 @@ returns-clause-held c =
       | in-Some w ↦
           let eight : 8 ≡ (first + 8) - first = omega arith in
           let found : position (nat_le (length firsts)) (take 8 (drop first slots)) ≡ Some w.in-Some.step
-          = ap (λ n. position (nat_le n) (take 8 (drop first slots))) last ∙ ap (λ l. position (nat_le c.len-number.result) (take 8 (drop first l))) (sym c.deref.ensures.value)
-          ∙ ap (λ n. position (nat_le c.len-number.result) (take n (drop first c.deref.result.now))) eight ∙ sym c.free_slot.ensures ∙ w.in-Some.is in
-          let free : (w.in-Some.step < 8) × (length firsts ≤ get_or slots (first + w.in-Some.step) 0) = free_near slots first (length firsts) w.in-Some.step c.requires.within found in
+          = ap (λ n. position (nat_le n) (take 8 (drop first slots))) last
+          ∙ ap (λ l. position (nat_le c.len-number.result) (take 8 (drop first l))) (sym c.deref.ensures.value)
+          ∙ ap (λ n. position (nat_le c.len-number.result) (take n (drop first c.deref.result.now))) eight
+          ∙ sym c.free_slot.ensures ∙ w.in-Some.is in
+          let free : (w.in-Some.step < 8) × (length firsts ≤ get_or slots (first + w.in-Some.step) 0) =
+          free_near slots first (length firsts) w.in-Some.step c.requires.within found in
           let near : AreMet keyed (firsts ++ row ∷ []) (set slots (first + w.in-Some.step) c.len-number.result) apart
-          = subst (λ n. AreMet keyed (firsts ++ row ∷ []) (set slots (first + w.in-Some.step) n) apart) last (met_near keyed firsts slots apart met first row c.requires.first w.in-Some.step free.0 c.requires.within free.1) in
-          subst (IsPut keyed row table) (sym w.self-is) (record { firsts = refl; keys = refl; long = length-set slots (first + w.in-Some.step) c.len-number.result; met = near })
+          = subst (λ n. AreMet keyed (firsts ++ row ∷ []) (set slots (first + w.in-Some.step) n) apart) last
+          (met_near keyed firsts slots apart met first row c.requires.first w.in-Some.step free.0 c.requires.within free.1) in
+          subst (IsPut keyed row table) (sym w.self-is) (record {
+            firsts = refl;
+            keys = refl;
+            long =
+                length-set slots (first + w.in-Some.step) c.len-number.result;
+            met = near;
+          })
       | in-None+in_ok-push-in-None w ↦
           let far : AreMet keyed (firsts ++ row ∷ []) slots w.push.new.self.items
-          = subst (AreMet keyed (firsts ++ row ∷ []) slots) (ap (λ n. apart ++ n ∷ []) last ∙ sym w.in_ok-push-in-None.ensures.items) (met_apart keyed firsts slots apart met first row c.requires.first) in
+          = subst (AreMet keyed (firsts ++ row ∷ []) slots) (ap (λ n. apart ++ n ∷ []) last
+          ∙ sym w.in_ok-push-in-None.ensures.items) (met_apart keyed firsts slots apart met first row c.requires.first) in
           subst (IsPut keyed row table) (sym w.self-is) (record { firsts = refl; keys = refl; long = refl; met = far })
     ] in
     let keys : HasKeys keyed (firsts ++ row ∷ []) c.push_key.new.cells.items
-    = keys_more keyed firsts table.keys.items c.requires.held.keys row (map meaning c.cells_at.result.now) c.push_key.new.cells.items c.cells_at.ensures
+    = keys_more keyed firsts table.keys.items c.requires.held.keys row (map meaning c.cells_at.result.now)
+    c.push_key.new.cells.items c.cells_at.ensures
     (c.in_ok-push_key.ensures ∙ ap (λ l. map meaning l ++ key_in keyed.columns.now (map meaning c.cells_at.result.now)) put.keys) in
-    held_new keyed row table c.requires.held c.requires.new _ (c.in_ok-push.ensures.items ∙ ap (λ l. l ++ row ∷ []) put.firsts) keys put.long put.met
+    held_new keyed row table c.requires.held c.requires.new _ (c.in_ok-push.ensures.items
+    ∙ ap (λ l. l ++ row ∷ []) put.firsts) keys put.long put.met

@@ -9,4 +9,7 @@ use Rattle.wnames.proofs.groups.UngroupedNodeTest.look.Goals as goal
 
 pub returns-in-Column : goal.returns-in-Column
 returns-in-Column c =
-    c.look_at_column.ensures ∙ ap (λ n. if list_any (names n) (all_columns (scope_clauses c.args.self.now.scope.now).grouping) then Below else Found) c.as_str.ensures.value ∙ sym (ungrouped_column (all_columns (scope_clauses c.args.self.now.scope.now).grouping) c.args.node.now c.in-Column.column c.in-Column.is)
+    c.look_at_column.ensures ∙ ap (λ n. if list_any (names n)
+    (all_columns (scope_clauses c.args.self.now.scope.now).grouping) then Below else Found) c.as_str.ensures.value
+    ∙ sym (ungrouped_column (all_columns (scope_clauses c.args.self.now.scope.now).grouping) c.args.node.now
+    c.in-Column.column c.in-Column.is)

@@ -34,6 +34,9 @@ returns-clause-whole c =
     let width = length a.names.items in
     let row : c.args.row < a.rows = rw (← c.self.view_is, length-laid width a.rows a.cells.items) at c.requires in
     let is : c.len-width.result ≡ width = c.len-width.ensures ∙ a.names.ok.0 in
-    let inside : c.args.row * width + width ≤ length a.cells.items = omega (arith, row-within width a.rows c.args.row row, c.self.invariant.filled) in
-    let behind : width ≤ length (drop (c.args.row * width) a.cells.items) = omega (arith, inside, length-drop (c.args.row * width) a.cells.items) in
-    rw (← c.self.view_is, c.cells_from.ensures, is, c.deref.ensures.value) (length-take-le width (drop (c.args.row * width) a.cells.items) behind ∙ sym (length-map a.names.items rc_str_bytes))
+    let inside : c.args.row * width + width ≤ length a.cells.items =
+    omega (arith, row-within width a.rows c.args.row row, c.self.invariant.filled) in
+    let behind : width ≤ length (drop (c.args.row * width) a.cells.items) =
+    omega (arith, inside, length-drop (c.args.row * width) a.cells.items) in
+    rw (← c.self.view_is, c.cells_from.ensures, is, c.deref.ensures.value)
+    (length-take-le width (drop (c.args.row * width) a.cells.items) behind ∙ sym (length-map a.names.items rc_str_bytes))

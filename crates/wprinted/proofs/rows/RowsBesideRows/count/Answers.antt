@@ -8,5 +8,6 @@ use Rattle.wprinted.proofs.rows.RowsBesideRows.count.Goals as goal
 pub returns : goal.returns
 returns c =
     let s = c.args.self.now in
-    c.min.ensures ∙ ap (min s.count) (c.saturating_sub.ensures ∙ ap (λ n. n - s.from) (sym (length-map s.rows.now (λ cells. map meaning cells.now))))
+    c.min.ensures ∙ ap (min s.count) (c.saturating_sub.ensures
+    ∙ ap (λ n. n - s.from) (sym (length-map s.rows.now (λ cells. map meaning cells.now))))
     ∙ sym (from_long (seen s.rows.now) (seen s.columns.now) s.from s.count)

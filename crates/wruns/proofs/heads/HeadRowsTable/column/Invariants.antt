@@ -6,4 +6,5 @@ use Rattle.wruns.proofs.heads.HeadRowsTable.column.Given as goal
 
 -- the values so far
 abbrev pub invariant-loop-head : goal.invariant-loop-head
-invariant-loop-head l = values_seen l.column.items ≡ key_column l.col (map (head_row (rows_seen l.self.sources.now)) (take l.head-index l.self.heads.now))
+invariant-loop-head l = values_seen l.column.items ≡ key_column l.col (map (head_row (rows_seen l.self.sources.now))
+    (take l.head-index l.self.heads.now))

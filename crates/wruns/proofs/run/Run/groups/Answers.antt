@@ -7,4 +7,10 @@ use Rattle.wruns.proofs.run.Run.groups.Goals as goal
 pub returns-in-Some : goal.returns-in-Some
 returns-in-Some c =
     let rows = c.self.inside.rows.items in
-    omega (arith, length-pieces c.in-Some.ends.items rows, ap (λ o. length (pieces_of o rows)) c.in-Some.is, ap (λ (p : RunParts). length p.groups) c.self.view_is, c.len-in-Some.ensures)
+    omega (
+      arith,
+      length-pieces c.in-Some.ends.items rows,
+      ap (λ o. length (pieces_of o rows)) c.in-Some.is,
+      ap (λ (p : RunParts). length p.groups) c.self.view_is,
+      c.len-in-Some.ensures,
+    )

@@ -14,8 +14,11 @@ pub invariant_of-result : goal.invariant_of-result
 invariant_of-result c =
     let columns = c.in_ok-grouped.ensures ∙ ap (λ (xs : List GroupElement). all_columns (map view_element xs)) c.as_slice-2.ensures.value in
     record {
-      named = named_by c.in_ok-outputs.outputs (all_titled c.args.columns.now) c.as_slice.result.now c.args.query.now.items.items c.as_slice.ensures.value c.in_ok-outputs.ensures;
-      told = told_by c.in_ok-outputs.outputs (all_titled c.args.columns.now) c.as_slice.result.now c.args.query.now.items.items c.as_slice.ensures.value c.in_ok-outputs.ensures;
+      named = named_by c.in_ok-outputs.outputs (all_titled c.args.columns.now) c.as_slice.result.now
+          c.args.query.now.items.items c.as_slice.ensures.value c.in_ok-outputs.ensures;
+      told = told_by c.in_ok-outputs.outputs (all_titled c.args.columns.now) c.as_slice.result.now
+          c.args.query.now.items.items c.as_slice.ensures.value c.in_ok-outputs.ensures;
       listed = λ p. ap (list_any p) columns;
-      kept = λ q. c.in_ok-grouping.ensures q ∙ ap (λ (xs : List (Bor Column)). list_any (names q) (lent_columns xs)) c.as_slice-3.ensures.value ∙ ap (list_any (names q)) columns;
+      kept = λ q. c.in_ok-grouping.ensures q ∙ ap (λ (xs : List (Bor Column)). list_any (names q) (lent_columns xs))
+          c.as_slice-3.ensures.value ∙ ap (list_any (names q)) columns;
     }

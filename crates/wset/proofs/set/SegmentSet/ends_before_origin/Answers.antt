@@ -8,8 +8,13 @@ use Rattle.wset.proofs.set.SegmentSet.ends_before_origin.Goals as goal
 
 pub returns-clause-before : goal.returns-clause-before
 returns-clause-before c =
-    rw (entries-is (flat c.self.inside.blocks.items) c.args.self.now.view c.self.invariant.rising (ap (λ s. s.view) c.self.view_is), ← c.deref.ensures.value) c.end_before_origin.ensures
+    rw (
+      entries-is (flat c.self.inside.blocks.items) c.args.self.now.view c.self.invariant.rising
+          (ap (λ s. s.view) c.self.view_is),
+      ← c.deref.ensures.value,
+    ) c.end_before_origin.ensures
 
 pub returns-clause-settled : goal.returns-clause-settled
 returns-clause-settled c =
-    subst (λ s. IsSettled s.view) c.self.view_is (settled_view (known_entries (flat c.self.inside.blocks.items)) c.self.invariant.rising c.self.invariant.settled)
+    subst (λ s. IsSettled s.view) c.self.view_is (settled_view (known_entries (flat c.self.inside.blocks.items))
+    c.self.invariant.rising c.self.invariant.settled)

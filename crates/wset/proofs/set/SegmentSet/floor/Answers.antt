@@ -8,4 +8,5 @@ use Rattle.wset.proofs.set.SegmentSet.floor.Goals as goal
 pub returns : goal.returns
 returns c =
     (rw c.deref.ensures.value at c.floor_in.ensures)
-    ∙ ap (λ l. first_of (filter_map (floor_number c.args.origin.now) l)) (sym (entries-is (flat c.self.inside.blocks.items) c.args.self.now.view c.self.invariant.rising (ap (λ s. s.view) c.self.view_is)))
+    ∙ ap (λ l. first_of (filter_map (floor_number c.args.origin.now) l))
+    (sym (entries-is (flat c.self.inside.blocks.items) c.args.self.now.view c.self.invariant.rising (ap (λ s. s.view) c.self.view_is)))

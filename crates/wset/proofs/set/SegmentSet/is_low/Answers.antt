@@ -16,4 +16,5 @@ returns-clause-low c =
 
 pub returns-clause-settled : goal.returns-clause-settled
 returns-clause-settled c =
-    subst (λ s. IsSettled s.view) c.self.view_is (settled_view (known_entries (flat c.self.inside.blocks.items)) c.self.invariant.rising c.self.invariant.settled)
+    subst (λ s. IsSettled s.view) c.self.view_is (settled_view (known_entries (flat c.self.inside.blocks.items))
+    c.self.invariant.rising c.self.invariant.settled)

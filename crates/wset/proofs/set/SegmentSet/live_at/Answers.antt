@@ -6,7 +6,12 @@ use Rattle.wset.proofs.set.SegmentSet.live_at.Goals as goal
 
 pub live_in-requires-clause-in_range : goal.live_in-requires-clause-in_range
 live_in-requires-clause-in_range c =
-    omega (arith, c.requires, lives_counted c.self.inside c.args.self.now c.self.invariant c.self.view_is, ap (λ bs. length (kept_in (flat bs))) c.deref.ensures.value)
+    omega (
+      arith,
+      c.requires,
+      lives_counted c.self.inside c.args.self.now c.self.invariant c.self.view_is,
+      ap (λ bs. length (kept_in (flat bs))) c.deref.ensures.value,
+    )
 
 pub returns-clause-known : goal.returns-clause-known
 returns-clause-known c =

@@ -10,13 +10,16 @@ use Rattle.wset.proofs.set.SegmentSet.make_and_merge.Goals as goal
 
 pub returns-in-None-clause-list : goal.returns-in-None-clause-list
 returns-in-None-clause-list c =
-    subst (λ l. IfOk c.merge.result (λ refs. refs.items ≡ refs_by c.args.keys.now l)) (live_same c.args.self.now c.make_runs.new.self c.make_runs.ensures.same) c.merge.ensures.list
+    subst (λ l. IfOk c.merge.result (λ refs. refs.items ≡ refs_by c.args.keys.now l))
+    (live_same c.args.self.now c.make_runs.new.self c.make_runs.ensures.same) c.merge.ensures.list
 
 pub returns-in-None-clause-has : goal.returns-in-None-clause-has
 returns-in-None-clause-has c =
-    at_any_rate c.merge.result (subst (λ (s : DeclaredView). All (λ orders. IsAmong orders c.args.keys.now) s.orders) (sym c.merge.ensures.same) c.in_ok-make_runs.ensures.has)
+    at_any_rate c.merge.result (subst (λ (s : DeclaredView). All (λ orders. IsAmong orders c.args.keys.now) s.orders)
+    (sym c.merge.ensures.same) c.in_ok-make_runs.ensures.has)
 
 pub returns-in-Some-clause-list : goal.returns-in-Some-clause-list
 returns-in-Some-clause-list c =
     subst (λ l. c.in-Some.rows.items ≡ refs_by c.args.keys.now l) (live_same c.args.self.now c.make_runs.new.self c.make_runs.ensures.same)
-    (subst (λ o. IfSome o (λ refs. refs.items ≡ refs_by c.args.keys.now (live_rows c.make_runs.new.self))) c.in-Some.is c.in_ok-kept.ensures)
+    (subst (λ o. IfSome o (λ refs. refs.items ≡ refs_by c.args.keys.now (live_rows c.make_runs.new.self))) c.in-Some.is
+    c.in_ok-kept.ensures)

@@ -17,13 +17,16 @@ invariant_of-self-2 c = orderly_same c.self.inside _ refl refl refl refl c.make_
 pub returns-in_err-make_in-clause-same : goal.returns-in_err-make_in-clause-same
 returns-in_err-make_in-clause-same c =
     changed c.self.inside.schema _ _ _ _ c.args.self.now (λ v. v) c.self.view_is
-    (ap from_sorted (known_same (flat c.make_in.new.blocks.items) (flat c.self.inside.blocks.items) (flat_plain c.make_in.new.blocks.items c.self.inside.blocks.items c.make_in.ensures.plain)))
+    (ap from_sorted (known_same (flat c.make_in.new.blocks.items) (flat c.self.inside.blocks.items)
+    (flat_plain c.make_in.new.blocks.items c.self.inside.blocks.items c.make_in.ensures.plain)))
 
 pub returns-clause-same : goal.returns-clause-same
 returns-clause-same c =
     changed c.self.inside.schema _ _ _ _ c.args.self.now (λ v. v) c.self.view_is
-    (ap from_sorted (known_same (flat c.make_in.new.blocks.items) (flat c.self.inside.blocks.items) (flat_plain c.make_in.new.blocks.items c.self.inside.blocks.items c.make_in.ensures.plain)))
+    (ap from_sorted (known_same (flat c.make_in.new.blocks.items) (flat c.self.inside.blocks.items)
+    (flat_plain c.make_in.new.blocks.items c.self.inside.blocks.items c.make_in.ensures.plain)))
 
 pub returns-clause-has : goal.returns-clause-has
 returns-clause-has c =
-    All-from_recursion (λ o. IsAmong o c.args.keys.now) (orders_in (flat c.make_in.new.blocks.items)) (all_have c.args.keys.now c.make_in.new.blocks.items c.in_ok-make_in.ensures.has)
+    All-from_recursion (λ o. IsAmong o c.args.keys.now) (orders_in (flat c.make_in.new.blocks.items))
+    (all_have c.args.keys.now c.make_in.new.blocks.items c.in_ok-make_in.ensures.has)

@@ -17,7 +17,8 @@ use Rattle.wset.proofs.set.SegmentSet.retire_to.Goals as goal
 
 pub returns-then-is_reached-clause-ok : goal.returns-then-is_reached-clause-ok
 returns-then-is_reached-clause-ok c =
-    same_view c.args.self.now _ (floor_reached c.args.self.now.view c.args.name c.is_reached.ensures.settled (sym c.is_reached.ensures.reached ∙ c.if-is_reached.true))
+    same_view c.args.self.now _ (floor_reached c.args.self.now.view c.args.name c.is_reached.ensures.settled
+    (sym c.is_reached.ensures.reached ∙ c.if-is_reached.true))
 
 pub raise_counted-requires-clause-few : goal.raise_counted-requires-clause-few
 raise_counted-requires-clause-few c = omega (arith, (rw c.deref.ensures.value at c.in_ok-_count.ensures.count) Floor)
@@ -26,9 +27,13 @@ pub invariant_of-self-2 : goal.invariant_of-self-2
 invariant_of-self-2 c =
     let es = flat c.self.inside.blocks.items in
     let gs = flat c.raise_counted.new.blocks.items in
-    let known : known_entries gs ≡ above_floor c.args.name (put name_cmp c.args.name Floor (known_entries es)) = c.in_ok-raise_counted.ensures.ok in
-    let not_reached = or_parts (is_below c.args.self.now.view c.args.name) (is_floor (get c.args.self.now.view c.args.name)) (sym c.is_reached.ensures.reached ∙ c.if-is_reached.false) in
-    let high : list_any (is_over c.args.name) (known_entries es) ≡ false = ap (list_any (is_over c.args.name)) (sym (entries-view es c.self.invariant.rising)) ∙ ap (λ s. is_below s.view c.args.name) c.self.view_is ∙ not_reached.0 in
+    let known : known_entries gs ≡ above_floor c.args.name (put name_cmp c.args.name Floor (known_entries es)) =
+    c.in_ok-raise_counted.ensures.ok in
+    let not_reached = or_parts (is_below c.args.self.now.view c.args.name) (is_floor (get c.args.self.now.view c.args.name))
+    (sym c.is_reached.ensures.reached ∙ c.if-is_reached.false) in
+    let high : list_any (is_over c.args.name) (known_entries es) ≡ false =
+    ap (list_any (is_over c.args.name)) (sym (entries-view es c.self.invariant.rising))
+    ∙ ap (λ s. is_below s.view c.args.name) c.self.view_is ∙ not_reached.0 in
     record {
       rising = rising_floor es gs c.args.name c.self.invariant.rising known;
       settled = settled_floor es gs c.args.name c.self.invariant.rising c.self.invariant.settled high known;
@@ -44,11 +49,16 @@ pub returns-clause-ok : goal.returns-clause-ok
 returns-clause-ok c =
     let es = flat c.self.inside.blocks.items in
     let gs = flat c.raise_counted.new.blocks.items in
-    let known : known_entries gs ≡ above_floor c.args.name (put name_cmp c.args.name Floor (known_entries es)) = c.in_ok-raise_counted.ensures.ok in
-    let not_reached = or_parts (is_below c.args.self.now.view c.args.name) (is_floor (get c.args.self.now.view c.args.name)) (sym c.is_reached.ensures.reached ∙ c.if-is_reached.false) in
-    let high : list_any (is_over c.args.name) (known_entries es) ≡ false = ap (list_any (is_over c.args.name)) (sym (entries-view es c.self.invariant.rising)) ∙ ap (λ s. is_below s.view c.args.name) c.self.view_is ∙ not_reached.0 in
+    let known : known_entries gs ≡ above_floor c.args.name (put name_cmp c.args.name Floor (known_entries es)) =
+    c.in_ok-raise_counted.ensures.ok in
+    let not_reached = or_parts (is_below c.args.self.now.view c.args.name) (is_floor (get c.args.self.now.view c.args.name))
+    (sym c.is_reached.ensures.reached ∙ c.if-is_reached.false) in
+    let high : list_any (is_over c.args.name) (known_entries es) ≡ false =
+    ap (list_any (is_over c.args.name)) (sym (entries-view es c.self.invariant.rising))
+    ∙ ap (λ s. is_below s.view c.args.name) c.self.view_is ∙ not_reached.0 in
     changed c.self.inside.schema _ _ _ _ c.args.self.now (λ v. join v (view_of_item (FloorItem c.args.name))) c.self.view_is
     (view_floor es gs c.args.name c.self.invariant.rising c.self.invariant.settled high known)
 
 pub invariant_of-self : goal.invariant_of-self
-invariant_of-self c = orderly_flat c.self.inside _ refl refl c.in_err-raise_counted.ensures.err c.raise_counted.ensures.placed c.raise_counted.ensures.starts refl c.self.invariant
+invariant_of-self c = orderly_flat c.self.inside _ refl refl c.in_err-raise_counted.ensures.err
+    c.raise_counted.ensures.placed c.raise_counted.ensures.starts refl c.self.invariant

@@ -13,8 +13,11 @@ use Rattle.wset.proofs.set.SegmentSet.schema.Goals as goal
 pub returns-clause-read : goal.returns-clause-read
 returns-clause-read c =
     subst LivesAreRead c.self.view_is
-    (subst (All (λ e. IsOk (rows_of c.self.inside.schema e.1))) (sym (lives-view (flat c.self.inside.blocks.items) _ c.self.invariant.rising refl)) (read_lives c.self.inside.schema (flat c.self.inside.blocks.items) c.self.invariant.read))
+    (subst (All (λ e. IsOk (rows_of c.self.inside.schema e.1)))
+    (sym (lives-view (flat c.self.inside.blocks.items) _ c.self.invariant.rising refl))
+    (read_lives c.self.inside.schema (flat c.self.inside.blocks.items) c.self.invariant.read))
 
 pub returns-clause-settled : goal.returns-clause-settled
 returns-clause-settled c =
-    subst (λ s. IsSettled s.view) c.self.view_is (settled_view (known_entries (flat c.self.inside.blocks.items)) c.self.invariant.rising c.self.invariant.settled)
+    subst (λ s. IsSettled s.view) c.self.view_is (settled_view (known_entries (flat c.self.inside.blocks.items))
+    c.self.invariant.rising c.self.invariant.settled)

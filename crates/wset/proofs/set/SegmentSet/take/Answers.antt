@@ -5,4 +5,5 @@ use Rattle.wset.proofs.set.SegmentSet.take.Goals as goal
 
 pub returns-then-is_some-clause-ok : goal.returns-then-is_some-clause-ok
 returns-then-is_some-clause-ok c =
-    same_view c.args.self.now _ (take_same c.args.self.now.view c.args.name c.args.bytes.now c.args.bytes.now c.known_segment.ensures.settled (c.known_segment.ensures.known.0 (sym c.is_some.ensures ∙ c.if-is_some.true)) refl)
+    same_view c.args.self.now _ (take_same c.args.self.now.view c.args.name c.args.bytes.now c.args.bytes.now
+    c.known_segment.ensures.settled (c.known_segment.ensures.known.0 (sym c.is_some.ensures ∙ c.if-is_some.true)) refl)

@@ -5,7 +5,8 @@ use Rattle.wshell.proofs.pending.Pending.add.Goals as goal
 
 pub returns-then-is_full : goal.returns-then-is_full
 returns-then-is_full c = λ text is.
-    pending_still c.args.self.now c.turn.new.self c.args.byte text c.turn.ensures (subst (λ (k : Kept). room ≤ length k.text) c.turn.ensures c.if-is_full.ensures) is
+    pending_still c.args.self.now c.turn.new.self c.args.byte text c.turn.ensures
+    (subst (λ (k : Kept). room ≤ length k.text) c.turn.ensures c.if-is_full.ensures) is
 
 pub returns : goal.returns
 returns c = λ text is.

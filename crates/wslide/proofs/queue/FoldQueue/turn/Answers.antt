@@ -15,8 +15,11 @@ loop-part-preserved g c =
     let below = c.join-below.result in
     let popped = All-pop is_part was.self.back.items c.pop.new.self.items (Some part) c.in-Some.ensures.items inv.back in
     record {
-      turned = turned_more is_part neutral joined c.args.self.now.back.items was.self.back.items c.pop.new.self.items was.self.front.items c.push_reserved.new.self.items part was.below below c.in-Some.ensures.items c.push_reserved.ensures.items c.join-below.ensures.value popped.1 inv.turned;
-      front = All-same is_part _ _ c.push_reserved.ensures.items (All-push is_part was.self.front.items below inv.front c.join-below.ensures.part);
+      turned = turned_more is_part neutral joined c.args.self.now.back.items was.self.back.items c.pop.new.self.items
+          was.self.front.items c.push_reserved.new.self.items part was.below below c.in-Some.ensures.items
+          c.push_reserved.ensures.items c.join-below.ensures.value popped.1 inv.turned;
+      front = All-same is_part _ _ c.push_reserved.ensures.items (All-push is_part was.self.front.items below inv.front
+          c.join-below.ensures.part);
       back = popped.0;
       below_part = c.join-below.ensures.part;
       limit = search rules;

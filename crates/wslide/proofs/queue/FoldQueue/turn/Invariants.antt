@@ -8,7 +8,8 @@ abbrev pub invariant-loop-part : goal.invariant-loop-part
 invariant-loop-part g l =
     let f = l.fold in
     record {
-      turned : IsTurned (g.F.Fold.is_part f) (g.F.Fold.neutral f) (g.F.Fold.joined f) l.fn.self.back.items l.self.back.items l.self.front.items l.below;
+      turned : IsTurned (g.F.Fold.is_part f) (g.F.Fold.neutral f) (g.F.Fold.joined f) l.fn.self.back.items l.self.back.items
+          l.self.front.items l.below;
       front : All (g.F.Fold.is_part f) l.self.front.items;
       back : All (g.F.Fold.is_part f) l.self.back.items;
       below_part : g.F.Fold.is_part f l.below;

@@ -22,8 +22,10 @@ levels-preserved g c =
     let len : vec_len next ≡ vec_len was.level / 2 = c.in_ok-next.ensures.len ∙ ap (λ n. n / 2) c.deref.ensures.len in
     record {
       climbs = rw c.in_ok-push.ensures.items (climb_more joined c.args.parts.items was.levels.items was.level next.items inv.climbs pairs);
-      parts = All-same is_part next.items (paired joined was.level.items) pairs (paired_All joined is_part (g.met.F.Fold.laws f).closed was.level.items inv.parts);
-      halved = rw c.in_ok-push.ensures.len (halved_more (vec_len was.levels) (vec_len was.level) (length c.args.parts.items) (vec_len next) inv.halved len);
+      parts = All-same is_part next.items (paired joined was.level.items) pairs
+          (paired_All joined is_part (g.met.F.Fold.laws f).closed was.level.items inv.parts);
+      halved = rw c.in_ok-push.ensures.len (halved_more (vec_len was.levels) (vec_len was.level) (length c.args.parts.items)
+          (vec_len next) inv.halved len);
       some = λ z. absurd (omega arith);
       not_less = omega arith;
       joins = omega arith;
@@ -55,7 +57,8 @@ returns-clause-built g c =
       climbs = built_climbs joined base c.push-2.new.self.items levels c.in_ok-push-2.ensures.items climbs low;
       low = λ height h.
           let n : length base ≤ 2 ^ height = subst (λ xs. length xs ≤ 2 ^ height) bottom h in
-          let i : vec_len was.levels ≤ height = low_enough (vec_len was.levels) (vec_len was.level) (length base) height was.invariant.halved was.invariant.some n in
+          let i : vec_len was.levels ≤ height = low_enough (vec_len was.levels) (vec_len was.level) (length base) height
+          was.invariant.halved was.invariant.some n in
           let l : vec_len c.push-2.new.self ≡ vec_len was.levels + 1 = c.in_ok-push-2.ensures.len in
           omega arith;
     }

@@ -82,8 +82,11 @@ loop-level-preserved g c =
     let parts = subst (λ ls. All is_part (lowest ls)) more inv.parts in
     let first = c.take_left-left_part in
     let last = c.take_right-right_part in
-    let first_kept = subst (λ xs. joined first.result.0 (total neutral joined (slice_range xs first.result.1 was.cut.to)) ≡ joined was.left (total neutral joined (slice_range xs was.cut.from was.cut.to))) c.deref.ensures.value first.ensures.kept in
-    let last_kept = subst (λ xs. joined (total neutral joined (slice_range xs first.result.1 last.result.1)) last.result.0 ≡ joined (total neutral joined (slice_range xs first.result.1 was.cut.to)) was.right) c.deref-in-loop-level.ensures.value last.ensures.kept in
+    let first_kept = subst (λ xs. joined first.result.0 (total neutral joined (slice_range xs first.result.1 was.cut.to))
+    ≡ joined was.left (total neutral joined (slice_range xs was.cut.from was.cut.to))) c.deref.ensures.value first.ensures.kept in
+    let last_kept = subst (λ xs. joined (total neutral joined (slice_range xs first.result.1 last.result.1)) last.result.0
+    ≡ joined (total neutral joined (slice_range xs first.result.1 was.cut.to)) was.right)
+    c.deref-in-loop-level.ensures.value last.ensures.kept in
     let len : was.cut.to ≤ length level.items = subst (λ xs. was.cut.to ≤ length xs) at inv.within in
     let half : length (lowest rest) ≡ length level.items / 2 = ap length next ∙ length-paired joined level.items in
     record {
@@ -94,9 +97,11 @@ loop-level-preserved g c =
       left = first.ensures.part;
       right = last.ensures.part;
       sum =
-          level_more laws level.items (lowest rest) was.cut.from first.result.1 was.cut.to last.result.1 was.left first.result.0 was.right last.result.0
+          level_more laws level.items (lowest rest) was.cut.from first.result.1 was.cut.to last.result.1 was.left
+          first.result.0 was.right last.result.0
           parts inv.left first.ensures.part inv.right last.ensures.part next
-          last.ensures.from last.ensures.to first.ensures.from len (λ h. first.ensures.even (omega arith)) last.ensures.even first_kept last_kept
+          last.ensures.from last.ensures.to first.ensures.from len (λ h. first.ensures.even (omega arith)) last.ensures.even
+          first_kept last_kept
           ∙ ap (λ xs. joined was.left (joined (total neutral joined (slice_range xs was.cut.from was.cut.to)) was.right)) (sym at)
           ∙ inv.sum;
       not_less = omega arith;
@@ -119,5 +124,6 @@ returns-clause-value g c =
     ]
     in
     c.join.ensures.value
-    ∙ sym (level_none (g.met.F.Fold.laws c.args.fold.now) (lowest (drop was.level-index items)) was.cut.from was.cut.to was.left was.right inv.right done)
+    ∙ sym (level_none (g.met.F.Fold.laws c.args.fold.now) (lowest (drop was.level-index items)) was.cut.from was.cut.to
+    was.left was.right inv.right done)
     ∙ inv.sum

@@ -17,7 +17,8 @@ invariant-loop-level g l =
       within : l.cut.to ≤ length (lowest rest);
       left : g.F.Fold.is_part f l.left;
       right : g.F.Fold.is_part f l.right;
-      sum : joined l.left (joined (sum (slice_range (lowest rest) l.cut.from l.cut.to)) l.right) ≡ sum (slice_range (tree_parts l.self) l.fn.span.from l.fn.span.to);
+      sum : joined l.left (joined (sum (slice_range (lowest rest) l.cut.from l.cut.to)) l.right)
+          ≡ sum (slice_range (tree_parts l.self) l.fn.span.from l.fn.span.to);
       not_less : g.F.Fold.count l.fn.meter ≤ g.F.Fold.count l.meter;
       joins : g.F.Fold.count l.meter ≤ g.F.Fold.count l.fn.meter + 2 * l.level-index;
     }

@@ -13,4 +13,5 @@ returns-clause-answer c =
     c.self.view_is c.ask.ensures.answer
 
 pub returns-clause-same : goal.returns-clause-same
-returns-clause-same c = knows_same c.args.self.now c.self.inside.set c.ask.new.set c.self.inside.inbox.held c.self.inside.inbox.is_bad c.self.view_is c.ask.ensures.same
+returns-clause-same c = knows_same c.args.self.now c.self.inside.set c.ask.new.set c.self.inside.inbox.held
+    c.self.inside.inbox.is_bad c.self.view_is c.ask.ensures.same

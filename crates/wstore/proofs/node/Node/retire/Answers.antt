@@ -5,4 +5,5 @@ use Rattle.wstore.proofs.node.Node.retire.Goals as goal
 
 pub returns-clause-ok : goal.returns-clause-ok
 returns-clause-ok c =
-    knows_now c.retire.result c.args.self.now c.self.inside.set c.retire.new.self c.self.inside.inbox.held c.self.inside.inbox.is_bad (λ v. join v (view_of_item (RetirementItem c.args.name))) c.self.view_is c.retire.ensures.ok
+    knows_now c.retire.result c.args.self.now c.self.inside.set c.retire.new.self c.self.inside.inbox.held
+    c.self.inside.inbox.is_bad (λ v. join v (view_of_item (RetirementItem c.args.name))) c.self.view_is c.retire.ensures.ok

@@ -5,4 +5,5 @@ use Rattle.wstore.proofs.node.Node.take.Goals as goal
 
 pub returns-clause-ok : goal.returns-clause-ok
 returns-clause-ok c =
-    knows_now c.take.result c.args.self.now c.self.inside.set c.take.new.self c.self.inside.inbox.held c.self.inside.inbox.is_bad (λ v. join v (view_of_item (SegmentItem c.args.name c.args.bytes.now))) c.self.view_is c.take.ensures.ok
+    knows_now c.take.result c.args.self.now c.self.inside.set c.take.new.self c.self.inside.inbox.held
+    c.self.inside.inbox.is_bad (λ v. join v (view_of_item (SegmentItem c.args.name c.args.bytes.now))) c.self.view_is c.take.ensures.ok
