@@ -4,6 +4,7 @@ mod MoveFacts
 mod SpanFacts
 mod PieceFacts
 mod CellFacts
+mod ListFacts
 mod CodeFacts
 mod OrderFacts
 mod GroupFacts

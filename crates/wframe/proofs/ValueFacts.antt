@@ -1,9 +1,6 @@
 -- Values that are equal in a key's order are the same value.
 use Rattle.std.proofs.Common.{◌≡◌, ℕ, zero, suc, ◌+◌, ◌<◌, Bool, true, false, List, [], ◌∷◌}
 use Rattle.std.proofs.Common.{length, drop, get_or, cond, refl, sym, ap, ◌∙◌, subst, arith}
-use Rattle.std.specs.Borrow.{Bor}
-use Rattle.wvalues.specs.declared.value.Value.{Value}
-use Rattle.wframe.specs.Cells.{meanings}
 use Rattle.std.specs.Ordering.{nat_cmp, int_cmp, is_eq, ordering_then}
 use Rattle.std.specs.Cmp.Lexicographic.{slice_cmp}
 use Rattle.std.specs.declared.cmp.Ordering.{Ordering}
@@ -13,7 +10,7 @@ use Rattle.std.proofs.lemmas.Cmp.{tied_itself}
 use Rattle.wvalues.specs.OrderLaws.{key_total}
 use Rattle.std.proofs.lemmas.Map.Lookups.{exact_signed, exact_bytes}
 use Rattle.wvalues.specs.declared.key.SortKey.{SortKey}
-use Rattle.wvalues.specs.Meaning.{Meaning, Null, Int, Text, meaning}
+use Rattle.wvalues.specs.Meaning.{Meaning, Null, Int, Text}
 use Rattle.wvalues.specs.Order.{key_cmp, keys_cmp}
 
 equal : (o : Ordering) → is_eq o ≡ true → o ≡ Equal
@@ -88,26 +85,20 @@ other_then Equal p h = absurd (cc)
 other_then Greater p h = refl
 
 -- the keys from i on decide by the first of them, then by those from n on
-abbrev Decides : List SortKey → List (Bor Value) → List (Bor Value) → Bor Value → Bor Value → ℕ → ℕ → Type 0
-Decides ks xs ys x y i n = (k : SortKey) × (keys_cmp (drop i ks) (meanings (drop i xs)) (meanings (drop i ys))
-    ≡ ordering_then (key_cmp k (meaning x.now) (meaning y.now)) (keys_cmp (drop n ks) (meanings (drop n xs)) (meanings (drop n ys))))
+abbrev Decides : List SortKey → List Meaning → List Meaning → ℕ → ℕ → Type 0
+Decides ks xs ys i n = (k : SortKey) × (keys_cmp (drop i ks) (drop i xs) (drop i ys)
+    ≡ ordering_then (key_cmp k (get_or xs i Null) (get_or ys i Null)) (keys_cmp (drop n ks) (drop n xs) (drop n ys)))
 
-keys_from : (ks : List SortKey) (xs ys : List (Bor Value)) (i : ℕ) (x y : Bor Value) → i < length ks → length xs ≡ length ks
-    → length ys ≡ length ks → x ≡ get_or xs i x → y ≡ get_or ys i y → Decides ks xs ys x y i (suc i)
-keys_from [] xs ys i x y h e f xs_is ys_is = absurd (omega arith)
-keys_from (k ∷ ks) [] ys i x y h e f xs_is ys_is = absurd (omega arith)
-keys_from (k ∷ ks) (z ∷ zs) [] i x y h e f xs_is ys_is = absurd (omega arith)
-keys_from (k ∷ ks) (z ∷ zs) (w ∷ ws) zero x y h e f xs_is ys_is =
-    let rest = keys_cmp ks (meanings zs) (meanings ws) in (
-      k,
-      ap (λ (v : Bor Value). ordering_then (key_cmp k (meaning v.now) (meaning w.now)) rest) (sym xs_is)
-          ∙ ap (λ (v : Bor Value). ordering_then (key_cmp k (meaning x.now) (meaning v.now)) rest) (sym ys_is),
-    )
-keys_from (k ∷ ks) (z ∷ zs) (w ∷ ws) (suc i) x y h e f xs_is ys_is =
-    keys_from ks zs ws i x y (omega arith) (omega arith) (omega arith) xs_is ys_is
+keys_from : (ks : List SortKey) (xs ys : List Meaning) (i : ℕ) → i < length ks → length xs ≡ length ks
+    → length ys ≡ length ks → Decides ks xs ys i (suc i)
+keys_from [] xs ys i h e f = absurd (omega arith)
+keys_from (k ∷ ks) [] ys i h e f = absurd (omega arith)
+keys_from (k ∷ ks) (z ∷ zs) [] i h e f = absurd (omega arith)
+keys_from (k ∷ ks) (z ∷ zs) (w ∷ ws) zero h e f = (k, refl)
+keys_from (k ∷ ks) (z ∷ zs) (w ∷ ws) (suc i) h e f = keys_from ks zs ws i (omega arith) (omega arith) (omega arith)
 
-pub keys_then : (ks : List SortKey) (xs ys : List (Bor Value)) (i : ℕ) (x y : Bor Value) → i < length ks
-    → length xs ≡ length ks → length ys ≡ length ks → x ≡ get_or xs i x → y ≡ get_or ys i y → Decides ks xs ys x y i (i + 1)
-keys_then ks xs ys i x y h e f xs_is ys_is =
+pub keys_then : (ks : List SortKey) (xs ys : List Meaning) (i : ℕ) → i < length ks → length xs ≡ length ks
+    → length ys ≡ length ks → Decides ks xs ys i (i + 1)
+keys_then ks xs ys i h e f =
     let n : suc i ≡ i + 1 = omega arith in
-    subst (Decides ks xs ys x y i) n (keys_from ks xs ys i x y h e f xs_is ys_is)
+    subst (Decides ks xs ys i) n (keys_from ks xs ys i h e f)

@@ -1,15 +1,15 @@
--- The key lists that flat cells hold, one row after another.
+-- The key lists of rows, as they are lent.
 use Rattle.std.specs.Prelude.{List, length}
 use Rattle.wvalues.specs.declared.key.SortKey.{SortKey}
 use Rattle.wvalues.specs.Meaning.{Meaning}
 use Rattle.wvalues.specs.Order.{keys_cmp}
-use Rattle.wframe.specs.Cells.{rows_of}
+use Rattle.wframe.specs.KeyLists.{lists_of}
 use Rattle.wframe.specs.Peers.{AreOrdered, AreOrderedWithin}
 use Rattle.wframe.specs.declared.key_rows.KeyRows.{KeyRows}
 
 -- the key list of each row
 abbrev pub key_lists : KeyRows → List (List Meaning)
-key_lists r = rows_of (length r.keys.now) r.count r.cells.now
+key_lists r = lists_of r.lists (length r.keys.now) r.count
 
 -- the keys by which the rows stand
 abbrev pub sort_keys : KeyRows → List SortKey

@@ -10,6 +10,8 @@ pub mod Steps
 pub mod Partitions
 pub mod Cells
 pub mod Codes
+pub mod KeyList
+pub mod KeyLists
 pub mod KeyRows
 pub mod Cuts
 pub mod PeerGroups

@@ -36,7 +36,7 @@ impl<'a> Cut for Starts<'a> {
         match self.mode {
             FrameMode::Rows => is_before_start(self.bound, row, place),
             FrameMode::Range => {
-                key_is_before_start(rows.keys(), self.bound, rows.row(row), rows.row(place))
+                key_is_before_start(rows.keys(), self.bound, &rows.row(row), &rows.row(place))
             }
             FrameMode::Groups => is_before_start(self.bound, self.groups[row], self.groups[place]),
         }
@@ -69,7 +69,7 @@ impl<'a> Cut for Ends<'a> {
         match self.mode {
             FrameMode::Rows => !is_after_end(self.bound, row, place),
             FrameMode::Range => {
-                !key_is_after_end(rows.keys(), self.bound, rows.row(row), rows.row(place))
+                !key_is_after_end(rows.keys(), self.bound, &rows.row(row), &rows.row(place))
             }
             FrameMode::Groups => !is_after_end(self.bound, self.groups[row], self.groups[place]),
         }

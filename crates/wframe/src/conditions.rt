@@ -4,7 +4,6 @@ ghost use Rattle.wframe.specs.KeyRows.{key_lists, sort_keys, AreInOrder, AreInOr
 ghost use Rattle.wframe.specs.Steps.{is_step};
 
 use crate::key_rows::KeyRows;
-use crate::order::compare_lists;
 use std::cmp::Ordering;
 
 // Whether a row may stand right before the next one.
@@ -15,13 +14,9 @@ fn is_in_step(partition_values: &KeyRows, keys: &KeyRows, row: usize, next: usiz
     ensures { result ≡ is_step (keys_cmp (sort_keys partition_values.now)) (key_lists partition_values.now)
         (keys_cmp (sort_keys keys.now)) (key_lists keys.now) row }
 {
-    match compare_lists(
-        partition_values.row(row),
-        partition_values.row(next),
-        partition_values.keys(),
-    ) {
+    match partition_values.compare(row, next) {
         Ordering::Less => true,
-        Ordering::Equal => !compare_lists(keys.row(row), keys.row(next), keys.keys()).is_gt(),
+        Ordering::Equal => !keys.compare(row, next).is_gt(),
         Ordering::Greater => false,
     }
 }

@@ -18,6 +18,8 @@ mod exclusion;
 mod frame;
 mod frames;
 mod groups;
+mod key_list;
+mod key_lists;
 mod key_rows;
 mod laws;
 mod moves;
@@ -29,6 +31,7 @@ pub use conditions::are_in_order;
 pub use cuts::{Cut, push_group_cuts};
 pub use frame::{Frame, FrameBound, FrameExclusion, FrameMode, Span};
 pub use frames::Frames;
+pub use key_list::KeyList;
 pub use key_rows::KeyRows;
 pub use laws::{
     frames_are_rows, frames_slide, gaps_slide, group_numbers_step, keys_order_values, order_splits,

@@ -1,10 +1,10 @@
 use Rattle.std.proofs.Common.{◌≡◌, drop}
 use Rattle.std.specs.Ordering.{is_eq}
-use Rattle.wframe.specs.Cells.{meanings}
+use Rattle.wframe.specs.KeyList.{list_in}
 use Rattle.wvalues.specs.Order.{keys_cmp}
 use Rattle.wframe.proofs.order.are_equal.Given as goal
 
 -- what is left decides
 abbrev pub invariant-loop-i : goal.invariant-loop-i
-invariant-loop-i l = is_eq (keys_cmp (drop l.i l.keys) (meanings (drop l.i l.a)) (meanings (drop l.i l.b)))
-    ≡ is_eq (keys_cmp l.keys (meanings l.a) (meanings l.b))
+invariant-loop-i l = is_eq (keys_cmp (drop l.i l.keys) (drop l.i (list_in l.a)) (drop l.i (list_in l.b)))
+    ≡ is_eq (keys_cmp l.keys (list_in l.a) (list_in l.b))

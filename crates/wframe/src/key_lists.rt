@@ -1,0 +1,170 @@
+//! The values that rows are ordered by, as they are lent.
+ghost use Rattle.std.specs.Prelude.{ℕ, ◌≡◌, ◌<◌, ◌≤◌, ◌-◌, ◌*◌, ◌+◌, length, map, slice_index_or, slice_range, take, drop};
+ghost use Rattle.wvalues.specs.Meaning.{meaning};
+ghost use Rattle.wframe.specs.Cells.{meanings};
+ghost use Rattle.wframe.specs.KeyList.{list_placed, list_in};
+ghost use Rattle.wframe.specs.KeyLists.{AreListsOf, lists_of, lists_picked, lists_placed, rows_seen};
+ghost use Rattle.wframe.specs.Peers.{key_at};
+
+use crate::frame::Span;
+use crate::key_list::{KeyList, LentList, PlacedList, WholeList};
+use wvalues::Value;
+
+/// The values at some places of rows, of which those of these numbers are told in their order. The values are read where they lie.
+#[derive(Clone, Copy)]
+pub struct PlacedLists<'a> {
+    pub rows: &'a [&'a [Value]],
+    pub places: &'a [usize],
+    /// What a row has at a place behind its cells.
+    pub null: &'a Value,
+    pub numbers: &'a [usize],
+}
+
+/// Values that are lent one by one, one row after another.
+#[derive(Clone, Copy)]
+pub struct LaidLists<'a> {
+    pub cells: &'a [&'a Value],
+}
+
+/// The cells of rows of one width that stand one after another, of which those of these numbers are told in their order.
+#[derive(Clone, Copy)]
+pub struct PickedLists<'a> {
+    pub cells: &'a [Value],
+    pub numbers: &'a [usize],
+}
+
+/// A list of values for each row.
+#[derive(Clone, Copy)]
+pub enum KeyLists<'a> {
+    /// One row after another, each value lent by itself.
+    Laid(LaidLists<'a>),
+    /// At places of rows.
+    Placed(PlacedLists<'a>),
+    /// Rows whole.
+    Picked(PickedLists<'a>),
+}
+
+// The cells of a row, none where there is no such row.
+fn cells_at<'a>(rows: &'a [&'a [Value]], number: usize) -> &'a [Value]
+    ensures { map meaning result.now ≡ key_at (rows_seen rows.now) number }
+{
+    if number < rows.len() {
+        rows[number]
+    } else {
+        &[]
+    }
+}
+
+// The cells of a row that are laid out one row after another.
+fn row_slice<'a>(cells: &'a [&'a Value], width: usize, row: usize) -> &'a [&'a Value]
+    requires { row * width + width ≤ length cells.now }
+    ensures list { result.now ≡ take width (drop (row * width) cells.now) }
+    ensures len { length result.now ≡ width }
+{
+    let from = row * width;
+    &cells[from..from + width]
+}
+
+// The cells of a span's rows.
+fn part_slice<'a>(cells: &'a [&'a Value], width: usize, span: Span) -> &'a [&'a Value]
+    requires ordered { span.from * width ≤ span.to * width }
+    requires within { span.to * width ≤ length cells.now }
+    ensures list { result.now ≡ take (span.to * width - span.from * width) (drop (span.from * width) cells.now) }
+    ensures len { length result.now ≡ span.to * width - span.from * width }
+{
+    &cells[span.from * width..span.to * width]
+}
+
+impl<'a> PlacedLists<'a> {
+    // The list of a row.
+    fn list(&self, row: usize) -> PlacedList<'a>
+        requires { row < length self.now.numbers.now }
+        ensures list { list_placed result ≡ key_at (lists_placed self.now) row }
+        ensures places { result.places ≡ self.now.places }
+    {
+        PlacedList {
+            cells: cells_at(self.rows, self.numbers[row]),
+            places: self.places,
+            null: self.null,
+        }
+    }
+
+    // The lists of a span's rows.
+    fn part(&self, span: Span) -> PlacedLists<'a>
+        requires ordered { span.from ≤ span.to }
+        requires within { span.to ≤ length self.now.numbers.now }
+        ensures lists { lists_placed result ≡ slice_range (lists_placed self.now) span.from span.to }
+        ensures len { length result.numbers.now ≡ span.to - span.from }
+        ensures places { result.places ≡ self.now.places }
+    {
+        PlacedLists {
+            rows: self.rows,
+            places: self.places,
+            null: self.null,
+            numbers: &self.numbers[span.from..span.to],
+        }
+    }
+}
+
+impl<'a> PickedLists<'a> {
+    // The list of a row, where each row has so many cells.
+    fn list(&self, width: usize, row: usize) -> WholeList<'a>
+        requires row { row < length self.now.numbers.now }
+        requires within { slice_index_or self.now.numbers.now row 0 * width + width ≤ length self.now.cells.now }
+        ensures list { map meaning result.cells.now ≡ key_at (lists_picked width self.now) row }
+        ensures len { length result.cells.now ≡ width }
+    {
+        let from = self.numbers[row] * width;
+        WholeList {
+            cells: &self.cells[from..from + width],
+        }
+    }
+
+    // The lists of a span's rows.
+    fn part(&self, span: Span) -> PickedLists<'a>
+        requires ordered { span.from ≤ span.to }
+        requires within { span.to ≤ length self.now.numbers.now }
+        ensures lists { (width : ℕ) → lists_picked width result ≡ slice_range (lists_picked width self.now) span.from span.to }
+        ensures cells { result.cells ≡ self.now.cells }
+        ensures numbers { result.numbers.now ≡ slice_range self.now.numbers.now span.from span.to }
+        ensures len { length result.numbers.now ≡ span.to - span.from }
+    {
+        PickedLists {
+            cells: self.cells,
+            numbers: &self.numbers[span.from..span.to],
+        }
+    }
+}
+
+/// The list of a row, of so many of this width.
+pub fn list_at<'a>(lists: &KeyLists<'a>, width: usize, count: usize, row: usize) -> KeyList<'a>
+    requires lists { AreListsOf lists.now width count }
+    requires row { row < count }
+    ensures list { list_in result ≡ key_at (lists_of lists.now width count) row }
+    ensures len { length (list_in result) ≡ width }
+{
+    match lists {
+        KeyLists::Laid(lists) => KeyList::Lent(LentList {
+            cells: row_slice(lists.cells, width, row),
+        }),
+        KeyLists::Placed(lists) => KeyList::Placed(lists.list(row)),
+        KeyLists::Picked(lists) => KeyList::Whole(lists.list(width, row)),
+    }
+}
+
+/// The lists of a span's rows, of so many of this width.
+pub fn part_of<'a>(lists: &KeyLists<'a>, width: usize, count: usize, span: Span) -> KeyLists<'a>
+    requires lists { AreListsOf lists.now width count }
+    requires ordered { span.from ≤ span.to }
+    requires within { span.to ≤ count }
+    ensures lists { AreListsOf result width (span.to - span.from) }
+    ensures part { lists_of result width (span.to - span.from) ≡ slice_range (lists_of lists.now width count) span.from span.to }
+{
+    match lists {
+        KeyLists::Laid(lists) => KeyLists::Laid(LaidLists {
+            cells: part_slice(lists.cells, width, span),
+        }),
+        KeyLists::Placed(lists) => KeyLists::Placed(lists.part(span)),
+        KeyLists::Picked(lists) => KeyLists::Picked(lists.part(span)),
+    }
+}
