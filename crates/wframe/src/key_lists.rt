@@ -44,27 +44,6 @@ pub enum KeyLists<'a> {
     Picked(PickedLists<'a>),
 }
 
-// The cells of a row, none where there is no such row.
-fn cells_at<'a>(rows: &'a [&'a [Value]], number: usize) -> &'a [Value]
-    ensures { map meaning result.now ≡ key_at (rows_seen rows.now) number }
-{
-    if number < rows.len() {
-        rows[number]
-    } else {
-        &[]
-    }
-}
-
-// The cells of a row that are laid out one row after another.
-fn row_slice<'a>(cells: &'a [&'a Value], width: usize, row: usize) -> &'a [&'a Value]
-    requires { row * width + width ≤ length cells.now }
-    ensures list { result.now ≡ take width (drop (row * width) cells.now) }
-    ensures len { length result.now ≡ width }
-{
-    let from = row * width;
-    &cells[from..from + width]
-}
-
 // The cells of a span's rows.
 fn part_slice<'a>(cells: &'a [&'a Value], width: usize, span: Span) -> &'a [&'a Value]
     requires ordered { span.from * width ≤ span.to * width }
@@ -75,6 +54,16 @@ fn part_slice<'a>(cells: &'a [&'a Value], width: usize, span: Span) -> &'a [&'a 
     &cells[span.from * width..span.to * width]
 }
 
+// The numbers of a span's rows.
+fn part_numbers<'a>(numbers: &'a [usize], span: Span) -> &'a [usize]
+    requires ordered { span.from ≤ span.to }
+    requires within { span.to ≤ length numbers.now }
+    ensures part { result.now ≡ slice_range numbers.now span.from span.to }
+    ensures len { length result.now ≡ span.to - span.from }
+{
+    &numbers[span.from..span.to]
+}
+
 impl<'a> PlacedLists<'a> {
     // The list of a row.
     fn list(&self, row: usize) -> PlacedList<'a>
@@ -82,26 +71,16 @@ impl<'a> PlacedLists<'a> {
         ensures list { list_placed result ≡ key_at (lists_placed self.now) row }
         ensures places { result.places ≡ self.now.places }
     {
+        let number = self.numbers[row];
+        let cells = if number < self.rows.len() {
+            self.rows[number]
+        } else {
+            &[]
+        };
         PlacedList {
-            cells: cells_at(self.rows, self.numbers[row]),
+            cells,
             places: self.places,
             null: self.null,
-        }
-    }
-
-    // The lists of a span's rows.
-    fn part(&self, span: Span) -> PlacedLists<'a>
-        requires ordered { span.from ≤ span.to }
-        requires within { span.to ≤ length self.now.numbers.now }
-        ensures lists { lists_placed result ≡ slice_range (lists_placed self.now) span.from span.to }
-        ensures len { length result.numbers.now ≡ span.to - span.from }
-        ensures places { result.places ≡ self.now.places }
-    {
-        PlacedLists {
-            rows: self.rows,
-            places: self.places,
-            null: self.null,
-            numbers: &self.numbers[span.from..span.to],
         }
     }
 }
@@ -119,21 +98,6 @@ impl<'a> PickedLists<'a> {
             cells: &self.cells[from..from + width],
         }
     }
-
-    // The lists of a span's rows.
-    fn part(&self, span: Span) -> PickedLists<'a>
-        requires ordered { span.from ≤ span.to }
-        requires within { span.to ≤ length self.now.numbers.now }
-        ensures lists { (width : ℕ) → lists_picked width result ≡ slice_range (lists_picked width self.now) span.from span.to }
-        ensures cells { result.cells ≡ self.now.cells }
-        ensures numbers { result.numbers.now ≡ slice_range self.now.numbers.now span.from span.to }
-        ensures len { length result.numbers.now ≡ span.to - span.from }
-    {
-        PickedLists {
-            cells: self.cells,
-            numbers: &self.numbers[span.from..span.to],
-        }
-    }
 }
 
 /// The list of a row, of so many of this width.
@@ -145,7 +109,14 @@ pub fn list_at<'a>(lists: &KeyLists<'a>, width: usize, count: usize, row: usize)
 {
     match lists {
         KeyLists::Laid(lists) => KeyList::Lent(LentList {
-            cells: row_slice(lists.cells, width, row),
+            cells: part_slice(
+                lists.cells,
+                width,
+                Span {
+                    from: row,
+                    to: row + 1,
+                },
+            ),
         }),
         KeyLists::Placed(lists) => KeyList::Placed(lists.list(row)),
         KeyLists::Picked(lists) => KeyList::Whole(lists.list(width, row)),
@@ -164,7 +135,15 @@ pub fn part_of<'a>(lists: &KeyLists<'a>, width: usize, count: usize, span: Span)
         KeyLists::Laid(lists) => KeyLists::Laid(LaidLists {
             cells: part_slice(lists.cells, width, span),
         }),
-        KeyLists::Placed(lists) => KeyLists::Placed(lists.part(span)),
-        KeyLists::Picked(lists) => KeyLists::Picked(lists.part(span)),
+        KeyLists::Placed(lists) => KeyLists::Placed(PlacedLists {
+            rows: lists.rows,
+            places: lists.places,
+            null: lists.null,
+            numbers: part_numbers(lists.numbers, span),
+        }),
+        KeyLists::Picked(lists) => KeyLists::Picked(PickedLists {
+            cells: lists.cells,
+            numbers: part_numbers(lists.numbers, span),
+        }),
     }
 }
