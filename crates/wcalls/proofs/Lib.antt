@@ -9,7 +9,6 @@ mod PlainFacts
 mod CodeFacts
 mod CutFacts
 pub mod Listed
-mod LentFacts
 mod ListFacts
 mod ColumnFacts
 mod JoinFacts

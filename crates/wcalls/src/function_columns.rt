@@ -99,8 +99,7 @@ pub fn window_columns(
     ensures width { IfOk result (λ cells. cells.width ≡ length rows.now) }
     ensures count { IfOk result (λ cells. cells.count ≡ length functions.now) }
 {
-    let cells = order.lent_keys(alloc)?;
-    let keys = order.key_rows(&cells);
+    let keys = order.key_rows();
     let partitions = order.partitions(alloc, keys, frame_of(&window.frame))?;
     let arranged = ArrangedRows {
         rows,

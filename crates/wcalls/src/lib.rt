@@ -24,7 +24,6 @@ mod arranged;
 mod counts;
 mod function_columns;
 mod functions;
-mod lending;
 mod limits;
 mod other_rows;
 mod parts;

@@ -1,7 +1,7 @@
 //! Plain columns of rows, read where they lie.
-ghost use Rattle.std.specs.Prelude.{◌≡◌, ◌*◌, ◌<◌, ◌++◌, IfOk, OnOk, length, map};
+ghost use Rattle.std.specs.Prelude.{◌≡◌, ◌*◌, ◌<◌, ◌++◌, All, IfOk, OnOk, length, map};
 ghost use Rattle.wvalues.specs.Meaning.{Null, meaning};
-ghost use Rattle.wframe.specs.Cells.{meanings};
+ghost use Rattle.wframe.specs.KeyRows.{key_lists, sort_keys};
 ghost use Rattle.wframe.specs.Peers.{key_at};
 ghost use Rattle.wrows.specs.CodedRows.{key_column, values_seen};
 ghost use Rattle.wrows.specs.Columns.{value_at};
@@ -10,7 +10,8 @@ ghost use Rattle.wrows.specs.Laid.{rows_seen};
 ghost use Rattle.wcalls.specs.ListedColumns.{values_at};
 
 use std::alloc::{AllocError, Global};
-use wvalues::Value;
+use wframe::KeyRows;
+use wvalues::{SortKey, Value};
 
 /// The values at some places of rows. A row has nulls behind its width.
 #[derive(Drop)]
@@ -43,37 +44,14 @@ impl<'a> PlainLists<'a> {
         }
     }
 
-    // The cells of a row, none where there is no such row.
-    fn cells<'b>(&'b self, row: usize) -> &'b [Value]
-        ensures { map meaning result.now ≡ key_at (rows_seen self.now.rows.now) row }
+    /// The rows of these numbers, in their order, by keys.
+    pub(crate) fn key_rows<'b>(&'b self, numbers: &'b [usize], orders: &'b [SortKey]) -> KeyRows<'b>
+        requires width { length self.now.places.items ≡ length orders.now }
+        requires below { All (λ i. i < length self.now.rows.now) numbers.now }
+        ensures lists { key_lists result ≡ map (key_at (values_at self.now.places.items (rows_seen self.now.rows.now))) numbers.now }
+        ensures keys { sort_keys result ≡ orders.now }
     {
-        if row < self.rows.len() {
-            self.rows[row]
-        } else {
-            &[]
-        }
-    }
-
-    // The value at a place of a row.
-    fn value<'b>(&'b self, row: usize, place: usize) -> &'b Value
-        ensures { meaning result.now ≡ value_at (key_at (rows_seen self.now.rows.now) row) place }
-    {
-        value_or_null(self.cells(row), &self.null, place)
-    }
-
-    /// Appends the values of a row, lent.
-    pub(crate) fn push_list<'b>(
-        &'b self,
-        row: usize,
-        lent: &mut Vec<&'b Value>,
-    ) -> Result<(), AllocError>
-        ensures { OnOk result (meanings lent.new.items ≡ meanings lent.old.items ++ map
-            (value_at (key_at (rows_seen self.now.rows.now) row)) self.now.places.items) }
-    {
-        for place in &self.places {
-            lent.push(self.value(row, *place))?;
-        }
-        Ok(())
+        KeyRows::placed(self.rows, &self.places, &self.null, numbers, orders)
     }
 
     /// The column of a number, lent.

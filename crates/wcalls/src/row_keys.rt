@@ -4,8 +4,7 @@ ghost use Rattle.std.specs.List.{flat_map};
 ghost use Rattle.std.specs.Option.{is_some};
 ghost use Rattle.std.specs.Ordering.{on, nat_cmp};
 ghost use Rattle.wvalues.specs.Order.{keys_cmp};
-ghost use Rattle.wframe.specs.Cells.{meanings, rows_of};
-ghost use Rattle.wframe.specs.Codes.{TellApart};
+ghost use Rattle.wframe.specs.KeyRows.{key_lists, sort_keys};
 ghost use Rattle.wframe.specs.Peers.{key_at};
 ghost use Rattle.wframe.specs.Sorting.{sorted};
 ghost use Rattle.wrows.specs.CodedRows.{AreRowCodes, code_at};
@@ -18,9 +17,10 @@ use crate::plain_lists::PlainLists;
 use crate::row_lists::RowLists;
 use std::alloc::{AllocError, Global};
 use wcodes::{column_codes, number_codes};
+use wframe::KeyRows;
 use wrows::{Cells, numbers, resorted_numbers};
 use wsort::sort_by_codes;
-use wvalues::{SortKey, Value};
+use wvalues::SortKey;
 
 /// The most rows that have a code of 32 bits.
 const MOST_CODED: usize = 1 << 32;
@@ -74,25 +74,6 @@ fn copied_order(
     let cells = columns.copied(alloc)?;
     let order = resorted_numbers(alloc, &cells, orders, &None, columns.rows.len(), rows)?;
     Ok(order)
-}
-
-// The number of a row that has the values of the row at a place, where the one before it has those of `before`.
-fn row_alike(numbers: &[usize], codes: &[u32], place: usize, before: usize) -> usize
-    requires place { place < length numbers.now }
-    requires len { length codes.now ≡ length numbers.now }
-    ensures start { place ≡ 0 → result ≡ slice_index_or numbers.now place 0 }
-    ensures apart { (j : ℕ) → place ≡ j + 1 → (slice_index_or codes.now j 0 == slice_index_or codes.now place 0) ≡ false
-        → result ≡ slice_index_or numbers.now place 0 }
-    ensures alike { (j : ℕ) → place ≡ j + 1 → (slice_index_or codes.now j 0 == slice_index_or codes.now place 0) ≡ true → result ≡ before }
-{
-    if place == 0 {
-        return numbers[place];
-    }
-    if codes[place - 1] == codes[place] {
-        before
-    } else {
-        numbers[place]
-    }
 }
 
 impl<'a> RowKeys<'a> {
@@ -201,79 +182,15 @@ impl<'a> RowKeys<'a> {
         Ok(order)
     }
 
-    // The lists of the rows of these numbers, in their order, lent from where they lie.
-    fn lent_each<'b>(
-        &'b self,
-        alloc: Global,
-        numbers: &[usize],
-    ) -> Result<Vec<&'b Value>, AllocError>
+    /// The rows of these numbers, in their order, by their keys. Their lists are read where they lie.
+    pub(crate) fn key_rows<'b>(&'b self, numbers: &'b [usize]) -> KeyRows<'b>
         requires { All (λ i. i < length (lists_in self.now.lists)) numbers.now }
-        ensures { IfOk result (λ lent. meanings lent.items ≡ flat_map (key_at (lists_in self.now.lists)) numbers.now) }
+        ensures lists { key_lists result ≡ map (key_at (lists_in self.now.lists)) numbers.now }
+        ensures keys { sort_keys result ≡ self.now.orders.items }
     {
-        let count = numbers.len().saturating_mul(self.orders.len());
-        let mut lent = Vec::with_capacity(alloc, count)?;
-        for number in numbers {
-            self.lists.push_list(*number, &mut lent)?;
+        match &self.lists {
+            RowLists::Evaluated(cells) => KeyRows::picked(&cells.cells, numbers, &self.orders),
+            RowLists::Plain(columns) => columns.key_rows(numbers, &self.orders),
         }
-        Ok(lent)
-    }
-
-    // The same of rows that have codes in this order: a row that has the code of the one before has its values, and they are
-    // lent from there.
-    fn lent_by_codes<'b>(
-        &'b self,
-        alloc: Global,
-        numbers: &[usize],
-        codes: &[u32],
-    ) -> Result<Vec<&'b Value>, AllocError>
-        requires below { All (λ i. i < length (lists_in self.now.lists)) numbers.now }
-        requires codes { TellApart (keys_cmp self.now.orders.items) (map (key_at (lists_in self.now.lists)) numbers.now) codes.now }
-        ensures { IfOk result (λ lent. meanings lent.items ≡ flat_map (key_at (lists_in self.now.lists)) numbers.now) }
-    {
-        let count = numbers.len().saturating_mul(self.orders.len());
-        let mut lent = Vec::with_capacity(alloc, count)?;
-        let mut row = 0;
-        for place in 0..numbers.len() {
-            row = row_alike(numbers, codes, place, row);
-            self.lists.push_list(row, &mut lent)?;
-        }
-        Ok(lent)
-    }
-
-    // The same of rows that have codes in this order or none.
-    fn lent_lists<'b>(
-        &'b self,
-        alloc: Global,
-        numbers: &[usize],
-        codes: &Option<Vec<u32>>,
-    ) -> Result<Vec<&'b Value>, AllocError>
-        requires below { All (λ i. i < length (lists_in self.now.lists)) numbers.now }
-        requires codes { IfSome codes.now (λ codes. TellApart (keys_cmp self.now.orders.items)
-            (map (key_at (lists_in self.now.lists)) numbers.now) codes.items) }
-        ensures { IfOk result (λ lent. meanings lent.items ≡ flat_map (key_at (lists_in self.now.lists)) numbers.now) }
-    {
-        match codes {
-            Some(codes) => self.lent_by_codes(alloc, numbers, codes),
-            None => self.lent_each(alloc, numbers),
-        }
-    }
-
-    /// The lists of the rows of these numbers, in their order, lent from where they lie. Where the rows have codes in this order,
-    /// one row is looked at for all that follow each other with one code.
-    pub(crate) fn lent<'b>(
-        &'b self,
-        alloc: Global,
-        numbers: &[usize],
-        codes: &Option<Vec<u32>>,
-    ) -> Result<Vec<&'b Value>, AllocError>
-        requires below { All (λ i. i < length (lists_in self.now.lists)) numbers.now }
-        requires codes { IfSome codes.now (λ codes. TellApart (keys_cmp self.now.orders.items)
-            (map (key_at (lists_in self.now.lists)) numbers.now) codes.items) }
-        ensures rows { IfOk result (λ lent. rows_of (length self.now.orders.items) (length numbers.now) lent.items
-            ≡ map (key_at (lists_in self.now.lists)) numbers.now) }
-        ensures len { IfOk result (λ lent. length lent.items ≡ length numbers.now * length self.now.orders.items) }
-    {
-        let lent = self.lent_lists(alloc, numbers, codes)?;
-        Ok(lent)
     }
 }

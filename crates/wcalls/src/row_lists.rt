@@ -1,10 +1,8 @@
 //! The values of several expressions on rows: those of plain columns are read where they lie.
-ghost use Rattle.std.specs.Prelude.{◌≡◌, ◌<◌, ◌++◌, false, IfOk, IfSome, OnOk, length, map};
+ghost use Rattle.std.specs.Prelude.{◌≡◌, ◌<◌, false, IfOk, IfSome, length, map};
 ghost use Rattle.std.specs.List.{list_all};
 ghost use Rattle.std.specs.Option.{is_some};
 ghost use Rattle.wplan.specs.Formula.{At};
-ghost use Rattle.wframe.specs.Cells.{meanings};
-ghost use Rattle.wframe.specs.Peers.{key_at};
 ghost use Rattle.wrows.specs.CodedRows.{key_column, values_seen};
 ghost use Rattle.wrows.specs.Columns.{lists_of};
 ghost use Rattle.wrows.specs.Laid.{formulas_seen, rows_in, rows_seen};
@@ -12,7 +10,6 @@ ghost use Rattle.wrows.specs.Outcomes.{Gives};
 ghost use Rattle.wrows.specs.PlainColumns.{is_plain};
 ghost use Rattle.wcalls.specs.Listed.{are_lent, lists_in, width_of};
 
-use crate::lending::push_lent;
 use crate::plain_lists::PlainLists;
 use std::alloc::{AllocError, Global};
 use wplan::Expr;
@@ -91,15 +88,6 @@ fn laid_column(alloc: Global, cells: &Cells, number: usize) -> Result<Vec<&Value
     Ok(column)
 }
 
-// Appends the values of a row of those that are laid out one after another, lent.
-fn push_laid<'a>(cells: &'a Cells, row: usize, lent: &mut Vec<&'a Value>) -> Result<(), AllocError>
-    requires { row < cells.now.count }
-    ensures { OnOk result (meanings lent.new.items ≡ meanings lent.old.items ++ key_at (rows_in cells.now) row) }
-{
-    push_lent(lent, slice_of(&cells.cells, cells.width, row))?;
-    Ok(())
-}
-
 impl<'a> RowLists<'a> {
     /// How many rows there are.
     pub(crate) fn count(&self) -> usize
@@ -108,21 +96,6 @@ impl<'a> RowLists<'a> {
         match self {
             RowLists::Evaluated(cells) => cells.count,
             RowLists::Plain(columns) => columns.rows.len(),
-        }
-    }
-
-    /// Appends the values of a row, lent.
-    pub(crate) fn push_list<'b>(
-        &'b self,
-        row: usize,
-        lent: &mut Vec<&'b Value>,
-    ) -> Result<(), AllocError>
-        requires { row < length (lists_in self.now) }
-        ensures { OnOk result (meanings lent.new.items ≡ meanings lent.old.items ++ key_at (lists_in self.now) row) }
-    {
-        match self {
-            RowLists::Evaluated(cells) => push_laid(cells, row, lent),
-            RowLists::Plain(columns) => columns.push_list(row, lent),
         }
     }
 

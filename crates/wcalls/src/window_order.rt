@@ -5,7 +5,6 @@ ghost use Rattle.std.specs.Ordering.{on};
 ghost use Rattle.wvalues.specs.declared.key.SortKey.{SortKey};
 ghost use Rattle.wvalues.specs.Meaning.{Meaning};
 ghost use Rattle.wvalues.specs.Order.{keys_cmp};
-ghost use Rattle.wframe.specs.Cells.{rows_of};
 ghost use Rattle.wframe.specs.Codes.{TellApart};
 ghost use Rattle.wframe.specs.KeyRows.{key_lists, sort_keys};
 ghost use Rattle.wframe.specs.Offsets.{has_range_offset};
@@ -113,27 +112,16 @@ impl<'a> WindowOrder<'a> {
         &self.rows
     }
 
-    /// The keys of the rows in order, lent from where they lie.
-    pub(crate) fn lent_keys(&self, alloc: Global) -> Result<Vec<&Value>, AllocError>
-        ensures rows { IfOk result (λ cells. rows_of (length self.now.order) (length self.now.rows) cells.items ≡ self.now.keys) }
-        ensures laid { IfOk result (λ cells. length cells.items ≡ length self.now.rows * length self.now.order) }
-    {
-        let cells = self.keys.lent(alloc, &self.rows, &self.key_codes)?;
-        Ok(cells)
-    }
-
-    /// The rows in order by their keys, which are lent in order.
-    pub(crate) fn key_rows<'b>(&'b self, cells: &'b [&'b Value]) -> KeyRows<'b>
-        requires laid { length cells.now ≡ length self.now.rows * length self.now.order }
-        requires rows { rows_of (length self.now.order) (length self.now.rows) cells.now ≡ self.now.keys }
+    /// The rows in order by their keys.
+    pub(crate) fn key_rows(&self) -> KeyRows<'_>
         ensures lists { key_lists result ≡ self.now.keys }
         ensures order { sort_keys result ≡ self.now.order }
     {
-        let keys = KeyRows::new(cells, &self.keys.orders, self.rows.len());
-        coded_rows(keys, &self.key_codes)
+        let rows = self.keys.key_rows(&self.rows);
+        coded_rows(rows, &self.key_codes)
     }
 
-    /// The partitions of the rows with their frames, where the keys of the rows are lent in order.
+    /// The partitions of the rows with their frames, where the rows are lent in order by their keys.
     pub(crate) fn partitions<'b>(
         &self,
         alloc: Global,
@@ -148,8 +136,7 @@ impl<'a> WindowOrder<'a> {
         ensures frame { IfOk result (λ all. all.frame ≡ frame) }
         ensures len { IfOk result (λ all. length self.now.rows ≡ length all.keys) }
     {
-        let cells = self.values.lent(alloc, &self.rows, &self.value_codes)?;
-        let rows = KeyRows::new(&cells, &self.values.orders, self.rows.len());
+        let rows = self.values.key_rows(&self.rows);
         let values = coded_rows(rows, &self.value_codes);
         let partitions = Partitions::build(alloc, &values, keys, frame)?;
         Ok(partitions)
