@@ -6,3 +6,4 @@ pub mod WindowFacts
 pub mod PickedFacts
 pub mod GroupFacts
 pub mod PutFacts
+pub mod CopyFacts

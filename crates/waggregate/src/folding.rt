@@ -13,6 +13,7 @@ ghost use Rattle.waggregate.specs.FrameAnswers.{Appends, IsPicked, Puts, told_or
 ghost use Rattle.waggregate.specs.Put.{put_all};
 
 use crate::answers::{count_value, sum_value};
+use crate::extremes::Outermost;
 use crate::picking::lent;
 use crate::tally::Tally;
 use std::alloc::Global;
@@ -20,8 +21,8 @@ use wframe::{Partitions, frames_are_rows, stable_sorts_agree};
 use wplan::AggregateFunction;
 use wrows::AnswerFault;
 use wslide::{
-    Count, CountRows, Extreme, Fold, Meter, PartialSum, Sum, counts_are_exact,
-    picked_rows_feed_alike, places_are_least, push_window_folds, see_ranges, sums_are_exact,
+    Count, CountRows, Fold, Meter, PartialSum, Sum, counts_are_exact, picked_rows_feed_alike,
+    places_are_least, push_window_folds, see_ranges, sums_are_exact,
 };
 use wvalues::Value;
 
@@ -74,8 +75,8 @@ impl<'a> ToldFold for Sum<'a> {
     }
 }
 
-impl<'a> ToldFold for Extreme<'a> {
-    ghost told = { λ extreme place. Some (value_or_null (meanings extreme.values.now) place) };
+impl<'a> ToldFold for Outermost<'a> {
+    ghost told = { λ outermost place. Some (value_or_null (meanings outermost.values.now) place) };
 
     fn value(&self, part: Option<usize>) -> Result<Value, AnswerFault> {
         value_at(self.values, part)
@@ -206,7 +207,8 @@ pub fn put_frame_aggregates(
             put_folds(alloc, &fold, rows, partitions, &mut meter, column, tally)
         }
         AggregateFunction::Min => {
-            let fold = Extreme {
+            let mut meter = 0;
+            let fold = Outermost {
                 values,
                 filter,
                 greatest: false,
@@ -214,7 +216,8 @@ pub fn put_frame_aggregates(
             put_folds(alloc, &fold, rows, partitions, &mut meter, column, tally)
         }
         AggregateFunction::Max => {
-            let fold = Extreme {
+            let mut meter = 0;
+            let fold = Outermost {
                 values,
                 filter,
                 greatest: true,

@@ -11,6 +11,7 @@ ghost use Rattle.waggregate.specs.Aggregating as aggregating;
 ghost use Rattle.waggregate.specs.Aggregating.{aggregate_of};
 ghost use Rattle.waggregate.specs.Grouped.{rows_of_group};
 
+use crate::extremes::Outermost;
 use crate::folding::{ToldFold, push_values};
 use crate::picking::lent;
 use std::alloc::{AllocError, Global};
@@ -18,7 +19,7 @@ use wframe::stable_sorts_agree;
 use wplan::AggregateFunction;
 use wrows::AnswerFault;
 use wslide::{
-    Count, CountRows, Extreme, Fold, Meter, Sum, counts_are_exact, places_are_least, see_ranges,
+    Count, CountRows, Fold, Meter, Sum, counts_are_exact, places_are_least, see_ranges,
     sums_are_exact,
 };
 use wvalues::Value;
@@ -159,7 +160,8 @@ pub fn aggregate_groups(
             fold_groups(alloc, &fold, &mut meter, groups, count, order)
         }
         AggregateFunction::Min => {
-            let fold = Extreme {
+            let mut meter = 0;
+            let fold = Outermost {
                 values,
                 filter,
                 greatest: false,
@@ -167,7 +169,8 @@ pub fn aggregate_groups(
             fold_groups(alloc, &fold, &mut meter, groups, count, order)
         }
         AggregateFunction::Max => {
-            let fold = Extreme {
+            let mut meter = 0;
+            let fold = Outermost {
                 values,
                 filter,
                 greatest: true,

@@ -12,6 +12,7 @@
 #![tactic(auto)]
 
 mod answers;
+mod extremes;
 mod feeding;
 mod folding;
 mod grouped;

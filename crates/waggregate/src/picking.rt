@@ -1,8 +1,10 @@
 //! What the rows of a partition feed, in its order.
-ghost use Rattle.std.specs.Prelude.{◌≡◌, ◌<◌, ℕ, All, IfOk, length, map, option_map, slice_index_or, false};
+ghost use Rattle.std.specs.Prelude.{◌≡◌, ◌<◌, ◌≤◌, ◌++◌, ℕ, All, IfOk, OnOk, length, map, option_map, slice_index_or, false};
+ghost use Rattle.std.specs.List.{list_any};
 ghost use Rattle.std.specs.Option.{ForSome};
 ghost use Rattle.wvalues.specs.Meaning.{meaning};
 ghost use Rattle.wframe.specs.Cells.{meanings};
+ghost use Rattle.wrows.specs.Picked.{is_text};
 ghost use Rattle.wslide.specs.Aggregates.{picked_values, picked_tests, tests};
 
 use std::alloc::{AllocError, Global};
@@ -41,8 +43,105 @@ pub fn filter_of(
     }
 }
 
+/// How many rows are read before they are copied, so few that a cache holds them until then.
+const BATCH: usize = 256;
+
+// Whether a value is a text. Its length is looked at, which stands beside the count of its owners, so that both are near when it
+// is copied.
+fn is_text(value: &Value) -> bool
+    ensures { result ≡ is_text (meaning value.now) }
+{
+    match value {
+        Value::Text(text) => text.as_str().len() < usize::MAX,
+        Value::Null | Value::Int(_) => false,
+    }
+}
+
+// Whether one of the rows of these numbers has a text. Each is read, whatever was found before.
+fn has_text(values: &[&Value], rows: &[usize]) -> bool
+    requires { All (λ i. i < length values.now) rows.now }
+    ensures { result ≡ list_any is_text (picked_values (meanings values.now) rows.now) }
+{
+    let mut found = false;
+    for row in rows {
+        if is_text(values[*row]) {
+            found = true;
+        }
+    }
+    found
+}
+
+// A copy of a value that is no text, which takes no memory.
+fn copy_of(value: &Value) -> Value
+    requires { is_text (meaning value.now) ≡ false }
+    ensures { meaning result ≡ meaning value.now }
+{
+    match value {
+        Value::Int(number) => Value::Int(*number),
+        Value::Null | Value::Text(_) => Value::Null,
+    }
+}
+
+// Appends copies of the values of the rows of these numbers, of which none is a text.
+fn push_without_texts(
+    values: &[&Value],
+    rows: &[usize],
+    copied: &mut Vec<Value>,
+) -> Result<(), AllocError>
+    requires below { All (λ i. i < length values.now) rows.now }
+    requires none { list_any is_text (picked_values (meanings values.now) rows.now) ≡ false }
+    ensures { OnOk result (map meaning copied.new.items ≡ map meaning copied.old.items ++ picked_values (meanings values.now) rows.now) }
+{
+    for row in rows {
+        copied.push(copy_of(values[*row]))?;
+    }
+    Ok(())
+}
+
+// Appends copies of the values of the rows of these numbers.
+fn push_with_texts(
+    values: &[&Value],
+    rows: &[usize],
+    copied: &mut Vec<Value>,
+) -> Result<(), AllocError>
+    requires { All (λ i. i < length values.now) rows.now }
+    ensures { OnOk result (map meaning copied.new.items ≡ map meaning copied.old.items ++ picked_values (meanings values.now) rows.now) }
+{
+    for row in rows {
+        copied.push(values[*row].duplicate()?)?;
+    }
+    Ok(())
+}
+
+// Appends copies of the values of the rows of these numbers. The rows are few: all values are read, and then copied, without a
+// look at what they share where there is no text.
+fn push_batch(values: &[&Value], rows: &[usize], copied: &mut Vec<Value>) -> Result<(), AllocError>
+    requires { All (λ i. i < length values.now) rows.now }
+    ensures { OnOk result (map meaning copied.new.items ≡ map meaning copied.old.items ++ picked_values (meanings values.now) rows.now) }
+{
+    if has_text(values, rows) {
+        push_with_texts(values, rows, copied)
+    } else {
+        push_without_texts(values, rows, copied)
+    }
+}
+
+// Where the rows end that are taken next, of so many. How many they are is a matter of speed alone.
+fn batch_end(done: usize, count: usize) -> usize
+    requires { done < count }
+    ensures some { done < result }
+    ensures within { result ≤ count }
+{
+    if count - done < BATCH {
+        count
+    } else {
+        done + BATCH
+    }
+}
+
 /// Copies of the values of the rows of these numbers, in that order, of which those of all rows are lent. Rows that follow each
-/// other in an order lie far apart, and what is read often is read side by side.
+/// other in an order lie far apart, and what is read often is read side by side. A loop that reads alone goes ahead of the one that
+/// copies, so that the processor has many of them on their way from memory at once.
 pub fn copied_values(
     alloc: Global,
     values: &[&Value],
@@ -53,8 +152,11 @@ pub fn copied_values(
     ensures len { IfOk result (λ copied. length copied.items ≡ length rows.now) }
 {
     let mut copied = Vec::with_capacity(alloc, rows.len())?;
-    for row in rows {
-        copied.push(values[*row].duplicate()?)?;
+    let mut done = 0;
+    while done < rows.len() {
+        let end = batch_end(done, rows.len());
+        push_batch(values, &rows[done..end], &mut copied)?;
+        done = end;
     }
     Ok(copied)
 }

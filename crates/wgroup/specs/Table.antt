@@ -1,11 +1,12 @@
 -- The groups of rows in a table of slots, where each is found by the hash of its key.
-use Rattle.std.specs.Prelude.{◌≡◌, ℕ, ◌-◌, ◌<◌, ◌≤◌, ◌&&◌, ◌++◌, Bool, true, List, length, map, take, drop, get_or, nat_lt}
+use Rattle.std.specs.Prelude.{◌≡◌, ℕ, ◌-◌, ◌<◌, ◌≤◌, ◌&&◌, ◌++◌, Bool, true, List, [], ◌∷◌, length, map, take, drop, get_or, nat_lt}
+use Rattle.std.specs.Hash as fed
+use Rattle.std.specs.Hash.{HashWrites}
 use Rattle.std.specs.Hash.FoldHasher as folding
 use Rattle.std.specs.Int.Bits.{bit_and}
 use Rattle.std.specs.List.{flat_map, fold}
 use Rattle.wvalues.specs.declared.value.Value.{Value}
-use Rattle.wvalues.specs.Meaning.{Meaning, meaning}
-use Rattle.wvalues.specs.Sameness.{meaning_input}
+use Rattle.wvalues.specs.Meaning.{Meaning, Null, Int, Text, meaning}
 use Rattle.wrows.specs.Laid.{rows_seen}
 use Rattle.wgroupby.specs.Sets.{is_among}
 use Rattle.wgroup.specs.declared.keyed.Keyed.{Keyed}
@@ -17,9 +18,15 @@ use Rattle.wgroup.specs.Sight.{first_of}
 abbrev pub alike : Keyed → ℕ → ℕ → Bool
 alike keyed = agree keyed.columns.now (rows_seen keyed.rows.now)
 
+-- what a hash is fed of a value, in one piece: values of two kinds may be fed alike, since keys that meet are compared
+abbrev pub key_input : Meaning → HashWrites
+key_input Null = fed.u8 0
+key_input (Int x) = fed.i128 x
+key_input (Text x) = x ∷ []
+
 -- the hash of a key, and that of a row's
 abbrev pub hash_of_key : List Meaning → ℕ
-hash_of_key key = folding.finish (fold folding.write folding.initial (flat_map meaning_input key))
+hash_of_key key = folding.finish (fold folding.write folding.initial (flat_map key_input key))
 
 abbrev pub key_hash : Keyed → ℕ → ℕ
 key_hash keyed row = hash_of_key (group_key keyed.columns.now (rows_seen keyed.rows.now) row)

@@ -1,12 +1,14 @@
 //! Whether rows have the same key, and its hash.
 ghost use Rattle.std.specs.Prelude.{◌≡◌, length, map};
 ghost use Rattle.std.specs.Cmp.Lexicographic.{pointwise};
+ghost use Rattle.std.specs.Hash.FoldHasher as folding;
+ghost use Rattle.std.specs.List.{fold};
 ghost use Rattle.wvalues.specs.Meaning.{Null, meaning};
 ghost use Rattle.wvalues.specs.Sameness.{same_meaning};
 ghost use Rattle.wrows.specs.Laid.{rows_seen};
 ghost use Rattle.wgroup.specs.Grouping.{group_key, set_value};
 ghost use Rattle.wgroup.specs.Sight.{key_in};
-ghost use Rattle.wgroup.specs.Table.{hash_of_key, key_hash};
+ghost use Rattle.wgroup.specs.Table.{hash_of_key, key_hash, key_input};
 
 use crate::keyed::Keyed;
 use crate::keys::cells_at;
@@ -31,6 +33,7 @@ fn value_in<'a>(row: &'a [Value], column: Option<usize>, null: &'a Value) -> &'a
 }
 
 // Whether two values are the same.
+#[inline(always)]
 fn is_same_value(a: &Value, b: &Value) -> bool
     ensures { result ≡ same_meaning (meaning a.now) (meaning b.now) }
 {
@@ -38,6 +41,7 @@ fn is_same_value(a: &Value, b: &Value) -> bool
 }
 
 // Whether a row of cells has these values in the columns of a set.
+#[inline(always)]
 fn is_key_of(columns: &[Option<usize>], row: &[Value], key: &[Value], null: &Value) -> bool
     requires lacking { meaning null.now ≡ Null }
     requires wide { length key.now ≡ length columns.now }
@@ -52,11 +56,23 @@ fn is_key_of(columns: &[Option<usize>], row: &[Value], key: &[Value], null: &Val
 }
 
 /// Whether a row's key is this one.
+#[inline(always)]
 pub(crate) fn has_key(keyed: &Keyed, row: usize, key: &[Value]) -> bool
     requires { length key.now ≡ length keyed.now.columns.now }
     ensures { result ≡ pointwise same_meaning (group_key keyed.now.columns.now (rows_seen keyed.now.rows.now) row) (map meaning key.now) }
 {
     is_key_of(keyed.columns, cells_at(keyed.rows, row), key, keyed.null)
+}
+
+// Feeds a hash with a value, in one piece.
+fn feed(value: &Value, hasher: &mut FoldHasher)
+    ensures { hasher.new ≡ fold folding.write hasher.old (key_input (meaning value.now)) }
+{
+    match value {
+        Value::Null => hasher.write_u8(0),
+        Value::Int(number) => number.hash(hasher),
+        Value::Text(text) => hasher.write(text.as_str().as_bytes()),
+    }
 }
 
 // The hash of a row's values in the columns of a set.
@@ -66,7 +82,7 @@ fn hash_of_key(columns: &[Option<usize>], row: &[Value], null: &Value) -> u64
 {
     let mut hasher = FoldHasher::default();
     for column in columns {
-        value_in(row, *column, null).hash(&mut hasher);
+        feed(value_in(row, *column, null), &mut hasher);
     }
     hasher.finish()
 }

@@ -14,14 +14,16 @@ ghost use Rattle.wgroupby.specs.Sets.{grouping_of};
 ghost use Rattle.wgroup.specs.Grouping.{grouping_answer};
 ghost use Rattle.waggregate.specs.Aggregating as aggregating;
 ghost use Rattle.wgroup.specs.Finer.{AreAnswered, AreMade, IsMade, IsMadeOf, function_of_parts};
+ghost use Rattle.wgroup.specs.Lent.{IsLent};
 ghost use Rattle.wgroup.specs.Held.{all_groups, column_over, columns_in, set_answers, set_grouping};
 
 use crate::found::{FinerSet, Groups};
 use crate::groups::items_at;
 use crate::keys::is_among;
+use crate::lent::{LentColumn, is_argument, lend};
 use std::alloc::{AllocError, Global};
 use waggregate::{
-    aggregate_groups, argument_values, filter_rows, is_null, lent_argument, lent_nulls, lent_values,
+    aggregate_groups, argument_values, filter_rows, is_null, lent_nulls, lent_values,
 };
 use wplan::{Aggregate, AggregateFunction, GroupCall};
 use wrows::AnswerFault;
@@ -210,13 +212,16 @@ fn null_column(
     fed_column(alloc, aggregate, rows, &values, sets)
 }
 
-// What an aggregate comes to over the rows of each group of all sets. A plain column is read where it lies.
+// What an aggregate comes to over the rows of each group of all sets. A plain column is read where it lies, by the one that is
+// lent, if it is that column.
 fn aggregate_column(
     alloc: Global,
     aggregate: &Aggregate,
     rows: &[&[Value]],
     sets: &[Groups],
+    lent: &Option<LentColumn<'_>>,
 ) -> Result<Vec<Value>, AnswerFault>
+    requires lent { ForSome lent.now (IsLent rows.now) }
     requires made { AreMade sets.now }
     requires len { All (λ groups. length groups.numbers.value.items ≡ length rows.now) sets.now }
     requires few { length rows.now < 2 ^ 31 }
@@ -227,10 +232,11 @@ fn aggregate_column(
     if is_null(&aggregate.argument) {
         return null_column(alloc, aggregate, rows, sets);
     }
-    let lent = lent_argument(alloc, &aggregate.argument, rows)?;
     match lent {
-        Some(values) => fed_column(alloc, aggregate, rows, &values, sets),
-        None => evaluated_column(alloc, aggregate, rows, sets),
+        Some(column) if is_argument(column, &aggregate.argument) => {
+            fed_column(alloc, aggregate, rows, &column.values, sets)
+        }
+        _ => evaluated_column(alloc, aggregate, rows, sets),
     }
 }
 
@@ -325,7 +331,9 @@ fn column(
     call: &GroupCall,
     rows: &[&[Value]],
     sets: &[Groups],
+    lent: &Option<LentColumn<'_>>,
 ) -> Result<Vec<Value>, AnswerFault>
+    requires lent { ForSome lent.now (IsLent rows.now) }
     requires made { AreMade sets.now }
     requires len { All (λ groups. length groups.numbers.value.items ≡ length rows.now) sets.now }
     requires few { length rows.now < 2 ^ 31 }
@@ -334,12 +342,13 @@ fn column(
     ensures len { IfOk result (λ column. length column.items ≡ length (all_groups sets.now)) }
 {
     match call {
-        GroupCall::Aggregated(aggregate) => aggregate_column(alloc, aggregate, rows, sets),
+        GroupCall::Aggregated(aggregate) => aggregate_column(alloc, aggregate, rows, sets, lent),
         GroupCall::GroupingOf(columns) => grouping_column(alloc, columns, sets),
     }
 }
 
-/// What each call answers for each group of all sets, the first fault where there is one.
+/// What each call answers for each group of all sets, the first fault where there is one. A plain column that aggregates which
+/// follow each other have for their argument is lent once for all of these.
 #[tactic(auto, using(crate::proofs::ColumnFacts::columns_begin))]
 pub(crate) fn call_columns(
     alloc: Global,
@@ -356,8 +365,10 @@ pub(crate) fn call_columns(
     ensures count { IfOk result (λ columns. length columns.items ≡ length calls.now) }
 {
     let mut columns = Vec::with_capacity(alloc, calls.len())?;
+    let mut lent = None;
     for call in calls {
-        columns.push(column(alloc, call, rows, sets)?)?;
+        lend(alloc, call, rows, &mut lent)?;
+        columns.push(column(alloc, call, rows, sets, &lent)?)?;
     }
     Ok(columns)
 }

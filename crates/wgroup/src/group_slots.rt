@@ -62,6 +62,7 @@ fn slot_of(slots: &[u32], hash: u64) -> usize
 }
 
 // Whether a group has this number, and a row is of that group.
+#[inline(always)]
 fn is_of_group(keyed: &Keyed, table: &Table, number: usize, row: usize) -> bool
     requires { HasKeys keyed.now table.now.firsts.items table.now.keys.items }
     ensures { result ≡ is_of_group keyed.now table.now.firsts.items row number }
@@ -74,6 +75,7 @@ fn is_of_group(keyed: &Keyed, table: &Table, number: usize, row: usize) -> bool
 }
 
 // The group of a row, if its number is among these.
+#[inline(always)]
 fn group_among(keyed: &Keyed, table: &Table, numbers: &[u32], row: usize) -> Option<usize>
     requires { HasKeys keyed.now table.now.firsts.items table.now.keys.items }
     ensures some { IfSome result (λ number. is_of_group keyed.now table.now.firsts.items row number ≡ true) }

@@ -29,6 +29,7 @@ mod keyed;
 mod keys;
 mod laws;
 mod leaders;
+mod lent;
 mod seen;
 mod sight;
 
