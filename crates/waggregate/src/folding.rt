@@ -13,7 +13,6 @@ ghost use Rattle.waggregate.specs.FrameAnswers.{Appends, IsPicked, Puts, told_or
 ghost use Rattle.waggregate.specs.Put.{put_all};
 
 use crate::answers::{count_value, sum_value};
-use crate::extremes::Outermost;
 use crate::picking::lent;
 use crate::tally::Tally;
 use std::alloc::Global;
@@ -21,8 +20,8 @@ use wframe::{Partitions, frames_are_rows, stable_sorts_agree};
 use wplan::AggregateFunction;
 use wrows::AnswerFault;
 use wslide::{
-    Count, CountRows, Fold, Meter, PartialSum, Sum, counts_are_exact, picked_rows_feed_alike,
-    places_are_least, push_window_folds, see_ranges, sums_are_exact,
+    Count, CountRows, Extreme, Fold, Meter, PartialSum, Sum, counts_are_exact,
+    picked_rows_feed_alike, places_are_least, push_window_folds, see_ranges, sums_are_exact,
 };
 use wvalues::Value;
 
@@ -75,8 +74,8 @@ impl<'a> ToldFold for Sum<'a> {
     }
 }
 
-impl<'a> ToldFold for Outermost<'a> {
-    ghost told = { λ outermost place. Some (value_or_null (meanings outermost.values.now) place) };
+impl<'a> ToldFold for Extreme<'a> {
+    ghost told = { λ extreme place. Some (value_or_null (meanings extreme.values.now) place) };
 
     fn value(&self, part: Option<usize>) -> Result<Value, AnswerFault> {
         value_at(self.values, part)
@@ -207,8 +206,7 @@ pub fn put_frame_aggregates(
             put_folds(alloc, &fold, rows, partitions, &mut meter, column, tally)
         }
         AggregateFunction::Min => {
-            let mut meter = 0;
-            let fold = Outermost {
+            let fold = Extreme {
                 values,
                 filter,
                 greatest: false,
@@ -216,8 +214,7 @@ pub fn put_frame_aggregates(
             put_folds(alloc, &fold, rows, partitions, &mut meter, column, tally)
         }
         AggregateFunction::Max => {
-            let mut meter = 0;
-            let fold = Outermost {
+            let fold = Extreme {
                 values,
                 filter,
                 greatest: true,

@@ -11,7 +11,6 @@ ghost use Rattle.waggregate.specs.Aggregating as aggregating;
 ghost use Rattle.waggregate.specs.Aggregating.{aggregate_of};
 ghost use Rattle.waggregate.specs.Grouped.{rows_of_group};
 
-use crate::extremes::Outermost;
 use crate::folding::{ToldFold, push_values};
 use crate::picking::lent;
 use std::alloc::{AllocError, Global};
@@ -19,7 +18,7 @@ use wframe::stable_sorts_agree;
 use wplan::AggregateFunction;
 use wrows::AnswerFault;
 use wslide::{
-    Count, CountRows, Fold, Meter, Sum, counts_are_exact, places_are_least, see_ranges,
+    Count, CountRows, Extreme, Fold, Meter, Sum, counts_are_exact, places_are_least, see_ranges,
     sums_are_exact,
 };
 use wvalues::Value;
@@ -160,8 +159,7 @@ pub fn aggregate_groups(
             fold_groups(alloc, &fold, &mut meter, groups, count, order)
         }
         AggregateFunction::Min => {
-            let mut meter = 0;
-            let fold = Outermost {
+            let fold = Extreme {
                 values,
                 filter,
                 greatest: false,
@@ -169,8 +167,7 @@ pub fn aggregate_groups(
             fold_groups(alloc, &fold, &mut meter, groups, count, order)
         }
         AggregateFunction::Max => {
-            let mut meter = 0;
-            let fold = Outermost {
+            let fold = Extreme {
                 values,
                 filter,
                 greatest: true,

@@ -12,7 +12,6 @@
 #![tactic(auto)]
 
 mod answers;
-mod extremes;
 mod feeding;
 mod folding;
 mod grouped;
