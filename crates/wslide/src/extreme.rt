@@ -9,7 +9,7 @@ use crate::filter::passes;
 use crate::fold::Fold;
 use crate::meter::Meter;
 use crate::places::{first_place, value_place};
-use wvalues::{SortKey, Value};
+use wvalues::Value;
 
 /// Finds the least or the greatest value of the rows whose filter is true, without nulls: numbers by size, texts by bytes.
 ///
@@ -52,6 +52,7 @@ impl<'a> Fold for Extreme<'a> {
         None
     }
 
+    #[inline(always)]
     fn of(&self, row: usize) -> Option<usize> {
         if passes(self.filter, row) {
             value_place(self.values, row)
@@ -60,13 +61,9 @@ impl<'a> Fold for Extreme<'a> {
         }
     }
 
+    #[inline(always)]
     fn join(&self, meter: &mut Meter, left: Option<usize>, right: Option<usize>) -> Option<usize> {
         meter.tick();
-        let by_value = SortKey {
-            col: 0,
-            desc: self.greatest,
-            nulls_first: false,
-        };
-        first_place(self.values, &by_value, left, right)
+        first_place(self.values, self.greatest, left, right)
     }
 }

@@ -32,6 +32,7 @@ impl Meter {
     }
 
     /// Counts a join.
+    #[inline(always)]
     pub(crate) fn tick(&mut self)
         requires { self.old + 1 < 2 ^ 64 }
         ensures { self.new ≡ self.old + 1 }
