@@ -54,7 +54,11 @@ impl<N: Counts> RowFunction for Counted<N> {
         }
     }
 
-    fn value(&self, number: usize) -> Result<Value, AllocError> {
+    fn look(&self, _numbers: &[usize]) -> bool {
+        false
+    }
+
+    fn value(&self, number: usize, _some_text: bool) -> Result<Value, AllocError> {
         Ok(count_value(number))
     }
 }

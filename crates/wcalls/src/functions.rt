@@ -56,10 +56,12 @@ fn other_row_column<P: RowPlaces + Copy>(
         (meaning default.now) (λ i. P.place_read places (length (partition_rows w i)) (partition_at w i) (place_at w i))) }
 {
     let values = column_values(alloc, expr, arranged.rows)?;
+    let null = Value::Null;
     let call = OtherRow {
         places,
         values,
         default,
+        null: &null,
     };
     put_answers(alloc, &call, arranged, column)?;
     Ok(())

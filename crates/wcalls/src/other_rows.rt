@@ -1,6 +1,6 @@
 //! Calls with OVER that answer a value of another row: `lag`, `lead`, `first_value`, `last_value`, `nth_value`.
-ghost use Rattle.std.specs.Prelude.{◌≡◌, ◌≤◌, ◌<◌, ◌^◌, ℕ, Option, All, length, slice_index_or};
-ghost use Rattle.wvalues.specs.Meaning.{meaning};
+ghost use Rattle.std.specs.Prelude.{◌≡◌, ◌≤◌, ◌<◌, ◌^◌, ℕ, Option, All, IfOk, length, slice_index_or};
+ghost use Rattle.wvalues.specs.Meaning.{Null, meaning};
 ghost use Rattle.wframe.specs.Partition.{Partition};
 ghost use Rattle.wplaces.specs.RowPlaces.{lag_place, lead_place, first_place, last_place, nth_place};
 ghost use Rattle.wcalls.specs.Arranged.{value_read};
@@ -13,6 +13,7 @@ use crate::values::{ColumnValues, value_of_row};
 use std::alloc::AllocError;
 use wframe::Frames;
 use wplaces::{first_value_at, lag_at, last_value_at, lead_at, nth_value_at};
+use wrows::is_text;
 use wvalues::Value;
 
 // The row at a place, the first row where there is no such place.
@@ -51,6 +52,32 @@ pub struct OtherRow<'a, P> {
     pub places: P,
     pub values: ColumnValues<'a>,
     pub default: &'a Value,
+    pub null: &'a Value,
+    ghost is_null: { meaning null.now ≡ Null },
+}
+
+// A copy of a value. No owners are counted of one that is no text.
+fn copied(value: &Value, some_text: bool) -> Result<Value, AllocError>
+    ensures { IfOk result (λ copy. meaning copy ≡ meaning value.now) }
+{
+    match value {
+        Value::Int(number) if !some_text => Ok(Value::Int(*number)),
+        Value::Null if !some_text => Ok(Value::Null),
+        _ => value.duplicate(),
+    }
+}
+
+impl<'a, P> OtherRow<'a, P> {
+    // What a kept number stands for, lent.
+    #[inline(always)]
+    fn read(&self, number: usize) -> &Value
+        ensures { meaning result.now ≡ value_of_number (values_seen self.now.values) (meaning self.now.default.now) number }
+    {
+        match number {
+            0 => self.default,
+            _ => value_of_row(&self.values, self.null, number - 1),
+        }
+    }
 }
 
 impl<'a, P: RowPlaces> RowFunction for OtherRow<'a, P> {
@@ -67,11 +94,18 @@ impl<'a, P: RowPlaces> RowFunction for OtherRow<'a, P> {
         }
     }
 
-    fn value(&self, number: usize) -> Result<Value, AllocError> {
-        match number {
-            0 => self.default.duplicate(),
-            _ => value_of_row(&self.values, number - 1),
+    fn look(&self, numbers: &[usize]) -> bool {
+        let mut found = false;
+        for number in numbers {
+            if is_text(self.read(*number)) {
+                found = true;
+            }
         }
+        found
+    }
+
+    fn value(&self, number: usize, some_text: bool) -> Result<Value, AllocError> {
+        copied(self.read(number), some_text)
     }
 }
 

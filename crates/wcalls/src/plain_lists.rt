@@ -23,8 +23,9 @@ pub(crate) struct PlainLists<'a> {
     ghost is_null: { meaning null ≡ Null },
 }
 
-// The value at a place of a row, null behind its width.
-fn value_or_null<'a>(row: &'a [Value], null: &'a Value, place: usize) -> &'a Value
+/// The value at a place of a row, lent, and this null behind its width.
+#[inline(always)]
+pub(crate) fn value_or_null<'a>(row: &'a [Value], null: &'a Value, place: usize) -> &'a Value
     requires { meaning null.now ≡ Null }
     ensures { meaning result.now ≡ value_at (map meaning row.now) place }
 {

@@ -11,6 +11,7 @@ ghost use Rattle.waggregate.specs.Put.{put_all};
 use crate::arranged::ArrangedRows;
 use std::alloc::{AllocError, Global};
 use wframe::Frames;
+use wrows::batch_end;
 use wvalues::Value;
 
 /// Appends so many nulls.
@@ -52,8 +53,12 @@ pub trait RowFunction {
         ensures { map (meant self.now) kept.new ≡ put_all (map (meant self.now) kept.old) rows.now
             (map (answer self.now frames.now rows.now) (places (length rows.now))) };
 
-    /// The value that a kept number stands for.
-    fn value(&self, number: usize) -> Result<Value, AllocError>
+    /// Looks at all that some kept numbers stand for, and tells whether there is a text among it. The loop does nothing else, so
+    /// that the processor has many values on their way from memory at once.
+    fn look(&self, numbers: &[usize]) -> bool;
+
+    /// The value that a kept number stands for, whatever was told of texts: where there are none, no owners are counted.
+    fn value(&self, number: usize, some_text: bool) -> Result<Value, AllocError>
         ensures { IfOk result (λ value. meaning value ≡ meant self.now number) };
 }
 
@@ -71,7 +76,7 @@ fn keep_answers<T: RowFunction>(call: &T, arranged: &ArrangedRows, kept: &mut [u
     }
 }
 
-// Puts the values that kept numbers stand for, one after another.
+// Puts the values that kept numbers stand for, one after another. They are looked at before, some at a time.
 fn put_kept<T: RowFunction>(
     call: &T,
     kept: &[usize],
@@ -80,8 +85,14 @@ fn put_kept<T: RowFunction>(
     requires { length column.old ≡ length kept.now }
     ensures { OnOk result (map meaning column.new ≡ map (T.meant call.now) kept.now) }
 {
+    let mut some_text = false;
+    let mut seen = 0;
     for row in 0..kept.len() {
-        let value = call.value(kept[row])?;
+        if row == seen {
+            seen = batch_end(row, kept.len());
+            some_text = call.look(&kept[row..seen]);
+        }
+        let value = call.value(kept[row], some_text)?;
         column[row] = value;
     }
     Ok(())

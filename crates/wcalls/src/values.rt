@@ -1,13 +1,14 @@
 //! The values of an expression on rows: those of a plain column are read where they lie.
 ghost use Rattle.std.specs.Prelude.{◌≡◌, IfOk, length, map};
-ghost use Rattle.wvalues.specs.Meaning.{meaning};
+ghost use Rattle.wvalues.specs.Meaning.{Null, meaning};
 ghost use Rattle.wplan.specs.Formula.{At, formula};
 ghost use Rattle.wrows.specs.Outcomes.{Gives};
 ghost use Rattle.wrows.specs.Columns.{column_of, value_at, value_on};
 ghost use Rattle.wrows.specs.Laid.{rows_seen};
 ghost use Rattle.wcalls.specs.Seen.{values_seen};
 
-use std::alloc::{AllocError, Global};
+use crate::plain_lists::value_or_null;
+use std::alloc::Global;
 use wplan::Expr;
 use wrows::{AnswerFault, lists, place_of};
 use wvalues::Value;
@@ -48,35 +49,29 @@ pub(crate) fn column_values<'a>(
     Ok(ColumnValues::Evaluated(values))
 }
 
-// The value of a row, null where there is no such row.
-fn value_at(values: &[Value], row: usize) -> Result<Value, AllocError>
-    ensures { IfOk result (λ value. meaning value ≡ value_at (map meaning values.now) row) }
-{
-    if row < values.len() {
-        let copy = values[row].duplicate()?;
-        Ok(copy)
-    } else {
-        Ok(Value::Null)
-    }
-}
-
 // The value at a place of a row, null where there is no such row or place.
-fn value_in_row(rows: &[&[Value]], place: usize, row: usize) -> Result<Value, AllocError>
-    ensures { IfOk result (λ value. meaning value ≡ value_at (map (value_on (At place)) (rows_seen rows.now)) row) }
+fn value_in_row<'a>(rows: &'a [&'a [Value]], null: &'a Value, place: usize, row: usize) -> &'a Value
+    requires { meaning null.now ≡ Null }
+    ensures { meaning result.now ≡ value_at (map (value_on (At place)) (rows_seen rows.now)) row }
 {
     if row < rows.len() {
-        value_at(rows[row], place)
+        value_or_null(rows[row], null, place)
     } else {
-        Ok(Value::Null)
+        null
     }
 }
 
-/// The value of a row, null where there is no such row.
-pub(crate) fn value_of_row(values: &ColumnValues, row: usize) -> Result<Value, AllocError>
-    ensures { IfOk result (λ value. meaning value ≡ value_at (values_seen values.now) row) }
+/// The value of a row, lent from where it lies, and this null where there is no such row.
+pub(crate) fn value_of_row<'b>(
+    values: &'b ColumnValues<'_>,
+    null: &'b Value,
+    row: usize,
+) -> &'b Value
+    requires { meaning null.now ≡ Null }
+    ensures { meaning result.now ≡ value_at (values_seen values.now) row }
 {
     match values {
-        ColumnValues::Evaluated(values) => value_at(values, row),
-        ColumnValues::Plain { rows, place } => value_in_row(rows, *place, row),
+        ColumnValues::Evaluated(values) => value_or_null(values, null, row),
+        ColumnValues::Plain { rows, place } => value_in_row(rows, null, *place, row),
     }
 }

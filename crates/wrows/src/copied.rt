@@ -8,23 +8,10 @@ ghost use Rattle.wrows.specs.Laid.{rows_seen};
 ghost use Rattle.wsort.specs.LaidRows.{laid};
 ghost use Rattle.wrows.specs.Picked.{is_text, picked, row_beside, with_columns};
 
+use crate::batches::{batch_end, copy_of, is_text};
 use crate::place_values::{cells_at, push_picked, value_beside, value_of};
 use std::alloc::{AllocError, Global};
 use wvalues::Value;
-
-/// How many rows are read before they are copied, so few that a cache holds them until then.
-const BATCH: usize = 256;
-
-// Whether a value is a text. Its length is looked at, which stands beside the count of its owners, so that both are near when it
-// is copied.
-fn is_text(value: &Value) -> bool
-    ensures { result ≡ is_text (meaning value.now) }
-{
-    match value {
-        Value::Text(text) => text.as_str().len() < usize::MAX,
-        Value::Null | Value::Int(_) => false,
-    }
-}
 
 // Whether one of the rows of these numbers has a text at a place. Each is read, whatever was found before.
 fn has_text<'a>(
@@ -65,17 +52,6 @@ fn have_texts<'a>(
         }
     }
     found
-}
-
-// A copy of a value that is no text, which takes no memory.
-fn copy_of(value: &Value) -> Value
-    requires { is_text (meaning value.now) ≡ false }
-    ensures { meaning result ≡ meaning value.now }
-{
-    match value {
-        Value::Int(number) => Value::Int(*number),
-        Value::Null | Value::Text(_) => Value::Null,
-    }
 }
 
 // Appends the values at some places of a row that has these cells, of which none is a text.
@@ -123,19 +99,6 @@ fn push_batch<'a>(
         }
     }
     Ok(())
-}
-
-// Where the rows end that are taken next, of so many. How many they are is a matter of speed alone.
-fn batch_end(done: usize, count: usize) -> usize
-    requires { done < count }
-    ensures some { done < result }
-    ensures within { result ≤ count }
-{
-    if count - done < BATCH {
-        count
-    } else {
-        done + BATCH
-    }
 }
 
 // Appends the values at some places of the rows of these numbers, one row after another.

@@ -13,6 +13,7 @@
 //! `specs/Laid.antt` and `specs/Picked.antt`.
 #![tactic(auto)]
 
+mod batches;
 mod cells;
 mod copied;
 mod fault;
@@ -27,6 +28,7 @@ mod presorted;
 mod rows;
 mod values;
 
+pub use batches::{batch_end, copy_of, is_text};
 pub use cells::{Cells, gathered, push_row};
 pub use fault::AnswerFault;
 pub use items::{Asked, joined_items, ordered_items};
