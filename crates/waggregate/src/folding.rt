@@ -16,6 +16,7 @@ use crate::answers::{count_value, sum_value};
 use crate::picking::lent;
 use crate::tally::Tally;
 use std::alloc::Global;
+use std::mem;
 use wframe::{Partitions, frames_are_rows, stable_sorts_agree};
 use wplan::AggregateFunction;
 use wrows::AnswerFault;
@@ -97,8 +98,51 @@ pub(crate) fn push_values<F: ToldFold>(
     Ok(())
 }
 
+/// How many rows ahead cells are read before values are put there, so few that a cache holds them until then.
+const AHEAD: usize = 256;
+
+// Whether one of the cells of these rows holds a text. Each is read, whatever was found before.
+fn hold_text(column: &[Value], rows: &[usize]) -> bool
+    requires { All (λ i. i < length column.now) rows.now }
+{
+    let mut found = false;
+    for row in rows {
+        if let Value::Text(_) = &column[*row] {
+            found = true;
+        }
+    }
+    found
+}
+
+// Whether one of the cells holds a text where values are put next. They are looked at where a place begins so many, and what was
+// seen then is told for those that follow. This is a matter of speed alone.
+fn texts_ahead(column: &[Value], rows: &[usize], place: usize, seen: bool) -> bool
+    requires { All (λ i. i < length column.now) rows.now }
+{
+    if place % AHEAD != 0 || place >= rows.len() {
+        return seen;
+    }
+    let rows = &rows[place..];
+    hold_text(column, &rows[..rows.len().min(AHEAD)])
+}
+
+// Puts a value in the place of another one, which is let go. Both ways put the same, so what was seen ahead need not be right: the
+// choice is there so that what is read ahead is used, and not left out when the program is built.
+fn put(cell: &mut Value, value: Value, texts: bool)
+    ensures { cell.new ≡ value }
+{
+    if texts {
+        *cell = value;
+    } else {
+        match mem::replace(cell, value) {
+            Value::Null | Value::Int(_) => {}
+            Value::Text(text) => drop(text),
+        }
+    }
+}
+
 // Puts a value at the number of the row at a place, if there is such a row.
-fn put_at(column: &mut [Value], rows: &[usize], place: usize, value: Value)
+fn put_at(column: &mut [Value], rows: &[usize], place: usize, value: Value, texts: bool)
     requires { All (λ i. i < length column.old) rows.now }
     ensures put { (values : List Meaning) → place < length values → meaning value ≡ slice_index_or values place Null
         → put_all (map meaning column.new) (drop (place + 1) rows.now) (drop (place + 1) values)
@@ -106,7 +150,7 @@ fn put_at(column: &mut [Value], rows: &[usize], place: usize, value: Value)
     ensures len { length column.new ≡ length column.old }
 {
     if place < rows.len() {
-        column[rows[place]] = value;
+        put(&mut column[rows[place]], value, texts);
     }
 }
 
@@ -121,9 +165,11 @@ fn put_values<F: ToldFold>(
     requires below { All (λ i. i < length column.old) rows.now }
     ensures { Puts (map (F.told fold.now) parts.now) rows.now result column.old column.new }
 {
+    let mut texts = false;
     for place in 0..parts.len() {
+        texts = texts_ahead(column, rows, place, texts);
         let value = fold.value(parts[place])?;
-        put_at(column, rows, place, value);
+        put_at(column, rows, place, value, texts);
     }
     Ok(())
 }
