@@ -8,6 +8,7 @@ ghost use Rattle.wrows.specs.Picked.{is_text};
 ghost use Rattle.wslide.specs.Aggregates.{picked_values, picked_tests, tests};
 
 use std::alloc::{AllocError, Global};
+use wrows::{batch_end, copy_of, is_text};
 use wvalues::Value;
 
 // Whether a filter is true on some rows.
@@ -43,20 +44,6 @@ pub fn filter_of(
     }
 }
 
-/// How many rows are read before they are copied, so few that a cache holds them until then.
-const BATCH: usize = 256;
-
-// Whether a value is a text. Its length is looked at, which stands beside the count of its owners, so that both are near when it
-// is copied.
-fn is_text(value: &Value) -> bool
-    ensures { result ≡ is_text (meaning value.now) }
-{
-    match value {
-        Value::Text(text) => text.as_str().len() < usize::MAX,
-        Value::Null | Value::Int(_) => false,
-    }
-}
-
 // Whether one of the rows of these numbers has a text. Each is read, whatever was found before.
 fn has_text(values: &[&Value], rows: &[usize]) -> bool
     requires { All (λ i. i < length values.now) rows.now }
@@ -69,17 +56,6 @@ fn has_text(values: &[&Value], rows: &[usize]) -> bool
         }
     }
     found
-}
-
-// A copy of a value that is no text, which takes no memory.
-fn copy_of(value: &Value) -> Value
-    requires { is_text (meaning value.now) ≡ false }
-    ensures { meaning result ≡ meaning value.now }
-{
-    match value {
-        Value::Int(number) => Value::Int(*number),
-        Value::Null | Value::Text(_) => Value::Null,
-    }
 }
 
 // Appends copies of the values of the rows of these numbers, of which none is a text.
@@ -123,19 +99,6 @@ fn push_batch(values: &[&Value], rows: &[usize], copied: &mut Vec<Value>) -> Res
         push_with_texts(values, rows, copied)
     } else {
         push_without_texts(values, rows, copied)
-    }
-}
-
-// Where the rows end that are taken next, of so many. How many they are is a matter of speed alone.
-fn batch_end(done: usize, count: usize) -> usize
-    requires { done < count }
-    ensures some { done < result }
-    ensures within { result ≤ count }
-{
-    if count - done < BATCH {
-        count
-    } else {
-        done + BATCH
     }
 }
 
