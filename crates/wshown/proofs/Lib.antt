@@ -1,1 +1,2 @@
 mod Characters
+pub mod Lines
