@@ -4,7 +4,7 @@
 //!   of a window.
 //! - Promises: nothing is skipped, so an argument or filter that is out of range on any row refuses, as a result that
 //!   is out of range does; a sum is tested against the range once it is whole. Frames take at most three joins for each
-//!   row, eight where rows are excluded.
+//!   row, eight where rows are excluded. What lies far apart is read some rows at a time before it is copied or put.
 //! - Asks: fewer than 2^31 rows.
 //! - Leaves expressions to `wplan`, frames to `wframe` and their folds to `wslide`.
 //!

@@ -20,7 +20,7 @@ ghost use Rattle.wgroup.specs.Held.{all_groups, column_over, columns_in, set_ans
 use crate::found::{FinerSet, Groups};
 use crate::groups::items_at;
 use crate::keys::is_among;
-use crate::lent::{LentColumn, is_argument, lend};
+use crate::lent::{LentColumn, is_argument, lend, lend_first};
 use std::alloc::{AllocError, Global};
 use waggregate::{
     aggregate_groups, argument_values, filter_rows, is_null, lent_nulls, lent_values,
@@ -192,8 +192,30 @@ fn evaluated_column(
     fed_column(alloc, aggregate, rows, &values, sets)
 }
 
-// What an aggregate of NULL, as `count(*)` is one, comes to over the rows of each group of all sets.
-fn null_column(
+// What `count(*)` comes to over the rows of each group of all sets. It reads no values, so there may be any for the rows.
+fn counted_column(
+    alloc: Global,
+    aggregate: &Aggregate,
+    rows: &[&[Value]],
+    values: &[&Value],
+    sets: &[Groups],
+) -> Result<Vec<Value>, AnswerFault>
+    requires null { formula aggregate.now.argument ≡ Constant Null }
+    requires counts { aggregate.now.function ≡ AggregateFunction.CountRows }
+    requires wide { length values.now ≡ length rows.now }
+    requires made { AreMade sets.now }
+    requires len { All (λ groups. length groups.numbers.value.items ≡ length rows.now) sets.now }
+    requires few { length rows.now < 2 ^ 31 }
+    ensures gives { Gives (λ column. map meaning column.items) result (column_over (rows_seen rows.now) sets.now
+        (GroupAggregate (aggregate_plan aggregate.now))) }
+    ensures len { IfOk result (λ column. length column.items ≡ length (all_groups sets.now)) }
+{
+    let filter = filter_rows(alloc, &aggregate.filter, rows)?;
+    aggregate_answers(alloc, AggregateFunction::CountRows, values, &filter, sets)
+}
+
+// What an aggregate of NULL comes to over the rows of each group of all sets, with a null for each row.
+fn nulls_column(
     alloc: Global,
     aggregate: &Aggregate,
     rows: &[&[Value]],
@@ -210,6 +232,33 @@ fn null_column(
     let null = Value::Null;
     let values = lent_nulls(alloc, &null, rows)?;
     fed_column(alloc, aggregate, rows, &values, sets)
+}
+
+// What an aggregate of NULL, as `count(*)` is one, comes to over the rows of each group of all sets. Rows are counted by a column
+// that is lent, if there is one, and so take no list of their own.
+fn null_column(
+    alloc: Global,
+    aggregate: &Aggregate,
+    rows: &[&[Value]],
+    sets: &[Groups],
+    lent: &Option<LentColumn<'_>>,
+) -> Result<Vec<Value>, AnswerFault>
+    requires null { formula aggregate.now.argument ≡ Constant Null }
+    requires lent { ForSome lent.now (IsLent rows.now) }
+    requires made { AreMade sets.now }
+    requires len { All (λ groups. length groups.numbers.value.items ≡ length rows.now) sets.now }
+    requires few { length rows.now < 2 ^ 31 }
+    ensures gives { Gives (λ column. map meaning column.items) result (column_over (rows_seen rows.now) sets.now
+        (GroupAggregate (aggregate_plan aggregate.now))) }
+    ensures len { IfOk result (λ column. length column.items ≡ length (all_groups sets.now)) }
+{
+    let AggregateFunction::CountRows = aggregate.function else {
+        return nulls_column(alloc, aggregate, rows, sets);
+    };
+    match lent {
+        Some(column) => counted_column(alloc, aggregate, rows, &column.values, sets),
+        None => nulls_column(alloc, aggregate, rows, sets),
+    }
 }
 
 // What an aggregate comes to over the rows of each group of all sets. A plain column is read where it lies, by the one that is
@@ -230,7 +279,7 @@ fn aggregate_column(
     ensures len { IfOk result (λ column. length column.items ≡ length (all_groups sets.now)) }
 {
     if is_null(&aggregate.argument) {
-        return null_column(alloc, aggregate, rows, sets);
+        return null_column(alloc, aggregate, rows, sets, lent);
     }
     match lent {
         Some(column) if is_argument(column, &aggregate.argument) => {
@@ -365,7 +414,7 @@ pub(crate) fn call_columns(
     ensures count { IfOk result (λ columns. length columns.items ≡ length calls.now) }
 {
     let mut columns = Vec::with_capacity(alloc, calls.len())?;
-    let mut lent = None;
+    let mut lent = lend_first(alloc, calls, rows)?;
     for call in calls {
         lend(alloc, call, rows, &mut lent)?;
         columns.push(column(alloc, call, rows, sets, &lent)?)?;

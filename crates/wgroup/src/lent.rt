@@ -8,7 +8,7 @@ ghost use Rattle.wplan.specs.Formula.{At, formula};
 ghost use Rattle.wgroup.specs.Lent.{IsLent};
 
 use std::alloc::{AllocError, Global};
-use waggregate::lent_argument;
+use waggregate::{is_null, lent_argument};
 use wplan::{Expr, GroupCall};
 use wrows::place_of;
 use wvalues::Value;
@@ -18,6 +18,16 @@ use wvalues::Value;
 pub(crate) struct LentColumn<'a> {
     pub(crate) place: usize,
     pub(crate) values: Vec<&'a Value>,
+}
+
+// What an aggregate reads on each row; none where it reads nothing, as `count(*)` does.
+fn argument_of(call: &GroupCall) -> Option<&Expr> {
+    match call {
+        GroupCall::Aggregated(aggregate) if !is_null(&aggregate.argument) => Some(
+            &aggregate.argument,
+        ),
+        GroupCall::Aggregated(_) | GroupCall::GroupingOf(_) => None,
+    }
 }
 
 // Whether the column of a place is lent.
@@ -45,7 +55,8 @@ fn lent_column<'a>(
     }
 }
 
-/// Lends the column that a call's argument is, if it is a plain one and another one is lent, or none.
+/// Lends the column that a call's argument is, if it is a plain one and another one is lent, or none. Where an argument is
+/// evaluated, which takes memory of its own, none is lent any more.
 pub(crate) fn lend<'a>(
     alloc: Global,
     call: &GroupCall,
@@ -55,18 +66,37 @@ pub(crate) fn lend<'a>(
     requires { ForSome lent.old (IsLent rows.now) }
     ensures { ForSome lent.new (IsLent rows.now) }
 {
-    let GroupCall::Aggregated(aggregate) = call else {
+    let Some(argument) = argument_of(call) else {
         return Ok(());
     };
-    let Some(place) = place_of(&aggregate.argument) else {
+    let Some(place) = place_of(argument) else {
+        *lent = None;
         return Ok(());
     };
     if is_of(lent, place) {
         return Ok(());
     }
     *lent = None;
-    *lent = lent_column(alloc, &aggregate.argument, place, rows)?;
+    *lent = lent_column(alloc, argument, place, rows)?;
     Ok(())
+}
+
+/// Lends the column that the first of the calls reads whose argument is not NULL, if it is a plain one.
+pub(crate) fn lend_first<'a>(
+    alloc: Global,
+    calls: &[GroupCall],
+    rows: &[&'a [Value]],
+) -> Result<Option<LentColumn<'a>>, AllocError>
+    ensures { IfOk result (λ lent. ForSome lent (IsLent rows.now)) }
+{
+    for call in calls {
+        if argument_of(call).is_some() {
+            let mut lent = None;
+            lend(alloc, call, rows, &mut lent)?;
+            return Ok(lent);
+        }
+    }
+    Ok(None)
 }
 
 /// Whether an argument is this column.

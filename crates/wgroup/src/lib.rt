@@ -13,7 +13,7 @@
 //! - Leaves aggregates to `waggregate` and expressions to `wplan`.
 //!
 //! Read `specs/Grouping.antt` and `specs/Laws.antt`, then `specs/Sight.antt`, `specs/Table.antt`, `specs/Held.antt`,
-//! `specs/Finer.antt` and `specs/Counting.antt`.
+//! `specs/Finer.antt`, `specs/Lent.antt` and `specs/Counting.antt`.
 #![tactic(auto)]
 
 mod alike;

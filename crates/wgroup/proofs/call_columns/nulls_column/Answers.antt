@@ -2,7 +2,7 @@ use Rattle.std.proofs.Common.{Ok, length, sym, ap, ◌∙◌}
 use Rattle.wframe.specs.Cells.{meanings}
 use Rattle.wrows.specs.Columns.{column_of}
 use Rattle.wrows.specs.Laid.{rows_seen}
-use Rattle.wgroup.proofs.call_columns.null_column.Goals as goal
+use Rattle.wgroup.proofs.call_columns.nulls_column.Goals as goal
 
 pub fed_column-requires-clause-values : goal.fed_column-requires-clause-values
 fed_column-requires-clause-values c =
