@@ -1,9 +1,9 @@
-//! Answers a query, and writes what it is told.
+//! Answers a query, and writes the reply.
 ghost use Rattle.std.specs.Prelude.{◌≡◌, ◌↔◌, ◌||◌, ◌∷◌, ℕ, take, true, IfErr, IfOk, IsTrue, OnErr, OnOk};
 ghost use Rattle.std.specs.Io.KnownBytes.{Appends};
 ghost use Rattle.wlines.specs.Pending.{IsSoundWriter};
 ghost use Rattle.wreplies.specs.Texts.{bytes_of};
-ghost use Rattle.wshell.specs.Telling.{HasTellCause, IsBlank, TellsOne, TellsPart, reply_behind};
+ghost use Rattle.wshell.specs.Replying.{HasReplyCause, IsBlank, RepliesOne, RepliesPart, reply_behind};
 
 use crate::fault::ShellFault;
 use std::alloc::{AllocError, Global};
@@ -14,9 +14,9 @@ use wlines::write_reply;
 use wstore::Node;
 use wvalues::Counted;
 
-/// Whether a reply was written, and whether one of them was a refusal.
+/// Whether a reply was written, and whether one was a refusal.
 #[derive(Clone, Copy)]
-pub(crate) struct Told {
+pub(crate) struct Replied {
     pub(crate) is_any: bool,
     pub(crate) is_refused: bool,
 }
@@ -82,46 +82,46 @@ fn write_behind<W: Write>(
     write_text(output, text)
 }
 
-// Writes what a query is told.
-fn write_told<W: Write>(
+// Writes the reply to a query.
+fn write_query_reply<W: Write>(
     output: &mut Counted<W>,
-    told: &mut Told,
+    replied: &mut Replied,
     reply: &QueryReply,
 ) -> Result<(), ShellFault>
     requires { IsSoundWriter output.old }
     ensures ok { OnOk result (Appends (W.contents output.old.inner) (W.contents output.new.inner)
-        (reply_behind told.old.is_any (bytes_of reply.now.text))
-        × (told.new ≡ record { is_any = true; is_refused = told.old.is_refused || reply.now.is_refused })) }
+        (reply_behind replied.old.is_any (bytes_of reply.now.text))
+        × (replied.new ≡ record { is_any = true; is_refused = replied.old.is_refused || reply.now.is_refused })) }
     ensures sound { OnOk result (IsSoundWriter output.new) }
     ensures front { OnErr result ((n : ℕ) × Appends (W.contents output.old.inner) (W.contents output.new.inner)
-        (take n (reply_behind told.old.is_any (bytes_of reply.now.text)))) }
+        (take n (reply_behind replied.old.is_any (bytes_of reply.now.text)))) }
     ensures failed { OnErr result (output.new.failures ≡ 1) }
     ensures fault { IfErr result (λ e. e ≡ ShellFault.Write) }
 {
-    if let Err(fault) = write_behind(output, told.is_any, reply.text.as_slice()) {
+    if let Err(fault) = write_behind(output, replied.is_any, reply.text.as_slice()) {
         return Err(fault);
     }
-    told.is_any = true;
-    told.is_refused = told.is_refused || reply.is_refused;
+    replied.is_any = true;
+    replied.is_refused = replied.is_refused || reply.is_refused;
     Ok(())
 }
 
-/// Answers a text and writes what it is told, unless it holds blanks and comments alone.
-pub(crate) fn tell<W: Write>(
+/// Answers a text and writes the reply, unless it holds blanks and comments alone.
+pub(crate) fn reply_to<W: Write>(
     alloc: Global,
     node: &mut Node,
     output: &mut Counted<W>,
-    told: &mut Told,
+    replied: &mut Replied,
     text: &[u8],
 ) -> Result<(), ShellFault>
     requires { IsSoundWriter output.old }
     ensures same { node.new ≡ node.old }
-    ensures ok { OnOk result (TellsOne node.old.schema node.old.view text.now (W.contents output.old.inner)
-        (W.contents output.new.inner) told.old told.new) }
+    ensures ok { OnOk result (RepliesOne node.old.schema node.old.view text.now (W.contents output.old.inner)
+        (W.contents output.new.inner) replied.old replied.new) }
     ensures sound { OnOk result (IsSoundWriter output.new) }
-    ensures part { OnErr result (TellsPart node.old.schema node.old.view text.now (W.contents output.old.inner)
-        (W.contents output.new.inner) told.old) }
-    ensures cause { IfErr result (λ fault. HasTellCause fault output.new) }
+    ensures part { OnErr result (RepliesPart node.old.schema node.old.view text.now (W.contents output.old.inner)
+        (W.contents output.new.inner) replied.old) }
+    ensures cause { IfErr result (λ fault. HasReplyCause fault output.new) }
 {
     match is_blank(alloc, text) {
         Ok(false) => {}
@@ -129,7 +129,7 @@ pub(crate) fn tell<W: Write>(
         Err(_) => return Err(ShellFault::NoMemory),
     }
     match reply(alloc, node, text) {
-        Ok(reply) => write_told(output, told, &reply),
+        Ok(reply) => write_query_reply(output, replied, &reply),
         Err(_) => Err(ShellFault::NoMemory),
     }
 }

@@ -1,6 +1,6 @@
 use Rattle.std.proofs.Common.{[], ◌∷◌}
 use Rattle.wshell.proofs.Fronts.{first_front, next_front, next_whole}
-use Rattle.wshell.proofs.telling.write_next.Goals as goal
+use Rattle.wshell.proofs.replying.write_next.Goals as goal
 
 pub returns-in-Err-clause-front : goal.returns-in-Err-clause-front
 returns-in-Err-clause-front g c = first_front _ _ (10 ∷ []) c.args.text.now c.in-Err.ensures.front
