@@ -1,1 +1,3 @@
+pub mod Items
+pub mod Places
 pub mod Refusals

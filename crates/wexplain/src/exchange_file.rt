@@ -1,11 +1,14 @@
 //! What is wrong in an exchange file.
-ghost use Rattle.std.specs.Prelude.{IfOk, string_bytes};
-ghost use Rattle.wsentences.specs.Explanations.{IsLabelled};
+ghost use Rattle.std.specs.Prelude.{◌≡◌, ◌==◌, ◌++◌, ◌-◌, IfOk, OnOk, length, string_bytes};
+ghost use Rattle.std.specs.List.{before_first, position};
+ghost use Rattle.wshown.specs.Shown.{BeginsWith};
 ghost use Rattle.wsentences.specs.Labels.{file_label};
+ghost use Rattle.wexplain.specs.Places.{byte_text, name_text};
 
-use crate::items::{Form, Item, cut_item};
+use crate::items::{Item, cut_item};
 use std::alloc::{AllocError, Global};
 use wexchange::FileFault;
+use wrecords::Form;
 use wsegment::{Schema, Segment};
 use wsentences::{
     explained, file_sentence, push_file, push_length, push_segment_place, push_sentence,
@@ -29,15 +32,26 @@ fn behind_head(bytes: &[u8]) -> Option<&[u8]> {
 }
 
 /// Adds a name.
-pub(crate) fn push_name(alloc: Global, text: &mut String, name: &Name) -> Result<(), AllocError> {
+pub(crate) fn push_name(alloc: Global, text: &mut String, name: &Name) -> Result<(), AllocError>
+    ensures { OnOk result (string_bytes text.new ≡ string_bytes text.old ++ name_text name.now) }
+{
     push_bytes(alloc, text, name.origin())?;
     text.push(' ')?;
     push_number(text, u64::from(name.number()))
 }
 
+// The place of the first line feed.
+fn line_feed(bytes: &[u8]) -> Option<usize>
+    ensures { result ≡ position (λ b. b == 10) bytes.now }
+{
+    bytes.iter().position(|byte| *byte == b'\n')
+}
+
 // The bytes up to the line feed.
-fn first_line(bytes: &[u8]) -> &[u8] {
-    match bytes.iter().position(|byte| *byte == b'\n') {
+fn first_line(bytes: &[u8]) -> &[u8]
+    ensures { result.now ≡ before_first (λ b. b == 10) bytes.now }
+{
+    match line_feed(bytes) {
         Some(end) => &bytes[..end],
         None => bytes,
     }
@@ -49,7 +63,9 @@ pub(crate) fn push_byte(
     text: &mut String,
     before: u64,
     rest: &[u8],
-) -> Result<(), AllocError> {
+) -> Result<(), AllocError>
+    ensures { OnOk result (string_bytes text.new ≡ string_bytes text.old ++ byte_text before rest.now) }
+{
     text.push_str("at byte ")?;
     push_number(text, before)?;
     text.push_str(" stands ")?;
@@ -57,7 +73,9 @@ pub(crate) fn push_byte(
 }
 
 // Adds where the rest of some bytes begins, and the line there.
-fn push_at(alloc: Global, text: &mut String, bytes: &[u8], rest: &[u8]) -> Result<(), AllocError> {
+fn push_at(alloc: Global, text: &mut String, bytes: &[u8], rest: &[u8]) -> Result<(), AllocError>
+    ensures { OnOk result (string_bytes text.new ≡ string_bytes text.old ++ byte_text (length bytes.now - length rest.now) rest.now) }
+{
     let before = bytes.len().saturating_sub(rest.len());
     push_byte(alloc, text, before as u64, rest)
 }
@@ -93,8 +111,10 @@ fn push_other_table(
         return Ok(());
     };
     match cut_item(rest) {
-        Ok(item) => push_other_line(alloc, text, item.body, schema.text()),
-        Err(_) => Ok(()),
+        Ok(item) if matches!(item.form, Form::Table(_)) => {
+            push_other_line(alloc, text, item.body, schema.text())
+        }
+        _ => Ok(()),
     }
 }
 
@@ -105,7 +125,8 @@ fn is_behind(item: &Item<'_>, last: &Option<Name>) -> bool {
     };
     match &item.form {
         Form::Content(name, _) => name <= last,
-        Form::Known(name) => name <= last,
+        Form::Dispute(name) => name <= last,
+        Form::Retirement(name) => name <= last,
         Form::Floor(name) => name.origin().cmp(last.origin()).is_le(),
         _ => false,
     }
@@ -160,7 +181,7 @@ fn push_record(
 
 // What stands behind the line of the digest, or where there is none.
 fn behind_digest(rest: &[u8]) -> &[u8] {
-    match rest.iter().position(|byte| *byte == b'\n') {
+    match line_feed(rest) {
         Some(end) if rest.starts_with(b"H ") => &rest[end + 1..],
         _ => rest,
     }
@@ -191,7 +212,8 @@ fn push_end(
 fn record_name(form: &Form) -> Option<&Name> {
     match form {
         Form::Content(name, _) => Some(name),
-        Form::Known(name) => Some(name),
+        Form::Dispute(name) => Some(name),
+        Form::Retirement(name) => Some(name),
         Form::Floor(name) => Some(name),
         _ => None,
     }
@@ -202,6 +224,7 @@ fn is_misplaced(bytes: &[u8], form: &Form) -> bool {
     match form {
         Form::Table(_) => true,
         Form::Floor(_) => bytes.starts_with(OLD_HEAD),
+        Form::Digest(_) => true,
         _ => false,
     }
 }
@@ -294,7 +317,7 @@ pub fn explain_file(
     bytes: &[u8],
     fault: FileFault,
 ) -> Result<String, AllocError>
-    ensures { IfOk result (λ text. IsLabelled (file_label fault) (string_bytes text)) }
+    ensures { IfOk result (λ text. BeginsWith (file_label fault) (string_bytes text)) }
 {
     let mut place = String::new(alloc);
     push_file_place(alloc, &mut place, schema, bytes, fault)?;

@@ -3,14 +3,15 @@
 //!
 //! - Gives explanations of one to three lines: the sentence of the refusal, and where it can be told the place, as the line of a
 //!   query with a caret below it, or the row, the field and the value.
-//! - Promises: an explanation begins with what the refusal of its fault is called, that of a query which breaks a rule of
-//!   resolution aside, and there is none where nothing was refused. The words behind it and the places are tested, and not proved.
+//! - Promises: an explanation begins with what the refusal of its fault is called, and there is none where nothing was refused. An
+//!   item is the line in front, with its body, and a name or a byte is told by its words, with what was given as it is shown. The
+//!   words of sentences, and which record or field is wrong, are tested, and not proved.
 //! - Asks: the fault that the same bytes were refused with; with another one it tells less, or a place that is none.
 //! - Leaves judging to the crates that refuse, sentences, declarations, names and segments to `wsentences`, and places in a query
 //!   to `wspots`. It reads the bytes again, in time in proportion to them; of a delivery stream it is lent the one message, or the
 //!   bytes, at which it stopped.
 //!
-//! Read `specs/Refusals.antt`, then `src/explaining.rt`.
+//! Read `specs/Refusals.antt`, `specs/Items.antt` and `specs/Places.antt`, then `src/explaining.rt`.
 #![tactic(auto)]
 
 mod exchange_file;

@@ -1,6 +1,6 @@
 //! What is wrong in a query.
 ghost use Rattle.std.specs.Prelude.{ℕ, List, IfOk, string_bytes};
-ghost use Rattle.wsentences.specs.Explanations.{IsLabelled};
+ghost use Rattle.wshown.specs.Shown.{BeginsWith};
 ghost use Rattle.wsentences.specs.Labels.{HasQueryLabel};
 
 use std::alloc::{AllocError, Global};
@@ -71,7 +71,7 @@ pub fn explain_query(
     query: &[u8],
     fault: AskFault,
 ) -> Result<String, AllocError>
-    ensures { IfOk result (λ text. (label : List ℕ) × HasQueryLabel fault label × IsLabelled label (string_bytes text)) }
+    ensures { IfOk result (λ text. (label : List ℕ) × HasQueryLabel fault label × BeginsWith label (string_bytes text)) }
 {
     let mut below = String::new(alloc);
     push_query_place(alloc, &mut below, schema, query, fault)?;

@@ -1,6 +1,6 @@
 //! What is wrong in a delivery stream.
-ghost use Rattle.std.specs.Prelude.{IfOk, string_bytes};
-ghost use Rattle.wsentences.specs.Explanations.{IsLabelled};
+ghost use Rattle.std.specs.Prelude.{IfOk, codes, string_bytes};
+ghost use Rattle.wshown.specs.Shown.{BeginsWith};
 ghost use Rattle.wsentences.specs.Labels.{segment_label};
 
 use crate::exchange_file::{push_byte, push_name};
@@ -90,7 +90,7 @@ pub(crate) fn explain_delivery(
     place: &Place<'_>,
     fault: SegmentFault,
 ) -> Result<String, AllocError>
-    ensures { IfOk result (λ text. IsLabelled (segment_label fault) (string_bytes text)) }
+    ensures { IfOk result (λ text. BeginsWith (segment_label fault) (string_bytes text)) }
 {
     let mut told = String::new(alloc);
     push_refused(alloc, &mut told, schema, place, fault)?;
@@ -105,7 +105,9 @@ pub(crate) fn explain_stream(
     alloc: Global,
     file: &str,
     place: &Place<'_>,
-) -> Result<String, AllocError> {
+) -> Result<String, AllocError>
+    ensures { IfOk result (λ text. BeginsWith (codes "B1") (string_bytes text)) }
+{
     let mut told = String::new(alloc);
     push_bad(alloc, &mut told, place)?;
     let mut below = String::new(alloc);

@@ -1,3 +1,1 @@
 pub mod Noting
-pub mod Safety
-pub mod Steps

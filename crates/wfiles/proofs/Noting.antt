@@ -1,7 +1,8 @@
 -- What is noted while a file is read.
 use Rattle.std.proofs.Common.{◌≡◌, ◌≢◌, inr, refl, ap, ◌∙◌, ℕ, zero, suc, arith, ◌≤◌, List}
 use Rattle.std.proofs.Common.{[], ◌∷◌, ◌++◌, length, take, Some, append_assoc, append-nil}
-use Rattle.wfiles.specs.Call.{Call, Locked, Found, Created, Permitted, Wrote, Synced, Moved, SyncedFolder, Removed, Began, read_on}
+use Rattle.wfolder.specs.Call.{Call, Locked, Found, Created, Permitted, Wrote, Synced, Moved, SyncedFolder, Removed, Began}
+use Rattle.wfiles.specs.Noting.{read_on}
 use Rattle.wfiles.specs.Reading.{MayBegin, ReadsMore, read_more, read_to_end}
 
 -- nothing more

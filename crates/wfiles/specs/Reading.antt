@@ -1,6 +1,8 @@
 -- What is noted while a file is read in blocks: one call, which grows with each read.
-use Rattle.std.specs.Prelude.{◌≡◌, ◌⊎◌, ℕ, List, ◌∷◌, ◌++◌, Option, None, Some, take}
-use Rattle.wfiles.specs.Call.{Call, Began, Found, read_on}
+use Rattle.std.specs.Prelude.{◌≡◌, ◌⊎◌, ℕ, ◌<◌, List, ◌∷◌, ◌++◌, length, take, Option, None, Some}
+use Rattle.std.specs.Io.KnownBytes.{Consumes, IsAtEnd, Keeps}
+use Rattle.wfolder.specs.Call.{Call, Began, Found}
+use Rattle.wfiles.specs.Noting.{read_on}
 
 -- a reader, and the calls that were made, the newest of which is its own
 pub record Readings (T : Type 0) : Type 0 where
@@ -29,3 +31,8 @@ NotesBytes old new block (Some n) = new ≡ read_on (take n block) old
 -- the file of a name was not read, or only its first bytes were
 abbrev pub MayBegin : List ℕ → List Call → List Call → Type 0
 MayBegin name old new = (new ≡ old) ⊎ ((bytes : List ℕ) × (new ≡ Began name bytes ∷ old))
+
+-- a read gave the first bytes of the block, none only at the end; or it was interrupted and gave none
+abbrev pub GivesBytes : Option (List ℕ) → Option (List ℕ) → List ℕ → Option ℕ → Type 0
+GivesBytes old new block None = Keeps old new
+GivesBytes old new block (Some n) = Consumes old new (take n block) × (n ≡ 0 → 0 < length block → IsAtEnd new)

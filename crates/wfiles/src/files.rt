@@ -1,11 +1,10 @@
 //! Files, read whole.
 ghost use Rattle.std.specs.Prelude.{◌≡◌, ◌∷◌, Some, IfOk, IfErr, OnOk, OnErr, option_map};
 ghost use Rattle.std.specs.Io.KnownBytes.{Consumes, IsAtEnd};
-ghost use Rattle.wfiles.specs.Call.{Found};
-ghost use Rattle.wfiles.specs.Calls.{HasCause, IsSound};
+ghost use Rattle.wfolder.specs.Call.{Found};
+ghost use Rattle.wfolder.specs.Calls.{HasCause, IsSound};
 ghost use Rattle.wfiles.specs.Reading.{MayBegin, ReadsMore, read_more, read_to_end};
 
-use crate::fault::Fault;
 use crate::reading::Reading;
 use crate::record::Record;
 use crate::system::System;
@@ -14,6 +13,7 @@ use std::fs::File;
 use std::io::Read;
 use std::rt::Files;
 use std::str;
+use wfolder::Fault;
 
 /// The bytes that are read at once.
 const BLOCK: usize = 65_536;

@@ -4,33 +4,25 @@
 //!   a file, whole or in blocks; and a place whose file is replaced, by one that is written beside it.
 //! - Promises: a fault comes only where a call failed, a growth was refused or the reads are used up, as the system
 //!   counts them, and nothing else has failed then. A reader is read to its end, the record has the path and the bytes of each file
-//!   that was read, and what is written is written whole. Whichever
-//!   call of a replacement a machine stops in, the store holds what it might have held before, or the new bytes whole: that is
-//!   a theorem over the record of the calls, for every folder that does what `specs/Model.antt` says of them.
+//!   that was read, and what is written is written whole. A file is replaced as `wfolder` replaces it, on calls that the record has.
 //! - Asks: a system in which nothing has failed yet.
 //! - Leaves what the bytes mean to the program. What a real file holds, and which one a path leads to, no clause can say: each
 //!   method of `real.rt`, of `Reading` and of `Place` notes the call that it makes, and its answer.
 //!
-//! Read `specs/Call.antt`, `specs/Reading.antt`, `specs/Model.antt`, then `specs/Replacing.antt` and `specs/Calls.antt`.
+//! Read `specs/Noting.antt`, `specs/Reading.antt` and `specs/Place.antt`, and those of `wfolder` first.
 #![tactic(auto)]
 
-mod fault;
 mod files;
-mod folder;
 mod place;
 mod reading;
 mod real;
 mod record;
-mod replacing;
 mod simulated;
 mod system;
 
-pub use fault::Fault;
 pub use files::{read_if_there, read_whole};
-pub use folder::{Access, Folder, Target};
 pub use place::Place;
 pub use reading::Reading;
 pub use record::Record;
-pub use replacing::{NotReplaced, replace};
-pub use simulated::{Disk, Entry, Simulated};
+pub use simulated::Simulated;
 pub use system::System;

@@ -1,22 +1,21 @@
 //! Where a store stands, and how it is replaced there.
 ghost use Rattle.std.specs.Prelude.{◌≡◌, ◌∷◌, true, IfErr, IfOk, OnErr, OnOk, option_map, string_bytes};
-ghost use Rattle.wfiles.specs.Call.{Found, Locked};
-ghost use Rattle.wfiles.specs.Calls.{HasCause, IsSound};
-ghost use Rattle.wfiles.specs.Model.{IsLocked};
+ghost use Rattle.wfolder.specs.Call.{Found, Locked};
+ghost use Rattle.wfolder.specs.Calls.{HasCause, IsSound};
+ghost use Rattle.wfolder.specs.Model.{IsLocked};
 ghost use Rattle.wfiles.specs.Reading.{MayBegin};
-ghost use Rattle.wfiles.specs.Replacing.{MayLock, Replaces, fault_of};
+ghost use Rattle.wfolder.specs.Replacing.{Replaces, fault_of};
+ghost use Rattle.wfiles.specs.Place.{MayLock};
 
-use crate::fault::Fault;
 use crate::files::read_if_there;
-use crate::folder::Target;
 use crate::real::RealFolder;
 use crate::record::{LOCKED, Record};
-use crate::replacing::{NotReplaced, path_in, replace};
 use crate::system::System;
 use std::alloc::Global;
 use std::fs::File;
 use std::mem;
 use std::rt::{Clock, Files};
+use wfolder::{Fault, NotReplaced, Target, path_in, replace};
 
 /// A file that may be replaced: a plain one that may be written, found behind the links to it, or none yet. While this
 /// stands no other such program replaces a file of its folder.

@@ -1,10 +1,9 @@
 //! A file that is read in blocks. What was read of it is noted with each read.
 ghost use Rattle.std.specs.Prelude.{◌≡◌, ◌+◌, ◌<◌, ◌≤◌, ◌∷◌, [], None, length, IfOk, IfErr, IfNone, IfSome, OnOk, OnErr};
-ghost use Rattle.wfiles.specs.Call.{Began, Found};
-ghost use Rattle.wfiles.specs.Calls.{GivesBytes, HasCause, IsSound};
-ghost use Rattle.wfiles.specs.Reading.{NotesBytes};
+ghost use Rattle.wfolder.specs.Call.{Began, Found};
+ghost use Rattle.wfolder.specs.Calls.{HasCause, IsSound};
+ghost use Rattle.wfiles.specs.Reading.{GivesBytes, NotesBytes};
 
-use crate::fault::Fault;
 use crate::record::{BEGAN, FOUND, Record};
 use crate::system::System;
 use std::fs::File;
@@ -12,6 +11,7 @@ use std::io::Read;
 use std::marker::Model;
 use std::mem;
 use std::rt::Files;
+use wfolder::Fault;
 
 /// A file that is open to be read, and the record of the calls, to which nothing else adds meanwhile: its newest call is this
 /// reading. Contracts see the reader and the calls.

@@ -1,17 +1,16 @@
 //! The folder of a system. Each method makes the call that it notes, and notes what was answered: that is what the theorems over
 //! the record rest on, and no proof shows it.
 ghost use Rattle.std.specs.Prelude.{◌≡◌, ◌∷◌, is_ok, IfErr, OnOk};
-ghost use Rattle.wfiles.specs.Call.{call_of};
-ghost use Rattle.wfiles.specs.Calls.{HasCause, IsSound};
+ghost use Rattle.wfiles.specs.Noting.{call_of};
+ghost use Rattle.wfolder.specs.Calls.{HasCause, IsSound};
 
-use crate::fault::Fault;
 use crate::files::read_names;
-use crate::folder::{Access, Folder};
 use crate::record::{CREATED, MOVED, PERMITTED, REMOVED, Record, SYNCED, SYNCED_FOLDER, WROTE};
 use crate::system::System;
 use std::alloc::Global;
 use std::fs::File;
 use std::rt::Files;
+use wfolder::{Access, Fault, Folder};
 
 /// A folder of the operating system, and the new file that was made last.
 #[derive(Drop)]

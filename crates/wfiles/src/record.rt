@@ -1,7 +1,8 @@
 //! The calls that were made on files and folders, in a list that only clauses read.
 ghost use Rattle.std.specs.Prelude.{◌≡◌, List, [], ◌∷◌};
 ghost use Rattle.std.specs.Borrow.{ftrue};
-ghost use Rattle.wfiles.specs.Call.{Call, call_of, noted, read_on};
+ghost use Rattle.wfolder.specs.Call.{Call};
+ghost use Rattle.wfiles.specs.Noting.{call_of, noted, read_on};
 
 use std::marker::{Model, PhantomData};
 

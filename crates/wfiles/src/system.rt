@@ -3,11 +3,10 @@ ghost use Rattle.std.specs.Prelude.{◌≡◌, ◌≢◌, ◌+◌, ◌≤◌, �
 ghost use Rattle.std.specs.IoError.{error_kind};
 ghost use Rattle.std.specs.Fs.{IsReadonly};
 ghost use Rattle.std.specs.Io.KnownBytes.{Appends};
-ghost use Rattle.wfiles.specs.declared.fault.Fault.TheVariants.{NoMemory};
-ghost use Rattle.wfiles.specs.Calls.{GivesBytes, HasCause, IsSound};
+ghost use Rattle.wfolder.specs.declared.fault.Fault.TheVariants.{NoMemory};
+ghost use Rattle.wfolder.specs.Calls.{HasCause, IsSound};
+ghost use Rattle.wfiles.specs.Reading.{GivesBytes};
 
-use crate::fault::Fault;
-use crate::folder::Access;
 use std::alloc::AllocError;
 use std::fs::{self, File, Metadata, OpenFile, OpenOptions, Permissions, TryLockError};
 use std::io::{self, ErrorKind, Read, Write};
@@ -16,6 +15,7 @@ use std::os::unix::fs::{MetadataExt, OpenOptionsExt, fchown};
 use std::rt::{Clock, Files};
 use std::thread;
 use std::time::Duration;
+use wfolder::{Access, Fault};
 
 /// How often files are read at most.
 const MOST_READS: u64 = 1 << 40;
@@ -52,7 +52,7 @@ pub struct System<'a, R> {
 }
 
 impl<'a, R> Model for System<'a, R> {
-    ghost use Rattle.wfiles.specs.Calls.{CallCounts};
+    ghost use Rattle.wfolder.specs.Calls.{CallCounts};
 
     ghost Value = { CallCounts };
 

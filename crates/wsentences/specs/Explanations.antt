@@ -1,11 +1,55 @@
--- What an explanation begins with.
-use Rattle.std.specs.Prelude.{◌≡◌, ℕ, ◌++◌, ◌∷◌, [], List, codes}
+-- What explanations are made of.
+use Rattle.std.specs.Prelude.{◌≡◌, ◌⊎◌, ℕ, ◌++◌, ◌∷◌, [], List, Contains, codes, length}
+use Rattle.wsegment.specs.Declaration.{Described}
+use Rattle.std.specs.Fmt.{decimal}
+use Rattle.wsegment.specs.declared.fault.SegmentFault.{SegmentFault}
+use Rattle.wsegment.specs.declared.fault.SegmentFault.TheVariants as segments
+use Rattle.wshown.specs.Shown.{shown_bytes, shown_text, shown_value}
 use Rattle.wsentences.specs.declared.sentences.Sentence.{Sentence}
 
 -- the line of a sentence: its label, and its words behind a colon
 abbrev pub sentence_line : Sentence → List ℕ
 sentence_line sentence = sentence.label.now ++ (codes ": " ++ (sentence.words.now ++ (10 ∷ [])))
 
--- a text begins with a label
-abbrev pub IsLabelled : List ℕ → List ℕ → Type 0
-IsLabelled label text = (behind : List ℕ) × (text ≡ label ++ behind)
+-- the line of a file, and where in it something stands, if that is said
+abbrev pub file_line : List ℕ → List ℕ → List ℕ
+file_line file [] = shown_text file ++ (10 ∷ [])
+file_line file (c ∷ cs) = shown_text file ++ (codes ": " ++ (c ∷ cs ++ (10 ∷ [])))
+
+-- how many bytes there are
+abbrev pub length_text : List ℕ → List ℕ
+length_text bytes = codes "it has " ++ (decimal (length bytes) ++ codes " bytes")
+
+-- how many fields a row has, and how many the header; nothing, where the row is not there
+abbrev pub AddsLengths : ℕ → List ℕ → List ℕ → Type 0
+AddsLengths row old new = (new ≡ old) ⊎ ((fields : ℕ) × (columns : ℕ) × (new ≡ old ++ (codes "row " ++ (decimal row
+    ++ (codes " has " ++ (decimal fields ++ (codes " fields, the header " ++ decimal columns)))))))
+
+-- a row, with the field of it, under its column, that has a fault, if one has; nothing, where the row is not there
+abbrev pub AddsRow : ℕ → List ℕ → List ℕ → Type 0
+AddsRow row old new = (new ≡ old) ⊎ ((new ≡ old ++ (codes "row " ++ decimal row)) ⊎ ((column : List ℕ) × (value : List ℕ)
+    × (new ≡ old ++ (codes "row " ++ (decimal row ++ (codes ", column " ++ (shown_bytes column ++ (codes ": " ++ shown_value value))))))))
+
+-- the field of the header that has a fault, or nothing, where none has
+abbrev pub AddsHeaderField : List ℕ → List ℕ → Type 0
+AddsHeaderField old new = (new ≡ old) ⊎ ((number : ℕ) × (field : List ℕ)
+    × (new ≡ old ++ (codes "field " ++ (decimal number ++ (codes " of the header is " ++ shown_value field)))))
+
+-- a column of the table that the header lacks, or nothing, where it lacks none
+abbrev pub AddsMissing : List Described → List ℕ → List ℕ → Type 0
+AddsMissing columns old new = (new ≡ old) ⊎ ((column : Described) × Contains columns column
+    × (new ≡ old ++ (codes "there is no column " ++ column.name)))
+
+-- where a segment has a fault is added to a text. Which field and which column it is, is only tested
+abbrev pub AddsSegmentPlace : List Described → SegmentFault → List ℕ → List ℕ → List ℕ → Type 0
+AddsSegmentPlace columns segments.TooLong bytes old new = new ≡ old ++ length_text bytes
+AddsSegmentPlace columns segments.NoHeader bytes old new = new ≡ old
+AddsSegmentPlace columns segments.HeaderNotUtf8 bytes old new = AddsHeaderField old new
+AddsSegmentPlace columns (segments.RowNotUtf8 row) bytes old new = AddsRow row old new
+AddsSegmentPlace columns segments.UnknownColumn bytes old new = AddsHeaderField old new
+AddsSegmentPlace columns segments.RepeatedColumn bytes old new = AddsHeaderField old new
+AddsSegmentPlace columns segments.MissingColumn bytes old new = AddsMissing columns old new
+AddsSegmentPlace columns (segments.RowLength row) bytes old new = AddsLengths row old new
+AddsSegmentPlace columns (segments.NotInteger row) bytes old new = AddsRow row old new
+AddsSegmentPlace columns segments.TooManyRows bytes old new = new ≡ old
+AddsSegmentPlace columns segments.NoMemory bytes old new = new ≡ old

@@ -1,5 +1,6 @@
 -- What refusals are called, as they are printed.
-use Rattle.std.specs.Prelude.{◌≡◌, ℕ, List, codes}
+use Rattle.std.specs.Prelude.{◌≡◌, ◌++◌, ◌≤◌, ℕ, List, codes}
+use Rattle.std.specs.Fmt.{decimal}
 use Rattle.wvalues.specs.declared.name.NameFault.{NameFault}
 use Rattle.wvalues.specs.declared.name.NameFault.TheVariants as names
 use Rattle.wsegment.specs.declared.schema_fault.SchemaFault.{SchemaFault}
@@ -49,13 +50,13 @@ file_label files.Trailing = codes "X7"
 file_label files.OtherDigest = codes "X8"
 file_label files.NoMemory = codes "no memory"
 
--- a query, of which nothing is said here where it breaks a rule of resolution
+-- a query. A rule of resolution that it breaks has a number from 10 to 28
 abbrev pub HasQueryLabel : AskFault → List ℕ → Type 0
 HasQueryLabel queries.TooLong label = label ≡ codes "Q1"
 HasQueryLabel queries.NotUtf8 label = label ≡ codes "Q2"
 HasQueryLabel (queries.At _) label = label ≡ codes "Q3"
 HasQueryLabel queries.Syntax label = label ≡ codes "Q4"
-HasQueryLabel (queries.Broken _) _ = Unit
+HasQueryLabel (queries.Broken rule) label = 10 ≤ rule → rule ≤ 28 → label ≡ codes "Q" ++ decimal rule
 HasQueryLabel queries.OutOfRange label = label ≡ codes "Q40"
 HasQueryLabel queries.TooManyRows label = label ≡ codes "Q41"
 HasQueryLabel queries.NoMemory label = label ≡ codes "no memory"

@@ -1,6 +1,6 @@
 //! What is wrong in a declaration, and in a name.
 ghost use Rattle.std.specs.Prelude.{IfOk, string_bytes};
-ghost use Rattle.wsentences.specs.Explanations.{IsLabelled};
+ghost use Rattle.wshown.specs.Shown.{BeginsWith};
 ghost use Rattle.wsentences.specs.Labels.{name_label, table_label};
 
 use crate::lines::{explained, push_file};
@@ -153,7 +153,7 @@ pub fn explain_declaration(
     bytes: &[u8],
     fault: SchemaFault,
 ) -> Result<String, AllocError>
-    ensures { IfOk result (λ text. IsLabelled (table_label fault) (string_bytes text)) }
+    ensures { IfOk result (λ text. BeginsWith (table_label fault) (string_bytes text)) }
 {
     let mut place = String::new(alloc);
     push_declaration_place(alloc, &mut place, bytes, fault)?;
@@ -169,7 +169,7 @@ pub fn explain_name(
     number: &[u8],
     fault: NameFault,
 ) -> Result<String, AllocError>
-    ensures { IfOk result (λ text. IsLabelled (name_label fault) (string_bytes text)) }
+    ensures { IfOk result (λ text. BeginsWith (name_label fault) (string_bytes text)) }
 {
     let mut below = String::new(alloc);
     match fault {

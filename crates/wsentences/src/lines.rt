@@ -1,6 +1,7 @@
 //! The lines of an explanation.
 ghost use Rattle.std.specs.Prelude.{◌≡◌, ◌++◌, IfOk, OnOk, string_bytes};
-ghost use Rattle.wsentences.specs.Explanations.{IsLabelled, sentence_line};
+ghost use Rattle.wshown.specs.Shown.{BeginsWith};
+ghost use Rattle.wsentences.specs.Explanations.{file_line, sentence_line};
 
 use crate::sentences::Sentence;
 use std::alloc::{AllocError, Global};
@@ -16,10 +17,10 @@ pub fn push_sentence(text: &mut String, sentence: Sentence) -> Result<(), AllocE
     text.push_str("\n")
 }
 
-/// An explanation: the line of a sentence, and what is told below it.
+/// An explanation: the line of a sentence, and what is said below it.
 pub fn explained(alloc: Global, sentence: Sentence, below: &str) -> Result<String, AllocError>
     ensures lines { IfOk result (λ text. string_bytes text ≡ sentence_line sentence ++ below.now) }
-    ensures label { IfOk result (λ text. IsLabelled sentence.label.now (string_bytes text)) }
+    ensures label { IfOk result (λ text. BeginsWith sentence.label.now (string_bytes text)) }
 {
     let mut text = String::new(alloc);
     push_sentence(&mut text, sentence)?;
@@ -27,12 +28,15 @@ pub fn explained(alloc: Global, sentence: Sentence, below: &str) -> Result<Strin
     Ok(text)
 }
 
-/// Adds the line of a file, and where in it something stands, if that is told.
-pub fn push_file(text: &mut String, file: &str, place: &str) -> Result<(), AllocError> {
+/// Adds the line of a file, and where in it something stands, if that is said.
+pub fn push_file(text: &mut String, file: &str, place: &str) -> Result<(), AllocError>
+    ensures { OnOk result (string_bytes text.new ≡ string_bytes text.old ++ file_line file.now place.now) }
+{
     push_text(text, file)?;
-    if !place.is_empty() {
-        text.push_str(": ")?;
-        text.push_str(place)?;
+    if place.is_empty() {
+        return text.push('\n');
     }
+    text.push_str(": ")?;
+    text.push_str(place)?;
     text.push('\n')
 }

@@ -1,13 +1,14 @@
 //! What is wrong in a segment.
-ghost use Rattle.std.specs.Prelude.{IfOk, string_bytes};
-ghost use Rattle.wsentences.specs.Explanations.{IsLabelled};
+ghost use Rattle.std.specs.Prelude.{◌≡◌, ◌++◌, Contains, IfOk, IfSome, OnOk, string_bytes};
+ghost use Rattle.wshown.specs.Shown.{BeginsWith};
+ghost use Rattle.wsentences.specs.Explanations.{AddsHeaderField, AddsLengths, AddsMissing, AddsRow, AddsSegmentPlace, length_text};
 ghost use Rattle.wsentences.specs.Labels.{segment_label};
 
 use crate::lines::{explained, push_file};
 use crate::sentences::segment_sentence;
 use csv::{ByteRecord, Reader, ReaderBuilder};
 use std::alloc::{AllocError, Global};
-use wsegment::{Kind, Schema, SegmentFault};
+use wsegment::{Column, Kind, Schema, SegmentFault};
 use wshown::{push_bytes, push_number, push_value};
 
 // Takes the next record, and says whether there was one.
@@ -57,24 +58,46 @@ fn is_wrong_name(schema: &Schema, header: &ByteRecord, place: usize, fault: Segm
     }
 }
 
+// The header of a segment, if it has one.
+fn find_header(alloc: Global, bytes: &[u8]) -> Option<ByteRecord> {
+    let mut reader = reader_of(alloc, bytes);
+    let mut header = ByteRecord::new(alloc);
+    if !take_record(&mut reader, &mut header) {
+        return None;
+    }
+    Some(header)
+}
+
+// The place of the field of a header that is the one of a fault.
+fn wrong_name(schema: &Schema, header: &ByteRecord, fault: SegmentFault) -> Option<usize> {
+    'fields: for place in 0..header.len() {
+        if is_wrong_name(schema, header, place, fault) {
+            return Some(place);
+        }
+    }
+    None
+}
+
 // Adds the field of the header that is the one of a fault.
 fn push_header_field(
     alloc: Global,
     text: &mut String,
     schema: &Schema,
-    header: &ByteRecord,
+    bytes: &[u8],
     fault: SegmentFault,
-) -> Result<(), AllocError> {
-    'fields: for place in 0..header.len() {
-        if is_wrong_name(schema, header, place, fault) {
-            text.push_str("field ")?;
-            push_number(text, (place as u64).saturating_add(1))?;
-            text.push_str(" of the header is ")?;
-            let field = header.get(place).unwrap_or(b"");
-            return push_value(alloc, text, field);
-        }
-    }
-    Ok(())
+) -> Result<(), AllocError>
+    ensures { OnOk result (AddsHeaderField (string_bytes text.old) (string_bytes text.new)) }
+{
+    let Some(header) = find_header(alloc, bytes) else {
+        return Ok(());
+    };
+    let Some(place) = wrong_name(schema, &header, fault) else {
+        return Ok(());
+    };
+    text.push_str("field ")?;
+    push_number(text, (place as u64).saturating_add(1))?;
+    text.push_str(" of the header is ")?;
+    push_value(alloc, text, field_at(&header, place))
 }
 
 // Whether the header names a column.
@@ -82,15 +105,35 @@ fn is_named(header: &ByteRecord, name: &str) -> bool {
     (0..header.len()).any(|place| header.get(place) == Some(name.as_bytes()))
 }
 
-// Adds the first column that the header lacks.
-fn push_missing(text: &mut String, schema: &Schema, header: &ByteRecord) -> Result<(), AllocError> {
+// The first column that a header lacks.
+fn missing_column<'s>(schema: &'s Schema, header: &ByteRecord) -> Option<&'s Column>
+    ensures { IfSome result (λ column. Contains schema.now.columns column.now) }
+{
     'columns: for column in schema.columns() {
         if !is_named(header, column.name()) {
-            text.push_str("there is no column ")?;
-            return text.push_str(column.name());
+            return Some(column);
         }
     }
-    Ok(())
+    None
+}
+
+// Adds the first column that the header lacks.
+fn push_missing(
+    alloc: Global,
+    text: &mut String,
+    schema: &Schema,
+    bytes: &[u8],
+) -> Result<(), AllocError>
+    ensures { OnOk result (AddsMissing schema.now.columns (string_bytes text.old) (string_bytes text.new)) }
+{
+    let Some(header) = find_header(alloc, bytes) else {
+        return Ok(());
+    };
+    let Some(column) = missing_column(schema, &header) else {
+        return Ok(());
+    };
+    text.push_str("there is no column ")?;
+    text.push_str(column.name())
 }
 
 // Whether a column that the header names holds integers.
@@ -131,16 +174,30 @@ fn field_at(record: &ByteRecord, place: usize) -> &[u8] {
     }
 }
 
+// A row below the header, and the header.
+#[derive(Drop)]
+struct Row {
+    header: ByteRecord,
+    record: ByteRecord,
+}
+
+// The row of a number from 1, if there is one.
+fn find_row(alloc: Global, bytes: &[u8], row: u32) -> Option<Row> {
+    let mut reader = reader_of(alloc, bytes);
+    let mut header = ByteRecord::new(alloc);
+    let mut record = ByteRecord::new(alloc);
+    let is_there = take_record(&mut reader, &mut header);
+    if !is_there || !take_row(&mut reader, &mut record, row) {
+        return None;
+    }
+    Some(Row { header, record })
+}
+
 // The place of the field of a row that is the one of a fault.
-fn wrong_place(
-    schema: &Schema,
-    header: &ByteRecord,
-    record: &ByteRecord,
-    fault: SegmentFault,
-) -> Option<usize> {
-    'fields: for place in 0..record.len() {
-        let name = field_at(header, place);
-        let field = field_at(record, place);
+fn wrong_place(schema: &Schema, row: &Row, fault: SegmentFault) -> Option<usize> {
+    'fields: for place in 0..row.record.len() {
+        let name = field_at(&row.header, place);
+        let field = field_at(&row.record, place);
         if is_wrong_field(schema, name, field, fault) {
             return Some(place);
         }
@@ -148,58 +205,49 @@ fn wrong_place(
     None
 }
 
-// Adds the field of a row that is the one of a fault.
-fn push_field(
-    alloc: Global,
-    text: &mut String,
-    schema: &Schema,
-    header: &ByteRecord,
-    record: &ByteRecord,
-    fault: SegmentFault,
-) -> Result<(), AllocError> {
-    let Some(place) = wrong_place(schema, header, record, fault) else {
-        return Ok(());
-    };
-    text.push_str(", column ")?;
-    push_bytes(alloc, text, field_at(header, place))?;
-    text.push_str(": ")?;
-    push_value(alloc, text, field_at(record, place))
-}
-
-// Adds how many fields a row has, and how many the header.
-fn push_lengths(
-    text: &mut String,
-    header: &ByteRecord,
-    record: &ByteRecord,
-) -> Result<(), AllocError> {
-    text.push_str(" has ")?;
-    push_number(text, record.len() as u64)?;
-    text.push_str(" fields, the header ")?;
-    push_number(text, header.len() as u64)
-}
-
-// Adds what is wrong in a row.
+// Adds a row, and the field of it that is the one of a fault.
 fn push_row(
     alloc: Global,
     text: &mut String,
     schema: &Schema,
     bytes: &[u8],
-    row: u32,
+    number: u32,
     fault: SegmentFault,
-) -> Result<(), AllocError> {
-    let mut reader = reader_of(alloc, bytes);
-    let mut header = ByteRecord::new(alloc);
-    let mut record = ByteRecord::new(alloc);
-    let is_there = take_record(&mut reader, &mut header);
-    if !is_there || !take_row(&mut reader, &mut record, row) {
+) -> Result<(), AllocError>
+    ensures { OnOk result (AddsRow number (string_bytes text.old) (string_bytes text.new)) }
+{
+    let Some(row) = find_row(alloc, bytes, number) else {
         return Ok(());
-    }
+    };
     text.push_str("row ")?;
-    push_number(text, u64::from(row))?;
-    match fault {
-        SegmentFault::RowLength { .. } => push_lengths(text, &header, &record),
-        _ => push_field(alloc, text, schema, &header, &record, fault),
-    }
+    push_number(text, u64::from(number))?;
+    let Some(place) = wrong_place(schema, &row, fault) else {
+        return Ok(());
+    };
+    text.push_str(", column ")?;
+    push_bytes(alloc, text, field_at(&row.header, place))?;
+    text.push_str(": ")?;
+    push_value(alloc, text, field_at(&row.record, place))
+}
+
+// Adds how many fields a row has, and how many the header.
+fn push_lengths(
+    alloc: Global,
+    text: &mut String,
+    bytes: &[u8],
+    number: u32,
+) -> Result<(), AllocError>
+    ensures { OnOk result (AddsLengths number (string_bytes text.old) (string_bytes text.new)) }
+{
+    let Some(row) = find_row(alloc, bytes, number) else {
+        return Ok(());
+    };
+    text.push_str("row ")?;
+    push_number(text, u64::from(number))?;
+    text.push_str(" has ")?;
+    push_number(text, row.record.len() as u64)?;
+    text.push_str(" fields, the header ")?;
+    push_number(text, row.header.len() as u64)
 }
 
 // A reader of records of any lengths.
@@ -210,25 +258,6 @@ fn reader_of<'a>(alloc: Global, bytes: &'a [u8]) -> Reader<&'a [u8]> {
         .from_reader(alloc, bytes)
 }
 
-// Adds what is wrong in the header.
-fn push_header(
-    alloc: Global,
-    text: &mut String,
-    schema: &Schema,
-    bytes: &[u8],
-    fault: SegmentFault,
-) -> Result<(), AllocError> {
-    let mut reader = reader_of(alloc, bytes);
-    let mut header = ByteRecord::new(alloc);
-    if !take_record(&mut reader, &mut header) {
-        return Ok(());
-    }
-    match fault {
-        SegmentFault::MissingColumn => push_missing(text, schema, &header),
-        _ => push_header_field(alloc, text, schema, &header, fault),
-    }
-}
-
 /// Adds where a segment has this fault, and what stands there.
 pub fn push_segment_place(
     alloc: Global,
@@ -236,21 +265,28 @@ pub fn push_segment_place(
     schema: &Schema,
     bytes: &[u8],
     fault: SegmentFault,
-) -> Result<(), AllocError> {
+) -> Result<(), AllocError>
+    ensures { OnOk result (AddsSegmentPlace schema.now.columns fault bytes.now (string_bytes text.old) (string_bytes text.new)) }
+{
     match fault {
         SegmentFault::TooLong => push_length(text, bytes),
         SegmentFault::NoHeader => Ok(()),
         SegmentFault::TooManyRows => Ok(()),
         SegmentFault::NoMemory => Ok(()),
         SegmentFault::RowNotUtf8 { row } => push_row(alloc, text, schema, bytes, row, fault),
-        SegmentFault::RowLength { row } => push_row(alloc, text, schema, bytes, row, fault),
+        SegmentFault::RowLength { row } => push_lengths(alloc, text, bytes, row),
         SegmentFault::NotInteger { row } => push_row(alloc, text, schema, bytes, row, fault),
-        _ => push_header(alloc, text, schema, bytes, fault),
+        SegmentFault::MissingColumn => push_missing(alloc, text, schema, bytes),
+        SegmentFault::HeaderNotUtf8 => push_header_field(alloc, text, schema, bytes, fault),
+        SegmentFault::UnknownColumn => push_header_field(alloc, text, schema, bytes, fault),
+        SegmentFault::RepeatedColumn => push_header_field(alloc, text, schema, bytes, fault),
     }
 }
 
 /// Adds how many bytes there are.
-pub fn push_length(text: &mut String, bytes: &[u8]) -> Result<(), AllocError> {
+pub fn push_length(text: &mut String, bytes: &[u8]) -> Result<(), AllocError>
+    ensures { OnOk result (string_bytes text.new ≡ string_bytes text.old ++ length_text bytes.now) }
+{
     text.push_str("it has ")?;
     push_number(text, bytes.len() as u64)?;
     text.push_str(" bytes")
@@ -265,7 +301,7 @@ pub fn explain_segment(
     bytes: &[u8],
     fault: SegmentFault,
 ) -> Result<String, AllocError>
-    ensures { IfOk result (λ text. IsLabelled (segment_label fault) (string_bytes text)) }
+    ensures { IfOk result (λ text. BeginsWith (segment_label fault) (string_bytes text)) }
 {
     let mut place = String::new(alloc);
     push_segment_place(alloc, &mut place, schema, bytes, fault)?;

@@ -1,5 +1,6 @@
 //! The sentence of each refusal.
-ghost use Rattle.std.specs.Prelude.{◌≡◌};
+ghost use Rattle.std.specs.Prelude.{◌≡◌, ◌++◌, ◌≤◌, codes};
+ghost use Rattle.std.specs.Fmt.{decimal};
 ghost use Rattle.wsentences.specs.Labels.{HasQueryLabel, file_label, name_label, segment_label, table_label};
 
 use wexchange::FileFault;
@@ -252,9 +253,6 @@ const Q28: Sentence = Sentence {
 };
 
 /// Q10 to Q28.
-const RULES: [Sentence; 19] = [
-    Q10, Q11, Q12, Q13, Q14, Q15, Q16, Q17, Q18, Q19, Q20, Q21, Q22, Q23, Q24, Q25, Q26, Q27, Q28,
-];
 
 const Q40: Sentence = Sentence {
     label: "Q40",
@@ -324,12 +322,30 @@ pub fn file_sentence(fault: FileFault) -> Sentence
     }
 }
 
-/// The sentence of the rule of a number, 10 to 28.
-pub fn rule_sentence(rule: u8) -> Sentence {
-    let place = usize::from(rule).saturating_sub(10);
-    match RULES.get(place) {
-        Some(sentence) => *sentence,
-        None => Q28,
+// The sentence of the rule of a number, 10 to 28.
+fn rule_sentence(rule: u8) -> Sentence
+    ensures { 10 ≤ rule → rule ≤ 28 → result.label.now ≡ codes "Q" ++ decimal rule }
+{
+    match rule {
+        10 => Q10,
+        11 => Q11,
+        12 => Q12,
+        13 => Q13,
+        14 => Q14,
+        15 => Q15,
+        16 => Q16,
+        17 => Q17,
+        18 => Q18,
+        19 => Q19,
+        20 => Q20,
+        21 => Q21,
+        22 => Q22,
+        23 => Q23,
+        24 => Q24,
+        25 => Q25,
+        26 => Q26,
+        27 => Q27,
+        _ => Q28,
     }
 }
 

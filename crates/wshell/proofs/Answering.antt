@@ -1,4 +1,4 @@
--- What texts are told, one after the other.
+-- The replies to texts, one after the other.
 use Rattle.std.proofs.Common.{◌≡◌, ◌⊎◌, inl, inr, ◌∙◌, ◌||◌, ℕ, ◌+◌, ◌<◌, ◌≤◌, Bool, true, false, List}
 use Rattle.std.proofs.Common.{[], ◌∷◌, ◌++◌, length, take, min, Option, Result, Ok, Err, IfErr, OnErr, OnOk}
 use Rattle.std.proofs.Common.{refl, sym, ap, subst, arith, append_assoc, append-nil, length-take}
@@ -20,44 +20,45 @@ use Rattle.wvalues.specs.Counts.{Counts}
 use Rattle.wact.specs.Queries.{IsReply, next_reply_text, replies_text, reply_text}
 use Rattle.wshell.specs.declared.fault.ShellFault.{ShellFault}
 use Rattle.wshell.specs.declared.fault.ShellFault.TheVariants as ends
-use Rattle.wshell.specs.declared.telling.Told.{Told}
+use Rattle.wshell.specs.declared.replying.Replied.{Replied}
 use Rattle.wshell.specs.Pending.{room}
-use Rattle.wshell.specs.Telling.{Answered, Front, HasTellCause, IsBlank, Passed, Tells, TellsOne, TellsPart, Unanswered, reply_behind}
+use Rattle.wshell.specs.Replying.{Answered, AreReplies, Front, HasReplyCause, IsBlank, Passed, RepliesOne, RepliesPart, Unanswered}
+use Rattle.wshell.specs.Replying.{reply_behind}
 use Rattle.wshell.specs.Runs.{FrontSoFar, SoFar, has_any}
 
 abbrev Answer : Type 0
 Answer = Result (List ℕ) AskFault
 
--- ---- what one text is told
+-- ---- the reply to one text
 
-abbrev told_any : Bool → Told
-told_any b = record { is_any = true; is_refused = b }
+abbrev replied_any : Bool → Replied
+replied_any b = record { is_any = true; is_refused = b }
 
-module _ (d : Declaration) (v : View) (text bytes : List ℕ) (old new : Option (List ℕ)) (told new_told : Told)
+module _ (d : Declaration) (v : View) (text bytes : List ℕ) (old new : Option (List ℕ)) (replied new_replied : Replied)
     (is_refused : Bool) (filled : ¬ (IsBlank text)) (reply : IsReply d v text bytes is_refused) where
-  pub replied_whole : {A : Type 0} (r : Result A ShellFault) → OnOk r (Appends old new (reply_behind told.is_any bytes)
-      × (new_told ≡ record { is_any = true; is_refused = told.is_refused || is_refused }))
-      → OnOk r (TellsOne d v text old new told new_told)
+  pub replied_whole : {A : Type 0} (r : Result A ShellFault) → OnOk r (Appends old new (reply_behind replied.is_any bytes)
+      × (new_replied ≡ record { is_any = true; is_refused = replied.is_refused || is_refused }))
+      → OnOk r (RepliesOne d v text old new replied new_replied)
   replied_whole (Ok x) w =
-      Answered reply.answer filled reply.answers (subst (λ t. Appends old new (reply_behind told.is_any t)) reply.text_is w.0)
-      (w.1 ∙ ap (λ (b : Bool). told_any (told.is_refused || b)) reply.refused_is)
+      Answered reply.answer filled reply.answers (subst (λ t. Appends old new (reply_behind replied.is_any t)) reply.text_is w.0)
+      (w.1 ∙ ap (λ (b : Bool). replied_any (replied.is_refused || b)) reply.refused_is)
   replied_whole (Err e) w = tt
 
   pub replied_part : {A : Type 0} (r : Result A ShellFault)
-      → OnErr r ((n : ℕ) × Appends old new (take n (reply_behind told.is_any bytes))) → OnErr r (TellsPart d v text old new told)
+      → OnErr r ((n : ℕ) × Appends old new (take n (reply_behind replied.is_any bytes))) → OnErr r (RepliesPart d v text old new replied)
   replied_part (Ok x) w = tt
   replied_part (Err e) w = Front reply.answer w.0 filled reply.answers
-      (subst (λ t. Appends old new (take w.0 (reply_behind told.is_any t))) reply.text_is w.1)
+      (subst (λ t. Appends old new (take w.0 (reply_behind replied.is_any t))) reply.text_is w.1)
 
 pub reply_cause : {A W : Type 0} (r : Result A ShellFault) (output : Counts W) → OnErr r (output.failures ≡ 1)
-    → IfErr r (λ e. e ≡ ends.Write) → IfErr r (λ fault. HasTellCause fault output)
+    → IfErr r (λ e. e ≡ ends.Write) → IfErr r (λ fault. HasReplyCause fault output)
 reply_cause (Ok x) output failed is = tt
-reply_cause {W = W} (Err e) output failed is = subst (λ (f : ShellFault). HasTellCause {W = W} f output) (sym is) failed
+reply_cause {W = W} (Err e) output failed is = subst (λ (f : ShellFault). HasReplyCause {W = W} f output) (sym is) failed
 
 -- ---- one text more
 
 pub passed_last : (d : Declaration) (v : View) (texts : List (List ℕ)) (answers : List Answer) (text : List ℕ)
-    → IsBlank text → Tells d v texts answers → Tells d v (texts ++ text ∷ []) answers
+    → IsBlank text → AreReplies d v texts answers → AreReplies d v (texts ++ text ∷ []) answers
 passed_last d v [] [] text blank t = (blank, tt)
 passed_last d v [] (a ∷ more) text blank t = absurd t
 passed_last d v (s ∷ ss) [] text blank t = (t.0, passed_last d v ss [] text blank t.1)
@@ -65,8 +66,8 @@ passed_last d v (s ∷ ss) (a ∷ more) text blank (inl t) = inl (t.0, passed_la
 passed_last d v (s ∷ ss) (a ∷ more) text blank (inr t) = inr (t.0, t.1, passed_last d v ss more text blank t.2)
 
 pub replied_last : (d : Declaration) (v : View) (texts : List (List ℕ)) (answers : List Answer) (text : List ℕ)
-    (answer : Answer) → ¬ (IsBlank text) → IsAnswer d v text answer → Tells d v texts answers
-    → Tells d v (texts ++ text ∷ []) (answers ++ answer ∷ [])
+    (answer : Answer) → ¬ (IsBlank text) → IsAnswer d v text answer → AreReplies d v texts answers
+    → AreReplies d v (texts ++ text ∷ []) (answers ++ answer ∷ [])
 replied_last d v [] [] text answer filled is t = inr (filled, is, tt)
 replied_last d v [] (a ∷ more) text answer filled is t = absurd t
 replied_last d v (s ∷ ss) [] text answer filled is t = inl (t.0, replied_last d v ss [] text answer filled is t.1)
@@ -129,26 +130,26 @@ long_answer d v kept text (Err (faults.Broken rule)) m l (inr is) = absurd (too_
 long_answer d v kept text (Err faults.OutOfRange) m l (inr is) = absurd (too_many (length kept) m is.1.0.0)
 long_answer d v kept text (Err faults.TooManyRows) m l (inr is) = absurd (too_many (length kept) m is.1.0.0)
 
--- what is told of what is kept is told of the text
-told_whole : (d : Declaration) (v : View) (text : List ℕ) (old new : Option (List ℕ)) (told new_told : Told)
-    → TellsOne d v (take room text) old new told new_told → TellsOne d v text old new told new_told
-told_whole d v text old new told new_told t = by t (cases_lt 65536 (length (take room text)))
+-- the reply to what is kept is that to the text
+one_whole : (d : Declaration) (v : View) (text : List ℕ) (old new : Option (List ℕ)) (replied new_replied : Replied)
+    → RepliesOne d v (take room text) old new replied new_replied → RepliesOne d v text old new replied new_replied
+one_whole d v text old new replied new_replied t = by t (cases_lt 65536 (length (take room text)))
   where
-    by : TellsOne d v (take room text) old new told new_told → (65536 < length (take room text))
-        ⊎ (length (take room text) ≤ 65536) → TellsOne d v text old new told new_told
-    by t (inr few) = subst (λ k. TellsOne d v k old new told new_told) (kept_whole text few) t
+    by : RepliesOne d v (take room text) old new replied new_replied → (65536 < length (take room text))
+        ⊎ (length (take room text) ≤ 65536) → RepliesOne d v text old new replied new_replied
+    by t (inr few) = subst (λ k. RepliesOne d v k old new replied new_replied) (kept_whole text few) t
     by (Passed blank a e) (inl many) = absurd (too_many _ many blank.is_text.0)
     by (Answered answer filled is a e) (inl many) =
         Answered answer (λ (blank : IsBlank text). too_many _ (kept_long text many) blank.is_text.0)
         (long_answer d v _ text answer many (kept_long text many) is) a e
 
-part_whole : (d : Declaration) (v : View) (text : List ℕ) (old new : Option (List ℕ)) (told : Told)
-    → TellsPart d v (take room text) old new told → TellsPart d v text old new told
-part_whole d v text old new told t = by t (cases_lt 65536 (length (take room text)))
+part_whole : (d : Declaration) (v : View) (text : List ℕ) (old new : Option (List ℕ)) (replied : Replied)
+    → RepliesPart d v (take room text) old new replied → RepliesPart d v text old new replied
+part_whole d v text old new replied t = by t (cases_lt 65536 (length (take room text)))
   where
-    by : TellsPart d v (take room text) old new told → (65536 < length (take room text)) ⊎ (length (take room text) ≤ 65536)
-        → TellsPart d v text old new told
-    by t (inr few) = subst (λ k. TellsPart d v k old new told) (kept_whole text few) t
+    by : RepliesPart d v (take room text) old new replied → (65536 < length (take room text)) ⊎ (length (take room text) ≤ 65536)
+        → RepliesPart d v text old new replied
+    by t (inr few) = subst (λ k. RepliesPart d v k old new replied) (kept_whole text few) t
     by (Unanswered a) (inl many) = Unanswered a
     by (Front answer n filled is a) (inl many) =
         Front answer n (λ (blank : IsBlank text). too_many _ (kept_long text many) blank.is_text.0)
@@ -157,43 +158,44 @@ part_whole d v text old new told t = by t (cases_lt 65536 (length (take room tex
 -- ---- a text behind others
 
 module _ (d : Declaration) (v : View) (texts : List (List ℕ)) (text : List ℕ) (first old new : Option (List ℕ))
-    (told : Told) (so_far : SoFar d v texts first old told) where
+    (replied : Replied) (so_far : SoFar d v texts first old replied) where
   behind_them : (answer : Answer) (bytes : List ℕ) → Appends old new bytes → Appends first new (replies_text so_far.answers ++ bytes)
   behind_them answer bytes a = Appends-trans first old new (replies_text so_far.answers) bytes so_far.appends a
 
-  pub one_more : (new_told : Told) → TellsOne d v (take room text) old new told new_told → SoFar d v (texts ++ text ∷ []) first new new_told
-  one_more new_told t = by (told_whole d v text old new told new_told t)
+  pub one_more : (new_replied : Replied) → RepliesOne d v (take room text) old new replied new_replied
+      → SoFar d v (texts ++ text ∷ []) first new new_replied
+  one_more new_replied t = by (one_whole d v text old new replied new_replied t)
     where
-      by : TellsOne d v text old new told new_told → SoFar d v (texts ++ text ∷ []) first new new_told
+      by : RepliesOne d v text old new replied new_replied → SoFar d v (texts ++ text ∷ []) first new new_replied
       by (Passed blank a e) = record {
         answers = so_far.answers;
-        tells = passed_last d v texts so_far.answers text blank so_far.tells;
+        are = passed_last d v texts so_far.answers text blank so_far.are;
         appends = subst (Appends first new) (append-nil (replies_text so_far.answers))
             (Appends-trans first old new (replies_text so_far.answers) [] so_far.appends a);
-        any_is = ap (λ (k : Told). k.is_any) e ∙ so_far.any_is;
-        refused_is = ap (λ (k : Told). k.is_refused) e ∙ so_far.refused_is;
+        any_is = ap (λ (k : Replied). k.is_any) e ∙ so_far.any_is;
+        refused_is = ap (λ (k : Replied). k.is_refused) e ∙ so_far.refused_is;
       }
       by (Answered answer filled is a e) = record {
         answers = so_far.answers ++ answer ∷ [];
-        tells = replied_last d v texts so_far.answers text answer filled is so_far.tells;
+        are = replied_last d v texts so_far.answers text answer filled is so_far.are;
         appends = subst (Appends first new)
             (ap (λ b. replies_text so_far.answers ++ reply_behind b (reply_text answer)) so_far.any_is ∙ replies_last so_far.answers answer)
-            (Appends-trans first old new (replies_text so_far.answers) (reply_behind told.is_any (reply_text answer)) so_far.appends a);
-        any_is = ap (λ (k : Told). k.is_any) e ∙ any_last so_far.answers answer;
-        refused_is = ap (λ (k : Told). k.is_refused) e ∙ ap (λ b. b || is_err answer) so_far.refused_is
+            (Appends-trans first old new (replies_text so_far.answers) (reply_behind replied.is_any (reply_text answer)) so_far.appends a);
+        any_is = ap (λ (k : Replied). k.is_any) e ∙ any_last so_far.answers answer;
+        refused_is = ap (λ (k : Replied). k.is_refused) e ∙ ap (λ b. b || is_err answer) so_far.refused_is
             ∙ refused_last so_far.answers answer;
       }
 
-  -- all that was told before, where nothing of the text is written, else a front of what it is told too
-  pub one_part : TellsPart d v (take room text) old new told → FrontSoFar d v texts first new
+  -- all replies before, where nothing of that to the text is written, else a front of it too
+  pub one_part : RepliesPart d v (take room text) old new replied → FrontSoFar d v texts first new
       ⊎ FrontSoFar d v (texts ++ text ∷ []) first new
-  one_part t = by (part_whole d v text old new told t)
+  one_part t = by (part_whole d v text old new replied t)
     where
-      by : TellsPart d v text old new told → FrontSoFar d v texts first new ⊎ FrontSoFar d v (texts ++ text ∷ []) first new
+      by : RepliesPart d v text old new replied → FrontSoFar d v texts first new ⊎ FrontSoFar d v (texts ++ text ∷ []) first new
       by (Unanswered a) = inl (record {
         answers = so_far.answers;
         n = length (replies_text so_far.answers);
-        tells = so_far.tells;
+        are = so_far.are;
         appends = subst (Appends first new) (append-nil (replies_text so_far.answers)
             ∙ sym (take_all (length (replies_text so_far.answers)) (replies_text so_far.answers) (omega arith)))
             (Appends-trans first old new (replies_text so_far.answers) [] so_far.appends a);
@@ -201,16 +203,16 @@ module _ (d : Declaration) (v : View) (texts : List (List ℕ)) (text : List ℕ
       by (Front answer n filled is a) = inr (record {
         answers = so_far.answers ++ answer ∷ [];
         n = length (replies_text so_far.answers) + n;
-        tells = replied_last d v texts so_far.answers text answer filled is so_far.tells;
+        are = replied_last d v texts so_far.answers text answer filled is so_far.are;
         appends = subst (Appends first new)
-            (sym (take-append-add (replies_text so_far.answers) (reply_behind told.is_any (reply_text answer)) n)
+            (sym (take-append-add (replies_text so_far.answers) (reply_behind replied.is_any (reply_text answer)) n)
             ∙ ap (take (length (replies_text so_far.answers) + n))
             (ap (λ b. replies_text so_far.answers ++ reply_behind b (reply_text answer)) so_far.any_is
             ∙ replies_last so_far.answers answer))
             (Appends-trans first old new (replies_text so_far.answers)
-            (take n (reply_behind told.is_any (reply_text answer))) so_far.appends a);
+            (take n (reply_behind replied.is_any (reply_text answer))) so_far.appends a);
       })
 
-pub nothing_told : (d : Declaration) (v : View) (first : Option (List ℕ)) (told : Told) → Appends first first []
-    → told.is_any ≡ false → told.is_refused ≡ false → SoFar d v [] first first told
-nothing_told d v first told a any refused = record { answers = []; tells = tt; appends = a; any_is = any; refused_is = refused }
+pub nothing_replied : (d : Declaration) (v : View) (first : Option (List ℕ)) (replied : Replied) → Appends first first []
+    → replied.is_any ≡ false → replied.is_refused ≡ false → SoFar d v [] first first replied
+nothing_replied d v first replied a any refused = record { answers = []; are = tt; appends = a; any_is = any; refused_is = refused }

@@ -10,7 +10,7 @@ use Rattle.wlexer.specs.declared.fault.LexFault.TheVariants as lexing
 use Rattle.wlexer.specs.declared.token.Token.{Token}
 use Rattle.wlexer.proofs.OneLexing.{one_list, tokens_or_fault}
 use Rattle.wask.specs.Texts.{IsForeign, IsText}
-use Rattle.wshell.specs.Telling.{IsBlank}
+use Rattle.wshell.specs.Replying.{IsBlank}
 
 abbrev has : List PlacedToken → Bool
 has [] = false
@@ -60,4 +60,4 @@ pub filled_is_false : (text : List ℕ) → ¬ (IsBlank text) → IsTrue false �
 filled_is_false text filled = ((λ h. absurd (true≢false (sym h))), (λ blank. absurd (filled blank)))
 
 pub not_blank : (text : List ℕ) (b : Bool) → IsTrue b ↔ IsBlank text → b ≡ false → ¬ (IsBlank text)
-not_blank text b told e blank = true≢false (sym (told.1 blank) ∙ e)
+not_blank text b is e blank = true≢false (sym (is.1 blank) ∙ e)

@@ -11,43 +11,43 @@ use Rattle.wsegment.specs.Declaration.{Declaration}
 use Rattle.wset.specs.Views.{View}
 use Rattle.wstore.specs.Nodes.{NodeState}
 use Rattle.wact.specs.Queries.{replies_text}
-use Rattle.wshell.specs.declared.telling.Told.{Told}
+use Rattle.wshell.specs.declared.replying.Replied.{Replied}
 use Rattle.wshell.specs.Splitting.{EndsAt, Splits, ended, may_end}
 use Rattle.wshell.specs.Pending.{IsPending, Kept}
 use Rattle.wshell.specs.declared.fault.ShellFault.{ShellFault}
-use Rattle.wshell.specs.Telling.{TellsOne, TellsPart}
+use Rattle.wshell.specs.Replying.{RepliesOne, RepliesPart}
 use Rattle.wshell.specs.Runs.{All, First, FrontSoFar, GivesUp, GoesOn, IsBegun, KeepsUp, Replies}
 use Rattle.wshell.specs.Runs.{RepliesBegun, SoFar, StandsAfter, StandsBehind, TakesFront}
 use Rattle.wshell.proofs.Splitting.{splits_add, splits_end, splits_nothing}
-use Rattle.wshell.proofs.Answering.{nothing_told, one_more, one_part}
+use Rattle.wshell.proofs.Answering.{nothing_replied, one_more, one_part}
 
-pub stands_first : (d : Declaration) (v : View) (first : Option (List ℕ)) (pending : Kept) (told : Told)
-    → IsPending pending [] → told.is_any ≡ false → told.is_refused ≡ false → StandsBehind d v first [] first pending told
-stands_first d v first pending told is any refused = record {
+pub stands_first : (d : Declaration) (v : View) (first : Option (List ℕ)) (pending : Kept) (replied : Replied)
+    → IsPending pending [] → replied.is_any ≡ false → replied.is_refused ≡ false → StandsBehind d v first [] first pending replied
+stands_first d v first pending replied is any refused = record {
   queries = [];
   rest = [];
   splits = splits_nothing;
   is = is;
-  so_far = nothing_told d v first told (Appends-nil first) any refused;
+  so_far = nothing_replied d v first replied (Appends-nil first) any refused;
 }
 
--- all of what was told so far
-pub whole_front : (d : Declaration) (v : View) (texts : List (List ℕ)) (first contents : Option (List ℕ)) (told : Told)
-    → SoFar d v texts first contents told → FrontSoFar d v texts first contents
-whole_front d v texts first contents told s = record {
+-- all of the replies so far
+pub whole_front : (d : Declaration) (v : View) (texts : List (List ℕ)) (first contents : Option (List ℕ)) (replied : Replied)
+    → SoFar d v texts first contents replied → FrontSoFar d v texts first contents
+whole_front d v texts first contents replied s = record {
   answers = s.answers;
   n = length (replies_text s.answers);
-  tells = s.tells;
+  are = s.are;
   appends = subst (Appends first contents) (sym (take_all (length (replies_text s.answers)) (replies_text s.answers)
       (omega arith))) s.appends;
 }
 
 module _ (d : Declaration) (v : View) (first : Option (List ℕ)) (input : List ℕ) (contents : Option (List ℕ))
-    (pending : Kept) (told : Told) (stands : StandsBehind d v first input contents pending told) where
+    (pending : Kept) (replied : Replied) (stands : StandsBehind d v first input contents pending replied) where
   -- a byte that belongs to the query
   pub stands_more : (b : ℕ) (new_pending : Kept) → ¬ (EndsAt pending.mode b) → ((text : List ℕ) → IsPending pending text
       → IsPending new_pending (text ++ b ∷ []))
-      → StandsBehind d v first (input ++ b ∷ []) contents new_pending told
+      → StandsBehind d v first (input ++ b ∷ []) contents new_pending replied
   stands_more b new_pending other adds = record {
     queries = stands.queries;
     rest = stands.rest ++ b ∷ [];
@@ -60,22 +60,23 @@ module _ (d : Declaration) (v : View) (first : Option (List ℕ)) (input : List 
     ends : Splits (input ++ b ∷ []) (stands.queries ++ stands.rest ∷ []) []
     ends = splits_end input stands.queries stands.rest b stands.splits end.0 (sym (ap may_end stands.is.mode_is) ∙ end.1)
 
-    -- the byte that ends the query, which is told so
-    pub stands_told : (new : Option (List ℕ)) (new_pending : Kept) (new_told : Told)
-        → TellsOne d v pending.text contents new told new_told → IsPending new_pending []
-        → StandsBehind d v first (input ++ b ∷ []) new new_pending new_told
-    stands_told new new_pending new_told t empty = record {
+    -- the byte that ends the query, to which this is the reply
+    pub stands_replied : (new : Option (List ℕ)) (new_pending : Kept) (new_replied : Replied)
+        → RepliesOne d v pending.text contents new replied new_replied → IsPending new_pending []
+        → StandsBehind d v first (input ++ b ∷ []) new new_pending new_replied
+    stands_replied new new_pending new_replied t empty = record {
       queries = stands.queries ++ stands.rest ∷ [];
       rest = [];
       splits = ends;
       is = empty;
-      so_far = one_more d v stands.queries stands.rest first contents new told stands.so_far new_told
-          (subst (λ k. TellsOne d v k contents new told new_told) stands.is.text_is t);
+      so_far = one_more d v stands.queries stands.rest first contents new replied stands.so_far new_replied
+          (subst (λ k. RepliesOne d v k contents new replied new_replied) stands.is.text_is t);
     }
 
-    pub begun_told : (new : Option (List ℕ)) → TellsPart d v pending.text contents new told → IsBegun d v first (input ++ b ∷ []) new
-    begun_told new t = by (one_part d v stands.queries stands.rest first contents new told stands.so_far
-        (subst (λ k. TellsPart d v k contents new told) stands.is.text_is t))
+    pub begun_replied : (new : Option (List ℕ)) → RepliesPart d v pending.text contents new replied
+        → IsBegun d v first (input ++ b ∷ []) new
+    begun_replied new t = by (one_part d v stands.queries stands.rest first contents new replied stands.so_far
+        (subst (λ k. RepliesPart d v k contents new replied) stands.is.text_is t))
       where
         by : FrontSoFar d v stands.queries first new ⊎ FrontSoFar d v (stands.queries ++ stands.rest ∷ []) first new
             → IsBegun d v first (input ++ b ∷ []) new
@@ -94,22 +95,22 @@ module _ (d : Declaration) (v : View) (first : Option (List ℕ)) (input : List 
           front = front;
         }
 
-  -- what was told so far
+  -- the replies so far
   pub begun_so_far : IsBegun d v first input contents
   begun_so_far = record {
     queries = stands.queries;
     more = stands.rest;
     whole = stands.splits.whole;
     each = stands.splits.each;
-    front = whole_front d v stands.queries first contents told stands.so_far;
+    front = whole_front d v stands.queries first contents replied stands.so_far;
   }
 
   -- the end of the input
-  pub replies_all : (new : Option (List ℕ)) (new_told : Told) → TellsOne d v pending.text contents new told new_told
-      → (written : List ℕ) × Appends first new written × Replies d v input written new_told.is_refused
-  replies_all new new_told t =
-      let last = one_more d v stands.queries stands.rest first contents new told stands.so_far new_told
-      (subst (λ k. TellsOne d v k contents new told new_told) stands.is.text_is t) in (
+  pub replies_all : (new : Option (List ℕ)) (new_replied : Replied) → RepliesOne d v pending.text contents new replied new_replied
+      → (written : List ℕ) × Appends first new written × Replies d v input written new_replied.is_refused
+  replies_all new new_replied t =
+      let last = one_more d v stands.queries stands.rest first contents new replied stands.so_far new_replied
+      (subst (λ k. RepliesOne d v k contents new replied new_replied) stands.is.text_is t) in (
         replies_text last.answers,
         last.appends,
         record {
@@ -117,16 +118,16 @@ module _ (d : Declaration) (v : View) (first : Option (List ℕ)) (input : List 
           rest = stands.rest;
           answers = last.answers;
           splits = stands.splits;
-          tells = last.tells;
+          are = last.are;
           output_is = refl;
           refused_is = last.refused_is;
         },
       )
 
-  pub replies_part : (new : Option (List ℕ)) → TellsPart d v pending.text contents new told → (written : List ℕ)
+  pub replies_part : (new : Option (List ℕ)) → RepliesPart d v pending.text contents new replied → (written : List ℕ)
       × Appends first new written × RepliesBegun d v input written
-  replies_part new t = by (one_part d v stands.queries stands.rest first contents new told stands.so_far
-      (subst (λ k. TellsPart d v k contents new told) stands.is.text_is t))
+  replies_part new t = by (one_part d v stands.queries stands.rest first contents new replied stands.so_far
+      (subst (λ k. RepliesPart d v k contents new replied) stands.is.text_is t))
     where
       by : FrontSoFar d v stands.queries first new ⊎ FrontSoFar d v (stands.queries ++ stands.rest ∷ []) first new
           → (written : List ℕ) × Appends first new written × RepliesBegun d v input written
@@ -138,7 +139,7 @@ module _ (d : Declaration) (v : View) (first : Option (List ℕ)) (input : List 
           answers = front.answers;
           n = front.n;
           begins = First stands.queries stands.rest stands.splits.whole stands.splits.each;
-          tells = front.tells;
+          are = front.are;
           output_is = refl;
         },
       )
@@ -150,7 +151,7 @@ module _ (d : Declaration) (v : View) (first : Option (List ℕ)) (input : List 
           answers = front.answers;
           n = front.n;
           begins = All stands.queries stands.rest stands.splits;
-          tells = front.tells;
+          are = front.are;
           output_is = refl;
         },
       )
@@ -175,56 +176,57 @@ taken_more block i b other more is =
 
 module _ (d : Declaration) (v : View) where
   -- a query that has ended
-  pub goes_on_told : {A : Type 0} (r : Result A ShellFault) (b : ℕ) (old new : Option (List ℕ)) (pending new_pending : Kept)
-      (told new_told : Told) → EndsAt pending.mode b → OnOk r (TellsOne d v pending.text old new told new_told)
-      → OnOk r (IsPending new_pending []) → OnOk r (GoesOn d v (b ∷ []) old new pending new_pending told new_told)
-  goes_on_told (Ok x) b old new pending new_pending told new_told end t empty =
-      λ first input stands. stands_told d v first input old pending told stands b end new new_pending new_told t empty
-  goes_on_told (Err e) b old new pending new_pending told new_told end t empty = tt
+  pub goes_on_replied : {A : Type 0} (r : Result A ShellFault) (b : ℕ) (old new : Option (List ℕ)) (pending new_pending : Kept)
+      (replied new_replied : Replied) → EndsAt pending.mode b → OnOk r (RepliesOne d v pending.text old new replied new_replied)
+      → OnOk r (IsPending new_pending []) → OnOk r (GoesOn d v (b ∷ []) old new pending new_pending replied new_replied)
+  goes_on_replied (Ok x) b old new pending new_pending replied new_replied end t empty =
+      λ first input stands. stands_replied d v first input old pending replied stands b end new new_pending new_replied t empty
+  goes_on_replied (Err e) b old new pending new_pending replied new_replied end t empty = tt
 
-  pub gives_up_told : {A : Type 0} (r : Result A ShellFault) (b : ℕ) (old new : Option (List ℕ)) (pending : Kept)
-      (told : Told) → EndsAt pending.mode b → OnErr r (TellsPart d v pending.text old new told)
-      → OnErr r (GivesUp d v (b ∷ []) old new pending told)
-  gives_up_told (Ok x) b old new pending told end t = tt
-  gives_up_told (Err e) b old new pending told end t = λ first input stands. begun_told d v first input old pending told stands b end new t
+  pub gives_up_replied : {A : Type 0} (r : Result A ShellFault) (b : ℕ) (old new : Option (List ℕ)) (pending : Kept)
+      (replied : Replied) → EndsAt pending.mode b → OnErr r (RepliesPart d v pending.text old new replied)
+      → OnErr r (GivesUp d v (b ∷ []) old new pending replied)
+  gives_up_replied (Ok x) b old new pending replied end t = tt
+  gives_up_replied (Err e) b old new pending replied end t =
+      λ first input stands. begun_replied d v first input old pending replied stands b end new t
 
   -- a byte that belongs to the query
-  pub goes_on_more : (b : ℕ) (old : Option (List ℕ)) (pending new_pending : Kept) (told : Told) → ¬ (EndsAt pending.mode b)
+  pub goes_on_more : (b : ℕ) (old : Option (List ℕ)) (pending new_pending : Kept) (replied : Replied) → ¬ (EndsAt pending.mode b)
       → ((text : List ℕ) → IsPending pending text → IsPending new_pending (text ++ b ∷ []))
-      → GoesOn d v (b ∷ []) old old pending new_pending told told
-  goes_on_more b old pending new_pending told other adds = λ first input stands. stands_more d v first input old pending
-      told stands b new_pending other adds
+      → GoesOn d v (b ∷ []) old old pending new_pending replied replied
+  goes_on_more b old pending new_pending replied other adds = λ first input stands. stands_more d v first input old pending
+      replied stands b new_pending other adds
 
   -- no byte
-  pub goes_on_nothing : (old : Option (List ℕ)) (pending : Kept) (told : Told) → GoesOn d v [] old old pending pending told told
-  goes_on_nothing old pending told = λ first input stands. subst (λ i. StandsBehind d v first i old pending told)
+  pub goes_on_nothing : (old : Option (List ℕ)) (pending : Kept) (replied : Replied) → GoesOn d v [] old old pending pending replied replied
+  goes_on_nothing old pending replied = λ first input stands. subst (λ i. StandsBehind d v first i old pending replied)
       (sym (append-nil input)) stands
 
   -- a block behind a block
-  pub goes_on_trans : (xs ys : List ℕ) (a b c : Option (List ℕ)) (p q r : Kept) (k l m : Told) → GoesOn d v xs a b p q k l
+  pub goes_on_trans : (xs ys : List ℕ) (a b c : Option (List ℕ)) (p q r : Kept) (k l m : Replied) → GoesOn d v xs a b p q k l
       → GoesOn d v ys b c q r l m → GoesOn d v (xs ++ ys) a c p r k m
   goes_on_trans xs ys a b c p q r k l m one two = λ first input stands.
       subst (λ i. StandsBehind d v first i c r m) (append_assoc input xs ys) (two first (input ++ xs) (one first input stands))
 
-  pub gives_up_trans : (xs ys : List ℕ) (a b c : Option (List ℕ)) (p q : Kept) (k l : Told) → GoesOn d v xs a b p q k l
+  pub gives_up_trans : (xs ys : List ℕ) (a b c : Option (List ℕ)) (p q : Kept) (k l : Replied) → GoesOn d v xs a b p q k l
       → GivesUp d v ys b c q l → GivesUp d v (xs ++ ys) a c p k
   gives_up_trans xs ys a b c p q k l one two = λ first input stands.
       subst (λ i. IsBegun d v first i c) (append_assoc input xs ys) (two first (input ++ xs) (one first input stands))
 
-  pub gives_up_more : (xs ys : List ℕ) (a c : Option (List ℕ)) (p : Kept) (k : Told) → GivesUp d v xs a c p k
+  pub gives_up_more : (xs ys : List ℕ) (a c : Option (List ℕ)) (p : Kept) (k : Replied) → GivesUp d v xs a c p k
       → GivesUp d v (xs ++ ys) a c p k
   gives_up_more xs ys a c p k one = λ first input stands.
       subst (λ i. IsBegun d v first i c) (append_assoc input xs ys) (begun_more d v first (input ++ xs) ys c (one first input stands))
 
   -- the next byte of a block
-  pub next_byte : (block : List ℕ) (i b other : ℕ) (x y z : Option (List ℕ)) (p q r : Kept) (k l m : Told)
+  pub next_byte : (block : List ℕ) (i b other : ℕ) (x y z : Option (List ℕ)) (p q r : Kept) (k l m : Replied)
       → i < length block → b ≡ get_or block i other → GoesOn d v (take i block) x y p q k l → GoesOn d v (b ∷ []) y z q r l m
       → GoesOn d v (take (i + 1) block) x z p r k m
   next_byte block i b other x y z p q r k l m more is one two =
       subst (λ bs. GoesOn d v bs x z p r k m) (taken_more block i b other more is) (goes_on_trans (take i block) (b ∷ []) x
       y z p q r k l m one two)
 
-  pub last_byte : (block : List ℕ) (i b other : ℕ) (x y z : Option (List ℕ)) (p q : Kept) (k l : Told) → i < length block
+  pub last_byte : (block : List ℕ) (i b other : ℕ) (x y z : Option (List ℕ)) (p q : Kept) (k l : Replied) → i < length block
       → b ≡ get_or block i other → GoesOn d v (take i block) x y p q k l → GivesUp d v (b ∷ []) y z q l → GivesUp d v block x z p k
   last_byte block i b other x y z p q k l more is one two =
       subst (λ bs. GivesUp d v bs x z p k)
@@ -233,20 +235,20 @@ module _ (d : Declaration) (v : View) where
 
   -- ---- the input so far
 
-  pub after_nothing : (left first : Option (List ℕ)) (pending : Kept) (told : Told)
-      → StandsBehind d v first [] first pending told → StandsAfter d v left left first first pending told
-  after_nothing left first pending told stands = record { input = []; consumes = Consumes-nil left; stands = stands }
+  pub after_nothing : (left first : Option (List ℕ)) (pending : Kept) (replied : Replied)
+      → StandsBehind d v first [] first pending replied → StandsAfter d v left left first first pending replied
+  after_nothing left first pending replied stands = record { input = []; consumes = Consumes-nil left; stands = stands }
 
-  pub after_kept : (left mid new first contents : Option (List ℕ)) (pending : Kept) (told : Told)
-      → StandsAfter d v left mid first contents pending told → Keeps mid new → StandsAfter d v left new first contents pending told
-  after_kept left mid new first contents pending told s kept = record {
+  pub after_kept : (left mid new first contents : Option (List ℕ)) (pending : Kept) (replied : Replied)
+      → StandsAfter d v left mid first contents pending replied → Keeps mid new → StandsAfter d v left new first contents pending replied
+  after_kept left mid new first contents pending replied s kept = record {
     input = s.input;
     consumes =
         Consumes-kept left mid new s.input s.consumes kept;
     stands = s.stands;
   }
 
-  pub after_block : (block : List ℕ) (left mid new first old contents : Option (List ℕ)) (p q : Kept) (k l : Told)
+  pub after_block : (block : List ℕ) (left mid new first old contents : Option (List ℕ)) (p q : Kept) (k l : Replied)
       → StandsAfter d v left mid first old p k → Consumes mid new block → GoesOn d v block old contents p q k l
       → StandsAfter d v left new first contents q l
   after_block block left mid new first old contents p q k l s eats on = record {
@@ -255,7 +257,7 @@ module _ (d : Declaration) (v : View) where
     stands = on first s.input s.stands;
   }
 
-  pub front_block : (block : List ℕ) (left mid new first old contents : Option (List ℕ)) (p : Kept) (k : Told)
+  pub front_block : (block : List ℕ) (left mid new first old contents : Option (List ℕ)) (p : Kept) (k : Replied)
       → StandsAfter d v left mid first old p k → Consumes mid new block → GivesUp d v block old contents p k
       → TakesFront d v left first contents
   front_block block left mid new first old contents p k s eats up = record {
@@ -265,42 +267,42 @@ module _ (d : Declaration) (v : View) where
     begun = up first s.input s.stands;
   }
 
-  pub front_after : (left mid first contents : Option (List ℕ)) (pending : Kept) (told : Told)
-      → StandsAfter d v left mid first contents pending told → TakesFront d v left first contents
-  front_after left mid first contents pending told s = record {
+  pub front_after : (left mid first contents : Option (List ℕ)) (pending : Kept) (replied : Replied)
+      → StandsAfter d v left mid first contents pending replied → TakesFront d v left first contents
+  front_after left mid first contents pending replied s = record {
     input = s.input;
     new_left = mid;
     consumes = s.consumes;
-    begun = begun_so_far d v first s.input contents pending told s.stands;
+    begun = begun_so_far d v first s.input contents pending replied s.stands;
   }
 
   -- no reply waits
-  pub keeps_up : (left mid first contents : Option (List ℕ)) (pending : Kept) (told : Told)
-      → StandsAfter d v left mid first contents pending told → KeepsUp d v left mid first contents
-  keeps_up left mid first contents pending told s = record {
+  pub keeps_up : (left mid first contents : Option (List ℕ)) (pending : Kept) (replied : Replied)
+      → StandsAfter d v left mid first contents pending replied → KeepsUp d v left mid first contents
+  keeps_up left mid first contents pending replied s = record {
     input = s.input;
     queries = s.stands.queries;
     rest = s.stands.rest;
     answers = s.stands.so_far.answers;
     consumes = s.consumes;
     splits = s.stands.splits;
-    tells = s.stands.so_far.tells;
+    are = s.stands.so_far.are;
     written = s.stands.so_far.appends;
   }
 
 -- ---- the bytes of the reader
 
 -- a node that stayed as it was
-module _ (node new_node : NodeState) (kept text : List ℕ) (old new : Option (List ℕ)) (told : Told) (same : new_node ≡ node)
+module _ (node new_node : NodeState) (kept text : List ℕ) (old new : Option (List ℕ)) (replied : Replied) (same : new_node ≡ node)
     (is : text ≡ kept) where
-  pub same_one : (new_told : Told) → TellsOne new_node.schema new_node.view text old new told new_told
-      → TellsOne node.schema node.view kept old new told new_told
-  same_one new_told t = subst (λ (n : NodeState). TellsOne n.schema n.view kept old new told new_told) same
-      (subst (λ x. TellsOne new_node.schema new_node.view x old new told new_told) is t)
+  pub same_one : (new_replied : Replied) → RepliesOne new_node.schema new_node.view text old new replied new_replied
+      → RepliesOne node.schema node.view kept old new replied new_replied
+  same_one new_replied t = subst (λ (n : NodeState). RepliesOne n.schema n.view kept old new replied new_replied) same
+      (subst (λ x. RepliesOne new_node.schema new_node.view x old new replied new_replied) is t)
 
-  pub same_part : TellsPart new_node.schema new_node.view text old new told → TellsPart node.schema node.view kept old new told
-  same_part t = subst (λ (n : NodeState). TellsPart n.schema n.view kept old new told) same
-      (subst (λ x. TellsPart new_node.schema new_node.view x old new told) is t)
+  pub same_part : RepliesPart new_node.schema new_node.view text old new replied → RepliesPart node.schema node.view kept old new replied
+  same_part t = subst (λ (n : NodeState). RepliesPart n.schema n.view kept old new replied) same
+      (subst (λ x. RepliesPart new_node.schema new_node.view x old new replied) is t)
 
 at_end : (left new_left : Option (List ℕ)) (input : List ℕ) → Consumes left new_left input → IsAtEnd new_left
     → IfSome left (λ bytes. bytes ≡ input)
@@ -314,22 +316,22 @@ if_some (Some x) P Q h f = f x h
 
 -- the whole input is answered
 pub all_replied : (d : Declaration) (v : View) (left new_left first contents new : Option (List ℕ)) (pending : Kept)
-    (told new_told : Told) → StandsAfter d v left new_left first contents pending told → IsAtEnd new_left
-    → TellsOne d v pending.text contents new told new_told
-    → IfSome left (λ bytes. (written : List ℕ) × Appends first new written × Replies d v bytes written new_told.is_refused)
-all_replied d v left new_left first contents new pending told new_told takes end t =
+    (replied new_replied : Replied) → StandsAfter d v left new_left first contents pending replied → IsAtEnd new_left
+    → RepliesOne d v pending.text contents new replied new_replied
+    → IfSome left (λ bytes. (written : List ℕ) × Appends first new written × Replies d v bytes written new_replied.is_refused)
+all_replied d v left new_left first contents new pending replied new_replied takes end t =
     if_some left _ _ (at_end left new_left takes.input takes.consumes end) (λ bytes e.
-    subst (λ (b : List ℕ). (written : List ℕ) × Appends first new written × Replies d v b written new_told.is_refused)
-    (sym e) (replies_all d v first takes.input contents pending told takes.stands new new_told t))
+    subst (λ (b : List ℕ). (written : List ℕ) × Appends first new written × Replies d v b written new_replied.is_refused)
+    (sym e) (replies_all d v first takes.input contents pending replied takes.stands new new_replied t))
 
 pub all_begun : (d : Declaration) (v : View) (left new_left first contents new : Option (List ℕ)) (pending : Kept)
-    (told : Told) → StandsAfter d v left new_left first contents pending told → IsAtEnd new_left
-    → TellsPart d v pending.text contents new told
+    (replied : Replied) → StandsAfter d v left new_left first contents pending replied → IsAtEnd new_left
+    → RepliesPart d v pending.text contents new replied
     → IfSome left (λ bytes. (written : List ℕ) × Appends first new written × RepliesBegun d v bytes written)
-all_begun d v left new_left first contents new pending told takes end t =
+all_begun d v left new_left first contents new pending replied takes end t =
     if_some left _ _ (at_end left new_left takes.input takes.consumes end) (λ bytes e.
     subst (λ (b : List ℕ). (written : List ℕ) × Appends first new written × RepliesBegun d v b written) (sym e)
-    (replies_part d v first takes.input contents pending told takes.stands new t))
+    (replies_part d v first takes.input contents pending replied takes.stands new t))
 
 -- a front of the input
 pub front_begun : (d : Declaration) (v : View) (left first contents : Option (List ℕ)) → TakesFront d v left first contents
@@ -353,7 +355,7 @@ front_begun d v left first contents takes = by left takes.new_left takes.consume
         begins = First takes.begun.queries (takes.begun.more ++ ys)
             (k ∙ ap (λ l. l ++ ys) takes.begun.whole ∙ append_assoc (flat_map ended takes.begun.queries) takes.begun.more ys)
             takes.begun.each;
-        tells = takes.begun.front.tells;
+        are = takes.begun.front.are;
         output_is = refl;
       },
     )
@@ -370,7 +372,7 @@ nothing_begun d v (Some xs) first = (
     answers = [];
     n = 0;
     begins = First [] xs refl tt;
-    tells = tt;
+    are = tt;
     output_is = refl;
   },
 )

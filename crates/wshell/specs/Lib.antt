@@ -1,4 +1,4 @@
 pub mod Splitting
 pub mod Pending
-pub mod Telling
+pub mod Replying
 pub mod Runs

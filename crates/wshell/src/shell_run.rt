@@ -4,12 +4,12 @@ ghost use Rattle.std.specs.Io.KnownBytes.{Appends, Consumes, IsAtEnd, Keeps};
 ghost use Rattle.wlines.specs.Pending.{IsNew, IsSound, IsSoundWriter, ReadFailed, most_reads};
 ghost use Rattle.wshell.specs.Splitting.{EndsAt};
 ghost use Rattle.wshell.specs.Pending.{IsPending};
-ghost use Rattle.wshell.specs.Telling.{HasTellCause, TellsOne, TellsPart};
+ghost use Rattle.wshell.specs.Replying.{HasReplyCause, RepliesOne, RepliesPart};
 ghost use Rattle.wshell.specs.Runs.{GivesUp, GoesOn, HasCause, KeepsUp, Replies, RepliesBegun, StandsAfter, StandsBehind, TakesFront};
 
 use crate::fault::ShellFault;
 use crate::pending::Pending;
-use crate::telling::{Told, tell};
+use crate::replying::{Replied, reply_to};
 use std::alloc::Global;
 use std::io::{Read, Write};
 use wstore::Node;
@@ -33,20 +33,20 @@ fn end_query<W: Write>(
     alloc: Global,
     node: &mut Node,
     output: &mut Counted<W>,
-    told: &mut Told,
+    replied: &mut Replied,
     pending: &mut Pending,
 ) -> Result<(), ShellFault>
     requires { IsSoundWriter output.old }
     ensures same { node.new ≡ node.old }
-    ensures ok { OnOk result (TellsOne node.old.schema node.old.view pending.old.text (W.contents output.old.inner)
-        (W.contents output.new.inner) told.old told.new) }
+    ensures ok { OnOk result (RepliesOne node.old.schema node.old.view pending.old.text (W.contents output.old.inner)
+        (W.contents output.new.inner) replied.old replied.new) }
     ensures empty { OnOk result (IsPending pending.new []) }
     ensures sound { OnOk result (IsSoundWriter output.new) }
-    ensures part { OnErr result (TellsPart node.old.schema node.old.view pending.old.text (W.contents output.old.inner)
-        (W.contents output.new.inner) told.old) }
-    ensures cause { IfErr result (λ fault. HasTellCause fault output.new) }
+    ensures part { OnErr result (RepliesPart node.old.schema node.old.view pending.old.text (W.contents output.old.inner)
+        (W.contents output.new.inner) replied.old) }
+    ensures cause { IfErr result (λ fault. HasReplyCause fault output.new) }
 {
-    if let Err(fault) = tell(alloc, node, output, told, pending.as_slice()) {
+    if let Err(fault) = reply_to(alloc, node, output, replied, pending.as_slice()) {
         return Err(fault);
     }
     pending.clear();
@@ -58,21 +58,21 @@ fn take_byte<W: Write>(
     alloc: Global,
     node: &mut Node,
     output: &mut Counted<W>,
-    told: &mut Told,
+    replied: &mut Replied,
     pending: &mut Pending,
     byte: u8,
 ) -> Result<(), ShellFault>
     requires { IsSoundWriter output.old }
     ensures same { node.new ≡ node.old }
     ensures ok { OnOk result (GoesOn node.old.schema node.old.view (byte ∷ []) (W.contents output.old.inner)
-        (W.contents output.new.inner) pending.old pending.new told.old told.new) }
+        (W.contents output.new.inner) pending.old pending.new replied.old replied.new) }
     ensures sound { OnOk result (IsSoundWriter output.new) }
     ensures part { OnErr result (GivesUp node.old.schema node.old.view (byte ∷ []) (W.contents output.old.inner)
-        (W.contents output.new.inner) pending.old told.old) }
-    ensures cause { IfErr result (λ fault. HasTellCause fault output.new) }
+        (W.contents output.new.inner) pending.old replied.old) }
+    ensures cause { IfErr result (λ fault. HasReplyCause fault output.new) }
 {
     if ends(pending, byte) {
-        return end_query(alloc, node, output, told, pending);
+        return end_query(alloc, node, output, replied, pending);
     }
     pending.add(byte);
     Ok(())
@@ -83,21 +83,21 @@ fn take_block<W: Write>(
     alloc: Global,
     node: &mut Node,
     output: &mut Counted<W>,
-    told: &mut Told,
+    replied: &mut Replied,
     pending: &mut Pending,
     block: &[u8],
 ) -> Result<(), ShellFault>
     requires { IsSoundWriter output.old }
     ensures same { node.new ≡ node.old }
     ensures ok { OnOk result (GoesOn node.old.schema node.old.view block.now (W.contents output.old.inner)
-        (W.contents output.new.inner) pending.old pending.new told.old told.new) }
+        (W.contents output.new.inner) pending.old pending.new replied.old replied.new) }
     ensures sound { OnOk result (IsSoundWriter output.new) }
     ensures part { OnErr result (GivesUp node.old.schema node.old.view block.now (W.contents output.old.inner)
-        (W.contents output.new.inner) pending.old told.old) }
-    ensures cause { IfErr result (λ fault. HasTellCause fault output.new) }
+        (W.contents output.new.inner) pending.old replied.old) }
+    ensures cause { IfErr result (λ fault. HasReplyCause fault output.new) }
 {
     'bytes: for byte in block {
-        match take_byte(alloc, node, output, told, pending, *byte) {
+        match take_byte(alloc, node, output, replied, pending, *byte) {
             Ok(()) => {}
             Err(fault) => return Err(fault),
         }
@@ -133,16 +133,16 @@ fn take_all<R: Read, W: Write>(
     node: &mut Node,
     input: &mut Counted<R>,
     output: &mut Counted<W>,
-    told: &mut Told,
+    replied: &mut Replied,
     pending: &mut Pending,
 ) -> Result<(), ShellFault>
     requires input { IsSound input.old }
     requires output { IsSoundWriter output.old }
     requires stands { StandsBehind node.old.schema node.old.view (W.contents output.old.inner) []
-        (W.contents output.old.inner) pending.old told.old }
+        (W.contents output.old.inner) pending.old replied.old }
     ensures same { node.new ≡ node.old }
     ensures ok { OnOk result (StandsAfter node.old.schema node.old.view (R.remaining input.old.inner)
-        (R.remaining input.new.inner) (W.contents output.old.inner) (W.contents output.new.inner) pending.new told.new) }
+        (R.remaining input.new.inner) (W.contents output.old.inner) (W.contents output.new.inner) pending.new replied.new) }
     ensures end { OnOk result (IsAtEnd (R.remaining input.new.inner)) }
     ensures sound { OnOk result (IsSound input.new × IsSoundWriter output.new) }
     ensures part { OnErr result (TakesFront node.old.schema node.old.view (R.remaining input.old.inner)
@@ -161,13 +161,13 @@ fn take_all<R: Read, W: Write>(
         if count == 0 {
             return Ok(());
         }
-        if let Err(fault) = take_block(alloc, node, output, told, pending, &block[..count]) {
+        if let Err(fault) = take_block(alloc, node, output, replied, pending, &block[..count]) {
             return Err(fault);
         }
     }
 }
 
-/// Reads queries from an input, and writes what each is told. It answers whether one of them was refused.
+/// Reads queries from an input, and writes the reply to each. It answers whether one of them was refused.
 pub fn run<R: Read, W: Write>(
     alloc: Global,
     node: &mut Node,
@@ -197,15 +197,15 @@ pub fn run<R: Read, W: Write>(
     let Ok(mut pending) = Pending::new(alloc) else {
         return Err(ShellFault::NoMemory);
     };
-    let mut told = Told {
+    let mut replied = Replied {
         is_any: false,
         is_refused: false,
     };
-    if let Err(fault) = take_all(alloc, node, input, output, &mut told, &mut pending) {
+    if let Err(fault) = take_all(alloc, node, input, output, &mut replied, &mut pending) {
         return Err(fault);
     }
-    match tell(alloc, node, output, &mut told, pending.as_slice()) {
-        Ok(()) => Ok(told.is_refused),
+    match reply_to(alloc, node, output, &mut replied, pending.as_slice()) {
+        Ok(()) => Ok(replied.is_refused),
         Err(fault) => Err(fault),
     }
 }

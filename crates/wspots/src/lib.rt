@@ -2,7 +2,8 @@
 //!
 //! - Gives the line of the query, with a caret below the first token behind which no query goes on, or below the first name
 //!   that breaks a rule, in the innermost SELECT that has one.
-//! - Promises: it is safe and total. That these are the places is tested, and not proved.
+//! - Promises: what is added is a line of the query with a caret and a note below it, or nothing. That these are the places is tested,
+//!   and not proved.
 //! - Asks: the tokens of the query. Where no name tells how a rule is broken, nothing is told.
 //! - Leaves judging to `wparser` and `wrules`, and following the tokens to `wgrammar`.
 //!

@@ -1,4 +1,6 @@
 //! Where in a query's text something is wrong.
+ghost use Rattle.std.specs.Prelude.{OnOk, string_bytes};
+ghost use Rattle.wshown.specs.Shown.{MayPoint};
 
 use crate::names::{Spot, find_name};
 use crate::scene::Written;
@@ -32,7 +34,9 @@ fn push_token(
     query: &[u8],
     tokens: &[Token],
     number: usize,
-) -> Result<(), AllocError> {
+) -> Result<(), AllocError>
+    ensures { OnOk result (MayPoint query.now (string_bytes text.old) (string_bytes text.new)) }
+{
     match tokens.get(number) {
         Some(token) => push_place(alloc, text, query, token.from, note_of(token)),
         None => push_place(alloc, text, query, end_of(tokens), "the query ends here"),
@@ -45,7 +49,9 @@ pub fn push_stop(
     text: &mut String,
     query: &[u8],
     tokens: &[Token],
-) -> Result<(), AllocError> {
+) -> Result<(), AllocError>
+    ensures { OnOk result (MayPoint query.now (string_bytes text.old) (string_bytes text.new)) }
+{
     let followed = follow(alloc, tokens)?;
     match followed.stop {
         Stop::Nowhere => Ok(()),
@@ -64,7 +70,9 @@ fn push_spot(
     query: &[u8],
     tokens: &[Token],
     spot: &Spot,
-) -> Result<(), AllocError> {
+) -> Result<(), AllocError>
+    ensures { OnOk result (MayPoint query.now (string_bytes text.old) (string_bytes text.new)) }
+{
     match tokens.get(spot.token) {
         Some(token) => push_place(alloc, text, query, token.from, spot.note.as_str()),
         None => Ok(()),
@@ -80,7 +88,9 @@ pub fn push_breach(
     query: &[u8],
     tokens: &[Token],
     rule: u8,
-) -> Result<(), AllocError> {
+) -> Result<(), AllocError>
+    ensures { OnOk result (MayPoint query.now (string_bytes text.old) (string_bytes text.new)) }
+{
     let Ok(parsed) = parse(alloc, tokens) else {
         return Ok(());
     };

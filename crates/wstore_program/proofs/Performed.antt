@@ -5,11 +5,11 @@ use Rattle.std.specs.Borrow.{Bor}
 use Rattle.wcommand.specs.declared.choice.Choice.{Choice}
 use Rattle.wcommand.specs.declared.choice.Paths.{Paths}
 use Rattle.wcommand.specs.Inputs.{input_of, paths_of}
-use Rattle.wfiles.specs.Call.{Call, Began, Found, Locked}
+use Rattle.wfolder.specs.Call.{Call, Began, Found, Locked}
 use Rattle.wfiles.specs.Reading.{MayBegin}
-use Rattle.wfiles.specs.Replacing.{fault_of}
-use Rattle.wfiles.specs.declared.fault.Fault.{Fault}
-use Rattle.wfiles.specs.declared.replacing.NotReplaced.{NotReplaced}
+use Rattle.wfolder.specs.Replacing.{fault_of}
+use Rattle.wfolder.specs.declared.fault.Fault.{Fault}
+use Rattle.wfolder.specs.declared.replacing.NotReplaced.{NotReplaced}
 use Rattle.wact.specs.declared.acted.Acted.{Acted}
 use Rattle.wact.specs.Acts.{Acts}
 use Rattle.wstore_program.specs.Performing.{All, Input, IsDone, IsGivenUp, IsPerformed, IsUndone, IsNotCarriedOut, NoInput, NotPut}

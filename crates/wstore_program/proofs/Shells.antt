@@ -2,8 +2,8 @@
 use Rattle.std.proofs.Common.{◌≡◌, ℕ, Bool, List, [], ◌∷◌, Option, Some, Result, Ok, Err, IfOk, IfErr, OnErr, IfSome, subst, ap, ◌∙◌}
 use Rattle.std.specs.Io.KnownBytes.{Appends}
 use Rattle.wvalues.specs.Counts.{Counts}
-use Rattle.wfiles.specs.Call.{Call, Found}
-use Rattle.wfiles.specs.declared.fault.Fault.{Fault}
+use Rattle.wfolder.specs.Call.{Call, Found}
+use Rattle.wfolder.specs.declared.fault.Fault.{Fault}
 use Rattle.wcommand.specs.declared.choice.Paths.{Paths}
 use Rattle.wact.specs.Opening.{Opens}
 use Rattle.wact.specs.declared.opening.Opened.{Opened}

@@ -10,9 +10,10 @@ use Rattle.wbatch.specs.Streams.{IsUndelivered, Stops}
 use Rattle.wbatch.specs.declared.stop.Stop.{Stop}
 use Rattle.wbatch.specs.declared.stop.Stop.TheVariants as stops
 use Rattle.wcommand.specs.declared.choice.Choice.{Choice}
-use Rattle.wfiles.specs.Call.{Call, Began, Found, read_on}
+use Rattle.wfolder.specs.Call.{Call, Began, Found}
+use Rattle.wfiles.specs.Noting.{read_on}
 use Rattle.wfiles.specs.Reading.{read_more, read_to_end}
-use Rattle.wfiles.specs.declared.fault.Fault.{Fault}
+use Rattle.wfolder.specs.declared.fault.Fault.{Fault}
 use Rattle.wfiles.proofs.Noting.{found_whole, reads_end, reads_on}
 use Rattle.wreplies.specs.Texts.{bytes_of}
 use Rattle.wreplies.specs.declared.text.Text.{Text}

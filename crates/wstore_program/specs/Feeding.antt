@@ -7,7 +7,7 @@ use Rattle.wbatch.specs.Batches.{stream_of}
 use Rattle.wbatch.specs.Streams.{IsUndelivered, Stops}
 use Rattle.wbatch.specs.declared.stop.Stop.{Stop}
 use Rattle.wcommand.specs.declared.choice.Choice.{Choice}
-use Rattle.wfiles.specs.Call.{Call, Began, Found}
+use Rattle.wfolder.specs.Call.{Call, Began, Found}
 use Rattle.wfiles.specs.Reading.{read_more, read_to_end}
 use Rattle.wact.specs.Delivering.{IsFeed}
 use Rattle.wstore_program.specs.declared.given.Given.{Given}

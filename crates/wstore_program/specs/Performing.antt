@@ -5,11 +5,12 @@ use Rattle.wsegment.specs.Spelling.{ReadsDeclaration}
 use Rattle.wbatch.specs.Streams.{Stops}
 use Rattle.wbatch.specs.declared.stop.Stop.{Stop}
 use Rattle.wbatch.specs.declared.stop.Stop.TheVariants as stops
-use Rattle.wfiles.specs.Call.{Call, Began, Found, Locked}
+use Rattle.wfolder.specs.Call.{Call, Began, Found, Locked}
 use Rattle.wfiles.specs.Reading.{MayBegin}
-use Rattle.wfiles.specs.Replacing.{MayLock, Replaces, fault_of}
-use Rattle.wfiles.specs.declared.fault.Fault.{Fault}
-use Rattle.wfiles.specs.declared.replacing.NotReplaced.{NotReplaced}
+use Rattle.wfolder.specs.Replacing.{Replaces, fault_of}
+use Rattle.wfiles.specs.Place.{MayLock}
+use Rattle.wfolder.specs.declared.fault.Fault.{Fault}
+use Rattle.wfolder.specs.declared.replacing.NotReplaced.{NotReplaced}
 use Rattle.wcommand.specs.declared.choice.Choice.{Choice}
 use Rattle.wcommand.specs.declared.choice.Paths.{Paths}
 use Rattle.wcommand.specs.Inputs.{input_of, paths_of}

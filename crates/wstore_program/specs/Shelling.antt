@@ -3,9 +3,9 @@ use Rattle.std.specs.Prelude.{◌≡◌, ℕ, Bool, true, false, List, Option, R
 use Rattle.std.specs.Io.KnownBytes.{Appends, Keeps}
 use Rattle.wvalues.specs.Counts.{Counts}
 use Rattle.wreplies.specs.Texts.{bytes_of}
-use Rattle.wfiles.specs.Call.{Call}
-use Rattle.wfiles.specs.Calls.{CallCounts, HasCause}
-use Rattle.wfiles.specs.declared.fault.Fault.{Fault}
+use Rattle.wfolder.specs.Call.{Call}
+use Rattle.wfolder.specs.Calls.{CallCounts, HasCause}
+use Rattle.wfolder.specs.declared.fault.Fault.{Fault}
 use Rattle.wcommand.specs.declared.choice.Paths.{Paths}
 use Rattle.wact.specs.Opening.{Opens}
 use Rattle.wact.specs.declared.opening.Opened.{Opened}

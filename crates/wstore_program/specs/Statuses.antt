@@ -9,10 +9,10 @@ use Rattle.wact.specs.declared.acted.Acted.{Acted}
 use Rattle.wstore.specs.declared.script_run.End.{End}
 use Rattle.wstore.specs.declared.script_run.End.TheVariants as ends
 use Rattle.wstore.specs.declared.script_run.RunFault.{RunFault}
-use Rattle.wfiles.specs.Calls.{CallCounts, HasCause, IsSound}
-use Rattle.wfiles.specs.Call.{Call}
+use Rattle.wfolder.specs.Calls.{CallCounts, HasCause, IsSound}
+use Rattle.wfolder.specs.Call.{Call}
 use Rattle.wstore_program.specs.Performing.{IsGivenUp, IsPerformed}
-use Rattle.wfiles.specs.declared.fault.Fault.{Fault}
+use Rattle.wfolder.specs.declared.fault.Fault.{Fault}
 
 -- of a script
 abbrev pub script_status : Result End RunFault → ℕ

@@ -12,9 +12,9 @@ ghost use Rattle.wcommand.specs.declared.choice.Choice as choices;
 ghost use Rattle.wstore_program.specs.Feeding.{IsGiven, given_bytes};
 ghost use Rattle.wstore_program.specs.Performing.{IsDone, IsGivenUp, IsPerformed, IsUndone, IsNotCarriedOut};
 ghost use Rattle.wstore_program.specs.Performing.{OnlyReads, Puts, ReadsWhole, CarriesOut, input_path};
-ghost use Rattle.wfiles.specs.Calls.{HasCause, IsSound};
-ghost use Rattle.wfiles.specs.Model.{IsLocked};
-ghost use Rattle.wfiles.specs.Replacing.{fault_of};
+ghost use Rattle.wfolder.specs.Calls.{HasCause, IsSound};
+ghost use Rattle.wfolder.specs.Model.{IsLocked};
+ghost use Rattle.wfolder.specs.Replacing.{fault_of};
 
 use crate::explaining::{explain_refusal, explain_stream};
 use crate::feeding::fill_from;
@@ -26,7 +26,8 @@ use std::rt::{Clock, Files};
 use wact::{Acted, Opened, Purpose, act, feed_node, feed_store, refused, undelivered};
 use wbatch::{Batch, Stop};
 use wcommand::{Choice, Paths};
-use wfiles::{Fault, NotReplaced, Place, Record, System, read_if_there, read_whole};
+use wfiles::{Place, Record, System, read_if_there, read_whole};
+use wfolder::{Fault, NotReplaced};
 use wstore::Node;
 
 // What the subcommand gives on these bytes.

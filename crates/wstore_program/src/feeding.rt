@@ -3,8 +3,8 @@ ghost use Rattle.std.specs.Prelude.{◌≡◌, ◌⊎◌, ◌∷◌, [], None, S
 ghost use Rattle.std.specs.Io.KnownBytes.{Consumes, IsAtEnd};
 ghost use Rattle.wbatch.specs.Batches.{stream_of};
 ghost use Rattle.wbatch.specs.Streams.{IsUndelivered};
-ghost use Rattle.wfiles.specs.Call.{Found};
-ghost use Rattle.wfiles.specs.Calls.{HasCause, IsSound};
+ghost use Rattle.wfolder.specs.Call.{Found};
+ghost use Rattle.wfolder.specs.Calls.{HasCause, IsSound};
 ghost use Rattle.wfiles.specs.Reading.{MayBegin, ReadsMore, read_more, read_to_end};
 ghost use Rattle.wstore_program.specs.Feeding.{IsRefusedStream, RefusesRead};
 
@@ -12,7 +12,8 @@ use std::fs::File;
 use std::io::Read;
 use std::rt::Files;
 use wbatch::{Batch, Stop};
-use wfiles::{Fault, Reading, Record, System};
+use wfiles::{Reading, Record, System};
+use wfolder::Fault;
 
 /// The bytes of a stream that are read at once.
 const BLOCK: usize = 65_536;

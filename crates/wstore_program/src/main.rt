@@ -7,7 +7,7 @@
 ghost use Rattle.std.specs.Prelude.{◌≡◌, Some, true};
 ghost use Rattle.std.specs.Process.{exit_status};
 ghost use Rattle.wcommand.specs.Inputs.{is_act, paths_of};
-ghost use Rattle.wfiles.specs.Calls.{IsSound};
+ghost use Rattle.wfolder.specs.Calls.{IsSound};
 ghost use Rattle.wstore_program.specs.Statuses.{HasFileStatus, HasWordsStatus, IsPrinted, script_status};
 
 mod acting;
@@ -26,7 +26,8 @@ use std::io::{ErrorKind, Write};
 use std::process::ExitCode;
 use std::rt::{Clock, Files};
 use wcommand::{Choice, Paths, WordsFault, choose};
-use wfiles::{Fault, Record, System};
+use wfiles::{Record, System};
+use wfolder::Fault;
 use wstore::{End, RunFault, run};
 use wvalues::Counted;
 

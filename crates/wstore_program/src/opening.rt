@@ -1,11 +1,12 @@
 //! What the bytes of a table and a store open.
 ghost use Rattle.std.specs.Prelude.{IfErr, IfOk, OnOk, option_map};
 ghost use Rattle.wact.specs.Opening.{Opens};
-ghost use Rattle.wfiles.specs.Calls.{HasCause, IsSound};
+ghost use Rattle.wfolder.specs.Calls.{HasCause, IsSound};
 
 use std::alloc::{AllocError, Global};
 use wact::{Opened, Purpose, open_store};
-use wfiles::{Fault, System};
+use wfiles::System;
+use wfolder::Fault;
 
 // What the bytes of a table and a store open, if memory is there.
 fn opened_by(

@@ -1,7 +1,7 @@
 //! A shell on the files of a table and a store.
 ghost use Rattle.std.specs.Prelude.{◌≡◌, IfErr, IfOk, OnErr, OnOk};
 ghost use Rattle.std.specs.Process.{exit_status};
-ghost use Rattle.wfiles.specs.Calls.{HasCause, IsSound};
+ghost use Rattle.wfolder.specs.Calls.{HasCause, IsSound};
 ghost use Rattle.wlines.specs.Pending.{IsNew};
 ghost use Rattle.wstore_program.specs.Performing.{OnlyReads};
 ghost use Rattle.wstore_program.specs.Shelling.{Answers, HasShellStatus, IsOpened, IsRefusal, shell_status};
@@ -14,7 +14,8 @@ use std::process::ExitCode;
 use std::rt::Files;
 use wact::{Opened, Purpose};
 use wcommand::Paths;
-use wfiles::{Fault, Record, System, read_if_there, read_whole};
+use wfiles::{Record, System, read_if_there, read_whole};
+use wfolder::Fault;
 use wlines::write_reply;
 use wshell::{ShellFault, run};
 use wstore::Node;

@@ -8,7 +8,8 @@ use std::os::unix::fs::PermissionsExt;
 use std::test::*;
 use wact::{Acted, act};
 use wcommand::{Choice, Paths};
-use wfiles::{Access, Disk, NotReplaced, Simulated, Target, replace};
+use wfiles::Simulated;
+use wfolder::{Access, Disk, NotReplaced, Target, replace};
 
 const PATHS: Paths<'static> = Paths {
     table: "d/table",

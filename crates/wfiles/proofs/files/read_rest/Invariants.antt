@@ -1,6 +1,6 @@
 use Rattle.std.proofs.Common.{◌≡◌, ◌-◌}
 use Rattle.std.specs.Io.KnownBytes.{Consumes}
-use Rattle.wfiles.specs.Calls.{IsSound, most_reads}
+use Rattle.wfolder.specs.Calls.{IsSound, most_reads}
 use Rattle.wfiles.specs.Reading.{read_more}
 use Rattle.wfiles.proofs.files.read_rest.Given as goal
 

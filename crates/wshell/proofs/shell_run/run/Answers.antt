@@ -11,12 +11,12 @@ take_all-requires-clause-stands g c = stands_first _ _ _ _ _ c.in-Ok.ensures ref
 pub returns-in-Err-clause-begun : goal.returns-in-Err-clause-begun
 returns-in-Err-clause-begun g c = front_begun _ _ _ _ _ c.in-Err.ensures.part
 
-pub returns-in-Ok-tell-clause-replies : goal.returns-in-Ok-tell-clause-replies
-returns-in-Ok-tell-clause-replies g c =
-    all_replied _ _ _ _ _ _ _ _ _ c.tell.new.told c.in_default-take_all.ensures.ok c.in_default-take_all.ensures.end
-    (same_one _ _ _ _ _ _ _ c.take_all.ensures.same c.as_slice.ensures _ c.in-Ok-tell.ensures.ok)
+pub returns-in-Ok-reply_to-clause-replies : goal.returns-in-Ok-reply_to-clause-replies
+returns-in-Ok-reply_to-clause-replies g c =
+    all_replied _ _ _ _ _ _ _ _ _ c.reply_to.new.replied c.in_default-take_all.ensures.ok c.in_default-take_all.ensures.end
+    (same_one _ _ _ _ _ _ _ c.take_all.ensures.same c.as_slice.ensures _ c.in-Ok-reply_to.ensures.ok)
 
 pub returns-clause-begun : goal.returns-clause-begun
 returns-clause-begun g c =
     all_begun _ _ _ _ _ _ _ _ _ c.in_default-take_all.ensures.ok c.in_default-take_all.ensures.end
-    (same_part _ _ _ _ _ _ _ c.take_all.ensures.same c.as_slice.ensures c.in-Err-tell.ensures.part)
+    (same_part _ _ _ _ _ _ _ c.take_all.ensures.same c.as_slice.ensures c.in-Err-reply_to.ensures.part)

@@ -9,7 +9,8 @@ invariant-reads g l = record {
   input_sound : IsSound l.input;
   output_sound : IsSoundWriter l.output;
   after : StandsAfter l.initial.node.schema l.initial.node.view (g.R.Read.remaining l.initial.input.inner)
-      (g.R.Read.remaining l.input.inner) (g.W.Write.contents l.initial.output.inner) (g.W.Write.contents l.output.inner) l.pending l.told;
+      (g.R.Read.remaining l.input.inner) (g.W.Write.contents l.initial.output.inner) (g.W.Write.contents l.output.inner)
+      l.pending l.replied;
 }
 
 abbrev pub decreases-reads : goal.decreases-reads

@@ -8,5 +8,6 @@ invariant-bytes g l = record {
   same : l.node ≡ l.initial.node;
   sound : IsSoundWriter l.output;
   on : GoesOn l.initial.node.schema l.initial.node.view (take l.byte-index l.block)
-      (g.W.Write.contents l.initial.output.inner) (g.W.Write.contents l.output.inner) l.initial.pending l.pending l.initial.told l.told;
+      (g.W.Write.contents l.initial.output.inner) (g.W.Write.contents l.output.inner)
+      l.initial.pending l.pending l.initial.replied l.replied;
 }

@@ -1,6 +1,6 @@
 use Rattle.std.proofs.Common.{rules, ◌≡◌, ◌∷◌, Some}
 use Rattle.wbatch.specs.Batches.{stream_of}
-use Rattle.wfiles.specs.Call.{Found}
+use Rattle.wfolder.specs.Call.{Found}
 use Rattle.wstore_program.specs.Feeding.{IsRefusedStream}
 use Rattle.wstore_program.specs.Performing.{Unready}
 use Rattle.wstore_program.proofs.Performed.{begins, fed_whole, if_err, unfed_whole}

@@ -1,7 +1,7 @@
 use Rattle.std.proofs.Common.{◌≡◌, ◌-◌, None}
 use Rattle.std.specs.Io.KnownBytes.{Consumes}
 use Rattle.wbatch.specs.Batches.{stream_of}
-use Rattle.wfiles.specs.Calls.{IsSound, most_reads}
+use Rattle.wfolder.specs.Calls.{IsSound, most_reads}
 use Rattle.wfiles.specs.Reading.{read_more}
 use Rattle.wstore_program.proofs.feeding.fill.Given as goal
 

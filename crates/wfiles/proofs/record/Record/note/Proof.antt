@@ -27,7 +27,7 @@ use denote.Triple.Spec.{Meets, triple_of}
 use denote.Triple.Table.{entered}
 use denote.Triple.Walked.{says, Stays, stay_ref, walk_of, AllGo, Goes-ref, Walks, ends_at, walked, walk_Meets}
 use Rattle.wfiles.specs.declared.record.Record.{Record}
-use Rattle.wfiles.specs.Call.{noted}
+use Rattle.wfiles.specs.Noting.{noted}
 use Rattle.wfiles.specs.contracts.record.Record as T
 use Rattle.wfiles.specs.contracts.record.Record.note.Key.{name as #it}
 use Rattle.wfiles.specs.contracts.record.Record.note as it

@@ -1,5 +1,0 @@
-use Rattle.wfiles.proofs.Steps.{permitted}
-use Rattle.wfiles.proofs.replacing.allow.Goals as goal
-
-pub returns-in-Some-clause-brings : goal.returns-in-Some-clause-brings
-returns-in-Some-clause-brings g c = permitted c.permit.ensures.calls

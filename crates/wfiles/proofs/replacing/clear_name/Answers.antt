@@ -1,6 +1,0 @@
-use Rattle.wfiles.proofs.Steps.{cleared}
-use Rattle.wfiles.proofs.replacing.clear_name.Goals as goal
-
-pub returns-in-Ok-Some-clause-idle : goal.returns-in-Ok-Some-clause-idle
-returns-in-Ok-Some-clause-idle g c = cleared c.as_str.ensures.value (rw c.in-Ok-Some.field-0-is at c.in-Ok-Some.ensures)
-    c.remove.ensures.calls

@@ -1,0 +1,558 @@
+-- What the calls of a run that replaces a store may lead to.
+use Rattle.std.specs.Prelude.{⊤, is_ok}
+use Rattle.std.proofs.Common.{◌≡◌, ◌≢◌, ◌⊎◌, inl, inr, ⊎_elim, ℕ, Bool, true, false, List, [], ◌∷◌, ◌++◌, Option}
+use Rattle.std.proofs.Common.{None, Some, Result, Ok, Err, IfErr, refl, sym, ◌∙◌, ap, subst, rules, option_map}
+use Rattle.wfolder.specs.Call.{Call, Locked, Found, Created, Permitted, Wrote, Synced, Moved, SyncedFolder, Removed, Began}
+use Rattle.wfolder.specs.Model.{Disk, IsAmong, holds, IsLeft, Leaves, MayHold, LeadsTo, IsSameFile, IsSameName, IsSame}
+use Rattle.wfolder.specs.Model.{Creates, Writes, Syncs, Renames, SyncsFolder, Removes, IsLocked, IsOwn, Others, Runs}
+use Rattle.wfolder.specs.Replacing.{AtEachMoment, LeavesOldOrNew, ChangesOnlyOwn, IsKept, IsUnsynced, Replaces}
+use Rattle.wfolder.specs.declared.fault.Fault.{Fault}
+use Rattle.wfolder.specs.declared.replacing.NotReplaced.{NotReplaced}
+use Rattle.wfolder.specs.declared.replacing.NotReplaced.TheVariants.{Kept, Unsynced}
+use Rattle.wfolder.proofs.Steps.{after}
+use Rattle.wfolder.specs.Order.{After, Brings, LeavesBeside, Stage, Idle, Beside, Placed, Durable, Reaches}
+use Rattle.wfolder.specs.Order.{begins, locks, reads, clears, misses, makes, permits, writes, spoils, syncs}
+use Rattle.wfolder.specs.Order.{places, stays, removes, keeps, folder_synced, folder_unsynced}
+
+pub same_refl : (name : List ℕ) (d : Disk) → IsSame name d d
+same_refl name d = record { names = (refl, refl); files = λ file leads. (refl, refl) }
+
+-- what leads there after leads there before
+pub leads_back : (name : List ℕ) (d e : Disk) (file : ℕ) → IsSameName d e name → LeadsTo e name file → LeadsTo d name file
+leads_back name d e file same (inl here) = inl (sym same.0 ∙ here)
+leads_back name d e file same (inr left) = inr (subst (IsAmong (Some file)) same.1 left)
+
+pub leads_on : (name : List ℕ) (d e : Disk) (file : ℕ) → IsSameName d e name → LeadsTo d name file → LeadsTo e name file
+leads_on name d e file same (inl here) = inl (same.0 ∙ here)
+leads_on name d e file same (inr left) = inr (subst (IsAmong (Some file)) (sym same.1) left)
+
+pub same_trans : (name : List ℕ) (d e f : Disk) → IsSame name d e → IsSame name e f → IsSame name d f
+same_trans name d e f first then = record {
+  names = (then.names.0 ∙ first.names.0, then.names.1 ∙ first.names.1);
+  files = λ file leads.
+      let here = first.files file leads in
+      let there = then.files file (leads_on name d e file first.names leads) in
+      (there.0 ∙ here.0, there.1 ∙ here.1);
+}
+
+-- a state that is the same
+same_at : (name : List ℕ) (d e : Disk) → e ≡ d → IsSame name d e
+same_at name d e is = subst (IsSame name d) (sym is) (same_refl name d)
+
+-- the new file stands beside the store, which does not lead to it
+pub record IsBeside (store name : List ℕ) (bytes : Option (List ℕ)) (durable : Bool) (d : Disk) : Type 0 where
+  pub file : ℕ
+  pub leads : d.entry name ≡ Some file
+  pub away : LeadsTo d store file → ⊥
+  pub content : (known : List ℕ) → bytes ≡ Some known → d.bytes file ≡ known
+  pub saved : durable ≡ true → d.saved file ≡ Some (d.bytes file)
+
+-- the store is the new file; a crash may leave what it might have left, or the new file
+pub record IsPlaced (store bytes : List ℕ) (d e : Disk) : Type 0 where
+  pub file : ℕ
+  pub leads : e.entry store ≡ Some file
+  pub content : e.bytes file ≡ bytes
+  pub saved : e.saved file ≡ Some bytes
+  pub left : e.left store ≡ Some file ∷ d.left store
+  pub files : (other : ℕ) → IsAmong (Some other) (d.left store) → e.saved other ≡ d.saved other
+
+pub record IsDurable (store bytes : List ℕ) (e : Disk) : Type 0 where
+  pub file : ℕ
+  pub leads : e.entry store ≡ Some file
+  pub content : e.bytes file ≡ bytes
+  pub saved : e.saved file ≡ Some bytes
+  pub left : e.left store ≡ Some file ∷ []
+
+-- what holds of the state at each stage
+abbrev pub Holds : List ℕ → Stage → Disk → Disk → Type 0
+Holds store Idle d e = IsSame store d e
+Holds store (Beside name bytes durable) d e = IsSame store d e × IsBeside store name bytes durable e
+Holds store (Placed bytes) d e = IsPlaced store bytes d e
+Holds store (Durable bytes) d e = IsDurable store bytes e
+
+-- a file beside the store is this run's own
+abbrev pub Owns : List ℕ → List Call → Stage → Type 0
+Owns store cs (Beside name bytes durable) = (name ≢ store) × IsOwn cs name
+Owns store cs Idle = ⊤
+Owns store cs (Placed bytes) = ⊤
+Owns store cs (Durable bytes) = ⊤
+
+-- others leave each stage as it is
+beside_on : (store name : List ℕ) (bytes : Option (List ℕ)) (durable : Bool) (d e : Disk) → IsSame store d e
+    → IsSame name d e → IsBeside store name bytes durable d → IsBeside store name bytes durable e
+beside_on store name bytes durable d e same own b =
+    let file = own.files b.file (inl b.leads) in
+    record {
+      file = b.file;
+      leads = own.names.0 ∙ b.leads;
+      away = λ leads. b.away (leads_back store d e b.file same.names leads);
+      content = λ known is. file.0 ∙ b.content known is;
+      saved = λ done. file.1 ∙ b.saved done ∙ ap Some (sym file.0);
+    }
+
+placed_on : (store bytes : List ℕ) (d mid e : Disk) → IsSame store mid e → IsPlaced store bytes d mid → IsPlaced store bytes d e
+placed_on store bytes d mid e same p =
+    let file = same.files p.file (inl p.leads) in
+    record {
+      file = p.file;
+      leads = same.names.0 ∙ p.leads;
+      content = file.0 ∙ p.content;
+      saved = file.1 ∙ p.saved;
+      left = same.names.1 ∙ p.left;
+      files = λ other among. (same.files other (inr (subst (IsAmong (Some other)) (sym p.left) (inr among)))).1 ∙ p.files other among;
+    }
+
+durable_on : (store bytes : List ℕ) (mid e : Disk) → IsSame store mid e → IsDurable store bytes mid → IsDurable store bytes e
+durable_on store bytes mid e same p =
+    let file = same.files p.file (inl p.leads) in
+    record {
+      file = p.file;
+      leads = same.names.0 ∙ p.leads;
+      content = file.0 ∙ p.content;
+      saved = file.1 ∙ p.saved;
+      left = same.names.1 ∙ p.left;
+    }
+
+-- calls that follow a lock leave it held
+locked_on : (cs base : List Call) → IsLocked base → IsLocked (cs ++ base)
+locked_on [] base held = held
+locked_on (Locked true ∷ cs) base held = tt
+locked_on (Locked false ∷ cs) base held = locked_on cs base held
+locked_on (Found name bytes ∷ cs) base held = locked_on cs base held
+locked_on (Began name bytes ∷ cs) base held = locked_on cs base held
+locked_on (Created name done ∷ cs) base held = locked_on cs base held
+locked_on (Permitted name done ∷ cs) base held = locked_on cs base held
+locked_on (Wrote name bytes done ∷ cs) base held = locked_on cs base held
+locked_on (Synced name done ∷ cs) base held = locked_on cs base held
+locked_on (Moved from to done ∷ cs) base held = locked_on cs base held
+locked_on (SyncedFolder done ∷ cs) base held = locked_on cs base held
+locked_on (Removed name done ∷ cs) base held = locked_on cs base held
+
+-- what others leave while this run holds the lock
+record Stay (store : List ℕ) (cs : List Call) (d e : Disk) : Type 0 where
+  store_stays : IsSame store d e
+  own_stays : (name : List ℕ) → IsOwn cs name → IsSame name d e
+
+stay : (store : List ℕ) (base cs : List Call) (d e : Disk) → IsLocked base → Others store base cs d e → Stay store cs d e
+stay store base cs d e held others =
+    let still = locked_on cs base held in
+    record { store_stays = others.store_stays still; own_stays = others.own_stays still }
+
+others_leave : (store : List ℕ) (cs : List Call) (stage : Stage) (d mid e : Disk) → Owns store cs stage
+    → Stay store cs mid e → Holds store stage d mid → Holds store stage d e
+others_leave store cs Idle d mid e owns others h = same_trans store d mid e h others.store_stays
+others_leave store cs (Beside name bytes durable) d mid e owns others h = (
+  same_trans store d mid e h.0 others.store_stays,
+  beside_on store name bytes durable mid e others.store_stays
+      (others.own_stays name owns.1) h.1,
+)
+others_leave store cs (Placed bytes) d mid e owns others h = placed_on store bytes d mid e others.store_stays h
+others_leave store cs (Durable bytes) d mid e owns others h = durable_on store bytes mid e others.store_stays h
+
+-- a state that is the same is at the same stage
+same_stage : (store : List ℕ) (stage : Stage) (d mid e : Disk) → e ≡ mid → Holds store stage d mid → Holds store stage d e
+same_stage store stage d mid e is h = subst (Holds store stage d) (sym is) h
+
+-- each call that changes something
+made : (store name : List ℕ) (d mid e : Disk) → name ≢ store → Creates name mid e → IsSame store d mid
+    → Holds store (Beside name (Some []) false) d e
+made store name d mid e other c same =
+    let names : IsSameName mid e store = c.names store (λ is. other (sym is)) in
+    let stays : IsSame store mid e = record {
+      names = names;
+      files =
+          λ file leads. c.files file (λ is. c.fresh store (subst (LeadsTo mid store) is leads));
+    } in (
+      same_trans store d mid e same stays,
+      record {
+        file = c.file;
+        leads = c.entry;
+        away = λ leads. c.fresh store (leads_back store mid e c.file names leads);
+        content = λ known is. c.empty ∙ search rules;
+        saved = λ done. absurd (search rules);
+      },
+    )
+
+-- a call on the new file alone leaves the store as it is
+aside : (store name : List ℕ) (d mid e : Disk) (file : ℕ) → mid.entry name ≡ Some file → (LeadsTo mid store file → ⊥)
+    → ((other : List ℕ) → IsSameName mid e other) → ((other : ℕ) → other ≢ file → IsSameFile mid e other)
+    → IsSame store d mid → IsSame store d e
+aside store name d mid e file leads away names files same =
+    same_trans store d mid e same (record {
+      names = names store;
+      files =
+          λ other to. files other (λ is. away (subst (LeadsTo mid store) is to));
+    })
+
+-- a name leads to one file
+one_file : (name : List ℕ) (d : Disk) (a b : ℕ) → d.entry name ≡ Some a → d.entry name ≡ Some b → b ≡ a
+one_file name d a b first second = let same : Some a ≡ Some b = sym first ∙ second in search rules
+
+wrote : (store name written : List ℕ) (bytes bytes' : Option (List ℕ)) (durable done : Bool) (d mid e : Disk)
+    → Writes name written done mid e → Holds store (Beside name bytes durable) d mid
+    → ((known : List ℕ) → bytes' ≡ Some known → (done ≡ true) × (old : List ℕ) × (bytes ≡ Some old)
+    × (known ≡ old ++ written)) → Holds store (Beside name bytes' false) d e
+wrote store name written bytes bytes' durable done d mid e w h content =
+    let is : w.file ≡ h.1.file = one_file name mid h.1.file w.file h.1.leads w.leads in
+    let away : LeadsTo mid store w.file → ⊥ = λ to. h.1.away (subst (LeadsTo mid store) is to) in (
+      aside store name d mid e w.file w.leads away w.names w.files h.0,
+      record {
+        file = w.file;
+        leads = (w.names name).0 ∙ w.leads;
+        away = λ to. away (leads_back store mid e w.file (w.names store) to);
+        content = λ known is_known.
+            let from = content known is_known in
+            w.appends from.0 ∙ ap (λ (l : List ℕ). l ++ written) (ap mid.bytes is ∙ h.1.content from.1 from.2) ∙ sym from.3;
+        saved = λ is_done. absurd (search rules);
+      },
+    )
+
+synced : (store name : List ℕ) (bytes : Option (List ℕ)) (durable done : Bool) (d mid e : Disk) → Syncs name done mid e
+    → Holds store (Beside name bytes durable) d mid → Holds store (Beside name bytes done) d e
+synced store name bytes durable done d mid e w h =
+    let is : w.file ≡ h.1.file = one_file name mid h.1.file w.file h.1.leads w.leads in
+    let away : LeadsTo mid store w.file → ⊥ = λ to. h.1.away (subst (LeadsTo mid store) is to) in (
+      aside store name d mid e w.file w.leads away w.names w.files h.0,
+      record {
+        file = w.file;
+        leads = (w.names name).0 ∙ w.leads;
+        away = λ to. away (leads_back store mid e w.file (w.names store) to);
+        content = λ known is_known. w.same ∙ ap mid.bytes is ∙ h.1.content known is_known;
+        saved = λ is_done. w.saved is_done ∙ ap Some (sym w.same);
+      },
+    )
+
+placed : (store name bytes : List ℕ) (d mid e : Disk) → Renames name store mid e
+    → Holds store (Beside name (Some bytes) true) d mid → IsPlaced store bytes d e
+placed store name bytes d mid e r h =
+    let content = h.1.content bytes refl in
+    record {
+      file = h.1.file;
+      leads = r.entry ∙ h.1.leads;
+      content = (r.files h.1.file).0 ∙ content;
+      saved = (r.files h.1.file).1 ∙ h.1.saved refl ∙ ap Some content;
+      left = r.left ∙ ap (λ f. f ∷ mid.left store) h.1.leads ∙ ap (λ l. Some h.1.file ∷ l) h.0.names.1;
+      files = λ other among. (r.files other).1 ∙ (h.0.files other (inr among)).1;
+    }
+
+removed : (store name : List ℕ) (d mid e : Disk) → name ≢ store → Removes name mid e → IsSame store d mid → IsSame store d e
+removed store name d mid e other r same =
+    same_trans store d mid e same (record { names = r.names store (λ is. other (sym is)); files = λ file to. r.files file })
+
+durable : (store bytes : List ℕ) (d mid e : Disk) → SyncsFolder mid e → IsPlaced store bytes d mid → IsDurable store bytes e
+durable store bytes d mid e s p = record {
+  file = p.file;
+  leads = s.entry store ∙ p.leads;
+  content = (s.files p.file).0 ∙ p.content;
+  saved = (s.files p.file).1 ∙ p.saved;
+  left = s.left store ∙ ap (λ f. f ∷ []) p.leads;
+}
+
+pub owns : (store : List ℕ) (cs : List Call) (stage : Stage) → Reaches store cs stage → Owns store cs stage
+owns store cs stage begins = tt
+owns store cs stage (locks {stage = Idle} r) = tt
+owns store cs stage (locks {stage = Beside name bytes durable} r) = owns store _ _ r
+owns store cs stage (locks {stage = Placed bytes} r) = tt
+owns store cs stage (locks {stage = Durable bytes} r) = tt
+owns store cs stage (reads {stage = Idle} r) = tt
+owns store cs stage (reads {stage = Beside name bytes durable} r) = owns store _ _ r
+owns store cs stage (reads {stage = Placed bytes} r) = tt
+owns store cs stage (reads {stage = Durable bytes} r) = tt
+owns store cs stage (clears other ours r) = tt
+owns store cs stage (misses r) = tt
+owns store cs stage (makes other ours r) = (other, inl refl)
+owns store cs stage (permits r) = owns store _ _ r
+owns store cs stage (writes r) = owns store _ _ r
+owns store cs stage (spoils r) = owns store _ _ r
+owns store cs stage (syncs r) = owns store _ _ r
+owns store cs stage (places r) = tt
+owns store cs stage (stays r) = owns store _ _ r
+owns store cs stage (removes r) = tt
+owns store cs stage (keeps r) = owns store _ _ r
+owns store cs stage (folder_synced r) = tt
+owns store cs stage (folder_unsynced r) = tt
+
+one_known : (a b : List ℕ) → Some a ≡ Some b → a ≡ b
+one_known a b is = search rules
+
+none_known : (a : List ℕ) → None ≡ Some a → ⊥
+none_known a is = search rules
+
+-- the state behind the calls, at whichever stage they bring the run to
+pub holds_at : (store : List ℕ) (base cs : List Call) (stage : Stage) (d e : Disk) → IsLocked base → Reaches store cs stage
+    → Runs store base d cs e → Holds store stage d e
+holds_at store base cs stage d e held begins runs = runs.store_stays held
+holds_at store base cs stage d e held (locks r) runs =
+    others_leave store cs stage d runs.1 e (owns store cs stage (locks r)) (stay store base cs runs.1 e held runs.4)
+    (same_stage store stage d runs.0 runs.1 runs.3 (holds_at store base _ stage d runs.0 held r runs.2))
+holds_at store base cs stage d e held (reads r) runs =
+    others_leave store cs stage d runs.1 e (owns store cs stage (reads r)) (stay store base cs runs.1 e held runs.4)
+    (same_stage store stage d runs.0 runs.1 runs.3.0 (holds_at store base _ stage d runs.0 held r runs.2))
+holds_at store base cs stage d e held (clears {name = name} {done = true} other ours r) runs =
+    others_leave store cs stage d runs.1 e tt (stay store base cs runs.1 e held runs.4) (removed store name d runs.0 runs.1
+    other runs.3 (holds_at store base _ Idle d runs.0 held r runs.2))
+holds_at store base cs stage d e held (clears {name = name} {done = false} other ours r) runs =
+    others_leave store cs stage d runs.1 e tt (stay store base cs runs.1 e held runs.4)
+    (same_stage store stage d runs.0 runs.1 runs.3 (holds_at store base _ Idle d runs.0 held r runs.2))
+holds_at store base cs stage d e held (misses r) runs =
+    others_leave store cs stage d runs.1 e tt (stay store base cs runs.1 e held runs.4)
+    (same_stage store stage d runs.0 runs.1 runs.3 (holds_at store base _ Idle d runs.0 held r runs.2))
+holds_at store base cs stage d e held (makes {name = name} other ours r) runs =
+    others_leave store cs stage d runs.1 e (owns store cs stage (makes other ours r))
+    (stay store base cs runs.1 e held runs.4) (made store name d runs.0 runs.1 other runs.3
+    (holds_at store base _ Idle d runs.0 held r runs.2))
+holds_at store base cs stage d e held (permits r) runs =
+    others_leave store cs stage d runs.1 e (owns store cs stage (permits r)) (stay store base cs runs.1 e held runs.4)
+    (same_stage store stage d runs.0 runs.1 runs.3 (holds_at store base _ stage d runs.0 held r runs.2))
+holds_at store base cs stage d e held (writes {name = name} {bytes = bytes} {written = written} r) runs =
+    others_leave store cs stage d runs.1 e (owns store cs stage (writes r)) (stay store base cs runs.1 e held runs.4)
+    (wrote store name written _ _ _ true d runs.0 runs.1 runs.3 (holds_at store base _ _ d runs.0 held r runs.2)
+    (λ known is. (refl, bytes, refl, sym (one_known _ _ is))))
+holds_at store base cs stage d e held (spoils {name = name} {written = written} r) runs =
+    others_leave store cs stage d runs.1 e (owns store cs stage (spoils r)) (stay store base cs runs.1 e held runs.4)
+    (wrote store name written _ _ _ false d runs.0 runs.1 runs.3 (holds_at store base _ _ d runs.0 held r runs.2)
+    (λ known is. absurd (none_known _ is)))
+holds_at store base cs stage d e held (syncs {name = name} {done = done} r) runs =
+    others_leave store cs stage d runs.1 e (owns store cs stage (syncs r)) (stay store base cs runs.1 e held runs.4)
+    (synced store name _ _ done d runs.0 runs.1 runs.3 (holds_at store base _ _ d runs.0 held r runs.2))
+holds_at store base cs stage d e held (places {name = name} {bytes = bytes} r) runs =
+    others_leave store cs stage d runs.1 e tt (stay store base cs runs.1 e held runs.4)
+    (placed store name bytes d runs.0 runs.1 runs.3 (holds_at store base _ _ d runs.0 held r runs.2))
+holds_at store base cs stage d e held (stays r) runs =
+    others_leave store cs stage d runs.1 e (owns store cs stage (stays r)) (stay store base cs runs.1 e held runs.4)
+    (same_stage store stage d runs.0 runs.1 runs.3 (holds_at store base _ stage d runs.0 held r runs.2))
+holds_at store base cs stage d e held (removes {name = name} r) runs =
+    others_leave store cs stage d runs.1 e tt (stay store base cs runs.1 e held runs.4) (removed store name d runs.0 runs.1
+    (owns store _ _ r).0 runs.3 (holds_at store base _ _ d runs.0 held r runs.2).0)
+holds_at store base cs stage d e held (keeps r) runs =
+    others_leave store cs stage d runs.1 e (owns store cs stage (keeps r)) (stay store base cs runs.1 e held runs.4)
+    (same_stage store stage d runs.0 runs.1 runs.3 (holds_at store base _ stage d runs.0 held r runs.2))
+holds_at store base cs stage d e held (folder_synced {bytes = bytes} r) runs =
+    others_leave store cs stage d runs.1 e tt (stay store base cs runs.1 e held runs.4) (durable store bytes d runs.0 runs.1
+    runs.3 (holds_at store base _ _ d runs.0 held r runs.2))
+holds_at store base cs stage d e held (folder_unsynced r) runs =
+    others_leave store cs stage d runs.1 e tt (stay store base cs runs.1 e held runs.4)
+    (same_stage store stage d runs.0 runs.1 runs.3 (holds_at store base _ stage d runs.0 held r runs.2))
+
+-- what a crash leaves at each stage, where the bytes are these
+abbrev pub Tells : List ℕ → Stage → Type 0
+Tells bytes Idle = ⊤
+Tells bytes (Beside name known durable) = ⊤
+Tells bytes (Placed placed) = placed ≡ bytes
+Tells bytes (Durable durable) = durable ≡ bytes
+
+left_same : (d e : Disk) (file : Option ℕ) (held : Option (List ℕ)) → ((number : ℕ) → file ≡ Some number
+    → e.saved number ≡ d.saved number) → Leaves e file held → Leaves d file held
+left_same d e None held same leaves = leaves
+left_same d e (Some number) None same leaves = leaves
+left_same d e (Some number) (Some bytes) same leaves = subst (λ (saved : Option (List ℕ)). IsLeft saved bytes) (same number refl) leaves
+
+-- what leads nowhere else is left as it was
+pub crash_same : (store : List ℕ) (d e : Disk) → IsSame store d e → (held : Option (List ℕ)) → MayHold e store held → MayHold d store held
+crash_same store d e same held may =
+    let among = subst (IsAmong may.file) same.names.1 may.among in
+    record {
+      file = may.file;
+      among = among;
+      leaves = left_same d e may.file held
+          (λ number is. (same.files number (inr (subst (λ (f : Option ℕ). IsAmong f (d.left store)) is among))).1) may.leaves;
+    }
+
+-- a file that was brought to the disk is left whole
+whole : (bytes : List ℕ) (e : Disk) (file : ℕ) (held : Option (List ℕ)) → e.saved file ≡ Some bytes
+    → Leaves e (Some file) held → held ≡ Some bytes
+whole bytes e file None saved leaves = absurd leaves
+whole bytes e file (Some left) saved leaves = ap Some (subst (λ (saved : Option (List ℕ)). IsLeft saved left) saved leaves)
+
+crash_placed : (store bytes : List ℕ) (d e : Disk) → IsPlaced store bytes d e → (held : Option (List ℕ))
+    → MayHold e store held → MayHold d store held ⊎ (held ≡ Some bytes)
+crash_placed store bytes d e p held may = from may.file (subst (IsAmong may.file) p.left may.among) may.leaves
+  where
+    from : (file : Option ℕ) → IsAmong file (Some p.file ∷ d.left store) → Leaves e file held → MayHold d store held ⊎ (held ≡ Some bytes)
+    from file (inl new) leaves = inr (whole bytes e p.file held p.saved (subst (λ (f : Option ℕ). Leaves e f held) new leaves))
+    from file (inr old) leaves = inl (record {
+      file = file;
+      among = old;
+      leaves = left_same d e file held (λ number is. p.files number (subst (λ (f : Option ℕ). IsAmong f (d.left store)) is old)) leaves;
+    })
+
+crash_durable : (store bytes : List ℕ) (e : Disk) → IsDurable store bytes e → (held : Option (List ℕ))
+    → MayHold e store held → held ≡ Some bytes
+crash_durable store bytes e p held may = from may.file (subst (IsAmong may.file) p.left may.among) may.leaves
+  where
+    from : (file : Option ℕ) → IsAmong file (Some p.file ∷ []) → Leaves e file held → held ≡ Some bytes
+    from file (inl new) leaves = whole bytes e p.file held p.saved (subst (λ (f : Option ℕ). Leaves e f held) new leaves)
+    from file (inr none) leaves = absurd none
+
+crash : (store bytes : List ℕ) (stage : Stage) (d e : Disk) → Tells bytes stage → Holds store stage d e
+    → (held : Option (List ℕ)) → MayHold e store held → MayHold d store held ⊎ (held ≡ Some bytes)
+crash store bytes Idle d e tells h held may = inl (crash_same store d e h held may)
+crash store bytes (Beside name known durable) d e tells h held may = inl (crash_same store d e h.0 held may)
+crash store bytes (Placed placed) d e tells h held may = ⊎_elim (λ old. inl old) (λ new. inr (new ∙ ap Some tells))
+    (crash_placed store placed d e h held may)
+crash store bytes (Durable durable) d e tells h held may = inr (crash_durable store durable e h held may ∙ ap Some tells)
+
+-- a crash at the last moment
+pub at_last : (store bytes : List ℕ) (base cs : List Call) (stage : Stage) → IsLocked base → Tells bytes stage
+    → Reaches store cs stage → LeavesOldOrNew store bytes base cs
+at_last store bytes base cs stage locked tells r d e runs held may =
+    crash store bytes stage d e tells (holds_at store base cs stage d e locked r runs) held may
+
+-- a crash at each moment
+pub at_each : (store bytes : List ℕ) (base cs : List Call) (stage : Stage) → IsLocked base → Tells bytes stage
+    → Reaches store cs stage → AtEachMoment (LeavesOldOrNew store bytes base) cs
+at_each store bytes base cs stage locked tells begins = at_last store bytes base [] Idle locked tt begins
+at_each store bytes base cs stage locked tells (locks r) =
+    (at_last store bytes base cs stage locked tells (locks r), at_each store bytes base _ _ locked tells r)
+at_each store bytes base cs stage locked tells (reads r) =
+    (at_last store bytes base cs stage locked tells (reads r), at_each store bytes base _ _ locked tells r)
+at_each store bytes base cs stage locked tells (clears other ours r) =
+    (at_last store bytes base cs stage locked tells (clears other ours r), at_each store bytes base _ _ locked tt r)
+at_each store bytes base cs stage locked tells (misses r) =
+    (at_last store bytes base cs stage locked tells (misses r), at_each store bytes base _ _ locked tt r)
+at_each store bytes base cs stage locked tells (makes other ours r) =
+    (at_last store bytes base cs stage locked tells (makes other ours r), at_each store bytes base _ _ locked tt r)
+at_each store bytes base cs stage locked tells (permits r) =
+    (at_last store bytes base cs stage locked tells (permits r), at_each store bytes base _ _ locked tt r)
+at_each store bytes base cs stage locked tells (writes r) =
+    (at_last store bytes base cs stage locked tells (writes r), at_each store bytes base _ _ locked tt r)
+at_each store bytes base cs stage locked tells (spoils r) =
+    (at_last store bytes base cs stage locked tells (spoils r), at_each store bytes base _ _ locked tt r)
+at_each store bytes base cs stage locked tells (syncs r) =
+    (at_last store bytes base cs stage locked tells (syncs r), at_each store bytes base _ _ locked tt r)
+at_each store bytes base cs stage locked tells (places r) =
+    (at_last store bytes base cs stage locked tells (places r), at_each store bytes base _ _ locked tt r)
+at_each store bytes base cs stage locked tells (stays r) =
+    (at_last store bytes base cs stage locked tells (stays r), at_each store bytes base _ _ locked tt r)
+at_each store bytes base cs stage locked tells (removes r) =
+    (at_last store bytes base cs stage locked tells (removes r), at_each store bytes base _ _ locked tt r)
+at_each store bytes base cs stage locked tells (keeps r) =
+    (at_last store bytes base cs stage locked tells (keeps r), at_each store bytes base _ _ locked tt r)
+at_each store bytes base cs stage locked tells (folder_synced r) =
+    (at_last store bytes base cs stage locked tells (folder_synced r), at_each store bytes base _ _ locked tells r)
+at_each store bytes base cs stage locked tells (folder_unsynced r) =
+    (at_last store bytes base cs stage locked tells (folder_unsynced r), at_each store bytes base _ _ locked tells r)
+
+-- only what is this run's own is changed
+pub only_own : (store : List ℕ) (cs : List Call) (stage : Stage) → Reaches store cs stage → ChangesOnlyOwn store cs
+only_own store cs stage begins = tt
+only_own store cs stage (locks r) = only_own store _ _ r
+only_own store cs stage (reads r) = only_own store _ _ r
+only_own store cs stage (clears other ours r) = (inr (other, ours), only_own store _ _ r)
+only_own store cs stage (misses r) = only_own store _ _ r
+only_own store cs stage (makes other ours r) = only_own store _ _ r
+only_own store cs stage (permits r) = ((owns store _ _ r).1, only_own store _ _ r)
+only_own store cs stage (writes r) = ((owns store _ _ r).1, only_own store _ _ r)
+only_own store cs stage (spoils r) = ((owns store _ _ r).1, only_own store _ _ r)
+only_own store cs stage (syncs r) = ((owns store _ _ r).1, only_own store _ _ r)
+only_own store cs stage (places r) = (((owns store _ _ r).1, refl), only_own store _ _ r)
+only_own store cs stage (stays r) = (((owns store _ _ r).1, refl), only_own store _ _ r)
+only_own store cs stage (removes r) = (inl (owns store _ _ r).1, only_own store _ _ r)
+only_own store cs stage (keeps r) = (inl (owns store _ _ r).1, only_own store _ _ r)
+only_own store cs stage (folder_synced r) = only_own store _ _ r
+only_own store cs stage (folder_unsynced r) = only_own store _ _ r
+
+-- the bytes of the file to which a name leads
+held_same : (store : List ℕ) (d e : Disk) (file : Option ℕ) → d.entry store ≡ file → ((number : ℕ) → file ≡ Some number
+    → e.bytes number ≡ d.bytes number) → option_map e.bytes file ≡ option_map d.bytes file
+held_same store d e None leads same = refl
+held_same store d e (Some number) leads same = ap Some (same number refl)
+
+pub holds_same : (store : List ℕ) (d e : Disk) → IsSame store d e → holds e store ≡ holds d store
+holds_same store d e same =
+    ap (λ (f : Option ℕ). option_map e.bytes f) same.names.0
+    ∙ held_same store d e (d.entry store) refl (λ number is. (same.files number (inl is)).0)
+
+pub is_kept : (store : List ℕ) (d e : Disk) → IsSame store d e → IsKept store d e
+is_kept store d e same = record { holds_old = holds_same store d e same; leaves_old = crash_same store d e same }
+
+holds_file : (store bytes : List ℕ) (e : Disk) (file : ℕ) → e.entry store ≡ Some file → e.bytes file ≡ bytes → holds e store ≡ Some bytes
+holds_file store bytes e file leads content = ap (λ (f : Option ℕ). option_map e.bytes f) leads ∙ ap Some content
+
+-- the three ends
+pub ends_kept : (store bytes : List ℕ) (fault : Fault) (old new : List Call) → IsLocked old → After store old new Idle
+    → Replaces store bytes (Err (Kept fault)) old new
+ends_kept store bytes fault old new locked a = record {
+  since = a.since;
+  is = a.is;
+  own = only_own store a.since Idle a.reaches;
+  moments = at_each store bytes old a.since Idle locked tt a.reaches;
+  end = λ d e runs. is_kept store d e (holds_at store old a.since Idle d e locked a.reaches runs);
+}
+
+pub ends_beside : (store bytes name : List ℕ) (known : Option (List ℕ)) (durable : Bool) (fault : Fault)
+    (old new : List Call) → IsLocked old → After store old new (Beside name known durable) → Replaces store bytes (Err (Kept fault)) old new
+ends_beside store bytes name known durable fault old new locked a = record {
+  since = a.since;
+  is = a.is;
+  own = only_own store a.since (Beside name known durable) a.reaches;
+  moments = at_each store bytes old a.since (Beside name known durable) locked tt a.reaches;
+  end = λ d e runs. is_kept store d e (holds_at store old a.since (Beside name known durable) d e locked a.reaches runs).0;
+}
+
+pub ends_durable : (store bytes : List ℕ) (old new : List Call) → IsLocked old → After store old new (Durable bytes)
+    → Replaces store bytes (Ok tt) old new
+ends_durable store bytes old new locked a = record {
+  since = a.since;
+  is = a.is;
+  own = only_own store a.since (Durable bytes) a.reaches;
+  moments = at_each store bytes old a.since (Durable bytes) locked refl a.reaches;
+  end = λ d e runs.
+      let p = holds_at store old a.since (Durable bytes) d e locked a.reaches runs in
+      record { holds_new = holds_file store bytes e p.file p.leads p.content; leaves_new = crash_durable store bytes e p };
+}
+
+pub ends_unsynced : (store bytes : List ℕ) (fault : Fault) (old new : List Call) → IsLocked old
+    → After store old new (Placed bytes) → Replaces store bytes (Err (Unsynced fault)) old new
+ends_unsynced store bytes fault old new locked a = record {
+  since = a.since;
+  is = a.is;
+  own = only_own store a.since (Placed bytes) a.reaches;
+  moments = at_each store bytes old a.since (Placed bytes) locked refl a.reaches;
+  end = λ d e runs.
+      let p = holds_at store old a.since (Placed bytes) d e locked a.reaches runs in
+      holds_file store bytes e p.file p.leads p.content;
+}
+
+-- from no call on
+pub from_nothing : (store : List ℕ) (old : List Call) → After store old old Idle
+from_nothing store old = record { since = []; is = refl; reaches = begins }
+
+-- behind a move that failed the new file is removed, or stays
+pub given_up : (store bytes name : List ℕ) (fault : Fault) (gone : Bool) (old mid new : List Call) → IsLocked old
+    → (known : Option (List ℕ)) × (durable : Bool) × After store old mid (Beside name known durable) → new ≡ Removed name gone ∷ mid
+    → Replaces store bytes (Err (Kept fault)) old new
+given_up store bytes name fault true old mid new locked left is =
+    ends_kept store bytes fault old new locked (after (Removed name true) is (λ cs r. removes r) left.2)
+given_up store bytes name fault false old mid new locked left is = ends_beside store bytes name left.0 left.1 fault old new
+    locked (after (Removed name false) is (λ cs r. keeps r) left.2)
+
+-- behind the move the folder is brought to the disk, or not
+pub ended : (store bytes : List ℕ) (r : Result (Unit {0}) NotReplaced) (old mid new : List Call) → IsLocked old
+    → IfErr r (λ fault. IsUnsynced fault) → After store old mid (Placed bytes) → new ≡ SyncedFolder (is_ok r) ∷ mid
+    → Replaces store bytes r old new
+ended store bytes (Ok done) old mid new locked unsynced a is =
+    ends_durable store bytes old new locked (after (SyncedFolder true) is (λ cs r. folder_synced r) a)
+ended store bytes (Err (Kept fault)) old mid new locked unsynced a is = absurd unsynced
+ended store bytes (Err (Unsynced fault)) old mid new locked unsynced a is =
+    ends_unsynced store bytes fault old new locked (after (SyncedFolder false) is (λ cs r. folder_unsynced r) a)
+
+-- a run that makes its new file, and gives up
+pub gave_up : (store bytes name at gone_at : List ℕ) (fault : Fault) (gone : Bool) (old begun mid new : List Call)
+    → IsLocked old → at ≡ name → gone_at ≡ name → Brings store old Idle begun (Beside name (Some []) false)
+    → LeavesBeside store at begun mid
+    → new ≡ Removed gone_at gone ∷ mid → Replaces store bytes (Err (Kept fault)) old new
+gave_up store bytes name at gone_at fault gone old begun mid new locked is_at is_gone first left is =
+    let here : LeavesBeside store name begun mid = subst (λ (n : List ℕ). LeavesBeside store n begun mid) is_at left in
+    given_up store bytes name fault gone old mid new locked (here old (first old (from_nothing store old)))
+    (is ∙ ap (λ (n : List ℕ). Removed n gone ∷ mid) is_gone)
+
+-- a run that makes its new file, and puts it in the store's place
+pub went_through : (store bytes name at : List ℕ) (r : Result (Unit {0}) NotReplaced) (old begun mid new : List Call)
+    → IsLocked old → at ≡ name → Brings store old Idle begun (Beside name (Some []) false)
+    → Brings store begun (Beside at (Some []) false) mid (Placed bytes) → IfErr r (λ fault. IsUnsynced fault)
+    → new ≡ SyncedFolder (is_ok r) ∷ mid → Replaces store bytes r old new
+went_through store bytes name at r old begun mid new locked is_at first then unsynced is =
+    let here : Brings store begun (Beside name (Some []) false) mid (Placed bytes) =
+    subst (λ (n : List ℕ). Brings store begun (Beside n (Some []) false) mid (Placed bytes)) is_at then in
+    ended store bytes r old mid new locked unsynced (here old (first old (from_nothing store old))) is

@@ -1,0 +1,25 @@
+-- A call on a file or a folder, with what it answered.
+use Rattle.std.specs.Prelude.{ℕ, Bool, List, Option}
+
+-- names and bytes as they were passed; a flag tells whether the call was done
+pub data Call : Type 0 where
+  -- this run takes the folder's lock, which it keeps
+  Locked : Bool → Call
+  -- the file of a name was read whole, or there was none
+  Found : List ℕ → Option (List ℕ) → Call
+  -- a new file is made under a name that leads to none; else the name is taken, or the call failed
+  Created : List ℕ → Bool → Call
+  -- the file of a name is given an owner, a group and a mode
+  Permitted : List ℕ → Bool → Call
+  -- bytes are written at the end of the file of a name
+  Wrote : List ℕ → List ℕ → Bool → Call
+  -- the file of a name is brought to the disk
+  Synced : List ℕ → Bool → Call
+  -- the file of the first name is moved over that of the second
+  Moved : List ℕ → List ℕ → Bool → Call
+  -- the names of the folder are brought to the disk
+  SyncedFolder : Bool → Call
+  -- a name is removed
+  Removed : List ℕ → Bool → Call
+  -- the first bytes of the file of a name were read
+  Began : List ℕ → List ℕ → Call

@@ -1,0 +1,6 @@
+pub mod Call
+pub mod Calls
+pub mod Model
+pub mod Names
+pub mod Order
+pub mod Replacing

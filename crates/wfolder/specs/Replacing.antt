@@ -1,0 +1,65 @@
+-- What replacing a store does to it.
+use Rattle.std.specs.Prelude.{◌≡◌, ◌≢◌, ◌⊎◌, ⊤, ℕ, List, [], ◌∷◌, ◌++◌, Option, Some, Result, Ok, Err}
+use Rattle.wfolder.specs.Call.{Call}
+use Rattle.wfolder.specs.Call as calls
+use Rattle.wfolder.specs.Names.{IsOurs}
+use Rattle.wfolder.specs.Model.{Disk, MayHold, IsOwn, Runs, holds}
+use Rattle.wfolder.specs.declared.fault.Fault.{Fault}
+use Rattle.wfolder.specs.declared.replacing.NotReplaced.{NotReplaced}
+use Rattle.wfolder.specs.declared.replacing.NotReplaced.TheVariants.{Kept, Unsynced}
+
+-- the fault behind it
+abbrev pub fault_of : NotReplaced → Fault
+fault_of (Kept fault) = fault
+fault_of (Unsynced fault) = fault
+
+-- the store is replaced, and only its folder was not brought to the disk
+abbrev pub IsUnsynced : NotReplaced → Type 0
+IsUnsynced (Kept fault) = ⊥
+IsUnsynced (Unsynced fault) = ⊤
+
+-- at each moment, before the first call, between two and behind the last
+abbrev pub AtEachMoment : (List Call → Type 0) → List Call → Type 0
+AtEachMoment P [] = P []
+AtEachMoment P (c ∷ cs) = P (c ∷ cs) × AtEachMoment P cs
+
+-- a crash behind these calls leaves under the store's name what it might have left before them, or these bytes, whole
+abbrev pub LeavesOldOrNew : List ℕ → List ℕ → List Call → List Call → Type 0
+LeavesOldOrNew store bytes base cs = (d e : Disk) → Runs store base d cs e → (held : Option (List ℕ)) → MayHold e store held
+    → MayHold d store held ⊎ (held ≡ Some bytes)
+
+-- only what this run made, or a run that was killed, is removed; only what this run made is written and moved, over the store alone
+abbrev pub ChangesOnlyOwn : List ℕ → List Call → Type 0
+ChangesOnlyOwn store [] = ⊤
+ChangesOnlyOwn store (calls.Created name done ∷ cs) = ChangesOnlyOwn store cs
+ChangesOnlyOwn store (calls.Permitted name done ∷ cs) = IsOwn cs name × ChangesOnlyOwn store cs
+ChangesOnlyOwn store (calls.Wrote name written done ∷ cs) = IsOwn cs name × ChangesOnlyOwn store cs
+ChangesOnlyOwn store (calls.Synced name done ∷ cs) = IsOwn cs name × ChangesOnlyOwn store cs
+ChangesOnlyOwn store (calls.Moved from to done ∷ cs) = (IsOwn cs from × (to ≡ store)) × ChangesOnlyOwn store cs
+ChangesOnlyOwn store (calls.Removed name done ∷ cs) = (IsOwn cs name ⊎ ((name ≢ store) × IsOurs name)) × ChangesOnlyOwn store cs
+ChangesOnlyOwn store (c ∷ cs) = ChangesOnlyOwn store cs
+
+-- the store holds what it held, and a crash leaves nothing else than it might have left
+pub record IsKept (store : List ℕ) (d e : Disk) : Type 0 where
+  pub holds_old : holds e store ≡ holds d store
+  pub leaves_old : (held : Option (List ℕ)) → MayHold e store held → MayHold d store held
+
+-- the store holds these bytes, and a crash leaves them
+pub record IsReplaced (store bytes : List ℕ) (e : Disk) : Type 0 where
+  pub holds_new : holds e store ≡ Some bytes
+  pub leaves_new : (held : Option (List ℕ)) → MayHold e store held → held ≡ Some bytes
+
+-- how it ends: replaced; or kept at a fault, but where only the folder was not brought to the disk: then the store holds the new
+-- bytes, and a crash may leave what it might have left before
+abbrev pub IsEnd : List ℕ → List ℕ → Result (Unit {0}) NotReplaced → Disk → Disk → Type 0
+IsEnd store bytes (Ok done) d e = IsReplaced store bytes e
+IsEnd store bytes (Err (Kept fault)) d e = IsKept store d e
+IsEnd store bytes (Err (Unsynced fault)) d e = holds e store ≡ Some bytes
+
+-- a store is replaced by the calls between the one record and the other
+pub record Replaces (store bytes : List ℕ) (result : Result (Unit {0}) NotReplaced) (old new : List Call) : Type 0 where
+  pub since : List Call
+  pub is : new ≡ since ++ old
+  pub own : ChangesOnlyOwn store since
+  pub moments : AtEachMoment (LeavesOldOrNew store bytes old) since
+  pub end : (d e : Disk) → Runs store old d since e → IsEnd store bytes result d e

@@ -1,0 +1,111 @@
+//! The calls on a folder that replacing a store makes.
+ghost use Rattle.std.specs.Prelude.{◌≡◌, ◌∷◌, List, IfOk, IfErr, OnOk, OnErr, is_ok, false};
+ghost use Rattle.wfolder.specs.Call.{Call, Created, Permitted, Wrote, Synced, Moved, SyncedFolder, Removed};
+ghost use Rattle.wfolder.specs.Calls.{CallCounts, HasCause, IsSound};
+ghost use Rattle.wfolder.specs.declared.fault.Fault.TheVariants.{NoMemory};
+
+use crate::fault::Fault;
+use std::alloc::Global;
+use std::fs::Permissions;
+
+/// Who may read and write a file.
+#[derive(Drop)]
+pub struct Access {
+    /// The number of the user whose file it is.
+    pub owner: u32,
+    /// The number of its group.
+    pub group: u32,
+    /// What they and others may do.
+    pub permissions: Permissions,
+}
+
+/// Where a store stands: its path, that of its folder, and who may read and write the file that stands there, if there is one.
+#[derive(Drop)]
+pub struct Target {
+    /// The path of the store, behind the links to it.
+    pub path: String,
+    /// The path of its folder, in which the new file is made.
+    pub folder: String,
+    /// The access of the file that stands there.
+    pub access: Option<Access>,
+}
+
+/// A folder whose calls are recorded with their answers. What they do to the folder, and what a crash may leave of it, the
+/// definitions over this record say. Each fault has its cause in the counts.
+pub trait Folder {
+    /// The calls that were made, the newest first.
+    ghost calls: { Self → List Call };
+
+    /// What is counted of the calls.
+    ghost counts: { Self → CallCounts };
+
+    /// The fault of a growth that was refused.
+    fn lacks_memory(&mut self) -> Fault
+        requires { IsSound (counts self.old) }
+        ensures fault { result ≡ NoMemory }
+        ensures calls { calls self.new ≡ calls self.old }
+        ensures cause { HasCause result (counts self.new) };
+
+    /// The fault of a path that is no place for a file.
+    fn misplaced(&mut self) -> Fault
+        requires { IsSound (counts self.old) }
+        ensures fault { result ≡ Fault.Write }
+        ensures calls { calls self.new ≡ calls self.old }
+        ensures cause { HasCause result (counts self.new) };
+
+    /// The names of the folder's files that begin as those of new files do.
+    fn names(&mut self, alloc: Global, folder: &str) -> Result<Vec<String>, Fault>
+        requires { IsSound (counts self.old) }
+        ensures calls { calls self.new ≡ calls self.old }
+        ensures sound { OnOk result (IsSound (counts self.new)) }
+        ensures cause { IfErr result (λ fault. HasCause fault (counts self.new)) };
+
+    /// Makes a new file, open for writing, and tells whether its name was free. One that is to have another's access is for its
+    /// owner alone.
+    fn create_new(&mut self, path: &str, is_closed: bool) -> Result<bool, Fault>
+        requires { IsSound (counts self.old) }
+        ensures made { IfOk result (λ is_made. calls self.new ≡ Created path.now is_made ∷ calls self.old) }
+        ensures failed { OnErr result (calls self.new ≡ Created path.now false ∷ calls self.old) }
+        ensures sound { OnOk result (IsSound (counts self.new)) }
+        ensures cause { IfErr result (λ fault. HasCause fault (counts self.new)) };
+
+    /// Gives the file that was made last, under this path, an owner, a group and a mode.
+    fn permit(&mut self, path: &str, access: &Access) -> Result<(), Fault>
+        requires { IsSound (counts self.old) }
+        ensures calls { calls self.new ≡ Permitted path.now (is_ok result) ∷ calls self.old }
+        ensures sound { OnOk result (IsSound (counts self.new)) }
+        ensures cause { IfErr result (λ fault. HasCause fault (counts self.new)) };
+
+    /// Writes these bytes, all of them, at the end of the file that was made last, under this path.
+    fn write(&mut self, path: &str, bytes: &[u8]) -> Result<(), Fault>
+        requires { IsSound (counts self.old) }
+        ensures calls { calls self.new ≡ Wrote path.now bytes.now (is_ok result) ∷ calls self.old }
+        ensures sound { OnOk result (IsSound (counts self.new)) }
+        ensures cause { IfErr result (λ fault. HasCause fault (counts self.new)) };
+
+    /// Brings the file that was made last, under this path, to the disk.
+    fn sync(&mut self, path: &str) -> Result<(), Fault>
+        requires { IsSound (counts self.old) }
+        ensures calls { calls self.new ≡ Synced path.now (is_ok result) ∷ calls self.old }
+        ensures sound { OnOk result (IsSound (counts self.new)) }
+        ensures cause { IfErr result (λ fault. HasCause fault (counts self.new)) };
+
+    /// Moves a file over another.
+    fn rename(&mut self, from: &str, to: &str) -> Result<(), Fault>
+        requires { IsSound (counts self.old) }
+        ensures calls { calls self.new ≡ Moved from.now to.now (is_ok result) ∷ calls self.old }
+        ensures sound { OnOk result (IsSound (counts self.new)) }
+        ensures cause { IfErr result (λ fault. HasCause fault (counts self.new)) };
+
+    /// Brings the names of the folder that is locked to the disk.
+    fn sync_folder(&mut self) -> Result<(), Fault>
+        requires { IsSound (counts self.old) }
+        ensures calls { calls self.new ≡ SyncedFolder (is_ok result) ∷ calls self.old }
+        ensures sound { OnOk result (IsSound (counts self.new)) }
+        ensures cause { IfErr result (λ fault. HasCause fault (counts self.new)) };
+
+    /// Removes a file, if it can, and tells whether it did. One that cannot be removed is no failure.
+    fn remove(&mut self, path: &str) -> bool
+        ensures calls { calls self.new ≡ Removed path.now result ∷ calls self.old }
+        ensures counts { counts self.new ≡ counts self.old };
+}

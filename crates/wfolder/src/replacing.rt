@@ -1,0 +1,289 @@
+//! A store, replaced whole.
+ghost use Rattle.std.specs.Prelude.{◌≡◌, ◌≢◌, ◌++◌, ◌∷◌, [], Some, false, true, IfOk, IfErr, IfSome};
+ghost use Rattle.std.specs.Prelude.{OnOk, OnErr, IsTrue, is_ok, option_map, string_bytes};
+ghost use Rattle.std.specs.List.{list_all};
+ghost use Rattle.wfolder.specs.Calls.{HasCause, IsSound};
+ghost use Rattle.wfolder.specs.Names.{IsNewName, IsOurs, is_number_byte};
+ghost use Rattle.wfolder.specs.Order.{Beside, Brings, Idle, LeavesBeside, MakesNew, Placed};
+ghost use Rattle.wfolder.specs.Call.{SyncedFolder};
+ghost use Rattle.wfolder.specs.Model.{IsLocked};
+ghost use Rattle.wfolder.specs.Replacing.{IsUnsynced, Replaces, fault_of};
+
+use crate::fault::Fault;
+use crate::folder::{Folder, Target};
+use std::alloc::{AllocError, Global};
+
+/// How many names are tried for a new file.
+const TRIES: u32 = 1000;
+
+// A digit, or the - between two numbers.
+fn is_number_byte(byte: u8) -> bool
+    ensures { result ≡ is_number_byte byte }
+{
+    byte.is_ascii_digit() || byte == b'-'
+}
+
+fn are_number_bytes(bytes: &[u8]) -> bool
+    ensures { result ≡ list_all is_number_byte bytes.now }
+{
+    bytes.iter().all(|byte| is_number_byte(*byte))
+}
+
+// Whether a file's name is one that this program gives to new files.
+fn is_new_name(name: &[u8]) -> bool
+    ensures { IsTrue result → IsNewName name.now }
+{
+    match name.strip_prefix(b".wstore-") {
+        Some(numbers) => are_number_bytes(numbers),
+        None => false,
+    }
+}
+
+/// The path of a file in a folder.
+pub fn path_in(alloc: Global, folder: &str, name: &str) -> Result<String, AllocError>
+    ensures { IfOk result (λ path. string_bytes path ≡ folder.now ++ 47 ∷ name.now) }
+{
+    let mut path = String::from_str(alloc, folder)?;
+    path.push_str("/")?;
+    path.push_str(name)?;
+    Ok(path)
+}
+
+// The path of a file whose name is that of a new one, if it is not the store itself.
+fn path_beside(alloc: Global, target: &Target, name: &str) -> Result<Option<String>, AllocError>
+    ensures { IfOk result (λ found. IfSome found (λ path. IsOurs (string_bytes path)
+        × (string_bytes path ≢ string_bytes target.now.path))) }
+{
+    if !is_new_name(name.as_bytes()) {
+        return Ok(None);
+    }
+    let path = path_in(alloc, target.folder.as_str(), name)?;
+    if path == target.path {
+        return Ok(None);
+    }
+    Ok(Some(path))
+}
+
+// Gives the new file the access of the old one, if there is one.
+fn allow<F: Folder>(folder: &mut F, target: &Target, new: &str) -> Result<(), Fault>
+    requires { IsSound (F.counts folder.old) }
+    ensures brings { Brings (string_bytes target.now.path) (F.calls folder.old) (Beside new.now (Some []) false)
+        (F.calls folder.new) (Beside new.now (Some []) false) }
+    ensures sound { OnOk result (IsSound (F.counts folder.new)) }
+    ensures cause { IfErr result (λ fault. HasCause fault (F.counts folder.new)) }
+{
+    match &target.access {
+        Some(access) => folder.permit(new, access),
+        None => Ok(()),
+    }
+}
+
+// The bytes, in the new file, on the disk.
+fn fill<F: Folder>(folder: &mut F, target: &Target, new: &str, bytes: &[u8]) -> Result<(), Fault>
+    requires { IsSound (F.counts folder.old) }
+    ensures filled { OnOk result (Brings (string_bytes target.now.path) (F.calls folder.old)
+        (Beside new.now (Some []) false) (F.calls folder.new) (Beside new.now (Some bytes.now) true)) }
+    ensures left { OnErr result (LeavesBeside (string_bytes target.now.path) new.now (F.calls folder.old) (F.calls folder.new)) }
+    ensures sound { OnOk result (IsSound (F.counts folder.new)) }
+    ensures cause { IfErr result (λ fault. HasCause fault (F.counts folder.new)) }
+{
+    allow(folder, target, new)?;
+    folder.write(new, bytes)?;
+    folder.sync(new)
+}
+
+// The bytes in the new file, and then in the store's place.
+fn put<F: Folder>(folder: &mut F, target: &Target, new: &str, bytes: &[u8]) -> Result<(), Fault>
+    requires { IsSound (F.counts folder.old) }
+    ensures placed { OnOk result (Brings (string_bytes target.now.path) (F.calls folder.old)
+        (Beside new.now (Some []) false) (F.calls folder.new) (Placed bytes.now)) }
+    ensures left { OnErr result (LeavesBeside (string_bytes target.now.path) new.now (F.calls folder.old) (F.calls folder.new)) }
+    ensures sound { OnOk result (IsSound (F.counts folder.new)) }
+    ensures cause { IfErr result (λ fault. HasCause fault (F.counts folder.new)) }
+{
+    fill(folder, target, new, bytes)?;
+    folder.rename(new, target.path.as_str())
+}
+
+// Makes a new file of this path, if the name is free.
+fn create_at<F: Folder>(
+    folder: &mut F,
+    target: &Target,
+    path: String,
+) -> Result<Option<String>, Fault>
+    requires sound { IsSound (F.counts folder.old) }
+    requires ours { IsOurs (string_bytes path) }
+    requires other { string_bytes path ≢ string_bytes target.now.path }
+    ensures makes { IfOk result (λ found. MakesNew (string_bytes target.now.path) (F.calls folder.old) (F.calls folder.new)
+        (option_map (λ name. string_bytes name) found)) }
+    ensures idle { OnErr result (Brings (string_bytes target.now.path) (F.calls folder.old) Idle (F.calls folder.new) Idle) }
+    ensures sound { OnOk result (IsSound (F.counts folder.new)) }
+    ensures cause { IfErr result (λ fault. HasCause fault (F.counts folder.new)) }
+{
+    match folder.create_new(path.as_str(), target.access.is_some()) {
+        Ok(true) => Ok(Some(path)),
+        Ok(false) => Ok(None),
+        Err(fault) => Err(fault),
+    }
+}
+
+// Makes a new file under the name with this number, if it is free.
+fn try_new<F: Folder>(
+    alloc: Global,
+    folder: &mut F,
+    target: &Target,
+    number: u32,
+) -> Result<Option<String>, Fault>
+    requires sound { IsSound (F.counts folder.old) }
+    ensures makes { IfOk result (λ found. MakesNew (string_bytes target.now.path) (F.calls folder.old) (F.calls folder.new)
+        (option_map (λ name. string_bytes name) found)) }
+    ensures idle { OnErr result (Brings (string_bytes target.now.path) (F.calls folder.old) Idle (F.calls folder.new) Idle) }
+    ensures sound { OnOk result (IsSound (F.counts folder.new)) }
+    ensures cause { IfErr result (λ fault. HasCause fault (F.counts folder.new)) }
+{
+    let Ok(name) = format!(in alloc; ".wstore-{number}") else {
+        return Err(folder.lacks_memory());
+    };
+    match path_beside(alloc, target, name.as_str()) {
+        Ok(Some(path)) => create_at(folder, target, path),
+        Ok(None) => Ok(None),
+        Err(_) => Err(folder.lacks_memory()),
+    }
+}
+
+// Makes a new file beside the store, under a name that is free.
+fn make_new<F: Folder>(alloc: Global, folder: &mut F, target: &Target) -> Result<String, Fault>
+    requires sound { IsSound (F.counts folder.old) }
+    ensures made { IfOk result (λ name. Brings (string_bytes target.now.path) (F.calls folder.old) Idle (F.calls folder.new)
+        (Beside (string_bytes name) (Some []) false)) }
+    ensures idle { OnErr result (Brings (string_bytes target.now.path) (F.calls folder.old) Idle (F.calls folder.new) Idle) }
+    ensures sound { OnOk result (IsSound (F.counts folder.new)) }
+    ensures cause { IfErr result (λ fault. HasCause fault (F.counts folder.new)) }
+{
+    'tries: for number in 0..TRIES {
+        match try_new(alloc, folder, target, number) {
+            Ok(Some(path)) => return Ok(path),
+            Ok(None) => {}
+            Err(fault) => return Err(fault),
+        }
+    }
+    Err(folder.misplaced())
+}
+
+// Removes a file of this name, if the name is that of a new file: a run that was killed has left it.
+fn clear_name<F: Folder>(
+    alloc: Global,
+    folder: &mut F,
+    target: &Target,
+    name: &str,
+) -> Result<(), Fault>
+    requires sound { IsSound (F.counts folder.old) }
+    ensures idle { Brings (string_bytes target.now.path) (F.calls folder.old) Idle (F.calls folder.new) Idle }
+    ensures sound { OnOk result (IsSound (F.counts folder.new)) }
+    ensures cause { IfErr result (λ fault. HasCause fault (F.counts folder.new)) }
+{
+    match path_beside(alloc, target, name) {
+        Ok(Some(path)) => {
+            folder.remove(path.as_str());
+            Ok(())
+        }
+        Ok(None) => Ok(()),
+        Err(_) => Err(folder.lacks_memory()),
+    }
+}
+
+// Removes what runs that were killed have left in the folder. This run holds its lock, so no other is at work there.
+fn clear<F: Folder>(alloc: Global, folder: &mut F, target: &Target) -> Result<(), Fault>
+    requires sound { IsSound (F.counts folder.old) }
+    ensures idle { Brings (string_bytes target.now.path) (F.calls folder.old) Idle (F.calls folder.new) Idle }
+    ensures sound { OnOk result (IsSound (F.counts folder.new)) }
+    ensures cause { IfErr result (λ fault. HasCause fault (F.counts folder.new)) }
+{
+    let names = match folder.names(alloc, target.folder.as_str()) {
+        Ok(names) => names,
+        Err(fault) => return Err(fault),
+    };
+    'names: for name in names.iter() {
+        if let Err(fault) = clear_name(alloc, folder, target, name.as_str()) {
+            return Err(fault);
+        }
+    }
+    Ok(())
+}
+
+// Makes the new file, where nothing of an earlier run is left.
+fn begin<F: Folder>(alloc: Global, folder: &mut F, target: &Target) -> Result<String, Fault>
+    requires sound { IsSound (F.counts folder.old) }
+    ensures made { IfOk result (λ name. Brings (string_bytes target.now.path) (F.calls folder.old) Idle (F.calls folder.new)
+        (Beside (string_bytes name) (Some []) false)) }
+    ensures idle { OnErr result (Brings (string_bytes target.now.path) (F.calls folder.old) Idle (F.calls folder.new) Idle) }
+    ensures sound { OnOk result (IsSound (F.counts folder.new)) }
+    ensures cause { IfErr result (λ fault. HasCause fault (F.counts folder.new)) }
+{
+    match clear(alloc, folder, target) {
+        Ok(()) => make_new(alloc, folder, target),
+        Err(fault) => Err(fault),
+    }
+}
+
+/// Why a store is not replaced, or may not stay so.
+#[derive(Clone, Copy, Debug, PartialEq, Eq)]
+pub enum NotReplaced {
+    /// The store is as it was.
+    Kept(Fault),
+    /// The store has the new bytes, but its folder was not brought to the disk: a crash may leave what it might have left before.
+    Unsynced(Fault),
+}
+
+impl NotReplaced {
+    /// The fault behind it.
+    pub fn fault(self) -> Fault
+        ensures { result ≡ fault_of self }
+    {
+        match self {
+            NotReplaced::Kept(fault) => fault,
+            NotReplaced::Unsynced(fault) => fault,
+        }
+    }
+}
+
+// Brings the folder to the disk, once the store is replaced.
+fn sync_folder<F: Folder>(folder: &mut F) -> Result<(), NotReplaced>
+    requires { IsSound (F.counts folder.old) }
+    ensures calls { F.calls folder.new ≡ SyncedFolder (is_ok result) ∷ F.calls folder.old }
+    ensures unsynced { IfErr result (λ fault. IsUnsynced fault) }
+    ensures sound { OnOk result (IsSound (F.counts folder.new)) }
+    ensures cause { IfErr result (λ fault. HasCause (fault_of fault) (F.counts folder.new)) }
+{
+    match folder.sync_folder() {
+        Ok(()) => Ok(()),
+        Err(fault) => Err(NotReplaced::Unsynced(fault)),
+    }
+}
+
+/// Puts these bytes in the place of the store's, whole, while this run holds the lock of its folder. They are written into a
+/// new file beside it, which is brought to the disk and moved over the store, and then the folder is brought to the disk. A
+/// machine that stops in any of the calls leaves the store that it might have left before, or these bytes. `Ok`: the store has
+/// these bytes, and a crash leaves them. Only what this run made, or a run that was killed, is changed or removed.
+pub fn replace<F: Folder>(
+    alloc: Global,
+    folder: &mut F,
+    target: &Target,
+    bytes: &[u8],
+) -> Result<(), NotReplaced>
+    requires sound { IsSound (F.counts folder.old) }
+    requires locked { IsLocked (F.calls folder.old) }
+    ensures replaces { Replaces (string_bytes target.now.path) bytes.now result (F.calls folder.old) (F.calls folder.new) }
+    ensures sound { OnOk result (IsSound (F.counts folder.new)) }
+    ensures cause { IfErr result (λ fault. HasCause (fault_of fault) (F.counts folder.new)) }
+{
+    let new = match begin(alloc, folder, target) {
+        Ok(new) => new,
+        Err(fault) => return Err(NotReplaced::Kept(fault)),
+    };
+    if let Err(fault) = put(folder, target, new.as_str(), bytes) {
+        folder.remove(new.as_str());
+        return Err(NotReplaced::Kept(fault));
+    }
+    sync_folder(folder)
+}
