@@ -22,7 +22,7 @@ use Rattle.wset.proofs.Later.{take_later, retire_later, dispute_later, floor_lat
 use Rattle.wrecords.specs.Forms.{IsForm, IsNumber, IsDigest, line_of}
 use Rattle.wrecords.specs.Cuts.{IsUnfed}
 use Rattle.wexchange.specs.Files.{head, begun, counted, digest_of, digest_text, end_text, table_text}
-use Rattle.wexchange.specs.Files.{text_of, record_text, IsRecord, IsView, MayTell, Tells}
+use Rattle.wexchange.specs.Files.{record_text, IsRecord, IsView, MayTell, Tells}
 use Rattle.wexchange.specs.Judging.{HasOtherHead, IsCutHead, GoesOn, AtDigest, AtTable, Behind, Place, Follows, MayStand}
 use Rattle.wexchange.specs.Judging.{body_length, record_name, IsFault, HasOtherTable, HasBadSegment, HasTable}
 use Rattle.wexchange.specs.Steps.{Adds, Spoils, file_fault}
@@ -372,15 +372,6 @@ more_behind_one d v (b ∷ rest) bytes some view may e = record {
   may = may;
   bytes_are = e ∙ ap (λ l. l ++ (b ∷ rest)) (sym (append-nil (counted One d (entries v))));
 }
-
-pub whole_one : (d : Declaration) (v : View) (after bytes : List ℕ) → after ≡ []
-    → bytes ≡ counted One d (entries v) ++ after → bytes ≡ text_of One d v
-whole_one d v after bytes none e = e ∙ ap (λ l. counted One d (entries v) ++ l) none
-
-pub whole_two : (d : Declaration) (v : View) (front after bytes : List ℕ) → ((x : List ℕ) → bytes ≡ x ++ after → front ≡ x)
-    → after ≡ digest_text front → bytes ≡ counted Two d (entries v) ++ after → bytes ≡ text_of Two d v
-whole_two d v front after bytes before sealed_is e =
-    e ∙ ap (λ l. counted Two d (entries v) ++ l) (sealed_is ∙ ap digest_text (before (counted Two d (entries v)) e))
 
 -- ---- the loop
 

@@ -12,8 +12,10 @@ ghost use Rattle.wexchange.specs.Judging.{GoesOn, AtDigest, AtTable, Behind, IsF
 ghost use Rattle.wexchange.specs.Steps.{ReadsNext, Spoils, file_fault};
 
 use crate::fault::FileFault;
+use crate::hashed::Hashed;
+use crate::hashing::behind;
 use crate::seal::is_sealed;
-use crate::version::Version;
+use crate::version::{Version, head_of};
 use std::alloc::Global;
 use wrecords::{Body, DIGITS, Form, cut_body, cut_line, read_form};
 use wsegment::{Schema, SegmentFault};
@@ -28,26 +30,12 @@ enum Next<'a> {
     End(u32, &'a [u8]),
 }
 
-// The first line of a version.
-fn head_of(version: Version) -> &'static [u8]
-    ensures { result.now ≡ head version }
-{
-    match version {
-        Version::One => b"WSX1\n",
-        Version::Two => b"WSX2\n",
-    }
-}
-
 // What stands behind the first line of a version, if that stands first.
 fn behind_head(version: Version, bytes: &[u8]) -> Option<&[u8]>
     ensures found { IfSome result (λ rest. bytes.now ≡ head version ++ rest.now) }
     ensures none { IfNone result ((rest : List ℕ) → bytes.now ≢ head version ++ rest) }
 {
-    let head = head_of(version);
-    if bytes.starts_with(head) {
-        return Some(&bytes[head.len()..]);
-    }
-    None
+    behind(head_of(version), bytes)
 }
 
 // Whether the bytes are a front of the first line of a version.
@@ -288,12 +276,18 @@ fn judge_rest(after: &[u8]) -> Result<(), FileFault>
 
 // Judges what stands behind the line of the digest of version 2: nothing, where the digest is that of what stands
 // before the line.
-fn judge_digits(front: &[u8], digits: &[u8; DIGITS], rest: &[u8]) -> Result<(), FileFault>
-    ensures end { OnOk result ((digits.now ≡ digest_of front.now) × (rest.now ≡ [])) }
-    ensures fault { IfErr result (λ fault. ((fault ≡ OtherDigest) × (digits.now ≢ digest_of front.now))
-        ⊎ ((fault ≡ Trailing) × (digits.now ≡ digest_of front.now) × (0 < length rest.now))) }
+fn judge_digits(
+    bytes: &Hashed<'_>,
+    after: &[u8],
+    digits: &[u8; DIGITS],
+    rest: &[u8],
+) -> Result<(), FileFault>
+    ensures end { OnOk result ((front : List ℕ) → bytes.now ≡ front ++ after.now → (digits.now ≡ digest_of front) × (rest.now ≡ [])) }
+    ensures fault { IfErr result (λ fault. (front : List ℕ) → bytes.now ≡ front ++ after.now
+        → ((fault ≡ OtherDigest) × (digits.now ≢ digest_of front))
+        ⊎ ((fault ≡ Trailing) × (digits.now ≡ digest_of front) × (0 < length rest.now))) }
 {
-    if !is_sealed(front, digits) {
+    if !is_sealed(bytes, after, digits) {
         return Err(FileFault::OtherDigest);
     }
     judge_rest(rest)
@@ -316,10 +310,10 @@ fn digits_in(form: Form) -> Option<[u8; DIGITS]>
 }
 
 // Judges what stands behind the line of the end in version 2: the digest of all before it, and then nothing.
-fn judge_digest(front: &[u8], after: &[u8]) -> Result<(), FileFault>
-    ensures end { OnOk result (after.now ≡ digest_text front.now) }
-    ensures fault { IfErr result (λ fault. (d : Declaration) (v : View) (bytes : List ℕ) → IsView d v
-        → front.now ≡ counted Version.Two d (map.entries v) → bytes ≡ front.now ++ after.now → IsFault d bytes fault) }
+fn judge_digest(bytes: &Hashed<'_>, after: &[u8]) -> Result<(), FileFault>
+    ensures end { OnOk result ((front : List ℕ) → bytes.now ≡ front ++ after.now → after.now ≡ digest_text front) }
+    ensures fault { IfErr result (λ fault. (d : Declaration) (v : View) → IsView d v
+        → bytes.now ≡ counted Version.Two d (map.entries v) ++ after.now → IsFault d bytes.now fault) }
 {
     let Some((line, rest)) = cut_line(after) else {
         return Err(FileFault::Truncated);
@@ -330,19 +324,11 @@ fn judge_digest(front: &[u8], after: &[u8]) -> Result<(), FileFault>
     let Some(digits) = digits_in(form) else {
         return Err(FileFault::OtherFormat);
     };
-    judge_digits(front, &digits, rest)
-}
-
-// What stands before the end of bytes.
-fn front_before<'a>(bytes: &'a [u8], after: &[u8]) -> &'a [u8]
-    ensures { (front : List ℕ) → bytes.now ≡ front ++ after.now → result.now ≡ front }
-{
-    let end = bytes.len().saturating_sub(after.len());
-    &bytes[..end]
+    judge_digits(bytes, after, &digits, rest)
 }
 
 // Judges what stands behind the line of the end: in version 2 the digest, and then nothing.
-fn judge_end(version: Version, bytes: &[u8], after: &[u8]) -> Result<(), FileFault>
+fn judge_end(version: Version, bytes: &Hashed<'_>, after: &[u8]) -> Result<(), FileFault>
     ensures end { OnOk result ((d : Declaration) (v : View) → bytes.now ≡ counted version d (map.entries v) ++ after.now
         → bytes.now ≡ text_of version d v) }
     ensures fault { IfErr result (λ fault. (d : Declaration) (v : View) → IsView d v → MayTell version v
@@ -350,14 +336,14 @@ fn judge_end(version: Version, bytes: &[u8], after: &[u8]) -> Result<(), FileFau
 {
     match version {
         Version::One => judge_rest(after),
-        Version::Two => judge_digest(front_before(bytes, after), after),
+        Version::Two => judge_digest(bytes, after),
     }
 }
 
 // Judges what stands behind the records: their count, in version 2 the digest, and then nothing.
 fn ended(
     version: Version,
-    bytes: &[u8],
+    bytes: &Hashed<'_>,
     set: SegmentSet,
     count: u32,
     after: &[u8],
@@ -381,7 +367,7 @@ fn ended(
 // Reads the records and the end into a set.
 fn read_records(
     version: Version,
-    bytes: &[u8],
+    bytes: &Hashed<'_>,
     set: SegmentSet,
     known: &SegmentSet,
     rest: &[u8],
@@ -419,7 +405,7 @@ fn read_behind(
     alloc: Global,
     known: &SegmentSet,
     version: Version,
-    bytes: &[u8],
+    bytes: &Hashed<'_>,
     records: &[u8],
 ) -> Result<SegmentSet, FileFault>
     requires { bytes.now ≡ head version ++ (table_text known.now.schema ++ records.now) }
@@ -436,14 +422,27 @@ fn read_behind(
 /// The set whose file the bytes are, or where it has no floor its text in version 1, under the declaration of a set that
 /// is known, or their first fault from left to right. A content that the known set has live under its name is compared
 /// with it and shared; others are judged, and their cells are made unless the known set is lazy. The digest of a file of
-/// version 2 is taken where all before it is right.
+/// version 2 is taken where all before it is right, from the last state of the hasher on.
+pub fn read_hashed(
+    alloc: Global,
+    known: &SegmentSet,
+    bytes: &Hashed<'_>,
+) -> Result<SegmentSet, FileFault>
+    ensures view { IfOk result (λ set. IsFileOf known.now.schema set.view bytes.now) }
+    ensures schema { IfOk result (λ set. set.schema ≡ known.now.schema) }
+    ensures fault { IfErr result (λ fault. IsFault known.now.schema bytes.now fault) }
+{
+    let (version, records) = read_front(known.schema(), bytes.bytes())?;
+    read_behind(alloc, known, version, bytes, records)
+}
+
+/// The same, where the bytes were not hashed before.
 pub fn read_beside(alloc: Global, known: &SegmentSet, bytes: &[u8]) -> Result<SegmentSet, FileFault>
     ensures view { IfOk result (λ set. IsFileOf known.now.schema set.view bytes.now) }
     ensures schema { IfOk result (λ set. set.schema ≡ known.now.schema) }
     ensures fault { IfErr result (λ fault. IsFault known.now.schema bytes.now fault) }
 {
-    let (version, records) = read_front(known.schema(), bytes)?;
-    read_behind(alloc, known, version, bytes, records)
+    read_hashed(alloc, known, &Hashed::bare(bytes))
 }
 
 /// The set whose file the bytes are, or where it has no floor its text in version 1, under this declaration, or their
@@ -461,7 +460,7 @@ pub fn read(alloc: Global, schema: &Schema, bytes: &[u8]) -> Result<SegmentSet, 
         alloc,
         &SegmentSet::new(alloc, copied),
         version,
-        bytes,
+        &Hashed::bare(bytes),
         records,
     )
 }

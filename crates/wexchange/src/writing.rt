@@ -2,7 +2,6 @@
 ghost use Rattle.std.specs.Prelude.{◌≡◌, ℕ, List, ◌++◌, ◌∷◌, [], OnOk, OnErr};
 ghost use Rattle.std.specs.Io.KnownBytes.{Appends};
 ghost use Rattle.std.specs.List.{flat_map};
-ghost use Rattle.sha2.specs.Hashers.{Holds256};
 ghost use Rattle.wlines.specs.Pending.{IsSoundWriter};
 ghost use Rattle.wrecords.specs.Forms.{name_words};
 ghost use Rattle.wexchange.specs.declared.version.Version.TheVariants.{Two};
@@ -10,27 +9,28 @@ ghost use Rattle.std.specs.FinMap as map;
 ghost use Rattle.wentries.specs.Holding.{told_of};
 ghost use Rattle.wentries.specs.Knowledge.{Live};
 ghost use Rattle.wexchange.specs.Files.{counted, digest_of, digest_text, end_text, file_of, head, record_text, table_text};
+ghost use Rattle.wexchange.specs.Hashing.{Has};
 ghost use Rattle.wexchange.specs.Writing.{AppendsFront};
 
-use hex::encode_to_slice;
+use crate::hashed::Hashed;
+use crate::hashing::Hashing;
+use crate::seal::digits_of;
 use itoa::Buffer;
-use sha2::{Digest, Sha256};
 use std::io::Write;
 use wlines::{WriteFault, write_reply};
-use wrecords::DIGITS;
 use wset::{Known, SegmentSet};
 use wvalues::{Counted, Name};
 
 // Writes these bytes, one part after the other, or a front of them and then a fault.
 fn write_parts<W: Write>(
     output: &mut Counted<W>,
-    hasher: &mut Sha256,
+    hasher: &mut Hashing<'_>,
     parts: &[&[u8]],
 ) -> Result<(), WriteFault>
     requires { IsSoundWriter output.old }
     ensures ok { OnOk result (Appends (W.contents output.old.inner) (W.contents output.new.inner) (flat_map (λ part. part.now) parts.now)) }
-    ensures hashed { OnOk result ((text : List ℕ) → Holds256 hasher.old text
-        → Holds256 hasher.new (text ++ flat_map (λ part. part.now) parts.now)) }
+    ensures hashed { OnOk result ((text : List ℕ) → Has hasher.old text
+        → Has hasher.new (text ++ flat_map (λ part. part.now) parts.now)) }
     ensures sound { OnOk result (IsSoundWriter output.new) }
     ensures front { OnErr result (AppendsFront (W.contents output.old.inner) (W.contents output.new.inner)
         (flat_map (λ part. part.now) parts.now)) }
@@ -40,7 +40,7 @@ fn write_parts<W: Write>(
         if let Err(fault) = write_reply(output, part) {
             return Err(fault);
         }
-        hasher.update(*part);
+        hasher.update(part);
     }
     Ok(())
 }
@@ -48,15 +48,15 @@ fn write_parts<W: Write>(
 // Writes the record of a name without content.
 fn write_mark<W: Write>(
     output: &mut Counted<W>,
-    hasher: &mut Sha256,
+    hasher: &mut Hashing<'_>,
     letter: &[u8],
     name: &Name,
 ) -> Result<(), WriteFault>
     requires { IsSoundWriter output.old }
     ensures ok { OnOk result (Appends (W.contents output.old.inner) (W.contents output.new.inner)
         (letter.now ++ (name_words name.now ++ 10 ∷ []))) }
-    ensures hashed { OnOk result ((text : List ℕ) → Holds256 hasher.old text
-        → Holds256 hasher.new (text ++ (letter.now ++ (name_words name.now ++ 10 ∷ [])))) }
+    ensures hashed { OnOk result ((text : List ℕ) → Has hasher.old text
+        → Has hasher.new (text ++ (letter.now ++ (name_words name.now ++ 10 ∷ [])))) }
     ensures sound { OnOk result (IsSoundWriter output.new) }
     ensures front { OnErr result (AppendsFront (W.contents output.old.inner) (W.contents output.new.inner)
         (letter.now ++ (name_words name.now ++ 10 ∷ []))) }
@@ -74,15 +74,15 @@ fn write_mark<W: Write>(
 // Writes the record of a content.
 fn write_content<W: Write>(
     output: &mut Counted<W>,
-    hasher: &mut Sha256,
+    hasher: &mut Hashing<'_>,
     name: &Name,
     content: &[u8],
 ) -> Result<(), WriteFault>
     requires { IsSoundWriter output.old }
     ensures ok { OnOk result (Appends (W.contents output.old.inner) (W.contents output.new.inner)
         (record_text (name.now, Live content.now))) }
-    ensures hashed { OnOk result ((text : List ℕ) → Holds256 hasher.old text
-        → Holds256 hasher.new (text ++ record_text (name.now, Live content.now))) }
+    ensures hashed { OnOk result ((text : List ℕ) → Has hasher.old text
+        → Has hasher.new (text ++ record_text (name.now, Live content.now))) }
     ensures sound { OnOk result (IsSoundWriter output.new) }
     ensures front { OnErr result (AppendsFront (W.contents output.old.inner) (W.contents output.new.inner)
         (record_text (name.now, Live content.now))) }
@@ -112,15 +112,15 @@ fn write_content<W: Write>(
 // Writes the record of a name, or of a floor.
 fn write_record<W: Write>(
     output: &mut Counted<W>,
-    hasher: &mut Sha256,
+    hasher: &mut Hashing<'_>,
     name: &Name,
     known: Known<'_>,
 ) -> Result<(), WriteFault>
     requires { IsSoundWriter output.old }
     ensures ok { OnOk result (Appends (W.contents output.old.inner) (W.contents output.new.inner)
         (record_text (name.now, told_of known.entry))) }
-    ensures hashed { OnOk result ((text : List ℕ) → Holds256 hasher.old text
-        → Holds256 hasher.new (text ++ record_text (name.now, told_of known.entry))) }
+    ensures hashed { OnOk result ((text : List ℕ) → Has hasher.old text
+        → Has hasher.new (text ++ record_text (name.now, told_of known.entry))) }
     ensures sound { OnOk result (IsSoundWriter output.new) }
     ensures front { OnErr result (AppendsFront (W.contents output.old.inner) (W.contents output.new.inner)
         (record_text (name.now, told_of known.entry))) }
@@ -138,13 +138,13 @@ fn write_record<W: Write>(
 fn write_records<W: Write>(
     set: &SegmentSet,
     output: &mut Counted<W>,
-    hasher: &mut Sha256,
+    hasher: &mut Hashing<'_>,
 ) -> Result<(), WriteFault>
     requires { IsSoundWriter output.old }
     ensures ok { OnOk result (Appends (W.contents output.old.inner) (W.contents output.new.inner)
         (flat_map record_text (map.entries set.now.view))) }
-    ensures hashed { OnOk result ((text : List ℕ) → Holds256 hasher.old text
-        → Holds256 hasher.new (text ++ flat_map record_text (map.entries set.now.view))) }
+    ensures hashed { OnOk result ((text : List ℕ) → Has hasher.old text
+        → Has hasher.new (text ++ flat_map record_text (map.entries set.now.view))) }
     ensures sound { OnOk result (IsSoundWriter output.new) }
     ensures front { OnErr result (AppendsFront (W.contents output.old.inner) (W.contents output.new.inner)
         (flat_map record_text (map.entries set.now.view))) }
@@ -162,12 +162,12 @@ fn write_records<W: Write>(
 fn write_start<W: Write>(
     set: &SegmentSet,
     output: &mut Counted<W>,
-    hasher: &mut Sha256,
+    hasher: &mut Hashing<'_>,
 ) -> Result<(), WriteFault>
     requires { IsSoundWriter output.old }
     ensures ok { OnOk result (Appends (W.contents output.old.inner) (W.contents output.new.inner) (head Two ++ table_text set.now.schema)) }
-    ensures hashed { OnOk result ((text : List ℕ) → Holds256 hasher.old text
-        → Holds256 hasher.new (text ++ (head Two ++ table_text set.now.schema))) }
+    ensures hashed { OnOk result ((text : List ℕ) → Has hasher.old text
+        → Has hasher.new (text ++ (head Two ++ table_text set.now.schema))) }
     ensures sound { OnOk result (IsSoundWriter output.new) }
     ensures front { OnErr result (AppendsFront (W.contents output.old.inner) (W.contents output.new.inner)
         (head Two ++ table_text set.now.schema)) }
@@ -183,12 +183,12 @@ fn write_start<W: Write>(
 // Writes the line of the end.
 fn write_end<W: Write>(
     output: &mut Counted<W>,
-    hasher: &mut Sha256,
+    hasher: &mut Hashing<'_>,
     count: usize,
 ) -> Result<(), WriteFault>
     requires { IsSoundWriter output.old }
     ensures ok { OnOk result (Appends (W.contents output.old.inner) (W.contents output.new.inner) (end_text count)) }
-    ensures hashed { OnOk result ((text : List ℕ) → Holds256 hasher.old text → Holds256 hasher.new (text ++ end_text count)) }
+    ensures hashed { OnOk result ((text : List ℕ) → Has hasher.old text → Has hasher.new (text ++ end_text count)) }
     ensures sound { OnOk result (IsSoundWriter output.new) }
     ensures front { OnErr result (AppendsFront (W.contents output.old.inner) (W.contents output.new.inner) (end_text count)) }
     ensures failed { OnErr result (output.new.failures ≡ 1) }
@@ -202,13 +202,13 @@ fn write_end<W: Write>(
 fn write_counted<W: Write>(
     set: &SegmentSet,
     output: &mut Counted<W>,
-    hasher: &mut Sha256,
+    hasher: &mut Hashing<'_>,
 ) -> Result<(), WriteFault>
     requires { IsSoundWriter output.old }
     ensures ok { OnOk result (Appends (W.contents output.old.inner) (W.contents output.new.inner)
         (counted Two set.now.schema (map.entries set.now.view))) }
-    ensures hashed { OnOk result ((text : List ℕ) → Holds256 hasher.old text
-        → Holds256 hasher.new (text ++ counted Two set.now.schema (map.entries set.now.view))) }
+    ensures hashed { OnOk result ((text : List ℕ) → Has hasher.old text
+        → Has hasher.new (text ++ counted Two set.now.schema (map.entries set.now.view))) }
     ensures sound { OnOk result (IsSoundWriter output.new) }
     ensures front { OnErr result (AppendsFront (W.contents output.old.inner) (W.contents output.new.inner)
         (counted Two set.now.schema (map.entries set.now.view))) }
@@ -219,33 +219,43 @@ fn write_counted<W: Write>(
     write_end(output, hasher, set.name_count())
 }
 
-// The digits of the digest of what a hasher has.
-fn digits_of(hasher: Sha256) -> [u8; DIGITS]
-    ensures { (text : List ℕ) → Holds256 hasher text → result ≡ digest_of text }
-{
-    let mut digits = [0; DIGITS];
-    let digest = hasher.finalize();
-    let _ = encode_to_slice(digest, &mut digits);
-    digits
-}
-
 // Writes the line of the digest of all that went out.
-fn write_digest<W: Write>(output: &mut Counted<W>, hasher: Sha256) -> Result<(), WriteFault>
+fn write_digest<W: Write>(output: &mut Counted<W>, hasher: Hashing<'_>) -> Result<(), WriteFault>
     requires { IsSoundWriter output.old }
-    ensures ok { OnOk result ((text : List ℕ) → Holds256 hasher text
+    ensures ok { OnOk result ((text : List ℕ) → Has hasher.entry text
         → Appends (W.contents output.old.inner) (W.contents output.new.inner) (digest_text text)) }
     ensures sound { OnOk result (IsSoundWriter output.new) }
-    ensures front { OnErr result ((text : List ℕ) → Holds256 hasher text
+    ensures front { OnErr result ((text : List ℕ) → Has hasher.entry text
         → AppendsFront (W.contents output.old.inner) (W.contents output.new.inner) (digest_text text)) }
     ensures failed { OnErr result (output.new.failures ≡ 1) }
 {
-    let digits = digits_of(hasher);
-    let mut beside = Sha256::new();
+    let digits = digits_of(hasher.finish());
+    let none = Hashed::bare(&[]);
+    let mut beside = Hashing::new(&none);
     write_parts(output, &mut beside, &[b"H ", &digits, b"\n"])
 }
 
 /// Writes the file of a set: what it knows of each name and its floors, under its declaration. A fault comes only where the
-/// writer failed, and what went out is then a beginning of the file. It takes no memory.
+/// writer failed, and what went out is then a beginning of the file. It takes no memory. As long as what goes out is a beginning of
+/// the old bytes it is compared with them, and then hashed from the last of their states there on.
+pub fn write_over<W: Write>(
+    set: &SegmentSet,
+    output: &mut Counted<W>,
+    old: &Hashed<'_>,
+) -> Result<(), WriteFault>
+    requires { IsSoundWriter output.old }
+    ensures ok { OnOk result (Appends (W.contents output.old.inner) (W.contents output.new.inner) (file_of set.now.schema set.now.view)) }
+    ensures sound { OnOk result (IsSoundWriter output.new) }
+    ensures front { OnErr result (AppendsFront (W.contents output.old.inner) (W.contents output.new.inner)
+        (file_of set.now.schema set.now.view)) }
+    ensures failed { OnErr result (output.new.failures ≡ 1) }
+{
+    let mut hasher = Hashing::new(old);
+    write_counted(set, output, &mut hasher)?;
+    write_digest(output, hasher)
+}
+
+/// Writes the file of a set, as `write_over` does, where there are no old bytes.
 pub fn write<W: Write>(set: &SegmentSet, output: &mut Counted<W>) -> Result<(), WriteFault>
     requires { IsSoundWriter output.old }
     ensures ok { OnOk result (Appends (W.contents output.old.inner) (W.contents output.new.inner) (file_of set.now.schema set.now.view)) }
@@ -254,7 +264,5 @@ pub fn write<W: Write>(set: &SegmentSet, output: &mut Counted<W>) -> Result<(), 
         (file_of set.now.schema set.now.view)) }
     ensures failed { OnErr result (output.new.failures ≡ 1) }
 {
-    let mut hasher = Sha256::new();
-    write_counted(set, output, &mut hasher)?;
-    write_digest(output, hasher)
+    write_over(set, output, &Hashed::bare(&[]))
 }
