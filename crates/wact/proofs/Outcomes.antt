@@ -1,6 +1,6 @@
 -- Facts of what was done carry over to facts of the answer.
 use Rattle.std.proofs.Common.{◌≡◌, ◌≢◌, ◌⊎◌, ⊎_elim, ◌∙◌, ℕ, ◌<◌, ◌≤◌, Bool, true, false, true≢false, List, length, Option}
-use Rattle.std.proofs.Common.{Some, inl, inr, Result, Ok, Err, IfOk, OnErr, Bor, ap, option_map, subst, sym}
+use Rattle.std.proofs.Common.{Some, inl, inr, Result, Ok, Err, IfOk, OnErr, ap, subst, sym}
 use Rattle.std.proofs.lemmas.Bool.{cases_lt}
 use Rattle.std.specs.FinMap.{empty}
 use Rattle.wsegment.specs.Declaration.{Declaration}
@@ -31,13 +31,12 @@ stored_as d d' v v' old acted text same_d same_v stored =
     subst (λ w. IsStored d w old acted text) same_v (subst (λ e. IsStored e v' old acted text) same_d stored)
 
 -- what a node that knew nothing has got from the store's file
-pub knows_told : (d d' : Declaration) (store : Option (Bor (List ℕ))) (bytes : Bor (List ℕ)) (v v' w : View)
-    → store ≡ Some bytes → d' ≡ d → v' ≡ empty → IsFileOf d' w bytes.now → v ≡ join v' w
-    → Knows d (option_map (λ b. b.now) store) v
+pub knows_told : (d d' : Declaration) (store : Option (List ℕ)) (bytes : List ℕ) (v v' w : View)
+    → store ≡ Some bytes → d' ≡ d → v' ≡ empty → IsFileOf d' w bytes → v ≡ join v' w → Knows d store v
 knows_told d d' store bytes v v' w there same none file is =
-    subst (λ (s : Option (Bor (List ℕ))). Knows d (option_map (λ b. b.now) s) v) (sym there) (record {
+    subst (λ (s : Option (List ℕ)). Knows d s v) (sym there) (record {
       told = w;
-      file = subst (λ e. IsFileOf e w bytes.now) same file;
+      file = subst (λ e. IsFileOf e w bytes) same file;
       is = is ∙ ap (λ x. join x w) none;
     })
 

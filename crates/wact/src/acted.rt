@@ -1,9 +1,11 @@
 //! What a subcommand gives.
-ghost use Rattle.std.specs.Prelude.{IfOk, option_map};
+ghost use Rattle.std.specs.Prelude.{◌≡◌, IfOk, option_map};
+ghost use Rattle.wexchange.specs.Files.{file_of};
 ghost use Rattle.wreplies.specs.Texts.{bytes_of};
 ghost use Rattle.wact.specs.Outcomes.{Becomes, IsAnswered, IsRefused, IsReplied, IsStored};
 
 use std::alloc::AllocError;
+use wexchange::Hashed;
 use wreplies::Text;
 use wstore::Node;
 
@@ -47,16 +49,26 @@ pub(crate) fn answered(output: Text) -> Acted
 }
 
 // The new bytes, where the old ones are others.
-fn changed(old: Option<&[u8]>, new: Vec<u8>) -> Option<Vec<u8>>
-    ensures { Becomes (option_map (λ bytes. bytes.now) old.entry) new.items (option_map (λ bytes. bytes.items) result) }
+fn changed(old: &Option<Hashed<'_>>, new: Vec<u8>) -> Option<Vec<u8>>
+    ensures { Becomes old.now new.items (option_map (λ bytes. bytes.items) result) }
 {
-    let Some(bytes) = old else {
+    let Some(hashed) = old else {
         return Some(new);
     };
-    if bytes == new.as_slice() {
+    if hashed.bytes() == new.as_slice() {
         return None;
     }
     Some(new)
+}
+
+// The file of what the node knows, which is to stand in place of the old bytes.
+fn put(node: &Node, old: &Option<Hashed<'_>>) -> Result<Vec<u8>, AllocError>
+    ensures { IfOk result (λ bytes. bytes.items ≡ file_of node.now.schema node.now.view) }
+{
+    match old {
+        Some(hashed) => node.put_over(hashed),
+        None => node.put(),
+    }
 }
 
 /// What is told of queries, with the status of a refusal where one of them is refused.
@@ -71,11 +83,14 @@ pub(crate) fn replied(output: Text, is_refused: bool) -> Acted
 }
 
 /// What is told, with the store that knows what the node does, where the old one has other bytes.
-pub(crate) fn stored(node: &Node, old: Option<&[u8]>, output: Text) -> Result<Acted, AllocError>
-    ensures { IfOk result (λ acted. IsStored node.now.schema node.now.view (option_map (λ bytes. bytes.now) old.entry) acted
-        (bytes_of output)) }
+pub(crate) fn stored(
+    node: &Node,
+    old: &Option<Hashed<'_>>,
+    output: Text,
+) -> Result<Acted, AllocError>
+    ensures { IfOk result (λ acted. IsStored node.now.schema node.now.view old.now acted (bytes_of output)) }
 {
-    let new = node.put()?;
+    let new = put(node, old)?;
     Ok(Acted {
         output,
         status: DONE,

@@ -10,11 +10,11 @@ ghost use Rattle.wact.specs.Acts.{MayLackMemory, MayLackRead, OnName, Retires, R
 
 use crate::acted::{Acted, answered, refused, stored};
 use crate::feeding::feed;
-use crate::opening::{Purpose, node_of};
+use crate::opening::{Purpose, hashed, node_of};
 use crate::queries::ask;
 use std::alloc::{AllocError, Global};
 use wcommand::Choice;
-use wexchange::FileFault;
+use wexchange::{FileFault, Hashed};
 use wreplies::{
     Text, names, refused_file, refused_name, refused_segment, refused_table, retired, taken,
 };
@@ -26,11 +26,11 @@ use wvalues::{Name, NameFault};
 fn take_under(
     alloc: Global,
     node: &mut Node,
-    old: Option<&[u8]>,
+    old: &Option<Hashed<'_>>,
     name: Name,
     csv: &[u8],
 ) -> Result<Acted, AllocError>
-    ensures { IfOk result (λ acted. Takes node.old.schema node.old.view (option_map (λ bytes. bytes.now) old.entry) csv.now acted name) }
+    ensures { IfOk result (λ acted. Takes node.old.schema node.old.view old.now csv.now acted name) }
 {
     match node.take(name, csv) {
         Ok(word) => stored(node, old, Text::Fixed(taken(word))),
@@ -40,16 +40,16 @@ fn take_under(
 }
 
 // Retires a name.
-fn retire_name(node: &mut Node, old: Option<&[u8]>, name: Name) -> Result<Acted, AllocError>
-    ensures { IfOk result (λ acted. Retires node.old.schema node.old.view (option_map (λ bytes. bytes.now) old.entry) acted name) }
+fn retire_name(node: &mut Node, old: &Option<Hashed<'_>>, name: Name) -> Result<Acted, AllocError>
+    ensures { IfOk result (λ acted. Retires node.old.schema node.old.view old.now acted name) }
 {
     let word = node.retire(name)?;
     stored(node, old, Text::Fixed(retired(word)))
 }
 
 // Retires all names up to one.
-fn retire_to(node: &mut Node, old: Option<&[u8]>, name: Name) -> Result<Acted, AllocError>
-    ensures { IfOk result (λ acted. RetiresTo node.old.schema node.old.view (option_map (λ bytes. bytes.now) old.entry) acted name) }
+fn retire_to(node: &mut Node, old: &Option<Hashed<'_>>, name: Name) -> Result<Acted, AllocError>
+    ensures { IfOk result (λ acted. RetiresTo node.old.schema node.old.view old.now acted name) }
 {
     let word = node.retire_to(name)?;
     stored(node, old, Text::Fixed(retired(word)))
@@ -65,13 +65,13 @@ fn bad_name(fault: NameFault) -> Acted
 fn take(
     alloc: Global,
     node: &mut Node,
-    old: Option<&[u8]>,
+    old: &Option<Hashed<'_>>,
     origin: &str,
     number: &str,
     csv: &[u8],
 ) -> Result<Acted, AllocError>
     ensures does { IfOk result (λ acted. OnName origin.now number.now acted (Takes node.old.schema node.old.view
-        (option_map (λ bytes. bytes.now) old.entry) csv.now acted)) }
+        old.now csv.now acted)) }
     ensures lacks { OnErr result (AreName origin.now number.now) }
 {
     match Name::read(origin.as_bytes(), number.as_bytes()) {
@@ -82,12 +82,12 @@ fn take(
 
 fn retire(
     node: &mut Node,
-    old: Option<&[u8]>,
+    old: &Option<Hashed<'_>>,
     origin: &str,
     number: &str,
 ) -> Result<Acted, AllocError>
     ensures does { IfOk result (λ acted. OnName origin.now number.now acted (Retires node.old.schema node.old.view
-        (option_map (λ bytes. bytes.now) old.entry) acted)) }
+        old.now acted)) }
     ensures lacks { OnErr result (AreName origin.now number.now) }
 {
     match Name::read(origin.as_bytes(), number.as_bytes()) {
@@ -98,12 +98,12 @@ fn retire(
 
 fn floor(
     node: &mut Node,
-    old: Option<&[u8]>,
+    old: &Option<Hashed<'_>>,
     origin: &str,
     number: &str,
 ) -> Result<Acted, AllocError>
     ensures does { IfOk result (λ acted. OnName origin.now number.now acted (RetiresTo node.old.schema node.old.view
-        (option_map (λ bytes. bytes.now) old.entry) acted)) }
+        old.now acted)) }
     ensures lacks { OnErr result (AreName origin.now number.now) }
 {
     match Name::read(origin.as_bytes(), number.as_bytes()) {
@@ -116,10 +116,10 @@ fn floor(
 fn join(
     alloc: Global,
     node: &mut Node,
-    old: Option<&[u8]>,
+    old: &Option<Hashed<'_>>,
     other: &[u8],
 ) -> Result<Acted, AllocError>
-    ensures does { IfOk result (λ acted. Joins node.old.schema node.old.view (option_map (λ bytes. bytes.now) old.entry) other.now acted) }
+    ensures does { IfOk result (λ acted. Joins node.old.schema node.old.view old.now other.now acted) }
     ensures lacks { OnErr result (HasTable node.old.schema other.now) }
 {
     match node.get(other) {
@@ -142,12 +142,12 @@ fn act_on(
     alloc: Global,
     choice: &Choice<'_>,
     node: &mut Node,
-    old: Option<&[u8]>,
+    old: &Option<Hashed<'_>>,
     other: &[u8],
 ) -> Result<Acted, AllocError>
     requires { is_act choice.now ≡ true }
     ensures does { IfOk result (λ acted. ActsOn node.old.schema node.old.view choice.now
-        (option_map (λ bytes. bytes.now) old.entry) other.now acted) }
+        old.now other.now acted) }
     ensures lacks { OnErr result (MayLackMemory node.old.schema choice.now other.now) }
 {
     match *choice {
@@ -176,12 +176,12 @@ fn act_by(
     alloc: Global,
     choice: &Choice<'_>,
     schema: Schema,
-    store: Option<&[u8]>,
+    store: &Option<Hashed<'_>>,
     other: &[u8],
 ) -> Result<Acted, AllocError>
     requires { is_act choice.now ≡ true }
-    ensures acts { IfOk result (λ acted. ActsBy schema choice.now (option_map (λ bytes. bytes.now) store.entry) other.now acted) }
-    ensures lacks { OnErr result (MayLackBy schema choice.now (option_map (λ bytes. bytes.now) store.entry) other.now) }
+    ensures acts { IfOk result (λ acted. ActsBy schema choice.now store.now other.now acted) }
+    ensures lacks { OnErr result (MayLackBy schema choice.now store.now other.now) }
 {
     match node_of(alloc, schema, store, purpose_of(choice)) {
         Ok(mut node) => act_on(alloc, choice, &mut node, store, other),
@@ -203,7 +203,7 @@ fn act_read(
     ensures lacks { OnErr result (MayLackRead declared choice.now (option_map (λ bytes. bytes.now) store.entry) other.now) }
 {
     match declared {
-        Ok(schema) => act_by(alloc, choice, schema, store, other),
+        Ok(schema) => act_by(alloc, choice, schema, &hashed(store), other),
         Err(SchemaFault::NoMemory) => Err(AllocError),
         Err(fault) => Ok(refused(Text::Fixed(refused_table(fault)))),
     }

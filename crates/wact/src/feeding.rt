@@ -1,5 +1,5 @@
 //! Feeds a store the deliveries of a stream.
-ghost use Rattle.std.specs.Prelude.{◌≡◌, ◌++◌, ◌∷◌, [], None, Ok, false, map, option_map, IfErr, IfOk, OnErr, OnOk};
+ghost use Rattle.std.specs.Prelude.{◌≡◌, ◌++◌, ◌∷◌, [], None, Ok, false, map, IfErr, IfOk, OnErr, OnOk};
 ghost use Rattle.std.specs.List.{AllByRecursion};
 ghost use Rattle.wsegment.specs.Spelling.{ReadsDeclaration};
 ghost use Rattle.wset.specs.Items.{SegmentItem, view_of_item};
@@ -20,6 +20,7 @@ use crate::opening::{Opened, Purpose, open_store};
 use itoa::Buffer;
 use std::alloc::{AllocError, Global};
 use wbatch::{Batch, Delivery, Stop};
+use wexchange::Hashed;
 use wreplies::{Text, refused_segment, retired, taken};
 use wstore::Node;
 
@@ -101,12 +102,12 @@ pub fn undelivered(alloc: Global, reason: Stop) -> Result<Acted, AllocError>
 pub fn feed_node(
     alloc: Global,
     node: &mut Node,
-    store: Option<&[u8]>,
+    store: &Option<Hashed<'_>>,
     batch: &Batch,
 ) -> Result<Acted, AllocError>
     requires declared { batch.now.schema ≡ node.old.schema }
     requires whole { batch.now.held ≡ [] }
-    ensures { IfOk result (λ acted. Feeds node.old.schema node.old.view (option_map (λ bytes. bytes.now) store.entry)
+    ensures { IfOk result (λ acted. Feeds node.old.schema node.old.view store.now
         (stream_of batch.now) acted) }
 {
     let deliveries = batch.deliveries();
@@ -121,13 +122,13 @@ pub fn feed_node(
 pub fn feed_store(
     alloc: Global,
     table: &[u8],
-    store: Option<&[u8]>,
+    store: &Option<Hashed<'_>>,
     batch: &Batch,
 ) -> Result<Acted, AllocError>
     requires declared { ReadsDeclaration table.now (Ok batch.now.schema) }
     requires whole { batch.now.held ≡ [] }
     ensures { IfOk result (λ acted. (choice : Choice) → IsFeed choice
-        → Acts choice table.now (option_map (λ bytes. bytes.now) store.entry) (stream_of batch.now) acted) }
+        → Acts choice table.now store.now (stream_of batch.now) acted) }
 {
     match open_store(alloc, table, store, Purpose::Telling)? {
         Opened::Node(mut node) => feed_node(alloc, &mut node, store, batch),
@@ -154,10 +155,10 @@ fn fill(batch: &mut Batch, stream: &[u8]) -> Result<(), Stop>
 pub(crate) fn feed(
     alloc: Global,
     node: &mut Node,
-    old: Option<&[u8]>,
+    old: &Option<Hashed<'_>>,
     stream: &[u8],
 ) -> Result<Acted, AllocError>
-    ensures { IfOk result (λ acted. Feeds node.old.schema node.old.view (option_map (λ bytes. bytes.now) old.entry) stream.now acted) }
+    ensures { IfOk result (λ acted. Feeds node.old.schema node.old.view old.now stream.now acted) }
 {
     let schema = node.schema().copy()?;
     let mut batch = Batch::new(alloc, schema);

@@ -1,7 +1,7 @@
 //! What a subcommand does, as a function of bytes.
 //!
 //! - Gives `act`, which is lent a choice of the command line and the bytes of its files, and answers what is printed,
-//!   the exit status, and the new store if there may be one.
+//!   the exit status, and the new store if there may be one; and its parts for a stream, which take the store's bytes `hashed`.
 //! - Promises: the table is judged first, then the store, then the subcommand. It does to the store what a node that
 //!   knows the store is told, and prints the reply of a script's command, of a query the answer alone. A refusal has
 //!   status 1 and no new store.
@@ -20,5 +20,5 @@ mod queries;
 pub use acted::{Acted, refused};
 pub use acting::act;
 pub use feeding::{feed_node, feed_store, undelivered};
-pub use opening::{Opened, Purpose, open_store};
+pub use opening::{Opened, Purpose, hashed, open_store};
 pub use queries::{QueryReply, reply};

@@ -6,7 +6,7 @@ ghost use Rattle.wact.specs.Acts.{HasFault, Knows};
 ghost use Rattle.wact.specs.Opening.{Opens, OpensBy};
 
 use std::alloc::{AllocError, Global};
-use wexchange::FileFault;
+use wexchange::{FileFault, Hashed};
 use wreplies::{Text, refused_file, refused_table};
 use wsegment::{Schema, SchemaFault};
 use wstore::Node;
@@ -29,6 +29,16 @@ pub enum Purpose {
     Telling,
 }
 
+/// The bytes of a store, hashed, if there is one.
+pub fn hashed(store: Option<&[u8]>) -> Option<Hashed<'_>>
+    ensures { result ≡ option_map (λ bytes. bytes.now) store.entry }
+{
+    match store {
+        Some(bytes) => Some(Hashed::of(bytes)),
+        None => None,
+    }
+}
+
 // A node that knows nothing.
 fn empty_node(alloc: Global, schema: Schema, purpose: Purpose) -> Node
     ensures { result ≡ fresh_node schema map.empty }
@@ -43,17 +53,17 @@ fn empty_node(alloc: Global, schema: Schema, purpose: Purpose) -> Node
 pub(crate) fn node_of(
     alloc: Global,
     schema: Schema,
-    store: Option<&[u8]>,
+    store: &Option<Hashed<'_>>,
     purpose: Purpose,
 ) -> Result<Node, FileFault>
     ensures declared { IfOk result (λ node. node.schema ≡ schema) }
-    ensures known { IfOk result (λ node. Knows schema (option_map (λ bytes. bytes.now) store.entry) node.view) }
-    ensures refused { IfErr result (λ fault. HasFault schema (option_map (λ bytes. bytes.now) store.entry) fault) }
+    ensures known { IfOk result (λ node. Knows schema store.now node.view) }
+    ensures refused { IfErr result (λ fault. HasFault schema store.now fault) }
 {
     let mut node = empty_node(alloc, schema, purpose);
     match store {
         None => Ok(node),
-        Some(bytes) => match node.get(bytes) {
+        Some(bytes) => match node.get_hashed(bytes) {
             Ok(()) => Ok(node),
             Err(fault) => Err(fault),
         },
@@ -64,10 +74,10 @@ pub(crate) fn node_of(
 fn open_by(
     alloc: Global,
     schema: Schema,
-    store: Option<&[u8]>,
+    store: &Option<Hashed<'_>>,
     purpose: Purpose,
 ) -> Result<Opened, AllocError>
-    ensures { IfOk result (λ opened. OpensBy schema (option_map (λ bytes. bytes.now) store.entry) opened) }
+    ensures { IfOk result (λ opened. OpensBy schema store.now opened) }
 {
     match node_of(alloc, schema, store, purpose) {
         Ok(node) => Ok(Opened::Node(node)),
@@ -81,10 +91,10 @@ fn open_by(
 pub fn open_store(
     alloc: Global,
     table: &[u8],
-    store: Option<&[u8]>,
+    store: &Option<Hashed<'_>>,
     purpose: Purpose,
 ) -> Result<Opened, AllocError>
-    ensures { IfOk result (λ opened. Opens table.now (option_map (λ bytes. bytes.now) store.entry) opened) }
+    ensures { IfOk result (λ opened. Opens table.now store.now opened) }
 {
     match Schema::read(alloc, table) {
         Ok(schema) => open_by(alloc, schema, store, purpose),

@@ -19,7 +19,7 @@ use std::alloc::{AllocError, Global};
 use std::marker::Model;
 use std::rc::Rc;
 use wask::{AskFault, ask};
-use wexchange::{FileFault, read_beside, write};
+use wexchange::{FileFault, Hashed, read_hashed, write_over};
 use wsegment::{Judged, Schema, SegmentFault};
 use wset::{Listed, Retired, SegmentSet, TakeError, Taken};
 use wstream::{BadStream, Inbox, Message, PushFault};
@@ -181,8 +181,15 @@ impl Node {
     pub fn put(&self) -> Result<Vec<u8>, AllocError>
         ensures { IfOk result (λ bytes. bytes.items ≡ file_of self.now.schema self.now.view) }
     {
+        self.put_over(&Hashed::bare(&[]))
+    }
+
+    /// The same, that is to stand in place of old bytes. What of their beginning stands in it too is compared, and not hashed again.
+    pub fn put_over(&self, old: &Hashed<'_>) -> Result<Vec<u8>, AllocError>
+        ensures { IfOk result (λ bytes. bytes.items ≡ file_of self.now.schema self.now.view) }
+    {
         let mut output = Counted::new(Vec::new(self.alloc));
-        match write(&self.set, &mut output) {
+        match write_over(&self.set, &mut output, old) {
             Ok(()) => Ok(output.into_inner()),
             Err(_) => Err(AllocError),
         }
@@ -195,7 +202,16 @@ impl Node {
         ensures refused { IfErr result (λ fault. IsFault self.old.schema bytes.now fault) }
         ensures err { OnErr result (self.new ≡ self.old) }
     {
-        match read_beside(self.alloc, &self.set, bytes) {
+        self.get_hashed(&Hashed::bare(bytes))
+    }
+
+    /// The same, where the bytes are hashed.
+    pub fn get_hashed(&mut self, bytes: &Hashed<'_>) -> Result<(), FileFault>
+        ensures ok { OnOk result (LearnsFile self.old bytes.now self.new) }
+        ensures refused { IfErr result (λ fault. IsFault self.old.schema bytes.now fault) }
+        ensures err { OnErr result (self.new ≡ self.old) }
+    {
+        match read_hashed(self.alloc, &self.set, bytes) {
             Ok(set) => match self.set.join(&set) {
                 Ok(()) => Ok(()),
                 // The file is of the node's table, so that a join fails for want of memory alone.

@@ -19,13 +19,14 @@ ghost use Rattle.wfolder.specs.Replacing.{fault_of};
 use crate::explaining::{explain_refusal, explain_stream};
 use crate::feeding::fill_from;
 use crate::given::Given;
-use crate::opening::opened;
+use crate::opening::{hashed_of, opened};
 use std::alloc::{AllocError, Global};
 use std::fs::File;
 use std::rt::{Clock, Files};
 use wact::{Acted, Opened, Purpose, act, feed_node, feed_store, refused, undelivered};
 use wbatch::{Batch, Stop};
 use wcommand::{Choice, Paths};
+use wexchange::Hashed;
 use wfiles::{Place, Record, System, read_if_there, read_whole};
 use wfolder::{Fault, NotReplaced};
 use wstore::Node;
@@ -59,10 +60,7 @@ fn fed_to(
     ensures { IfOk result (λ acted. (choice : choices.Choice) → IsFeed choice
         → Acts choice table.now (option_map (λ bytes. bytes.items) store.now) (stream_of batch.now) acted) }
 {
-    match store {
-        Some(bytes) => feed_store(alloc, table, Some(bytes.as_slice()), batch),
-        None => feed_store(alloc, table, None, batch),
-    }
+    feed_store(alloc, table, &hashed_of(store), batch)
 }
 
 // What the subcommand gives on this.
@@ -263,18 +261,15 @@ fn perform_on_bytes<R: Files<File = File> + AllocGlobal + Clock + Eprint>(
 fn fed_on(
     alloc: Global,
     node: Node,
-    store: &Option<Vec<u8>>,
+    hashed: &Option<Hashed<'_>>,
     batch: &Batch,
 ) -> Result<Acted, AllocError>
     requires declared { batch.now.schema ≡ node.schema }
     requires whole { batch.now.held ≡ [] }
-    ensures { IfOk result (λ acted. Feeds node.schema node.view (option_map (λ bytes. bytes.items) store.now) (stream_of batch.now) acted) }
+    ensures { IfOk result (λ acted. Feeds node.schema node.view hashed.now (stream_of batch.now) acted) }
 {
     let mut node = node;
-    match store {
-        Some(bytes) => feed_node(alloc, &mut node, Some(bytes.as_slice()), batch),
-        None => feed_node(alloc, &mut node, None, batch),
-    }
+    feed_node(alloc, &mut node, hashed, batch)
 }
 
 // What feeding gives on the node of the store that was read.
@@ -282,18 +277,17 @@ fn fed<R>(
     alloc: Global,
     system: &mut System<'_, R>,
     node: Node,
-    store: &Option<Vec<u8>>,
+    hashed: &Option<Hashed<'_>>,
     batch: &Batch,
 ) -> Result<Acted, Fault>
     requires declared { batch.now.schema ≡ node.schema }
     requires whole { batch.now.held ≡ [] }
     requires sound { IsSound system.old }
-    ensures feeds { IfOk result (λ acted. Feeds node.schema node.view (option_map (λ bytes. bytes.items) store.now)
-        (stream_of batch.now) acted) }
+    ensures feeds { IfOk result (λ acted. Feeds node.schema node.view hashed.now (stream_of batch.now) acted) }
     ensures sound { OnOk result (IsSound system.new) }
     ensures cause { IfErr result (λ fault. HasCause fault system.new) }
 {
-    system.grown(fed_on(alloc, node, store, batch))
+    system.grown(fed_on(alloc, node, hashed, batch))
 }
 
 // Delivers a batch to the node of the store that was read, and replaces the store where that gives a new one.
@@ -305,10 +299,12 @@ fn deliver<R: Files<File = File> + AllocGlobal + Clock + Eprint>(
     path: &str,
     table: &[u8],
     store: &Option<Vec<u8>>,
+    hashed: &Option<Hashed<'_>>,
     node: Node,
     batch: &Batch,
 ) -> Result<Acted, Fault>
     requires choice { IsFeed choice.now }
+    requires hashed { hashed.now ≡ option_map (λ bytes. bytes.items) store.now }
     requires opens { Opens table.now (option_map (λ bytes. bytes.items) store.now) (opens.Node node) }
     requires declared { batch.now.schema ≡ node.schema }
     requires whole { batch.now.held ≡ [] }
@@ -320,7 +316,7 @@ fn deliver<R: Files<File = File> + AllocGlobal + Clock + Eprint>(
     ensures sound { OnOk result (IsSound system.new) }
     ensures cause { IfErr result (λ fault. HasCause fault system.new) }
 {
-    let first = match fed(alloc, system, node, store, batch) {
+    let first = match fed(alloc, system, node, hashed, batch) {
         Ok(first) => first,
         Err(fault) => return Err(fault),
     };
@@ -366,11 +362,13 @@ fn feed_from<R: Files<File = File> + AllocGlobal + Clock + Eprint>(
     paths: Paths<'_>,
     table: &[u8],
     store: &Option<Vec<u8>>,
+    hashed: &Option<Hashed<'_>>,
     stream: &str,
     node: Node,
 ) -> Result<Acted, Fault>
     requires choice { IsFeed choice.now }
     requires stream { input_path choice.now ≡ Some stream.now }
+    requires hashed { hashed.now ≡ option_map (λ bytes. bytes.items) store.now }
     requires opens { Opens table.now (option_map (λ bytes. bytes.items) store.now) (opens.Node node) }
     requires sound { IsSound system.old }
     ensures done { IfOk result (λ acted. IsDone choice.now table.now (option_map (λ bytes. bytes.items) store.now) acted
@@ -394,6 +392,7 @@ fn feed_from<R: Files<File = File> + AllocGlobal + Clock + Eprint>(
         paths.store,
         table,
         store,
+        hashed,
         node,
         &batch,
     )
@@ -420,9 +419,10 @@ fn perform_feed<R: Files<File = File> + AllocGlobal + Clock + Eprint>(
     ensures sound { OnOk result (IsSound system.new) }
     ensures cause { IfErr result (λ fault. HasCause fault system.new) }
 {
-    match opened(rt.alloc(), system, table, store, Purpose::Telling) {
+    let hashed = hashed_of(store);
+    match opened(rt.alloc(), system, table, &hashed, Purpose::Telling) {
         Ok(Opened::Node(node)) => feed_from(
-            rt, system, calls, choice, paths, table, store, stream, node,
+            rt, system, calls, choice, paths, table, store, &hashed, stream, node,
         ),
         Ok(Opened::Refused(text)) => {
             let acted = refused(text);

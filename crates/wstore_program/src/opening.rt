@@ -1,25 +1,21 @@
 //! What the bytes of a table and a store open.
-ghost use Rattle.std.specs.Prelude.{IfErr, IfOk, OnOk, option_map};
+ghost use Rattle.std.specs.Prelude.{◌≡◌, IfErr, IfOk, OnOk, option_map};
 ghost use Rattle.wact.specs.Opening.{Opens};
 ghost use Rattle.wfolder.specs.Calls.{HasCause, IsSound};
 
-use std::alloc::{AllocError, Global};
-use wact::{Opened, Purpose, open_store};
+use std::alloc::Global;
+use wact::{Opened, Purpose, hashed, open_store};
+use wexchange::Hashed;
 use wfiles::System;
 use wfolder::Fault;
 
-// What the bytes of a table and a store open, if memory is there.
-fn opened_by(
-    alloc: Global,
-    table: &[u8],
-    store: &Option<Vec<u8>>,
-    purpose: Purpose,
-) -> Result<Opened, AllocError>
-    ensures { IfOk result (λ opened. Opens table.now (option_map (λ bytes. bytes.items) store.now) opened) }
+/// The bytes of a store, hashed, if there is one.
+pub(crate) fn hashed_of(store: &Option<Vec<u8>>) -> Option<Hashed<'_>>
+    ensures { result ≡ option_map (λ bytes. bytes.items) store.now }
 {
     match store {
-        Some(bytes) => open_store(alloc, table, Some(bytes.as_slice()), purpose),
-        None => open_store(alloc, table, None, purpose),
+        Some(bytes) => hashed(Some(bytes.as_slice())),
+        None => None,
     }
 }
 
@@ -28,13 +24,13 @@ pub(crate) fn opened<R>(
     alloc: Global,
     system: &mut System<'_, R>,
     table: &[u8],
-    store: &Option<Vec<u8>>,
+    store: &Option<Hashed<'_>>,
     purpose: Purpose,
 ) -> Result<Opened, Fault>
     requires { IsSound system.old }
-    ensures opens { IfOk result (λ opened. Opens table.now (option_map (λ bytes. bytes.items) store.now) opened) }
+    ensures opens { IfOk result (λ opened. Opens table.now store.now opened) }
     ensures sound { OnOk result (IsSound system.new) }
     ensures cause { IfErr result (λ fault. HasCause fault system.new) }
 {
-    system.grown(opened_by(alloc, table, store, purpose))
+    system.grown(open_store(alloc, table, store, purpose))
 }

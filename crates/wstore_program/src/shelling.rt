@@ -6,7 +6,7 @@ ghost use Rattle.wlines.specs.Pending.{IsNew};
 ghost use Rattle.wstore_program.specs.Performing.{OnlyReads};
 ghost use Rattle.wstore_program.specs.Shelling.{Answers, HasShellStatus, IsOpened, IsRefusal, shell_status};
 
-use crate::opening::opened;
+use crate::opening::{hashed_of, opened};
 use crate::{DONE, failed, failed_on};
 use std::fs::File;
 use std::io::{Read, Write};
@@ -40,7 +40,13 @@ fn open_files<R: Files<File = File> + AllocGlobal>(
     let alloc = rt.alloc();
     let table = read_whole(alloc, system, calls, paths.table)?;
     let store = read_if_there(alloc, system, calls, paths.store)?;
-    opened(alloc, system, table.as_slice(), &store, Purpose::Asking)
+    opened(
+        alloc,
+        system,
+        table.as_slice(),
+        &hashed_of(&store),
+        Purpose::Asking,
+    )
 }
 
 // The status of a shell's end.

@@ -1,4 +1,4 @@
-use Rattle.std.proofs.Common.{rules, option_map, subst}
+use Rattle.std.proofs.Common.{rules, subst}
 use Rattle.wact.specs.Acts.{ActsOn, Done, InSubcommand, MayLackMemory, StoreRefused}
 use Rattle.wact.proofs.Outcomes.{if_ok, on_err}
 use Rattle.wact.proofs.acting.act_by.Goals as goal
@@ -7,8 +7,8 @@ pub returns-in-Ok-clause-acts : goal.returns-in-Ok-clause-acts
 returns-in-Ok-clause-acts c =
     let same = c.in-Ok.ensures.declared in
     if_ok c.act_on.result (λ acted acts. Done c.in-Ok.node.view c.in-Ok.ensures.known
-    (subst (λ d. ActsOn d c.in-Ok.node.view c.args.choice.now (option_map (λ bytes. bytes.now) c.args.store)
-    c.args.other.now acted) same acts)) c.act_on.ensures.does
+    (subst (λ d. ActsOn d c.in-Ok.node.view c.args.choice.now c.args.store.now c.args.other.now acted) same acts))
+    c.act_on.ensures.does
 
 pub returns-in-Ok-clause-lacks : goal.returns-in-Ok-clause-lacks
 returns-in-Ok-clause-lacks c =

@@ -5,7 +5,8 @@ use Rattle.wstore_program.proofs.shelling.open_files.Goals as goal
 pub returns-clause-opened : goal.returns-clause-opened
 returns-clause-opened g c =
     opened c.args.paths _ c.in_ok-table.table.items _ _ _ _ c.opened.result c.as_slice.ensures.value
-    c.in_ok-table.ensures.found c.in_ok-store.ensures.found c.opened.ensures.opens
+    c.in_ok-table.ensures.found c.in_ok-store.ensures.found
+    (rw c.hashed_of.ensures at c.opened.ensures.opens)
 
 pub returns-clause-unread : goal.returns-clause-unread
 returns-clause-unread g c = unopened c.args.paths _ _ _ _ _ c.opened.result c.in_ok-table.ensures.found c.in_ok-store.ensures.found

@@ -1,6 +1,6 @@
 use Rattle.std.proofs.Common.{refl}
 use Rattle.wstore.proofs.Learning.{learned}
-use Rattle.wstore.proofs.node.Node.get.Goals as goal
+use Rattle.wstore.proofs.node.Node.get_hashed.Goals as goal
 
 pub returns-in-Ok-join-clause-ok : goal.returns-in-Ok-join-clause-ok
 returns-in-Ok-join-clause-ok c =
