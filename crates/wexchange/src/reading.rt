@@ -423,7 +423,7 @@ fn read_behind(
 /// is known, or their first fault from left to right. A content that the known set has live under its name is compared
 /// with it and shared; others are judged, and their cells are made unless the known set is lazy. The digest of a file of
 /// version 2 is taken where all before it is right, from the last state of the hasher on.
-pub fn read_hashed(
+pub fn read_beside(
     alloc: Global,
     known: &SegmentSet,
     bytes: &Hashed<'_>,
@@ -434,15 +434,6 @@ pub fn read_hashed(
 {
     let (version, records) = read_front(known.schema(), bytes.bytes())?;
     read_behind(alloc, known, version, bytes, records)
-}
-
-/// The same, where the bytes were not hashed before.
-pub fn read_beside(alloc: Global, known: &SegmentSet, bytes: &[u8]) -> Result<SegmentSet, FileFault>
-    ensures view { IfOk result (λ set. IsFileOf known.now.schema set.view bytes.now) }
-    ensures schema { IfOk result (λ set. set.schema ≡ known.now.schema) }
-    ensures fault { IfErr result (λ fault. IsFault known.now.schema bytes.now fault) }
-{
-    read_hashed(alloc, known, &Hashed::bare(bytes))
 }
 
 /// The set whose file the bytes are, or where it has no floor its text in version 1, under this declaration, or their

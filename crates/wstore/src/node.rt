@@ -19,7 +19,7 @@ use std::alloc::{AllocError, Global};
 use std::marker::Model;
 use std::rc::Rc;
 use wask::{AskFault, ask};
-use wexchange::{FileFault, Hashed, read_hashed, write_over};
+use wexchange::{FileFault, Hashed, read_beside, write_over};
 use wsegment::{Judged, Schema, SegmentFault};
 use wset::{Listed, Retired, SegmentSet, TakeError, Taken};
 use wstream::{BadStream, Inbox, Message, PushFault};
@@ -211,7 +211,7 @@ impl Node {
         ensures refused { IfErr result (λ fault. IsFault self.old.schema bytes.now fault) }
         ensures err { OnErr result (self.new ≡ self.old) }
     {
-        match read_hashed(self.alloc, &self.set, bytes) {
+        match read_beside(self.alloc, &self.set, bytes) {
             Ok(set) => match self.set.join(&set) {
                 Ok(()) => Ok(()),
                 // The file is of the node's table, so that a join fails for want of memory alone.
