@@ -2,6 +2,7 @@ pub mod RecordFacts
 pub mod Taking
 pub mod IntegerFacts
 pub mod SpellingFacts
+pub mod FieldFacts
 pub mod Fronts
 pub mod ListFacts
 pub mod CellFacts

@@ -1,5 +1,5 @@
 //! A cell, read by what its column holds.
-ghost use Rattle.std.specs.Prelude.{◌≡◌, Err};
+ghost use Rattle.std.specs.Prelude.{◌≡◌, Err, true};
 ghost use Rattle.std.specs.Str.{IsUtf8};
 ghost use Rattle.wvalues.specs.Meaning.{meaning};
 ghost use Rattle.wsegment.specs.Cells.{cell_of, number_cell, typed};
@@ -8,10 +8,10 @@ ghost use Rattle.wsegment.specs.Integer.{integer_of};
 ghost use Rattle.wsegment.specs.Outcome.{Gives};
 
 use crate::fault::SegmentFault;
+use crate::field::field_text;
 use crate::kind::Kind;
 use crate::texts::Texts;
 use std::alloc::Global;
-use std::str;
 use wvalues::{Value, Whole};
 
 /// The 64-bit number that a text spells.
@@ -48,19 +48,21 @@ fn typed(
     }
 }
 
-/// What a field of a row holds. A text that was read lately is shared. A field that is no text is refused without memory.
+/// What a field of a row holds, which may be known to be ASCII. A text that was read lately is shared. A field that is no text is refused without memory.
 #[tactic(auto, unfolding(crate::specs::Cells::cell_of))]
 pub(crate) fn cell(
     alloc: Global,
     row: u32,
     kind: Kind,
     field: &[u8],
+    is_ascii: bool,
     texts: &mut Texts,
 ) -> Result<Value, SegmentFault>
+    requires { is_ascii ≡ true → IsUtf8 field.now }
     ensures gives { Gives meaning result (cell_of row kind field.now) }
     ensures refused { (IsUtf8 field.now → ⊥) → result ≡ Err (RowNotUtf8 row) }
 {
-    let Ok(text) = str::from_utf8(field) else {
+    let Some(text) = field_text(field, is_ascii) else {
         return Err(SegmentFault::RowNotUtf8 { row });
     };
     if text.is_empty() {

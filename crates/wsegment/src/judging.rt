@@ -1,5 +1,6 @@
 //! Rows that are judged and counted, and not kept: no cell is made, and no text is copied.
-ghost use Rattle.std.specs.Prelude.{◌≡◌, ◌≤◌, IfOk};
+ghost use Rattle.std.specs.Prelude.{◌≡◌, ◌≤◌, IfOk, true};
+ghost use Rattle.std.specs.Str.{IsUtf8};
 ghost use Rattle.csv.specs.Records.{fields_of};
 ghost use Rattle.wsegment.specs.Cells.{cell_of, row_behind, row_of, rows_from, typed};
 ghost use Rattle.wsegment.specs.Header.{all_now, kinds_of};
@@ -10,11 +11,11 @@ ghost use Rattle.wsegment.specs.Progress.{IsReading, records_left};
 use crate::cell::integer;
 use crate::column::Column;
 use crate::fault::SegmentFault;
+use crate::field::field_text;
 use crate::kind::Kind;
 use crate::records::take_record;
 use csv::{ByteRecord, Reader};
 use std::alloc::Global;
-use std::str;
 
 /// The most rows of a segment.
 pub(crate) const MAX_ROWS: u32 = 1_000_000;
@@ -33,10 +34,11 @@ fn judge_typed(row: u32, kind: Kind, text: &str) -> Result<(), SegmentFault>
 }
 
 // Whether a field says something.
-fn judge_field(row: u32, kind: Kind, field: &[u8]) -> Result<(), SegmentFault>
+fn judge_field(row: u32, kind: Kind, field: &[u8], is_ascii: bool) -> Result<(), SegmentFault>
+    requires { is_ascii ≡ true → IsUtf8 field.now }
     ensures { result ≡ verdict (cell_of row kind field.now) }
 {
-    let Ok(text) = str::from_utf8(field) else {
+    let Some(text) = field_text(field, is_ascii) else {
         return Err(SegmentFault::RowNotUtf8 { row });
     };
     if text.is_empty() {
@@ -52,11 +54,12 @@ fn judge_fields(number: u32, header: &[&Column], row: &ByteRecord) -> Result<(),
     if row.len() != header.len() {
         return Err(SegmentFault::RowLength { row: number });
     }
+    let is_ascii = row.as_slice().is_ascii();
     for (i, column) in header.iter().enumerate() {
         let Some(field) = row.get(i) else {
             unreachable!()
         };
-        judge_field(number, column.kind(), field)?;
+        judge_field(number, column.kind(), field, is_ascii)?;
     }
     Ok(())
 }

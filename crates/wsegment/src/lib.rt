@@ -14,6 +14,7 @@
 mod cell;
 mod column;
 mod fault;
+mod field;
 mod header;
 mod judged;
 mod judging;

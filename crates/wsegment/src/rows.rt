@@ -44,11 +44,12 @@ fn push_row(
     if row.len() != header.len() {
         return Err(SegmentFault::RowLength { row: number });
     }
+    let is_ascii = row.as_slice().is_ascii();
     for (i, column) in header.iter().enumerate() {
         let Some(field) = row.get(i) else {
             unreachable!()
         };
-        let value = cell(alloc, number, column.kind(), field, texts)?;
+        let value = cell(alloc, number, column.kind(), field, is_ascii, texts)?;
         cells.push(value)?;
     }
     Ok(())

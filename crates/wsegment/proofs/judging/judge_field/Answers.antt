@@ -8,15 +8,15 @@ use Rattle.wsegment.proofs.judging.judge_field.Goals as goal
 pub returns-in_default : goal.returns-in_default
 returns-in_default c =
     sym (ap (λ (cell : Result Meaning SegmentFault). verdict cell) (cell-no_text c.args.row c.args.kind c.args.field.now
-    c.in_default.ensures.cases.0))
+    c.in_default.ensures))
 
 pub returns-then-is_empty : goal.returns-then-is_empty
 returns-then-is_empty c =
     sym (ap (λ (cell : Result Meaning SegmentFault). verdict cell) (cell-empty c.args.row c.args.kind c.args.field.now
-    c.in-Ok.text.now c.in-Ok.ensures.cases.0 c.in-Ok.ensures.cases.1 c.if-is_empty.ensures))
+    c.in-Some.text.now c.in-Some.ensures.0 c.in-Some.ensures.1 c.if-is_empty.ensures))
 
 pub returns : goal.returns
 returns c =
     c.judge_typed.ensures
     ∙ sym (ap (λ (cell : Result Meaning SegmentFault). verdict cell) (cell-typed c.args.row c.args.kind c.args.field.now
-    c.in-Ok.text.now c.in-Ok.ensures.cases.0 c.in-Ok.ensures.cases.1 c.if-is_empty.ensures))
+    c.in-Some.text.now c.in-Some.ensures.0 c.in-Some.ensures.1 c.if-is_empty.ensures))

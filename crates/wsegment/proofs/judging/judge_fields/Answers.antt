@@ -7,6 +7,7 @@ use Rattle.wvalues.specs.Meaning.{Meaning}
 use Rattle.wsegment.specs.Header.{kinds_of}
 use Rattle.wsegment.specs.Judging.{verdict}
 use Rattle.wsegment.specs.declared.fault.SegmentFault.{SegmentFault}
+use Rattle.wsegment.proofs.FieldFacts.{ascii-text}
 use Rattle.wsegment.proofs.HeaderFacts.{kind-drop, kinds-long}
 use Rattle.wsegment.proofs.JudgingFacts.{cells-judged, cells-over, cells-refused}
 use Rattle.wsegment.proofs.ListFacts.{field-drop, field-found}
@@ -25,6 +26,10 @@ loop-i-init c = record {
       (row-cells c.args.number (kinds_of (map (λ c. c.now) c.args.header.now)) (fields_of c.args.row.now) (sym c.len.ensures
       ∙ c.if-len-header.false ∙ sym (kinds-long c.args.header.now))));
 }
+
+pub judge_field-requires : goal.judge_field-requires
+judge_field-requires c = ascii-text c.args.row.now c.is_ascii-is_ascii.result c.as_slice.result.now c.loop-i.i c.in-Some.field.now
+    c.is_ascii-is_ascii.ensures.cases c.as_slice.ensures c.in-Some.ensures.value
 
 pub unreachable-requires : goal.unreachable-requires
 unreachable-requires c = field-found (fields_of c.args.row.now) c.loop-i.i (rw (← c.len.ensures, c.if-len-header.false)

@@ -6,6 +6,7 @@ use Rattle.wvalues.specs.Meaning.{meaning}
 use Rattle.wsegment.specs.Cells.{cells_of, row_of}
 use Rattle.wsegment.specs.Header.{kinds_of}
 use Rattle.wsegment.proofs.Fronts.{front-nil}
+use Rattle.wsegment.proofs.FieldFacts.{ascii-text}
 use Rattle.wsegment.proofs.HeaderFacts.{kind-drop, kinds-long}
 use Rattle.wsegment.proofs.ListFacts.{field-drop, field-found}
 use Rattle.wsegment.proofs.RowFacts.{cells-end, cells-go, cells-stop, row-cells, row-refused}
@@ -27,6 +28,10 @@ loop-i-init c =
       so_far = rw (drop_all (length cells) cells (omega arith)) (front-nil (cells_of c.args.number ks fs)
           ∙ sym (row-cells c.args.number ks fs (sym c.len.ensures ∙ c.if-len-header.false ∙ sym (kinds-long c.args.header.now))));
     }
+
+pub cell-requires : goal.cell-requires
+cell-requires c = ascii-text c.args.row.now c.is_ascii-is_ascii.result c.as_slice.result.now c.loop-i.i c.in-Some.field.now
+    c.is_ascii-is_ascii.ensures.cases c.as_slice.ensures c.in-Some.ensures.value
 
 pub unreachable-requires : goal.unreachable-requires
 unreachable-requires c = field-found (fields_of c.args.row.now) c.loop-i.i (rw (← c.len.ensures, c.if-len-header.false)
