@@ -17,6 +17,7 @@ pub(crate) const LINE: usize = 256;
 const DIGITS: usize = 20;
 
 // Writes a number so that it ends before a place, and answers where it begins. None where it has no room, or is too long.
+#[inline(always)]
 fn write_number(number: i128, line: &mut [u8], end: usize) -> Option<usize>
     requires { end ≤ length line.old }
     ensures written { IfSome result (λ start. drop start line.new ≡ signed_decimal number ++ drop end line.old) }
@@ -36,6 +37,7 @@ fn write_number(number: i128, line: &mut [u8], end: usize) -> Option<usize>
 }
 
 // Writes a text so that it ends before a place, and answers where it begins. None where it has no room, or stands in quotes.
+#[inline(always)]
 fn write_text(text: &[u8], line: &mut [u8], end: usize) -> Option<usize>
     requires { end ≤ length line.old }
     ensures written { IfSome result (λ start. drop start line.new ≡ text_field text.now ++ drop end line.old) }
@@ -51,6 +53,7 @@ fn write_text(text: &[u8], line: &mut [u8], end: usize) -> Option<usize>
 }
 
 // Writes a value so that it ends before a place, and answers where it begins, if it can.
+#[inline(always)]
 fn write_value(value: &Value, line: &mut [u8], end: usize) -> Option<usize>
     requires { end ≤ length line.old }
     ensures written { IfSome result (λ start. drop start line.new ≡ field_text (meaning value.now) ++ drop end line.old) }
@@ -65,6 +68,7 @@ fn write_value(value: &Value, line: &mut [u8], end: usize) -> Option<usize>
 }
 
 // Writes a byte before a place, and answers where it stands, if it can.
+#[inline(always)]
 fn write_byte(byte: u8, line: &mut [u8], end: usize) -> Option<usize>
     requires { end ≤ length line.old }
     ensures written { IfSome result (λ start. drop start line.new ≡ byte ∷ drop end line.old) }
@@ -79,6 +83,7 @@ fn write_byte(byte: u8, line: &mut [u8], end: usize) -> Option<usize>
 }
 
 // Writes a value before a line that begins at a place, with a comma between where the line has a field already.
+#[inline(always)]
 fn write_field(value: &Value, is_last: bool, line: &mut [u8], end: usize) -> Option<usize>
     requires { end ≤ length line.old }
     ensures written { IfSome result (λ start. drop start line.new ≡ field_text (meaning value.now)

@@ -14,6 +14,7 @@ pub struct Row<'a> {
 }
 
 // What a column has for a row, a null where that is nothing.
+#[inline(always)]
 fn value_in<'a>(column: &'a [Value], null: &'a Value, number: usize) -> &'a Value
     requires { meaning null.now ≡ Null }
     ensures { meaning result.now ≡ slice_index_or (map meaning column.now) number Null }
@@ -26,6 +27,7 @@ fn value_in<'a>(column: &'a [Value], null: &'a Value, number: usize) -> &'a Valu
 }
 
 // What the column at a place has for a row, a null where that is nothing.
+#[inline(always)]
 fn value_behind<'a>(
     columns: &'a [&'a [Value]],
     null: &'a Value,
@@ -44,6 +46,7 @@ fn value_behind<'a>(
 
 /// The value of a row at a place: of its own cells, or behind them of what the columns have for it. A null where it has no such
 /// place.
+#[inline(always)]
 pub(crate) fn value_at<'a>(row: &'a Row, null: &'a Value, place: usize) -> &'a Value
     requires { meaning null.now ≡ Null }
     ensures { meaning result.now ≡ slice_index_or (values_of row.now) place Null }
