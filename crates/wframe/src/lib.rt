@@ -10,6 +10,7 @@
 //! callers meet.
 #![tactic(auto)]
 
+mod ahead;
 mod bounds;
 mod conditions;
 mod cuts;

@@ -8,6 +8,7 @@ ghost use Rattle.wframe.specs.FrameEnds.{HasAllFrames};
 ghost use Rattle.wframe.specs.Places.{Tiles, span_at};
 ghost use Rattle.wframe.specs.Partition.{Partitioned, partition_of};
 
+use crate::ahead::Ahead;
 use crate::ends::FrameEnds;
 use crate::frame::{Frame, Span};
 use crate::frames::Frames;
@@ -25,8 +26,10 @@ fn partition_spans(alloc: Global, partition_values: &KeyRows) -> Result<Vec<Span
 {
     let count = partition_values.count();
     let mut spans = Vec::new(alloc);
+    let mut ahead = Ahead::new();
     let mut from = 0;
     while from < count {
+        ahead.look(partition_values, from);
         let to = agreeing_end(partition_values, from);
         spans.push(Span { from, to })?;
         from = to;

@@ -5,6 +5,7 @@ ghost use Rattle.wframe.specs.Peers.{is_before, is_upto};
 ghost use Rattle.wframe.specs.Cuts.{CutsAt, BeginsWith};
 ghost use Rattle.wframe.specs.PeerGroups.{AreGroups, HoldsEnd, begins_of};
 
+use crate::ahead::Ahead;
 use crate::frame::Span;
 use crate::key_rows::KeyRows;
 use std::alloc::AllocError;
@@ -106,8 +107,10 @@ pub fn push_peers(
     ensures last { OnOk result (slice_index (begins_of ends.new.items) (length ends.new.items) ≡ first + length (key_lists rows.now)) }
 {
     let count = rows.count();
+    let mut ahead = Ahead::new();
     let mut from = 0;
     while from < count {
+        ahead.look(rows, from);
         let to = agreeing_end(rows, from);
         push_group(numbers, ends, to - from, first + to)?;
         from = to;
