@@ -7,6 +7,7 @@ mod PutFacts
 mod CallFacts
 mod PlainFacts
 mod CodeFacts
+mod CountFacts
 mod CutFacts
 pub mod Listed
 mod ListFacts

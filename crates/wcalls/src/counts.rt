@@ -32,7 +32,8 @@ pub trait Counts {
         requires few { length frames.now.keys < 2 ^ 31 }
         requires place { place < length frames.now.keys }
         requires before { (j : ℕ) → place ≡ j + 1 → before ≡ count_at self.now (length frames.now.keys) frames.now j }
-        ensures { result ≡ count_at self.now (length frames.now.keys) frames.now place };
+        ensures count { result ≡ count_at self.now (length frames.now.keys) frames.now place }
+        ensures few { result ≤ length frames.now.keys + 1 };
 }
 
 /// A call that counts.
@@ -46,15 +47,15 @@ impl<N: Counts> RowFunction for Counted<N> {
 
     ghost meant = { λ _ count. Int (pos count) };
 
-    fn keep(&self, frames: &Frames, rows: &[usize], kept: &mut [usize]) {
+    fn keep(&self, frames: &Frames, rows: &[usize], kept: &mut [u32]) {
         let mut count = 0;
         for place in 0..rows.len() {
             count = self.counts.next_count(frames, place, count);
-            put_at(kept, rows, place, count);
+            put_at(kept, rows, place, count as u32);
         }
     }
 
-    fn look(&self, _numbers: &[usize]) -> bool {
+    fn look(&self, _numbers: &[u32]) -> bool {
         false
     }
 
@@ -70,6 +71,7 @@ pub struct RowNumber;
 impl Counts for RowNumber {
     ghost count_at = { λ _ n. row_number_of };
 
+    #[tactic(auto, using(crate::proofs::CountFacts::row_number_few))]
     fn next_count(&self, frames: &Frames, place: usize, _before: usize) -> usize {
         row_number_at(frames, place)
     }
@@ -82,6 +84,7 @@ pub struct Rank;
 impl Counts for Rank {
     ghost count_at = { λ _ n. rank_of };
 
+    #[tactic(auto, using(crate::proofs::CountFacts::rank_few))]
     fn next_count(&self, frames: &Frames, place: usize, _before: usize) -> usize {
         rank_at(frames, place)
     }
@@ -94,6 +97,7 @@ pub struct DenseRank;
 impl Counts for DenseRank {
     ghost count_at = { λ _ n. dense_rank_of };
 
+    #[tactic(auto, using(crate::proofs::CountFacts::dense_rank_few))]
     fn next_count(&self, frames: &Frames, place: usize, before: usize) -> usize {
         next_dense_rank(frames, place, before)
     }

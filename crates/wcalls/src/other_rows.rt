@@ -24,12 +24,13 @@ fn row_read(rows: &[usize], place: usize) -> usize
 }
 
 // The number that is kept for a row: one more than the number of the row that is read for it, or 0 where none is.
-fn number_read(rows: &[usize], place: Option<usize>, count: usize) -> usize
-    requires { All (λ i. i < count) rows.now }
+fn number_read(rows: &[usize], place: Option<usize>, count: usize) -> u32
+    requires below { All (λ i. i < count) rows.now }
+    requires few { count < 2 ^ 31 }
     ensures { result ≡ number_read rows.now place }
 {
     match place {
-        Some(place) => row_read(rows, place) + 1,
+        Some(place) => row_read(rows, place) as u32 + 1,
         None => 0,
     }
 }
@@ -86,7 +87,7 @@ impl<'a, P: RowPlaces> RowFunction for OtherRow<'a, P> {
 
     ghost meant = { λ call. value_of_number (values_seen call.values) (meaning call.default.now) };
 
-    fn keep(&self, frames: &Frames, rows: &[usize], kept: &mut [usize]) {
+    fn keep(&self, frames: &Frames, rows: &[usize], kept: &mut [u32]) {
         let count = kept.len();
         for place in 0..rows.len() {
             let answer = self.places.place_of(frames, place);
@@ -94,10 +95,10 @@ impl<'a, P: RowPlaces> RowFunction for OtherRow<'a, P> {
         }
     }
 
-    fn look(&self, numbers: &[usize]) -> bool {
+    fn look(&self, numbers: &[u32]) -> bool {
         let mut found = false;
         for number in numbers {
-            if is_text(self.read(*number)) {
+            if is_text(self.read(*number as usize)) {
                 found = true;
             }
         }

@@ -46,8 +46,9 @@ pub trait RowFunction {
     ghost meant: { Self → ℕ → Meaning };
 
     /// Keeps what it answers for the rows of a partition, each at the row's number.
-    fn keep(&self, frames: &Frames, rows: &[usize], kept: &mut [usize])
+    fn keep(&self, frames: &Frames, rows: &[usize], kept: &mut [u32])
         requires few { length rows.now < 2 ^ 31 }
+        requires room { length kept.old < 2 ^ 31 }
         requires len { length rows.now ≡ length frames.now.keys }
         requires below { All (λ i. i < length kept.old) rows.now }
         ensures { map (meant self.now) kept.new ≡ put_all (map (meant self.now) kept.old) rows.now
@@ -55,7 +56,7 @@ pub trait RowFunction {
 
     /// Looks at all that some kept numbers stand for, and tells whether there is a text among it. The loop does nothing else, so
     /// that the processor has many values on their way from memory at once.
-    fn look(&self, numbers: &[usize]) -> bool;
+    fn look(&self, numbers: &[u32]) -> bool;
 
     /// The value that a kept number stands for, whatever was told of texts: where there are none, no owners are counted.
     fn value(&self, number: usize, some_text: bool) -> Result<Value, AllocError>
@@ -63,7 +64,7 @@ pub trait RowFunction {
 }
 
 // Keeps what a call answers for the rows of a window, each at the row's number.
-fn keep_answers<T: RowFunction>(call: &T, arranged: &ArrangedRows, kept: &mut [usize])
+fn keep_answers<T: RowFunction>(call: &T, arranged: &ArrangedRows, kept: &mut [u32])
     requires { length kept.old ≡ length arranged.now.order.now }
     ensures { (w : Windowed) → IsArranged w arranged.now.order.now arranged.now.partitions.now
         → map (T.meant call.now) kept.new ≡ each_row w (λ i. T.answer call.now (partition_at w i) (partition_rows w i) (place_at w i)) }
@@ -77,11 +78,7 @@ fn keep_answers<T: RowFunction>(call: &T, arranged: &ArrangedRows, kept: &mut [u
 }
 
 // Puts the values that kept numbers stand for, one after another. They are looked at before, some at a time.
-fn put_kept<T: RowFunction>(
-    call: &T,
-    kept: &[usize],
-    column: &mut [Value],
-) -> Result<(), AllocError>
+fn put_kept<T: RowFunction>(call: &T, kept: &[u32], column: &mut [Value]) -> Result<(), AllocError>
     requires { length column.old ≡ length kept.now }
     ensures { OnOk result (map meaning column.new ≡ map (T.meant call.now) kept.now) }
 {
@@ -92,7 +89,7 @@ fn put_kept<T: RowFunction>(
             seen = batch_end(row, kept.len());
             some_text = call.look(&kept[row..seen]);
         }
-        let value = call.value(kept[row], some_text)?;
+        let value = call.value(kept[row] as usize, some_text)?;
         column[row] = value;
     }
     Ok(())
@@ -111,7 +108,7 @@ pub(crate) fn put_answers<T: RowFunction>(
         → OnOk result (map meaning column.new ≡ each_row w (λ i. T.answer call.now (partition_at w i) (partition_rows w i)
         (place_at w i))) }
 {
-    let mut kept = vec![in alloc; 0usize; arranged.order.len()]?;
+    let mut kept = vec![in alloc; 0u32; arranged.order.len()]?;
     keep_answers(call, arranged, &mut kept);
     put_kept(call, &kept, column)?;
     Ok(())

@@ -1,4 +1,4 @@
-ghost use Rattle.std.specs.Prelude.{◌≡◌, ◌≤◌, ◌<◌, length, IfOk};
+ghost use Rattle.std.specs.Prelude.{◌≡◌, ◌≤◌, ◌<◌, ◌+◌, length, IfOk};
 ghost use Rattle.wplaces.specs.EachRow.{each_row};
 ghost use Rattle.wplaces.specs.Tile.{tile_of};
 
@@ -10,7 +10,8 @@ use wframe::Frames;
 fn tile_at(row: usize, count: usize, tiles: usize) -> usize
     requires tiles { 1 ≤ tiles }
     requires row { row < count }
-    ensures { result ≡ tile_of count tiles row }
+    ensures tile { result ≡ tile_of count tiles row }
+    ensures within { result ≤ row + 1 }
 {
     let rows = count / tiles;
     let larger = count % tiles;
@@ -28,7 +29,8 @@ fn tile_at(row: usize, count: usize, tiles: usize) -> usize
 pub fn ntile_at(frames: &Frames, row: usize, tiles: u64) -> usize
     requires tiles { 1 ≤ tiles }
     requires row { row < length frames.now.keys }
-    ensures { result ≡ tile_of (length frames.now.keys) tiles row }
+    ensures tile { result ≡ tile_of (length frames.now.keys) tiles row }
+    ensures within { result ≤ row + 1 }
 {
     tile_at(row, frames.count(), tiles as usize)
 }

@@ -16,7 +16,7 @@ loop-place-preserved g c =
     let meant : ℕ → Meaning = λ count. Int (pos count) in
     let answer : ℕ → Meaning = λ place. Int (pos (count_at place)) in
     let here : k < length rows = omega arith in
-    let is : c.next_count-count.result ≡ count_at k = c.next_count-count.ensures
+    let is : c.next_count-count.result ≡ count_at k = c.next_count-count.ensures.count
     ∙ ap (λ n. g.N.Counts.count_at c.args.self.now.counts n frames k) (sym c.requires.len) in
     record {
       long = ap length c.put_at.ensures ∙ length-set c.loop-place.kept (get_or rows k 0) c.next_count-count.result
