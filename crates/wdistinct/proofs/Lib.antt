@@ -1,3 +1,3 @@
-mod Collected
 mod Sketched
+mod Collected
 mod Among

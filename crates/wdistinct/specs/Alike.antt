@@ -1,66 +1,111 @@
 -- Equal expressions have one sketch.
-use Rattle.std.proofs.Common.{◌≡◌, true, Option, Some, None, refl, sym, ap, ◌∙◌}
+use Rattle.std.proofs.Common.{◌≡◌, true, suc, ◌++◌, Option, Some, None, refl, sym, ap, ◌∙◌}
+use Rattle.std.specs.Hash as fed
 use Rattle.std.specs.Hash.DefaultHasher as hasher
 use Rattle.std.specs.declared.hash.DefaultHasher.{DefaultHasher}
 use Rattle.wquery.specs.declared.frame.Frame.{Frame}
-use Rattle.wquery.specs.Tree.{Tree, NullWord, Numeral, Quoted, Field, Invoked, Negated, Signed, Joined, Compared, NullTest, Within}
+use Rattle.wquery.specs.Tree.{Tree, Invoked, Negated, Signed, Joined, Compared, NullTest, Within}
 use Rattle.wquery.specs.Tree.{Among, Trees, NoTrees, MoreTrees, Links, NoLinks, Further, Given, Everything, These, Columns, Filter}
 use Rattle.wquery.specs.Tree.{Unfiltered, FilteredBy, Reach, ItsGroup, ThatWindow, OwnWindow, Keys, NoKeys, MoreKeys}
 use Rattle.wsame.specs.Bounds.{end_of}
-use Rattle.wsame.specs.Sameness.{is_same, comparison_number, mode_number, nulls_number, operator_number}
-use Rattle.wdistinct.specs.Sketch.{marked, flagged, named, bounded, framed, copied, ended, sketched, sketched_trees, sketched_links}
-use Rattle.wdistinct.specs.Sketch.{sketched_given, sketched_filter, sketched_reach, sketched_keys, sketch_of}
-use Rattle.wdistinct.specs.Same.{plain, plain_trees, plain_links, plain_given, plain_filter}
-use Rattle.wdistinct.specs.Same.{plain_reach, plain_keys, plain_frame, plain_number, to}
+use Rattle.wsame.specs.Sameness.{is_same, mode_number, nulls_number, operator_number}
+use Rattle.wscope.specs.Finding.{count_trees}
+use Rattle.wscope.specs.Seeking.{Findings, found, found_below, found_trees, found_links, found_given, found_filter, found_reach, found_keys}
+use Rattle.wdistinct.specs.Sketch.{behind, head_of, head_of_bound, head_of_filter, head_of_frame, head_of_given, head_of_keys}
+use Rattle.wdistinct.specs.Sketch.{head_of_links, head_of_reach, list_end, sketching, sketch_of}
+use Rattle.wdistinct.specs.Same.{plain, plain_trees, plain_links, plain_given, plain_filter, plain_reach, plain_keys, plain_frame}
+use Rattle.wdistinct.specs.Same.{plain_number, to}
 
-kept_frame : (f : Option Frame) → framed (plain_frame f) ≡ framed f
-kept_frame None = refl
-kept_frame (Some f) = λ i s. marked (plain_number f.exclusion i)
-    (bounded (end_of f) (bounded f.start (marked (mode_number f.mode) (marked 1 s))))
+-- what a node says beside those below it
 
-mutual
-  kept : (t : Tree) → sketched (plain t) ≡ sketched t
-  kept NullWord = refl
-  kept (Numeral n) = refl
-  kept (Quoted text) = refl
-  kept (Field qualifier name) = refl
-  kept (Invoked name given filter reach) = λ i s. kept_reach reach i (kept_filter filter i (kept_given given i (named name (marked 4 s))))
-  kept (Negated t) = λ i s. kept t i (marked 5 s)
-  kept (Signed minus t) = λ i s. kept t i (flagged minus (marked 6 s))
-  kept (Joined kind t links) = λ i s. ended (kept_links links i (kept t i (marked 7 s)))
-  kept (Compared comparison l r) = λ i s. kept r i (kept l i (marked (comparison_number comparison) (marked 8 s)))
-  kept (NullTest negated t) = λ i s. kept t i (flagged negated (marked 9 s))
-  kept (Within negated t l h) = λ i s. kept h i (kept l i (kept t i (flagged negated (marked 10 s))))
-  kept (Among negated t list) = λ i s. kept_trees list i (kept t i (flagged negated (marked 11 s)))
+count_kept : (ts : Trees) → count_trees (plain_trees ts) ≡ count_trees ts
+count_kept NoTrees = refl
+count_kept (MoreTrees t ts) = ap suc (count_kept ts)
 
-  kept_trees : (ts : Trees) → sketched_trees (plain_trees ts) ≡ sketched_trees ts
-  kept_trees NoTrees = refl
-  kept_trees (MoreTrees t ts) = λ i s. kept_trees ts i (kept t i s)
+frame_kept : (f : Option Frame) → head_of_frame (plain_frame f) ≡ head_of_frame f
+frame_kept None = refl
+frame_kept (Some f) = λ i. fed.u8 1 ++ fed.u8 (mode_number f.mode) ++ head_of_bound f.start ++ head_of_bound (end_of f)
+    ++ fed.u8 (plain_number f.exclusion i)
 
-  kept_links : (ts : Links) → sketched_links (plain_links ts) ≡ sketched_links ts
-  kept_links NoLinks = refl
-  kept_links (Further front operator t) = λ i s. kept t i (marked (operator_number operator) (kept_links front i s))
+links_kept : (ls : Links) → head_of_links (plain_links ls) ≡ head_of_links ls
+links_kept NoLinks = refl
+links_kept (Further front operator t) = λ i. links_kept front i ++ fed.u8 (operator_number operator)
 
-  kept_given : (g : Given) → sketched_given (plain_given g) ≡ sketched_given g
-  kept_given Everything = refl
-  kept_given (These ts) = λ i s. kept_trees ts i (marked 1 s)
-  kept_given (Columns ts) = λ i s. kept_trees ts i (marked 2 s)
+given_kept : (g : Given) → head_of_given (plain_given g) ≡ head_of_given g
+given_kept Everything = refl
+given_kept (These ts) = λ i. fed.u8 1 ++ fed.usize (count_kept ts i)
+given_kept (Columns ts) = λ i. fed.u8 2 ++ fed.usize (count_kept ts i)
 
-  kept_filter : (f : Filter) → sketched_filter (plain_filter f) ≡ sketched_filter f
-  kept_filter Unfiltered = refl
-  kept_filter (FilteredBy t) = λ i s. kept t i (marked 1 s)
+filter_kept : (f : Filter) → head_of_filter (plain_filter f) ≡ head_of_filter f
+filter_kept Unfiltered = refl
+filter_kept (FilteredBy t) = refl
 
-  kept_reach : (r : Reach) → sketched_reach (plain_reach r) ≡ sketched_reach r
-  kept_reach ItsGroup = refl
-  kept_reach (ThatWindow name) = refl
-  kept_reach (OwnWindow copy partition order frame) =
-      λ i s. kept_frame frame i (kept_keys order i (kept_trees partition i (copied copy (marked 2 s))))
+keys_kept : (ks : Keys) → head_of_keys (plain_keys ks) ≡ head_of_keys ks
+keys_kept NoKeys = refl
+keys_kept (MoreKeys t descending nulls more) = λ i. fed.bool descending ++ fed.u8 (nulls_number nulls) ++ keys_kept more i
 
-  kept_keys : (ks : Keys) → sketched_keys (plain_keys ks) ≡ sketched_keys ks
-  kept_keys NoKeys = refl
-  kept_keys (MoreKeys t descending nulls more) = λ i s. kept_keys more i (marked (nulls_number nulls) (flagged descending (kept t i s)))
+reach_kept : (r : Reach) → head_of_reach (plain_reach r) ≡ head_of_reach r
+reach_kept ItsGroup = refl
+reach_kept (ThatWindow name) = refl
+reach_kept (OwnWindow copied partition order frame) =
+    λ i. fed.u8 2 ++ fed.option fed.str copied ++ fed.usize (count_kept partition i) ++ keys_kept order i ++ frame_kept frame i
+
+head_kept : (t : Tree) → head_of (plain t) ≡ head_of t
+head_kept (Invoked name given filter reach) =
+    λ i. fed.u8 4 ++ fed.str name ++ given_kept given i ++ filter_kept filter i ++ reach_kept reach i
+head_kept (Joined kind t links) = λ i. fed.u8 7 ++ links_kept links i ++ list_end
+head_kept (Among negated t list) = λ i. fed.u8 11 ++ fed.bool negated ++ fed.usize (count_kept list i)
+head_kept _ = refl
+
+-- what nodes come to, where one node comes to the same without what equality looks through
+module _ {M : Type 0} (f : Findings M) (at : (t : Tree) (below : M) → f.at (plain t) below ≡ f.at t below) where
+  kept_at : (t : Tree) → found_below f (plain t) ≡ found_below f t → found f (plain t) ≡ found f t
+  kept_at t e = at t (found_below f (plain t)) ∙ ap (f.at t) e
+
+  mutual
+    kept : (t : Tree) → found_below f (plain t) ≡ found_below f t
+    kept (Invoked name given filter reach) = λ i. f.both (kept_given given i) (f.both (kept_filter filter i) (kept_reach reach i))
+    kept (Negated t) = kept_at t (kept t)
+    kept (Signed minus t) = kept_at t (kept t)
+    kept (Joined kind t links) = λ i. f.both (kept_at t (kept t) i) (kept_links links i)
+    kept (Compared comparison l r) = λ i. f.both (kept_at l (kept l) i) (kept_at r (kept r) i)
+    kept (NullTest negated t) = kept_at t (kept t)
+    kept (Within negated t l h) = λ i. f.both (kept_at t (kept t) i) (f.both (kept_at l (kept l) i) (kept_at h (kept h) i))
+    kept (Among negated t list) = λ i. f.both (kept_at t (kept t) i) (kept_trees list i)
+    kept _ = refl
+
+    kept_trees : (ts : Trees) → found_trees f (plain_trees ts) ≡ found_trees f ts
+    kept_trees NoTrees = refl
+    kept_trees (MoreTrees t ts) = λ i. f.both (kept_at t (kept t) i) (kept_trees ts i)
+
+    kept_links : (ls : Links) → found_links f (plain_links ls) ≡ found_links f ls
+    kept_links NoLinks = refl
+    kept_links (Further front operator t) = λ i. f.both (kept_links front i) (kept_at t (kept t) i)
+
+    kept_given : (g : Given) → found_given f (plain_given g) ≡ found_given f g
+    kept_given Everything = refl
+    kept_given (These ts) = kept_trees ts
+    kept_given (Columns ts) = kept_trees ts
+
+    kept_filter : (g : Filter) → found_filter f (plain_filter g) ≡ found_filter f g
+    kept_filter Unfiltered = refl
+    kept_filter (FilteredBy t) = kept_at t (kept t)
+
+    kept_reach : (r : Reach) → found_reach f (plain_reach r) ≡ found_reach f r
+    kept_reach (OwnWindow copied partition order frame) = λ i. f.both (kept_trees partition i) (kept_keys order i)
+    kept_reach _ = refl
+
+    kept_keys : (ks : Keys) → found_keys f (plain_keys ks) ≡ found_keys f ks
+    kept_keys NoKeys = refl
+    kept_keys (MoreKeys t descending nulls more) = λ i. f.both (kept_at t (kept t) i) (kept_keys more i)
+
+sketch_at : (t : Tree) (below : DefaultHasher → DefaultHasher) → sketching.at (plain t) below ≡ sketching.at t below
+sketch_at t below = λ i s. below (behind (head_kept t i) s)
+
+sketch_kept : (t : Tree) → found sketching (plain t) ≡ found sketching t
+sketch_kept t = kept_at sketching sketch_at t (kept sketching sketch_at t)
 
 pub same_sketch : (t u : Tree) → is_same t u ≡ true → sketch_of t ≡ sketch_of u
 same_sketch t u h =
-    let one : sketched t ≡ sketched u = sym (kept t) ∙ ap sketched (to t u h) ∙ kept u in
+    let one : found sketching t ≡ found sketching u = sym (sketch_kept t) ∙ ap (found sketching) (to t u h) ∙ sketch_kept u in
     ap (λ (f : DefaultHasher → DefaultHasher). hasher.finish (f hasher.initial)) one

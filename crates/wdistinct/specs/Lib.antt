@@ -3,4 +3,3 @@ pub mod Sketch
 pub mod Places
 pub mod Same
 pub mod Alike
-pub mod Heads

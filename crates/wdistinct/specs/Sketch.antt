@@ -1,103 +1,79 @@
--- A number that equal expressions share, and that others hardly ever do: the hash of an expression's marks, names, texts
--- and numbers, one after another, without what equality looks through.
-use Rattle.std.specs.Prelude.{ℕ, Bool, List, [], ◌∷◌, Option, Some, None}
+-- A number that equal expressions share, and that others hardly ever do: the hash of what the nodes of an expression say
+-- beside the nodes below them, one node after another, without what equality looks through.
+use Rattle.std.specs.Prelude.{ℕ, [], ◌++◌, Option, Some, None}
 use Rattle.std.specs.List.{fold}
 use Rattle.std.specs.Hash as fed
+use Rattle.std.specs.Hash.{HashWrites}
 use Rattle.std.specs.Hash.DefaultHasher as hasher
 use Rattle.std.specs.declared.hash.DefaultHasher.{DefaultHasher}
 use Rattle.wquery.specs.declared.frame.Frame.{Frame}
 use Rattle.wquery.specs.declared.frame.FrameBound.{FrameBound}
 use Rattle.wquery.specs.Tree.{Tree, NullWord, Numeral, Quoted, Field, Invoked, Negated, Signed, Joined, Compared, NullTest, Within, Among}
-use Rattle.wquery.specs.Tree.{Trees, NoTrees, MoreTrees, Links, NoLinks, Further, Given, Everything, These, Columns, Filter, Unfiltered}
-use Rattle.wquery.specs.Tree.{FilteredBy, Reach, ItsGroup, ThatWindow, OwnWindow, Keys, NoKeys, MoreKeys, Branch, KeyTree}
+use Rattle.wquery.specs.Tree.{Links, NoLinks, Further, Given, Everything, These, Columns, Filter, Unfiltered, FilteredBy}
+use Rattle.wquery.specs.Tree.{Reach, ItsGroup, ThatWindow, OwnWindow, Keys, NoKeys, MoreKeys}
 use Rattle.wsame.specs.Bounds.{place_of_bound, end_of}
 use Rattle.wsame.specs.Sameness.{comparison_number, exclusion_number, mode_number, nulls_number, offset_in, operator_number}
+use Rattle.wscope.specs.Finding.{count_trees}
+use Rattle.wscope.specs.Seeking.{Findings, found}
 
--- behind a mark
-unfoldable pub marked : ℕ → DefaultHasher → DefaultHasher
-marked mark s = fold hasher.write s (fed.u8 mark)
+-- the marks of the forms of expression are 0 to 11; this ends a list
+abbrev pub list_end : HashWrites
+list_end = fed.u8 12
 
--- behind a yes or no
-unfoldable pub flagged : Bool → DefaultHasher → DefaultHasher
-flagged flag s = fold hasher.write s (fed.bool flag)
+abbrev pub head_of_bound : FrameBound → HashWrites
+head_of_bound b = fed.u8 (place_of_bound b) ++ fed.u128 (offset_in b)
 
--- behind a number
-unfoldable pub counted : ℕ → DefaultHasher → DefaultHasher
-counted number s = fold hasher.write s (fed.u128 number)
+abbrev pub head_of_frame : Option Frame → HashWrites
+head_of_frame None = fed.u8 0
+head_of_frame (Some f) =
+    fed.u8 1 ++ fed.u8 (mode_number f.mode) ++ head_of_bound f.start ++ head_of_bound (end_of f) ++ fed.u8 (exclusion_number f.exclusion)
 
--- behind a name or a text
-unfoldable pub named : List ℕ → DefaultHasher → DefaultHasher
-named bytes s = fold hasher.write s (fed.str bytes)
+-- the operators, from the first on
+abbrev pub head_of_links : Links → HashWrites
+head_of_links NoLinks = []
+head_of_links (Further front operator t) = head_of_links front ++ fed.u8 (operator_number operator)
 
--- the marks of the kinds of expression are 0 to 11; this ends a list
-abbrev pub ended : DefaultHasher → DefaultHasher
-ended s = marked 12 s
+abbrev pub head_of_given : Given → HashWrites
+head_of_given Everything = fed.u8 0
+head_of_given (These ts) = fed.u8 1 ++ fed.usize (count_trees ts)
+head_of_given (Columns ts) = fed.u8 2 ++ fed.usize (count_trees ts)
 
-abbrev pub bounded : FrameBound → DefaultHasher → DefaultHasher
-bounded b s = counted (offset_in b) (marked (place_of_bound b) s)
+abbrev pub head_of_filter : Filter → HashWrites
+head_of_filter Unfiltered = fed.u8 0
+head_of_filter (FilteredBy t) = fed.u8 1
 
-abbrev pub framed : Option Frame → DefaultHasher → DefaultHasher
-framed None s = marked 0 s
-framed (Some f) s = marked (exclusion_number f.exclusion) (bounded (end_of f) (bounded f.start (marked (mode_number f.mode) (marked 1 s))))
+abbrev pub head_of_keys : Keys → HashWrites
+head_of_keys NoKeys = list_end
+head_of_keys (MoreKeys t descending nulls more) = fed.bool descending ++ fed.u8 (nulls_number nulls) ++ head_of_keys more
 
-abbrev pub copied : Option (List ℕ) → DefaultHasher → DefaultHasher
-copied None s = marked 0 s
-copied (Some name) s = named name (marked 1 s)
+abbrev pub head_of_reach : Reach → HashWrites
+head_of_reach ItsGroup = fed.u8 0
+head_of_reach (ThatWindow name) = fed.u8 1 ++ fed.str name
+head_of_reach (OwnWindow copied partition order frame) =
+    fed.u8 2 ++ fed.option fed.str copied ++ fed.usize (count_trees partition) ++ head_of_keys order ++ head_of_frame frame
 
-abbrev mutual
-  pub sketched : Tree → DefaultHasher → DefaultHasher
-  sketched NullWord s = marked 0 s
-  sketched (Numeral n) s = counted n (marked 1 s)
-  sketched (Quoted text) s = named text (marked 2 s)
-  sketched (Field qualifier name) s = named name (marked 3 s)
-  sketched (Invoked name given filter reach) s =
-      sketched_reach reach (sketched_filter filter (sketched_given given (named name (marked 4 s))))
-  sketched (Negated t) s = sketched t (marked 5 s)
-  sketched (Signed minus t) s = sketched t (flagged minus (marked 6 s))
-  sketched (Joined kind t links) s = ended (sketched_links links (sketched t (marked 7 s)))
-  sketched (Compared comparison l r) s = sketched r (sketched l (marked (comparison_number comparison) (marked 8 s)))
-  sketched (NullTest negated t) s = sketched t (flagged negated (marked 9 s))
-  sketched (Within negated t l h) s = sketched h (sketched l (sketched t (flagged negated (marked 10 s))))
-  sketched (Among negated t list) s = sketched_trees list (sketched t (flagged negated (marked 11 s)))
+-- what a node says beside the nodes below it
+abbrev pub head_of : Tree → HashWrites
+head_of NullWord = fed.u8 0
+head_of (Numeral n) = fed.u8 1 ++ fed.u128 n
+head_of (Quoted text) = fed.u8 2 ++ fed.str text
+head_of (Field qualifier name) = fed.u8 3 ++ fed.str name
+head_of (Invoked name given filter reach) = fed.u8 4 ++ fed.str name ++ head_of_given given ++ head_of_filter filter ++ head_of_reach reach
+head_of (Negated t) = fed.u8 5
+head_of (Signed minus t) = fed.u8 6 ++ fed.bool minus
+head_of (Joined kind t links) = fed.u8 7 ++ head_of_links links ++ list_end
+head_of (Compared comparison l r) = fed.u8 8 ++ fed.u8 (comparison_number comparison)
+head_of (NullTest negated t) = fed.u8 9 ++ fed.bool negated
+head_of (Within negated t l h) = fed.u8 10 ++ fed.bool negated
+head_of (Among negated t list) = fed.u8 11 ++ fed.bool negated ++ fed.usize (count_trees list)
 
-  pub sketched_trees : Trees → DefaultHasher → DefaultHasher
-  sketched_trees NoTrees s = ended s
-  sketched_trees (MoreTrees t ts) s = sketched_trees ts (sketched t s)
+-- a hasher that this is written to
+abbrev pub behind : HashWrites → DefaultHasher → DefaultHasher
+behind writes s = fold hasher.write s writes
 
-  -- from the first link on
-  pub sketched_links : Links → DefaultHasher → DefaultHasher
-  sketched_links NoLinks s = s
-  sketched_links (Further front operator t) s = sketched t (marked (operator_number operator) (sketched_links front s))
-
-  pub sketched_given : Given → DefaultHasher → DefaultHasher
-  sketched_given Everything s = marked 0 s
-  sketched_given (These ts) s = sketched_trees ts (marked 1 s)
-  sketched_given (Columns ts) s = sketched_trees ts (marked 2 s)
-
-  pub sketched_filter : Filter → DefaultHasher → DefaultHasher
-  sketched_filter Unfiltered s = marked 0 s
-  sketched_filter (FilteredBy t) s = sketched t (marked 1 s)
-
-  pub sketched_reach : Reach → DefaultHasher → DefaultHasher
-  sketched_reach ItsGroup s = marked 0 s
-  sketched_reach (ThatWindow name) s = named name (marked 1 s)
-  sketched_reach (OwnWindow copy partition order frame) s =
-      framed frame (sketched_keys order (sketched_trees partition (copied copy (marked 2 s))))
-
-  pub sketched_keys : Keys → DefaultHasher → DefaultHasher
-  sketched_keys NoKeys s = ended s
-  sketched_keys (MoreKeys t descending nulls more) s = sketched_keys more (marked (nulls_number nulls) (flagged descending (sketched t s)))
-
--- of an operator with the operand behind it
-abbrev pub sketched_branch : Branch → DefaultHasher → DefaultHasher
-sketched_branch b s = sketched b.operand (marked (operator_number b.operator) s)
-
-abbrev pub sketched_branches : List Branch → DefaultHasher → DefaultHasher
-sketched_branches [] s = s
-sketched_branches (b ∷ bs) s = sketched_branches bs (sketched_branch b s)
-
-abbrev pub sketched_key : KeyTree → DefaultHasher → DefaultHasher
-sketched_key k s = marked (nulls_number k.nulls) (flagged k.descending (sketched k.expression s))
+-- a node before those below it
+abbrev pub sketching : Findings (DefaultHasher → DefaultHasher)
+sketching = record { none = λ s. s; both = λ f g s. g (f s); at = λ t below s. below (behind (head_of t) s) }
 
 abbrev pub sketch_of : Tree → ℕ
-sketch_of t = hasher.finish (sketched t hasher.initial)
+sketch_of t = hasher.finish (found sketching t hasher.initial)

@@ -5,9 +5,11 @@
 //!   them. Adding a call, or finding its place, takes time in proportion to the call and not to the number of calls,
 //!   but for calls whose hashes are made to meet.
 //! - Asks nothing. A walk goes as deep as the nesting alone.
-//! - Leaves to `wsame` when two calls are equal, to `wscope` which functions are aggregates, to `wbinding` what calls stand for.
+//! - Leaves to `wsame` when two calls are equal, to `wscope` which functions are aggregates and which nodes stand below one, to
+//!   `wbinding` what calls stand for.
 //!
-//! Read `specs/Clauses.antt`, `specs/Calls.antt`, `specs/Places.antt`; `specs/Sketch.antt` says what a call is hashed by.
+//! Read `specs/Calls.antt`, `specs/Places.antt`; `specs/Sketch.antt` says what a call is hashed by: what each of its nodes says
+//! beside those below it.
 #![tactic(auto)]
 
 mod call_key;

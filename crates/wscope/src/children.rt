@@ -133,7 +133,8 @@ impl<'a> Children<'a> {
         }
     }
 
-    fn of_call(call: &'a Call) -> Children<'a>
+    /// The nodes right below a call.
+    pub fn of_call(call: &'a Call) -> Children<'a>
         ensures { nodes_left result ≡ children_of (view_call call.now) }
     {
         Children::called(given(&call.arguments), filtered(&call.filter), &call.over)

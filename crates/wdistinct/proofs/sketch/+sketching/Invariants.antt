@@ -1,16 +1,20 @@
-use Rattle.std.proofs.Common.{◌≡◌, drop, map}
-use Rattle.wquery.specs.Tree.{trees, views, keys, view_keys, view_link}
-use Rattle.wdistinct.specs.Sketch.{sketched_trees, sketched_branches, sketched_keys}
+use Rattle.std.proofs.Common.{◌≡◌, ◌≤◌, ◌+◌, ◌*◌, length}
+use Rattle.wquery.specs.Tree.{view}
+use Rattle.wscope.specs.Seeking.{found}
+use Rattle.wscope.specs.Children.{found_all, nodes_left, sizing}
+use Rattle.wdistinct.specs.Sketch.{sketching}
 use Rattle.wdistinct.proofs.sketch.+sketching.Given as goal
 
-abbrev pub invariant-sketch_listed-list : goal.invariant-sketch_listed-list
-invariant-sketch_listed-list l = sketched_trees (trees (views (drop l.e-index l.list))) l.state
-    ≡ sketched_trees (trees (views l.list)) l.fn.state
+abbrev pub decreases-hash_node : goal.decreases-hash_node
+decreases-hash_node l = 2 * found sizing (view l.e.now)
 
-abbrev pub invariant-sketch_operands-links : goal.invariant-sketch_operands-links
-invariant-sketch_operands-links l = sketched_branches (map view_link (drop l.link-index l.links)) l.state
-    ≡ sketched_branches (map view_link l.links) l.fn.state
+abbrev pub decreases-hash_beside : goal.decreases-hash_beside
+decreases-hash_beside l = 2 * found_all sizing (nodes_left l.nodes) + 1
 
-abbrev pub invariant-sketch_keys-keys : goal.invariant-sketch_keys-keys
-invariant-sketch_keys-keys l = sketched_keys (keys (view_keys (drop l.key-index l.order))) l.state
-    ≡ sketched_keys (keys (view_keys l.order)) l.fn.state
+abbrev pub invariant-hash_beside-nodes : goal.invariant-hash_beside-nodes
+invariant-hash_beside-nodes l =
+    (found_all sketching (nodes_left l.rest) l.state ≡ found_all sketching (nodes_left l.nodes) l.fn.state)
+    × (found_all sizing (nodes_left l.rest) ≤ found_all sizing (nodes_left l.nodes))
+
+abbrev pub decreases-hash_beside-nodes : goal.decreases-hash_beside-nodes
+decreases-hash_beside-nodes l = length (nodes_left l.rest)
