@@ -11,8 +11,8 @@ use Rattle.wquery.specs.declared.expression.Expression.{Expression}
 use Rattle.wquery.specs.declared.expression.Window.{Window, out-Window}
 use Rattle.wquery.specs.declared.expression.Arguments.TheFolds.{fold_out-Window}
 use Rattle.wquery.specs.Tree.{Tree, Links, Further, Branch, linked, trees, view, view_key, view_keys, view_window, views}
-use Rattle.wquery.specs.Tree.{name_bytes, Given, Reach, KeyTree, WindowTree, arguments_step, expression_step, over_step, call_step, key_step}
-use Rattle.wquery.specs.Tree.{link_step, window_step}
+use Rattle.wquery.specs.Tree.{name_bytes, Given, Reach, KeyTree, WindowTree, arguments_step, expression_step}
+use Rattle.wquery.specs.Tree.{over_step, call_step, key_step, link_step, window_step}
 use Rattle.wsame.specs.Sameness.{operator_number}
 use Rattle.wscope.specs.Finding.{count_trees}
 use Rattle.wscope.specs.Seeking.{found}

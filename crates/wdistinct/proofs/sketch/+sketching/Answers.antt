@@ -10,7 +10,8 @@ pub hash_node-hash_beside-requires : goal.hash_node-hash_beside-requires
 hash_node-hash_beside-requires t c =
     let m : found_below sizing (view c.args.e.now) ≡ found_all sizing (nodes_left c.in-Some.nodes) =
     size_below (view c.args.e.now) (nodes_left c.in-Some.nodes) c.in-Some.ensures in
-    let less : 2 * found_all sizing (nodes_left c.in-Some.nodes) + 1 < 2 * (suc (found_below sizing (view c.args.e.now))) = omega (arith, m) in
+    let less : 2 * found_all sizing (nodes_left c.in-Some.nodes) + 1 < 2 * suc (found_below sizing (view c.args.e.now)) =
+    omega (arith, m) in
     (rw (← c.decreases) less, search rules)
 
 pub hash_node-returns-in-None : goal.hash_node-returns-in-None
