@@ -4,6 +4,7 @@ mod PlaceFacts
 mod Answering
 mod ArrangedFacts
 mod PutFacts
+mod PushedFacts
 mod CallFacts
 mod PlainFacts
 mod CodeFacts

@@ -15,37 +15,14 @@ ghost use Rattle.wcalls.specs.Arranged.{IsArranged};
 ghost use Rattle.wcalls.specs.Ordered.{ordered_rows};
 
 use crate::arranged::ArrangedRows;
-use crate::functions::function_column;
+use crate::functions::push_column;
 use crate::parts::frame_of;
-use crate::row_function::push_nulls;
 use crate::window_order::WindowOrder;
 use std::alloc::Global;
 use waggregate::Tally;
 use wplan::{ResolvedWindow, WindowFunction};
 use wrows::{AnswerFault, Cells};
 use wvalues::Value;
-
-// Appends the column of a function of a window, by number, where the rows stand in its order and in its partitions.
-fn push_column(
-    alloc: Global,
-    function: &WindowFunction,
-    arranged: &ArrangedRows,
-    cells: &mut Vec<Value>,
-    tally: &mut Tally,
-) -> Result<(), AnswerFault>
-    requires { is_sound_function (function_plan function.now) ≡ true }
-    ensures joins { tally.new ≤ tally.old + most_of_function arranged.now.partitions.now.frame.exclusion
-        (length arranged.now.order.now) (function_plan function.now) }
-    ensures column { (w : Windowed) → IsArranged w arranged.now.order.now arranged.now.partitions.now
-        → Gives (λ _. map meaning (drop (length cells.old.items) cells.new.items)) result
-        (function_column (rows_seen arranged.now.rows.now) w (function_plan function.now)) }
-    ensures kept { OnOk result (take (length cells.old.items) cells.new.items ≡ cells.old.items) }
-    ensures len { OnOk result (length cells.new.items ≡ length cells.old.items + length arranged.now.rows.now) }
-{
-    let start = cells.len();
-    push_nulls(cells, arranged.rows.len())?;
-    function_column(alloc, function, arranged, &mut cells[start..], tally)
-}
 
 // The columns of functions of a window, by number, where the rows stand in its order and in its partitions.
 fn every_column(

@@ -1,5 +1,5 @@
-//! The column of a call with OVER, put by the numbers of the rows.
-ghost use Rattle.std.specs.Prelude.{◌≡◌, ◌+◌, ◌<◌, ◌^◌, ℕ, List, All, length, map, set, slice_index_or, take, IfOk, OnOk};
+//! The column of a call with OVER, by the numbers of the rows.
+ghost use Rattle.std.specs.Prelude.{◌≡◌, ◌+◌, ◌<◌, ◌^◌, ℕ, List, All, drop, length, map, set, slice_index_or, take, IfOk, OnOk};
 ghost use Rattle.wvalues.specs.Meaning.{Meaning, meaning};
 ghost use Rattle.wframe.specs.Partition.{Partition};
 ghost use Rattle.wframe.specs.Places.{places};
@@ -77,10 +77,15 @@ fn keep_answers<T: RowFunction>(call: &T, arranged: &ArrangedRows, kept: &mut [u
     }
 }
 
-// Puts the values that kept numbers stand for, one after another. They are looked at before, some at a time.
-fn put_kept<T: RowFunction>(call: &T, kept: &[u32], column: &mut [Value]) -> Result<(), AllocError>
-    requires { length column.old ≡ length kept.now }
-    ensures { OnOk result (map meaning column.new ≡ map (T.meant call.now) kept.now) }
+// Appends the values that kept numbers stand for, one after another. They are looked at before, some at a time.
+fn push_kept<T: RowFunction>(
+    call: &T,
+    kept: &[u32],
+    cells: &mut Vec<Value>,
+) -> Result<(), AllocError>
+    ensures column { OnOk result (map meaning (drop (length cells.old.items) cells.new.items) ≡ map (T.meant call.now) kept.now) }
+    ensures kept { OnOk result (take (length cells.old.items) cells.new.items ≡ cells.old.items) }
+    ensures len { OnOk result (length cells.new.items ≡ length cells.old.items + length kept.now) }
 {
     let mut some_text = false;
     let mut seen = 0;
@@ -89,27 +94,27 @@ fn put_kept<T: RowFunction>(call: &T, kept: &[u32], column: &mut [Value]) -> Res
             seen = batch_end(row, kept.len());
             some_text = call.look(&kept[row..seen]);
         }
-        let value = call.value(kept[row] as usize, some_text)?;
-        column[row] = value;
+        cells.push(call.value(kept[row] as usize, some_text)?)?;
     }
     Ok(())
 }
 
-/// Puts what a call answers for the rows of a window, each at the row's number. One list is made, whatever the number of
+/// Appends what a call answers for the rows of a window, by the rows' numbers. One list is made, whatever the number of
 /// partitions.
-pub(crate) fn put_answers<T: RowFunction>(
+pub(crate) fn push_answers<T: RowFunction>(
     alloc: Global,
     call: &T,
     arranged: &ArrangedRows,
-    column: &mut [Value],
+    cells: &mut Vec<Value>,
 ) -> Result<(), AllocError>
-    requires { length column.old ≡ length arranged.now.order.now }
-    ensures { (w : Windowed) → IsArranged w arranged.now.order.now arranged.now.partitions.now
-        → OnOk result (map meaning column.new ≡ each_row w (λ i. T.answer call.now (partition_at w i) (partition_rows w i)
-        (place_at w i))) }
+    ensures column { (w : Windowed) → IsArranged w arranged.now.order.now arranged.now.partitions.now
+        → OnOk result (map meaning (drop (length cells.old.items) cells.new.items) ≡ each_row w
+        (λ i. T.answer call.now (partition_at w i) (partition_rows w i) (place_at w i))) }
+    ensures kept { OnOk result (take (length cells.old.items) cells.new.items ≡ cells.old.items) }
+    ensures len { OnOk result (length cells.new.items ≡ length cells.old.items + length arranged.now.order.now) }
 {
     let mut kept = vec![in alloc; 0u32; arranged.order.len()]?;
     keep_answers(call, arranged, &mut kept);
-    put_kept(call, &kept, column)?;
+    push_kept(call, &kept, cells)?;
     Ok(())
 }
