@@ -11,10 +11,14 @@ use wvalues::Value;
 /// How many rows are looked at at once, so few that a cache holds their texts until they are compared.
 const BATCH: usize = 256;
 
-/// How far rows were looked at.
+/// How many rows agree at most where most rows are compared. Of more that agree few are.
+const FEW: usize = 16;
+
+/// How far rows were looked at, and where the last of their groups began.
 #[derive(Drop)]
 pub(crate) struct Ahead {
     seen: usize,
+    last: usize,
 }
 
 // Whether a value is a text that begins with something. Its first byte is read.
@@ -44,17 +48,15 @@ fn hold_texts(rows: &KeyRows, from: usize, end: usize) -> bool
 impl Ahead {
     /// No row was looked at.
     pub(crate) fn new() -> Ahead {
-        Ahead { seen: 0 }
+        Ahead { seen: 0, last: 0 }
     }
 
-    /// Looks at the rows behind a place, where groups of rows begin, if none of these was looked at yet. Rows that have codes are
-    /// not read, nor are rows behind many that agree, of which few are compared. Where there is no text, no more rows are looked at.
+    /// Looks at rows from a place on, where a group of rows that agree begins, unless they were looked at, have codes and so are not
+    /// read, or more than a few agreed before it. No row is looked at twice, and none is any more where there is no text.
     pub(crate) fn look(&mut self, rows: &KeyRows, from: usize) {
-        if rows.has_codes() || from < self.seen {
-            return;
-        }
-        if from - self.seen > BATCH {
-            self.seen = from;
+        let agreed = from.saturating_sub(self.last);
+        self.last = from;
+        if rows.has_codes() || agreed > FEW || from < self.seen {
             return;
         }
         let end = rows.count().min(from.saturating_add(BATCH));

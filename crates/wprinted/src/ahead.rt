@@ -12,15 +12,12 @@ const BATCH: usize = 256;
 
 // The bytes that a cell's text takes, but for most of its quotes.
 fn room_for(cell: &Value) -> usize {
-    match cell {
-        Value::Text(text) => {
-            let bytes = text.as_str().as_bytes();
-            bytes
-                .len()
-                .saturating_add((bytes.first() == Some(&b'"')) as usize)
-        }
-        Value::Null | Value::Int(_) => 0,
-    }
+    let Value::Text(text) = cell else {
+        return 0;
+    };
+    let bytes = text.as_str().as_bytes();
+    let quote = bytes.first() == Some(&b'"');
+    bytes.len().saturating_add(quote as usize)
 }
 
 // The bytes that the texts of some rows at a place take, but for most of their quotes.
