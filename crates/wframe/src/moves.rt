@@ -11,27 +11,17 @@ pub struct Move {
     down: usize,
 }
 
-// An offset, or the count of all numbers where it reaches past them.
-fn cut_offset(offset: u128, count: usize) -> usize
-    ensures { result ≡ min offset count }
-{
-    if offset < count as u128 {
-        offset as usize
-    } else {
-        count
-    }
-}
-
 impl Move {
     /// How far a bound lies from a number, among so many numbers.
     pub fn of(bound: FrameBound, count: usize) -> Move
         ensures { result ≡ move_of bound count }
     {
+        // An offset that reaches past all numbers is cut.
         let (up, down) = match bound {
             FrameBound::UnboundedPreceding => (0, count),
-            FrameBound::Preceding(offset) => (0, cut_offset(offset, count)),
+            FrameBound::Preceding(offset) => (0, offset.min(count as u128) as usize),
             FrameBound::CurrentRow => (0, 0),
-            FrameBound::Following(offset) => (cut_offset(offset, count), 0),
+            FrameBound::Following(offset) => (offset.min(count as u128) as usize, 0),
             FrameBound::UnboundedFollowing => (count, 0),
         };
         Move { up, down }

@@ -26,10 +26,10 @@ fn partition_spans(alloc: Global, partition_values: &KeyRows) -> Result<Vec<Span
 {
     let count = partition_values.count();
     let mut spans = Vec::new(alloc);
-    let mut ahead = Ahead::new();
+    let mut ahead = Ahead::default();
     let mut from = 0;
     while from < count {
-        ahead.look(partition_values, from);
+        partition_values.look_ahead(&mut ahead, from);
         let to = agreeing_end(partition_values, from);
         spans.push(Span { from, to })?;
         from = to;

@@ -107,10 +107,10 @@ pub fn push_peers(
     ensures last { OnOk result (slice_index (begins_of ends.new.items) (length ends.new.items) ≡ first + length (key_lists rows.now)) }
 {
     let count = rows.count();
-    let mut ahead = Ahead::new();
+    let mut ahead = Ahead::default();
     let mut from = 0;
     while from < count {
-        ahead.look(rows, from);
+        rows.look_ahead(&mut ahead, from);
         let to = agreeing_end(rows, from);
         push_group(numbers, ends, to - from, first + to)?;
         from = to;
