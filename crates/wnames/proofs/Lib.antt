@@ -2,3 +2,4 @@ mod Given
 mod Fields
 mod Typed
 mod Listed
+pub mod Operands

@@ -1,21 +1,18 @@
 -- Arguments that are a list.
-use Rattle.std.proofs.Common.{◌≡◌, nat_le, Bool, ◌&&◌, ◌||◌, not, List, ap, sym, ◌∙◌, Option, Some, None}
+use Rattle.std.proofs.Common.{◌≡◌, nat_le, Bool, ◌&&◌, List, ap, sym, ◌∙◌, Option, Some, None}
 use Rattle.std.specs.declared.alloc.Global.{Global}
-use Rattle.std.specs.declared.boxed.Box.{Box}
 use Rattle.std.specs.declared.vec.Vec.{Vec}
 use Rattle.wquery.specs.declared.expression.Arguments.{Arguments}
 use Rattle.wquery.specs.declared.expression.Arguments.TheVariants as given
 use Rattle.wquery.specs.declared.expression.Expression.{Expression}
-use Rattle.wquery.specs.declared.expression.Expression.TheVariants as queries
-use Rattle.wquery.specs.Tree.{Trees, Columns, Given, trees, views, view, view_arguments}
+use Rattle.wquery.specs.Tree.{Trees, Columns, Given, trees, views, view_arguments}
 use Rattle.wscope.specs.declared.function.Function.{Function}
 use Rattle.wscope.specs.Finding.{count_trees}
 use Rattle.wscope.specs.Functions.{takes}
 use Rattle.wscope.specs.Types.{Titled}
 use Rattle.wnames.specs.Calls.{are_literal, is_well_given, most_grouping_columns}
-use Rattle.wnames.specs.Types.{all_trees, is_value, is_integer, is_text, suits_function, are_typed, is_ill_typed}
+use Rattle.wnames.specs.Types.{all_trees, is_value, suits_function, are_typed}
 use Rattle.wsame.proofs.Equal.{view_of_listed, view_of_columns}
-use Rattle.wsame.proofs.Views.{view_of_in}
 
 pub listed_given : (a : Arguments) (f : Function) (v : Vec Expression Global) (us : List Expression) (r : Bool)
     → a ≡ given.Listed v → us ≡ v.items → r ≡ (takes f (count_trees (trees (views us))) && are_literal f (trees (views us)))
@@ -43,14 +40,3 @@ pub listed_typed : (cs : List Titled) (a : Arguments) (f : Option Function) (v :
 listed_typed cs a f v us r ea eu er =
     er ∙ ap (λ (zs : List Expression). all_trees (is_value cs) (trees (views zs)) && suits_function cs f (trees (views zs)))
     eu ∙ sym (ap (λ (x : Arguments). are_typed cs f (view_arguments x)) ea ∙ ap (are_typed cs f) (view_of_listed v))
-
-pub typed_in : (cs : List Titled) (e d : Expression) (n : Bool) (x : Box Expression Global) (v : Vec Expression Global)
-    (us : List Expression) (r : Bool) → e ≡ queries.In n x v → d ≡ x.value → us ≡ v.items
-    → r ≡ not ((is_integer cs (view d) && all_trees (is_integer cs) (trees (views us)))
-    || (is_text cs (view d) && all_trees (is_text cs) (trees (views us)))) → r ≡ is_ill_typed cs (view e)
-typed_in cs e d n x v us r is ed eu er =
-    er ∙ ap (λ (z : Expression). not ((is_integer cs (view z) && all_trees (is_integer cs) (trees (views us)))
-    || (is_text cs (view z) && all_trees (is_text cs) (trees (views us))))) ed
-    ∙ ap (λ (zs : List Expression). not ((is_integer cs (view x.value) && all_trees (is_integer cs) (trees (views zs)))
-    || (is_text cs (view x.value) && all_trees (is_text cs) (trees (views zs))))) eu
-    ∙ sym (ap (λ (z : Expression). is_ill_typed cs (view z)) is ∙ ap (is_ill_typed cs) (view_of_in n x v))

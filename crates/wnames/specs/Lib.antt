@@ -2,3 +2,4 @@ pub mod Names
 pub mod Calls
 pub mod Types
 pub mod Groups
+pub mod Laws

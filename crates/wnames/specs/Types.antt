@@ -1,15 +1,19 @@
 -- The rule on types: Q14. (SQL, the type rules of `<value expression>`, `<predicate>` and `<search condition>`.)
 use Rattle.std.specs.Prelude.{Bool, true, false, ◌||◌, ◌&&◌, not, List, [], ◌∷◌, Option, Some, None}
-use Rattle.std.specs.List.{list_any}
-use Rattle.wquery.specs.declared.expression.ChainKind.{ChainKind}
-use Rattle.wquery.specs.declared.expression.ChainKind.TheVariants.{Disjunction, Conjunction, Sum, Product}
-use Rattle.wquery.specs.Tree.{Tree, Invoked, Negated, Signed, Joined, Compared, Within, Among, Trees, NoTrees, MoreTrees}
-use Rattle.wquery.specs.Tree.{Links, NoLinks, Further, Given, Everything, These, Columns, Filter, Unfiltered, FilteredBy}
+use Rattle.std.specs.List.{list_all, list_any}
+use Rattle.wquery.specs.Tree.{Tree, Invoked, Trees, NoTrees, MoreTrees, Given, Everything, These, Columns}
+use Rattle.wquery.specs.Tree.{Filter, Unfiltered, FilteredBy}
 use Rattle.wquery.specs.Tree.{Reach, ItsGroup, ThatWindow, OwnWindow, Keys, NoKeys, MoreKeys, KeyTree, own_window}
 use Rattle.wquery.specs.QueryTree.{Clauses, ItemTree, AllColumns, Computed, EntryTree}
+use Rattle.wscope.specs.declared.data_type.DataType.{DataType}
+use Rattle.wscope.specs.declared.data_type.DataType.TheVariants.{Integer, Text, Truth, Null}
 use Rattle.wscope.specs.declared.function.Function.{Function}
 use Rattle.wscope.specs.declared.function.Function.TheVariants as functions
+use Rattle.wscope.specs.declared.signature.Takes.{Takes}
+use Rattle.wscope.specs.declared.signature.Takes.TheVariants.{Any, Truths, Integers, Alike, Arguments}
+use Rattle.wscope.specs.Children.{children_of}
 use Rattle.wscope.specs.Functions.{function_of}
+use Rattle.wscope.specs.Signature.{signature_of}
 use Rattle.wscope.specs.Types.{Titled, type_of, is_truth, fits_integer, fits_text, agree}
 use Rattle.wscope.specs.Scope.{some_anywhere, is_output}
 use Rattle.wscope.specs.Finding.{finds}
@@ -30,25 +34,21 @@ is_integer cs t = fits_integer (type_of cs t)
 abbrev pub is_text : List Titled → Tree → Bool
 is_text cs t = fits_text (type_of cs t)
 
+-- of the type that is asked, where null is an integer and a text
+abbrev pub is_of : List Titled → DataType → Tree → Bool
+is_of cs Integer t = is_integer cs t
+is_of cs Text t = is_text cs t
+is_of cs Truth t = is_condition cs t
+is_of cs Null t = is_integer cs t && is_text cs t
+
 -- all of them pass
 abbrev pub all_trees : (Tree → Bool) → Trees → Bool
 all_trees holds NoTrees = true
 all_trees holds (MoreTrees t ts) = holds t && all_trees holds ts
 
-abbrev pub all_links : (Tree → Bool) → Links → Bool
-all_links holds NoLinks = true
-all_links holds (Further front operator t) = all_links holds front && holds t
-
 abbrev pub all_keys : (Tree → Bool) → Keys → Bool
 all_keys holds NoKeys = true
 all_keys holds (MoreKeys t descending nulls more) = holds t && all_keys holds more
-
--- the operands of a chain: truths of AND and OR, integers of sums and products
-abbrev pub suits : List Titled → ChainKind → Tree → Bool
-suits cs Disjunction t = is_condition cs t
-suits cs Conjunction t = is_condition cs t
-suits cs Sum t = is_integer cs t
-suits cs Product t = is_integer cs t
 
 -- PARTITION BY entries and keys are no truths
 abbrev pub is_window_typed : List Titled → Reach → Bool
@@ -78,18 +78,23 @@ are_typed cs f Everything = true
 are_typed cs f (Columns ts) = true
 are_typed cs f (These ts) = all_trees (is_value cs) ts && suits_function cs f ts
 
--- operands of another type than their operator or function takes
+-- a call: its arguments, FILTER and window; what is no call has none
+abbrev pub is_call_typed : List Titled → Tree → Bool
+is_call_typed cs (Invoked name given filter reach) =
+    are_typed cs (function_of name) given && (is_filter_typed cs filter && is_window_typed cs reach)
+is_call_typed cs _ = true
+
+-- the operands right below a node are what is asked of them
+abbrev pub has_fit_operands : List Titled → Takes → Tree → Bool
+has_fit_operands cs Any t = true
+has_fit_operands cs Truths t = list_all (is_condition cs) (children_of t)
+has_fit_operands cs Integers t = list_all (is_integer cs) (children_of t)
+has_fit_operands cs Alike t = list_all (is_integer cs) (children_of t) || list_all (is_text cs) (children_of t)
+has_fit_operands cs Arguments t = is_call_typed cs t
+
+-- operands of another type than their operator or function takes, as the signature of the form says it
 abbrev pub is_ill_typed : List Titled → Tree → Bool
-is_ill_typed cs (Invoked name given filter reach) =
-    not (are_typed cs (function_of name) given && (is_filter_typed cs filter && is_window_typed cs reach))
-is_ill_typed cs (Negated t) = not (is_condition cs t)
-is_ill_typed cs (Signed minus t) = not (is_integer cs t)
-is_ill_typed cs (Joined kind first links) = not (suits cs kind first && all_links (suits cs kind) links)
-is_ill_typed cs (Compared comparison l r) = not (agree (type_of cs l ∷ type_of cs r ∷ []))
-is_ill_typed cs (Within negated t l h) = not (agree (type_of cs t ∷ type_of cs l ∷ type_of cs h ∷ []))
-is_ill_typed cs (Among negated t list) =
-    not ((is_integer cs t && all_trees (is_integer cs) list) || (is_text cs t && all_trees (is_text cs) list))
-is_ill_typed cs _ = false
+is_ill_typed cs t = not (has_fit_operands cs (signature_of t).takes t)
 
 -- what WHERE or HAVING says is no truth
 abbrev pub is_no_condition : List Titled → Option Tree → Bool

@@ -1,26 +1,28 @@
 //! The rule on types: Q14.
 
 ghost use Rattle.std.specs.Prelude.{◌≡◌, ◌||◌, ◌&&◌, not, map, [], ◌∷◌};
-ghost use Rattle.std.specs.List.{list_any};
-ghost use Rattle.wquery.specs.declared.expression.ChainKind.{ChainKind};
-ghost use Rattle.wquery.specs.Tree.{Tree, view, views, trees, keys, view_keys, view_key, view_link, linked, NoLinks, view_call};
+ghost use Rattle.std.specs.List.{list_all, list_any};
+ghost use Rattle.wquery.specs.Tree.{Tree, view, views, trees, keys, view_keys, view_key, view_call};
 ghost use Rattle.wquery.specs.Tree.{view_arguments, view_optional, view_optional_over, view_window, filter_of, reach_of, own_window};
 ghost use Rattle.wquery.specs.QueryTree.{view_item, view_entry};
+ghost use Rattle.wscope.specs.declared.data_type.DataType.TheVariants.{Integer, Text};
+ghost use Rattle.wscope.specs.Children.{children_of, nodes_left};
 ghost use Rattle.wscope.specs.Scoped.{scope_clauses, scope_columns};
 ghost use Rattle.wscope.specs.Sources.{all_titled};
 ghost use Rattle.wscope.specs.Types.{is_truth as is_truth_type, fits_integer as suits_integer, fits_text as suits_text, agree as do_agree};
 ghost use Rattle.wscope.specs.Finding.{finds};
 ghost use Rattle.wnames.specs.Types.{is_condition as is_truth, is_value as is_no_truth, is_integer as is_of_integers};
-ghost use Rattle.wnames.specs.Types.{is_text as is_of_texts, all_trees, all_links, all_keys, suits as is_suited};
+ghost use Rattle.wnames.specs.Types.{is_text as is_of_texts, is_of as is_of_type, all_trees, all_keys};
 ghost use Rattle.wnames.specs.Types.{is_window_typed as has_typed_window, is_filter_typed as has_typed_filter};
 ghost use Rattle.wnames.specs.Types.{has_fit_default as is_default_fit, suits_function as are_suited, are_typed as are_arguments_typed};
+ghost use Rattle.wnames.specs.Types.{is_call_typed as has_typed_call, has_fit_operands as are_operands_fit};
 ghost use Rattle.wnames.specs.Types.{is_ill_typed as is_wrong, is_no_condition as is_other, is_truth_item as has_truth};
 ghost use Rattle.wnames.specs.Types.{is_truth_key as is_key_of_truth, is_truth_entry as is_entry_of_truth, breaks_types};
 
-use wquery::{Arguments, Call, ChainKind, Expression, Item, Key, Link, Over, Window, WindowEntry};
+use wquery::{Arguments, Call, Expression, Item, Key, Over, Window, WindowEntry};
 use wscope::{
-    DataType, Function, Look, NodeTest, Scope, SourceColumn, any_anywhere, found_if, function_of,
-    type_of,
+    Children, DataType, Function, Look, NodeTest, Scope, SourceColumn, Takes, any_anywhere,
+    found_if, function_of, signature_of, type_of,
 };
 
 fn fits_integer(data_type: DataType) -> bool
@@ -48,15 +50,6 @@ fn agree_two(a: DataType, b: DataType) -> bool
         return true;
     }
     fits_text(a) && fits_text(b)
-}
-
-fn agree_three(a: DataType, b: DataType, c: DataType) -> bool
-    ensures { result ≡ do_agree (a ∷ b ∷ c ∷ []) }
-{
-    if fits_integer(a) && fits_integer(b) && fits_integer(c) {
-        return true;
-    }
-    fits_text(a) && fits_text(b) && fits_text(c)
 }
 
 fn is_condition(columns: &[SourceColumn], e: &Expression) -> bool
@@ -105,45 +98,12 @@ fn all_integers(columns: &[SourceColumn], list: &[Expression]) -> bool
     true
 }
 
-fn all_texts(columns: &[SourceColumn], list: &[Expression]) -> bool
-    ensures { result ≡ all_trees (is_of_texts (all_titled columns.now)) (trees (views list.now)) }
-{
-    'list: for e in list {
-        if !is_text(columns, e) {
-            return false;
-        }
-    }
-    true
-}
-
 #[tactic(auto, unfolding(wquery::specs::Tree::view_key, wquery::specs::Tree::view))]
 fn all_key_values(columns: &[SourceColumn], order: &[Key]) -> bool
     ensures { result ≡ all_keys (is_no_truth (all_titled columns.now)) (keys (view_keys order.now)) }
 {
     'keys: for key in order {
         if !is_value(columns, &key.expression) {
-            return false;
-        }
-    }
-    true
-}
-
-fn suits(columns: &[SourceColumn], kind: ChainKind, e: &Expression) -> bool
-    ensures { result ≡ is_suited (all_titled columns.now) kind (view e.now) }
-{
-    match kind {
-        ChainKind::Disjunction => is_condition(columns, e),
-        ChainKind::Conjunction => is_condition(columns, e),
-        ChainKind::Sum => is_integer(columns, e),
-        ChainKind::Product => is_integer(columns, e),
-    }
-}
-
-fn all_suit(columns: &[SourceColumn], kind: ChainKind, links: &[Link]) -> bool
-    ensures { result ≡ all_links (is_suited (all_titled columns.now) kind) (linked NoLinks (map view_link links.now)) }
-{
-    'links: for link in links {
-        if !suits(columns, kind, &link.operand) {
             return false;
         }
     }
@@ -219,83 +179,91 @@ fn are_typed(columns: &[SourceColumn], function: Option<Function>, arguments: &A
     }
 }
 
-fn is_one_false(a: bool, b: bool, c: bool) -> bool
-    ensures { result ≡ not (a && (b && c)) }
+fn all_three(a: bool, b: bool, c: bool) -> bool
+    ensures { result ≡ (a && (b && c)) }
 {
-    !(a && (b && c))
+    a && (b && c)
 }
 
-fn is_ill_typed_call(columns: &[SourceColumn], call: &Call) -> bool
-    ensures { result ≡ is_wrong (all_titled columns.now) (view_call call.now) }
+fn is_call_typed(columns: &[SourceColumn], call: &Call) -> bool
+    ensures { result ≡ has_typed_call (all_titled columns.now) (view_call call.now) }
 {
     let function = function_of(call.name.as_str());
-    is_one_false(
+    all_three(
         are_typed(columns, function, &call.arguments),
         is_filter_typed(columns, &call.filter),
         is_over_typed(columns, &call.over),
     )
 }
 
-fn is_ill_typed_chain(
-    columns: &[SourceColumn],
-    kind: ChainKind,
-    first: &Expression,
-    links: &[Link],
-) -> bool
-    ensures { result ≡ not (is_suited (all_titled columns.now) kind (view first.now)
-        && all_links (is_suited (all_titled columns.now) kind) (linked NoLinks (map view_link links.now))) }
+#[tactic(auto, unfolding(wquery::specs::Tree::view, wquery::specs::Tree::view_call))]
+fn has_typed_arguments(columns: &[SourceColumn], e: &Expression) -> bool
+    ensures { result ≡ has_typed_call (all_titled columns.now) (view e.now) }
 {
-    if !suits(columns, kind, first) {
+    match e {
+        Expression::Call(call) => is_call_typed(columns, call),
+        _ => true,
+    }
+}
+
+fn is_of(columns: &[SourceColumn], asked: DataType, e: &Expression) -> bool
+    ensures { result ≡ is_of_type (all_titled columns.now) asked (view e.now) }
+{
+    match asked {
+        DataType::Integer => is_integer(columns, e),
+        DataType::Text => is_text(columns, e),
+        DataType::Truth => is_condition(columns, e),
+        DataType::Null => is_integer(columns, e) && is_text(columns, e),
+    }
+}
+
+fn all_of(columns: &[SourceColumn], asked: DataType, nodes: Children) -> bool
+    ensures { result ≡ list_all (is_of_type (all_titled columns.now) asked) (nodes_left nodes.entry) }
+{
+    let mut rest = nodes;
+    'nodes: while let Some(e) = rest.take_first() {
+        if !is_of(columns, asked, e) {
+            return false;
+        }
+    }
+    true
+}
+
+fn has_operands_of(columns: &[SourceColumn], asked: DataType, e: &Expression) -> bool
+    ensures { result ≡ list_all (is_of_type (all_titled columns.now) asked) (children_of (view e.now)) }
+{
+    match Children::of(e) {
+        None => true,
+        Some(nodes) => all_of(columns, asked, nodes),
+    }
+}
+
+fn has_operands_alike(columns: &[SourceColumn], e: &Expression) -> bool
+    ensures { result ≡ (list_all (is_of_type (all_titled columns.now) Integer) (children_of (view e.now))
+        || list_all (is_of_type (all_titled columns.now) Text) (children_of (view e.now))) }
+{
+    if has_operands_of(columns, DataType::Integer, e) {
         return true;
     }
-    !all_suit(columns, kind, links)
+    has_operands_of(columns, DataType::Text, e)
 }
 
-fn is_ill_typed_list(columns: &[SourceColumn], operand: &Expression, list: &[Expression]) -> bool
-    ensures { result ≡ not ((is_of_integers (all_titled columns.now) (view operand.now)
-        && all_trees (is_of_integers (all_titled columns.now)) (trees (views list.now)))
-        || (is_of_texts (all_titled columns.now) (view operand.now) && all_trees (is_of_texts (all_titled columns.now))
-        (trees (views list.now)))) }
+fn has_fit_operands(columns: &[SourceColumn], takes: Takes, e: &Expression) -> bool
+    ensures { result ≡ are_operands_fit (all_titled columns.now) takes (view e.now) }
 {
-    if is_integer(columns, operand) && all_integers(columns, list) {
-        return false;
+    match takes {
+        Takes::Any => true,
+        Takes::Truths => has_operands_of(columns, DataType::Truth, e),
+        Takes::Integers => has_operands_of(columns, DataType::Integer, e),
+        Takes::Alike => has_operands_alike(columns, e),
+        Takes::Arguments => has_typed_arguments(columns, e),
     }
-    !(is_text(columns, operand) && all_texts(columns, list))
 }
 
-#[tactic(auto, unfolding(wquery::specs::Tree::view, wquery::specs::Tree::view_call, wquery::specs::Tree::view_link))]
 fn is_ill_typed(columns: &[SourceColumn], e: &Expression) -> bool
     ensures { result ≡ is_wrong (all_titled columns.now) (view e.now) }
 {
-    match e {
-        Expression::Null => false,
-        Expression::Number(_) => false,
-        Expression::Text(_) => false,
-        Expression::Column(_) => false,
-        Expression::Call(call) => is_ill_typed_call(columns, call),
-        Expression::Not(operand) => !is_condition(columns, operand),
-        Expression::Sign { operand, .. } => !is_integer(columns, operand),
-        Expression::Chain { kind, first, links } => {
-            is_ill_typed_chain(columns, *kind, first, links.as_slice())
-        }
-        Expression::Compare { left, right, .. } => {
-            !agree_two(type_of(columns, left), type_of(columns, right))
-        }
-        Expression::IsNull { .. } => false,
-        Expression::Between {
-            operand,
-            low,
-            high,
-            ..
-        } => !agree_three(
-            type_of(columns, operand),
-            type_of(columns, low),
-            type_of(columns, high),
-        ),
-        Expression::In { operand, list, .. } => {
-            is_ill_typed_list(columns, operand, list.as_slice())
-        }
-    }
+    !has_fit_operands(columns, signature_of(e).takes, e)
 }
 
 /// Operands of another type than their operator or function takes.

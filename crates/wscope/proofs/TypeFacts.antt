@@ -1,5 +1,9 @@
 -- The type of the argument at a place, and of a call.
-use Rattle.std.proofs.Common.{◌≡◌, ℕ, zero, suc, ◌<◌, ◌≤◌, List, [], ◌∷◌, length, get_or, refl, ap, sym, arith, Option}
+use Rattle.std.proofs.Common.{◌≡◌, ℕ, zero, suc, ◌<◌, ◌≤◌, List, [], ◌∷◌, length, get_or, refl, ap, sym, ◌∙◌, arith, Option}
+use Rattle.std.specs.declared.alloc.Global.{Global}
+use Rattle.std.specs.declared.vec.Vec.{Vec}
+use Rattle.wquery.specs.declared.expression.Arguments.{Arguments}
+use Rattle.wquery.specs.declared.expression.Arguments.TheVariants as given
 use Rattle.wquery.specs.declared.expression.Call.{Call}
 use Rattle.wquery.specs.declared.expression.Expression.{Expression}
 use Rattle.std.specs.Rc.{rc_str_bytes}
@@ -9,6 +13,7 @@ use Rattle.wscope.specs.declared.data_type.DataType.TheVariants.{Null}
 use Rattle.wscope.specs.declared.function.Function.{Function}
 use Rattle.wscope.specs.Functions.{function_of}
 use Rattle.wscope.specs.Types.{Titled, type_of, type_at, given_type, call_type}
+use Rattle.wsame.proofs.Equal.{view_of_listed}
 use Rattle.wsame.proofs.Views.{view_call_is}
 
 pub type_at_end : (cs : List Titled) (xs : List Expression) (n : ℕ) → length xs ≤ n → type_at cs n (trees (views xs)) ≡ Null
@@ -31,3 +36,9 @@ pub call_type_from : (cs : List Titled) (c : Call) (name : List ℕ) (f : Option
     → d ≡ given_type cs 2 (view_arguments c.arguments) → call_type f v d ≡ type_of cs (view_call c)
 call_type_from cs c name f v d ef en ev ed =
     rw (ef, en, ev, ed) (sym (call_type_is cs c))
+
+pub type_listed : (cs : List Titled) (a : Arguments) (n : ℕ) (v : Vec Expression Global) (us : List Expression) (t : DataType)
+    → a ≡ given.Listed v → us ≡ v.items → t ≡ type_at cs n (trees (views us)) → t ≡ given_type cs n (view_arguments a)
+type_listed cs a n v us t ea eu et =
+    et ∙ ap (λ (es : List Expression). type_at cs n (trees (views es))) eu
+    ∙ sym (ap (λ (x : Arguments). given_type cs n (view_arguments x)) ea ∙ ap (given_type cs n) (view_of_listed v))

@@ -1,4 +1,5 @@
 pub mod Functions
+pub mod Signature
 pub mod Types
 pub mod Scope
 pub mod Sources

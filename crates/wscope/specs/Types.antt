@@ -4,14 +4,13 @@ use Rattle.std.specs.Prelude.{ℕ, suc, zero, Bool, true, false, ◌||◌, List,
 use Rattle.std.specs.List.{list_all}
 use Rattle.std.specs.Str.{bytes_eq}
 use Rattle.wquery.specs.declared.expression.ChainKind.{ChainKind}
-use Rattle.wquery.specs.declared.expression.ChainKind.TheVariants.{Disjunction, Conjunction, Sum, Product}
-use Rattle.wquery.specs.Tree.{Tree, NullWord, Numeral, Quoted, Field, Invoked, Negated, Signed, Joined, Compared, NullTest}
-use Rattle.wquery.specs.Tree.{Within, Among, Trees, NoTrees, MoreTrees, Given, Everything, These, Columns}
+use Rattle.wquery.specs.Tree.{Tree, Field, Invoked, Trees, NoTrees, MoreTrees, Given, Everything, These, Columns}
 use Rattle.wscope.specs.declared.function.Function.{Function}
 use Rattle.wscope.specs.declared.function.Function.TheVariants as functions
 use Rattle.wscope.specs.declared.data_type.DataType.{DataType}
 use Rattle.wscope.specs.declared.data_type.DataType.TheVariants.{Integer, Text, Truth, Null}
 use Rattle.wscope.specs.Functions.{function_of}
+use Rattle.wscope.specs.Signature.{chain_signature, known_type, signature_of}
 
 -- a column of a source
 pub record Titled : Type 0 where
@@ -33,12 +32,9 @@ abbrev pub place_named : List Titled → List ℕ → ℕ
 place_named [] name = 0
 place_named (c ∷ cs) name = if bytes_eq c.name name then 0 else suc (place_named cs name)
 
--- OR and AND give truths, sums and products integers
+-- of a chain
 abbrev pub chain_type : ChainKind → DataType
-chain_type Disjunction = Truth
-chain_type Conjunction = Truth
-chain_type Sum = Integer
-chain_type Product = Integer
+chain_type kind = known_type (chain_signature kind).gives
 
 -- the type of lag and lead: that of the default where the value is of type null
 abbrev pub type_or : DataType → DataType → DataType
@@ -59,20 +55,11 @@ call_type (Some functions.Max) value default = value
 call_type _ value default = Integer
 
 abbrev mutual
-  -- of an expression
+  -- of an expression: that of its column, that of its call, or else the one that its form gives
   pub type_of : List Titled → Tree → DataType
-  type_of cs NullWord = Null
-  type_of cs (Numeral n) = Integer
-  type_of cs (Quoted text) = Text
   type_of cs (Field qualifier name) = type_named cs name
   type_of cs (Invoked name given filter reach) = call_type (function_of name) (given_type cs 0 given) (given_type cs 2 given)
-  type_of cs (Negated t) = Truth
-  type_of cs (Signed minus t) = Integer
-  type_of cs (Joined kind first links) = chain_type kind
-  type_of cs (Compared comparison l r) = Truth
-  type_of cs (NullTest negated t) = Truth
-  type_of cs (Within negated t l h) = Truth
-  type_of cs (Among negated t list) = Truth
+  type_of cs t = known_type (signature_of t).gives
 
   -- of the argument at a place
   pub given_type : List Titled → ℕ → Given → DataType

@@ -2,14 +2,16 @@
 
 ghost use Rattle.std.specs.Prelude.{◌≡◌};
 ghost use Rattle.wquery.specs.Tree.{view, view_call, view_arguments, trees, views};
-ghost use Rattle.wscope.specs.Types.{type_of as type_in, given_type, type_at, type_named, chain_type, call_type, type_or};
+ghost use Rattle.wscope.specs.Signature.{known_type};
+ghost use Rattle.wscope.specs.Types.{type_of as type_in, given_type, type_at, type_named, call_type, type_or};
 ghost use Rattle.wscope.specs.Sources.{all_titled};
 
 use crate::data_type::DataType;
 use crate::function::Function;
 use crate::naming::function_of;
+use crate::signature::{Gives, signature_of};
 use crate::source::SourceColumn;
-use wquery::{Arguments, Call, ChainKind, Expression};
+use wquery::{Arguments, Call, Expression};
 
 fn named(columns: &[SourceColumn], name: &str) -> DataType
     ensures { result ≡ type_named (all_titled columns.now) name.now }
@@ -22,14 +24,13 @@ fn named(columns: &[SourceColumn], name: &str) -> DataType
     DataType::Null
 }
 
-fn of_chain(kind: ChainKind) -> DataType
-    ensures { result ≡ chain_type kind }
+fn of_form(gives: Gives) -> DataType
+    ensures { result ≡ known_type gives }
 {
-    match kind {
-        ChainKind::Disjunction => DataType::Truth,
-        ChainKind::Conjunction => DataType::Truth,
-        ChainKind::Sum => DataType::Integer,
-        ChainKind::Product => DataType::Integer,
+    match gives {
+        Gives::Known(data_type) => data_type,
+        Gives::ItsColumn => DataType::Null,
+        Gives::ItsFunction => DataType::Null,
     }
 }
 
@@ -64,18 +65,9 @@ pub fn type_of(columns: &[SourceColumn], e: &Expression) -> DataType
     ensures { result ≡ type_in (all_titled columns.now) (view e.now) }
 {
     match e {
-        Expression::Null => DataType::Null,
-        Expression::Number(_) => DataType::Integer,
-        Expression::Text(_) => DataType::Text,
         Expression::Column(column) => named(columns, column.name.as_str()),
         Expression::Call(call) => type_of_call(columns, call),
-        Expression::Not(_) => DataType::Truth,
-        Expression::Sign { .. } => DataType::Integer,
-        Expression::Chain { kind, .. } => of_chain(*kind),
-        Expression::Compare { .. } => DataType::Truth,
-        Expression::IsNull { .. } => DataType::Truth,
-        Expression::Between { .. } => DataType::Truth,
-        Expression::In { .. } => DataType::Truth,
+        _ => of_form(signature_of(e).gives),
     }
 }
 

@@ -18,7 +18,9 @@ use Rattle.wscope.specs.declared.look.Look.{Look}
 use Rattle.wscope.specs.declared.look.Look.TheVariants.{Found, Closed, Below}
 use Rattle.wscope.specs.Seeking.{found_or, some_below, some_link, some_node, some_tree}
 use Rattle.wscope.specs.Types.{Titled, agree, chain_type, fits_integer, fits_text, type_of, is_truth}
-use Rattle.wnames.specs.Types.{all_links, all_trees, is_ill_typed, is_integer, is_text, suits}
+use Rattle.wnames.specs.Types.{all_trees, is_ill_typed, is_integer, is_text}
+use Rattle.wnames.specs.Laws.{all_links, suits}
+use Rattle.wnames.proofs.Operands.{of_chain, of_in, of_not, of_sign}
 use Rattle.wplan.specs.Formula.{Formula}
 use Rattle.wbinding.specs.Resolving.{Layout, resolved, resolved_links, resolved_trees}
 use Rattle.wtyped.specs.Typing.{beside, beside_all, common, constant_type, formula_type, gives}
@@ -205,16 +207,16 @@ mutual
       (some_below (sees_misfit l ts) (Invoked name given filter reach)) e)
   typed l ts (Negated t) e =
       let o = open_find (is_unfit l.columns (Negated t)) (some_node (sees_misfit l ts) t) e in
-      held_one is_truth Truth _ _ (typed l ts t o.1) (not-false _ (or_parts _ _ o.0).0)
+      held_one is_truth Truth _ _ (typed l ts t o.1) (not-false _ (sym (of_not l.columns t) ∙ (or_parts _ _ o.0).0))
   typed l ts (Signed minus t) e =
       let o = open_find (is_unfit l.columns (Signed minus t)) (some_node (sees_misfit l ts) t) e in
       held_one is_number Integer _ _ (typed l ts t o.1)
-      (number_is (type_of l.columns t) (not-false _ (or_parts _ _ o.0).0))
+      (number_is (type_of l.columns t) (not-false _ (sym (of_sign l.columns minus t) ∙ (or_parts _ _ o.0).0)))
   typed l ts (Joined kind t links) e =
       let o = open_find (is_unfit l.columns (Joined kind t links)) (some_node (sees_misfit l ts) t
       || some_link (sees_misfit l ts) links) e in
       let u = or_parts _ _ o.0 in
-      let s = and_parts _ _ (not-false _ u.0) in
+      let s = and_parts _ _ (not-false _ (sym (of_chain l.columns kind t links) ∙ u.0)) in
       let below = or_parts _ _ o.1 in
       chain l ts kind links _ _ (typed l ts t below.0) (suited l.columns kind t s.0) s.1 (not-false _ u.1) below.1
   typed l ts (Compared comparison t u) e =
@@ -235,7 +237,7 @@ mutual
   typed l ts (Among negated t list) e =
       let o = open_find (is_unfit l.columns (Among negated t list)) (some_node (sees_misfit l ts) t
       || some_tree (sees_misfit l ts) list) e in
-      let one = not-false _ (or_parts _ _ o.0).0 in
+      let one = not-false _ (sym (of_in l.columns negated t list) ∙ (or_parts _ _ o.0).0) in
       let below = or_parts _ _ o.1 in
       let first = typed l ts t below.0 in
       truth_of (beside_all ts (valued (formula_type ts (resolved l t))) (resolved_trees l list))

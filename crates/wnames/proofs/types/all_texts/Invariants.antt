@@ -1,9 +1,0 @@
-use Rattle.std.proofs.Common.{◌≡◌, drop}
-use Rattle.wquery.specs.Tree.{trees, views}
-use Rattle.wscope.specs.Sources.{all_titled}
-use Rattle.wnames.specs.Types.{all_trees, is_text}
-use Rattle.wnames.proofs.types.all_texts.Given as goal
-
-abbrev pub invariant-list : goal.invariant-list
-invariant-list l = all_trees (is_text (all_titled l.columns)) (trees (views l.list))
-    ≡ all_trees (is_text (all_titled l.columns)) (trees (views (drop l.e-index l.list)))
