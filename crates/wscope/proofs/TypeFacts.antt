@@ -12,6 +12,7 @@ use Rattle.wscope.specs.declared.data_type.DataType.{DataType}
 use Rattle.wscope.specs.declared.data_type.DataType.TheVariants.{Null}
 use Rattle.wscope.specs.declared.function.Function.{Function}
 use Rattle.wscope.specs.Functions.{function_of}
+use Rattle.wscope.specs.Laws.{TypesGiven}
 use Rattle.wscope.specs.Types.{Titled, type_of, type_at, given_type, call_type}
 use Rattle.wsame.proofs.Equal.{view_of_listed}
 use Rattle.wsame.proofs.Views.{view_call_is}
@@ -42,3 +43,22 @@ pub type_listed : (cs : List Titled) (a : Arguments) (n : ℕ) (v : Vec Expressi
 type_listed cs a n v us t ea eu et =
     et ∙ ap (λ (es : List Expression). type_at cs n (trees (views es))) eu
     ∙ sym (ap (λ (x : Arguments). given_type cs n (view_arguments x)) ea ∙ ap (given_type cs n) (view_of_listed v))
+
+pub types_given : TypesGiven
+types_given = record {
+  of_null = λ cs. refl;
+  of_number = λ cs n. refl;
+  of_text = λ cs text. refl;
+  of_column = λ cs qualifier name. refl;
+  of_call = λ cs name given filter reach. refl;
+  of_not = λ cs t. refl;
+  of_sign = λ cs minus t. refl;
+  of_or = λ cs t links. refl;
+  of_and = λ cs t links. refl;
+  of_sum = λ cs t links. refl;
+  of_product = λ cs t links. refl;
+  of_comparison = λ cs comparison l r. refl;
+  of_null_test = λ cs negated t. refl;
+  of_between = λ cs negated t l h. refl;
+  of_in = λ cs negated t list. refl;
+}

@@ -15,3 +15,4 @@ pub mod Earlier
 pub mod Clauses
 pub mod Scoped
 pub mod Children
+pub mod Laws

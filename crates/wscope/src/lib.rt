@@ -8,7 +8,8 @@
 //! - Leaves to `wrules` what a query may not say, and to `wresolve` the form that execution reads.
 //!
 //! Read `specs/Functions.antt`, `specs/Signature.antt`, `specs/Types.antt`, `specs/Sources.antt`, then
-//! `specs/Seeking.antt`, `specs/Children.antt`, `specs/Scope.antt`, `specs/Windows.antt` and `specs/Scoped.antt`.
+//! `specs/Seeking.antt`, `specs/Children.antt`, `specs/Scope.antt`, `specs/Windows.antt`, `specs/Scoped.antt` and
+//! `specs/Laws.antt`.
 #![tactic(auto)]
 
 mod called;
@@ -22,6 +23,7 @@ mod full_window;
 mod function;
 mod grouping;
 mod indexing;
+mod laws;
 mod look;
 mod names;
 mod naming;
@@ -41,6 +43,7 @@ pub use earlier::Earlier;
 pub use finding::found_if;
 pub use full_window::{FullEntry, FullWindow};
 pub use function::Function;
+pub use laws::types_given;
 pub use look::Look;
 pub use names::{has_column, output_name, place_named};
 pub use naming::function_of;
