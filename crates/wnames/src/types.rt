@@ -1,6 +1,6 @@
 //! The rule on types: Q14.
 
-ghost use Rattle.std.specs.Prelude.{◌≡◌, ◌||◌, ◌&&◌, not, map, [], ◌∷◌};
+ghost use Rattle.std.specs.Prelude.{◌≡◌, ◌||◌, ◌&&◌, map, [], ◌∷◌};
 ghost use Rattle.std.specs.List.{list_all, list_any};
 ghost use Rattle.wquery.specs.Tree.{Tree, view, views, trees, keys, view_keys, view_key, view_call};
 ghost use Rattle.wquery.specs.Tree.{view_arguments, view_optional, view_optional_over, view_window, filter_of, reach_of, own_window};
