@@ -1,7 +1,7 @@
 -- The lock of the folder in which a store stands.
-use Rattle.std.specs.Prelude.{◌≡◌, ◌⊎◌, Bool, List, ◌∷◌}
+use Rattle.std.specs.Prelude.{◌≡◌, ◌⊎◌, false, List, ◌∷◌}
 use Rattle.wfolder.specs.Call.{Call, Locked}
 
--- nothing is done but that the lock was tried for
-abbrev pub MayLock : List Call → List Call → Type 0
-MayLock old new = (new ≡ old) ⊎ ((done : Bool) × (new ≡ Locked done ∷ old))
+-- the lock was not tried for, or it was and is not had; nothing else is done
+abbrev pub MissesLock : List Call → List Call → Type 0
+MissesLock old new = (new ≡ old) ⊎ (new ≡ Locked false ∷ old)

@@ -1,11 +1,11 @@
 //! Where a store stands, and how it is replaced there.
-ghost use Rattle.std.specs.Prelude.{◌≡◌, ◌∷◌, true, IfErr, IfOk, OnErr, OnOk, option_map, string_bytes};
+ghost use Rattle.std.specs.Prelude.{◌≡◌, ◌∷◌, true, IfErr, IfOk, OnErr, OnOk, is_ok, option_map, string_bytes};
 ghost use Rattle.wfolder.specs.Call.{Found, Locked};
 ghost use Rattle.wfolder.specs.Calls.{HasCause, IsSound};
 ghost use Rattle.wfolder.specs.Model.{IsLocked};
 ghost use Rattle.wfiles.specs.Reading.{MayBegin};
 ghost use Rattle.wfolder.specs.Replacing.{Replaces, fault_of};
-ghost use Rattle.wfiles.specs.Place.{MayLock};
+ghost use Rattle.wfiles.specs.Place.{MissesLock};
 
 use crate::files::read_if_there;
 use crate::real::RealFolder;
@@ -60,29 +60,20 @@ fn path_behind<R: Files<File = File> + AllocGlobal>(
     system.grown(String::from_str(alloc, path))
 }
 
-// The folder of a path, whose lock this run holds from then on.
-fn locked_folder<R: Files<File = File> + AllocGlobal + Clock + Eprint>(
+// Takes the lock of a folder, and notes whether this run has it.
+fn lock_folder<R: Clock + Eprint>(
     system: &mut System<'_, R>,
     calls: &mut Record,
-    path: &str,
-) -> Result<File, Fault>
+    folder: &File,
+) -> Result<(), Fault>
     requires { IsSound system.old }
-    ensures locked { OnOk result (calls.new.calls ≡ Locked true ∷ calls.old.calls) }
-    ensures missed { OnErr result (MayLock calls.old.calls calls.new.calls) }
+    ensures noted { calls.new.calls ≡ Locked (is_ok result) ∷ calls.old.calls }
     ensures sound { OnOk result (IsSound system.new) }
     ensures cause { IfErr result (λ fault. HasCause fault system.new) }
 {
-    let folder = system.folder(path)?;
-    match system.lock(&folder) {
-        Ok(()) => {
-            calls.note_call(LOCKED, true, &[], &[]);
-            Ok(folder)
-        }
-        Err(fault) => {
-            calls.note_call(LOCKED, false, &[], &[]);
-            Err(fault)
-        }
-    }
+    let locked = system.lock(folder);
+    calls.note_call(LOCKED, locked.is_ok(), &[], &[]);
+    locked
 }
 
 // Where the file of a path stands, if it is a plain one or none yet.
@@ -108,8 +99,8 @@ fn target_of<R: Files<File = File> + AllocGlobal>(
 }
 
 impl Place {
-    /// Where the file of a path stands. It waits until no other such program replaces a file of the folder, for a minute at most;
-    /// a folder that cannot be locked is a write fault.
+    /// Where the file of a path stands, with the lock of its folder. It waits until no other such program replaces a file of the
+    /// folder, for a minute at most; a folder that cannot be locked is a write fault. At a fault this run does not have the lock.
     pub fn find<R: Files<File = File> + AllocGlobal + Clock + Eprint>(
         alloc: Global,
         system: &mut System<'_, R>,
@@ -118,32 +109,39 @@ impl Place {
     ) -> Result<Place, Fault>
         requires { IsSound system.old }
         ensures locked { OnOk result (calls.new.calls ≡ Locked true ∷ calls.old.calls) }
-        ensures missed { OnErr result (MayLock calls.old.calls calls.new.calls) }
+        ensures missed { OnErr result (MissesLock calls.old.calls calls.new.calls) }
         ensures sound { OnOk result (IsSound system.new) }
         ensures cause { IfErr result (λ fault. HasCause fault system.new) }
     {
-        let mut target = target_of(alloc, system, path)?;
-        let folder = locked_folder(system, calls, target.folder.as_str())?;
-        // as it is while no other run replaces it
-        target.access = system.replaceable(target.path.as_str())?;
+        let target = target_of(alloc, system, path)?;
+        let folder = system.folder(target.folder.as_str())?;
+        lock_folder(system, calls, &folder)?;
         Ok(Place { target, folder })
     }
 
-    /// The bytes of the file as it stands now.
+    /// The bytes of the file as it stands now, while no other run replaces it, if it may still be replaced. Who may read and write
+    /// it is seen anew.
     pub fn read<R: Files<File = File> + AllocGlobal>(
-        &self,
+        &mut self,
         alloc: Global,
         system: &mut System<'_, R>,
         calls: &mut Record,
     ) -> Result<Option<Vec<u8>>, Fault>
         requires { IsSound system.old }
-        ensures found { IfOk result (λ held. calls.new.calls ≡ Found (string_bytes self.now.target.path)
+        ensures path { self.new.target.path ≡ self.old.target.path }
+        ensures found { IfOk result (λ held. calls.new.calls ≡ Found (string_bytes self.new.target.path)
             (option_map (λ bytes. bytes.items) held) ∷ calls.old.calls) }
-        ensures begun { OnErr result (MayBegin (string_bytes self.now.target.path) calls.old.calls calls.new.calls) }
+        ensures begun { OnErr result (MayBegin (string_bytes self.new.target.path) calls.old.calls calls.new.calls) }
         ensures sound { OnOk result (IsSound system.new) }
         ensures cause { IfErr result (λ fault. HasCause fault system.new) }
     {
-        read_if_there(alloc, system, calls, self.target.path.as_str())
+        match system.replaceable(self.target.path.as_str()) {
+            Ok(access) => {
+                self.target.access = access;
+                read_if_there(alloc, system, calls, self.target.path.as_str())
+            }
+            Err(fault) => Err(fault),
+        }
     }
 
     /// Puts these bytes in the place of the file's, whole, as `replace` does. At a fault the file is as it was, but where only the

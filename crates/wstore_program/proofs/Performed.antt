@@ -1,6 +1,8 @@
 -- What is done on the bytes that were read, and what becomes of the store then.
-use Rattle.std.proofs.Common.{◌≡◌, ◌∙◌, ◌⊎◌, inl, inr, refl, sym, ap, subst, ℕ, true, false, List, [], ◌∷◌, Option}
-use Rattle.std.proofs.Common.{None, Some, Result, Ok, Err, IfOk, IfErr, OnErr, is_some, true≢false, option_map}
+use Rattle.std.proofs.Common.{◌≡◌, ◌∙◌, inl, inr, refl, sym, ap, subst, ℕ, true, false, List, [], ◌∷◌, Option}
+use Rattle.std.proofs.Common.{None, Some, Result, Ok, Err, IfOk, IfErr, OnErr, is_some, true≢false, nat_eq, option_map, Vec, Global}
+use Rattle.std.specs.Cmp.Lexicographic.{pointwise, same_text}
+use Rattle.std.specs.Option.{option_eq}
 use Rattle.std.specs.Borrow.{Bor}
 use Rattle.wcommand.specs.declared.choice.Choice.{Choice}
 use Rattle.wcommand.specs.declared.choice.Paths.{Paths}
@@ -9,12 +11,15 @@ use Rattle.wfolder.specs.Call.{Call, Began, Found, Locked}
 use Rattle.wfiles.specs.Reading.{MayBegin}
 use Rattle.wfolder.specs.Replacing.{fault_of}
 use Rattle.wfolder.specs.declared.fault.Fault.{Fault}
+use Rattle.wfolder.specs.declared.fault.Fault.TheVariants as faults
 use Rattle.wfolder.specs.declared.replacing.NotReplaced.{NotReplaced}
 use Rattle.wact.specs.declared.acted.Acted.{Acted}
 use Rattle.wact.specs.Acts.{Acts}
-use Rattle.wstore_program.specs.Performing.{All, Input, IsDone, IsGivenUp, IsPerformed, IsUndone, IsNotCarriedOut, NoInput, NotPut}
+use Rattle.wstore_program.specs.Performing.{All, Input, IsDone, IsGivenUp, IsUndone, IsNotCarriedOut, NotPut}
 use Rattle.wstore_program.specs.Performing.{OnlyReads, Put, Puts, ReadsInput, ReadsWhole, CarriesOut, Undone, Unfound, Unread, Unready}
-use Rattle.wstore_program.specs.Performing.{NotCarriedOut, Untouched, input_path, new_store, read_files, read_locked}
+use Rattle.wstore_program.specs.Working.{store_bytes}
+use Rattle.wstore_program.specs.Performing.{IsEnded, IsFinished, NotCarriedOut, Performs, Untouched, input_path, new_store}
+use Rattle.wstore_program.specs.Performing.{read_files, read_locked}
 
 -- where a call gives a fault
 pub on_err : {A E : Type 0} {P : Type 0} (r : Result A E) → P → OnErr r P
@@ -24,6 +29,18 @@ on_err (Err e) p = p
 pub if_err : {A E : Type 0} {P : E → Type 0} (r : Result A E) → ((e : E) → P e) → IfErr r P
 if_err (Ok v) p = tt
 if_err (Err e) p = p e
+
+-- what a growth made is what was to be made
+one_value : {A : Type 0} (r : Result A Fault) (v w : A) → r ≡ Ok v → r ≡ Ok w → v ≡ w
+one_value r v w e f = cc
+
+not_both : {A : Type 0} (r : Result A Fault) (v : A) → r ≡ Ok v → r ≡ Err faults.NoMemory → ⊥
+not_both r v e f = cc
+
+pub grown_is : {A E : Type 0} (P : A → Type 0) (made : Result A E) (r : Result A Fault) (value : A) → IfOk made (λ v. r ≡ Ok v)
+    → OnErr made (r ≡ Err faults.NoMemory) → r ≡ Ok value → IfOk made P → P value
+grown_is P (Ok v) r value is refused got p = subst P (one_value r v value is got) p
+grown_is P (Err e) r value is refused got p = absurd (not_both r value got refused)
 
 -- ---- what is read
 
@@ -101,39 +118,34 @@ pub untouched : (choice : Choice) (acted : Acted) (table : List ℕ) (store : Op
     → CarriesOut choice table store other acted calls calls
 untouched choice acted table store other calls acts e = Untouched acts (none_mapped _ acted.store e) refl
 
+-- the same bytes
+pub same_bytes : (xs ys : Option (Vec ℕ Global)) → option_eq (λ x y. pointwise nat_eq x.items y.items) xs ys ≡ true
+    → store_bytes xs ≡ store_bytes ys
+same_bytes None None e = refl
+same_bytes None (Some y) e = absurd (true≢false (sym e))
+same_bytes (Some x) None e = absurd (true≢false (sym e))
+same_bytes (Some x) (Some y) e = ap Some (same_text x.items y.items (sym e))
+
 -- ---- the whole
 
--- the input is read, and then it is carried out
-pub done_by : (choice : Choice) (table : List ℕ) (store : Option (List ℕ)) (other : List ℕ) (old read new : List Call)
-    (r : Result Acted Fault) → ReadsInput choice table store other old read
-    → IfOk r (λ acted. CarriesOut choice table store other acted read new) → IfOk r (λ acted. IsDone choice table store acted old new)
-done_by choice table store other old read new (Err fault) input carried_out = tt
-done_by choice table store other old read new (Ok acted) input carried_out = record {
+-- the input is read, and then it is carried out or not
+pub ended_by : (choice : Choice) (table : List ℕ) (store : Option (List ℕ)) (other : List ℕ) (old read new : List Call)
+    (r : Result Acted Fault) → ReadsInput choice table store other old read → IsFinished choice table store other r read new
+    → IsEnded choice table store r old new
+ended_by choice table store other old read new (Err fault) input finished = NotCarriedOut other read input finished
+ended_by choice table store other old read new (Ok acted) input finished = record {
   other = other;
   read = read;
-  input =
-      input;
-  carried_out = carried_out;
+  input = input;
+  carried_out = finished;
 }
-
-pub undone_by : (choice : Choice) (table : List ℕ) (store : Option (List ℕ)) (other : List ℕ) (old read new : List Call)
-    (r : Result Acted Fault) → ReadsInput choice table store other old read
-    → IfErr r (λ fault. IsNotCarriedOut choice table other fault read new) → IfErr r (λ fault. IsUndone choice table store fault old new)
-undone_by choice table store other old read new (Ok acted) input not_carried_out = tt
-undone_by choice table store other old read new (Err fault) input not_carried_out = NotCarriedOut other read input not_carried_out
 
 -- a stream that was read whole
 pub fed_whole : (choice : Choice) (table : List ℕ) (store : Option (List ℕ)) (path stream : List ℕ)
     (old read new : List Call) (r : Result Acted Fault) → input_path choice ≡ Some path → read ≡ Found path (Some stream) ∷ old
-    → IfOk r (λ acted. CarriesOut choice table store stream acted read new) → IfOk r (λ acted. IsDone choice table store acted old new)
-fed_whole choice table store path stream old read new r named found carried_out =
-    done_by choice table store stream old read new r (All (Input path named found)) carried_out
-
-pub unfed_whole : (choice : Choice) (table : List ℕ) (store : Option (List ℕ)) (path stream : List ℕ)
-    (old read new : List Call) (r : Result Acted Fault) → input_path choice ≡ Some path → read ≡ Found path (Some stream) ∷ old
-    → IfErr r (λ fault. IsNotCarriedOut choice table stream fault read new) → IfErr r (λ fault. IsUndone choice table store fault old new)
-unfed_whole choice table store path stream old read new r named found not_carried_out =
-    undone_by choice table store stream old read new r (All (Input path named found)) not_carried_out
+    → IsFinished choice table store stream r read new → IsEnded choice table store r old new
+fed_whole choice table store path stream old read new r named found finished =
+    ended_by choice table store stream old read new r (All (Input path named found)) finished
 
 -- nothing was done yet
 pub undone_at_once : (choice : Choice) (table : List ℕ) (store : Option (List ℕ)) (fault : Fault) (calls : List Call)
@@ -141,19 +153,12 @@ pub undone_at_once : (choice : Choice) (table : List ℕ) (store : Option (List 
 undone_at_once choice table store fault calls = Unready (no_readings calls calls refl)
 
 -- bytes that are lent
-pub done_on_bytes : (choice : Choice) (table : List ℕ) (store : Option (List ℕ)) (lent other : List ℕ)
+pub ended_on_bytes : (choice : Choice) (table : List ℕ) (store : Option (List ℕ)) (lent other : List ℕ)
     (old read new : List Call) (r : Result Acted Fault) → lent ≡ other → ReadsWhole choice other old read
-    → IfOk r (λ acted. CarriesOut choice table store lent acted read new) → IfOk r (λ acted. IsDone choice table store acted old new)
-done_on_bytes choice table store lent other old read new r same input carried_out =
-    done_by choice table store lent old read new r
-    (All (subst (λ (bytes : List ℕ). ReadsWhole choice bytes old read) (sym same) input)) carried_out
-
-pub undone_on_bytes : (choice : Choice) (table : List ℕ) (store : Option (List ℕ)) (lent other : List ℕ)
-    (old read new : List Call) (r : Result Acted Fault) → lent ≡ other → ReadsWhole choice other old read
-    → IfErr r (λ fault. IsNotCarriedOut choice table lent fault read new) → IfErr r (λ fault. IsUndone choice table store fault old new)
-undone_on_bytes choice table store lent other old read new r same input not_carried_out =
-    undone_by choice table store lent old read new r
-    (All (subst (λ (bytes : List ℕ). ReadsWhole choice bytes old read) (sym same) input)) not_carried_out
+    → IsFinished choice table store lent r read new → IsEnded choice table store r old new
+ended_on_bytes choice table store lent other old read new r same input finished =
+    ended_by choice table store lent old read new r
+    (All (subst (λ (bytes : List ℕ). ReadsWhole choice bytes old read) (sym same) input)) finished
 
 -- the files that the words name are read
 files_read : (paths : Paths) (table : List ℕ) (store : Option (List ℕ)) (old first read : List Call)
@@ -164,8 +169,11 @@ files_read paths table store old first read t s = s ∙ ap (λ cs. Found paths.s
 pub performed_by : (choice : Choice) (paths : Paths) (lent table : List ℕ) (store : Option (List ℕ))
     (old first read new : List Call) (r : Result Acted Fault) → paths_of choice ≡ Some paths → lent ≡ table
     → first ≡ Found paths.table.now (Some table) ∷ old → read ≡ Found paths.store.now store ∷ first
-    → IfOk r (λ acted. IsDone choice lent store acted read new) → IfOk r (λ acted. IsPerformed choice acted old new)
-performed_by choice paths lent table store old first read new (Err fault) named same t s done = tt
+    → IsEnded choice lent store r read new → Performs choice r old new
+performed_by choice paths lent table store old first read new (Err fault) named same t s undone =
+    Undone paths table store named
+    (subst (λ cs. IsUndone choice table store fault cs new) (files_read paths table store old first read t s)
+    (subst (λ (bytes : List ℕ). IsUndone choice bytes store fault read new) same undone))
 performed_by choice paths lent table store old first read new (Ok acted) named same t s done = record {
   paths = paths;
   named = named;
@@ -175,16 +183,6 @@ performed_by choice paths lent table store old first read new (Ok acted) named s
       subst (λ cs. IsDone choice table store acted cs new) (files_read paths table store old first read t s)
       (subst (λ (bytes : List ℕ). IsDone choice bytes store acted read new) same done);
 }
-
-pub given_up_by : (choice : Choice) (paths : Paths) (lent table : List ℕ) (store : Option (List ℕ))
-    (old first read new : List Call) (r : Result Acted Fault) → paths_of choice ≡ Some paths → lent ≡ table
-    → first ≡ Found paths.table.now (Some table) ∷ old → read ≡ Found paths.store.now store ∷ first
-    → IfErr r (λ fault. IsUndone choice lent store fault read new) → IfErr r (λ fault. IsGivenUp choice fault old new)
-given_up_by choice paths lent table store old first read new (Ok acted) named same t s undone = tt
-given_up_by choice paths lent table store old first read new (Err fault) named same t s undone =
-    Undone paths table store named
-    (subst (λ cs. IsUndone choice table store fault cs new) (files_read paths table store old first read t s)
-    (subst (λ (bytes : List ℕ). IsUndone choice bytes store fault read new) same undone))
 
 -- the table or the store is not read
 pub table_unread : (choice : Choice) (path : List ℕ) (fault : Fault) (old new : List Call) → MayBegin path old new

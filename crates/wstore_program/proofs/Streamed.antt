@@ -1,6 +1,6 @@
 -- A stream that is fed to a store.
 use Rattle.std.proofs.Common.{◌≡◌, ◌≢◌, ◌∙◌, ◌⊎◌, inl, inr, refl, sym, ap, subst, ℕ, ◌≤◌, false, List, [], ◌∷◌, ◌++◌, length}
-use Rattle.std.proofs.Common.{take, append-nil, Option, None, Some, Result, Ok, Err, IfOk, IfErr, IfSome, IfNone, is_some}
+use Rattle.std.proofs.Common.{take, append-nil, Option, None, Some, Result, Ok, Err, IfOk, IfSome, IfNone, is_some}
 use Rattle.std.specs.Io.KnownBytes.{Consumes, IsAtEnd}
 use Rattle.std.proofs.KnownBytes.{Consumes-trans}
 use Rattle.wsegment.specs.Declaration.{Declaration}
@@ -19,13 +19,16 @@ use Rattle.wreplies.specs.Texts.{bytes_of}
 use Rattle.wreplies.specs.declared.text.Text.{Text}
 use Rattle.wact.specs.declared.acted.Acted.{Acted}
 use Rattle.wact.specs.declared.opening.Opened.TheVariants as opens
+use Rattle.wact.specs.Acts.{Acts}
 use Rattle.wact.specs.Delivering.{IsFeed, IsToldUndelivered}
 use Rattle.wact.specs.Opening.{Opens, TableRead, TableRefused}
 use Rattle.wact.specs.Outcomes.{IsRefused}
 use Rattle.wact.specs.Streams.{Feeds}
 use Rattle.wact.proofs.Delivering.{acts_opened, acts_refused, feeds_refused}
 use Rattle.wstore_program.specs.Feeding.{AtEnd, ByAll, ByFront, InFront, IsRefusedStream, RefusesRead}
-use Rattle.wstore_program.specs.Performing.{All, Front, Input, IsDone, IsUndone, Nothing, OnlyReads, CarriesOut, Unready, input_path}
+use Rattle.wstore_program.specs.Performing.{All, Front, Input, IsDone, IsEnded, Nothing, OnlyReads, CarriesOut, Unready, input_path}
+use Rattle.wstore_program.specs.declared.work.Work.{Work}
+use Rattle.wstore_program.specs.Working.{FeedsFrom, GivesOn}
 use Rattle.wstore_program.proofs.Performed.{untouched}
 
 -- ---- reading it
@@ -103,6 +106,13 @@ pub declared_by : (d : Declaration) (table : List ℕ) (store : Option (List ℕ
 declared_by d table store node (TableRead e reads by) same = subst (λ f. ReadsDeclaration table (Ok f)) (sym (same ∙ by.0)) reads
 declared_by d table store node (TableRefused fault reads refused) same = absurd refused
 
+-- what feeding gives by any choice that feeds, it gives by this one
+pub fed_by : {E : Type 0} (work : Work) (store : Option (List ℕ)) (stream : List ℕ) (r : Result Acted E) → IsFeed work.choice.now
+    → IfOk r (λ acted. (choice : Choice) → IsFeed choice → Acts choice work.table.now store stream acted)
+    → IfOk r (GivesOn work store stream)
+fed_by work store stream (Err e) is gives = tt
+fed_by work store stream (Ok acted) is gives = gives work.choice.now is
+
 -- a table or a store that is refused
 pub refused_open : (choice : Choice) (table : List ℕ) (store : Option (List ℕ)) (text : Text) (acted : Acted)
     (calls : List Call) → IsFeed choice → Opens table store (opens.Refused text) → IsRefused acted (bytes_of text)
@@ -158,16 +168,10 @@ refused_stream choice table store node d path reason acted old new is named open
 
 -- as it was told, or there was no memory to tell it
 pub told_refused : (choice : Choice) (table : List ℕ) (store : Option (List ℕ)) (node : NodeState) (d : Declaration)
-    (path : List ℕ) (reason : Stop) (r : Result Acted Fault) (old new : List Call) → IsFeed choice
-    → input_path choice ≡ Some path → Opens table store (opens.Node node) → d ≡ node.schema
-    → IsRefusedStream d path old new reason → IfOk r (IsToldUndelivered reason)
-    → IfOk r (λ acted. IsDone choice table store acted old new)
-told_refused choice table store node d path reason (Err fault) old new is named opened same why told = tt
-told_refused choice table store node d path reason (Ok acted) old new is named opened same why told =
-    refused_stream choice table store node d path reason acted old new is named opened same why told
-
-pub untold_refused : (choice : Choice) (table : List ℕ) (store : Option (List ℕ)) (d : Declaration) (path : List ℕ)
-    (reason : Stop) (r : Result Acted Fault) (old new : List Call) → IsRefusedStream d path old new reason
-    → IfErr r (λ fault. IsUndone choice table store fault old new)
-untold_refused choice table store d path reason (Ok acted) old new why = tt
-untold_refused choice table store d path reason (Err fault) old new why = Unready (refused_reads d path old new reason why)
+    (path : List ℕ) (reason : Stop) (r : Result Acted Fault) (old new : List Call) → FeedsFrom choice path
+    → Opens table store (opens.Node node) → d ≡ node.schema → IsRefusedStream d path old new reason
+    → IfOk r (IsToldUndelivered reason) → IsEnded choice table store r old new
+told_refused choice table store node d path reason (Err fault) old new feeds opened same why told =
+    Unready (refused_reads d path old new reason why)
+told_refused choice table store node d path reason (Ok acted) old new feeds opened same why told =
+    refused_stream choice table store node d path reason acted old new feeds.0 feeds.1 opened same why told

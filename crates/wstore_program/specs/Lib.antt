@@ -2,3 +2,4 @@ pub mod Feeding
 pub mod Performing
 pub mod Statuses
 pub mod Shelling
+pub mod Working

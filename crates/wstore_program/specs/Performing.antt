@@ -8,7 +8,7 @@ use Rattle.wbatch.specs.declared.stop.Stop.TheVariants as stops
 use Rattle.wfolder.specs.Call.{Call, Began, Found, Locked}
 use Rattle.wfiles.specs.Reading.{MayBegin}
 use Rattle.wfolder.specs.Replacing.{Replaces, fault_of}
-use Rattle.wfiles.specs.Place.{MayLock}
+use Rattle.wfiles.specs.Place.{MissesLock}
 use Rattle.wfolder.specs.declared.fault.Fault.{Fault}
 use Rattle.wfolder.specs.declared.replacing.NotReplaced.{NotReplaced}
 use Rattle.wcommand.specs.declared.choice.Choice.{Choice}
@@ -82,15 +82,20 @@ pub data CarriesOut (choice : Choice) (table : List ℕ) (store : Option (List �
   Put : (path : List ℕ) (held : Option (List ℕ)) → Acts choice table held other acted
       → Puts path (new_store acted) (Ok tt) (read_locked path held old) new → CarriesOut choice table store other acted old new
 
--- the store is not touched: nothing is done, or the lock is tried for, or the store is read under it, or not to its end; or the new
--- store that the subcommand gives on the bytes that were found there is not put in its place, or may not stay there
+-- the store is not touched: the lock is not tried for, or not had; or it is had, and the store is read, or not to its end, or not at
+-- all; or the new store that the subcommand gives on the bytes that were found there is not put in its place, or may not stay there
 pub data IsNotCarriedOut (choice : Choice) (table other : List ℕ) (fault : Fault) (old new : List Call) : Type 0 where
-  Unlocked : MayLock old new → IsNotCarriedOut choice table other fault old new
+  Unlocked : MissesLock old new → IsNotCarriedOut choice table other fault old new
   Unfound : (path : List ℕ) → MayBegin path (Locked true ∷ old) new → IsNotCarriedOut choice table other fault old new
   Unchanged : (path : List ℕ) (held : Option (List ℕ)) → new ≡ read_locked path held old → IsNotCarriedOut choice table other fault old new
   NotPut : (held : Option (List ℕ)) (acted : Acted) (path : List ℕ) (why : NotReplaced) → Acts choice table held other acted
       → fault ≡ fault_of why
       → Puts path (new_store acted) (Err why) (read_locked path held old) new → IsNotCarriedOut choice table other fault old new
+
+-- it is carried out, or at a fault it is not
+abbrev pub IsFinished : Choice → List ℕ → Option (List ℕ) → List ℕ → Result Acted Fault → List Call → List Call → Type 0
+IsFinished choice table store other (Ok acted) old new = CarriesOut choice table store other acted old new
+IsFinished choice table store other (Err fault) old new = IsNotCarriedOut choice table other fault old new
 
 -- ---- the whole subcommand
 
@@ -107,6 +112,11 @@ pub data IsUndone (choice : Choice) (table : List ℕ) (store : Option (List ℕ
   NotCarriedOut : (other : List ℕ) (read : List Call) → ReadsInput choice table store other old read
       → IsNotCarriedOut choice table other fault read new → IsUndone choice table store fault old new
 
+-- it is done, or at a fault it is undone
+abbrev pub IsEnded : Choice → List ℕ → Option (List ℕ) → Result Acted Fault → List Call → List Call → Type 0
+IsEnded choice table store (Ok acted) old new = IsDone choice table store acted old new
+IsEnded choice table store (Err fault) old new = IsUndone choice table store fault old new
+
 -- it is what the subcommand gives on the bytes of the table, the store and the input that the words name, as they were read there
 pub record IsPerformed (choice : Choice) (acted : Acted) (old new : List Call) : Type 0 where
   pub paths : Paths
@@ -121,3 +131,8 @@ pub data IsGivenUp (choice : Choice) (fault : Fault) (old new : List Call) : Typ
   Unread : OnlyReads old new → IsGivenUp choice fault old new
   Undone : (paths : Paths) (table : List ℕ) (store : Option (List ℕ)) → paths_of choice ≡ Some paths
       → IsUndone choice table store fault (read_files paths table store old) new → IsGivenUp choice fault old new
+
+-- it is performed, or at a fault it is given up
+abbrev pub Performs : Choice → Result Acted Fault → List Call → List Call → Type 0
+Performs choice (Ok acted) old new = IsPerformed choice acted old new
+Performs choice (Err fault) old new = IsGivenUp choice fault old new

@@ -3,15 +3,11 @@ ghost use Rattle.std.specs.Prelude.{◌≡◌, [], Ok, true, IfOk, IfErr, IfNone
 ghost use Rattle.wsegment.specs.Spelling.{ReadsDeclaration};
 ghost use Rattle.wbatch.specs.Batches.{stream_of};
 ghost use Rattle.wcommand.specs.Inputs.{is_act, paths_of};
-ghost use Rattle.wact.specs.Acts.{Acts};
 ghost use Rattle.wact.specs.Delivering.{IsFeed, IsToldUndelivered};
-ghost use Rattle.wact.specs.Opening.{Opens};
 ghost use Rattle.wact.specs.Streams.{Feeds};
-ghost use Rattle.wact.specs.declared.opening.Opened.TheVariants as opens;
-ghost use Rattle.wcommand.specs.declared.choice.Choice as choices;
-ghost use Rattle.wstore_program.specs.Feeding.{IsGiven, given_bytes};
-ghost use Rattle.wstore_program.specs.Performing.{IsDone, IsGivenUp, IsPerformed, IsUndone, IsNotCarriedOut};
-ghost use Rattle.wstore_program.specs.Performing.{OnlyReads, Puts, ReadsWhole, CarriesOut, input_path};
+ghost use Rattle.wstore_program.specs.Performing.{OnlyReads, Performs, Puts, ReadsWhole, input_path};
+ghost use Rattle.wstore_program.specs.Working.{Ends, FeedsFrom, FeedsNode, Finishes, Gives, GivesOn, IsCounted, IsGiven};
+ghost use Rattle.wstore_program.specs.Working.{given_bytes, store_bytes};
 ghost use Rattle.wfolder.specs.Calls.{HasCause, IsSound};
 ghost use Rattle.wfolder.specs.Model.{IsLocked};
 ghost use Rattle.wfolder.specs.Replacing.{fault_of};
@@ -20,6 +16,7 @@ use crate::explaining::{explain_refusal, explain_stream};
 use crate::feeding::fill_from;
 use crate::given::Given;
 use crate::opening::{hashed_of, opened};
+use crate::work::Work;
 use std::alloc::{AllocError, Global};
 use std::fs::File;
 use std::rt::{Clock, Files};
@@ -31,53 +28,56 @@ use wfiles::{Place, Record, System, read_if_there, read_whole};
 use wfolder::{Fault, NotReplaced};
 use wstore::Node;
 
-// What the subcommand gives on these bytes.
+// What the subcommand gives on a store with these bytes, with these bytes of CSV or OTHER.
 fn acted_on(
     alloc: Global,
-    choice: &Choice<'_>,
-    table: &[u8],
+    work: &Work<'_, '_>,
     store: &Option<Vec<u8>>,
     other: &[u8],
 ) -> Result<Acted, AllocError>
-    requires { is_act choice.now ≡ true }
-    ensures { IfOk result (λ acted. Acts choice.now table.now (option_map (λ bytes. bytes.items) store.now) other.now acted) }
+    requires { is_act work.now.choice.now ≡ true }
+    ensures { IfOk result (GivesOn work.now (store_bytes store.now) other.now) }
 {
     match store {
-        Some(bytes) => act(alloc, choice, table, Some(bytes.as_slice()), other),
-        None => act(alloc, choice, table, None, other),
+        Some(bytes) => act(
+            alloc,
+            work.choice,
+            work.table,
+            Some(bytes.as_slice()),
+            other,
+        ),
+        None => act(alloc, work.choice, work.table, None, other),
     }
 }
 
 // What feeding gives on a store with these bytes.
 fn fed_to(
     alloc: Global,
-    table: &[u8],
+    work: &Work<'_, '_>,
     store: &Option<Vec<u8>>,
     batch: &Batch,
 ) -> Result<Acted, AllocError>
-    requires declared { ReadsDeclaration table.now (Ok batch.now.schema) }
+    requires feed { IsFeed work.now.choice.now }
+    requires declared { ReadsDeclaration work.now.table.now (Ok batch.now.schema) }
     requires whole { batch.now.held ≡ [] }
-    ensures { IfOk result (λ acted. (choice : choices.Choice) → IsFeed choice
-        → Acts choice table.now (option_map (λ bytes. bytes.items) store.now) (stream_of batch.now) acted) }
+    ensures { IfOk result (GivesOn work.now (store_bytes store.now) (stream_of batch.now)) }
 {
-    feed_store(alloc, table, &hashed_of(store), batch)
+    feed_store(alloc, work.table, &hashed_of(store), batch)
 }
 
-// What the subcommand gives on this.
+// What the subcommand gives on a store with these bytes, given this.
 fn acted(
     alloc: Global,
-    choice: &Choice<'_>,
-    table: &[u8],
+    work: &Work<'_, '_>,
     store: &Option<Vec<u8>>,
     given: &Given<'_>,
 ) -> Result<Acted, AllocError>
-    requires act { is_act choice.now ≡ true }
-    requires given { IsGiven choice.now table.now given.now }
-    ensures { IfOk result (λ acted. Acts choice.now table.now (option_map (λ bytes. bytes.items) store.now) (given_bytes given.now) acted) }
+    requires { IsGiven work.now given.now }
+    ensures { IfOk result (GivesOn work.now (store_bytes store.now) (given_bytes given.now)) }
 {
     match *given {
-        Given::Bytes(bytes) => acted_on(alloc, choice, table, store, bytes),
-        Given::Batch(batch) => fed_to(alloc, table, store, batch),
+        Given::Bytes(bytes) => acted_on(alloc, work, store, bytes),
+        Given::Batch(batch) => fed_to(alloc, work, store, batch),
     }
 }
 
@@ -100,30 +100,25 @@ fn read_input<R: Files<File = File> + AllocGlobal>(
     }
 }
 
-// What the subcommand gives on the bytes that stand there now, where it gave this on those that stood there before.
+// What the subcommand gives on the bytes that stand there now, where it gave this on those that were read.
 fn acted_again<R>(
     alloc: Global,
     system: &mut System<'_, R>,
-    choice: &Choice<'_>,
-    table: &[u8],
-    before: &Option<Vec<u8>>,
+    work: &Work<'_, '_>,
     now: &Option<Vec<u8>>,
     given: &Given<'_>,
     first: Acted,
 ) -> Result<Acted, Fault>
-    requires choice { is_act choice.now ≡ true }
-    requires given { IsGiven choice.now table.now given.now }
-    requires first { Acts choice.now table.now (option_map (λ bytes. bytes.items) before.now) (given_bytes given.now) first }
+    requires gives { Gives work.now given.now first }
     requires sound { IsSound system.old }
-    ensures acts { IfOk result (λ acted. Acts choice.now table.now (option_map (λ bytes. bytes.items) now.now)
-        (given_bytes given.now) acted) }
+    ensures acts { IfOk result (GivesOn work.now (store_bytes now.now) (given_bytes given.now)) }
     ensures sound { OnOk result (IsSound system.new) }
     ensures cause { IfErr result (λ fault. HasCause fault system.new) }
 {
-    if now == before {
+    if now == work.store {
         return Ok(first);
     }
-    system.grown(acted(alloc, choice, table, now, given))
+    system.grown(acted(alloc, work, now, given))
 }
 
 // Puts the new store in its place, if the subcommand gives one on the bytes that were read there.
@@ -153,25 +148,16 @@ fn carry_out<R: Files<File = File> + AllocGlobal + Clock + Eprint>(
     alloc: Global,
     system: &mut System<'_, R>,
     calls: &mut Record,
-    choice: &Choice<'_>,
-    path: &str,
-    table: &[u8],
-    store: &Option<Vec<u8>>,
+    work: &Work<'_, '_>,
     given: &Given<'_>,
     first: Acted,
 ) -> Result<Acted, Fault>
-    requires choice { is_act choice.now ≡ true }
-    requires given { IsGiven choice.now table.now given.now }
-    requires first { Acts choice.now table.now (option_map (λ bytes. bytes.items) store.now) (given_bytes given.now) first }
+    requires gives { Gives work.now given.now first }
     requires sound { IsSound system.old }
-    ensures carried_out { IfOk result (λ acted. CarriesOut choice.now table.now
-        (option_map (λ bytes. bytes.items) store.now) (given_bytes given.now) acted calls.old.calls calls.new.calls) }
-    ensures not_carried_out { IfErr result (λ fault. IsNotCarriedOut choice.now table.now (given_bytes given.now) fault
-        calls.old.calls calls.new.calls) }
-    ensures sound { OnOk result (IsSound system.new) }
-    ensures cause { IfErr result (λ fault. HasCause fault system.new) }
+    ensures finished { Finishes work.now (given_bytes given.now) result calls.old.calls calls.new.calls }
+    ensures counted { IsCounted result system.new }
 {
-    let place = match Place::find(alloc, system, calls, path) {
+    let mut place = match Place::find(alloc, system, calls, work.paths.store) {
         Ok(place) => place,
         Err(fault) => return Err(fault),
     };
@@ -179,7 +165,7 @@ fn carry_out<R: Files<File = File> + AllocGlobal + Clock + Eprint>(
         Ok(now) => now,
         Err(fault) => return Err(fault),
     };
-    let last = match acted_again(alloc, system, choice, table, store, &now, given, first) {
+    let last = match acted_again(alloc, system, work, &now, given, first) {
         Ok(last) => last,
         Err(fault) => return Err(fault),
     };
@@ -194,30 +180,19 @@ fn finish<R: Files<File = File> + AllocGlobal + Clock + Eprint>(
     alloc: Global,
     system: &mut System<'_, R>,
     calls: &mut Record,
-    choice: &Choice<'_>,
-    path: &str,
-    table: &[u8],
-    store: &Option<Vec<u8>>,
+    work: &Work<'_, '_>,
     given: &Given<'_>,
     first: Acted,
 ) -> Result<Acted, Fault>
-    requires choice { is_act choice.now ≡ true }
-    requires given { IsGiven choice.now table.now given.now }
-    requires first { Acts choice.now table.now (option_map (λ bytes. bytes.items) store.now) (given_bytes given.now) first }
+    requires gives { Gives work.now given.now first }
     requires sound { IsSound system.old }
-    ensures carried_out { IfOk result (λ acted. CarriesOut choice.now table.now
-        (option_map (λ bytes. bytes.items) store.now) (given_bytes given.now) acted calls.old.calls calls.new.calls) }
-    ensures not_carried_out { IfErr result (λ fault. IsNotCarriedOut choice.now table.now (given_bytes given.now) fault
-        calls.old.calls calls.new.calls) }
-    ensures sound { OnOk result (IsSound system.new) }
-    ensures cause { IfErr result (λ fault. HasCause fault system.new) }
+    ensures finished { Finishes work.now (given_bytes given.now) result calls.old.calls calls.new.calls }
+    ensures counted { IsCounted result system.new }
 {
     if first.store.is_none() {
         return Ok(first);
     }
-    carry_out(
-        alloc, system, calls, choice, path, table, store, given, first,
-    )
+    carry_out(alloc, system, calls, work, given, first)
 }
 
 // Does a subcommand on the bytes of CSV or OTHER.
@@ -225,36 +200,25 @@ fn perform_on_bytes<R: Files<File = File> + AllocGlobal + Clock + Eprint>(
     rt: &R,
     system: &mut System<'_, R>,
     calls: &mut Record,
-    choice: &Choice<'_>,
-    paths: Paths<'_>,
-    table: &[u8],
-    store: &Option<Vec<u8>>,
+    work: &Work<'_, '_>,
 ) -> Result<Acted, Fault>
-    requires choice { is_act choice.now ≡ true }
+    requires act { is_act work.now.choice.now ≡ true }
     requires sound { IsSound system.old }
-    ensures done { IfOk result (λ acted. IsDone choice.now table.now (option_map (λ bytes. bytes.items) store.now) acted
-        calls.old.calls calls.new.calls) }
-    ensures undone { IfErr result (λ fault. IsUndone choice.now table.now (option_map (λ bytes. bytes.items) store.now)
-        fault calls.old.calls calls.new.calls) }
-    ensures sound { OnOk result (IsSound system.new) }
-    ensures cause { IfErr result (λ fault. HasCause fault system.new) }
+    ensures ended { Ends work.now result calls.old.calls calls.new.calls }
+    ensures counted { IsCounted result system.new }
 {
     let alloc = rt.alloc();
-    let other = read_input(alloc, system, calls, choice)?;
+    let other = match read_input(alloc, system, calls, work.choice) {
+        Ok(other) => other,
+        Err(fault) => return Err(fault),
+    };
     let other = other.as_slice();
-    let first = system.grown(acted_on(alloc, choice, table, store, other))?;
-    explain_refusal(rt, choice, paths, table, store, other, &first);
-    finish(
-        alloc,
-        system,
-        calls,
-        choice,
-        paths.store,
-        table,
-        store,
-        &Given::Bytes(other),
-        first,
-    )
+    let first = match system.grown(acted_on(alloc, work, work.store, other)) {
+        Ok(first) => first,
+        Err(fault) => return Err(fault),
+    };
+    explain_refusal(rt, work, other, &first);
+    finish(alloc, system, calls, work, &Given::Bytes(other), first)
 }
 
 // What feeding gives on the node of the store that was read, if memory is there.
@@ -295,61 +259,43 @@ fn deliver<R: Files<File = File> + AllocGlobal + Clock + Eprint>(
     alloc: Global,
     system: &mut System<'_, R>,
     calls: &mut Record,
-    choice: &Choice<'_>,
-    path: &str,
-    table: &[u8],
-    store: &Option<Vec<u8>>,
+    work: &Work<'_, '_>,
     hashed: &Option<Hashed<'_>>,
     node: Node,
     batch: &Batch,
 ) -> Result<Acted, Fault>
-    requires choice { IsFeed choice.now }
-    requires hashed { hashed.now ≡ option_map (λ bytes. bytes.items) store.now }
-    requires opens { Opens table.now (option_map (λ bytes. bytes.items) store.now) (opens.Node node) }
+    requires feeds { FeedsNode work.now hashed.now node }
     requires declared { batch.now.schema ≡ node.schema }
     requires whole { batch.now.held ≡ [] }
     requires sound { IsSound system.old }
-    ensures carried_out { IfOk result (λ acted. CarriesOut choice.now table.now
-        (option_map (λ bytes. bytes.items) store.now) (stream_of batch.now) acted calls.old.calls calls.new.calls) }
-    ensures not_carried_out { IfErr result (λ fault. IsNotCarriedOut choice.now table.now (stream_of batch.now) fault
-        calls.old.calls calls.new.calls) }
-    ensures sound { OnOk result (IsSound system.new) }
-    ensures cause { IfErr result (λ fault. HasCause fault system.new) }
+    ensures finished { Finishes work.now (stream_of batch.now) result calls.old.calls calls.new.calls }
+    ensures counted { IsCounted result system.new }
 {
     let first = match fed(alloc, system, node, hashed, batch) {
         Ok(first) => first,
         Err(fault) => return Err(fault),
     };
-    finish(
-        alloc,
-        system,
-        calls,
-        choice,
-        path,
-        table,
-        store,
-        &Given::Batch(batch),
-        first,
-    )
+    finish(alloc, system, calls, work, &Given::Batch(batch), first)
 }
 
 // What is told of a stream that is refused.
 fn refuse_stream<R: AllocGlobal + Eprint>(
     rt: &R,
     system: &mut System<'_, R>,
+    work: &Work<'_, '_>,
     stream: &str,
-    paths: Paths<'_>,
-    table: &[u8],
     batch: &Batch,
     reason: Stop,
 ) -> Result<Acted, Fault>
     requires { IsSound system.old }
     ensures told { IfOk result (IsToldUndelivered reason) }
-    ensures sound { OnOk result (IsSound system.new) }
-    ensures cause { IfErr result (λ fault. HasCause fault system.new) }
+    ensures counted { IsCounted result system.new }
 {
-    let acted = system.grown(undelivered(rt.alloc(), reason))?;
-    explain_stream(rt, stream, paths, table, batch, &acted);
+    let acted = match system.grown(undelivered(rt.alloc(), reason)) {
+        Ok(acted) => acted,
+        Err(fault) => return Err(fault),
+    };
+    explain_stream(rt, work, stream, batch, &acted);
     Ok(acted)
 }
 
@@ -358,44 +304,28 @@ fn feed_from<R: Files<File = File> + AllocGlobal + Clock + Eprint>(
     rt: &R,
     system: &mut System<'_, R>,
     calls: &mut Record,
-    choice: &Choice<'_>,
-    paths: Paths<'_>,
-    table: &[u8],
-    store: &Option<Vec<u8>>,
-    hashed: &Option<Hashed<'_>>,
+    work: &Work<'_, '_>,
     stream: &str,
+    hashed: &Option<Hashed<'_>>,
     node: Node,
 ) -> Result<Acted, Fault>
-    requires choice { IsFeed choice.now }
-    requires stream { input_path choice.now ≡ Some stream.now }
-    requires hashed { hashed.now ≡ option_map (λ bytes. bytes.items) store.now }
-    requires opens { Opens table.now (option_map (λ bytes. bytes.items) store.now) (opens.Node node) }
+    requires stream { FeedsFrom work.now.choice.now stream.now }
+    requires feeds { FeedsNode work.now hashed.now node }
     requires sound { IsSound system.old }
-    ensures done { IfOk result (λ acted. IsDone choice.now table.now (option_map (λ bytes. bytes.items) store.now) acted
-        calls.old.calls calls.new.calls) }
-    ensures undone { IfErr result (λ fault. IsUndone choice.now table.now (option_map (λ bytes. bytes.items) store.now)
-        fault calls.old.calls calls.new.calls) }
-    ensures sound { OnOk result (IsSound system.new) }
-    ensures cause { IfErr result (λ fault. HasCause fault system.new) }
+    ensures ended { Ends work.now result calls.old.calls calls.new.calls }
+    ensures counted { IsCounted result system.new }
 {
     let alloc = rt.alloc();
-    let schema = system.grown(node.schema().copy())?;
+    let schema = match system.grown(node.schema().copy()) {
+        Ok(schema) => schema,
+        Err(fault) => return Err(fault),
+    };
     let mut batch = Batch::new(alloc, schema);
-    if let Some(reason) = fill_from(system, calls, stream, &mut batch)? {
-        return refuse_stream(rt, system, stream, paths, table, &batch, reason);
+    match fill_from(system, calls, stream, &mut batch) {
+        Ok(Some(reason)) => refuse_stream(rt, system, work, stream, &batch, reason),
+        Ok(None) => deliver(alloc, system, calls, work, hashed, node, &batch),
+        Err(fault) => Err(fault),
     }
-    deliver(
-        alloc,
-        system,
-        calls,
-        choice,
-        paths.store,
-        table,
-        store,
-        hashed,
-        node,
-        &batch,
-    )
 }
 
 // Feeds a stream.
@@ -403,30 +333,20 @@ fn perform_feed<R: Files<File = File> + AllocGlobal + Clock + Eprint>(
     rt: &R,
     system: &mut System<'_, R>,
     calls: &mut Record,
-    choice: &Choice<'_>,
-    paths: Paths<'_>,
-    table: &[u8],
-    store: &Option<Vec<u8>>,
+    work: &Work<'_, '_>,
     stream: &str,
 ) -> Result<Acted, Fault>
-    requires choice { IsFeed choice.now }
-    requires stream { input_path choice.now ≡ Some stream.now }
+    requires stream { FeedsFrom work.now.choice.now stream.now }
     requires sound { IsSound system.old }
-    ensures done { IfOk result (λ acted. IsDone choice.now table.now (option_map (λ bytes. bytes.items) store.now) acted
-        calls.old.calls calls.new.calls) }
-    ensures undone { IfErr result (λ fault. IsUndone choice.now table.now (option_map (λ bytes. bytes.items) store.now)
-        fault calls.old.calls calls.new.calls) }
-    ensures sound { OnOk result (IsSound system.new) }
-    ensures cause { IfErr result (λ fault. HasCause fault system.new) }
+    ensures ended { Ends work.now result calls.old.calls calls.new.calls }
+    ensures counted { IsCounted result system.new }
 {
-    let hashed = hashed_of(store);
-    match opened(rt.alloc(), system, table, &hashed, Purpose::Telling) {
-        Ok(Opened::Node(node)) => feed_from(
-            rt, system, calls, choice, paths, table, store, &hashed, stream, node,
-        ),
+    let hashed = hashed_of(work.store);
+    match opened(rt.alloc(), system, work.table, &hashed, Purpose::Telling) {
+        Ok(Opened::Node(node)) => feed_from(rt, system, calls, work, stream, &hashed, node),
         Ok(Opened::Refused(text)) => {
             let acted = refused(text);
-            explain_refusal(rt, choice, paths, table, store, &[], &acted);
+            explain_refusal(rt, work, &[], &acted);
             Ok(acted)
         }
         Err(fault) => Err(fault),
@@ -435,7 +355,7 @@ fn perform_feed<R: Files<File = File> + AllocGlobal + Clock + Eprint>(
 
 // The stream of a choice that feeds.
 fn stream_of_feed<'a>(choice: &Choice<'a>) -> Option<&'a str>
-    ensures feeds { IfSome result (λ stream. IsFeed choice.now × (input_path choice.now ≡ Some stream.now)) }
+    ensures feeds { IfSome result (λ stream. FeedsFrom choice.now stream.now) }
     ensures other { IfNone result (IsFeed choice.now → ⊥) }
 {
     match *choice {
@@ -449,23 +369,16 @@ fn perform_on<R: Files<File = File> + AllocGlobal + Clock + Eprint>(
     rt: &R,
     system: &mut System<'_, R>,
     calls: &mut Record,
-    choice: &Choice<'_>,
-    paths: Paths<'_>,
-    table: &[u8],
-    store: &Option<Vec<u8>>,
+    work: &Work<'_, '_>,
 ) -> Result<Acted, Fault>
-    requires choice { is_act choice.now ≡ true }
+    requires act { is_act work.now.choice.now ≡ true }
     requires sound { IsSound system.old }
-    ensures done { IfOk result (λ acted. IsDone choice.now table.now (option_map (λ bytes. bytes.items) store.now) acted
-        calls.old.calls calls.new.calls) }
-    ensures undone { IfErr result (λ fault. IsUndone choice.now table.now (option_map (λ bytes. bytes.items) store.now)
-        fault calls.old.calls calls.new.calls) }
-    ensures sound { OnOk result (IsSound system.new) }
-    ensures cause { IfErr result (λ fault. HasCause fault system.new) }
+    ensures ended { Ends work.now result calls.old.calls calls.new.calls }
+    ensures counted { IsCounted result system.new }
 {
-    match stream_of_feed(choice) {
-        Some(stream) => perform_feed(rt, system, calls, choice, paths, table, store, stream),
-        None => perform_on_bytes(rt, system, calls, choice, paths, table, store),
+    match stream_of_feed(work.choice) {
+        Some(stream) => perform_feed(rt, system, calls, work, stream),
+        None => perform_on_bytes(rt, system, calls, work),
     }
 }
 
@@ -485,14 +398,23 @@ pub fn perform<R: Files<File = File> + AllocGlobal + Clock + Eprint>(
     requires choice { is_act choice.now ≡ true }
     requires named { paths_of choice.now ≡ Some paths }
     requires sound { IsSound system.old }
-    ensures performed { IfOk result (λ acted. IsPerformed choice.now acted calls.old.calls calls.new.calls) }
-    ensures given_up { IfErr result (λ fault. IsGivenUp choice.now fault calls.old.calls calls.new.calls) }
-    ensures sound { OnOk result (IsSound system.new) }
-    ensures cause { IfErr result (λ fault. HasCause fault system.new) }
+    ensures performed { Performs choice.now result calls.old.calls calls.new.calls }
+    ensures counted { IsCounted result system.new }
 {
     let alloc = rt.alloc();
-    let table = read_whole(alloc, system, calls, paths.table)?;
-    let store = read_if_there(alloc, system, calls, paths.store)?;
-    let table = table.as_slice();
-    perform_on(rt, system, calls, choice, paths, table, &store)
+    let table = match read_whole(alloc, system, calls, paths.table) {
+        Ok(table) => table,
+        Err(fault) => return Err(fault),
+    };
+    let store = match read_if_there(alloc, system, calls, paths.store) {
+        Ok(store) => store,
+        Err(fault) => return Err(fault),
+    };
+    let work = Work {
+        choice,
+        paths,
+        table: table.as_slice(),
+        store: &store,
+    };
+    perform_on(rt, system, calls, &work)
 }

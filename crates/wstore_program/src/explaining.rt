@@ -1,8 +1,9 @@
 //! Refusals, explained on standard error.
 
+use crate::work::Work;
 use wact::Acted;
 use wbatch::Batch;
-use wcommand::{Choice, Paths};
+use wcommand::Choice;
 use wexplain::{Given, Input, Stream, explain};
 
 /// The status of a refusal.
@@ -75,26 +76,29 @@ fn write_explanation<R: AllocGlobal + Eprint>(
     }
 }
 
-/// Writes why a subcommand was refused, on these bytes, to standard error; nothing where it was not.
+// The table.
+fn table_of<'w, 'a>(work: &Work<'a, 'w>) -> Input<'w, 'a> {
+    Input {
+        path: work.paths.table,
+        bytes: work.table,
+    }
+}
+
+/// Writes why a subcommand was refused, with these bytes of CSV or OTHER, to standard error; nothing where it was not.
 pub(crate) fn explain_refusal<R: AllocGlobal + Eprint>(
     rt: &R,
-    choice: &Choice<'_>,
-    paths: Paths<'_>,
-    table: &[u8],
-    store: &Option<Vec<u8>>,
+    work: &Work<'_, '_>,
     other: &[u8],
     acted: &Acted,
 ) {
+    let choice = work.choice;
     if !tells_one(choice) {
         return;
     }
     let (origin, number) = name_of(choice);
     let given = Given {
-        table: Input {
-            path: paths.table,
-            bytes: table,
-        },
-        store: store_of(paths.store, store),
+        table: table_of(work),
+        store: store_of(work.paths.store, work.store),
         segment: segment_of(choice, other),
         stream: None,
         other: other_of(choice, other),
@@ -105,20 +109,16 @@ pub(crate) fn explain_refusal<R: AllocGlobal + Eprint>(
     write_explanation(rt, acted, &given);
 }
 
-/// Writes why a stream was refused under this table, where the batch stopped that was filled from it, to standard error.
+/// Writes why a stream was refused, where the batch stopped that was filled from it, to standard error.
 pub(crate) fn explain_stream<R: AllocGlobal + Eprint>(
     rt: &R,
+    work: &Work<'_, '_>,
     stream: &str,
-    paths: Paths<'_>,
-    table: &[u8],
     batch: &Batch,
     acted: &Acted,
 ) {
     let given = Given {
-        table: Input {
-            path: paths.table,
-            bytes: table,
-        },
+        table: table_of(work),
         store: None,
         segment: None,
         stream: Some(Stream {

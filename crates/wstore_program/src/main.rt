@@ -16,6 +16,7 @@ mod feeding;
 mod given;
 mod opening;
 mod shelling;
+mod work;
 
 use acting::perform;
 use shelling::run_shell;

@@ -6,4 +6,4 @@ pub returns-in-Ok : goal.returns-in-Ok
 returns-in-Ok g c = Told c.in-Ok.acted c.in-Ok.ensures.performed (rw c.as_slice.ensures at c.print.ensures)
 
 pub returns-in-Err : goal.returns-in-Err
-returns-in-Err g c = Failed c.in-Err.fault c.in-Err.ensures.cause c.in-Err.ensures.given_up (search rules) (search rules)
+returns-in-Err g c = Failed c.in-Err.fault c.in-Err.ensures.counted c.in-Err.ensures.performed (search rules) (search rules)
