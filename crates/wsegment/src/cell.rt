@@ -48,7 +48,8 @@ fn typed(
     }
 }
 
-/// What a field of a row holds, which may be known to be ASCII. A text that was read lately is shared. A field that is no text is refused without memory.
+/// What a field of a row holds, which may be known to be ASCII. A text that was read lately is shared. A field that is no text
+/// is refused without memory.
 #[tactic(auto, unfolding(crate::specs::Cells::cell_of))]
 pub(crate) fn cell(
     alloc: Global,
