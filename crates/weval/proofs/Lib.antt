@@ -1,3 +1,4 @@
 mod Running
 mod LeafFacts
 mod ReadFacts
+mod TruthFacts

@@ -10,7 +10,6 @@ use Rattle.wvalues.specs.Meaning.{Meaning}
 use Rattle.wplan.specs.declared.expr.Further.{Further}
 use Rattle.wplan.specs.declared.expr.Expr.{Expr}
 use Rattle.wplan.specs.declared.expr.Expr.TheVariants.{Chain, In}
-use Rattle.weval.specs.declared.cell.Cell.{Cell}
 use Rattle.weval.specs.declared.cell.EvalFault.{EvalFault}
 use Rattle.weval.specs.declared.cell.EvalFault.TheVariants.{NoMemory}
 use Rattle.wplan.specs.Formula.{Formula, Operand, Applied, chained, formula, formulas, operand_of}
@@ -43,8 +42,8 @@ chain_links row first (l ∷ ls) h =
       | false ↦ λ e k. chain_links row (Applied l.operator first l.operand) ls k
     ] refl h
 
-pub chain_reads : (row : List Meaning) (e d : Expr) (first : Box Expr Global) (links : Vec Further Global)
-    (ls : List Further) (r s : Result Cell EvalFault) → e ≡ Chain first links → d ≡ first.value → ls ≡ links.items
+pub chain_reads : {T : Type 0} (row : List Meaning) (e d : Expr) (first : Box Expr Global) (links : Vec Further Global)
+    (ls : List Further) (r s : Result T EvalFault) → e ≡ Chain first links → d ≡ first.value → ls ≡ links.items
     → (s ≡ Err NoMemory → reads_text row (formula d) ≡ true)
     → (r ≡ Err NoMemory → (s ≡ Err NoMemory) ⊎ (links_read_text row (map operand_of ls) ≡ true)) → r ≡ Err NoMemory
     → reads_text row (formula e) ≡ true

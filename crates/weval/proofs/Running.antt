@@ -78,15 +78,21 @@ first_ok row x ls o r s is h k =
     let Q : Outcome → Type 0 = λ o. Gives s (value_along row o ls) in
     subst Q (subst P is h) k
 
+pub chain_value : (row : List Meaning) (e d : Expr) (first : Box Expr Global) (links : Vec Further Global) (ls : List Further)
+    → e ≡ Chain first links → d ≡ first.value → ls ≡ links.items
+    → value_along row (value_of row (formula d)) (map operand_of ls) ≡ value_of row (formula e)
+chain_value row e d first links ls is at slice =
+    ap (λ (x : Expr). value_along row (value_of row (formula x)) (map operand_of ls)) at ∙ ap
+    (λ (xs : List Further). value_along row (value_of row (formula first.value)) (map operand_of xs)) slice
+    ∙ sym (along_chain row (formula first.value) (map operand_of links.items))
+    ∙ ap (value_of row) (sym (formula_chain first links)) ∙ ap (λ (x : Expr). value_of row (formula x)) (sym is)
+
 pub chain_gives : (row : List Meaning) (e d : Expr) (first : Box Expr Global) (links : Vec Further Global)
     (ls : List Further) (r : Result Cell EvalFault) → e ≡ Chain first links → d ≡ first.value → ls ≡ links.items
     → Gives r (value_along row (value_of row (formula d)) (map operand_of ls)) → Gives r (value_of row (formula e))
 chain_gives row e d first links ls r is at slice h =
     let P : Outcome → Type 0 = λ o. Gives r o in
-    subst P (ap (λ (x : Expr). value_along row (value_of row (formula x)) (map operand_of ls)) at ∙ ap
-    (λ (xs : List Further). value_along row (value_of row (formula first.value)) (map operand_of xs)) slice
-    ∙ sym (along_chain row (formula first.value) (map operand_of links.items))
-    ∙ ap (value_of row) (sym (formula_chain first links)) ∙ ap (λ (x : Expr). value_of row (formula x)) (sym is)) h
+    subst P (chain_value row e d first links ls is at slice) h
 
 pub in_gives : (row : List Meaning) (e d : Expr) (negated : Bool) (operand : Box Expr Global) (list : Vec Expr Global)
     (ls : List Expr) (x : Cell) (r : Result Cell EvalFault) → e ≡ In negated operand list → d ≡ operand.value

@@ -1,4 +1,5 @@
 pub mod Values
 pub mod Cells
+pub mod Conditions
 pub mod Leaves
 pub mod Reads

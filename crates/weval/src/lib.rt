@@ -1,18 +1,20 @@
 //! The value of an expression on a row.
 //!
-//! - Gives `eval`, the value or the truth of an expression over a row's values.
-//! - Promises: `eval` answers the value of the expression, or that a part of it is out of range. Nothing is skipped, it takes no
+//! - Gives `eval`, the value or the truth of an expression over a row's values, and `truth_on`, what it says as a condition.
+//! - Promises: each answers what the expression comes to, or that a part of it is out of range. Nothing is skipped, it takes no
 //!   memory but the count of a shared text, and it goes as deep as the nesting alone.
 //! - Asks: nothing. A place that a row lacks is null, and a value of the wrong type is null or unknown.
 //! - Leaves: the form of expressions to `wplan`, lists of rows to `wrows`.
 //!
-//! Read `specs/Values.antt` and `specs/Cells.antt`, then `specs/Reads.antt` and `specs/Leaves.antt`.
+//! Read `specs/Values.antt`, `specs/Cells.antt` and `specs/Conditions.antt`, then `specs/Reads.antt` and `specs/Leaves.antt`.
 #![tactic(auto)]
 
 mod cell;
 mod evaluating;
+mod judging;
 mod leaves;
 mod operating;
 
 pub use cell::{Cell, EvalFault};
 pub use evaluating::eval;
+pub use judging::truth_on;

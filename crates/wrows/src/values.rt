@@ -8,7 +8,7 @@ ghost use Rattle.wrows.specs.Outcomes.{Gives, unless};
 ghost use Rattle.wrows.specs.Columns.{is_out_of_range, holds_on, value_on};
 
 use crate::fault::AnswerFault;
-use weval::{EvalFault, eval};
+use weval::{EvalFault, eval, truth_on};
 use wplan::Expr;
 use wvalues::{Truth, Value};
 
@@ -23,8 +23,8 @@ pub fn holds(condition: &Expr, row: &[Value]) -> Result<bool, AnswerFault>
     ensures { Gives (λ b. b) result (unless (is_out_of_range (formula condition.now) (map meaning row.now)) OutOfRange
         (holds_on (formula condition.now) (map meaning row.now))) }
 {
-    match eval(condition, row) {
-        Ok(cell) => Ok(is_yes(cell.truth())),
+    match truth_on(condition, row) {
+        Ok(truth) => Ok(is_yes(truth)),
         Err(EvalFault::OutOfRange) => Err(AnswerFault::OutOfRange),
         Err(EvalFault::NoMemory) => Err(AnswerFault::NoMemory),
     }
