@@ -8,16 +8,14 @@ use Rattle.std.proofs.Math.Seq.{drop-cons}
 use Rattle.wvalues.specs.Meaning.{Meaning}
 use Rattle.wplan.specs.declared.expr.Further.{Further}
 use Rattle.wplan.specs.declared.expr.Expr.{Expr}
-use Rattle.wplan.specs.declared.expr.Expr.TheVariants.{Chain, rolls-Chain, In, rolls-In}
-use Rattle.wplan.specs.declared.expr.Expr.TheOpen as layer
-use Rattle.wplan.specs.declared.expr.Expr.TheFolds.{fold-Expr, fold-roll-Expr, fold_out-Further}
+use Rattle.wplan.specs.declared.expr.Expr.TheVariants.{Chain, In}
 use Rattle.weval.specs.declared.cell.Cell.{Cell}
 use Rattle.weval.specs.declared.cell.Cell.TheVariants as cells
 use Rattle.weval.specs.declared.cell.EvalFault.{EvalFault}
 use Rattle.weval.specs.declared.cell.EvalFault.TheVariants.{OutOfRange, NoMemory}
 use Rattle.wvalues.specs.declared.truth.Truth.{Truth}
 use Rattle.wvalues.specs.declared.truth.Truth.TheVariants.{No}
-use Rattle.wplan.specs.Formula.{Formula, Operand, Applied, Among, chained, formula, formulas, operand_of, expr_step, further_step}
+use Rattle.wplan.specs.Formula.{Formula, Operand, Applied, chained, formula, formulas, operand_of}
 use Rattle.weval.specs.Values.{Outcome, Judged, TooLarge, after, apply, value_in, truth_of, turned, value_of, value_along, is_among}
 use Rattle.wplan.proofs.Formulas.{formula_chain, formula_in, operand_is}
 use Rattle.weval.specs.Cells.{outcome, Gives, GivesTruth}

@@ -129,13 +129,11 @@ pub fn truth_on(e: &Expr, row: &[Value]) -> Result<Truth, EvalFault>
     ensures says { Says result (value_of (map meaning row.now) (formula e.now)) }
     ensures memory { result ≡ Err NoMemory → reads_text (map meaning row.now) (formula e.now) ≡ true }
 {
-    match e {
-        Expr::Chain { first, links } => {
-            match chain_truth(test_truth(first, row), links.as_slice(), row) {
-                Some(truth) => truth,
-                None => evaluated_truth(e, row),
-            }
-        }
-        _ => test_truth(e, row),
+    let Expr::Chain { first, links } = e else {
+        return test_truth(e, row);
+    };
+    match chain_truth(test_truth(first, row), links.as_slice(), row) {
+        Some(truth) => truth,
+        None => evaluated_truth(e, row),
     }
 }
