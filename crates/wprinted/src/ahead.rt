@@ -1,14 +1,15 @@
 //! Rows that are looked at before they are printed.
-ghost use Rattle.std.specs.Prelude.{◌≡◌, ◌≤◌, OnOk, length};
+ghost use Rattle.std.specs.Prelude.{◌≡◌, ◌<◌, ◌≤◌, OnOk, length};
 ghost use Rattle.wvalues.specs.Meaning.{Null, meaning};
 
+use crate::batch::BATCH;
 use crate::row::value_at;
 use crate::rows::Rows;
 use std::alloc::AllocError;
 use wvalues::Value;
 
-/// How many rows are looked at before they are printed, so few that a cache holds their texts until then.
-const BATCH: usize = 256;
+/// How many rows are looked at before they are printed, so few that a cache holds their texts until then: some whole batches.
+const AHEAD: usize = 8 * BATCH;
 
 // The bytes that a cell's text takes, but for most of its quotes.
 fn room_for(cell: &Value) -> usize {
@@ -32,9 +33,28 @@ fn room_at<R: Rows>(rows: &R, null: &Value, place: usize, from: usize, end: usiz
     room
 }
 
+// Whether the values of some rows at a place seem to be numbers, by the first of them.
+fn are_numbers<R: Rows>(rows: &R, null: &Value, place: usize, from: usize) -> bool
+    requires null { meaning null.now ≡ Null }
+    requires within { from < length (R.rows rows.now) }
+{
+    matches!(value_at(&rows.row(from), null, place), Value::Int(_))
+}
+
+// Whether some rows stand one behind another, by the numbers of the first and the last of them.
+fn stand_together<R: Rows>(rows: &R, from: usize, end: usize) -> bool
+    requires ordered { from < end }
+    requires within { end ≤ length (R.rows rows.now) }
+{
+    let first = rows.row(from).number;
+    let last = rows.row(end - 1).number;
+    last.wrapping_sub(first) == end - 1 - from
+}
+
 /// Makes room for the texts of a row and of those behind it that are looked at with it, a place of all of them after another.
 /// Nothing is done between one value and the next, so that the processor has many of them on their way from memory at once, and
-/// finds them near when they are printed.
+/// finds them near when they are printed. Places of numbers are left out, but for the first one of rows that lie apart, whose
+/// cells are brought near by it.
 pub(crate) fn look_ahead<R: Rows>(
     bytes: &mut Vec<u8>,
     rows: &R,
@@ -42,16 +62,21 @@ pub(crate) fn look_ahead<R: Rows>(
     places: &[usize],
     row: usize,
 ) -> Result<(), AllocError>
-    requires { meaning null.now ≡ Null }
+    requires null { meaning null.now ≡ Null }
+    requires within { row < length (R.rows rows.now) }
     ensures { OnOk result (bytes.new.items ≡ bytes.old.items) }
 {
-    if row % BATCH != 0 {
+    if row % AHEAD != 0 {
         return Ok(());
     }
-    let end = rows.count().min(row.saturating_add(BATCH));
+    let end = rows.count().min(row.saturating_add(AHEAD));
+    let mut are_near = stand_together(rows, row, end);
     let mut room: usize = 0;
     for place in places {
-        room = room.saturating_add(room_at(rows, null, *place, row, end));
+        if !are_near || !are_numbers(rows, null, *place, row) {
+            room = room.saturating_add(room_at(rows, null, *place, row, end));
+            are_near = true;
+        }
     }
     bytes.reserve(room)
 }

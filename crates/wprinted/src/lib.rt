@@ -10,6 +10,7 @@
 #![tactic(auto)]
 
 mod ahead;
+mod batch;
 mod field;
 mod line;
 mod printing;

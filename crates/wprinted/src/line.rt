@@ -1,17 +1,14 @@
-//! A line that is written from its last byte to its first, in room that is there already.
-ghost use Rattle.std.specs.Prelude.{◌≡◌, ◌≤◌, ◌++◌, ◌∷◌, IfSome, drop, if◌then◌else◌, length, map};
+//! Lines that are written from their last byte to their first, in room that is there already.
+ghost use Rattle.std.specs.Prelude.{◌≡◌, ◌≤◌, ◌++◌, ◌∷◌, IfNone, IfSome, drop, if◌then◌else◌, length, map};
 ghost use Rattle.std.specs.Fmt.{signed_decimal};
 ghost use Rattle.wvalues.specs.Meaning.{Null, meaning};
 ghost use Rattle.wprinted.specs.Beside.{values_of};
-ghost use Rattle.wprinted.specs.Printing.{comma, field_text, line_text, text_field, values_at};
+ghost use Rattle.wprinted.specs.Printing.{comma, doubled, field_text, line_text, quoted, text_field, values_at};
 
 use crate::field::needs_quotes;
 use crate::row::{Row, value_at};
 use itoa::write_digits;
 use wvalues::Value;
-
-/// How many bytes a line has room for. Longer ones are written otherwise.
-pub(crate) const LINE: usize = 256;
 
 /// The most digits of a number of 64 bits.
 const DIGITS: usize = 20;
@@ -23,6 +20,7 @@ fn write_number(number: i128, line: &mut [u8], end: usize) -> Option<usize>
     ensures written { IfSome result (λ start. drop start line.new ≡ signed_decimal number ++ drop end line.old) }
     ensures within { IfSome result (λ start. start ≤ end) }
     ensures room { length line.new ≡ length line.old }
+    ensures kept { IfNone result (drop end line.new ≡ drop end line.old) }
 {
     let size = number.unsigned_abs();
     if end <= DIGITS || size > u64::MAX as u128 {
@@ -36,15 +34,74 @@ fn write_number(number: i128, line: &mut [u8], end: usize) -> Option<usize>
     Some(start - 1)
 }
 
-// Writes a text so that it ends before a place, and answers where it begins. None where it has no room, or stands in quotes.
+// Writes a byte before a place, and answers where it stands, if it can.
+#[inline(always)]
+fn write_byte(byte: u8, line: &mut [u8], end: usize) -> Option<usize>
+    requires { end ≤ length line.old }
+    ensures written { IfSome result (λ start. drop start line.new ≡ byte ∷ drop end line.old) }
+    ensures within { IfSome result (λ start. start ≤ end) }
+    ensures room { length line.new ≡ length line.old }
+    ensures kept { IfNone result (drop end line.new ≡ drop end line.old) }
+{
+    if end == 0 {
+        return None;
+    }
+    line[end - 1] = byte;
+    Some(end - 1)
+}
+
+// Writes a byte of a text in quotes before a place, twice where it is a quote, and answers where it begins, if it can.
+fn write_doubled(byte: u8, line: &mut [u8], end: usize) -> Option<usize>
+    requires { end ≤ length line.old }
+    ensures written { IfSome result (λ start. drop start line.new ≡ doubled byte ++ drop end line.old) }
+    ensures within { IfSome result (λ start. start ≤ end) }
+    ensures room { length line.new ≡ length line.old }
+    ensures kept { IfNone result (drop end line.new ≡ drop end line.old) }
+{
+    let Some(start) = write_byte(byte, line, end) else {
+        return None;
+    };
+    if byte == b'"' {
+        return write_byte(byte, line, start);
+    }
+    Some(start)
+}
+
+// Writes a text in quotes so that it ends before a place, and answers where it begins, if it can.
+fn write_quoted(text: &[u8], line: &mut [u8], end: usize) -> Option<usize>
+    requires { end ≤ length line.old }
+    ensures written { IfSome result (λ start. drop start line.new ≡ quoted text.now ++ drop end line.old) }
+    ensures within { IfSome result (λ start. start ≤ end) }
+    ensures room { length line.new ≡ length line.old }
+    ensures kept { IfNone result (drop end line.new ≡ drop end line.old) }
+{
+    let Some(mut at) = write_byte(b'"', line, end) else {
+        return None;
+    };
+    let mut left = text.len();
+    while left > 0 {
+        left -= 1;
+        match write_doubled(text[left], line, at) {
+            None => return None,
+            Some(start) => at = start,
+        }
+    }
+    write_byte(b'"', line, at)
+}
+
+// Writes a text so that it ends before a place, and answers where it begins, if it can.
 #[inline(always)]
 fn write_text(text: &[u8], line: &mut [u8], end: usize) -> Option<usize>
     requires { end ≤ length line.old }
     ensures written { IfSome result (λ start. drop start line.new ≡ text_field text.now ++ drop end line.old) }
     ensures within { IfSome result (λ start. start ≤ end) }
     ensures room { length line.new ≡ length line.old }
+    ensures kept { IfNone result (drop end line.new ≡ drop end line.old) }
 {
-    if text.len() > end || needs_quotes(text) {
+    if needs_quotes(text) {
+        return write_quoted(text, line, end);
+    }
+    if text.len() > end {
         return None;
     }
     let start = end - text.len();
@@ -59,27 +116,13 @@ fn write_value(value: &Value, line: &mut [u8], end: usize) -> Option<usize>
     ensures written { IfSome result (λ start. drop start line.new ≡ field_text (meaning value.now) ++ drop end line.old) }
     ensures within { IfSome result (λ start. start ≤ end) }
     ensures room { length line.new ≡ length line.old }
+    ensures kept { IfNone result (drop end line.new ≡ drop end line.old) }
 {
     match value {
         Value::Null => Some(end),
         Value::Int(number) => write_number(number.get(), line, end),
         Value::Text(text) => write_text(text.as_str().as_bytes(), line, end),
     }
-}
-
-// Writes a byte before a place, and answers where it stands, if it can.
-#[inline(always)]
-fn write_byte(byte: u8, line: &mut [u8], end: usize) -> Option<usize>
-    requires { end ≤ length line.old }
-    ensures written { IfSome result (λ start. drop start line.new ≡ byte ∷ drop end line.old) }
-    ensures within { IfSome result (λ start. start ≤ end) }
-    ensures room { length line.new ≡ length line.old }
-{
-    if end == 0 {
-        return None;
-    }
-    line[end - 1] = byte;
-    Some(end - 1)
 }
 
 // Writes a value before a line that begins at a place, with a comma between where the line has a field already.
@@ -90,6 +133,7 @@ fn write_field(value: &Value, is_last: bool, line: &mut [u8], end: usize) -> Opt
         ++ (if is_last then drop end line.old else (comma ∷ drop end line.old))) }
     ensures within { IfSome result (λ start. start ≤ end) }
     ensures room { length line.new ≡ length line.old }
+    ensures kept { IfNone result (drop end line.new ≡ drop end line.old) }
 {
     if is_last {
         return write_value(value, line, end);
@@ -100,19 +144,25 @@ fn write_field(value: &Value, is_last: bool, line: &mut [u8], end: usize) -> Opt
     write_value(value, line, comma)
 }
 
-/// Writes the line of a row's values at some places, and answers where it begins. None where it has no room, or has a value
-/// that stands in quotes or has more than 64 bits.
+/// Writes the line of a row's values at some places before a place, and answers where it begins. None where it has no room, or has
+/// a number of more than 64 bits; what stands behind the place is kept then.
+#[inline(always)]
 pub(crate) fn write_line(
     row: &Row,
     null: &Value,
     places: &[usize],
     line: &mut [u8],
+    end: usize,
 ) -> Option<usize>
-    requires { meaning null.now ≡ Null }
-    ensures written { IfSome result (λ start. drop start line.new ≡ line_text (map field_text (values_at places.now (values_of row.now)))) }
-    ensures within { IfSome result (λ start. start ≤ length line.new) }
+    requires null { meaning null.now ≡ Null }
+    requires within { end ≤ length line.old }
+    ensures written { IfSome result (λ start. drop start line.new
+        ≡ line_text (map field_text (values_at places.now (values_of row.now))) ++ drop end line.old) }
+    ensures within { IfSome result (λ start. start ≤ end) }
+    ensures room { length line.new ≡ length line.old }
+    ensures kept { IfNone result (drop end line.new ≡ drop end line.old) }
 {
-    let Some(mut at) = write_byte(b'\n', line, line.len()) else {
+    let Some(mut at) = write_byte(b'\n', line, end) else {
         return None;
     };
     let mut left = places.len();

@@ -3,13 +3,11 @@ ghost use Rattle.std.specs.Prelude.{◌≡◌, ◌++◌, IfOk, OnOk, map};
 ghost use Rattle.std.specs.List.{flat_map};
 ghost use Rattle.std.specs.Rc.{rc_str_bytes};
 ghost use Rattle.wvalues.specs.Meaning.{Null, meaning};
-ghost use Rattle.wprinted.specs.Beside.{values_of};
 ghost use Rattle.wprinted.specs.Printing.{field_text, line_text, table_text, text_field, values_at};
 
 use crate::ahead::look_ahead;
-use crate::field::{push_text, push_value};
-use crate::line::{LINE, write_line};
-use crate::row::{Row, value_at};
+use crate::batch::{BATCH, Batch, LINES, push_batch};
+use crate::field::push_text;
 use crate::rows::Rows;
 use std::alloc::{AllocError, Global};
 use std::rc::RcStr;
@@ -29,43 +27,6 @@ fn push_names(bytes: &mut Vec<u8>, names: &[RcStr]) -> Result<(), AllocError>
     Ok(())
 }
 
-// Adds the line of a row's values at some places, value by value.
-fn push_values(
-    bytes: &mut Vec<u8>,
-    row: &Row,
-    null: &Value,
-    places: &[usize],
-) -> Result<(), AllocError>
-    requires { meaning null.now ≡ Null }
-    ensures { OnOk result (bytes.new.items ≡ bytes.old.items ++ line_text (map field_text (values_at places.now (values_of row.now)))) }
-{
-    for (i, place) in places.iter().enumerate() {
-        if i > 0 {
-            bytes.push(b',')?;
-        }
-        push_value(bytes, value_at(&*row, null, *place))?;
-    }
-    bytes.push(b'\n')?;
-    Ok(())
-}
-
-// Adds the line of a row's values at some places, which is written beside first, if it can be.
-fn push_row(
-    bytes: &mut Vec<u8>,
-    row: &Row,
-    null: &Value,
-    places: &[usize],
-    line: &mut [u8],
-) -> Result<(), AllocError>
-    requires { meaning null.now ≡ Null }
-    ensures { OnOk result (bytes.new.items ≡ bytes.old.items ++ line_text (map field_text (values_at places.now (values_of row.now)))) }
-{
-    match write_line(row, null, places, line) {
-        Some(start) => bytes.extend_from_slice(&line[start..]),
-        None => push_values(bytes, row, null, places),
-    }
-}
-
 // Adds the lines of the values of all rows at some places.
 fn push_rows<R: Rows>(
     bytes: &mut Vec<u8>,
@@ -77,10 +38,21 @@ fn push_rows<R: Rows>(
     ensures { OnOk result (bytes.new.items ≡ bytes.old.items ++ flat_map (λ row. line_text (map field_text row))
         (map (values_at places.now) (R.rows rows.now))) }
 {
-    let mut line = [0u8; LINE];
-    for row in 0..rows.count() {
+    let mut lines = [0u8; LINES];
+    let count = rows.count();
+    let mut row = 0;
+    while row < count {
         look_ahead(bytes, rows, null, places, row)?;
-        push_row(bytes, &rows.row(row), null, places, &mut line)?;
+        let end = count.min(row.saturating_add(BATCH));
+        push_batch(
+            bytes,
+            rows,
+            null,
+            places,
+            Batch { from: row, end },
+            &mut lines,
+        )?;
+        row = end;
     }
     Ok(())
 }

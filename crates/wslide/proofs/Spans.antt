@@ -69,6 +69,18 @@ module _ {P : Type 0} (part_at : ℕ → P) where
   pub parts_from_next : (row : ℕ) → parts_from part_at 0 (row + 1) ≡ parts_from part_at 0 row ++ part_at row ∷ []
   parts_from_next row = ap (map part_at) (places_next row) ∙ map-append part_at (places row) (row ∷ [])
 
+  -- a run of rows, and those behind it
+  pub parts_from-split : (row n m all : ℕ) → all ≡ n + m → parts_from part_at row all ≡ parts_from part_at row n ++ parts_from part_at (row + n) m
+  parts_from-split row zero m all is =
+      let e : all ≡ m = omega (arith, is) in
+      let f : row ≡ row + 0 = omega arith in
+      ap (parts_from part_at row) e ∙ ap (λ r. parts_from part_at r m) f
+  parts_from-split row (suc n) m all is =
+      let e : all ≡ suc (n + m) = omega (arith, is) in
+      let f : row + 1 + n ≡ row + suc n = omega arith in
+      ap (parts_from part_at row) e ∙ ap (λ ps. part_at row ∷ ps) (parts_from-split (row + 1) n m (n + m) refl
+      ∙ ap (λ r. parts_from part_at (row + 1) n ++ parts_from part_at r m) f)
+
   -- without its first row
   pub parts_from-drop : (from to : ℕ) → from < to → drop 1 (parts_from part_at from (to - from))
       ≡ parts_from part_at (from + 1) (to - (from + 1))

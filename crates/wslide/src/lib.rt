@@ -22,6 +22,7 @@ mod places;
 mod plain;
 mod queue;
 mod ranges;
+mod running;
 mod sliding;
 mod sum;
 mod tree;

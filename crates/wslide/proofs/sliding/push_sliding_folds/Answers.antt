@@ -8,8 +8,8 @@ use Rattle.wslide.specs.Laws.{total, rows_fold}
 use Rattle.wslide.proofs.Spans.{places_next}
 use Rattle.wslide.proofs.sliding.push_sliding_folds.Goals as goal
 
-pub advance-requires-clause-rises : goal.advance-requires-clause-rises
-advance-requires-clause-rises g c =
+pub moved_fold-part-requires-clause-rises : goal.moved_fold-part-requires-clause-rises
+moved_fold-part-requires-clause-rises g c =
     let held = c.loop-row.held in
     let span = c.extent-span.result in
     subst (λ n. IsRisen n held span) c.requires.rows (c.loop-row.invariant.rises span c.extent-span.ensures.risen)
@@ -26,14 +26,16 @@ loop-row-preserved g c =
     let span = c.extent-span.result in
     let rises = inv.rises span c.extent-span.ensures.risen in
     let fold_of = λ (r : ℕ). rows_fold neutral joined at (frame_rows p r) in
-    let part = c.held_fold.result in
-    let value = (c.held_fold.ensures.value ∙ ap (λ rows. total neutral joined (map at rows))
+    let part = c.moved_fold-part.result in
+    let value = (c.moved_fold-part.ensures.value ∙ ap (λ rows. total neutral joined (map at rows))
     (c.extent-span.ensures.rows c.requires.single)) in
     let more = ap (map fold_of) (places_next row) ∙ map-append fold_of (places row) (row ∷ [])
     ∙ ap (λ x. map fold_of (places row) ++ x ∷ []) (sym value) in
     record {
-      filled = c.advance.ensures.filled;
-      capacity = c.advance.ensures.capacity ∙ inv.capacity;
+      filled = c.moved_fold-part.ensures.filled;
+      capacity = c.moved_fold-part.ensures.capacity ∙ inv.capacity;
+      value = c.moved_fold-part.ensures.value;
+      part = c.moved_fold-part.ensures.part;
       ordered = c.extent-span.ensures.ordered;
       within = omega (arith, c.extent-span.ensures.within, c.count-rows.ensures.count);
       rises = λ s h. subst (λ low. IsRisen (length p.keys) low s) (sym c.extent-span.ensures.span) (h row (omega arith));
@@ -43,7 +45,7 @@ loop-row-preserved g c =
           ∙ append_assoc c.args.folds.now.items (map fold_of (places row)) (part ∷ [])
           ∙ ap (λ ps. c.args.folds.now.items ++ ps) (sym more);
       parts = All-same (g.F.Fold.is_part f) (map fold_of (places (row + 1))) (map fold_of (places row) ++ part ∷ []) more
-          (All-push (g.F.Fold.is_part f) (map fold_of (places row)) part inv.parts c.held_fold.ensures.part);
+          (All-push (g.F.Fold.is_part f) (map fold_of (places row)) part inv.parts c.moved_fold-part.ensures.part);
       not_less = omega arith;
       joins = omega arith;
     }

@@ -3,7 +3,7 @@ use Rattle.std.specs.Prelude.{All}
 use Rattle.wframe.specs.declared.frame.Span.{Span}
 use Rattle.wframe.specs.Places.{places, IsRisen}
 use Rattle.wframe.specs.Frame.{frame_rows, frame_extent}
-use Rattle.wslide.specs.Laws.{rows_fold}
+use Rattle.wslide.specs.Laws.{rows_fold, total}
 use Rattle.wslide.specs.Queue.{capacity, owed, IsFilledBy}
 use Rattle.wslide.specs.Rows.{span_parts}
 use Rattle.wslide.proofs.sliding.push_sliding_folds.Given as goal
@@ -15,6 +15,8 @@ invariant-loop-row g l =
     record {
       filled : IsFilledBy (g.F.Fold.is_part f) (g.F.Fold.neutral f) (g.F.Fold.joined f) (span_parts (g.F.Fold.part_at f) l.held) l.queue;
       capacity : capacity l.queue ≡ capacity l.fn.queue;
+      value : l.part ≡ total (g.F.Fold.neutral f) (g.F.Fold.joined f) (span_parts (g.F.Fold.part_at f) l.held);
+      part : g.F.Fold.is_part f l.part;
       ordered : l.held.from ≤ l.held.to;
       within : l.held.to ≤ l.rows;
       rises : (s : Span) → ((before : ℕ) → before ≤ l.row → IsRisen (length p.keys) (frame_extent p before) s)

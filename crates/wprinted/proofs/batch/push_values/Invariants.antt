@@ -4,7 +4,7 @@ use Rattle.std.specs.Prelude.{slice_index_or}
 use Rattle.wvalues.specs.Meaning.{Null}
 use Rattle.wprinted.specs.Beside.{values_of}
 use Rattle.wprinted.specs.Printing.{comma, field_text}
-use Rattle.wprinted.proofs.printing.push_values.Given as goal
+use Rattle.wprinted.proofs.batch.push_values.Given as goal
 
 abbrev pub invariant-loop-i : goal.invariant-loop-i
 invariant-loop-i l = l.bytes.items ≡ l.fn.bytes.items ++ join_with_byte comma

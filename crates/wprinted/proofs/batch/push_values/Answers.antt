@@ -6,8 +6,8 @@ use Rattle.wvalues.specs.Meaning.{Null}
 use Rattle.wprinted.specs.Beside.{values_of}
 use Rattle.wprinted.specs.Printing.{comma, field_text, line_text}
 use Rattle.wprinted.proofs.Lines.{joined-first, joined-more}
-use Rattle.wprinted.proofs.printing.push_values.Goals as goal
-use Rattle.wprinted.proofs.printing.push_values.Goals.{then-i-gt0+in_ok-push, else-i-gt0}
+use Rattle.wprinted.proofs.batch.push_values.Goals as goal
+use Rattle.wprinted.proofs.batch.push_values.Goals.{then-i-gt0+in_ok-push, else-i-gt0}
 
 pub loop-i-preserved : goal.loop-i-preserved
 loop-i-preserved c =
