@@ -27,10 +27,13 @@ pub(crate) struct LentColumn<'a> {
     pub(crate) summaries: Vec<Option<Summaries<'a>>>,
 }
 
-// What the first of the calls reads on each row, or where nothing is lent the first one that reads something; none where it reads
-// nothing, as `count(*)` does.
+/// Among how many calls one is looked for that reads something.
+const LOOKED_AT: usize = 64;
+
+// What the first of the calls reads on each row, or where nothing is lent the first of some that reads something; none where it
+// reads nothing, as `count(*)` does.
 fn argument_of(calls: &[GroupCall], is_lent: bool) -> Option<&Expr> {
-    for call in calls {
+    for call in &calls[..calls.len().min(LOOKED_AT)] {
         match call {
             GroupCall::Aggregated(aggregate) if !is_null(&aggregate.argument) => {
                 return Some(&aggregate.argument);
