@@ -7,3 +7,4 @@ pub mod PickedFacts
 pub mod GroupFacts
 pub mod PutFacts
 pub mod CopyFacts
+pub mod SummaryFacts

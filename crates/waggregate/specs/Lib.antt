@@ -3,3 +3,4 @@ pub mod Feeding
 pub mod FrameAnswers
 pub mod Grouped
 pub mod Put
+pub mod Summaries

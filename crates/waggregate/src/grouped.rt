@@ -1,5 +1,6 @@
 //! Aggregates of groups.
 ghost use Rattle.std.specs.Prelude.{◌≡◌, ◌<◌, ◌^◌, All, IfOk, length, map, option_map, slice_index_or};
+ghost use Rattle.std.specs.List.{flat_map};
 ghost use Rattle.std.specs.Option.{ForSome};
 ghost use Rattle.wvalues.specs.Meaning.{meaning};
 ghost use Rattle.wframe.specs.Cells.{meanings};
@@ -111,6 +112,17 @@ pub fn lent_values<'a>(alloc: Global, values: &'a [Value]) -> Result<Vec<&'a Val
         lent.push(value)?;
     }
     Ok(lent)
+}
+
+/// Lists, one behind the other.
+pub fn joined_lists(alloc: Global, lists: Vec<Vec<Value>>) -> Result<Vec<Value>, AllocError>
+    ensures { IfOk result (λ column. map meaning column.items ≡ flat_map (λ list. map meaning list.items) lists.items) }
+{
+    let mut column = Vec::new(alloc);
+    for mut list in lists {
+        column.append(&mut list)?;
+    }
+    Ok(column)
 }
 
 /// What an aggregate that is fed these values comes to over the rows of each group, `OutOfRange` where a result is so.

@@ -11,15 +11,19 @@
 //! Read `specs/Aggregating.antt`, then `specs/Feeding.antt`, `specs/Grouped.antt`, `specs/Put.antt` and `specs/FrameAnswers.antt`.
 #![tactic(auto)]
 
+mod alike;
 mod answers;
 mod feeding;
 mod folding;
 mod grouped;
 mod picking;
+mod summaries;
 mod tally;
 
+pub use alike::extremes_of;
 pub use feeding::{argument_values, filter_rows, is_null, lent_argument, lent_nulls};
 pub use folding::put_frame_aggregates;
-pub use grouped::{aggregate_groups, lent_values};
+pub use grouped::{aggregate_groups, joined_lists, lent_values};
 pub use picking::{copied_values, filter_of};
+pub use summaries::{Extremes, Summaries, summaries_for, summarize};
 pub use tally::Tally;

@@ -7,6 +7,7 @@ mod TotalFacts
 mod PartFacts
 mod AnswerFacts
 mod MadeFacts
+mod KnownFacts
 mod NumberFacts
 mod ListFacts
 mod KeyFacts

@@ -14,16 +14,17 @@ ghost use Rattle.wgroupby.specs.Sets.{grouping_of};
 ghost use Rattle.wgroup.specs.Grouping.{grouping_answer};
 ghost use Rattle.waggregate.specs.Aggregating as aggregating;
 ghost use Rattle.wgroup.specs.Finer.{AreAnswered, AreMade, IsMade, IsMadeOf, function_of_parts};
-ghost use Rattle.wgroup.specs.Lent.{IsLent};
+ghost use Rattle.wgroup.specs.Lent.{AreKnown, IsKnown, IsLent};
 ghost use Rattle.wgroup.specs.Held.{all_groups, column_over, columns_in, set_answers, set_grouping};
 
 use crate::found::{FinerSet, Groups};
 use crate::groups::items_at;
 use crate::keys::is_among;
-use crate::lent::{LentColumn, is_argument, lend, lend_first};
+use crate::lent::{LentColumn, is_argument, lend};
 use std::alloc::{AllocError, Global};
 use waggregate::{
-    aggregate_groups, argument_values, filter_rows, is_null, lent_nulls, lent_values,
+    Summaries, aggregate_groups, argument_values, filter_rows, is_null, joined_lists, lent_nulls,
+    lent_values, summaries_for,
 };
 use wplan::{Aggregate, AggregateFunction, GroupCall};
 use wrows::AnswerFault;
@@ -74,7 +75,7 @@ fn answers_of_parts(
 }
 
 // What an aggregate that is fed so comes to over the rows of each group of a set, where it was answered for the sets before.
-fn group_answers(
+fn made_answers(
     alloc: Global,
     function: AggregateFunction,
     values: &[&Value],
@@ -116,15 +117,32 @@ fn group_answers(
     }
 }
 
-// Lists, one behind the other.
-fn joined(alloc: Global, lists: Vec<Vec<Value>>) -> Result<Vec<Value>, AllocError>
-    ensures { IfOk result (λ column. map meaning column.items ≡ flat_map (λ list. map meaning list.items) lists.items) }
+// What an aggregate that is fed so comes to over the rows of each group of a set, where it was answered for the
+// sets before, or what the rows of each group come to is known.
+fn group_answers(
+    alloc: Global,
+    function: AggregateFunction,
+    values: &[&Value],
+    filter: &Option<Vec<bool>>,
+    summaries: &[Option<Summaries<'_>>],
+    sets: &[Groups],
+    answered: &[Vec<Value>],
+    groups: &Groups,
+) -> Result<Vec<Value>, AnswerFault>
+    requires made { IsMade (take (length answered.now) sets.now) groups.now }
+    requires answered { AreAnswered function (fed_by values.now filter.now) sets.now answered.now }
+    requires known { IsKnown (meanings values.now) summaries.now (length answered.now) groups.now }
+    requires len { length groups.now.numbers.value.items ≡ length values.now }
+    requires tests { ForSome filter.now (λ tests. length tests.items ≡ length values.now) }
+    requires few { length values.now < 2 ^ 31 }
+    ensures gives { Gives (λ column. map meaning column.items) result
+        (in_range (set_answers function (fed_by values.now filter.now) groups.now)) }
+    ensures len { IfOk result (λ column. length column.items ≡ length groups.now.order.items) }
 {
-    let mut column = Vec::new(alloc);
-    for mut list in lists {
-        column.append(&mut list)?;
+    match summaries_for(summaries, answered.len(), function, filter) {
+        Some(known) => known.answers(alloc, function, &groups.order),
+        None => made_answers(alloc, function, values, filter, sets, answered, groups),
     }
-    Ok(column)
 }
 
 // What an aggregate that is fed so comes to over the rows of each group of all sets.
@@ -133,9 +151,11 @@ fn aggregate_answers(
     function: AggregateFunction,
     values: &[&Value],
     filter: &Option<Vec<bool>>,
+    summaries: &[Option<Summaries<'_>>],
     sets: &[Groups],
 ) -> Result<Vec<Value>, AnswerFault>
     requires made { AreMade sets.now }
+    requires known { AreKnown (meanings values.now) sets.now summaries.now }
     requires len { All (λ groups. length groups.numbers.value.items ≡ length values.now) sets.now }
     requires tests { ForSome filter.now (λ tests. length tests.items ≡ length values.now) }
     requires few { length values.now < 2 ^ 31 }
@@ -145,10 +165,12 @@ fn aggregate_answers(
 {
     let mut answered = Vec::with_capacity(alloc, sets.len())?;
     for groups in sets {
-        let answers = group_answers(alloc, function, values, filter, sets, &answered, groups)?;
+        let answers = group_answers(
+            alloc, function, values, filter, summaries, sets, &answered, groups,
+        )?;
         answered.push(answers)?;
     }
-    let column = joined(alloc, answered)?;
+    let column = joined_lists(alloc, answered)?;
     Ok(column)
 }
 
@@ -158,10 +180,12 @@ fn fed_column(
     aggregate: &Aggregate,
     rows: &[&[Value]],
     values: &[&Value],
+    summaries: &[Option<Summaries<'_>>],
     sets: &[Groups],
 ) -> Result<Vec<Value>, AnswerFault>
     requires values { column_of (formula aggregate.now.argument) (rows_seen rows.now) ≡ Ok (meanings values.now) }
     requires wide { length values.now ≡ length rows.now }
+    requires known { AreKnown (meanings values.now) sets.now summaries.now }
     requires made { AreMade sets.now }
     requires len { All (λ groups. length groups.numbers.value.items ≡ length rows.now) sets.now }
     requires few { length rows.now < 2 ^ 31 }
@@ -170,7 +194,7 @@ fn fed_column(
     ensures len { IfOk result (λ column. length column.items ≡ length (all_groups sets.now)) }
 {
     let filter = filter_rows(alloc, &aggregate.filter, rows)?;
-    aggregate_answers(alloc, aggregate.function, values, &filter, sets)
+    aggregate_answers(alloc, aggregate.function, values, &filter, summaries, sets)
 }
 
 // What an aggregate comes to over the rows of each group of all sets, with its argument evaluated on every row.
@@ -189,7 +213,7 @@ fn evaluated_column(
 {
     let cells = argument_values(alloc, &aggregate.argument, rows)?;
     let values = lent_values(alloc, &cells)?;
-    fed_column(alloc, aggregate, rows, &values, sets)
+    fed_column(alloc, aggregate, rows, &values, &[], sets)
 }
 
 // What `count(*)` comes to over the rows of each group of all sets. It reads no values, so there may be any for the rows.
@@ -198,11 +222,13 @@ fn counted_column(
     aggregate: &Aggregate,
     rows: &[&[Value]],
     values: &[&Value],
+    summaries: &[Option<Summaries<'_>>],
     sets: &[Groups],
 ) -> Result<Vec<Value>, AnswerFault>
     requires null { formula aggregate.now.argument ≡ Constant Null }
     requires counts { aggregate.now.function ≡ AggregateFunction.CountRows }
     requires wide { length values.now ≡ length rows.now }
+    requires known { AreKnown (meanings values.now) sets.now summaries.now }
     requires made { AreMade sets.now }
     requires len { All (λ groups. length groups.numbers.value.items ≡ length rows.now) sets.now }
     requires few { length rows.now < 2 ^ 31 }
@@ -211,7 +237,14 @@ fn counted_column(
     ensures len { IfOk result (λ column. length column.items ≡ length (all_groups sets.now)) }
 {
     let filter = filter_rows(alloc, &aggregate.filter, rows)?;
-    aggregate_answers(alloc, AggregateFunction::CountRows, values, &filter, sets)
+    aggregate_answers(
+        alloc,
+        AggregateFunction::CountRows,
+        values,
+        &filter,
+        summaries,
+        sets,
+    )
 }
 
 // What an aggregate of NULL comes to over the rows of each group of all sets, with a null for each row.
@@ -231,7 +264,7 @@ fn nulls_column(
 {
     let null = Value::Null;
     let values = lent_nulls(alloc, &null, rows)?;
-    fed_column(alloc, aggregate, rows, &values, sets)
+    fed_column(alloc, aggregate, rows, &values, &[], sets)
 }
 
 // What an aggregate of NULL, as `count(*)` is one, comes to over the rows of each group of all sets. Rows are counted by a column
@@ -244,7 +277,7 @@ fn null_column(
     lent: &Option<LentColumn<'_>>,
 ) -> Result<Vec<Value>, AnswerFault>
     requires null { formula aggregate.now.argument ≡ Constant Null }
-    requires lent { ForSome lent.now (IsLent rows.now) }
+    requires lent { ForSome lent.now (IsLent rows.now sets.now) }
     requires made { AreMade sets.now }
     requires len { All (λ groups. length groups.numbers.value.items ≡ length rows.now) sets.now }
     requires few { length rows.now < 2 ^ 31 }
@@ -256,7 +289,14 @@ fn null_column(
         return nulls_column(alloc, aggregate, rows, sets);
     };
     match lent {
-        Some(column) => counted_column(alloc, aggregate, rows, &column.values, sets),
+        Some(column) => counted_column(
+            alloc,
+            aggregate,
+            rows,
+            &column.values,
+            &column.summaries,
+            sets,
+        ),
         None => nulls_column(alloc, aggregate, rows, sets),
     }
 }
@@ -270,7 +310,7 @@ fn aggregate_column(
     sets: &[Groups],
     lent: &Option<LentColumn<'_>>,
 ) -> Result<Vec<Value>, AnswerFault>
-    requires lent { ForSome lent.now (IsLent rows.now) }
+    requires lent { ForSome lent.now (IsLent rows.now sets.now) }
     requires made { AreMade sets.now }
     requires len { All (λ groups. length groups.numbers.value.items ≡ length rows.now) sets.now }
     requires few { length rows.now < 2 ^ 31 }
@@ -283,7 +323,14 @@ fn aggregate_column(
     }
     match lent {
         Some(column) if is_argument(column, &aggregate.argument) => {
-            fed_column(alloc, aggregate, rows, &column.values, sets)
+            fed_column(
+                alloc,
+                aggregate,
+                rows,
+                &column.values,
+                &column.summaries,
+                sets,
+            )
         }
         _ => evaluated_column(alloc, aggregate, rows, sets),
     }
@@ -382,7 +429,7 @@ fn column(
     sets: &[Groups],
     lent: &Option<LentColumn<'_>>,
 ) -> Result<Vec<Value>, AnswerFault>
-    requires lent { ForSome lent.now (IsLent rows.now) }
+    requires lent { ForSome lent.now (IsLent rows.now sets.now) }
     requires made { AreMade sets.now }
     requires len { All (λ groups. length groups.numbers.value.items ≡ length rows.now) sets.now }
     requires few { length rows.now < 2 ^ 31 }
@@ -414,9 +461,9 @@ pub(crate) fn call_columns(
     ensures count { IfOk result (λ columns. length columns.items ≡ length calls.now) }
 {
     let mut columns = Vec::with_capacity(alloc, calls.len())?;
-    let mut lent = lend_first(alloc, calls, rows)?;
+    let mut lent = None;
     for call in calls {
-        lend(alloc, call, rows, &mut lent)?;
+        lend(alloc, &calls[columns.len()..], rows, sets, &mut lent)?;
         columns.push(column(alloc, call, rows, sets, &lent)?)?;
     }
     Ok(columns)

@@ -2,13 +2,18 @@
 //!
 //! Calls that follow each other often have one column for their argument, as a sum, a least and a greatest value of it. It is lent
 //! once for all of them. No more than one column is lent at a time, so that many calls take no more memory than one does.
-ghost use Rattle.std.specs.Prelude.{◌≡◌, IfOk, IsTrue};
+ghost use Rattle.std.specs.Prelude.{◌≡◌, ◌<◌, ◌^◌, All, IfOk, IsTrue, None, length};
 ghost use Rattle.std.specs.Option.{ForSome};
 ghost use Rattle.wplan.specs.Formula.{At, formula};
-ghost use Rattle.wgroup.specs.Lent.{IsLent};
+ghost use Rattle.wframe.specs.Cells.{meanings};
+ghost use Rattle.waggregate.specs.Summaries.{AreSummaries};
+ghost use Rattle.wgroup.specs.Finer.{AreMade};
+ghost use Rattle.wgroup.specs.Held.{row_numbers};
+ghost use Rattle.wgroup.specs.Lent.{AreKnown, IsLent};
 
+use crate::found::Groups;
 use std::alloc::{AllocError, Global};
-use waggregate::{is_null, lent_argument};
+use waggregate::{Extremes, Summaries, extremes_of, is_null, lent_argument, summarize};
 use wplan::{Expr, GroupCall};
 use wrows::place_of;
 use wvalues::Value;
@@ -18,24 +23,75 @@ use wvalues::Value;
 pub(crate) struct LentColumn<'a> {
     pub(crate) place: usize,
     pub(crate) values: Vec<&'a Value>,
+    /// What the rows of each group of each set come to that is made of rows, where several calls ask for that, and else none.
+    pub(crate) summaries: Vec<Option<Summaries<'a>>>,
 }
 
-// What an aggregate reads on each row; none where it reads nothing, as `count(*)` does.
-fn argument_of(call: &GroupCall) -> Option<&Expr> {
-    match call {
-        GroupCall::Aggregated(aggregate) if !is_null(&aggregate.argument) => Some(
-            &aggregate.argument,
-        ),
-        GroupCall::Aggregated(_) | GroupCall::GroupingOf(_) => None,
+/// Among how many calls one is looked for that reads something.
+const LOOKED_AT: usize = 64;
+
+// What the first of the calls reads on each row, or where nothing is lent the first of some that reads something; none where it
+// reads nothing, as `count(*)` does.
+fn argument_of(calls: &[GroupCall], is_lent: bool) -> Option<&Expr> {
+    for call in &calls[..calls.len().min(LOOKED_AT)] {
+        match call {
+            GroupCall::Aggregated(aggregate) if !is_null(&aggregate.argument) => {
+                return Some(&aggregate.argument);
+            }
+            _ => {}
+        }
+        if is_lent {
+            return None;
+        }
+    }
+    None
+}
+
+/// How many rows a group has at least, in the mean of all, where it is kept what they come to. Where groups are many this would take
+/// more memory than what each call answers.
+const ROWS_OF_GROUP: usize = 4;
+
+// What the rows of each group of a set come to, if its groups are made of rows and few beside these.
+fn set_summaries<'a>(
+    alloc: Global,
+    values: &[&'a Value],
+    extremes: Extremes,
+    groups: &Groups,
+) -> Result<Option<Summaries<'a>>, AllocError>
+    requires below { groups.now.finer ≡ None → All (λ i. i < groups.now.count) groups.now.numbers.value.items }
+    requires len { length groups.now.numbers.value.items ≡ length values.now }
+    requires few { length values.now < 2 ^ 31 }
+    ensures { IfOk result (λ known. ForSome known (AreSummaries (meanings values.now) (row_numbers groups.now) groups.now.count)) }
+{
+    match &groups.finer {
+        None if groups.count <= values.len() / ROWS_OF_GROUP => {
+            let summaries = summarize(alloc, values, extremes, &groups.numbers, groups.count)?;
+            Ok(Some(summaries))
+        }
+        _ => Ok(None),
     }
 }
 
-// Whether the column of a place is lent.
-fn is_of(lent: &Option<LentColumn<'_>>, place: usize) -> bool {
-    match lent {
-        None => false,
-        Some(column) => column.place == place,
+// What the rows of each group of each set come to, if extremes are asked for.
+fn summaries_of<'a>(
+    alloc: Global,
+    values: &[&'a Value],
+    extremes: Option<Extremes>,
+    sets: &[Groups],
+) -> Result<Vec<Option<Summaries<'a>>>, AllocError>
+    requires made { AreMade sets.now }
+    requires len { All (λ groups. length groups.numbers.value.items ≡ length values.now) sets.now }
+    requires few { length values.now < 2 ^ 31 }
+    ensures { IfOk result (λ summaries. AreKnown (meanings values.now) sets.now summaries.items) }
+{
+    let mut summaries = Vec::new(alloc);
+    let Some(extremes) = extremes else {
+        return Ok(summaries);
+    };
+    for groups in sets {
+        summaries.push(set_summaries(alloc, values, extremes, groups)?)?;
     }
+    Ok(summaries)
 }
 
 // The column of a place that an expression names, if all rows go so far.
@@ -43,60 +99,60 @@ fn lent_column<'a>(
     alloc: Global,
     argument: &Expr,
     place: usize,
+    calls: &[GroupCall],
     rows: &[&'a [Value]],
+    sets: &[Groups],
 ) -> Result<Option<LentColumn<'a>>, AllocError>
-    requires { formula argument.now ≡ At place }
-    ensures { IfOk result (λ lent. ForSome lent (IsLent rows.now)) }
+    requires argument { formula argument.now ≡ At place }
+    requires made { AreMade sets.now }
+    requires len { All (λ groups. length groups.numbers.value.items ≡ length rows.now) sets.now }
+    requires few { length rows.now < 2 ^ 31 }
+    ensures { IfOk result (λ lent. ForSome lent (IsLent rows.now sets.now)) }
 {
     let lent = lent_argument(alloc, argument, rows)?;
     match lent {
         None => Ok(None),
-        Some(values) => Ok(Some(LentColumn { place, values })),
+        Some(values) => {
+            let extremes = extremes_of(calls, place);
+            let summaries = summaries_of(alloc, &values, extremes, sets)?;
+            Ok(Some(LentColumn {
+                place,
+                values,
+                summaries,
+            }))
+        }
     }
 }
 
-/// Lends the column that a call's argument is, if it is a plain one and another one is lent, or none. Where an argument is
-/// evaluated, which takes memory of its own, none is lent any more.
+/// Lends the column that the argument of the first of the calls is, if it is a plain one and another one is lent, or that of the
+/// first call that has one, if none is lent. Where an argument is evaluated, which takes memory of its own, none is lent any more.
 pub(crate) fn lend<'a>(
     alloc: Global,
-    call: &GroupCall,
+    calls: &[GroupCall],
     rows: &[&'a [Value]],
+    sets: &[Groups],
     lent: &mut Option<LentColumn<'a>>,
 ) -> Result<(), AllocError>
-    requires { ForSome lent.old (IsLent rows.now) }
-    ensures { ForSome lent.new (IsLent rows.now) }
+    requires lent { ForSome lent.old (IsLent rows.now sets.now) }
+    requires made { AreMade sets.now }
+    requires len { All (λ groups. length groups.numbers.value.items ≡ length rows.now) sets.now }
+    requires few { length rows.now < 2 ^ 31 }
+    ensures { ForSome lent.new (IsLent rows.now sets.now) }
 {
-    let Some(argument) = argument_of(call) else {
+    let Some(argument) = argument_of(calls, lent.is_some()) else {
         return Ok(());
     };
     let Some(place) = place_of(argument) else {
         *lent = None;
         return Ok(());
     };
-    if is_of(lent, place) {
-        return Ok(());
+    match lent {
+        Some(column) if column.place == place => return Ok(()),
+        _ => {}
     }
     *lent = None;
-    *lent = lent_column(alloc, argument, place, rows)?;
+    *lent = lent_column(alloc, argument, place, calls, rows, sets)?;
     Ok(())
-}
-
-/// Lends the column that the first of the calls reads whose argument is not NULL, if it is a plain one.
-pub(crate) fn lend_first<'a>(
-    alloc: Global,
-    calls: &[GroupCall],
-    rows: &[&'a [Value]],
-) -> Result<Option<LentColumn<'a>>, AllocError>
-    ensures { IfOk result (λ lent. ForSome lent (IsLent rows.now)) }
-{
-    for call in calls {
-        if argument_of(call).is_some() {
-            let mut lent = None;
-            lend(alloc, call, rows, &mut lent)?;
-            return Ok(lent);
-        }
-    }
-    Ok(None)
 }
 
 /// Whether an argument is this column.

@@ -14,5 +14,5 @@ invariant-loop-call l = record {
       ≡ each_behind (column_over (rows_seen l.rows) l.sets) (columns_in l.columns.items) (map group_call_plan (drop l.call-index l.calls));
   len : All (λ column. length column.items ≡ length (all_groups l.sets)) l.columns.items;
   count : length l.columns.items ≡ l.call-index;
-  lent : ForSome l.lent (IsLent l.rows);
+  lent : ForSome l.lent (IsLent l.rows l.sets);
 }

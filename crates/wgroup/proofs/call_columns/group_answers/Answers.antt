@@ -1,23 +1,36 @@
-use Rattle.std.proofs.Common.{ℕ, List, Vec, Global, Option, map, refl, subst, sym, ap, ◌∙◌}
+use Rattle.std.proofs.Common.{ℕ, Bool, List, Vec, Global, Option, None, All, ◌<◌, map, option_map, subst, sym, ap, ◌∙◌}
 use Rattle.wvalues.specs.declared.value.Value.{Value}
 use Rattle.wvalues.specs.Meaning.{Meaning, meaning}
+use Rattle.wframe.specs.Cells.{meanings}
 use Rattle.wrows.specs.Columns.{in_range}
 use Rattle.wrows.specs.Outcomes.{Gives}
-use Rattle.waggregate.specs.Aggregating.{Feed, aggregate_of}
-use Rattle.waggregate.specs.Feeding.{fed_by}
+use Rattle.waggregate.specs.Aggregating.{aggregate_of}
 use Rattle.waggregate.specs.Grouped.{rows_of_group}
-use Rattle.wgroup.specs.Held.{by_row, row_numbers}
+use Rattle.waggregate.specs.Summaries.{AreSummaries, groups_told}
+use Rattle.wgroup.specs.Held.{row_numbers}
 use Rattle.wgroup.proofs.call_columns.group_answers.Goals as goal
 
-pub returns-in-None-clause-gives : goal.returns-in-None-clause-gives
-returns-in-None-clause-gives c =
+pub answers-requires-clause-ordered : goal.answers-requires-clause-ordered
+answers-requires-clause-ordered c =
+    let g = c.args.groups.now in
+    let s = c.in-Some.known.now in
+    let f = c.in-Some.ensures in
+    let are : AreSummaries (meanings c.args.values.now) (row_numbers g) g.count s = c.requires.known None f.within s (f.is None) in
+    subst (All (λ k. k < groups_told s)) (sym c.deref.ensures.value)
+    (subst (λ n. All (λ k. k < n) g.order.items) (sym are.long) g.below)
+
+pub returns-in-Some-clause-gives : goal.returns-in-Some-clause-gives
+returns-in-Some-clause-gives c =
     let view : Vec Value Global → List Meaning = λ column. map meaning column.items in
     let g = c.args.groups.now in
-    let feed : Feed = fed_by c.args.values.now c.args.filter.now in
-    let told : List ℕ → List ℕ → List (Option Meaning) =
-    λ numbers order. map (λ i. aggregate_of c.args.function feed (rows_of_group numbers i)) order in
-    subst (λ l. Gives view c.aggregate_groups.result (in_range l))
-    (ap (λ ns. told ns c.deref-in-None-2.result.now) (c.deref-in-None.ensures.value ∙ ap (λ v. v.items) c.deref.ensures
-    ∙ sym (ap (by_row g.numbers.value.items) c.in-None.is))
-    ∙ ap (told (row_numbers g)) c.deref-in-None-2.ensures.value)
-    (c.aggregate_groups.ensures.gives feed refl refl)
+    let s = c.in-Some.known.now in
+    let f = c.in-Some.ensures in
+    let values = meanings c.args.values.now in
+    let are : AreSummaries values (row_numbers g) g.count s = c.requires.known None f.within s (f.is None) in
+    let told : Option (List Bool) → List ℕ → List (Option Meaning) =
+    λ tests order. map (λ i. aggregate_of c.args.function (record { values = values; filter = tests }) (rows_of_group (row_numbers g) i))
+    order in
+    subst (λ l. Gives view c.answers.result (in_range l))
+    (ap (told None) c.deref.ensures.value
+    ∙ ap (λ (filter : Option (Vec Bool Global)). told (option_map (λ tests. tests.items) filter) g.order.items) (sym f.unfiltered))
+    (c.answers.ensures.gives values (row_numbers g) g.count are)

@@ -1,0 +1,316 @@
+//! Aggregates of groups that are fed alike, in one pass over the rows.
+ghost use Rattle.std.specs.Prelude.{◌≡◌, ◌<◌, ◌^◌, ℕ, List, All, IfOk, IfSome, None, length, map, replicate, slice_index_or, true, if◌then◌else◌};
+ghost use Rattle.std.specs.Rc.{rc_str_bytes};
+ghost use Rattle.wvalues.specs.Meaning.{Int, Meaning, Null, Text, meaning};
+ghost use Rattle.wframe.specs.Cells.{meanings};
+ghost use Rattle.wframe.specs.Places.{places};
+ghost use Rattle.wslide.specs.Aggregates.{by_value_in, fed};
+ghost use Rattle.wslide.specs.Counts.{count_at, counts_joined};
+ghost use Rattle.wslide.specs.Laws.{rows_fold};
+ghost use Rattle.wslide.specs.Leasts.{leasts_joined, place_at};
+ghost use Rattle.wslide.specs.Sums.{sum_part, sums_joined};
+ghost use Rattle.wrows.specs.Columns.{in_range};
+ghost use Rattle.wrows.specs.Outcomes.{Gives};
+ghost use Rattle.waggregate.specs.Aggregating.{aggregate_of};
+ghost use Rattle.waggregate.specs.FrameAnswers.{told_or_out_of_range};
+ghost use Rattle.waggregate.specs.Grouped.{rows_of_group};
+ghost use Rattle.waggregate.specs.Summaries.{AreSummaries, AreSummed, IsEmpty, IsKnownFor, IsWith, answer_at, answer_in, first_in, groups_told, is_told, tells, value_in};
+ghost use Rattle.waggregate.specs.declared.summaries.Summary as summary;
+
+use crate::answers::{count_value, sum_value};
+use std::alloc::{AllocError, Global};
+use std::rc::RcStr;
+use wframe::stable_sorts_agree;
+use wplan::AggregateFunction;
+use wrows::AnswerFault;
+use wslide::{PartialSum, counts_are_exact, places_are_least, see_ranges, sums_are_exact};
+use wvalues::{Value, Whole};
+
+/// Which extreme values of groups are looked for, beside their counts and sums.
+#[derive(Clone, Copy, Debug)]
+pub struct Extremes {
+    /// The least value of each group.
+    pub least: bool,
+    /// The greatest one.
+    pub greatest: bool,
+}
+
+/// The value that stands first among some, or null where there is none.
+#[derive(Clone, Copy, Debug)]
+enum First<'a> {
+    Null,
+    Number(Whole),
+    Text(&'a RcStr),
+}
+
+/// What some rows come to.
+#[derive(Clone, Copy, Debug)]
+struct Summary<'a> {
+    /// How many rows there are.
+    rows: u64,
+    /// How many values there are, without nulls.
+    values: u64,
+    sum: PartialSum,
+    /// The least value, if it is looked for, and the greatest one.
+    least: First<'a>,
+    greatest: First<'a>,
+}
+
+/// What the rows of each group come to.
+#[derive(Drop)]
+pub struct Summaries<'a> {
+    extremes: Extremes,
+    groups: Vec<Summary<'a>>,
+}
+
+impl Extremes {
+    /// None of them.
+    pub fn none() -> Extremes {
+        Extremes {
+            least: false,
+            greatest: false,
+        }
+    }
+
+    /// These, and what an aggregate asks for.
+    pub fn with(self, function: AggregateFunction) -> Extremes {
+        Extremes {
+            least: self.least || function == AggregateFunction::Min,
+            greatest: self.greatest || function == AggregateFunction::Max,
+        }
+    }
+
+    // Whether an aggregate is told where these are looked for.
+    fn tell(self, function: AggregateFunction) -> bool
+        ensures { result ≡ is_told self function }
+    {
+        match function {
+            AggregateFunction::CountRows | AggregateFunction::Count | AggregateFunction::Sum =>
+                true,
+            AggregateFunction::Min => self.least,
+            AggregateFunction::Max => self.greatest,
+        }
+    }
+}
+
+// Takes a number in the place of the value that stands first, if it stands before that, from the least value on or from the greatest.
+#[inline(always)]
+fn note_number(first: &mut First<'_>, number: Whole, greatest: bool)
+    ensures { value_in first.new ≡ first_in (by_value_in greatest) (value_in first.old) (Int number) }
+{
+    match first {
+        First::Number(other) if greatest && number.cmp(other).is_le() => {}
+        First::Number(other) if !greatest && number.cmp(other).is_ge() => {}
+        _ => *first = First::Number(number),
+    }
+}
+
+// The same of a text.
+fn note_text<'a>(first: &mut First<'a>, text: &'a RcStr, greatest: bool)
+    ensures { value_in first.new ≡ first_in (by_value_in greatest) (value_in first.old) (Text (rc_str_bytes text.now)) }
+{
+    match first {
+        First::Number(_) => {}
+        First::Text(other) if greatest && !(*other).cmp(text).is_lt() => {}
+        First::Text(other) if !greatest && !text.cmp(*other).is_lt() => {}
+        _ => *first = First::Text(text),
+    }
+}
+
+impl<'a> First<'a> {
+    // The value, which shares its text.
+    fn value(&self) -> Result<Value, AllocError>
+        ensures { IfOk result (λ value. meaning value ≡ value_in self.now) }
+    {
+        match self {
+            First::Null => Ok(Value::Null),
+            First::Number(number) => Ok(Value::Int(*number)),
+            First::Text(text) => Ok(Value::Text((*text).clone()?)),
+        }
+    }
+}
+
+impl<'a> Summary<'a> {
+    // What no row comes to.
+    fn of_none() -> Summary<'a>
+        ensures { IsEmpty result }
+    {
+        Summary {
+            rows: 0,
+            values: 0,
+            sum: PartialSum::none(),
+            least: First::Null,
+            greatest: First::Null,
+        }
+    }
+
+    // Takes a number to the others.
+    #[inline(always)]
+    fn add_number(&mut self, extremes: Extremes, number: Whole)
+        ensures with { IsWith extremes (Int number) self.old self.new }
+        ensures rows { self.new.rows ≡ self.old.rows }
+    {
+        self.values = self.values.wrapping_add(1);
+        self.sum = self.sum.joined(PartialSum::of(number));
+        if extremes.least {
+            note_number(&mut self.least, number, false);
+        }
+        if extremes.greatest {
+            note_number(&mut self.greatest, number, true);
+        }
+    }
+
+    // Takes a text to the others.
+    fn add_text(&mut self, extremes: Extremes, text: &'a RcStr)
+        ensures with { IsWith extremes (Text (rc_str_bytes text.now)) self.old self.new }
+        ensures rows { self.new.rows ≡ self.old.rows }
+    {
+        self.values = self.values.wrapping_add(1);
+        self.sum = self.sum.joined(PartialSum::of(Whole::from(0)));
+        if extremes.least {
+            note_text(&mut self.least, text, false);
+        }
+        if extremes.greatest {
+            note_text(&mut self.greatest, text, true);
+        }
+    }
+
+    // Takes a row with this value to the others.
+    #[inline(always)]
+    fn add(&mut self, extremes: Extremes, value: &'a Value)
+        ensures with { IsWith extremes (meaning value.now) self.old self.new }
+        ensures rows { self.new.rows ≡ counts_joined self.old.rows 1 }
+    {
+        self.rows = self.rows.wrapping_add(1);
+        match value {
+            Value::Null => {}
+            Value::Int(number) => self.add_number(extremes, *number),
+            Value::Text(text) => self.add_text(extremes, text),
+        }
+    }
+
+    // What an aggregate answers, `OutOfRange` where it is so.
+    fn answer(&self, function: AggregateFunction) -> Result<Value, AnswerFault>
+        ensures { Gives meaning result (told_or_out_of_range (answer_in function self.now)) }
+    {
+        match function {
+            AggregateFunction::CountRows => Ok(count_value(self.rows)),
+            AggregateFunction::Count => Ok(count_value(self.values)),
+            AggregateFunction::Sum => sum_value(self.sum),
+            AggregateFunction::Min => Ok(self.least.value()?),
+            AggregateFunction::Max => Ok(self.greatest.value()?),
+        }
+    }
+}
+
+// So many copies of a part.
+fn repeated<P: Copy>(alloc: Global, part: &P, count: usize) -> Result<Vec<P>, AllocError>
+    ensures { IfOk result (λ parts. parts.items ≡ replicate count part.now) }
+{
+    let mut parts = Vec::with_capacity(alloc, count)?;
+    for _ in 0..count {
+        parts.push(*part)?;
+    }
+    Ok(parts)
+}
+
+// What the rows of each group come to, where `values` are what they feed. Each row is taken once, to its group.
+fn summed_rows<'a>(
+    alloc: Global,
+    values: &[&'a Value],
+    extremes: Extremes,
+    groups: &[usize],
+    count: usize,
+) -> Result<Vec<Summary<'a>>, AllocError>
+    requires rows { length groups.now ≡ length values.now }
+    requires below { All (λ g. g < count) groups.now }
+    ensures { IfOk result (λ summaries. AreSummed (meanings values.now) extremes groups.now (length groups.now) count summaries.items) }
+{
+    let mut summaries = repeated(alloc, &Summary::of_none(), count)?;
+    for row in 0..groups.len() {
+        summaries[groups[row]].add(extremes, values[row]);
+    }
+    Ok(summaries)
+}
+
+/// What the rows of each group come to, in one pass over the rows, where `values` are what they feed without a filter. `groups`
+/// has the number of each row's group, of so many groups.
+pub fn summarize<'a>(
+    alloc: Global,
+    values: &[&'a Value],
+    extremes: Extremes,
+    groups: &[usize],
+    count: usize,
+) -> Result<Summaries<'a>, AllocError>
+    requires rows { length groups.now ≡ length values.now }
+    requires below { All (λ g. g < count) groups.now }
+    requires few { length groups.now < 2 ^ 31 }
+    ensures { IfOk result (AreSummaries (meanings values.now) groups.now count) }
+{
+    // Laws, which do nothing.
+    counts_are_exact();
+    sums_are_exact();
+    places_are_least();
+    stable_sorts_agree();
+    see_ranges(values);
+    let groups = summed_rows(alloc, values, extremes, groups, count)?;
+    Ok(Summaries { extremes, groups })
+}
+
+impl<'a> Summaries<'a> {
+    /// Whether an aggregate can be answered.
+    pub fn tell(&self, function: AggregateFunction) -> bool
+        ensures { result ≡ tells self.now function }
+    {
+        self.extremes.tell(function)
+    }
+
+    // What an aggregate answers for a group, `OutOfRange` where it is so.
+    fn answer_of(&self, function: AggregateFunction, group: usize) -> Result<Value, AnswerFault>
+        requires { group < groups_told self.now }
+        ensures { (none : summary.Summary) → Gives meaning result (told_or_out_of_range
+            (answer_at function self.now.groups.items group none)) }
+    {
+        self.groups[group].answer(function)
+    }
+
+    /// What an aggregate answers for some of the groups, in their order, `OutOfRange` where it is so for one.
+    pub fn answers(
+        &self,
+        alloc: Global,
+        function: AggregateFunction,
+        order: &[usize],
+    ) -> Result<Vec<Value>, AnswerFault>
+        requires told { tells self.now function ≡ true }
+        requires ordered { All (λ g. g < groups_told self.now) order.now }
+        ensures gives { (values : List Meaning) (groups : List ℕ) (count : ℕ) → AreSummaries values groups count self.now
+            → Gives (λ column. map meaning column.items) result (in_range (map (λ g. aggregate_of function
+            (record { values = values; filter = None }) (rows_of_group groups g)) order.now)) }
+        ensures len { IfOk result (λ column. length column.items ≡ length order.now) }
+    {
+        let mut column = Vec::with_capacity(alloc, order.len())?;
+        for group in order {
+            let answer = self.answer_of(function, *group)?;
+            column.push(answer)?;
+        }
+        Ok(column)
+    }
+}
+
+/// What is known at a place of the rows of each group, if an aggregate with this filter can be answered by it.
+pub fn summaries_for<'a, 'b>(
+    known: &'b [Option<Summaries<'a>>],
+    place: usize,
+    function: AggregateFunction,
+    filter: &Option<Vec<bool>>,
+) -> Option<&'b Summaries<'a>>
+    ensures { IfSome result (IsKnownFor known.now place function filter.now) }
+{
+    if filter.is_some() || place >= known.len() {
+        return None;
+    }
+    match &known[place] {
+        Some(summaries) if summaries.tell(function) => Some(summaries),
+        _ => None,
+    }
+}
