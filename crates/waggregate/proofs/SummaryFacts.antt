@@ -1,5 +1,5 @@
 -- Summaries of groups, one row after another, and what they say.
-use Rattle.std.proofs.Common.{◌≡◌, ℕ, zero, suc, pos, ◌+◌, ◌%◌, ◌<◌, ◌^◌, ◌==◌, Bool, true, false, cond, List, [], ◌∷◌, length, map}
+use Rattle.std.proofs.Common.{◌≡◌, ℕ, pos, ◌+◌, ◌<◌, ◌^◌, ◌==◌, Bool, true, false, cond, List, [], ◌∷◌, length, map}
 use Rattle.std.proofs.Common.{filter, fold, get_or, slice_set, Option, Some, None, Ordering, is_lt, Ok, ◌++◌, take, unwrap_or, refl, sym, subst, ap, ◌∙◌, arith, replicate}
 use Rattle.std.proofs.lemmas.List.{get_or-map, length-map, length-replicate, map-append, map-set, take_more}
 use Rattle.std.specs.Prelude.{All}

@@ -4,11 +4,13 @@
 //!   of a window.
 //! - Promises: nothing is skipped, so an argument or filter that is out of range on any row refuses, as a result that
 //!   is out of range does; a sum is tested against the range once it is whole. Frames take at most three joins for each
-//!   row, eight where rows are excluded. What lies far apart is read some rows at a time before it is copied or put.
+//!   row, eight where rows are excluded. What lies far apart is read some rows at a time before it is copied or put. What
+//!   several aggregates come to over groups that are fed alike is found in one pass over the rows.
 //! - Asks: fewer than 2^31 rows.
 //! - Leaves expressions to `wplan`, frames to `wframe` and their folds to `wslide`.
 //!
-//! Read `specs/Aggregating.antt`, then `specs/Feeding.antt`, `specs/Grouped.antt`, `specs/Put.antt` and `specs/FrameAnswers.antt`.
+//! Read `specs/Aggregating.antt`, then `specs/Feeding.antt`, `specs/Grouped.antt`, `specs/Summaries.antt`, `specs/Put.antt` and
+//! `specs/FrameAnswers.antt`.
 #![tactic(auto)]
 
 mod alike;

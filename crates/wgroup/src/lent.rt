@@ -1,7 +1,8 @@
 //! A plain column that several calls read.
 //!
 //! Calls that follow each other often have one column for their argument, as a sum, a least and a greatest value of it. It is lent
-//! once for all of them. No more than one column is lent at a time, so that many calls take no more memory than one does.
+//! once for all of them, and where several are fed alike, what the rows of each group come to is found in one pass over the rows. No
+//! more than one column is lent at a time, so that many calls take little more memory than one does.
 ghost use Rattle.std.specs.Prelude.{◌≡◌, ◌<◌, ◌^◌, All, IfOk, IsTrue, None, length};
 ghost use Rattle.std.specs.Option.{ForSome};
 ghost use Rattle.wplan.specs.Formula.{At, formula};

@@ -1,5 +1,4 @@
-use Rattle.std.proofs.Common.{get_or, ap, sym, subst, ◌∙◌, arith}
-use Rattle.wvalues.specs.Meaning.{Null, meaning}
+use Rattle.std.proofs.Common.{subst, arith}
 use Rattle.wframe.specs.Cells.{meanings}
 use Rattle.waggregate.specs.Summaries.{IsWith}
 use Rattle.waggregate.proofs.SummaryFacts.{summed_copies, summed_long, summed_more, value_there}

@@ -1,4 +1,4 @@
-use Rattle.std.proofs.Common.{◌≡◌, ℕ, [], Option, get_or, map, length, rules, refl, sym, ap, ◌∙◌}
+use Rattle.std.proofs.Common.{ℕ, [], Option, get_or, map, refl}
 use Rattle.std.specs.Option.{is_none}
 use Rattle.std.specs.Prelude.{unwrap_or}
 use Rattle.std.proofs.lemmas.Result.{err_from_is_err_and}
