@@ -16,7 +16,8 @@ use Rattle.wgroup.proofs.LeaderFacts.{in_order}
 use Rattle.std.proofs.Common.{take}
 
 -- nothing is known yet
-pub none_known : (values : List Meaning) (sets : List memory.Groups) (known : List (Option Summaries)) → known ≡ [] → AreKnown values sets known
+pub none_known : (values : List Meaning) (sets : List memory.Groups) (known : List (Option Summaries)) → known ≡ []
+    → AreKnown values sets known
 none_known values sets known e = λ place d none h. absurd (omega (arith, h, ap length e))
 
 -- the numbers of groups that are made of rows are below their count
