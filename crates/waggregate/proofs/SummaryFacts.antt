@@ -1,6 +1,7 @@
 -- Summaries of groups, one row after another, and what they say.
 use Rattle.std.proofs.Common.{◌≡◌, ℕ, pos, ◌+◌, ◌<◌, ◌^◌, ◌==◌, Bool, true, false, cond, List, [], ◌∷◌, length, map}
-use Rattle.std.proofs.Common.{filter, fold, get_or, slice_set, Option, Some, None, Ordering, is_lt, Ok, ◌++◌, take, unwrap_or, refl, sym, subst, ap, ◌∙◌, arith, replicate}
+use Rattle.std.proofs.Common.{filter, fold, get_or, slice_set, Option, Some, None, Ordering, is_lt, Ok}
+use Rattle.std.proofs.Common.{◌++◌, take, unwrap_or, refl, sym, subst, ap, ◌∙◌, arith, replicate}
 use Rattle.std.proofs.lemmas.List.{get_or-map, length-map, length-replicate, map-append, map-set, take_more}
 use Rattle.std.specs.Prelude.{All}
 use Rattle.std.specs.Borrow.{Bor}
@@ -99,7 +100,8 @@ summed_more values e groups row count all old new below here counts with was =
     let held : old.values ≡ part_of 0 counts_joined (count_at (Some values) None) groups row group =
     ap (λ s. s.values) here
     ∙ field_at (λ s. s.values) 0 counts_joined (count_at (Some values) None) groups row count all was.counts group old below in
-    let small = folded_small (map (count_at (Some values) None) (filter (λ row. get_or groups row 0 == group) (places row))) 0 (omega arith) in
+    let small = folded_small (map (count_at (Some values) None) (filter (λ row. get_or groups row 0 == group) (places row))) 0
+    (omega arith) in
     record {
       rows = field_more (λ s. s.rows) 0 counts_joined (count_at None None) groups row count all was.rows group old new 1
           refl below here refl counts;
@@ -120,7 +122,8 @@ module _ (order : Meaning → Meaning → Ordering) (behind : (m : Meaning) → 
   at : ℕ → Meaning
   at i = get_or values i Null
 
-  picked : (i row : ℕ) (b : Bool) → cond b (get_or values row Null) (get_or values i Null) ≡ value_or_null values (cond b (Some row) (Some i))
+  picked : (i row : ℕ) (b : Bool) → cond b (get_or values row Null) (get_or values i Null)
+      ≡ value_or_null values (cond b (Some row) (Some i))
   picked i row true = refl
   picked i row false = refl
 

@@ -1,20 +1,17 @@
 //! Aggregates of groups that are fed alike, in one pass over the rows.
-ghost use Rattle.std.specs.Prelude.{◌≡◌, ◌<◌, ◌^◌, ℕ, List, All, IfOk, IfSome, None, length, map, replicate, slice_index_or, true, if◌then◌else◌};
+ghost use Rattle.std.specs.Prelude.{◌≡◌, ◌<◌, ◌^◌, ℕ, List, All, IfOk, IfSome, None, length, map, replicate, true};
 ghost use Rattle.std.specs.Rc.{rc_str_bytes};
 ghost use Rattle.wvalues.specs.Meaning.{Int, Meaning, Null, Text, meaning};
 ghost use Rattle.wframe.specs.Cells.{meanings};
-ghost use Rattle.wframe.specs.Places.{places};
-ghost use Rattle.wslide.specs.Aggregates.{by_value_in, fed};
-ghost use Rattle.wslide.specs.Counts.{count_at, counts_joined};
-ghost use Rattle.wslide.specs.Laws.{rows_fold};
-ghost use Rattle.wslide.specs.Leasts.{leasts_joined, place_at};
-ghost use Rattle.wslide.specs.Sums.{sum_part, sums_joined};
+ghost use Rattle.wslide.specs.Aggregates.{by_value_in};
+ghost use Rattle.wslide.specs.Counts.{counts_joined};
 ghost use Rattle.wrows.specs.Columns.{in_range};
 ghost use Rattle.wrows.specs.Outcomes.{Gives};
 ghost use Rattle.waggregate.specs.Aggregating.{aggregate_of};
 ghost use Rattle.waggregate.specs.FrameAnswers.{told_or_out_of_range};
 ghost use Rattle.waggregate.specs.Grouped.{rows_of_group};
-ghost use Rattle.waggregate.specs.Summaries.{AreSummaries, AreSummed, IsEmpty, IsKnownFor, IsWith, answer_at, answer_in, first_in, groups_told, is_told, tells, value_in};
+ghost use Rattle.waggregate.specs.Summaries.{AreSummaries, AreSummed, IsEmpty, IsKnownFor, IsWith, answer_at};
+ghost use Rattle.waggregate.specs.Summaries.{answer_in, first_in, groups_told, is_told, tells, value_in};
 ghost use Rattle.waggregate.specs.declared.summaries.Summary as summary;
 
 use crate::answers::{count_value, sum_value};

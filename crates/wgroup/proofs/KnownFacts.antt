@@ -1,6 +1,6 @@
 -- What is known of the groups of sets.
-use Rattle.std.proofs.Common.{◌≡◌, ℕ, ◌+◌, ◌<◌, ◌⊎◌, inl, inr, List, [], ◌∷◌, ◌++◌, length, length-append, get_or, All, Option, None}
-use Rattle.std.proofs.Common.{refl, sym, ap, subst, ◌∙◌, arith}
+use Rattle.std.proofs.Common.{◌≡◌, ℕ, ◌<◌, ◌⊎◌, inl, inr, List, [], ◌∷◌, ◌++◌, length, length-append, get_or, All, Option, None}
+use Rattle.std.proofs.Common.{sym, ap, subst, ◌∙◌, arith}
 use Rattle.std.specs.Option.{ForSome}
 use Rattle.std.proofs.Math.Seq.{get_or-append_seam}
 use Rattle.std.proofs.lemmas.List.{get_or_append_left}
@@ -11,12 +11,13 @@ use Rattle.waggregate.specs.declared.summaries.Summaries.{Summaries}
 use Rattle.wgroup.specs.declared.found.Groups as memory
 use Rattle.wgroup.specs.Finer.{AreMade, IsMade, MadeFrom}
 use Rattle.wgroup.specs.Held.{by_row, row_numbers}
-use Rattle.wgroup.specs.Lent.{AreKnown, IsKnown}
+use Rattle.wgroup.specs.Lent.{AreKnown}
 use Rattle.wgroup.proofs.LeaderFacts.{in_order}
 use Rattle.std.proofs.Common.{take}
 
 -- nothing is known yet
-pub none_known : (values : List Meaning) (sets : List memory.Groups) (known : List (Option Summaries)) → known ≡ [] → AreKnown values sets known
+pub none_known : (values : List Meaning) (sets : List memory.Groups) (known : List (Option Summaries)) → known ≡ []
+    → AreKnown values sets known
 none_known values sets known e = λ place d none h. absurd (omega (arith, h, ap length e))
 
 -- the numbers of groups that are made of rows are below their count
