@@ -21,7 +21,7 @@ use crate::windows::{call_columns, window_answers};
 use crate::work::Work;
 use std::alloc::{AllocError, Global};
 use wplan::Selection;
-use wprinted::{PickedRows, RowsBeside, print_rows};
+use wprinted::{Lie, PickedRows, RowsBeside, print_rows};
 use wrows::{AnswerFault, Cells, lists, sorted_numbers};
 use wtable::PresortedOrders;
 use wvalues::Value;
@@ -87,6 +87,7 @@ pub(crate) fn standing_text(
     places: &[usize],
     rows: &[&[Value]],
     columns: &[&[Value]],
+    lie: Lie,
 ) -> Result<Vec<u8>, AllocError>
     ensures { IfOk result (λ bytes. bytes.items ≡ table_text (map (λ o. o.name) (select_plan select.now).items)
         (map (values_at places.now) (cut select.now.offset select.now.limit (beside (rows_seen rows.now) (rows_seen columns.now))))) }
@@ -98,6 +99,7 @@ pub(crate) fn standing_text(
         columns,
         from,
         count: limited(select.limit, rows.len() - from),
+        lie,
     };
     print_rows(alloc, &names, places, &standing)
 }
@@ -119,7 +121,7 @@ fn text_beside(
         (items_of (select_plan select.now) (beside (rows_seen rows.now) (rows_seen columns.now))) ≡ Ok bytes.items) }
 {
     match presorted {
-        None => standing_text(alloc, select, places, rows, columns),
+        None => standing_text(alloc, select, places, rows, columns, Lie::Together),
         Some(numbers) => picked_text(alloc, select, places, rows, columns, numbers),
     }
 }

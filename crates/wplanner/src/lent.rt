@@ -16,6 +16,7 @@ use crate::beside::{is_unwindowed, rows_text, standing_text};
 use crate::parts::item_places;
 use std::alloc::{AllocError, Global};
 use wplan::Selection;
+use wprinted::Lie;
 use wrows::AnswerFault;
 use wruns::RowRef;
 use wset::SegmentSet;
@@ -79,7 +80,7 @@ fn referenced_text(
         (text_in (select_plan select.now) (select_of (select_plan select.now) (rows_of_set set.now))) }
 {
     let rows = referenced_rows(alloc, set, refs)?;
-    let bytes = standing_text(alloc, select, places, &rows, &[])?;
+    let bytes = standing_text(alloc, select, places, &rows, &[], Lie::Apart)?;
     Ok(bytes)
 }
 

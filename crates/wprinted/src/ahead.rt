@@ -4,7 +4,7 @@ ghost use Rattle.wvalues.specs.Meaning.{Null, meaning};
 
 use crate::batch::BATCH;
 use crate::row::value_at;
-use crate::rows::Rows;
+use crate::rows::{Lie, Rows};
 use std::alloc::AllocError;
 use wvalues::Value;
 
@@ -41,20 +41,9 @@ fn are_numbers<R: Rows>(rows: &R, null: &Value, place: usize, from: usize) -> bo
     matches!(value_at(&rows.row(from), null, place), Value::Int(_))
 }
 
-// Whether some rows stand one behind another, by the numbers of the first and the last of them.
-fn stand_together<R: Rows>(rows: &R, from: usize, end: usize) -> bool
-    requires ordered { from < end }
-    requires within { end ≤ length (R.rows rows.now) }
-{
-    let first = rows.row(from).number;
-    let last = rows.row(end - 1).number;
-    last.wrapping_sub(first) == end - 1 - from
-}
-
 /// Makes room for the texts of a row and of those behind it that are looked at with it, a place of all of them after another.
 /// Nothing is done between one value and the next, so that the processor has many of them on their way from memory at once, and
-/// finds them near when they are printed. Places of numbers are left out, but for the first one of rows that lie apart, whose
-/// cells are brought near by it.
+/// finds them near when they are printed. Places of numbers are left out where rows lie together: their cells are near.
 pub(crate) fn look_ahead<R: Rows>(
     bytes: &mut Vec<u8>,
     rows: &R,
@@ -70,12 +59,11 @@ pub(crate) fn look_ahead<R: Rows>(
         return Ok(());
     }
     let end = rows.count().min(row.saturating_add(AHEAD));
-    let mut are_near = stand_together(rows, row, end);
+    let lie = rows.lie(row, end);
     let mut room: usize = 0;
     for place in places {
-        if !are_near || !are_numbers(rows, null, *place, row) {
+        if matches!(lie, Lie::Apart) || !are_numbers(rows, null, *place, row) {
             room = room.saturating_add(room_at(rows, null, *place, row, end));
-            are_near = true;
         }
     }
     bytes.reserve(room)

@@ -91,13 +91,11 @@ fn write_lines<R: Rows>(
     let mut row = batch.end;
     let mut start = lines.len();
     while row > batch.from {
-        match write_line(&rows.row(row - 1), null, places, lines, start) {
-            None => return Written { row, start },
-            Some(before) => {
-                row -= 1;
-                start = before;
-            }
-        }
+        let Some(before) = write_line(&rows.row(row - 1), null, places, lines, start) else {
+            return Written { row, start };
+        };
+        row -= 1;
+        start = before;
     }
     Written { row, start }
 }

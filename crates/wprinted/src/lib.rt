@@ -19,4 +19,4 @@ mod rows;
 
 pub use printing::print_rows;
 pub use row::Row;
-pub use rows::{PickedRows, Rows, RowsBeside};
+pub use rows::{Lie, PickedRows, Rows, RowsBeside};

@@ -1,10 +1,17 @@
 //! Rows that are printed.
-ghost use Rattle.std.specs.Prelude.{◌≡◌, ◌<◌, [], List, length, map, slice_index_or};
+ghost use Rattle.std.specs.Prelude.{◌≡◌, ◌<◌, ◌≤◌, [], List, length, map, slice_index_or};
 ghost use Rattle.wvalues.specs.Meaning.{Meaning, meaning};
 ghost use Rattle.wprinted.specs.Beside.{rows_at, rows_from, seen, values_of};
 
 use crate::row::Row;
 use wvalues::Value;
+
+/// How rows lie in memory: one behind another, or apart, in an order of their own. This is a matter of speed alone.
+#[derive(Clone, Copy)]
+pub enum Lie {
+    Together,
+    Apart,
+}
 
 /// Rows of values, by number.
 pub trait Rows {
@@ -19,6 +26,11 @@ pub trait Rows {
     fn row(&self, number: usize) -> Row<'_>
         requires { number < length (rows self.now) }
         ensures { values_of result ≡ slice_index_or (rows self.now) number [] };
+
+    /// How the rows from one on up to another lie.
+    fn lie(&self, from: usize, end: usize) -> Lie
+        requires ordered { from < end }
+        requires within { end ≤ length (rows self.now) };
 }
 
 /// Rows as they stand, with what some columns have for each behind its cells: so many of them, from one on.
@@ -28,6 +40,7 @@ pub struct RowsBeside<'a> {
     pub columns: &'a [&'a [Value]],
     pub from: usize,
     pub count: usize,
+    pub lie: Lie,
 }
 
 impl<'a> Rows for RowsBeside<'a> {
@@ -44,6 +57,10 @@ impl<'a> Rows for RowsBeside<'a> {
             columns: self.columns,
             number,
         }
+    }
+
+    fn lie(&self, _from: usize, _end: usize) -> Lie {
+        self.lie
     }
 }
 
@@ -79,6 +96,17 @@ impl<'a> Rows for PickedRows<'a> {
             cells: cells_at(self.rows, number),
             columns: self.columns,
             number,
+        }
+    }
+
+    // By the numbers of the first and the last of them.
+    fn lie(&self, from: usize, end: usize) -> Lie {
+        let first = self.numbers[from];
+        let last = self.numbers[end - 1];
+        if last.wrapping_sub(first) == end - 1 - from {
+            Lie::Together
+        } else {
+            Lie::Apart
         }
     }
 }
