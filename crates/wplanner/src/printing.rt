@@ -4,7 +4,7 @@ ghost use Rattle.wprinted.specs.Printing.{table_text};
 
 use crate::table::Table;
 use std::alloc::{AllocError, Global};
-use wprinted::{Row, Rows, print_rows};
+use wprinted::{Lie, Row, Rows, print_rows};
 
 impl Rows for Table {
     ghost rows = { λ table. table.rows };
@@ -19,6 +19,10 @@ impl Rows for Table {
             columns: &[],
             number,
         }
+    }
+
+    fn lie(&self, _from: usize, _end: usize) -> Lie {
+        Lie::Together
     }
 }
 
