@@ -10,6 +10,7 @@ pub mod ListedColumns
 pub mod Listed
 pub mod Arranged
 pub mod Ordered
+pub mod PresortedRows
 pub mod OrderKept
 pub mod RowOrders
 pub mod Joins

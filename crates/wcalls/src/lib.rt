@@ -7,16 +7,16 @@
 //! - Leaves frames to `wframe`, places to `wplaces`, aggregates to `waggregate`.
 //!
 //! Rows are put into the order of a window once, which serves each window of the same partition values and keys; where the
-//! rows are presorted in it, nothing is sorted. Partition values and keys that are plain columns are lent from the
-//! rows, and only what is worked out is kept with the order. Each
-//! function answers one partition after another there, and each answer is put at its row's number in the window's
-//! columns. A function that is no aggregate keeps a number at the row's number first, and its value is read from that, row
+//! rows are presorted in it, nothing is sorted, and where it is known that no two of them share their keys, these are not
+//! compared either. Partition values and keys that are plain columns are lent from the rows, and only what is worked out is
+//! kept with the order. Each function answers one partition after another there, and each answer is put at its row's number in
+//! the window's columns. A function that is no aggregate keeps a number at the row's number first, and its value is read from that, row
 //! after row: one list a function, whatever the number of partitions, and one of the values of an argument that is more than
 //! a plain column.
 //!
 //! Read `specs/Frames.antt`, `specs/Windows.antt`, `specs/Calls.antt` and `specs/Functions.antt`, then
-//! `specs/Ordered.antt`, `specs/Arranged.antt`, `specs/Listed.antt`, `specs/Kept.antt` and `specs/Seen.antt`;
-//! `specs/Sound.antt` says what is asked.
+//! `specs/Ordered.antt`, `specs/PresortedRows.antt`, `specs/Arranged.antt`, `specs/Listed.antt`, `specs/Kept.antt` and
+//! `specs/Seen.antt`; `specs/Sound.antt` says what is asked.
 #![tactic(auto)]
 
 mod aggregated;
@@ -35,4 +35,4 @@ mod values;
 mod window_order;
 
 pub use function_columns::window_columns;
-pub use window_order::{WindowOrder, share_order};
+pub use window_order::{Presorted, WindowOrder, share_order};

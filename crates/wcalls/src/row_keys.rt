@@ -33,6 +33,25 @@ pub(crate) struct RowKeys<'a> {
     ghost wide: { width_of lists ≡ length orders.items },
 }
 
+/// Whether so many rows are so few that the number of each is a code of 32 bits.
+pub(crate) fn are_few(count: usize) -> bool
+    ensures { result ≡ true → count ≤ 2 ^ 32 }
+{
+    count <= MOST_CODED
+}
+
+/// Numbers of rows as codes of 32 bits.
+pub(crate) fn narrowed(alloc: Global, rows: &[usize]) -> Result<Vec<u32>, AllocError>
+    requires { All (λ i. i < 2 ^ 32) rows.now }
+    ensures { IfOk result (λ codes. codes.items ≡ rows.now) }
+{
+    let mut codes = Vec::with_capacity(alloc, rows.len())?;
+    for row in rows {
+        codes.push(*row as u32)?;
+    }
+    Ok(codes)
+}
+
 // The numbers of rows by codes, and then as they stood.
 fn by_codes(alloc: Global, codes: &[u32], rows: Vec<usize>) -> Result<Vec<usize>, AllocError>
     requires few { length codes.now ≤ 2 ^ 32 }

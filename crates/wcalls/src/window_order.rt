@@ -1,6 +1,6 @@
 //! Rows in the order of a window.
 ghost use Rattle.std.specs.Prelude.{◌≡◌, ◌*◌, ◌+◌, ◌-◌, ◌<◌, ◌≤◌, ◌^◌, true, min, List, All};
-ghost use Rattle.std.specs.Prelude.{Ok, OnOk, OnErr, IfOk, IfSome, IsTrue, length, map};
+ghost use Rattle.std.specs.Prelude.{OnOk, OnErr, IfOk, IfSome, IsTrue, length, map};
 ghost use Rattle.std.specs.Ordering.{on};
 ghost use Rattle.wvalues.specs.declared.key.SortKey.{SortKey};
 ghost use Rattle.wvalues.specs.Meaning.{Meaning};
@@ -19,12 +19,13 @@ ghost use Rattle.wrows.specs.Outcomes.{Gives};
 ghost use Rattle.wrows.specs.Plain.{numbers_by};
 ghost use Rattle.wcalls.specs.Arranged.{IsArranged};
 ghost use Rattle.wcalls.specs.Listed.{lists_in};
-ghost use Rattle.wcalls.specs.Ordered.{in_order, numbers_in_order, ordered_by, ordered_rows, window_numbers};
+ghost use Rattle.wcalls.specs.Ordered.{in_order, numbers_in_order, ordered_by, ordered_rows};
+ghost use Rattle.wcalls.specs.PresortedRows.{IsPresorted};
 ghost use Rattle.wcalls.specs.RowOrders.{IsRowOrder};
 ghost use Rattle.wcalls.specs.Windows.{Windowed};
 
 use crate::parts::{partition_keys, window_keys};
-use crate::row_keys::RowKeys;
+use crate::row_keys::{RowKeys, are_few, narrowed};
 use std::alloc::{AllocError, Global};
 use std::marker::Model;
 use waggregate::Tally;
@@ -35,12 +36,23 @@ use wrows::{AnswerFault, order_by_codes};
 use wshare::same_order;
 use wvalues::Value;
 
+/// The numbers of rows that are presorted in the order of a window, and what is known of their keys.
+#[derive(Drop)]
+pub struct Presorted {
+    /// The number of each row once: partition after partition, there by the window's keys, and where these agree by number.
+    pub numbers: Vec<usize>,
+    /// Whether it is known that no two rows share all their keys, whatever partitions they stand in. Where it is not known, they
+    /// may still all differ.
+    pub differ: bool,
+}
+
 /// Rows by the partition values of a window, by its keys and then by number, with the partition values and the keys of
 /// each: where these are plain columns, they are not copied. The window's frame plays no part, so it serves each window of
 /// the same partition values and keys.
 ///
 /// A single partition value or key was sorted by codes. These are kept in the order of the rows and tell the rows apart there,
-/// so that partitions and peers are found without a look at the values, which lie scattered.
+/// so that partitions and peers are found without a look at the values, which lie scattered. Where it is known that no two
+/// rows share their keys, the numbers of the rows are such codes.
 #[derive(Drop)]
 pub struct WindowOrder<'a> {
     rows: Vec<usize>,
@@ -84,22 +96,22 @@ impl<'a> WindowOrder<'a> {
 
     /// Orders rows as a window does, where they are presorted in it: nothing is sorted. All its partition values
     /// and keys are evaluated on every row, and `OutOfRange` where one is so on any. The presorted order counts among the
-    /// orders.
+    /// orders. Where it is known that no two rows share their keys, these are not compared to find peers.
     pub fn presorted(
         alloc: Global,
         window: &ResolvedWindow,
         rows: &'a [&'a [Value]],
-        numbers: Vec<usize>,
+        presorted: Presorted,
         orders: &mut Tally,
     ) -> Result<WindowOrder<'a>, AnswerFault>
-        requires { window_numbers (rows_seen rows.now) (window_plan window.now) ≡ Ok numbers.items }
+        requires { IsPresorted (rows_seen rows.now) (window_plan window.now) presorted }
         ensures order { Gives (λ order. order) result (ordered_rows (rows_seen rows.now) (window_plan window.now)) }
         ensures made { OnOk result (orders.new ≡ min (orders.old + 1) (2 ^ 64 - 1)) }
         ensures none { OnErr result (orders.new ≡ orders.old) }
     {
         let values = partition_keys(alloc, window, rows)?;
         let keys = window_keys(alloc, window, rows)?;
-        let order = presorted_keys(alloc, values, keys, numbers)?;
+        let order = presorted_keys(alloc, values, keys, presorted)?;
         orders.add(1);
         Ok(order)
     }
@@ -195,14 +207,17 @@ fn presorted_keys<'a>(
     alloc: Global,
     values: RowKeys<'a>,
     keys: RowKeys<'a>,
-    numbers: Vec<usize>,
+    presorted: Presorted,
 ) -> Result<WindowOrder<'a>, AllocError>
     requires count { length (lists_in values.lists) ≡ length (lists_in keys.lists) }
-    requires order { numbers.items ≡ numbers_in_order (lists_in values.lists) values.orders.items (lists_in keys.lists) keys.orders.items }
+    requires order { presorted.numbers.items ≡ numbers_in_order (lists_in values.lists) values.orders.items (lists_in keys.lists)
+        keys.orders.items }
+    requires differ { presorted.differ ≡ true → TellApart (keys_cmp keys.orders.items)
+        (map (key_at (lists_in keys.lists)) presorted.numbers.items) presorted.numbers.items }
     ensures { IfOk result (λ order. order ≡ ordered_by (lists_in values.entry.lists) values.entry.orders.items
         (lists_in keys.entry.lists) keys.entry.orders.items) }
 {
-    let order = presorted_order(alloc, &values, &keys, numbers)?;
+    let order = presorted_order(alloc, &values, &keys, presorted)?;
     Ok(kept_order(order, values, keys))
 }
 
@@ -266,24 +281,54 @@ fn row_order(alloc: Global, values: &RowKeys, keys: &RowKeys) -> Result<RowOrder
     })
 }
 
+// Codes of the keys of rows that stand in this order: their numbers, where no two of them share their keys, and then nothing is
+// read of these. Else the codes that are found without sorting.
+fn presorted_codes(
+    alloc: Global,
+    keys: &RowKeys,
+    rows: &[usize],
+    differ: bool,
+) -> Result<Option<Vec<u32>>, AllocError>
+    requires below { All (λ i. i < length (lists_in keys.now.lists)) rows.now }
+    requires len { length rows.now ≡ length (lists_in keys.now.lists) }
+    requires differ { differ ≡ true → TellApart (keys_cmp keys.now.orders.items) (map (key_at (lists_in keys.now.lists)) rows.now)
+        rows.now }
+    ensures { IfOk result (λ found. IfSome found (λ codes. TellApart (keys_cmp keys.now.orders.items)
+        (map (key_at (lists_in keys.now.lists)) rows.now) codes.items)) }
+{
+    if differ && are_few(rows.len()) {
+        let codes = narrowed(alloc, rows)?;
+        return Ok(Some(codes));
+    }
+    let found = keys.number_codes(alloc)?;
+    let picked = codes_of(alloc, found, rows)?;
+    Ok(picked)
+}
+
 // The presorted order of rows, with the codes of their partition values and of their keys there, where these are found
-// without sorting. The rows stand by partition values, then by keys, then by number.
+// without sorting. Where no two rows share their keys, nothing is read of these. The rows stand by partition values, then by
+// keys, then by number.
 fn presorted_order(
     alloc: Global,
     values: &RowKeys,
     keys: &RowKeys,
-    rows: Vec<usize>,
+    presorted: Presorted,
 ) -> Result<RowOrder, AllocError>
     requires count { length (lists_in values.now.lists) ≡ length (lists_in keys.now.lists) }
-    requires order { rows.items ≡ sorted (on (key_at (lists_in values.now.lists)) (keys_cmp values.now.orders.items))
+    requires order { presorted.numbers.items ≡ sorted (on (key_at (lists_in values.now.lists)) (keys_cmp values.now.orders.items))
         (numbers_by keys.now.orders.items (lists_in keys.now.lists) (length (lists_in keys.now.lists))) }
-    requires below { All (λ i. i < length (lists_in keys.now.lists)) rows.items }
-    requires len { length rows.items ≡ length (lists_in keys.now.lists) }
+    requires below { All (λ i. i < length (lists_in keys.now.lists)) presorted.numbers.items }
+    requires len { length presorted.numbers.items ≡ length (lists_in keys.now.lists) }
+    requires differ { presorted.differ ≡ true → TellApart (keys_cmp keys.now.orders.items)
+        (map (key_at (lists_in keys.now.lists)) presorted.numbers.items) presorted.numbers.items }
     ensures { IfOk result (IsRowOrder values.now.orders.items (lists_in values.now.lists) keys.now.orders.items
         (lists_in keys.now.lists) (length (lists_in keys.now.lists))) }
 {
-    let key_codes = keys.number_codes(alloc)?;
-    let key_codes = codes_of(alloc, key_codes, &rows)?;
+    let Presorted {
+        numbers: rows,
+        differ,
+    } = presorted;
+    let key_codes = presorted_codes(alloc, keys, &rows, differ)?;
     let value_codes = values.number_codes(alloc)?;
     let value_codes = codes_of(alloc, value_codes, &rows)?;
     Ok(RowOrder {

@@ -8,4 +8,5 @@ mod GroupFacts
 mod BlockFacts
 mod HeadFacts
 mod OrderingFacts
+mod DifferFacts
 pub mod DealingFacts

@@ -101,7 +101,7 @@ numbers front (rows ∷ more) =
     ∙ ap (places_from l) (sym (length-append rows (joined more)))
 
 module _ (keys : List SortKey) where
-  abbrev IsTold : List (List (List Meaning)) → RowRef → Type 0
+  abbrev pub IsTold : List (List (List Meaning)) → RowRef → Type 0
   IsTold s r = ref_keys keys s r ≡ keys_at keys (joined s) (number_of s r)
 
   piece_told : (front : List (List (List Meaning))) (rows : List (List Meaning)) (more : List (List (List Meaning)))
@@ -116,7 +116,7 @@ module _ (keys : List SortKey) where
       ∙ at_front (joined front) (rows ++ joined more) a [] ∙ within rows (joined more) a [] (omega (arith, h)) in
       (ap (row_keys keys) (one ∙ sym two), piece_told front rows more (a + 1) n (omega (arith, h)))
 
-  all_told : (front segs : List (List (List Meaning))) → AllByRecursion (IsTold (front ++ segs)) (joined (pieces_from (length front) segs))
+  pub all_told : (front segs : List (List (List Meaning))) → AllByRecursion (IsTold (front ++ segs)) (joined (pieces_from (length front) segs))
   all_told front [] = tt
   all_told front (rows ∷ more) =
       let i : length (front ++ rows ∷ []) ≡ length front + 1 = length-append front (rows ∷ []) in

@@ -10,3 +10,4 @@ pub mod KeptRuns
 pub mod KeptInside
 pub mod Orderings
 pub mod Dealing
+pub mod Differing
