@@ -1,5 +1,5 @@
 -- What the rows of a group come to, kept so that each aggregate of them can be answered.
-use Rattle.std.specs.Prelude.{◌≡◌, ℕ, pos, ◌<◌, ◌==◌, Bool, true, List}
+use Rattle.std.specs.Prelude.{◌≡◌, ℕ, pos, ◌<◌, ◌==◌, Bool, true, false, List}
 use Rattle.std.specs.Prelude.{length, map, filter, Option, Some, None, slice_index_or, if◌then◌else◌}
 use Rattle.std.specs.Ordering.{is_lt}
 use Rattle.std.specs.declared.cmp.Ordering.{Ordering}
@@ -62,6 +62,18 @@ pub record AreSummed (values : List Meaning) (e : Extremes) (groups : List ℕ) 
       ≡ folds Null (first_in by_value) (fed values None) groups done count
   pub greatests : e.greatest ≡ true → map (λ s. value_in s.greatest) all
       ≡ folds Null (first_in by_value_descending) (fed values None) groups done count
+
+-- no extreme is looked for
+abbrev pub no_extremes : Extremes
+no_extremes = record { least = false; greatest = false }
+
+-- these extremes, and the one that an aggregate asks for, if it asks for one
+abbrev pub with_asked : Extremes → AggregateFunction → Extremes
+with_asked e CountRows = e
+with_asked e Count = e
+with_asked e Sum = e
+with_asked e Min = record { least = true; greatest = e.greatest }
+with_asked e Max = record { least = e.least; greatest = true }
 
 -- whether an aggregate is answered where these extremes are looked for
 abbrev pub is_told : Extremes → AggregateFunction → Bool

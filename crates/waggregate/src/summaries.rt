@@ -11,7 +11,7 @@ ghost use Rattle.waggregate.specs.Aggregating.{aggregate_of};
 ghost use Rattle.waggregate.specs.FrameAnswers.{told_or_out_of_range};
 ghost use Rattle.waggregate.specs.Grouped.{rows_of_group};
 ghost use Rattle.waggregate.specs.Summaries.{AreSummaries, AreSummed, IsEmpty, IsKnownFor, IsWith, answer_at};
-ghost use Rattle.waggregate.specs.Summaries.{answer_in, first_in, groups_told, is_told, tells, value_in};
+ghost use Rattle.waggregate.specs.Summaries.{answer_in, first_in, groups_told, is_told, no_extremes, tells, value_in, with_asked};
 ghost use Rattle.waggregate.specs.declared.summaries.Summary as summary;
 
 use crate::answers::{count_value, sum_value};
@@ -62,7 +62,9 @@ pub struct Summaries<'a> {
 
 impl Extremes {
     /// None of them.
-    pub fn none() -> Extremes {
+    pub fn none() -> Extremes
+        ensures { result ≡ no_extremes }
+    {
         Extremes {
             least: false,
             greatest: false,
@@ -70,10 +72,20 @@ impl Extremes {
     }
 
     /// These, and what an aggregate asks for.
-    pub fn with(self, function: AggregateFunction) -> Extremes {
-        Extremes {
-            least: self.least || function == AggregateFunction::Min,
-            greatest: self.greatest || function == AggregateFunction::Max,
+    pub fn with(self, function: AggregateFunction) -> Extremes
+        ensures { result ≡ with_asked self function }
+    {
+        match function {
+            AggregateFunction::CountRows | AggregateFunction::Count | AggregateFunction::Sum =>
+                self,
+            AggregateFunction::Min => Extremes {
+                least: true,
+                greatest: self.greatest,
+            },
+            AggregateFunction::Max => Extremes {
+                least: self.least,
+                greatest: true,
+            },
         }
     }
 

@@ -15,6 +15,7 @@ mod OrderFacts
 mod GroupFacts
 mod SetFacts
 mod ColumnFacts
+mod FedFacts
 mod BitFacts
 mod TellFacts
 mod Worked

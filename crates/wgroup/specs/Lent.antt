@@ -1,17 +1,23 @@
 -- A plain column of rows, lent.
-use Rattle.std.specs.Prelude.{◌≡◌, ℕ, ◌<◌, List, Ok, Option, length, slice_index_or}
+use Rattle.std.specs.Prelude.{◌≡◌, ◌⊎◌, ℕ, ◌<◌, List, Ok, Option, Result, length, slice_index_or}
 use Rattle.std.specs.Option.{ForSome}
 use Rattle.std.specs.Borrow.{Bor}
 use Rattle.wvalues.specs.declared.value.Value.{Value}
-use Rattle.wvalues.specs.Meaning.{Meaning}
+use Rattle.wvalues.specs.Meaning.{Meaning, Null}
 use Rattle.wframe.specs.Cells.{meanings}
-use Rattle.wplan.specs.Formula.{At}
-use Rattle.wrows.specs.Columns.{column_of}
+use Rattle.wplan.specs.Formula.{At, Constant}
+use Rattle.wplan.specs.Plans.{AggregatePlan, GroupCallPlan}
+use Rattle.wplan.specs.declared.resolved.AggregateFunction.TheVariants.{CountRows}
+use Rattle.wrows.specs.declared.fault.AnswerFault.{AnswerFault}
+use Rattle.wrows.specs.Columns.{Row, column_of}
 use Rattle.wrows.specs.Laid.{rows_seen}
+use Rattle.waggregate.specs.Feeding.{fed_by}
 use Rattle.waggregate.specs.Summaries.{AreSummaries}
 use Rattle.waggregate.specs.declared.summaries.Summaries.{Summaries}
 use Rattle.wgroup.specs.declared.found.Groups as memory
-use Rattle.wgroup.specs.Held.{row_numbers}
+use Rattle.wgroup.specs.declared.fed.FedAggregate.{FedAggregate}
+use Rattle.wgroup.specs.declared.fed.GroupedRows.{GroupedRows}
+use Rattle.wgroup.specs.Held.{column_over, row_numbers, set_answers}
 use Rattle.wgroup.specs.declared.lent.LentColumn.{LentColumn}
 
 -- what is known at a place, if anything, is what the rows of each of these groups come to, which feed these values
@@ -28,3 +34,15 @@ pub record IsLent (rows : List (Bor (List Value))) (sets : List memory.Groups) (
   pub told : column_of (At column.place) (rows_seen rows) ≡ Ok (meanings column.values.items)
   pub wide : length column.values.items ≡ length rows
   pub known : AreKnown (meanings column.values.items) sets column.summaries.items
+
+-- values feed an aggregate as its argument does: they are the argument's, or rows are counted, at whose values nobody looks
+abbrev pub Feeds : AggregatePlan → List Row → List Meaning → Type 0
+Feeds a rows values = (column_of a.argument rows ≡ Ok values) ⊎ ((a.function ≡ CountRows) × (a.argument ≡ Constant Null))
+
+-- what an aggregate that is fed so comes to on each group of a set
+abbrev pub fed_answers : FedAggregate → memory.Groups → List (Option Meaning)
+fed_answers fed = set_answers fed.function (fed_by fed.values.now fed.filter)
+
+-- what a call answers for each group of rows
+abbrev pub column_on : GroupedRows → GroupCallPlan → Result (List Meaning) AnswerFault
+column_on grouped = column_over (rows_seen grouped.rows.now) grouped.sets.now

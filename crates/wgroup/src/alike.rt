@@ -20,15 +20,13 @@ fn value_in<'a>(row: &'a [Value], column: Option<usize>, null: &'a Value) -> &'a
     requires { meaning null.now ≡ Null }
     ensures { meaning result.now ≡ set_value (map meaning row.now) column }
 {
-    match column {
-        None => null,
-        Some(column) => {
-            if column < row.len() {
-                &row[column]
-            } else {
-                null
-            }
-        }
+    let Some(column) = column else {
+        return null;
+    };
+    if column < row.len() {
+        &row[column]
+    } else {
+        null
     }
 }
 

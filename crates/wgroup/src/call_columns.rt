@@ -5,7 +5,7 @@ ghost use Rattle.std.specs.List.{flat_map};
 ghost use Rattle.wvalues.specs.Meaning.{Null, meaning};
 ghost use Rattle.wplan.specs.Plans.{GroupAggregate, aggregate_plan, group_call_plan};
 ghost use Rattle.waggregate.specs.Feeding.{fed_by};
-ghost use Rattle.wrows.specs.Columns.{column_of, in_range};
+ghost use Rattle.wrows.specs.Columns.{in_range};
 ghost use Rattle.wframe.specs.Cells.{meanings};
 ghost use Rattle.wplan.specs.Formula.{Constant, formula};
 ghost use Rattle.wrows.specs.Outcomes.{Gives, each};
@@ -14,13 +14,14 @@ ghost use Rattle.wgroupby.specs.Sets.{grouping_of};
 ghost use Rattle.wgroup.specs.Grouping.{grouping_answer};
 ghost use Rattle.waggregate.specs.Aggregating as aggregating;
 ghost use Rattle.wgroup.specs.Finer.{AreAnswered, AreMade, IsMade, IsMadeOf, function_of_parts};
-ghost use Rattle.wgroup.specs.Lent.{AreKnown, IsKnown, IsLent};
+ghost use Rattle.wgroup.specs.Lent.{AreKnown, Feeds, IsKnown, IsLent, column_on, fed_answers};
 ghost use Rattle.wgroup.specs.Held.{all_groups, column_over, columns_in, set_answers, set_grouping};
 
+use crate::fed::{FedAggregate, GroupedRows};
 use crate::found::{FinerSet, Groups};
 use crate::groups::items_at;
 use crate::keys::is_among;
-use crate::lent::{LentColumn, is_argument, lend};
+use crate::lent::{LentColumn, feeds, lend};
 use std::alloc::{AllocError, Global};
 use waggregate::{
     Summaries, aggregate_groups, argument_values, filter_rows, is_null, joined_lists, lent_nulls,
@@ -74,265 +75,160 @@ fn answers_of_parts(
     )
 }
 
-// What an aggregate that is fed so comes to over the rows of each group of a set, where it was answered for the sets before.
+// What an aggregate comes to over the rows of each group of a set, where it was answered for the sets before.
 fn made_answers(
     alloc: Global,
-    function: AggregateFunction,
-    values: &[&Value],
-    filter: &Option<Vec<bool>>,
+    fed: &FedAggregate<'_>,
     sets: &[Groups],
     answered: &[Vec<Value>],
     groups: &Groups,
 ) -> Result<Vec<Value>, AnswerFault>
     requires made { IsMade (take (length answered.now) sets.now) groups.now }
-    requires answered { AreAnswered function (fed_by values.now filter.now) sets.now answered.now }
-    requires len { length groups.now.numbers.value.items ≡ length values.now }
-    requires tests { ForSome filter.now (λ tests. length tests.items ≡ length values.now) }
-    requires few { length values.now < 2 ^ 31 }
-    ensures gives { Gives (λ column. map meaning column.items) result
-        (in_range (set_answers function (fed_by values.now filter.now) groups.now)) }
+    requires answered { AreAnswered fed.now.function (fed_by fed.now.values.now fed.now.filter) sets.now answered.now }
+    requires len { length groups.now.numbers.value.items ≡ length fed.now.values.now }
+    ensures gives { Gives (λ column. map meaning column.items) result (in_range (fed_answers fed.now groups.now)) }
     ensures len { IfOk result (λ column. length column.items ≡ length groups.now.order.items) }
 {
     match &groups.finer {
         None => aggregate_groups(
             alloc,
-            function,
-            values,
-            filter,
+            fed.function,
+            fed.values,
+            &fed.filter,
             &groups.numbers,
             groups.count,
             &groups.order,
         ),
         Some(finer) => {
             let place = finer.place;
-            answers_of_parts(
-                alloc,
-                function,
-                &answered[place],
-                &sets[place],
-                finer,
-                groups,
-            )
+            let set = &sets[place];
+            answers_of_parts(alloc, fed.function, &answered[place], set, finer, groups)
         }
     }
 }
 
-// What an aggregate that is fed so comes to over the rows of each group of a set, where it was answered for the
-// sets before, or what the rows of each group come to is known.
+// What an aggregate comes to over the rows of each group of a set, where it was answered for the sets before, or what the rows
+// of each group come to is known.
 fn group_answers(
     alloc: Global,
-    function: AggregateFunction,
-    values: &[&Value],
-    filter: &Option<Vec<bool>>,
-    summaries: &[Option<Summaries<'_>>],
+    fed: &FedAggregate<'_>,
     sets: &[Groups],
     answered: &[Vec<Value>],
     groups: &Groups,
 ) -> Result<Vec<Value>, AnswerFault>
     requires made { IsMade (take (length answered.now) sets.now) groups.now }
-    requires answered { AreAnswered function (fed_by values.now filter.now) sets.now answered.now }
-    requires known { IsKnown (meanings values.now) summaries.now (length answered.now) groups.now }
-    requires len { length groups.now.numbers.value.items ≡ length values.now }
-    requires tests { ForSome filter.now (λ tests. length tests.items ≡ length values.now) }
-    requires few { length values.now < 2 ^ 31 }
-    ensures gives { Gives (λ column. map meaning column.items) result
-        (in_range (set_answers function (fed_by values.now filter.now) groups.now)) }
+    requires answered { AreAnswered fed.now.function (fed_by fed.now.values.now fed.now.filter) sets.now answered.now }
+    requires known { IsKnown (meanings fed.now.values.now) fed.now.summaries.now (length answered.now) groups.now }
+    requires len { length groups.now.numbers.value.items ≡ length fed.now.values.now }
+    ensures gives { Gives (λ column. map meaning column.items) result (in_range (fed_answers fed.now groups.now)) }
     ensures len { IfOk result (λ column. length column.items ≡ length groups.now.order.items) }
 {
-    match summaries_for(summaries, answered.len(), function, filter) {
-        Some(known) => known.answers(alloc, function, &groups.order),
-        None => made_answers(alloc, function, values, filter, sets, answered, groups),
+    match summaries_for(fed.summaries, answered.len(), fed.function, &fed.filter) {
+        Some(known) => known.answers(alloc, fed.function, &groups.order),
+        None => made_answers(alloc, fed, sets, answered, groups),
     }
 }
 
-// What an aggregate that is fed so comes to over the rows of each group of all sets.
+// What an aggregate comes to over the rows of each group of all sets.
 fn aggregate_answers(
     alloc: Global,
-    function: AggregateFunction,
-    values: &[&Value],
-    filter: &Option<Vec<bool>>,
-    summaries: &[Option<Summaries<'_>>],
+    fed: &FedAggregate<'_>,
     sets: &[Groups],
 ) -> Result<Vec<Value>, AnswerFault>
     requires made { AreMade sets.now }
-    requires known { AreKnown (meanings values.now) sets.now summaries.now }
-    requires len { All (λ groups. length groups.numbers.value.items ≡ length values.now) sets.now }
-    requires tests { ForSome filter.now (λ tests. length tests.items ≡ length values.now) }
-    requires few { length values.now < 2 ^ 31 }
-    ensures gives { Gives (λ column. map meaning column.items) result
-        (in_range (flat_map (set_answers function (fed_by values.now filter.now)) sets.now)) }
+    requires known { AreKnown (meanings fed.now.values.now) sets.now fed.now.summaries.now }
+    requires len { All (λ groups. length groups.numbers.value.items ≡ length fed.now.values.now) sets.now }
+    ensures gives { Gives (λ column. map meaning column.items) result (in_range (flat_map (fed_answers fed.now) sets.now)) }
     ensures len { IfOk result (λ column. length column.items ≡ length (all_groups sets.now)) }
 {
     let mut answered = Vec::with_capacity(alloc, sets.len())?;
     for groups in sets {
-        let answers = group_answers(
-            alloc, function, values, filter, summaries, sets, &answered, groups,
-        )?;
+        let answers = group_answers(alloc, fed, sets, &answered, groups)?;
         answered.push(answers)?;
     }
     let column = joined_lists(alloc, answered)?;
     Ok(column)
 }
 
-// What an aggregate whose argument has these values comes to over the rows of each group of all sets.
+// What an aggregate that these values feed comes to over the rows of each group of all sets.
 fn fed_column(
     alloc: Global,
     aggregate: &Aggregate,
-    rows: &[&[Value]],
+    grouped: &GroupedRows<'_>,
     values: &[&Value],
     summaries: &[Option<Summaries<'_>>],
-    sets: &[Groups],
 ) -> Result<Vec<Value>, AnswerFault>
-    requires values { column_of (formula aggregate.now.argument) (rows_seen rows.now) ≡ Ok (meanings values.now) }
-    requires wide { length values.now ≡ length rows.now }
-    requires known { AreKnown (meanings values.now) sets.now summaries.now }
-    requires made { AreMade sets.now }
-    requires len { All (λ groups. length groups.numbers.value.items ≡ length rows.now) sets.now }
-    requires few { length rows.now < 2 ^ 31 }
-    ensures gives { Gives (λ column. map meaning column.items) result (column_over (rows_seen rows.now) sets.now
+    requires values { Feeds (aggregate_plan aggregate.now) (rows_seen grouped.now.rows.now) (meanings values.now) }
+    requires wide { length values.now ≡ length grouped.now.rows.now }
+    requires known { AreKnown (meanings values.now) grouped.now.sets.now summaries.now }
+    requires made { AreMade grouped.now.sets.now }
+    ensures gives { Gives (λ column. map meaning column.items) result (column_on grouped.now
         (GroupAggregate (aggregate_plan aggregate.now))) }
-    ensures len { IfOk result (λ column. length column.items ≡ length (all_groups sets.now)) }
+    ensures len { IfOk result (λ column. length column.items ≡ length (all_groups grouped.now.sets.now)) }
 {
-    let filter = filter_rows(alloc, &aggregate.filter, rows)?;
-    aggregate_answers(alloc, aggregate.function, values, &filter, summaries, sets)
+    let filter = filter_rows(alloc, &aggregate.filter, grouped.rows)?;
+    let fed = FedAggregate {
+        function: aggregate.function,
+        values,
+        filter,
+        summaries,
+    };
+    aggregate_answers(alloc, &fed, grouped.sets)
 }
 
 // What an aggregate comes to over the rows of each group of all sets, with its argument evaluated on every row.
 fn evaluated_column(
     alloc: Global,
     aggregate: &Aggregate,
-    rows: &[&[Value]],
-    sets: &[Groups],
+    grouped: &GroupedRows<'_>,
 ) -> Result<Vec<Value>, AnswerFault>
-    requires made { AreMade sets.now }
-    requires len { All (λ groups. length groups.numbers.value.items ≡ length rows.now) sets.now }
-    requires few { length rows.now < 2 ^ 31 }
-    ensures gives { Gives (λ column. map meaning column.items) result (column_over (rows_seen rows.now) sets.now
+    requires made { AreMade grouped.now.sets.now }
+    ensures gives { Gives (λ column. map meaning column.items) result (column_on grouped.now
         (GroupAggregate (aggregate_plan aggregate.now))) }
-    ensures len { IfOk result (λ column. length column.items ≡ length (all_groups sets.now)) }
+    ensures len { IfOk result (λ column. length column.items ≡ length (all_groups grouped.now.sets.now)) }
 {
-    let cells = argument_values(alloc, &aggregate.argument, rows)?;
+    let cells = argument_values(alloc, &aggregate.argument, grouped.rows)?;
     let values = lent_values(alloc, &cells)?;
-    fed_column(alloc, aggregate, rows, &values, &[], sets)
+    fed_column(alloc, aggregate, grouped, &values, &[])
 }
 
-// What `count(*)` comes to over the rows of each group of all sets. It reads no values, so there may be any for the rows.
-fn counted_column(
-    alloc: Global,
-    aggregate: &Aggregate,
-    rows: &[&[Value]],
-    values: &[&Value],
-    summaries: &[Option<Summaries<'_>>],
-    sets: &[Groups],
-) -> Result<Vec<Value>, AnswerFault>
-    requires null { formula aggregate.now.argument ≡ Constant Null }
-    requires counts { aggregate.now.function ≡ AggregateFunction.CountRows }
-    requires wide { length values.now ≡ length rows.now }
-    requires known { AreKnown (meanings values.now) sets.now summaries.now }
-    requires made { AreMade sets.now }
-    requires len { All (λ groups. length groups.numbers.value.items ≡ length rows.now) sets.now }
-    requires few { length rows.now < 2 ^ 31 }
-    ensures gives { Gives (λ column. map meaning column.items) result (column_over (rows_seen rows.now) sets.now
-        (GroupAggregate (aggregate_plan aggregate.now))) }
-    ensures len { IfOk result (λ column. length column.items ≡ length (all_groups sets.now)) }
-{
-    let filter = filter_rows(alloc, &aggregate.filter, rows)?;
-    aggregate_answers(
-        alloc,
-        AggregateFunction::CountRows,
-        values,
-        &filter,
-        summaries,
-        sets,
-    )
-}
-
-// What an aggregate of NULL comes to over the rows of each group of all sets, with a null for each row.
+// What an aggregate of NULL, as `count(*)` is one, comes to over the rows of each group of all sets, with a null for each row.
 fn nulls_column(
     alloc: Global,
     aggregate: &Aggregate,
-    rows: &[&[Value]],
-    sets: &[Groups],
+    grouped: &GroupedRows<'_>,
 ) -> Result<Vec<Value>, AnswerFault>
     requires null { formula aggregate.now.argument ≡ Constant Null }
-    requires made { AreMade sets.now }
-    requires len { All (λ groups. length groups.numbers.value.items ≡ length rows.now) sets.now }
-    requires few { length rows.now < 2 ^ 31 }
-    ensures gives { Gives (λ column. map meaning column.items) result (column_over (rows_seen rows.now) sets.now
+    requires made { AreMade grouped.now.sets.now }
+    ensures gives { Gives (λ column. map meaning column.items) result (column_on grouped.now
         (GroupAggregate (aggregate_plan aggregate.now))) }
-    ensures len { IfOk result (λ column. length column.items ≡ length (all_groups sets.now)) }
+    ensures len { IfOk result (λ column. length column.items ≡ length (all_groups grouped.now.sets.now)) }
 {
     let null = Value::Null;
-    let values = lent_nulls(alloc, &null, rows)?;
-    fed_column(alloc, aggregate, rows, &values, &[], sets)
-}
-
-// What an aggregate of NULL, as `count(*)` is one, comes to over the rows of each group of all sets. Rows are counted by a column
-// that is lent, if there is one, and so take no list of their own.
-fn null_column(
-    alloc: Global,
-    aggregate: &Aggregate,
-    rows: &[&[Value]],
-    sets: &[Groups],
-    lent: &Option<LentColumn<'_>>,
-) -> Result<Vec<Value>, AnswerFault>
-    requires null { formula aggregate.now.argument ≡ Constant Null }
-    requires lent { ForSome lent.now (IsLent rows.now sets.now) }
-    requires made { AreMade sets.now }
-    requires len { All (λ groups. length groups.numbers.value.items ≡ length rows.now) sets.now }
-    requires few { length rows.now < 2 ^ 31 }
-    ensures gives { Gives (λ column. map meaning column.items) result (column_over (rows_seen rows.now) sets.now
-        (GroupAggregate (aggregate_plan aggregate.now))) }
-    ensures len { IfOk result (λ column. length column.items ≡ length (all_groups sets.now)) }
-{
-    let AggregateFunction::CountRows = aggregate.function else {
-        return nulls_column(alloc, aggregate, rows, sets);
-    };
-    match lent {
-        Some(column) => counted_column(
-            alloc,
-            aggregate,
-            rows,
-            &column.values,
-            &column.summaries,
-            sets,
-        ),
-        None => nulls_column(alloc, aggregate, rows, sets),
-    }
+    let values = lent_nulls(alloc, &null, grouped.rows)?;
+    fed_column(alloc, aggregate, grouped, &values, &[])
 }
 
 // What an aggregate comes to over the rows of each group of all sets. A plain column is read where it lies, by the one that is
-// lent, if it is that column.
+// lent, if that may feed the aggregate.
 fn aggregate_column(
     alloc: Global,
     aggregate: &Aggregate,
-    rows: &[&[Value]],
-    sets: &[Groups],
+    grouped: &GroupedRows<'_>,
     lent: &Option<LentColumn<'_>>,
 ) -> Result<Vec<Value>, AnswerFault>
-    requires lent { ForSome lent.now (IsLent rows.now sets.now) }
-    requires made { AreMade sets.now }
-    requires len { All (λ groups. length groups.numbers.value.items ≡ length rows.now) sets.now }
-    requires few { length rows.now < 2 ^ 31 }
-    ensures gives { Gives (λ column. map meaning column.items) result (column_over (rows_seen rows.now) sets.now
+    requires lent { ForSome lent.now (IsLent grouped.now.rows.now grouped.now.sets.now) }
+    requires made { AreMade grouped.now.sets.now }
+    ensures gives { Gives (λ column. map meaning column.items) result (column_on grouped.now
         (GroupAggregate (aggregate_plan aggregate.now))) }
-    ensures len { IfOk result (λ column. length column.items ≡ length (all_groups sets.now)) }
+    ensures len { IfOk result (λ column. length column.items ≡ length (all_groups grouped.now.sets.now)) }
 {
-    if is_null(&aggregate.argument) {
-        return null_column(alloc, aggregate, rows, sets, lent);
-    }
     match lent {
-        Some(column) if is_argument(column, &aggregate.argument) => {
-            fed_column(
-                alloc,
-                aggregate,
-                rows,
-                &column.values,
-                &column.summaries,
-                sets,
-            )
+        Some(column) if feeds(column, aggregate) => {
+            fed_column(alloc, aggregate, grouped, &column.values, &column.summaries)
         }
-        _ => evaluated_column(alloc, aggregate, rows, sets),
+        _ if is_null(&aggregate.argument) => nulls_column(alloc, aggregate, grouped),
+        _ => evaluated_column(alloc, aggregate, grouped),
     }
 }
 
@@ -425,21 +321,17 @@ fn grouping_column(
 fn column(
     alloc: Global,
     call: &GroupCall,
-    rows: &[&[Value]],
-    sets: &[Groups],
+    grouped: &GroupedRows<'_>,
     lent: &Option<LentColumn<'_>>,
 ) -> Result<Vec<Value>, AnswerFault>
-    requires lent { ForSome lent.now (IsLent rows.now sets.now) }
-    requires made { AreMade sets.now }
-    requires len { All (λ groups. length groups.numbers.value.items ≡ length rows.now) sets.now }
-    requires few { length rows.now < 2 ^ 31 }
-    ensures gives { Gives (λ column. map meaning column.items) result (column_over (rows_seen rows.now) sets.now
-        (group_call_plan call.now)) }
-    ensures len { IfOk result (λ column. length column.items ≡ length (all_groups sets.now)) }
+    requires lent { ForSome lent.now (IsLent grouped.now.rows.now grouped.now.sets.now) }
+    requires made { AreMade grouped.now.sets.now }
+    ensures gives { Gives (λ column. map meaning column.items) result (column_on grouped.now (group_call_plan call.now)) }
+    ensures len { IfOk result (λ column. length column.items ≡ length (all_groups grouped.now.sets.now)) }
 {
     match call {
-        GroupCall::Aggregated(aggregate) => aggregate_column(alloc, aggregate, rows, sets, lent),
-        GroupCall::GroupingOf(columns) => grouping_column(alloc, columns, sets),
+        GroupCall::Aggregated(aggregate) => aggregate_column(alloc, aggregate, grouped, lent),
+        GroupCall::GroupingOf(columns) => grouping_column(alloc, columns, grouped.sets),
     }
 }
 
@@ -460,11 +352,12 @@ pub(crate) fn call_columns(
     ensures len { IfOk result (λ columns. All (λ column. length column.items ≡ length (all_groups sets.now)) columns.items) }
     ensures count { IfOk result (λ columns. length columns.items ≡ length calls.now) }
 {
+    let grouped = GroupedRows { rows, sets };
     let mut columns = Vec::with_capacity(alloc, calls.len())?;
     let mut lent = None;
     for call in calls {
-        lend(alloc, &calls[columns.len()..], rows, sets, &mut lent)?;
-        columns.push(column(alloc, call, rows, sets, &lent)?)?;
+        lend(alloc, &calls[columns.len()..], &grouped, &mut lent)?;
+        columns.push(column(alloc, call, &grouped, &lent)?)?;
     }
     Ok(columns)
 }

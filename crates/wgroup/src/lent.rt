@@ -3,19 +3,23 @@
 //! Calls that follow each other often have one column for their argument, as a sum, a least and a greatest value of it. It is lent
 //! once for all of them, and where several are fed alike, what the rows of each group come to is found in one pass over the rows. No
 //! more than one column is lent at a time, so that many calls take little more memory than one does.
-ghost use Rattle.std.specs.Prelude.{◌≡◌, ◌<◌, ◌^◌, All, IfOk, IsTrue, None, length};
+ghost use Rattle.std.specs.Prelude.{◌≡◌, ◌<◌, ◌^◌, All, List, IfOk, IsTrue, None, Ok, length};
 ghost use Rattle.std.specs.Option.{ForSome};
+ghost use Rattle.wvalues.specs.Meaning.{Meaning};
 ghost use Rattle.wplan.specs.Formula.{At, formula};
+ghost use Rattle.wplan.specs.Plans.{aggregate_plan};
+ghost use Rattle.wrows.specs.Columns.{Row, column_of};
 ghost use Rattle.wframe.specs.Cells.{meanings};
 ghost use Rattle.waggregate.specs.Summaries.{AreSummaries};
 ghost use Rattle.wgroup.specs.Finer.{AreMade};
 ghost use Rattle.wgroup.specs.Held.{row_numbers};
-ghost use Rattle.wgroup.specs.Lent.{AreKnown, IsLent};
+ghost use Rattle.wgroup.specs.Lent.{AreKnown, Feeds, IsLent};
 
+use crate::fed::GroupedRows;
 use crate::found::Groups;
 use std::alloc::{AllocError, Global};
 use waggregate::{Extremes, Summaries, extremes_of, is_null, lent_argument, summarize};
-use wplan::{Expr, GroupCall};
+use wplan::{Aggregate, AggregateFunction, Expr, GroupCall};
 use wrows::place_of;
 use wvalues::Value;
 
@@ -34,15 +38,13 @@ const LOOKED_AT: usize = 64;
 // What the first of the calls reads on each row, or where nothing is lent the first of some that reads something; none where it
 // reads nothing, as `count(*)` does.
 fn argument_of(calls: &[GroupCall], is_lent: bool) -> Option<&Expr> {
-    for call in &calls[..calls.len().min(LOOKED_AT)] {
-        match call {
-            GroupCall::Aggregated(aggregate) if !is_null(&aggregate.argument) => {
-                return Some(&aggregate.argument);
-            }
-            _ => {}
-        }
-        if is_lent {
-            return None;
+    let most = if is_lent { 1 } else { LOOKED_AT };
+    for call in &calls[..calls.len().min(most)] {
+        let GroupCall::Aggregated(aggregate) = call else {
+            continue;
+        };
+        if !is_null(&aggregate.argument) {
+            return Some(&aggregate.argument);
         }
     }
     None
@@ -101,28 +103,23 @@ fn lent_column<'a>(
     argument: &Expr,
     place: usize,
     calls: &[GroupCall],
-    rows: &[&'a [Value]],
-    sets: &[Groups],
+    grouped: &GroupedRows<'a>,
 ) -> Result<Option<LentColumn<'a>>, AllocError>
     requires argument { formula argument.now ≡ At place }
-    requires made { AreMade sets.now }
-    requires len { All (λ groups. length groups.numbers.value.items ≡ length rows.now) sets.now }
-    requires few { length rows.now < 2 ^ 31 }
-    ensures { IfOk result (λ lent. ForSome lent (IsLent rows.now sets.now)) }
+    requires made { AreMade grouped.now.sets.now }
+    ensures { IfOk result (λ lent. ForSome lent (IsLent grouped.now.rows.now grouped.now.sets.now)) }
 {
-    let lent = lent_argument(alloc, argument, rows)?;
-    match lent {
-        None => Ok(None),
-        Some(values) => {
-            let extremes = extremes_of(calls, place);
-            let summaries = summaries_of(alloc, &values, extremes, sets)?;
-            Ok(Some(LentColumn {
-                place,
-                values,
-                summaries,
-            }))
-        }
-    }
+    let lent = lent_argument(alloc, argument, grouped.rows)?;
+    let Some(values) = lent else {
+        return Ok(None);
+    };
+    let extremes = extremes_of(calls, place);
+    let summaries = summaries_of(alloc, &values, extremes, grouped.sets)?;
+    Ok(Some(LentColumn {
+        place,
+        values,
+        summaries,
+    }))
 }
 
 /// Lends the column that the argument of the first of the calls is, if it is a plain one and another one is lent, or that of the
@@ -130,15 +127,12 @@ fn lent_column<'a>(
 pub(crate) fn lend<'a>(
     alloc: Global,
     calls: &[GroupCall],
-    rows: &[&'a [Value]],
-    sets: &[Groups],
+    grouped: &GroupedRows<'a>,
     lent: &mut Option<LentColumn<'a>>,
 ) -> Result<(), AllocError>
-    requires lent { ForSome lent.old (IsLent rows.now sets.now) }
-    requires made { AreMade sets.now }
-    requires len { All (λ groups. length groups.numbers.value.items ≡ length rows.now) sets.now }
-    requires few { length rows.now < 2 ^ 31 }
-    ensures { ForSome lent.new (IsLent rows.now sets.now) }
+    requires lent { ForSome lent.old (IsLent grouped.now.rows.now grouped.now.sets.now) }
+    requires made { AreMade grouped.now.sets.now }
+    ensures { ForSome lent.new (IsLent grouped.now.rows.now grouped.now.sets.now) }
 {
     let Some(argument) = argument_of(calls, lent.is_some()) else {
         return Ok(());
@@ -152,16 +146,30 @@ pub(crate) fn lend<'a>(
         _ => {}
     }
     *lent = None;
-    *lent = lent_column(alloc, argument, place, calls, rows, sets)?;
+    *lent = lent_column(alloc, argument, place, calls, grouped)?;
     Ok(())
 }
 
-/// Whether an argument is this column.
-pub(crate) fn is_argument(column: &LentColumn<'_>, argument: &Expr) -> bool
+// Whether an argument is this column.
+fn is_argument(column: &LentColumn<'_>, argument: &Expr) -> bool
     ensures { IsTrue result → formula argument.now ≡ At column.now.place }
 {
     match place_of(argument) {
         None => false,
         Some(place) => place == column.place,
     }
+}
+
+/// Whether this column may feed an aggregate: it is its argument, or rows are counted, which then take no list of their own.
+pub(crate) fn feeds(column: &LentColumn<'_>, aggregate: &Aggregate) -> bool
+    ensures { IsTrue result → (rows : List Row) (values : List Meaning) → column_of (At column.now.place) rows ≡ Ok values
+        → Feeds (aggregate_plan aggregate.now) rows values }
+{
+    if is_argument(column, &aggregate.argument) {
+        return true;
+    }
+    let AggregateFunction::CountRows = aggregate.function else {
+        return false;
+    };
+    is_null(&aggregate.argument)
 }

@@ -19,6 +19,7 @@
 mod alike;
 mod call_columns;
 mod counting;
+mod fed;
 mod finer;
 mod found;
 mod group_slots;

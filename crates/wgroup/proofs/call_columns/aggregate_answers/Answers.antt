@@ -6,7 +6,7 @@ use Rattle.waggregate.specs.Feeding.{fed_by}
 use Rattle.wvalues.specs.declared.value.Value.{Value}
 use Rattle.wvalues.specs.Meaning.{Meaning, meaning}
 use Rattle.wgroup.specs.Finer.{AreAnswered, IsMade}
-use Rattle.wgroup.specs.Held.{set_answers}
+use Rattle.wgroup.specs.Lent.{fed_answers}
 use Rattle.wgroup.proofs.ColumnFacts.{answers_fault, answers_next}
 use Rattle.wgroup.proofs.MadeFacts.{answered_more}
 use Rattle.wgroup.proofs.TellFacts.{count_next}
@@ -23,14 +23,15 @@ group_answers-requires-clause-made c =
 
 pub group_answers-requires-clause-answered : goal.group_answers-requires-clause-answered
 group_answers-requires-clause-answered c =
-    subst (AreAnswered c.args.function (fed_by c.args.values.now c.args.filter.now) c.args.sets.now)
+    let fed = c.args.fed.now in
+    subst (AreAnswered fed.function (fed_by fed.values.now fed.filter) c.args.sets.now)
     (sym c.deref.ensures.value) c.loop-groups.invariant.known
 
 pub returns-in_err-answers-clause-gives : goal.returns-in_err-answers-clause-gives
 returns-in_err-answers-clause-gives c =
     let p = err_from_is_err_and c.from_residual-in_err-answers.result c.from_residual-in_err-answers.ensures.1 in
     let view : Vec Value Global → List Meaning = λ column. map meaning column.items in
-    let f = set_answers c.args.function (fed_by c.args.values.now c.args.filter.now) in
+    let f = fed_answers c.args.fed.now in
     rw (p.1, p.2) (answers_fault f c.args.sets.now c.loop-groups.groups-index c.groups-item.result _
     (flat_map (λ list. map meaning list.items) c.loop-groups.answered.items) c.in_err-answers.field-0.0 view view
     c.loop-groups-test.true c.groups-item.is c.loop-groups.invariant.so_far c.in_err-answers.ensures.gives)
@@ -43,7 +44,8 @@ loop-groups-preserved c =
     let sets = c.args.sets.now in
     let answered = c.loop-groups.answered.items in
     let answers = c.in_ok-answers.answers in
-    let f = set_answers c.args.function (fed_by c.args.values.now c.args.filter.now) in
+    let fed = c.args.fed.now in
+    let f = fed_answers fed in
     let pushed : flat_map one c.push.new.self.items ≡ flat_map one answered ++ one answers =
     ap (flat_map one) c.in_ok-push.ensures.items ∙ sym (flat_map_more one [] answered answers) in
     let long : length (flat_map one c.push.new.self.items) ≡ length (flat_map one answered) + length g.order.items
@@ -57,7 +59,7 @@ loop-groups-preserved c =
     record {
       so_far = answers_next f sets i g _ (flat_map one answered) _ (one answers) c.loop-groups-test.true c.groups-item.is
           c.loop-groups.invariant.so_far c.in_ok-answers.ensures.gives pushed;
-      known = answered_more c.args.function (fed_by c.args.values.now c.args.filter.now) sets answered _ i g answers
+      known = answered_more fed.function (fed_by fed.values.now fed.filter) sets answered _ i g answers
           c.loop-groups.invariant.as_many c.loop-groups-test.true c.groups-item.is c.loop-groups.invariant.known
           c.in_ok-answers.ensures.gives c.in_ok-push.ensures.items;
       as_many = omega (arith, ap length c.in_ok-push.ensures.items, length-append answered (answers ∷ []), c.loop-groups.invariant.as_many);

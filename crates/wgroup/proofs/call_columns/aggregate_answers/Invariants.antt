@@ -4,18 +4,18 @@ use Rattle.waggregate.specs.Feeding.{fed_by}
 use Rattle.wvalues.specs.Meaning.{meaning}
 use Rattle.wrows.specs.Columns.{in_range}
 use Rattle.wgroup.specs.Finer.{AreAnswered}
-use Rattle.wgroup.specs.Held.{all_groups, set_answers}
+use Rattle.wgroup.specs.Held.{all_groups}
+use Rattle.wgroup.specs.Lent.{fed_answers}
 use Rattle.wgroup.proofs.ColumnFacts.{answers_behind}
 use Rattle.wgroup.proofs.call_columns.aggregate_answers.Given as goal
 
 abbrev pub invariant-loop-groups : goal.invariant-loop-groups
 invariant-loop-groups l =
-    let feed = fed_by l.values l.filter in
     let column = flat_map (λ list. map meaning list.items) l.answered.items in
     record {
-      so_far : in_range (flat_map (set_answers l.function feed) l.sets) ≡ answers_behind (set_answers l.function feed)
+      so_far : in_range (flat_map (fed_answers l.fed) l.sets) ≡ answers_behind (fed_answers l.fed)
           column (drop l.groups-index l.sets);
-      known : AreAnswered l.function feed l.sets l.answered.items;
+      known : AreAnswered l.fed.function (fed_by l.fed.values.now l.fed.filter) l.sets l.answered.items;
       as_many : length l.answered.items ≡ l.groups-index;
       len : length column + length (all_groups (drop l.groups-index l.sets)) ≡ length (all_groups l.sets);
     }

@@ -10,12 +10,7 @@ use Rattle.wgroup.proofs.ColumnFacts.{all_pushed, columns_end, columns_fault, co
 use Rattle.wgroup.proofs.call_columns.call_columns.Goals as goal
 
 pub lend-requires : goal.lend-requires
-lend-requires c = record {
-  lent = c.loop-call.invariant.lent;
-  made = c.requires.made;
-  len = c.requires.len;
-  few = c.requires.few;
-}
+lend-requires c = record { lent = c.loop-call.invariant.lent; made = c.requires.made }
 
 pub returns-in_err-column-clause-gives : goal.returns-in_err-column-clause-gives
 returns-in_err-column-clause-gives c =

@@ -1,4 +1,4 @@
-use Rattle.std.proofs.Common.{List, Vec, Global, Result, Ok, map, length, sym, ap, ◌∙◌}
+use Rattle.std.proofs.Common.{inl, List, Vec, Global, Result, Ok, map, length, sym, ap, ◌∙◌}
 use Rattle.std.specs.List.{flat_map}
 use Rattle.std.proofs.lemmas.Result.{err_from_is_err_and}
 use Rattle.wvalues.specs.Meaning.{Meaning, meaning}
@@ -20,17 +20,17 @@ returns-in_err-cells-clause-gives c =
     let view : Vec Value Global → List Meaning = λ column. map meaning column.items in
     let fault = c.in_err-cells.field-0.0 in
     let plan = aggregate_plan c.args.aggregate.now in
-    let rows = rows_seen c.args.rows.now in
+    let rows = rows_seen c.args.grouped.now.rows.now in
     let fed : List Meaning → Result Feed AnswerFault = λ values. filter_of plan.filter rows >>= λ filter.
     Ok (record { values = values; filter = filter }) in
-    let told : Feed → Result (List Meaning) AnswerFault = λ feed. in_range (flat_map (set_answers plan.function feed) c.args.sets.now) in
+    let told : Feed → Result (List Meaning) AnswerFault = λ feed. in_range (flat_map (set_answers plan.function feed) c.args.grouped.now.sets.now) in
     rw (p.1, p.2) (then_refused {X = Feed} (λ feed. feed) view fault (feed_of plan rows) told (then_refused {Y =
     Feed} view (λ feed. feed) fault (column_of plan.argument rows) fed c.in_err-cells.ensures.gives))
 
 pub fed_column-requires-clause-values : goal.fed_column-requires-clause-values
 fed_column-requires-clause-values c =
-    c.in_ok-cells.ensures.gives ∙ ap Ok (sym (ap meanings c.deref-2.ensures.value ∙ c.in_ok-values.ensures.value
-    ∙ ap (map meaning) c.deref.ensures.value))
+    inl (c.in_ok-cells.ensures.gives ∙ ap Ok (sym (ap meanings c.deref-2.ensures.value ∙ c.in_ok-values.ensures.value
+    ∙ ap (map meaning) c.deref.ensures.value)))
 
 pub fed_column-requires-clause-wide : goal.fed_column-requires-clause-wide
 fed_column-requires-clause-wide c = ap length c.deref-2.ensures.value ∙ c.in_ok-values.ensures.len

@@ -1,19 +1,15 @@
-use Rattle.std.proofs.Common.{◌≡◌, Bool, List, Vec, Global, Option, Result, Ok, Err, All, length, map, option_map, subst, sym, ap, ◌∙◌}
-use Rattle.std.specs.List.{flat_map}
-use Rattle.std.specs.Option.{ForSome}
+use Rattle.std.proofs.Common.{◌≡◌, Bool, List, Vec, Global, Option, Err, All, length, map, option_map, subst, sym, ap, ◌∙◌}
 use Rattle.std.proofs.lemmas.Result.{err_from_is_err_and}
 use Rattle.wvalues.specs.Meaning.{Meaning, meaning}
 use Rattle.wvalues.specs.declared.value.Value.{Value}
 use Rattle.wframe.specs.Cells.{meanings}
 use Rattle.wplan.specs.Plans.{aggregate_plan}
-use Rattle.waggregate.specs.Aggregating.{Feed}
-use Rattle.wrows.specs.declared.fault.AnswerFault.{AnswerFault}
-use Rattle.wrows.specs.Columns.{filter_of, in_range}
+use Rattle.wrows.specs.Columns.{filter_of}
 use Rattle.wrows.specs.Laid.{rows_seen}
 use Rattle.wrows.specs.Outcomes.{◌>>=◌, Gives}
 use Rattle.wrows.proofs.RowFacts.{then_refused}
 use Rattle.wgroup.specs.declared.found.Groups as memory
-use Rattle.wgroup.specs.Held.{set_answers}
+use Rattle.wgroup.proofs.FedFacts.{column_fed, answers_fed}
 use Rattle.wgroup.proofs.call_columns.fed_column.Goals as goal
 
 pub returns-in_err-filter-clause-gives : goal.returns-in_err-filter-clause-gives
@@ -23,33 +19,23 @@ returns-in_err-filter-clause-gives c =
     let seen : Option (Vec Bool Global) → Option (List Bool) = λ filter. option_map (λ tests. tests.items) filter in
     let fault = c.in_err-filter.field-0.0 in
     let plan = aggregate_plan c.args.aggregate.now in
-    let filters = filter_of plan.filter (rows_seen c.args.rows.now) in
+    let rows = rows_seen c.args.grouped.now.rows.now in
+    let sets = c.args.grouped.now.sets.now in
     let values = meanings c.args.values.now in
-    let fed : Option (List Bool) → Result Feed AnswerFault = λ filter. Ok (record { values = values; filter = filter }) in
-    let told : Feed → Result (List Meaning) AnswerFault = λ feed. in_range (flat_map (set_answers plan.function feed) c.args.sets.now) in
-    rw (p.1, p.2) (subst (λ r. Gives view (Err fault)
-    ((r >>= λ values. filters >>= λ filter. Ok (record { values = values; filter = filter })) >>= told)) (sym c.requires.values)
-    (then_refused {X = Feed} (λ feed. feed) view fault (filters >>= fed) told (then_refused {Y = Feed} seen (λ feed. feed)
-    fault filters fed c.in_err-filter.ensures.gives)))
+    rw (p.1, p.2) (subst (Gives view (Err fault)) (sym (column_fed plan rows sets values c.requires.values))
+    (then_refused seen view fault (filter_of plan.filter rows) (answers_fed plan sets values) c.in_err-filter.ensures.gives))
 
 pub aggregate_answers-requires-clause-len : goal.aggregate_answers-requires-clause-len
 aggregate_answers-requires-clause-len c =
-    subst (λ n. All (λ (groups : memory.Groups). length groups.numbers.value.items ≡ n) c.args.sets.now)
-    (sym c.requires.wide) c.requires.len
-
-pub aggregate_answers-requires-clause-tests : goal.aggregate_answers-requires-clause-tests
-aggregate_answers-requires-clause-tests c = subst (λ n. ForSome c.in_ok-filter.filter (λ tests. length tests.items ≡ n))
-    (sym c.requires.wide) c.in_ok-filter.ensures.len
+    subst (λ n. All (λ (groups : memory.Groups). length groups.numbers.value.items ≡ n) c.args.grouped.now.sets.now)
+    (sym c.requires.wide) c.args.grouped.now.len
 
 pub returns-clause-gives : goal.returns-clause-gives
 returns-clause-gives c =
     let view : Vec Value Global → List Meaning = λ column. map meaning column.items in
     let plan = aggregate_plan c.args.aggregate.now in
-    let filters = filter_of plan.filter (rows_seen c.args.rows.now) in
+    let rows = rows_seen c.args.grouped.now.rows.now in
+    let sets = c.args.grouped.now.sets.now in
     let values = meanings c.args.values.now in
-    let fed : Option (List Bool) → Result Feed AnswerFault = λ filter. Ok (record { values = values; filter = filter }) in
-    let told : Feed → Result (List Meaning) AnswerFault = λ feed. in_range (flat_map (set_answers plan.function feed) c.args.sets.now) in
-    subst (Gives view c.aggregate_answers.result)
-    (sym (ap (λ r. (r >>= λ values. filters >>= λ filter. Ok (record { values = values; filter = filter })) >>= told)
-    c.requires.values ∙ ap (λ r. (r >>= fed) >>= told) c.in_ok-filter.ensures.gives))
-    c.aggregate_answers.ensures.gives
+    subst (Gives view c.aggregate_answers.result) (sym (column_fed plan rows sets values c.requires.values
+    ∙ ap (λ r. r >>= answers_fed plan sets values) c.in_ok-filter.ensures.gives)) c.aggregate_answers.ensures.gives

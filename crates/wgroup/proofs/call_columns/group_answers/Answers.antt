@@ -15,7 +15,7 @@ answers-requires-clause-ordered c =
     let g = c.args.groups.now in
     let s = c.in-Some.known.now in
     let f = c.in-Some.ensures in
-    let are : AreSummaries (meanings c.args.values.now) (row_numbers g) g.count s = c.requires.known None f.within s (f.is None) in
+    let are : AreSummaries (meanings c.args.fed.now.values.now) (row_numbers g) g.count s = c.requires.known None f.within s (f.is None) in
     subst (All (λ k. k < groups_told s)) (sym c.deref.ensures.value)
     (subst (λ n. All (λ k. k < n) g.order.items) (sym are.long) g.below)
 
@@ -25,10 +25,10 @@ returns-in-Some-clause-gives c =
     let g = c.args.groups.now in
     let s = c.in-Some.known.now in
     let f = c.in-Some.ensures in
-    let values = meanings c.args.values.now in
+    let values = meanings c.args.fed.now.values.now in
     let are : AreSummaries values (row_numbers g) g.count s = c.requires.known None f.within s (f.is None) in
     let told : Option (List Bool) → List ℕ → List (Option Meaning) =
-    λ tests order. map (λ i. aggregate_of c.args.function (record { values = values; filter = tests }) (rows_of_group (row_numbers g) i))
+    λ tests order. map (λ i. aggregate_of c.args.fed.now.function (record { values = values; filter = tests }) (rows_of_group (row_numbers g) i))
     order in
     subst (λ l. Gives view c.answers.result (in_range l))
     (ap (told None) c.deref.ensures.value

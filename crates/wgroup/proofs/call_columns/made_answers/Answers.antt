@@ -13,9 +13,9 @@ pub returns-in-None-clause-gives : goal.returns-in-None-clause-gives
 returns-in-None-clause-gives c =
     let view : Vec Value Global → List Meaning = λ column. map meaning column.items in
     let g = c.args.groups.now in
-    let feed : Feed = fed_by c.args.values.now c.args.filter.now in
+    let feed : Feed = fed_by c.args.fed.now.values.now c.args.fed.now.filter in
     let told : List ℕ → List ℕ → List (Option Meaning) =
-    λ numbers order. map (λ i. aggregate_of c.args.function feed (rows_of_group numbers i)) order in
+    λ numbers order. map (λ i. aggregate_of c.args.fed.now.function feed (rows_of_group numbers i)) order in
     subst (λ l. Gives view c.aggregate_groups.result (in_range l))
     (ap (λ ns. told ns c.deref-in-None-2.result.now) (c.deref-in-None.ensures.value ∙ ap (λ v. v.items) c.deref.ensures
     ∙ sym (ap (by_row g.numbers.value.items) c.in-None.is))

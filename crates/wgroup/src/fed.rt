@@ -1,0 +1,31 @@
+//! Rows with their groups, and aggregates with what feeds them.
+ghost use Rattle.std.specs.Prelude.{◌≡◌, ◌<◌, ◌^◌, All, length};
+ghost use Rattle.std.specs.Option.{ForSome};
+
+use crate::found::Groups;
+use waggregate::Summaries;
+use wplan::AggregateFunction;
+use wvalues::Value;
+
+/// Rows, fewer than 2^31, and their groups of each set.
+#[derive(Clone, Copy)]
+pub(crate) struct GroupedRows<'a> {
+    pub(crate) rows: &'a [&'a [Value]],
+    pub(crate) sets: &'a [Groups],
+    ghost len: { All (λ groups. length groups.numbers.value.items ≡ length rows.now) sets.now },
+    ghost few: { length rows.now < 2 ^ 31 },
+}
+
+/// What feeds an aggregate, fewer than 2^31 rows.
+#[derive(Drop)]
+pub(crate) struct FedAggregate<'a> {
+    pub(crate) function: AggregateFunction,
+    /// The value of each row.
+    pub(crate) values: &'a [&'a Value],
+    /// Whether its filter is true on each row, if it has one.
+    pub(crate) filter: Option<Vec<bool>>,
+    /// What the rows of each group of each set come to without a filter, where that is known.
+    pub(crate) summaries: &'a [Option<Summaries<'a>>],
+    ghost tests: { ForSome filter (λ tests. length tests.items ≡ length values.now) },
+    ghost few: { length values.now < 2 ^ 31 },
+}
