@@ -2,14 +2,15 @@
 //!
 //! - Gives a set of segments under one declaration: it takes segments, retirements, floors and disputes,
 //!   joins what another set knows, lists the names, lends what it knows in the order of names, and gives all
-//!   rows in the order of any keys, by runs of each segment that it keeps.
+//!   rows in the order of any keys, by runs of each segment that it keeps. It notes whether no two rows share some keys.
 //! - Promises: a set is a view, a finite map from names to what is known of them, a floor under its own name
 //!   and no name below it. Each call tells the whole view after it, at an error the one before. `take`,
 //!   `retire`, `retire_to`, `dispute` and `join` are joins of views, and joining is associative,
 //!   commutative and idempotent (`laws`). No block of a set holds more than 512 entries. `ordered` gives the one
-//!   list of the rows by keys, then by name and place, and leaves the view as it is; runs are no part of it.
+//!   list of the rows by keys, then by name and place, and leaves the view as it is; runs are no part of it. Where
+//!   `all_differ` says yes, no two live rows share the keys.
 //! - Asks: of `take_beside`, that both sets have one declaration; of `live_at` and `has_run`, that there is such a
-//!   live name.
+//!   live name; of `all_differ`, the rows that `ordered` gives for the keys.
 //! - Leaves reading to `wsegment`, runs and their merge to `wruns`, what is held of a name and the blocks of entries to
 //!   `wentries`, files to `wexchange` and streams to `wstream`.
 //!

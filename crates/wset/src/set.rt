@@ -48,8 +48,8 @@ use wvalues::{Name, SortKey};
 /// are its runs, so a set that is new and then joins another is a cheap copy of it.
 ///
 /// An eager set (`new`) makes the cells of a segment as it takes it, for queries that are to come; a lazy one (`lazy`) makes none
-/// before it is told to by `make` or asked for an order. What is shared with another set has the cells that that one made, so who
-/// needs them calls `make`, whatever the set.
+/// before it is told to by `make` or asked by `ordered` or `all_differ`. What is shared with another set has the cells that that one
+/// made, so who needs them calls `make`, whatever the set.
 #[derive(Drop)]
 pub struct SegmentSet {
     alloc: Global,
@@ -96,7 +96,7 @@ impl SegmentSet {
         SegmentSet::empty(alloc, schema, false)
     }
 
-    /// The same, but it judges what it takes, and makes no cells before `make` or `ordered`.
+    /// The same, but it judges what it takes, and makes no cells before `make`, `ordered` or `all_differ`.
     pub fn lazy(alloc: Global, schema: Schema) -> SegmentSet
         ensures { result ≡ record { schema = schema; view = map.empty; orders = [] } }
     {
@@ -657,7 +657,7 @@ impl SegmentSet {
     /// Whether no two rows of all live segments share these keys, told from these rows, which [`SegmentSet::ordered`] gave for them.
     ///
     /// Each row is compared with the next one, up to the first two that share their keys, and the answer is noted beside the keys, in
-    /// the place of the one for other keys before: while it is for these keys it is found in no time, until what is known changes.
+    /// the place of the one for other keys before. A note for these keys is found without a look at a row, until what is known changes.
     /// Where memory runs out for the note alone, none is kept. `AllocError` where it runs out before: for the cells of a segment that
     /// has none, or for a list of the segments.
     pub fn all_differ(&mut self, keys: &[SortKey], rows: &[RowRef]) -> Result<bool, AllocError>
