@@ -1,4 +1,4 @@
--- A plain column of rows, lent.
+-- A plain column of rows, lent, and what feeds an aggregate.
 use Rattle.std.specs.Prelude.{◌≡◌, ◌⊎◌, ℕ, ◌<◌, List, Ok, Option, Result, length, slice_index_or}
 use Rattle.std.specs.Option.{ForSome}
 use Rattle.std.specs.Borrow.{Bor}

@@ -16,7 +16,7 @@ pub(crate) struct GroupedRows<'a> {
     ghost few: { length rows.now < 2 ^ 31 },
 }
 
-/// What feeds an aggregate, fewer than 2^31 rows.
+/// An aggregate, and what feeds it on fewer than 2^31 rows.
 #[derive(Drop)]
 pub(crate) struct FedAggregate<'a> {
     pub(crate) function: AggregateFunction,

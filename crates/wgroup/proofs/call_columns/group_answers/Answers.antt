@@ -28,8 +28,8 @@ returns-in-Some-clause-gives c =
     let values = meanings c.args.fed.now.values.now in
     let are : AreSummaries values (row_numbers g) g.count s = c.requires.known None f.within s (f.is None) in
     let told : Option (List Bool) → List ℕ → List (Option Meaning) =
-    λ tests order. map (λ i. aggregate_of c.args.fed.now.function (record { values = values; filter = tests }) (rows_of_group (row_numbers g) i))
-    order in
+    λ tests order. map (λ i. aggregate_of c.args.fed.now.function (record { values = values; filter = tests })
+    (rows_of_group (row_numbers g) i)) order in
     subst (λ l. Gives view c.answers.result (in_range l))
     (ap (told None) c.deref.ensures.value
     ∙ ap (λ (filter : Option (Vec Bool Global)). told (option_map (λ tests. tests.items) filter) g.order.items) (sym f.unfiltered))
