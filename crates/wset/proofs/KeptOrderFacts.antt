@@ -1,5 +1,5 @@
--- Rows as one number each.
-use Rattle.std.proofs.Common.{◌≡◌, ℕ, ◌+◌, ◌*◌, ◌%◌, ◌<◌, List, map, Result, Option, Some, None, IfSome, sym, ap, subst, ◌∙◌}
+-- Rows as one number each, and a note that is found.
+use Rattle.std.proofs.Common.{◌≡◌, ℕ, ◌+◌, ◌*◌, ◌%◌, ◌<◌, Bool, true, List, map, Result, Option, Some, None, IfSome, sym, ap, subst, ◌∙◌}
 use Rattle.std.specs.declared.result.Result.TheVariants.{Ok, Err}
 use Rattle.std.specs.Result.{OnOk}
 use Rattle.wvalues.specs.declared.key.SortKey.{SortKey}
@@ -9,7 +9,10 @@ use Rattle.wruns.specs.declared.refs.RowRef.{RowRef}
 use Rattle.wset.specs.declared.kept_order.KeptOrder.{KeptOrder}
 use Rattle.std.proofs.lemmas.Nat.{div-mul-add, mod-mul-add}
 use Rattle.wruns.specs.Lists.{ref}
-use Rattle.wset.specs.KeptOrders.{IsOrderOf, unpacked}
+use Rattle.wruns.specs.Differing.{AllDiffer}
+use Rattle.wruns.specs.Runs.{joined}
+use Rattle.wset.specs.declared.differing.Differing.{Differing}
+use Rattle.wset.specs.KeptOrders.{IsNoteOf, IsOrderOf, unpacked}
 
 -- a segment's number and a place below a width are told by one number
 pub packed_is : (w s r n : ℕ) → r < w → n ≡ s * w + r → unpacked w n ≡ ref s r
@@ -31,3 +34,17 @@ kept_list o order segments is h = (subst (λ x. IfSome x (IsOrderOf segments)) i
 pub at_any_rate : {T E W : Type 0} (r : Result T E) → W → OnOk r W
 at_any_rate (Ok t) w = w
 at_any_rate (Err e) w = tt
+
+-- what a note for these keys says
+pub noted : (o : Option Differing) (note : Differing) (keys : List SortKey) (segments : List (List (List Meaning))) → o ≡ Some note
+    → note.keys.items ≡ keys → IfSome o (IsNoteOf segments) → note.differ ≡ true → AllDiffer keys (joined segments)
+noted o note keys segments is same h differ =
+    subst (λ k. AllDiffer k (joined segments)) same (subst (λ x. IfSome x (IsNoteOf segments)) is h differ)
+
+-- a note that says what is so
+pub note_of : (o : Option Differing) (keys : List SortKey) (differ : Bool) (segments : List (List (List Meaning)))
+    → IfSome o (λ note. note.keys.items ≡ keys) → IfSome o (λ note. note.differ ≡ differ)
+    → (differ ≡ true → AllDiffer keys (joined segments)) → IfSome o (IsNoteOf segments)
+note_of None keys differ segments same told is = tt
+note_of (Some note) keys differ segments same told is =
+    λ h. subst (λ k. AllDiffer k (joined segments)) (sym same) (is (sym told ∙ h))

@@ -14,7 +14,7 @@ use Rattle.wset.specs.Sets.{DeclaredView}
 use Rattle.wentries.specs.Holding.{IsReadBy, IsHeldBy, known_of}
 use Rattle.wentries.specs.Entries.{AllHeldBy, AreSettled, IsRising, known_entries}
 use Rattle.wentries.specs.Blocks.{IsGrown, flat}
-use Rattle.wset.specs.KeptOrders.{IsOrderOf}
+use Rattle.wset.specs.KeptOrders.{IsNoteOf, IsOrderOf}
 use Rattle.wset.specs.Running.{AreStarts, IsLiveHome, lives_before}
 use Rattle.wentries.specs.Keeping.{kept_in, rows_in}
 use Rattle.wset.specs.Storing.{declared_view, IsOrderly}
@@ -184,8 +184,9 @@ live_orders a s i n kept is at = sym (get_or_map (λ k. k.1.orders) (kept_in (fl
 -- ---- a set whose blocks were cut
 
 pub orderly_flat : (a b : Inside) → b.schema ≡ a.schema → b.count ≡ a.count → flat b.blocks.items ≡ flat a.blocks.items
-    → length b.starts.items ≡ length b.blocks.items → AreStarts b.blocks.items b.starts.items → b.order ≡ None → IsOrderly a → IsOrderly b
-orderly_flat a b schema count same placed starts none h = record {
+    → length b.starts.items ≡ length b.blocks.items → AreStarts b.blocks.items b.starts.items → b.order ≡ None
+    → b.differing ≡ None → IsOrderly a → IsOrderly b
+orderly_flat a b schema count same placed starts none blank h = record {
   rising = subst IsRising (sym same) h.rising;
   settled = subst (λ es. AreSettled (known_entries es)) (sym same) h.settled;
   counted = count ∙ h.counted ∙ ap length (sym same);
@@ -194,6 +195,7 @@ orderly_flat a b schema count same placed starts none h = record {
   placed = placed;
   starts = starts;
   ordered = subst (λ o. IfSome o (IsOrderOf (rows_in (flat b.blocks.items)))) (sym none) tt;
+  noted = subst (λ o. IfSome o (IsNoteOf (rows_in (flat b.blocks.items)))) (sym blank) tt;
 }
 
 -- ---- counting the live names before each block

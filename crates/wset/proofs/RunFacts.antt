@@ -19,7 +19,7 @@ use Rattle.wset.proofs.Maps.{lives-view}
 use Rattle.std.specs.FinMap.{is_sorted}
 use Rattle.wentries.specs.Entries.{AllHeldBy, AreSettled, known_entry, known_entries}
 use Rattle.wentries.specs.Blocks.{flat}
-use Rattle.wset.specs.KeptOrders.{IsOrderOf}
+use Rattle.wset.specs.KeptOrders.{IsNoteOf, IsOrderOf}
 use Rattle.wset.specs.Running.{AreStarts, live_rows, orders_in}
 use Rattle.wentries.specs.Keeping.{HeldHasRun, plain_block, plain_entry, plain_held, rows_in}
 use Rattle.wentries.specs.declared.entries.Entry.{Entry}
@@ -122,8 +122,9 @@ rows_same a b e = sym (plain_rows a) ∙ ap (λ l. map (λ c. c.rows) (filter_ma
 
 -- a set that holds the same, with whatever runs, is as orderly
 pub orderly_same : (a b : Inside) → b.schema ≡ a.schema → b.count ≡ a.count → b.starts.items ≡ a.starts.items
-    → b.order ≡ a.order → map plain_block b.blocks.items ≡ map plain_block a.blocks.items → IsOrderly a → IsOrderly b
-orderly_same a b schema count starts order plain h =
+    → b.order ≡ a.order → b.differing ≡ a.differing → map plain_block b.blocks.items ≡ map plain_block a.blocks.items
+    → IsOrderly a → IsOrderly b
+orderly_same a b schema count starts order note plain h =
     let bs = b.blocks.items in
     let old = a.blocks.items in
     let same = flat_plain bs old plain in
@@ -138,6 +139,8 @@ orderly_same a b schema count starts order plain h =
       starts = subst (AreStarts bs) (sym starts) (starts_same old bs a.starts.items plain h.starts);
       ordered = subst (λ o. IfSome o (IsOrderOf (rows_in (flat bs)))) (sym order) (subst (λ l. IfSome a.order (IsOrderOf l))
           (sym (rows_same (flat bs) (flat old) same)) h.ordered);
+      noted = subst (λ o. IfSome o (IsNoteOf (rows_in (flat bs)))) (sym note) (subst (λ l. IfSome a.differing (IsNoteOf l))
+          (sym (rows_same (flat bs) (flat old) same)) h.noted);
     }
 
 run_among : (keys : List SortKey) (es : List Entry) → AllByRecursion (λ e. HeldHasRun keys e.held) es

@@ -4,7 +4,7 @@ use Rattle.std.specs.FinMap.{from_sorted}
 use Rattle.wset.specs.Sets.{DeclaredView}
 use Rattle.wentries.specs.Entries.{AllHeldBy, AreSettled, IsRising, known_entries}
 use Rattle.wentries.specs.Blocks.{flat}
-use Rattle.wset.specs.KeptOrders.{IsOrderOf}
+use Rattle.wset.specs.KeptOrders.{IsNoteOf, IsOrderOf}
 use Rattle.wset.specs.Running.{AreStarts, orders_in}
 use Rattle.wentries.specs.Keeping.{rows_in}
 use Rattle.wset.specs.declared.set.SegmentSet.TheInside.{Inside}
@@ -19,7 +19,8 @@ declared_view s = record {
 }
 
 -- the names rise, none is below a floor, they are counted by a number of 64 bits, each segment was read by the
--- declaration, the live names before each block are counted, and an order that is kept is that of the rows that are live
+-- declaration, the live names before each block are counted, and an order that is kept is that of the rows that are live, as is
+-- what is noted of them
 pub record IsOrderly (s : Inside) : Type 0 where
   pub rising : IsRising (flat s.blocks.items)
   pub settled : AreSettled (known_entries (flat s.blocks.items))
@@ -29,3 +30,4 @@ pub record IsOrderly (s : Inside) : Type 0 where
   pub placed : length s.starts.items ≡ length s.blocks.items
   pub starts : AreStarts s.blocks.items s.starts.items
   pub ordered : IfSome s.order (IsOrderOf (rows_in (flat s.blocks.items)))
+  pub noted : IfSome s.differing (IsNoteOf (rows_in (flat s.blocks.items)))

@@ -18,6 +18,7 @@
 //! half of `specs/Running.antt`; the others say how a set is kept.
 #![tactic(auto)]
 
+mod differing;
 mod kept_order;
 pub mod laws;
 mod merge;

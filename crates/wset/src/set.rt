@@ -12,12 +12,15 @@ ghost use Rattle.wset.specs.Words.{floor_word, is_reached, retired_word, status_
 ghost use Rattle.wset.specs.Listing.{listed};
 ghost use Rattle.std.specs.List.{IsAmong};
 ghost use Rattle.wruns.specs.Dealing.{AreRunsOf};
+ghost use Rattle.wruns.specs.Differing.{AllDiffer};
 ghost use Rattle.wruns.specs.Refs.{refs_by};
+ghost use Rattle.wruns.specs.Runs.{joined};
 ghost use Rattle.wset.specs.Running.{live_rows};
 ghost use Rattle.wset.specs.Sets.{Becomes, LivesAreRead};
 ghost use Rattle.wentries.specs.Holding.{IsReadBy, IsHeldBy, known_of};
 ghost use Rattle.wset.specs.Lending.{AreLivesOf, IsAbove, IsBehindOrigins, only_disputed};
 
+use crate::differing::Differing;
 use crate::kept_order::{KeptOrder, is_by, order_kept, unpacked};
 use crate::merge::{joined, teaches};
 use crate::outcomes::{JoinError, Retired, TakeError, Taken};
@@ -39,8 +42,9 @@ use wvalues::{Name, SortKey};
 ///
 /// In a contract it is the declaration, the view, and the keys of the runs that are kept of each live segment, in the order
 /// of names. It keeps an entry for each floor and for each name above it that is not unknown, in the order of names and in
-/// blocks of at most 512, which are cut in two as they grow, and beside the blocks how many live names stand before each, and
-/// at most one order of the rows of all live segments. A segment's bytes and cells are shared by all sets that know it, and so
+/// blocks of at most 512, which are cut in two as they grow, and beside the blocks how many live names stand before each, at
+/// most one order of the rows of all live segments, and of one list of keys at most whether no two of these rows share them; both
+/// are let go when what is known changes. A segment's bytes and cells are shared by all sets that know it, and so
 /// are its runs, so a set that is new and then joins another is a cheap copy of it.
 ///
 /// An eager set (`new`) makes the cells of a segment as it takes it, for queries that are to come; a lazy one (`lazy`) makes none
@@ -54,6 +58,7 @@ pub struct SegmentSet {
     starts: Vec<usize>,
     count: usize,
     order: Option<KeptOrder>,
+    differing: Option<Differing>,
     is_lazy: bool,
 }
 
@@ -109,6 +114,7 @@ impl SegmentSet {
             starts: Vec::new(alloc),
             count: 0,
             order: None,
+            differing: None,
             is_lazy,
         }
     }
@@ -174,6 +180,7 @@ impl SegmentSet {
     {
         let count = count_after(&self.blocks, self.count, &name)?;
         self.order = None;
+        self.differing = None;
         put_counted(self.alloc, &mut self.blocks, &mut self.starts, name, held)?;
         self.count = count;
         Ok(())
@@ -357,6 +364,7 @@ impl SegmentSet {
         }
         let _count = count_after(&self.blocks, self.count, &name)?;
         self.order = None;
+        self.differing = None;
         raise_counted(self.alloc, &mut self.blocks, &mut self.starts, name)?;
         self.count = entry_count(&self.blocks);
         Ok(Retired::New)
@@ -462,6 +470,7 @@ impl SegmentSet {
             return Err(JoinError::NoMemory);
         };
         self.order = None;
+        self.differing = None;
         self.blocks = blocks;
         self.starts = starts;
         self.count = names;
@@ -634,6 +643,35 @@ impl SegmentSet {
         } else {
             self.make_and_merge(keys)
         }
+    }
+
+    /// Whether no two rows of all live segments share these keys, told from the rows in their order.
+    fn rows_differ(&self, keys: &[SortKey], rows: &[RowRef]) -> Result<bool, AllocError>
+        requires { rows.now ≡ refs_by keys.now (live_rows self.now) }
+        ensures { IfOk result (λ differ. differ ≡ true → AllDiffer keys.now (joined (live_rows self.now))) }
+    {
+        let segments = segments(self.alloc, &self.blocks)?;
+        Ok(wruns::all_differ(keys, &segments, rows))
+    }
+
+    /// Whether no two rows of all live segments share these keys, told from these rows, which [`SegmentSet::ordered`] gave for them.
+    ///
+    /// Each row is compared with the next one, up to the first two that share their keys, and the answer is noted beside the keys, in
+    /// the place of the one for other keys before: while it is for these keys it is found in no time, until what is known changes.
+    /// Where memory runs out for the note alone, none is kept. `AllocError` where it runs out before: for the cells of a segment that
+    /// has none, or for a list of the segments.
+    pub fn all_differ(&mut self, keys: &[SortKey], rows: &[RowRef]) -> Result<bool, AllocError>
+        requires rows { rows.now ≡ refs_by keys.now (live_rows self.old) }
+        ensures differ { IfOk result (λ differ. differ ≡ true → AllDiffer keys.now (joined (live_rows self.old))) }
+        ensures same { self.new ≡ self.old }
+    {
+        if let Some(differ) = Differing::told(&self.differing, keys) {
+            return Ok(differ);
+        }
+        self.make()?;
+        let differ = self.rows_differ(keys, rows)?;
+        self.differing = Differing::note(self.alloc, keys, differ);
+        Ok(differ)
     }
 
     /// How a name stands.

@@ -23,6 +23,7 @@ invariant_of-self c =
       placed = c.in-Ok-starts_of.ensures.placed ∙ ap length c.deref-6.ensures.value;
       starts = subst (λ bs. AreStarts bs c.in-Ok-starts_of.starts.items) c.deref-6.ensures.value c.in-Ok-starts_of.ensures.starts;
       ordered = tt;
+      noted = tt;
       read = subst (AllHeldBy c.self.inside.schema) (sym (c.in-Ok-in_blocks.ensures.same ∙ c.deref-5.ensures.value))
           (c.in-Ok.ensures.read c.self.inside.schema (rw c.deref-3.ensures.value c.self.invariant.read)
           (rw c.deref-4.ensures.value (subst (λ d. AllHeldBy d (flat c.other.inside.blocks.items)) same c.other.invariant.read)));

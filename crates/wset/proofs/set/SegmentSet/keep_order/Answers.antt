@@ -18,6 +18,7 @@ invariant_of-self-in-Ok-2 c =
       read = c.self.invariant.read;
       placed = c.self.invariant.placed;
       starts = c.self.invariant.starts;
+      noted = c.self.invariant.noted;
       ordered = order_of c.in-Ok.order c.args.keys.now c.args.rows.now (rows_in (flat c.self.inside.blocks.items)) told.keys
           told.width told.rows (c.requires ∙ ap (refs_by c.args.keys.now) (sym rows));
     }

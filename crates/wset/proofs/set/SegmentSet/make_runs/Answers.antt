@@ -9,10 +9,10 @@ use Rattle.wset.proofs.Sets.{changed}
 use Rattle.wset.proofs.set.SegmentSet.make_runs.Goals as goal
 
 pub invariant_of-self : goal.invariant_of-self
-invariant_of-self c = orderly_same c.self.inside _ refl refl refl refl c.make_in.ensures.plain c.self.invariant
+invariant_of-self c = orderly_same c.self.inside _ refl refl refl refl refl c.make_in.ensures.plain c.self.invariant
 
 pub invariant_of-self-2 : goal.invariant_of-self-2
-invariant_of-self-2 c = orderly_same c.self.inside _ refl refl refl refl c.make_in.ensures.plain c.self.invariant
+invariant_of-self-2 c = orderly_same c.self.inside _ refl refl refl refl refl c.make_in.ensures.plain c.self.invariant
 
 pub returns-in_err-make_in-clause-same : goal.returns-in_err-make_in-clause-same
 returns-in_err-make_in-clause-same c =

@@ -27,6 +27,7 @@ invariant_of-self-2 c = record {
   placed = c.put_counted.ensures.placed;
   starts = c.put_counted.ensures.starts;
   ordered = tt;
+  noted = tt;
   read = c.put_counted.ensures.read _ c.self.invariant.read (subst (λ s. IsHeldBy s.schema c.args.held) (sym c.self.view_is)
       c.requires.read);
 }
@@ -42,4 +43,4 @@ returns-clause-ok c =
 
 pub invariant_of-self : goal.invariant_of-self
 invariant_of-self c = orderly_flat c.self.inside _ refl refl c.in_err-put_counted.ensures.err c.put_counted.ensures.placed
-    c.put_counted.ensures.starts refl c.self.invariant
+    c.put_counted.ensures.starts refl refl c.self.invariant

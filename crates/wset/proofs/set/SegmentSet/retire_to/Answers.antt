@@ -42,6 +42,7 @@ invariant_of-self-2 c =
       placed = c.raise_counted.ensures.placed;
       starts = c.raise_counted.ensures.starts;
       ordered = tt;
+      noted = tt;
       read = c.raise_counted.ensures.read _ c.self.invariant.read;
     }
 
@@ -61,4 +62,4 @@ returns-clause-ok c =
 
 pub invariant_of-self : goal.invariant_of-self
 invariant_of-self c = orderly_flat c.self.inside _ refl refl c.in_err-raise_counted.ensures.err
-    c.raise_counted.ensures.placed c.raise_counted.ensures.starts refl c.self.invariant
+    c.raise_counted.ensures.placed c.raise_counted.ensures.starts refl refl c.self.invariant
