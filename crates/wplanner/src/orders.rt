@@ -61,7 +61,8 @@ fn take_shared<'a>(
     }
 }
 
-// The rows in the order of a window, whose numbers are taken out where it is presorted. It counts among the orders.
+// The rows in the order of a window, whose numbers are taken out where it is presorted, with what is known of their keys. It
+// counts among the orders.
 fn new_order<'a>(
     alloc: Global,
     window: &ResolvedWindow,
@@ -75,7 +76,7 @@ fn new_order<'a>(
     ensures made { made.new ≤ made.old + 1 }
 {
     match take_presorted(presorted, window) {
-        Some(numbers) => WindowOrder::presorted(alloc, window, rows, numbers, made),
+        Some(taken) => WindowOrder::presorted(alloc, window, rows, taken, made),
         None => WindowOrder::new(alloc, window, rows, made),
     }
 }

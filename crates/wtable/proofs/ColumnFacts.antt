@@ -83,7 +83,7 @@ directed (k ∷ ks) (x ∷ xs) [] = refl
 directed (k ∷ ks) (x ∷ xs) (y ∷ ys) = ap (λ o. ordering_then o (keys_cmp ks xs ys)) (direction_same k x y)
     ∙ ap (ordering_then (key_cmp (direction k) x y)) (directed ks xs ys)
 
-same_cmp : (order keys : List SortKey) → map direction order ≡ map direction keys → (x y : List Meaning)
+pub same_cmp : (order keys : List SortKey) → map direction order ≡ map direction keys → (x y : List Meaning)
     → keys_cmp order x y ≡ keys_cmp keys x y
 same_cmp order keys e x y = directed order x y ∙ ap (λ ks. keys_cmp ks x y) e ∙ sym (directed keys x y)
 
@@ -97,6 +97,38 @@ by_columns order keys rows e =
     (get_or-map (row_keys keys) rows i [] [] h) ∙ ap (keys_cmp keys (keys_at keys rows i)) (get_or-map (row_keys keys) rows j [] [] k))
     (places (length rows)) (places_below 0 (length rows) (length rows) (omega arith))
 
+-- a window of columns: its partition values and keys are what these are on the rows
+abbrev pub window_made : WindowPlan → List SortKey → List SortKey → List Row → Windowed
+window_made plan pk kk rows = record {
+  values = map (row_keys pk) rows;
+  value_order = ascending plan.partition;
+  keys = map (row_keys kk) rows;
+  order = map (λ (k : KeyPlan). k.order) plan.keys;
+  frame = frames.frame_of plan.frame;
+}
+
+pub window_ordered : (width : ℕ) (plan : WindowPlan) (pk kk : List SortKey)
+    → AreColumns width plan.partition (ascending plan.partition) pk
+    → AreColumns width (map (λ k. k.value) plan.keys) (map (λ k. k.order) plan.keys) kk
+    → (rows : List Row) → ordered_rows rows plan ≡ Ok (in_order (window_made plan pk kk rows))
+window_ordered width plan pk kk p k rows =
+    let V = map (row_keys pk) rows in
+    let K = map (row_keys kk) rows in
+    let values : lists_of plan.partition rows ≡ Ok V = ap (λ ts. lists_of ts rows) p.named ∙ columns_presorted pk rows in
+    let others : lists_of (map (λ (k : KeyPlan). k.value) plan.keys) rows ≡ Ok K = ap (λ ts. lists_of ts rows) k.named
+    ∙ columns_presorted kk rows in
+    let made : List (List Meaning) → List (List Meaning) → Windowed = λ v b. record {
+      values = v;
+      value_order = ascending plan.partition;
+      keys = b;
+      order = map (λ (k : KeyPlan). k.order) plan.keys;
+      frame = frames.frame_of plan.frame;
+    } in
+    let is : windowed rows plan ≡ Ok (window_made plan pk kk rows) =
+    then_ok V (lists_of plan.partition rows) (λ v. lists_of (map (λ (k : KeyPlan). k.value) plan.keys) rows >>= λ b.
+    Ok (made v b)) values ∙ then_ok K (lists_of (map (λ (k : KeyPlan). k.value) plan.keys) rows) (λ b. Ok (made V b)) others in
+    then_ok (window_made plan pk kk rows) (windowed rows plan) (λ w. Ok (in_order w)) is
+
 -- the order of a window of columns
 pub window_presorted : (width : ℕ) (plan : WindowPlan) (pk kk : List SortKey)
     → AreColumns width plan.partition (ascending plan.partition) pk
@@ -107,22 +139,8 @@ window_presorted width plan pk kk p k law rows =
     let K = map (row_keys kk) rows in
     let vo = ascending plan.partition in
     let ko = map (λ (k : KeyPlan). k.order) plan.keys in
-    let values : lists_of plan.partition rows ≡ Ok V = ap (λ ts. lists_of ts rows) p.named ∙ columns_presorted pk rows in
-    let others : lists_of (map (λ (k : KeyPlan). k.value) plan.keys) rows ≡ Ok K = ap (λ ts. lists_of ts rows) k.named
-    ∙ columns_presorted kk rows in
-    let made : List (List Meaning) → List (List Meaning) → Windowed = λ v b. record {
-      values = v;
-      value_order = vo;
-      keys =
-          b;
-      order = ko;
-      frame = frames.frame_of plan.frame;
-    } in
-    let is : windowed rows plan ≡ Ok (made V K) =
-    then_ok V (lists_of plan.partition rows) (λ v. lists_of (map (λ (k : KeyPlan). k.value) plan.keys) rows >>= λ b.
-    Ok (made v b)) values ∙ then_ok K (lists_of (map (λ (k : KeyPlan). k.value) plan.keys) rows) (λ b. Ok (made V b)) others in
-    let ordered : ordered_rows rows plan ≡ Ok (in_order (made V K)) = then_ok (made V K) (windowed rows plan) (λ w. Ok (in_order w)) is in
-    then_ok (in_order (made V K)) (ordered_rows rows plan) (λ (o : Ordered). Ok o.rows) ordered
+    then_ok (in_order (window_made plan pk kk rows)) (ordered_rows rows plan) (λ (o : Ordered). Ok o.rows)
+    (window_ordered width plan pk kk p k rows)
     ∙ ap Ok (
     sorted_same (λ i. i ≡ i) (both_cmp V vo K ko) (then_cmp (on (key_at V) (keys_cmp pk)) (on (key_at K) (keys_cmp kk)))
     (λ x y h g. ap (λ o. ordering_then o (keys_cmp ko (key_at K x) (key_at K y))) (same_cmp vo pk p.directed (key_at V x)

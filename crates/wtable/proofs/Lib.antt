@@ -2,6 +2,7 @@ mod HeldFacts
 pub mod SourceFacts
 pub mod LiveFacts
 pub mod ColumnFacts
+mod DifferFacts
 pub mod NumberFacts
 pub mod ReferenceFacts
 mod CountedFacts

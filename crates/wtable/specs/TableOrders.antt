@@ -14,9 +14,11 @@ use Rattle.wrows.specs.Laid.{rows_seen}
 use Rattle.wrows.specs.Picked.{numbers_of}
 use Rattle.wrows.specs.PlainColumns.{plain_place}
 use Rattle.wruns.specs.Orderings.{kept_numbers}
-use Rattle.wruns.specs.Runs.{joined}
+use Rattle.wruns.specs.Differing.{AllDiffer}
+use Rattle.wruns.specs.Runs.{joined, run_of}
 use Rattle.wruns.specs.declared.refs.RowRef.{RowRef}
 use Rattle.wcalls.specs.Ordered.{window_numbers}
+use Rattle.wcalls.specs.PresortedRows.{IsPresorted, KeysDiffer}
 use Rattle.wtable.specs.declared.orders.TableOrder.{TableOrder}
 use Rattle.wtable.specs.declared.orders.TableOrders.{TableOrders}
 use Rattle.wtable.specs.declared.presorted.PresortedOrder.{PresortedOrder}
@@ -53,6 +55,12 @@ TellsKept segments order refs = (holds : Row → Bool) → order (filter holds (
 abbrev pub by_window : WindowPlan → RowOrder
 by_window plan rows = window_numbers rows plan
 
+-- keys by which rows stand in the order of a window. Where it has no partition values, rows that differ in these keys differ in
+-- its own
+pub record AreWindowKeys (plan : WindowPlan) (keys : List SortKey) : Type 0 where
+  pub order : (rows : List Row) → by_window plan rows ≡ Ok (run_of keys rows)
+  pub differ : plan.partition ≡ [] → (rows : List Row) → AllDiffer keys rows → KeysDiffer rows plan
+
 -- the order that ORDER BY asks for, of rows that have some columns behind their cells
 abbrev pub by_keys : List KeyPlan → List (List Meaning) → RowOrder
 by_keys keys columns rows = numbers_of (map (λ k. k.value) keys) (map (λ k. k.order) keys) (beside rows columns)
@@ -67,8 +75,14 @@ pub record IsOrderFor (segments : List (List Row)) (order : RowOrder) (refs : Li
   pub tells : TellsKept segments order refs
   pub within : All (IsRowOf segments) refs
 
-abbrev pub IsTableOrder : List (List Row) → TableOrder → Type 0
-IsTableOrder segments t = IsOrderFor segments (by_window (window_plan t.window.now)) t.rows.items
+-- whatever rows are kept of all, no two of them share the keys of a window
+abbrev pub DifferKept : List (List Row) → WindowPlan → Type 0
+DifferKept segments plan = (holds : Row → Bool) → KeysDiffer (filter holds (joined segments)) plan
+
+-- the table's rows in the order of a window, and whether it is known that no two share its keys
+pub record IsTableOrder (segments : List (List Row)) (t : TableOrder) : Type 0 where
+  pub order : IsOrderFor segments (by_window (window_plan t.window.now)) t.rows.items
+  pub differ : t.differ ≡ true → DifferKept segments (window_plan t.window.now)
 
 -- orders of the table's rows that a SELECT asks for
 pub record AreTableOrders (segments : List (List Row)) (plans : List KeyPlan) (t : TableOrders) : Type 0 where
@@ -134,7 +148,7 @@ pub record IsNumbered (condition : Option Formula) (segments : List (List Row)) 
 
 -- presorted numbers in the order of a window
 abbrev pub IsPresortedOf : List Row → PresortedOrder → Type 0
-IsPresortedOf rows t = window_numbers rows (window_plan t.window.now) ≡ Ok t.numbers.items
+IsPresortedOf rows t = IsPresorted rows (window_plan t.window.now) t.presorted
 
 abbrev pub ArePresortedOf : List Row → List PresortedOrder → Type 0
 ArePresortedOf rows = All (IsPresortedOf rows)

@@ -1,21 +1,24 @@
 //! Orders of the table's rows by columns, from the runs that its segments keep.
-ghost use Rattle.std.specs.Prelude.{◌≡◌, ◌<◌, ◌==◌, ◌&&◌, [], All, None, IfOk, IfSome, List, Ok, OnOk, length, map, not};
+ghost use Rattle.std.specs.Prelude.{◌≡◌, ◌<◌, ◌==◌, ◌&&◌, true, [], All, None, IfOk, IfSome, List, Ok, OnOk, length, map, not};
 ghost use Rattle.std.specs.Option.{is_some};
 ghost use Rattle.wvalues.specs.Meaning.{Meaning};
 ghost use Rattle.wplan.specs.Formula.{At, formula};
 ghost use Rattle.wplan.specs.Plans.{key_plan, select_plan, window_plan};
 ghost use Rattle.wrows.specs.Columns.{Row};
 ghost use Rattle.wrows.specs.Sorting.{ascending};
-ghost use Rattle.wruns.specs.Runs.{run_of};
+ghost use Rattle.wruns.specs.Differing.{AllDiffer};
+ghost use Rattle.wruns.specs.Refs.{refs_by};
+ghost use Rattle.wruns.specs.Runs.{joined};
 ghost use Rattle.wset.specs.Running.{live_rows};
 ghost use Rattle.wset.specs.Sets.{Becomes};
-ghost use Rattle.wtable.specs.TableOrders.{AreColumns, AreTableOrders, IsOrderFor, IsTableOrder, by_keys, by_window, direction};
+ghost use Rattle.wtable.specs.TableOrders.{AreColumns, AreTableOrders, AreWindowKeys, IsOrderFor, IsTableOrder, by_keys};
+ghost use Rattle.wtable.specs.TableOrders.{direction};
 
 use std::alloc::{AllocError, Global};
 use wcalls::share_order;
 use wplan::{Expr, ResolvedKey, ResolvedWindow, Selection};
 use wrows::{Asked, place_of};
-use wruns::{RowRef, kept_rows_stay_in_order, runs_order_windows};
+use wruns::{RowRef, kept_rows_differ, kept_rows_stay_in_order, runs_order_windows};
 use wset::SegmentSet;
 use wvalues::SortKey;
 
@@ -37,6 +40,9 @@ pub struct TableOrder<'a> {
     pub window: &'a ResolvedWindow,
     /// All rows of the table: partition after partition, by its keys, and where these agree by name and place.
     pub rows: Vec<RowRef>,
+    /// Whether it is known that no two rows of the table share all keys of the window. It is asked only of a window without
+    /// partition values.
+    pub differ: bool,
 }
 
 /// The rows of the table in orders that a SELECT asks for.
@@ -133,8 +139,7 @@ fn window_columns(
     window: &ResolvedWindow,
     width: usize,
 ) -> Result<Option<Vec<SortKey>>, AllocError>
-    ensures { IfOk result (λ found. IfSome found (λ keys. (rows : List Row) → by_window (window_plan window.now) rows
-        ≡ Ok (run_of keys.items rows))) }
+    ensures { IfOk result (λ found. IfSome found (λ keys. AreWindowKeys (window_plan window.now) keys.items)) }
 {
     let partition = partition_columns(alloc, &window.partition, width)?;
     let Some(mut keys) = partition else {
@@ -162,6 +167,26 @@ fn is_served(orders: &[TableOrder], window: &ResolvedWindow) -> bool {
     false
 }
 
+// Whether it is known that no two rows of the table share the keys of a window, in whose order they stand. It is asked only
+// of a window without partition values: of others the rows of one partition alone are compared.
+fn keys_differ(
+    window: &ResolvedWindow,
+    keys: &[SortKey],
+    rows: &[RowRef],
+    set: &mut SegmentSet,
+) -> Result<bool, AllocError>
+    requires { rows.now ≡ refs_by keys.now (live_rows set.old) }
+    ensures whole { IfOk result (λ differ. differ ≡ true → (window_plan window.now).partition ≡ []) }
+    ensures differ { IfOk result (λ differ. differ ≡ true → AllDiffer keys.now (joined (live_rows set.old))) }
+    ensures same { set.new ≡ set.old }
+{
+    if !window.partition.is_empty() {
+        return Ok(false);
+    }
+    let differ = set.all_differ(keys, rows)?;
+    Ok(differ)
+}
+
 // Adds the table's rows in the order of a window, where it is one by columns and there is none that the window shares, nor are
 // there as many as are taken from runs.
 fn add_order<'a>(
@@ -182,8 +207,14 @@ fn add_order<'a>(
     match found {
         Some(keys) if !keys.is_empty() => {
             kept_rows_stay_in_order();
+            kept_rows_differ();
             let rows = set.ordered(&keys)?;
-            orders.push(TableOrder { window, rows })?;
+            let differ = keys_differ(window, &keys, &rows, set)?;
+            orders.push(TableOrder {
+                window,
+                rows,
+                differ,
+            })?;
             Ok(())
         }
         _ => Ok(()),

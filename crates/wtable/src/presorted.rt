@@ -4,14 +4,14 @@ ghost use Rattle.wplan.specs.Formula.{Formula};
 ghost use Rattle.wplan.specs.Plans.{KeyPlan, window_plan};
 ghost use Rattle.wrows.specs.Columns.{Row};
 ghost use Rattle.wrows.specs.Laid.{rows_seen};
-ghost use Rattle.wcalls.specs.Ordered.{window_numbers};
+ghost use Rattle.wcalls.specs.PresortedRows.{IsPresorted};
 ghost use Rattle.wtable.specs.TableOrders.{AreTableOrders, ArePresorted, ArePresortedOf, IsNumbered};
 ghost use Rattle.wtable.specs.TableOrders.{IsTableOrder, IsPresortedOf, presorted_numbers};
 
 use crate::numbered_rows::{NumberedRows, presorted_numbers};
 use crate::orders::{TableOrder, TableOrders};
 use std::alloc::{AllocError, Global};
-use wcalls::share_order;
+use wcalls::{Presorted, share_order};
 use wplan::ResolvedWindow;
 use wruns::RowRef;
 
@@ -20,8 +20,8 @@ use wruns::RowRef;
 pub struct PresortedOrder<'a> {
     /// The window, whose order other windows may share.
     pub window: &'a ResolvedWindow,
-    /// Each number of a kept row once, in the order of the window.
-    pub numbers: Vec<usize>,
+    /// Each number of a kept row once, in the order of the window, and whether it is known that no two rows share its keys.
+    pub presorted: Presorted,
 }
 
 /// The numbers of the kept rows in the orders that a SELECT asks for, as far as they are presorted.
@@ -58,7 +58,10 @@ fn presorted_window<'a>(
     let numbers = presorted_numbers(alloc, &order.rows, kept)?;
     Ok(PresortedOrder {
         window: order.window,
-        numbers,
+        presorted: Presorted {
+            numbers,
+            differ: order.differ,
+        },
     })
 }
 
@@ -116,10 +119,11 @@ pub fn presorted_orders<'a>(
 }
 
 // The place of an order that is also that of a window.
+#[tactic(auto, using(crate::proofs::DifferFacts::presorted_for))]
 fn place_presorted(presorted: &[PresortedOrder], window: &ResolvedWindow) -> Option<usize>
     ensures place { IfSome result (λ place. place < length presorted.now) }
     ensures order { (rows : List Row) → ArePresortedOf rows presorted.now → IfSome result (λ place. (d : PresortedOrder)
-        → window_numbers rows (window_plan window.now) ≡ Ok (slice_index_or presorted.now place d).numbers.items) }
+        → IsPresorted rows (window_plan window.now) (slice_index_or presorted.now place d).presorted) }
 {
     for (place, order) in presorted.iter().enumerate() {
         if share_order(order.window, window) {
@@ -130,20 +134,23 @@ fn place_presorted(presorted: &[PresortedOrder], window: &ResolvedWindow) -> Opt
 }
 
 /// Takes out the numbers of the rows in the order of a window, if it is presorted: in its own order, or in that of a window of the
-/// same partition values and keys. The orders of other windows stay.
+/// same partition values and keys. What is known of the keys of the one holds of the other. The orders of other windows stay.
 pub fn take_presorted(
     presorted: &mut Vec<PresortedOrder>,
     window: &ResolvedWindow,
-) -> Option<Vec<usize>>
+) -> Option<Presorted>
     ensures order { (rows : List Row) → ArePresortedOf rows presorted.old.items
-        → IfSome result (λ numbers. window_numbers rows (window_plan window.now) ≡ Ok numbers.items) }
+        → IfSome result (IsPresorted rows (window_plan window.now)) }
     ensures others { (rows : List Row) → ArePresortedOf rows presorted.old.items → ArePresortedOf rows presorted.new.items }
 {
     match place_presorted(presorted.as_slice(), window) {
         None => None,
         Some(place) => {
-            let PresortedOrder { numbers, .. } = presorted.remove(place);
-            Some(numbers)
+            let PresortedOrder {
+                presorted: taken,
+                ..
+            } = presorted.remove(place);
+            Some(taken)
         }
     }
 }

@@ -1,4 +1,4 @@
-use Rattle.std.proofs.Common.{◌++◌, Ok, Vec, Global, map, subst, sym, ap, ◌∙◌}
+use Rattle.std.proofs.Common.{◌≡◌, ◌++◌, Ok, Vec, Global, map, subst, sym, ap, ◌∙◌}
 use Rattle.wvalues.specs.declared.key.SortKey.{SortKey}
 use Rattle.wplan.specs.Formula.{formula}
 use Rattle.wplan.specs.Plans.{KeyPlan, key_plan, window_plan}
@@ -6,10 +6,11 @@ use Rattle.wrows.specs.Sorting.{ascending}
 use Rattle.wruns.specs.Runs.{run_of}
 use Rattle.wtable.specs.TableOrders.{AreColumns}
 use Rattle.wtable.proofs.ColumnFacts.{some_presorted, window_presorted}
+use Rattle.wtable.proofs.DifferFacts.{window_differs}
 use Rattle.wtable.proofs.orders.window_columns.Goals as goal
 
 pub returns : goal.returns
-returns c = λ rows.
+returns c =
     let w = c.args.width in
     let plan = window_plan c.args.window.now in
     let first : AreColumns w plan.partition (ascending plan.partition) c.in-Some.keys.items =
@@ -25,6 +26,11 @@ returns c = λ rows.
     (map (λ (k : KeyPlan). k.value) (map key_plan c.deref-2.result.now))
     (map (λ (k : KeyPlan). k.order) (map key_plan c.deref-2.result.now)) k.items) c.in_ok-others.others
     c.in-Some-others.others c.in-Some-others.is c.in_ok-others.ensures) in
-    window_presorted w plan c.in-Some.keys.items c.in-Some-others.others.items first then c.runs_order_windows.ensures rows
-    ∙ ap (λ l. Ok (run_of l rows)) (sym (c.in_ok-extend_from_slice.ensures.items ∙ ap (λ l. c.in-Some.keys.items ++ l)
-    c.deref-3.ensures.value))
+    let both : c.extend_from_slice.new.self.items ≡ c.in-Some.keys.items ++ c.in-Some-others.others.items =
+    c.in_ok-extend_from_slice.ensures.items ∙ ap (λ l. c.in-Some.keys.items ++ l) c.deref-3.ensures.value in
+    record {
+      order = λ rows. window_presorted w plan c.in-Some.keys.items c.in-Some-others.others.items first then
+          c.runs_order_windows.ensures rows ∙ ap (λ l. Ok (run_of l rows)) (sym both);
+      differ = window_differs w plan c.in-Some.keys.items c.in-Some-others.others.items c.extend_from_slice.new.self.items first
+          then both;
+    }

@@ -1,11 +1,16 @@
-use Rattle.std.proofs.Common.{Ok, sym, ap, ◌∙◌}
+use Rattle.std.proofs.Common.{Ok, sym, subst, ap, ◌∙◌}
 use Rattle.wplan.specs.Plans.{window_plan}
+use Rattle.wcalls.specs.PresortedRows.{KeysDiffer}
 use Rattle.wtable.specs.TableOrders.{by_window, holds_by, presorted_numbers}
 use Rattle.wtable.proofs.NumberFacts.{numbers_are}
 use Rattle.wtable.proofs.presorted.presorted_window.Goals as goal
 
 pub returns : goal.returns
 returns c = λ condition segments is of.
-    ap (by_window (window_plan c.args.order.window.now)) is.rows ∙ of.tells (holds_by condition)
-    ∙ ap Ok (sym (c.in_ok-numbers.ensures ∙ ap (presorted_numbers c.args.kept.now) c.deref.ensures.value
-    ∙ numbers_are condition segments c.args.kept.now is c.args.order.rows.items of.within))
+    let plan = window_plan c.args.order.window.now in
+    record {
+      numbers = ap (by_window plan) is.rows ∙ of.order.tells (holds_by condition)
+          ∙ ap Ok (sym (c.in_ok-numbers.ensures ∙ ap (presorted_numbers c.args.kept.now) c.deref.ensures.value
+          ∙ numbers_are condition segments c.args.kept.now is c.args.order.rows.items of.order.within));
+      differ = λ known. subst (λ rows. KeysDiffer rows plan) (sym is.rows) (of.differ known (holds_by condition));
+    }
