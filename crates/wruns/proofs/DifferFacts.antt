@@ -1,4 +1,4 @@
--- Rows in order, of which each stands before the next one by the keys alone: no two share their keys.
+-- Rows in order: no two share their keys just where each stands before the next one by the keys alone.
 use Rattle.std.proofs.Common.{◌≡◌, ℕ, zero, suc, ◌+◌, ◌<◌, ◌≤◌, Bool, true, false, cond, List, [], ◌∷◌, length, map, filter}
 use Rattle.std.proofs.Common.{refl, sym, ap, subst, ◌∙◌, arith, Ordering, Less, Equal, Greater, is_lt, get_or, true≢false}
 use Rattle.std.proofs.Common.{◌⊎◌, inl, inr}
@@ -9,20 +9,21 @@ use Rattle.std.specs.Ordering.{on, is_eq, ordering_reverse}
 use Rattle.std.proofs.Math.Nat.{eq-or-lt_of_le}
 use Rattle.std.proofs.lemmas.Bool.{cases_order}
 use Rattle.std.proofs.lemmas.Cmp.{on_total, tied_itself}
+use Rattle.std.proofs.lemmas.List.{length-map}
 use Rattle.wvalues.specs.declared.key.SortKey.{SortKey}
 use Rattle.wvalues.specs.Meaning.{Meaning}
 use Rattle.wvalues.specs.Order.{keys_cmp}
 use Rattle.wvalues.specs.OrderLaws.{keys_total}
 use Rattle.wframe.specs.Places.{places_from, places}
-use Rattle.wframe.proofs.SortFacts.{lt, class, class_sorted, tied_is_equal, all_sorted}
+use Rattle.wframe.proofs.SortFacts.{lt, class, class_sorted, tied_is_equal, all_sorted, up_sorted}
 use Rattle.wruns.specs.Differing.{AllDiffer}
 use Rattle.wruns.specs.Lists.{ref}
 use Rattle.wruns.specs.Orderings.{number_of}
 use Rattle.wruns.specs.Refs.{ref_cmp, ref_keys, refs, refs_by}
 use Rattle.wruns.specs.Runs.{joined, keys_at, row_keys, run_of}
 use Rattle.wruns.specs.declared.refs.RowRef.{RowRef}
-use Rattle.wruns.proofs.OneList.{Rises}
-use Rattle.wruns.proofs.OrderingFacts.{all_told, numbers_in_order, IsTold}
+use Rattle.wruns.proofs.OneList.{Rises, sorted_by_up}
+use Rattle.wruns.proofs.OrderingFacts.{all_told, below, mapped_at, numbers_in_order, IsTold}
 use Rattle.wruns.proofs.RefFacts.{ref_total}
 
 is_less : (o : Ordering) → is_lt o ≡ true → o ≡ Less
@@ -90,6 +91,48 @@ module _ {X : Type 0} (cmp : X → X → Ordering) (total : IsTotalOrder cmp) wh
       let two : lt cmp total y x ≡ false = ap is_lt (total.antisymm y x ∙ ap ordering_reverse e) in
       rw (one, two) refl
 
+-- two neighbours that pass are two
+pub two_pass : {X : Type 0} (p : X → Bool) (d : X) (xs : List X) (k : ℕ) → suc k < length xs → p (get_or xs k d) ≡ true
+    → p (get_or xs (suc k) d) ≡ true → 2 ≤ length (filter p xs)
+two_pass p d [] k low h g = absurd (omega (arith, low))
+two_pass p d (x ∷ []) k low h g = absurd (omega (arith, low))
+two_pass p d (x ∷ y ∷ ys) zero low h g = rw (h, g) (omega arith)
+two_pass p d (x ∷ y ∷ ys) (suc k) low h g = more (p x) (two_pass p d (y ∷ ys) k (omega (arith, low)) h g)
+  where
+    more : (b : Bool) → 2 ≤ length (filter p (y ∷ ys)) → 2 ≤ length (cond b (x ∷ filter p (y ∷ ys)) (filter p (y ∷ ys)))
+    more true two = omega (arith, two)
+    more false two = two
+
+all_at : {X : Type 0} (P : X → Type 0) (d : X) (xs : List X) (k : ℕ) → AllByRecursion P xs → k < length xs → P (get_or xs k d)
+all_at P d [] k all low = absurd (omega (arith, low))
+all_at P d (x ∷ xs) zero all low = all.0
+all_at P d (x ∷ xs) (suc k) all low = all_at P d xs k all.1 (omega (arith, low))
+
+module _ (p : ℕ → Bool) (v m : ℕ) (alone : (i : ℕ) → i < m → p i ≡ true → v ≡ i) where
+  none_there : (a n : ℕ) → v < a → a + n ≤ m → length (filter p (places_from a n)) ≡ 0
+  none_there a zero low high = refl
+  none_there a (suc n) low high = go (p a) refl (none_there (a + 1) n (omega (arith, low)) (omega (arith, high)))
+    where
+      go : (b : Bool) → p a ≡ b → length (filter p (places_from (a + 1) n)) ≡ 0
+          → length (cond b (a ∷ filter p (places_from (a + 1) n)) (filter p (places_from (a + 1) n))) ≡ 0
+      go true e more =
+          let same = alone a (omega (arith, high)) e in
+          absurd (omega (arith, low, same))
+      go false e more = more
+
+  -- where one place alone passes, there is at most one
+  one_passes : (a n : ℕ) → a + n ≤ m → length (filter p (places_from a n)) ≤ 1
+  one_passes a zero high = omega arith
+  one_passes a (suc n) high = go (p a) refl (one_passes (a + 1) n (omega (arith, high)))
+    where
+      go : (b : Bool) → p a ≡ b → length (filter p (places_from (a + 1) n)) ≤ 1
+          → length (cond b (a ∷ filter p (places_from (a + 1) n)) (filter p (places_from (a + 1) n))) ≤ 1
+      go true e more =
+          let same = alone a (omega (arith, high)) e in
+          let none = none_there (a + 1) n (omega (arith, same)) (omega (arith, high)) in
+          omega (arith, none)
+      go false e more = more
+
 module _ (p : ℕ → Bool) where
   no_fewer : (m a : ℕ) (b : Bool) (l : List ℕ) → m ≤ length l → m ≤ length (cond b (a ∷ l) l)
   no_fewer m a true l h = omega (arith, h)
@@ -147,6 +190,51 @@ module _ (keys : List SortKey) where
           let two = two_there (ties (lt K total) i) j i 0 (length rows) (omega arith) more (omega (arith, p)) second first in
           absurd (omega (arith, few, two))
 
+  -- two neighbours in the run of which the first stands not before the second share their keys
+  run_shares : (rows : List (List Meaning)) (k : ℕ) (d : ℕ) → suc k < length (run_of keys rows)
+      → is_lt (keys_cmp keys (keys_at keys rows (get_or (run_of keys rows) k d)) (keys_at keys rows (get_or (run_of keys rows) (suc k) d)))
+      ≡ false → AllDiffer keys rows → ⊥
+  run_shares rows k d low no_less differ = omega (arith, few, two)
+    where
+      K : ℕ → ℕ → Ordering
+      K = on (keys_at keys rows) (keys_cmp keys)
+
+      total : IsTotalOrder K
+      total = on_total (keys_at keys rows) (keys_total keys)
+
+      n : ℕ
+      n = length rows
+
+      v : ℕ
+      v = get_or (run_of keys rows) k d
+
+      w : ℕ
+      w = get_or (run_of keys rows) (suc k) d
+
+      inside : v < n
+      inside = all_at (λ i. i < n) d (run_of keys rows) k (all_sorted K total (λ i. i < n) (places n) (below 0 n n (omega arith)))
+          (omega (arith, low))
+
+      in_order : is_lt (K w v) ≡ false
+      in_order = ap (λ j. is_lt (K (get_or (run_of keys rows) j d) v)) (omega arith)
+          ∙ sorted_by_up K total (run_of keys rows) (up_sorted K total (places n)) k d (omega arith) (omega (arith, low))
+
+      first : ties (lt K total) v v ≡ true
+      first = is_tied K total v v (tied_itself total v)
+
+      second : ties (lt K total) v w ≡ true
+      second = rw (no_less, in_order) refl
+
+      one_of : (i : ℕ) → i < n → ties (lt K total) v i ≡ true → v ≡ i
+      one_of i small h = differ v i inside small (ap is_eq (tied_is_equal K total v i h))
+
+      few : length (class K total v (run_of keys rows)) ≤ 1
+      few = subst (λ l. length l ≤ 1) (sym (class_sorted K total v (places n)))
+          (one_passes (ties (lt K total) v) v n one_of 0 n (omega arith))
+
+      two : 2 ≤ length (class K total v (run_of keys rows))
+      two = two_pass (ties (lt K total) v) d (run_of keys rows) k low first second
+
   module _ (s : List (List (List Meaning))) where
     abbrev by_refs : RowRef → RowRef → Ordering
     by_refs = on (ref_keys keys s) (keys_cmp keys)
@@ -175,6 +263,47 @@ module _ (keys : List SortKey) where
         all_sorted (ref_cmp keys s) (ref_total keys s) (IsTold keys s) (refs s) (all_told keys [] s) in
         run_differs (joined s) (subst (Rises by_numbers) (numbers_in_order keys s) (all_moved (refs_by keys s) told
         (rises by_refs (on_total (ref_keys keys s) (keys_total keys)) (ref 0 0) (refs_by keys s) rise)))
+
+    -- and where one stands not before the next one, the two share their keys
+    pub neighbours_share : (k : ℕ) → suc k < length (refs_by keys s)
+        → is_lt (by_refs (get_or (refs_by keys s) k (ref 0 0)) (get_or (refs_by keys s) (suc k) (ref 0 0))) ≡ false
+        → AllDiffer keys (joined s) → ⊥
+    neighbours_share k low no_less = run_shares (joined s) k d many less
+      where
+        xs : List RowRef
+        xs = refs_by keys s
+
+        run : List ℕ
+        run = run_of keys (joined s)
+
+        d : ℕ
+        d = number_of s (ref 0 0)
+
+        long : length (map (number_of s) xs) ≡ length xs
+        long = length-map xs (number_of s)
+
+        longer : length (map (number_of s) xs) ≡ length run
+        longer = ap length (numbers_in_order keys s)
+
+        many : suc k < length run
+        many = omega (arith, low, long, longer)
+
+        at : (j : ℕ) → j < length xs → ref_keys keys s (get_or xs j (ref 0 0)) ≡ keys_at keys (joined s) (get_or run j d)
+        at j small = all_at (IsTold keys s) (ref 0 0) xs j (all_sorted (ref_cmp keys s) (ref_total keys s) (IsTold keys s) (refs s)
+            (all_told keys [] s)) small ∙ ap (keys_at keys (joined s)) (sym (mapped_at (number_of s) xs j (ref 0 0) d small)
+            ∙ ap (λ l. get_or l j d) (numbers_in_order keys s))
+
+        less : is_lt (by_numbers (get_or run k d) (get_or run (suc k) d)) ≡ false
+        less = ap (λ f. is_lt (keys_cmp keys f (keys_at keys (joined s) (get_or run (suc k) d)))) (sym (at k (omega (arith, low))))
+            ∙ ap (λ f. is_lt (keys_cmp keys (ref_keys keys s (get_or xs k (ref 0 0))) f)) (sym (at (suc k) low)) ∙ no_less
+
+    pub shared : (rows : List RowRef) (k place : ℕ) → suc k ≡ place → place < length rows
+        → is_lt (by_refs (get_or rows k (ref 0 0)) (get_or rows place (ref 0 0))) ≡ false → rows ≡ refs_by keys s
+        → AllDiffer keys (joined s) → ⊥
+    shared rows k place next low no_less is =
+        neighbours_share k (subst (λ l. suc k < length l) is (omega (arith, low, next)))
+        (subst (λ l. is_lt (by_refs (get_or l k (ref 0 0)) (get_or l (suc k) (ref 0 0))) ≡ false) is
+        (ap (λ n. is_lt (by_refs (get_or rows k (ref 0 0)) (get_or rows n (ref 0 0)))) next ∙ no_less))
 
   -- the keys of a row are none of those behind it
   abbrev IsAlone : List Meaning → List Meaning → Type 0

@@ -298,7 +298,7 @@ mapped_at f [] i d e lt = absurd (omega (arith, lt))
 mapped_at f (x ∷ xs) zero d e lt = refl
 mapped_at f (x ∷ xs) (suc i) d e lt = mapped_at f xs i d e (omega (arith, lt))
 
-below : (a n m : ℕ) → a + n ≤ m → AllByRecursion (λ i. i < m) (places_from a n)
+pub below : (a n m : ℕ) → a + n ≤ m → AllByRecursion (λ i. i < m) (places_from a n)
 below a zero m h = tt
 below a (suc n) m h = (omega (arith, h), below (a + 1) n m (omega (arith, h)))
 

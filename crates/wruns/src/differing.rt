@@ -1,5 +1,5 @@
 //! Rows of which no two share their keys.
-ghost use Rattle.std.specs.Prelude.{◌≡◌, true};
+ghost use Rattle.std.specs.Prelude.{◌≡◌, ◌↔◌, IsTrue};
 ghost use Rattle.wvalues.specs.Meaning.{meaning, Null};
 ghost use Rattle.wvalues.specs.Order.{keys_cmp};
 ghost use Rattle.wsegment.specs.Rows.{cell};
@@ -55,7 +55,7 @@ impl<'a> KeyedSegments<'a> {
 /// compares each row with the next one, up to the first two that share their keys, and takes no memory.
 pub fn all_differ(keys: &[SortKey], segments: &[&Segment], rows: &[RowRef]) -> bool
     requires { rows.now ≡ refs_by keys.now (segment_rows segments.now) }
-    ensures { result ≡ true → AllDiffer keys.now (joined (segment_rows segments.now)) }
+    ensures { IsTrue result ↔ AllDiffer keys.now (joined (segment_rows segments.now)) }
 {
     let table = KeyedSegments {
         segments,

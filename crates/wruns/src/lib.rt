@@ -2,7 +2,7 @@
 //!
 //! - Gives runs, the runs that are kept of a segment, and the rows of several segments in order, from a run of each: `merge`
 //!   takes them row by row, `ordered` a group of equal keys at a time. Where segments have no runs yet, `deal_runs` sorts the rows of
-//!   all at once, and deals each segment's run out of that order. `all_differ` tells of rows in order that no two share their keys.
+//!   all at once, and deals each segment's run out of that order. `all_differ` tells of rows in order whether two share keys.
 //! - Promises: a run is the one list of its segment's rows by its keys and then by place, whoever kept it; rows of several
 //!   segments are the one list by keys, then by segment and place. What groups save is measured, not promised.
 //! - Asks: runs by the keys that the rows are put in order by.

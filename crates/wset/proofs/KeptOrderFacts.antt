@@ -1,5 +1,6 @@
 -- Rows as one number each, and a note that is found.
-use Rattle.std.proofs.Common.{◌≡◌, ℕ, ◌+◌, ◌*◌, ◌%◌, ◌<◌, Bool, true, List, map, Result, Option, Some, None, IfSome, sym, ap, subst, ◌∙◌}
+use Rattle.std.proofs.Common.{◌≡◌, ℕ, ◌+◌, ◌*◌, ◌%◌, ◌<◌, ◌↔◌, Bool, IsTrue, List, map, Result, Option, Some, None, IfSome}
+use Rattle.std.proofs.Common.{sym, ap, subst, ◌∙◌}
 use Rattle.std.specs.declared.result.Result.TheVariants.{Ok, Err}
 use Rattle.std.specs.Result.{OnOk}
 use Rattle.wvalues.specs.declared.key.SortKey.{SortKey}
@@ -37,14 +38,15 @@ at_any_rate (Err e) w = tt
 
 -- what a note for these keys says
 pub noted : (o : Option Differing) (note : Differing) (keys : List SortKey) (segments : List (List (List Meaning))) → o ≡ Some note
-    → note.keys.items ≡ keys → IfSome o (IsNoteOf segments) → note.differ ≡ true → AllDiffer keys (joined segments)
-noted o note keys segments is same h differ =
-    subst (λ k. AllDiffer k (joined segments)) same (subst (λ x. IfSome x (IsNoteOf segments)) is h differ)
+    → note.keys.items ≡ keys → IfSome o (IsNoteOf segments) → IsTrue note.differ ↔ AllDiffer keys (joined segments)
+noted o note keys segments is same h =
+    subst (λ k. IsTrue note.differ ↔ AllDiffer k (joined segments)) same (subst (λ x. IfSome x (IsNoteOf segments)) is h)
 
 -- a note that says what is so
 pub note_of : (o : Option Differing) (keys : List SortKey) (differ : Bool) (segments : List (List (List Meaning)))
     → IfSome o (λ note. note.keys.items ≡ keys) → IfSome o (λ note. note.differ ≡ differ)
-    → (differ ≡ true → AllDiffer keys (joined segments)) → IfSome o (IsNoteOf segments)
+    → (IsTrue differ ↔ AllDiffer keys (joined segments)) → IfSome o (IsNoteOf segments)
 note_of None keys differ segments same told is = tt
 note_of (Some note) keys differ segments same told is =
-    λ h. subst (λ k. AllDiffer k (joined segments)) (sym same) (is (sym told ∙ h))
+    subst (λ k. IsTrue note.differ ↔ AllDiffer k (joined segments)) (sym same)
+    (subst (λ b. IsTrue b ↔ AllDiffer keys (joined segments)) (sym told) is)

@@ -1,5 +1,5 @@
 -- What is kept of the rows of all live segments: an order of them, and whether no two share some keys.
-use Rattle.std.specs.Prelude.{◌≡◌, ◌<◌, ◌/◌, ◌%◌, true, ℕ, List, map}
+use Rattle.std.specs.Prelude.{◌≡◌, ◌<◌, ◌/◌, ◌%◌, ◌↔◌, IsTrue, ℕ, List, map}
 use Rattle.wvalues.specs.Meaning.{Meaning}
 use Rattle.wruns.specs.Differing.{AllDiffer}
 use Rattle.wruns.specs.Refs.{refs_by}
@@ -17,6 +17,6 @@ pub record IsOrderOf (rows : List (List (List Meaning))) (order : KeptOrder) : T
   pub wide : 0 < order.width
   pub list : map (unpacked order.width) order.rows.items ≡ refs_by order.keys.items rows
 
--- where it says that no two of these rows share its keys, none do
+-- it says that no two of these rows share its keys just where none do
 abbrev pub IsNoteOf : List (List (List Meaning)) → Differing → Type 0
-IsNoteOf rows note = note.differ ≡ true → AllDiffer note.keys.items (joined rows)
+IsNoteOf rows note = IsTrue note.differ ↔ AllDiffer note.keys.items (joined rows)

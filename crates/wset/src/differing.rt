@@ -1,5 +1,5 @@
 //! What is noted of a set's rows and some keys.
-ghost use Rattle.std.specs.Prelude.{◌≡◌, true, List, IfSome};
+ghost use Rattle.std.specs.Prelude.{◌≡◌, ◌↔◌, IsTrue, List, IfSome};
 ghost use Rattle.wvalues.specs.Meaning.{Meaning};
 ghost use Rattle.wruns.specs.Differing.{AllDiffer};
 ghost use Rattle.wruns.specs.Runs.{joined};
@@ -30,7 +30,7 @@ impl Differing {
     /// What is noted for these keys, if a note is for them.
     pub(crate) fn told(noted: &Option<Differing>, keys: &[SortKey]) -> Option<bool>
         ensures { (rows : List (List (List Meaning))) → IfSome noted.now (IsNoteOf rows)
-            → IfSome result (λ differ. differ ≡ true → AllDiffer keys.now (joined rows)) }
+            → IfSome result (λ differ. IsTrue differ ↔ AllDiffer keys.now (joined rows)) }
     {
         let Some(note) = noted else {
             return None;

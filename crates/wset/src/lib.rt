@@ -7,8 +7,8 @@
 //!   and no name below it. Each call tells the whole view after it, at an error the one before. `take`,
 //!   `retire`, `retire_to`, `dispute` and `join` are joins of views, and joining is associative,
 //!   commutative and idempotent (`laws`). No block of a set holds more than 512 entries. `ordered` gives the one
-//!   list of the rows by keys, then by name and place, and leaves the view as it is; runs are no part of it. Where
-//!   `all_differ` says yes, no two live rows share the keys.
+//!   list of the rows by keys, then by name and place, and leaves the view as it is; runs are no part of it. `all_differ`
+//!   says yes just where no two live rows share the keys.
 //! - Asks: of `take_beside`, that both sets have one declaration; of `live_at` and `has_run`, that there is such a
 //!   live name; of `all_differ`, the rows that `ordered` gives for the keys.
 //! - Leaves reading to `wsegment`, runs and their merge to `wruns`, what is held of a name and the blocks of entries to

@@ -648,7 +648,7 @@ impl SegmentSet {
     /// Whether no two rows of all live segments share these keys, told from the rows in their order.
     fn rows_differ(&self, keys: &[SortKey], rows: &[RowRef]) -> Result<bool, AllocError>
         requires { rows.now ≡ refs_by keys.now (live_rows self.now) }
-        ensures { IfOk result (λ differ. differ ≡ true → AllDiffer keys.now (joined (live_rows self.now))) }
+        ensures { IfOk result (λ differ. IsTrue differ ↔ AllDiffer keys.now (joined (live_rows self.now))) }
     {
         let segments = segments(self.alloc, &self.blocks)?;
         Ok(wruns::all_differ(keys, &segments, rows))
@@ -663,6 +663,7 @@ impl SegmentSet {
     pub fn all_differ(&mut self, keys: &[SortKey], rows: &[RowRef]) -> Result<bool, AllocError>
         requires rows { rows.now ≡ refs_by keys.now (live_rows self.old) }
         ensures differ { IfOk result (λ differ. differ ≡ true → AllDiffer keys.now (joined (live_rows self.old))) }
+        ensures shared { IfOk result (λ differ. differ ≡ false → AllDiffer keys.now (joined (live_rows self.old)) → ⊥) }
         ensures same { self.new ≡ self.old }
     {
         if let Some(differ) = Differing::told(&self.differing, keys) {

@@ -1,4 +1,4 @@
-use Rattle.std.proofs.Common.{subst, sym}
+use Rattle.std.proofs.Common.{◌↔◌, ◌∙◌, IsTrue, subst, sym, true≢false}
 use Rattle.wruns.specs.Differing.{AllDiffer}
 use Rattle.wruns.specs.Runs.{joined}
 use Rattle.wentries.specs.Blocks.{flat}
@@ -10,8 +10,15 @@ use Rattle.wset.proofs.set.SegmentSet.all_differ.Goals as goal
 pub returns-in-Some-clause-differ : goal.returns-in-Some-clause-differ
 returns-in-Some-clause-differ c =
     let rows = rows_live c.self.inside c.args.self.now c.self.invariant c.self.view_is in
-    λ h. subst (λ l. AllDiffer c.args.keys.now (joined l)) rows
-    (c.in-Some.ensures (rows_in (flat c.self.inside.blocks.items)) c.self.invariant.noted h)
+    (subst (λ l. IsTrue c.in-Some.differ ↔ AllDiffer c.args.keys.now (joined l)) rows
+    (c.in-Some.ensures (rows_in (flat c.self.inside.blocks.items)) c.self.invariant.noted)).0
+
+pub returns-in-Some-clause-shared : goal.returns-in-Some-clause-shared
+returns-in-Some-clause-shared c =
+    let rows = rows_live c.self.inside c.args.self.now c.self.invariant c.self.view_is in
+    let told = subst (λ l. IsTrue c.in-Some.differ ↔ AllDiffer c.args.keys.now (joined l)) rows
+    (c.in-Some.ensures (rows_in (flat c.self.inside.blocks.items)) c.self.invariant.noted) in
+    λ h differ. absurd (true≢false (sym (told.1 differ) ∙ h))
 
 pub invariant_of-self : goal.invariant_of-self
 invariant_of-self c =
@@ -27,5 +34,6 @@ invariant_of-self c =
       starts = c.self-2.invariant.starts;
       ordered = c.self-2.invariant.ordered;
       noted = note_of c.note.result c.args.keys.now c.in_ok-differ.differ (rows_in (flat s.blocks.items)) c.note.ensures.keys
-          c.note.ensures.differ (λ h. subst (λ l. AllDiffer c.args.keys.now (joined l)) (sym rows) (c.in_ok-differ.ensures h));
+          c.note.ensures.differ (subst (λ l. IsTrue c.in_ok-differ.differ ↔ AllDiffer c.args.keys.now (joined l)) (sym rows)
+          c.in_ok-differ.ensures);
     }

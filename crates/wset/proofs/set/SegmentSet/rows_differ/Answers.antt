@@ -1,4 +1,4 @@
-use Rattle.std.proofs.Common.{ap, subst, sym, ◌∙◌}
+use Rattle.std.proofs.Common.{◌↔◌, IsTrue, ap, subst, sym, ◌∙◌}
 use Rattle.wruns.specs.Dealing.{segment_rows}
 use Rattle.wruns.specs.Differing.{AllDiffer}
 use Rattle.wruns.specs.Refs.{refs_by}
@@ -18,4 +18,4 @@ pub returns : goal.returns
 returns c =
     let rows = ap segment_rows c.deref-2.ensures.value ∙ c.in_ok-segments.ensures ∙ ap (λ b. rows_in (flat b))
     c.deref.ensures.value ∙ rows_live c.self.inside c.args.self.now c.self.invariant c.self.view_is in
-    λ h. subst (λ l. AllDiffer c.args.keys.now (joined l)) rows (c.all_differ.ensures h)
+    subst (λ l. IsTrue c.all_differ.result ↔ AllDiffer c.args.keys.now (joined l)) rows c.all_differ.ensures
