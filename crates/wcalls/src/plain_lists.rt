@@ -45,13 +45,6 @@ impl<'a> PlainLists<'a> {
         }
     }
 
-    /// The value at the first place of the first row, if there is one.
-    pub(crate) fn first(&self) -> Option<&Value> {
-        let row = self.rows.first()?;
-        let place = self.places.first()?;
-        row.get(*place)
-    }
-
     /// The rows of these numbers, in their order, by keys.
     pub(crate) fn key_rows<'b>(&'b self, numbers: &'b [usize], orders: &'b [SortKey]) -> KeyRows<'b>
         requires width { length self.now.places.items ≡ length orders.now }

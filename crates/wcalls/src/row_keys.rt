@@ -126,7 +126,7 @@ impl<'a> RowKeys<'a> {
     pub(crate) fn number_codes(&self, alloc: Global) -> Result<Option<Vec<u32>>, AllocError>
         ensures { IfOk result (λ found. IfSome found (λ codes. AreRowCodes self.now.orders.items (lists_in self.now.lists) codes.items)) }
     {
-        if !self.has_one_key() || self.lists.begin_with_text() {
+        if !self.has_one_key() {
             return Ok(None);
         }
         let column = self.lists.column(alloc, 0)?;

@@ -99,16 +99,6 @@ impl<'a> RowLists<'a> {
         }
     }
 
-    /// Whether the first value of the first row is a text. The values of one key are all texts or all numbers, but for nulls, so this
-    /// tells of most columns of texts what they are before they are gone through. It is a matter of speed alone.
-    pub(crate) fn begin_with_text(&self) -> bool {
-        let first = match self {
-            RowLists::Evaluated(cells) => cells.cells.first(),
-            RowLists::Plain(columns) => columns.first(),
-        };
-        matches!(first, Some(Value::Text(_)))
-    }
-
     /// The values of a number of each row, lent.
     pub(crate) fn column<'b>(
         &'b self,

@@ -281,6 +281,50 @@ fn row_order(alloc: Global, values: &RowKeys, keys: &RowKeys) -> Result<RowOrder
     })
 }
 
+/// How many places of an order are looked at to tell whether its rows stand in large groups.
+const LOOKED_AT: usize = 64;
+
+/// How many rows lie between two that agree in most groups that are large.
+const APART: usize = 64;
+
+// Whether rows of one key in order seem to be told apart sooner by their values than by codes, which take a pass over all rows: where
+// the first value is a text, as texts have no codes that are found without sorting, and where most rows agree with one some places
+// behind them, as where so large groups end is told by few comparisons. It is a matter of speed alone.
+fn are_told_by_values(rows: &KeyRows) -> bool {
+    let step = rows.count() / LOOKED_AT;
+    if step <= APART || rows.keys().len() != 1 {
+        return false;
+    }
+    if matches!(rows.row(0).value(0), Value::Text(_)) {
+        return true;
+    }
+    let mut agreeing: usize = 0;
+    for number in 0..LOOKED_AT {
+        let place = step.saturating_mul(number);
+        let agree = rows.compare(place, place.saturating_add(APART)).is_eq();
+        agreeing = agreeing.saturating_add(agree as usize);
+    }
+    agreeing > LOOKED_AT / 2
+}
+
+// Codes of the keys of rows that stand in this order, where they are found without sorting and seem to be of use.
+fn found_codes(
+    alloc: Global,
+    keys: &RowKeys,
+    rows: &[usize],
+) -> Result<Option<Vec<u32>>, AllocError>
+    requires { All (λ i. i < length (lists_in keys.now.lists)) rows.now }
+    ensures { IfOk result (λ found. IfSome found (λ codes. TellApart (keys_cmp keys.now.orders.items)
+        (map (key_at (lists_in keys.now.lists)) rows.now) codes.items)) }
+{
+    if are_told_by_values(&keys.key_rows(rows)) {
+        return Ok(None);
+    }
+    let found = keys.number_codes(alloc)?;
+    let picked = codes_of(alloc, found, rows)?;
+    Ok(picked)
+}
+
 // Codes of the keys of rows that stand in this order: their numbers, where no two of them share their keys, and then nothing is
 // read of these. Else the codes that are found without sorting.
 fn presorted_codes(
@@ -300,9 +344,7 @@ fn presorted_codes(
         let codes = narrowed(alloc, rows)?;
         return Ok(Some(codes));
     }
-    let found = keys.number_codes(alloc)?;
-    let picked = codes_of(alloc, found, rows)?;
-    Ok(picked)
+    found_codes(alloc, keys, rows)
 }
 
 // The presorted order of rows, with the codes of their partition values and of their keys there, where these are found
@@ -329,8 +371,7 @@ fn presorted_order(
         differ,
     } = presorted;
     let key_codes = presorted_codes(alloc, keys, &rows, differ)?;
-    let value_codes = values.number_codes(alloc)?;
-    let value_codes = codes_of(alloc, value_codes, &rows)?;
+    let value_codes = found_codes(alloc, values, &rows)?;
     Ok(RowOrder {
         rows,
         value_codes,

@@ -1,13 +1,5 @@
-use Rattle.std.proofs.Common.{length, refl, arith}
-use Rattle.wcalls.specs.Listed.{lists_in}
-use Rattle.wcalls.proofs.CodeFacts.{codes_reach}
+use Rattle.std.proofs.Common.{arith}
 use Rattle.wcalls.proofs.window_order.presorted_codes.Goals as goal
 
 pub narrowed-requires : goal.narrowed-requires
 narrowed-requires c = λ k d h. omega (arith, c.requires.below k d h, c.requires.len, c.are_few.ensures)
-
-pub codes_of-requires : goal.codes_of-requires
-codes_of-requires c =
-    let K = lists_in c.args.keys.now.lists in
-    codes_reach c.args.keys.now.orders.items K c.args.rows.now (length K) c.in_ok-found.found refl
-    c.in_ok-found.ensures c.requires.below

@@ -1,10 +1,9 @@
-use Rattle.std.proofs.Common.{◌<◌, length, map, subst, sym, ap, ◌∙◌}
+use Rattle.std.proofs.Common.{◌<◌, length, map, subst, sym, ap, ◌∙◌, arith}
 use Rattle.std.specs.Prelude.{All, IfSome}
 use Rattle.wvalues.specs.Order.{keys_cmp}
 use Rattle.wframe.specs.Codes.{TellApart}
 use Rattle.wframe.specs.Peers.{key_at}
 use Rattle.wcalls.specs.Listed.{lists_in}
-use Rattle.wcalls.proofs.CodeFacts.{codes_reach}
 use Rattle.wcalls.proofs.window_order.presorted_order.Goals as goal
 
 pub presorted_codes-requires-clause-below : goal.presorted_codes-requires-clause-below
@@ -20,13 +19,10 @@ presorted_codes-requires-clause-differ c = λ known.
     subst (λ l. TellApart (keys_cmp c.args.keys.now.orders.items) (map (key_at K) l) l) (sym c.deref.ensures.value)
     (c.requires.differ known)
 
-pub codes_of-requires : goal.codes_of-requires
-codes_of-requires c =
-    let V = lists_in c.args.values.now.lists in
-    let K = lists_in c.args.keys.now.lists in
-    subst (λ l. IfSome c.in_ok-value_codes.value_codes (λ codes. All (λ i. i < length codes.items) l)) (sym c.deref-2.ensures.value)
-    (codes_reach c.args.values.now.orders.items V c.args.presorted.numbers.items (length K) c.in_ok-value_codes.value_codes
-    c.requires.count c.in_ok-value_codes.ensures c.requires.below)
+pub found_codes-requires : goal.found_codes-requires
+found_codes-requires c =
+    subst (All (λ i. i < length (lists_in c.args.values.now.lists))) (sym c.deref-2.ensures.value)
+    (λ k d h. omega (arith, c.requires.below k d h, c.requires.count))
 
 pub returns : goal.returns
 returns c =
@@ -38,9 +34,8 @@ returns c =
       order = c.requires.order;
       below = c.requires.below;
       len = c.requires.len;
-      value_codes = subst (λ l. IfSome c.in_ok-value_codes-2.value_codes
-          (λ codes. TellApart (keys_cmp vo) (map (key_at V) l) codes.items)) c.deref-2.ensures.value
-          (c.in_ok-value_codes-2.ensures vo V c.in_ok-value_codes.ensures);
+      value_codes = subst (λ l. IfSome c.in_ok-value_codes.value_codes (λ codes. TellApart (keys_cmp vo) (map (key_at V) l)
+          codes.items)) c.deref-2.ensures.value c.in_ok-value_codes.ensures;
       key_codes = subst (λ l. IfSome c.in_ok-key_codes.key_codes (λ codes. TellApart (keys_cmp ko) (map (key_at K) l)
           codes.items)) c.deref.ensures.value c.in_ok-key_codes.ensures;
     }
