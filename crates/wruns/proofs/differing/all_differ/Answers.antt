@@ -34,8 +34,7 @@ returns-then-not-is_lt c =
     let place = c.loop-place.place in
     let next : suc (place - 1) ≡ place = omega (arith, c.loop-place.auto.place) in
     let told : is_lt (keys_cmp keys (ref_keys keys s (get_or rows (place - 1) (ref 0 0))) (ref_keys keys s (get_or rows place (ref 0 0))))
-    ≡ false = sym (ap is_lt c.compare_keys.ensures) ∙ sym c.is_lt.ensures ∙ c.if-not-is_lt.true in
-    (
+    ≡ false = sym (ap is_lt c.compare_keys.ensures) ∙ sym c.is_lt.ensures ∙ c.if-not-is_lt.true in (
       λ h. absurd (true≢false (sym h)),
       λ differ. absurd (shared keys s rows (place - 1) place next (omega (arith, c.loop-place-test.true)) told c.requires differ),
     )
@@ -43,8 +42,7 @@ returns-then-not-is_lt c =
 pub returns : goal.returns
 returns c =
     let keys = c.args.keys.now in
-    let s = segment_rows c.args.segments.now in
-    (
+    let s = segment_rows c.args.segments.now in (
       λ u. neighbours_differ keys s (subst (λ found. RiseTo (on (ref_keys keys s) (keys_cmp keys))
           (on_total (ref_keys keys s) (keys_total keys)) (ref 0 0) found (length found)) c.requires
           (λ k h. c.loop-place.invariant k (omega (arith, h, c.loop-place-test.false)))),
