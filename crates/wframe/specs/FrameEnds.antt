@@ -1,5 +1,5 @@
 -- Lists that have the frames and the peers of partitions.
-use Rattle.std.specs.Prelude.{◌≡◌, ℕ, ◌<◌, true, not, max, length, slice_index}
+use Rattle.std.specs.Prelude.{◌≡◌, ℕ, ◌<◌, ◌≤◌, true, not, max, length, slice_index}
 use Rattle.wvalues.specs.Order.{keys_cmp}
 use Rattle.wframe.specs.declared.ends.FrameEnds.{FrameEnds}
 use Rattle.wframe.specs.Peers.{AreOrdered, is_before, is_upto}
@@ -32,11 +32,12 @@ pub record Extends (old new : FrameEnds) : Type 0 where
   pub starts : BeginsWith old.starts.items new.starts.items
   pub ends : BeginsWith old.ends.items new.ends.items
 
--- n rows have a number, and their groups end where the rows do; where the frame moves keys or group numbers, each group has
--- a start and an end
+-- n rows have a number, and their groups, at most one a row, end where the rows do; where the frame moves keys or group
+-- numbers, each group has a start and an end
 pub record AreLong (frame : Frame) (n : ℕ) (stored : FrameEnds) : Type 0 where
   pub numbers : length stored.numbers.items ≡ n
   pub last : slice_index (begins_of stored.peer_ends.items) (length stored.peer_ends.items) ≡ n
+  pub few : length stored.peer_ends.items ≤ n
   pub starts : moves_groups frame ≡ true → length stored.starts.items ≡ length stored.peer_ends.items
   pub ends : moves_groups frame ≡ true → length stored.ends.items ≡ length stored.peer_ends.items
 

@@ -18,7 +18,7 @@ use std::alloc::AllocError;
 #[derive(Drop)]
 struct Starts<'a> {
     peers: PeerEnds<'a>,
-    groups: &'a [usize],
+    groups: &'a [u32],
     mode: FrameMode,
     bound: FrameBound,
     ghost together: { takes_groups mode ≡ true },
@@ -38,7 +38,10 @@ impl<'a> Cut for Starts<'a> {
             FrameMode::Range => {
                 key_is_before_start(rows.keys(), self.bound, &rows.row(row), &rows.row(place))
             }
-            FrameMode::Groups => is_before_start(self.bound, self.groups[row], self.groups[place]),
+            FrameMode::Groups => {
+                let group = self.groups[row] as usize;
+                is_before_start(self.bound, group, self.groups[place] as usize)
+            }
         }
     }
 
@@ -51,7 +54,7 @@ impl<'a> Cut for Starts<'a> {
 #[derive(Drop)]
 struct Ends<'a> {
     peers: PeerEnds<'a>,
-    groups: &'a [usize],
+    groups: &'a [u32],
     mode: FrameMode,
     bound: FrameBound,
     ghost together: { takes_groups mode ≡ true },
@@ -71,7 +74,10 @@ impl<'a> Cut for Ends<'a> {
             FrameMode::Range => {
                 !key_is_after_end(rows.keys(), self.bound, &rows.row(row), &rows.row(place))
             }
-            FrameMode::Groups => !is_after_end(self.bound, self.groups[row], self.groups[place]),
+            FrameMode::Groups => {
+                let group = self.groups[row] as usize;
+                !is_after_end(self.bound, group, self.groups[place] as usize)
+            }
         }
     }
 
@@ -83,9 +89,9 @@ impl<'a> Cut for Ends<'a> {
 /// Adds, for each group of peers, how many rows lie before the start that a bound gives their frames, counted on from the first
 /// row's place, in a mode that takes peers in together: they have one start.
 pub fn push_starts(
-    starts: &mut Vec<usize>,
+    starts: &mut Vec<u32>,
     peers: &PeerEnds,
-    groups: &[usize],
+    groups: &[u32],
     mode: FrameMode,
     bound: FrameBound,
 ) -> Result<(), AllocError>
@@ -93,7 +99,7 @@ pub fn push_starts(
     requires numbered { IsTrue (is_groups mode) → AreNumbered (keys_cmp (sort_keys peers.now.rows)) (key_lists peers.now.rows) groups.now }
     requires one_key { IsTrue (is_range mode && is_offset bound) → length (sort_keys peers.now.rows) ≡ 1 }
     requires first { length starts.old.items ≡ peers.now.first_group }
-    requires room { peers.now.first + length (key_lists peers.now.rows) < 2 ^ 64 }
+    requires room { peers.now.first + length (key_lists peers.now.rows) < 2 ^ 32 }
     ensures cuts { OnOk result (HasNumberedCuts peers.now.first (length (key_lists peers.now.rows))
         (before_start (sort_keys peers.now.rows) (key_lists peers.now.rows) mode bound) peers.now.numbers.now starts.new.items) }
     ensures stays { OnOk result (BeginsWith starts.old.items starts.new.items) }
@@ -111,9 +117,9 @@ pub fn push_starts(
 /// Adds, for each group of peers, how many rows do not lie after the end that a bound gives their frames, counted on from the
 /// first row's place, in a mode that takes peers in together: they have one end.
 pub fn push_ends(
-    ends: &mut Vec<usize>,
+    ends: &mut Vec<u32>,
     peers: &PeerEnds,
-    groups: &[usize],
+    groups: &[u32],
     mode: FrameMode,
     bound: FrameBound,
 ) -> Result<(), AllocError>
@@ -121,7 +127,7 @@ pub fn push_ends(
     requires numbered { IsTrue (is_groups mode) → AreNumbered (keys_cmp (sort_keys peers.now.rows)) (key_lists peers.now.rows) groups.now }
     requires one_key { IsTrue (is_range mode && is_offset bound) → length (sort_keys peers.now.rows) ≡ 1 }
     requires first { length ends.old.items ≡ peers.now.first_group }
-    requires room { peers.now.first + length (key_lists peers.now.rows) < 2 ^ 64 }
+    requires room { peers.now.first + length (key_lists peers.now.rows) < 2 ^ 32 }
     ensures cuts { OnOk result (HasNumberedCuts peers.now.first (length (key_lists peers.now.rows))
         (λ i j. not (after_end (sort_keys peers.now.rows) (key_lists peers.now.rows) mode bound i j)) peers.now.numbers.now
         ends.new.items) }

@@ -55,7 +55,7 @@ fn advance<C: Cut>(cut: &C, rows: usize, row: usize, from: usize) -> usize
 ///
 /// The end moves along with the groups and never back: of each group one row is tested, and once more where it is an end.
 pub fn push_group_cuts<C: Cut>(
-    cuts: &mut Vec<usize>,
+    cuts: &mut Vec<u32>,
     cut: &C,
     peers: &PeerEnds,
 ) -> Result<(), AllocError>
@@ -64,7 +64,7 @@ pub fn push_group_cuts<C: Cut>(
     requires alike { (i k j : ℕ) → are_peers (keys_cmp (sort_keys peers.now.rows)) (key_lists peers.now.rows) i k ≡ true
         → C.passes cut.now i j ≡ C.passes cut.now k j }
     requires first { length cuts.old.items ≡ peers.now.first_group }
-    requires room { peers.now.first + length (key_lists peers.now.rows) < 2 ^ 64 }
+    requires room { peers.now.first + length (key_lists peers.now.rows) < 2 ^ 32 }
     ensures cuts { OnOk result (HasNumberedCuts peers.now.first (length (key_lists peers.now.rows)) (C.passes cut.now)
         peers.now.numbers.now cuts.new.items) }
     ensures stays { OnOk result (BeginsWith cuts.old.items cuts.new.items) }
@@ -76,7 +76,7 @@ pub fn push_group_cuts<C: Cut>(
     let mut end = 0;
     while row < rows {
         end = advance(cut, rows, row, end);
-        cuts.push(first + end)?;
+        cuts.push((first + end) as u32)?;
         row = peers.end(row);
     }
     Ok(())

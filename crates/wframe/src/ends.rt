@@ -13,18 +13,22 @@ use std::alloc::{AllocError, Global};
 /// another, by places among all rows. It is kept once for each group of peers; each row has its group's number.
 #[derive(Drop)]
 pub struct FrameEnds {
-    numbers: Vec<usize>,
-    peer_ends: Vec<usize>,
-    starts: Vec<usize>,
-    ends: Vec<usize>,
+    numbers: Vec<u32>,
+    peer_ends: Vec<u32>,
+    starts: Vec<u32>,
+    ends: Vec<u32>,
 }
 
 // Where the group of a number begins: where the one before ends.
-fn group_begin(ends: &[usize], number: usize) -> usize
+fn group_begin(ends: &[u32], number: usize) -> usize
     requires { number ≤ length ends.now }
     ensures { result ≡ slice_index (begins_of ends.now) number }
 {
-    if number == 0 { 0 } else { ends[number - 1] }
+    if number == 0 {
+        0
+    } else {
+        ends[number - 1] as usize
+    }
 }
 
 impl FrameEnds {
@@ -53,7 +57,7 @@ impl FrameEnds {
     // Adds the starts and the ends of a partition's frames, of which the peers stand.
     fn push_bounds(
         &mut self,
-        groups: &mut Vec<usize>,
+        groups: &mut Vec<u32>,
         rows: &KeyRows,
         frame: Frame,
         first: usize,
@@ -65,7 +69,7 @@ impl FrameEnds {
         requires ends { length self.old.ends.items ≡ length self.old.starts.items }
         requires peers { AreGroups (keys_cmp (sort_keys rows.now)) (key_lists rows.now) first (length self.old.starts.items)
             (length (key_lists rows.now)) self.old.numbers.items self.old.peer_ends.items }
-        requires room { first + length (key_lists rows.now) < 2 ^ 64 }
+        requires room { first + length (key_lists rows.now) < 2 ^ 32 }
         ensures starts { OnOk result (HasNumberedCuts first (length (key_lists rows.now))
             (is_before_start (sort_keys rows.now) (key_lists rows.now) frame.mode frame.start) self.old.numbers.items
             self.new.starts.items) }
@@ -91,7 +95,7 @@ impl FrameEnds {
     /// partition are put in `groups`.
     pub fn push_partition(
         &mut self,
-        groups: &mut Vec<usize>,
+        groups: &mut Vec<u32>,
         rows: &KeyRows,
         frame: Frame,
         first: usize,
@@ -100,7 +104,7 @@ impl FrameEnds {
         requires start { IsTrue (is_range frame.mode && is_offset frame.start) → length (sort_keys rows.now) ≡ 1 }
         requires end { IsTrue (is_range frame.mode && is_offset frame.end) → length (sort_keys rows.now) ≡ 1 }
         requires first { AreLong frame first self.old }
-        requires room { first + length (key_lists rows.now) < 2 ^ 64 }
+        requires room { first + length (key_lists rows.now) < 2 ^ 32 }
         ensures frames { OnOk result (HasFrames (record {
           order = sort_keys rows.now;
           keys = key_lists rows.now;
@@ -126,11 +130,11 @@ impl FrameEnds {
         ensures to { result.to ≡ max (slice_index self.now.starts.items (slice_index self.now.numbers.items row))
             (slice_index self.now.ends.items (slice_index self.now.numbers.items row)) }
     {
-        let number = self.numbers[row];
-        let from = self.starts[number];
+        let number = self.numbers[row] as usize;
+        let from = self.starts[number] as usize;
         Span {
             from,
-            to: from.max(self.ends[number]),
+            to: from.max(self.ends[number] as usize),
         }
     }
 
@@ -141,10 +145,10 @@ impl FrameEnds {
         ensures from { result.from ≡ slice_index (begins_of self.now.peer_ends.items) (slice_index self.now.numbers.items row) }
         ensures to { result.to ≡ slice_index self.now.peer_ends.items (slice_index self.now.numbers.items row) }
     {
-        let number = self.numbers[row];
+        let number = self.numbers[row] as usize;
         Span {
             from: group_begin(&self.peer_ends, number),
-            to: self.peer_ends[number],
+            to: self.peer_ends[number] as usize,
         }
     }
 }

@@ -1,4 +1,4 @@
-ghost use Rattle.std.specs.Prelude.{◌≡◌, ◌<◌, ◌≤◌, ◌-◌, length, OnOk};
+ghost use Rattle.std.specs.Prelude.{◌≡◌, ◌<◌, ◌≤◌, ◌-◌, ◌^◌, length, OnOk};
 ghost use Rattle.wvalues.specs.Order.{keys_cmp};
 ghost use Rattle.wframe.specs.KeyRows.{key_lists, sort_keys};
 ghost use Rattle.wframe.specs.Peers.{group_number};
@@ -25,14 +25,15 @@ fn next_number(peers: &PeerEnds, row: usize, last: usize) -> usize
 }
 
 /// Puts the number of each row's peer group, from 0, in the place of what a list has.
-pub fn number_groups(numbers: &mut Vec<usize>, peers: &PeerEnds) -> Result<(), AllocError>
+pub fn number_groups(numbers: &mut Vec<u32>, peers: &PeerEnds) -> Result<(), AllocError>
+    requires room { length (key_lists peers.now.rows) < 2 ^ 32 }
     ensures { OnOk result (AreNumbered (keys_cmp (sort_keys peers.now.rows)) (key_lists peers.now.rows) numbers.new.items) }
 {
     numbers.clear();
     let mut number = 0;
     for row in 0..peers.rows().count() {
         number = next_number(peers, row, number);
-        numbers.push(number)?;
+        numbers.push(number as u32)?;
     }
     Ok(())
 }

@@ -1,4 +1,4 @@
-ghost use Rattle.std.specs.Prelude.{◌≡◌, ◌<◌, ◌≤◌, ◌&&◌, length, All, IfOk, IsTrue};
+ghost use Rattle.std.specs.Prelude.{◌≡◌, ◌<◌, ◌≤◌, ◌^◌, ◌&&◌, length, All, IfOk, IsTrue};
 ghost use Rattle.wvalues.specs.Order.{keys_cmp};
 ghost use Rattle.wframe.specs.KeyRows.{key_lists, sort_keys, AreInOrder, AreInOrderWithin};
 ghost use Rattle.wframe.specs.Bounds.{is_offset};
@@ -16,6 +16,9 @@ use crate::key_rows::KeyRows;
 use crate::peers::agreeing_end;
 use std::alloc::{AllocError, Global};
 use std::marker::Model;
+
+// As many rows as numbers of 32 bits suffice for: each number, and each place behind a row, is at most that.
+const MOST_ROWS: usize = u32::MAX as usize;
 
 // The spans of rows that agree on all partition values.
 fn partition_spans(alloc: Global, partition_values: &KeyRows) -> Result<Vec<Span>, AllocError>
@@ -49,6 +52,7 @@ fn all_ends(
     requires ordered { AreInOrderWithin partition_values.now keys.now }
     requires start { IsTrue (is_range frame.mode && is_offset frame.start) → length (sort_keys keys.now) ≡ 1 }
     requires end { IsTrue (is_range frame.mode && is_offset frame.end) → length (sort_keys keys.now) ≡ 1 }
+    requires room { length (key_lists keys.now) < 2 ^ 32 }
     requires tiles { Tiles 0 spans.now (length (key_lists partition_values.now)) }
     requires spans { All (IsPartition (keys_cmp (sort_keys partition_values.now)) (key_lists partition_values.now)) spans.now }
     ensures { IfOk result (HasAllFrames (record {
@@ -101,7 +105,8 @@ impl<'a> Partitions<'a> {
     /// several peers comes first is the caller's choice, and places are told by it. The work grows with the rows
     /// alone, whatever the offsets.
     ///
-    /// It answers `AllocError` where memory was refused.
+    /// It answers `AllocError` where memory was refused, or where there are 2^32 rows or more, for which numbers of 32 bits do
+    /// not suffice.
     pub fn build(
         alloc: Global,
         partition_values: &KeyRows,
@@ -119,6 +124,9 @@ impl<'a> Partitions<'a> {
         ensures each { IfOk result (λ all. All (IsPartition (keys_cmp (sort_keys partition_values.now))
             (key_lists partition_values.now)) all.spans) }
     {
+        if keys.count() > MOST_ROWS {
+            return Err(AllocError);
+        }
         let spans = partition_spans(alloc, partition_values)?;
         let ends = all_ends(alloc, partition_values, &keys, frame, &spans)?;
         Ok(Partitions {

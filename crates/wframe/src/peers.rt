@@ -66,19 +66,21 @@ pub fn agreeing_end(rows: &KeyRows, first: usize) -> usize
 
 // Adds a group of so many rows, which ends at a place: for each row the group's number, and for the group its end.
 fn push_group(
-    numbers: &mut Vec<usize>,
-    ends: &mut Vec<usize>,
+    numbers: &mut Vec<u32>,
+    ends: &mut Vec<u32>,
     rows: usize,
     end: usize,
 ) -> Result<(), AllocError>
+    requires number { length ends.old.items < 2 ^ 32 }
+    requires end { end < 2 ^ 32 }
     ensures ends { OnOk result (ends.new.items ≡ ends.old.items ++ end ∷ []) }
     ensures stays { OnOk result (BeginsWith numbers.old.items numbers.new.items) }
     ensures each { OnOk result ((i : ℕ) → length numbers.old.items ≤ i → i < length numbers.new.items
         → slice_index numbers.new.items i ≡ length ends.old.items) }
     ensures long { OnOk result (length numbers.new.items ≡ length numbers.old.items + rows) }
 {
-    let number = ends.len();
-    ends.push(end)?;
+    let number = ends.len() as u32;
+    ends.push(end as u32)?;
     for _ in 0..rows {
         numbers.push(number)?;
     }
@@ -90,20 +92,22 @@ fn push_group(
 ///
 /// Rows are compared with the first of their peers alone, and few of many that are peers.
 pub fn push_peers(
-    numbers: &mut Vec<usize>,
-    ends: &mut Vec<usize>,
+    numbers: &mut Vec<u32>,
+    ends: &mut Vec<u32>,
     rows: &KeyRows,
     first: usize,
 ) -> Result<(), AllocError>
     requires ordered { AreInOrder rows.now }
     requires numbers { length numbers.old.items ≡ first }
     requires last { slice_index (begins_of ends.old.items) (length ends.old.items) ≡ first }
-    requires room { first + length (key_lists rows.now) < 2 ^ 64 }
+    requires few { length ends.old.items ≤ first }
+    requires room { first + length (key_lists rows.now) < 2 ^ 32 }
     ensures groups { OnOk result (AreGroups (keys_cmp (sort_keys rows.now)) (key_lists rows.now) first
         (length ends.old.items) (length (key_lists rows.now)) numbers.new.items ends.new.items) }
     ensures numbers_stay { OnOk result (BeginsWith numbers.old.items numbers.new.items) }
     ensures ends_stay { OnOk result (BeginsWith ends.old.items ends.new.items) }
     ensures long { OnOk result (length numbers.new.items ≡ first + length (key_lists rows.now)) }
+    ensures few { OnOk result (length ends.new.items ≤ first + length (key_lists rows.now)) }
     ensures last { OnOk result (slice_index (begins_of ends.new.items) (length ends.new.items) ≡ first + length (key_lists rows.now)) }
 {
     let count = rows.count();
@@ -123,8 +127,8 @@ pub fn push_peers(
 #[derive(Clone, Copy)]
 pub struct PeerEnds<'a> {
     rows: KeyRows<'a>,
-    numbers: &'a [usize],
-    ends: &'a [usize],
+    numbers: &'a [u32],
+    ends: &'a [u32],
     first: usize,
     first_group: usize,
     ghost ordered: { AreInOrder rows },
@@ -139,8 +143,8 @@ impl<'a> PeerEnds<'a> {
     /// The rows, and the groups of their peers.
     pub fn new(
         rows: KeyRows<'a>,
-        numbers: &'a [usize],
-        ends: &'a [usize],
+        numbers: &'a [u32],
+        ends: &'a [u32],
         first: usize,
         first_group: usize,
     ) -> PeerEnds<'a>
@@ -192,6 +196,6 @@ impl<'a> PeerEnds<'a> {
         ensures last { result ≡ length (key_lists self.now.rows) → slice_index self.now.numbers.now (self.now.first + row)
             + 1 ≡ length self.now.ends.now }
     {
-        self.ends[self.numbers[self.first + row]] - self.first
+        self.ends[self.numbers[self.first + row] as usize] as usize - self.first
     }
 }

@@ -2,7 +2,7 @@ use Rattle.std.proofs.Common.{◌≡◌, ◌+◌, ◌<◌, length, arith, refl}
 use Rattle.wvalues.specs.Order.{keys_cmp}
 use Rattle.wvalues.specs.OrderLaws.{keys_total}
 use Rattle.wframe.specs.KeyRows.{key_lists, sort_keys}
-use Rattle.wframe.proofs.CutFacts.{front_more}
+use Rattle.wframe.proofs.CutFacts.{front_more, long_more}
 use Rattle.wframe.proofs.PartitionFacts.{next_before, none_before}
 use Rattle.wframe.proofs.FrameFacts.{peers_to}
 use Rattle.wframe.proofs.NumberedFacts.{no_groups, more_groups, last_begin, begins_through}
@@ -17,6 +17,7 @@ loop-from-init c =
       before = none_before (keys_total ks) keys c.requires.ordered;
       groups = no_groups (keys_cmp ks) keys c.args.first c.args.numbers.now.items c.args.ends.now.items c.requires.numbers;
       long = omega (arith, c.requires.numbers);
+      few = omega (arith, c.requires.few);
       last = omega (arith, c.requires.last);
       numbers_stay = record { same = λ i h. refl; long = omega arith };
       ends_stay = record { same = λ i h. refl; long = omega arith };
@@ -65,6 +66,7 @@ loop-from-preserved c =
       groups = more_groups (keys_total ks) keys first low from to ns ms es fs inv.groups inv.long inv.last
           c.in_ok-push_group.ensures.stays m c.in_ok-push_group.ensures.each c.in_ok-push_group.ensures.ends some at end;
       long = m;
+      few = omega (arith, long_more es fs (length es) (first + to) c.in_ok-push_group.ensures.ends refl, inv.few, some);
       last = last_begin es fs (first + to) c.in_ok-push_group.ensures.ends;
       numbers_stay = begins_through c.args.numbers.now.items ns ms inv.numbers_stay c.in_ok-push_group.ensures.stays;
       ends_stay = front_more c.args.ends.now.items es fs (first + to) c.in_ok-push_group.ensures.ends inv.ends_stay;

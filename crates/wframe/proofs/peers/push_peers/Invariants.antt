@@ -15,6 +15,7 @@ invariant-loop-from l =
       before : l.from < length keys → CutsAt (length keys) (is_before cmp keys l.from) l.from;
       groups : AreGroups cmp keys l.first (length l.fn.ends.items) l.from l.numbers.items l.ends.items;
       long : length l.numbers.items ≡ l.first + l.from;
+      few : length l.ends.items ≤ l.first + l.from;
       last : get_or (begins_of l.ends.items) (length l.ends.items) 0 ≡ l.first + l.from;
       numbers_stay : BeginsWith l.fn.numbers.items l.numbers.items;
       ends_stay : BeginsWith l.fn.ends.items l.ends.items;
