@@ -11,6 +11,7 @@ use std::alloc::{AllocError, Global};
 
 /// Where peers end, and in RANGE and GROUPS with an offset where frames start and end, for the rows of one partition after
 /// another, by places among all rows. It is kept once for each group of peers; each row has its group's number.
+/// All are numbers of 32 bits: there are fewer than 2^32 rows.
 #[derive(Drop)]
 pub struct FrameEnds {
     numbers: Vec<u32>,

@@ -71,7 +71,7 @@ fn the_end_of_a_frame_moves_along(rt: HostRuntime) -> Result<(), Fail> {
     };
     let mut ends = Vec::new(rt.alloc());
     push_group_cuts(&mut ends, &cut, &peers)?;
-    let wanted: Vec<usize> = (1..1001).collect(rt.alloc())?;
+    let wanted: Vec<u32> = (1..1001).collect(rt.alloc())?;
     assert_eq!(rt; ends.as_slice(), wanted.as_slice());
     assert!(rt; cut.calls.get() <= 2000);
     Ok(())
