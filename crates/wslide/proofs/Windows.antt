@@ -4,13 +4,11 @@ use Rattle.std.proofs.Common.{take, drop, refl, sym, ap, ◌∙◌, arith, subst
 use Rattle.std.specs.List.{flat_map}
 use Rattle.std.proofs.lemmas.List.{take_more, flat_map_more}
 use Rattle.wframe.specs.declared.frame.Span.{Span}
-use Rattle.wframe.specs.Places.{places, span_at, Tiles}
+use Rattle.wframe.specs.Places.{span_at, Tiles}
 use Rattle.wframe.specs.Partition.{Partitioned, partition_of}
-use Rattle.wframe.specs.Frame.{frame_rows}
-use Rattle.wslide.specs.Laws.{rows_fold, total}
 use Rattle.wframe.specs.declared.frame.FrameExclusion.{FrameExclusion}
 use Rattle.wframe.specs.declared.frame.FrameExclusion.TheVariants.{CurrentRow, Group, Ties, NoOthers}
-use Rattle.wslide.specs.Frames.{folds_of_frames, in_each_frame, most, most_by_two_queues, most_by_queues}
+use Rattle.wslide.specs.Frames.{most, most_by_two_queues, most_by_queues}
 
 -- the place that some of the first spans reach
 abbrev pub reached : ℕ → List Span → ℕ → ℕ
@@ -52,25 +50,6 @@ one_more f ss k h =
 
 pub partition_long : (all : Partitioned) (s : Span) → s.to ≤ length all.keys → length (partition_of all s).keys ≡ s.to - s.from
 partition_long all s h = length-take-le (s.to - s.from) (drop s.from all.keys) (omega (arith, length-drop s.from all.keys))
-
-module _ {P : Type 0} (neutral : P) (joined : P → P → P) (part_at : ℕ → P) where
-  mapped : (from : ℕ) (rows : List ℕ) → map (λ row. part_at (from + row)) rows ≡ map part_at (map (λ j. from + j) rows)
-  mapped from [] = refl
-  mapped from (row ∷ rows) = ap (λ ps. part_at (from + row) ∷ ps) (mapped from rows)
-
-  frames_alike : (from : ℕ) (rows_of : ℕ → List ℕ) (xs : List ℕ)
-      → map (λ x. rows_fold neutral joined (λ row. part_at (from + row)) (rows_of x)) xs
-      ≡ map (λ x. rows_fold neutral joined part_at (map (λ j. from + j) (rows_of x))) xs
-  frames_alike from rows_of [] = refl
-  frames_alike from rows_of (x ∷ xs) =
-      ap (λ y. y ∷ map (λ x. rows_fold neutral joined (λ row. part_at (from + row)) (rows_of x)) xs)
-      (ap (total neutral joined) (mapped from (rows_of x)))
-      ∙ ap (λ ys. rows_fold neutral joined part_at (map (λ j. from + j) (rows_of x)) ∷ ys) (frames_alike from rows_of xs)
-
-  -- the folds of a partition, by places there and by places among all rows
-  pub folds_alike : (all : Partitioned) (s : Span) → folds_of_frames neutral joined (λ row. part_at (s.from + row))
-      (partition_of all s) ≡ in_each_frame (rows_fold neutral joined part_at) all s
-  folds_alike all s = frames_alike s.from (frame_rows (partition_of all s)) (places (length (partition_of all s).keys))
 
 -- the joins of some rows and of some more
 joins_added : (e : FrameExclusion) (m n : ℕ) → most_by_queues e m + most_by_queues e n ≡ most_by_queues e (m + n)
