@@ -1,5 +1,5 @@
 ghost use Rattle.std.specs.Prelude.{◌≡◌, ◌≤◌, ◌<◌, ◌+◌, ◌-◌, ◌^◌, ◌++◌, ℕ, length, slice_range, OnOk, All};
-ghost use Rattle.wframe.specs.Places.{span_at};
+ghost use Rattle.wframe.specs.Places.{span_at, Tiles};
 ghost use Rattle.wslide.specs.Frames.{folds_of_spans, most_by_queues};
 
 use crate::fold::Fold;
@@ -71,13 +71,13 @@ fn longest(partitions: &Partitions, numbers: Span) -> usize
     longest
 }
 
-// The first row of some partitions, and 0 where there are none.
-fn first_row(partitions: &Partitions, numbers: Span) -> usize
-    requires within { numbers.to ≤ length partitions.now.spans }
-    ensures { numbers.from < numbers.to → result ≡ (span_at partitions.now.spans numbers.from).from }
+// The first row of a partition, and 0 where there is no such partition. No row lies between partitions.
+fn first_row(partitions: &Partitions, number: usize) -> usize
+    ensures first { result ≡ (span_at partitions.now.spans number).from }
+    ensures tiles { Tiles 0 partitions.now.spans (length partitions.now.keys) }
 {
-    if numbers.from < numbers.to {
-        return partitions.span(numbers.from).from;
+    if number < partitions.count() {
+        return partitions.span(number).from;
     }
     0
 }
@@ -113,7 +113,7 @@ pub fn push_window_folds<F: Fold>(
     // A law, which does nothing.
     most_is_small();
     let mut queues = FrameQueues::with_capacity(alloc, fold, longest(partitions, numbers))?;
-    let first = first_row(partitions, numbers);
+    let first = first_row(partitions, numbers.from);
     for number in numbers.from..numbers.to {
         let rows = partitions.span(number);
         let frames = partitions.partition(number);
