@@ -29,35 +29,43 @@ reached_more low (s ∷ ss) (suc k) h =
     let e : suc k + 1 ≡ suc (k + 1) = omega arith in
     ap (reached low (s ∷ ss)) e ∙ reached_more s.to ss k (omega arith)
 
+pub reached_all : (low : ℕ) (ss : List Span) (high : ℕ) → Tiles low ss high → reached low ss (length ss) ≡ high
+reached_all low [] high t = t
+reached_all low (s ∷ ss) high t = reached_all s.to ss high t.2
+
+-- more spans reach as far, or further
 reached_least : (low : ℕ) (ss : List Span) (high k : ℕ) → Tiles low ss high → low ≤ reached low ss k
 reached_least low ss high zero t = omega arith
 reached_least low [] high (suc k) t = omega arith
-reached_least low (s ∷ ss) high (suc k) t =
-    let more = reached_least s.to ss high k t.2 in
-    let from = t.0 in
-    let some = t.1 in
-    omega arith
+reached_least low (s ∷ ss) high (suc k) t = omega (arith, t.0, t.1, reached_least s.to ss high k t.2)
 
-pub reached_rises : (low : ℕ) (ss : List Span) (high k m : ℕ) → Tiles low ss high → k ≤ m → reached low ss k ≤ reached low ss m
+reached_rises : (low : ℕ) (ss : List Span) (high k m : ℕ) → Tiles low ss high → k ≤ m → reached low ss k ≤ reached low ss m
 reached_rises low ss high zero m t h = reached_least low ss high m t
 reached_rises low ss high (suc k) zero t h = absurd (omega arith)
 reached_rises low [] high (suc k) (suc m) t h = omega arith
 reached_rises low (s ∷ ss) high (suc k) (suc m) t h = reached_rises s.to ss high k m t.2 (omega arith)
 
--- the rows from a partition on up to a later one, and with it
-rows_with : (ss : List Span) (high from k : ℕ) → Tiles 0 ss high → from ≤ k → k < length ss
-    → reached 0 ss (k + 1) - reached 0 ss from ≡ (span_at ss k).to - (span_at ss from).from
-rows_with ss high from k t h below =
-    let first = reached_from 0 ss high from t (omega arith) in
-    let last = reached_more 0 ss k below in
+-- the first of all spans begins at 0, and the last ends at the end
+pub all_rows : (ss : List Span) (high : ℕ) → Tiles 0 ss high → 0 < length ss
+    → high ≡ (span_at ss (length ss - 1)).to - (span_at ss 0).from
+all_rows ss high t some =
+    let whole : length ss - 1 + 1 ≡ length ss = omega arith in
+    let begin = reached_from 0 ss high 0 t some in
+    let end = reached_more 0 ss (length ss - 1) (omega arith) in
+    let same = ap (reached 0 ss) whole in
+    let all = reached_all 0 ss high t in
     omega arith
 
--- the span of a partition among some partitions, whose first row is known
+-- how many rows lie before a span, counted from the begin of an earlier one
+abbrev pub rows_up_to : List Span → ℕ → ℕ → ℕ
+rows_up_to ss from k = reached 0 ss k - reached 0 ss from
+
+-- the span of one of some partitions, whose first row is known
 pub record IsAmong (ss : List Span) (from to k first : ℕ) (s : Span) : Type 0 where
   pub begins : first ≤ s.from
   pub ends : s.to - first ≤ (span_at ss (to - 1)).to - (span_at ss from).from
-  pub before : reached 0 ss k - reached 0 ss from ≡ s.from - first
-  pub with : s.to - first ≡ reached 0 ss (k + 1) - reached 0 ss from
+  pub before : rows_up_to ss from k ≡ s.from - first
+  pub with_it : s.to - first ≡ rows_up_to ss from (k + 1)
 
 pub among : (ss : List Span) (high from to k first : ℕ) (s : Span) → Tiles 0 ss high → from ≤ k → k < to → to ≤ length ss
     → first ≡ (span_at ss from).from → s ≡ span_at ss k → IsAmong ss from to k first s
@@ -66,30 +74,31 @@ among ss high from to k first s t low below within is_first is_own =
     let own = reached_from 0 ss high k t (omega arith) in
     let end = reached_more 0 ss k (omega arith) in
     let last = reached_more 0 ss (to - 1) (omega arith) in
-    let rises = reached_rises 0 ss high from k t low in
-    let rises_on = reached_rises 0 ss high (k + 1) (to - 1 + 1) t (omega arith) in
+    let rise = reached_rises 0 ss high from k t low in
+    let rise_on = reached_rises 0 ss high (k + 1) (to - 1 + 1) t (omega arith) in
     let from_is = ap (λ (x : Span). x.from) is_own in
     let to_is = ap (λ (x : Span). x.to) is_own in
     record {
       begins = omega arith;
       ends = omega arith;
       before = omega arith;
-      with = omega arith;
+      with_it = omega arith;
     }
 
--- so many rows have the partitions from one on up to another
+-- the rows of the partitions from one on up to another are as many as those of a fold over them
 pub rows_until : (ss : List Span) (high from to rows : ℕ) → Tiles 0 ss high → to ≤ length ss
-    → (from < to → rows ≡ (span_at ss (to - 1)).to - (span_at ss from).from) → reached 0 ss to - reached 0 ss from ≤ rows
+    → (from < to → rows ≡ (span_at ss (to - 1)).to - (span_at ss from).from) → rows_up_to ss from to ≤ rows
 rows_until ss high from to rows t within given = by_case (cases_lt from to)
   where
-    by_case : (from < to) ⊎ (to ≤ from) → reached 0 ss to - reached 0 ss from ≤ rows
+    by_case : (from < to) ⊎ (to ≤ from) → rows_up_to ss from to ≤ rows
     by_case (inl some) =
         let whole : to - 1 + 1 ≡ to = omega arith in
-        let all = rows_with ss high from (to - 1) t (omega arith) (omega arith) in
-        let same = ap (λ n. reached 0 ss n - reached 0 ss from) whole in
+        let begin = reached_from 0 ss high from t (omega arith) in
+        let end = reached_more 0 ss (to - 1) (omega arith) in
+        let same = ap (reached 0 ss) whole in
         let own = given some in
         omega arith
-    by_case (inr none) = let rises = reached_rises 0 ss high to from t none in omega arith
+    by_case (inr none) = let rise = reached_rises 0 ss high to from t none in omega arith
 
 -- a partition more
 pub one_more : {X : Type 0} (f : Span → List X) (ss : List Span) (from k : ℕ) → from ≤ k → k < length ss

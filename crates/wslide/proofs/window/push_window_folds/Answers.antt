@@ -6,7 +6,7 @@ use Rattle.wframe.specs.Places.{span_at}
 use Rattle.wframe.specs.Partition.{Partition, partition_of}
 use Rattle.wframe.specs.declared.frame.Span.{Span}
 use Rattle.wslide.specs.Frames.{folds_of_frames, most_by_queues}
-use Rattle.wslide.proofs.Windows.{reached, among, rows_until, one_more, partition_long, few_joins, joins_more, joins_within}
+use Rattle.wslide.proofs.Windows.{rows_up_to, among, rows_until, one_more, partition_long, few_joins, joins_more, joins_within}
 use Rattle.wslide.proofs.window.push_window_folds.Goals as goal
 
 pub overflow_sub-span : goal.overflow_sub-span
@@ -56,7 +56,7 @@ push_frame_folds-requires-clause-room g c =
     let rows = c.requires.rows (omega (arith, c.loop-number-test.true, c.loop-number.invariant.ordered)) in
     let small : n < 2 ^ 31 = omega (arith, own.ends, rows, c.requires.few) in
     let fits = c.most_is_small.ensures c.partition-frames.result.frame.exclusion n small in
-    let few = few_joins all.frame.exclusion (reached 0 all.spans c.loop-number.number - reached 0 all.spans c.args.numbers.from) in
+    let few = few_joins all.frame.exclusion (rows_up_to all.spans c.args.numbers.from c.loop-number.number) in
     omega (
       arith,
       fits,
@@ -137,7 +137,7 @@ loop-number-preserved g c =
       room = λ i h j. c.push_frame_folds.ensures.space ((span_at all.spans i).to - (span_at all.spans i).from) (inv.room i h j);
       not_less = omega (arith, inv.not_less, c.push_frame_folds.ensures.not_less);
       joins =
-          subst (λ n. after ≤ counted + most_by_queues e n) among_them.with
+          subst (λ n. after ≤ counted + most_by_queues e n) among_them.with_it
           (joins_more e c.partition-frames.result.frame.exclusion counted before after (s.from - first) (s.to - first)
           (ap (λ (p : Partition). p.frame.exclusion) c.partition-frames.ensures) (omega (arith, c.span-rows.ensures.some))
           (subst (λ n. before ≤ counted + most_by_queues e n) among_them.before inv.joins)
@@ -153,6 +153,6 @@ returns-clause-joins g c =
     let few = rows_until all.spans (length all.keys) begin c.args.numbers.to (g.F.Fold.rows c.args.fold.now)
     c.first_row-first.ensures.tiles c.requires.within c.requires.rows in
     joins_within all.frame.exclusion (g.F.Fold.count c.args.meter.now) (g.F.Fold.count c.loop-number.meter)
-    (reached 0 all.spans k - reached 0 all.spans begin) (g.F.Fold.rows c.args.fold.now)
-    (subst (λ n. reached 0 all.spans n - reached 0 all.spans begin ≤ g.F.Fold.rows c.args.fold.now) (sym end) few)
+    (rows_up_to all.spans begin k) (g.F.Fold.rows c.args.fold.now)
+    (subst (λ n. rows_up_to all.spans begin n ≤ g.F.Fold.rows c.args.fold.now) (sym end) few)
     c.loop-number.invariant.joins

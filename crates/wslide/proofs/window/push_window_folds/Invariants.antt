@@ -3,7 +3,7 @@ use Rattle.std.specs.Prelude.{All, slice_range}
 use Rattle.wframe.specs.Places.{span_at}
 use Rattle.wslide.specs.Frames.{folds_of_spans, most_by_queues}
 use Rattle.wslide.specs.Queue.{HasRoom}
-use Rattle.wslide.proofs.Windows.{reached}
+use Rattle.wslide.proofs.Windows.{rows_up_to}
 use Rattle.wslide.proofs.window.push_window_folds.Given as goal
 
 abbrev pub invariant-loop-number : goal.invariant-loop-number
@@ -20,5 +20,5 @@ invariant-loop-number g l =
       room : (k : ℕ) → from ≤ k → k < l.fn.numbers.to → HasRoom ((span_at all.spans k).to - (span_at all.spans k).from) l.queues;
       not_less : g.F.Fold.count l.fn.meter ≤ g.F.Fold.count l.meter;
       joins : g.F.Fold.count l.meter ≤ g.F.Fold.count l.fn.meter
-          + most_by_queues all.frame.exclusion (reached 0 all.spans l.number - reached 0 all.spans from);
+          + most_by_queues all.frame.exclusion (rows_up_to all.spans from l.number);
     }
