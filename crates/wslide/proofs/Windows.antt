@@ -1,16 +1,15 @@
 -- The folds of one partition after another.
-use Rattle.std.proofs.Common.{◌≡◌, ℕ, zero, suc, ◌+◌, ◌*◌, ◌-◌, ◌<◌, ◌≤◌, List, [], ◌∷◌, ◌++◌, length, map}
-use Rattle.std.proofs.Common.{take, drop, refl, sym, ap, ◌∙◌, arith, subst, length-take-le, length-drop}
+use Rattle.std.proofs.Common.{◌≡◌, ℕ, zero, suc, ◌+◌, ◌*◌, ◌-◌, ◌<◌, ◌≤◌, List, [], ◌∷◌, ◌++◌, length, slice_range, ◌⊎◌, inl, inr}
+use Rattle.std.proofs.Common.{take, drop, refl, sym, ap, ◌∙◌, arith, subst, length-take-le, length-drop, get_or-drop}
 use Rattle.std.specs.List.{flat_map}
 use Rattle.std.proofs.lemmas.List.{take_more, flat_map_more}
+use Rattle.std.proofs.lemmas.Bool.{cases_lt}
 use Rattle.wframe.specs.declared.frame.Span.{Span}
-use Rattle.wframe.specs.Places.{places, span_at, Tiles}
+use Rattle.wframe.specs.Places.{span_at, Tiles}
 use Rattle.wframe.specs.Partition.{Partitioned, partition_of}
-use Rattle.wframe.specs.Frame.{frame_rows}
-use Rattle.wslide.specs.Laws.{rows_fold, total}
 use Rattle.wframe.specs.declared.frame.FrameExclusion.{FrameExclusion}
 use Rattle.wframe.specs.declared.frame.FrameExclusion.TheVariants.{CurrentRow, Group, Ties, NoOthers}
-use Rattle.wslide.specs.Frames.{folds_of_frames, in_each_frame, most, most_by_two_queues, most_by_queues}
+use Rattle.wslide.specs.Frames.{most, most_by_two_queues, most_by_queues}
 
 -- the place that some of the first spans reach
 abbrev pub reached : ℕ → List Span → ℕ → ℕ
@@ -30,47 +29,78 @@ reached_more low (s ∷ ss) (suc k) h =
     let e : suc k + 1 ≡ suc (k + 1) = omega arith in
     ap (reached low (s ∷ ss)) e ∙ reached_more s.to ss k (omega arith)
 
-tiles_ordered : (low : ℕ) (ss : List Span) (high : ℕ) → Tiles low ss high → low ≤ high
-tiles_ordered low [] high t = omega (arith, t)
-tiles_ordered low (s ∷ ss) high t =
-    let more = tiles_ordered s.to ss high t.2 in
-    let from = t.0 in
-    let some = t.1 in
-    omega arith
+-- more spans reach as far, or further
+reached_least : (low : ℕ) (ss : List Span) (high k : ℕ) → Tiles low ss high → low ≤ reached low ss k
+reached_least low ss high zero t = omega arith
+reached_least low [] high (suc k) t = omega arith
+reached_least low (s ∷ ss) high (suc k) t = omega (arith, t.0, t.1, reached_least s.to ss high k t.2)
 
-pub reached_within : (low : ℕ) (ss : List Span) (high k : ℕ) → Tiles low ss high → reached low ss k ≤ high
-reached_within low ss high zero t = tiles_ordered low ss high t
-reached_within low [] high (suc k) t = omega (arith, t)
-reached_within low (s ∷ ss) high (suc k) t = reached_within s.to ss high k t.2
+reached_rises : (low : ℕ) (ss : List Span) (high k m : ℕ) → Tiles low ss high → k ≤ m → reached low ss k ≤ reached low ss m
+reached_rises low ss high zero m t h = reached_least low ss high m t
+reached_rises low ss high (suc k) zero t h = absurd (omega arith)
+reached_rises low [] high (suc k) (suc m) t h = omega arith
+reached_rises low (s ∷ ss) high (suc k) (suc m) t h = reached_rises s.to ss high k m t.2 (omega arith)
+
+-- how many rows lie before a span, counted from the begin of an earlier one
+abbrev pub rows_up_to : List Span → ℕ → ℕ → ℕ
+rows_up_to ss from k = reached 0 ss k - reached 0 ss from
+
+-- the span of one of some partitions, whose first row is known
+pub record IsAmong (ss : List Span) (from to k first : ℕ) (s : Span) : Type 0 where
+  pub begins : first ≤ s.from
+  pub ends : s.to - first ≤ (span_at ss (to - 1)).to - (span_at ss from).from
+  pub before : rows_up_to ss from k ≡ s.from - first
+  pub with_it : s.to - first ≡ rows_up_to ss from (k + 1)
+
+pub among : (ss : List Span) (high from to k first : ℕ) (s : Span) → Tiles 0 ss high → from ≤ k → k < to → to ≤ length ss
+    → first ≡ (span_at ss from).from → s ≡ span_at ss k → IsAmong ss from to k first s
+among ss high from to k first s t low below within is_first is_own =
+    let begin = reached_from 0 ss high from t (omega arith) in
+    let own = reached_from 0 ss high k t (omega arith) in
+    let end = reached_more 0 ss k (omega arith) in
+    let last = reached_more 0 ss (to - 1) (omega arith) in
+    let rise = reached_rises 0 ss high from k t low in
+    let rise_on = reached_rises 0 ss high (k + 1) (to - 1 + 1) t (omega arith) in
+    let from_is = ap (λ (x : Span). x.from) is_own in
+    let to_is = ap (λ (x : Span). x.to) is_own in
+    record {
+      begins = omega arith;
+      ends = omega arith;
+      before = omega arith;
+      with_it = omega arith;
+    }
+
+-- the rows of the partitions from one on up to another are as many as those of a fold over them
+pub rows_until : (ss : List Span) (high from to rows : ℕ) → Tiles 0 ss high → to ≤ length ss
+    → (from < to → rows ≡ (span_at ss (to - 1)).to - (span_at ss from).from) → rows_up_to ss from to ≤ rows
+rows_until ss high from to rows t within given = by_case (cases_lt from to)
+  where
+    by_case : (from < to) ⊎ (to ≤ from) → rows_up_to ss from to ≤ rows
+    by_case (inl some) =
+        let whole : to - 1 + 1 ≡ to = omega arith in
+        let begin = reached_from 0 ss high from t (omega arith) in
+        let end = reached_more 0 ss (to - 1) (omega arith) in
+        let same = ap (reached 0 ss) whole in
+        let own = given some in
+        omega arith
+    by_case (inr none) = let rise = reached_rises 0 ss high to from t none in omega arith
 
 -- a partition more
-pub one_more : {X : Type 0} (f : Span → List X) (ss : List Span) (k : ℕ) → k < length ss
-    → flat_map f (take (k + 1) ss) ≡ flat_map f (take k ss) ++ f (span_at ss k)
-one_more f ss k h =
-    ap (flat_map f) (take_more ss k (record { from = 0; to = 0 }) h)
-    ∙ sym (flat_map_more f [] (take k ss) (span_at ss k))
+pub one_more : {X : Type 0} (f : Span → List X) (ss : List Span) (from k : ℕ) → from ≤ k → k < length ss
+    → flat_map f (slice_range ss from (k + 1)) ≡ flat_map f (slice_range ss from k) ++ f (span_at ss k)
+one_more f ss from k h below =
+    let rest = drop from ss in
+    let one : Span = record { from = 0; to = 0 } in
+    let number : k + 1 - from ≡ k - from + 1 = omega arith in
+    let whole : from + (k - from) ≡ k = omega arith in
+    let last : span_at rest (k - from) ≡ span_at ss k = get_or-drop from ss (k - from) one ∙ ap (span_at ss) whole in
+    ap (λ n. flat_map f (take n rest)) number
+    ∙ ap (flat_map f) (take_more rest (k - from) one (omega (arith, length-drop from ss)))
+    ∙ sym (flat_map_more f [] (take (k - from) rest) (span_at rest (k - from)))
+    ∙ ap (λ s. flat_map f (slice_range ss from k) ++ f s) last
 
 pub partition_long : (all : Partitioned) (s : Span) → s.to ≤ length all.keys → length (partition_of all s).keys ≡ s.to - s.from
 partition_long all s h = length-take-le (s.to - s.from) (drop s.from all.keys) (omega (arith, length-drop s.from all.keys))
-
-module _ {P : Type 0} (neutral : P) (joined : P → P → P) (part_at : ℕ → P) where
-  mapped : (from : ℕ) (rows : List ℕ) → map (λ row. part_at (from + row)) rows ≡ map part_at (map (λ j. from + j) rows)
-  mapped from [] = refl
-  mapped from (row ∷ rows) = ap (λ ps. part_at (from + row) ∷ ps) (mapped from rows)
-
-  frames_alike : (from : ℕ) (rows_of : ℕ → List ℕ) (xs : List ℕ)
-      → map (λ x. rows_fold neutral joined (λ row. part_at (from + row)) (rows_of x)) xs
-      ≡ map (λ x. rows_fold neutral joined part_at (map (λ j. from + j) (rows_of x))) xs
-  frames_alike from rows_of [] = refl
-  frames_alike from rows_of (x ∷ xs) =
-      ap (λ y. y ∷ map (λ x. rows_fold neutral joined (λ row. part_at (from + row)) (rows_of x)) xs)
-      (ap (total neutral joined) (mapped from (rows_of x)))
-      ∙ ap (λ ys. rows_fold neutral joined part_at (map (λ j. from + j) (rows_of x)) ∷ ys) (frames_alike from rows_of xs)
-
-  -- the folds of a partition, by places there and by places among all rows
-  pub folds_alike : (all : Partitioned) (s : Span) → folds_of_frames neutral joined (λ row. part_at (s.from + row))
-      (partition_of all s) ≡ in_each_frame (rows_fold neutral joined part_at) all s
-  folds_alike all s = frames_alike s.from (frame_rows (partition_of all s)) (places (length (partition_of all s).keys))
 
 -- the joins of some rows and of some more
 joins_added : (e : FrameExclusion) (m n : ℕ) → most_by_queues e m + most_by_queues e n ≡ most_by_queues e (m + n)

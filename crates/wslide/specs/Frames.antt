@@ -1,5 +1,5 @@
 -- The folds of the frames of partitions, and how many joins they may take.
-use Rattle.std.specs.Prelude.{ℕ, ◌+◌, ◌*◌, List, length, map}
+use Rattle.std.specs.Prelude.{ℕ, ◌+◌, ◌-◌, ◌*◌, List, length, map}
 use Rattle.std.specs.List.{flat_map}
 use Rattle.wframe.specs.declared.frame.FrameExclusion.{FrameExclusion}
 use Rattle.wframe.specs.declared.frame.FrameExclusion.TheVariants.{CurrentRow, Group, Ties, NoOthers}
@@ -14,21 +14,10 @@ use Rattle.wslide.specs.Height.{height}
 abbrev pub folds_of_frames : {P : Type 0} → P → (P → P → P) → (ℕ → P) → Partition → List P
 folds_of_frames neutral joined part_at p = map (λ row. rows_fold neutral joined part_at (frame_rows p row)) (places (length p.keys))
 
--- the rows of a row's frame in the partition of a span, by their places among all rows
-abbrev pub frame_places : Partitioned → Span → ℕ → List ℕ
-frame_places all s row = map (λ j. s.from + j) (frame_rows (partition_of all s) row)
-
--- what is made of each row's frame in the partition of a span, in its order
-abbrev pub in_each_frame : {X : Type 0} → (List ℕ → X) → Partitioned → Span → List X
-in_each_frame f all s = map (λ row. f (frame_places all s row)) (places (length (partition_of all s).keys))
-
--- what is made of each row's frame, one partition after another
-abbrev pub of_each_frame : {X : Type 0} → (List ℕ → X) → Partitioned → List X
-of_each_frame f all = flat_map (in_each_frame f all) all.spans
-
--- for each row of several partitions, in order, the fold of its frame's rows
-abbrev pub folds_of_partitions : {P : Type 0} → P → (P → P → P) → (ℕ → P) → Partitioned → List P
-folds_of_partitions neutral joined part_at all = of_each_frame (rows_fold neutral joined part_at) all
+-- for each row of the partitions of some spans, in order, the fold of its frame's rows. The fold counts its rows from a place on
+abbrev pub folds_of_spans : {P : Type 0} → P → (P → P → P) → (ℕ → P) → Partitioned → ℕ → List Span → List P
+folds_of_spans neutral joined part_at all first spans =
+    flat_map (λ s. folds_of_frames neutral joined (λ row. part_at (s.from - first + row)) (partition_of all s)) spans
 
 -- the most joins of the frames of so many rows: three a row where the frames are single spans, else those of a tree over the rows
 abbrev pub most_by_queue : ℕ → ℕ

@@ -1,6 +1,6 @@
-ghost use Rattle.std.specs.Prelude.{◌≡◌, ◌≤◌, ◌<◌, ◌+◌, ◌-◌, ◌^◌, ◌++◌, ℕ, length, OnOk, All};
-ghost use Rattle.wframe.specs.Places.{span_at};
-ghost use Rattle.wslide.specs.Frames.{folds_of_partitions, most_by_queues};
+ghost use Rattle.std.specs.Prelude.{◌≡◌, ◌≤◌, ◌<◌, ◌+◌, ◌-◌, ◌^◌, ◌++◌, ℕ, length, slice_range, OnOk, All};
+ghost use Rattle.wframe.specs.Places.{span_at, Tiles};
+ghost use Rattle.wslide.specs.Frames.{folds_of_spans, most_by_queues};
 
 use crate::fold::Fold;
 use crate::frames::{FrameQueues, push_frame_folds};
@@ -54,13 +54,14 @@ impl<'a, F: Fold> Fold for SpanFold<'a, F> {
     }
 }
 
-// How many rows the longest partition has.
-fn longest(partitions: &Partitions) -> usize
-    ensures { (k : ℕ) → k < length partitions.now.spans
-        → (span_at partitions.now.spans k).to - (span_at partitions.now.spans k).from ≤ result }
+// How many rows the longest of some partitions has.
+fn longest(partitions: &Partitions, numbers: Span) -> usize
+    requires within { numbers.to ≤ length partitions.now.spans }
+    ensures { (number : ℕ) → numbers.from ≤ number → number < numbers.to
+        → (span_at partitions.now.spans number).to - (span_at partitions.now.spans number).from ≤ result }
 {
     let mut longest = 0;
-    for number in 0..partitions.count() {
+    for number in numbers.from..numbers.to {
         let span = partitions.span(number);
         let rows = span.to - span.from;
         if longest < rows {
@@ -70,33 +71,56 @@ fn longest(partitions: &Partitions) -> usize
     longest
 }
 
-/// Adds the fold of each row's frame, one partition after another. The fold is over the rows of all partitions.
+// The first row of a partition, and 0 where there is no such partition. No row lies between partitions.
+fn first_row(partitions: &Partitions, number: usize) -> usize
+    ensures first { result ≡ (span_at partitions.now.spans number).from }
+    ensures tiles { Tiles 0 partitions.now.spans (length partitions.now.keys) }
+{
+    if number < partitions.count() {
+        return partitions.span(number).from;
+    }
+    0
+}
+
+/// Adds the fold of each row's frame in some partitions, one after another: those from the number `numbers.from` on, up to
+/// `numbers.to`. The fold is over the rows of these partitions alone: its first row is the first of theirs.
 ///
-/// The queues are made once for all partitions. But for them, and for room in the list, it takes no memory. The meter
+/// The queues are made once for all of them. But for them, and for room in the list, it takes no memory. The meter
 /// counts at most eight joins for each row, also where memory is refused, and three where the frame clause excludes no row.
 pub fn push_window_folds<F: Fold>(
     alloc: Global,
     folds: &mut Vec<F::Part>,
     fold: &F,
     partitions: &Partitions,
+    numbers: Span,
     meter: &mut F::Meter,
 ) -> Result<(), AllocError>
-    requires rows { length partitions.now.keys ≡ F.rows fold.now }
+    requires ordered { numbers.from ≤ numbers.to }
+    requires within { numbers.to ≤ length partitions.now.spans }
+    requires rows { numbers.from < numbers.to → F.rows fold.now ≡ (span_at partitions.now.spans (numbers.to - 1)).to
+        - (span_at partitions.now.spans numbers.from).from }
     requires few { F.rows fold.now < 2 ^ 31 }
     requires room { F.count meter.old < 2 ^ 63 }
-    ensures folds { OnOk result (folds.new.items ≡ folds.old.items ++ folds_of_partitions (F.neutral fold.now)
-        (F.joined fold.now) (F.part_at fold.now) partitions.now) }
-    ensures parts { OnOk result (All (F.is_part fold.now) (folds_of_partitions (F.neutral fold.now) (F.joined fold.now)
-        (F.part_at fold.now) partitions.now)) }
+    ensures folds { OnOk result (folds.new.items ≡ folds.old.items ++ folds_of_spans (F.neutral fold.now)
+        (F.joined fold.now) (F.part_at fold.now) partitions.now (span_at partitions.now.spans numbers.from).from
+        (slice_range partitions.now.spans numbers.from numbers.to)) }
+    ensures parts { OnOk result (All (F.is_part fold.now) (folds_of_spans (F.neutral fold.now) (F.joined fold.now)
+        (F.part_at fold.now) partitions.now (span_at partitions.now.spans numbers.from).from
+        (slice_range partitions.now.spans numbers.from numbers.to))) }
     ensures not_less { F.count meter.old ≤ F.count meter.new }
     ensures joins { F.count meter.new ≤ F.count meter.old + most_by_queues partitions.now.frame.exclusion (F.rows fold.now) }
 {
     // A law, which does nothing.
     most_is_small();
-    let mut queues = FrameQueues::with_capacity(alloc, fold, longest(partitions))?;
-    for number in 0..partitions.count() {
-        let span = partitions.span(number);
+    let mut queues = FrameQueues::with_capacity(alloc, fold, longest(partitions, numbers))?;
+    let first = first_row(partitions, numbers.from);
+    for number in numbers.from..numbers.to {
+        let rows = partitions.span(number);
         let frames = partitions.partition(number);
+        let span = Span {
+            from: rows.from - first,
+            to: rows.to - first,
+        };
         let own = SpanFold { fold, span };
         push_frame_folds(&mut queues, folds, &own, &frames, meter)?;
     }
