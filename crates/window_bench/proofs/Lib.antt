@@ -1,1 +1,2 @@
 mod WordFacts
+mod WindowFacts

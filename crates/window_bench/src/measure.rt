@@ -1,6 +1,6 @@
 //! Builds the frames of partitions, folds them, and asks the clock what each took.
 ghost use Rattle.std.specs.Prelude.{◌≡◌, ◌≤◌, ◌<◌, ◌+◌, ◌^◌, length, IfOk};
-ghost use Rattle.wslide.specs.Frames.{folds_of_partitions, most_by_queues};
+ghost use Rattle.wslide.specs.Frames.{folds_of_spans, most_by_queues};
 
 use crate::case::{Aggregate, Case};
 use crate::columns::{keys, lent, numbers};
@@ -8,7 +8,7 @@ use crate::failure::Failure;
 use std::alloc::{AllocError, Global};
 use std::rt::Clock;
 use std::time::{Duration, Instant};
-use wframe::{KeyRows, Partitions, are_in_order};
+use wframe::{KeyRows, Partitions, Span, are_in_order};
 use wslide::{Count, Extreme, Fold, Meter, Sum, push_window_folds};
 use wvalues::{SortKey, Value};
 
@@ -59,12 +59,16 @@ fn folds<F: Fold>(
     requires rows { length partitions.now.keys ≡ F.rows fold.now }
     requires few { F.rows fold.now < 2 ^ 31 }
     requires fresh { F.count meter.old ≡ 0 }
-    ensures folds { IfOk result (λ folds. folds.items ≡ folds_of_partitions (F.neutral fold.now) (F.joined fold.now)
-        (F.part_at fold.now) partitions.now) }
+    ensures folds { IfOk result (λ folds. folds.items ≡ folds_of_spans (F.neutral fold.now) (F.joined fold.now)
+        (F.part_at fold.now) partitions.now 0 partitions.now.spans) }
     ensures joins { F.count meter.new ≤ most_by_queues partitions.now.frame.exclusion (F.rows fold.now) }
 {
     let mut folds = Vec::with_capacity(alloc, rows)?;
-    push_window_folds(alloc, &mut folds, fold, partitions, meter)?;
+    let numbers = Span {
+        from: 0,
+        to: partitions.count(),
+    };
+    push_window_folds(alloc, &mut folds, fold, partitions, numbers, meter)?;
     Ok(folds)
 }
 

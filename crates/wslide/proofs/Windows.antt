@@ -29,10 +29,6 @@ reached_more low (s ∷ ss) (suc k) h =
     let e : suc k + 1 ≡ suc (k + 1) = omega arith in
     ap (reached low (s ∷ ss)) e ∙ reached_more s.to ss k (omega arith)
 
-pub reached_all : (low : ℕ) (ss : List Span) (high : ℕ) → Tiles low ss high → reached low ss (length ss) ≡ high
-reached_all low [] high t = t
-reached_all low (s ∷ ss) high t = reached_all s.to ss high t.2
-
 -- more spans reach as far, or further
 reached_least : (low : ℕ) (ss : List Span) (high k : ℕ) → Tiles low ss high → low ≤ reached low ss k
 reached_least low ss high zero t = omega arith
@@ -44,17 +40,6 @@ reached_rises low ss high zero m t h = reached_least low ss high m t
 reached_rises low ss high (suc k) zero t h = absurd (omega arith)
 reached_rises low [] high (suc k) (suc m) t h = omega arith
 reached_rises low (s ∷ ss) high (suc k) (suc m) t h = reached_rises s.to ss high k m t.2 (omega arith)
-
--- the first of all spans begins at 0, and the last ends at the end
-pub all_rows : (ss : List Span) (high : ℕ) → Tiles 0 ss high → 0 < length ss
-    → high ≡ (span_at ss (length ss - 1)).to - (span_at ss 0).from
-all_rows ss high t some =
-    let whole : length ss - 1 + 1 ≡ length ss = omega arith in
-    let begin = reached_from 0 ss high 0 t some in
-    let end = reached_more 0 ss (length ss - 1) (omega arith) in
-    let same = ap (reached 0 ss) whole in
-    let all = reached_all 0 ss high t in
-    omega arith
 
 -- how many rows lie before a span, counted from the begin of an earlier one
 abbrev pub rows_up_to : List Span → ℕ → ℕ → ℕ

@@ -14,7 +14,7 @@ use Rattle.wslide.specs.Height.{height}
 abbrev pub folds_of_frames : {P : Type 0} → P → (P → P → P) → (ℕ → P) → Partition → List P
 folds_of_frames neutral joined part_at p = map (λ row. rows_fold neutral joined part_at (frame_rows p row)) (places (length p.keys))
 
--- for each row of the partitions of some spans, in order, the fold of its frame's rows, where the fold's rows are counted from a place on
+-- for each row of the partitions of some spans, in order, the fold of its frame's rows. The fold counts its rows from a place on
 abbrev pub folds_of_spans : {P : Type 0} → P → (P → P → P) → (ℕ → P) → Partitioned → ℕ → List Span → List P
 folds_of_spans neutral joined part_at all first spans =
     flat_map (λ s. folds_of_frames neutral joined (λ row. part_at (s.from - first + row)) (partition_of all s)) spans
