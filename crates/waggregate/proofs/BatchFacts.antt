@@ -59,7 +59,8 @@ reached_within low ss high k t = tiles_rise (reached low ss k) (drop k ss) high 
 
 -- the first spans reach no farther than more of them
 pub reached_rises : (ss : List Span) (high from to : ℕ) → Tiles 0 ss high → from ≤ to → reached 0 ss from ≤ reached 0 ss to
-reached_rises ss high from to t h = tiles_rise (reached 0 ss from) (slice_range ss from to) (reached 0 ss to) (tiles_sliced ss high from to t h)
+reached_rises ss high from to t h =
+    tiles_rise (reached 0 ss from) (slice_range ss from to) (reached 0 ss to) (tiles_sliced ss high from to t h)
 
 -- the place that the spans before the last one reach, and it
 pub reached_last : (ss : List Span) (to : ℕ) → 0 < to → to ≤ length ss → reached 0 ss to ≡ (span_at ss (to - 1)).to

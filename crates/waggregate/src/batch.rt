@@ -19,7 +19,8 @@ pub(crate) struct Batch<'a> {
     pub(crate) numbers: Span,
     ghost some: { numbers.from < numbers.to },
     ghost within: { numbers.to ≤ length partitions.now.spans },
-    ghost whole: { length rows.now ≡ (span_at partitions.now.spans (numbers.to - 1)).to - (span_at partitions.now.spans numbers.from).from },
+    ghost whole: { length rows.now ≡ (span_at partitions.now.spans (numbers.to - 1)).to
+        - (span_at partitions.now.spans numbers.from).from },
 }
 
 // Where a batch ends that begins at a partition: it has so many partitions that their rows suffice, as far as there are some. How
