@@ -9,7 +9,7 @@ use Rattle.wvalues.specs.Meaning.{Meaning, Null}
 use Rattle.wslide.specs.Aggregates.{picked_values}
 
 -- the front of a list, and what stands behind it
-front_more : {X : Type 0} (n m : ℕ) (xs : List X) → take n xs ++ take m (drop n xs) ≡ take (n + m) xs
+pub front_more : {X : Type 0} (n m : ℕ) (xs : List X) → take n xs ++ take m (drop n xs) ≡ take (n + m) xs
 front_more zero m xs = let e : m ≡ 0 + m = omega arith in ap (λ k. take k xs) e
 front_more (suc n) zero [] = let e : suc n ≡ suc n + 0 = omega arith in ap (λ k. take k []) e
 front_more (suc n) (suc m) [] = let e : suc (n + suc m) ≡ suc n + suc m = omega arith in ap (λ k. take k []) e

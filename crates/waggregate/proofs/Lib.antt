@@ -2,9 +2,11 @@ pub mod FeedFacts
 pub mod FoldFacts
 pub mod LeastFacts
 pub mod FrameFacts
+pub mod BatchFacts
 pub mod WindowFacts
 pub mod PickedFacts
 pub mod GroupFacts
 pub mod PutFacts
 pub mod CopyFacts
+pub mod NextBatch
 pub mod SummaryFacts

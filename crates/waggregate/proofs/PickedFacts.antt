@@ -1,26 +1,25 @@
--- The folds of columns that were picked in the order of a window are the answers of its partitions.
-use Rattle.std.proofs.Common.{◌≡◌, ℕ, pos, ◌<◌, ◌^◌, Bool, List, length, map, Option, Some, None, Ordering, ap, ◌∙◌, arith}
+-- The folds of columns that were picked in the order of a batch are the answers of its partitions.
+use Rattle.std.proofs.Common.{◌≡◌, ℕ, pos, ◌+◌, ◌<◌, ◌^◌, Bool, List, length, map, Option, Some, None, Ordering, ap, ◌∙◌, arith}
 use Rattle.std.specs.Prelude.{All}
-use Rattle.std.specs.Borrow.{Bor}
+use Rattle.std.specs.List.{AllByRecursion}
 use Rattle.std.specs.Cmp.{IsTotalOrder}
-use Rattle.std.proofs.lemmas.List.{length-map}
 use Rattle.std.proofs.lemmas.List.Sums.{count_by-le-length}
 use Rattle.std.proofs.Common.{get_or}
-use Rattle.wvalues.specs.declared.value.Value.{Value}
-use Rattle.wvalues.specs.Meaning.{Meaning, Null, Int, meaning}
-use Rattle.wframe.specs.Cells.{meanings}
+use Rattle.wvalues.specs.Meaning.{Meaning, Int}
+use Rattle.wframe.specs.declared.frame.Span.{Span}
 use Rattle.wframe.specs.Partition.{Partitioned}
 use Rattle.wframe.specs.Sorting.{sorted}
 use Rattle.wslide.specs.Aggregates.{fed, is_value, picked_values, picked_tests, count_of, count_of_rows, sum_or_none, IsInRange}
 use Rattle.wslide.specs.Counts.{counts_joined, count_at}
-use Rattle.wslide.specs.Frames.{folds_of_partitions}
+use Rattle.wslide.specs.Frames.{folds_of_spans}
 use Rattle.wslide.specs.Laws.{rows_fold}
 use Rattle.wslide.specs.Leasts.{leasts_joined, place_at}
 use Rattle.wslide.specs.Sums.{sum_part, sums_joined}
 use Rattle.wplan.specs.declared.resolved.AggregateFunction.{AggregateFunction}
 use Rattle.wplan.specs.declared.resolved.AggregateFunction.TheVariants.{CountRows, Count, Sum}
 use Rattle.waggregate.specs.Aggregating.{Feed, aggregate_of, fed_values, first_or_null, sum_answer, value_or_null}
-use Rattle.waggregate.specs.FrameAnswers.{window_answers}
+use Rattle.waggregate.specs.FrameAnswers.{batch_answers}
+use Rattle.waggregate.proofs.BatchFacts.{IsInside}
 use Rattle.waggregate.proofs.LeastFacts.{FirstLaw}
 use Rattle.waggregate.proofs.FrameFacts.{FeedLaw, RowsLaw, CountLaw, PickedSumLaw, LeastLaw}
 use Rattle.waggregate.proofs.FrameFacts.{counted_rows, counted_values, summed, first_valued}
@@ -39,48 +38,32 @@ abbrev pub SummedLaw : Type 0
 SummedLaw = (feed : ℕ → Meaning) (rows : List ℕ) → count_of feed rows < 2 ^ 31 → All (λ row. IsInRange (feed row)) rows
     → rows_fold None sums_joined (λ row. sum_part (feed row)) rows ≡ sum_or_none feed rows
 
--- how many rows were picked
-picked_long : (values : List (Bor Value)) (column : List Meaning) (rows : List ℕ) (n : ℕ)
-    → meanings values ≡ picked_values column rows → length values ≡ n → length rows ≡ n
-picked_long values column rows n e h =
-    let same : length (meanings values) ≡ length (picked_values column rows) = ap length e in
-    omega (arith, same, length-map values (λ (cell : Bor Value). meaning cell.now), length-map rows (λ row. get_or column row Null))
-
-module _ (all : Partitioned) (feed : Feed) (rows : List ℕ) (values : List (Bor Value)) (one_each : length values
-    ≡ length all.keys) (short : length values < 2 ^ 31) (below : BelowLaw) (few : FewLaw)
-    (near_tests : Option (List Bool)) (picked : meanings values ≡ picked_values feed.values rows) (tested : near_tests
-    ≡ picked_tests feed.filter rows) where
-  abbrev near : List Meaning
-  near = meanings values
-
-  long : length rows ≡ length all.keys
-  long = picked_long values feed.values rows (length all.keys) picked one_each
-
-  small : length rows < 2 ^ 31
-  small = omega (arith, long, one_each, short)
-
+module _ (all : Partitioned) (start : ℕ) (spans : List Span) (feed : Feed) (rows : List ℕ)
+    (inside : AllByRecursion (IsInside start (start + length rows)) spans) (small : length rows < 2 ^ 31) (below : BelowLaw)
+    (few : FewLaw) (near : List Meaning) (near_tests : Option (List Bool)) (picked : near ≡ picked_values feed.values rows)
+    (tested : near_tests ≡ picked_tests feed.filter rows) where
   pub row_counts_alike : CountedRowsLaw → RowsLaw
-      → map (λ n. Some (Int (pos n))) (folds_of_partitions 0 counts_joined (count_at None near_tests) all)
-      ≡ window_answers CountRows feed all rows
+      → map (λ n. Some (Int (pos n))) (folds_of_spans 0 counts_joined (count_at None near_tests) all start spans)
+      ≡ batch_answers CountRows feed all start spans rows
   row_counts_alike counted law =
-      answers_alike all rows long below few (λ n. Some (Int (pos n))) (rows_fold 0 counts_joined (count_at None near_tests)) CountRows feed
-      (λ ps inside fits. ap (λ n. Some (Int (pos n))) (counted near_tests ps (omega (arith, small))
+      answers_alike all start spans rows inside below few 0 counts_joined (count_at None near_tests) (λ n. Some (Int (pos n)))
+      CountRows feed (λ ps inside fits. ap (λ n. Some (Int (pos n))) (counted near_tests ps (omega (arith, small))
       ∙ counted_rows rows law feed.filter near_tests tested ps inside))
 
   pub value_counts_alike : CountedLaw → CountLaw
-      → map (λ n. Some (Int (pos n))) (folds_of_partitions 0 counts_joined (count_at (Some near) near_tests) all)
-      ≡ window_answers Count feed all rows
+      → map (λ n. Some (Int (pos n))) (folds_of_spans 0 counts_joined (count_at (Some near) near_tests) all start spans)
+      ≡ batch_answers Count feed all start spans rows
   value_counts_alike counted law =
-      answers_alike all rows long below few (λ n. Some (Int (pos n)))
-      (rows_fold 0 counts_joined (count_at (Some near) near_tests)) Count feed
+      answers_alike all start spans rows inside below few 0 counts_joined (count_at (Some near) near_tests)
+      (λ n. Some (Int (pos n))) Count feed
       (λ ps inside fits. ap (λ n. Some (Int (pos n))) (counted near near_tests ps (omega (arith, small))
       ∙ counted_values rows feed.values feed.filter near near_tests picked tested law ps inside))
 
   pub sums_alike : SummedLaw → FeedLaw → PickedSumLaw → ((row : ℕ) → IsInRange (fed near near_tests row))
-      → map sum_answer (folds_of_partitions None sums_joined (λ row. sum_part (fed near near_tests row)) all)
-      ≡ window_answers Sum feed all rows
+      → map sum_answer (folds_of_spans None sums_joined (λ row. sum_part (fed near near_tests row)) all start spans)
+      ≡ batch_answers Sum feed all start spans rows
   sums_alike exact feed_law sum_law in_range =
-      answers_alike all rows long below few sum_answer (rows_fold None sums_joined (λ row. sum_part (fed near near_tests row))) Sum feed
+      answers_alike all start spans rows inside below few None sums_joined (λ row. sum_part (fed near near_tests row)) sum_answer Sum feed
       (λ ps inside fits. ap sum_answer (exact (fed near near_tests) ps
       (omega (arith, small, count_by-le-length (λ row. is_value (fed near near_tests row)) ps)) (λ k d h. in_range (get_or ps k d)))
       ∙ summed rows feed.values feed.filter near near_tests picked tested feed_law sum_law ps inside)
@@ -88,10 +71,10 @@ module _ (all : Partitioned) (feed : Feed) (rows : List ℕ) (values : List (Bor
   pub firsts_alike : FeedLaw → FirstLaw → (order : Meaning → Meaning → Ordering) → IsTotalOrder order → LeastLaw order
       → (function : AggregateFunction) → ((rs : List ℕ) → Some (first_or_null (sorted order (fed_values feed rs)))
       ≡ aggregate_of function feed rs)
-      → map (λ place. Some (value_or_null near place)) (folds_of_partitions None (leasts_joined order near)
-      (place_at near near_tests) all) ≡ window_answers function feed all rows
+      → map (λ place. Some (value_or_null near place)) (folds_of_spans None (leasts_joined order near)
+      (place_at near near_tests) all start spans) ≡ batch_answers function feed all start spans rows
   firsts_alike feed_law first_law order total least_law function is =
-      answers_alike all rows long below few (λ place. Some (value_or_null near place))
-      (rows_fold None (leasts_joined order near) (place_at near near_tests)) function feed
+      answers_alike all start spans rows inside below few None (leasts_joined order near) (place_at near near_tests)
+      (λ place. Some (value_or_null near place)) function feed
       (λ ps inside fits. ap (λ m. Some m) (first_valued rows feed.values feed.filter near near_tests picked tested feed_law
       first_law order total least_law ps inside) ∙ is (map (λ j. get_or rows j 0) ps))

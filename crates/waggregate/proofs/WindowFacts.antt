@@ -1,19 +1,21 @@
--- What is told of each frame by places among all rows is the answers of each partition.
+-- What is told of the fold of each frame of a batch is the answers of its partitions.
 use Rattle.std.proofs.Common.{◌≡◌, ℕ, ◌+◌, ◌-◌, ◌<◌, ◌≤◌, List, [], ◌∷◌, ◌++◌, length, map}
 use Rattle.std.proofs.Common.{take, drop, get_or, Option, refl, sym, ap, ◌∙◌, arith}
 use Rattle.std.specs.Prelude.{All, slice_range}
 use Rattle.std.specs.List.{AllByRecursion, flat_map}
-use Rattle.std.proofs.lemmas.List.{map-append, length-map, length-take, length-drop, get_or-take, get_or-drop}
+use Rattle.std.proofs.lemmas.List.{map-append, length-map, length-take, get_or-take, get_or-drop}
 use Rattle.std.proofs.lemmas.List.Elements.{recursion_from_All, All-from_recursion}
 use Rattle.wvalues.specs.Meaning.{Meaning}
 use Rattle.wframe.specs.declared.frame.Span.{Span}
 use Rattle.wframe.specs.Partition.{Partition, Partitioned, partition_of}
 use Rattle.wframe.specs.Places.{places}
 use Rattle.wframe.specs.Frame.{frame_rows}
-use Rattle.wslide.specs.Frames.{frame_places, in_each_frame, of_each_frame}
+use Rattle.wslide.specs.Frames.{folds_of_frames, folds_of_spans}
+use Rattle.wslide.specs.Laws.{rows_fold, total}
 use Rattle.wplan.specs.declared.resolved.AggregateFunction.{AggregateFunction}
 use Rattle.waggregate.specs.Aggregating.{Feed, aggregate_of}
-use Rattle.waggregate.specs.FrameAnswers.{frame_numbers, frame_answers, window_answers}
+use Rattle.waggregate.specs.FrameAnswers.{frame_numbers, frame_answers, batch_answers}
+use Rattle.waggregate.proofs.BatchFacts.{IsInside}
 use Rattle.waggregate.proofs.FoldFacts.{mapped_alike}
 use Rattle.waggregate.proofs.FrameFacts.{numbers_at}
 
@@ -24,9 +26,11 @@ BelowLaw = (p : Partition) (i : ℕ) → All (λ j. j < length p.keys) (frame_ro
 abbrev pub FewLaw : Type 0
 FewLaw = (p : Partition) (i : ℕ) → length (frame_rows p i) ≤ length p.keys
 
-flat_alike : {X : Type 0} (f g : Span → List X) (ss : List Span) → ((s : Span) → f s ≡ g s) → flat_map f ss ≡ flat_map g ss
-flat_alike f g [] same = refl
-flat_alike f g (s ∷ ss) same = ap (λ l. l ++ flat_map f ss) (same s) ∙ ap (λ l. g s ++ l) (flat_alike f g ss same)
+pub flat_alike : {X : Type 0} (P : Span → Type 0) (f g : Span → List X) (ss : List Span) → AllByRecursion P ss
+    → ((s : Span) → P s → f s ≡ g s) → flat_map f ss ≡ flat_map g ss
+flat_alike P f g [] all same = refl
+flat_alike P f g (s ∷ ss) all same = ap (λ l. l ++ flat_map f ss) (same s all.0)
+    ∙ ap (λ l. g s ++ l) (flat_alike P f g ss all.1 same)
 
 flat_mapped : {X Y : Type 0} (h : X → Y) (f : Span → List X) (ss : List Span) → map h (flat_map f ss) ≡ flat_map (λ s. map h (f s)) ss
 flat_mapped h f [] = refl
@@ -35,8 +39,11 @@ flat_mapped h f (s ∷ ss) = map-append h (f s) (flat_map f ss) ∙ ap (λ l. ma
 slice_few : {X : Type 0} (xs : List X) (from to : ℕ) → length (slice_range xs from to) ≤ to - from
 slice_few xs from to = omega (arith, length-take (to - from) (drop from xs))
 
-slice_within : {X : Type 0} (xs : List X) (from to : ℕ) → length (slice_range xs from to) ≤ length xs - from
-slice_within xs from to = omega (arith, length-take (to - from) (drop from xs), length-drop from xs)
+-- the parts of rows that are counted from a place on
+moved : {P : Type 0} (part_at : ℕ → P) (from : ℕ) (rows : List ℕ)
+    → map (λ row. part_at (from + row)) rows ≡ map part_at (map (λ j. from + j) rows)
+moved part_at from [] = refl
+moved part_at from (row ∷ rows) = ap (λ ps. part_at (from + row) ∷ ps) (moved part_at from rows)
 
 shifted : (from k n : ℕ) (js : List ℕ) → k ≤ n - from → AllByRecursion (λ j. j < k) js
     → AllByRecursion (λ j. j < n) (map (λ j. from + j) js)
@@ -55,33 +62,45 @@ numbered rows from n k (j ∷ js) few below =
     ∙ get_or-drop from rows j 0)
     ∙ ap (λ l. get_or rows (from + j) 0 ∷ l) (numbered rows from n k js few below.1)
 
-module _ {P : Type 0} (all : Partitioned) (rows : List ℕ) (long : length rows ≡ length all.keys) (below : BelowLaw)
-    (few : FewLaw) (told : P → Option Meaning) (fold : List ℕ → P) (function : AggregateFunction) (feed : Feed)
+module _ {P : Type 0} (all : Partitioned) (start : ℕ) (spans : List Span) (rows : List ℕ)
+    (inside : AllByRecursion (IsInside start (start + length rows)) spans) (below : BelowLaw) (few : FewLaw)
+    (neutral : P) (joined : P → P → P) (part_at : ℕ → P) (told : P → Option Meaning) (function : AggregateFunction) (feed : Feed)
     (same : (ps : List ℕ) → All (λ j. j < length rows) ps → length ps ≤ length rows
-    → told (fold ps) ≡ aggregate_of function feed (numbers_at rows ps)) where
-  of_frame : (s : Span) (row : ℕ) → told (fold (frame_places all s row)) ≡ aggregate_of function feed
-      (frame_numbers (partition_of all s) (slice_range rows s.from s.to) row)
-  of_frame s row =
+    → told (rows_fold neutral joined part_at ps) ≡ aggregate_of function feed (numbers_at rows ps)) where
+  abbrev of_rows : Span → ℕ → P
+  of_rows s row = rows_fold neutral joined (λ row. part_at (s.from - start + row)) (frame_rows (partition_of all s) row)
+
+  abbrev of_numbers : Span → ℕ → Option Meaning
+  of_numbers s row = aggregate_of function feed (frame_numbers (partition_of all s)
+      (slice_range rows (s.from - start) (s.to - start)) row)
+
+  of_frame : (s : Span) → IsInside start (start + length rows) s → (row : ℕ) → told (of_rows s row) ≡ of_numbers s row
+  of_frame s within row =
       let p = partition_of all s in
       let js = frame_rows p row in
-      let inside = recursion_from_All (λ j. j < length p.keys) js (below p row) in
-      let fits : length p.keys ≤ length rows - s.from = omega (arith, slice_within all.keys s.from s.to, long) in
-      let short : length (frame_places all s row) ≤ length rows = omega (arith, length-map js (λ j. s.from + j), few p row, fits) in
-      same (frame_places all s row) (All-from_recursion (λ j. j < length rows) (frame_places all s row)
-      (shifted s.from (length p.keys) (length rows) js fits inside)) short
-      ∙ ap (aggregate_of function feed) (sym (numbered rows s.from (s.to - s.from) (length p.keys) js
-      (slice_few all.keys s.from s.to) inside))
+      let from = s.from - start in
+      let ps = map (λ j. from + j) js in
+      let kept = recursion_from_All (λ j. j < length p.keys) js (below p row) in
+      let first : start ≤ s.from = within.0 in
+      let last : s.to ≤ start + length rows = within.2 in
+      let wide : length p.keys ≤ s.to - s.from = slice_few all.keys s.from s.to in
+      let fits : length p.keys ≤ length rows - from = omega arith in
+      let short : length ps ≤ length rows = omega (arith, length-map js (λ j. from + j), few p row, fits) in
+      let near : length p.keys ≤ s.to - start - from = omega arith in
+      ap (λ parts. told (total neutral joined parts)) (moved part_at from js)
+      ∙ same ps (All-from_recursion (λ j. j < length rows) ps (shifted from (length p.keys) (length rows) js fits kept)) short
+      ∙ ap (aggregate_of function feed) (sym (numbered rows from (s.to - start - from) (length p.keys) js near kept))
 
-  of_partition : (s : Span) → map told (in_each_frame fold all s) ≡ frame_answers function feed (partition_of all s)
-      (slice_range rows s.from s.to)
-  of_partition s =
-      mapped_alike told (λ row. fold (frame_places all s row))
-      (λ row. aggregate_of function feed (frame_numbers (partition_of all s) (slice_range rows s.from s.to) row))
-      (places (length (partition_of all s).keys)) (of_frame s)
+  of_partition : (s : Span) → IsInside start (start + length rows) s
+      → map told (folds_of_frames neutral joined (λ row. part_at (s.from - start + row)) (partition_of all s))
+      ≡ frame_answers function feed (partition_of all s) (slice_range rows (s.from - start) (s.to - start))
+  of_partition s within =
+      mapped_alike told (of_rows s) (of_numbers s) (places (length (partition_of all s).keys)) (of_frame s within)
 
   -- what is told of each frame is the aggregate of its rows by number, if it is so for any rows
-  pub answers_alike : map told (of_each_frame fold all) ≡ window_answers function feed all rows
+  pub answers_alike : map told (folds_of_spans neutral joined part_at all start spans) ≡ batch_answers function feed all start spans rows
   answers_alike =
-      flat_mapped told (in_each_frame fold all) all.spans
-      ∙ flat_alike (λ s. map told (in_each_frame fold all s)) (λ s. frame_answers function feed (partition_of all s)
-      (slice_range rows s.from s.to)) all.spans of_partition
+      flat_mapped told (λ s. folds_of_frames neutral joined (λ row. part_at (s.from - start + row)) (partition_of all s)) spans
+      ∙ flat_alike (IsInside start (start + length rows))
+      (λ s. map told (folds_of_frames neutral joined (λ row. part_at (s.from - start + row)) (partition_of all s)))
+      (λ s. frame_answers function feed (partition_of all s) (slice_range rows (s.from - start) (s.to - start))) spans inside of_partition

@@ -1,10 +1,11 @@
 -- Aggregates over frames, of which the rows are told by number.
-use Rattle.std.specs.Prelude.{◌≡◌, ◌++◌, ℕ, Bool, List, map, length, Option, Some, None, OnOk}
+use Rattle.std.specs.Prelude.{◌≡◌, ◌++◌, ◌-◌, ℕ, Bool, List, map, length, Option, Some, None, OnOk}
 use Rattle.std.specs.Prelude.{Result, Ok, Err, slice_index_or, slice_range, unwrap_or}
 use Rattle.std.specs.List.{flat_map, list_any}
 use Rattle.std.specs.Option.{is_none}
 use Rattle.wvalues.specs.declared.value.Value.{Value}
 use Rattle.wvalues.specs.Meaning.{Meaning, Null, meaning}
+use Rattle.wframe.specs.declared.frame.Span.{Span}
 use Rattle.wframe.specs.Partition.{Partition, Partitioned, partition_of}
 use Rattle.wframe.specs.Places.{places}
 use Rattle.wframe.specs.Frame.{frame_rows}
@@ -33,6 +34,11 @@ frame_answers function feed p rows = map (λ place. aggregate_of function feed (
 abbrev pub window_answers : AggregateFunction → Feed → Partitioned → List ℕ → List (Option Meaning)
 window_answers function feed all rows = flat_map (λ s. frame_answers function feed (partition_of all s)
     (slice_range rows s.from s.to)) all.spans
+
+-- the same of some partitions, of which the first begins at a place, where the rows are those of these partitions alone
+abbrev pub batch_answers : AggregateFunction → Feed → Partitioned → ℕ → List Span → List ℕ → List (Option Meaning)
+batch_answers function feed all start spans rows = flat_map (λ s. frame_answers function feed (partition_of all s)
+    (slice_range rows (s.from - start) (s.to - start))) spans
 
 -- the values that results have
 abbrev pub values_or_null : List (Option Meaning) → List Meaning

@@ -1,4 +1,5 @@
 pub mod Aggregating
+pub mod Batches
 pub mod Feeding
 pub mod FrameAnswers
 pub mod Grouped

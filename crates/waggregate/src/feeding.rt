@@ -14,6 +14,16 @@ use wplan::Expr;
 use wrows::{AnswerFault, holds, lists, place_of};
 use wvalues::Value;
 
+/// What rows feed an aggregate, by their numbers.
+#[derive(Clone, Copy)]
+pub struct Fed<'a> {
+    /// The value of its argument on each row.
+    pub values: &'a [&'a Value],
+    /// Whether its filter is true on each row, if it has one.
+    pub filter: &'a Option<Vec<bool>>,
+    ghost tests: { ForSome filter.now (λ tests. length tests.items ≡ length values.now) },
+}
+
 // Whether a condition is true on each row.
 fn tests(alloc: Global, condition: &Expr, rows: &[&[Value]]) -> Result<Vec<bool>, AnswerFault>
     ensures gives { Gives (λ tests. Some tests.items) result (filter_of (Some (formula condition.now)) (rows_seen rows.now)) }

@@ -1,19 +1,24 @@
 //! Aggregates over frames.
 ghost use Rattle.std.specs.Prelude.{◌≡◌, ◌≤◌, ◌<◌, ◌+◌, ◌-◌, ◌^◌, OnOk, min, List, All, Option};
 ghost use Rattle.std.specs.Prelude.{Some, drop, length, map, option_map, pos, slice_index_or};
-ghost use Rattle.std.specs.Option.{ForSome};
 ghost use Rattle.wvalues.specs.Meaning.{Int, Meaning, Null, meaning};
 ghost use Rattle.wframe.specs.Cells.{meanings};
-ghost use Rattle.wslide.specs.Frames.{folds_of_partitions, most_by_queues};
+ghost use Rattle.wframe.specs.Places.{Tiles};
+ghost use Rattle.wslide.specs.Frames.{folds_of_spans, most_by_queues};
 ghost use Rattle.wslide.specs.Leasts.{IsPlace};
 ghost use Rattle.wrows.specs.Outcomes.{Gives};
 ghost use Rattle.waggregate.specs.Aggregating as aggregating;
 ghost use Rattle.waggregate.specs.Aggregating.{sum_answer, value_or_null};
-ghost use Rattle.waggregate.specs.FrameAnswers.{Appends, IsPicked, Puts, told_or_out_of_range, window_answers};
+ghost use Rattle.waggregate.specs.Batches.{batch_spans, batch_start};
+ghost use Rattle.waggregate.specs.Feeding.{fed_by};
+ghost use Rattle.waggregate.specs.FrameAnswers.{Appends, IsPicked, Puts, batch_answers, told_or_out_of_range, window_answers};
 ghost use Rattle.waggregate.specs.Put.{put_all};
 
 use crate::answers::{count_value, sum_value};
-use crate::picking::lent;
+use crate::batch::{Batch, batch_from};
+use crate::feeding::Fed;
+use crate::grouped::lent_values;
+use crate::picking::{copied_values, filter_of, lent};
 use crate::tally::Tally;
 use std::alloc::Global;
 use std::mem;
@@ -174,55 +179,57 @@ fn put_values<F: ToldFold>(
     Ok(())
 }
 
-// Puts the value of the fold of each row's frame at the number of the row, `OutOfRange` where one is so. The joins that the
-// meter counts are told to the tally.
+// Puts the value of the fold of each row's frame in a batch at the number of the row, `OutOfRange` where one is so. The joins
+// that the meter counts are told to the tally.
 fn put_folds<F: ToldFold>(
     alloc: Global,
     fold: &F,
-    rows: &[usize],
-    partitions: &Partitions,
+    batch: &Batch,
     meter: &mut F::Meter,
     column: &mut [Value],
     tally: &mut Tally,
 ) -> Result<(), AnswerFault>
-    requires rows { length partitions.now.keys ≡ F.rows fold.now }
+    requires rows { length batch.now.rows.now ≡ F.rows fold.now }
     requires few { F.rows fold.now < 2 ^ 31 }
     requires fresh { F.count meter.old ≡ 0 }
-    requires below { All (λ i. i < length column.old) rows.now }
-    ensures answers { Puts (map (F.told fold.now) (folds_of_partitions (F.neutral fold.now) (F.joined fold.now)
-        (F.part_at fold.now) partitions.now)) rows.now result column.old column.new }
+    requires below { All (λ i. i < length column.old) batch.now.rows.now }
+    ensures answers { Puts (map (F.told fold.now) (folds_of_spans (F.neutral fold.now) (F.joined fold.now) (F.part_at fold.now)
+        batch.now.partitions.now (batch_start batch.now) (batch_spans batch.now))) batch.now.rows.now result column.old column.new }
     ensures tallied { OnOk result (tally.new ≡ min (tally.old + F.count meter.new) (2 ^ 64 - 1)) }
-    ensures joins { tally.new ≤ tally.old + most_by_queues partitions.now.frame.exclusion (F.rows fold.now) }
+    ensures joins { tally.new ≤ tally.old + most_by_queues batch.now.partitions.now.frame.exclusion (F.rows fold.now) }
 {
-    let mut parts = Vec::with_capacity(alloc, rows.len())?;
-    push_window_folds(alloc, &mut parts, fold, partitions, meter)?;
+    let mut parts = Vec::with_capacity(alloc, batch.rows.len())?;
+    push_window_folds(
+        alloc,
+        &mut parts,
+        fold,
+        batch.partitions,
+        batch.numbers,
+        meter,
+    )?;
     tally.add(fold.joins(meter));
-    put_values(column, rows, fold, &parts)
+    put_values(column, batch.rows, fold, &parts)
 }
 
-/// Puts what an aggregate comes to over the frame of each row of a window at the number of the row, where `values` and `filter`
-/// are what the rows feed, in the window's order, and `rows` has their numbers in that order. It is `OutOfRange` where a result
-/// is so.
-///
-/// The tally rises by the joins that the folds take: at most three for each row, and eight where the frame clause excludes rows.
-pub fn put_frame_aggregates(
+// Puts what an aggregate comes to over the frame of each row of a batch at the number of the row, where `fed` is what the rows of
+// the batch feed, in its order. It is `OutOfRange` where a result is so. The tally rises by the joins that it takes.
+fn put_fed(
     alloc: Global,
     function: AggregateFunction,
-    values: &[&Value],
-    filter: &Option<Vec<bool>>,
-    rows: &[usize],
-    partitions: &Partitions,
+    fed: &Fed,
+    batch: &Batch,
     column: &mut [Value],
     tally: &mut Tally,
 ) -> Result<(), AnswerFault>
-    requires values { length values.now ≡ length partitions.now.keys }
-    requires len { ForSome filter.now (λ tests. length tests.items ≡ length values.now) }
-    requires few { length values.now < 2 ^ 31 }
-    requires below { All (λ i. i < length column.old) rows.now }
-    ensures joins { tally.new ≤ tally.old + most_by_queues partitions.now.frame.exclusion (length values.now) }
+    requires tiles { Tiles 0 batch.now.partitions.now.spans (length batch.now.partitions.now.keys) }
+    requires values { length fed.now.values.now ≡ length batch.now.rows.now }
+    requires few { length batch.now.rows.now < 2 ^ 31 }
+    requires below { All (λ i. i < length column.old) batch.now.rows.now }
+    ensures joins { tally.new ≤ tally.old + most_by_queues batch.now.partitions.now.frame.exclusion (length batch.now.rows.now) }
     ensures answers { (feed : aggregating.Feed)
-        → IsPicked feed rows.now (meanings values.now) (option_map (λ tests. tests.items) filter.now)
-        → Puts (window_answers function feed partitions.now rows.now) rows.now result column.old column.new }
+        → IsPicked feed batch.now.rows.now (meanings fed.now.values.now) (option_map (λ tests. tests.items) fed.now.filter.now)
+        → Puts (batch_answers function feed batch.now.partitions.now (batch_start batch.now) (batch_spans batch.now)
+        batch.now.rows.now) batch.now.rows.now result column.old column.new }
 {
     // Laws, which do nothing.
     frames_are_rows();
@@ -231,7 +238,8 @@ pub fn put_frame_aggregates(
     sums_are_exact();
     places_are_least();
     stable_sorts_agree();
-    let filter = lent(filter);
+    let values = fed.values;
+    let filter = lent(fed.filter);
     let mut meter = Meter::new();
     match function {
         AggregateFunction::CountRows => {
@@ -240,16 +248,16 @@ pub fn put_frame_aggregates(
                 rows: count,
                 filter,
             };
-            put_folds(alloc, &fold, rows, partitions, &mut meter, column, tally)
+            put_folds(alloc, &fold, batch, &mut meter, column, tally)
         }
         AggregateFunction::Count => {
             let fold = Count { values, filter };
-            put_folds(alloc, &fold, rows, partitions, &mut meter, column, tally)
+            put_folds(alloc, &fold, batch, &mut meter, column, tally)
         }
         AggregateFunction::Sum => {
             see_ranges(values);
             let fold = Sum { values, filter };
-            put_folds(alloc, &fold, rows, partitions, &mut meter, column, tally)
+            put_folds(alloc, &fold, batch, &mut meter, column, tally)
         }
         AggregateFunction::Min => {
             let fold = Extreme {
@@ -257,7 +265,7 @@ pub fn put_frame_aggregates(
                 filter,
                 greatest: false,
             };
-            put_folds(alloc, &fold, rows, partitions, &mut meter, column, tally)
+            put_folds(alloc, &fold, batch, &mut meter, column, tally)
         }
         AggregateFunction::Max => {
             let fold = Extreme {
@@ -265,7 +273,67 @@ pub fn put_frame_aggregates(
                 filter,
                 greatest: true,
             };
-            put_folds(alloc, &fold, rows, partitions, &mut meter, column, tally)
+            put_folds(alloc, &fold, batch, &mut meter, column, tally)
         }
     }
+}
+
+// Puts what an aggregate comes to over the frame of each row of a batch at the number of the row, where `fed` is what all rows
+// feed. What the rows of the batch feed is copied in its order.
+fn put_batch(
+    alloc: Global,
+    function: AggregateFunction,
+    fed: &Fed,
+    batch: &Batch,
+    column: &mut [Value],
+    tally: &mut Tally,
+) -> Result<(), AnswerFault>
+    requires tiles { Tiles 0 batch.now.partitions.now.spans (length batch.now.partitions.now.keys) }
+    requires few { length batch.now.rows.now < 2 ^ 31 }
+    requires fed { All (λ i. i < length fed.now.values.now) batch.now.rows.now }
+    requires below { All (λ i. i < length column.old) batch.now.rows.now }
+    ensures joins { tally.new ≤ tally.old + most_by_queues batch.now.partitions.now.frame.exclusion (length batch.now.rows.now) }
+    ensures answers { Puts (batch_answers function (fed_by fed.now.values.now fed.now.filter.now) batch.now.partitions.now
+        (batch_start batch.now) (batch_spans batch.now) batch.now.rows.now) batch.now.rows.now result column.old column.new }
+{
+    let cells = copied_values(alloc, fed.values, batch.rows)?;
+    let values = lent_values(alloc, &cells)?;
+    let filter = filter_of(alloc, fed.filter, batch.rows)?;
+    let picked = Fed {
+        values: &values,
+        filter: &filter,
+    };
+    put_fed(alloc, function, &picked, batch, column, tally)
+}
+
+/// Puts what an aggregate comes to over the frame of each row of a window at the number of the row, where `fed` is what the rows
+/// feed, and `rows` has their numbers in the window's order. It is `OutOfRange` where a result is so. The tally rises by the joins
+/// that it takes. What the rows of some partitions feed is copied in the window's order, and then that of the next ones, so that a
+/// cache holds it while it is folded.
+pub fn put_frame_aggregates<'a>(
+    alloc: Global,
+    function: AggregateFunction,
+    fed: &Fed,
+    rows: &'a [usize],
+    partitions: &'a Partitions<'a>,
+    column: &mut [Value],
+    tally: &mut Tally,
+) -> Result<(), AnswerFault>
+    requires rows { length rows.now ≡ length partitions.now.keys }
+    requires values { length fed.now.values.now ≡ length rows.now }
+    requires few { length rows.now < 2 ^ 31 }
+    requires fed { All (λ i. i < length fed.now.values.now) rows.now }
+    requires below { All (λ i. i < length column.old) rows.now }
+    ensures joins { tally.new ≤ tally.old + most_by_queues partitions.now.frame.exclusion (length rows.now) }
+    ensures answers { Puts (window_answers function (fed_by fed.now.values.now fed.now.filter.now) partitions.now rows.now) rows.now
+        result column.old column.new }
+{
+    let count = partitions.count();
+    let mut done = 0;
+    while done < count {
+        let batch = batch_from(rows, partitions, done);
+        put_batch(alloc, function, fed, &batch, column, tally)?;
+        done = batch.numbers.to;
+    }
+    Ok(())
 }

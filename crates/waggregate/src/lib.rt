@@ -4,17 +4,19 @@
 //!   of a window.
 //! - Promises: nothing is skipped, so an argument or filter that is out of range on any row refuses, as a result that
 //!   is out of range does; a sum is tested against the range once it is whole. Frames take at most three joins for each
-//!   row, eight where rows are excluded. What lies far apart is read some rows at a time before it is copied or put. What
-//!   several aggregates come to over groups that are fed alike is found in one pass over the rows.
+//!   row, eight where rows are excluded. What the rows of a window feed is copied and folded some partitions at a time, so that
+//!   a cache holds it. What lies far apart is read some rows at a time before it is copied or put. What several aggregates
+//!   come to over groups that are fed alike is found in one pass over the rows.
 //! - Asks: fewer than 2^31 rows.
 //! - Leaves expressions to `wplan`, frames to `wframe` and their folds to `wslide`.
 //!
-//! Read `specs/Aggregating.antt`, then `specs/Feeding.antt`, `specs/Grouped.antt`, `specs/Summaries.antt`, `specs/Put.antt` and
-//! `specs/FrameAnswers.antt`.
+//! Read `specs/Aggregating.antt`, then `specs/Feeding.antt`, `specs/Grouped.antt`, `specs/Summaries.antt`, `specs/Put.antt`,
+//! `specs/FrameAnswers.antt` and `specs/Batches.antt`.
 #![tactic(auto)]
 
 mod alike;
 mod answers;
+mod batch;
 mod feeding;
 mod folding;
 mod grouped;
@@ -23,9 +25,8 @@ mod summaries;
 mod tally;
 
 pub use alike::extremes_of;
-pub use feeding::{argument_values, filter_rows, is_null, lent_argument, lent_nulls};
+pub use feeding::{Fed, argument_values, filter_rows, is_null, lent_argument, lent_nulls};
 pub use folding::put_frame_aggregates;
 pub use grouped::{aggregate_groups, joined_lists, lent_values};
-pub use picking::{copied_values, filter_of};
 pub use summaries::{Extremes, Summaries, summaries_for, summarize};
 pub use tally::Tally;

@@ -25,7 +25,7 @@ fn tests_of(alloc: Global, tests: &[bool], rows: &[usize]) -> Result<Vec<bool>, 
 }
 
 /// Whether a filter is true on the rows of these numbers, if there is one.
-pub fn filter_of(
+pub(crate) fn filter_of(
     alloc: Global,
     filter: &Option<Vec<bool>>,
     rows: &[usize],
@@ -105,7 +105,7 @@ fn push_batch(values: &[&Value], rows: &[usize], copied: &mut Vec<Value>) -> Res
 /// Copies of the values of the rows of these numbers, in that order, of which those of all rows are lent. Rows that follow each
 /// other in an order lie far apart, and what is read often is read side by side. A loop that reads alone goes ahead of the one that
 /// copies, so that the processor has many of them on their way from memory at once.
-pub fn copied_values(
+pub(crate) fn copied_values(
     alloc: Global,
     values: &[&Value],
     rows: &[usize],
