@@ -13,39 +13,33 @@ use Rattle.wcalls.specs.Calls.{each_row}
 use Rattle.wcalls.specs.Windows.{frame_of}
 use Rattle.wcalls.proofs.aggregated.fed_column.Goals as goal
 
-pub returns-in_err-tests-clause-column : goal.returns-in_err-tests-clause-column
-returns-in_err-tests-clause-column c w arranged =
+pub returns-in_err-filter-clause-column : goal.returns-in_err-filter-clause-column
+returns-in_err-filter-clause-column c w arranged =
     let p = err_from_is_err_and c.from_residual.result c.from_residual.ensures.1 in
     let view : Unit {0} → List Meaning = λ u. map meaning c.args.column.now in
     let seen : Option (Vec Bool Global) → Option (List Bool) = λ filter. option_map (λ tests. tests.items) filter in
-    let fault = c.in_err-tests.field-0.0 in
+    let fault = c.in_err-filter.field-0.0 in
     let plan = aggregate_plan c.args.aggregate.now in
     let filters = filter_of plan.filter (rows_seen c.args.arranged.now.rows.now) in
-    let values = meanings c.args.values.items in
+    let values = meanings c.args.values.now in
     let fed : Option (List Bool) → Result Feed AnswerFault = λ filter. Ok (record { values = values; filter = filter }) in
     let answer : Feed → Result (List Meaning) AnswerFault =
     λ feed. in_range (each_row w (λ i. aggregate_of plan.function feed (frame_of w i))) in
     rw (p.1, p.2) (subst (λ r. Gives view (Err fault)
     ((r >>= λ values. filters >>= λ filter. Ok (record { values = values; filter = filter })) >>= answer)) (sym c.requires.values)
     (then_refused {X = Feed} (λ feed. feed) view fault (filters >>= fed) answer (then_refused {Y = Feed} seen (λ feed. feed)
-    fault filters fed c.in_err-tests.ensures.gives)))
+    fault filters fed c.in_err-filter.ensures.gives)))
 
 pub returns-clause-column : goal.returns-clause-column
 returns-clause-column c w arranged =
     let view : Unit {0} → List Meaning = λ u. map meaning c.put_aggregates.new.column in
     let plan = aggregate_plan c.args.aggregate.now in
     let filters = filter_of plan.filter (rows_seen c.args.arranged.now.rows.now) in
-    let values = meanings c.args.values.items in
+    let values = meanings c.args.values.now in
     let fed : Option (List Bool) → Result Feed AnswerFault = λ filter. Ok (record { values = values; filter = filter }) in
     let answer : Feed → Result (List Meaning) AnswerFault =
     λ feed. in_range (each_row w (λ i. aggregate_of plan.function feed (frame_of w i))) in
-    let feed : Feed = record { values = values; filter = option_map (λ tests. tests.items) c.in_ok-tests.tests } in
     subst (Gives view c.put_aggregates.result)
     (sym (ap (λ r. (r >>= λ values. filters >>= λ filter. Ok (record { values = values; filter = filter })) >>= answer)
-    c.requires.values ∙ ap (λ r. (r >>= fed) >>= answer) c.in_ok-tests.ensures.gives))
-    (c.put_aggregates.ensures.column w feed arranged (record {
-      picked = ap meanings c.deref-2.ensures.value
-          ∙ c.in_ok-values.ensures.value ∙ ap (map meaning) c.deref.ensures.value ∙ c.in_ok-cells.ensures.value;
-      tested =
-          c.in_ok-filter.ensures.value;
-    }))
+    c.requires.values ∙ ap (λ r. (r >>= fed) >>= answer) c.in_ok-filter.ensures.gives))
+    (c.put_aggregates.ensures.column w arranged)
