@@ -5,7 +5,7 @@ use Rattle.std.specs.Prelude.{IfSome, IfNone}
 use Rattle.std.specs.Borrow.{Bor}
 use Rattle.std.proofs.lemmas.List.{get_or-map}
 use Rattle.wvalues.specs.declared.value.Value.{Value}
-use Rattle.wvalues.specs.Meaning.{Meaning, Null, meaning}
+use Rattle.wvalues.specs.Meaning.{Null, meaning}
 use Rattle.wframe.specs.Places.{places}
 use Rattle.wplan.specs.Formula.{At, Constant, Formula}
 use Rattle.wrows.specs.declared.fault.AnswerFault.TheVariants.{OutOfRange}
@@ -56,4 +56,4 @@ all_null (row ∷ rows) (n ∷ ns) h = ap (λ l. Null ∷ l) (all_null rows ns (
 
 -- a null for each row
 pub nulls_told : (rows : List Row) (n : ℕ) → length rows ≡ n → column_of (Constant Null) rows ≡ Ok (map (λ (n : ℕ). Null) (places n))
-nulls_told rows n h = in_range (Constant Null) (λ row. refl) rows ∙ ap Ok (all_null rows (places n) (h ∙ sym (length-places n)))
+nulls_told rows n h = in_range (Constant Null) (λ row. refl) rows ∙ ap Ok (all_null rows (places n) (h ∙ sym (length-places 0 n)))

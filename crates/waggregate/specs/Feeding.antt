@@ -1,6 +1,7 @@
 -- What rows feed, as it lies in memory.
-use Rattle.std.specs.Prelude.{ℕ, Bool, true, false, List, map, length, Option, None, Some, option_map}
+use Rattle.std.specs.Prelude.{ℕ, ◌||◌, Bool, true, false, List, map, length, Option, None, Some, option_map}
 use Rattle.std.specs.Borrow.{Bor}
+use Rattle.std.specs.Option.{is_some}
 use Rattle.std.specs.declared.alloc.Global.{Global}
 use Rattle.std.specs.declared.vec.Vec.{Vec}
 use Rattle.wvalues.specs.declared.value.Value.{Value}
@@ -10,16 +11,20 @@ use Rattle.wplan.specs.declared.expr.Expr.TheOpen as layer
 use Rattle.wplan.specs.Parts.{Parts}
 use Rattle.wplan.specs.Formula.{At}
 use Rattle.wrows.specs.Columns.{value_on}
+use Rattle.wrows.specs.PlainColumns.{plain_place}
 use Rattle.wrows.specs.Laid.{rows_seen}
 use Rattle.waggregate.specs.Aggregating.{Feed}
 use Rattle.waggregate.specs.declared.feeding.Argument.{Argument}
 use Rattle.waggregate.specs.declared.feeding.Argument.TheVariants as arguments
 
+-- NULL by itself
+abbrev pub is_null : Parts → Bool
+is_null layer.Null = true
+is_null _ = false
+
 -- whether nothing has to be evaluated for an argument
 abbrev pub is_lent : Parts → Bool
-is_lent layer.Null = true
-is_lent (layer.Place place) = true
-is_lent _ = false
+is_lent parts = is_null parts || is_some (plain_place parts)
 
 -- on how many rows an argument is
 abbrev pub rows_of : Argument → ℕ

@@ -1,5 +1,5 @@
 //! What aggregates are fed.
-ghost use Rattle.std.specs.Prelude.{◌≡◌, ◌<◌, length, map, IfNone, IfOk, IfSome, IsTrue, Ok, Some, option_map, slice_index_or};
+ghost use Rattle.std.specs.Prelude.{◌≡◌, ◌<◌, length, map, IfNone, IfOk, IfSome, Ok, Some, option_map, slice_index_or, true};
 ghost use Rattle.std.specs.Option.{ForSome, is_some};
 ghost use Rattle.wvalues.specs.Meaning.{Null, meaning};
 ghost use Rattle.wframe.specs.Cells.{meanings};
@@ -9,7 +9,7 @@ ghost use Rattle.wplan.specs.Plans.{optional_formula};
 ghost use Rattle.wrows.specs.Columns.{column_of, filter_of, value_on};
 ghost use Rattle.wrows.specs.Outcomes.{Gives};
 ghost use Rattle.wrows.specs.Laid.{rows_seen};
-ghost use Rattle.waggregate.specs.Feeding.{is_lent, rows_of, value_or_none, values_of};
+ghost use Rattle.waggregate.specs.Feeding.{is_lent, is_null, rows_of, value_or_none, values_of};
 
 use std::alloc::{AllocError, Global};
 use wplan::Expr;
@@ -112,16 +112,17 @@ impl<'a> Argument<'a> {
 
 /// The argument of an aggregate on some rows, where nothing has to be evaluated for it: where it is NULL, or a plain column, which
 /// cannot be out of range.
-#[tactic(auto, unfolding(wplan::specs::Formula::formula))]
 pub fn plain_argument<'a>(expr: &Expr, rows: &'a [&'a [Value]]) -> Option<Argument<'a>>
     ensures found { is_some result ≡ is_lent (out-Expr expr.now) }
     ensures value { IfSome result (λ argument. column_of (formula expr.now) (rows_seen rows.now) ≡ Ok (values_of argument)) }
     ensures rows { IfSome result (λ argument. rows_of argument ≡ length rows.now) }
 {
-    match expr {
-        Expr::Null => Some(Argument::Null(rows.len())),
-        Expr::Place(place) => Some(Argument::Column(rows, *place)),
-        _ => None,
+    if is_null(expr) {
+        return Some(Argument::Null(rows.len()));
+    }
+    match place_of(expr) {
+        None => None,
+        Some(place) => Some(Argument::Column(rows, place)),
     }
 }
 
@@ -165,7 +166,8 @@ pub fn lent_argument<'a>(
 /// Whether an argument is NULL, as that of `count(*)` is.
 #[tactic(auto, unfolding(wplan::specs::Formula::formula))]
 pub fn is_null(expr: &Expr) -> bool
-    ensures { IsTrue result → formula expr.now ≡ Constant Null }
+    ensures found { result ≡ is_null (out-Expr expr.now) }
+    ensures null { result ≡ true → formula expr.now ≡ Constant Null }
 {
     match expr {
         Expr::Null => true,

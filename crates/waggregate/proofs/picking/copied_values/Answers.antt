@@ -1,4 +1,4 @@
-use Rattle.std.proofs.Common.{◌≤◌, ◌<◌, ◌++◌, length, arith, ap, ◌∙◌}
+use Rattle.std.proofs.Common.{◌≤◌, ◌<◌, ◌++◌, arith, ap, ◌∙◌}
 use Rattle.std.specs.Prelude.{slice_range}
 use Rattle.wslide.specs.Aggregates.{picked_values}
 use Rattle.waggregate.specs.Feeding.{rows_of, values_of}
