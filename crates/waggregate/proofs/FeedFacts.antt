@@ -54,7 +54,7 @@ only_column t rows cells h e =
     told _ _ _ _ _ _ (any_alike t (rows_seen rows)) (laid_alike t rows cells (omega arith)) e
 
 -- an expression that is in range on every row
-in_range_all : (t : Formula) → ((row : Row) → is_out_of_range t row ≡ false) → (rows : List Row) → list_any (is_out_of_range t) rows ≡ false
+pub in_range_all : (t : Formula) → ((row : Row) → is_out_of_range t row ≡ false) → (rows : List Row) → list_any (is_out_of_range t) rows ≡ false
 in_range_all t h [] = refl
 in_range_all t h (row ∷ rows) = ap (λ b. b || list_any (is_out_of_range t) rows) (h row) ∙ in_range_all t h rows
 

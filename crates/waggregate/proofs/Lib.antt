@@ -1,4 +1,5 @@
 pub mod FeedFacts
+pub mod ArgumentFacts
 pub mod FoldFacts
 pub mod LeastFacts
 pub mod FrameFacts

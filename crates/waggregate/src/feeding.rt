@@ -1,27 +1,40 @@
 //! What aggregates are fed.
-ghost use Rattle.std.specs.Prelude.{◌≡◌, length, map, IfOk, IfSome, IsTrue, Ok, Some, option_map};
-ghost use Rattle.std.specs.Option.{ForSome};
+ghost use Rattle.std.specs.Prelude.{◌≡◌, ◌<◌, length, map, IfNone, IfOk, IfSome, Ok, Some, option_map, slice_index_or, true};
+ghost use Rattle.std.specs.Option.{ForSome, is_some};
 ghost use Rattle.wvalues.specs.Meaning.{Null, meaning};
 ghost use Rattle.wframe.specs.Cells.{meanings};
+ghost use Rattle.wplan.specs.declared.expr.Expr.{out-Expr};
 ghost use Rattle.wplan.specs.Formula.{At, Constant, formula};
 ghost use Rattle.wplan.specs.Plans.{optional_formula};
 ghost use Rattle.wrows.specs.Columns.{column_of, filter_of, value_on};
 ghost use Rattle.wrows.specs.Outcomes.{Gives};
 ghost use Rattle.wrows.specs.Laid.{rows_seen};
+ghost use Rattle.waggregate.specs.Feeding.{is_lent, is_null, rows_of, value_or_none, values_of};
 
 use std::alloc::{AllocError, Global};
 use wplan::Expr;
 use wrows::{AnswerFault, holds, lists, place_of};
 use wvalues::Value;
 
+/// What an aggregate's argument has on each row, by the rows' numbers.
+#[derive(Clone, Copy)]
+pub enum Argument<'a> {
+    /// NULL on so many rows, as the argument of `count(*)` is.
+    Null(usize),
+    /// What the rows have at a place; null where one has no such place. It is read where it lies.
+    Column(&'a [&'a [Value]], usize),
+    /// A value for each row.
+    Values(&'a [Value]),
+}
+
 /// What rows feed an aggregate, by their numbers.
 #[derive(Clone, Copy)]
 pub struct Fed<'a> {
-    /// The value of its argument on each row.
-    pub values: &'a [&'a Value],
+    /// What its argument has on each row.
+    pub argument: Argument<'a>,
     /// Whether its filter is true on each row, if it has one.
     pub filter: &'a Option<Vec<bool>>,
-    ghost tests: { ForSome filter.now (λ tests. length tests.items ≡ length values.now) },
+    ghost tests: { ForSome filter.now (λ tests. length tests.items ≡ rows_of argument) },
 }
 
 // Whether a condition is true on each row.
@@ -70,13 +83,46 @@ pub fn argument_values(
 }
 
 // A row's value at a place, if the row goes so far.
+#[inline(always)]
 fn cell_at(row: &[Value], place: usize) -> Option<&Value>
-    ensures { IfSome result (λ value. meaning value.now ≡ value_on (At place) (map meaning row.now)) }
+    ensures some { IfSome result (λ value. meaning value.now ≡ value_on (At place) (map meaning row.now)) }
+    ensures none { IfNone result (value_on (At place) (map meaning row.now) ≡ Null) }
 {
     if place < row.len() {
         Some(&row[place])
     } else {
         None
+    }
+}
+
+impl<'a> Argument<'a> {
+    /// What it has on a row; none where that is null without a value that says so.
+    #[inline(always)]
+    pub(crate) fn value(self, row: usize) -> Option<&'a Value>
+        requires { row < rows_of self }
+        ensures { value_or_none result ≡ slice_index_or (values_of self.entry) row Null }
+    {
+        match self {
+            Argument::Null(_) => None,
+            Argument::Column(rows, place) => cell_at(rows[row], place),
+            Argument::Values(values) => Some(&values[row]),
+        }
+    }
+}
+
+/// The argument of an aggregate on some rows, where nothing has to be evaluated for it: where it is NULL, or a plain column, which
+/// cannot be out of range.
+pub fn plain_argument<'a>(expr: &Expr, rows: &'a [&'a [Value]]) -> Option<Argument<'a>>
+    ensures found { is_some result ≡ is_lent (out-Expr expr.now) }
+    ensures value { IfSome result (λ argument. column_of (formula expr.now) (rows_seen rows.now) ≡ Ok (values_of argument)) }
+    ensures rows { IfSome result (λ argument. rows_of argument ≡ length rows.now) }
+{
+    if is_null(expr) {
+        return Some(Argument::Null(rows.len()));
+    }
+    match place_of(expr) {
+        None => None,
+        Some(place) => Some(Argument::Column(rows, place)),
     }
 }
 
@@ -120,7 +166,8 @@ pub fn lent_argument<'a>(
 /// Whether an argument is NULL, as that of `count(*)` is.
 #[tactic(auto, unfolding(wplan::specs::Formula::formula))]
 pub fn is_null(expr: &Expr) -> bool
-    ensures { IsTrue result → formula expr.now ≡ Constant Null }
+    ensures found { result ≡ is_null (out-Expr expr.now) }
+    ensures null { result ≡ true → formula expr.now ≡ Constant Null }
 {
     match expr {
         Expr::Null => true,

@@ -1,6 +1,7 @@
 //! Aggregates over frames.
 ghost use Rattle.std.specs.Prelude.{◌≡◌, ◌≤◌, ◌<◌, ◌+◌, ◌-◌, ◌^◌, OnOk, min, List, All, Option};
 ghost use Rattle.std.specs.Prelude.{Some, drop, length, map, option_map, pos, slice_index_or};
+ghost use Rattle.std.specs.Option.{ForSome};
 ghost use Rattle.wvalues.specs.Meaning.{Int, Meaning, Null, meaning};
 ghost use Rattle.wframe.specs.Cells.{meanings};
 ghost use Rattle.wframe.specs.Places.{Tiles};
@@ -10,7 +11,7 @@ ghost use Rattle.wrows.specs.Outcomes.{Gives};
 ghost use Rattle.waggregate.specs.Aggregating as aggregating;
 ghost use Rattle.waggregate.specs.Aggregating.{sum_answer, value_or_null};
 ghost use Rattle.waggregate.specs.Batches.{batch_spans, batch_start};
-ghost use Rattle.waggregate.specs.Feeding.{fed_by};
+ghost use Rattle.waggregate.specs.Feeding.{fed_by, rows_of};
 ghost use Rattle.waggregate.specs.FrameAnswers.{Appends, IsPicked, Puts, batch_answers, told_or_out_of_range, window_answers};
 ghost use Rattle.waggregate.specs.Put.{put_all};
 
@@ -211,23 +212,25 @@ fn put_folds<F: ToldFold>(
     put_values(column, batch.rows, fold, &parts)
 }
 
-// Puts what an aggregate comes to over the frame of each row of a batch at the number of the row, where `fed` is what the rows of
-// the batch feed, in its order. It is `OutOfRange` where a result is so. The tally rises by the joins that it takes.
+// Puts what an aggregate comes to over the frame of each row of a batch at the number of the row, where `values` and `filter` are
+// what the rows of the batch feed, in its order. It is `OutOfRange` where a result is so. The tally rises by the joins that it takes.
 fn put_fed(
     alloc: Global,
     function: AggregateFunction,
-    fed: &Fed,
+    values: &[&Value],
+    filter: &Option<Vec<bool>>,
     batch: &Batch,
     column: &mut [Value],
     tally: &mut Tally,
 ) -> Result<(), AnswerFault>
     requires tiles { Tiles 0 batch.now.partitions.now.spans (length batch.now.partitions.now.keys) }
-    requires values { length fed.now.values.now ≡ length batch.now.rows.now }
+    requires values { length values.now ≡ length batch.now.rows.now }
+    requires len { ForSome filter.now (λ tests. length tests.items ≡ length values.now) }
     requires few { length batch.now.rows.now < 2 ^ 31 }
     requires below { All (λ i. i < length column.old) batch.now.rows.now }
     ensures joins { tally.new ≤ tally.old + most_by_queues batch.now.partitions.now.frame.exclusion (length batch.now.rows.now) }
     ensures answers { (feed : aggregating.Feed)
-        → IsPicked feed batch.now.rows.now (meanings fed.now.values.now) (option_map (λ tests. tests.items) fed.now.filter.now)
+        → IsPicked feed batch.now.rows.now (meanings values.now) (option_map (λ tests. tests.items) filter.now)
         → Puts (batch_answers function feed batch.now.partitions.now (batch_start batch.now) (batch_spans batch.now)
         batch.now.rows.now) batch.now.rows.now result column.old column.new }
 {
@@ -238,8 +241,7 @@ fn put_fed(
     sums_are_exact();
     places_are_least();
     stable_sorts_agree();
-    let values = fed.values;
-    let filter = lent(fed.filter);
+    let filter = lent(filter);
     let mut meter = Meter::new();
     match function {
         AggregateFunction::CountRows => {
@@ -290,20 +292,16 @@ fn put_batch(
 ) -> Result<(), AnswerFault>
     requires tiles { Tiles 0 batch.now.partitions.now.spans (length batch.now.partitions.now.keys) }
     requires few { length batch.now.rows.now < 2 ^ 31 }
-    requires fed { All (λ i. i < length fed.now.values.now) batch.now.rows.now }
+    requires fed { All (λ i. i < rows_of fed.now.argument) batch.now.rows.now }
     requires below { All (λ i. i < length column.old) batch.now.rows.now }
     ensures joins { tally.new ≤ tally.old + most_by_queues batch.now.partitions.now.frame.exclusion (length batch.now.rows.now) }
-    ensures answers { Puts (batch_answers function (fed_by fed.now.values.now fed.now.filter.now) batch.now.partitions.now
+    ensures answers { Puts (batch_answers function (fed_by fed.now.argument fed.now.filter.now) batch.now.partitions.now
         (batch_start batch.now) (batch_spans batch.now) batch.now.rows.now) batch.now.rows.now result column.old column.new }
 {
-    let cells = copied_values(alloc, fed.values, batch.rows)?;
+    let cells = copied_values(alloc, fed.argument, batch.rows)?;
     let values = lent_values(alloc, &cells)?;
     let filter = filter_of(alloc, fed.filter, batch.rows)?;
-    let picked = Fed {
-        values: &values,
-        filter: &filter,
-    };
-    put_fed(alloc, function, &picked, batch, column, tally)
+    put_fed(alloc, function, &values, &filter, batch, column, tally)
 }
 
 /// Puts what an aggregate comes to over the frame of each row of a window at the number of the row, where `fed` is what the rows
@@ -320,12 +318,12 @@ pub fn put_frame_aggregates<'a>(
     tally: &mut Tally,
 ) -> Result<(), AnswerFault>
     requires rows { length rows.now ≡ length partitions.now.keys }
-    requires values { length fed.now.values.now ≡ length rows.now }
+    requires values { rows_of fed.now.argument ≡ length rows.now }
     requires few { length rows.now < 2 ^ 31 }
-    requires fed { All (λ i. i < length fed.now.values.now) rows.now }
+    requires fed { All (λ i. i < rows_of fed.now.argument) rows.now }
     requires below { All (λ i. i < length column.old) rows.now }
     ensures joins { tally.new ≤ tally.old + most_by_queues partitions.now.frame.exclusion (length rows.now) }
-    ensures answers { Puts (window_answers function (fed_by fed.now.values.now fed.now.filter.now) partitions.now rows.now) rows.now
+    ensures answers { Puts (window_answers function (fed_by fed.now.argument fed.now.filter.now) partitions.now rows.now) rows.now
         result column.old column.new }
 {
     let count = partitions.count();

@@ -25,7 +25,9 @@ mod summaries;
 mod tally;
 
 pub use alike::extremes_of;
-pub use feeding::{Fed, argument_values, filter_rows, is_null, lent_argument, lent_nulls};
+pub use feeding::{
+    Argument, Fed, argument_values, filter_rows, is_null, lent_argument, lent_nulls, plain_argument,
+};
 pub use folding::put_frame_aggregates;
 pub use grouped::{aggregate_groups, joined_lists, lent_values};
 pub use summaries::{Extremes, Summaries, summaries_for, summarize};

@@ -11,7 +11,7 @@ loop-row-preserved c =
     record {
       value = lent_next t (λ row. refl) c.args.rows.now c.loop-row.row-index c.row-item.result c.loop-row.values.items _ _
           c.loop-row-test.true (ap (λ r. value_on t (row_seen r)) c.row-item.is) c.loop-row.invariant.value
-          c.in-Some.ensures c.in_ok-push.ensures.items;
+          c.in-Some.ensures.some c.in_ok-push.ensures.items;
       len = omega (
         arith,
         c.loop-row.invariant.len,

@@ -15,7 +15,7 @@ returns-in-CountRows-clause-answers c feed of =
     let all = b.partitions.now in
     subst (λ results. Puts results b.rows.now c.put_folds.result c.args.column.now c.put_folds.new.column)
     (row_counts_alike all (batch_start b) (batch_spans b) feed b.rows.now (batch_inside b c.requires.tiles) c.requires.few
-    c.frames_are_rows.ensures.below c.frames_are_rows.ensures.few (meanings c.args.fed.now.values.now) (tests c.lent-filter.result)
+    c.frames_are_rows.ensures.below c.frames_are_rows.ensures.few (meanings c.args.values.now) (tests c.lent-filter.result)
     of.picked (c.lent-filter.ensures.value ∙ of.tested)
     c.counts_are_exact.ensures.rows c.picked_rows_feed_alike.ensures.rows
     ∙ ap (λ f. batch_answers f feed all (batch_start b) (batch_spans b) b.rows.now) (sym c.in-CountRows.is))
@@ -27,7 +27,7 @@ returns-in-Count-clause-answers c feed of =
     let all = b.partitions.now in
     subst (λ results. Puts results b.rows.now c.put_folds-in-Count.result c.args.column.now c.put_folds-in-Count.new.column)
     (value_counts_alike all (batch_start b) (batch_spans b) feed b.rows.now (batch_inside b c.requires.tiles) c.requires.few
-    c.frames_are_rows.ensures.below c.frames_are_rows.ensures.few (meanings c.args.fed.now.values.now) (tests c.lent-filter.result)
+    c.frames_are_rows.ensures.below c.frames_are_rows.ensures.few (meanings c.args.values.now) (tests c.lent-filter.result)
     of.picked (c.lent-filter.ensures.value ∙ of.tested)
     c.counts_are_exact.ensures.values c.picked_rows_feed_alike.ensures.count
     ∙ ap (λ f. batch_answers f feed all (batch_start b) (batch_spans b) b.rows.now) (sym c.in-Count.is))
@@ -39,7 +39,7 @@ returns-in-Sum-clause-answers c feed of =
     let all = b.partitions.now in
     subst (λ results. Puts results b.rows.now c.put_folds-in-Sum.result c.args.column.now c.put_folds-in-Sum.new.column)
     (sums_alike all (batch_start b) (batch_spans b) feed b.rows.now (batch_inside b c.requires.tiles) c.requires.few
-    c.frames_are_rows.ensures.below c.frames_are_rows.ensures.few (meanings c.args.fed.now.values.now) (tests c.lent-filter.result)
+    c.frames_are_rows.ensures.below c.frames_are_rows.ensures.few (meanings c.args.values.now) (tests c.lent-filter.result)
     of.picked (c.lent-filter.ensures.value ∙ of.tested)
     c.sums_are_exact.ensures c.picked_rows_feed_alike.ensures.feed c.picked_rows_feed_alike.ensures.sum
     (c.see_ranges.ensures.fed (tests c.lent-filter.result))
@@ -52,7 +52,7 @@ returns-in-Min-clause-answers c feed of =
     let all = b.partitions.now in
     subst (λ results. Puts results b.rows.now c.put_folds-in-Min.result c.args.column.now c.put_folds-in-Min.new.column)
     (firsts_alike all (batch_start b) (batch_spans b) feed b.rows.now (batch_inside b c.requires.tiles) c.requires.few
-    c.frames_are_rows.ensures.below c.frames_are_rows.ensures.few (meanings c.args.fed.now.values.now) (tests c.lent-filter.result)
+    c.frames_are_rows.ensures.below c.frames_are_rows.ensures.few (meanings c.args.values.now) (tests c.lent-filter.result)
     of.picked (c.lent-filter.ensures.value ∙ of.tested)
     c.picked_rows_feed_alike.ensures.feed c.stable_sorts_agree.ensures.first by_value by_value_total
     c.places_are_least.ensures.least Min (λ rs. refl)
@@ -65,7 +65,7 @@ returns-in-Max-clause-answers c feed of =
     let all = b.partitions.now in
     subst (λ results. Puts results b.rows.now c.put_folds-in-Max.result c.args.column.now c.put_folds-in-Max.new.column)
     (firsts_alike all (batch_start b) (batch_spans b) feed b.rows.now (batch_inside b c.requires.tiles) c.requires.few
-    c.frames_are_rows.ensures.below c.frames_are_rows.ensures.few (meanings c.args.fed.now.values.now) (tests c.lent-filter.result)
+    c.frames_are_rows.ensures.below c.frames_are_rows.ensures.few (meanings c.args.values.now) (tests c.lent-filter.result)
     of.picked (c.lent-filter.ensures.value ∙ of.tested)
     c.picked_rows_feed_alike.ensures.feed c.stable_sorts_agree.ensures.first by_value_descending by_value_descending_total
     c.places_are_least.ensures.greatest Max (λ rs. refl)

@@ -9,7 +9,7 @@ use Rattle.wslide.proofs.Windows.{joins_within, reached}
 use Rattle.wrows.specs.declared.fault.AnswerFault.TheVariants.{OutOfRange}
 use Rattle.wrows.specs.Outcomes.{unless}
 use Rattle.wrows.proofs.RowFacts.{refused}
-use Rattle.waggregate.specs.Feeding.{fed_by}
+use Rattle.waggregate.specs.Feeding.{fed_by, rows_of}
 use Rattle.waggregate.specs.FrameAnswers.{batch_answers, values_or_null, window_answers}
 use Rattle.waggregate.specs.Put.{put_all}
 use Rattle.waggregate.proofs.BatchFacts.{reached_within}
@@ -44,7 +44,7 @@ put_batch-requires-clause-fed c =
       rows = c.batch_from-batch.ensures.rows;
     } in
     let tiles = c.count-count.ensures.tiles in
-    all_next all rows tiles done b next (λ i. i < length c.args.fed.now.values.now) c.requires.fed
+    all_next all rows tiles done b next (λ i. i < rows_of c.args.fed.now.argument) c.requires.fed
 
 pub put_batch-requires-clause-below : goal.put_batch-requires-clause-below
 put_batch-requires-clause-below c =
@@ -76,7 +76,7 @@ returns-in_err-put_batch-clause-answers c =
     let tiles = c.count-count.ensures.tiles in
     let to = b.numbers.to in
     let function = c.args.function in
-    let feed = fed_by c.args.fed.now.values.now c.args.fed.now.filter.now in
+    let feed = fed_by c.args.fed.now.argument c.args.fed.now.filter.now in
     let some = is_some all rows tiles done b next in
     let start = reached 0 all.spans done in
     let end = reached 0 all.spans to in
@@ -103,7 +103,7 @@ returns-in_err-put_batch-clause-joins c =
     } in
     let tiles = c.count-count.ensures.tiles in
     let function = c.args.function in
-    let feed = fed_by c.args.fed.now.values.now c.args.fed.now.filter.now in
+    let feed = fed_by c.args.fed.now.argument c.args.fed.now.filter.now in
     let end = reached 0 all.spans b.numbers.to in
     joins_within all.frame.exclusion c.args.tally.now c.put_batch.new.tally end (length rows)
     (omega (arith, reached_within 0 all.spans (length all.keys) b.numbers.to tiles, c.requires.rows))
@@ -124,7 +124,7 @@ loop-done-preserved c =
     let tiles = c.count-count.ensures.tiles in
     let to = b.numbers.to in
     let function = c.args.function in
-    let feed = fed_by c.args.fed.now.values.now c.args.fed.now.filter.now in
+    let feed = fed_by c.args.fed.now.argument c.args.fed.now.filter.now in
     let some = is_some all rows tiles done b next in
     let start = reached 0 all.spans done in
     let end = reached 0 all.spans to in
@@ -149,7 +149,7 @@ returns-clause-answers c =
     let all = c.args.partitions.now in
     let rows = c.args.rows.now in
     let done = c.loop-done.done in
-    let feed = fed_by c.args.fed.now.values.now c.args.fed.now.filter.now in
+    let feed = fed_by c.args.fed.now.argument c.args.fed.now.filter.now in
     let answers = flat_map (answers_in c.args.function feed all rows) in
     let whole : length all.spans ≤ done = omega (arith, c.count-count.ensures.count, c.loop-done-test.false) in
     let none : list_any is_none (answers all.spans) ≡ false =

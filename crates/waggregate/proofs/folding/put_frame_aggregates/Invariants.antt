@@ -13,7 +13,7 @@ use Rattle.waggregate.proofs.folding.put_frame_aggregates.Given as goal
 abbrev pub invariant-loop-done : goal.invariant-loop-done
 invariant-loop-done l =
     let all = l.partitions in
-    let answers = flat_map (answers_in l.function (fed_by l.fed.values.now l.fed.filter.now) all l.rows) in
+    let answers = flat_map (answers_in l.function (fed_by l.fed.argument l.fed.filter.now) all l.rows) in
     let place = reached 0 all.spans l.done in
     record {
       within : l.done ≤ length all.spans;

@@ -1,17 +1,17 @@
-use Rattle.std.proofs.Common.{◌≤◌, ◌<◌, ◌++◌, length, arith, ap, ◌∙◌}
+use Rattle.std.proofs.Common.{◌≤◌, ◌<◌, ◌++◌, arith, ap, ◌∙◌}
 use Rattle.std.specs.Prelude.{slice_range}
-use Rattle.wframe.specs.Cells.{meanings}
 use Rattle.wslide.specs.Aggregates.{picked_values}
+use Rattle.waggregate.specs.Feeding.{rows_of, values_of}
 use Rattle.waggregate.proofs.CopyFacts.{all_among, copied_more}
 use Rattle.waggregate.proofs.picking.copied_values.Goals as goal
 
 pub push_batch-requires : goal.push_batch-requires
-push_batch-requires c = all_among (λ i. i < length c.args.values.now) c.loop-done.done c.batch_end-end.result c.args.rows.now c.requires
+push_batch-requires c = all_among (λ i. i < rows_of c.args.argument) c.loop-done.done c.batch_end-end.result c.args.rows.now c.requires
 
 pub loop-done-preserved : goal.loop-done-preserved
 loop-done-preserved c =
     let rows = c.args.rows.now in
-    let values = meanings c.args.values.now in
+    let values = values_of c.args.argument in
     let done = c.loop-done.done in
     let end = c.batch_end-end.result in
     let rising : done ≤ end = omega (arith, c.batch_end-end.ensures.some) in (

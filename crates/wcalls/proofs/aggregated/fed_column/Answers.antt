@@ -1,9 +1,9 @@
 use Rattle.std.proofs.Common.{Bool, List, Vec, Global, Option, Result, Ok, Err, map, option_map, subst, sym, ap, ◌∙◌}
 use Rattle.std.proofs.lemmas.Result.{err_from_is_err_and}
 use Rattle.wvalues.specs.Meaning.{Meaning, meaning}
-use Rattle.wframe.specs.Cells.{meanings}
 use Rattle.wplan.specs.Plans.{aggregate_plan}
 use Rattle.waggregate.specs.Aggregating.{Feed, aggregate_of}
+use Rattle.waggregate.specs.Feeding.{values_of}
 use Rattle.wrows.specs.declared.fault.AnswerFault.{AnswerFault}
 use Rattle.wrows.specs.Columns.{filter_of, in_range}
 use Rattle.wrows.specs.Laid.{rows_seen}
@@ -21,7 +21,7 @@ returns-in_err-filter-clause-column c w arranged =
     let fault = c.in_err-filter.field-0.0 in
     let plan = aggregate_plan c.args.aggregate.now in
     let filters = filter_of plan.filter (rows_seen c.args.arranged.now.rows.now) in
-    let values = meanings c.args.values.now in
+    let values = values_of c.args.argument in
     let fed : Option (List Bool) → Result Feed AnswerFault = λ filter. Ok (record { values = values; filter = filter }) in
     let answer : Feed → Result (List Meaning) AnswerFault =
     λ feed. in_range (each_row w (λ i. aggregate_of plan.function feed (frame_of w i))) in
@@ -35,7 +35,7 @@ returns-clause-column c w arranged =
     let view : Unit {0} → List Meaning = λ u. map meaning c.put_aggregates.new.column in
     let plan = aggregate_plan c.args.aggregate.now in
     let filters = filter_of plan.filter (rows_seen c.args.arranged.now.rows.now) in
-    let values = meanings c.args.values.now in
+    let values = values_of c.args.argument in
     let fed : Option (List Bool) → Result Feed AnswerFault = λ filter. Ok (record { values = values; filter = filter }) in
     let answer : Feed → Result (List Meaning) AnswerFault =
     λ feed. in_range (each_row w (λ i. aggregate_of plan.function feed (frame_of w i))) in

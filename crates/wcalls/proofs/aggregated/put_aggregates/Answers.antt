@@ -10,7 +10,7 @@ use Rattle.wcalls.proofs.aggregated.put_aggregates.Goals as goal
 
 pub returns-clause-column : goal.returns-clause-column
 returns-clause-column c w arranged =
-    let feed = fed_by c.args.fed.now.values.now c.args.fed.now.filter.now in
+    let feed = fed_by c.args.fed.now.argument c.args.fed.now.filter.now in
     let answer : Answer = λ p rows place. aggregate_of c.args.function feed (frame_numbers p rows place) in
     let puts = c.put_frame_aggregates.ensures.answers in
     answers_given w c.args.arranged.now.order.now c.args.arranged.now.partitions.now arranged answer
