@@ -41,9 +41,24 @@ fn are_numbers<R: Rows>(rows: &R, null: &Value, place: usize, from: usize) -> bo
     matches!(value_at(&rows.row(from), null, place), Value::Int(_))
 }
 
+// Whether one of some rows has a text at a place. Each is read, whatever was found before.
+fn hold_text<R: Rows>(rows: &R, null: &Value, place: usize, from: usize, end: usize) -> bool
+    requires null { meaning null.now ≡ Null }
+    requires within { end ≤ length (R.rows rows.now) }
+{
+    let mut found = false;
+    for next in from..end {
+        if let Value::Text(_) = value_at(&rows.row(next), null, place) {
+            found = true;
+        }
+    }
+    found
+}
+
 /// Makes room for the texts of a row and of those behind it that are looked at with it, a place of all of them after another.
 /// Nothing is done between one value and the next, so that the processor has many of them on their way from memory at once, and
-/// finds them near when they are printed. Places of numbers are left out where rows lie together: their cells are near.
+/// finds them near when they are printed. Where rows lie apart, the cells are looked at before the texts that they lead to; where
+/// they lie together, places of numbers are left out, since their cells are near.
 pub(crate) fn look_ahead<R: Rows>(
     bytes: &mut Vec<u8>,
     rows: &R,
@@ -62,7 +77,11 @@ pub(crate) fn look_ahead<R: Rows>(
     let lie = rows.lie(row, end);
     let mut room: usize = 0;
     for place in places {
-        if matches!(lie, Lie::Apart) || !are_numbers(rows, null, *place, row) {
+        let texts = match lie {
+            Lie::Together => !are_numbers(rows, null, *place, row),
+            Lie::Apart => hold_text(rows, null, *place, row, end),
+        };
+        if texts {
             room = room.saturating_add(room_at(rows, null, *place, row, end));
         }
     }
