@@ -1,7 +1,7 @@
-"""What the queries of bench/queries take sqlite3 and PostgreSQL, each where it is installed.
+"""What the queries of bench/queries take sqlite3, PostgreSQL and pandas, each where it is installed.
 
 A peer has a name and a version; it loads the rows of a CSV file, and tells the processor's seconds of a query on so many
-rows, the text of its answer and all its rows included. Both work by one thread, on rows in memory, without an index, and
+rows, the text of its answer and all its rows included. All work by one thread, on rows in memory, without an index, and
 write the answer as CSV to /dev/null:
 
 - sqlite3 copies its table into memory in each run, and tells the query's seconds by `.timer`.
@@ -9,9 +9,13 @@ write the answer as CSV to /dev/null:
   run as root, the server runs as the user postgres or nobody. Its tables are unlogged, vacuumed and analyzed, of `integer` and
   `text` compared by bytes (the locale C), and its settings are those in SERVER. The query stands in a COPY, and the server tells
   its seconds by `log_statement_stats`.
+- pandas reads the file in each run, and has no SQL: bench/pandas_answers.py has what somebody would write in its place, by the name
+  of the query, and tells the seconds of the answer and of `to_csv`. It is looked for where this script runs, and as Debian's package
+  has it.
 
 A query is given up when it has taken a minute of the processor, if nobody says otherwise.
 """
+import functools
 import os
 import pathlib
 import pwd
@@ -27,7 +31,7 @@ import time
 RUNS = 3
 # one run of a query that takes longer than so many seconds is enough
 LONG = 5
-# seconds that sqlite3 may take to copy a table: its limit is of the process
+# seconds that a process may take to have its table, before the query: its limit is of the process
 COPYING = 10
 SERVER = {
     "fsync": "off",
@@ -38,6 +42,9 @@ SERVER = {
     "max_parallel_workers_per_gather": "0",
     "jit": "off",
 }
+# the queries in the words of pandas, and the status where there are none
+ANSWERS = pathlib.Path(__file__).resolve().parent / "pandas_answers.py"
+NO_WORDS = 3
 COLUMNS = "day INTEGER, shop TEXT, amount INTEGER"
 
 
@@ -47,6 +54,16 @@ class GivenUp(Exception):
 
 class Refused(Exception):
     """The peer does not know something in the query."""
+
+
+def within(patience, words, **given):
+    """What a process comes to that may take so many seconds of the processor beside what it takes to have its table."""
+    most = patience + COPYING
+    limit = lambda: resource.setrlimit(resource.RLIMIT_CPU, (most, most + 1))
+    run = subprocess.run(words, capture_output=True, preexec_fn=limit, **given)
+    if run.returncode == -signal.SIGXCPU:
+        raise GivenUp
+    return run
 
 
 class Sqlite:
@@ -66,14 +83,10 @@ class Sqlite:
         given = f"CREATE TABLE sales({COLUMNS});\n.import --csv --skip 1 {lines} sales\n"
         subprocess.run(["sqlite3", self.folder / f"{rows}.db"], input=given.encode(), check=True)
 
-    def seconds(self, rows, query, patience):
+    def seconds(self, rows, name, query, patience):
         given = f"ATTACH '{self.folder / f'{rows}.db'}' AS file;\nCREATE TABLE sales AS SELECT * FROM file.sales;\n"
         given += f".timer on\n.mode csv\n.output /dev/null\n{query};\n"
-        most = patience + COPYING
-        limit = lambda: resource.setrlimit(resource.RLIMIT_CPU, (most, most + 1))
-        run = subprocess.run(["sqlite3"], input=given.encode(), capture_output=True, preexec_fn=limit)
-        if run.returncode == -signal.SIGXCPU:
-            raise GivenUp
+        run = within(patience, ["sqlite3"], input=given.encode())
         if b"no such function" in run.stderr:
             raise Refused
         if run.returncode:
@@ -140,7 +153,7 @@ class Postgres:
         given += f"\\copy sales FROM '{lines}' (FORMAT csv, HEADER)\nVACUUM (FREEZE, ANALYZE) sales;\n"
         subprocess.run(self.psql(), input=given.encode(), check=True)
 
-    def seconds(self, rows, query, patience):
+    def seconds(self, rows, name, query, patience):
         pipes = dict.fromkeys(("stdin", "stdout", "stderr"), subprocess.PIPE)
         with subprocess.Popen(self.psql(), **pipes) as psql:
             psql.stdin.write(b"SELECT pg_backend_pid();\n")
@@ -173,22 +186,58 @@ class Postgres:
         self.server.wait()
 
 
+@functools.cache
+def with_pandas():
+    """A Python that has pandas, if there is one."""
+    asked = [sys.executable, "/usr/bin/python3"]
+    return next((python for python in asked if not subprocess.run([python, "-c", "import pandas"], capture_output=True).returncode), None)
+
+
+class Pandas:
+    name = "pandas"
+
+    def __init__(self, folder):
+        self.lines = {}
+
+    @staticmethod
+    def is_installed():
+        return with_pandas()
+
+    def version(self):
+        words = [with_pandas(), "-c", "import pandas; print(pandas.__version__)"]
+        return subprocess.run(words, stdout=subprocess.PIPE, check=True).stdout.decode().strip()
+
+    def load(self, rows, lines):
+        self.lines[rows] = lines
+
+    def seconds(self, rows, name, query, patience):
+        run = within(patience, [with_pandas(), ANSWERS, self.lines[rows], name])
+        if run.returncode == NO_WORDS:
+            raise Refused
+        if run.returncode:
+            sys.exit(f"pandas: {run.stderr.decode()}")
+        return float(run.stdout)
+
+    def close(self):
+        pass
+
+
 def installed(folder):
     """The peers that are installed, each with a folder of its own."""
     peers = []
-    for peer in Sqlite, Postgres:
+    for peer in Sqlite, Postgres, Pandas:
         if peer.is_installed():
             (folder / peer.name).mkdir()
             peers.append(peer(folder / peer.name))
     return peers
 
 
-def beside(peer, rows, query, patience):
+def beside(peer, rows, name, query, patience):
     """What a query takes a peer: its seconds, the median of some runs; or that it takes longer than the patience; or that it is refused."""
     times = []
     try:
         while len(times) < RUNS and max(times, default=0) < LONG:
-            times.append(peer.seconds(rows, query, patience))
+            times.append(peer.seconds(rows, name, query, patience))
     except GivenUp:
         return {"over": patience}
     except Refused:
