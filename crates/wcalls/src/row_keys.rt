@@ -40,18 +40,6 @@ pub(crate) fn are_few(count: usize) -> bool
     count <= MOST_CODED
 }
 
-/// Numbers of rows as codes of 32 bits.
-pub(crate) fn narrowed(alloc: Global, rows: &[usize]) -> Result<Vec<u32>, AllocError>
-    requires { All (λ i. i < 2 ^ 32) rows.now }
-    ensures { IfOk result (λ codes. codes.items ≡ rows.now) }
-{
-    let mut codes = Vec::with_capacity(alloc, rows.len())?;
-    for row in rows {
-        codes.push(*row as u32)?;
-    }
-    Ok(codes)
-}
-
 // The numbers of rows by codes, and then as they stood.
 fn by_codes(alloc: Global, codes: &[u32], rows: Vec<usize>) -> Result<Vec<usize>, AllocError>
     requires few { length codes.now ≤ 2 ^ 32 }

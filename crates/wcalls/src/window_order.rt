@@ -25,11 +25,11 @@ ghost use Rattle.wcalls.specs.RowOrders.{IsRowOrder};
 ghost use Rattle.wcalls.specs.Windows.{Windowed};
 
 use crate::parts::{partition_keys, window_keys};
-use crate::row_keys::{RowKeys, are_few, narrowed};
+use crate::row_keys::{RowKeys, are_few};
 use std::alloc::{AllocError, Global};
 use std::marker::Model;
 use waggregate::Tally;
-use wcodes::picked_codes;
+use wcodes::{narrowed, picked_codes};
 use wframe::{Frame, KeyRows, Partitions};
 use wplan::ResolvedWindow;
 use wrows::{AnswerFault, order_by_codes};

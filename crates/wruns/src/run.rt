@@ -10,6 +10,7 @@ use crate::key_columns::{Table, coded_order_of};
 use crate::segment_cells::cell_at;
 use std::alloc::{AllocError, Global};
 use std::marker::Model;
+use wcodes::narrowed;
 use wsegment::Segment;
 use wvalues::{SortKey, Value};
 
@@ -122,18 +123,6 @@ impl<'a> Table for SegmentRows<'a> {
         }
         Ok(column)
     }
-}
-
-// Numbers of rows in 4 bytes each.
-fn narrowed(alloc: Global, order: &[usize]) -> Result<Vec<u32>, AllocError>
-    requires { All (λ i. i < 2 ^ 32) order.now }
-    ensures { IfOk result (λ rows. rows.items ≡ order.now) }
-{
-    let mut rows = Vec::with_capacity(alloc, order.len())?;
-    for row in order {
-        rows.push(*row as u32)?;
-    }
-    Ok(rows)
 }
 
 // Whether two numbers have one code, or none.
