@@ -1,5 +1,5 @@
 //! The columns of a window's functions.
-ghost use Rattle.std.specs.Prelude.{◌≡◌, ◌≤◌, ◌+◌, ◌<◌, ◌^◌, true, IfOk, OnOk, Ok, length, map, take, drop};
+ghost use Rattle.std.specs.Prelude.{[], ◌≡◌, ◌≤◌, ◌+◌, ◌<◌, ◌^◌, true, IfOk, OnOk, Ok, length, map, take, drop};
 ghost use Rattle.std.specs.List.{list_all};
 ghost use Rattle.wvalues.specs.Meaning.{meaning};
 ghost use Rattle.wplan.specs.Plans.{function_plan, window_plan};
@@ -24,14 +24,17 @@ use wplan::{ResolvedWindow, WindowFunction};
 use wrows::{AnswerFault, Cells};
 use wvalues::Value;
 
-// The columns of functions of a window, by number, where the rows stand in its order and in its partitions.
+// The columns of functions of a window, by number, where the rows stand in its order and in its partitions. They are put into a
+// list that is empty, and may have room for them.
 fn every_column(
     alloc: Global,
     functions: &[&WindowFunction],
     arranged: &ArrangedRows,
+    room: Vec<Value>,
     tally: &mut Tally,
 ) -> Result<Cells, AnswerFault>
-    requires { list_all is_sound_function (functions_seen functions.now) ≡ true }
+    requires empty { room.items ≡ [] }
+    requires sound { list_all is_sound_function (functions_seen functions.now) ≡ true }
     ensures joins { tally.new ≤ tally.old + most_of_functions arranged.now.partitions.now.frame.exclusion
         (length arranged.now.order.now) (functions_seen functions.now) }
     ensures columns { (w : Windowed) → IsArranged w arranged.now.order.now arranged.now.partitions.now
@@ -39,8 +42,7 @@ fn every_column(
     ensures width { IfOk result (λ cells. cells.width ≡ length arranged.now.rows.now) }
     ensures count { IfOk result (λ cells. cells.count ≡ length functions.now) }
 {
-    // Room for all columns at once: a list that grows is held twice while it is moved.
-    let mut cells = Vec::with_capacity(alloc, arranged.rows.len().saturating_mul(functions.len()))?;
+    let mut cells = room;
     for function in functions {
         push_column(alloc, function, arranged, &mut cells, tally)?;
     }
@@ -76,6 +78,9 @@ pub fn window_columns(
     ensures width { IfOk result (λ cells. cells.width ≡ length rows.now) }
     ensures count { IfOk result (λ cells. cells.count ≡ length functions.now) }
 {
+    // Room for all columns at once, since a list that grows is held twice while it is moved; and before the frames, whose room is then
+    // free for the answer's text behind the columns.
+    let room = Vec::with_capacity(alloc, rows.len().saturating_mul(functions.len()))?;
     let keys = order.key_rows();
     let partitions = order.partitions(alloc, keys, frame_of(&window.frame))?;
     let arranged = ArrangedRows {
@@ -83,5 +88,5 @@ pub fn window_columns(
         order: order.rows(),
         partitions: &partitions,
     };
-    every_column(alloc, functions, &arranged, tally)
+    every_column(alloc, functions, &arranged, room, tally)
 }

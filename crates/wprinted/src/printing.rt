@@ -1,5 +1,5 @@
 //! The bytes of an answer.
-ghost use Rattle.std.specs.Prelude.{◌≡◌, ◌++◌, IfOk, OnOk, map};
+ghost use Rattle.std.specs.Prelude.{◌≡◌, ◌≤◌, ◌++◌, IfOk, OnOk, map};
 ghost use Rattle.std.specs.List.{flat_map};
 ghost use Rattle.std.specs.Rc.{rc_str_bytes};
 ghost use Rattle.wvalues.specs.Meaning.{Null, meaning};
@@ -27,6 +27,22 @@ fn push_names(bytes: &mut Vec<u8>, names: &[RcStr]) -> Result<(), AllocError>
     Ok(())
 }
 
+/// How many rows are printed before room is made for all that are left: so many that much is known of their lines, and the answer
+/// is large.
+const FORESEEN_AT: usize = 262_144;
+
+// Makes room for the lines of the rows that are left of so many, as if they were as long as those of the rows that are done, in the
+// mean. Where they find none, or are longer, they make room as they are added. This is a matter of speed alone.
+fn foresee(bytes: &mut Vec<u8>, done: usize, count: usize)
+    requires { done ≤ count }
+    ensures { bytes.new.items ≡ bytes.old.items }
+{
+    if done == FORESEEN_AT {
+        let line = bytes.len() / FORESEEN_AT;
+        let _ = bytes.reserve(line.saturating_add(1).saturating_mul(count - done));
+    }
+}
+
 // Adds the lines of the values of all rows at some places.
 fn push_rows<R: Rows>(
     bytes: &mut Vec<u8>,
@@ -42,6 +58,7 @@ fn push_rows<R: Rows>(
     let count = rows.count();
     let mut row = 0;
     while row < count {
+        foresee(bytes, row, count);
         look_ahead(bytes, rows, null, places, row)?;
         let end = count.min(row.saturating_add(BATCH));
         push_batch(

@@ -20,7 +20,7 @@ push_column-requires c =
     let i = c.loop-function.function-index in
     let f = c.function-item.result in
     let h : i < length (functions_seen fs) = omega (arith, c.loop-function-test.true, length-map fs (λ f. function_plan f.now)) in
-    each_is is_sound_function (functions_seen fs) i (function_plan f.now) c.requires h (mapped_at (λ f. function_plan f.now)
+    each_is is_sound_function (functions_seen fs) i (function_plan f.now) c.requires.sound h (mapped_at (λ f. function_plan f.now)
     fs i f c.loop-function-test.true c.function-item.is)
 
 pub loop-function-preserved : goal.loop-function-preserved
@@ -67,7 +67,7 @@ returns-clause-joins c =
 
 pub returns-in_err-push_column-clause-columns : goal.returns-in_err-push_column-clause-columns
 returns-in_err-push_column-clause-columns c w arranged =
-    let p = err_from_is_err_and c.from_residual-in_err-push_column.result c.from_residual-in_err-push_column.ensures.1 in
+    let p = err_from_is_err_and c.from_residual.result c.from_residual.ensures.1 in
     let fs = c.args.functions.now in
     let n = length c.args.arranged.now.rows.now in
     let i = c.loop-function.function-index in

@@ -1,4 +1,4 @@
-use Rattle.std.proofs.Common.{◌∙◌, ◌++◌, length, map, ap, append_assoc, arith}
+use Rattle.std.proofs.Common.{◌∙◌, ◌++◌, map, ap, append_assoc, arith}
 use Rattle.std.proofs.lemmas.List.{length-map, take_rest}
 use Rattle.wprinted.specs.Printing.{lines_text, rows_between, values_at}
 use Rattle.wprinted.proofs.TextLines.{lines-join}

@@ -1,4 +1,4 @@
-use Rattle.std.proofs.Common.{◌∙◌, ◌≡◌, ◌++◌, ◌∷◌, [], append_assoc, ap, drop, sym, arith}
+use Rattle.std.proofs.Common.{◌∙◌, ◌≡◌, ◌++◌, ◌∷◌, [], append_assoc, drop, sym, arith}
 use Rattle.std.specs.List.{flat_map}
 use Rattle.wprinted.specs.Printing.{doubled, quote}
 use Rattle.wprinted.proofs.BackLines.{if-none, kept-behind}
