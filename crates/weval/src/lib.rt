@@ -10,11 +10,13 @@
 #![tactic(auto)]
 
 mod cell;
+mod comparing;
 mod evaluating;
 mod judging;
 mod leaves;
 mod operating;
 
 pub use cell::{Cell, EvalFault};
+pub use comparing::{NumberTest, NumberTests, number_tests};
 pub use evaluating::eval;
 pub use judging::truth_on;

@@ -70,7 +70,8 @@ pub(crate) fn order(x: &Value, y: &Value) -> Option<Ordering>
     }
 }
 
-fn is_met(comparison: Comparison, order: Ordering) -> bool
+#[inline(always)]
+pub(crate) fn is_met(comparison: Comparison, order: Ordering) -> bool
     ensures { result ≡ meets comparison order }
 {
     match comparison {
