@@ -15,6 +15,7 @@
 
 mod batches;
 mod cells;
+mod condition;
 mod copied;
 mod fault;
 mod first_rows;
@@ -30,6 +31,7 @@ mod values;
 
 pub use batches::{batch_end, copy_of, is_text};
 pub use cells::{Cells, gathered, push_row};
+pub use condition::Condition;
 pub use fault::AnswerFault;
 pub use items::{Asked, joined_items, ordered_items};
 pub use lent::lent_rows;
