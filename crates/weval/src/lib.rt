@@ -1,12 +1,15 @@
 //! The value of an expression on a row.
 //!
-//! - Gives `eval`, the value or the truth of an expression over a row's values, and `truth_on`, what it says as a condition.
+//! - Gives `eval`, the value or the truth of an expression over a row's values, `truth_on`, what it says as a condition, and
+//!   `number_tests`, the tests that decide a condition which compares what a row has at places with numbers.
 //! - Promises: each answers what the expression comes to, or that a part of it is out of range. Nothing is skipped, it takes no
-//!   memory but the count of a shared text, and it goes as deep as the nesting alone.
+//!   memory but the count of a shared text, and it goes as deep as the nesting alone. A row passes all tests just where the
+//!   condition is true, and it is out of range on no row.
 //! - Asks: nothing. A place that a row lacks is null, and a value of the wrong type is null or unknown.
 //! - Leaves: the form of expressions to `wplan`, lists of rows to `wrows`.
 //!
-//! Read `specs/Values.antt`, `specs/Cells.antt` and `specs/Conditions.antt`, then `specs/Reads.antt` and `specs/Leaves.antt`.
+//! Read `specs/Values.antt`, `specs/Cells.antt` and `specs/Conditions.antt`, then `specs/Reads.antt`, `specs/Leaves.antt` and
+//! `specs/NumberTests.antt`; `specs/Joining.antt` is of its parts alone.
 #![tactic(auto)]
 
 mod cell;
