@@ -79,12 +79,11 @@ within_passes : (row : List Meaning) (above below : NumberTest) (x low high : Fo
     → (passes row above && passes row below) ≡ is_yes (truth_of (value_of row (Within false x low high)))
 within_passes row above below x low high s t =
     let v = get_or row above.place Null in
+    let from = is_yes (compared GreaterOrEqual v (Int above.number)) in
     let same : above.place ≡ below.place = place_is (sym s.place ∙ t.place) in
     ap (λ (c : Comparison). is_yes (compared c v (Int above.number)) && passes row below) s.comparison
-    ∙ ap (λ (c : Comparison). is_yes (compared GreaterOrEqual v (Int above.number)) && is_yes (compared c (get_or row below.place Null) (Int below.number)))
-    t.comparison
-    ∙ ap (λ (p : ℕ). is_yes (compared GreaterOrEqual v (Int above.number)) && is_yes (compared LessOrEqual (get_or row p Null) (Int below.number)))
-    (sym same)
+    ∙ ap (λ (c : Comparison). from && is_yes (compared c (get_or row below.place Null) (Int below.number))) t.comparison
+    ∙ ap (λ (p : ℕ). from && is_yes (compared LessOrEqual (get_or row p Null) (Int below.number))) (sym same)
     ∙ sym (yes_both (compared GreaterOrEqual v (Int above.number)) (compared LessOrEqual v (Int below.number)))
     ∙ sym (ap (λ (f : Formula). is_yes (truth_of (value_of row (Within false f low high)))) s.place
     ∙ ap (λ (f : Formula). is_yes (truth_of (value_of row (Within false (At above.place) f high)))) s.number

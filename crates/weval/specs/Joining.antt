@@ -1,10 +1,8 @@
 -- How tests are gathered from the operands of a condition, one after another.
 use Rattle.std.specs.Prelude.{◌≡◌, ◌&&◌, List}
-use Rattle.wvalues.specs.Meaning.{Meaning}
-use Rattle.wvalues.specs.declared.truth.Truth.{Truth}
+use Rattle.wvalues.specs.Meaning.{Meaning, Int}
 use Rattle.wquery.specs.declared.expression.Comparison.{Comparison}
 use Rattle.wplan.specs.Formula.{Formula, Operand, Constant, At}
-use Rattle.wvalues.specs.Meaning.{Int}
 use Rattle.weval.specs.Values.{Judged, Outcome, is_yes, truth_of, value_along, value_of}
 use Rattle.weval.specs.NumberTests.{passes_all}
 use Rattle.weval.specs.declared.comparing.NumberTest.{NumberTest}

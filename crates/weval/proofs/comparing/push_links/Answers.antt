@@ -1,8 +1,4 @@
-use Rattle.std.proofs.Common.{◌≡◌, ◌+◌, ◌&&◌, Bool, take, sym, ap, ◌∙◌}
-use Rattle.std.specs.List.{list_all}
-use Rattle.std.proofs.lemmas.List.Folds.{list_all_more}
-use Rattle.wplan.specs.declared.expr.Further.{Further}
-use Rattle.weval.specs.NumberTests.{is_number_link}
+use Rattle.std.proofs.Common.{sym, ◌∙◌}
 use Rattle.weval.proofs.NumberFacts.{joins_more, links_found}
 use Rattle.weval.proofs.comparing.push_links.Goals as goal
 
