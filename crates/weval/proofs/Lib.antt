@@ -2,3 +2,4 @@ mod Running
 mod LeafFacts
 mod ReadFacts
 mod TruthFacts
+mod NumberFacts

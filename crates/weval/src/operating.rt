@@ -70,7 +70,9 @@ pub(crate) fn order(x: &Value, y: &Value) -> Option<Ordering>
     }
 }
 
-fn is_met(comparison: Comparison, order: Ordering) -> bool
+/// Whether an order is what a comparison asks for.
+#[inline(always)]
+pub(crate) fn is_met(comparison: Comparison, order: Ordering) -> bool
     ensures { result ≡ meets comparison order }
 {
     match comparison {

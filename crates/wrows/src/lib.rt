@@ -2,7 +2,7 @@
 //!
 //! - Gives the rows that a condition keeps, the values of expressions on each row, the numbers of rows in the order of
 //!   keys, and the items of rows in that order, cut by OFFSET and LIMIT, also of rows with columns behind their cells. The
-//!   order may be presorted, and then nothing is sorted.
+//!   order may be presorted, and then nothing is sorted. A `Condition` is made ready once to be judged on many rows.
 //! - Promises: nothing is skipped, so a number that is out of range on any row refuses; ties are broken by number.
 //!   Where few rows are asked for, these alone are found. Items that are all plain columns are read behind the sort, of
 //!   the rows that are asked for. What lies far apart is read some rows at a time before it is copied.
@@ -15,6 +15,7 @@
 
 mod batches;
 mod cells;
+mod condition;
 mod copied;
 mod fault;
 mod first_rows;
@@ -30,6 +31,7 @@ mod values;
 
 pub use batches::{batch_end, copy_of, is_text};
 pub use cells::{Cells, gathered, push_row};
+pub use condition::Condition;
 pub use fault::AnswerFault;
 pub use items::{Asked, joined_items, ordered_items};
 pub use lent::lent_rows;

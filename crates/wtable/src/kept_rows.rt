@@ -15,7 +15,7 @@ ghost use Rattle.wtable.specs.Tables.{rows_of_set};
 use crate::orders::asks_for_orders;
 use std::alloc::{AllocError, Global};
 use wplan::{Expr, Selection};
-use wrows::{AnswerFault, holds, not_too_many};
+use wrows::{AnswerFault, Condition, not_too_many};
 use wset::{Kept, SegmentSet};
 use wvalues::Value;
 
@@ -47,16 +47,18 @@ fn table_rows(alloc: Global, set: &SegmentSet) -> Result<Vec<&[Value]>, AllocErr
 }
 
 /// Appends a row, if a condition is true on it.
+#[inline(always)]
 pub(crate) fn push_where<'a>(
     held: &mut Vec<&'a [Value]>,
-    condition: &Expr,
+    condition: &Condition,
     row: &'a [Value],
 ) -> Result<(), AnswerFault>
-    ensures gives { Gives (λ u. u) result (unless (is_out_of_range (formula condition.now) (map meaning row.entry.now)) OutOfRange tt) }
-    ensures added { OnOk result (rows_seen held.new.items ≡ (if holds_on (formula condition.now) (map meaning row.entry.now)
+    ensures gives { Gives (λ u. u) result (unless (is_out_of_range (formula condition.now.expr.now) (map meaning row.entry.now))
+        OutOfRange tt) }
+    ensures added { OnOk result (rows_seen held.new.items ≡ (if holds_on (formula condition.now.expr.now) (map meaning row.entry.now)
         then rows_seen held.old.items ++ map meaning row.entry.now ∷ [] else rows_seen held.old.items)) }
 {
-    if holds(condition, row)? {
+    if condition.holds(row)? {
         held.push(row)?;
     }
     Ok(())
@@ -65,13 +67,13 @@ pub(crate) fn push_where<'a>(
 // Appends the rows of a segment on which a condition is true. They stay where they lie.
 fn push_rows_where<'a>(
     held: &mut Vec<&'a [Value]>,
-    condition: &Expr,
+    condition: &Condition,
     kept: &'a Kept,
 ) -> Result<(), AnswerFault>
-    ensures gives { Gives (λ u. u) result (unless (list_any (is_out_of_range (formula condition.now)) kept.now.content.rows)
+    ensures gives { Gives (λ u. u) result (unless (list_any (is_out_of_range (formula condition.now.expr.now)) kept.now.content.rows)
         OutOfRange tt) }
     ensures added { OnOk result (rows_seen held.new.items ≡ rows_seen held.old.items ++ filter
-        (holds_on (formula condition.now)) kept.now.content.rows) }
+        (holds_on (formula condition.now.expr.now)) kept.now.content.rows) }
 {
     let segment = kept.segment()?;
     for row in 0..segment.rows() {
@@ -83,10 +85,10 @@ fn push_rows_where<'a>(
 // The rows of all live segments on which a condition is true, in their order. No list of the others is made.
 fn rows_where<'a>(
     alloc: Global,
-    condition: &Expr,
+    condition: &Condition,
     set: &'a SegmentSet,
 ) -> Result<Vec<&'a [Value]>, AnswerFault>
-    ensures { Gives (λ held. rows_seen held.items) result (held_rows (Some (formula condition.now)) (rows_of_set set.now)) }
+    ensures { Gives (λ held. rows_seen held.items) result (held_rows (Some (formula condition.now.expr.now)) (rows_of_set set.now)) }
 {
     let mut held = Vec::new(alloc);
     'segments: for (_, segment) in set.lives() {
@@ -108,7 +110,10 @@ fn rows_held<'a>(
             let rows = table_rows(alloc, set)?;
             Ok(rows)
         }
-        Some(condition) => rows_where(alloc, condition, set),
+        Some(condition) => {
+            let condition = Condition::new(alloc, condition)?;
+            rows_where(alloc, &condition, set)
+        }
     }
 }
 
@@ -132,13 +137,14 @@ pub fn kept_table_rows<'a>(
 // over all rows.
 fn push_few_where<'a>(
     held: &mut Vec<&'a [Value]>,
-    condition: &Expr,
+    condition: &Condition,
     kept: &'a Kept,
     most: usize,
 ) -> Result<bool, AnswerFault>
-    ensures gives { GivesAtEnd result (unless (list_any (is_out_of_range (formula condition.now)) kept.now.content.rows) OutOfRange tt) }
+    ensures gives { GivesAtEnd result (unless (list_any (is_out_of_range (formula condition.now.expr.now)) kept.now.content.rows)
+        OutOfRange tt) }
     ensures added { IfOk result (λ all. all ≡ true → rows_seen held.new.items ≡ rows_seen held.old.items ++ filter
-        (holds_on (formula condition.now)) kept.now.content.rows) }
+        (holds_on (formula condition.now.expr.now)) kept.now.content.rows) }
 {
     let segment = kept.segment()?;
     for row in 0..segment.rows() {
@@ -154,11 +160,11 @@ fn push_few_where<'a>(
 // none where more are held before the last row.
 fn few_rows_where<'a>(
     alloc: Global,
-    condition: &Expr,
+    condition: &Condition,
     set: &'a SegmentSet,
     most: usize,
 ) -> Result<Option<Vec<&'a [Value]>>, AnswerFault>
-    ensures { MayGive (λ held. rows_seen held.items) result (held_rows (Some (formula condition.now)) (rows_of_set set.now)) }
+    ensures { MayGive (λ held. rows_seen held.items) result (held_rows (Some (formula condition.now.expr.now)) (rows_of_set set.now)) }
 {
     let mut held = Vec::new(alloc);
     'segments: for (_, segment) in set.lives() {
@@ -190,7 +196,8 @@ fn few_table_rows<'a>(
     ensures { MayGive (λ kept. rows_seen kept.items) result (kept_of (Some (formula condition.now)) (rows_of_set set.now)) }
 {
     let most = row_count(set) / MANY_TIMES;
-    let found = few_rows_where(alloc, condition, set, most)?;
+    let condition = Condition::new(alloc, condition)?;
+    let found = few_rows_where(alloc, &condition, set, most)?;
     match found {
         None => Ok(None),
         Some(held) => {

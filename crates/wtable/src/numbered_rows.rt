@@ -18,7 +18,7 @@ ghost use Rattle.wtable.specs.Tables.{rows_of_set};
 use crate::kept_rows::{push_rows, push_where};
 use std::alloc::{AllocError, Global};
 use wplan::Expr;
-use wrows::{AnswerFault, not_too_many};
+use wrows::{AnswerFault, Condition, not_too_many};
 use wruns::RowRef;
 use wset::{Kept, SegmentSet};
 use wvalues::Value;
@@ -50,16 +50,18 @@ fn number_of(before: usize, with: usize) -> u32
 }
 
 // Appends a row, if a condition is true on it, and its number among those that are held.
+#[inline(always)]
 fn push_numbered<'a>(
     held: &mut Vec<&'a [Value]>,
     numbers: &mut Vec<u32>,
-    condition: &Expr,
+    condition: &Condition,
     row: &'a [Value],
 ) -> Result<(), AnswerFault>
-    ensures gives { Gives (λ u. u) result (unless (is_out_of_range (formula condition.now) (map meaning row.entry.now)) OutOfRange tt) }
-    ensures added { OnOk result (rows_seen held.new.items ≡ (if holds_on (formula condition.now) (map meaning row.entry.now)
+    ensures gives { Gives (λ u. u) result (unless (is_out_of_range (formula condition.now.expr.now) (map meaning row.entry.now))
+        OutOfRange tt) }
+    ensures added { OnOk result (rows_seen held.new.items ≡ (if holds_on (formula condition.now.expr.now) (map meaning row.entry.now)
         then rows_seen held.old.items ++ map meaning row.entry.now ∷ [] else rows_seen held.old.items)) }
-    ensures numbered { OnOk result (numbers.new.items ≡ numbers.old.items ++ numbers_kept (holds_on (formula condition.now))
+    ensures numbered { OnOk result (numbers.new.items ≡ numbers.old.items ++ numbers_kept (holds_on (formula condition.now.expr.now))
         (length held.old.items) (map meaning row.entry.now ∷ [])) }
 {
     let before = held.len();
@@ -72,14 +74,14 @@ fn push_numbered<'a>(
 fn push_rows_numbered<'a>(
     held: &mut Vec<&'a [Value]>,
     numbers: &mut Vec<u32>,
-    condition: &Expr,
+    condition: &Condition,
     kept: &'a Kept,
 ) -> Result<(), AnswerFault>
-    ensures gives { Gives (λ u. u) result (unless (list_any (is_out_of_range (formula condition.now)) kept.now.content.rows)
+    ensures gives { Gives (λ u. u) result (unless (list_any (is_out_of_range (formula condition.now.expr.now)) kept.now.content.rows)
         OutOfRange tt) }
     ensures added { OnOk result (rows_seen held.new.items ≡ rows_seen held.old.items ++ filter
-        (holds_on (formula condition.now)) kept.now.content.rows) }
-    ensures numbered { OnOk result (numbers.new.items ≡ numbers.old.items ++ numbers_kept (holds_on (formula condition.now))
+        (holds_on (formula condition.now.expr.now)) kept.now.content.rows) }
+    ensures numbered { OnOk result (numbers.new.items ≡ numbers.old.items ++ numbers_kept (holds_on (formula condition.now.expr.now))
         (length held.old.items) kept.now.content.rows) }
 {
     let segment = kept.segment()?;
@@ -93,12 +95,13 @@ fn push_rows_numbered<'a>(
 // The rows of all live segments on which a condition is true, with the number of each row of the table among them.
 fn rows_where<'a>(
     alloc: Global,
-    condition: &Expr,
+    condition: &Condition,
     set: &'a SegmentSet,
 ) -> Result<NumberedRows<'a>, AnswerFault>
-    ensures rows { Gives (λ kept. rows_seen kept.rows.items) result (held_rows (Some (formula condition.now)) (rows_of_set set.now)) }
+    ensures rows { Gives (λ kept. rows_seen kept.rows.items) result (held_rows (Some (formula condition.now.expr.now))
+        (rows_of_set set.now)) }
     ensures starts { IfOk result (λ kept. kept.starts.items ≡ starts_from 0 (live_rows set.now)) }
-    ensures numbers { IfOk result (λ kept. AreNumbers (Some (formula condition.now)) (rows_of_set set.now) kept.numbers) }
+    ensures numbers { IfOk result (λ kept. AreNumbers (Some (formula condition.now.expr.now)) (rows_of_set set.now) kept.numbers) }
     ensures fit { IfOk result (λ kept. length (rows_of_set set.now) < 2 ^ 64) }
 {
     let mut rows = Vec::new(alloc);
@@ -151,7 +154,10 @@ fn rows_held<'a>(
             let kept = all_rows(alloc, set)?;
             Ok(kept)
         }
-        Some(condition) => rows_where(alloc, condition, set),
+        Some(condition) => {
+            let condition = Condition::new(alloc, condition)?;
+            rows_where(alloc, &condition, set)
+        }
     }
 }
 

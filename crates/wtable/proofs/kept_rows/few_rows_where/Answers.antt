@@ -16,7 +16,7 @@ use Rattle.wtable.proofs.kept_rows.few_rows_where.Goals as goal
 
 pub segments-init : goal.segments-init
 segments-init c =
-    let t = formula c.args.condition.now in
+    let t = formula c.args.condition.now.expr.now in
     let all : flat_map (λ e. e.1.rows) c.lives-segment-items.result ≡ rows_of_set c.args.set.now =
     set_rows c.args.set.now c.lives-segment-items.result c.lives-segment-items.ensures in
     record {
@@ -29,7 +29,7 @@ segments-init c =
 pub returns-in_err-all : goal.returns-in_err-all
 returns-in_err-all c =
     let p = err_from_is_err_and c.from_residual.result c.from_residual.ensures.1 in
-    let t = formula c.args.condition.now in
+    let t = formula c.args.condition.now.expr.now in
     let all = rows_of_set c.args.set.now in
     let view : Vec (Bor (List Value)) Global → List Row = λ held. rows_seen held.items in
     rw (p.1, p.2) (refused view c.in_err-all.field-0.0 _ (list_any (is_out_of_range t) all) (filter (holds_on t) all)
@@ -38,7 +38,7 @@ returns-in_err-all c =
 
 pub segments-preserved : goal.segments-preserved
 segments-preserved c =
-    let t = formula c.args.condition.now in
+    let t = formula c.args.condition.now.expr.now in
     let all = rows_of_set c.args.set.now in
     record {
       in_range = in_range_left (is_out_of_range t) all _ _ _ c.in-Some.ensures.steps c.segments.invariant.in_range
@@ -50,7 +50,7 @@ segments-preserved c =
 
 pub returns : goal.returns
 returns c =
-    let t = formula c.args.condition.now in
+    let t = formula c.args.condition.now.expr.now in
     let all = rows_of_set c.args.set.now in
     let none : list_any (is_out_of_range t) all ≡ false = sym c.segments.invariant.in_range
     ∙ ap (λ l. list_any (is_out_of_range t) (flat_map (λ e. e.1.rows) l)) c.in-None.ensures.steps.0 in

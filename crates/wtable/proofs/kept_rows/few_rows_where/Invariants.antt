@@ -9,8 +9,8 @@ use Rattle.wtable.proofs.kept_rows.few_rows_where.Given as goal
 -- the rows of the segments that are left, beside those that are held
 abbrev pub invariant-segments : goal.invariant-segments
 invariant-segments l = record {
-  in_range : list_any (is_out_of_range (formula l.condition)) (flat_map (λ e. e.1.rows) l.segment-iterator)
-      ≡ list_any (is_out_of_range (formula l.condition)) (rows_of_set l.set);
-  so_far : rows_seen l.held.items ++ filter (holds_on (formula l.condition)) (flat_map (λ e. e.1.rows) l.segment-iterator)
-      ≡ filter (holds_on (formula l.condition)) (rows_of_set l.set);
+  in_range : list_any (is_out_of_range (formula l.condition.expr.now)) (flat_map (λ e. e.1.rows) l.segment-iterator)
+      ≡ list_any (is_out_of_range (formula l.condition.expr.now)) (rows_of_set l.set);
+  so_far : rows_seen l.held.items ++ filter (holds_on (formula l.condition.expr.now)) (flat_map (λ e. e.1.rows) l.segment-iterator)
+      ≡ filter (holds_on (formula l.condition.expr.now)) (rows_of_set l.set);
 }

@@ -14,7 +14,7 @@ use Rattle.wtable.proofs.kept_rows.push_few_where.Goals as goal
 pub returns-in_err-push_where-clause-gives : goal.returns-in_err-push_where-clause-gives
 returns-in_err-push_where-clause-gives c =
     let p = err_from_is_err_and c.from_residual-in_err-push_where.result c.from_residual-in_err-push_where.ensures.1 in
-    let t = formula c.args.condition.now in
+    let t = formula c.args.condition.now.expr.now in
     let stored = c.in_ok-segment.segment.now.rows in
     let within : c.loop-row.row < length stored = omega (arith, c.loop-row-test.true, c.rows-row-end.ensures.count) in
     rw (p.1, p.2, ← c.in_ok-segment.ensures) (refused (λ u. u) c.in_err-push_where.field-0.0 _
@@ -23,7 +23,7 @@ returns-in_err-push_where-clause-gives c =
 
 pub loop-row-preserved : goal.loop-row-preserved
 loop-row-preserved c =
-    let t = formula c.args.condition.now in
+    let t = formula c.args.condition.now.expr.now in
     let stored = c.in_ok-segment.segment.now.rows in
     let within : c.loop-row.row < length stored = omega (arith, c.loop-row-test.true, c.rows-row-end.ensures.count) in
     record {
@@ -35,7 +35,7 @@ loop-row-preserved c =
 
 pub returns-clause-gives : goal.returns-clause-gives
 returns-clause-gives c =
-    let t = formula c.args.condition.now in
+    let t = formula c.args.condition.now.expr.now in
     let stored = c.in_ok-segment.segment.now.rows in
     let all : take c.loop-row.row stored ≡ stored =
     take_all c.loop-row.row stored (omega (arith, c.loop-row-test.false, c.rows-row-end.ensures.count)) in
@@ -44,7 +44,7 @@ returns-clause-gives c =
 
 pub returns-clause-added : goal.returns-clause-added
 returns-clause-added c =
-    let t = formula c.args.condition.now in
+    let t = formula c.args.condition.now.expr.now in
     let stored = c.in_ok-segment.segment.now.rows in
     let all : take c.loop-row.row stored ≡ stored =
     take_all c.loop-row.row stored (omega (arith, c.loop-row-test.false, c.rows-row-end.ensures.count)) in

@@ -7,6 +7,7 @@ use Rattle.wtable.proofs.kept_rows.push_rows_where.Given as goal
 
 abbrev pub invariant-loop-row : goal.invariant-loop-row
 invariant-loop-row l = record {
-  in_range : list_any (is_out_of_range (formula l.condition)) (take l.row l.segment.rows) ≡ false;
-  so_far : rows_seen l.held.items ≡ rows_seen l.fn.held.items ++ filter (holds_on (formula l.condition)) (take l.row l.segment.rows);
+  in_range : list_any (is_out_of_range (formula l.condition.expr.now)) (take l.row l.segment.rows) ≡ false;
+  so_far : rows_seen l.held.items ≡ rows_seen l.fn.held.items ++ filter (holds_on (formula l.condition.expr.now))
+      (take l.row l.segment.rows);
 }

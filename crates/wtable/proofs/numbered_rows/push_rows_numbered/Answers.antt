@@ -17,7 +17,7 @@ use Rattle.wtable.proofs.numbered_rows.push_rows_numbered.Goals as goal
 pub returns-in_err-push_numbered-clause-gives : goal.returns-in_err-push_numbered-clause-gives
 returns-in_err-push_numbered-clause-gives c =
     let p = err_from_is_err_and c.from_residual-in_err-push_numbered.result c.from_residual-in_err-push_numbered.ensures.1 in
-    let t = formula c.args.condition.now in
+    let t = formula c.args.condition.now.expr.now in
     let stored = c.in_ok-segment.segment.now.rows in
     let within : c.loop-row.row < length stored = omega (arith, c.loop-row-test.true, c.rows-row-end.ensures.count) in
     rw (p.1, p.2, ← c.in_ok-segment.ensures) (refused (λ u. u) c.in_err-push_numbered.field-0.0 _
@@ -26,7 +26,7 @@ returns-in_err-push_numbered-clause-gives c =
 
 pub loop-row-preserved : goal.loop-row-preserved
 loop-row-preserved c =
-    let t = formula c.args.condition.now in
+    let t = formula c.args.condition.now.expr.now in
     let stored = c.in_ok-segment.segment.now.rows in
     let i = c.loop-row.row in
     let within : i < length stored = omega (arith, c.loop-row-test.true, c.rows-row-end.ensures.count) in
@@ -46,7 +46,7 @@ loop-row-preserved c =
 
 pub returns-clause-gives : goal.returns-clause-gives
 returns-clause-gives c =
-    let t = formula c.args.condition.now in
+    let t = formula c.args.condition.now.expr.now in
     let stored = c.in_ok-segment.segment.now.rows in
     let all : take c.loop-row.row stored ≡ stored =
     take_all c.loop-row.row stored (omega (arith, c.loop-row-test.false, c.rows-row-end.ensures.count)) in
@@ -55,7 +55,7 @@ returns-clause-gives c =
 
 pub returns-clause-added : goal.returns-clause-added
 returns-clause-added c =
-    let t = formula c.args.condition.now in
+    let t = formula c.args.condition.now.expr.now in
     let stored = c.in_ok-segment.segment.now.rows in
     let all : take c.loop-row.row stored ≡ stored =
     take_all c.loop-row.row stored (omega (arith, c.loop-row-test.false, c.rows-row-end.ensures.count)) in
@@ -63,7 +63,7 @@ returns-clause-added c =
 
 pub returns-clause-numbered : goal.returns-clause-numbered
 returns-clause-numbered c =
-    let t = formula c.args.condition.now in
+    let t = formula c.args.condition.now.expr.now in
     let stored = c.in_ok-segment.segment.now.rows in
     let all : take c.loop-row.row stored ≡ stored =
     take_all c.loop-row.row stored (omega (arith, c.loop-row-test.false, c.rows-row-end.ensures.count)) in

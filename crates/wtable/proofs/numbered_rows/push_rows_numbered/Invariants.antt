@@ -8,8 +8,9 @@ use Rattle.wtable.proofs.numbered_rows.push_rows_numbered.Given as goal
 
 abbrev pub invariant-loop-row : goal.invariant-loop-row
 invariant-loop-row l = record {
-  in_range : list_any (is_out_of_range (formula l.condition)) (take l.row l.segment.rows) ≡ false;
-  so_far : rows_seen l.held.items ≡ rows_seen l.fn.held.items ++ filter (holds_on (formula l.condition)) (take l.row l.segment.rows);
-  numbered : l.numbers.items ≡ l.fn.numbers.items ++ numbers_kept (holds_on (formula l.condition)) (length l.fn.held.items)
+  in_range : list_any (is_out_of_range (formula l.condition.expr.now)) (take l.row l.segment.rows) ≡ false;
+  so_far : rows_seen l.held.items ≡ rows_seen l.fn.held.items ++ filter (holds_on (formula l.condition.expr.now))
+      (take l.row l.segment.rows);
+  numbered : l.numbers.items ≡ l.fn.numbers.items ++ numbers_kept (holds_on (formula l.condition.expr.now)) (length l.fn.held.items)
       (take l.row l.segment.rows);
 }

@@ -20,7 +20,7 @@ use Rattle.wtable.proofs.numbered_rows.rows_where.Goals as goal
 
 pub segments-init : goal.segments-init
 segments-init c =
-    let t = formula c.args.condition.now in
+    let t = formula c.args.condition.now.expr.now in
     let all : flat_map (λ e. e.1.rows) c.lives-segment-items.result ≡ rows_of_set c.args.set.now =
     set_rows c.args.set.now c.lives-segment-items.result c.lives-segment-items.ensures in
     record {
@@ -39,7 +39,7 @@ segments-init c =
 pub returns-in_err-push_rows_numbered-clause-rows : goal.returns-in_err-push_rows_numbered-clause-rows
 returns-in_err-push_rows_numbered-clause-rows c =
     let p = err_from_is_err_and c.from_residual-in_err-push_rows_numbered.result c.from_residual-in_err-push_rows_numbered.ensures.1 in
-    let t = formula c.args.condition.now in
+    let t = formula c.args.condition.now.expr.now in
     let all = rows_of_set c.args.set.now in
     let view : NumberedRows → List Row = λ kept. rows_seen kept.rows.items in
     rw (p.1, p.2) (refused view c.in_err-push_rows_numbered.field-0.0 _ (list_any (is_out_of_range t) all)
@@ -48,7 +48,7 @@ returns-in_err-push_rows_numbered-clause-rows c =
 
 pub segments-preserved : goal.segments-preserved
 segments-preserved c =
-    let t = formula c.args.condition.now in
+    let t = formula c.args.condition.now.expr.now in
     let all = rows_of_set c.args.set.now in
     let before = c.segments.rows.items in
     let after = c.push_rows_numbered.new.held.items in
@@ -71,7 +71,7 @@ segments-preserved c =
 
 pub returns-clause-rows : goal.returns-clause-rows
 returns-clause-rows c =
-    let t = formula c.args.condition.now in
+    let t = formula c.args.condition.now.expr.now in
     let all = rows_of_set c.args.set.now in
     let none : list_any (is_out_of_range t) all ≡ false = sym c.segments.invariant.in_range
     ∙ ap (λ l. list_any (is_out_of_range t) (flat_map (λ e. e.1.rows) l)) c.in-None.ensures.steps.0 in
@@ -88,7 +88,7 @@ returns-clause-starts c =
 
 pub returns-clause-numbers : goal.returns-clause-numbers
 returns-clause-numbers c =
-    let t = formula c.args.condition.now in
+    let t = formula c.args.condition.now.expr.now in
     sym (append-nil c.segments.numbers.items) ∙ ap (λ l. c.segments.numbers.items ++ numbers_kept (holds_on t)
     (length c.segments.rows.items) (flat_map (λ e. e.1.rows) l)) (sym c.in-None.ensures.steps.0) ∙ c.segments.invariant.numbers
 
@@ -101,5 +101,5 @@ returns-clause-fit c =
       numbers.ok.0,
       numbers.ok.1,
       ap length (returns-clause-numbers c),
-      numbers_long (holds_on (formula c.args.condition.now)) 0 (rows_of_set c.args.set.now),
+      numbers_long (holds_on (formula c.args.condition.now.expr.now)) 0 (rows_of_set c.args.set.now),
     )

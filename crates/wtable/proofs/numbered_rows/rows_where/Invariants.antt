@@ -11,12 +11,12 @@ use Rattle.wtable.proofs.numbered_rows.rows_where.Given as goal
 -- the rows of the segments that are left, beside those that are held
 abbrev pub invariant-segments : goal.invariant-segments
 invariant-segments l = record {
-  in_range : list_any (is_out_of_range (formula l.condition)) (flat_map (λ e. e.1.rows) l.segment-iterator)
-      ≡ list_any (is_out_of_range (formula l.condition)) (rows_of_set l.set);
-  so_far : rows_seen l.rows.items ++ filter (holds_on (formula l.condition)) (flat_map (λ e. e.1.rows) l.segment-iterator)
-      ≡ filter (holds_on (formula l.condition)) (rows_of_set l.set);
-  numbers : l.numbers.items ++ numbers_kept (holds_on (formula l.condition)) (length l.rows.items)
-      (flat_map (λ e. e.1.rows) l.segment-iterator) ≡ numbers_kept (holds_on (formula l.condition)) 0 (rows_of_set l.set);
+  in_range : list_any (is_out_of_range (formula l.condition.expr.now)) (flat_map (λ e. e.1.rows) l.segment-iterator)
+      ≡ list_any (is_out_of_range (formula l.condition.expr.now)) (rows_of_set l.set);
+  so_far : rows_seen l.rows.items ++ filter (holds_on (formula l.condition.expr.now)) (flat_map (λ e. e.1.rows) l.segment-iterator)
+      ≡ filter (holds_on (formula l.condition.expr.now)) (rows_of_set l.set);
+  numbers : l.numbers.items ++ numbers_kept (holds_on (formula l.condition.expr.now)) (length l.rows.items)
+      (flat_map (λ e. e.1.rows) l.segment-iterator) ≡ numbers_kept (holds_on (formula l.condition.expr.now)) 0 (rows_of_set l.set);
   starts : l.starts.items ++ starts_from (length l.numbers.items) (map (λ e. e.1.rows) l.segment-iterator)
       ≡ starts_from 0 (live_rows l.set);
 }

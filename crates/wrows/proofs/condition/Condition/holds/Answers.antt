@@ -1,0 +1,9 @@
+use Rattle.std.proofs.Common.{map}
+use Rattle.wvalues.specs.Meaning.{meaning}
+use Rattle.wplan.specs.Formula.{formula}
+use Rattle.wrows.proofs.TestFacts.{decided}
+use Rattle.wrows.proofs.condition.Condition.holds.Goals as goal
+
+pub returns-in-Some : goal.returns-in-Some
+returns-in-Some c = decided c.in-Some.tests.tests.items (formula c.args.self.now.expr.now) (map meaning c.args.row.now)
+    c.pass.result (c.args.self.now.decide c.in-Some.tests c.in-Some.is) c.pass.ensures
