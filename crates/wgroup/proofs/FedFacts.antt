@@ -1,5 +1,5 @@
 -- What an aggregate comes to by the values that feed it.
-use Rattle.std.proofs.Common.{◌≡◌, ◌⊎◌, inl, inr, Bool, List, Option, Result, Ok, Err, map, refl, sym, ap, ◌∙◌}
+use Rattle.std.proofs.Common.{◌≡◌, inl, inr, Bool, List, Option, Result, Ok, Err, map, refl, sym, ap, ◌∙◌}
 use Rattle.std.specs.List.{flat_map}
 use Rattle.wvalues.specs.Meaning.{Meaning, Null}
 use Rattle.wplan.specs.Formula.{Constant}

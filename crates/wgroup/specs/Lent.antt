@@ -1,7 +1,9 @@
 -- A plain column of rows, lent, and what feeds an aggregate.
-use Rattle.std.specs.Prelude.{◌≡◌, ◌⊎◌, ℕ, ◌<◌, List, Ok, Option, Result, length, slice_index_or}
+use Rattle.std.specs.Prelude.{◌≡◌, ◌⊎◌, ℕ, ◌<◌, Bool, List, Ok, Option, Result, length, option_map, slice_index_or}
 use Rattle.std.specs.Option.{ForSome}
 use Rattle.std.specs.Borrow.{Bor}
+use Rattle.std.specs.declared.alloc.Global.{Global}
+use Rattle.std.specs.declared.vec.Vec.{Vec}
 use Rattle.wvalues.specs.declared.value.Value.{Value}
 use Rattle.wvalues.specs.Meaning.{Meaning, Null}
 use Rattle.wframe.specs.Cells.{meanings}
@@ -11,7 +13,7 @@ use Rattle.wplan.specs.declared.resolved.AggregateFunction.TheVariants.{CountRow
 use Rattle.wrows.specs.declared.fault.AnswerFault.{AnswerFault}
 use Rattle.wrows.specs.Columns.{Row, column_of}
 use Rattle.wrows.specs.Laid.{rows_seen}
-use Rattle.waggregate.specs.Feeding.{fed_by}
+use Rattle.waggregate.specs.Aggregating.{Feed}
 use Rattle.waggregate.specs.Summaries.{AreSummaries}
 use Rattle.waggregate.specs.declared.summaries.Summaries.{Summaries}
 use Rattle.wgroup.specs.declared.found.Groups as memory
@@ -39,9 +41,13 @@ pub record IsLent (rows : List (Bor (List Value))) (sets : List memory.Groups) (
 abbrev pub Feeds : AggregatePlan → List Row → List Meaning → Type 0
 Feeds a rows values = (column_of a.argument rows ≡ Ok values) ⊎ ((a.function ≡ CountRows) × (a.argument ≡ Constant Null))
 
+-- what values that are lent feed, and whether the filter is true on each row, if there is one
+abbrev pub lent_feed : List (Bor Value) → Option (Vec Bool Global) → Feed
+lent_feed values filter = record { values = meanings values; filter = option_map (λ tests. tests.items) filter }
+
 -- what an aggregate that is fed so comes to on each group of a set
 abbrev pub fed_answers : FedAggregate → memory.Groups → List (Option Meaning)
-fed_answers fed = set_answers fed.function (fed_by fed.values.now fed.filter)
+fed_answers fed = set_answers fed.function (lent_feed fed.values.now fed.filter)
 
 -- what a call answers for each group of rows
 abbrev pub column_on : GroupedRows → GroupCallPlan → Result (List Meaning) AnswerFault

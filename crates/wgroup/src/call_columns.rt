@@ -4,7 +4,6 @@ ghost use Rattle.std.specs.Option.{ForSome};
 ghost use Rattle.std.specs.List.{flat_map};
 ghost use Rattle.wvalues.specs.Meaning.{Null, meaning};
 ghost use Rattle.wplan.specs.Plans.{GroupAggregate, aggregate_plan, group_call_plan};
-ghost use Rattle.waggregate.specs.Feeding.{fed_by};
 ghost use Rattle.wrows.specs.Columns.{in_range};
 ghost use Rattle.wframe.specs.Cells.{meanings};
 ghost use Rattle.wplan.specs.Formula.{Constant, formula};
@@ -14,7 +13,7 @@ ghost use Rattle.wgroupby.specs.Sets.{grouping_of};
 ghost use Rattle.wgroup.specs.Grouping.{grouping_answer};
 ghost use Rattle.waggregate.specs.Aggregating as aggregating;
 ghost use Rattle.wgroup.specs.Finer.{AreAnswered, AreMade, IsMade, IsMadeOf, function_of_parts};
-ghost use Rattle.wgroup.specs.Lent.{AreKnown, Feeds, IsKnown, IsLent, column_on, fed_answers};
+ghost use Rattle.wgroup.specs.Lent.{AreKnown, column_on, fed_answers, Feeds, IsKnown, IsLent, lent_feed};
 ghost use Rattle.wgroup.specs.Held.{all_groups, column_over, columns_in, set_answers, set_grouping};
 
 use crate::fed::{FedAggregate, GroupedRows};
@@ -84,7 +83,7 @@ fn made_answers(
     groups: &Groups,
 ) -> Result<Vec<Value>, AnswerFault>
     requires made { IsMade (take (length answered.now) sets.now) groups.now }
-    requires answered { AreAnswered fed.now.function (fed_by fed.now.values.now fed.now.filter) sets.now answered.now }
+    requires answered { AreAnswered fed.now.function (lent_feed fed.now.values.now fed.now.filter) sets.now answered.now }
     requires len { length groups.now.numbers.value.items ≡ length fed.now.values.now }
     ensures gives { Gives (λ column. map meaning column.items) result (in_range (fed_answers fed.now groups.now)) }
     ensures len { IfOk result (λ column. length column.items ≡ length groups.now.order.items) }
@@ -117,7 +116,7 @@ fn group_answers(
     groups: &Groups,
 ) -> Result<Vec<Value>, AnswerFault>
     requires made { IsMade (take (length answered.now) sets.now) groups.now }
-    requires answered { AreAnswered fed.now.function (fed_by fed.now.values.now fed.now.filter) sets.now answered.now }
+    requires answered { AreAnswered fed.now.function (lent_feed fed.now.values.now fed.now.filter) sets.now answered.now }
     requires known { IsKnown (meanings fed.now.values.now) fed.now.summaries.now (length answered.now) groups.now }
     requires len { length groups.now.numbers.value.items ≡ length fed.now.values.now }
     ensures gives { Gives (λ column. map meaning column.items) result (in_range (fed_answers fed.now groups.now)) }

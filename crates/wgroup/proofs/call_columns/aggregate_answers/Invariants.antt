@@ -1,11 +1,10 @@
 use Rattle.std.proofs.Common.{◌≡◌, ◌+◌, map, drop, length}
 use Rattle.std.specs.List.{flat_map}
-use Rattle.waggregate.specs.Feeding.{fed_by}
 use Rattle.wvalues.specs.Meaning.{meaning}
 use Rattle.wrows.specs.Columns.{in_range}
 use Rattle.wgroup.specs.Finer.{AreAnswered}
 use Rattle.wgroup.specs.Held.{all_groups}
-use Rattle.wgroup.specs.Lent.{fed_answers}
+use Rattle.wgroup.specs.Lent.{fed_answers, lent_feed}
 use Rattle.wgroup.proofs.ColumnFacts.{answers_behind}
 use Rattle.wgroup.proofs.call_columns.aggregate_answers.Given as goal
 
@@ -15,7 +14,7 @@ invariant-loop-groups l =
     record {
       so_far : in_range (flat_map (fed_answers l.fed) l.sets) ≡ answers_behind (fed_answers l.fed)
           column (drop l.groups-index l.sets);
-      known : AreAnswered l.fed.function (fed_by l.fed.values.now l.fed.filter) l.sets l.answered.items;
+      known : AreAnswered l.fed.function (lent_feed l.fed.values.now l.fed.filter) l.sets l.answered.items;
       as_many : length l.answered.items ≡ l.groups-index;
       len : length column + length (all_groups (drop l.groups-index l.sets)) ≡ length (all_groups l.sets);
     }
