@@ -169,6 +169,11 @@ pub record IsNext (all : Partitioned) (order : List ℕ) (number : ℕ) (b : Bat
   pub partitions : b.partitions.now ≡ all
   pub rows : b.rows.now ≡ slice_range order (span_at all.spans number).from (span_at all.spans (b.numbers.to - 1)).to
 
+pub is_next : (all : Partitioned) (order : List ℕ) (number : ℕ) (b : Batch) → b.numbers.from ≡ number → b.partitions.now ≡ all
+    → b.rows.now ≡ slice_range order (span_at all.spans number).from (span_at all.spans (b.numbers.to - 1)).to
+    → IsNext all order number b
+is_next all order number b from partitions rows = record { from = from; partitions = partitions; rows = rows }
+
 module _ (all : Partitioned) (rows : List ℕ) (tiles : Tiles 0 all.spans (length all.keys)) (from : ℕ) (b : Batch)
     (next : IsNext all rows from b) where
   pub is_some : from < b.numbers.to

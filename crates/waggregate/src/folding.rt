@@ -5,6 +5,7 @@ ghost use Rattle.std.specs.Option.{ForSome};
 ghost use Rattle.wvalues.specs.Meaning.{Int, Meaning, Null, meaning};
 ghost use Rattle.wframe.specs.Cells.{meanings};
 ghost use Rattle.wframe.specs.Places.{Tiles};
+ghost use Rattle.wslide.specs.Aggregates.{tests};
 ghost use Rattle.wslide.specs.Frames.{folds_of_spans, most_by_queues};
 ghost use Rattle.wslide.specs.Leasts.{IsPlace};
 ghost use Rattle.wrows.specs.Outcomes.{Gives};
@@ -86,6 +87,24 @@ impl<'a> ToldFold for Extreme<'a> {
 
     fn value(&self, part: Option<usize>) -> Result<Value, AnswerFault> {
         value_at(self.values, part)
+    }
+}
+
+/// The fold that finds the greatest of some values, or else the least, of the rows whose filter is true, or of all.
+pub(crate) fn extreme<'a>(
+    values: &'a [&'a Value],
+    filter: Option<&'a [bool]>,
+    greatest: bool,
+) -> Extreme<'a>
+    requires { ForSome filter (λ tests. length tests.now ≡ length values.now) }
+    ensures values { result.values.now ≡ values.now }
+    ensures filter { tests result.filter ≡ tests filter.entry }
+    ensures greatest { result.greatest ≡ greatest }
+{
+    Extreme {
+        values,
+        filter,
+        greatest,
     }
 }
 
@@ -245,11 +264,8 @@ fn put_fed(
     let mut meter = Meter::new();
     match function {
         AggregateFunction::CountRows => {
-            let count = values.len();
-            let fold = CountRows {
-                rows: count,
-                filter,
-            };
+            let rows = values.len();
+            let fold = CountRows { rows, filter };
             put_folds(alloc, &fold, batch, &mut meter, column, tally)
         }
         AggregateFunction::Count => {
@@ -262,19 +278,11 @@ fn put_fed(
             put_folds(alloc, &fold, batch, &mut meter, column, tally)
         }
         AggregateFunction::Min => {
-            let fold = Extreme {
-                values,
-                filter,
-                greatest: false,
-            };
+            let fold = extreme(values, filter, false);
             put_folds(alloc, &fold, batch, &mut meter, column, tally)
         }
         AggregateFunction::Max => {
-            let fold = Extreme {
-                values,
-                filter,
-                greatest: true,
-            };
+            let fold = extreme(values, filter, true);
             put_folds(alloc, &fold, batch, &mut meter, column, tally)
         }
     }
@@ -306,8 +314,8 @@ fn put_batch(
 
 /// Puts what an aggregate comes to over the frame of each row of a window at the number of the row, where `fed` is what the rows
 /// feed, and `rows` has their numbers in the window's order. It is `OutOfRange` where a result is so. The tally rises by the joins
-/// that it takes. What the rows of some partitions feed is copied in the window's order, and then that of the next ones, so that a
-/// cache holds it while it is folded.
+/// that it takes, which are at most three for each row, eight where the frame clause excludes rows. What the rows of some partitions
+/// feed is copied in the window's order, and then that of the next ones, so that a cache holds it while it is folded.
 pub fn put_frame_aggregates<'a>(
     alloc: Global,
     function: AggregateFunction,

@@ -12,14 +12,14 @@ ghost use Rattle.waggregate.specs.Aggregating as aggregating;
 ghost use Rattle.waggregate.specs.Aggregating.{aggregate_of};
 ghost use Rattle.waggregate.specs.Grouped.{rows_of_group};
 
-use crate::folding::{ToldFold, push_values};
+use crate::folding::{ToldFold, extreme, push_values};
 use crate::picking::lent;
 use std::alloc::{AllocError, Global};
 use wframe::stable_sorts_agree;
 use wplan::AggregateFunction;
 use wrows::AnswerFault;
 use wslide::{
-    Count, CountRows, Extreme, Fold, Meter, Sum, counts_are_exact, places_are_least, see_ranges,
+    Count, CountRows, Fold, Meter, Sum, counts_are_exact, places_are_least, see_ranges,
     sums_are_exact,
 };
 use wvalues::Value;
@@ -171,19 +171,11 @@ pub fn aggregate_groups(
             fold_groups(alloc, &fold, &mut meter, groups, count, order)
         }
         AggregateFunction::Min => {
-            let fold = Extreme {
-                values,
-                filter,
-                greatest: false,
-            };
+            let fold = extreme(values, filter, false);
             fold_groups(alloc, &fold, &mut meter, groups, count, order)
         }
         AggregateFunction::Max => {
-            let fold = Extreme {
-                values,
-                filter,
-                greatest: true,
-            };
+            let fold = extreme(values, filter, true);
             fold_groups(alloc, &fold, &mut meter, groups, count, order)
         }
     }

@@ -1,11 +1,14 @@
-use Rattle.std.proofs.Common.{subst, sym, refl, ap, ◌∙◌}
+use Rattle.std.proofs.Common.{Some, subst, sym, ap, ◌∙◌}
 use Rattle.wframe.specs.Cells.{meanings}
-use Rattle.wslide.specs.Aggregates.{by_value, by_value_descending, tests}
-use Rattle.wslide.specs.Lawful.{by_value_total, by_value_descending_total}
+use Rattle.wframe.specs.Sorting.{sorted}
+use Rattle.wslide.specs.Aggregates.{by_value_in, tests}
+use Rattle.wslide.specs.Lawful.{by_value_in_total}
 use Rattle.wplan.specs.declared.resolved.AggregateFunction.TheVariants.{Min, Max}
+use Rattle.waggregate.specs.Aggregating.{fed_values, first_or_null}
 use Rattle.waggregate.specs.Batches.{batch_spans, batch_start}
 use Rattle.waggregate.specs.FrameAnswers.{Puts, batch_answers}
 use Rattle.waggregate.proofs.BatchFacts.{batch_inside}
+use Rattle.waggregate.proofs.FrameFacts.{LeastLaw}
 use Rattle.waggregate.proofs.PickedFacts.{row_counts_alike, value_counts_alike, sums_alike, firsts_alike}
 use Rattle.waggregate.proofs.folding.put_fed.Goals as goal
 
@@ -50,12 +53,15 @@ pub returns-in-Min-clause-answers : goal.returns-in-Min-clause-answers
 returns-in-Min-clause-answers c feed of =
     let b = c.args.batch.now in
     let all = b.partitions.now in
+    let fold = c.extreme-fold.result in
+    let is = c.extreme-fold.ensures in
     subst (λ results. Puts results b.rows.now c.put_folds-in-Min.result c.args.column.now c.put_folds-in-Min.new.column)
     (firsts_alike all (batch_start b) (batch_spans b) feed b.rows.now (batch_inside b c.requires.tiles) c.requires.few
-    c.frames_are_rows.ensures.below c.frames_are_rows.ensures.few (meanings c.args.values.now) (tests c.lent-filter.result)
-    of.picked (c.lent-filter.ensures.value ∙ of.tested)
-    c.picked_rows_feed_alike.ensures.feed c.stable_sorts_agree.ensures.first by_value by_value_total
-    c.places_are_least.ensures.least Min (λ rs. refl)
+    c.frames_are_rows.ensures.below c.frames_are_rows.ensures.few (meanings fold.values.now) (tests fold.filter)
+    (ap meanings is.values ∙ of.picked) (is.filter ∙ c.lent-filter.ensures.value ∙ of.tested)
+    c.picked_rows_feed_alike.ensures.feed c.stable_sorts_agree.ensures.first (by_value_in fold.greatest)
+    (by_value_in_total fold.greatest) (subst (λ d. LeastLaw (by_value_in d)) (sym is.greatest) c.places_are_least.ensures.least)
+    Min (λ rs. ap (λ d. Some (first_or_null (sorted (by_value_in d) (fed_values feed rs)))) is.greatest)
     ∙ ap (λ f. batch_answers f feed all (batch_start b) (batch_spans b) b.rows.now) (sym c.in-Min.is))
     c.put_folds-in-Min.ensures.answers
 
@@ -63,11 +69,14 @@ pub returns-in-Max-clause-answers : goal.returns-in-Max-clause-answers
 returns-in-Max-clause-answers c feed of =
     let b = c.args.batch.now in
     let all = b.partitions.now in
+    let fold = c.extreme-fold-in-Max.result in
+    let is = c.extreme-fold-in-Max.ensures in
     subst (λ results. Puts results b.rows.now c.put_folds-in-Max.result c.args.column.now c.put_folds-in-Max.new.column)
     (firsts_alike all (batch_start b) (batch_spans b) feed b.rows.now (batch_inside b c.requires.tiles) c.requires.few
-    c.frames_are_rows.ensures.below c.frames_are_rows.ensures.few (meanings c.args.values.now) (tests c.lent-filter.result)
-    of.picked (c.lent-filter.ensures.value ∙ of.tested)
-    c.picked_rows_feed_alike.ensures.feed c.stable_sorts_agree.ensures.first by_value_descending by_value_descending_total
-    c.places_are_least.ensures.greatest Max (λ rs. refl)
+    c.frames_are_rows.ensures.below c.frames_are_rows.ensures.few (meanings fold.values.now) (tests fold.filter)
+    (ap meanings is.values ∙ of.picked) (is.filter ∙ c.lent-filter.ensures.value ∙ of.tested)
+    c.picked_rows_feed_alike.ensures.feed c.stable_sorts_agree.ensures.first (by_value_in fold.greatest)
+    (by_value_in_total fold.greatest) (subst (λ d. LeastLaw (by_value_in d)) (sym is.greatest) c.places_are_least.ensures.greatest)
+    Max (λ rs. ap (λ d. Some (first_or_null (sorted (by_value_in d) (fed_values feed rs)))) is.greatest)
     ∙ ap (λ f. batch_answers f feed all (batch_start b) (batch_spans b) b.rows.now) (sym c.in-Max.is))
     c.put_folds-in-Max.ensures.answers

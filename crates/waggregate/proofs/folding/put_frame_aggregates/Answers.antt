@@ -13,7 +13,7 @@ use Rattle.waggregate.specs.Feeding.{fed_by, rows_of}
 use Rattle.waggregate.specs.FrameAnswers.{batch_answers, values_or_null, window_answers}
 use Rattle.waggregate.specs.Put.{put_all}
 use Rattle.waggregate.proofs.BatchFacts.{reached_within}
-use Rattle.waggregate.proofs.NextBatch.{IsNext, all_next, answers_in, any_of_batch, few_next, in_range_more, is_some, is_within}
+use Rattle.waggregate.proofs.NextBatch.{all_next, answers_in, any_of_batch, few_next, in_range_more, is_next, is_some, is_within}
 use Rattle.waggregate.proofs.NextBatch.{joins_next, no_fault, put_more, puts_next}
 use Rattle.waggregate.proofs.PutFacts.{none_put, put_long}
 use Rattle.waggregate.proofs.folding.put_frame_aggregates.Goals as goal
@@ -24,11 +24,8 @@ put_batch-requires-clause-few c =
     let rows = c.args.rows.now in
     let done = c.loop-done.done in
     let b = c.batch_from-batch.result in
-    let next : IsNext all rows done b = record {
-      from = c.batch_from-batch.ensures.from;
-      partitions = c.batch_from-batch.ensures.partitions;
-      rows = c.batch_from-batch.ensures.rows;
-    } in
+    let next = is_next all rows done b c.batch_from-batch.ensures.from c.batch_from-batch.ensures.partitions
+    c.batch_from-batch.ensures.rows in
     let tiles = c.count-count.ensures.tiles in
     omega (arith, few_next all rows tiles done b next, c.requires.few)
 
@@ -38,11 +35,8 @@ put_batch-requires-clause-fed c =
     let rows = c.args.rows.now in
     let done = c.loop-done.done in
     let b = c.batch_from-batch.result in
-    let next : IsNext all rows done b = record {
-      from = c.batch_from-batch.ensures.from;
-      partitions = c.batch_from-batch.ensures.partitions;
-      rows = c.batch_from-batch.ensures.rows;
-    } in
+    let next = is_next all rows done b c.batch_from-batch.ensures.from c.batch_from-batch.ensures.partitions
+    c.batch_from-batch.ensures.rows in
     let tiles = c.count-count.ensures.tiles in
     all_next all rows tiles done b next (λ i. i < rows_of c.args.fed.now.argument) c.requires.fed
 
@@ -52,11 +46,8 @@ put_batch-requires-clause-below c =
     let rows = c.args.rows.now in
     let done = c.loop-done.done in
     let b = c.batch_from-batch.result in
-    let next : IsNext all rows done b = record {
-      from = c.batch_from-batch.ensures.from;
-      partitions = c.batch_from-batch.ensures.partitions;
-      rows = c.batch_from-batch.ensures.rows;
-    } in
+    let next = is_next all rows done b c.batch_from-batch.ensures.from c.batch_from-batch.ensures.partitions
+    c.batch_from-batch.ensures.rows in
     let tiles = c.count-count.ensures.tiles in
     subst (λ n. All (λ i. i < n) b.rows.now) (sym c.loop-done.invariant.long)
     (all_next all rows tiles done b next (λ i. i < length c.args.column.now) c.requires.below)
@@ -68,11 +59,8 @@ returns-in_err-put_batch-clause-answers c =
     let rows = c.args.rows.now in
     let done = c.loop-done.done in
     let b = c.batch_from-batch.result in
-    let next : IsNext all rows done b = record {
-      from = c.batch_from-batch.ensures.from;
-      partitions = c.batch_from-batch.ensures.partitions;
-      rows = c.batch_from-batch.ensures.rows;
-    } in
+    let next = is_next all rows done b c.batch_from-batch.ensures.from c.batch_from-batch.ensures.partitions
+    c.batch_from-batch.ensures.rows in
     let tiles = c.count-count.ensures.tiles in
     let to = b.numbers.to in
     let function = c.args.function in
@@ -96,11 +84,8 @@ returns-in_err-put_batch-clause-joins c =
     let rows = c.args.rows.now in
     let done = c.loop-done.done in
     let b = c.batch_from-batch.result in
-    let next : IsNext all rows done b = record {
-      from = c.batch_from-batch.ensures.from;
-      partitions = c.batch_from-batch.ensures.partitions;
-      rows = c.batch_from-batch.ensures.rows;
-    } in
+    let next = is_next all rows done b c.batch_from-batch.ensures.from c.batch_from-batch.ensures.partitions
+    c.batch_from-batch.ensures.rows in
     let tiles = c.count-count.ensures.tiles in
     let function = c.args.function in
     let feed = fed_by c.args.fed.now.argument c.args.fed.now.filter.now in
@@ -116,11 +101,8 @@ loop-done-preserved c =
     let rows = c.args.rows.now in
     let done = c.loop-done.done in
     let b = c.batch_from-batch.result in
-    let next : IsNext all rows done b = record {
-      from = c.batch_from-batch.ensures.from;
-      partitions = c.batch_from-batch.ensures.partitions;
-      rows = c.batch_from-batch.ensures.rows;
-    } in
+    let next = is_next all rows done b c.batch_from-batch.ensures.from c.batch_from-batch.ensures.partitions
+    c.batch_from-batch.ensures.rows in
     let tiles = c.count-count.ensures.tiles in
     let to = b.numbers.to in
     let function = c.args.function in
