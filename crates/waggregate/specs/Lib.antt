@@ -1,4 +1,5 @@
 pub mod Aggregating
+pub mod BatchEnds
 pub mod Batches
 pub mod Feeding
 pub mod FrameAnswers

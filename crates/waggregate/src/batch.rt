@@ -1,6 +1,7 @@
 //! Some partitions of a window at a time.
 ghost use Rattle.std.specs.Prelude.{◌≡◌, ◌<◌, ◌≤◌, ◌-◌, length, slice_range};
 ghost use Rattle.wframe.specs.Places.{Tiles, span_at};
+ghost use Rattle.waggregate.specs.BatchEnds.{EndsInTime};
 
 use wframe::{Partitions, Span};
 
@@ -23,12 +24,13 @@ pub(crate) struct Batch<'a> {
         - (span_at partitions.now.spans numbers.from).from },
 }
 
-// Where a batch ends that begins at a partition: it has so many partitions that their rows suffice, as far as there are some. How
-// many they are is a matter of speed alone.
+// Where a batch ends that begins at a partition: it has so many partitions that their rows suffice and no more, as far as there are
+// some.
 fn end_of_batch(partitions: &Partitions, from: usize) -> usize
     requires { from < length partitions.now.spans }
     ensures some { from < result }
     ensures within { result ≤ length partitions.now.spans }
+    ensures ends { EndsInTime partitions.now.spans from result }
 {
     let count = partitions.count();
     let first = partitions.span(from).from;
@@ -39,7 +41,8 @@ fn end_of_batch(partitions: &Partitions, from: usize) -> usize
     to
 }
 
-/// The batch that begins at a partition, of which `rows` has the numbers of the rows of all.
+/// The batch that begins at a partition, of which `rows` has the numbers of the rows of all. It ends as soon as it has `ROWS` rows, or
+/// with the last partition.
 pub(crate) fn batch_from<'a>(
     rows: &'a [usize],
     partitions: &'a Partitions<'a>,
@@ -52,6 +55,7 @@ pub(crate) fn batch_from<'a>(
     ensures partitions { result.partitions.now ≡ partitions.now }
     ensures rows { result.rows.now ≡ slice_range rows.now (span_at partitions.now.spans from).from
         (span_at partitions.now.spans (result.numbers.to - 1)).to }
+    ensures ends { EndsInTime partitions.now.spans from result.numbers.to }
 {
     let to = end_of_batch(partitions, from);
     let first = partitions.span(from);

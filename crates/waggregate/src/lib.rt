@@ -11,7 +11,7 @@
 //! - Leaves expressions to `wplan`, frames to `wframe` and their folds to `wslide`.
 //!
 //! Read `specs/Aggregating.antt`, then `specs/Feeding.antt`, `specs/Grouped.antt`, `specs/Summaries.antt`, `specs/Put.antt`,
-//! `specs/FrameAnswers.antt` and `specs/Batches.antt`.
+//! `specs/FrameAnswers.antt`, `specs/BatchEnds.antt` and `specs/Batches.antt`.
 #![tactic(auto)]
 
 mod alike;
