@@ -1,4 +1,5 @@
 pub mod Aggregating
+pub mod Alike
 pub mod BatchEnds
 pub mod Batches
 pub mod Feeding

@@ -10,8 +10,8 @@
 //! - Asks: fewer than 2^31 rows.
 //! - Leaves expressions to `wplan`, frames to `wframe` and their folds to `wslide`.
 //!
-//! Read `specs/Aggregating.antt`, then `specs/Feeding.antt`, `specs/Grouped.antt`, `specs/Summaries.antt`, `specs/Put.antt`,
-//! `specs/FrameAnswers.antt`, `specs/BatchEnds.antt` and `specs/Batches.antt`.
+//! Read `specs/Aggregating.antt`, then `specs/Feeding.antt`, `specs/Grouped.antt`, `specs/Summaries.antt`, `specs/Alike.antt`,
+//! `specs/Put.antt`, `specs/FrameAnswers.antt`, `specs/BatchEnds.antt` and `specs/Batches.antt`.
 #![tactic(auto)]
 
 mod alike;
