@@ -1,14 +1,10 @@
-use Rattle.std.proofs.Common.{◌≡◌, ◌++◌, ◌<◌, [], length, filter, take, take_all, sym, ap, ◌∙◌, arith}
-use Rattle.std.specs.List.{list_any}
-use Rattle.std.proofs.lemmas.List.Folds.{list_any_at}
+use Rattle.std.proofs.Common.{◌<◌, length, arith}
 use Rattle.std.proofs.lemmas.Result.{err_from_is_err_and}
 use Rattle.wplan.specs.Formula.{formula}
-use Rattle.wrows.specs.declared.fault.AnswerFault.TheVariants.{OutOfRange}
 use Rattle.wrows.specs.Columns.{holds_on, is_out_of_range}
 use Rattle.wrows.specs.Laid.{row_seen, rows_seen}
-use Rattle.wrows.specs.Outcomes.{unless}
-use Rattle.wrows.proofs.RowFacts.{ok_is_false, refused}
-use Rattle.wtable.proofs.HeldFacts.{held_more, in_range_more}
+use Rattle.wrows.proofs.RowFacts.{ok_is_false}
+use Rattle.wtable.proofs.HeldFacts.{held_more, held_whole, in_range_more, none_at_fault, row_refused}
 use Rattle.wtable.proofs.kept_rows.push_rows_where.Goals as goal
 
 pub returns-in_err-push_where-clause-gives : goal.returns-in_err-push_where-clause-gives
@@ -17,9 +13,8 @@ returns-in_err-push_where-clause-gives c =
     let t = formula c.args.condition.now.expr.now in
     let stored = c.in_ok-segment.segment.now.rows in
     let within : c.loop-row.row < length stored = omega (arith, c.loop-row-test.true, c.rows-row-end.ensures.count) in
-    rw (p.1, p.2, ← c.in_ok-segment.ensures) (refused (λ u. u) c.in_err-push_where.field-0.0 _
-    (list_any (is_out_of_range t) stored) tt c.in_err-push_where.ensures.gives
-    (λ here. list_any_at (is_out_of_range t) stored c.loop-row.row [] within (ap (is_out_of_range t) (sym c.row.ensures.values) ∙ here)))
+    rw (p.1, p.2, ← c.in_ok-segment.ensures) (row_refused t stored c.loop-row.row (row_seen c.row.result) c.in_err-push_where.field-0.0
+    within c.row.ensures.values c.in_err-push_where.ensures.gives)
 
 pub loop-row-preserved : goal.loop-row-preserved
 loop-row-preserved c =
@@ -37,15 +32,13 @@ pub returns-clause-gives : goal.returns-clause-gives
 returns-clause-gives c =
     let t = formula c.args.condition.now.expr.now in
     let stored = c.in_ok-segment.segment.now.rows in
-    let all : take c.loop-row.row stored ≡ stored =
-    take_all c.loop-row.row stored (omega (arith, c.loop-row-test.false, c.rows-row-end.ensures.count)) in
-    rw (← c.in_ok-segment.ensures) (ap (λ b. unless b OutOfRange tt) (ap (list_any (is_out_of_range t)) (sym all)
-    ∙ c.loop-row.invariant.in_range))
+    rw (← c.in_ok-segment.ensures) (none_at_fault t stored c.loop-row.row
+    (omega (arith, c.loop-row-test.false, c.rows-row-end.ensures.count)) c.loop-row.invariant.in_range)
 
 pub returns-clause-added : goal.returns-clause-added
 returns-clause-added c =
     let t = formula c.args.condition.now.expr.now in
     let stored = c.in_ok-segment.segment.now.rows in
-    let all : take c.loop-row.row stored ≡ stored =
-    take_all c.loop-row.row stored (omega (arith, c.loop-row-test.false, c.rows-row-end.ensures.count)) in
-    rw (← c.in_ok-segment.ensures) (c.loop-row.invariant.so_far ∙ ap (λ l. rows_seen c.args.held.now.items ++ filter (holds_on t) l) all)
+    rw (← c.in_ok-segment.ensures) (held_whole (holds_on t) stored (rows_seen c.args.held.now.items)
+    (rows_seen c.loop-row.held.items) c.loop-row.row (omega (arith, c.loop-row-test.false, c.rows-row-end.ensures.count))
+    c.loop-row.invariant.so_far)

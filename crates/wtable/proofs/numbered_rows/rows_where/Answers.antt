@@ -1,18 +1,16 @@
-use Rattle.std.proofs.Common.{◌≡◌, ◌++◌, ◌∷◌, [], List, false, filter, length, map, append-nil, sym, ap, ◌∙◌, arith}
-use Rattle.std.specs.List.{flat_map, list_any}
+use Rattle.std.proofs.Common.{◌≡◌, ◌++◌, ◌∷◌, [], List, length, map, append-nil, sym, ap, ◌∙◌, arith}
+use Rattle.std.specs.List.{flat_map}
 use Rattle.std.proofs.lemmas.List.{length-map}
 use Rattle.std.proofs.lemmas.Result.{err_from_is_err_and}
 use Rattle.wplan.specs.Formula.{formula}
 use Rattle.wset.specs.Running.{live_rows}
-use Rattle.wrows.specs.declared.fault.AnswerFault.TheVariants.{OutOfRange}
-use Rattle.wrows.specs.Columns.{Row, holds_on, is_out_of_range}
+use Rattle.wrows.specs.Columns.{Row, holds_on}
 use Rattle.wrows.specs.Laid.{row_seen, rows_seen}
-use Rattle.wrows.specs.Outcomes.{unless}
-use Rattle.wrows.proofs.RowFacts.{ok_is_false, refused}
+use Rattle.wrows.proofs.RowFacts.{ok_is_false}
 use Rattle.wtable.specs.TableOrders.{numbers_kept, starts_from}
 use Rattle.wtable.specs.Tables.{rows_of_set}
 use Rattle.wtable.specs.declared.numbered_rows.NumberedRows.{NumberedRows}
-use Rattle.wtable.proofs.HeldFacts.{fault_left, held_left, in_range_left}
+use Rattle.wtable.proofs.HeldFacts.{all_held, none_held, segment_held, segment_refused}
 use Rattle.wtable.proofs.LiveFacts.{lent_rows_are}
 use Rattle.wtable.proofs.NumberFacts.{held_grown, numbered_grown, numbers_left, numbers_long, starts_left}
 use Rattle.wtable.proofs.SourceFacts.{set_rows}
@@ -24,10 +22,8 @@ segments-init c =
     let all : flat_map (λ e. e.1.rows) c.lives-segment-items.result ≡ rows_of_set c.args.set.now =
     set_rows c.args.set.now c.lives-segment-items.result c.lives-segment-items.ensures in
     record {
-      in_range = ap (λ l. list_any (is_out_of_range t) (flat_map (λ e. e.1.rows) l))
-          c.into_iter-segment-iterator.ensures.into_iter_gives ∙ ap (list_any (is_out_of_range t)) all;
-      so_far = rw c.new-rows.ensures.items (ap (λ l. filter (holds_on t) (flat_map (λ e. e.1.rows) l))
-          c.into_iter-segment-iterator.ensures.into_iter_gives ∙ ap (filter (holds_on t)) all);
+      held = none_held t (rows_of_set c.args.set.now) (rows_seen c.new-rows.result.items) c.lives-segment-items.result _
+          (ap rows_seen c.new-rows.ensures.items) c.into_iter-segment-iterator.ensures.into_iter_gives all;
       numbers = rw (c.new-rows.ensures.items, c.new-numbers.ensures.items)
           (ap (λ l. numbers_kept (holds_on t) 0 (flat_map (λ e. e.1.rows) l))
           c.into_iter-segment-iterator.ensures.into_iter_gives ∙ ap (numbers_kept (holds_on t) 0) all);
@@ -40,11 +36,9 @@ pub returns-in_err-push_rows_numbered-clause-rows : goal.returns-in_err-push_row
 returns-in_err-push_rows_numbered-clause-rows c =
     let p = err_from_is_err_and c.from_residual-in_err-push_rows_numbered.result c.from_residual-in_err-push_rows_numbered.ensures.1 in
     let t = formula c.args.condition.now.expr.now in
-    let all = rows_of_set c.args.set.now in
     let view : NumberedRows → List Row = λ kept. rows_seen kept.rows.items in
-    rw (p.1, p.2) (refused view c.in_err-push_rows_numbered.field-0.0 _ (list_any (is_out_of_range t) all)
-    (filter (holds_on t) all) c.in_err-push_rows_numbered.ensures.gives
-    (fault_left (is_out_of_range t) all _ _ _ c.in-Some.ensures.steps c.segments.invariant.in_range))
+    rw (p.1, p.2) (segment_refused t (rows_of_set c.args.set.now) (rows_seen c.segments.rows.items) _ _ _ c.in-Some.ensures.steps
+    c.segments.invariant.held view c.in_err-push_rows_numbered.field-0.0 c.in_err-push_rows_numbered.ensures.gives)
 
 pub segments-preserved : goal.segments-preserved
 segments-preserved c =
@@ -54,10 +48,8 @@ segments-preserved c =
     let after = c.push_rows_numbered.new.held.items in
     let pushed = c.in_ok-push_rows_numbered.ensures in
     record {
-      in_range = in_range_left (is_out_of_range t) all _ _ _ c.in-Some.ensures.steps c.segments.invariant.in_range
-          (ok_is_false _ _ _ pushed.gives);
-      so_far = held_left (holds_on t) (rows_seen before) (rows_seen after) all _ _ _ c.in-Some.ensures.steps
-          c.segments.invariant.so_far pushed.added;
+      held = segment_held t all (rows_seen before) _ _ _ c.in-Some.ensures.steps c.segments.invariant.held (rows_seen after)
+          (ok_is_false _ _ _ pushed.gives) pushed.added;
       numbers = numbers_left (holds_on t) (length before) (length after) c.segments.numbers.items
           c.push_rows_numbered.new.numbers.items all _ _ _ c.in-Some.ensures.steps c.segments.invariant.numbers pushed.numbered
           (held_grown (holds_on t) (rows_seen before) (rows_seen after) _ (length before) (length after)
@@ -71,14 +63,8 @@ segments-preserved c =
 
 pub returns-clause-rows : goal.returns-clause-rows
 returns-clause-rows c =
-    let t = formula c.args.condition.now.expr.now in
-    let all = rows_of_set c.args.set.now in
-    let none : list_any (is_out_of_range t) all ≡ false = sym c.segments.invariant.in_range
-    ∙ ap (λ l. list_any (is_out_of_range t) (flat_map (λ e. e.1.rows) l)) c.in-None.ensures.steps.0 in
-    ap (λ b. unless b OutOfRange (filter (holds_on t) all)) none
-    ∙ ap (unless false OutOfRange) (sym (sym (append-nil (rows_seen c.segments.rows.items))
-    ∙ ap (λ l. rows_seen c.segments.rows.items ++ filter (holds_on t) (flat_map (λ e. e.1.rows) l))
-    (sym c.in-None.ensures.steps.0) ∙ c.segments.invariant.so_far))
+    all_held (formula c.args.condition.now.expr.now) (rows_of_set c.args.set.now) (rows_seen c.segments.rows.items) _
+    c.in-None.ensures.steps.0 c.segments.invariant.held
 
 pub returns-clause-starts : goal.returns-clause-starts
 returns-clause-starts c =

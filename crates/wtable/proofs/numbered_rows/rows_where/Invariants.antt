@@ -1,20 +1,18 @@
-use Rattle.std.proofs.Common.{◌≡◌, ◌++◌, filter, length, map}
-use Rattle.std.specs.List.{flat_map, list_any}
+use Rattle.std.proofs.Common.{◌≡◌, ◌++◌, length, map}
+use Rattle.std.specs.List.{flat_map}
 use Rattle.wplan.specs.Formula.{formula}
 use Rattle.wset.specs.Running.{live_rows}
-use Rattle.wrows.specs.Columns.{holds_on, is_out_of_range}
+use Rattle.wrows.specs.Columns.{holds_on}
 use Rattle.wrows.specs.Laid.{rows_seen}
 use Rattle.wtable.specs.TableOrders.{numbers_kept, starts_from}
 use Rattle.wtable.specs.Tables.{rows_of_set}
+use Rattle.wtable.proofs.HeldFacts.{HeldSoFar}
 use Rattle.wtable.proofs.numbered_rows.rows_where.Given as goal
 
 -- the rows of the segments that are left, beside those that are held
 abbrev pub invariant-segments : goal.invariant-segments
 invariant-segments l = record {
-  in_range : list_any (is_out_of_range (formula l.condition.expr.now)) (flat_map (λ e. e.1.rows) l.segment-iterator)
-      ≡ list_any (is_out_of_range (formula l.condition.expr.now)) (rows_of_set l.set);
-  so_far : rows_seen l.rows.items ++ filter (holds_on (formula l.condition.expr.now)) (flat_map (λ e. e.1.rows) l.segment-iterator)
-      ≡ filter (holds_on (formula l.condition.expr.now)) (rows_of_set l.set);
+  held : HeldSoFar (formula l.condition.expr.now) (rows_of_set l.set) (rows_seen l.rows.items) l.segment-iterator;
   numbers : l.numbers.items ++ numbers_kept (holds_on (formula l.condition.expr.now)) (length l.rows.items)
       (flat_map (λ e. e.1.rows) l.segment-iterator) ≡ numbers_kept (holds_on (formula l.condition.expr.now)) 0 (rows_of_set l.set);
   starts : l.starts.items ++ starts_from (length l.numbers.items) (map (λ e. e.1.rows) l.segment-iterator)
