@@ -218,21 +218,22 @@ fn add_order<'a>(
         return Ok(());
     }
     let found = window_columns(alloc, window, width)?;
-    match found {
-        Some(keys) if !keys.is_empty() => {
-            kept_rows_stay_in_order();
-            kept_rows_differ();
-            let rows = set.ordered(&keys)?;
-            let differ = keys_differ(window, &keys, &rows, set)?;
-            orders.push(TableOrder {
-                window,
-                rows,
-                differ,
-            })?;
-            Ok(())
-        }
-        _ => Ok(()),
+    let Some(keys) = found else {
+        return Ok(());
+    };
+    if keys.is_empty() {
+        return Ok(());
     }
+    kept_rows_stay_in_order();
+    kept_rows_differ();
+    let rows = set.ordered(&keys)?;
+    let differ = keys_differ(window, &keys, &rows, set)?;
+    orders.push(TableOrder {
+        window,
+        rows,
+        differ,
+    })?;
+    Ok(())
 }
 
 // The table's rows in the orders of windows, where these are by columns. Windows that order rows alike share one.

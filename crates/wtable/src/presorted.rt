@@ -143,14 +143,12 @@ pub fn take_presorted(
         → IfSome result (IsPresorted rows (window_plan window.now)) }
     ensures others { (rows : List Row) → ArePresortedOf rows presorted.old.items → ArePresortedOf rows presorted.new.items }
 {
-    match place_presorted(presorted.as_slice(), window) {
-        None => None,
-        Some(place) => {
-            let PresortedOrder {
-                presorted: taken,
-                ..
-            } = presorted.remove(place);
-            Some(taken)
-        }
-    }
+    let Some(place) = place_presorted(presorted.as_slice(), window) else {
+        return None;
+    };
+    let PresortedOrder {
+        presorted: taken,
+        ..
+    } = presorted.remove(place);
+    Some(taken)
 }

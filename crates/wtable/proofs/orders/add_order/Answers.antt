@@ -14,28 +14,28 @@ use Rattle.wtable.proofs.orders.add_order.Goals as goal
 pub keys_differ-requires : goal.keys_differ-requires
 keys_differ-requires c =
     let segments = live_rows c.args.set.now in
-    let stay : live_rows c.ordered.new.self ≡ segments = live_same c.args.set.now c.ordered.new.self c.in_ok-rows-in-Some.ensures.same in
-    c.deref-in-Some-3.ensures.value ∙ c.in_ok-rows-in-Some.ensures.list
-    ∙ ap (λ k. refs_by k segments) (c.deref-in-Some.ensures.value ∙ sym c.deref-in-Some-2.ensures.value)
-    ∙ ap (refs_by c.deref-in-Some-2.result.now) (sym stay)
+    let stay : live_rows c.ordered.new.self ≡ segments = live_same c.args.set.now c.ordered.new.self c.in_ok-rows.ensures.same in
+    c.deref-4.ensures.value ∙ c.in_ok-rows.ensures.list
+    ∙ ap (λ k. refs_by k segments) (c.deref-2.ensures.value ∙ sym c.deref-3.ensures.value)
+    ∙ ap (refs_by c.deref-3.result.now) (sym stay)
 
-pub returns-in_ok-push-in-Some-clause-orders : goal.returns-in_ok-push-in-Some-clause-orders
-returns-in_ok-push-in-Some-clause-orders c =
+pub returns-clause-orders : goal.returns-clause-orders
+returns-clause-orders c =
     let s = c.args.set.now in
     let segments = live_rows s in
     let keys = c.in-Some.keys.items in
     let plan = window_plan c.args.window.now in
     let are : AreWindowKeys plan keys = some_presorted {X = Vec SortKey Global} (λ (k : Vec SortKey Global). AreWindowKeys plan k.items)
     c.in_ok-found.found c.in-Some.keys c.in-Some.is c.in_ok-found.ensures in
-    let found = c.in_ok-rows-in-Some.rows.items in
-    let list : found ≡ refs_by keys segments = c.in_ok-rows-in-Some.ensures.list ∙ ap (λ k. refs_by k segments)
-    c.deref-in-Some.ensures.value in
-    let stay : live_rows c.ordered.new.self ≡ segments = live_same s c.ordered.new.self c.in_ok-rows-in-Some.ensures.same in
-    let told = c.in_ok-differ-in-Some.ensures in
-    let differ : c.in_ok-differ-in-Some.differ ≡ true → AllDiffer keys (joined segments) = λ known.
-    subst (λ k. AllDiffer k (joined segments)) c.deref-in-Some-2.ensures.value
-    (subst (λ l. AllDiffer c.deref-in-Some-2.result.now (joined l)) stay (told.differ known)) in
-    All-same (IsTableOrder segments) c.push.new.self.items (c.args.orders.now.items ++ _ ∷ []) c.in_ok-push-in-Some.ensures.items
+    let found = c.in_ok-rows.rows.items in
+    let list : found ≡ refs_by keys segments = c.in_ok-rows.ensures.list ∙ ap (λ k. refs_by k segments)
+    c.deref-2.ensures.value in
+    let stay : live_rows c.ordered.new.self ≡ segments = live_same s c.ordered.new.self c.in_ok-rows.ensures.same in
+    let told = c.in_ok-differ.ensures in
+    let differ : c.in_ok-differ.differ ≡ true → AllDiffer keys (joined segments) = λ known.
+    subst (λ k. AllDiffer k (joined segments)) c.deref-3.ensures.value
+    (subst (λ l. AllDiffer c.deref-3.result.now (joined l)) stay (told.differ known)) in
+    All-same (IsTableOrder segments) c.push.new.self.items (c.args.orders.now.items ++ _ ∷ []) c.in_ok-push.ensures.items
     (All-append (IsTableOrder segments) c.args.orders.now.items (_ ∷ []) c.requires
     (All-cons (IsTableOrder segments) _ [] (record {
       order = order_had (length s.schema.columns) segments (by_window plan) keys found
