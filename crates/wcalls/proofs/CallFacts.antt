@@ -1,5 +1,5 @@
 -- What calls tell, and the column of those that tell values.
-use Rattle.std.proofs.Common.{◌≡◌, ℕ, List, [], ◌∷◌, length, map, Option, Some, Ok, refl, sym, ap, ◌∙◌}
+use Rattle.std.proofs.Common.{◌≡◌, ℕ, List, [], ◌∷◌, length, map, Option, Some, None, Ok, refl, sym, ap, ◌∙◌}
 use Rattle.wvalues.specs.Meaning.{Meaning}
 use Rattle.wframe.specs.Partition.{Partition}
 use Rattle.wplan.specs.Formula.{Formula}
@@ -8,6 +8,8 @@ use Rattle.wrows.proofs.RowFacts.{then_ok}
 use Rattle.wcalls.specs.Windows.{Windowed, partition_at, partition_rows, place_at}
 use Rattle.wcalls.specs.Calls.{each_row, values_read}
 use Rattle.wcalls.specs.Arranged.{value_read}
+use Rattle.wcalls.specs.Kept.{number_read}
+use Rattle.wcolumns.specs.Columns.{value_of_number}
 use Rattle.wcalls.proofs.Answering.{answer_values}
 
 pub all_there : {X : Type 0} (f : X → Meaning) (xs : List X) → answer_values (map (λ x. Some (f x)) xs) ≡ map f xs
@@ -24,3 +26,9 @@ reading_is w t rows default at values new e is =
     then_ok values (column_of t rows) (λ vs.
     Ok (each_row w (λ i. value_read vs (partition_rows w i) default (at (length (partition_rows w i)) (partition_at w i)
     (place_at w i))))) e ∙ ap Ok (sym is)
+
+-- what is kept for a row stands for the value that is read for it
+pub number_kept : (values : List Meaning) (rows : List ℕ) (default : Meaning) (place : Option ℕ)
+    → value_of_number values default (number_read rows place) ≡ value_read values rows default place
+number_kept values rows default None = refl
+number_kept values rows default (Some place) = refl

@@ -1,9 +1,8 @@
--- A column as rows of one value each, and columns laid out one after another.
-use Rattle.std.proofs.Common.{◌≡◌, ℕ, zero, suc, ◌+◌, ◌*◌, ◌<◌, ◌≤◌, ◌||◌, Bool, true, false, List, [], ◌∷◌, ◌++◌, length}
-use Rattle.std.proofs.Common.{map, take, drop, take_all, get_or, Result, Ok, Err, true≢false, refl, sym, ap, ◌∙◌, arith}
+-- A column as rows of one value each, and the columns of several functions.
+use Rattle.std.proofs.Common.{◌≡◌, ℕ, zero, suc, ◌+◌, ◌*◌, ◌<◌, ◌||◌, Bool, true, false, List, [], ◌∷◌, ◌++◌, length}
+use Rattle.std.proofs.Common.{map, take, get_or, Result, Ok, Err, true≢false, refl, sym, ap, ◌∙◌, arith}
 use Rattle.std.specs.List.{list_any, list_all}
-use Rattle.std.proofs.Math.Nat.{add-mul}
-use Rattle.std.proofs.lemmas.List.{take-append-le, drop-append-le, take_more, length-drop, get_or-map}
+use Rattle.std.proofs.lemmas.List.{take_more, get_or-map}
 use Rattle.std.proofs.lemmas.List.Folds.{list_all_at}
 use Rattle.wvalues.specs.declared.value.Value.{Value}
 use Rattle.wvalues.specs.Meaning.{Meaning, Null, meaning}
@@ -77,20 +76,6 @@ one_refused inner view TooManyRows t ts rows only h =
     go false h = absurd (cc)
 one_refused inner view NoMemory t ts rows only h = tt
 
--- a column more
-pub laid_more : (w i : ℕ) (cells column : List Value) → length cells ≡ i * w → length column ≡ w
-    → laid w (i + 1) (cells ++ column) ≡ laid w i cells ++ map meaning column ∷ []
-laid_more w zero [] column h k = ap (λ vs. map meaning vs ∷ []) (take_all w column (omega arith))
-laid_more w zero (v ∷ vs) column h k = absurd (omega arith)
-laid_more w (suc i) cells column h k =
-    let e : suc i * w ≡ i * w + w = Rattle.std.proofs.Math.Nat.suc-mul i w in
-    let wide : w ≤ length cells = omega (arith, h, e) in
-    let s : suc i + 1 ≡ suc (i + 1) = omega arith in
-    ap (λ n. laid w n (cells ++ column)) s
-    ∙ ap (λ vs. map meaning vs ∷ laid w (i + 1) (drop w (cells ++ column))) (take-append-le w cells column wide)
-    ∙ ap (λ vs. map meaning (take w cells) ∷ laid w (i + 1) vs) (drop-append-le w cells column wide)
-    ∙ ap (λ rows. map meaning (take w cells) ∷ rows) (laid_more w i (drop w cells) column (omega (arith, length-drop w cells, h, e)) k)
-
 module _ {A B : Type 0} (f : A → Result B AnswerFault) where
   each_last : (xs : List A) (ys : List B) (x : A) (y : B) → each f xs ≡ Ok ys → f x ≡ Ok y → each f (xs ++ x ∷ []) ≡ Ok (ys ++ y ∷ [])
   each_last [] ys x y e h = ap (λ r. r >>= λ y. Ok (y ∷ [])) h ∙ ap (λ r. r >>= λ l. Ok (l ++ y ∷ [])) e
@@ -148,9 +133,3 @@ each_is p xs i x all l e = go (p x) refl
     go : (b : Bool) → p x ≡ b → p x ≡ true
     go true h = h
     go false h = absurd (true≢false (sym all ∙ list_all_at p xs i x l (ap p (sym e) ∙ h)))
-
--- cells that are a column longer
-pub longer : (i w a b n : ℕ) → a ≡ i * w → b ≡ w → n ≡ a + b → n ≡ (i + 1) * w
-longer i w a b n h k e =
-    let more : (i + 1) * w ≡ i * w + 1 * w = add-mul i 1 w in
-    omega (arith, h, k, e, more)

@@ -1,10 +1,11 @@
 -- The values of plain columns.
-use Rattle.std.proofs.Common.{◌≡◌, ℕ, ◌*◌, ◌<◌, ◌||◌, false, List, [], ◌∷◌, length, map, get_or, Ok, refl, sym, ap, ◌∙◌, arith}
+use Rattle.std.proofs.Common.{◌≡◌, ℕ, ◌*◌, ◌<◌, ◌||◌, false, List, [], ◌∷◌, length, map, get_or, Ok, refl, sym, ap, ◌∙◌}
 use Rattle.std.specs.Borrow.{Bor}
 use Rattle.std.specs.List.{AllByRecursion, flat_map, list_any}
 use Rattle.std.proofs.lemmas.List.{get_or-map, length-map}
 use Rattle.wvalues.specs.declared.value.Value.{Value}
 use Rattle.wvalues.specs.Meaning.{Meaning, Null, meaning}
+use Rattle.wcolumns.specs.Columns.{placed}
 use Rattle.wplan.specs.Formula.{At}
 use Rattle.wrows.specs.declared.fault.AnswerFault.TheVariants.{OutOfRange}
 use Rattle.wrows.specs.Outcomes.{unless}
@@ -24,15 +25,11 @@ none_out place (row ∷ rows) = none_out place rows
 pub plain_column : (place : ℕ) (rows : List Row) → column_of (At place) rows ≡ Ok (map (value_on (At place)) rows)
 plain_column place rows = ap (λ b. unless b OutOfRange (map (value_on (At place)) rows)) (none_out place rows)
 
--- its value on a row is that at the place of the row
-pub cell_at : (rows : List (Bor (List Value))) (place row : ℕ) (r : Bor (List Value)) → row < length rows
-    → r ≡ get_or rows row r → value_at (map meaning r.now) place ≡ value_at (map (value_on (At place)) (rows_seen rows)) row
-cell_at rows place row r h e =
-    sym (get_or-map (value_on (At place)) (rows_seen rows) row [] Null (omega (arith, h, length-map rows row_seen))
-    ∙ ap (value_on (At place)) (get_or-map row_seen rows row r [] h)
-    ∙ ap (λ x. value_on (At place) (row_seen x)) (sym e))
+-- it has what stands at the place of each row that is lent
+pub placed_column : (place : ℕ) (rows : List (Bor (List Value))) → column_of (At place) (rows_seen rows) ≡ Ok (placed place rows)
+placed_column place rows = plain_column place (rows_seen rows) ∙ ap Ok (map-map (value_on (At place)) row_seen rows)
 
-map-same : {X Y : Type 0} (f g : X → Y) → ((x : X) → f x ≡ g x) → (xs : List X) → map f xs ≡ map g xs
+pub map-same : {X Y : Type 0} (f g : X → Y) → ((x : X) → f x ≡ g x) → (xs : List X) → map f xs ≡ map g xs
 map-same f g same [] = refl
 map-same f g same (x ∷ xs) = ap (λ y. y ∷ map f xs) (same x) ∙ ap (λ l. g x ∷ l) (map-same f g same xs)
 

@@ -1,8 +1,8 @@
 -- Lists that grow by one item after another.
-use Rattle.std.proofs.Common.{◌≡◌, ◌+◌, ◌++◌, ◌<◌, ◌≤◌, ℕ, List, [], ◌∷◌, length, get_or, map, take, drop, sym, ap, ◌∙◌, arith}
+use Rattle.std.proofs.Common.{◌≡◌, ◌+◌, ◌++◌, ◌<◌, ℕ, List, [], ◌∷◌, length, get_or, map, take, sym, ap, ◌∙◌}
 use Rattle.std.proofs.Common.{add-one, append_assoc}
 use Rattle.std.proofs.Math.Seq.{take-suc}
-use Rattle.std.proofs.lemmas.List.{drop-append-le, drop-map, drop_all, length-map, map-append, take_all}
+use Rattle.std.proofs.lemmas.List.{map-append}
 
 -- a front of some items behind those that were there, with one item more
 pub pushed_next : {A B : Type 0} (f : A → B) (old cells : List A) (all : List B) (k : ℕ) (x : A) (d : B) → k < length all
@@ -14,14 +14,3 @@ pushed_next f old cells all k x d here so_far is =
     ∙ ap (λ y. map f old ++ (take k all ++ y ∷ [])) is
     ∙ ap (λ l. map f old ++ l) (sym (take-suc all k d here))
     ∙ ap (λ n. map f old ++ take n all) (sym (add-one k))
-
--- all of them
-pub pushed_all : {A B : Type 0} (f : A → B) (old cells : List A) (all : List B) (k : ℕ) → length all ≤ k
-    → map f cells ≡ map f old ++ take k all → map f (drop (length old) cells) ≡ all
-pushed_all f old cells all k over so_far =
-    let same : length old ≡ length (map f old) = sym (length-map old f) in
-    sym (drop-map f (length old) cells)
-    ∙ ap (drop (length old)) so_far
-    ∙ drop-append-le (length old) (map f old) (take k all) (omega (arith, same))
-    ∙ ap (λ l. l ++ take k all) (drop_all (length old) (map f old) (omega (arith, same)))
-    ∙ take_all k all over

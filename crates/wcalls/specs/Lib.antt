@@ -4,9 +4,9 @@ pub mod Calls
 pub mod Functions
 pub mod Sound
 pub mod Lent
-pub mod Seen
 pub mod Kept
 pub mod ListedColumns
+pub mod ListedValues
 pub mod Listed
 pub mod Arranged
 pub mod Ordered

@@ -6,9 +6,9 @@ use wvalues::Value;
 
 /// The rows of a window, fewer than 2^31, and how they stand in it.
 #[derive(Clone, Copy)]
-pub(crate) struct ArrangedRows<'a> {
+pub(crate) struct ArrangedRows<'a, 'r> {
     /// The rows, by number.
-    pub(crate) rows: &'a [&'a [Value]],
+    pub(crate) rows: &'r [&'r [Value]],
     /// The numbers of the rows, in the window's order.
     pub(crate) order: &'a [usize],
     /// The partitions of rows in that order, with the frame of each row.

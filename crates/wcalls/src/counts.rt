@@ -1,26 +1,13 @@
 //! Calls with OVER that count: `row_number`, `rank`, `dense_rank`, `ntile`.
-ghost use Rattle.std.specs.Prelude.{◌≡◌, ◌≤◌, ◌<◌, ◌^◌, ◌+◌, ℕ, pos, length};
-ghost use Rattle.wvalues.specs.Meaning.{Int, meaning};
+ghost use Rattle.std.specs.Prelude.{◌≡◌, ◌≤◌, ◌<◌, ◌^◌, ◌+◌, ℕ, length};
 ghost use Rattle.wframe.specs.Partition.{Partition};
 ghost use Rattle.wplaces.specs.Ranks.{row_number_of, rank_of, dense_rank_of};
 ghost use Rattle.wplaces.specs.Tile.{tile_of};
 
 use crate::limits::cut;
 use crate::row_function::{RowFunction, put_at};
-use std::alloc::AllocError;
 use wframe::Frames;
 use wplaces::{next_dense_rank, ntile_at, rank_at, row_number_at};
-use wvalues::{Value, Whole};
-
-// A count as a value.
-fn count_value(count: usize) -> Value
-    ensures { meaning result ≡ Int (pos count) }
-{
-    match Whole::new(count as i128) {
-        Some(whole) => Value::Int(whole),
-        None => Value::Null,
-    }
-}
 
 /// A count for each row of a partition.
 pub trait Counts {
@@ -43,9 +30,7 @@ pub struct Counted<N> {
 }
 
 impl<N: Counts> RowFunction for Counted<N> {
-    ghost answer = { λ call p rows place. Int (pos (N.count_at call.counts (length rows) p place)) };
-
-    ghost meant = { λ _ count. Int (pos count) };
+    ghost number_for = { λ call p rows. N.count_at call.counts (length rows) p };
 
     fn keep(&self, frames: &Frames, rows: &[usize], kept: &mut [u32]) {
         let mut count = 0;
@@ -53,14 +38,6 @@ impl<N: Counts> RowFunction for Counted<N> {
             count = self.counts.next_count(frames, place, count);
             put_at(kept, rows, place, count as u32);
         }
-    }
-
-    fn look(&self, _numbers: &[u32]) -> bool {
-        false
-    }
-
-    fn value(&self, number: usize, _some_text: bool) -> Result<Value, AllocError> {
-        Ok(count_value(number))
     }
 }
 

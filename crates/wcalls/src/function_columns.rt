@@ -1,86 +1,87 @@
 //! The columns of a window's functions.
-ghost use Rattle.std.specs.Prelude.{[], ◌≡◌, ◌≤◌, ◌+◌, ◌<◌, ◌^◌, true, IfOk, OnOk, Ok, length, map, take, drop};
+ghost use Rattle.std.specs.Prelude.{◌≡◌, ◌≤◌, ◌+◌, ◌<◌, ◌^◌, true, Ok, length, map};
 ghost use Rattle.std.specs.List.{list_all};
-ghost use Rattle.wvalues.specs.Meaning.{meaning};
-ghost use Rattle.wplan.specs.Plans.{function_plan, window_plan};
+ghost use Rattle.wcolumns.specs.Columns.{column_seen};
+ghost use Rattle.wplan.specs.Plans.{window_plan};
 ghost use Rattle.wrows.specs.Outcomes.{Gives, each};
-ghost use Rattle.wrows.specs.Laid.{rows_in, rows_seen};
+ghost use Rattle.wrows.specs.Laid.{rows_seen};
 ghost use Rattle.wcalls.specs.Windows.{Windowed};
 ghost use Rattle.wcalls.specs.Functions.{function_column, window_columns};
 ghost use Rattle.wcalls.specs.Lent.{functions_seen};
 ghost use Rattle.wcalls.specs.Sound.{is_sound_function, is_sound_window};
-ghost use Rattle.wcalls.specs.Joins.{most_of_function, most_of_functions};
+ghost use Rattle.wcalls.specs.Joins.{most_of_functions};
 ghost use Rattle.wcalls.specs.Frames.{frame_of};
 ghost use Rattle.wcalls.specs.Arranged.{IsArranged};
 ghost use Rattle.wcalls.specs.Ordered.{ordered_rows};
 
 use crate::arranged::ArrangedRows;
-use crate::functions::push_column;
+use crate::functions::function_column;
 use crate::parts::frame_of;
+use crate::room::{Room, rooms};
 use crate::window_order::WindowOrder;
 use std::alloc::Global;
 use waggregate::Tally;
+use wcolumns::Column;
 use wplan::{ResolvedWindow, WindowFunction};
-use wrows::{AnswerFault, Cells};
+use wrows::AnswerFault;
 use wvalues::Value;
 
-// The columns of functions of a window, by number, where the rows stand in its order and in its partitions. They are put into a
-// list that is empty, and may have room for them.
-fn every_column(
+// The columns of functions of a window, by number, where the rows stand in its order and in its partitions. Each takes the last
+// room that is left.
+fn every_column<'r>(
     alloc: Global,
     functions: &[&WindowFunction],
-    arranged: &ArrangedRows,
-    room: Vec<Value>,
+    arranged: &ArrangedRows<'_, 'r>,
+    rooms: Vec<Room>,
     tally: &mut Tally,
-) -> Result<Cells, AnswerFault>
-    requires empty { room.items ≡ [] }
-    requires sound { list_all is_sound_function (functions_seen functions.now) ≡ true }
+) -> Result<Vec<Column<'r>>, AnswerFault>
+    requires { list_all is_sound_function (functions_seen functions.now) ≡ true }
     ensures joins { tally.new ≤ tally.old + most_of_functions arranged.now.partitions.now.frame.exclusion
         (length arranged.now.order.now) (functions_seen functions.now) }
     ensures columns { (w : Windowed) → IsArranged w arranged.now.order.now arranged.now.partitions.now
-        → Gives rows_in result (each (function_column (rows_seen arranged.now.rows.now) w) (functions_seen functions.now)) }
-    ensures width { IfOk result (λ cells. cells.width ≡ length arranged.now.rows.now) }
-    ensures count { IfOk result (λ cells. cells.count ≡ length functions.now) }
+        → Gives (λ columns. map column_seen columns.items) result
+        (each (function_column (rows_seen arranged.now.rows.now) w) (functions_seen functions.now)) }
 {
-    let mut cells = room;
+    let mut rooms = rooms;
+    let mut columns = Vec::with_capacity(alloc, functions.len())?;
     for function in functions {
-        push_column(alloc, function, arranged, &mut cells, tally)?;
+        let room = match rooms.pop() {
+            Some(room) => room,
+            None => Room::none(alloc),
+        };
+        let column = function_column(alloc, function, arranged, room, tally)?;
+        columns.push(column)?;
     }
-    Ok(Cells {
-        cells,
-        width: arranged.rows.len(),
-        count: functions.len(),
-    })
+    Ok(columns)
 }
 
 /// What functions of a window answer on rows, where `order` has the rows in the window's order: a column for each
-/// function, with a value for each row by its number. The columns are laid out one after another.
+/// function, with a value for each row by its number.
 ///
 /// Nothing is skipped: it is `OutOfRange` where an argument or a filter is so on any row, or a result is.
 ///
 /// The tally rises by the joins that are taken, which an aggregate alone takes: three for each row at most, and eight where
 /// the frame clause excludes rows.
-pub fn window_columns(
+pub fn window_columns<'r>(
     alloc: Global,
     window: &ResolvedWindow,
     order: &WindowOrder,
     functions: &[&WindowFunction],
-    rows: &[&[Value]],
+    rows: &'r [&'r [Value]],
     tally: &mut Tally,
-) -> Result<Cells, AnswerFault>
+) -> Result<Vec<Column<'r>>, AnswerFault>
     requires few { length rows.now < 2 ^ 31 }
     requires window { is_sound_window (window_plan window.now) ≡ true }
     requires order { ordered_rows (rows_seen rows.now) (window_plan window.now) ≡ Ok order.now }
     requires functions { list_all is_sound_function (functions_seen functions.now) ≡ true }
     ensures joins { tally.new ≤ tally.old + most_of_functions (frame_of (window_plan window.now).frame).exclusion
         (length rows.now) (functions_seen functions.now) }
-    ensures columns { Gives rows_in result (window_columns (window_plan window.now) (functions_seen functions.now) (rows_seen rows.now)) }
-    ensures width { IfOk result (λ cells. cells.width ≡ length rows.now) }
-    ensures count { IfOk result (λ cells. cells.count ≡ length functions.now) }
+    ensures columns { Gives (λ columns. map column_seen columns.items) result
+        (window_columns (window_plan window.now) (functions_seen functions.now) (rows_seen rows.entry.now)) }
 {
     // Room for all columns at once, since a list that grows is held twice while it is moved; and before the frames, whose room is then
     // free for the answer's text behind the columns.
-    let room = Vec::with_capacity(alloc, rows.len().saturating_mul(functions.len()))?;
+    let rooms = rooms(alloc, functions, rows.len())?;
     let keys = order.key_rows();
     let partitions = order.partitions(alloc, keys, frame_of(&window.frame))?;
     let arranged = ArrangedRows {
@@ -88,5 +89,5 @@ pub fn window_columns(
         order: order.rows(),
         partitions: &partitions,
     };
-    every_column(alloc, functions, &arranged, room, tally)
+    every_column(alloc, functions, &arranged, rooms, tally)
 }

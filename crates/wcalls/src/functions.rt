@@ -1,6 +1,7 @@
 //! The column of one function of a window.
-ghost use Rattle.std.specs.Prelude.{◌≡◌, ◌≤◌, ◌<◌, ◌+◌, true, OnOk, drop, length, map, take};
+ghost use Rattle.std.specs.Prelude.{[], ◌≡◌, ◌≤◌, ◌+◌, true, IfOk, length};
 ghost use Rattle.wvalues.specs.Meaning.{meaning, Null};
+ghost use Rattle.wcolumns.specs.Columns.{column_seen};
 ghost use Rattle.wplan.specs.Formula.{formula};
 ghost use Rattle.wslide.specs.Frames.{most_by_queues};
 ghost use Rattle.wplan.specs.Plans.{aggregate_plan, function_plan, Aggregated};
@@ -17,132 +18,125 @@ use crate::aggregated::aggregated_column;
 use crate::arranged::ArrangedRows;
 use crate::counts::{Counted, Counts, DenseRank, Rank, RowNumber, Tile};
 use crate::other_rows::{FirstValue, Lag, LastValue, Lead, NthValue, OtherRow, RowPlaces};
-use crate::row_function::{push_answers, push_nulls};
+use crate::room::Room;
+use crate::row_function::kept_numbers;
 use crate::values::column_values;
-use std::alloc::Global;
+use std::alloc::{AllocError, Global};
 use waggregate::Tally;
+use wcolumns::{Column, OtherRows};
 use wplan::{Aggregate, Expr, WindowFunction};
 use wrows::AnswerFault;
 use wvalues::Value;
 
-// Appends the column of a function that counts.
-fn push_counts<N: Counts + Copy>(
-    alloc: Global,
+// The column of a function that counts.
+fn counts_column<'r, N: Counts + Copy>(
     counts: N,
-    arranged: &ArrangedRows,
-    cells: &mut Vec<Value>,
-) -> Result<(), AnswerFault>
-    ensures column { (w : Windowed) → IsArranged w arranged.now.order.now arranged.now.partitions.now
-        → Gives (λ _. map meaning (drop (length cells.old.items) cells.new.items)) result
-        (numbers w (λ i. N.count_at counts (length (partition_rows w i)) (partition_at w i) (place_at w i))) }
-    ensures kept { OnOk result (take (length cells.old.items) cells.new.items ≡ cells.old.items) }
-    ensures len { OnOk result (length cells.new.items ≡ length cells.old.items + length arranged.now.order.now) }
+    arranged: &ArrangedRows<'_, 'r>,
+    room: Room,
+) -> Result<Column<'r>, AnswerFault>
+    ensures { (w : Windowed) → IsArranged w arranged.now.order.now arranged.now.partitions.now
+        → Gives column_seen result (numbers w (λ i. N.count_at counts (length (partition_rows w i)) (partition_at w i) (place_at w i))) }
 {
     let call = Counted { counts };
-    push_answers(alloc, &call, arranged, cells)?;
-    Ok(())
+    let kept = kept_numbers(&call, arranged, room.numbers)?;
+    Ok(Column::Counts(kept))
 }
 
-// Appends the column of a function that reads other rows.
-fn push_other_rows<P: RowPlaces + Copy>(
+// The column of a function that reads other rows.
+fn other_rows_column<'r, P: RowPlaces + Copy>(
     alloc: Global,
     places: P,
     expr: &Expr,
     default: &Value,
-    arranged: &ArrangedRows,
-    cells: &mut Vec<Value>,
-) -> Result<(), AnswerFault>
-    ensures column { (w : Windowed) → IsArranged w arranged.now.order.now arranged.now.partitions.now
-        → Gives (λ _. map meaning (drop (length cells.old.items) cells.new.items)) result
-        (values_read w (formula expr.now) (rows_seen arranged.now.rows.now) (meaning default.now)
+    arranged: &ArrangedRows<'_, 'r>,
+    room: Room,
+) -> Result<Column<'r>, AnswerFault>
+    ensures { (w : Windowed) → IsArranged w arranged.now.order.now arranged.now.partitions.now
+        → Gives column_seen result (values_read w (formula expr.now) (rows_seen arranged.now.rows.now) (meaning default.now)
         (λ i. P.place_read places (length (partition_rows w i)) (partition_at w i) (place_at w i))) }
-    ensures kept { OnOk result (take (length cells.old.items) cells.new.items ≡ cells.old.items) }
-    ensures len { OnOk result (length cells.new.items ≡ length cells.old.items + length arranged.now.order.now) }
 {
     let values = column_values(alloc, expr, arranged.rows)?;
-    let null = Value::Null;
-    let call = OtherRow {
-        places,
+    let otherwise = default.duplicate()?;
+    let call = OtherRow { places };
+    let numbers = kept_numbers(&call, arranged, room.numbers)?;
+    Ok(Column::Others(OtherRows {
+        numbers,
         values,
-        default,
-        null: &null,
-    };
-    push_answers(alloc, &call, arranged, cells)?;
-    Ok(())
+        default: otherwise,
+    }))
 }
 
-// Appends the column of a function that reads other rows, null where it reads none.
-fn push_other_rows_or_null<P: RowPlaces + Copy>(
+// The column of a function that reads other rows, null where it reads none.
+fn other_rows_or_null<'r, P: RowPlaces + Copy>(
     alloc: Global,
     places: P,
     expr: &Expr,
-    arranged: &ArrangedRows,
-    cells: &mut Vec<Value>,
-) -> Result<(), AnswerFault>
-    ensures column { (w : Windowed) → IsArranged w arranged.now.order.now arranged.now.partitions.now
-        → Gives (λ _. map meaning (drop (length cells.old.items) cells.new.items)) result
-        (values_read w (formula expr.now) (rows_seen arranged.now.rows.now) Null
+    arranged: &ArrangedRows<'_, 'r>,
+    room: Room,
+) -> Result<Column<'r>, AnswerFault>
+    ensures { (w : Windowed) → IsArranged w arranged.now.order.now arranged.now.partitions.now
+        → Gives column_seen result (values_read w (formula expr.now) (rows_seen arranged.now.rows.now) Null
         (λ i. P.place_read places (length (partition_rows w i)) (partition_at w i) (place_at w i))) }
-    ensures kept { OnOk result (take (length cells.old.items) cells.new.items ≡ cells.old.items) }
-    ensures len { OnOk result (length cells.new.items ≡ length cells.old.items + length arranged.now.order.now) }
 {
     let null = Value::Null;
-    push_other_rows(alloc, places, expr, &null, arranged, cells)
+    other_rows_column(alloc, places, expr, &null, arranged, room)
 }
 
-// Appends the column of an aggregate. Its answers are put by the numbers of the rows, so there is room for them before.
-fn push_aggregates(
+// So many nulls, put into a list that is empty.
+fn nulls(room: Vec<Value>, count: usize) -> Result<Vec<Value>, AllocError>
+    requires { room.items ≡ [] }
+    ensures { IfOk result (λ nulls. length nulls.items ≡ count) }
+{
+    let mut nulls = room;
+    for _ in 0..count {
+        nulls.push(Value::Null)?;
+    }
+    Ok(nulls)
+}
+
+// The column of an aggregate. Its answers are put by the numbers of the rows, so nulls stand there before.
+fn aggregates_column<'r>(
     alloc: Global,
     aggregate: &Aggregate,
-    arranged: &ArrangedRows,
-    cells: &mut Vec<Value>,
+    arranged: &ArrangedRows<'_, 'r>,
+    room: Room,
     tally: &mut Tally,
-) -> Result<(), AnswerFault>
+) -> Result<Column<'r>, AnswerFault>
     ensures joins { tally.new ≤ tally.old + most_by_queues arranged.now.partitions.now.frame.exclusion (length arranged.now.order.now) }
     ensures column { (w : Windowed) → IsArranged w arranged.now.order.now arranged.now.partitions.now
-        → Gives (λ _. map meaning (drop (length cells.old.items) cells.new.items)) result
-        (function_column (rows_seen arranged.now.rows.now) w (Aggregated (aggregate_plan aggregate.now))) }
-    ensures kept { OnOk result (take (length cells.old.items) cells.new.items ≡ cells.old.items) }
-    ensures len { OnOk result (length cells.new.items ≡ length cells.old.items + length arranged.now.order.now) }
+        → Gives column_seen result (function_column (rows_seen arranged.now.rows.now) w (Aggregated (aggregate_plan aggregate.now))) }
 {
-    let start = cells.len();
-    push_nulls(cells, arranged.order.len())?;
-    aggregated_column(alloc, aggregate, arranged, &mut cells[start..], tally)
+    let mut column = nulls(room.values, arranged.order.len())?;
+    aggregated_column(alloc, aggregate, arranged, &mut column, tally)?;
+    Ok(Column::Values(column))
 }
 
-/// Appends the column of a function on rows, by number, where they stand in the window's order. The tally rises by the joins
-/// that it takes.
-pub(crate) fn push_column(
+/// The column of a function on rows, by number, where they stand in the window's order. The tally rises by the joins that it takes.
+pub(crate) fn function_column<'r>(
     alloc: Global,
     function: &WindowFunction,
-    arranged: &ArrangedRows,
-    cells: &mut Vec<Value>,
+    arranged: &ArrangedRows<'_, 'r>,
+    room: Room,
     tally: &mut Tally,
-) -> Result<(), AnswerFault>
+) -> Result<Column<'r>, AnswerFault>
     requires { is_sound_function (function_plan function.now) ≡ true }
     ensures joins { tally.new ≤ tally.old + most_of_function arranged.now.partitions.now.frame.exclusion
         (length arranged.now.order.now) (function_plan function.now) }
     ensures column { (w : Windowed) → IsArranged w arranged.now.order.now arranged.now.partitions.now
-        → Gives (λ _. map meaning (drop (length cells.old.items) cells.new.items)) result
-        (function_column (rows_seen arranged.now.rows.now) w (function_plan function.now)) }
-    ensures kept { OnOk result (take (length cells.old.items) cells.new.items ≡ cells.old.items) }
-    ensures len { OnOk result (length cells.new.items ≡ length cells.old.items + length arranged.now.rows.now) }
+        → Gives column_seen result (function_column (rows_seen arranged.now.rows.now) w (function_plan function.now)) }
 {
     match function {
-        WindowFunction::RowNumber => push_counts(alloc, RowNumber, arranged, cells),
-        WindowFunction::Rank => push_counts(alloc, Rank, arranged, cells),
-        WindowFunction::DenseRank => push_counts(alloc, DenseRank, arranged, cells),
-        WindowFunction::Tile(tiles) => {
-            let tile = Tile { tiles: *tiles };
-            push_counts(alloc, tile, arranged, cells)
-        }
+        WindowFunction::RowNumber => counts_column(RowNumber, arranged, room),
+        WindowFunction::Rank => counts_column(Rank, arranged, room),
+        WindowFunction::DenseRank => counts_column(DenseRank, arranged, room),
+        WindowFunction::Tile(tiles) => counts_column(Tile { tiles: *tiles }, arranged, room),
         WindowFunction::Lag {
             value,
             rows: before,
             default,
         } => {
             let lag = Lag { rows: *before };
-            push_other_rows(alloc, lag, value, default, arranged, cells)
+            other_rows_column(alloc, lag, value, default, arranged, room)
         }
         WindowFunction::Lead {
             value,
@@ -150,20 +144,20 @@ pub(crate) fn push_column(
             default,
         } => {
             let lead = Lead { rows: *after };
-            push_other_rows(alloc, lead, value, default, arranged, cells)
+            other_rows_column(alloc, lead, value, default, arranged, room)
         }
         WindowFunction::FirstValue(value) => {
-            push_other_rows_or_null(alloc, FirstValue, value, arranged, cells)
+            other_rows_or_null(alloc, FirstValue, value, arranged, room)
         }
         WindowFunction::LastValue(value) => {
-            push_other_rows_or_null(alloc, LastValue, value, arranged, cells)
+            other_rows_or_null(alloc, LastValue, value, arranged, room)
         }
         WindowFunction::NthValue { value, place } => {
             let nth = NthValue { n: *place };
-            push_other_rows_or_null(alloc, nth, value, arranged, cells)
+            other_rows_or_null(alloc, nth, value, arranged, room)
         }
         WindowFunction::Aggregated(aggregate) => {
-            push_aggregates(alloc, aggregate, arranged, cells, tally)
+            aggregates_column(alloc, aggregate, arranged, room, tally)
         }
     }
 }

@@ -1,20 +1,13 @@
 //! Calls with OVER that answer a value of another row: `lag`, `lead`, `first_value`, `last_value`, `nth_value`.
-ghost use Rattle.std.specs.Prelude.{◌≡◌, ◌≤◌, ◌<◌, ◌^◌, ℕ, Option, All, IfOk, length, slice_index_or};
-ghost use Rattle.wvalues.specs.Meaning.{Null, meaning};
+ghost use Rattle.std.specs.Prelude.{◌≡◌, ◌≤◌, ◌<◌, ◌^◌, ℕ, Option, All, length, slice_index_or};
 ghost use Rattle.wframe.specs.Partition.{Partition};
 ghost use Rattle.wplaces.specs.RowPlaces.{lag_place, lead_place, first_place, last_place, nth_place};
-ghost use Rattle.wcalls.specs.Arranged.{value_read};
-ghost use Rattle.wcalls.specs.Kept.{number_read, value_of_number};
-ghost use Rattle.wcalls.specs.Seen.{values_seen};
+ghost use Rattle.wcalls.specs.Kept.{number_read};
 
 use crate::limits::cut;
 use crate::row_function::{RowFunction, put_at};
-use crate::values::{ColumnValues, value_of_row};
-use std::alloc::AllocError;
 use wframe::Frames;
 use wplaces::{first_value_at, lag_at, last_value_at, lead_at, nth_value_at};
-use wrows::is_text;
-use wvalues::Value;
 
 // The row at a place, the first row where there is no such place.
 fn row_read(rows: &[usize], place: usize) -> usize
@@ -49,64 +42,19 @@ pub trait RowPlaces {
 
 /// A call that answers the value of another row, of which it keeps the number.
 #[derive(Drop)]
-pub struct OtherRow<'a, P> {
+pub struct OtherRow<P> {
     pub places: P,
-    pub values: ColumnValues<'a>,
-    pub default: &'a Value,
-    pub null: &'a Value,
-    ghost is_null: { meaning null.now ≡ Null },
 }
 
-// A copy of a value. No owners are counted of one that is no text.
-fn copied(value: &Value, some_text: bool) -> Result<Value, AllocError>
-    ensures { IfOk result (λ copy. meaning copy ≡ meaning value.now) }
-{
-    match value {
-        Value::Int(number) if !some_text => Ok(Value::Int(*number)),
-        Value::Null if !some_text => Ok(Value::Null),
-        _ => value.duplicate(),
-    }
-}
-
-impl<'a, P> OtherRow<'a, P> {
-    // What a kept number stands for, lent.
-    #[inline(always)]
-    fn read(&self, number: usize) -> &Value
-        ensures { meaning result.now ≡ value_of_number (values_seen self.now.values) (meaning self.now.default.now) number }
-    {
-        match number {
-            0 => self.default,
-            _ => value_of_row(&self.values, self.null, number - 1),
-        }
-    }
-}
-
-impl<'a, P: RowPlaces> RowFunction for OtherRow<'a, P> {
-    ghost answer = { λ call p rows place. value_read (values_seen call.values) rows (meaning call.default.now)
-        (P.place_read call.places (length rows) p place) };
-
-    ghost meant = { λ call. value_of_number (values_seen call.values) (meaning call.default.now) };
+impl<P: RowPlaces> RowFunction for OtherRow<P> {
+    ghost number_for = { λ call p rows place. number_read rows (P.place_read call.places (length rows) p place) };
 
     fn keep(&self, frames: &Frames, rows: &[usize], kept: &mut [u32]) {
         let count = kept.len();
         for place in 0..rows.len() {
-            let answer = self.places.place_of(frames, place);
-            put_at(kept, rows, place, number_read(rows, answer, count));
+            let read = self.places.place_of(frames, place);
+            put_at(kept, rows, place, number_read(rows, read, count));
         }
-    }
-
-    fn look(&self, numbers: &[u32]) -> bool {
-        let mut found = false;
-        for number in numbers {
-            if is_text(self.read(*number as usize)) {
-                found = true;
-            }
-        }
-        found
-    }
-
-    fn value(&self, number: usize, some_text: bool) -> Result<Value, AllocError> {
-        copied(self.read(number), some_text)
     }
 }
 

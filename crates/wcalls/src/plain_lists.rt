@@ -10,6 +10,7 @@ ghost use Rattle.wrows.specs.Laid.{rows_seen};
 ghost use Rattle.wcalls.specs.ListedColumns.{values_at};
 
 use std::alloc::{AllocError, Global};
+use wcolumns::value_or_null;
 use wframe::KeyRows;
 use wvalues::{SortKey, Value};
 
@@ -21,15 +22,6 @@ pub(crate) struct PlainLists<'a> {
     // What is lent where a row has no such place.
     null: Value,
     ghost is_null: { meaning null ≡ Null },
-}
-
-/// The value at a place of a row, lent, and this null behind its width.
-#[inline(always)]
-pub(crate) fn value_or_null<'a>(row: &'a [Value], null: &'a Value, place: usize) -> &'a Value
-    requires { meaning null.now ≡ Null }
-    ensures { meaning result.now ≡ value_at (map meaning row.now) place }
-{
-    if place < row.len() { &row[place] } else { null }
 }
 
 impl<'a> PlainLists<'a> {

@@ -1,6 +1,7 @@
 //! The text of rows that stay where they lie, with what calls over windows answer for them beside their cells. A table is made only
 //! where calls stand behind rows and an order is asked for that is not presorted.
 ghost use Rattle.std.specs.Prelude.{◌≡◌, ◌≤◌, ◌<◌, ◌^◌, [], true, IfOk, IfSome, None, Ok, length, map, min};
+ghost use Rattle.wcolumns.specs.Columns.{columns_seen};
 ghost use Rattle.wplan.specs.Plans.{select_plan};
 ghost use Rattle.wprinted.specs.Printing.{table_text, values_at};
 ghost use Rattle.wrows.specs.Columns.{beside};
@@ -20,6 +21,7 @@ use crate::table::Table;
 use crate::windows::{call_columns, window_answers};
 use crate::work::Work;
 use std::alloc::{AllocError, Global};
+use wcolumns::{Column, LentColumn};
 use wplan::Selection;
 use wprinted::{Lie, PickedRows, RowsBeside, print_rows};
 use wrows::{AnswerFault, Cells, lists, sorted_numbers};
@@ -64,11 +66,11 @@ fn picked_text(
     select: &Selection,
     places: &[usize],
     rows: &[&[Value]],
-    columns: &[&[Value]],
+    columns: &[LentColumn],
     numbers: &[usize],
 ) -> Result<Vec<u8>, AllocError>
     ensures { IfOk result (λ bytes. bytes.items ≡ table_text (map (λ o. o.name) (select_plan select.now).items)
-        (map (values_at places.now) (map (row_beside (rows_seen rows.now) (rows_seen columns.now))
+        (map (values_at places.now) (map (row_beside (rows_seen rows.now) (columns_seen columns.now))
         (cut select.now.offset select.now.limit numbers.now)))) }
 {
     let names = item_names(alloc, &select.items)?;
@@ -86,11 +88,11 @@ pub(crate) fn standing_text(
     select: &Selection,
     places: &[usize],
     rows: &[&[Value]],
-    columns: &[&[Value]],
+    columns: &[LentColumn],
     lie: Lie,
 ) -> Result<Vec<u8>, AllocError>
     ensures { IfOk result (λ bytes. bytes.items ≡ table_text (map (λ o. o.name) (select_plan select.now).items)
-        (map (values_at places.now) (cut select.now.offset select.now.limit (beside (rows_seen rows.now) (rows_seen columns.now))))) }
+        (map (values_at places.now) (cut select.now.offset select.now.limit (beside (rows_seen rows.now) (columns_seen columns.now))))) }
 {
     let names = item_names(alloc, &select.items)?;
     let from = at_most(select.offset, rows.len());
@@ -110,15 +112,15 @@ fn text_beside(
     select: &Selection,
     places: &[usize],
     rows: &[&[Value]],
-    columns: &[&[Value]],
+    columns: &[LentColumn],
     presorted: &Option<Vec<usize>>,
 ) -> Result<Vec<u8>, AllocError>
     requires reads { ReadsPlaces (select_plan select.now) places.now }
-    requires presorted { IfSome presorted.now (λ numbers. by_keys (select_plan select.now).keys (rows_seen columns.now)
+    requires presorted { IfSome presorted.now (λ numbers. by_keys (select_plan select.now).keys (columns_seen columns.now)
         (rows_seen rows.now) ≡ Ok numbers.items) }
     requires standing { presorted.now ≡ None → length (select_plan select.now).keys ≡ 0 }
     ensures { IfOk result (λ bytes. text_in (select_plan select.now)
-        (items_of (select_plan select.now) (beside (rows_seen rows.now) (rows_seen columns.now))) ≡ Ok bytes.items) }
+        (items_of (select_plan select.now) (beside (rows_seen rows.now) (columns_seen columns.now))) ≡ Ok bytes.items) }
 {
     match presorted {
         None => standing_text(alloc, select, places, rows, columns, Lie::Together),
@@ -148,11 +150,12 @@ fn called_text(
         alloc,
         &select.windows,
         &select.calls,
-        rows,
+        &*rows,
         windows,
         &mut work,
     )?;
-    let columns = call_columns(alloc, &answers, &select.calls)?;
+    let none = Column::none(alloc);
+    let columns = call_columns(alloc, &answers, &none, &select.calls)?;
     let bytes = text_beside(alloc, select, places, rows, &columns, &keys)?;
     Ok(bytes)
 }

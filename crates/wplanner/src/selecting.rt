@@ -19,6 +19,8 @@ use crate::windows::{call_columns, window_answers};
 use crate::work::Work;
 use std::alloc::Global;
 use waggregate::Tally;
+use wcalls::{lent_columns, listed_columns};
+use wcolumns::Column;
 use wgroup::{counted_row, counts_rows, group_rows};
 use wplan::{Grouping, Selection};
 use wrows::{
@@ -135,9 +137,12 @@ fn called_items(
     ensures width { IfOk result (λ cells. cells.width ≡ length select.now.items.items) }
 {
     let PresortedOrders { windows, keys } = presorted;
-    let answers = window_answers(alloc, &select.windows, &select.calls, rows, windows, work)?;
-    let columns = call_columns(alloc, &answers, &select.calls)?;
-    items_beside_by(alloc, select, rows, &columns, keys)
+    let answers = window_answers(alloc, &select.windows, &select.calls, &*rows, windows, work)?;
+    let none = Column::none(alloc);
+    let columns = call_columns(alloc, &answers, &none, &select.calls)?;
+    let listed = listed_columns(alloc, &columns)?;
+    let lists = lent_columns(alloc, &listed)?;
+    items_beside_by(alloc, select, rows, &lists, keys)
 }
 
 /// The items of the rows that are left, which are lent on where nothing calls for a window.

@@ -1,11 +1,11 @@
 //! The columns of the calls with OVER.
 ghost use Rattle.std.specs.Prelude.{◌≡◌, ◌≤◌, ◌<◌, ◌+◌, ◌^◌, if◌then◌else◌, [], true, IfOk, OnOk, length, map, slice_index_or};
 ghost use Rattle.std.specs.List.{list_all, list_any};
-ghost use Rattle.wvalues.specs.Meaning.{meaning};
+ghost use Rattle.wcolumns.specs.Columns.{column_seen, columns_in, columns_seen};
 ghost use Rattle.wplan.specs.Plans.{call_plan, window_plan};
 ghost use Rattle.wshare.specs.Sameness.{is_same_order};
 ghost use Rattle.wrows.specs.Outcomes.{Gives};
-ghost use Rattle.wrows.specs.Laid.{rows_in, rows_seen};
+ghost use Rattle.wrows.specs.Laid.{rows_seen};
 ghost use Rattle.wcalls.specs.Frames.{frame_of};
 ghost use Rattle.wcalls.specs.Functions.{window_columns};
 ghost use Rattle.wcalls.specs.Joins.{most_of_functions};
@@ -17,12 +17,12 @@ ghost use Rattle.wplanner.specs.Sound.{is_sound_call};
 ghost use Rattle.wtable.specs.TableOrders.{ArePresortedOf};
 
 use crate::orders::{KeptOrder, keep_shared, order_of};
-use crate::table::cells_from;
 use crate::work::Work;
 use std::alloc::{AllocError, Global};
 use wcalls::window_columns;
+use wcolumns::{Column, LentColumn};
 use wplan::{CallOver, ResolvedWindow, WindowFunction};
-use wrows::{AnswerFault, Cells};
+use wrows::AnswerFault;
 use wtable::PresortedOrder;
 use wvalues::Value;
 
@@ -55,13 +55,13 @@ fn answers_over<'a>(
     kept: &mut Vec<KeptOrder<'a>>,
     presorted: &mut Vec<PresortedOrder>,
     work: &mut Work,
-) -> Result<Cells, AnswerFault>
+) -> Result<Vec<Column<'a>>, AnswerFault>
     requires few { length rows.now < 2 ^ 31 }
     requires window { is_sound_window (window_plan window.now) ≡ true }
     requires functions { list_all is_sound_function (functions_over (map call_plan calls.now) number) ≡ true }
     requires kept { AreOrdersOf (rows_seen rows.now) kept.old.items }
     requires presorted { ArePresortedOf (rows_seen rows.now) presorted.old.items }
-    ensures columns { Gives rows_in result (window_columns (window_plan window.now)
+    ensures columns { Gives columns_in result (window_columns (window_plan window.now)
         (functions_over (map call_plan calls.now) number) (rows_seen rows.now)) }
     ensures kept { AreOrdersOf (rows_seen rows.now) kept.new.items }
     ensures presorted { ArePresortedOf (rows_seen rows.now) presorted.new.items }
@@ -87,7 +87,7 @@ pub(crate) fn window_answers<'a>(
     rows: &'a [&'a [Value]],
     presorted: Vec<PresortedOrder>,
     work: &mut Work,
-) -> Result<Vec<Cells>, AnswerFault>
+) -> Result<Vec<Vec<Column<'a>>>, AnswerFault>
     requires few { length rows.now < 2 ^ 31 }
     requires windows { list_all is_sound_window (map window_plan windows.now) ≡ true }
     requires calls { list_all (is_sound_call (length windows.now)) (map call_plan calls.now) ≡ true }
@@ -95,7 +95,7 @@ pub(crate) fn window_answers<'a>(
     ensures made { work.new.orders ≤ work.old.orders + length windows.now }
     ensures joins { work.new.joins ≤ work.old.joins + most_from (length rows.now) (map call_plan calls.now) 0
         (map window_plan windows.now) }
-    ensures answers { Gives (λ answers. map rows_in answers.items) result
+    ensures answers { Gives (λ answers. map columns_in answers.items) result
         (columns_from (rows_seen rows.now) (map call_plan calls.now) 0 (map window_plan windows.now)) }
 {
     let mut answers = Vec::with_capacity(alloc, windows.len())?;
@@ -134,40 +134,54 @@ fn count_over(calls: &[CallOver], window: usize) -> usize
     count
 }
 
-// The column of a number, empty where there is none.
-fn column_at(columns: &Cells, number: usize) -> &[Value]
-    ensures { map meaning result.now ≡ slice_index_or (rows_in columns.now) number [] }
+// The column of a number, or this one of no rows where there is none.
+fn column_at<'a, 'b>(
+    columns: &'a [Column<'b>],
+    none: &'a Column<'b>,
+    number: usize,
+) -> &'a Column<'b>
+    requires { column_seen none.now ≡ [] }
+    ensures { column_seen result.now ≡ slice_index_or (map column_seen columns.now) number [] }
 {
-    if number < columns.count {
-        cells_from(&columns.cells, number * columns.width, columns.width)
+    if number < columns.len() {
+        &columns[number]
     } else {
-        &[]
+        none
     }
 }
 
-// The column of a number among those of a window, empty where there is none.
-fn column_over(answers: &[Cells], window: usize, number: usize) -> &[Value]
-    ensures { map meaning result.now ≡ slice_index_or (slice_index_or (map rows_in answers.now) window []) number [] }
+// The column of a number among those of a window, or this one of no rows where there is none.
+fn column_over<'a, 'b>(
+    answers: &'a [Vec<Column<'b>>],
+    none: &'a Column<'b>,
+    window: usize,
+    number: usize,
+) -> &'a Column<'b>
+    requires { column_seen none.now ≡ [] }
+    ensures { column_seen result.now ≡ slice_index_or (slice_index_or (map columns_in answers.now) window []) number [] }
 {
     if window < answers.len() {
-        column_at(&answers[window], number)
+        column_at(&answers[window], none, number)
     } else {
-        &[]
+        none
     }
 }
 
-/// The columns of the calls, in their order.
-pub(crate) fn call_columns<'a>(
+/// The columns of the calls, in their order, and this one of no rows for a call without one.
+pub(crate) fn call_columns<'a, 'b>(
     alloc: Global,
-    answers: &'a [Cells],
+    answers: &'a [Vec<Column<'b>>],
+    none: &'a Column<'b>,
     calls: &[CallOver],
-) -> Result<Vec<&'a [Value]>, AllocError>
-    ensures { IfOk result (λ columns. rows_seen columns.items ≡ columns_of_calls (map rows_in answers.now) (map call_plan calls.now)) }
+) -> Result<Vec<LentColumn<'a>>, AllocError>
+    requires { column_seen none.now ≡ [] }
+    ensures { IfOk result (λ columns. columns_seen columns.items ≡ columns_of_calls (map columns_in answers.now) (map call_plan calls.now)) }
 {
     let mut columns = Vec::with_capacity(alloc, calls.len())?;
     for (number, call) in calls.iter().enumerate() {
         let earlier = count_over(&calls[..number], call.window);
-        columns.push(column_over(answers, call.window, earlier))?;
+        let column = column_over(answers, none, call.window, earlier);
+        columns.push(LentColumn { column })?;
     }
     Ok(columns)
 }

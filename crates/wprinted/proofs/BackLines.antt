@@ -1,6 +1,6 @@
 -- Lines that are written from their last field to their first.
 use Rattle.std.proofs.Common.{◌≡◌, ◌∙◌, ◌+◌, ◌-◌, ◌<◌, ◌≤◌, ◌++◌, ◌==◌, ℕ, suc, Bool, true, false, cond, List, []}
-use Rattle.std.proofs.Common.{◌∷◌, drop, drop-cons, get_or, length, map, sym, ap, append_assoc, arith}
+use Rattle.std.proofs.Common.{◌∷◌, drop, drop-cons, get_or, length, map, sym, ap, append_assoc, arith, refl}
 use Rattle.std.proofs.lemmas.Bool.Decides.{nat_tests}
 use Rattle.std.proofs.lemmas.List.{drop-drop, drop_at, length-append, length-drop}
 use Rattle.std.specs.List.{flat_map, join_with_byte}
@@ -18,6 +18,11 @@ kept-behind start end front old new ordered within room is =
     let all : start + (end - start) ≡ end = omega (arith, ordered) in
     ap (λ n. drop n new) (sym all) ∙ sym (drop-drop (end - start) start new) ∙ ap (drop (end - start)) is
     ∙ drop_at front (drop end old) (end - start) long
+
+-- a comma where a field is not the last one, and what stands behind it
+pub comma-first : (is_last : Bool) (behind : List ℕ) → cond is_last behind (44 ∷ behind) ≡ cond is_last [] (44 ∷ []) ++ behind
+comma-first true behind = refl
+comma-first false behind = refl
 
 -- one more from the end of a list
 pub drop-back : {X : Type 0} (xs : List X) (left : ℕ) (d : X) → 0 < left → left ≤ length xs

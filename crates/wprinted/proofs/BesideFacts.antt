@@ -1,22 +1,21 @@
 -- Rows with columns behind their cells, by number.
 use Rattle.std.proofs.Common.{◌≡◌, ◌∙◌, ◌+◌, ◌-◌, ◌<◌, ℕ, List, [], drop, get_or, length, map, min, sym, ap, arith}
-use Rattle.std.specs.Borrow.{Bor}
 use Rattle.std.specs.List.{range_with_len}
 use Rattle.std.proofs.lemmas.List.{get_or-drop, get_or-map, get_or-take, length-drop, length-map, length-take}
 use Rattle.std.proofs.lemmas.List.FromFn.{get_or-range_with_len, length-range_with_len}
-use Rattle.wvalues.specs.Meaning.{Meaning, Null, meaning}
-use Rattle.wvalues.specs.declared.value.Value.{Value}
-use Rattle.wprinted.specs.Beside.{rows_beside, rows_from, seen, whole}
+use Rattle.wvalues.specs.Meaning.{Meaning, Null}
+use Rattle.wcolumns.specs.Columns.{column_seen, columns_seen}
+use Rattle.wcolumns.specs.declared.column.LentColumn.{LentColumn}
+use Rattle.wprinted.specs.Beside.{rows_beside, rows_from, whole}
 
 -- what the column at a place has for a row
-pub behind_is : (columns : List (Bor (List Value))) (number place : ℕ) (column : Bor (List Value)) → place < length columns
-    → column ≡ get_or columns place column → get_or (map meaning column.now) number Null
-    ≡ get_or (map (λ column. get_or column number Null) (seen columns)) place Null
-behind_is columns number place column h e =
-    ap (λ (b : Bor (List Value)). get_or (map meaning b.now) number Null) e
-    ∙ ap (λ l. get_or l number Null) (sym (get_or-map (λ (b : Bor (List Value)). map meaning b.now) columns place column [] h))
-    ∙ sym (get_or-map (λ l. get_or l number Null) (seen columns) place [] Null
-    (omega (arith, h, length-map columns (λ (b : Bor (List Value)). map meaning b.now))))
+pub behind_is : (columns : List LentColumn) (number place : ℕ) (lent : LentColumn) → place < length columns
+    → get_or (column_seen (get_or columns place lent).column.now) number Null
+    ≡ get_or (map (λ column. get_or column number Null) (columns_seen columns)) place Null
+behind_is columns number place lent h =
+    ap (λ l. get_or l number Null) (sym (get_or-map (λ (l : LentColumn). column_seen l.column.now) columns place lent [] h))
+    ∙ sym (get_or-map (λ l. get_or l number Null) (columns_seen columns) place [] Null
+    (omega (arith, h, length-map columns (λ (l : LentColumn). column_seen l.column.now))))
 
 module _ (rows columns : List (List Meaning)) where
   abbrev row_of : ℕ → List Meaning

@@ -4,6 +4,7 @@ use Rattle.std.specs.Borrow.{Bor}
 use Rattle.std.specs.List.{range_with_len}
 use Rattle.wvalues.specs.declared.value.Value.{Value}
 use Rattle.wvalues.specs.Meaning.{Meaning, Null, meaning}
+use Rattle.wcolumns.specs.Columns.{columns_seen}
 use Rattle.wprinted.specs.declared.row.Row.{Row}
 
 -- a row's own cells, and behind them what each column has for its number
@@ -16,7 +17,7 @@ seen = map (λ cells. map meaning cells.now)
 
 -- the values of a row
 abbrev pub values_of : Row → List Meaning
-values_of row = whole (map meaning row.cells.now) (seen row.columns.now) row.number
+values_of row = whole (map meaning row.cells.now) (columns_seen row.columns.now) row.number
 
 -- the rows of some numbers
 abbrev pub rows_at : List (List Meaning) → List (List Meaning) → List ℕ → List (List Meaning)

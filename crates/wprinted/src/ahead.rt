@@ -3,17 +3,18 @@ ghost use Rattle.std.specs.Prelude.{◌≡◌, ◌<◌, ◌≤◌, OnOk, length}
 ghost use Rattle.wvalues.specs.Meaning.{Null, meaning};
 
 use crate::batch::BATCH;
-use crate::row::value_at;
+use crate::row::{Row, field_at};
 use crate::rows::{Lie, Rows};
 use std::alloc::AllocError;
+use wcolumns::{Column, Field, OtherRows};
 use wvalues::Value;
 
 /// How many rows are looked at before they are printed, so few that a cache holds their texts until then: some whole batches.
 const AHEAD: usize = 8 * BATCH;
 
-// The bytes that a cell's text takes, but for most of its quotes.
-fn room_for(cell: &Value) -> usize {
-    let Value::Text(text) = cell else {
+// The bytes that a field's text takes, but for most of its quotes.
+fn room_for(field: Field<'_>) -> usize {
+    let Field::Value(Value::Text(text)) = field else {
         return 0;
     };
     let bytes = text.as_str().as_bytes();
@@ -28,7 +29,7 @@ fn room_at<R: Rows>(rows: &R, null: &Value, place: usize, from: usize, end: usiz
 {
     let mut room: usize = 0;
     for next in from..end {
-        room = room.saturating_add(room_for(value_at(&rows.row(next), null, place)));
+        room = room.saturating_add(room_for(field_at(&rows.row(next), null, place)));
     }
     room
 }
@@ -38,7 +39,10 @@ fn are_numbers<R: Rows>(rows: &R, null: &Value, place: usize, from: usize) -> bo
     requires null { meaning null.now ≡ Null }
     requires within { from < length (R.rows rows.now) }
 {
-    matches!(value_at(&rows.row(from), null, place), Value::Int(_))
+    matches!(
+        field_at(&rows.row(from), null, place),
+        Field::Count(_) | Field::Value(Value::Int(_))
+    )
 }
 
 // Whether one of some rows has a text at a place. Each is read, whatever was found before.
@@ -48,17 +52,60 @@ fn hold_text<R: Rows>(rows: &R, null: &Value, place: usize, from: usize, end: us
 {
     let mut found = false;
     for next in from..end {
-        if let Value::Text(_) = value_at(&rows.row(next), null, place) {
+        if let Field::Value(Value::Text(_)) = field_at(&rows.row(next), null, place) {
             found = true;
         }
     }
     found
 }
 
+// The column that a row has at a place behind its cells, if there is one.
+fn column_at<'a>(row: &Row<'a>, place: usize) -> Option<&'a Column<'a>> {
+    let behind = place.checked_sub(row.cells.len())?;
+    let lent = row.columns.get(behind)?;
+    Some(lent.column)
+}
+
+// What is kept for so many rows from one on, as far as there are some.
+fn numbers_from<'a>(others: &'a OtherRows<'_>, from: usize, count: usize) -> &'a [u32] {
+    let to = others.numbers.len().min(from.saturating_add(count));
+    if from < to {
+        &others.numbers[from..to]
+    } else {
+        &[]
+    }
+}
+
+// Whether one of some rows seems to have a text at a place, where they lie so. Counts are numbers, and what other rows have lies apart
+// even where the rows lie together.
+fn seem_texts<R: Rows>(
+    rows: &R,
+    null: &Value,
+    place: usize,
+    from: usize,
+    end: usize,
+    lie: Lie,
+) -> bool
+    requires null { meaning null.now ≡ Null }
+    requires ordered { from < end }
+    requires within { end ≤ length (R.rows rows.now) }
+{
+    let first = rows.row(from);
+    match (column_at(&first, place), lie) {
+        (Some(Column::Counts(_)), _) => false,
+        (Some(Column::Others(others)), Lie::Together) => {
+            others.hold_text(null, numbers_from(others, first.number, end - from))
+        }
+        (_, Lie::Together) => !are_numbers(rows, null, place, from),
+        (_, Lie::Apart) => hold_text(rows, null, place, from, end),
+    }
+}
+
 /// Makes room for the texts of a row and of those behind it that are looked at with it, a place of all of them after another.
 /// Nothing is done between one value and the next, so that the processor has many of them on their way from memory at once, and
 /// finds them near when they are printed. Where rows lie apart, the cells are looked at before the texts that they lead to; where
-/// they lie together, places of numbers are left out, since their cells are near.
+/// they lie together, places of numbers are left out, since their cells are near. Values that other rows have lie apart however the
+/// rows lie, and are looked at by the numbers that are kept for them; counts are left out.
 pub(crate) fn look_ahead<R: Rows>(
     bytes: &mut Vec<u8>,
     rows: &R,
@@ -77,11 +124,7 @@ pub(crate) fn look_ahead<R: Rows>(
     let lie = rows.lie(row, end);
     let mut room: usize = 0;
     for place in places {
-        let texts = match lie {
-            Lie::Together => !are_numbers(rows, null, *place, row),
-            Lie::Apart => hold_text(rows, null, *place, row, end),
-        };
-        if texts {
+        if seem_texts(rows, null, *place, row, end, lie) {
             room = room.saturating_add(room_at(rows, null, *place, row, end));
         }
     }

@@ -4,9 +4,9 @@ ghost use Rattle.wvalues.specs.Meaning.{Null, meaning};
 ghost use Rattle.wprinted.specs.Beside.{values_of};
 ghost use Rattle.wprinted.specs.Printing.{field_text, line_text, lines_text, rows_between, values_at};
 
-use crate::field::push_value;
+use crate::field::push_field;
 use crate::line::write_line;
-use crate::row::{Row, value_at};
+use crate::row::{Row, field_at};
 use crate::rows::Rows;
 use std::alloc::AllocError;
 use wvalues::Value;
@@ -45,7 +45,7 @@ fn push_values(
         if i > 0 {
             bytes.push(b',')?;
         }
-        push_value(bytes, value_at(&*row, null, *place))?;
+        push_field(bytes, field_at(&*row, null, *place))?;
     }
     bytes.push(b'\n')?;
     Ok(())

@@ -2,10 +2,12 @@
 ghost use Rattle.std.specs.Prelude.{◌≡◌, ◌++◌, OnOk};
 ghost use Rattle.std.specs.List.{list_any};
 ghost use Rattle.wvalues.specs.Meaning.{meaning};
+ghost use Rattle.wcolumns.specs.Columns.{field_seen};
 ghost use Rattle.wprinted.specs.Printing.{field_text, is_quoted, is_special, quoted, text_field};
 
 use itoa::Buffer;
 use std::alloc::AllocError;
+use wcolumns::Field;
 use wvalues::Value;
 
 // Whether a byte stands in quotes alone.
@@ -55,8 +57,8 @@ pub(crate) fn push_text(bytes: &mut Vec<u8>, text: &[u8]) -> Result<(), AllocErr
     }
 }
 
-/// Adds a value.
-pub(crate) fn push_value(bytes: &mut Vec<u8>, value: &Value) -> Result<(), AllocError>
+// Adds a value.
+fn push_value(bytes: &mut Vec<u8>, value: &Value) -> Result<(), AllocError>
     ensures { OnOk result (bytes.new.items ≡ bytes.old.items ++ field_text (meaning value.now)) }
 {
     match value {
@@ -66,5 +68,18 @@ pub(crate) fn push_value(bytes: &mut Vec<u8>, value: &Value) -> Result<(), Alloc
             bytes.extend_from_slice(buffer.format(number.get()).as_bytes())
         }
         Value::Text(text) => push_text(bytes, text.as_str().as_bytes()),
+    }
+}
+
+/// Adds what a row has at a place.
+pub(crate) fn push_field(bytes: &mut Vec<u8>, field: Field<'_>) -> Result<(), AllocError>
+    ensures { OnOk result (bytes.new.items ≡ bytes.old.items ++ field_text (field_seen field.entry)) }
+{
+    match field {
+        Field::Value(value) => push_value(bytes, value),
+        Field::Count(count) => {
+            let mut buffer = Buffer::new();
+            bytes.extend_from_slice(buffer.format(count).as_bytes())
+        }
     }
 }

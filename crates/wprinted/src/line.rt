@@ -1,13 +1,15 @@
 //! Lines that are written from their last byte to their first, in room that is there already.
 ghost use Rattle.std.specs.Prelude.{◌≡◌, ◌≤◌, ◌++◌, ◌∷◌, IfNone, IfSome, drop, if◌then◌else◌, length, map};
-ghost use Rattle.std.specs.Fmt.{signed_decimal};
+ghost use Rattle.std.specs.Fmt.{decimal, signed_decimal};
 ghost use Rattle.wvalues.specs.Meaning.{Null, meaning};
+ghost use Rattle.wcolumns.specs.Columns.{field_seen};
 ghost use Rattle.wprinted.specs.Beside.{values_of};
 ghost use Rattle.wprinted.specs.Printing.{comma, doubled, field_text, line_text, quoted, text_field, values_at};
 
 use crate::field::needs_quotes;
-use crate::row::{Row, value_at};
+use crate::row::{Row, field_at};
 use itoa::write_digits;
+use wcolumns::Field;
 use wvalues::Value;
 
 /// The most digits of a number of 64 bits.
@@ -32,6 +34,21 @@ fn write_number(number: i128, line: &mut [u8], end: usize) -> Option<usize>
     }
     line[start - 1] = b'-';
     Some(start - 1)
+}
+
+// Writes a count so that it ends before a place, and answers where it begins. None where it has no room.
+#[inline(always)]
+fn write_count(count: u32, line: &mut [u8], end: usize) -> Option<usize>
+    requires { end ≤ length line.old }
+    ensures written { IfSome result (λ start. drop start line.new ≡ decimal count ++ drop end line.old) }
+    ensures within { IfSome result (λ start. start ≤ end) }
+    ensures room { length line.new ≡ length line.old }
+    ensures kept { IfNone result (drop end line.new ≡ drop end line.old) }
+{
+    if end <= DIGITS {
+        return None;
+    }
+    Some(write_digits(count as u64, line, end))
 }
 
 // Writes a byte before a place, and answers where it stands, if it can.
@@ -125,23 +142,51 @@ fn write_value(value: &Value, line: &mut [u8], end: usize) -> Option<usize>
     }
 }
 
-// Writes a value before a line that begins at a place, with a comma between where the line has a field already.
+// Writes the text of a field so that it ends before a place, and answers where it begins, if it can.
 #[inline(always)]
-fn write_field(value: &Value, is_last: bool, line: &mut [u8], end: usize) -> Option<usize>
+fn write_field_text(field: Field<'_>, line: &mut [u8], end: usize) -> Option<usize>
     requires { end ≤ length line.old }
-    ensures written { IfSome result (λ start. drop start line.new ≡ field_text (meaning value.now)
-        ++ (if is_last then drop end line.old else (comma ∷ drop end line.old))) }
+    ensures written { IfSome result (λ start. drop start line.new ≡ field_text (field_seen field.entry) ++ drop end line.old) }
+    ensures within { IfSome result (λ start. start ≤ end) }
+    ensures room { length line.new ≡ length line.old }
+    ensures kept { IfNone result (drop end line.new ≡ drop end line.old) }
+{
+    match field {
+        Field::Value(value) => write_value(value, line, end),
+        Field::Count(count) => write_count(count, line, end),
+    }
+}
+
+// Writes the comma behind a field before a place, where the field is not the last one, and answers where it stands, if it can.
+#[inline(always)]
+fn write_comma(is_last: bool, line: &mut [u8], end: usize) -> Option<usize>
+    requires { end ≤ length line.old }
+    ensures written { IfSome result (λ start. drop start line.new
+        ≡ (if is_last then drop end line.old else (comma ∷ drop end line.old))) }
     ensures within { IfSome result (λ start. start ≤ end) }
     ensures room { length line.new ≡ length line.old }
     ensures kept { IfNone result (drop end line.new ≡ drop end line.old) }
 {
     if is_last {
-        return write_value(value, line, end);
+        return Some(end);
     }
-    let Some(comma) = write_byte(b',', line, end) else {
+    write_byte(b',', line, end)
+}
+
+// Writes a field before a line that begins at a place, with a comma between where the line has a field already.
+#[inline(always)]
+fn write_field(field: Field<'_>, is_last: bool, line: &mut [u8], end: usize) -> Option<usize>
+    requires { end ≤ length line.old }
+    ensures written { IfSome result (λ start. drop start line.new ≡ field_text (field_seen field.entry)
+        ++ (if is_last then drop end line.old else (comma ∷ drop end line.old))) }
+    ensures within { IfSome result (λ start. start ≤ end) }
+    ensures room { length line.new ≡ length line.old }
+    ensures kept { IfNone result (drop end line.new ≡ drop end line.old) }
+{
+    let Some(behind) = write_comma(is_last, line, end) else {
         return None;
     };
-    write_value(value, line, comma)
+    write_field_text(field, line, behind)
 }
 
 /// Writes the line of a row's values at some places before a place, and answers where it begins. None where it has no room, or has
@@ -169,7 +214,7 @@ pub(crate) fn write_line(
     while left > 0 {
         let is_last = left == places.len();
         left -= 1;
-        match write_field(value_at(&*row, null, places[left]), is_last, line, at) {
+        match write_field(field_at(&*row, null, places[left]), is_last, line, at) {
             None => return None,
             Some(start) => at = start,
         }

@@ -1,9 +1,11 @@
 //! Rows that are printed.
 ghost use Rattle.std.specs.Prelude.{◌≡◌, ◌<◌, ◌≤◌, [], List, length, map, slice_index_or};
 ghost use Rattle.wvalues.specs.Meaning.{Meaning, meaning};
+ghost use Rattle.wcolumns.specs.Columns.{columns_seen};
 ghost use Rattle.wprinted.specs.Beside.{rows_at, rows_from, seen, values_of};
 
 use crate::row::Row;
+use wcolumns::LentColumn;
 use wvalues::Value;
 
 /// How rows lie in memory: one behind another, or apart, in an order of their own. This is a matter of speed alone.
@@ -37,14 +39,14 @@ pub trait Rows {
 #[derive(Clone, Copy)]
 pub struct RowsBeside<'a> {
     pub rows: &'a [&'a [Value]],
-    pub columns: &'a [&'a [Value]],
+    pub columns: &'a [LentColumn<'a>],
     pub from: usize,
     pub count: usize,
     pub lie: Lie,
 }
 
 impl<'a> Rows for RowsBeside<'a> {
-    ghost rows = { λ beside. rows_from (seen beside.rows.now) (seen beside.columns.now) beside.from beside.count };
+    ghost rows = { λ beside. rows_from (seen beside.rows.now) (columns_seen beside.columns.now) beside.from beside.count };
 
     fn count(&self) -> usize {
         self.count.min(self.rows.len().saturating_sub(self.from))
@@ -68,7 +70,7 @@ impl<'a> Rows for RowsBeside<'a> {
 #[derive(Clone, Copy)]
 pub struct PickedRows<'a> {
     pub rows: &'a [&'a [Value]],
-    pub columns: &'a [&'a [Value]],
+    pub columns: &'a [LentColumn<'a>],
     pub numbers: &'a [usize],
 }
 
@@ -84,7 +86,7 @@ fn cells_at<'a>(rows: &'a [&'a [Value]], number: usize) -> &'a [Value]
 }
 
 impl<'a> Rows for PickedRows<'a> {
-    ghost rows = { λ picked. rows_at (seen picked.rows.now) (seen picked.columns.now) picked.numbers.now };
+    ghost rows = { λ picked. rows_at (seen picked.rows.now) (columns_seen picked.columns.now) picked.numbers.now };
 
     fn count(&self) -> usize {
         self.numbers.len()

@@ -1,6 +1,6 @@
-use Rattle.std.proofs.Common.{◌≡◌, ◌≤◌, ◌+◌, ◌*◌, Ok, length, take}
+use Rattle.std.proofs.Common.{◌≡◌, ◌≤◌, ◌+◌, Ok, length, map, take}
+use Rattle.wcolumns.specs.Columns.{column_seen}
 use Rattle.wrows.specs.Outcomes.{each}
-use Rattle.wrows.specs.LaidRows.{laid}
 use Rattle.wrows.specs.Laid.{rows_seen}
 use Rattle.wcalls.specs.Windows.{Windowed}
 use Rattle.wcalls.specs.Functions.{function_column}
@@ -11,10 +11,9 @@ use Rattle.wcalls.proofs.function_columns.every_column.Given as goal
 
 abbrev pub invariant-loop-function : goal.invariant-loop-function
 invariant-loop-function l = record {
-  long : length l.cells.items ≡ l.function-index * length l.arranged.rows.now;
   joins : l.tally ≤ l.fn.tally + most_of_functions l.arranged.partitions.now.frame.exclusion (length l.arranged.order.now)
       (take l.function-index (functions_seen l.functions));
   so_far : (w : Windowed) → IsArranged w l.arranged.order.now l.arranged.partitions.now
       → each (function_column (rows_seen l.arranged.rows.now) w) (take l.function-index (functions_seen l.functions))
-      ≡ Ok (laid (length l.arranged.rows.now) l.function-index l.cells.items);
+      ≡ Ok (map column_seen l.columns.items);
 }

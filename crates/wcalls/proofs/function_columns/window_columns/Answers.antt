@@ -1,11 +1,13 @@
-use Rattle.std.proofs.Common.{◌<◌, ◌^◌, List, Result, length, sym, ap, ◌∙◌, subst}
+use Rattle.std.proofs.Common.{◌<◌, ◌^◌, List, Result, Vec, Global, length, map, sym, ap, ◌∙◌, subst}
 use Rattle.std.specs.Prelude.{All}
 use Rattle.std.proofs.lemmas.List.{length-map}
 use Rattle.wvalues.specs.Meaning.{Meaning}
+use Rattle.wcolumns.specs.Columns.{column_seen}
+use Rattle.wcolumns.specs.declared.column.Column.{Column}
 use Rattle.wplan.specs.Plans.{window_plan}
 use Rattle.wrows.specs.declared.fault.AnswerFault.{AnswerFault}
 use Rattle.wrows.specs.Outcomes.{Gives, each}
-use Rattle.wrows.specs.Laid.{row_seen, rows_in, rows_seen}
+use Rattle.wrows.specs.Laid.{row_seen, rows_seen}
 use Rattle.wrows.proofs.RowFacts.{then_ok}
 use Rattle.wcalls.specs.Arranged.{IsArranged}
 use Rattle.wcalls.specs.Functions.{function_column}
@@ -33,7 +35,8 @@ returns-clause-columns c =
     let plan = window_plan c.args.window.now in
     let fs = functions_seen c.args.functions.now in
     let p = opened rows plan c.args.order.now c.requires.order in
-    let P : Result (List (List Meaning)) AnswerFault → Type 0 = λ meant. Gives rows_in c.every_column.result meant in
+    let view : Vec Column Global → List (List Meaning) = λ columns. map column_seen columns.items in
+    let P : Result (List (List Meaning)) AnswerFault → Type 0 = λ meant. Gives view c.every_column.result meant in
     let arranged : IsArranged p.window c.rows.result.now c.in_ok-partitions.partitions
     = subst (λ order. IsArranged p.window order c.in_ok-partitions.partitions) (sym c.rows.ensures.rows)
     (c.in_ok-partitions.ensures.arranged p.window p.order_is (c.frame_of.ensures ∙ sym p.frame)) in

@@ -2,6 +2,7 @@ use Rattle.std.proofs.Common.{◌≡◌, ◌∙◌, List, ℕ, Vec, Global, leng
 use Rattle.std.specs.Rc.{rc_str_bytes}
 use Rattle.std.proofs.lemmas.List.{length-map}
 use Rattle.std.proofs.lemmas.Result.{IfOk-weaker}
+use Rattle.wcolumns.specs.Columns.{columns_seen}
 use Rattle.wplan.specs.Plans.{output_plan, select_plan}
 use Rattle.wprinted.specs.Beside.{rows_from}
 use Rattle.wprinted.specs.Printing.{table_text, values_at}
@@ -16,7 +17,7 @@ returns c =
     let select = c.args.select.now in
     let ps = c.args.places.now in
     let rows = rows_seen c.args.rows.now in
-    let columns = rows_seen c.args.columns.now in
+    let columns = columns_seen c.args.columns.now in
     let from = c.at_most-from.result in
     let count = c.limited.result in
     let named : List (List ℕ) = map (λ o. o.name) (select_plan select).items in

@@ -1,5 +1,6 @@
 use Rattle.std.proofs.Common.{◌≡◌, ◌∙◌, ℕ, Ok, Vec, Global, map, ap}
 use Rattle.std.proofs.lemmas.Result.{IfOk-weaker}
+use Rattle.wcolumns.specs.Columns.{columns_seen}
 use Rattle.wplan.specs.Plans.{select_plan}
 use Rattle.wprinted.specs.Printing.{table_text, values_at}
 use Rattle.wrows.specs.Columns.{beside}
@@ -19,7 +20,7 @@ returns-in-None c =
     let s = select_plan select in
     let ps = c.args.places.now in
     let rows = rows_seen c.args.rows.now in
-    let columns = rows_seen c.args.columns.now in
+    let columns = columns_seen c.args.columns.now in
     IfOk-weaker c.standing_text.result (λ (bytes : Vec ℕ Global). bytes.items ≡ table_text (map (λ o. o.name) s.items)
     (map (values_at ps) (cut select.offset select.limit (beside rows columns))))
     (λ (bytes : Vec ℕ Global). text_in s (items_of s (beside rows columns)) ≡ Ok bytes.items)
@@ -31,7 +32,7 @@ returns-in-Some c =
     let s = select_plan select in
     let ps = c.args.places.now in
     let rows = rows_seen c.args.rows.now in
-    let columns = rows_seen c.args.columns.now in
+    let columns = columns_seen c.args.columns.now in
     let presorted = some_presorted (λ (numbers : Vec ℕ Global). by_keys s.keys columns rows ≡ Ok numbers.items)
     c.args.presorted.now c.in-Some.numbers c.in-Some.is c.requires.presorted in
     IfOk-weaker c.picked_text.result (λ (bytes : Vec ℕ Global). bytes.items ≡ table_text (map (λ o. o.name) s.items)

@@ -1,8 +1,6 @@
-use Rattle.std.proofs.Common.{Vec, Global, ℕ, ◌∙◌}
-use Rattle.std.proofs.lemmas.Result.{err_from_is_err_and}
 use Rattle.wplan.specs.Plans.{select_plan}
 use Rattle.wtable.specs.Tables.{rows_of_set}
-use Rattle.wplanner.proofs.LentFacts.{plan_fails, plan_is}
+use Rattle.wplanner.proofs.LentFacts.{plan_is}
 use Rattle.wplanner.proofs.executing.lent_answer.Goals as goal
 
 pub returns-clause-answer : goal.returns-clause-answer

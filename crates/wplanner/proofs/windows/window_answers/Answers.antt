@@ -1,8 +1,9 @@
 use Rattle.std.proofs.Common.{Bool, true, false, ℕ, ◌+◌, ◌≤◌, cond, [], ◌∷◌, length, map, ap, ◌∙◌, arith}
 use Rattle.std.proofs.lemmas.List.{map-append}
+use Rattle.wcolumns.specs.Columns.{columns_in}
 use Rattle.wplan.specs.Plans.{call_plan}
 use Rattle.wplanner.proofs.CallFacts.{sound_functions}
-use Rattle.wrows.specs.Laid.{rows_in, rows_seen}
+use Rattle.wrows.specs.Laid.{rows_seen}
 use Rattle.wplanner.proofs.SelectFacts.{joins_refused, joins_answered, sound_window_at, window_answered}
 use Rattle.wplanner.proofs.windows.window_answers.Goals as goal
 
@@ -41,10 +42,10 @@ loop-number-preserved c =
     let w = c.index-windows-number.result in
     let calls = map call_plan c.args.calls.now in
     record {
-      so_far = window_answered (rows_seen c.args.rows.now) calls ws (map rows_in c.loop-number.answers.items)
-          (map rows_in c.push.new.self.items) c.loop-number.number w (rows_in c.in-Ok.columns) _ c.loop-number-test.true
+      so_far = window_answered (rows_seen c.args.rows.now) calls ws (map columns_in c.loop-number.answers.items)
+          (map columns_in c.push.new.self.items) c.loop-number.number w (columns_in c.in-Ok.columns) _ c.loop-number-test.true
           c.index-windows-number.is c.loop-number.invariant.so_far c.in-Ok.ensures.columns
-          (ap (map rows_in) c.in_ok-push-in-Ok.ensures.items ∙ map-append rows_in c.loop-number.answers.items (_ ∷ []));
+          (ap (map columns_in) c.in_ok-push-in-Ok.ensures.items ∙ map-append columns_in c.loop-number.answers.items (_ ∷ []));
       kept = c.in-Ok.ensures.kept;
       presorted = c.in-Ok.ensures.presorted;
       made = made_more _ c.args.work.now.orders c.loop-number.work.orders c.answers_over.new.work.orders

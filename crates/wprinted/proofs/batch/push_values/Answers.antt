@@ -14,14 +14,14 @@ loop-i-preserved c =
     let text : ℕ → List ℕ = λ place. field_text (get_or (values_of c.args.row.now) place Null) in
     let place : ℕ = get_or c.args.places.now c.loop-i.i 0 in
     let is = get_or_default c.args.places.now c.loop-i.i 0 place c.loop-i-test.true in
-    let pushed = c.in_ok-push_value.ensures ∙ ap (λ value. c.if-i-gt0.bytes.items ++ field_text value) c.value_at.ensures in
+    let pushed = c.in_ok-push_field.ensures ∙ ap (λ value. c.if-i-gt0.bytes.items ++ field_text value) c.field_at.ensures in
     elim c.if-i-gt0.branch [
       | then-i-gt0+in_ok-push w ↦ joined-more 44 text c.args.places.now c.loop-i.i place c.args.bytes.now.items
-          c.loop-i.bytes.items c.if-i-gt0.bytes.items c.push_value.new.bytes.items
+          c.loop-i.bytes.items c.if-i-gt0.bytes.items c.push_field.new.bytes.items
           w.if-i-gt0.true c.loop-i-test.true is c.loop-i.invariant (ap (λ bytes. bytes.items) w.bytes-is
           ∙ w.in_ok-push.ensures.items) pushed
       | else-i-gt0 w ↦ joined-first 44 text c.args.places.now c.loop-i.i place c.args.bytes.now.items c.if-i-gt0.bytes.items
-          c.push_value.new.bytes.items
+          c.push_field.new.bytes.items
           (omega (arith, w.if-i-gt0.false)) c.loop-i-test.true is (ap (λ bytes. bytes.items) w.bytes-is ∙ c.loop-i.invariant) pushed
     ]
 

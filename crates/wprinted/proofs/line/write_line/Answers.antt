@@ -7,7 +7,7 @@ use Rattle.wprinted.proofs.line.write_line.Goals as goal
 pub loop-left-preserved : goal.loop-left-preserved
 loop-left-preserved c = record {
   written = line-more c.args.places.now (values_of c.args.row.now) (drop c.args.end c.args.line.now) c.loop-left.left _ _ _ _
-      c.loop-left-test.true c.loop-left.invariant.left refl c.loop-left.invariant.written c.value_at.ensures
+      c.loop-left-test.true c.loop-left.invariant.left refl c.loop-left.invariant.written c.field_at.ensures
       c.in-Some-write_field.ensures.written;
   before = omega (arith, c.in-Some-write_field.ensures.within, c.loop-left.invariant.before);
   room = c.in-Some-write_field.ensures.room ∙ c.loop-left.invariant.room;

@@ -1,5 +1,5 @@
-use Rattle.std.proofs.Common.{◌≡◌, ◌+◌, ℕ, pos, length, map, drop}
-use Rattle.wvalues.specs.Meaning.{Meaning, Int}
+use Rattle.std.proofs.Common.{◌≡◌, ◌+◌, ℕ, length, map, drop}
+use Rattle.wvalues.specs.Meaning.{Meaning}
 use Rattle.wframe.specs.Places.{places}
 use Rattle.waggregate.specs.Put.{put_all}
 use Rattle.wcalls.proofs.counts.CountedRowFunction.keep.Given as goal
@@ -7,10 +7,10 @@ use Rattle.wcalls.proofs.counts.CountedRowFunction.keep.Given as goal
 abbrev pub invariant-loop-place : goal.invariant-loop-place
 invariant-loop-place g l =
     let count_at : ℕ → ℕ = g.N.Counts.count_at l.self.counts (length l.rows) l.frames in
-    let meant : ℕ → Meaning = λ count. Int (pos count) in
-    let values = map (λ place. Int (pos (count_at place))) (places (length l.rows)) in
     record {
       long : length l.kept ≡ length l.fn.kept;
-      put : put_all (map meant l.kept) (drop l.place l.rows) (drop l.place values) ≡ put_all (map meant l.fn.kept) l.rows values;
+      put : (meant : ℕ → Meaning) → put_all (map meant l.kept) (drop l.place l.rows)
+          (drop l.place (map (λ place. meant (count_at place)) (places (length l.rows))))
+          ≡ put_all (map meant l.fn.kept) l.rows (map (λ place. meant (count_at place)) (places (length l.rows)));
       before : (j : ℕ) → l.place ≡ j + 1 → l.count ≡ count_at j;
     }

@@ -1,6 +1,7 @@
 use Rattle.std.proofs.Common.{◌∙◌, ◌+◌, ◌<◌, [], length, map, sym, ap, arith}
 use Rattle.std.proofs.lemmas.List.{get_or-map, length-map}
 use Rattle.wvalues.specs.Meaning.{meaning}
+use Rattle.wcolumns.specs.Columns.{columns_seen}
 use Rattle.wprinted.specs.Beside.{seen, whole}
 use Rattle.wprinted.proofs.BesideFacts.{from_at, from_within}
 use Rattle.wprinted.proofs.rows.RowsBesideRows.row.Goals as goal
@@ -10,7 +11,7 @@ overflow_add-number c =
     let s = c.args.self.now in
     omega (
       arith,
-      from_within (seen s.rows.now) (seen s.columns.now) s.from s.count c.args.number c.requires,
+      from_within (seen s.rows.now) (columns_seen s.columns.now) s.from s.count c.args.number c.requires,
       length-map s.rows.now (λ cells. map meaning cells.now),
     )
 
@@ -19,7 +20,7 @@ offset_bounds-self-number c =
     let s = c.args.self.now in
     omega (
       arith,
-      from_within (seen s.rows.now) (seen s.columns.now) s.from s.count c.args.number c.requires,
+      from_within (seen s.rows.now) (columns_seen s.columns.now) s.from s.count c.args.number c.requires,
       length-map s.rows.now (λ cells. map meaning cells.now),
     )
 
@@ -28,7 +29,7 @@ bounds-self-number c =
     let s = c.args.self.now in
     omega (
       arith,
-      from_within (seen s.rows.now) (seen s.columns.now) s.from s.count c.args.number c.requires,
+      from_within (seen s.rows.now) (columns_seen s.columns.now) s.from s.count c.args.number c.requires,
       length-map s.rows.now (λ cells. map meaning cells.now),
     )
 
@@ -40,8 +41,9 @@ returns c =
     let within : number < length s.rows.now =
     omega (
       arith,
-      from_within (seen s.rows.now) (seen s.columns.now) s.from s.count c.args.number c.requires,
+      from_within (seen s.rows.now) (columns_seen s.columns.now) s.from s.count c.args.number c.requires,
       length-map s.rows.now (λ cells. map meaning cells.now),
     ) in
-    ap (λ own. whole own (seen s.columns.now) number) (sym (get_or-map (λ cells. map meaning cells.now) s.rows.now number row [] within))
-    ∙ sym (from_at (seen s.rows.now) (seen s.columns.now) s.from s.count c.args.number c.requires)
+    ap (λ own. whole own (columns_seen s.columns.now) number)
+    (sym (get_or-map (λ cells. map meaning cells.now) s.rows.now number row [] within))
+    ∙ sym (from_at (seen s.rows.now) (columns_seen s.columns.now) s.from s.count c.args.number c.requires)

@@ -1,0 +1,19 @@
+//! Columns: what each row has, by the numbers of the rows, however it is kept.
+//!
+//! - Gives columns of values, of counts, and of values that other rows have, and what a column has for a row.
+//! - Promises: what a column has is read where it lies, and takes no memory. Counts, and numbers of other rows, are of 32 bits.
+//! - Asks: nothing. A row that is not there has a null.
+//! - Leaves: what the columns are to `wcalls`, which makes them, and how they are printed to `wprinted`.
+//!
+//! Read `specs/Columns.antt`.
+#![tactic(auto)]
+
+mod column;
+mod field;
+mod other_rows;
+mod values;
+
+pub use column::{Column, LentColumn};
+pub use field::Field;
+pub use other_rows::OtherRows;
+pub use values::{ColumnValues, value_of_row, value_or_null};

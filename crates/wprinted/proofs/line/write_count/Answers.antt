@@ -1,0 +1,9 @@
+use Rattle.std.proofs.Common.{arith}
+use Rattle.std.proofs.lemmas.Fmt.{length-decimal-le}
+use Rattle.wprinted.proofs.line.write_count.Goals as goal
+
+pub write_digits-requires : goal.write_digits-requires
+write_digits-requires c = (
+  omega (arith, length-decimal-le 20 c.args.count (omega arith) (omega arith) (omega arith)),
+  c.requires,
+)
