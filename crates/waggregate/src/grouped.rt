@@ -41,7 +41,7 @@ fn group_parts<F: Fold>(
     alloc: Global,
     fold: &F,
     meter: &mut F::Meter,
-    groups: &[usize],
+    groups: &[u32],
     count: usize,
 ) -> Result<Vec<F::Part>, AllocError>
     requires rows { length groups.now ≡ F.rows fold.now }
@@ -54,7 +54,7 @@ fn group_parts<F: Fold>(
 {
     let mut parts = units(alloc, fold, count)?;
     for row in 0..groups.len() {
-        let group = groups[row];
+        let group = groups[row] as usize;
         parts[group] = fold.join(meter, parts[group], fold.of(row));
     }
     Ok(parts)
@@ -81,7 +81,7 @@ fn fold_groups<F: ToldFold>(
     alloc: Global,
     fold: &F,
     meter: &mut F::Meter,
-    groups: &[usize],
+    groups: &[u32],
     count: usize,
     order: &[usize],
 ) -> Result<Vec<Value>, AnswerFault>
@@ -126,14 +126,14 @@ pub fn joined_lists(alloc: Global, lists: Vec<Vec<Value>>) -> Result<Vec<Value>,
 }
 
 /// What an aggregate that is fed these values comes to over the rows of each group, `OutOfRange` where a result is so.
-/// `groups` has the number of each row's group, of so many groups, and `order` the groups that are answered, in their
+/// `groups` has the number of each row's group, of 32 bits, of so many groups, and `order` the groups that are answered, in their
 /// order. The rows are gone through as often for many groups as for one.
 pub fn aggregate_groups(
     alloc: Global,
     function: AggregateFunction,
     values: &[&Value],
     filter: &Option<Vec<bool>>,
-    groups: &[usize],
+    groups: &[u32],
     count: usize,
     order: &[usize],
 ) -> Result<Vec<Value>, AnswerFault>

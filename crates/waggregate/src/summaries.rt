@@ -228,7 +228,7 @@ fn summed_rows<'a>(
     alloc: Global,
     values: &[&'a Value],
     extremes: Extremes,
-    groups: &[usize],
+    groups: &[u32],
     count: usize,
 ) -> Result<Vec<Summary<'a>>, AllocError>
     requires rows { length groups.now ≡ length values.now }
@@ -237,18 +237,18 @@ fn summed_rows<'a>(
 {
     let mut summaries = repeated(alloc, &Summary::of_none(), count)?;
     for row in 0..groups.len() {
-        summaries[groups[row]].add(extremes, values[row]);
+        summaries[groups[row] as usize].add(extremes, values[row]);
     }
     Ok(summaries)
 }
 
 /// What the rows of each group come to, in one pass over the rows, where `values` are what they feed without a filter. `groups`
-/// has the number of each row's group, of so many groups.
+/// has the number of each row's group, of 32 bits, of so many groups.
 pub fn summarize<'a>(
     alloc: Global,
     values: &[&'a Value],
     extremes: Extremes,
-    groups: &[usize],
+    groups: &[u32],
     count: usize,
 ) -> Result<Summaries<'a>, AllocError>
     requires rows { length groups.now ≡ length values.now }

@@ -1,5 +1,5 @@
 -- Groups that are made of rows, and groups that are made of groups.
-use Rattle.std.proofs.Common.{◌≡◌, ℕ, zero, suc, ◌<◌, ◌≤◌, ◌==◌, ◌^◌, ◌||◌, ◌⊎◌, inl, inr, Bool, true, false, not, cond, List}
+use Rattle.std.proofs.Common.{◌≡◌, ℕ, zero, suc, ◌<◌, ◌==◌, ◌^◌, ◌||◌, ◌⊎◌, inl, inr, Bool, true, false, cond, List}
 use Rattle.std.proofs.Common.{[], ◌∷◌, ◌++◌, length, length-append, map, take, get_or, All, Option, Some, None, unwrap_or, Ok}
 use Rattle.std.proofs.Common.{Vec, Global, Ordering, is_gt, refl, sym, ap, subst, ◌∙◌, arith, ◌≢◌, eqb, true≢false}
 use Rattle.std.specs.Borrow.{Bor}
@@ -33,17 +33,12 @@ use Rattle.wgroup.specs.Finer.{IsMadeOfOne, IsSeen, MadeFrom, base_place, functi
 use Rattle.wgroup.proofs.AnswerFacts.{of_answers}
 use Rattle.wgroup.proofs.CoarserFacts.{finer_has}
 use Rattle.wgroup.proofs.LeaderFacts.{in_order}
-use Rattle.wgroup.proofs.ListFacts.{all_implied, at_places, each_mapped, filter_le, map_same}
+use Rattle.wgroup.proofs.ListFacts.{all_implied, at_places, each_mapped, map_same}
 use Rattle.wgroup.proofs.SeenFacts.{agree_equiv}
-use Rattle.wgroup.proofs.SightFacts.{any_implied, as_many_numbers, firsts_within, is_of_group, numbers_below, number_at}
+use Rattle.wgroup.proofs.SightFacts.{any_implied, as_many_numbers, firsts_fewer, firsts_within, is_of_group, numbers_below, number_at}
 use Rattle.wgroup.proofs.TotalFacts.{of_sorted}
 use Rattle.wgroup.proofs.PartFacts.{any_is_total}
 use Rattle.wgroup.proofs.AnswerFacts.{or_assoc, or_comm}
-
-firsts_fewer : (same : ℕ → ℕ → Bool) (n : ℕ) (firsts numbers : List ℕ) → IsSight same n firsts numbers → length firsts ≤ n
-firsts_fewer same n firsts numbers s =
-    let kept = filter_le (λ i. not (list_any (same i) (places i))) (places n) in
-    omega (arith, kept, ap length s.are_firsts, length-places 0 n)
 
 -- the first row of a group has its number
 first_numbered : (same : ℕ → ℕ → Bool) → IsEquivalence same → (n : ℕ) (firsts numbers : List ℕ)

@@ -76,15 +76,14 @@ fn is_of_group(keyed: &Keyed, table: &Table, number: usize, row: usize) -> bool
 
 // The group of a row, if its number is among these.
 #[inline(always)]
-fn group_among(keyed: &Keyed, table: &Table, numbers: &[u32], row: usize) -> Option<usize>
+fn group_among(keyed: &Keyed, table: &Table, numbers: &[u32], row: usize) -> Option<u32>
     requires { HasKeys keyed.now table.now.firsts.items table.now.keys.items }
     ensures some { IfSome result (λ number. is_of_group keyed.now table.now.firsts.items row number ≡ true) }
     ensures none { IfNone result (list_any (is_of_group keyed.now table.now.firsts.items row) numbers.now ≡ false) }
 {
     for number in numbers {
-        let number = *number as usize;
-        if is_of_group(keyed, table, number, row) {
-            return Some(number);
+        if is_of_group(keyed, table, *number as usize, row) {
+            return Some(*number);
         }
     }
     None
@@ -100,7 +99,7 @@ fn free_slot(slots: &[u32], groups: usize) -> Option<usize>
 impl Table {
     // The group of a row, of whose key this is the first slot, if it is of one that was seen. What else changes is the count
     // of looks.
-    fn group_seen(&mut self, keyed: &Keyed, first: usize, row: usize) -> Option<usize>
+    fn group_seen(&mut self, keyed: &Keyed, first: usize, row: usize) -> Option<u32>
         requires keys { HasKeys keyed.now self.old.firsts.items self.old.keys.items }
         requires first { first + 8 ≤ length self.old.slots.items }
         ensures some { IfSome result (λ number. is_of_group keyed.now self.old.firsts.items row number ≡ true) }
@@ -118,7 +117,7 @@ impl Table {
     }
 
     // Adds the group that begins with a row, of whose key this is the first slot.
-    fn add(&mut self, keyed: &Keyed, first: usize, row: usize) -> Result<usize, AllocError>
+    fn add(&mut self, keyed: &Keyed, first: usize, row: usize) -> Result<u32, AllocError>
         requires held { Holds keyed.now row self.old }
         requires new { list_any (alike keyed.now row) self.old.firsts.items ≡ false }
         requires first { first ≡ slot_of self.old.slots.items (key_hash keyed.now row) }
@@ -127,18 +126,19 @@ impl Table {
         ensures held { OnOk result (Holds keyed.now (row + 1) self.new) }
         ensures number { IfOk result (λ number. number ≡ length self.old.firsts.items) }
     {
-        let number = self.firsts.len();
-        match free_slot(&self.slots[first..first + MOST_PROBES], number) {
-            Some(step) => self.slots[first + step] = number as u32,
-            None => self.apart.push(number as u32)?,
+        let groups = self.firsts.len();
+        let number = groups as u32;
+        match free_slot(&self.slots[first..first + MOST_PROBES], groups) {
+            Some(step) => self.slots[first + step] = number,
+            None => self.apart.push(number)?,
         }
         push_key(keyed.columns, cells_at(keyed.rows, row), &mut self.keys)?;
         self.firsts.push(row)?;
         Ok(number)
     }
 
-    /// The number of a row's group, which is added where no earlier row is of it.
-    pub(crate) fn number_of(&mut self, keyed: &Keyed, row: usize) -> Result<usize, AllocError>
+    /// The number of a row's group, of 32 bits, which is added where no earlier row is of it.
+    pub(crate) fn number_of(&mut self, keyed: &Keyed, row: usize) -> Result<u32, AllocError>
         requires held { Holds keyed.now row self.old }
         requires few { length self.old.firsts.items < 2 ^ 32 }
         ensures held { OnOk result (Holds keyed.now (row + 1) self.new) }

@@ -16,6 +16,7 @@ groups_of_groups-requires c =
       linked = linked (take place sets) g
           (subst (IsMade (take place sets)) (sym c.index-found-place.is) (c.requires.made place g c.in-Some.ensures.within));
       part = found.1;
+      few = c.requires.few;
     }
 
 pub returns-in-Some-clause-made : goal.returns-in-Some-clause-made

@@ -20,7 +20,7 @@ returns-clause-held c =
     let first = c.args.first in
     let row = c.args.row in
     let met : AreMet keyed firsts slots apart = c.requires.held.met in
-    let last : length firsts ≡ c.len-number.result = sym (c.len-number.ensures ∙ table.firsts.ok.0) in
+    let last : length firsts ≡ c.len-groups.result = sym (c.len-groups.ensures ∙ table.firsts.ok.0) in
     let after = c.match-free_slot.self in
     let put : IsPut keyed row table after
     = elim c.match-free_slot.branch [
@@ -28,19 +28,19 @@ returns-clause-held c =
           let eight : 8 ≡ (first + 8) - first = omega arith in
           let found : position (nat_le (length firsts)) (take 8 (drop first slots)) ≡ Some w.in-Some.step
           = ap (λ n. position (nat_le n) (take 8 (drop first slots))) last
-          ∙ ap (λ l. position (nat_le c.len-number.result) (take 8 (drop first l))) (sym c.deref.ensures.value)
-          ∙ ap (λ n. position (nat_le c.len-number.result) (take n (drop first c.deref.result.now))) eight
+          ∙ ap (λ l. position (nat_le c.len-groups.result) (take 8 (drop first l))) (sym c.deref.ensures.value)
+          ∙ ap (λ n. position (nat_le c.len-groups.result) (take n (drop first c.deref.result.now))) eight
           ∙ sym c.free_slot.ensures ∙ w.in-Some.is in
           let free : (w.in-Some.step < 8) × (length firsts ≤ get_or slots (first + w.in-Some.step) 0) =
           free_near slots first (length firsts) w.in-Some.step c.requires.within found in
-          let near : AreMet keyed (firsts ++ row ∷ []) (set slots (first + w.in-Some.step) c.len-number.result) apart
+          let near : AreMet keyed (firsts ++ row ∷ []) (set slots (first + w.in-Some.step) c.len-groups.result) apart
           = subst (λ n. AreMet keyed (firsts ++ row ∷ []) (set slots (first + w.in-Some.step) n) apart) last
           (met_near keyed firsts slots apart met first row c.requires.first w.in-Some.step free.0 c.requires.within free.1) in
           subst (IsPut keyed row table) (sym w.self-is) (record {
             firsts = refl;
             keys = refl;
             long =
-                length-set slots (first + w.in-Some.step) c.len-number.result;
+                length-set slots (first + w.in-Some.step) c.len-groups.result;
             met = near;
           })
       | in-None+in_ok-push-in-None w ↦
