@@ -25,6 +25,7 @@ mod rows;
 mod schema;
 mod schema_fault;
 mod segment;
+mod segment_rows;
 mod spelling;
 mod texts;
 
@@ -36,3 +37,4 @@ pub use laws::{one_spelling, rows_need_no_memory, values_stand_under_their_names
 pub use schema::Schema;
 pub use schema_fault::SchemaFault;
 pub use segment::Segment;
+pub use segment_rows::SegmentRows;

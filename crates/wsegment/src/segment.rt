@@ -11,6 +11,7 @@ use crate::judged::{Judged, MAX_BYTES};
 use crate::records::{reader_of, take_header};
 use crate::rows::{Rows, read_rows};
 use crate::schema::Schema;
+use crate::segment_rows::{SegmentRows, part};
 use std::alloc::{AllocError, Global};
 use std::marker::Model;
 use std::rc::Rc;
@@ -34,15 +35,6 @@ impl Model for Segment {
     ghost view = { content_of };
 
     ghost invariant = { IsKept };
-}
-
-// The cells of a row, where each row has so many.
-fn part(cells: &[Value], row: usize, width: usize) -> &[Value]
-    requires { row * width + width ≤ length cells.now }
-    ensures { result.now ≡ take width (drop (row * width) cells.now) }
-{
-    let start = row * width;
-    &cells[start..start + width]
 }
 
 // The typed rows of these bytes, or their first fault.
@@ -124,6 +116,13 @@ impl Segment {
         ensures width { length result.now ≡ self.now.columns }
     {
         part(&self.rows.cells, row, self.rows.width)
+    }
+
+    /// All rows, lent, for whoever looks many of them up.
+    pub fn lent_rows(&self) -> SegmentRows<'_>
+        ensures { result ≡ self.now.rows }
+    {
+        SegmentRows::new(&self.rows)
     }
 
     /// The value of a row and a column, both counted from 0.

@@ -1,9 +1,8 @@
 -- The rows that references tell.
 use Rattle.std.proofs.Common.{◌≡◌, ℕ, zero, suc, ◌+◌, ◌<◌, List, [], ◌∷◌, ◌++◌, length, map}
 use Rattle.std.proofs.Common.{take, get_or, None, length-append, ap, sym, ◌∙◌, refl, arith}
-use Rattle.std.proofs.lemmas.List.{get_or-append-add, append_assoc, get_or_append_left, map-append}
+use Rattle.std.proofs.lemmas.List.{get_or-append-add, append_assoc, get_or_append_left}
 use Rattle.std.specs.List.{AllByRecursion}
-use Rattle.std.specs.Borrow.{Bor}
 use Rattle.wvalues.specs.Names.{NameParts}
 use Rattle.wsegment.specs.Rows.{Content}
 use Rattle.wframe.specs.Peers.{key_at}
@@ -11,21 +10,19 @@ use Rattle.wrows.specs.Columns.{Row}
 use Rattle.wruns.specs.Orderings.{kept_before, kept_numbers, number_of}
 use Rattle.wruns.specs.Runs.{joined}
 use Rattle.wruns.specs.declared.refs.RowRef.{RowRef}
-use Rattle.wtable.specs.Referenced.{referenced_row, segments_seen}
+use Rattle.wtable.specs.Referenced.{referenced_row}
 use Rattle.wtable.specs.TableOrders.{IsRowOf, holds_by}
 use Rattle.wtable.proofs.NumberFacts.{all_filtered, length_taken, row_below}
 
 -- one segment more is lent
-pub segment_more : (before after : List (Bor Content)) (whole : List (List Row)) (segments left : List (NameParts
-    × Content)) (e : NameParts × Content) (segment : Bor Content) → segments ≡ e ∷ left
-    → segments_seen before ++ map (λ e. e.1.rows) segments ≡ whole → after ≡ before ++ segment ∷ [] → segment.now ≡ e.1
-    → segments_seen after ++ map (λ e. e.1.rows) left ≡ whole
+pub segment_more : (before after whole : List (List Row)) (segments left : List (NameParts × Content)) (e : NameParts × Content)
+    (segment : Content) → segments ≡ e ∷ left → before ++ map (λ e. e.1.rows) segments ≡ whole
+    → after ≡ before ++ segment.rows ∷ [] → segment ≡ e.1 → after ++ map (λ e. e.1.rows) left ≡ whole
 segment_more before after whole segments left e segment is so_far more same =
-    ap (λ l. segments_seen l ++ map (λ e. e.1.rows) left) more ∙ ap (λ l. l ++ map (λ e. e.1.rows) left)
-    (map-append (λ (s : Bor Content). s.now.rows) before (segment ∷ []))
-    ∙ append_assoc (segments_seen before) (segment.now.rows ∷ []) (map (λ e. e.1.rows) left)
-    ∙ ap (λ (c : Content). segments_seen before ++ c.rows ∷ map (λ e. e.1.rows) left) same
-    ∙ ap (λ l. segments_seen before ++ map (λ e. e.1.rows) l) (sym is) ∙ so_far
+    ap (λ l. l ++ map (λ e. e.1.rows) left) more
+    ∙ append_assoc before (segment.rows ∷ []) (map (λ e. e.1.rows) left)
+    ∙ ap (λ (c : Content). before ++ c.rows ∷ map (λ e. e.1.rows) left) same
+    ∙ ap (λ l. before ++ map (λ e. e.1.rows) l) (sym is) ∙ so_far
 
 -- the row of a segment's place, among all rows
 row_among : (segments : List (List Row)) (s row : ℕ) → s < length segments → row < length (get_or segments s [])

@@ -5,45 +5,34 @@ ghost use Rattle.wrows.specs.Columns.{not_too_many};
 ghost use Rattle.wrows.specs.Laid.{rows_seen};
 ghost use Rattle.wrows.specs.Outcomes.{Gives};
 ghost use Rattle.wset.specs.Running.{live_rows};
-ghost use Rattle.wtable.specs.Referenced.{referenced_row, segments_seen};
+ghost use Rattle.wtable.specs.Referenced.{referenced_row};
 
 use std::alloc::{AllocError, Global};
 use wrows::{AnswerFault, not_too_many};
 use wruns::RowRef;
-use wsegment::Segment;
+use wsegment::SegmentRows;
 use wset::SegmentSet;
 use wvalues::Value;
 
-// The live segments, by name.
-fn live_segments(alloc: Global, set: &SegmentSet) -> Result<Vec<&Segment>, AllocError>
-    ensures { IfOk result (λ segments. segments_seen segments.items ≡ live_rows set.now) }
+// The rows of each live segment, by name, lent side by side, so that a look at one need not go by the segment.
+fn live_segments(alloc: Global, set: &SegmentSet) -> Result<Vec<SegmentRows<'_>>, AllocError>
+    ensures { IfOk result (λ segments. segments.items ≡ live_rows set.now) }
 {
     let mut segments = Vec::new(alloc);
     'live: for (_, kept) in set.lives() {
         let segment = kept.segment()?;
-        segments.push(segment)?;
+        segments.push(segment.lent_rows())?;
     }
     Ok(segments)
 }
 
-// The row of a segment at a place, without values where there is no such row.
-fn row_at<'a>(segment: &'a Segment, row: usize) -> &'a [Value]
-    ensures { map meaning result.now ≡ slice_index_or segment.now.rows row [] }
-{
-    if row < segment.rows() {
-        segment.row(row)
-    } else {
-        &[]
-    }
-}
-
 // The row that a reference tells, without values where there is no such row.
-fn referenced_row<'a>(segments: &[&'a Segment], reference: &RowRef) -> &'a [Value]
-    ensures { map meaning result.now ≡ referenced_row (segments_seen segments.now) reference.now }
+fn referenced_row<'a>(segments: &[SegmentRows<'a>], reference: &RowRef) -> &'a [Value]
+    ensures { map meaning result.now ≡ referenced_row segments.now reference.now }
 {
     let segment = reference.segment as usize;
     if segment < segments.len() {
-        row_at(segments[segment], reference.row as usize)
+        segments[segment].row(reference.row as usize)
     } else {
         &[]
     }
@@ -52,10 +41,10 @@ fn referenced_row<'a>(segments: &[&'a Segment], reference: &RowRef) -> &'a [Valu
 // The rows that references tell.
 fn each_referenced<'a>(
     alloc: Global,
-    segments: &[&'a Segment],
+    segments: &[SegmentRows<'a>],
     refs: &[RowRef],
 ) -> Result<Vec<&'a [Value]>, AllocError>
-    ensures { IfOk result (λ rows. rows_seen rows.items ≡ map (referenced_row (segments_seen segments.now)) refs.now) }
+    ensures { IfOk result (λ rows. rows_seen rows.items ≡ map (referenced_row segments.now) refs.now) }
 {
     let mut rows = Vec::with_capacity(alloc, refs.len())?;
     for reference in refs {

@@ -1,6 +1,5 @@
 use Rattle.std.proofs.Common.{◌∙◌, ◌++◌, map, append-nil, ap, sym}
 use Rattle.wset.specs.Running.{live_rows}
-use Rattle.wtable.specs.Referenced.{segments_seen}
 use Rattle.wtable.proofs.LiveFacts.{lent_rows_are}
 use Rattle.wtable.proofs.ReferenceFacts.{segment_more}
 use Rattle.wtable.proofs.referenced.live_segments.Goals as goal
@@ -17,5 +16,5 @@ live-preserved c =
 
 pub returns : goal.returns
 returns c =
-    sym (append-nil (segments_seen c.live.segments.items))
-    ∙ ap (λ l. segments_seen c.live.segments.items ++ map (λ e. e.1.rows) l) (sym c.in-None.ensures.steps.0) ∙ c.live.invariant
+    sym (append-nil c.live.segments.items)
+    ∙ ap (λ l. c.live.segments.items ++ map (λ e. e.1.rows) l) (sym c.in-None.ensures.steps.0) ∙ c.live.invariant
