@@ -13,7 +13,7 @@ const ROWS: usize = 4096;
 #[derive(Clone, Copy)]
 pub(crate) struct Batch<'a> {
     /// The numbers of their rows, in the window's order.
-    pub(crate) rows: &'a [usize],
+    pub(crate) rows: &'a [u32],
     /// All partitions of the window.
     pub(crate) partitions: &'a Partitions<'a>,
     /// Which of them these are, one at least.
@@ -44,7 +44,7 @@ fn end_of_batch(partitions: &Partitions, from: usize) -> usize
 /// The batch that begins at a partition, of which `rows` has the numbers of the rows of all. It ends as soon as it has `ROWS` rows, or
 /// with the last partition.
 pub(crate) fn batch_from<'a>(
-    rows: &'a [usize],
+    rows: &'a [u32],
     partitions: &'a Partitions<'a>,
     from: usize,
 ) -> Batch<'a>

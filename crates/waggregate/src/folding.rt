@@ -127,12 +127,12 @@ pub(crate) fn push_values<F: ToldFold>(
 const AHEAD: usize = 256;
 
 // Whether one of the cells of these rows holds a text. Each is read, whatever was found before.
-fn hold_text(column: &[Value], rows: &[usize]) -> bool
+fn hold_text(column: &[Value], rows: &[u32]) -> bool
     requires { All (λ i. i < length column.now) rows.now }
 {
     let mut found = false;
     for row in rows {
-        if let Value::Text(_) = &column[*row] {
+        if let Value::Text(_) = &column[*row as usize] {
             found = true;
         }
     }
@@ -141,7 +141,7 @@ fn hold_text(column: &[Value], rows: &[usize]) -> bool
 
 // Whether one of the cells holds a text where values are put next. They are looked at where a place begins so many, and what was
 // seen then is told for those that follow. This is a matter of speed alone.
-fn texts_ahead(column: &[Value], rows: &[usize], place: usize, seen: bool) -> bool
+fn texts_ahead(column: &[Value], rows: &[u32], place: usize, seen: bool) -> bool
     requires { All (λ i. i < length column.now) rows.now }
 {
     if place % AHEAD != 0 || place >= rows.len() {
@@ -167,7 +167,7 @@ fn put(cell: &mut Value, value: Value, texts: bool)
 }
 
 // Puts a value at the number of the row at a place, if there is such a row.
-fn put_at(column: &mut [Value], rows: &[usize], place: usize, value: Value, texts: bool)
+fn put_at(column: &mut [Value], rows: &[u32], place: usize, value: Value, texts: bool)
     requires { All (λ i. i < length column.old) rows.now }
     ensures put { (values : List Meaning) → place < length values → meaning value ≡ slice_index_or values place Null
         → put_all (map meaning column.new) (drop (place + 1) rows.now) (drop (place + 1) values)
@@ -175,14 +175,14 @@ fn put_at(column: &mut [Value], rows: &[usize], place: usize, value: Value, text
     ensures len { length column.new ≡ length column.old }
 {
     if place < rows.len() {
-        put(&mut column[rows[place]], value, texts);
+        put(&mut column[rows[place] as usize], value, texts);
     }
 }
 
 // Puts the values of some parts, each at the number of its row, `OutOfRange` where one is so.
 fn put_values<F: ToldFold>(
     column: &mut [Value],
-    rows: &[usize],
+    rows: &[u32],
     fold: &F,
     parts: &[F::Part],
 ) -> Result<(), AnswerFault>
@@ -320,7 +320,7 @@ pub fn put_frame_aggregates<'a>(
     alloc: Global,
     function: AggregateFunction,
     fed: &Fed,
-    rows: &'a [usize],
+    rows: &'a [u32],
     partitions: &'a Partitions<'a>,
     column: &mut [Value],
     tally: &mut Tally,

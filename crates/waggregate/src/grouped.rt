@@ -64,14 +64,14 @@ fn group_parts<F: Fold>(
 fn parts_in_order<P: Copy>(
     alloc: Global,
     parts: &[P],
-    order: &[usize],
+    order: &[u32],
 ) -> Result<Vec<P>, AllocError>
     requires { All (λ g. g < length parts.now) order.now }
     ensures { (d : P) → IfOk result (λ ordered. ordered.items ≡ map (λ g. slice_index_or parts.now g d) order.now) }
 {
     let mut ordered = Vec::with_capacity(alloc, order.len())?;
     for group in order {
-        ordered.push(parts[*group])?;
+        ordered.push(parts[*group as usize])?;
     }
     Ok(ordered)
 }
@@ -83,7 +83,7 @@ fn fold_groups<F: ToldFold>(
     meter: &mut F::Meter,
     groups: &[u32],
     count: usize,
-    order: &[usize],
+    order: &[u32],
 ) -> Result<Vec<Value>, AnswerFault>
     requires rows { length groups.now ≡ F.rows fold.now }
     requires below { All (λ g. g < count) groups.now }
@@ -135,7 +135,7 @@ pub fn aggregate_groups(
     filter: &Option<Vec<bool>>,
     groups: &[u32],
     count: usize,
-    order: &[usize],
+    order: &[u32],
 ) -> Result<Vec<Value>, AnswerFault>
     requires rows { length groups.now ≡ length values.now }
     requires tests { ForSome filter.now (λ tests. length tests.items ≡ length values.now) }

@@ -13,14 +13,14 @@ use wrows::{batch_end, copy_of, is_text};
 use wvalues::Value;
 
 // Whether a filter is true on some rows.
-fn tests_of(alloc: Global, tests: &[bool], rows: &[usize]) -> Result<Vec<bool>, AllocError>
+fn tests_of(alloc: Global, tests: &[bool], rows: &[u32]) -> Result<Vec<bool>, AllocError>
     requires { All (λ i. i < length tests.now) rows.now }
     ensures value { IfOk result (λ picked. picked.items ≡ map (λ i. slice_index_or tests.now i false) rows.now) }
     ensures len { IfOk result (λ picked. length picked.items ≡ length rows.now) }
 {
     let mut picked = Vec::with_capacity(alloc, rows.len())?;
     for row in rows {
-        picked.push(tests[*row])?;
+        picked.push(tests[*row as usize])?;
     }
     Ok(picked)
 }
@@ -29,7 +29,7 @@ fn tests_of(alloc: Global, tests: &[bool], rows: &[usize]) -> Result<Vec<bool>, 
 pub(crate) fn filter_of(
     alloc: Global,
     filter: &Option<Vec<bool>>,
-    rows: &[usize],
+    rows: &[u32],
 ) -> Result<Option<Vec<bool>>, AllocError>
     requires { ForSome filter.now (λ tests. All (λ i. i < length tests.items) rows.now) }
     ensures value { IfOk result (λ picked. option_map (λ tests. tests.items) picked
@@ -82,13 +82,13 @@ fn duplicate_at(argument: Argument, row: usize) -> Result<Value, AllocError>
 }
 
 // Whether one of the rows of these numbers has a text. Each is read, whatever was found before.
-fn has_text(argument: Argument, rows: &[usize]) -> bool
+fn has_text(argument: Argument, rows: &[u32]) -> bool
     requires { All (λ i. i < rows_of argument) rows.now }
     ensures { result ≡ list_any is_text (picked_values (values_of argument.entry) rows.now) }
 {
     let mut found = false;
     for row in rows {
-        if is_text_at(argument, *row) {
+        if is_text_at(argument, *row as usize) {
             found = true;
         }
     }
@@ -98,7 +98,7 @@ fn has_text(argument: Argument, rows: &[usize]) -> bool
 // Appends copies of the values of the rows of these numbers, of which none is a text.
 fn push_without_texts(
     argument: Argument,
-    rows: &[usize],
+    rows: &[u32],
     copied: &mut Vec<Value>,
 ) -> Result<(), AllocError>
     requires below { All (λ i. i < rows_of argument) rows.now }
@@ -106,7 +106,7 @@ fn push_without_texts(
     ensures { OnOk result (map meaning copied.new.items ≡ map meaning copied.old.items ++ picked_values (values_of argument.entry) rows.now) }
 {
     for row in rows {
-        copied.push(copy_at(argument, *row))?;
+        copied.push(copy_at(argument, *row as usize))?;
     }
     Ok(())
 }
@@ -114,21 +114,21 @@ fn push_without_texts(
 // Appends copies of the values of the rows of these numbers.
 fn push_with_texts(
     argument: Argument,
-    rows: &[usize],
+    rows: &[u32],
     copied: &mut Vec<Value>,
 ) -> Result<(), AllocError>
     requires { All (λ i. i < rows_of argument) rows.now }
     ensures { OnOk result (map meaning copied.new.items ≡ map meaning copied.old.items ++ picked_values (values_of argument.entry) rows.now) }
 {
     for row in rows {
-        copied.push(duplicate_at(argument, *row)?)?;
+        copied.push(duplicate_at(argument, *row as usize)?)?;
     }
     Ok(())
 }
 
 // Appends copies of the values of the rows of these numbers. The rows are few: all values are read, and then copied, without a
 // look at what they share where there is no text.
-fn push_batch(argument: Argument, rows: &[usize], copied: &mut Vec<Value>) -> Result<(), AllocError>
+fn push_batch(argument: Argument, rows: &[u32], copied: &mut Vec<Value>) -> Result<(), AllocError>
     requires { All (λ i. i < rows_of argument) rows.now }
     ensures { OnOk result (map meaning copied.new.items ≡ map meaning copied.old.items ++ picked_values (values_of argument.entry) rows.now) }
 {
@@ -145,7 +145,7 @@ fn push_batch(argument: Argument, rows: &[usize], copied: &mut Vec<Value>) -> Re
 pub(crate) fn copied_values(
     alloc: Global,
     argument: Argument,
-    rows: &[usize],
+    rows: &[u32],
 ) -> Result<Vec<Value>, AllocError>
     requires { All (λ i. i < rows_of argument) rows.now }
     ensures value { IfOk result (λ copied. map meaning copied.items ≡ picked_values (values_of argument.entry) rows.now) }

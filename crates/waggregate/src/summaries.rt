@@ -288,7 +288,7 @@ impl<'a> Summaries<'a> {
         &self,
         alloc: Global,
         function: AggregateFunction,
-        order: &[usize],
+        order: &[u32],
     ) -> Result<Vec<Value>, AnswerFault>
         requires told { tells self.now function ≡ true }
         requires ordered { All (λ g. g < groups_told self.now) order.now }
@@ -299,7 +299,7 @@ impl<'a> Summaries<'a> {
     {
         let mut column = Vec::with_capacity(alloc, order.len())?;
         for group in order {
-            let answer = self.answer_of(function, *group)?;
+            let answer = self.answer_of(function, *group as usize)?;
             column.push(answer)?;
         }
         Ok(column)

@@ -10,7 +10,7 @@ pub(crate) struct ArrangedRows<'a, 'r> {
     /// The rows, by number.
     pub(crate) rows: &'r [&'r [Value]],
     /// The numbers of the rows, in the window's order.
-    pub(crate) order: &'a [usize],
+    pub(crate) order: &'a [u32],
     /// The partitions of rows in that order, with the frame of each row.
     pub(crate) partitions: &'a Partitions<'a>,
     ghost listed: { length order.now ≡ length rows.now },

@@ -32,7 +32,7 @@ pub struct Counted<N> {
 impl<N: Counts> RowFunction for Counted<N> {
     ghost number_for = { λ call p rows. N.count_at call.counts (length rows) p };
 
-    fn keep(&self, frames: &Frames, rows: &[usize], kept: &mut [u32]) {
+    fn keep(&self, frames: &Frames, rows: &[u32], kept: &mut [u32]) {
         let mut count = 0;
         for place in 0..rows.len() {
             count = self.counts.next_count(frames, place, count);

@@ -10,20 +10,20 @@ use wframe::Frames;
 use wplaces::{first_value_at, lag_at, last_value_at, lead_at, nth_value_at};
 
 // The row at a place, the first row where there is no such place.
-fn row_read(rows: &[usize], place: usize) -> usize
+fn row_read(rows: &[u32], place: usize) -> u32
     ensures { result ≡ slice_index_or rows.now place 0 }
 {
     if place < rows.len() { rows[place] } else { 0 }
 }
 
 // The number that is kept for a row: one more than the number of the row that is read for it, or 0 where none is.
-fn number_read(rows: &[usize], place: Option<usize>, count: usize) -> u32
+fn number_read(rows: &[u32], place: Option<usize>, count: usize) -> u32
     requires below { All (λ i. i < count) rows.now }
     requires few { count < 2 ^ 31 }
     ensures { result ≡ number_read rows.now place }
 {
     match place {
-        Some(place) => row_read(rows, place) as u32 + 1,
+        Some(place) => row_read(rows, place) + 1,
         None => 0,
     }
 }
@@ -49,7 +49,7 @@ pub struct OtherRow<P> {
 impl<P: RowPlaces> RowFunction for OtherRow<P> {
     ghost number_for = { λ call p rows place. number_read rows (P.place_read call.places (length rows) p place) };
 
-    fn keep(&self, frames: &Frames, rows: &[usize], kept: &mut [u32]) {
+    fn keep(&self, frames: &Frames, rows: &[u32], kept: &mut [u32]) {
         let count = kept.len();
         for place in 0..rows.len() {
             let read = self.places.place_of(frames, place);

@@ -38,7 +38,7 @@ impl<'a> PlainLists<'a> {
     }
 
     /// The rows of these numbers, in their order, by keys.
-    pub(crate) fn key_rows<'b>(&'b self, numbers: &'b [usize], orders: &'b [SortKey]) -> KeyRows<'b>
+    pub(crate) fn key_rows<'b>(&'b self, numbers: &'b [u32], orders: &'b [SortKey]) -> KeyRows<'b>
         requires width { length self.now.places.items ≡ length orders.now }
         requires below { All (λ i. i < length self.now.rows.now) numbers.now }
         ensures lists { key_lists result ≡ map (key_at (values_at self.now.places.items (rows_seen self.now.rows.now))) numbers.now }

@@ -13,12 +13,12 @@ use std::alloc::AllocError;
 use wframe::Frames;
 
 /// Puts something at the number of the row at a place.
-pub(crate) fn put_at<T: Drop>(column: &mut [T], rows: &[usize], place: usize, value: T)
+pub(crate) fn put_at<T: Drop>(column: &mut [T], rows: &[u32], place: usize, value: T)
     requires place { place < length rows.now }
     requires row { slice_index_or rows.now place 0 < length column.old }
     ensures { column.new ≡ set column.old (slice_index_or rows.now place 0) value }
 {
-    column[rows[place]] = value;
+    column[rows[place] as usize] = value;
 }
 
 /// A call with OVER that has a number for each row of a partition and is never out of range.
@@ -29,7 +29,7 @@ pub trait RowFunction {
     ghost number_for: { Self → Partition → List ℕ → ℕ → ℕ };
 
     /// Keeps the numbers for the rows of a partition, each at the row's number, whatever numbers mean.
-    fn keep(&self, frames: &Frames, rows: &[usize], kept: &mut [u32])
+    fn keep(&self, frames: &Frames, rows: &[u32], kept: &mut [u32])
         requires few { length rows.now < 2 ^ 31 }
         requires room { length kept.old < 2 ^ 31 }
         requires len { length rows.now ≡ length frames.now.keys }

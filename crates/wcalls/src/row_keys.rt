@@ -33,15 +33,8 @@ pub(crate) struct RowKeys<'a> {
     ghost wide: { width_of lists ≡ length orders.items },
 }
 
-/// Whether so many rows are so few that the number of each is a code of 32 bits.
-pub(crate) fn are_few(count: usize) -> bool
-    ensures { result ≡ true → count ≤ 2 ^ 32 }
-{
-    count <= MOST_CODED
-}
-
 // The numbers of rows by codes, and then as they stood.
-fn by_codes(alloc: Global, codes: &[u32], rows: Vec<usize>) -> Result<Vec<usize>, AllocError>
+fn by_codes(alloc: Global, codes: &[u32], rows: Vec<u32>) -> Result<Vec<u32>, AllocError>
     requires few { length codes.now ≤ 2 ^ 32 }
     requires below { All (λ i. i < length codes.now) rows.items }
     ensures { IfOk result (λ order. order.items ≡ sorted (on (code_at codes.now) nat_cmp) rows.items) }
@@ -56,8 +49,8 @@ fn laid_order(
     alloc: Global,
     cells: &Cells,
     orders: &[SortKey],
-    rows: Vec<usize>,
-) -> Result<Vec<usize>, AllocError>
+    rows: Vec<u32>,
+) -> Result<Vec<u32>, AllocError>
     requires wide { cells.now.width ≡ length orders.now }
     requires below { All (λ i. i < cells.now.count) rows.items }
     ensures { IfOk result (λ order. order.items ≡ sorted (on (key_at (rows_in cells.now)) (keys_cmp orders.now)) rows.items) }
@@ -71,8 +64,8 @@ fn copied_order(
     alloc: Global,
     columns: &PlainLists,
     orders: &[SortKey],
-    rows: Vec<usize>,
-) -> Result<Vec<usize>, AllocError>
+    rows: Vec<u32>,
+) -> Result<Vec<u32>, AllocError>
     requires wide { length columns.now.places.items ≡ length orders.now }
     requires below { All (λ i. i < length columns.now.rows.now) rows.items }
     ensures { IfOk result (λ order. order.items
@@ -123,7 +116,7 @@ impl<'a> RowKeys<'a> {
     }
 
     // The numbers of rows by their keys, and then as they stood.
-    fn by_values(&self, alloc: Global, rows: Vec<usize>) -> Result<Vec<usize>, AllocError>
+    fn by_values(&self, alloc: Global, rows: Vec<u32>) -> Result<Vec<u32>, AllocError>
         requires { All (λ i. i < length (lists_in self.now.lists)) rows.items }
         ensures { IfOk result (λ order. order.items
             ≡ sorted (on (key_at (lists_in self.now.lists)) (keys_cmp self.now.orders.items)) rows.items) }
@@ -139,8 +132,8 @@ impl<'a> RowKeys<'a> {
         &self,
         alloc: Global,
         codes: &Option<Vec<u32>>,
-        rows: Vec<usize>,
-    ) -> Result<Vec<usize>, AllocError>
+        rows: Vec<u32>,
+    ) -> Result<Vec<u32>, AllocError>
         requires codes { IfSome codes.now (λ codes. AreRowCodes self.now.orders.items (lists_in self.now.lists) codes.items) }
         requires below { All (λ i. i < length (lists_in self.now.lists)) rows.items }
         ensures { IfOk result (λ order. order.items
@@ -158,8 +151,8 @@ impl<'a> RowKeys<'a> {
         &self,
         alloc: Global,
         codes: &Option<Vec<u32>>,
-        rows: Vec<usize>,
-    ) -> Result<Vec<usize>, AllocError>
+        rows: Vec<u32>,
+    ) -> Result<Vec<u32>, AllocError>
         requires codes { IfSome codes.now (λ codes. AreRowCodes self.now.orders.items (lists_in self.now.lists) codes.items) }
         requires below { All (λ i. i < length (lists_in self.now.lists)) rows.items }
         ensures order { IfOk result (λ order. order.items
@@ -177,7 +170,7 @@ impl<'a> RowKeys<'a> {
         &self,
         alloc: Global,
         codes: &Option<Vec<u32>>,
-    ) -> Result<Vec<usize>, AllocError>
+    ) -> Result<Vec<u32>, AllocError>
         requires { IfSome codes.now (λ codes. AreRowCodes self.now.orders.items (lists_in self.now.lists) codes.items) }
         ensures order { IfOk result (λ rows. rows.items ≡ numbers_by self.now.orders.items (lists_in self.now.lists)
             (length (lists_in self.now.lists))) }
@@ -190,7 +183,7 @@ impl<'a> RowKeys<'a> {
     }
 
     /// The rows of these numbers, in their order, by their keys. Their lists are read where they lie.
-    pub(crate) fn key_rows<'b>(&'b self, numbers: &'b [usize]) -> KeyRows<'b>
+    pub(crate) fn key_rows<'b>(&'b self, numbers: &'b [u32]) -> KeyRows<'b>
         requires { All (λ i. i < length (lists_in self.now.lists)) numbers.now }
         ensures lists { key_lists result ≡ map (key_at (lists_in self.now.lists)) numbers.now }
         ensures keys { sort_keys result ≡ self.now.orders.items }

@@ -25,11 +25,11 @@ ghost use Rattle.wcalls.specs.RowOrders.{IsRowOrder};
 ghost use Rattle.wcalls.specs.Windows.{Windowed};
 
 use crate::parts::{partition_keys, window_keys};
-use crate::row_keys::{RowKeys, are_few};
+use crate::row_keys::RowKeys;
 use std::alloc::{AllocError, Global};
 use std::marker::Model;
 use waggregate::Tally;
-use wcodes::{narrowed, picked_codes};
+use wcodes::picked_codes;
 use wframe::{Frame, KeyRows, Partitions};
 use wplan::ResolvedWindow;
 use wrows::{AnswerFault, order_by_codes};
@@ -40,7 +40,7 @@ use wvalues::Value;
 #[derive(Drop)]
 pub struct Presorted {
     /// The number of each row once: partition after partition, there by the window's keys, and where these agree by number.
-    pub numbers: Vec<usize>,
+    pub numbers: Vec<u32>,
     /// Whether it is known that no two rows share all their keys, whatever partitions they stand in. Where it is not known, they
     /// may still all differ.
     pub differ: bool,
@@ -55,7 +55,7 @@ pub struct Presorted {
 /// rows share their keys, the numbers of the rows are such codes.
 #[derive(Drop)]
 pub struct WindowOrder<'a> {
-    rows: Vec<usize>,
+    rows: Vec<u32>,
     values: RowKeys<'a>,
     value_codes: Option<Vec<u32>>,
     keys: RowKeys<'a>,
@@ -117,7 +117,7 @@ impl<'a> WindowOrder<'a> {
     }
 
     /// The numbers of the rows, in order.
-    pub(crate) fn rows(&self) -> &[usize]
+    pub(crate) fn rows(&self) -> &[u32]
         ensures rows { result.now ≡ self.now.rows }
         ensures below { All (λ i. i < length self.now.rows) self.now.rows }
     {
@@ -236,7 +236,7 @@ fn coded_rows<'a>(rows: KeyRows<'a>, codes: &'a Option<Vec<u32>>) -> KeyRows<'a>
 // The numbers of rows in an order, and there the codes of the partition value and of the key, if each has one.
 #[derive(Drop)]
 struct RowOrder {
-    rows: Vec<usize>,
+    rows: Vec<u32>,
     value_codes: Option<Vec<u32>>,
     key_codes: Option<Vec<u32>>,
 }
@@ -311,7 +311,7 @@ fn are_told_by_values(rows: &KeyRows) -> bool {
 fn found_codes(
     alloc: Global,
     keys: &RowKeys,
-    rows: &[usize],
+    rows: &[u32],
 ) -> Result<Option<Vec<u32>>, AllocError>
     requires { All (λ i. i < length (lists_in keys.now.lists)) rows.now }
     ensures { IfOk result (λ found. IfSome found (λ codes. TellApart (keys_cmp keys.now.orders.items)
@@ -330,7 +330,7 @@ fn found_codes(
 fn presorted_codes(
     alloc: Global,
     keys: &RowKeys,
-    rows: &[usize],
+    rows: &[u32],
     differ: bool,
 ) -> Result<Option<Vec<u32>>, AllocError>
     requires below { All (λ i. i < length (lists_in keys.now.lists)) rows.now }
@@ -340,8 +340,8 @@ fn presorted_codes(
     ensures { IfOk result (λ found. IfSome found (λ codes. TellApart (keys_cmp keys.now.orders.items)
         (map (key_at (lists_in keys.now.lists)) rows.now) codes.items)) }
 {
-    if differ && are_few(rows.len()) {
-        let codes = narrowed(alloc, rows)?;
+    if differ {
+        let codes = Vec::from_slice(alloc, rows)?;
         return Ok(Some(codes));
     }
     found_codes(alloc, keys, rows)
@@ -383,7 +383,7 @@ fn presorted_order(
 fn codes_of(
     alloc: Global,
     codes: Option<Vec<u32>>,
-    rows: &[usize],
+    rows: &[u32],
 ) -> Result<Option<Vec<u32>>, AllocError>
     requires { IfSome codes (λ codes. All (λ i. i < length codes.items) rows.now) }
     ensures { (keys : List SortKey) (lists : List (List Meaning))

@@ -22,11 +22,11 @@ const MOST_PROBES: usize = 8;
 /// What a slot holds in which no value stands.
 const EMPTY: u32 = u32::MAX;
 
-/// The distinct values of a column, and for each cell the number of its value.
+/// The distinct values of a column, and for each cell the number of its value, of 32 bits.
 #[derive(Drop)]
 pub(crate) struct Distinct<'a> {
     pub(crate) values: Vec<&'a Value>,
-    pub(crate) numbers: Vec<usize>,
+    pub(crate) numbers: Vec<u32>,
 }
 
 // Whether a value has this number and is the same as another.
@@ -147,10 +147,10 @@ pub(crate) fn distinct_values<'a>(
     let mut numbers = Vec::with_capacity(alloc, column.len())?;
     for value in column {
         let number = number_of(&mut values, &mut slots, *value)?;
-        numbers.push(number)?;
         if values.len() > MOST_DISTINCT {
             return Ok(None);
         }
+        numbers.push(number as u32)?;
     }
     Ok(Some(Distinct { values, numbers }))
 }

@@ -1,7 +1,7 @@
 //! Codes of values: integers that stand as a key orders them.
 //!
-//! - Gives codes of 32 bits for the values of a column, by which rows are sorted, or told apart alone; the codes of some
-//!   of its rows; and numbers of rows in 4 bytes each.
+//! - Gives codes of 32 bits for the values of a column, by which rows are sorted, or told apart alone, and the codes of some
+//!   of its rows, whose numbers are of 32 bits too.
 //! - Promises: codes are distances of numbers from the one that the key puts first, or from one near them where they only tell
 //!   rows apart, where all lie close enough, and else ranks among the distinct values. Few distinct values are told by a table,
 //!   in which each is looked for in few slots, so that no values make it slow; many are sorted beside integers of 64 bits that
@@ -21,4 +21,4 @@ mod ranks;
 
 pub use codes::{base_of, code_of};
 pub use columns::{codes_from, column_codes, number_codes};
-pub use ranks::{narrowed, picked_codes};
+pub use ranks::picked_codes;

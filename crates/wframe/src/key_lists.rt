@@ -17,7 +17,7 @@ pub struct PlacedLists<'a> {
     pub places: &'a [usize],
     /// What a row has at a place behind its cells.
     pub null: &'a Value,
-    pub numbers: &'a [usize],
+    pub numbers: &'a [u32],
 }
 
 /// Values that are lent one by one, one row after another.
@@ -30,7 +30,7 @@ pub struct LaidLists<'a> {
 #[derive(Clone, Copy)]
 pub struct PickedLists<'a> {
     pub cells: &'a [Value],
-    pub numbers: &'a [usize],
+    pub numbers: &'a [u32],
 }
 
 /// A list of values for each row.
@@ -55,7 +55,7 @@ fn part_slice<'a>(cells: &'a [&'a Value], width: usize, span: Span) -> &'a [&'a 
 }
 
 // The numbers of a span's rows.
-fn part_numbers<'a>(numbers: &'a [usize], span: Span) -> &'a [usize]
+fn part_numbers<'a>(numbers: &'a [u32], span: Span) -> &'a [u32]
     requires ordered { span.from ≤ span.to }
     requires within { span.to ≤ length numbers.now }
     ensures part { result.now ≡ slice_range numbers.now span.from span.to }
@@ -71,7 +71,7 @@ impl<'a> PlacedLists<'a> {
         ensures list { list_placed result ≡ key_at (lists_placed self.now) row }
         ensures places { result.places ≡ self.now.places }
     {
-        let number = self.numbers[row];
+        let number = self.numbers[row] as usize;
         let cells = if number < self.rows.len() {
             self.rows[number]
         } else {
@@ -93,7 +93,7 @@ impl<'a> PickedLists<'a> {
         ensures list { map meaning result.cells.now ≡ key_at (lists_picked width self.now) row }
         ensures len { length result.cells.now ≡ width }
     {
-        let from = self.numbers[row] * width;
+        let from = self.numbers[row] as usize * width;
         WholeList {
             cells: &self.cells[from..from + width],
         }

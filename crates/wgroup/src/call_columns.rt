@@ -18,7 +18,7 @@ ghost use Rattle.wgroup.specs.Held.{all_groups, column_over, columns_in, set_ans
 
 use crate::fed::{FedAggregate, GroupedRows};
 use crate::found::{FinerSet, Groups};
-use crate::groups::items_at;
+use crate::groups::numbers_at;
 use crate::keys::is_among;
 use crate::lent::{LentColumn, feeds, lend};
 use std::alloc::{AllocError, Global};
@@ -61,7 +61,7 @@ fn answers_of_parts(
     ensures len { IfOk result (λ column. length column.items ≡ length groups.now.order.items) }
 {
     let values = lent_values(alloc, parts)?;
-    let numbers = items_at(alloc, &finer.numbers, &set.order)?;
+    let numbers = numbers_at(alloc, &finer.numbers, &set.order)?;
     let function = function_of_parts(function);
     aggregate_groups(
         alloc,
@@ -267,7 +267,7 @@ fn grouping_value(set: &[usize], columns: &[usize]) -> Option<Value>
 }
 
 // A value for each group.
-fn copies(alloc: Global, value: &Value, order: &[usize]) -> Result<Vec<Value>, AllocError>
+fn copies(alloc: Global, value: &Value, order: &[u32]) -> Result<Vec<Value>, AllocError>
     ensures value { IfOk result (λ column. map meaning column.items ≡ map (λ i. meaning value.now) order.now) }
     ensures len { IfOk result (λ column. length column.items ≡ length order.now) }
 {

@@ -61,7 +61,7 @@ pub(crate) fn find_leaders(
     let mut leaders = vec![in alloc; 0usize; count]?;
     let mut leader = 0;
     for place in 0..count {
-        let row = order[place];
+        let row = order[place] as usize;
         let next = leader_of(cells, width, count, leader, row);
         put_leader(&mut leaders, row, next);
         leader = next;

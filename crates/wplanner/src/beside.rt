@@ -52,7 +52,7 @@ fn limited(limit: Option<u128>, count: usize) -> usize
 }
 
 // Of numbers in order, those that OFFSET and LIMIT ask for.
-fn asked_numbers<'a>(select: &Selection, numbers: &'a [usize]) -> &'a [usize]
+fn asked_numbers<'a>(select: &Selection, numbers: &'a [u32]) -> &'a [u32]
     ensures { result.now ≡ cut select.now.offset select.now.limit numbers.now }
 {
     let from = at_most(select.offset, numbers.len());
@@ -67,7 +67,7 @@ fn picked_text(
     places: &[usize],
     rows: &[&[Value]],
     columns: &[LentColumn],
-    numbers: &[usize],
+    numbers: &[u32],
 ) -> Result<Vec<u8>, AllocError>
     ensures { IfOk result (λ bytes. bytes.items ≡ table_text (map (λ o. o.name) (select_plan select.now).items)
         (map (values_at places.now) (map (row_beside (rows_seen rows.now) (columns_seen columns.now))
@@ -113,7 +113,7 @@ fn text_beside(
     places: &[usize],
     rows: &[&[Value]],
     columns: &[LentColumn],
-    presorted: &Option<Vec<usize>>,
+    presorted: &Option<Vec<u32>>,
 ) -> Result<Vec<u8>, AllocError>
     requires reads { ReadsPlaces (select_plan select.now) places.now }
     requires presorted { IfSome presorted.now (λ numbers. by_keys (select_plan select.now).keys (columns_seen columns.now)
@@ -165,7 +165,7 @@ fn key_numbers(
     alloc: Global,
     select: &Selection,
     rows: &[&[Value]],
-) -> Result<Vec<usize>, AnswerFault>
+) -> Result<Vec<u32>, AnswerFault>
     ensures { Gives (λ numbers. numbers.items) result (by_keys (select_plan select.now).keys [] (rows_seen rows.now)) }
 {
     let keys = key_values(alloc, &select.keys)?;

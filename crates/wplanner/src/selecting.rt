@@ -46,7 +46,7 @@ fn presorted_items_of(
     select: &Selection,
     rows: &[&[Value]],
     columns: &[&[Value]],
-    numbers: Vec<usize>,
+    numbers: Vec<u32>,
 ) -> Result<Cells, AnswerFault>
     requires { by_keys (select_plan select.now).keys (rows_seen columns.now) (rows_seen rows.now) ≡ Ok numbers.items }
     ensures rows { Gives rows_in result (items_of (select_plan select.now) (beside (rows_seen rows.now) (rows_seen columns.now))) }
@@ -90,7 +90,7 @@ fn items_by(
     alloc: Global,
     select: &Selection,
     rows: &[&[Value]],
-    presorted: Option<Vec<usize>>,
+    presorted: Option<Vec<u32>>,
 ) -> Result<Cells, AnswerFault>
     requires { IfSome presorted (λ numbers. (columns : List (List Meaning))
         → by_keys (select_plan select.now).keys columns (rows_seen rows.now) ≡ Ok numbers.items) }
@@ -109,7 +109,7 @@ fn items_beside_by(
     select: &Selection,
     rows: &[&[Value]],
     columns: &[&[Value]],
-    presorted: Option<Vec<usize>>,
+    presorted: Option<Vec<u32>>,
 ) -> Result<Cells, AnswerFault>
     requires { IfSome presorted (λ numbers. (columns : List (List Meaning))
         → by_keys (select_plan select.now).keys columns (rows_seen rows.now) ≡ Ok numbers.items) }

@@ -10,7 +10,7 @@ use crate::work::Work;
 use std::alloc::{AllocError, Global};
 use std::marker::Model;
 use std::rc::RcStr;
-use wrows::{Cells, numbers};
+use wrows::Cells;
 use wvalues::Value;
 
 /// Output names, and rows with a value under each name. Rows and columns are counted from 0.
@@ -88,7 +88,10 @@ impl Table {
     pub(crate) fn places(&self, alloc: Global) -> Result<Vec<usize>, AllocError>
         ensures { IfOk result (λ places. map (values_at places.items) self.now.rows ≡ self.now.rows) }
     {
-        let places = numbers(alloc, self.names.len())?;
+        let mut places = Vec::with_capacity(alloc, self.names.len())?;
+        for place in 0..self.names.len() {
+            places.push(place)?;
+        }
         Ok(places)
     }
 

@@ -71,7 +71,7 @@ impl<'a> Rows for RowsBeside<'a> {
 pub struct PickedRows<'a> {
     pub rows: &'a [&'a [Value]],
     pub columns: &'a [LentColumn<'a>],
-    pub numbers: &'a [usize],
+    pub numbers: &'a [u32],
 }
 
 // The cells of the row of a number, none where there is no such row.
@@ -93,7 +93,7 @@ impl<'a> Rows for PickedRows<'a> {
     }
 
     fn row(&self, number: usize) -> Row<'_> {
-        let number = self.numbers[number];
+        let number = self.numbers[number] as usize;
         Row {
             cells: cells_at(self.rows, number),
             columns: self.columns,
@@ -103,8 +103,8 @@ impl<'a> Rows for PickedRows<'a> {
 
     // By the numbers of the first and the last of them.
     fn lie(&self, from: usize, end: usize) -> Lie {
-        let first = self.numbers[from];
-        let last = self.numbers[end - 1];
+        let first = self.numbers[from] as usize;
+        let last = self.numbers[end - 1] as usize;
         if last.wrapping_sub(first) == end - 1 - from {
             Lie::Together
         } else {

@@ -19,14 +19,14 @@ fn has_text<'a>(
     columns: &[&'a [Value]],
     null: &'a Value,
     place: usize,
-    numbers: &[usize],
+    numbers: &[u32],
 ) -> bool
     requires { meaning null.now ≡ Null }
     ensures { result ≡ list_any (λ i. is_text (value_at (row_beside (rows_seen rows.now) (rows_seen columns.now) i) place)) numbers.now }
 {
     let mut found = false;
     for number in numbers {
-        if is_text(value_beside(rows, columns, null, *number, place)) {
+        if is_text(value_beside(rows, columns, null, *number as usize, place)) {
             found = true;
         }
     }
@@ -39,7 +39,7 @@ fn have_texts<'a>(
     columns: &[&'a [Value]],
     null: &'a Value,
     places: &[usize],
-    numbers: &[usize],
+    numbers: &[u32],
 ) -> bool
     requires { meaning null.now ≡ Null }
     ensures { result ≡ list_any (λ place. list_any
@@ -82,7 +82,7 @@ fn push_batch<'a>(
     columns: &[&'a [Value]],
     null: &'a Value,
     places: &[usize],
-    numbers: &[usize],
+    numbers: &[u32],
     cells: &mut Vec<Value>,
 ) -> Result<(), AllocError>
     requires { meaning null.now ≡ Null }
@@ -91,11 +91,12 @@ fn push_batch<'a>(
 {
     let some_text = have_texts(rows, columns, null, places, numbers);
     for number in numbers {
-        let own = cells_at(rows, *number);
+        let row = *number as usize;
+        let own = cells_at(rows, row);
         if some_text {
-            push_picked(own, columns, null, places, *number, cells)?;
+            push_picked(own, columns, null, places, row, cells)?;
         } else {
-            push_without_texts(own, columns, null, places, *number, cells)?;
+            push_without_texts(own, columns, null, places, row, cells)?;
         }
     }
     Ok(())
@@ -107,7 +108,7 @@ fn push_rows<'a>(
     columns: &[&'a [Value]],
     null: &'a Value,
     places: &[usize],
-    numbers: &[usize],
+    numbers: &[u32],
     cells: &mut Vec<Value>,
 ) -> Result<(), AllocError>
     requires { meaning null.now ≡ Null }
@@ -130,7 +131,7 @@ pub(crate) fn picked_rows(
     columns: &[&[Value]],
     null: &Value,
     places: &[usize],
-    numbers: &[usize],
+    numbers: &[u32],
 ) -> Result<Vec<Value>, AllocError>
     requires { meaning null.now ≡ Null }
     ensures rows { IfOk result (λ cells. laid (length places.now) (length numbers.now) cells.items

@@ -80,9 +80,9 @@ fn asked_for(asked: Asked, count: usize) -> (usize, usize)
 /// The numbers that are asked for. Where none is left out first, the list is handed on.
 pub(crate) fn cut_numbers(
     alloc: Global,
-    numbers: Vec<usize>,
+    numbers: Vec<u32>,
     asked: Asked,
-) -> Result<Vec<usize>, AllocError>
+) -> Result<Vec<u32>, AllocError>
     ensures { IfOk result (λ taken. taken.items ≡ cut asked.offset asked.limit numbers.items) }
 {
     let (from, count) = asked_for(asked, numbers.len());
@@ -103,7 +103,7 @@ fn asked_numbers(
     asked: Asked,
     rows: &[&[Value]],
     columns: &[&[Value]],
-) -> Result<Vec<usize>, AnswerFault>
+) -> Result<Vec<u32>, AnswerFault>
     requires { length keys.now ≡ length order.now }
     ensures gives { Gives (λ numbers. numbers.items) result (asked_of (formulas_seen keys.now) order.now asked.offset
         asked.limit (beside (rows_seen rows.now) (rows_seen columns.now))) }

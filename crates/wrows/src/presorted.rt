@@ -22,7 +22,7 @@ use wvalues::Value;
 fn evaluated_at(
     alloc: Global,
     items: &[&Expr],
-    numbers: &[usize],
+    numbers: &[u32],
     rows: &[&[Value]],
     columns: &[&[Value]],
 ) -> Result<Cells, AnswerFault>
@@ -44,7 +44,7 @@ fn evaluated_at(
 fn plain_at(
     alloc: Global,
     places: &[usize],
-    numbers: &[usize],
+    numbers: &[u32],
     rows: &[&[Value]],
     columns: &[&[Value]],
 ) -> Result<Cells, AllocError>
@@ -66,7 +66,7 @@ fn plain_at(
 pub(crate) fn items_at(
     alloc: Global,
     items: &[&Expr],
-    numbers: &[usize],
+    numbers: &[u32],
     rows: &[&[Value]],
     columns: &[&[Value]],
 ) -> Result<Cells, AnswerFault>
@@ -89,7 +89,7 @@ pub(crate) fn items_at(
 pub fn presorted_items(
     alloc: Global,
     items: &[&Expr],
-    numbers: Vec<usize>,
+    numbers: Vec<u32>,
     asked: Asked,
     rows: &[&[Value]],
     columns: &[&[Value]],

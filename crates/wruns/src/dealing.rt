@@ -116,13 +116,13 @@ fn refs_by_number(alloc: Global, table: &NumberedRows) -> Result<Vec<RowRef>, Al
 }
 
 // The rows of these numbers.
-fn picked(alloc: Global, all: &[RowRef], numbers: &[usize]) -> Result<Vec<RowRef>, AllocError>
+fn picked(alloc: Global, all: &[RowRef], numbers: &[u32]) -> Result<Vec<RowRef>, AllocError>
     requires { All (λ i. i < length all.now) numbers.now }
     ensures { IfOk result (λ rows. rows.items ≡ map (ref_at all.now) numbers.now) }
 {
     let mut rows = Vec::with_capacity(alloc, numbers.len())?;
     for number in numbers {
-        rows.push(all[*number])?;
+        rows.push(all[*number as usize])?;
     }
     Ok(rows)
 }
@@ -131,7 +131,7 @@ fn picked(alloc: Global, all: &[RowRef], numbers: &[usize]) -> Result<Vec<RowRef
 fn rows_in(
     alloc: Global,
     table: &NumberedRows,
-    numbers: Vec<usize>,
+    numbers: Vec<u32>,
 ) -> Result<Vec<RowRef>, AllocError>
     requires { All (λ i. i < table.now.count) numbers.items }
     ensures { IfOk result (λ rows. rows.items ≡ map (ref_at (refs (segment_rows table.now.segments.now))) numbers.items) }

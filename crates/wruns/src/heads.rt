@@ -114,7 +114,7 @@ pub(crate) fn rows_in(
     alloc: Global,
     sources: &[SegmentRun],
     heads: &[Head],
-    order: &[usize],
+    order: &[u32],
 ) -> Result<Vec<RowRef>, AllocError>
     requires heads { All (IsHead (groups_seen sources.now)) heads.now }
     requires below { All (λ i. i < length heads.now) order.now }
@@ -122,7 +122,7 @@ pub(crate) fn rows_in(
 {
     let mut refs = Vec::with_capacity(alloc, rows_of(sources))?;
     for number in order {
-        push_rows(sources, heads[*number], &mut refs)?;
+        push_rows(sources, heads[*number as usize], &mut refs)?;
     }
     Ok(refs)
 }

@@ -6,11 +6,10 @@ ghost use Rattle.wcodes.specs.CodedRows.{code_at};
 ghost use Rattle.wruns.specs.Grouping.{AreGrouped, HaveOneCode, TellSharedFrom};
 ghost use Rattle.wruns.specs.Runs.{joined, keys_at, run_of, IsGroup, IsRunOf};
 
-use crate::key_columns::{Table, coded_order_of};
+use crate::key_columns::{CodedNumbers, Table, coded_order_of};
 use crate::segment_cells::cell_at;
 use std::alloc::{AllocError, Global};
 use std::marker::Model;
-use wcodes::narrowed;
 use wsegment::Segment;
 use wvalues::{SortKey, Value};
 
@@ -241,14 +240,13 @@ pub fn sort_run(alloc: Global, segment: &Segment, keys: &[SortKey]) -> Result<Ru
         segment,
         null: &Value::Null,
     };
-    let order = coded_order_of(alloc, &table, keys)?;
-    let rows = narrowed(alloc, &order.numbers)?;
+    let CodedNumbers { numbers, codes } = coded_order_of(alloc, &table, keys)?;
     let keyed = KeyedRows {
         segment,
         keys,
-        codes: &order.codes,
+        codes: &codes,
         start: 0,
     };
-    let run = grouped_run(alloc, &keyed, rows)?;
+    let run = grouped_run(alloc, &keyed, numbers)?;
     Ok(run)
 }

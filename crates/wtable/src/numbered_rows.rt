@@ -222,14 +222,17 @@ fn number_among(kept: &NumberedRows, row: &RowRef) -> Option<usize>
     }
 }
 
-// Appends a number, if there is one.
-fn push_present(numbers: &mut Vec<usize>, number: Option<usize>) -> Result<(), AllocError>
+// Appends a number, if there is one. Rows whose numbers are of more than 32 bits are too many to be held, so there is none such.
+fn push_present(numbers: &mut Vec<u32>, number: Option<usize>) -> Result<(), AllocError>
     ensures { OnOk result (numbers.new.items ≡ numbers.old.items ++ all_present (number ∷ [])) }
 {
     match number {
         None => Ok(()),
         Some(number) => {
-            numbers.push(number)?;
+            let Ok(short) = u32::try_from(number) else {
+                return Err(AllocError);
+            };
+            numbers.push(short)?;
             Ok(())
         }
     }
@@ -240,7 +243,7 @@ pub(crate) fn presorted_numbers(
     alloc: Global,
     rows: &[RowRef],
     kept: &NumberedRows,
-) -> Result<Vec<usize>, AllocError>
+) -> Result<Vec<u32>, AllocError>
     ensures { IfOk result (λ numbers. numbers.items ≡ presorted_numbers kept.now rows.now) }
 {
     let mut numbers = Vec::with_capacity(alloc, kept.rows.len())?;

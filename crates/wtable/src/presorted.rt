@@ -30,7 +30,7 @@ pub struct PresortedOrders<'a> {
     /// The orders of windows that are presorted.
     pub windows: Vec<PresortedOrder<'a>>,
     /// The numbers in the order of ORDER BY, if it is presorted.
-    pub keys: Option<Vec<usize>>,
+    pub keys: Option<Vec<u32>>,
 }
 
 impl<'a> PresortedOrders<'a> {
@@ -88,7 +88,7 @@ fn presorted_keys(
     alloc: Global,
     order: &Option<Vec<RowRef>>,
     kept: &NumberedRows,
-) -> Result<Option<Vec<usize>>, AllocError>
+) -> Result<Option<Vec<u32>>, AllocError>
     ensures { IfOk result (λ found. option_map (λ numbers. numbers.items) found
         ≡ option_map (λ rows. presorted_numbers kept.now rows.items) order.now) }
 {
