@@ -8,10 +8,16 @@ category, by which pandas groups fastest. Status 3: pandas has no words for the 
 
 Where rows of one day stand together, as peers do in SQL, what the last of them has is told for all of them.
 """
+import resource
 import sys
-import time
 
 import pandas
+
+
+def spent():
+    """Seconds of the processor so far. Under a limit of them, `time.process_time` counts in steps."""
+    used = resource.getrusage(resource.RUSAGE_SELF)
+    return used.ru_utime + used.ru_stime
 
 
 def by_day(sales):
@@ -136,9 +142,9 @@ def main():
     if name not in ANSWERS:
         sys.exit(3)
     sales = pandas.read_csv(path, dtype={"shop": "category"})
-    start = time.process_time()
+    start = spent()
     ANSWERS[name](sales).to_csv(answer, index=False)
-    print(time.process_time() - start)
+    print(spent() - start)
 
 
 if __name__ == "__main__":
