@@ -14,6 +14,7 @@ returns-then-row-self c =
 pub returns-else-row-self : goal.returns-else-row-self
 returns-else-row-self c =
     let a = c.self.inside in
-    let past = get_or_past (laid a.width a.count a.cells.now) c.args.row [] (omega (arith, c.if-row-self.false,
-    length-laid a.width a.count a.cells.now)) in
+    let rows = laid a.width a.count a.cells.now in
+    let count = length-laid a.width a.count a.cells.now in
+    let past = get_or_past rows c.args.row [] (omega (arith, c.if-row-self.false, count)) in
     sym past ∙ ap (λ rows. get_or rows c.args.row []) c.self.view_is
