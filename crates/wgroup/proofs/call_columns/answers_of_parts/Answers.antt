@@ -17,7 +17,7 @@ aggregate_groups-requires-clause-rows c =
     let f = c.args.set.now in
     let links = c.args.finer.now.numbers.items in
     let numbers : c.deref-4.result.now ≡ map (λ i. get_or links i 0) f.order.items
-    = c.deref-4.ensures.value ∙ c.in_ok-numbers.ensures 0 ∙ ap (λ l. map (λ i. get_or l i 0) c.deref-2.result.now)
+    = c.deref-4.ensures.value ∙ c.in_ok-numbers.ensures ∙ ap (λ l. map (λ i. get_or l i 0) c.deref-2.result.now)
     c.deref.ensures.value ∙ ap (map (λ i. get_or links i 0)) c.deref-2.ensures.value in
     ap length numbers ∙ length-map f.order.items (λ i. get_or links i 0) ∙ sym c.requires.len
     ∙ sym c.in_ok-values.ensures.len ∙ sym (ap length c.deref-3.ensures.value)
@@ -27,7 +27,7 @@ aggregate_groups-requires-clause-below c =
     let f = c.args.set.now in
     let links = c.args.finer.now.numbers.items in
     let numbers : c.deref-4.result.now ≡ map (λ i. get_or links i 0) f.order.items
-    = c.deref-4.ensures.value ∙ c.in_ok-numbers.ensures 0 ∙ ap (λ l. map (λ i. get_or l i 0) c.deref-2.result.now)
+    = c.deref-4.ensures.value ∙ c.in_ok-numbers.ensures ∙ ap (λ l. map (λ i. get_or l i 0) c.deref-2.result.now)
     c.deref.ensures.value ∙ ap (map (λ i. get_or links i 0)) c.deref-2.ensures.value in
     subst (All (λ i. i < c.args.groups.now.count)) (sym numbers)
     (linked_below links f.order.items c.args.groups.now.count c.requires.made.below
@@ -38,7 +38,7 @@ aggregate_groups-requires-clause-few c =
     let f = c.args.set.now in
     let links = c.args.finer.now.numbers.items in
     let numbers : c.deref-4.result.now ≡ map (λ i. get_or links i 0) f.order.items
-    = c.deref-4.ensures.value ∙ c.in_ok-numbers.ensures 0 ∙ ap (λ l. map (λ i. get_or l i 0) c.deref-2.result.now)
+    = c.deref-4.ensures.value ∙ c.in_ok-numbers.ensures ∙ ap (λ l. map (λ i. get_or l i 0) c.deref-2.result.now)
     c.deref.ensures.value ∙ ap (map (λ i. get_or links i 0)) c.deref-2.ensures.value in
     omega (
       arith,
@@ -61,7 +61,7 @@ returns-clause-gives c = λ feed known.
     let told : AggregateFunction → List ℕ → List ℕ → List (Option Meaning) =
     λ function numbers order. map (λ i. aggregate_of function fed (rows_of_group numbers i)) order in
     let numbers : c.deref-4.result.now ≡ map (λ i. get_or links i 0) f.order.items
-    = c.deref-4.ensures.value ∙ c.in_ok-numbers.ensures 0 ∙ ap (λ l. map (λ i. get_or l i 0) c.deref-2.result.now)
+    = c.deref-4.ensures.value ∙ c.in_ok-numbers.ensures ∙ ap (λ l. map (λ i. get_or l i 0) c.deref-2.result.now)
     c.deref.ensures.value ∙ ap (map (λ i. get_or links i 0)) c.deref-2.ensures.value in
     subst (λ l. Gives view c.aggregate_groups.result (in_range l))
     (ap (λ function. told function c.deref-4.result.now c.deref-5.result.now) c.function_of_parts-function.ensures
