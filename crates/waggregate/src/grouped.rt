@@ -64,11 +64,7 @@ fn group_parts<F: Fold>(
 }
 
 // The parts of some groups, in their order.
-fn parts_in_order<P: Copy>(
-    alloc: Global,
-    parts: &[P],
-    order: &[u32],
-) -> Result<Vec<P>, AllocError>
+fn parts_in_order<P: Copy>(alloc: Global, parts: &[P], order: &[u32]) -> Result<Vec<P>, AllocError>
     requires { All (λ g. g < length parts.now) order.now }
     ensures { (d : P) → IfOk result (λ ordered. ordered.items ≡ map (λ g. slice_index_or parts.now g d) order.now) }
 {
