@@ -243,8 +243,7 @@ struct RowOrder {
 
 // The order of rows that have codes for their partition values and for their keys, by both.
 fn coded_order(alloc: Global, firsts: &[u32], seconds: &[u32]) -> Result<RowOrder, AllocError>
-    requires len { length firsts.now ≡ length seconds.now }
-    requires few { length seconds.now ≤ 2 ^ 32 }
+    requires { length firsts.now ≡ length seconds.now }
     ensures { (value_order key_order : List SortKey) (values keys : List (List Meaning))
         → AreRowCodes value_order values firsts.now → AreRowCodes key_order keys seconds.now
         → IfOk result (IsRowOrder value_order values key_order keys (length seconds.now)) }
