@@ -1,11 +1,12 @@
 -- What an argument has on a row.
-use Rattle.std.proofs.Common.{◌≡◌, ℕ, zero, suc, ◌<◌, false, List, [], ◌∷◌, length, map, get_or, Option, Some, None, Ok}
+use Rattle.std.proofs.Common.{◌≡◌, ℕ, zero, suc, ◌+◌, ◌<◌, false, List, [], ◌∷◌, ◌++◌, length, map, take, get_or, Option, Some, None, Ok}
 use Rattle.std.proofs.Common.{refl, sym, ap, ◌∙◌, arith}
 use Rattle.std.specs.Prelude.{IfSome, IfNone}
 use Rattle.std.specs.Borrow.{Bor}
-use Rattle.std.proofs.lemmas.List.{get_or-map}
+use Rattle.std.proofs.lemmas.List.{get_or-map, length-map, map-append, take_more}
 use Rattle.wvalues.specs.declared.value.Value.{Value}
-use Rattle.wvalues.specs.Meaning.{Null, meaning}
+use Rattle.wvalues.specs.Meaning.{Meaning, Null, meaning}
+use Rattle.wframe.specs.Cells.{meanings}
 use Rattle.wframe.specs.Places.{places}
 use Rattle.wplan.specs.Formula.{At, Constant, Formula}
 use Rattle.wrows.specs.declared.fault.AnswerFault.TheVariants.{OutOfRange}
@@ -13,7 +14,9 @@ use Rattle.wrows.specs.Columns.{Row, column_of, is_out_of_range, value_on}
 use Rattle.wrows.specs.Laid.{row_seen, rows_seen}
 use Rattle.wrows.specs.Outcomes.{unless}
 use Rattle.wrows.proofs.RowFacts.{length-places, map-map}
-use Rattle.waggregate.specs.Feeding.{value_or_none}
+use Rattle.waggregate.specs.declared.feeding.Argument.{Argument}
+use Rattle.waggregate.specs.declared.feeding.Argument.TheVariants as arguments
+use Rattle.waggregate.specs.Feeding.{rows_of, value_or_none, values_of}
 use Rattle.waggregate.proofs.FeedFacts.{in_range_all}
 
 -- of nulls each is one
@@ -57,3 +60,18 @@ all_null (row ∷ rows) (n ∷ ns) h = ap (λ l. Null ∷ l) (all_null rows ns (
 -- a null for each row
 pub nulls_told : (rows : List Row) (n : ℕ) → length rows ≡ n → column_of (Constant Null) rows ≡ Ok (map (λ (n : ℕ). Null) (places n))
 nulls_told rows n h = in_range (Constant Null) (λ row. refl) rows ∙ ap Ok (all_null rows (places n) (h ∙ sym (length-places 0 n)))
+
+-- as many values as rows
+pub values_long : (a : Argument) → length (values_of a) ≡ rows_of a
+values_long (arguments.Null rows) = length-map (places rows) (λ row. Null) ∙ length-places 0 rows
+values_long (arguments.Column rows place) =
+    length-map (rows_seen rows.now) (value_on (At place)) ∙ length-map rows.now row_seen
+values_long (arguments.Values values) = length-map values.now meaning
+
+-- one value more
+pub listed_more : (values : List Meaning) (row : ℕ) (listed more : List (Bor Value)) (value : Bor Value) → row < length values
+    → meanings listed ≡ take row values → meaning value.now ≡ get_or values row Null → more ≡ listed ++ value ∷ []
+    → meanings more ≡ take (row + 1) values
+listed_more values row listed more value below so_far is e =
+    ap meanings e ∙ map-append (λ (cell : Bor Value). meaning cell.now) listed (value ∷ []) ∙ ap (λ l. l ++ meaning value.now ∷ []) so_far
+    ∙ ap (λ m. take row values ++ m ∷ []) is ∙ sym (take_more values row Null below)

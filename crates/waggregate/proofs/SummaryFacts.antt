@@ -4,8 +4,6 @@ use Rattle.std.proofs.Common.{filter, fold, get_or, slice_set, Option, Some, Non
 use Rattle.std.proofs.Common.{◌++◌, take, unwrap_or, refl, sym, subst, ap, ◌∙◌, arith, replicate}
 use Rattle.std.proofs.lemmas.List.{get_or-map, length-map, length-replicate, map-append, map-set, take_more}
 use Rattle.std.specs.Prelude.{All}
-use Rattle.std.specs.Borrow.{Bor}
-use Rattle.wframe.specs.Cells.{meanings}
 use Rattle.std.specs.List.{AllByRecursion}
 use Rattle.std.proofs.lemmas.List.Elements.{All-replicate, recursion_from_All}
 use Rattle.wvalues.specs.Meaning.{Meaning, Null, Int, Text, meaning}
@@ -260,9 +258,3 @@ pub summed_long : (values : List Meaning) (e : Extremes) (groups : List ℕ) (do
     → AreSummed values e groups done count all → length all ≡ count
 summed_long values e groups done count all are =
     field_long (λ s. s.rows) 0 counts_joined (count_at None None) groups done count all are.rows
-
--- what the value of a row says
-pub value_there : (values : List (Bor Value)) (row : ℕ) (value : Bor Value) → row < length values → value ≡ get_or values row value
-    → meaning value.now ≡ get_or (meanings values) row Null
-value_there values row value within is =
-    ap (λ v. meaning v.now) is ∙ sym (get_or-map (λ v. meaning v.now) values row value Null within)

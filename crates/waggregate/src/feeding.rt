@@ -96,6 +96,17 @@ fn cell_at(row: &[Value], place: usize) -> Option<&Value>
 }
 
 impl<'a> Argument<'a> {
+    /// On how many rows it is.
+    pub fn rows(self) -> usize
+        ensures { result ≡ rows_of self.entry }
+    {
+        match self {
+            Argument::Null(rows) => rows,
+            Argument::Column(rows, _) => rows.len(),
+            Argument::Values(values) => values.len(),
+        }
+    }
+
     /// What it has on a row; none where that is null without a value that says so.
     #[inline(always)]
     pub(crate) fn value(self, row: usize) -> Option<&'a Value>
@@ -108,6 +119,38 @@ impl<'a> Argument<'a> {
             Argument::Values(values) => Some(&values[row]),
         }
     }
+
+    // The same, `null` where there is none.
+    #[inline(always)]
+    fn value_or(self, row: usize, null: &'a Value) -> &'a Value
+        requires within { row < rows_of self }
+        requires lacking { meaning null.now ≡ Null }
+        ensures { meaning result.now ≡ slice_index_or (values_of self.entry) row Null }
+    {
+        match self.value(row) {
+            None => null,
+            Some(value) => value,
+        }
+    }
+}
+
+/// What an argument has on each row, in a list of 8 bytes a row, lent from where it lies, and `null` where it is null without a
+/// value that says so.
+pub(crate) fn listed<'a>(
+    alloc: Global,
+    argument: Argument<'a>,
+    null: &'a Value,
+) -> Result<Vec<&'a Value>, AllocError>
+    requires { meaning null.now ≡ Null }
+    ensures value { IfOk result (λ values. meanings values.items ≡ values_of argument.entry) }
+    ensures len { IfOk result (λ values. length values.items ≡ rows_of argument.entry) }
+{
+    let rows = argument.rows();
+    let mut values = Vec::with_capacity(alloc, rows)?;
+    for row in 0..rows {
+        values.push(argument.value_or(row, null))?;
+    }
+    Ok(values)
 }
 
 /// The argument of an aggregate on some rows, where nothing has to be evaluated for it: where it is NULL, or a plain column, which
@@ -126,43 +169,6 @@ pub fn plain_argument<'a>(expr: &Expr, rows: &'a [&'a [Value]]) -> Option<Argume
     }
 }
 
-// The value at a place of each row, lent from where it lies, if all rows go so far.
-fn column_at<'a>(
-    alloc: Global,
-    place: usize,
-    rows: &[&'a [Value]],
-) -> Result<Option<Vec<&'a Value>>, AllocError>
-    ensures value { IfOk result (λ lent. IfSome lent (λ values. column_of (At place) (rows_seen rows.now) ≡ Ok (meanings values.items))) }
-    ensures len { IfOk result (λ lent. IfSome lent (λ values. length values.items ≡ length rows.now)) }
-{
-    let mut values = Vec::with_capacity(alloc, rows.len())?;
-    for row in rows {
-        let Some(value) = cell_at(row, place) else {
-            return Ok(None);
-        };
-        values.push(value)?;
-    }
-    Ok(Some(values))
-}
-
-/// The value of an argument on each row, lent from where it lies, where the argument is a plain column, which cannot be out of
-/// range.
-pub fn lent_argument<'a>(
-    alloc: Global,
-    expr: &Expr,
-    rows: &[&'a [Value]],
-) -> Result<Option<Vec<&'a Value>>, AllocError>
-    ensures value { IfOk result (λ lent. IfSome lent (λ values. column_of (formula expr.now) (rows_seen rows.now)
-        ≡ Ok (meanings values.items))) }
-    ensures len { IfOk result (λ lent. IfSome lent (λ values. length values.items ≡ length rows.now)) }
-{
-    let Some(place) = place_of(expr) else {
-        return Ok(None);
-    };
-    let lent = column_at(alloc, place, rows)?;
-    Ok(lent)
-}
-
 /// Whether an argument is NULL, as that of `count(*)` is.
 #[tactic(auto, unfolding(wplan::specs::Formula::formula))]
 pub fn is_null(expr: &Expr) -> bool
@@ -173,21 +179,4 @@ pub fn is_null(expr: &Expr) -> bool
         Expr::Null => true,
         _ => false,
     }
-}
-
-/// A null for each row, lent from one.
-pub fn lent_nulls<'a>(
-    alloc: Global,
-    null: &'a Value,
-    rows: &[&[Value]],
-) -> Result<Vec<&'a Value>, AllocError>
-    requires { meaning null.now ≡ Null }
-    ensures value { IfOk result (λ nulls. column_of (Constant Null) (rows_seen rows.now) ≡ Ok (meanings nulls.items)) }
-    ensures len { IfOk result (λ nulls. length nulls.items ≡ length rows.now) }
-{
-    let mut nulls = Vec::with_capacity(alloc, rows.len())?;
-    for _ in rows {
-        nulls.push(null)?;
-    }
-    Ok(nulls)
 }

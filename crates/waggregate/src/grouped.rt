@@ -6,12 +6,15 @@ ghost use Rattle.wvalues.specs.Meaning.{meaning};
 ghost use Rattle.wframe.specs.Cells.{meanings};
 ghost use Rattle.wframe.specs.Places.{places};
 ghost use Rattle.wslide.specs.Laws.{rows_fold};
+ghost use Rattle.wplan.specs.declared.resolved.AggregateFunction.TheVariants as functions;
 ghost use Rattle.wrows.specs.Columns.{in_range};
 ghost use Rattle.wrows.specs.Outcomes.{Gives};
 ghost use Rattle.waggregate.specs.Aggregating as aggregating;
 ghost use Rattle.waggregate.specs.Aggregating.{aggregate_of};
+ghost use Rattle.waggregate.specs.Feeding.{fed_by, rows_of};
 ghost use Rattle.waggregate.specs.Grouped.{rows_of_group};
 
+use crate::feeding::{Argument, listed};
 use crate::folding::{ToldFold, extreme, push_values};
 use crate::picking::lent;
 use std::alloc::{AllocError, Global};
@@ -61,11 +64,7 @@ fn group_parts<F: Fold>(
 }
 
 // The parts of some groups, in their order.
-fn parts_in_order<P: Copy>(
-    alloc: Global,
-    parts: &[P],
-    order: &[u32],
-) -> Result<Vec<P>, AllocError>
+fn parts_in_order<P: Copy>(alloc: Global, parts: &[P], order: &[u32]) -> Result<Vec<P>, AllocError>
     requires { All (λ g. g < length parts.now) order.now }
     ensures { (d : P) → IfOk result (λ ordered. ordered.items ≡ map (λ g. slice_index_or parts.now g d) order.now) }
 {
@@ -103,7 +102,10 @@ fn fold_groups<F: ToldFold>(
 }
 
 /// Values, lent, in their order.
-pub fn lent_values<'a>(alloc: Global, values: &'a [Value]) -> Result<Vec<&'a Value>, AllocError>
+pub(crate) fn lent_values<'a>(
+    alloc: Global,
+    values: &'a [Value],
+) -> Result<Vec<&'a Value>, AllocError>
     ensures value { IfOk result (λ lent. meanings lent.items ≡ map meaning values.now) }
     ensures len { IfOk result (λ lent. length lent.items ≡ length values.now) }
 {
@@ -125,10 +127,35 @@ pub fn joined_lists(alloc: Global, lists: Vec<Vec<Value>>) -> Result<Vec<Value>,
     Ok(column)
 }
 
-/// What an aggregate that is fed these values comes to over the rows of each group, `OutOfRange` where a result is so.
-/// `groups` has the number of each row's group, of 32 bits, of so many groups, and `order` the groups that are answered, in their
-/// order. The rows are gone through as often for many groups as for one.
-pub fn aggregate_groups(
+// How many rows of each group there are on which a filter is true, all if there is none. No row is looked at.
+fn count_groups(
+    alloc: Global,
+    filter: &Option<Vec<bool>>,
+    groups: &[u32],
+    count: usize,
+    order: &[u32],
+) -> Result<Vec<Value>, AnswerFault>
+    requires tests { ForSome filter.now (λ tests. length tests.items ≡ length groups.now) }
+    requires below { All (λ g. g < count) groups.now }
+    requires ordered { All (λ g. g < count) order.now }
+    requires few { length groups.now < 2 ^ 31 }
+    ensures gives { (feed : aggregating.Feed) → option_map (λ tests. tests.items) filter.now ≡ feed.filter
+        → Gives (λ column. map meaning column.items) result
+        (in_range (map (λ g. aggregate_of functions.CountRows feed (rows_of_group groups.now g)) order.now)) }
+    ensures len { IfOk result (λ column. length column.items ≡ length order.now) }
+{
+    // A law, which does nothing.
+    counts_are_exact();
+    let fold = CountRows {
+        rows: groups.len(),
+        filter: lent(filter),
+    };
+    let mut meter = Meter::new();
+    fold_groups(alloc, &fold, &mut meter, groups, count, order)
+}
+
+// What an aggregate that is fed these values, in a list, comes to over the rows of each group, `OutOfRange` where a result is so.
+fn aggregate_values(
     alloc: Global,
     function: AggregateFunction,
     values: &[&Value],
@@ -153,30 +180,62 @@ pub fn aggregate_groups(
     sums_are_exact();
     places_are_least();
     stable_sorts_agree();
-    let filter = lent(filter);
+    let tests = lent(filter);
     let mut meter = Meter::new();
     match function {
-        AggregateFunction::CountRows => {
-            let rows = values.len();
-            let fold = CountRows { rows, filter };
-            fold_groups(alloc, &fold, &mut meter, groups, count, order)
-        }
+        AggregateFunction::CountRows => count_groups(alloc, filter, groups, count, order),
         AggregateFunction::Count => {
-            let fold = Count { values, filter };
+            let fold = Count {
+                values,
+                filter: tests,
+            };
             fold_groups(alloc, &fold, &mut meter, groups, count, order)
         }
         AggregateFunction::Sum => {
             see_ranges(values);
-            let fold = Sum { values, filter };
+            let fold = Sum {
+                values,
+                filter: tests,
+            };
             fold_groups(alloc, &fold, &mut meter, groups, count, order)
         }
         AggregateFunction::Min => {
-            let fold = extreme(values, filter, false);
+            let fold = extreme(values, tests, false);
             fold_groups(alloc, &fold, &mut meter, groups, count, order)
         }
         AggregateFunction::Max => {
-            let fold = extreme(values, filter, true);
+            let fold = extreme(values, tests, true);
             fold_groups(alloc, &fold, &mut meter, groups, count, order)
         }
     }
+}
+
+/// What an aggregate of an argument comes to over the rows of each group, `OutOfRange` where a result is so. `groups` has the
+/// number of each row's group, of 32 bits, of so many groups, and `order` the groups that are answered, in their order. The rows are
+/// gone through as often for many groups as for one. What the argument has on them is listed, by 8 bytes a row, unless rows are
+/// counted, at which nobody looks.
+pub fn aggregate_groups(
+    alloc: Global,
+    function: AggregateFunction,
+    argument: Argument,
+    filter: &Option<Vec<bool>>,
+    groups: &[u32],
+    count: usize,
+    order: &[u32],
+) -> Result<Vec<Value>, AnswerFault>
+    requires rows { length groups.now ≡ rows_of argument }
+    requires tests { ForSome filter.now (λ tests. length tests.items ≡ rows_of argument) }
+    requires below { All (λ g. g < count) groups.now }
+    requires ordered { All (λ g. g < count) order.now }
+    requires few { length groups.now < 2 ^ 31 }
+    ensures gives { Gives (λ column. map meaning column.items) result
+        (in_range (map (λ g. aggregate_of function (fed_by argument.entry filter.now) (rows_of_group groups.now g)) order.now)) }
+    ensures len { IfOk result (λ column. length column.items ≡ length order.now) }
+{
+    if let AggregateFunction::CountRows = function {
+        return count_groups(alloc, filter, groups, count, order);
+    }
+    let null = Value::Null;
+    let values = listed(alloc, argument, &null)?;
+    aggregate_values(alloc, function, &values, filter, groups, count, order)
 }

@@ -25,10 +25,8 @@ mod summaries;
 mod tally;
 
 pub use alike::extremes_of;
-pub use feeding::{
-    Argument, Fed, argument_values, filter_rows, is_null, lent_argument, lent_nulls, plain_argument,
-};
+pub use feeding::{Argument, Fed, argument_values, filter_rows, is_null, plain_argument};
 pub use folding::put_frame_aggregates;
-pub use grouped::{aggregate_groups, joined_lists, lent_values};
+pub use grouped::{aggregate_groups, joined_lists};
 pub use summaries::{Extremes, Summaries, summaries_for, summarize};
 pub use tally::Tally;

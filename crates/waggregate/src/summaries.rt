@@ -1,13 +1,13 @@
 //! Aggregates of groups that are fed alike, in one pass over the rows.
-ghost use Rattle.std.specs.Prelude.{◌≡◌, ◌<◌, ◌^◌, ℕ, List, All, IfOk, IfSome, None, length, map, replicate, true};
+ghost use Rattle.std.specs.Prelude.{◌≡◌, ◌<◌, ◌^◌, ℕ, List, All, IfOk, IfSome, None, length, map, replicate, slice_index_or, true};
 ghost use Rattle.std.specs.Rc.{rc_str_bytes};
 ghost use Rattle.wvalues.specs.Meaning.{Int, Meaning, Null, Text, meaning};
-ghost use Rattle.wframe.specs.Cells.{meanings};
-ghost use Rattle.wslide.specs.Aggregates.{by_value_in};
+ghost use Rattle.wslide.specs.Aggregates.{IsInRange, by_value_in};
 ghost use Rattle.wslide.specs.Counts.{counts_joined};
 ghost use Rattle.wrows.specs.Columns.{in_range};
 ghost use Rattle.wrows.specs.Outcomes.{Gives};
 ghost use Rattle.waggregate.specs.Aggregating.{aggregate_of};
+ghost use Rattle.waggregate.specs.Feeding.{rows_of, value_or_none, values_of};
 ghost use Rattle.waggregate.specs.FrameAnswers.{told_or_out_of_range};
 ghost use Rattle.waggregate.specs.Grouped.{rows_of_group};
 ghost use Rattle.waggregate.specs.Summaries.{AreSummaries, AreSummed, IsEmpty, IsKnownFor, IsWith, answer_at};
@@ -15,12 +15,13 @@ ghost use Rattle.waggregate.specs.Summaries.{answer_in, first_in, groups_told, i
 ghost use Rattle.waggregate.specs.declared.summaries.Summary as summary;
 
 use crate::answers::{count_value, sum_value};
+use crate::feeding::Argument;
 use std::alloc::{AllocError, Global};
 use std::rc::RcStr;
 use wframe::stable_sorts_agree;
 use wplan::AggregateFunction;
 use wrows::AnswerFault;
-use wslide::{PartialSum, counts_are_exact, places_are_least, see_ranges, sums_are_exact};
+use wslide::{PartialSum, counts_are_exact, places_are_least, sums_are_exact};
 use wvalues::{Value, Whole};
 
 /// Which extreme values of groups are looked for, beside their counts and sums.
@@ -158,6 +159,7 @@ impl<'a> Summary<'a> {
     fn add_number(&mut self, extremes: Extremes, number: Whole)
         ensures with { IsWith extremes (Int number) self.old self.new }
         ensures rows { self.new.rows ≡ self.old.rows }
+        ensures range { IsInRange (Int number) }
     {
         self.values = self.values.wrapping_add(1);
         self.sum = self.sum.joined(PartialSum::of(number));
@@ -184,13 +186,17 @@ impl<'a> Summary<'a> {
         }
     }
 
-    // Takes a row with this value to the others.
+    // Takes a row with this value to the others, or one with null, if there is none.
     #[inline(always)]
-    fn add(&mut self, extremes: Extremes, value: &'a Value)
-        ensures with { IsWith extremes (meaning value.now) self.old self.new }
+    fn add(&mut self, extremes: Extremes, value: Option<&'a Value>)
+        ensures with { IsWith extremes (value_or_none value.entry) self.old self.new }
         ensures rows { self.new.rows ≡ counts_joined self.old.rows 1 }
+        ensures range { IsInRange (value_or_none value.entry) }
     {
         self.rows = self.rows.wrapping_add(1);
+        let Some(value) = value else {
+            return;
+        };
         match value {
             Value::Null => {}
             Value::Int(number) => self.add_number(extremes, *number),
@@ -223,46 +229,48 @@ fn repeated<P: Copy>(alloc: Global, part: &P, count: usize) -> Result<Vec<P>, Al
     Ok(parts)
 }
 
-// What the rows of each group come to, where `values` are what they feed. Each row is taken once, to its group.
+// What the rows of each group come to, where an argument is what they feed. Each row is taken once, to its group.
 fn summed_rows<'a>(
     alloc: Global,
-    values: &[&'a Value],
+    argument: Argument<'a>,
     extremes: Extremes,
     groups: &[u32],
     count: usize,
 ) -> Result<Vec<Summary<'a>>, AllocError>
-    requires rows { length groups.now ≡ length values.now }
+    requires rows { length groups.now ≡ rows_of argument }
     requires below { All (λ g. g < count) groups.now }
-    ensures { IfOk result (λ summaries. AreSummed (meanings values.now) extremes groups.now (length groups.now) count summaries.items) }
+    ensures summed { IfOk result (λ summaries. AreSummed (values_of argument.entry) extremes groups.now (length groups.now) count
+        summaries.items) }
+    ensures ranges { IfOk result (λ summaries. (i : ℕ) → i < length groups.now
+        → IsInRange (slice_index_or (values_of argument.entry) i Null)) }
 {
     let mut summaries = repeated(alloc, &Summary::of_none(), count)?;
     for row in 0..groups.len() {
-        summaries[groups[row] as usize].add(extremes, values[row]);
+        summaries[groups[row] as usize].add(extremes, argument.value(row));
     }
     Ok(summaries)
 }
 
-/// What the rows of each group come to, in one pass over the rows, where `values` are what they feed without a filter. `groups`
-/// has the number of each row's group, of 32 bits, of so many groups.
+/// What the rows of each group come to, in one pass over the rows, where an argument is what they feed without a filter. It is
+/// read where it lies. `groups` has the number of each row's group, of 32 bits, of so many groups.
 pub fn summarize<'a>(
     alloc: Global,
-    values: &[&'a Value],
+    argument: Argument<'a>,
     extremes: Extremes,
     groups: &[u32],
     count: usize,
 ) -> Result<Summaries<'a>, AllocError>
-    requires rows { length groups.now ≡ length values.now }
+    requires rows { length groups.now ≡ rows_of argument }
     requires below { All (λ g. g < count) groups.now }
     requires few { length groups.now < 2 ^ 31 }
-    ensures { IfOk result (AreSummaries (meanings values.now) groups.now count) }
+    ensures { IfOk result (AreSummaries (values_of argument.entry) groups.now count) }
 {
     // Laws, which do nothing.
     counts_are_exact();
     sums_are_exact();
     places_are_least();
     stable_sorts_agree();
-    see_ranges(values);
-    let groups = summed_rows(alloc, values, extremes, groups, count)?;
+    let groups = summed_rows(alloc, argument, extremes, groups, count)?;
     Ok(Summaries { extremes, groups })
 }
 

@@ -2,7 +2,7 @@
 use Rattle.std.proofs.Common.{◌≡◌, ℕ, zero, suc, ◌+◌, ◌*◌, ◌<◌, ◌||◌, Bool, true, false, List, [], ◌∷◌, ◌++◌, length}
 use Rattle.std.proofs.Common.{map, take, get_or, Result, Ok, Err, true≢false, refl, sym, ap, ◌∙◌, arith}
 use Rattle.std.specs.List.{list_any, list_all}
-use Rattle.std.proofs.lemmas.List.{take_more, get_or-map}
+use Rattle.std.proofs.lemmas.List.{take_more, get_or-map, map-append}
 use Rattle.std.proofs.lemmas.List.Folds.{list_all_at}
 use Rattle.wvalues.specs.declared.value.Value.{Value}
 use Rattle.wvalues.specs.Meaning.{Meaning, Null, meaning}
@@ -124,6 +124,13 @@ module _ {A B : Type 0} (f : A → Result B AnswerFault) where
 pub mapped_at : {X Y : Type 0} (h : X → Y) (xs : List X) (i : ℕ) (x : X) → i < length xs → x ≡ get_or xs i x
     → h x ≡ get_or (map h xs) i (h x)
 mapped_at h xs i x l e = ap h e ∙ sym (get_or-map h xs i x (h x) l)
+
+-- one more is as what it is made of asks
+pub alike_more : {A B C : Type 0} (p : A → C) (q : B → C) (made : List A) (xs : List B) (i : ℕ) (y : A) (x : B) → i < length xs
+    → x ≡ get_or xs i x → map p made ≡ map q (take i xs) → p y ≡ q x → map p (made ++ y ∷ []) ≡ map q (take (i + 1) xs)
+alike_more p q made xs i y x h at so_far same =
+    map-append p made (y ∷ []) ∙ ap (λ l. l ++ p y ∷ []) so_far ∙ ap (λ c. map q (take i xs) ++ c ∷ []) (same ∙ ap q at)
+    ∙ sym (map-append q (take i xs) (get_or xs i x ∷ [])) ∙ ap (map q) (sym (take_more xs i x h))
 
 -- what all are, each is
 pub each_is : {X : Type 0} (p : X → Bool) (xs : List X) (i : ℕ) (x : X) → list_all p xs ≡ true → i < length xs

@@ -1,5 +1,5 @@
 //! The columns of a window's functions.
-ghost use Rattle.std.specs.Prelude.{◌≡◌, ◌≤◌, ◌+◌, ◌<◌, ◌^◌, true, Ok, length, map};
+ghost use Rattle.std.specs.Prelude.{◌≡◌, ◌≤◌, ◌+◌, ◌<◌, ◌^◌, true, IfOk, Ok, length, map};
 ghost use Rattle.std.specs.List.{list_all};
 ghost use Rattle.wcolumns.specs.Columns.{column_seen};
 ghost use Rattle.wplan.specs.Plans.{window_plan};
@@ -10,6 +10,7 @@ ghost use Rattle.wcalls.specs.Functions.{function_column, window_columns};
 ghost use Rattle.wcalls.specs.Lent.{functions_seen};
 ghost use Rattle.wcalls.specs.Sound.{is_sound_function, is_sound_window};
 ghost use Rattle.wcalls.specs.Joins.{most_of_functions};
+ghost use Rattle.wcalls.specs.Kept.{are_values, is_aggregate};
 ghost use Rattle.wcalls.specs.Frames.{frame_of};
 ghost use Rattle.wcalls.specs.Arranged.{IsArranged};
 ghost use Rattle.wcalls.specs.Ordered.{ordered_rows};
@@ -41,6 +42,7 @@ fn every_column<'r>(
     ensures columns { (w : Windowed) → IsArranged w arranged.now.order.now arranged.now.partitions.now
         → Gives (λ columns. map column_seen columns.items) result
         (each (function_column (rows_seen arranged.now.rows.now) w) (functions_seen functions.now)) }
+    ensures kept { IfOk result (λ columns. map are_values columns.items ≡ map is_aggregate (functions_seen functions.now)) }
 {
     let mut rooms = rooms;
     let mut columns = Vec::with_capacity(alloc, functions.len())?;
@@ -56,7 +58,7 @@ fn every_column<'r>(
 }
 
 /// What functions of a window answer on rows, where `order` has the rows in the window's order: a column for each
-/// function, with a value for each row by its number.
+/// function, with a value for each row by its number. An aggregate has a column of values, any other function one of numbers.
 ///
 /// Nothing is skipped: it is `OutOfRange` where an argument or a filter is so on any row, or a result is.
 ///
@@ -78,6 +80,7 @@ pub fn window_columns<'r>(
         (length rows.now) (functions_seen functions.now) }
     ensures columns { Gives (λ columns. map column_seen columns.items) result
         (window_columns (window_plan window.now) (functions_seen functions.now) (rows_seen rows.entry.now)) }
+    ensures kept { IfOk result (λ columns. map are_values columns.items ≡ map is_aggregate (functions_seen functions.now)) }
 {
     // Room for all columns at once, since a list that grows is held twice while it is moved; and before the frames, whose room is then
     // free for the answer's text behind the columns.

@@ -1,5 +1,5 @@
 //! The column of one function of a window.
-ghost use Rattle.std.specs.Prelude.{[], ◌≡◌, ◌≤◌, ◌+◌, true, IfOk, length};
+ghost use Rattle.std.specs.Prelude.{[], ◌≡◌, ◌≤◌, ◌+◌, true, false, IfOk, length};
 ghost use Rattle.wvalues.specs.Meaning.{meaning, Null};
 ghost use Rattle.wcolumns.specs.Columns.{column_seen};
 ghost use Rattle.wplan.specs.Formula.{formula};
@@ -13,6 +13,7 @@ ghost use Rattle.wcalls.specs.Functions.{function_column};
 ghost use Rattle.wcalls.specs.Arranged.{IsArranged};
 ghost use Rattle.wcalls.specs.Sound.{is_sound_function};
 ghost use Rattle.wcalls.specs.Joins.{most_of_function};
+ghost use Rattle.wcalls.specs.Kept.{are_values, is_aggregate};
 
 use crate::aggregated::aggregated_column;
 use crate::arranged::ArrangedRows;
@@ -34,8 +35,9 @@ fn counts_column<'r, N: Counts + Copy>(
     arranged: &ArrangedRows<'_, 'r>,
     room: Room,
 ) -> Result<Column<'r>, AnswerFault>
-    ensures { (w : Windowed) → IsArranged w arranged.now.order.now arranged.now.partitions.now
+    ensures column { (w : Windowed) → IsArranged w arranged.now.order.now arranged.now.partitions.now
         → Gives column_seen result (numbers w (λ i. N.count_at counts (length (partition_rows w i)) (partition_at w i) (place_at w i))) }
+    ensures kept { IfOk result (λ column. are_values column ≡ false) }
 {
     let call = Counted { counts };
     let kept = kept_numbers(&call, arranged, room.numbers)?;
@@ -51,9 +53,10 @@ fn other_rows_column<'r, P: RowPlaces + Copy>(
     arranged: &ArrangedRows<'_, 'r>,
     room: Room,
 ) -> Result<Column<'r>, AnswerFault>
-    ensures { (w : Windowed) → IsArranged w arranged.now.order.now arranged.now.partitions.now
+    ensures column { (w : Windowed) → IsArranged w arranged.now.order.now arranged.now.partitions.now
         → Gives column_seen result (values_read w (formula expr.now) (rows_seen arranged.now.rows.now) (meaning default.now)
         (λ i. P.place_read places (length (partition_rows w i)) (partition_at w i) (place_at w i))) }
+    ensures kept { IfOk result (λ column. are_values column ≡ false) }
 {
     let values = column_values(alloc, expr, arranged.rows)?;
     let otherwise = default.duplicate()?;
@@ -74,9 +77,10 @@ fn other_rows_or_null<'r, P: RowPlaces + Copy>(
     arranged: &ArrangedRows<'_, 'r>,
     room: Room,
 ) -> Result<Column<'r>, AnswerFault>
-    ensures { (w : Windowed) → IsArranged w arranged.now.order.now arranged.now.partitions.now
+    ensures column { (w : Windowed) → IsArranged w arranged.now.order.now arranged.now.partitions.now
         → Gives column_seen result (values_read w (formula expr.now) (rows_seen arranged.now.rows.now) Null
         (λ i. P.place_read places (length (partition_rows w i)) (partition_at w i) (place_at w i))) }
+    ensures kept { IfOk result (λ column. are_values column ≡ false) }
 {
     let null = Value::Null;
     other_rows_column(alloc, places, expr, &null, arranged, room)
@@ -105,6 +109,7 @@ fn aggregates_column<'r>(
     ensures joins { tally.new ≤ tally.old + most_by_queues arranged.now.partitions.now.frame.exclusion (length arranged.now.order.now) }
     ensures column { (w : Windowed) → IsArranged w arranged.now.order.now arranged.now.partitions.now
         → Gives column_seen result (function_column (rows_seen arranged.now.rows.now) w (Aggregated (aggregate_plan aggregate.now))) }
+    ensures kept { IfOk result (λ column. are_values column ≡ true) }
 {
     let mut column = nulls(room.values, arranged.order.len())?;
     aggregated_column(alloc, aggregate, arranged, &mut column, tally)?;
@@ -124,6 +129,7 @@ pub(crate) fn function_column<'r>(
         (length arranged.now.order.now) (function_plan function.now) }
     ensures column { (w : Windowed) → IsArranged w arranged.now.order.now arranged.now.partitions.now
         → Gives column_seen result (function_column (rows_seen arranged.now.rows.now) w (function_plan function.now)) }
+    ensures kept { IfOk result (λ column. are_values column ≡ is_aggregate (function_plan function.now)) }
 {
     match function {
         WindowFunction::RowNumber => counts_column(RowNumber, arranged, room),

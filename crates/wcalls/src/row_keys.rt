@@ -35,8 +35,7 @@ pub(crate) struct RowKeys<'a> {
 
 // The numbers of rows by codes, and then as they stood.
 fn by_codes(alloc: Global, codes: &[u32], rows: Vec<u32>) -> Result<Vec<u32>, AllocError>
-    requires few { length codes.now ≤ 2 ^ 32 }
-    requires below { All (λ i. i < length codes.now) rows.items }
+    requires { All (λ i. i < length codes.now) rows.items }
     ensures { IfOk result (λ order. order.items ≡ sorted (on (code_at codes.now) nat_cmp) rows.items) }
 {
     let mut order = rows;

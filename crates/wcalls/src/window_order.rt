@@ -243,8 +243,7 @@ struct RowOrder {
 
 // The order of rows that have codes for their partition values and for their keys, by both.
 fn coded_order(alloc: Global, firsts: &[u32], seconds: &[u32]) -> Result<RowOrder, AllocError>
-    requires len { length firsts.now ≡ length seconds.now }
-    requires few { length seconds.now ≤ 2 ^ 32 }
+    requires { length firsts.now ≡ length seconds.now }
     ensures { (value_order key_order : List SortKey) (values keys : List (List Meaning))
         → AreRowCodes value_order values firsts.now → AreRowCodes key_order keys seconds.now
         → IfOk result (IsRowOrder value_order values key_order keys (length seconds.now)) }
@@ -308,11 +307,7 @@ fn are_told_by_values(rows: &KeyRows) -> bool {
 }
 
 // Codes of the keys of rows that stand in this order, where they are found without sorting and seem to be of use.
-fn found_codes(
-    alloc: Global,
-    keys: &RowKeys,
-    rows: &[u32],
-) -> Result<Option<Vec<u32>>, AllocError>
+fn found_codes(alloc: Global, keys: &RowKeys, rows: &[u32]) -> Result<Option<Vec<u32>>, AllocError>
     requires { All (λ i. i < length (lists_in keys.now.lists)) rows.now }
     ensures { IfOk result (λ found. IfSome found (λ codes. TellApart (keys_cmp keys.now.orders.items)
         (map (key_at (lists_in keys.now.lists)) rows.now) codes.items)) }

@@ -12,7 +12,7 @@ use Rattle.wrows.specs.Columns.{Row, column_of, filter_of, in_range, value_on}
 use Rattle.wrows.specs.Outcomes.{◌>>=◌}
 use Rattle.wgroup.specs.declared.found.Groups as memory
 use Rattle.wgroup.specs.Held.{column_over, set_answers}
-use Rattle.wgroup.specs.Lent.{Feeds}
+use Rattle.wgroup.specs.Shared.{Feeds}
 use Rattle.wgroup.proofs.ColumnFacts.{null_told}
 
 -- what it comes to with a filter, if there is one

@@ -11,7 +11,7 @@ use Rattle.waggregate.specs.declared.summaries.Summaries.{Summaries}
 use Rattle.wgroup.specs.declared.found.Groups as memory
 use Rattle.wgroup.specs.Finer.{AreMade, IsMade, MadeFrom}
 use Rattle.wgroup.specs.Held.{by_row, row_numbers}
-use Rattle.wgroup.specs.Lent.{AreKnown}
+use Rattle.wgroup.specs.Shared.{AreKnown}
 use Rattle.wgroup.proofs.LeaderFacts.{in_order}
 use Rattle.std.proofs.Common.{take}
 

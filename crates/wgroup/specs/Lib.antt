@@ -5,4 +5,4 @@ pub mod Held
 pub mod Finer
 pub mod Laws
 pub mod Counting
-pub mod Lent
+pub mod Shared

@@ -2,29 +2,28 @@
 ghost use Rattle.std.specs.Prelude.{◌≡◌, ◌<◌, ◌≤◌, ◌^◌, ◌+◌, ◌*◌, All, length, map, min, option_map, take, if◌then◌else◌, IfOk, Ok, Some};
 ghost use Rattle.std.specs.Option.{ForSome};
 ghost use Rattle.std.specs.List.{flat_map};
-ghost use Rattle.wvalues.specs.Meaning.{Null, meaning};
+ghost use Rattle.wvalues.specs.Meaning.{meaning};
 ghost use Rattle.wplan.specs.Plans.{GroupAggregate, aggregate_plan, group_call_plan};
 ghost use Rattle.wrows.specs.Columns.{in_range};
-ghost use Rattle.wframe.specs.Cells.{meanings};
-ghost use Rattle.wplan.specs.Formula.{Constant, formula};
 ghost use Rattle.wrows.specs.Outcomes.{Gives, each};
 ghost use Rattle.wrows.specs.Laid.{rows_seen};
 ghost use Rattle.wgroupby.specs.Sets.{grouping_of};
 ghost use Rattle.wgroup.specs.Grouping.{grouping_answer};
 ghost use Rattle.waggregate.specs.Aggregating as aggregating;
+ghost use Rattle.waggregate.specs.Feeding.{fed_by, rows_of, values_of};
 ghost use Rattle.wgroup.specs.Finer.{AreAnswered, AreMade, IsMade, IsMadeOf, function_of_parts};
-ghost use Rattle.wgroup.specs.Lent.{AreKnown, column_on, fed_answers, Feeds, IsKnown, IsLent, lent_feed};
+ghost use Rattle.wgroup.specs.Shared.{AreKnown, column_on, fed_answers, Feeds, IsKnown, IsShared};
 ghost use Rattle.wgroup.specs.Held.{all_groups, column_over, columns_in, set_answers, set_grouping};
 
 use crate::fed::{FedAggregate, GroupedRows};
 use crate::found::{FinerSet, Groups};
 use crate::groups::numbers_at;
 use crate::keys::is_among;
-use crate::lent::{LentColumn, feeds, lend};
+use crate::shared::{SharedColumn, feeds, share};
 use std::alloc::{AllocError, Global};
 use waggregate::{
-    Summaries, aggregate_groups, argument_values, filter_rows, is_null, joined_lists, lent_nulls,
-    lent_values, summaries_for,
+    Argument, Summaries, aggregate_groups, argument_values, filter_rows, joined_lists,
+    plain_argument, summaries_for,
 };
 use wplan::{Aggregate, AggregateFunction, GroupCall};
 use wrows::AnswerFault;
@@ -60,13 +59,12 @@ fn answers_of_parts(
         → Gives (λ column. map meaning column.items) result (in_range (set_answers function feed groups.now)) }
     ensures len { IfOk result (λ column. length column.items ≡ length groups.now.order.items) }
 {
-    let values = lent_values(alloc, parts)?;
     let numbers = numbers_at(alloc, &finer.numbers, &set.order)?;
     let function = function_of_parts(function);
     aggregate_groups(
         alloc,
         function,
-        &values,
+        Argument::Values(parts),
         &None,
         &numbers,
         groups.count,
@@ -83,8 +81,8 @@ fn made_answers(
     groups: &Groups,
 ) -> Result<Vec<Value>, AnswerFault>
     requires made { IsMade (take (length answered.now) sets.now) groups.now }
-    requires answered { AreAnswered fed.now.function (lent_feed fed.now.values.now fed.now.filter) sets.now answered.now }
-    requires len { length groups.now.numbers.value.items ≡ length fed.now.values.now }
+    requires answered { AreAnswered fed.now.function (fed_by fed.now.argument fed.now.filter) sets.now answered.now }
+    requires len { length groups.now.numbers.value.items ≡ rows_of fed.now.argument }
     ensures gives { Gives (λ column. map meaning column.items) result (in_range (fed_answers fed.now groups.now)) }
     ensures len { IfOk result (λ column. length column.items ≡ length groups.now.order.items) }
 {
@@ -92,7 +90,7 @@ fn made_answers(
         None => aggregate_groups(
             alloc,
             fed.function,
-            fed.values,
+            fed.argument,
             &fed.filter,
             &groups.numbers,
             groups.count,
@@ -116,9 +114,9 @@ fn group_answers(
     groups: &Groups,
 ) -> Result<Vec<Value>, AnswerFault>
     requires made { IsMade (take (length answered.now) sets.now) groups.now }
-    requires answered { AreAnswered fed.now.function (lent_feed fed.now.values.now fed.now.filter) sets.now answered.now }
-    requires known { IsKnown (meanings fed.now.values.now) fed.now.summaries.now (length answered.now) groups.now }
-    requires len { length groups.now.numbers.value.items ≡ length fed.now.values.now }
+    requires answered { AreAnswered fed.now.function (fed_by fed.now.argument fed.now.filter) sets.now answered.now }
+    requires known { IsKnown (values_of fed.now.argument) fed.now.summaries.now (length answered.now) groups.now }
+    requires len { length groups.now.numbers.value.items ≡ rows_of fed.now.argument }
     ensures gives { Gives (λ column. map meaning column.items) result (in_range (fed_answers fed.now groups.now)) }
     ensures len { IfOk result (λ column. length column.items ≡ length groups.now.order.items) }
 {
@@ -135,8 +133,8 @@ fn aggregate_answers(
     sets: &[Groups],
 ) -> Result<Vec<Value>, AnswerFault>
     requires made { AreMade sets.now }
-    requires known { AreKnown (meanings fed.now.values.now) sets.now fed.now.summaries.now }
-    requires len { All (λ groups. length groups.numbers.value.items ≡ length fed.now.values.now) sets.now }
+    requires known { AreKnown (values_of fed.now.argument) sets.now fed.now.summaries.now }
+    requires len { All (λ groups. length groups.numbers.value.items ≡ rows_of fed.now.argument) sets.now }
     ensures gives { Gives (λ column. map meaning column.items) result (in_range (flat_map (fed_answers fed.now) sets.now)) }
     ensures len { IfOk result (λ column. length column.items ≡ length (all_groups sets.now)) }
 {
@@ -149,17 +147,17 @@ fn aggregate_answers(
     Ok(column)
 }
 
-// What an aggregate that these values feed comes to over the rows of each group of all sets.
+// What an aggregate that this argument feeds comes to over the rows of each group of all sets.
 fn fed_column(
     alloc: Global,
     aggregate: &Aggregate,
     grouped: &GroupedRows<'_>,
-    values: &[&Value],
+    argument: Argument<'_>,
     summaries: &[Option<Summaries<'_>>],
 ) -> Result<Vec<Value>, AnswerFault>
-    requires values { Feeds (aggregate_plan aggregate.now) (rows_seen grouped.now.rows.now) (meanings values.now) }
-    requires wide { length values.now ≡ length grouped.now.rows.now }
-    requires known { AreKnown (meanings values.now) grouped.now.sets.now summaries.now }
+    requires values { Feeds (aggregate_plan aggregate.now) (rows_seen grouped.now.rows.now) (values_of argument) }
+    requires wide { rows_of argument ≡ length grouped.now.rows.now }
+    requires known { AreKnown (values_of argument) grouped.now.sets.now summaries.now }
     requires made { AreMade grouped.now.sets.now }
     ensures gives { Gives (λ column. map meaning column.items) result (column_on grouped.now
         (GroupAggregate (aggregate_plan aggregate.now))) }
@@ -168,7 +166,7 @@ fn fed_column(
     let filter = filter_rows(alloc, &aggregate.filter, grouped.rows)?;
     let fed = FedAggregate {
         function: aggregate.function,
-        values,
+        argument,
         filter,
         summaries,
     };
@@ -187,47 +185,46 @@ fn evaluated_column(
     ensures len { IfOk result (λ column. length column.items ≡ length (all_groups grouped.now.sets.now)) }
 {
     let cells = argument_values(alloc, &aggregate.argument, grouped.rows)?;
-    let values = lent_values(alloc, &cells)?;
-    fed_column(alloc, aggregate, grouped, &values, &[])
+    fed_column(alloc, aggregate, grouped, Argument::Values(&cells), &[])
 }
 
-// What an aggregate of NULL, as `count(*)` is one, comes to over the rows of each group of all sets, with a null for each row.
-fn nulls_column(
+// What an aggregate comes to over the rows of each group of all sets, by an argument of its own, which is evaluated on every row
+// where it is neither NULL nor a plain column.
+fn own_column(
     alloc: Global,
     aggregate: &Aggregate,
     grouped: &GroupedRows<'_>,
 ) -> Result<Vec<Value>, AnswerFault>
-    requires null { formula aggregate.now.argument ≡ Constant Null }
     requires made { AreMade grouped.now.sets.now }
     ensures gives { Gives (λ column. map meaning column.items) result (column_on grouped.now
         (GroupAggregate (aggregate_plan aggregate.now))) }
     ensures len { IfOk result (λ column. length column.items ≡ length (all_groups grouped.now.sets.now)) }
 {
-    let null = Value::Null;
-    let values = lent_nulls(alloc, &null, grouped.rows)?;
-    fed_column(alloc, aggregate, grouped, &values, &[])
+    match plain_argument(&aggregate.argument, grouped.rows) {
+        Some(argument) => fed_column(alloc, aggregate, grouped, argument, &[]),
+        None => evaluated_column(alloc, aggregate, grouped),
+    }
 }
 
-// What an aggregate comes to over the rows of each group of all sets. A plain column is read where it lies, by the one that is
-// lent, if that may feed the aggregate.
+// What an aggregate comes to over the rows of each group of all sets, by the column that is shared, if that may feed it.
 fn aggregate_column(
     alloc: Global,
     aggregate: &Aggregate,
     grouped: &GroupedRows<'_>,
-    lent: &Option<LentColumn<'_>>,
+    shared: &Option<SharedColumn<'_>>,
 ) -> Result<Vec<Value>, AnswerFault>
-    requires lent { ForSome lent.now (IsLent grouped.now.rows.now grouped.now.sets.now) }
+    requires shared { ForSome shared.now (IsShared grouped.now.rows.now grouped.now.sets.now) }
     requires made { AreMade grouped.now.sets.now }
     ensures gives { Gives (λ column. map meaning column.items) result (column_on grouped.now
         (GroupAggregate (aggregate_plan aggregate.now))) }
     ensures len { IfOk result (λ column. length column.items ≡ length (all_groups grouped.now.sets.now)) }
 {
-    match lent {
+    match shared {
         Some(column) if feeds(column, aggregate) => {
-            fed_column(alloc, aggregate, grouped, &column.values, &column.summaries)
+            let argument = Argument::Column(grouped.rows, column.place);
+            fed_column(alloc, aggregate, grouped, argument, &column.summaries)
         }
-        _ if is_null(&aggregate.argument) => nulls_column(alloc, aggregate, grouped),
-        _ => evaluated_column(alloc, aggregate, grouped),
+        _ => own_column(alloc, aggregate, grouped),
     }
 }
 
@@ -321,21 +318,21 @@ fn column(
     alloc: Global,
     call: &GroupCall,
     grouped: &GroupedRows<'_>,
-    lent: &Option<LentColumn<'_>>,
+    shared: &Option<SharedColumn<'_>>,
 ) -> Result<Vec<Value>, AnswerFault>
-    requires lent { ForSome lent.now (IsLent grouped.now.rows.now grouped.now.sets.now) }
+    requires shared { ForSome shared.now (IsShared grouped.now.rows.now grouped.now.sets.now) }
     requires made { AreMade grouped.now.sets.now }
     ensures gives { Gives (λ column. map meaning column.items) result (column_on grouped.now (group_call_plan call.now)) }
     ensures len { IfOk result (λ column. length column.items ≡ length (all_groups grouped.now.sets.now)) }
 {
     match call {
-        GroupCall::Aggregated(aggregate) => aggregate_column(alloc, aggregate, grouped, lent),
+        GroupCall::Aggregated(aggregate) => aggregate_column(alloc, aggregate, grouped, shared),
         GroupCall::GroupingOf(columns) => grouping_column(alloc, columns, grouped.sets),
     }
 }
 
 /// What each call answers for each group of all sets, the first fault where there is one. A plain column that aggregates which
-/// follow each other have for their argument is lent once for all of these.
+/// follow each other have for their argument is shared by all of these.
 #[tactic(auto, using(crate::proofs::ColumnFacts::columns_begin))]
 pub(crate) fn call_columns(
     alloc: Global,
@@ -353,10 +350,10 @@ pub(crate) fn call_columns(
 {
     let grouped = GroupedRows { rows, sets };
     let mut columns = Vec::with_capacity(alloc, calls.len())?;
-    let mut lent = None;
+    let mut shared = None;
     for call in calls {
-        lend(alloc, &calls[columns.len()..], &grouped, &mut lent)?;
-        columns.push(column(alloc, call, &grouped, &lent)?)?;
+        share(alloc, &calls[columns.len()..], &grouped, &mut shared)?;
+        columns.push(column(alloc, call, &grouped, &shared)?)?;
     }
     Ok(columns)
 }

@@ -1,9 +1,10 @@
 //! Rows with their groups, and aggregates with what feeds them.
 ghost use Rattle.std.specs.Prelude.{◌≡◌, ◌<◌, ◌^◌, All, length};
 ghost use Rattle.std.specs.Option.{ForSome};
+ghost use Rattle.waggregate.specs.Feeding.{rows_of};
 
 use crate::found::Groups;
-use waggregate::Summaries;
+use waggregate::{Argument, Summaries};
 use wplan::AggregateFunction;
 use wvalues::Value;
 
@@ -20,12 +21,12 @@ pub(crate) struct GroupedRows<'a> {
 #[derive(Drop)]
 pub(crate) struct FedAggregate<'a> {
     pub(crate) function: AggregateFunction,
-    /// The value of each row.
-    pub(crate) values: &'a [&'a Value],
+    /// What its argument has on each row.
+    pub(crate) argument: Argument<'a>,
     /// Whether its filter is true on each row, if it has one.
     pub(crate) filter: Option<Vec<bool>>,
     /// What the rows of each group of each set come to without a filter, where that is known.
     pub(crate) summaries: &'a [Option<Summaries<'a>>],
-    ghost tests: { ForSome filter (λ tests. length tests.items ≡ length values.now) },
-    ghost few: { length values.now < 2 ^ 31 },
+    ghost tests: { ForSome filter (λ tests. length tests.items ≡ rows_of argument) },
+    ghost few: { rows_of argument < 2 ^ 31 },
 }

@@ -25,8 +25,8 @@ const EMPTY: u32 = u32::MAX;
 /// The groups of the rows that were seen.
 #[derive(Drop)]
 pub(crate) struct Table {
-    /// The first row of each group, in the order of first sight.
-    pub(crate) firsts: Vec<usize>,
+    /// The number of the first row of each group, in the order of first sight.
+    pub(crate) firsts: Vec<u32>,
     /// The key of each group, one behind the other, which lie closer together than the first rows do.
     pub(crate) keys: Vec<Value>,
     /// The numbers of groups. There are slots behind the last one of a hash, for the keys that are looked for from there on.
@@ -122,6 +122,7 @@ impl Table {
         requires new { list_any (alike keyed.now row) self.old.firsts.items ≡ false }
         requires first { first ≡ slot_of self.old.slots.items (key_hash keyed.now row) }
         requires within { first + 8 ≤ length self.old.slots.items }
+        requires row { row < 2 ^ 32 }
         requires few { length self.old.firsts.items < 2 ^ 32 }
         ensures held { OnOk result (Holds keyed.now (row + 1) self.new) }
         ensures number { IfOk result (λ number. number ≡ length self.old.firsts.items) }
@@ -133,13 +134,14 @@ impl Table {
             None => self.apart.push(number)?,
         }
         push_key(keyed.columns, cells_at(keyed.rows, row), &mut self.keys)?;
-        self.firsts.push(row)?;
+        self.firsts.push(row as u32)?;
         Ok(number)
     }
 
     /// The number of a row's group, of 32 bits, which is added where no earlier row is of it.
     pub(crate) fn number_of(&mut self, keyed: &Keyed, row: usize) -> Result<u32, AllocError>
         requires held { Holds keyed.now row self.old }
+        requires row { row < 2 ^ 32 }
         requires few { length self.old.firsts.items < 2 ^ 32 }
         ensures held { OnOk result (Holds keyed.now (row + 1) self.new) }
         ensures number { IfOk result (λ number. number ≡ position_or_len (alike keyed.now row) (first_of (alike keyed.now) (row + 1))) }

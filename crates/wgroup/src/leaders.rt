@@ -19,7 +19,7 @@ fn are_same(cells: &[Value], width: usize, count: usize, one: usize, other: usiz
 }
 
 // The first row that has the same cells as a row, where another one leads the rows before it in order.
-fn leader_of(cells: &[Value], width: usize, count: usize, leader: usize, row: usize) -> usize
+fn leader_of(cells: &[Value], width: usize, count: usize, leader: u32, row: u32) -> u32
     requires laid { length cells.now ≡ count * width }
     requires leader { leader < count }
     requires row { row < count }
@@ -27,7 +27,7 @@ fn leader_of(cells: &[Value], width: usize, count: usize, leader: usize, row: us
     ensures begun { same_row width cells.now leader row ≡ false → result ≡ row }
     ensures within { result < count }
 {
-    if are_same(cells, width, count, leader, row) {
+    if are_same(cells, width, count, leader as usize, row as usize) {
         leader
     } else {
         row
@@ -35,11 +35,11 @@ fn leader_of(cells: &[Value], width: usize, count: usize, leader: usize, row: us
 }
 
 // Puts down which row leads a row.
-fn put_leader(leaders: &mut Vec<usize>, row: usize, leader: usize)
+fn put_leader(leaders: &mut Vec<u32>, row: u32, leader: u32)
     requires { row < length leaders.old.items }
     ensures { leaders.new.items ≡ set leaders.old.items row leader }
 {
-    leaders[row] = leader;
+    leaders[row as usize] = leader;
 }
 
 /// The first row, for each row, that has the same cells. Rows that are the same are neighbors in the order of the cells,
@@ -50,7 +50,7 @@ pub(crate) fn find_leaders(
     keys: &[SortKey],
     width: usize,
     count: usize,
-) -> Result<Vec<usize>, AllocError>
+) -> Result<Vec<u32>, AllocError>
     requires laid { length cells.now ≡ count * width }
     requires keys { length keys.now ≡ width }
     ensures firsts { IfOk result (λ leaders. (row : ℕ) → row < count
@@ -58,10 +58,10 @@ pub(crate) fn find_leaders(
     ensures len { IfOk result (λ leaders. length leaders.items ≡ count) }
 {
     let order = sorted_numbers(alloc, cells, keys, count)?;
-    let mut leaders = vec![in alloc; 0usize; count]?;
+    let mut leaders = vec![in alloc; 0u32; count]?;
     let mut leader = 0;
     for place in 0..count {
-        let row = order[place] as usize;
+        let row = order[place];
         let next = leader_of(cells, width, count, leader, row);
         put_leader(&mut leaders, row, next);
         leader = next;

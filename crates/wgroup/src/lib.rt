@@ -13,7 +13,7 @@
 //! - Leaves aggregates to `waggregate` and expressions to `wplan`.
 //!
 //! Read `specs/Grouping.antt` and `specs/Laws.antt`, then `specs/Sight.antt`, `specs/Table.antt`, `specs/Held.antt`,
-//! `specs/Finer.antt`, `specs/Lent.antt` and `specs/Counting.antt`.
+//! `specs/Finer.antt`, `specs/Shared.antt` and `specs/Counting.antt`.
 #![tactic(auto)]
 
 mod alike;
@@ -30,8 +30,8 @@ mod keyed;
 mod keys;
 mod laws;
 mod leaders;
-mod lent;
 mod seen;
+mod shared;
 mod sight;
 
 pub use counting::{counted_row, counts_rows};

@@ -53,6 +53,7 @@ fn is_slow(table: &Table, most: usize, rows: usize) -> bool
 
 // The groups of rows, by a table, unless that is given up.
 fn tabled_groups(alloc: Global, keyed: &Keyed) -> Result<Option<Sight>, AllocError>
+    requires { length keyed.now.rows.now < 2 ^ 31 }
     ensures { IfOk result (λ seen. IfSome seen (λ sight. IsSight (alike keyed.now) (length keyed.now.rows.now)
         sight.firsts.items sight.numbers.items)) }
 {
@@ -79,6 +80,7 @@ pub(crate) fn seen_groups(
     columns: &[Option<usize>],
     rows: &[&[Value]],
 ) -> Result<Option<Sight>, AllocError>
+    requires { length rows.now < 2 ^ 31 }
     ensures { IfOk result (λ seen. IfSome seen (λ sight. IsSight (agree columns.now (rows_seen rows.now)) (length rows.now)
         sight.firsts.items sight.numbers.items)) }
 {

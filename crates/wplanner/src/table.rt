@@ -2,6 +2,7 @@
 ghost use Rattle.std.specs.Prelude.{◌≡◌, ◌+◌, ◌<◌, ◌≤◌, [], IfOk, drop, length, map, slice_index_or, take, vec_len};
 ghost use Rattle.std.specs.Rc.{rc_str_bytes};
 ghost use Rattle.wvalues.specs.Meaning.{meaning};
+ghost use Rattle.wframe.specs.Places.{places};
 ghost use Rattle.wprinted.specs.Printing.{values_at};
 ghost use Rattle.wrows.specs.Laid.{rows_in};
 ghost use Rattle.wplanner.specs.Parts.{value_at};
@@ -34,6 +35,17 @@ impl Model for Table {
     ghost view = { parts_of };
 
     ghost invariant = { IsKept };
+}
+
+// The places of so many columns, from 0 on.
+fn column_places(alloc: Global, width: usize) -> Result<Vec<usize>, AllocError>
+    ensures { IfOk result (λ columns. columns.items ≡ places width) }
+{
+    let mut columns = Vec::with_capacity(alloc, width)?;
+    for column in 0..width {
+        columns.push(column)?;
+    }
+    Ok(columns)
 }
 
 /// The cells of a row, from its first one on.
@@ -88,10 +100,7 @@ impl Table {
     pub(crate) fn places(&self, alloc: Global) -> Result<Vec<usize>, AllocError>
         ensures { IfOk result (λ places. map (values_at places.items) self.now.rows ≡ self.now.rows) }
     {
-        let mut places = Vec::with_capacity(alloc, self.names.len())?;
-        for place in 0..self.names.len() {
-            places.push(place)?;
-        }
+        let places = column_places(alloc, self.names.len())?;
         Ok(places)
     }
 

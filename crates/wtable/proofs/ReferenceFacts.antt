@@ -14,14 +14,14 @@ use Rattle.wtable.specs.Referenced.{referenced_row}
 use Rattle.wtable.specs.TableOrders.{IsRowOf, holds_by}
 use Rattle.wtable.proofs.NumberFacts.{all_filtered, length_taken, row_below}
 
--- one segment more is lent
+-- the rows of one segment more are lent
 pub segment_more : (before after whole : List (List Row)) (segments left : List (NameParts × Content)) (e : NameParts × Content)
-    (segment : Content) → segments ≡ e ∷ left → before ++ map (λ e. e.1.rows) segments ≡ whole
-    → after ≡ before ++ segment.rows ∷ [] → segment ≡ e.1 → after ++ map (λ e. e.1.rows) left ≡ whole
-segment_more before after whole segments left e segment is so_far more same =
+    (rows : List Row) → segments ≡ e ∷ left → before ++ map (λ e. e.1.rows) segments ≡ whole → after ≡ before ++ rows ∷ []
+    → rows ≡ e.1.rows → after ++ map (λ e. e.1.rows) left ≡ whole
+segment_more before after whole segments left e rows is so_far more same =
     ap (λ l. l ++ map (λ e. e.1.rows) left) more
-    ∙ append_assoc before (segment.rows ∷ []) (map (λ e. e.1.rows) left)
-    ∙ ap (λ (c : Content). before ++ c.rows ∷ map (λ e. e.1.rows) left) same
+    ∙ append_assoc before (rows ∷ []) (map (λ e. e.1.rows) left)
+    ∙ ap (λ r. before ++ r ∷ map (λ e. e.1.rows) left) same
     ∙ ap (λ l. before ++ map (λ e. e.1.rows) l) (sym is) ∙ so_far
 
 -- the row of a segment's place, among all rows

@@ -10,8 +10,9 @@ use Rattle.wcalls.specs.Functions.{function_column}
 use Rattle.wcalls.specs.Lent.{functions_seen}
 use Rattle.wcalls.specs.Sound.{is_sound_function}
 use Rattle.wcalls.specs.Joins.{most_of_function}
+use Rattle.wcalls.specs.Kept.{are_values, is_aggregate}
 use Rattle.wcalls.proofs.JoinFacts.{joins_more, joins_of_all, joins_within}
-use Rattle.wcalls.proofs.ColumnFacts.{mapped_at, each_is, each_more, each_refused}
+use Rattle.wcalls.proofs.ColumnFacts.{mapped_at, each_is, each_more, each_refused, alike_more}
 use Rattle.wcalls.proofs.function_columns.every_column.Goals as goal
 
 pub function_column-requires : goal.function_column-requires
@@ -41,6 +42,9 @@ loop-function-preserved c =
           (function_plan f.now) (column_seen column) h at (c.loop-function.invariant.so_far w arranged)
           (c.in_ok-column.ensures.column w arranged)
           ∙ ap Ok (sym (ap (map column_seen) c.in_ok-push.ensures.items ∙ map-append column_seen columns (column ∷ [])));
+      kept = ap (map are_values) c.in_ok-push.ensures.items
+          ∙ alike_more are_values is_aggregate columns (functions_seen fs) i column (function_plan f.now) h at
+          c.loop-function.invariant.kept c.in_ok-column.ensures.kept;
     }
 
 pub returns-in_err-column-clause-joins : goal.returns-in_err-column-clause-joins

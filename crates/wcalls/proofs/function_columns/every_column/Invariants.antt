@@ -7,6 +7,7 @@ use Rattle.wcalls.specs.Functions.{function_column}
 use Rattle.wcalls.specs.Lent.{functions_seen}
 use Rattle.wcalls.specs.Arranged.{IsArranged}
 use Rattle.wcalls.specs.Joins.{most_of_functions}
+use Rattle.wcalls.specs.Kept.{are_values, is_aggregate}
 use Rattle.wcalls.proofs.function_columns.every_column.Given as goal
 
 abbrev pub invariant-loop-function : goal.invariant-loop-function
@@ -16,4 +17,5 @@ invariant-loop-function l = record {
   so_far : (w : Windowed) → IsArranged w l.arranged.order.now l.arranged.partitions.now
       → each (function_column (rows_seen l.arranged.rows.now) w) (take l.function-index (functions_seen l.functions))
       ≡ Ok (map column_seen l.columns.items);
+  kept : map are_values l.columns.items ≡ map is_aggregate (take l.function-index (functions_seen l.functions));
 }

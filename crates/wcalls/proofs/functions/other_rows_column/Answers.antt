@@ -12,8 +12,8 @@ use Rattle.wcalls.proofs.CallFacts.{number_kept, reading_is}
 use Rattle.wcalls.proofs.PlainFacts.{map-same}
 use Rattle.wcalls.proofs.functions.other_rows_column.Goals as goal
 
-pub returns : goal.returns
-returns g c w arranged =
+pub returns-clause-column : goal.returns-clause-column
+returns-clause-column g c w arranged =
     let vs = values_seen c.in_ok-values.values in
     let d = meaning c.in_ok-otherwise.otherwise in
     let place : ℕ → Option ℕ = λ i. g.P.RowPlaces.place_read c.args.places (length (partition_rows w i)) (partition_at w i) (place_at w i) in

@@ -29,8 +29,8 @@ codes_of-requires-2 c =
     (codes_reach c.args.keys.now.orders.items K c.in_ok-rows.rows.items (length V) c.in_ok-key_codes.key_codes
     (sym c.requires) c.in_ok-key_codes.ensures.codes c.in_ok-rows.ensures.below)
 
-pub coded_order-requires-clause-len : goal.coded_order-requires-clause-len
-coded_order-requires-clause-len c =
+pub coded_order-requires : goal.coded_order-requires
+coded_order-requires c =
     let vo = c.args.values.now.orders.items in
     let ko = c.args.keys.now.orders.items in
     let V = lists_in c.args.values.now.lists in

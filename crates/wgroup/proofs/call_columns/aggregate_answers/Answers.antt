@@ -5,7 +5,8 @@ use Rattle.std.proofs.lemmas.Result.{err_from_is_err_and}
 use Rattle.wvalues.specs.declared.value.Value.{Value}
 use Rattle.wvalues.specs.Meaning.{Meaning, meaning}
 use Rattle.wgroup.specs.Finer.{AreAnswered, IsMade}
-use Rattle.wgroup.specs.Lent.{fed_answers, lent_feed}
+use Rattle.wgroup.specs.Shared.{fed_answers}
+use Rattle.waggregate.specs.Feeding.{fed_by}
 use Rattle.wgroup.proofs.ColumnFacts.{answers_fault, answers_next}
 use Rattle.wgroup.proofs.MadeFacts.{answered_more}
 use Rattle.wgroup.proofs.TellFacts.{count_next}
@@ -23,7 +24,7 @@ group_answers-requires-clause-made c =
 pub group_answers-requires-clause-answered : goal.group_answers-requires-clause-answered
 group_answers-requires-clause-answered c =
     let fed = c.args.fed.now in
-    subst (AreAnswered fed.function (lent_feed fed.values.now fed.filter) c.args.sets.now)
+    subst (AreAnswered fed.function (fed_by fed.argument fed.filter) c.args.sets.now)
     (sym c.deref.ensures.value) c.loop-groups.invariant.known
 
 pub returns-in_err-answers-clause-gives : goal.returns-in_err-answers-clause-gives
@@ -58,7 +59,7 @@ loop-groups-preserved c =
     record {
       so_far = answers_next f sets i g _ (flat_map one answered) _ (one answers) c.loop-groups-test.true c.groups-item.is
           c.loop-groups.invariant.so_far c.in_ok-answers.ensures.gives pushed;
-      known = answered_more fed.function (lent_feed fed.values.now fed.filter) sets answered _ i g answers
+      known = answered_more fed.function (fed_by fed.argument fed.filter) sets answered _ i g answers
           c.loop-groups.invariant.as_many c.loop-groups-test.true c.groups-item.is c.loop-groups.invariant.known
           c.in_ok-answers.ensures.gives c.in_ok-push.ensures.items;
       as_many = omega (arith, ap length c.in_ok-push.ensures.items, length-append answered (answers ∷ []), c.loop-groups.invariant.as_many);

@@ -4,7 +4,8 @@ use Rattle.wvalues.specs.Meaning.{meaning}
 use Rattle.wrows.specs.Columns.{in_range}
 use Rattle.wgroup.specs.Finer.{AreAnswered}
 use Rattle.wgroup.specs.Held.{all_groups}
-use Rattle.wgroup.specs.Lent.{fed_answers, lent_feed}
+use Rattle.wgroup.specs.Shared.{fed_answers}
+use Rattle.waggregate.specs.Feeding.{fed_by}
 use Rattle.wgroup.proofs.ColumnFacts.{answers_behind}
 use Rattle.wgroup.proofs.call_columns.aggregate_answers.Given as goal
 
@@ -14,7 +15,7 @@ invariant-loop-groups l =
     record {
       so_far : in_range (flat_map (fed_answers l.fed) l.sets) ≡ answers_behind (fed_answers l.fed)
           column (drop l.groups-index l.sets);
-      known : AreAnswered l.fed.function (lent_feed l.fed.values.now l.fed.filter) l.sets l.answered.items;
+      known : AreAnswered l.fed.function (fed_by l.fed.argument l.fed.filter) l.sets l.answered.items;
       as_many : length l.answered.items ≡ l.groups-index;
       len : length column + length (all_groups (drop l.groups-index l.sets)) ≡ length (all_groups l.sets);
     }

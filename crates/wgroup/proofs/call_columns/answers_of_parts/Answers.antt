@@ -1,8 +1,7 @@
-use Rattle.std.proofs.Common.{◌≡◌, ◌<◌, ℕ, List, Vec, Global, Option, None, All, length, map, get_or, refl, sym, subst, ap, ◌∙◌, arith}
+use Rattle.std.proofs.Common.{◌≡◌, ◌<◌, ℕ, List, Vec, Global, Option, None, All, length, map, get_or, sym, subst, ap, ◌∙◌, arith}
 use Rattle.std.proofs.lemmas.List.{length-map}
 use Rattle.wvalues.specs.declared.value.Value.{Value}
 use Rattle.wvalues.specs.Meaning.{Meaning, meaning}
-use Rattle.wframe.specs.Cells.{meanings}
 use Rattle.wrows.specs.Columns.{in_range}
 use Rattle.wrows.specs.Outcomes.{Gives}
 use Rattle.waggregate.specs.Aggregating.{Feed, aggregate_of}
@@ -16,18 +15,17 @@ pub aggregate_groups-requires-clause-rows : goal.aggregate_groups-requires-claus
 aggregate_groups-requires-clause-rows c =
     let f = c.args.set.now in
     let links = c.args.finer.now.numbers.items in
-    let numbers : c.deref-4.result.now ≡ map (λ i. get_or links i 0) f.order.items
-    = c.deref-4.ensures.value ∙ c.in_ok-numbers.ensures 0 ∙ ap (λ l. map (λ i. get_or l i 0) c.deref-2.result.now)
+    let numbers : c.deref-3.result.now ≡ map (λ i. get_or links i 0) f.order.items
+    = c.deref-3.ensures.value ∙ c.in_ok-numbers.ensures ∙ ap (λ l. map (λ i. get_or l i 0) c.deref-2.result.now)
     c.deref.ensures.value ∙ ap (map (λ i. get_or links i 0)) c.deref-2.ensures.value in
     ap length numbers ∙ length-map f.order.items (λ i. get_or links i 0) ∙ sym c.requires.len
-    ∙ sym c.in_ok-values.ensures.len ∙ sym (ap length c.deref-3.ensures.value)
 
 pub aggregate_groups-requires-clause-below : goal.aggregate_groups-requires-clause-below
 aggregate_groups-requires-clause-below c =
     let f = c.args.set.now in
     let links = c.args.finer.now.numbers.items in
-    let numbers : c.deref-4.result.now ≡ map (λ i. get_or links i 0) f.order.items
-    = c.deref-4.ensures.value ∙ c.in_ok-numbers.ensures 0 ∙ ap (λ l. map (λ i. get_or l i 0) c.deref-2.result.now)
+    let numbers : c.deref-3.result.now ≡ map (λ i. get_or links i 0) f.order.items
+    = c.deref-3.ensures.value ∙ c.in_ok-numbers.ensures ∙ ap (λ l. map (λ i. get_or l i 0) c.deref-2.result.now)
     c.deref.ensures.value ∙ ap (map (λ i. get_or links i 0)) c.deref-2.ensures.value in
     subst (All (λ i. i < c.args.groups.now.count)) (sym numbers)
     (linked_below links f.order.items c.args.groups.now.count c.requires.made.below
@@ -37,8 +35,8 @@ pub aggregate_groups-requires-clause-few : goal.aggregate_groups-requires-clause
 aggregate_groups-requires-clause-few c =
     let f = c.args.set.now in
     let links = c.args.finer.now.numbers.items in
-    let numbers : c.deref-4.result.now ≡ map (λ i. get_or links i 0) f.order.items
-    = c.deref-4.ensures.value ∙ c.in_ok-numbers.ensures 0 ∙ ap (λ l. map (λ i. get_or l i 0) c.deref-2.result.now)
+    let numbers : c.deref-3.result.now ≡ map (λ i. get_or links i 0) f.order.items
+    = c.deref-3.ensures.value ∙ c.in_ok-numbers.ensures ∙ ap (λ l. map (λ i. get_or l i 0) c.deref-2.result.now)
     c.deref.ensures.value ∙ ap (map (λ i. get_or links i 0)) c.deref-2.ensures.value in
     omega (
       arith,
@@ -60,12 +58,12 @@ returns-clause-gives c = λ feed known.
     let fed : Feed = record { values = parts; filter = None } in
     let told : AggregateFunction → List ℕ → List ℕ → List (Option Meaning) =
     λ function numbers order. map (λ i. aggregate_of function fed (rows_of_group numbers i)) order in
-    let numbers : c.deref-4.result.now ≡ map (λ i. get_or links i 0) f.order.items
-    = c.deref-4.ensures.value ∙ c.in_ok-numbers.ensures 0 ∙ ap (λ l. map (λ i. get_or l i 0) c.deref-2.result.now)
+    let numbers : c.deref-3.result.now ≡ map (λ i. get_or links i 0) f.order.items
+    = c.deref-3.ensures.value ∙ c.in_ok-numbers.ensures ∙ ap (λ l. map (λ i. get_or l i 0) c.deref-2.result.now)
     c.deref.ensures.value ∙ ap (map (λ i. get_or links i 0)) c.deref-2.ensures.value in
     subst (λ l. Gives view c.aggregate_groups.result (in_range l))
-    (ap (λ function. told function c.deref-4.result.now c.deref-5.result.now) c.function_of_parts-function.ensures
-    ∙ ap (λ ns. told (function_of_parts c.args.function) ns c.deref-5.result.now) numbers
-    ∙ ap (told (function_of_parts c.args.function) (map (λ i. get_or links i 0) f.order.items)) c.deref-5.ensures.value
+    (ap (λ function. told function c.deref-3.result.now c.deref-4.result.now) c.function_of_parts-function.ensures
+    ∙ ap (λ ns. told (function_of_parts c.args.function) ns c.deref-4.result.now) numbers
+    ∙ ap (told (function_of_parts c.args.function) (map (λ i. get_or links i 0) f.order.items)) c.deref-4.ensures.value
     ∙ parts_answer c.args.function feed f g c.args.finer.now parts c.requires.made c.requires.finer c.requires.few known)
-    (c.aggregate_groups.ensures.gives fed (ap meanings c.deref-3.ensures.value ∙ c.in_ok-values.ensures.value) refl)
+    c.aggregate_groups.ensures.gives

@@ -9,8 +9,8 @@ use Rattle.wplan.specs.Plans.{group_call_plan}
 use Rattle.wgroup.proofs.ColumnFacts.{all_pushed, columns_end, columns_fault, columns_next, count_pushed}
 use Rattle.wgroup.proofs.call_columns.call_columns.Goals as goal
 
-pub lend-requires : goal.lend-requires
-lend-requires c = record { lent = c.loop-call.invariant.lent; made = c.requires.made }
+pub share-requires : goal.share-requires
+share-requires c = record { shared = c.loop-call.invariant.shared; made = c.requires.made }
 
 pub returns-in_err-column-clause-gives : goal.returns-in_err-column-clause-gives
 returns-in_err-column-clause-gives c =
@@ -34,7 +34,7 @@ loop-call-preserved c =
       len = all_pushed (λ (column : Vec Value Global). length column.items ≡ length (all_groups c.args.sets.now)) made _ _
           c.loop-call.invariant.len c.in_ok-column.ensures.len c.in_ok-push.ensures.items;
       count = count_pushed made _ _ c.loop-call.call-index c.loop-call.invariant.count c.in_ok-push.ensures.items;
-      lent = c.lend.ensures;
+      shared = c.share.ensures;
     }
 
 pub returns-clause-gives : goal.returns-clause-gives

@@ -3,7 +3,6 @@ use Rattle.std.specs.List.{flat_map}
 use Rattle.std.proofs.lemmas.Result.{err_from_is_err_and}
 use Rattle.wvalues.specs.Meaning.{Meaning, meaning}
 use Rattle.wvalues.specs.declared.value.Value.{Value}
-use Rattle.wframe.specs.Cells.{meanings}
 use Rattle.wplan.specs.Plans.{aggregate_plan}
 use Rattle.waggregate.specs.Aggregating.{Feed, feed_of}
 use Rattle.wrows.specs.declared.fault.AnswerFault.{AnswerFault}
@@ -30,9 +29,7 @@ returns-in_err-cells-clause-gives c =
 
 pub fed_column-requires-clause-values : goal.fed_column-requires-clause-values
 fed_column-requires-clause-values c =
-    inl (c.in_ok-cells.ensures.gives ∙ ap Ok (sym (ap meanings c.deref-2.ensures.value ∙ c.in_ok-values.ensures.value
-    ∙ ap (map meaning) c.deref.ensures.value)))
+    inl (c.in_ok-cells.ensures.gives ∙ ap (λ l. Ok (map meaning l)) (sym c.deref.ensures.value))
 
 pub fed_column-requires-clause-wide : goal.fed_column-requires-clause-wide
-fed_column-requires-clause-wide c = ap length c.deref-2.ensures.value ∙ c.in_ok-values.ensures.len
-    ∙ ap length c.deref.ensures.value ∙ c.in_ok-cells.ensures.len
+fed_column-requires-clause-wide c = ap length c.deref.ensures.value ∙ c.in_ok-cells.ensures.len

@@ -2,7 +2,7 @@ use Rattle.std.proofs.Common.{◌≡◌, Bool, List, Vec, Global, Option, Err, A
 use Rattle.std.proofs.lemmas.Result.{err_from_is_err_and}
 use Rattle.wvalues.specs.Meaning.{Meaning, meaning}
 use Rattle.wvalues.specs.declared.value.Value.{Value}
-use Rattle.wframe.specs.Cells.{meanings}
+use Rattle.waggregate.specs.Feeding.{values_of}
 use Rattle.wplan.specs.Plans.{aggregate_plan}
 use Rattle.wrows.specs.Columns.{filter_of}
 use Rattle.wrows.specs.Laid.{rows_seen}
@@ -21,7 +21,7 @@ returns-in_err-filter-clause-gives c =
     let plan = aggregate_plan c.args.aggregate.now in
     let rows = rows_seen c.args.grouped.now.rows.now in
     let sets = c.args.grouped.now.sets.now in
-    let values = meanings c.args.values.now in
+    let values = values_of c.args.argument in
     rw (p.1, p.2) (subst (Gives view (Err fault)) (sym (column_fed plan rows sets values c.requires.values))
     (then_refused seen view fault (filter_of plan.filter rows) (answers_fed plan sets values) c.in_err-filter.ensures.gives))
 
@@ -36,6 +36,6 @@ returns-clause-gives c =
     let plan = aggregate_plan c.args.aggregate.now in
     let rows = rows_seen c.args.grouped.now.rows.now in
     let sets = c.args.grouped.now.sets.now in
-    let values = meanings c.args.values.now in
+    let values = values_of c.args.argument in
     subst (Gives view c.aggregate_answers.result) (sym (column_fed plan rows sets values c.requires.values
     ∙ ap (λ r. r >>= answers_fed plan sets values) c.in_ok-filter.ensures.gives)) c.aggregate_answers.ensures.gives

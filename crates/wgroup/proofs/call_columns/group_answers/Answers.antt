@@ -1,10 +1,10 @@
 use Rattle.std.proofs.Common.{ℕ, Bool, List, Vec, Global, Option, None, All, ◌<◌, map, option_map, subst, sym, ap, ◌∙◌}
 use Rattle.wvalues.specs.declared.value.Value.{Value}
 use Rattle.wvalues.specs.Meaning.{Meaning, meaning}
-use Rattle.wframe.specs.Cells.{meanings}
 use Rattle.wrows.specs.Columns.{in_range}
 use Rattle.wrows.specs.Outcomes.{Gives}
 use Rattle.waggregate.specs.Aggregating.{aggregate_of}
+use Rattle.waggregate.specs.Feeding.{values_of}
 use Rattle.waggregate.specs.Grouped.{rows_of_group}
 use Rattle.waggregate.specs.Summaries.{AreSummaries, groups_told}
 use Rattle.wgroup.specs.Held.{row_numbers}
@@ -15,7 +15,7 @@ answers-requires-clause-ordered c =
     let g = c.args.groups.now in
     let s = c.in-Some.known.now in
     let f = c.in-Some.ensures in
-    let are : AreSummaries (meanings c.args.fed.now.values.now) (row_numbers g) g.count s = c.requires.known None f.within s (f.is None) in
+    let are : AreSummaries (values_of c.args.fed.now.argument) (row_numbers g) g.count s = c.requires.known None f.within s (f.is None) in
     subst (All (λ k. k < groups_told s)) (sym c.deref.ensures.value)
     (subst (λ n. All (λ k. k < n) g.order.items) (sym are.long) g.below)
 
@@ -25,7 +25,7 @@ returns-in-Some-clause-gives c =
     let g = c.args.groups.now in
     let s = c.in-Some.known.now in
     let f = c.in-Some.ensures in
-    let values = meanings c.args.fed.now.values.now in
+    let values = values_of c.args.fed.now.argument in
     let are : AreSummaries values (row_numbers g) g.count s = c.requires.known None f.within s (f.is None) in
     let told : Option (List Bool) → List ℕ → List (Option Meaning) =
     λ tests order. map (λ i. aggregate_of c.args.fed.now.function (record { values = values; filter = tests })

@@ -23,8 +23,8 @@ sighted_groups-requires c =
     finer.firsts.items (row_numbers finer) c.requires.kept.sight in
     omega (arith, ap length c.deref-3.ensures.value, long, fewer, c.requires.few)
 
-pub items_at-requires : goal.items_at-requires
-items_at-requires c =
+pub numbers_at-requires : goal.numbers_at-requires
+numbers_at-requires c =
     let rows = rows_seen c.args.rows.now in
     let finer = c.args.finer.now in
     let few = c.in_ok-few.few.items in
@@ -72,7 +72,7 @@ keyed_groups-requires c =
     (c.deref-2.ensures.value ∙ c.in_ok-kept.ensures)
     (subst (λ l. IsSight (agree c.deref-2.result.now (rows_seen l)) (length l) seen.firsts.items seen.numbers.items)
     c.deref-3.ensures.value c.in_ok-sight.ensures)))
-    (c.in_ok-firsts.ensures 0 ∙ ap (λ l. map (λ i. get_or l i 0) c.deref-5.result.now) c.deref-4.ensures.value
+    (c.in_ok-firsts.ensures ∙ ap (λ l. map (λ i. get_or l i 0) c.deref-5.result.now) c.deref-4.ensures.value
     ∙ ap (map (λ i. get_or finer.firsts.items i 0)) c.deref-5.ensures.value)
     (ap (λ v. by_row v.items (Some c.in_ok-made.made)) c.in_ok-numbers.ensures.cases
     ∙ joined_rows c.args.place seen.numbers.items finer.numbers.value.items finer.finer c.in_ok-made.made
@@ -109,7 +109,7 @@ returns-clause-seen c =
     (c.deref-2.ensures.value ∙ c.in_ok-kept.ensures)
     (subst (λ l. IsSight (agree c.deref-2.result.now (rows_seen l)) (length l) seen.firsts.items seen.numbers.items)
     c.deref-3.ensures.value c.in_ok-sight.ensures)))
-    (c.in_ok-firsts.ensures 0 ∙ ap (λ l. map (λ i. get_or l i 0) c.deref-5.result.now) c.deref-4.ensures.value
+    (c.in_ok-firsts.ensures ∙ ap (λ l. map (λ i. get_or l i 0) c.deref-5.result.now) c.deref-4.ensures.value
     ∙ ap (map (λ i. get_or finer.firsts.items i 0)) c.deref-5.ensures.value)
     (ap (λ v. by_row v.items (Some c.in_ok-made.made)) c.in_ok-numbers.ensures.cases
     ∙ joined_rows c.args.place seen.numbers.items finer.numbers.value.items finer.finer c.in_ok-made.made
@@ -132,5 +132,5 @@ returns-clause-made c = λ earlier at how.
     (subst (λ n. IsSight same n seen.firsts.items seen.numbers.items) long c.in_ok-sight.ensures)
     (agree_equiv c.deref-2.result.now (rows_seen c.deref-3.result.now)) c.in_ok-made.ensures c.requires.kept.base
     (ap (λ v. v.items) c.in_ok-numbers.ensures.cases)
-    (ap length (c.in_ok-firsts.ensures 0) ∙ length-map c.deref-5.result.now (λ i. get_or c.deref-4.result.now i 0)
+    (ap length (c.in_ok-firsts.ensures) ∙ length-map c.deref-5.result.now (λ i. get_or c.deref-4.result.now i 0)
     ∙ ap length c.deref-5.ensures.value) earlier at how

@@ -13,7 +13,7 @@ loop-place-preserved c =
     let columns = columns_in c.args.columns.now in
     let from = c.args.from in
     let place = c.loop-place.place in
-    let number = c.index-number.result.now in
+    let number = c.index.result.now in
     let there : place < length g.order.items = subst (λ m. place < m) (c.len-place-end.ensures ∙ g.order.ok.0) c.loop-place-test.true in
     let results = map (λ column. value_at column (from + place)) columns in
     cells_more (group_row g columns from) (map meaning c.args.out.now.items) (map meaning c.loop-place.out.items)
@@ -21,5 +21,5 @@ loop-place-preserved c =
     (c.in_ok-push_results.ensures ∙ ap (λ l. l ++ results) c.in_ok-push_row.ensures)
     (ap (λ l. l ++ results)
     (ap (map meaning) (c.slice_of.ensures.list ∙ ap (λ xs. slice_at g.width xs number) c.deref.ensures.value
-    ∙ ap (slice_at g.width g.keys.items) (c.index-number.ensures ∙ same_at g.order.items place number 0 there))
+    ∙ ap (slice_at g.width g.keys.items) (c.index.ensures ∙ same_at g.order.items place number 0 there))
     ∙ key_is g columns from place there))

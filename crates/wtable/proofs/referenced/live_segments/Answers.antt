@@ -12,7 +12,7 @@ live-init c =
 pub live-preserved : goal.live-preserved
 live-preserved c =
     segment_more c.live.segments.items c.push.new.self.items (live_rows c.args.set.now) _ _ _ _ c.in-Some.ensures.steps
-    c.live.invariant c.in_ok-push.ensures.items c.in_ok-segment.ensures
+    c.live.invariant c.in_ok-push.ensures.items (c.lent_rows.ensures ∙ ap (λ content. content.rows) c.in_ok-segment.ensures)
 
 pub returns : goal.returns
 returns c =

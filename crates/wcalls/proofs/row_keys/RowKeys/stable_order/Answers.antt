@@ -5,14 +5,8 @@ use Rattle.wrows.proofs.KeyFacts.{sorted_by_row_codes}
 use Rattle.wcalls.specs.Listed.{lists_in}
 use Rattle.wcalls.proofs.row_keys.RowKeys.stable_order.Goals as goal
 
-pub by_codes-requires-clause-few : goal.by_codes-requires-clause-few
-by_codes-requires-clause-few c =
-    let answer : AreRowCodes c.args.self.now.orders.items (lists_in c.args.self.now.lists) c.in-Some.codes.items =
-    rw c.in-Some.is at c.requires.codes in
-    omega (arith, answer.few, ap length c.deref.ensures.value)
-
-pub by_codes-requires-clause-below : goal.by_codes-requires-clause-below
-by_codes-requires-clause-below c = λ k d h.
+pub by_codes-requires : goal.by_codes-requires
+by_codes-requires c = λ k d h.
     let answer : AreRowCodes c.args.self.now.orders.items (lists_in c.args.self.now.lists) c.in-Some.codes.items =
     rw c.in-Some.is at c.requires.codes in
     omega (arith, c.requires.below k d h, answer.len, ap length c.deref.ensures.value)

@@ -1,26 +1,23 @@
--- A plain column of rows, lent, and what feeds an aggregate.
-use Rattle.std.specs.Prelude.{◌≡◌, ◌⊎◌, ℕ, ◌<◌, Bool, List, Ok, Option, Result, length, option_map, slice_index_or}
+-- A plain column of rows that calls share, and what feeds an aggregate.
+use Rattle.std.specs.Prelude.{◌≡◌, ◌⊎◌, ℕ, ◌<◌, List, Ok, Option, Result, length, map, slice_index_or}
 use Rattle.std.specs.Option.{ForSome}
 use Rattle.std.specs.Borrow.{Bor}
-use Rattle.std.specs.declared.alloc.Global.{Global}
-use Rattle.std.specs.declared.vec.Vec.{Vec}
 use Rattle.wvalues.specs.declared.value.Value.{Value}
 use Rattle.wvalues.specs.Meaning.{Meaning, Null}
-use Rattle.wframe.specs.Cells.{meanings}
 use Rattle.wplan.specs.Formula.{At, Constant}
 use Rattle.wplan.specs.Plans.{AggregatePlan, GroupCallPlan}
 use Rattle.wplan.specs.declared.resolved.AggregateFunction.TheVariants.{CountRows}
 use Rattle.wrows.specs.declared.fault.AnswerFault.{AnswerFault}
-use Rattle.wrows.specs.Columns.{Row, column_of}
+use Rattle.wrows.specs.Columns.{Row, column_of, value_on}
 use Rattle.wrows.specs.Laid.{rows_seen}
-use Rattle.waggregate.specs.Aggregating.{Feed}
+use Rattle.waggregate.specs.Feeding.{fed_by}
 use Rattle.waggregate.specs.Summaries.{AreSummaries}
 use Rattle.waggregate.specs.declared.summaries.Summaries.{Summaries}
 use Rattle.wgroup.specs.declared.found.Groups as memory
 use Rattle.wgroup.specs.declared.fed.FedAggregate.{FedAggregate}
 use Rattle.wgroup.specs.declared.fed.GroupedRows.{GroupedRows}
 use Rattle.wgroup.specs.Held.{column_over, row_numbers, set_answers}
-use Rattle.wgroup.specs.declared.lent.LentColumn.{LentColumn}
+use Rattle.wgroup.specs.declared.shared.SharedColumn.{SharedColumn}
 
 -- what is known at a place, if anything, is what the rows of each of these groups come to, which feed these values
 abbrev pub IsKnown : List Meaning → List (Option Summaries) → ℕ → memory.Groups → Type 0
@@ -31,23 +28,17 @@ IsKnown values known place g = (none : Option Summaries) → place < length know
 abbrev pub AreKnown : List Meaning → List memory.Groups → List (Option Summaries) → Type 0
 AreKnown values sets known = (place : ℕ) (none : memory.Groups) → IsKnown values known place (slice_index_or sets place none)
 
--- a column is that of its place in these rows, all of which go so far, and what is known of the groups of these sets is of its values
-pub record IsLent (rows : List (Bor (List Value))) (sets : List memory.Groups) (column : LentColumn) : Type 0 where
-  pub told : column_of (At column.place) (rows_seen rows) ≡ Ok (meanings column.values.items)
-  pub wide : length column.values.items ≡ length rows
-  pub known : AreKnown (meanings column.values.items) sets column.summaries.items
+-- what is known of the groups of these sets is of what the rows have in the column
+abbrev pub IsShared : List (Bor (List Value)) → List memory.Groups → SharedColumn → Type 0
+IsShared rows sets column = AreKnown (map (value_on (At column.place)) (rows_seen rows)) sets column.summaries.items
 
 -- values feed an aggregate as its argument does: they are the argument's, or rows are counted, at whose values nobody looks
 abbrev pub Feeds : AggregatePlan → List Row → List Meaning → Type 0
 Feeds a rows values = (column_of a.argument rows ≡ Ok values) ⊎ ((a.function ≡ CountRows) × (a.argument ≡ Constant Null))
 
--- what values that are lent feed, and whether the filter is true on each row, if there is one
-abbrev pub lent_feed : List (Bor Value) → Option (Vec Bool Global) → Feed
-lent_feed values filter = record { values = meanings values; filter = option_map (λ tests. tests.items) filter }
-
 -- what an aggregate that is fed so comes to on each group of a set
 abbrev pub fed_answers : FedAggregate → memory.Groups → List (Option Meaning)
-fed_answers fed = set_answers fed.function (lent_feed fed.values.now fed.filter)
+fed_answers fed = set_answers fed.function (fed_by fed.argument fed.filter)
 
 -- what a call answers for each group of rows
 abbrev pub column_on : GroupedRows → GroupCallPlan → Result (List Meaning) AnswerFault

@@ -1,11 +1,11 @@
-use Rattle.wframe.specs.Cells.{meanings}
+use Rattle.waggregate.specs.Feeding.{values_of}
 use Rattle.wgroup.proofs.ColumnFacts.{count_pushed}
 use Rattle.wgroup.proofs.KnownFacts.{known_more}
-use Rattle.wgroup.proofs.lent.summaries_of.Goals as goal
+use Rattle.wgroup.proofs.shared.summaries_of.Goals as goal
 
 pub loop-groups-preserved : goal.loop-groups-preserved
 loop-groups-preserved c = record {
-  known = known_more (meanings c.args.values.now) c.args.sets.now c.loop-groups.summaries.items c.push.new.self.items
+  known = known_more (values_of c.args.argument) c.args.sets.now c.loop-groups.summaries.items c.push.new.self.items
       c.loop-groups.groups-index c.groups-item.result c.in_ok-set_summaries.field-0 c.loop-groups.invariant.as_many
       c.loop-groups-test.true c.groups-item.is c.loop-groups.invariant.known c.in_ok-set_summaries.ensures
       c.in_ok-push.ensures.items;
