@@ -1,5 +1,5 @@
 //! Rows in the order of a window.
-ghost use Rattle.std.specs.Prelude.{◌≡◌, ◌*◌, ◌+◌, ◌-◌, ◌<◌, ◌≤◌, ◌^◌, true, min, List, All};
+ghost use Rattle.std.specs.Prelude.{◌≡◌, ◌*◌, ◌+◌, ◌-◌, ◌<◌, ◌^◌, true, min, List, All};
 ghost use Rattle.std.specs.Prelude.{OnOk, OnErr, IfOk, IfSome, IsTrue, length, map};
 ghost use Rattle.std.specs.Ordering.{on};
 ghost use Rattle.wvalues.specs.declared.key.SortKey.{SortKey};
@@ -307,11 +307,7 @@ fn are_told_by_values(rows: &KeyRows) -> bool {
 }
 
 // Codes of the keys of rows that stand in this order, where they are found without sorting and seem to be of use.
-fn found_codes(
-    alloc: Global,
-    keys: &RowKeys,
-    rows: &[u32],
-) -> Result<Option<Vec<u32>>, AllocError>
+fn found_codes(alloc: Global, keys: &RowKeys, rows: &[u32]) -> Result<Option<Vec<u32>>, AllocError>
     requires { All (λ i. i < length (lists_in keys.now.lists)) rows.now }
     ensures { IfOk result (λ found. IfSome found (λ codes. TellApart (keys_cmp keys.now.orders.items)
         (map (key_at (lists_in keys.now.lists)) rows.now) codes.items)) }
