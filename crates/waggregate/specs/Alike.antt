@@ -36,7 +36,7 @@ functions_alike place (call ∷ calls) = and_alike place call (functions_alike p
 abbrev pub all_asked : Extremes → List AggregateFunction → Extremes
 all_asked extremes functions = fold with_asked extremes functions
 
--- the extremes that the calls which are fed alike ask for; none where these are fewer than two
+-- the extremes that the calls which are fed alike ask for, if there are such calls
 abbrev pub extremes_alike : ℕ → List GroupCall → Option Extremes
 extremes_alike place calls =
-    if nat_lt (length (functions_alike place calls)) 2 then None else Some (all_asked no_extremes (functions_alike place calls))
+    if nat_lt 0 (length (functions_alike place calls)) then Some (all_asked no_extremes (functions_alike place calls)) else None

@@ -18,7 +18,7 @@ fn is_read_by(aggregate: &Aggregate, place: usize) -> bool
 }
 
 /// The extremes that those of the calls ask for which are fed alike: the aggregates without FILTER that read the column of a place,
-/// or none, up to the first one that reads another. There are none where fewer than two are fed alike.
+/// or none, up to the first one that reads another. None where no call is fed so.
 pub fn extremes_of(calls: &[GroupCall], place: usize) -> Option<Extremes>
     ensures { result ≡ extremes_alike place calls.now }
 {
@@ -36,8 +36,5 @@ pub fn extremes_of(calls: &[GroupCall], place: usize) -> Option<Extremes>
             alike = alike.saturating_add(1);
         }
     }
-    if alike < 2 {
-        return None;
-    }
-    Some(extremes)
+    if alike > 0 { Some(extremes) } else { None }
 }

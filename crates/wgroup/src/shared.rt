@@ -26,7 +26,7 @@ use wrows::place_of;
 #[derive(Drop)]
 pub(crate) struct SharedColumn<'a> {
     pub(crate) place: usize,
-    /// What the rows of each group of each set come to that is made of rows, where several calls ask for that, and else none.
+    /// What the rows of each group of each set come to that is made of rows, where calls ask for that, and else none.
     pub(crate) summaries: Vec<Option<Summaries<'a>>>,
 }
 
@@ -49,8 +49,8 @@ fn argument_of(calls: &[GroupCall], is_shared: bool) -> Option<&Expr> {
 }
 
 /// How many rows a group has at least, in the mean of all, where it is kept what they come to. Where groups are many this would take
-/// more memory than what each call answers.
-const ROWS_OF_GROUP: usize = 4;
+/// more memory than a list of the values, and more than what each call answers.
+const ROWS_OF_GROUP: usize = 8;
 
 // What the rows of each group of a set come to, if its groups are made of rows and few beside these.
 fn set_summaries<'a>(
@@ -95,7 +95,7 @@ fn summaries_of<'a>(
     Ok(summaries)
 }
 
-// The column of a place, with what the rows of each group come to, where several of the calls ask for that.
+// The column of a place, with what the rows of each group come to, where calls ask for that.
 fn column_at<'a>(
     alloc: Global,
     place: usize,
