@@ -1,8 +1,8 @@
 //! A plain column that several calls share.
 //!
 //! Calls that follow each other often have one column for their argument, as a sum, a least and a greatest value of it. It is read
-//! where it lies, and where several are fed alike, what the rows of each group come to is found in one pass over the rows. No more
-//! than one column is shared at a time, so that many calls take little more memory than one does.
+//! where it lies, and what the rows of each group come to is found for all that are fed alike in one pass over the rows. No more than
+//! one column is shared at a time, so that many calls take little more memory than one does.
 ghost use Rattle.std.specs.Prelude.{◌≡◌, ◌<◌, ◌^◌, All, List, IfOk, IsTrue, None, Ok, length};
 ghost use Rattle.std.specs.Option.{ForSome};
 ghost use Rattle.wvalues.specs.Meaning.{Meaning};
