@@ -6,8 +6,7 @@ use Rattle.std.specs.declared.cmp.Ordering.{Ordering}
 use Rattle.std.specs.Borrow.{Bor}
 use Rattle.std.specs.declared.alloc.Global.{Global}
 use Rattle.std.specs.declared.vec.Vec.{Vec}
-use Rattle.std.specs.Rc.{rc_str_bytes}
-use Rattle.wvalues.specs.Meaning.{Meaning, Null, Int, Text}
+use Rattle.wvalues.specs.Meaning.{Meaning, Null, Int, Text, meaning, text_in}
 use Rattle.wplan.specs.declared.resolved.AggregateFunction.{AggregateFunction}
 use Rattle.wplan.specs.declared.resolved.AggregateFunction.TheVariants.{CountRows, Count, Sum, Min, Max}
 use Rattle.wframe.specs.Places.{places}
@@ -17,17 +16,22 @@ use Rattle.wslide.specs.Laws.{rows_fold}
 use Rattle.wslide.specs.Sums.{sum_part, sums_joined}
 use Rattle.waggregate.specs.Aggregating.{aggregate_of, sum_answer}
 use Rattle.waggregate.specs.Grouped.{rows_of_group}
+use Rattle.waggregate.specs.declared.lent_text.LentText.{LentText}
 use Rattle.waggregate.specs.declared.summaries.Extremes.{Extremes}
 use Rattle.waggregate.specs.declared.summaries.First.{First}
 use Rattle.waggregate.specs.declared.summaries.First.TheVariants as firsts
 use Rattle.waggregate.specs.declared.summaries.Summary.{Summary}
 use Rattle.waggregate.specs.declared.summaries.Summaries.{Summaries}
 
+-- the value that is lent as a text
+abbrev pub text_of : LentText → Meaning
+text_of text = Text (text_in (meaning text.value.now))
+
 -- the value that stands first
 abbrev pub value_in : First → Meaning
 value_in firsts.Null = Null
 value_in (firsts.Number n) = Int n
-value_in (firsts.Text t) = Text (rc_str_bytes t.now)
+value_in (firsts.Text text) = text_of text
 
 -- of two values the one that stands first, the left one if they are equal
 abbrev pub first_in : (Meaning → Meaning → Ordering) → Meaning → Meaning → Meaning

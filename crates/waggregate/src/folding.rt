@@ -132,7 +132,7 @@ fn hold_text(column: &[Value], rows: &[u32]) -> bool
 {
     let mut found = false;
     for row in rows {
-        if let Value::Text(_) = &column[*row as usize] {
+        if let Value::Shared(_) = &column[*row as usize] {
             found = true;
         }
     }
@@ -160,8 +160,8 @@ fn put(cell: &mut Value, value: Value, texts: bool)
         *cell = value;
     } else {
         match mem::replace(cell, value) {
-            Value::Null | Value::Int(_) => {}
-            Value::Text(text) => drop(text),
+            Value::Null | Value::Int(_) | Value::Short(_) => {}
+            Value::Shared(text) => drop(text),
         }
     }
 }

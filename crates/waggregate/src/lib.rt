@@ -20,6 +20,7 @@ mod batch;
 mod feeding;
 mod folding;
 mod grouped;
+mod lent_text;
 mod picking;
 mod summaries;
 mod tally;

@@ -1,7 +1,7 @@
 //! Aggregates of groups that are fed alike, in one pass over the rows.
 ghost use Rattle.std.specs.Prelude.{◌≡◌, ◌<◌, ◌^◌, ℕ, List, All, IfOk, IfSome, None, length, map, replicate, slice_index_or, true};
-ghost use Rattle.std.specs.Rc.{rc_str_bytes};
-ghost use Rattle.wvalues.specs.Meaning.{Int, Meaning, Null, Text, meaning};
+ghost use Rattle.std.specs.Ordering.{is_lt};
+ghost use Rattle.wvalues.specs.Meaning.{Int, Meaning, Null, meaning};
 ghost use Rattle.wslide.specs.Aggregates.{IsInRange, by_value_in};
 ghost use Rattle.wslide.specs.Counts.{counts_joined};
 ghost use Rattle.wrows.specs.Columns.{in_range};
@@ -11,13 +11,13 @@ ghost use Rattle.waggregate.specs.Feeding.{rows_of, value_or_none, values_of};
 ghost use Rattle.waggregate.specs.FrameAnswers.{told_or_out_of_range};
 ghost use Rattle.waggregate.specs.Grouped.{rows_of_group};
 ghost use Rattle.waggregate.specs.Summaries.{AreSummaries, AreSummed, IsEmpty, IsKnownFor, IsWith, answer_at};
-ghost use Rattle.waggregate.specs.Summaries.{answer_in, first_in, groups_told, is_told, no_extremes, tells, value_in, with_asked};
+ghost use Rattle.waggregate.specs.Summaries.{answer_in, first_in, groups_told, is_told, no_extremes, tells, text_of, value_in, with_asked};
 ghost use Rattle.waggregate.specs.declared.summaries.Summary as summary;
 
 use crate::answers::{count_value, sum_value};
 use crate::feeding::Argument;
+use crate::lent_text::LentText;
 use std::alloc::{AllocError, Global};
-use std::rc::RcStr;
 use wframe::stable_sorts_agree;
 use wplan::AggregateFunction;
 use wrows::AnswerFault;
@@ -38,7 +38,7 @@ pub struct Extremes {
 enum First<'a> {
     Null,
     Number(Whole),
-    Text(&'a RcStr),
+    Text(LentText<'a>),
 }
 
 /// What some rows come to.
@@ -116,18 +116,27 @@ fn note_number(first: &mut First<'_>, number: Whole, greatest: bool)
 }
 
 // The same of a text.
-fn note_text<'a>(first: &mut First<'a>, text: &'a RcStr, greatest: bool)
-    ensures { value_in first.new ≡ first_in (by_value_in greatest) (value_in first.old) (Text (rc_str_bytes text.now)) }
+fn note_text<'a>(first: &mut First<'a>, text: LentText<'a>, greatest: bool)
+    ensures { value_in first.new ≡ first_in (by_value_in greatest) (value_in first.old) (text_of text.entry) }
 {
-    match first {
-        First::Number(_) => {}
-        First::Text(other) if greatest && !(*other).cmp(text).is_lt() => {}
-        First::Text(other) if !greatest && !text.cmp(*other).is_lt() => {}
-        _ => *first = First::Text(text),
+    if first.is_behind(text, greatest) {
+        *first = First::Text(text);
     }
 }
 
 impl<'a> First<'a> {
+    // Whether a text stands before it, from the least value on or from the greatest.
+    fn is_behind(&self, text: LentText<'_>, greatest: bool) -> bool
+        ensures { result ≡ is_lt (by_value_in greatest (text_of text.entry) (value_in self.now)) }
+    {
+        match self {
+            First::Null => true,
+            First::Number(_) => false,
+            First::Text(other) if greatest => other.as_str().cmp(text.as_str()).is_lt(),
+            First::Text(other) => text.as_str().cmp(other.as_str()).is_lt(),
+        }
+    }
+
     // The value, which shares its text.
     fn value(&self) -> Result<Value, AllocError>
         ensures { IfOk result (λ value. meaning value ≡ value_in self.now) }
@@ -135,7 +144,7 @@ impl<'a> First<'a> {
         match self {
             First::Null => Ok(Value::Null),
             First::Number(number) => Ok(Value::Int(*number)),
-            First::Text(text) => Ok(Value::Text((*text).clone()?)),
+            First::Text(text) => text.value.duplicate(),
         }
     }
 }
@@ -172,8 +181,8 @@ impl<'a> Summary<'a> {
     }
 
     // Takes a text to the others.
-    fn add_text(&mut self, extremes: Extremes, text: &'a RcStr)
-        ensures with { IsWith extremes (Text (rc_str_bytes text.now)) self.old self.new }
+    fn add_text(&mut self, extremes: Extremes, text: LentText<'a>)
+        ensures with { IsWith extremes (text_of text.entry) self.old self.new }
         ensures rows { self.new.rows ≡ self.old.rows }
     {
         self.values = self.values.wrapping_add(1);
@@ -200,7 +209,7 @@ impl<'a> Summary<'a> {
         match value {
             Value::Null => {}
             Value::Int(number) => self.add_number(extremes, *number),
-            Value::Text(text) => self.add_text(extremes, text),
+            Value::Short(_) | Value::Shared(_) => self.add_text(extremes, LentText { value }),
         }
     }
 

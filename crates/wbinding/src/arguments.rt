@@ -99,7 +99,7 @@ fn literal_in(e: &Expression) -> Result<Value, AllocError>
         Expression::Number(n) => Ok(positive_value(n.get())),
         Expression::Text(text) => {
             let text = text.clone()?;
-            Ok(Value::Text(text))
+            Ok(Value::Shared(text))
         }
         Expression::Sign { minus, operand } => Ok(signed_value(*minus, operand)),
         _ => Ok(Value::Null),

@@ -294,7 +294,7 @@ fn are_told_by_values(rows: &KeyRows) -> bool {
     if step <= APART || rows.keys().len() != 1 {
         return false;
     }
-    if matches!(rows.row(0).value(0), Value::Text(_)) {
+    if matches!(rows.row(0).value(0), Value::Short(_) | Value::Shared(_)) {
         return true;
     }
     let mut agreeing: usize = 0;

@@ -48,7 +48,7 @@ pub fn code_of(key: &SortKey, base: Whole, cell: &Value) -> Option<u32>
     match cell {
         Value::Null => Some(code_of_null(key)),
         Value::Int(number) => code_of_number(key, base, *number),
-        Value::Text(_) => None,
+        Value::Short(_) | Value::Shared(_) => None,
     }
 }
 

@@ -39,7 +39,7 @@ fn holds_texts(column: &[&Value]) -> bool {
         match value {
             Value::Null => {}
             Value::Int(_) => return false,
-            Value::Text(_) => return true,
+            Value::Short(_) | Value::Shared(_) => return true,
         }
     }
     false

@@ -15,11 +15,11 @@ pub struct OtherRows<'a> {
     pub default: Value,
 }
 
-// Whether a value is a text, of which the length is looked at.
-fn is_text(value: &Value) -> bool {
+// Whether a value is a text that lies apart from it, of which the length is looked at.
+fn is_apart(value: &Value) -> bool {
     match value {
-        Value::Text(text) => text.as_str().len() < usize::MAX,
-        Value::Null | Value::Int(_) => false,
+        Value::Shared(text) => text.as_str().len() < usize::MAX,
+        Value::Null | Value::Int(_) | Value::Short(_) => false,
     }
 }
 
@@ -49,15 +49,15 @@ impl<'a> OtherRows<'a> {
         }
     }
 
-    /// Whether one of the values that some kept numbers stand for is a text. Each is read, whatever was found before, and nothing else is
-    /// done, so that the processor has many of them on their way from memory at once. The length of a text is looked at, which stands
-    /// beside the count of its owners and before its bytes.
+    /// Whether one of the values that some kept numbers stand for is a text that lies apart from it. Each is read, whatever was found
+    /// before, and nothing else is done, so that the processor has many of them on their way from memory at once. The length of such a
+    /// text is looked at, which stands beside the count of its owners and before its bytes.
     pub fn hold_text(&self, null: &Value, numbers: &[u32]) -> bool
         requires { meaning null.now ≡ Null }
     {
         let mut found = false;
         for number in numbers {
-            if is_text((&*self).read(&*null, *number)) {
+            if is_apart((&*self).read(&*null, *number)) {
                 found = true;
             }
         }

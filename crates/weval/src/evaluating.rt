@@ -25,7 +25,7 @@ fn shared(text: &RcStr) -> Result<Cell, EvalFault>
     ensures { Gives result (Held (Text (rc_str_bytes text.now))) }
 {
     let text = text.clone()?;
-    Ok(Cell::Value(Value::Text(text)))
+    Ok(Cell::Value(Value::Shared(text)))
 }
 
 fn copied(value: &Value) -> Result<Cell, EvalFault>
@@ -35,7 +35,8 @@ fn copied(value: &Value) -> Result<Cell, EvalFault>
     match value {
         Value::Null => Ok(Cell::Value(Value::Null)),
         Value::Int(n) => Ok(Cell::Value(Value::Int(*n))),
-        Value::Text(text) => shared(text),
+        Value::Short(text) => Ok(Cell::Value(Value::Short(*text))),
+        Value::Shared(text) => shared(text),
     }
 }
 
@@ -75,7 +76,10 @@ pub fn eval(e: &Expr, row: &[Value]) -> Result<Cell, EvalFault>
             right,
         } => match compared_in_place(*comparison, left, right, row) {
             Some(truth) => Ok(Cell::Truth(truth)),
-            None => eval_compare(&eval(left, row)?, *comparison, right, row),
+            None => {
+                let (x, y) = (eval(left, row)?, eval(right, row)?);
+                Ok(Cell::Truth(cells_compared(*comparison, &x, &y)))
+            }
         },
         Expr::IsNull { negated, operand } => Ok(null_cell(*negated, &eval(operand, row)?)),
         Expr::Between {
@@ -98,22 +102,6 @@ pub fn eval(e: &Expr, row: &[Value]) -> Result<Cell, EvalFault>
             list,
         } => eval_in(*negated, &eval(operand, row)?, list.as_slice(), row),
     }
-}
-
-// How a value compares with that of an expression.
-#[cycle(eval)]
-fn eval_compare(
-    x: &Cell,
-    comparison: Comparison,
-    right: &Expr,
-    row: &[Value],
-) -> Result<Cell, EvalFault>
-    ensures gives { Gives result (after (value_of (map meaning row.now) (formula right.now))
-        (λ y. Judged (compared comparison (value_in (outcome x.now)) (value_in y)))) }
-    ensures memory { result ≡ Err NoMemory → reads_text (map meaning row.now) (formula right.now) ≡ true }
-{
-    let y = eval(right, row)?;
-    Ok(Cell::Truth(cells_compared(comparison, x, &y)))
 }
 
 // A chain of which the first operand gave this.

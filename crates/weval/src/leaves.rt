@@ -40,7 +40,8 @@ fn order_with_leaf(x: &Value, e: &Expr, row: &[Value]) -> Option<Option<Ordering
             _ => Some(None),
         },
         Expr::Text(text) => match x {
-            Value::Text(t) => Some(Some(t.cmp(text))),
+            Value::Short(t) => Some(Some(t.as_str().cmp(text.as_str()))),
+            Value::Shared(t) => Some(Some(t.cmp(text))),
             _ => Some(None),
         },
         Expr::Null => Some(None),

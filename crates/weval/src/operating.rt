@@ -65,8 +65,8 @@ pub(crate) fn order(x: &Value, y: &Value) -> Option<Ordering>
 {
     match (x, y) {
         (Value::Int(x), Value::Int(y)) => Some(x.cmp(y)),
-        (Value::Text(x), Value::Text(y)) => Some(x.cmp(y)),
-        _ => None,
+        (Value::Null | Value::Int(_), _) | (_, Value::Null | Value::Int(_)) => None,
+        _ => Some(x.text().cmp(y.text())),
     }
 }
 

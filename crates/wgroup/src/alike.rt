@@ -69,7 +69,8 @@ fn feed(value: &Value, hasher: &mut FoldHasher)
     match value {
         Value::Null => hasher.write_u8(0),
         Value::Int(number) => number.hash(hasher),
-        Value::Text(text) => hasher.write(text.as_str().as_bytes()),
+        Value::Short(text) => hasher.write(text.as_str().as_bytes()),
+        Value::Shared(text) => hasher.write(text.as_str().as_bytes()),
     }
 }
 

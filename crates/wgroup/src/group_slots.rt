@@ -108,6 +108,10 @@ impl Table {
         ensures same { self.new ≡ record self.old { looks = self.new.looks } }
     {
         let slots = &self.slots[first..first + MOST_PROBES];
+        // most rows are of the group in the first of their slots, for which no loop is gone into
+        if is_of_group(keyed, self, slots[0] as usize, row) {
+            return Some(slots[0]);
+        }
         let near = group_among(keyed, self, slots, row);
         if near.is_some() {
             return near;

@@ -14,10 +14,10 @@ const AHEAD: usize = 8 * BATCH;
 
 // The bytes that a field's text takes, but for most of its quotes.
 fn room_for(field: Field<'_>) -> usize {
-    let Field::Value(Value::Text(text)) = field else {
+    let Field::Value(value) = field else {
         return 0;
     };
-    let bytes = text.as_str().as_bytes();
+    let bytes = value.text().as_bytes();
     let quote = bytes.first() == Some(&b'"');
     bytes.len().saturating_add(quote as usize)
 }
@@ -52,7 +52,11 @@ fn hold_text<R: Rows>(rows: &R, null: &Value, place: usize, from: usize, end: us
 {
     let mut found = false;
     for next in from..end {
-        if let Field::Value(Value::Text(_)) = field_at(&rows.row(next), null, place) {
+        if let Field::Value(Value::Short(_) | Value::Shared(_)) = field_at(
+            &rows.row(next),
+            null,
+            place,
+        ) {
             found = true;
         }
     }

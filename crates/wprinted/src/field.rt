@@ -67,7 +67,8 @@ fn push_value(bytes: &mut Vec<u8>, value: &Value) -> Result<(), AllocError>
             let mut buffer = Buffer::new();
             bytes.extend_from_slice(buffer.format(number.get()).as_bytes())
         }
-        Value::Text(text) => push_text(bytes, text.as_str().as_bytes()),
+        Value::Short(text) => push_text(bytes, text.as_str().as_bytes()),
+        Value::Shared(text) => push_text(bytes, text.as_str().as_bytes()),
     }
 }
 

@@ -138,7 +138,8 @@ fn write_value(value: &Value, line: &mut [u8], end: usize) -> Option<usize>
     match value {
         Value::Null => Some(end),
         Value::Int(number) => write_number(number.get(), line, end),
-        Value::Text(text) => write_text(text.as_str().as_bytes(), line, end),
+        Value::Short(text) => write_text(text.as_str().as_bytes(), line, end),
+        Value::Shared(text) => write_text(text.as_str().as_bytes(), line, end),
     }
 }
 

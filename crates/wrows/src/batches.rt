@@ -18,7 +18,8 @@ pub fn is_text(value: &Value) -> bool
     ensures { result ≡ is_text (meaning value.now) }
 {
     match value {
-        Value::Text(text) => text.as_str().len() < usize::MAX,
+        Value::Short(_) => true,
+        Value::Shared(text) => text.as_str().len() < usize::MAX,
         Value::Null | Value::Int(_) => false,
     }
 }
@@ -31,7 +32,7 @@ pub fn copy_of(value: &Value) -> Value
 {
     match value {
         Value::Int(number) => Value::Int(*number),
-        Value::Null | Value::Text(_) => Value::Null,
+        Value::Null | Value::Short(_) | Value::Shared(_) => Value::Null,
     }
 }
 

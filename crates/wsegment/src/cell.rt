@@ -1,7 +1,7 @@
 //! A cell, read by what its column holds.
-ghost use Rattle.std.specs.Prelude.{◌≡◌, Err, true};
+ghost use Rattle.std.specs.Prelude.{◌≡◌, Err, IfOk, true};
 ghost use Rattle.std.specs.Str.{IsUtf8};
-ghost use Rattle.wvalues.specs.Meaning.{meaning};
+ghost use Rattle.wvalues.specs.Meaning.{Text, meaning};
 ghost use Rattle.wsegment.specs.Cells.{cell_of, number_cell, typed};
 ghost use Rattle.wsegment.specs.declared.fault.SegmentFault.TheVariants.{RowNotUtf8};
 ghost use Rattle.wsegment.specs.Integer.{integer_of};
@@ -11,8 +11,8 @@ use crate::fault::SegmentFault;
 use crate::field::field_text;
 use crate::kind::Kind;
 use crate::texts::Texts;
-use std::alloc::Global;
-use wvalues::{Value, Whole};
+use std::alloc::{AllocError, Global};
+use wvalues::{ShortText, Value, Whole};
 
 /// The 64-bit number that a text spells.
 #[tactic(auto, using(crate::proofs::IntegerFacts::parsed))]
@@ -32,6 +32,16 @@ fn number(row: u32, text: &str) -> Result<Value, SegmentFault>
     }
 }
 
+// A text as a value, which is shared where it is not short.
+fn text_value(alloc: Global, text: &str, texts: &mut Texts) -> Result<Value, AllocError>
+    ensures { IfOk result (λ value. meaning value ≡ Text text.now) }
+{
+    match ShortText::new(text) {
+        Some(short) => Ok(Value::Short(short)),
+        None => Ok(Value::Shared(texts.shared(alloc, text)?)),
+    }
+}
+
 // What a text that is not empty says, by what its column holds.
 fn typed(
     alloc: Global,
@@ -43,7 +53,7 @@ fn typed(
     ensures { Gives meaning result (typed row kind text.now) }
 {
     match kind {
-        Kind::Text => Ok(Value::Text(texts.shared(alloc, text)?)),
+        Kind::Text => Ok(text_value(alloc, text, texts)?),
         Kind::Integer => number(row, text),
     }
 }

@@ -19,7 +19,7 @@ fn is_null(values: &[&Value], row: usize) -> bool
     let value = values[row];
     match value {
         Value::Null => true,
-        Value::Int(_) | Value::Text(_) => false,
+        Value::Int(_) | Value::Short(_) | Value::Shared(_) => false,
     }
 }
 

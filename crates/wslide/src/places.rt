@@ -16,7 +16,7 @@ pub(crate) fn value_place(values: &[&Value], row: usize) -> Option<usize>
     let value = values[row];
     match value {
         Value::Null => None,
-        Value::Int(_) | Value::Text(_) => Some(row),
+        Value::Int(_) | Value::Short(_) | Value::Shared(_) => Some(row),
     }
 }
 

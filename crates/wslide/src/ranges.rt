@@ -13,7 +13,7 @@ fn see_range(value: &Value)
         Value::Int(number) => {
             let _ = number.get();
         }
-        Value::Null | Value::Text(_) => {}
+        Value::Null | Value::Short(_) | Value::Shared(_) => {}
     }
 }
 

@@ -33,7 +33,7 @@ fn number_at(values: &[&Value], row: usize) -> PartialSum
     let value = values[row];
     match value {
         Value::Int(number) => PartialSum::of(*number),
-        Value::Text(_) => PartialSum::of(Whole::from(0)),
+        Value::Short(_) | Value::Shared(_) => PartialSum::of(Whole::from(0)),
         Value::Null => PartialSum::none(),
     }
 }

@@ -7,6 +7,8 @@ use Rattle.std.proofs.lemmas.List.Folds.{list_any-append, list_any_at, list_any_
 use Rattle.wvalues.specs.Names.{NameParts}
 use Rattle.wsegment.specs.Rows.{Content}
 use Rattle.wplan.specs.Formula.{Formula}
+use Rattle.weval.specs.NumberTests.{Decide, passes_all}
+use Rattle.weval.specs.declared.comparing.NumberTest.{NumberTest}
 use Rattle.wrows.specs.declared.fault.AnswerFault.{AnswerFault}
 use Rattle.wrows.specs.declared.fault.AnswerFault.TheVariants.{OutOfRange}
 use Rattle.wrows.specs.Columns.{Row, held_rows, holds_on, is_out_of_range}
@@ -52,6 +54,19 @@ none_at_fault t stored i h none =
 pub held_whole : (p : Row → Bool) (stored old now : List Row) (i : ℕ) → length stored ≤ i → now ≡ old ++ filter p (take i stored)
     → now ≡ old ++ filter p stored
 held_whole p stored old now i h so_far = so_far ∙ ap (λ l. old ++ filter p l) (take_all i stored h)
+
+-- where tests decide a condition, it is out of range on no row, and true on those that pass them
+pub none_decided : (tests : List NumberTest) (t : Formula) (rows : List Row) → Decide tests t → list_any (is_out_of_range t) rows ≡ false
+none_decided tests t [] d = refl
+none_decided tests t (row ∷ rows) d = ap (λ b. b || list_any (is_out_of_range t) rows) (d.in_range row)
+    ∙ none_decided tests t rows d
+
+pub rows_decided : (tests : List NumberTest) (t : Formula) (rows : List Row) → Decide tests t
+    → filter (passes_all tests) rows ≡ filter (holds_on t) rows
+rows_decided tests t [] d = refl
+rows_decided tests t (row ∷ rows) d =
+    ap (λ b. cond b (row ∷ filter (passes_all tests) rows) (filter (passes_all tests) rows)) (sym (d.truth row))
+    ∙ ap (λ l. cond (holds_on t row) (row ∷ l) l) (rows_decided tests t rows d)
 
 abbrev pub rows_left : List (NameParts × Content) → List Row
 rows_left = flat_map (λ e. e.1.rows)

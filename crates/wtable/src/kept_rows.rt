@@ -2,6 +2,7 @@
 ghost use Rattle.std.specs.Prelude.{◌≡◌, ◌∷◌, ◌++◌, [], if◌then◌else◌, true, IfOk, OnOk, Some, filter, map};
 ghost use Rattle.std.specs.List.{list_any};
 ghost use Rattle.wvalues.specs.Meaning.{meaning};
+ghost use Rattle.weval.specs.NumberTests.{passes_all};
 ghost use Rattle.wplan.specs.Formula.{formula};
 ghost use Rattle.wplan.specs.Plans.{optional_formula};
 ghost use Rattle.wrows.specs.declared.fault.AnswerFault.TheVariants.{OutOfRange};
@@ -14,8 +15,10 @@ ghost use Rattle.wtable.specs.Tables.{rows_of_set};
 
 use crate::orders::asks_for_orders;
 use std::alloc::{AllocError, Global};
+use weval::NumberTests;
 use wplan::{Expr, Selection};
 use wrows::{AnswerFault, Condition, not_too_many};
+use wsegment::Segment;
 use wset::{Kept, SegmentSet};
 use wvalues::Value;
 
@@ -64,7 +67,55 @@ pub(crate) fn push_where<'a>(
     Ok(())
 }
 
+// Appends a row, if it passes some tests.
+#[inline(always)]
+fn push_passing<'a>(
+    held: &mut Vec<&'a [Value]>,
+    tests: &NumberTests,
+    row: &'a [Value],
+) -> Result<(), AllocError>
+    ensures { OnOk result (rows_seen held.new.items ≡ (if passes_all tests.now.tests.items (map meaning row.entry.now)
+        then rows_seen held.old.items ++ map meaning row.entry.now ∷ [] else rows_seen held.old.items)) }
+{
+    if tests.pass(row) {
+        held.push(row)?;
+    }
+    Ok(())
+}
+
+// Appends the rows of a segment that pass some tests. They stay where they lie. The loop calls nothing.
+fn push_all_passing<'a>(
+    held: &mut Vec<&'a [Value]>,
+    tests: &NumberTests,
+    segment: &'a Segment,
+) -> Result<(), AllocError>
+    ensures { OnOk result (rows_seen held.new.items ≡ rows_seen held.old.items ++ filter (passes_all tests.now.tests.items)
+        segment.now.rows) }
+{
+    for row in 0..segment.rows() {
+        push_passing(held, tests, segment.row(row))?;
+    }
+    Ok(())
+}
+
 // Appends the rows of a segment on which a condition is true. They stay where they lie.
+fn push_all_where<'a>(
+    held: &mut Vec<&'a [Value]>,
+    condition: &Condition,
+    segment: &'a Segment,
+) -> Result<(), AnswerFault>
+    ensures gives { Gives (λ u. u) result (unless (list_any (is_out_of_range (formula condition.now.expr.now)) segment.now.rows)
+        OutOfRange tt) }
+    ensures added { OnOk result (rows_seen held.new.items ≡ rows_seen held.old.items ++ filter
+        (holds_on (formula condition.now.expr.now)) segment.now.rows) }
+{
+    for row in 0..segment.rows() {
+        push_where(held, condition, segment.row(row))?;
+    }
+    Ok(())
+}
+
+// Appends the rows of a kept segment on which a condition is true, by its tests where it has some.
 fn push_rows_where<'a>(
     held: &mut Vec<&'a [Value]>,
     condition: &Condition,
@@ -76,10 +127,13 @@ fn push_rows_where<'a>(
         (holds_on (formula condition.now.expr.now)) kept.now.content.rows) }
 {
     let segment = kept.segment()?;
-    for row in 0..segment.rows() {
-        push_where(held, condition, segment.row(row))?;
+    match &condition.tests {
+        Some(tests) => {
+            push_all_passing(held, tests, segment)?;
+            Ok(())
+        }
+        None => push_all_where(held, condition, segment),
     }
-    Ok(())
 }
 
 // The rows of all live segments on which a condition is true, in their order. No list of the others is made.

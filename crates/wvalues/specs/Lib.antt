@@ -7,6 +7,8 @@ pub mod Order
 pub mod OrderLaws
 pub mod Number
 pub mod Names
+pub mod Padded
 pub mod NameView
+pub mod ShortView
 pub mod NameReading
 pub mod Counts

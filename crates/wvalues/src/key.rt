@@ -25,9 +25,9 @@ pub fn compare(a: &Value, b: &Value, key: &SortKey) -> Ordering
         (_, Value::Null) => Ordering::Less,
         (Value::Int(x), Value::Int(y)) if key.desc => y.cmp(x),
         (Value::Int(x), Value::Int(y)) => x.cmp(y),
-        (Value::Text(x), Value::Text(y)) if key.desc => y.cmp(x),
-        (Value::Text(x), Value::Text(y)) => x.cmp(y),
-        (Value::Int(_), Value::Text(_)) => Ordering::Less,
-        (Value::Text(_), Value::Int(_)) => Ordering::Greater,
+        (Value::Int(_), _) => Ordering::Less,
+        (_, Value::Int(_)) => Ordering::Greater,
+        _ if key.desc => b.text().cmp(a.text()),
+        _ => a.text().cmp(b.text()),
     }
 }

@@ -3,7 +3,7 @@ use Rattle.std.specs.List.{list_any}
 use Rattle.wplan.specs.Formula.{formula}
 use Rattle.wrows.specs.Columns.{holds_on, is_out_of_range}
 use Rattle.wrows.specs.Laid.{rows_seen}
-use Rattle.wtable.proofs.kept_rows.push_rows_where.Given as goal
+use Rattle.wtable.proofs.kept_rows.push_all_where.Given as goal
 
 abbrev pub invariant-loop-row : goal.invariant-loop-row
 invariant-loop-row l = record {
