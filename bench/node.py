@@ -1,4 +1,4 @@
-"""A node in a process of its own, of which the system tells what each asking takes: what bench/queries and bench/again measure.
+"""A node in a process of its own, of which the system tells what each asking takes. So bench/queries, again, parse and extremes measure.
 
 Seconds are those of the processor. They are read while the process waits for its next command, so that all of an asking is in them:
 reading the query, writing the text of its answer into a pipe, and giving memory back.
@@ -46,29 +46,31 @@ class Node:
     def take(self, segments):
         """Gives it segments, one after another in time."""
         taken = (scripts.segment(b"east", number, content) for number, content in enumerate(segments, 1))
-        self.run(scripts.declaration() + b"".join(taken), [b"ok"] + [b"taken"] * len(segments))
+        self.run(scripts.declaration() + b"".join(taken), [(b"ok",)] + [(b"taken",)] * len(segments))
 
     def ask(self, query, times=1):
         """Seconds of the processor that a query takes with its answer, the mean of so many times in a row."""
         before = self.spent()
-        self.run(scripts.query(query) * times, [b"answer"] * times)
+        self.run(scripts.query(query) * times, [(b"answer",)] * times)
         return (self.spent() - before) / times
 
     def run(self, script, replies):
-        """Runs a script whose replies begin with these words, and waits until the process does."""
+        """Runs a script of which each reply begins with one of some words, and waits until the process does. The last reply's line."""
         # replies are read while the script is written, since either may fill its pipe
         writer = threading.Thread(target=self.write, args=(script,))
         writer.start()
-        for word in replies:
+        for wanted in replies:
             line = self.process.stdout.readline()
-            if line.split()[:1] != [word]:
-                sys.exit(f"a node replied {line.decode()!r}, and {word.decode()!r} was wanted")
+            word, _, rest = line.rstrip(b"\n").partition(b" ")
+            if word not in wanted:
+                sys.exit(f"a node replied {line.decode()!r}, and {b' or '.join(wanted).decode()!r} was wanted")
             if word == b"answer":
-                self.process.stdout.read(int(line.split()[1]))
+                self.process.stdout.read(int(rest))
         writer.join()
         while self.counted()[0] != "S":
             self.has_status(None)
             time.sleep(LOOK_SECONDS)
+        return line.decode().rstrip()
 
     def write(self, script):
         with contextlib.suppress(BrokenPipeError):  # the reply that is missing is told
