@@ -6,4 +6,5 @@ pub mod CallFacts
 pub mod SelectFacts
 mod BesideFacts
 mod CountedFacts
+mod LeadingFacts
 mod Worked

@@ -29,7 +29,7 @@ use wrows::{
 use wset::SegmentSet;
 use wtable::{
     PresortedOrders, TableOrders, asked_of, few_kept_rows, kept_count, kept_table_rows,
-    numbered_table_rows, presorted_orders, table_orders,
+    leading_rows, numbered_table_rows, presorted_orders, table_orders,
 };
 use wvalues::Value;
 
@@ -220,8 +220,30 @@ pub(crate) fn select_rows(
     kept_items(alloc, select, &kept, PresortedOrders::none(alloc), work)
 }
 
-// What one SELECT answers on the rows of the set's live segments, where no order of them is presorted.
-fn select_unordered(
+// What one SELECT answers on the rows of the set's live segments, where it asks for the first few of them in an order by columns.
+fn select_leading(
+    alloc: Global,
+    select: &Selection,
+    set: &SegmentSet,
+    work: &mut Work,
+) -> Result<Option<Cells>, AnswerFault>
+    requires { is_sound_select (select_plan select.now) ≡ true }
+    ensures rows { MayGive rows_in result (select_of (select_plan select.now) (rows_of_set set.now)) }
+    ensures width { IfOk result (λ found. IfSome found (λ cells. cells.width ≡ length select.now.items.items)) }
+{
+    let found = leading_rows(alloc, select, set)?;
+    match found {
+        None => Ok(None),
+        Some(rows) => {
+            kept_count(set)?;
+            let cells = left_items(alloc, select, &rows, PresortedOrders::none(alloc), work)?;
+            Ok(Some(cells))
+        }
+    }
+}
+
+// What one SELECT answers on the rows that WHERE keeps of the set's live segments, where no order of them is presorted.
+fn select_kept(
     alloc: Global,
     select: &Selection,
     set: &SegmentSet,
@@ -233,6 +255,24 @@ fn select_unordered(
 {
     let kept = kept_table_rows(alloc, &select.condition, set)?;
     kept_items(alloc, select, &kept, PresortedOrders::none(alloc), work)
+}
+
+// What one SELECT answers on the rows of the set's live segments, where no order of them is presorted.
+fn select_unordered(
+    alloc: Global,
+    select: &Selection,
+    set: &SegmentSet,
+    work: &mut Work,
+) -> Result<Cells, AnswerFault>
+    requires { is_sound_select (select_plan select.now) ≡ true }
+    ensures rows { Gives rows_in result (select_of (select_plan select.now) (rows_of_set set.now)) }
+    ensures width { IfOk result (λ cells. cells.width ≡ length select.now.items.items) }
+{
+    let leading = select_leading(alloc, select, set, work)?;
+    match leading {
+        Some(cells) => Ok(cells),
+        None => select_kept(alloc, select, set, work),
+    }
 }
 
 // What one SELECT answers on the rows of the set's live segments, of which some orders are presorted.

@@ -58,7 +58,7 @@ keys_on_all keys [] = refl
 keys_on_all keys (row ∷ rows) = ap (λ r. r ∷ map (λ row. map (λ t. value_on t row) (map (λ k. At k.col) keys)) rows)
     (keys_on keys row) ∙ ap (λ l. row_keys keys row ∷ l) (keys_on_all keys rows)
 
-columns_presorted : (keys : List SortKey) (rows : List Row) → lists_of (map (λ k. At k.col) keys) rows ≡ Ok (map (row_keys keys) rows)
+pub columns_presorted : (keys : List SortKey) (rows : List Row) → lists_of (map (λ k. At k.col) keys) rows ≡ Ok (map (row_keys keys) rows)
 columns_presorted keys rows =
     ap (λ b. unless b OutOfRange (map (λ row. map (λ t. value_on t row) (map (λ k. At k.col) keys)) rows)) (none_at_fault keys rows)
     ∙ ap Ok (keys_on_all keys rows)
@@ -88,7 +88,7 @@ pub same_cmp : (order keys : List SortKey) → map direction order ≡ map direc
 same_cmp order keys e x y = directed order x y ∙ ap (λ ks. keys_cmp ks x y) e ∙ sym (directed keys x y)
 
 -- rows by what their columns are
-by_columns : (order keys : List SortKey) (rows : List Row) → map direction order ≡ map direction keys
+pub by_columns : (order keys : List SortKey) (rows : List Row) → map direction order ≡ map direction keys
     → numbers_by order (map (row_keys keys) rows) (length rows) ≡ run_of keys rows
 by_columns order keys rows e =
     let lists = map (row_keys keys) rows in
@@ -163,7 +163,7 @@ keys_front width (k ∷ keys) row more all h =
     ap (λ v. v ∷ row_keys keys (row ++ more)) (front row more k.col Null (omega (arith, all.0, h)))
     ∙ ap (λ l. get_or row k.col Null ∷ l) (keys_front width keys row more all.1 h)
 
-map-alike : {X Y : Type 0} (P : X → Type 0) (f g : X → Y) (xs : List X) → ((x : X) → P x → f x ≡ g x) → AllByRecursion P xs
+pub map-alike : {X Y : Type 0} (P : X → Type 0) (f g : X → Y) (xs : List X) → ((x : X) → P x → f x ≡ g x) → AllByRecursion P xs
     → map f xs ≡ map g xs
 map-alike P f g [] same all = refl
 map-alike P f g (x ∷ xs) same all = ap (λ y. y ∷ map f xs) (same x all.0) ∙ ap (λ l. g x ∷ l) (map-alike P f g xs same all.1)

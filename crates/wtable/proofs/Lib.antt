@@ -6,3 +6,5 @@ mod DifferFacts
 pub mod NumberFacts
 pub mod ReferenceFacts
 mod CountedFacts
+pub mod FirstFacts
+pub mod LeadingFacts

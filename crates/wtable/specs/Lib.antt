@@ -2,3 +2,4 @@ pub mod Tables
 pub mod Few
 pub mod TableOrders
 pub mod Referenced
+pub mod Leading

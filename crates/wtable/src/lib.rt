@@ -2,7 +2,8 @@
 //!
 //! - Gives the rows that WHERE keeps, all of them or only where they are few, and their number where nothing else is asked;
 //!   the orders of all rows by columns, for windows and for ORDER BY, from the runs that segments keep; the numbers of the
-//!   kept rows in these orders, and the rows themselves that references tell.
+//!   kept rows in these orders, and the rows themselves that references tell. Where few rows of an order are asked for, it gives
+//!   rows that stand for all.
 //! - Promises: rows stand by name and then by place, and stay where they lie. WHERE is evaluated on every row, so one on
 //!   which it is out of range refuses. What an order of all rows gives of the kept ones is the one that sorting them
 //!   gives; where an order says that no two rows share the keys of its window, none of the kept ones do. Runs that are
@@ -10,11 +11,13 @@
 //! - Asks: nothing of the rows; of `take_presorted`, whose order it takes out, that each order is one of these rows.
 //! - Leaves runs to `wruns` and `wset`, single rows to `wrows`, windows to `wcalls`, and answers to `wplanner`.
 //!
-//! Read `specs/Tables.antt`, `specs/TableOrders.antt`, `specs/Referenced.antt`, then `specs/Few.antt`.
+//! Read `specs/Tables.antt`, `specs/TableOrders.antt`, `specs/Referenced.antt`, `specs/Leading.antt`,
+//! then `specs/Few.antt`.
 #![tactic(auto)]
 
 mod counting;
 mod kept_rows;
+mod leading;
 mod numbered_rows;
 mod orders;
 mod presorted;
@@ -22,6 +25,7 @@ mod referenced;
 
 pub use counting::kept_count;
 pub use kept_rows::{few_kept_rows, kept_table_rows};
+pub use leading::leading_rows;
 pub use numbered_rows::{NumberedRows, numbered_table_rows};
 pub use orders::{TableOrder, TableOrders, asked_of, table_orders};
 pub use presorted::{PresortedOrder, PresortedOrders, presorted_orders, take_presorted};

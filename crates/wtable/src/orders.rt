@@ -113,8 +113,8 @@ fn partition_columns(
     Ok(Some(keys))
 }
 
-// Keys that order rows of so many columns as some keys do, where the value of each is one of these columns.
-fn key_columns(
+/// Keys that order rows of so many columns as some keys do, where the value of each is one of these columns.
+pub(crate) fn key_columns(
     alloc: Global,
     asked_keys: &[ResolvedKey],
     width: usize,

@@ -1,0 +1,14 @@
+use Rattle.std.proofs.Common.{◌++◌, ◌∷◌, [], map, refl, sym, ◌∙◌}
+use Rattle.wvalues.specs.Meaning.{meaning}
+use Rattle.wtable.proofs.LeadingFacts.{held_too, left_out}
+use Rattle.wtable.proofs.leading.LeadingRows.push.Goals as goal
+
+pub returns-then-is_behind-clause-leads : goal.returns-then-is_behind-clause-leads
+returns-then-is_behind-clause-leads c = λ all lead.
+    left_out c.args.keys.now c.args.most all c.args.self.now (map meaning c.args.row.now) lead
+    (sym c.is_behind.ensures ∙ c.if-is_behind.true)
+
+pub returns-in_ok-prune-clause-leads : goal.returns-in_ok-prune-clause-leads
+returns-in_ok-prune-clause-leads c = λ all lead.
+    c.in_ok-prune.ensures.leads (all ++ map meaning c.args.row.now ∷ [])
+    (held_too c.args.keys.now c.args.most all c.args.self.now _ c.args.row lead c.in_ok-push.ensures.items refl)

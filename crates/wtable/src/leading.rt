@@ -1,0 +1,270 @@
+//! The first rows of the table in an order by columns, where few are asked for: they are found while the rows are gone over, and
+//! no list of the others is made.
+ghost use Rattle.std.specs.Prelude.{◌≡◌, ◌<◌, ◌≤◌, ◌-◌, ◌∷◌, ◌++◌, [], true, IfOk, IfSome, List, None, OnOk, Some};
+ghost use Rattle.std.specs.Prelude.{length, map, slice_index_or, take, ℕ};
+ghost use Rattle.wvalues.specs.Meaning.{Null, meaning};
+ghost use Rattle.wvalues.specs.Order.{key_cmp, keys_cmp};
+ghost use Rattle.wplan.specs.Plans.{output_plan, select_plan};
+ghost use Rattle.wrows.specs.Columns.{Row};
+ghost use Rattle.wrows.specs.Laid.{rows_seen};
+ghost use Rattle.wruns.specs.Runs.{row_keys};
+ghost use Rattle.wtable.specs.Leading.{AnswerForAll, AreInRange, Lead, is_behind, rows_by};
+ghost use Rattle.wtable.specs.Tables.{rows_of_set};
+
+use crate::orders::key_columns;
+use std::alloc::{AllocError, Global};
+use std::cmp::Ordering;
+use wplan::{Output, Selection};
+use wrows::place_of;
+use wsegment::Segment;
+use wset::SegmentSet;
+use wvalues::{SortKey, Value, compare};
+
+/// The most rows that are asked for, with those left out first.
+const MOST_ASKED: u128 = 1024;
+
+/// Of so many rows that are held those are left that come first, so that fewer are held always.
+const MOST_HELD: usize = 2048;
+
+/// So often rows are left out at most. Where they stand by chance it is done a few times; where they nearly fall, over and over, and
+/// then an order is found in less time by a sample.
+const MOST_CUTS: u32 = 12;
+
+/// Rows that hold the first of all that were gone over, in some order by columns.
+#[derive(Drop)]
+pub struct LeadingRows<'a> {
+    pub(crate) rows: Vec<&'a [Value]>,
+    /// A row behind which none is held any more: as many as are asked for come before it or are it.
+    pub(crate) pivot: Option<&'a [Value]>,
+    /// How often rows were left out.
+    pub(crate) cuts: u32,
+}
+
+// A value of a row, null where it has none.
+#[inline]
+fn value_at<'a>(row: &'a [Value], place: usize, null: &'a Value) -> &'a Value
+    requires { meaning null.now ≡ Null }
+    ensures { meaning result.now ≡ slice_index_or (map meaning row.now) place Null }
+{
+    if place < row.len() { &row[place] } else { null }
+}
+
+// The order of two rows by a key that is a column.
+#[inline]
+fn compare_values(a: &[Value], b: &[Value], key: &SortKey) -> Ordering
+    ensures { result ≡ key_cmp key.now (slice_index_or (map meaning a.now) key.now.col Null)
+        (slice_index_or (map meaning b.now) key.now.col Null) }
+{
+    let null = Value::Null;
+    compare(
+        value_at(a, key.col, &null),
+        value_at(b, key.col, &null),
+        key,
+    )
+}
+
+// The order of two rows by keys that are columns.
+#[inline]
+fn compare_rows(keys: &[SortKey], a: &[Value], b: &[Value]) -> Ordering
+    ensures { result ≡ keys_cmp keys.now (row_keys keys.now (map meaning a.now)) (row_keys keys.now (map meaning b.now)) }
+{
+    for key in keys {
+        let order = compare_values(a, b, key);
+        if order != Ordering::Equal {
+            return order;
+        }
+    }
+    Ordering::Equal
+}
+
+// The last of so many rows, none where they are fewer.
+fn last_of<'a>(rows: &[&'a [Value]], most: usize) -> Option<&'a [Value]>
+    requires { 0 < most }
+    ensures within { IfSome result (λ last. most ≤ length rows.now) }
+    ensures last { IfSome result (λ last. last ≡ slice_index_or rows.now (most - 1) last) }
+{
+    if rows.len() < most {
+        None
+    } else {
+        Some(rows[most - 1])
+    }
+}
+
+impl<'a> LeadingRows<'a> {
+    // No rows yet.
+    fn new(alloc: Global) -> LeadingRows<'a>
+        ensures leads { (keys : List SortKey) (most : ℕ) → Lead keys most [] result }
+        ensures few { length result.rows.items ≡ 0 }
+    {
+        LeadingRows {
+            rows: Vec::new(alloc),
+            pivot: None,
+            cuts: 0,
+        }
+    }
+
+    // Whether a row is none of those that are asked for, whatever follows.
+    #[inline]
+    fn is_behind(&self, keys: &[SortKey], row: &[Value]) -> bool
+        ensures { result ≡ is_behind keys.now (map meaning row.now) self.now.pivot }
+    {
+        match self.pivot {
+            None => false,
+            Some(pivot) => compare_rows(keys, row, pivot) != Ordering::Less,
+        }
+    }
+
+    // Leaves those that come first.
+    fn prune(&mut self, keys: &[SortKey], most: usize) -> Result<(), AllocError>
+        requires { 0 < most }
+        ensures leads { (all : List Row) → Lead keys.now most all self.old → OnOk result (Lead keys.now most all self.new) }
+        ensures few { OnOk result (length self.new.rows.items ≤ most) }
+    {
+        self.rows.sort_by(|a, b| compare_rows(keys, a, b))?;
+        self.rows.truncate(most);
+        self.pivot = last_of(&self.rows, most);
+        self.cuts = self.cuts.saturating_add(1);
+        Ok(())
+    }
+
+    // Holds one row more, where it may be asked for.
+    #[inline]
+    fn push(&mut self, keys: &[SortKey], most: usize, row: &'a [Value]) -> Result<(), AllocError>
+        requires some { 0 < most }
+        requires fewer { most < 2048 }
+        ensures leads { (all : List Row) → Lead keys.now most all self.old
+            → OnOk result (Lead keys.now most (all ++ map meaning row.entry.now ∷ []) self.new) }
+        ensures few { length self.old.rows.items < 2048 → OnOk result (length self.new.rows.items < 2048) }
+    {
+        if self.is_behind(keys, row) {
+            return Ok(());
+        }
+        self.rows.push(row)?;
+        if self.rows.len() >= MOST_HELD {
+            self.prune(keys, most)?;
+        }
+        Ok(())
+    }
+}
+
+// Goes over the rows of a segment, and says whether it did so to the end: it stops where rows were left out too often.
+fn push_all<'a>(
+    leading: &mut LeadingRows<'a>,
+    keys: &[SortKey],
+    most: usize,
+    segment: &'a Segment,
+) -> Result<bool, AllocError>
+    requires some { 0 < most }
+    requires fewer { most < 2048 }
+    ensures leads { (all : List Row) → Lead keys.now most all leading.old
+        → IfOk result (λ whole. whole ≡ true → Lead keys.now most (all ++ segment.now.rows) leading.new) }
+    ensures few { length leading.old.rows.items < 2048 → OnOk result (length leading.new.rows.items < 2048) }
+{
+    for row in 0..segment.rows() {
+        if leading.cuts > MOST_CUTS {
+            return Ok(false);
+        }
+        leading.push(keys, most, segment.row(row))?;
+    }
+    Ok(true)
+}
+
+// Rows that hold the first of all; none where rows were left out too often.
+fn first_rows<'a>(
+    alloc: Global,
+    keys: &[SortKey],
+    most: usize,
+    set: &'a SegmentSet,
+) -> Result<Option<Vec<&'a [Value]>>, AllocError>
+    requires some { 0 < most }
+    requires fewer { most < 2048 }
+    ensures leads { IfOk result (λ found. IfSome found (λ rows. (more : List Row)
+        → take most (rows_by keys.now (rows_seen rows.items ++ more)) ≡ take most (rows_by keys.now (rows_of_set set.now ++ more)))) }
+    ensures few { IfOk result (λ found. IfSome found (λ rows. length rows.items < 2048)) }
+{
+    let mut leading = LeadingRows::new(alloc);
+    'segments: for (_, kept) in set.lives() {
+        let segment = kept.segment()?;
+        let whole = push_all(&mut leading, keys, most, segment)?;
+        if !whole {
+            return Ok(None);
+        }
+    }
+    let LeadingRows { rows, .. } = leading;
+    Ok(Some(rows))
+}
+
+// How many rows a SELECT asks for of the first in its order, with those left out first, where these are few.
+fn few_asked(select: &Selection) -> Option<usize>
+    ensures some { IfSome result (λ most. 0 < most) }
+    ensures few { IfSome result (λ most. most < 2048) }
+    ensures offset { IfSome result (λ most. select.now.offset ≤ most) }
+    ensures limit { IfSome result (λ most. select.now.limit ≡ Some (most - select.now.offset)) }
+{
+    let limit = select.limit?;
+    if limit > MOST_ASKED || select.offset > MOST_ASKED {
+        return None;
+    }
+    let most = select.offset + limit;
+    if most == 0 || most > MOST_ASKED {
+        return None;
+    }
+    Some(most as usize)
+}
+
+// Whether items are plain columns, which are out of range on no row.
+fn are_columns(items: &[Output]) -> bool
+    ensures { result ≡ true → AreInRange (map (λ o. o.value) (map output_plan items.now)) }
+{
+    for item in items {
+        if place_of(&item.value).is_none() {
+            return false;
+        }
+    }
+    true
+}
+
+// Whether a SELECT has only items that are plain columns, and an order.
+fn only_orders(select: &Selection) -> bool
+    ensures condition { result ≡ true → (select_plan select.now).condition ≡ None }
+    ensures grouping { result ≡ true → (select_plan select.now).grouping ≡ None }
+    ensures windows { result ≡ true → length select.now.windows.items ≡ 0 }
+    ensures items { result ≡ true → AreInRange (map (λ o. o.value) (map output_plan select.now.items.items)) }
+{
+    let None = &select.condition else {
+        return false;
+    };
+    let None = &select.grouping else {
+        return false;
+    };
+    if !select.windows.is_empty() {
+        return false;
+    }
+    are_columns(&select.items)
+}
+
+/// Rows of the set's live segments of which a SELECT answers what it does of all, where it only asks for few of them in an order by
+/// columns; none where it asks for anything else, or rows had to be left out too often. They are fewer than 2,048, and stay where they
+/// lie. The one error is that memory was refused.
+pub fn leading_rows<'a>(
+    alloc: Global,
+    select: &Selection,
+    set: &'a SegmentSet,
+) -> Result<Option<Vec<&'a [Value]>>, AllocError>
+    ensures { IfOk result (λ found. IfSome found
+        (λ rows. AnswerForAll (select_plan select.now) (rows_of_set set.now) (rows_seen rows.items))) }
+{
+    if !only_orders(select) {
+        return Ok(None);
+    }
+    let Some(most) = few_asked(select) else {
+        return Ok(None);
+    };
+    let width = set.schema().columns().len();
+    let columns = key_columns(alloc, &select.keys, width)?;
+    let Some(keys) = columns else {
+        return Ok(None);
+    };
+    let found = first_rows(alloc, &keys, most, set)?;
+    Ok(found)
+}
