@@ -25,7 +25,7 @@ use Rattle.wreplies.specs.declared.text.Text.{Text}
 use Rattle.wact.specs.declared.acted.Acted.{Acted}
 use Rattle.wact.specs.declared.opening.Opened.TheVariants as opens
 use Rattle.wact.specs.Acts.{Acts, ActsOn, Done, StoreRefused}
-use Rattle.wact.specs.Delivering.{Delivers, IsFeed, IsToldUndelivered}
+use Rattle.wact.specs.Delivering.{Delivers, IsFeed, IsRefusedSo}
 use Rattle.wact.specs.Opening.{Opens, TableRead, TableRefused}
 use Rattle.wact.specs.Outcomes.{IsRefused, IsStored}
 use Rattle.wact.proofs.Outcomes.{stored_as}
@@ -112,7 +112,7 @@ feeds_all batch ds old new store text (Ok acted) whole items each x stored =
 
 -- the stream is not delivered
 pub feeds_refused : {E : Type 0} (d : Declaration) (v : View) (store : Option (List ℕ)) (stream : List ℕ) (reason : Stop)
-    (r : Result Acted E) → IsUndelivered d stream reason → IfOk r (IsToldUndelivered reason)
+    (r : Result Acted E) → IsUndelivered d stream reason → IfOk r (IsRefusedSo reason)
     → IfOk r (λ acted. Feeds d v store stream acted)
 feeds_refused d v store stream reason (Err e) why told = tt
 feeds_refused d v store stream (stops.Segment fault) (Ok acted) why told = SegmentRefused fault why told

@@ -35,7 +35,7 @@ pub knows_told : (d d' : Declaration) (store : Option (List ℕ)) (bytes : List 
     → store ≡ Some bytes → d' ≡ d → v' ≡ empty → IsFileOf d' w bytes → v ≡ join v' w → Knows d store v
 knows_told d d' store bytes v v' w there same none file is =
     subst (λ (s : Option (List ℕ)). Knows d s v) (sym there) (record {
-      told = w;
+      in_file = w;
       file = subst (λ e. IsFileOf e w bytes) same file;
       is = is ∙ ap (λ x. join x w) none;
     })

@@ -82,15 +82,15 @@ MayLackMemory d (choices.Ask paths queries) other = ⊤
 MayLackMemory d (choices.Shell paths) other = ⊥
 
 -- the bytes are the file of a view, which is joined into that of a store that knows nothing
-pub record Tells (d : Declaration) (bytes : List ℕ) (v : View) : Type 0 where
-  pub told : View
-  pub file : IsFileOf d told bytes
-  pub is : v ≡ join empty told
+pub record KnowsFile (d : Declaration) (bytes : List ℕ) (v : View) : Type 0 where
+  pub in_file : View
+  pub file : IsFileOf d in_file bytes
+  pub is : v ≡ join empty in_file
 
--- the store's view is that of its file; a file that does not exist tells nothing
+-- the store's view is that of its file; where there is no file, nothing is known
 abbrev pub Knows : Declaration → Option (List ℕ) → View → Type 0
 Knows d None v = v ≡ empty
-Knows d (Some bytes) v = Tells d bytes v
+Knows d (Some bytes) v = KnowsFile d bytes v
 
 -- what is wrong with the store's file
 abbrev pub HasFault : Declaration → Option (List ℕ) → FileFault → Type 0

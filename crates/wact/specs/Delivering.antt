@@ -18,10 +18,10 @@ pub record Delivers (items : List Item) (old new : NodeState) (text new_text : L
   pub text_is : new_text ≡ text ++ lines_text old.view items
 
 -- what is told of a stream that is not delivered; want of memory is no refusal
-abbrev pub IsToldUndelivered : Stop → Acted → Type 0
-IsToldUndelivered (stops.Segment fault) acted = IsRefused acted (segment_text fault)
-IsToldUndelivered stops.Bad acted = IsRefused acted (codes "refused B1\n")
-IsToldUndelivered stops.NoMemory acted = ⊥
+abbrev pub IsRefusedSo : Stop → Acted → Type 0
+IsRefusedSo (stops.Segment fault) acted = IsRefused acted (segment_text fault)
+IsRefusedSo stops.Bad acted = IsRefused acted (codes "refused B1\n")
+IsRefusedSo stops.NoMemory acted = ⊥
 
 -- a stream is fed
 abbrev pub IsFeed : Choice → Type 0

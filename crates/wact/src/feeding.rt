@@ -12,7 +12,7 @@ ghost use Rattle.wbatch.specs.Streams.{IsUndelivered};
 ghost use Rattle.wcommand.specs.declared.choice.Choice.{Choice};
 ghost use Rattle.wstore.specs.Replies.{fed_text};
 ghost use Rattle.wact.specs.Acts.{Acts};
-ghost use Rattle.wact.specs.Delivering.{Delivers, IsFeed, IsToldUndelivered};
+ghost use Rattle.wact.specs.Delivering.{Delivers, IsFeed, IsRefusedSo};
 ghost use Rattle.wact.specs.Streams.{Feeds};
 
 use crate::acted::{Acted, refused, stored};
@@ -85,7 +85,7 @@ fn add_count(text: &mut Vec<u8>, count: usize) -> Result<(), AllocError>
 /// What feeding a stream gives that is not delivered. Nothing of it is stored. `AllocError`: memory ran out while it was read, or a
 /// growth was refused.
 pub fn undelivered(alloc: Global, reason: Stop) -> Result<Acted, AllocError>
-    ensures { IfOk result (IsToldUndelivered reason) }
+    ensures { IfOk result (IsRefusedSo reason) }
 {
     match reason {
         Stop::Segment(fault) => {

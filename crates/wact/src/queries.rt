@@ -8,7 +8,7 @@ use std::alloc::{AllocError, Global};
 use wreplies::{Text, refused_query};
 use wstore::{AskFault, Node};
 
-/// What a query is told.
+/// What a query is answer.
 #[derive(Drop)]
 pub struct QueryReply {
     /// The bytes of the answer alone, or the refusal.
@@ -19,7 +19,7 @@ pub struct QueryReply {
 
 /// Answers a query on what the node knows. `AllocError`: a growth was refused.
 pub fn reply(alloc: Global, node: &mut Node, query: &[u8]) -> Result<QueryReply, AllocError>
-    ensures replies { IfOk result (λ told. IsReply node.old.schema node.old.view query.now (bytes_of told.text) told.is_refused) }
+    ensures replies { IfOk result (λ reply. IsReply node.old.schema node.old.view query.now (bytes_of reply.text) reply.is_refused) }
     ensures same { node.new ≡ node.old }
 {
     match node.ask(query) {
@@ -48,7 +48,7 @@ fn bytes(alloc: Global, text: Text) -> Result<Vec<u8>, AllocError>
     }
 }
 
-// Adds what a query is told, behind an empty line.
+// Adds the reply to a query, behind an empty line.
 fn add_reply(
     alloc: Global,
     node: &mut Node,
@@ -60,14 +60,14 @@ fn add_reply(
         is_refused.old is_refused.new) }
     ensures same { node.new ≡ node.old }
 {
-    let told = reply(alloc, node, query.as_bytes())?;
+    let answer = reply(alloc, node, query.as_bytes())?;
     output.push(b'\n')?;
-    output.extend_from_slice(told.text.as_slice())?;
-    *is_refused = *is_refused || told.is_refused;
+    output.extend_from_slice(answer.text.as_slice())?;
+    *is_refused = *is_refused || answer.is_refused;
     Ok(())
 }
 
-// Adds what each of the queries is told.
+// Adds the reply to each of the queries.
 fn add_replies(
     alloc: Global,
     node: &mut Node,
@@ -92,9 +92,9 @@ pub(crate) fn ask(alloc: Global, node: &mut Node, queries: &[&str]) -> Result<Ac
     let Some((first, others)) = queries.split_first() else {
         return Ok(replied(Text::Fixed(b""), false));
     };
-    let told = reply(alloc, node, first.as_bytes())?;
-    let mut is_refused = told.is_refused;
-    let mut output = bytes(alloc, told.text)?;
+    let answer = reply(alloc, node, first.as_bytes())?;
+    let mut is_refused = answer.is_refused;
+    let mut output = bytes(alloc, answer.text)?;
     add_replies(alloc, node, others, &mut output, &mut is_refused)?;
     Ok(replied(Text::Made(output), is_refused))
 }

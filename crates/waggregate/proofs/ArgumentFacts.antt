@@ -25,21 +25,21 @@ null_at [] row = refl
 null_at (n ∷ rows) zero = refl
 null_at (n ∷ rows) (suc row) = null_at rows row
 
-told : (t : Formula) (cells : Bor (List Value)) (found : Option (Bor Value))
+value_found : (t : Formula) (cells : Bor (List Value)) (found : Option (Bor Value))
     → IfSome found (λ value. meaning value.now ≡ value_on t (row_seen cells)) → IfNone found (value_on t (row_seen cells) ≡ Null)
     → value_or_none found ≡ value_on t (row_seen cells)
-told t cells None some none = sym none
-told t cells (Some value) some none = some
+value_found t cells None some none = sym none
+value_found t cells (Some value) some none = some
 
 -- what stands at a place of a row is what the column has for it
-pub cell_told : (place row : ℕ) (rows : List (Bor (List Value))) (cells : Bor (List Value)) (found : Option (Bor Value))
+pub cell_found : (place row : ℕ) (rows : List (Bor (List Value))) (cells : Bor (List Value)) (found : Option (Bor Value))
     → row < length rows → cells ≡ get_or rows row cells
     → IfSome found (λ value. meaning value.now ≡ value_on (At place) (row_seen cells))
     → IfNone found (value_on (At place) (row_seen cells) ≡ Null)
     → value_or_none found ≡ get_or (map (value_on (At place)) (rows_seen rows)) row Null
-cell_told place row rows cells found below is some none =
+cell_found place row rows cells found below is some none =
     let t = At place in
-    told t cells found some none
+    value_found t cells found some none
     ∙ ap (λ r. value_on t (row_seen r)) is
     ∙ sym (get_or-map (λ r. value_on t (row_seen r)) rows row cells Null below)
     ∙ ap (λ l. get_or l row Null) (sym (map-map (value_on t) row_seen rows))
@@ -48,8 +48,8 @@ in_range : (t : Formula) → ((row : Row) → is_out_of_range t row ≡ false) �
 in_range t h rows = ap (λ b. unless b OutOfRange (map (value_on t) rows)) (in_range_all t h rows)
 
 -- a plain column
-pub column_told : (place : ℕ) (rows : List Row) → column_of (At place) rows ≡ Ok (map (value_on (At place)) rows)
-column_told place = in_range (At place) (λ row. refl)
+pub column_in_range : (place : ℕ) (rows : List Row) → column_of (At place) rows ≡ Ok (map (value_on (At place)) rows)
+column_in_range place = in_range (At place) (λ row. refl)
 
 all_null : (rows : List Row) (ns : List ℕ) → length rows ≡ length ns → map (value_on (Constant Null)) rows ≡ map (λ (n : ℕ). Null) ns
 all_null [] [] h = refl
@@ -58,8 +58,8 @@ all_null (row ∷ rows) [] h = absurd (omega arith)
 all_null (row ∷ rows) (n ∷ ns) h = ap (λ l. Null ∷ l) (all_null rows ns (omega arith))
 
 -- a null for each row
-pub nulls_told : (rows : List Row) (n : ℕ) → length rows ≡ n → column_of (Constant Null) rows ≡ Ok (map (λ (n : ℕ). Null) (places n))
-nulls_told rows n h = in_range (Constant Null) (λ row. refl) rows ∙ ap Ok (all_null rows (places n) (h ∙ sym (length-places 0 n)))
+pub nulls_in_range : (rows : List Row) (n : ℕ) → length rows ≡ n → column_of (Constant Null) rows ≡ Ok (map (λ (n : ℕ). Null) (places n))
+nulls_in_range rows n h = in_range (Constant Null) (λ row. refl) rows ∙ ap Ok (all_null rows (places n) (h ∙ sym (length-places 0 n)))
 
 -- as many values as rows
 pub values_long : (a : Argument) → length (values_of a) ≡ rows_of a

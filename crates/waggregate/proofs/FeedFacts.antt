@@ -38,19 +38,20 @@ laid_alike t (row ∷ rows) (x ∷ xs) h e =
     let others : map (λ row. value_on t row ∷ []) (rows_seen rows) ≡ laid 1 (length rows) xs = cc in
     ap (λ v. v ∷ map (value_on t) (rows_seen rows)) here ∙ ap (λ l. meaning x ∷ l) (laid_alike t rows xs (omega arith) others)
 
-told : (b c : Bool) (x y : List (List Meaning)) (v w : List Meaning) → b ≡ c → (x ≡ y → v ≡ w)
+unless_alike : (b c : Bool) (x y : List (List Meaning)) (v w : List Meaning) → b ≡ c → (x ≡ y → v ≡ w)
     → unless b OutOfRange x ≡ Ok y → unless c OutOfRange v ≡ Ok w
-told true c x y v w e f h = absurd (cc)
-told false true x y v w e f h = absurd (cc)
-told false false x y v w e f h = let same : x ≡ y = cc in ap Ok (f same)
+unless_alike true c x y v w e f h = absurd (cc)
+unless_alike false true x y v w e f h = absurd (cc)
+unless_alike false false x y v w e f h = let same : x ≡ y = cc in ap Ok (f same)
 
 -- cells of one expression are its column
 pub only_column : (t : Formula) (rows : List (Bor (List Value))) (cells : List Value) → length cells ≡ length rows * 1
     → lists_of (t ∷ []) (rows_seen rows) ≡ Ok (laid 1 (length rows) cells) → column_of t (rows_seen rows) ≡ Ok (map meaning cells)
 only_column t rows cells h e =
-    told _ _ _ _ _ _ (any_alike t (rows_seen rows)) (laid_alike t rows cells (omega arith)) e
+    unless_alike _ _ _ _ _ _ (any_alike t (rows_seen rows)) (laid_alike t rows cells (omega arith)) e
 
 -- an expression that is in range on every row
-pub in_range_all : (t : Formula) → ((row : Row) → is_out_of_range t row ≡ false) → (rows : List Row) → list_any (is_out_of_range t) rows ≡ false
+pub in_range_all : (t : Formula) → ((row : Row) → is_out_of_range t row ≡ false) → (rows : List Row)
+    → list_any (is_out_of_range t) rows ≡ false
 in_range_all t h [] = refl
 in_range_all t h (row ∷ rows) = ap (λ b. b || list_any (is_out_of_range t) rows) (h row) ∙ in_range_all t h rows

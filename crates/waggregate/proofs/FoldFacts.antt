@@ -13,7 +13,7 @@ use Rattle.wrows.specs.Outcomes.{unless, Gives}
 use Rattle.wrows.proofs.RowFacts.{any-map}
 use Rattle.std.proofs.lemmas.List.Folds.{list_any_at}
 use Rattle.waggregate.specs.Aggregating.{sum_answer, sum_or_null}
-use Rattle.waggregate.specs.FrameAnswers.{told_or_out_of_range}
+use Rattle.waggregate.specs.FrameAnswers.{answer_or_out_of_range}
 
 -- a sum as an answer
 pub sum_as_answer : (feed : ℕ → Meaning) (rows : List ℕ) (z : ℤ)
@@ -43,20 +43,21 @@ pub values_alike : (near far : ℕ → Meaning) (f : ℕ → ℕ) (n : ℕ) (xs 
 values_alike near far f n xs same all = ap (filter is_value) (fed_alike near far f n xs same (recursion_from_All (λ x. x < n) xs all))
 
 -- a part that is out of range refuses all
-fault_is_none : (r : Option Meaning) → told_or_out_of_range r ≡ Err OutOfRange → is_none r ≡ true
+fault_is_none : (r : Option Meaning) → answer_or_out_of_range r ≡ Err OutOfRange → is_none r ≡ true
 fault_is_none None h = refl
 fault_is_none (Some m) h = absurd (cc)
 
-not_too_many : (r : Option Meaning) → told_or_out_of_range r ≡ Err TooManyRows → ⊥
+not_too_many : (r : Option Meaning) → answer_or_out_of_range r ≡ Err TooManyRows → ⊥
 not_too_many None h = cc
 not_too_many (Some m) h = cc
 
-pub refused_part : {P : Type 0} (told : P → Option Meaning) (fault : AnswerFault) (parts : List P) (i : ℕ) (d : P)
-    → i < length parts → Gives meaning (Err fault) (told_or_out_of_range (told (get_or parts i d)))
-    → Gives {X = Unit {0}} {Y = Unit {0}} (λ u. u) (Err fault) (unless (list_any is_none (map told parts)) OutOfRange (tt {0}))
-refused_part told OutOfRange parts i d h e =
-    let at : is_none (told (get_or parts i d)) ≡ true = fault_is_none (told (get_or parts i d)) e in
-    let some : list_any is_none (map told parts) ≡ true = any-map is_none told parts ∙ list_any_at (λ s. is_none (told s)) parts i d h at in
+pub refused_part : {P : Type 0} (answer : P → Option Meaning) (fault : AnswerFault) (parts : List P) (i : ℕ) (d : P)
+    → i < length parts → Gives meaning (Err fault) (answer_or_out_of_range (answer (get_or parts i d)))
+    → Gives {X = Unit {0}} {Y = Unit {0}} (λ u. u) (Err fault) (unless (list_any is_none (map answer parts)) OutOfRange (tt {0}))
+refused_part answer OutOfRange parts i d h e =
+    let at : is_none (answer (get_or parts i d)) ≡ true = fault_is_none (answer (get_or parts i d)) e in
+    let some : list_any is_none (map answer parts) ≡ true = any-map is_none answer parts
+    ∙ list_any_at (λ s. is_none (answer s)) parts i d h at in
     rw some refl
-refused_part told TooManyRows parts i d h e = absurd (not_too_many (told (get_or parts i d)) e)
-refused_part told NoMemory parts i d h e = tt
+refused_part answer TooManyRows parts i d h e = absurd (not_too_many (answer (get_or parts i d)) e)
+refused_part answer NoMemory parts i d h e = tt

@@ -11,7 +11,7 @@ use Rattle.waggregate.specs.Aggregating.{first_or_null, sum_answer, sum_or_null,
 use Rattle.waggregate.proofs.FoldFacts.{sum_as_answer, values_alike}
 use Rattle.waggregate.proofs.LeastFacts.{FirstLaw, least_value}
 
--- what is fed alike, as laws tell it
+-- what is fed alike, as laws have it
 abbrev pub FeedLaw : Type 0
 FeedLaw = (values : List Meaning) (tests : Option (List Bool)) (rows : List ℕ) (place : ℕ) → place < length rows
     → fed (picked_values values rows) (picked_tests tests rows) place ≡ fed values tests (get_or rows place 0)

@@ -138,7 +138,7 @@ ordered_parts is parts ordered order same below all = λ i d h.
     subst is (sym (ap (λ l. get_or l i d) (same d) ∙ get_or-map (λ g. get_or parts g d) order i 0 d within))
     (all (get_or order i 0) d (below i 0 within))
 
--- what is told of each group's rows
+-- what is answered of each group's rows
 pub given_alike : (r : Result (Vec Value Global) AnswerFault) (xs ys : List (Option Meaning)) → xs ≡ ys
     → Gives (λ (column : Vec Value Global). map meaning column.items) r (in_range xs)
     → Gives (λ (column : Vec Value Global). map meaning column.items) r (in_range ys)
@@ -162,27 +162,27 @@ module _ (groups order : List ℕ) (few : length groups < 2 ^ 31) where
 
   module _ (feed : Feed) (values : List Meaning) (tests : Option (List Bool)) (valued : values ≡ feed.values)
       (tested : tests ≡ feed.filter) where
-    pub rows_told : CountedRowsLaw → map
+    pub rows_answered : CountedRowsLaw → map
         (λ g. Some (Int (pos (rows_fold 0 counts_joined (count_at None tests) (rows_of_group groups g))))) order
         ≡ map (λ g. aggregate_of CountRows feed (rows_of_group groups g)) order
-    rows_told law =
+    rows_answered law =
         each_alike (λ rows. Some (Int (pos (rows_fold 0 counts_joined (count_at None tests) rows)))) (aggregate_of CountRows feed)
         (λ rows short. ap (λ n. Some (Int (pos n))) (law tests rows (omega arith))
         ∙ ap (λ t. Some (Int (pos (count_of_rows t rows)))) tested) order
 
-    pub values_told : CountedLaw → map (λ g. Some
+    pub values_answered : CountedLaw → map (λ g. Some
         (Int (pos (rows_fold 0 counts_joined (count_at (Some values) tests) (rows_of_group groups g))))) order
         ≡ map (λ g. aggregate_of Count feed (rows_of_group groups g)) order
-    values_told law =
+    values_answered law =
         each_alike (λ rows. Some (Int (pos (rows_fold 0 counts_joined (count_at (Some values) tests) rows)))) (aggregate_of Count feed)
         (λ rows short. ap (λ n. Some (Int (pos n))) (law values tests rows (omega arith))
         ∙ ap (λ vs. Some (Int (pos (count_of (fed vs tests) rows)))) valued
         ∙ ap (λ t. Some (Int (pos (count_of (fed feed.values t) rows)))) tested) order
 
-    pub sums_told : SummedLaw → ((row : ℕ) → IsInRange (fed values tests row))
+    pub sums_answered : SummedLaw → ((row : ℕ) → IsInRange (fed values tests row))
         → map (λ g. sum_answer (rows_fold None sums_joined (λ row. sum_part (fed values tests row))
         (rows_of_group groups g))) order ≡ map (λ g. aggregate_of Sum feed (rows_of_group groups g)) order
-    sums_told law ranges =
+    sums_answered law ranges =
         each_alike (λ rows. sum_answer (rows_fold None sums_joined (λ row. sum_part (fed values tests row)) rows)) (aggregate_of Sum feed)
         (λ rows short. ap sum_answer (law (fed values tests) rows
         (omega (arith, count_by-le-length (λ row. is_value (fed values tests row)) rows)) (λ k d h. ranges (get_or rows k d)))
@@ -190,11 +190,11 @@ module _ (groups order : List ℕ) (few : length groups < 2 ^ 31) where
         ∙ ap (λ vs. sum_or_null (filter is_value (map (fed vs tests) rows)) (sum_of (fed vs tests) rows)) valued
         ∙ ap (λ t. sum_or_null (filter is_value (map (fed feed.values t) rows)) (sum_of (fed feed.values t) rows)) tested) order
 
-    pub firsts_told : FirstLaw → (cmp : Meaning → Meaning → Ordering) → IsTotalOrder cmp → LeastLaw cmp
+    pub firsts_answered : FirstLaw → (cmp : Meaning → Meaning → Ordering) → IsTotalOrder cmp → LeastLaw cmp
         → map (λ g. Some (value_or_null values (rows_fold None (leasts_joined cmp values) (place_at values tests)
         (rows_of_group groups g)))) order
         ≡ map (λ g. Some (first_or_null (sorted cmp (fed_values feed (rows_of_group groups g))))) order
-    firsts_told first cmp total least =
+    firsts_answered first cmp total least =
         each_alike (λ rows. Some (value_or_null values (rows_fold None (leasts_joined cmp values) (place_at values tests)
         rows))) (λ rows. Some (first_or_null (sorted cmp (fed_values feed rows))))
         (λ rows short. ap (λ m. Some m) (least_value first cmp total values tests rows
@@ -234,29 +234,29 @@ known_parts f n parts ordered order e same below = same (f 0) ∙ known f n part
 pub known_length : {P : Type 0} (f : ℕ → P) (n : ℕ) (parts : List P) → parts ≡ map f (places n) → length parts ≡ n
 known_length f n parts e = ap length e ∙ length-map (places n) f ∙ length-places 0 n
 
--- what is told of the groups that are answered
-pub told_in_order : {P : Type 0} (told : P → Option Meaning) (f : ℕ → P) (n : ℕ) (parts ordered seen : List P)
+-- the answers of the groups that are asked for
+pub answers_in_order : {P : Type 0} (answer : P → Option Meaning) (f : ℕ → P) (n : ℕ) (parts ordered seen : List P)
     (order : List ℕ) → parts ≡ map f (places n) → ((d : P) → ordered ≡ map (λ g. get_or parts g d) order)
-    → All (λ g. g < n) order → seen ≡ ordered → map told seen ≡ map (λ g. told (f g)) order
-told_in_order told f n parts ordered seen order e same below is =
-    ap (map told) (is ∙ known_parts f n parts ordered order e same below) ∙ map-map told f order
+    → All (λ g. g < n) order → seen ≡ ordered → map answer seen ≡ map (λ g. answer (f g)) order
+answers_in_order answer f n parts ordered seen order e same below is =
+    ap (map answer) (is ∙ known_parts f n parts ordered order e same below) ∙ map-map answer f order
 
-pub told_fault : (fault : AnswerFault) (seen results : List (Option Meaning)) → seen ≡ results
+pub fault_of_answers : (fault : AnswerFault) (seen results : List (Option Meaning)) → seen ≡ results
     → Gives {X = Unit {0}} {Y = Unit {0}} (λ u. u) (Err fault) (unless (list_any is_none seen) OutOfRange (tt {0}))
     → Gives (λ (column : Vec Value Global). map meaning column.items) (Err fault) (in_range results)
-told_fault fault seen results e h =
+fault_of_answers fault seen results e h =
     refused (λ (column : Vec Value Global). map meaning column.items) fault (list_any is_none seen)
     (list_any is_none results) (values_or_null results) h (λ some. sym (ap (list_any is_none) e) ∙ some)
 
-pub told_column : (first told : List Value) (seen results : List (Option Meaning)) → seen ≡ results → first ≡ []
+pub answers_column : (first column : List Value) (seen results : List (Option Meaning)) → seen ≡ results → first ≡ []
     → unless (list_any is_none seen) OutOfRange (tt {0}) ≡ Ok (tt {0})
-    → map meaning told ≡ map meaning first ++ values_or_null seen → in_range results ≡ Ok (map meaning told)
-told_column first told seen results e none gives added =
+    → map meaning column ≡ map meaning first ++ values_or_null seen → in_range results ≡ Ok (map meaning column)
+answers_column first column seen results e none gives added =
     ap in_range (sym e) ∙ ap (λ b. unless b OutOfRange (values_or_null seen)) (ok_is_false (list_any is_none seen) (tt {0}) (tt {0}) gives)
     ∙ ap (λ l. Ok l) (sym (added ∙ ap (λ l. map meaning l ++ values_or_null seen) none))
 
-pub told_long : (first told : List Value) (seen : List (Option Meaning)) (f : ℕ → Option Meaning) (order : List ℕ)
-    → seen ≡ map f order → first ≡ [] → map meaning told ≡ map meaning first ++ values_or_null seen → length told ≡ length order
-told_long first told seen f order e none added =
-    sym (length-map told meaning) ∙ ap length (added ∙ ap (λ l. map meaning l ++ values_or_null seen) none)
+pub answers_length : (first column : List Value) (seen : List (Option Meaning)) (f : ℕ → Option Meaning) (order : List ℕ)
+    → seen ≡ map f order → first ≡ [] → map meaning column ≡ map meaning first ++ values_or_null seen → length column ≡ length order
+answers_length first column seen f order e none added =
+    sym (length-map column meaning) ∙ ap length (added ∙ ap (λ l. map meaning l ++ values_or_null seen) none)
     ∙ length-map seen (λ r. unwrap_or r Null) ∙ ap length e ∙ length-map order f

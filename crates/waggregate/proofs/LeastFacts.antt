@@ -37,7 +37,7 @@ own : (b : Bool) (v : Meaning) → is_value (cond b v Null) ≡ true → cond b 
 own true v h = refl
 own false v h = absurd (cc)
 
--- the first of sorted values, as a law tells it
+-- the first of sorted values, as a law has it
 abbrev pub FirstLaw : Type 0
 FirstLaw = (cmp : Meaning → Meaning → Ordering) (none x : Meaning) (left right : List Meaning) → IsTotalOrder cmp
     → All (λ y. is_lt (cmp x y) ≡ true) left → All (λ y. is_gt (cmp x y) ≡ false) right → first_or none (sorted cmp (left ++ x ∷ right)) ≡ x

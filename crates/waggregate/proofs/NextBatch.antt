@@ -113,8 +113,8 @@ module _ (function : AggregateFunction) (feed : Feed) (all : Partitioned) (rows 
 
     as_many : length (slice_range rows first last) ≡ length (values_or_null (flat_map (answers_in function feed all rows) some_spans))
     as_many =
-        let told = flat_map (answers_in function feed all rows) some_spans in
-        omega (arith, rows_more, answers_long first some_spans last sliced high, length-map told (λ r. unwrap_or r Null))
+        let results = flat_map (answers_in function feed all rows) some_spans in
+        omega (arith, rows_more, answers_long first some_spans last sliced high, length-map results (λ r. unwrap_or r Null))
 
     -- no answer is out of range so far
     pub in_range_more : list_any is_none (flat_map (answers_in function feed all rows) (take from all.spans)) ≡ false
@@ -152,11 +152,11 @@ module _ (function : AggregateFunction) (feed : Feed) (all : Partitioned) (rows 
     put_more cells new end is so_far =
         let answers = flat_map (answers_in function feed all rows) in
         let here = slice_range rows first last in
-        let told = values_or_null (answers some_spans) in
+        let results = values_or_null (answers some_spans) in
         let left = values_or_null (answers (drop to all.spans)) in
         ap (λ c. put_all c (drop last rows) left) (is ∙ ap (λ a. put_all cells here (values_or_null a)) alike)
-        ∙ sym (put_append cells here (drop last rows) told left as_many)
-        ∙ ap (λ l. put_all cells l (told ++ left)) (sym (drop_split rows first last rises))
+        ∙ sym (put_append cells here (drop last rows) results left as_many)
+        ∙ ap (λ l. put_all cells l (results ++ left)) (sym (drop_split rows first last rises))
         ∙ ap (put_all cells (drop first rows)) (sym (map-append (λ r. unwrap_or r Null) (answers some_spans) (answers (drop to all.spans))))
         ∙ ap (λ a. put_all cells (drop first rows) (values_or_null a))
         (sym (flat_map-append (answers_in function feed all rows) some_spans (drop to all.spans))

@@ -25,7 +25,7 @@ use Rattle.waggregate.proofs.FrameFacts.{FeedLaw, RowsLaw, CountLaw, PickedSumLa
 use Rattle.waggregate.proofs.FrameFacts.{counted_rows, counted_values, summed, first_valued}
 use Rattle.waggregate.proofs.WindowFacts.{BelowLaw, FewLaw, answers_alike}
 
--- what the folds of counts and sums come to, as laws tell it
+-- what the folds of counts and sums come to, as laws have it
 abbrev pub CountedRowsLaw : Type 0
 CountedRowsLaw = (filter : Option (List Bool)) (rows : List ℕ) → length rows < 2 ^ 64
     → rows_fold 0 counts_joined (count_at None filter) rows ≡ count_of_rows filter rows

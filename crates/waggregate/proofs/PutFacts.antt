@@ -6,7 +6,7 @@ use Rattle.std.specs.Option.{is_none}
 use Rattle.std.proofs.Math.ListN.{drop_of_length-le}
 use Rattle.std.proofs.lemmas.List.{at_drop_more, length-map, length-set, map-set}
 use Rattle.wvalues.specs.Meaning.{Meaning, Null}
-use Rattle.waggregate.specs.FrameAnswers.{told_or_out_of_range}
+use Rattle.waggregate.specs.FrameAnswers.{answer_or_out_of_range}
 use Rattle.waggregate.specs.Put.{put_all}
 
 -- one value more, of cells that each stand for a value
@@ -59,12 +59,12 @@ pub all_put : (cells values : List Meaning) (rows : List ℕ) (k : ℕ) → leng
     → put_all cells (drop k rows) (drop k values) ≡ cells
 all_put cells values rows k h = ap (put_all cells (drop k rows)) (drop_of_length-le values h) ∙ none_put cells (drop k rows)
 
--- a result that is told is in range
-pub in_range_told : (r : Option Meaning) (m : Meaning) → told_or_out_of_range r ≡ Ok m → is_none r ≡ false
-in_range_told None m e = absurd (cc)
-in_range_told (Some n) m e = refl
+-- an answer is in range
+pub answer_in_range : (r : Option Meaning) (m : Meaning) → answer_or_out_of_range r ≡ Ok m → is_none r ≡ false
+answer_in_range None m e = absurd (cc)
+answer_in_range (Some n) m e = refl
 
 -- and is the value
-pub value_told : (r : Option Meaning) (m : Meaning) → told_or_out_of_range r ≡ Ok m → m ≡ unwrap_or r Null
-value_told None m e = absurd (cc)
-value_told (Some n) m e = cc
+pub value_answered : (r : Option Meaning) (m : Meaning) → answer_or_out_of_range r ≡ Ok m → m ≡ unwrap_or r Null
+value_answered None m e = absurd (cc)
+value_answered (Some n) m e = cc

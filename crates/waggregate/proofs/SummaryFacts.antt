@@ -18,17 +18,18 @@ use Rattle.wslide.specs.Sums.{sum_part, sums_joined}
 use Rattle.wplan.specs.declared.resolved.AggregateFunction.{AggregateFunction}
 use Rattle.wplan.specs.declared.resolved.AggregateFunction.TheVariants.{CountRows, Count, Sum, Min, Max}
 use Rattle.waggregate.specs.Aggregating.{Feed, aggregate_of, sum_answer, value_or_null}
-use Rattle.waggregate.specs.FrameAnswers.{told_or_out_of_range}
+use Rattle.waggregate.specs.FrameAnswers.{answer_or_out_of_range}
 use Rattle.waggregate.specs.Grouped.{rows_of_group}
-use Rattle.waggregate.specs.Summaries.{AreSummaries, AreSummed, IsEmpty, IsWith, answer_at, first_in, folds, is_told, tells, value_in}
+use Rattle.waggregate.specs.Summaries.{AreSummaries, AreSummed, IsEmpty, IsWith, answer_at, first_in, folds, are_enough, covers, value_in}
 use Rattle.waggregate.specs.declared.summaries.Extremes.{Extremes}
 use Rattle.waggregate.specs.declared.summaries.First.TheVariants as firsts
 use Rattle.waggregate.specs.declared.summaries.Summary.{Summary}
 use Rattle.waggregate.specs.declared.summaries.Summaries.{Summaries}
 use Rattle.waggregate.proofs.FrameFacts.{LeastLaw}
-use Rattle.waggregate.proofs.GroupFacts.{firsts_told, known_length, mapped_at, part_of, parts_more, rows_told, sums_told, values_told}
+use Rattle.waggregate.proofs.GroupFacts.{firsts_answered, known_length, mapped_at, part_of, parts_more}
+use Rattle.waggregate.proofs.GroupFacts.{rows_answered, sums_answered, values_answered}
 use Rattle.waggregate.proofs.LeastFacts.{FirstLaw}
-use Rattle.waggregate.proofs.PutFacts.{value_told}
+use Rattle.waggregate.proofs.PutFacts.{value_answered}
 use Rattle.waggregate.proofs.PickedFacts.{CountedRowsLaw, CountedLaw, SummedLaw}
 
 module _ {P : Type 0} (field : Summary → P) (neutral : P) (joined : P → P → P) (part_at : ℕ → P) (groups : List ℕ) where
@@ -82,9 +83,9 @@ summed_none values e groups count all long empty = record {
       (λ k d h. (empty k d h).values);
   sums = field_none (λ s. s.sum) None sums_joined (λ row. sum_part (fed values None row)) groups all count long
       (λ k d h. (empty k d h).sum);
-  leasts = λ told. field_none (λ s. value_in s.least) Null (first_in by_value) (fed values None) groups all count long
+  leasts = λ covered. field_none (λ s. value_in s.least) Null (first_in by_value) (fed values None) groups all count long
       (λ k d h. (empty k d h).least);
-  greatests = λ told. field_none (λ s. value_in s.greatest) Null (first_in by_value_descending) (fed values None) groups all count
+  greatests = λ covered. field_none (λ s. value_in s.greatest) Null (first_in by_value_descending) (fed values None) groups all count
       long (λ k d h. (empty k d h).greatest);
 }
 
@@ -181,55 +182,55 @@ module _ (values : List Meaning) (e : Extremes) (groups : List ℕ) (count : ℕ
   feed = record { values = values; filter = None }
 
   abbrev head : List (Option Meaning) → Option Meaning
-  head told = get_or told 0 None
+  head answers = get_or answers 0 None
 
   module _ (rows_law : CountedRowsLaw) (values_law : CountedLaw) (sums_law : SummedLaw) (first : FirstLaw)
       (least : LeastLaw by_value) (greatest : LeastLaw by_value_descending) where
-    pub said : (function : AggregateFunction) (group : ℕ) (none : Summary) → is_told e function ≡ true → group < count
+    pub said : (function : AggregateFunction) (group : ℕ) (none : Summary) → are_enough e function ≡ true → group < count
         → answer_at function all group none ≡ aggregate_of function feed (rows_of_group groups group)
-    said CountRows group none told below =
+    said CountRows group none covered below =
         ap (λ n. Some (Int (pos n)))
         (field_at (λ s. s.rows) 0 counts_joined (count_at None None) groups (length groups) count all are.rows group none below)
-        ∙ ap head (rows_told groups (group ∷ []) few feed values None refl refl rows_law)
-    said Count group none told below =
+        ∙ ap head (rows_answered groups (group ∷ []) few feed values None refl refl rows_law)
+    said Count group none covered below =
         ap (λ n. Some (Int (pos n)))
         (field_at (λ s. s.values) 0 counts_joined (count_at (Some values) None) groups (length groups) count all are.counts
-        group none below) ∙ ap head (values_told groups (group ∷ []) few feed values None refl refl values_law)
-    said Sum group none told below =
+        group none below) ∙ ap head (values_answered groups (group ∷ []) few feed values None refl refl values_law)
+    said Sum group none covered below =
         ap sum_answer
         (field_at (λ s. s.sum) None sums_joined (λ row. sum_part (fed values None row)) groups (length groups) count all are.sums
-        group none below) ∙ ap head (sums_told groups (group ∷ []) few feed values None refl refl sums_law ranges)
-    said Min group none told below =
+        group none below) ∙ ap head (sums_answered groups (group ∷ []) few feed values None refl refl sums_law ranges)
+    said Min group none covered below =
         ap (λ m. Some m)
         (field_at (λ s. value_in s.least) Null (first_in by_value) (fed values None) groups (length groups) count all
-        (are.leasts told) group none below
+        (are.leasts covered) group none below
         ∙ first_fold by_value behind_least ahead_least values (rows_of_group groups group))
-        ∙ ap head (firsts_told groups (group ∷ []) few feed values None refl refl first by_value by_value_total least)
-    said Max group none told below =
+        ∙ ap head (firsts_answered groups (group ∷ []) few feed values None refl refl first by_value by_value_total least)
+    said Max group none covered below =
         ap (λ m. Some m)
         (field_at (λ s. value_in s.greatest) Null (first_in by_value_descending) (fed values None) groups (length groups) count
-        all (are.greatests told) group none below
+        all (are.greatests covered) group none below
         ∙ first_fold by_value_descending behind_greatest ahead_greatest values (rows_of_group groups group))
-        ∙ ap head (firsts_told groups (group ∷ []) few feed values None refl refl first by_value_descending by_value_descending_total
+        ∙ ap head (firsts_answered groups (group ∷ []) few feed values None refl refl first by_value_descending by_value_descending_total
         greatest)
 
 -- what is said of some groups
 said_of : (values : List Meaning) (groups : List ℕ) (count : ℕ) (s : Summaries) (function : AggregateFunction) (none : Summary)
-    → AreSummaries values groups count s → tells s function ≡ true → (order : List ℕ) → AllByRecursion (λ g. g < count) order
+    → AreSummaries values groups count s → covers s function ≡ true → (order : List ℕ) → AllByRecursion (λ g. g < count) order
     → map (λ g. answer_at function s.groups.items g none) order
     ≡ map (λ g. aggregate_of function (record { values = values; filter = None }) (rows_of_group groups g)) order
-said_of values groups count s function none are told [] below = refl
-said_of values groups count s function none are told (g ∷ order) below =
-    ap (λ x. x ∷ map (λ g. answer_at function s.groups.items g none) order) (are.each function g none told below.0)
+said_of values groups count s function none are covered [] below = refl
+said_of values groups count s function none are covered (g ∷ order) below =
+    ap (λ x. x ∷ map (λ g. answer_at function s.groups.items g none) order) (are.each function g none covered below.0)
     ∙ ap (λ l. aggregate_of function (record { values = values; filter = None }) (rows_of_group groups g) ∷ l)
-    (said_of values groups count s function none are told order below.1)
+    (said_of values groups count s function none are covered order below.1)
 
 pub all_said : (values : List Meaning) (groups : List ℕ) (count : ℕ) (s : Summaries) (function : AggregateFunction) (none : Summary)
-    (order : List ℕ) → AreSummaries values groups count s → tells s function ≡ true → All (λ g. g < length s.groups.items) order
+    (order : List ℕ) → AreSummaries values groups count s → covers s function ≡ true → All (λ g. g < length s.groups.items) order
     → map (λ g. answer_at function s.groups.items g none) order
     ≡ map (λ g. aggregate_of function (record { values = values; filter = None }) (rows_of_group groups g)) order
-all_said values groups count s function none order are told below =
-    said_of values groups count s function none are told order
+all_said values groups count s function none order are covered below =
+    said_of values groups count s function none are covered order
     (subst (λ n. AllByRecursion (λ g. g < n) order) are.long (recursion_from_All (λ g. g < length s.groups.items) order below))
 
 -- a summary of no row, where one is wanted for a group that is not there
@@ -237,14 +238,14 @@ pub nothing : Summary
 nothing = record { rows = 0; values = 0; sum = None; least = firsts.Null; greatest = firsts.Null }
 
 -- one answer more
-pub answers_more : (told : ℕ → Option Meaning) (order : List ℕ) (i : ℕ) (so_far next : List Value) (answer : Value) → i < length order
-    → map meaning so_far ≡ map (λ g. unwrap_or (told g) Null) (take i order) → next ≡ so_far ++ answer ∷ []
-    → told_or_out_of_range (told (get_or order i 0)) ≡ Ok (meaning answer)
-    → map meaning next ≡ map (λ g. unwrap_or (told g) Null) (take (i + 1) order)
-answers_more told order i so_far next answer within was e is =
-    let value : ℕ → Meaning = λ g. unwrap_or (told g) Null in
+pub answers_more : (answer_of : ℕ → Option Meaning) (order : List ℕ) (i : ℕ) (so_far next : List Value) (answer : Value) → i < length order
+    → map meaning so_far ≡ map (λ g. unwrap_or (answer_of g) Null) (take i order) → next ≡ so_far ++ answer ∷ []
+    → answer_or_out_of_range (answer_of (get_or order i 0)) ≡ Ok (meaning answer)
+    → map meaning next ≡ map (λ g. unwrap_or (answer_of g) Null) (take (i + 1) order)
+answers_more answer_of order i so_far next answer within was e is =
+    let value : ℕ → Meaning = λ g. unwrap_or (answer_of g) Null in
     ap (map meaning) e ∙ map-append meaning so_far (answer ∷ []) ∙ ap (λ l. l ++ meaning answer ∷ []) was
-    ∙ ap (λ m. map value (take i order) ++ m ∷ []) (value_told (told (get_or order i 0)) (meaning answer) is)
+    ∙ ap (λ m. map value (take i order) ++ m ∷ []) (value_answered (answer_of (get_or order i 0)) (meaning answer) is)
     ∙ sym (ap (map value) (take_more order i 0 within) ∙ map-append value (take i order) (get_or order i 0 ∷ []))
 
 -- summaries of no row

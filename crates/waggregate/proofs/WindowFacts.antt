@@ -1,4 +1,4 @@
--- What is told of the fold of each frame of a batch is the answers of its partitions.
+-- The answers to the fold of each frame of a batch are the answers of its partitions.
 use Rattle.std.proofs.Common.{◌≡◌, ℕ, ◌+◌, ◌-◌, ◌<◌, ◌≤◌, List, [], ◌∷◌, ◌++◌, length, map}
 use Rattle.std.proofs.Common.{take, drop, get_or, Option, refl, sym, ap, ◌∙◌, arith}
 use Rattle.std.specs.Prelude.{All, slice_range}
@@ -19,7 +19,7 @@ use Rattle.waggregate.proofs.BatchFacts.{IsInside}
 use Rattle.waggregate.proofs.FoldFacts.{mapped_alike}
 use Rattle.waggregate.proofs.FrameFacts.{numbers_at}
 
--- frames are rows, as a law tells it
+-- frames are rows, as a law has it
 abbrev pub BelowLaw : Type 0
 BelowLaw = (p : Partition) (i : ℕ) → All (λ j. j < length p.keys) (frame_rows p i)
 
@@ -64,9 +64,9 @@ numbered rows from n k (j ∷ js) few below =
 
 module _ {P : Type 0} (all : Partitioned) (start : ℕ) (spans : List Span) (rows : List ℕ)
     (inside : AllByRecursion (IsInside start (start + length rows)) spans) (below : BelowLaw) (few : FewLaw)
-    (neutral : P) (joined : P → P → P) (part_at : ℕ → P) (told : P → Option Meaning) (function : AggregateFunction) (feed : Feed)
+    (neutral : P) (joined : P → P → P) (part_at : ℕ → P) (answer : P → Option Meaning) (function : AggregateFunction) (feed : Feed)
     (same : (ps : List ℕ) → All (λ j. j < length rows) ps → length ps ≤ length rows
-    → told (rows_fold neutral joined part_at ps) ≡ aggregate_of function feed (numbers_at rows ps)) where
+    → answer (rows_fold neutral joined part_at ps) ≡ aggregate_of function feed (numbers_at rows ps)) where
   abbrev of_rows : Span → ℕ → P
   of_rows s row = rows_fold neutral joined (λ row. part_at (s.from - start + row)) (frame_rows (partition_of all s) row)
 
@@ -74,7 +74,7 @@ module _ {P : Type 0} (all : Partitioned) (start : ℕ) (spans : List Span) (row
   of_numbers s row = aggregate_of function feed (frame_numbers (partition_of all s)
       (slice_range rows (s.from - start) (s.to - start)) row)
 
-  of_frame : (s : Span) → IsInside start (start + length rows) s → (row : ℕ) → told (of_rows s row) ≡ of_numbers s row
+  of_frame : (s : Span) → IsInside start (start + length rows) s → (row : ℕ) → answer (of_rows s row) ≡ of_numbers s row
   of_frame s within row =
       let p = partition_of all s in
       let js = frame_rows p row in
@@ -87,20 +87,20 @@ module _ {P : Type 0} (all : Partitioned) (start : ℕ) (spans : List Span) (row
       let fits : length p.keys ≤ length rows - from = omega arith in
       let short : length ps ≤ length rows = omega (arith, length-map js (λ j. from + j), few p row, fits) in
       let near : length p.keys ≤ s.to - start - from = omega arith in
-      ap (λ parts. told (total neutral joined parts)) (moved part_at from js)
+      ap (λ parts. answer (total neutral joined parts)) (moved part_at from js)
       ∙ same ps (All-from_recursion (λ j. j < length rows) ps (shifted from (length p.keys) (length rows) js fits kept)) short
       ∙ ap (aggregate_of function feed) (sym (numbered rows from (s.to - start - from) (length p.keys) js near kept))
 
   of_partition : (s : Span) → IsInside start (start + length rows) s
-      → map told (folds_of_frames neutral joined (λ row. part_at (s.from - start + row)) (partition_of all s))
+      → map answer (folds_of_frames neutral joined (λ row. part_at (s.from - start + row)) (partition_of all s))
       ≡ frame_answers function feed (partition_of all s) (slice_range rows (s.from - start) (s.to - start))
   of_partition s within =
-      mapped_alike told (of_rows s) (of_numbers s) (places (length (partition_of all s).keys)) (of_frame s within)
+      mapped_alike answer (of_rows s) (of_numbers s) (places (length (partition_of all s).keys)) (of_frame s within)
 
-  -- what is told of each frame is the aggregate of its rows by number, if it is so for any rows
-  pub answers_alike : map told (folds_of_spans neutral joined part_at all start spans) ≡ batch_answers function feed all start spans rows
+  -- the answer to each frame is the aggregate of its rows by number, if it is so for any rows
+  pub answers_alike : map answer (folds_of_spans neutral joined part_at all start spans) ≡ batch_answers function feed all start spans rows
   answers_alike =
-      flat_mapped told (λ s. folds_of_frames neutral joined (λ row. part_at (s.from - start + row)) (partition_of all s)) spans
+      flat_mapped answer (λ s. folds_of_frames neutral joined (λ row. part_at (s.from - start + row)) (partition_of all s)) spans
       ∙ flat_alike (IsInside start (start + length rows))
-      (λ s. map told (folds_of_frames neutral joined (λ row. part_at (s.from - start + row)) (partition_of all s)))
+      (λ s. map answer (folds_of_frames neutral joined (λ row. part_at (s.from - start + row)) (partition_of all s)))
       (λ s. frame_answers function feed (partition_of all s) (slice_range rows (s.from - start) (s.to - start))) spans inside of_partition

@@ -1,4 +1,4 @@
--- Aggregates of some of the rows, told by their numbers (<aggregate function>, <filter clause>).
+-- Aggregates of some of the rows, given by their numbers (<aggregate function>, <filter clause>).
 use Rattle.std.specs.Prelude.{ℕ, ℤ, pos, Bool, List, [], ◌∷◌, map, filter, slice_index_or, Option, None, Some, Result, Ok, option_map}
 use Rattle.wvalues.specs.Meaning.{Meaning, Null, Int}
 use Rattle.wvalues.specs.Whole.{if_whole}

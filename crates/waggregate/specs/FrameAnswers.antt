@@ -1,4 +1,4 @@
--- Aggregates over frames, of which the rows are told by number.
+-- Aggregates over frames, of which the rows are given by number.
 use Rattle.std.specs.Prelude.{◌≡◌, ◌++◌, ◌-◌, ℕ, Bool, List, map, length, Option, Some, None, OnOk}
 use Rattle.std.specs.Prelude.{Result, Ok, Err, slice_index_or, slice_range, unwrap_or}
 use Rattle.std.specs.List.{flat_map, list_any}
@@ -45,9 +45,9 @@ abbrev pub values_or_null : List (Option Meaning) → List Meaning
 values_or_null = map (λ r. unwrap_or r Null)
 
 -- a result, which may be out of range
-abbrev pub told_or_out_of_range : Option Meaning → Result Meaning AnswerFault
-told_or_out_of_range None = Err OutOfRange
-told_or_out_of_range (Some m) = Ok m
+abbrev pub answer_or_out_of_range : Option Meaning → Result Meaning AnswerFault
+answer_or_out_of_range None = Err OutOfRange
+answer_or_out_of_range (Some m) = Ok m
 
 -- what a call comes to that appends the values of results: it is out of range where one of them is so
 pub record Appends (results : List (Option Meaning)) (outcome : Result (Unit {0}) AnswerFault) (old new : List Value) : Type 0 where

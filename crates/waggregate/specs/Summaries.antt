@@ -80,12 +80,12 @@ with_asked e Min = record { least = true; greatest = e.greatest }
 with_asked e Max = record { least = e.least; greatest = true }
 
 -- whether an aggregate is answered where these extremes are looked for
-abbrev pub is_told : Extremes → AggregateFunction → Bool
-is_told e CountRows = true
-is_told e Count = true
-is_told e Sum = true
-is_told e Min = e.least
-is_told e Max = e.greatest
+abbrev pub are_enough : Extremes → AggregateFunction → Bool
+are_enough e CountRows = true
+are_enough e Count = true
+are_enough e Sum = true
+are_enough e Min = e.least
+are_enough e Max = e.greatest
 
 -- what a summary says that an aggregate comes to; none where it is out of range
 abbrev pub answer_in : AggregateFunction → Summary → Option Meaning
@@ -100,18 +100,18 @@ abbrev pub answer_at : AggregateFunction → List Summary → ℕ → Summary �
 answer_at function summaries group none = answer_in function (slice_index_or summaries group none)
 
 -- how many groups there are
-abbrev pub groups_told : Summaries → ℕ
-groups_told s = length s.groups.items
+abbrev pub group_count : Summaries → ℕ
+group_count s = length s.groups.items
 
 -- whether an aggregate is answered
-abbrev pub tells : Summaries → AggregateFunction → Bool
-tells s function = is_told s.extremes function
+abbrev pub covers : Summaries → AggregateFunction → Bool
+covers s function = are_enough s.extremes function
 
--- a summary for each of so many groups, which says what each aggregate comes to over the group's rows that it tells, where all rows
+-- a summary for each of so many groups, which says what each aggregate that it covers comes to over the group's rows, where all rows
 -- feed these values
 pub record AreSummaries (values : List Meaning) (groups : List ℕ) (count : ℕ) (s : Summaries) : Type 0 where
-  pub long : groups_told s ≡ count
-  pub each : (function : AggregateFunction) (group : ℕ) (none : Summary) → tells s function ≡ true → group < count
+  pub long : group_count s ≡ count
+  pub each : (function : AggregateFunction) (group : ℕ) (none : Summary) → covers s function ≡ true → group < count
       → answer_at function s.groups.items group none ≡ aggregate_of function (record { values = values; filter = None })
       (rows_of_group groups group)
 
@@ -121,4 +121,4 @@ pub record IsKnownFor (known : List (Option Summaries)) (place : ℕ) (function 
   pub unfiltered : filter ≡ None
   pub within : place < length known
   pub is : (none : Option Summaries) → slice_index_or known place none ≡ Some s.now
-  pub told : tells s.now function ≡ true
+  pub covered : covers s.now function ≡ true

@@ -3,7 +3,7 @@ ghost use Rattle.std.specs.Prelude.{◌≡◌, pos};
 ghost use Rattle.wvalues.specs.Meaning.{Int, meaning};
 ghost use Rattle.wrows.specs.Outcomes.{Gives};
 ghost use Rattle.waggregate.specs.Aggregating.{sum_answer};
-ghost use Rattle.waggregate.specs.FrameAnswers.{told_or_out_of_range};
+ghost use Rattle.waggregate.specs.FrameAnswers.{answer_or_out_of_range};
 
 use wrows::AnswerFault;
 use wslide::PartialSum;
@@ -21,7 +21,7 @@ pub(crate) fn count_value(count: u64) -> Value
 
 /// A sum as a value: null where no value was added, `OutOfRange` where it is so.
 pub(crate) fn sum_value(sum: PartialSum) -> Result<Value, AnswerFault>
-    ensures { Gives meaning result (told_or_out_of_range (sum_answer sum)) }
+    ensures { Gives meaning result (answer_or_out_of_range (sum_answer sum)) }
 {
     match sum.get() {
         None => Ok(Value::Null),

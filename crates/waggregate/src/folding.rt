@@ -13,7 +13,7 @@ ghost use Rattle.waggregate.specs.Aggregating as aggregating;
 ghost use Rattle.waggregate.specs.Aggregating.{sum_answer, value_or_null};
 ghost use Rattle.waggregate.specs.Batches.{batch_spans, batch_start};
 ghost use Rattle.waggregate.specs.Feeding.{fed_by, rows_of};
-ghost use Rattle.waggregate.specs.FrameAnswers.{Appends, IsPicked, Puts, batch_answers, told_or_out_of_range, window_answers};
+ghost use Rattle.waggregate.specs.FrameAnswers.{Appends, IsPicked, Puts, batch_answers, answer_or_out_of_range, window_answers};
 ghost use Rattle.waggregate.specs.Put.{put_all};
 
 use crate::answers::{count_value, sum_value};
@@ -36,7 +36,7 @@ use wvalues::Value;
 // A copy of the value at a place, null where there is none.
 fn value_at(values: &[&Value], place: Option<usize>) -> Result<Value, AnswerFault>
     requires { IsPlace (meanings values.now) place }
-    ensures { Gives meaning result (told_or_out_of_range (Some (value_or_null (meanings values.now) place))) }
+    ensures { Gives meaning result (answer_or_out_of_range (Some (value_or_null (meanings values.now) place))) }
 {
     match place {
         None => Ok(Value::Null),
@@ -47,43 +47,43 @@ fn value_at(values: &[&Value], place: Option<usize>) -> Result<Value, AnswerFaul
     }
 }
 
-/// A fold of which each part is told as a value.
-pub(crate) trait ToldFold: Fold {
+/// A fold of which each part has an answer.
+pub(crate) trait AnsweringFold: Fold {
     /// The value of a part; none where it is out of range.
-    ghost told: { Self → Self.Part → Option Meaning };
+    ghost answer: { Self → Self.Part → Option Meaning };
 
     /// The value of a part, `OutOfRange` where it is so.
     fn value(&self, part: Self::Part) -> Result<Value, AnswerFault>
         requires { Self.is_part self.now part }
-        ensures { Gives meaning result (told_or_out_of_range (told self.now part)) };
+        ensures { Gives meaning result (answer_or_out_of_range (answer self.now part)) };
 }
 
-impl<'a> ToldFold for CountRows<'a> {
-    ghost told = { λ _ count. Some (Int (pos count)) };
+impl<'a> AnsweringFold for CountRows<'a> {
+    ghost answer = { λ _ count. Some (Int (pos count)) };
 
     fn value(&self, part: u64) -> Result<Value, AnswerFault> {
         Ok(count_value(part))
     }
 }
 
-impl<'a> ToldFold for Count<'a> {
-    ghost told = { λ _ count. Some (Int (pos count)) };
+impl<'a> AnsweringFold for Count<'a> {
+    ghost answer = { λ _ count. Some (Int (pos count)) };
 
     fn value(&self, part: u64) -> Result<Value, AnswerFault> {
         Ok(count_value(part))
     }
 }
 
-impl<'a> ToldFold for Sum<'a> {
-    ghost told = { λ _ sum. sum_answer sum };
+impl<'a> AnsweringFold for Sum<'a> {
+    ghost answer = { λ _ sum. sum_answer sum };
 
     fn value(&self, part: PartialSum) -> Result<Value, AnswerFault> {
         sum_value(part)
     }
 }
 
-impl<'a> ToldFold for Extreme<'a> {
-    ghost told = { λ extreme place. Some (value_or_null (meanings extreme.values.now) place) };
+impl<'a> AnsweringFold for Extreme<'a> {
+    ghost answer = { λ extreme place. Some (value_or_null (meanings extreme.values.now) place) };
 
     fn value(&self, part: Option<usize>) -> Result<Value, AnswerFault> {
         value_at(self.values, part)
@@ -109,16 +109,16 @@ pub(crate) fn extreme<'a>(
 }
 
 /// Appends the values of some parts, `OutOfRange` where one is so.
-pub(crate) fn push_values<F: ToldFold>(
-    told: &mut Vec<Value>,
+pub(crate) fn push_values<F: AnsweringFold>(
+    column: &mut Vec<Value>,
     fold: &F,
     parts: &[F::Part],
 ) -> Result<(), AnswerFault>
     requires { All (F.is_part fold.now) parts.now }
-    ensures { Appends (map (F.told fold.now) parts.now) result told.old.items told.new.items }
+    ensures { Appends (map (F.answer fold.now) parts.now) result column.old.items column.new.items }
 {
     for part in parts {
-        told.push(fold.value(*part)?)?;
+        column.push(fold.value(*part)?)?;
     }
     Ok(())
 }
@@ -140,7 +140,7 @@ fn hold_text(column: &[Value], rows: &[u32]) -> bool
 }
 
 // Whether one of the cells holds a text where values are put next. They are looked at where a place begins so many, and what was
-// seen then is told for those that follow. This is a matter of speed alone.
+// seen then holds for those that follow. This is a matter of speed alone.
 fn texts_ahead(column: &[Value], rows: &[u32], place: usize, seen: bool) -> bool
     requires { All (λ i. i < length column.now) rows.now }
 {
@@ -180,7 +180,7 @@ fn put_at(column: &mut [Value], rows: &[u32], place: usize, value: Value, texts:
 }
 
 // Puts the values of some parts, each at the number of its row, `OutOfRange` where one is so.
-fn put_values<F: ToldFold>(
+fn put_values<F: AnsweringFold>(
     column: &mut [Value],
     rows: &[u32],
     fold: &F,
@@ -188,7 +188,7 @@ fn put_values<F: ToldFold>(
 ) -> Result<(), AnswerFault>
     requires parts { All (F.is_part fold.now) parts.now }
     requires below { All (λ i. i < length column.old) rows.now }
-    ensures { Puts (map (F.told fold.now) parts.now) rows.now result column.old column.new }
+    ensures { Puts (map (F.answer fold.now) parts.now) rows.now result column.old column.new }
 {
     let mut texts = false;
     for place in 0..parts.len() {
@@ -200,8 +200,8 @@ fn put_values<F: ToldFold>(
 }
 
 // Puts the value of the fold of each row's frame in a batch at the number of the row, `OutOfRange` where one is so. The joins
-// that the meter counts are told to the tally.
-fn put_folds<F: ToldFold>(
+// that the meter counts are added to the tally.
+fn put_folds<F: AnsweringFold>(
     alloc: Global,
     fold: &F,
     batch: &Batch,
@@ -213,7 +213,7 @@ fn put_folds<F: ToldFold>(
     requires few { F.rows fold.now < 2 ^ 31 }
     requires fresh { F.count meter.old ≡ 0 }
     requires below { All (λ i. i < length column.old) batch.now.rows.now }
-    ensures answers { Puts (map (F.told fold.now) (folds_of_spans (F.neutral fold.now) (F.joined fold.now) (F.part_at fold.now)
+    ensures answers { Puts (map (F.answer fold.now) (folds_of_spans (F.neutral fold.now) (F.joined fold.now) (F.part_at fold.now)
         batch.now.partitions.now (batch_start batch.now) (batch_spans batch.now))) batch.now.rows.now result column.old column.new }
     ensures tallied { OnOk result (tally.new ≡ min (tally.old + F.count meter.new) (2 ^ 64 - 1)) }
     ensures joins { tally.new ≤ tally.old + most_by_queues batch.now.partitions.now.frame.exclusion (F.rows fold.now) }

@@ -15,7 +15,7 @@ ghost use Rattle.waggregate.specs.Feeding.{fed_by, rows_of};
 ghost use Rattle.waggregate.specs.Grouped.{rows_of_group};
 
 use crate::feeding::{Argument, listed};
-use crate::folding::{ToldFold, extreme, push_values};
+use crate::folding::{AnsweringFold, extreme, push_values};
 use crate::picking::lent;
 use std::alloc::{AllocError, Global};
 use wframe::stable_sorts_agree;
@@ -76,7 +76,7 @@ fn parts_in_order<P: Copy>(alloc: Global, parts: &[P], order: &[u32]) -> Result<
 }
 
 // The value of the fold of each group's rows, in the order of the groups that are answered, `OutOfRange` where one is so.
-fn fold_groups<F: ToldFold>(
+fn fold_groups<F: AnsweringFold>(
     alloc: Global,
     fold: &F,
     meter: &mut F::Meter,
@@ -90,15 +90,15 @@ fn fold_groups<F: ToldFold>(
     requires few { length groups.now < 2 ^ 31 }
     requires fresh { F.count meter.old ≡ 0 }
     ensures gives { Gives (λ column. map meaning column.items) result
-        (in_range (map (λ g. F.told fold.now (rows_fold (F.neutral fold.now) (F.joined fold.now) (F.part_at fold.now)
+        (in_range (map (λ g. F.answer fold.now (rows_fold (F.neutral fold.now) (F.joined fold.now) (F.part_at fold.now)
         (rows_of_group groups.now g))) order.now)) }
     ensures len { IfOk result (λ column. length column.items ≡ length order.now) }
 {
     let parts = group_parts(alloc, fold, meter, groups, count)?;
     let ordered = parts_in_order(alloc, &parts, order)?;
-    let mut told = Vec::with_capacity(alloc, order.len())?;
-    push_values(&mut told, fold, &ordered)?;
-    Ok(told)
+    let mut column = Vec::with_capacity(alloc, order.len())?;
+    push_values(&mut column, fold, &ordered)?;
+    Ok(column)
 }
 
 /// Values, lent, in their order.

@@ -8,10 +8,10 @@ ghost use Rattle.wrows.specs.Columns.{in_range};
 ghost use Rattle.wrows.specs.Outcomes.{Gives};
 ghost use Rattle.waggregate.specs.Aggregating.{aggregate_of};
 ghost use Rattle.waggregate.specs.Feeding.{rows_of, value_or_none, values_of};
-ghost use Rattle.waggregate.specs.FrameAnswers.{told_or_out_of_range};
+ghost use Rattle.waggregate.specs.FrameAnswers.{answer_or_out_of_range};
 ghost use Rattle.waggregate.specs.Grouped.{rows_of_group};
-ghost use Rattle.waggregate.specs.Summaries.{AreSummaries, AreSummed, IsEmpty, IsKnownFor, IsWith, answer_at};
-ghost use Rattle.waggregate.specs.Summaries.{answer_in, first_in, groups_told, is_told, no_extremes, tells, text_of, value_in, with_asked};
+ghost use Rattle.waggregate.specs.Summaries.{AreSummaries, AreSummed, IsEmpty, IsKnownFor, IsWith, answer_at, answer_in};
+ghost use Rattle.waggregate.specs.Summaries.{are_enough, covers, first_in, group_count, no_extremes, text_of, value_in, with_asked};
 ghost use Rattle.waggregate.specs.declared.summaries.Summary as summary;
 
 use crate::answers::{count_value, sum_value};
@@ -90,9 +90,9 @@ impl Extremes {
         }
     }
 
-    // Whether an aggregate is told where these are looked for.
-    fn tell(self, function: AggregateFunction) -> bool
-        ensures { result ≡ is_told self function }
+    // Whether an aggregate can be answered where these are looked for.
+    fn cover(self, function: AggregateFunction) -> bool
+        ensures { result ≡ are_enough self function }
     {
         match function {
             AggregateFunction::CountRows | AggregateFunction::Count | AggregateFunction::Sum =>
@@ -215,7 +215,7 @@ impl<'a> Summary<'a> {
 
     // What an aggregate answers, `OutOfRange` where it is so.
     fn answer(&self, function: AggregateFunction) -> Result<Value, AnswerFault>
-        ensures { Gives meaning result (told_or_out_of_range (answer_in function self.now)) }
+        ensures { Gives meaning result (answer_or_out_of_range (answer_in function self.now)) }
     {
         match function {
             AggregateFunction::CountRows => Ok(count_value(self.rows)),
@@ -285,16 +285,16 @@ pub fn summarize<'a>(
 
 impl<'a> Summaries<'a> {
     /// Whether an aggregate can be answered.
-    pub fn tell(&self, function: AggregateFunction) -> bool
-        ensures { result ≡ tells self.now function }
+    pub fn cover(&self, function: AggregateFunction) -> bool
+        ensures { result ≡ covers self.now function }
     {
-        self.extremes.tell(function)
+        self.extremes.cover(function)
     }
 
     // What an aggregate answers for a group, `OutOfRange` where it is so.
     fn answer_of(&self, function: AggregateFunction, group: usize) -> Result<Value, AnswerFault>
-        requires { group < groups_told self.now }
-        ensures { (none : summary.Summary) → Gives meaning result (told_or_out_of_range
+        requires { group < group_count self.now }
+        ensures { (none : summary.Summary) → Gives meaning result (answer_or_out_of_range
             (answer_at function self.now.groups.items group none)) }
     {
         self.groups[group].answer(function)
@@ -307,8 +307,8 @@ impl<'a> Summaries<'a> {
         function: AggregateFunction,
         order: &[u32],
     ) -> Result<Vec<Value>, AnswerFault>
-        requires told { tells self.now function ≡ true }
-        requires ordered { All (λ g. g < groups_told self.now) order.now }
+        requires covered { covers self.now function ≡ true }
+        requires ordered { All (λ g. g < group_count self.now) order.now }
         ensures gives { (values : List Meaning) (groups : List ℕ) (count : ℕ) → AreSummaries values groups count self.now
             → Gives (λ column. map meaning column.items) result (in_range (map (λ g. aggregate_of function
             (record { values = values; filter = None }) (rows_of_group groups g)) order.now)) }
@@ -336,7 +336,7 @@ pub fn summaries_for<'a, 'b>(
         return None;
     }
     match &known[place] {
-        Some(summaries) if summaries.tell(function) => Some(summaries),
+        Some(summaries) if summaries.cover(function) => Some(summaries),
         _ => None,
     }
 }

@@ -4,7 +4,7 @@ ghost use Rattle.std.specs.Prelude.{◌≡◌, ◌≤◌, ◌+◌, ◌-◌, ◌^
 use std::marker::Model;
 
 /// How often something was done while a query was answered: joins of window folds, or orders of rows that were made. It
-/// stops at the greatest number that it can tell.
+/// stops at the greatest number that it can hold.
 #[derive(Debug, Drop)]
 pub struct Tally {
     count: u64,

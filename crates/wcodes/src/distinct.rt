@@ -1,5 +1,5 @@
-//! The distinct values of a column, told at a bounded cost for each cell: a value is looked for in few slots of a table,
-//! from that of its hash on. Values whose hashes collide push each other out, and are then told more than once.
+//! The distinct values of a column, found at a bounded cost for each cell: a value is looked for in few slots of a table,
+//! from that of its hash on. Values whose hashes collide push each other out, and are then listed more than once.
 ghost use Rattle.std.specs.Prelude.{◌≡◌, ◌≤◌, ◌<◌, ◌+◌, ℕ, true, All, length, map, IfOk, IfSome, OnOk};
 ghost use Rattle.wvalues.specs.Meaning.{meaning};
 ghost use Rattle.wcodes.specs.Columns.{value_at};
@@ -9,7 +9,7 @@ use std::alloc::{AllocError, Global};
 use std::hash::{FoldHasher, Hash, Hasher};
 use wvalues::Value;
 
-/// The most distinct values that are told by hashing. Where there are more, few cells share a value, and sorting the
+/// The most distinct values that are found by hashing. Where there are more, few cells share a value, and sorting the
 /// cells themselves costs less.
 const MOST_DISTINCT: usize = 1 << 16;
 
@@ -79,8 +79,8 @@ fn slot_of(value: &Value, slots: usize) -> usize
     hasher.finish() as usize % slots
 }
 
-// Tells a new value, and gives its number.
-fn tell<'a>(
+// Lists a new value, and gives its number.
+fn list_value<'a>(
     values: &mut Vec<&'a Value>,
     slots: &mut Vec<u32>,
     first: usize,
@@ -101,7 +101,7 @@ fn tell<'a>(
     Ok(number)
 }
 
-// The number of a value among those that were told, with it where it was not found.
+// The number of a value among those that are listed, with it where it was not found.
 fn number_of<'a>(
     values: &mut Vec<&'a Value>,
     slots: &mut Vec<u32>,
@@ -119,7 +119,7 @@ fn number_of<'a>(
     let first = slot_of(value, slots.len());
     match known_number(values, slots, first, value) {
         Some(number) => Ok(number),
-        None => tell(values, slots, first, value),
+        None => list_value(values, slots, first, value),
     }
 }
 
@@ -131,16 +131,16 @@ fn empty_slots(alloc: Global, count: usize) -> Result<Vec<u32>, AllocError>
     vec![in alloc; EMPTY; most]
 }
 
-/// The distinct values of a column, in the order of first sight; a value may be told more than once where hashes
+/// The distinct values of a column, in the order of first sight; a value may be listed more than once where hashes
 /// collide. None where there are more than 65,536.
 pub(crate) fn distinct_values<'a>(
     alloc: Global,
     column: &[&'a Value],
 ) -> Result<Option<Distinct<'a>>, AllocError>
-    ensures cells { IfOk result (λ told. IfSome told (λ found. map (value_at (values_seen found.values.items))
+    ensures cells { IfOk result (λ distinct. IfSome distinct (λ found. map (value_at (values_seen found.values.items))
         found.numbers.items ≡ values_seen column.now)) }
-    ensures below { IfOk result (λ told. IfSome told (λ found. All (λ i. i < length found.values.items) found.numbers.items)) }
-    ensures few { IfOk result (λ told. IfSome told (λ found. length found.values.items ≤ length column.now)) }
+    ensures below { IfOk result (λ distinct. IfSome distinct (λ found. All (λ i. i < length found.values.items) found.numbers.items)) }
+    ensures few { IfOk result (λ distinct. IfSome distinct (λ found. length found.values.items ≤ length column.now)) }
 {
     let mut slots = empty_slots(alloc, column.len())?;
     let mut values = Vec::new(alloc);

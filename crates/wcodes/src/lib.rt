@@ -3,7 +3,7 @@
 //! - Gives codes of 32 bits for the values of a column, by which rows are sorted, or told apart alone, and the codes of some
 //!   of its rows, whose numbers are of 32 bits too.
 //! - Promises: codes are distances of numbers from the one that the key puts first, or from one near them where they only tell
-//!   rows apart, where all lie close enough, and else ranks among the distinct values. Few distinct values are told by a table,
+//!   rows apart, where all lie close enough, and else ranks among the distinct values. Few distinct values are found by a table,
 //!   in which each is looked for in few slots, so that no values make it slow; many are sorted beside integers of 64 bits that
 //!   foretell their order.
 //! - Asks: the order of one key, and at most 2^32 values where they are ranked.

@@ -7,7 +7,7 @@ use Rattle.clap.specs.declared.error.ErrorKind.{ErrorKind}
 use Rattle.clap.specs.declared.error.ErrorKind.TheVariants as kinds
 use Rattle.clap.proofs.OnLiterals.{clap_on_literals}
 use Rattle.wcommand.specs.CommandSet.{command_set}
-use Rattle.wcommand.specs.Choices.{Chooses, IsChoice, IsTold}
+use Rattle.wcommand.specs.Choices.{Chooses, IsChoice, IsFaultFor}
 use Rattle.wcommand.specs.declared.choice.Choice.{Choice}
 use Rattle.wcommand.specs.Required.{IsWhole}
 use Rattle.wcommand.specs.declared.fault.WordsFault.{WordsFault}
@@ -27,12 +27,12 @@ abbrev is_memory : ErrorKind → Bool
 is_memory kinds.OutOfMemory = true
 is_memory _ = false
 
--- want of memory is told as such
-pub told_memory : (kind : ErrorKind) (fault : WordsFault) → kind ≡ kinds.OutOfMemory → IsTold kind fault → fault ≡ faults.NoMemory
-told_memory kind faults.NoMemory e t = refl
-told_memory kind (faults.Help text) e t =
+-- want of memory is given as such
+pub no_memory : (kind : ErrorKind) (fault : WordsFault) → kind ≡ kinds.OutOfMemory → IsFaultFor kind fault → fault ≡ faults.NoMemory
+no_memory kind faults.NoMemory e t = refl
+no_memory kind (faults.Help text) e t =
     absurd (⊎_elim (λ h. true≢false (sym (ap is_memory e) ∙ ap is_memory h)) (λ h. true≢false (sym (ap is_memory e) ∙ ap is_memory h)) t)
-told_memory kind (faults.Refused text) e t = absurd (t.0 e)
+no_memory kind (faults.Refused text) e t = absurd (t.0 e)
 
 -- an `Ok` of the parse
 pub good_words : (app : App) (words : List Text) (m : _) → app ≡ command_set
@@ -55,20 +55,20 @@ chosen_words words m (Ok choice) good is lacks = (good.0, subst (λ o. IsChoice 
 chosen_words words m (Err fault) good is lacks = inl lacks
 
 -- an `Err` of the parse
-pub told_kind : (app : App) (words : List Text) (e : _) (fault : WordsFault) → app ≡ command_set
-    → (is_simple_and_free app ≡ true → HasKind (fault_of app words) e) → IsTold (kind_of e) fault
-    → (fault ≡ faults.NoMemory) ⊎ ((kind : ErrorKind) × IsAmong kind (fault_of command_set words) × IsTold kind fault)
-told_kind app words e fault same has told = ⊎_elim
-    (λ h. inl (told_memory (kind_of e) fault h told))
-    (λ h. inr (kind_of e, h, told))
+pub fault_of_kind : (app : App) (words : List Text) (e : _) (fault : WordsFault) → app ≡ command_set
+    → (is_simple_and_free app ≡ true → HasKind (fault_of app words) e) → IsFaultFor (kind_of e) fault
+    → (fault ≡ faults.NoMemory) ⊎ ((kind : ErrorKind) × IsAmong kind (fault_of command_set words) × IsFaultFor kind fault)
+fault_of_kind app words e fault same has fault_for = ⊎_elim
+    (λ h. inl (no_memory (kind_of e) fault h fault_for))
+    (λ h. inr (kind_of e, h, fault_for))
     (subst (λ a. is_simple_and_free a ≡ true → HasKind (fault_of a words) e) same has is_free)
 
 pub taken_words : (app : App) (words : List Text) (e : _) (fault : WordsFault) → app ≡ command_set
-    → (takes app words ≡ true → kind_of e ≡ kinds.OutOfMemory) → IsTold (kind_of e) fault
+    → (takes app words ≡ true → kind_of e ≡ kinds.OutOfMemory) → IsFaultFor (kind_of e) fault
     → takes command_set words ≡ true → fault ≡ faults.NoMemory
-taken_words app words e fault same passes told t = told_memory (kind_of e) fault (passes (ap (λ a. takes a words) same ∙ t)) told
+taken_words app words e fault same passes fault_for t = no_memory (kind_of e) fault (passes (ap (λ a. takes a words) same ∙ t)) fault_for
 
--- the name and the rows of a subcommand, told apart and together
+-- the name and the rows of a subcommand, apart and together
 pub name_and_rows : {B : Type 0} (f : B → Text) (g : B → List Row) (o : Option B) (name : Text) (rows : List Row)
     → option_map f o ≡ Some name
     → option_map (λ (p : Text × List Row). p.1) (option_map {U = Text × List Row} (λ b. (f b, g b)) o) ≡ Some rows

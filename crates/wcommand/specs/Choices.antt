@@ -51,13 +51,14 @@ IsShown kind = (kind ≡ kinds.DisplayHelp) ⊎ (kind ≡ kinds.DisplayVersion)
 
 -- an error of this kind may be told so: help as help, any other kind but want of memory as a refusal, in a text without
 -- characters that a terminal would obey
-abbrev pub IsTold : ErrorKind → WordsFault → Type 0
-IsTold kind faults.NoMemory = ⊤
-IsTold kind (faults.Help text) = IsShown kind
-IsTold kind (faults.Refused text) = (kind ≢ kinds.OutOfMemory) × ¬ (IsShown kind) × IsShownText (string_bytes text)
+abbrev pub IsFaultFor : ErrorKind → WordsFault → Type 0
+IsFaultFor kind faults.NoMemory = ⊤
+IsFaultFor kind (faults.Help text) = IsShown kind
+IsFaultFor kind (faults.Refused text) = (kind ≢ kinds.OutOfMemory) × ¬ (IsShown kind) × IsShownText (string_bytes text)
 
 -- what words choose: where nothing is wrong with them, the subcommand that they enter; else something is told that is
 -- wrong with them, or that they ask for
 abbrev pub Chooses : List Text → Result Choice WordsFault → Type 0
 Chooses words (Ok choice) = (fault_of command_set words ≡ []) × IsChoice (subcommand_of command_set words) choice
-Chooses words (Err fault) = (fault ≡ faults.NoMemory) ⊎ ((kind : ErrorKind) × IsAmong kind (fault_of command_set words) × IsTold kind fault)
+Chooses words (Err fault) = (fault ≡ faults.NoMemory)
+    ⊎ ((kind : ErrorKind) × IsAmong kind (fault_of command_set words) × IsFaultFor kind fault)

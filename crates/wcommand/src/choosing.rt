@@ -3,7 +3,7 @@ ghost use Rattle.std.specs.Prelude.{◌≡◌, map, chars, string_bytes, encode_
 ghost use Rattle.clap.specs.Words.{kind_of, subcommand_rows_of, takes};
 ghost use Rattle.wcommand.specs.CommandSet.{command_set};
 ghost use Rattle.wcommand.specs.declared.fault.WordsFault.TheVariants.{NoMemory};
-ghost use Rattle.wcommand.specs.Choices.{Chooses, IsChoice, IsTold};
+ghost use Rattle.wcommand.specs.Choices.{Chooses, IsChoice, IsFaultFor};
 ghost use Rattle.wcommand.specs.Required.{IsWhole};
 ghost use Rattle.wcommand.specs.ShownTexts.{shown};
 
@@ -28,20 +28,20 @@ fn shown(c: char) -> char
 
 // A text as it is shown: words that are not understood may have any characters.
 fn text_shown(alloc: Global, text: &str) -> Result<String, AllocError>
-    ensures { IfOk result (λ told. string_bytes told ≡ encode_utf8_all (map shown (chars text.now))) }
+    ensures { IfOk result (λ shown_text. string_bytes shown_text ≡ encode_utf8_all (map shown (chars text.now))) }
 {
-    let mut told = String::new(alloc);
+    let mut shown_text = String::new(alloc);
     'characters: for c in text.chars() {
-        if let Err(fault) = told.push(shown(c)) {
+        if let Err(fault) = shown_text.push(shown(c)) {
             return Err(fault);
         }
     }
-    Ok(told)
+    Ok(shown_text)
 }
 
 // What an error of the parse says.
-fn told(alloc: Global, error: &Error) -> WordsFault
-    ensures { IsTold (kind_of error.now) result }
+fn words_fault(alloc: Global, error: &Error) -> WordsFault
+    ensures { IsFaultFor (kind_of error.now) result }
 {
     if let ErrorKind::OutOfMemory = error.kind() {
         return WordsFault::NoMemory;
@@ -82,6 +82,6 @@ pub fn choose<'a>(alloc: Global, words: &'a [&'a str]) -> Result<Choice<'a>, Wor
     };
     match command.try_get_matches_from(words) {
         Ok(matches) => chosen(alloc, &matches),
-        Err(error) => Err(told(alloc, &error)),
+        Err(error) => Err(words_fault(alloc, &error)),
     }
 }

@@ -22,7 +22,7 @@ use Rattle.wset.proofs.Later.{take_later, retire_later, dispute_later, floor_lat
 use Rattle.wrecords.specs.Forms.{IsForm, IsNumber, IsDigest, line_of}
 use Rattle.wrecords.specs.Cuts.{IsUnfed}
 use Rattle.wexchange.specs.Files.{head, begun, counted, digest_of, digest_text, end_text, table_text}
-use Rattle.wexchange.specs.Files.{record_text, IsRecord, IsView, MayTell, Tells}
+use Rattle.wexchange.specs.Files.{record_text, IsRecord, IsView, HasRecords, HasRecord}
 use Rattle.wexchange.specs.Judging.{HasOtherHead, IsCutHead, GoesOn, AtDigest, AtTable, Behind, Place, Follows, MayStand}
 use Rattle.wexchange.specs.Judging.{body_length, record_name, IsFault, HasOtherTable, HasBadSegment, HasTable}
 use Rattle.wexchange.specs.Steps.{Adds, Spoils, file_fault}
@@ -157,7 +157,7 @@ pub adds_content : (r : Version) (d : Declaration) (v new : View) (n : NameParts
 adds_content r d v new n len content more after name number s above is size ok e = record {
   entry = (n, Live content);
   is = (name, ok, subst IsNumber (sym size) number);
-  tells = tt;
+  has_record = tt;
   rest_is =
       ap (λ k. line_of (forms.Content n k) ++ (10 ∷ after)) (sym size)
       ∙ ap (λ l. line_of (forms.Content n (length content)) ++ (10 ∷ l)) (is ∙ sym (append_assoc content (10 ∷ []) more))
@@ -171,7 +171,7 @@ pub adds_dispute : (r : Version) (d : Declaration) (v new : View) (n : NameParts
 adds_dispute r d v new n after name s above e = record {
   entry = (n, Disputed);
   is = name;
-  tells = tt;
+  has_record = tt;
   rest_is = sym (append_assoc (line_of (forms.Dispute n)) (10 ∷ []) after);
   added = ap entries e ∙ dispute_later v n s above;
   settled = subst IsSettled (sym e) (join_laws.settled v (only_disputed n));
@@ -183,7 +183,7 @@ pub adds_retirement : (r : Version) (d : Declaration) (v new : View) (n : NamePa
 adds_retirement r d v new n after name s above e = record {
   entry = (n, Retired);
   is = name;
-  tells = tt;
+  has_record = tt;
   rest_is = sym (append_assoc (line_of (forms.Retirement n)) (10 ∷ []) after);
   added = ap entries e ∙ retire_later v n s above;
   settled = subst IsSettled (sym e) (join_laws.settled v (view_of_item (RetirementItem n)));
@@ -194,7 +194,7 @@ pub adds_floor : (d : Declaration) (v new : View) (n : NameParts) (after : List 
 adds_floor d v new n after name s above e = record {
   entry = (n, Floor);
   is = name;
-  tells = tt;
+  has_record = tt;
   rest_is = sym (append_assoc (line_of (forms.Floor n)) (10 ∷ []) after);
   added = ap entries e ∙ floor_later v n s above;
   settled = subst IsSettled (sym e) (join_laws.settled v (view_of_item (FloorItem n)));
@@ -311,19 +311,19 @@ more_behind d v front digits (b ∷ rest) after bytes is same_digits some view s
   byte = b;
   more = rest;
   is_view = view;
-  may = all_told (entries v);
+  may = all_records (entries v);
   bytes_are =
       e ∙ ap (λ l. front ++ l) (is ∙ digest_line digits front (b ∷ rest) same_digits)
       ∙ sym (append_assoc front (digest_text front) (b ∷ rest))
       ∙ ap (λ l. (l ++ digest_text l) ++ (b ∷ rest)) same;
 }
   where
-    all_told : (es : List (NameParts × Known)) → AllByRecursion (Tells Two) es
-    all_told [] = tt
-    all_told ((n, Live c) ∷ es) = (tt, all_told es)
-    all_told ((n, Disputed) ∷ es) = (tt, all_told es)
-    all_told ((n, Retired) ∷ es) = (tt, all_told es)
-    all_told ((n, Floor) ∷ es) = (tt, all_told es)
+    all_records : (es : List (NameParts × Known)) → AllByRecursion (HasRecord Two) es
+    all_records [] = tt
+    all_records ((n, Live c) ∷ es) = (tt, all_records es)
+    all_records ((n, Disputed) ∷ es) = (tt, all_records es)
+    all_records ((n, Retired) ∷ es) = (tt, all_records es)
+    all_records ((n, Floor) ∷ es) = (tt, all_records es)
 
 -- ---- the end
 
@@ -360,7 +360,7 @@ pub whole_view : (r : Version) (d : Declaration) (v : View) (count : ℕ) (rest 
     → length (entries v) ≡ count → GoesOn d (Behind r v) bytes rest → IsView d v
 whole_view r d v count rest bytes number is g = record { settled = g.good.0; records = g.good.1; count = subst IsNumber (sym is) number }
 
-pub more_behind_one : (d : Declaration) (v : View) (after bytes : List ℕ) → 0 < length after → IsView d v → MayTell One v
+pub more_behind_one : (d : Declaration) (v : View) (after bytes : List ℕ) → 0 < length after → IsView d v → HasRecords One v
     → bytes ≡ counted One d (entries v) ++ after → IsFault d bytes faults.Trailing
 more_behind_one d v [] bytes some view may e = absurd (omega arith)
 more_behind_one d v (b ∷ rest) bytes some view may e = record {
@@ -393,7 +393,7 @@ goes_behind r d v new rest more bytes a g = record {
   good = (
     a.settled,
     subst (AllByRecursion (IsRecord d)) (sym a.added) (all-push (IsRecord d) (entries v) a.entry g.good.1 a.is),
-    subst (AllByRecursion (Tells r)) (sym a.added) (all-push (Tells r) (entries v) a.entry g.good.2 a.tells),
+    subst (AllByRecursion (HasRecord r)) (sym a.added) (all-push (HasRecord r) (entries v) a.entry g.good.2 a.has_record),
   );
   bytes_are =
       g.bytes_are ∙ ap (λ l. begun r d (entries v) ++ l) a.rest_is ∙ sym (append_assoc (begun r d (entries v)) (record_text a.entry) more)
@@ -425,7 +425,7 @@ table_goes_on r d v bytes records e is = record {
   good = (
     λ n low. subst (λ w. FinMap.get w n ≡ None) (sym e) (FinMap.get-empty name_cmp n),
     subst (AllByRecursion (IsRecord d)) (sym (nothing_known v e)) tt,
-    subst (AllByRecursion (Tells r)) (sym (nothing_known v e)) tt,
+    subst (AllByRecursion (HasRecord r)) (sym (nothing_known v e)) tt,
   );
   bytes_are = is ∙ sym (append_assoc (head r) (table_text d) records)
       ∙ ap (λ l. l ++ records) (sym (append-nil (head r ++ table_text d)) ∙ ap (λ es. begun r d es) (sym (nothing_known v e)));

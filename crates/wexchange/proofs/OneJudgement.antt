@@ -22,7 +22,7 @@ use Rattle.wset.specs.Lending.{IsAbove, IsBehindOrigins}
 use Rattle.wrecords.specs.Cuts.{IsUnfed}
 use Rattle.wrecords.specs.Forms.{IsForm, line_of}
 use Rattle.wexchange.specs.Files.{head, table_text, record_text, end_text, begun, counted, digest_of, digest_text}
-use Rattle.wexchange.specs.Files.{text_of, file_of, HasFloors, IsRecord, IsView, MayTell, Tells}
+use Rattle.wexchange.specs.Files.{text_of, file_of, HasFloors, IsRecord, IsView, HasRecords, HasRecord}
 use Rattle.wexchange.specs.declared.version.Version.{Version}
 use Rattle.wexchange.specs.declared.version.Version.TheVariants.{One, Two}
 use Rattle.wexchange.specs.Judging.{Place, AtTable, AtDigest, Behind, GoesOn, MayStand, Follows, record_name}
@@ -283,7 +283,7 @@ good_table d v rest more declared e =
 not_refused : (d : Declaration) (content : List ℕ) (r : Outcome) → IsOk (rows_of d content) → IsRefused d content r → ⊥
 not_refused d content r ok x = let wrong : false ≡ true = rw x.refused at ok in cc
 
-record_may : (v : Version) (w : View) (e : NameParts × Known) → Tells v e → MayStand (Behind v w) (record_form e)
+record_may : (v : Version) (w : View) (e : NameParts × Known) → HasRecord v e → MayStand (Behind v w) (record_form e)
 record_may v w (n, Live bytes) h = tt
 record_may v w (n, Disputed) h = tt
 record_may v w (n, Retired) h = tt
@@ -309,12 +309,12 @@ record_none d v w (n, Floor) more r is up (low h e) = h up
 record_none d v w (n, Floor) more r is up (above h x) = x
 
 good_record : (d : Declaration) (v : Version) (w : View) (e : NameParts × Known) (rest more : List ℕ) → IsRecord d e
-    → Tells v e → FollowsAll v w e → rest ≡ record_text e ++ more → Good d (Behind v w) rest
-good_record d v w e rest more is tells up i = record {
+    → HasRecord v e → FollowsAll v w e → rest ≡ record_text e ++ more → Good d (Behind v w) rest
+good_record d v w e rest more is has up i = record {
   form = record_form e;
   after = record_rest e more;
   is_form = record_is_form d e is;
-  may = record_may v w e tells;
+  may = record_may v w e has;
   rest_is = i ∙ record_first e more;
   none = λ r x. record_none d v w e more r is up x;
 }
@@ -398,19 +398,19 @@ all_right P (x ∷ xs) ys h = all_right P xs ys h.1
 
 -- behind a part of a view's records the next one is good
 good_next : (d : Declaration) (v : Version) (u w : View) (x : NameParts × Known) (left : List (NameParts × Known))
-    (rest further : List ℕ) → IsSettled w → AllByRecursion (IsRecord d) (entries w) → AllByRecursion (Tells v) (entries w)
+    (rest further : List ℕ) → IsSettled w → AllByRecursion (IsRecord d) (entries w) → AllByRecursion (HasRecord v) (entries w)
     → entries w ≡ entries u ++ (x ∷ left) → rest ≡ record_text x ++ further → Good d (Behind v u) rest
 good_next d v u w x left rest further s h t e i =
     let is = all_right (IsRecord d) (entries u) (x ∷ left) (subst (AllByRecursion (IsRecord d)) e h) in
-    let tells = all_right (Tells v) (entries u) (x ∷ left) (subst (AllByRecursion (Tells v)) e t) in
+    let has = all_right (HasRecord v) (entries u) (x ∷ left) (subst (AllByRecursion (HasRecord v)) e t) in
     let sorted = subst (λ l. T (is_sorted name_cmp l)) e (entries_sorted w) in
-    good_record d v u x rest further is.0 tells.0 (follows x e tells.0 (all_below (entries u) x left sorted)) i
+    good_record d v u x rest further is.0 has.0 (follows x e has.0 (all_below (entries u) x left sorted)) i
   where
-    follows : (x : NameParts × Known) → entries w ≡ entries u ++ (x ∷ left) → Tells v x → AreBelow x.0 (entries u) → FollowsAll v u x
-    follows (n, Live bytes) e tells up = up
-    follows (n, Disputed) e tells up = up
-    follows (n, Retired) e tells up = up
-    follows (n, Floor) e tells up = (tells, floor_next w (entries u) n left s e)
+    follows : (x : NameParts × Known) → entries w ≡ entries u ++ (x ∷ left) → HasRecord v x → AreBelow x.0 (entries u) → FollowsAll v u x
+    follows (n, Live bytes) e has up = up
+    follows (n, Disputed) e has up = up
+    follows (n, Retired) e has up = up
+    follows (n, Floor) e has up = (has, floor_next w (entries u) n left s e)
 
 -- two places are one, or what stands at one of them is good
 data Order (d : Declaration) (p q : Place) (rest more : List ℕ) : Type 0 where
@@ -453,16 +453,16 @@ head_cut v w xs ys bytes e f =
 after_table : (d : Declaration) (xs ys : List ℕ) → table_text d ++ xs ≡ table_text d ++ ys → xs ≡ ys
 after_table d xs ys e = (same_front (table_text d) (table_text d) xs ys refl e).1
 
-all_told : (es : List (NameParts × Known)) → AllByRecursion (Tells Two) es
-all_told [] = tt
-all_told ((n, Live c) ∷ es) = (tt, all_told es)
-all_told ((n, Disputed) ∷ es) = (tt, all_told es)
-all_told ((n, Retired) ∷ es) = (tt, all_told es)
-all_told ((n, Floor) ∷ es) = (tt, all_told es)
+all_records : (es : List (NameParts × Known)) → AllByRecursion (HasRecord Two) es
+all_records [] = tt
+all_records ((n, Live c) ∷ es) = (tt, all_records es)
+all_records ((n, Disputed) ∷ es) = (tt, all_records es)
+all_records ((n, Retired) ∷ es) = (tt, all_records es)
+all_records ((n, Floor) ∷ es) = (tt, all_records es)
 
--- it tells in one version what it tells in that version by another name
-told_in : (v w : Version) (es : List (NameParts × Known)) → v ≡ w → AllByRecursion (Tells v) es → AllByRecursion (Tells w) es
-told_in v w es e h = subst (λ x. AllByRecursion (Tells x) es) e h
+-- the records that a version has, that version has by another name
+records_in : (v w : Version) (es : List (NameParts × Known)) → v ≡ w → AllByRecursion (HasRecord v) es → AllByRecursion (HasRecord w) es
+records_in v w es e h = subst (λ x. AllByRecursion (HasRecord x) es) e h
 
 order : (d : Declaration) (p q : Place) (bytes rest more : List ℕ) → IsDeclaration d → GoesOn d p bytes rest
     → GoesOn d q bytes more → Order d p q rest more
@@ -491,9 +491,9 @@ order d (Behind v x) (Behind w y) bytes rest more declared g h =
     of : v ≡ w → Meets (entries x) (entries y) rest more → Order d (Behind v x) (Behind w y) rest more
     of version (same e i) = one (λ t. Behind (version t) (same_entries_map x y e t)) i
     of version (first_goes_on z left further e i) =
-        before (good_next d v x y z left rest further h.good.0 h.good.1 (told_in w v (entries y) (sym version) h.good.2) e i)
+        before (good_next d v x y z left rest further h.good.0 h.good.1 (records_in w v (entries y) (sym version) h.good.2) e i)
     of version (second_goes_on z left further e i) =
-        behind (good_next d w y x z left more further g.good.0 g.good.1 (told_in v w (entries x) version g.good.2) e i)
+        behind (good_next d w y x z left more further g.good.0 g.good.1 (records_in v w (entries x) version g.good.2) e i)
 order d (Behind v x) (AtDigest y) bytes rest more declared g h =
     let b = behind_head d (Behind v x) bytes rest g in
     let c = behind_head d (AtDigest y) bytes more h in
@@ -507,8 +507,8 @@ order d (Behind v x) (AtDigest y) bytes rest more declared g h =
         before (good_end d v x rest more version (subst (IsView d) (sym views) h.good)
         (i ∙ ap (λ w. end_text (length (entries w)) ++ more) (sym views)))
     of version (first_goes_on z left further e i) =
-        before (good_next d v x y z left rest further h.good.settled h.good.records (told_in Two v (entries y) (sym version)
-        (all_told (entries y))) e i)
+        before (good_next d v x y z left rest further h.good.settled h.good.records (records_in Two v (entries y) (sym version)
+        (all_records (entries y))) e i)
     of version (second_goes_on z left further e i) = absurd (no_end z (length (entries y)) further more (sym i))
 order d (AtDigest x) (Behind w y) bytes rest more declared g h =
     let b = behind_head d (AtDigest x) bytes rest g in
@@ -523,8 +523,8 @@ order d (AtDigest x) (Behind w y) bytes rest more declared g h =
         behind (good_end d w y more rest version (subst (IsView d) (sym views) g.good)
         (i ∙ ap (λ v. end_text (length (entries v)) ++ rest) (sym views)))
     of version (first_goes_on z left further e i) =
-        behind (good_next d w y x z left more further g.good.settled g.good.records (told_in Two w (entries x) (sym version)
-        (all_told (entries x))) e i)
+        behind (good_next d w y x z left more further g.good.settled g.good.records (records_in Two w (entries x) (sym version)
+        (all_records (entries x))) e i)
     of version (second_goes_on z left further e i) = absurd (no_end z (length (entries x)) further rest (sym i))
 order d (AtDigest x) (AtDigest y) bytes rest more declared g h =
     let b = behind_head d (AtDigest x) bytes rest g in
@@ -680,7 +680,7 @@ digest_is : (bytes : List ℕ) → IsForm (forms.Digest (digest_of bytes))
 digest_is bytes = digest_spelled bytes
 
 -- behind the records of a view stands the line of their count, and in version 2 behind that the line of the digest
-text_stop : (d : Declaration) (v : Version) (w : View) (bytes after : List ℕ) (r : Outcome) → IsView d w → MayTell v w
+text_stop : (d : Declaration) (v : Version) (w : View) (bytes after : List ℕ) (r : Outcome) → IsView d w → HasRecords v w
     → bytes ≡ text_of v d w ++ after → (v ≡ One → EndStop One w (length (entries w)) after r)
     → (v ≡ Two → SealStop d w (digest_of (counted Two d (entries w))) after r) → Stops d bytes r
 text_stop d One w bytes after r is may e stop other =
@@ -743,7 +743,7 @@ pub own_judgement : OwnJudgement
 own_judgement d v judged declared is j some = one_judgement d (file_of d v) judged (Ok v) declared j (record {
   is_view = is;
   version = Two;
-  may = all_told (entries v);
+  may = all_records (entries v);
   bytes_are = refl;
 }) some (λ e. never v e)
   where

@@ -80,15 +80,15 @@ HasFloors One = ⊥
 HasFloors Two = ⊤
 
 -- the version has such a record
-abbrev pub Tells : Version → (NameParts × Known) → Type 0
-Tells r (n, Live bytes) = ⊤
-Tells r (n, Disputed) = ⊤
-Tells r (n, Retired) = ⊤
-Tells r (n, Floor) = HasFloors r
+abbrev pub HasRecord : Version → (NameParts × Known) → Type 0
+HasRecord r (n, Live bytes) = ⊤
+HasRecord r (n, Disputed) = ⊤
+HasRecord r (n, Retired) = ⊤
+HasRecord r (n, Floor) = HasFloors r
 
--- it has all of the view's
-abbrev pub MayTell : Version → View → Type 0
-MayTell r v = AllByRecursion (Tells r) (entries v)
+-- it has all of the view's records
+abbrev pub HasRecords : Version → View → Type 0
+HasRecords r v = AllByRecursion (HasRecord r) (entries v)
 
 -- a view of this declaration that has not more than 4,294,967,295 records
 pub record IsView (d : Declaration) (v : View) : Type 0 where

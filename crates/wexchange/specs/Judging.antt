@@ -10,7 +10,7 @@ use Rattle.wset.specs.Views.{View, IsSettled}
 use Rattle.wset.specs.Lending.{IsAbove, IsBehindOrigins}
 use Rattle.wrecords.specs.Forms.{IsForm, line_of}
 use Rattle.wrecords.specs.Cuts.{IsUnfed}
-use Rattle.wexchange.specs.Files.{head, table_text, begun, counted, digest_of, text_of, AreRecords, HasFloors, IsView, MayTell}
+use Rattle.wexchange.specs.Files.{head, table_text, begun, counted, digest_of, text_of, AreRecords, HasFloors, IsView, HasRecords}
 use Rattle.wexchange.specs.declared.version.Version.{Version}
 use Rattle.wexchange.specs.declared.version.Version.TheVariants.{Two}
 use Rattle.wrecords.specs.declared.form.Form.{Form}
@@ -33,7 +33,7 @@ before d (AtDigest v) = counted Two d (entries v)
 -- what is good there is made of records that the version has
 abbrev pub IsGood : Declaration → Place → Type 0
 IsGood d (AtTable r) = ⊤
-IsGood d (Behind r v) = IsSettled v × AreRecords d v × MayTell r v
+IsGood d (Behind r v) = IsSettled v × AreRecords d v × HasRecords r v
 IsGood d (AtDigest v) = IsView d v
 
 -- the bytes are good up to this place, and so go on
@@ -224,7 +224,7 @@ pub record HasMore (d : Declaration) (bytes : List ℕ) : Type 0 where
   pub byte : ℕ
   pub more : List ℕ
   pub is_view : IsView d view
-  pub may : MayTell version view
+  pub may : HasRecords version view
   pub bytes_are : bytes ≡ text_of version d view ++ (byte ∷ more)
 
 -- ---- want of memory
@@ -253,7 +253,7 @@ IsFault d bytes faults.NoMemory = HasTable d bytes
 pub record IsFileOf (d : Declaration) (v : View) (bytes : List ℕ) : Type 0 where
   pub is_view : IsView d v
   pub version : Version
-  pub may : MayTell version v
+  pub may : HasRecords version v
   pub bytes_are : bytes ≡ text_of version d v
 
 -- what the bytes are, unless memory ran out

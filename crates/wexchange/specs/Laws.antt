@@ -5,7 +5,7 @@ use Rattle.wsegment.specs.Declaration.{Declaration}
 use Rattle.wsegment.specs.declared.kind.Kind.TheVariants.{Integer, Text}
 use Rattle.wentries.specs.Knowledge.{Known, Live, Floor}
 use Rattle.wset.specs.Views.{View}
-use Rattle.wexchange.specs.Files.{AreRecords, IsView, MayTell, counted, digest_text, file_of, text_of}
+use Rattle.wexchange.specs.Files.{AreRecords, IsView, HasRecords, counted, digest_text, file_of, text_of}
 use Rattle.wexchange.specs.Judging.{Judges}
 use Rattle.wsegment.specs.Spelling.{IsDeclaration}
 use Rattle.wexchange.specs.declared.fault.FileFault.{FileFault}
@@ -35,7 +35,7 @@ OwnJudgement = (d : Declaration) (v : View) (judged : Result View FileFault) →
 -- bytes are judged to be a view only where they are its file, or its text in version 1, which tells no floor
 abbrev pub TextsAlone : Type 0
 TextsAlone = (d : Declaration) (v : View) (bytes : List ℕ) → Judges d bytes (Ok v) → (bytes ≡ file_of d v)
-    ⊎ (MayTell One v × (bytes ≡ text_of One d v))
+    ⊎ (HasRecords One v × (bytes ≡ text_of One d v))
 
 -- ---- a worked file
 

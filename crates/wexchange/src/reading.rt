@@ -7,7 +7,7 @@ ghost use Rattle.wsegment.specs.Declaration.{Declaration, declaration_text};
 ghost use Rattle.wexchange.specs.declared.fault.FileFault.TheVariants.{OtherDigest, OtherSchema, Trailing};
 ghost use Rattle.wset.specs.Views.{View};
 ghost use Rattle.wrecords.specs.Forms.{IsForm, IsNumber, line_of};
-ghost use Rattle.wexchange.specs.Files.{head, table_text, end_text, counted, digest_of, digest_text, text_of, IsView, MayTell};
+ghost use Rattle.wexchange.specs.Files.{head, table_text, end_text, counted, digest_of, digest_text, text_of, IsView, HasRecords};
 ghost use Rattle.wexchange.specs.Judging.{GoesOn, AtDigest, AtTable, Behind, IsFault, IsFileOf, MayStand};
 ghost use Rattle.wexchange.specs.Steps.{ReadsNext, Spoils, file_fault};
 
@@ -45,7 +45,7 @@ fn is_cut_head(version: Version, bytes: &[u8]) -> bool
     head_of(version).starts_with(bytes)
 }
 
-// The version that the first line tells, and what stands behind it.
+// The version that the first line has, and what stands behind it.
 fn read_head(bytes: &[u8]) -> Result<(Version, &[u8]), FileFault>
     ensures found { IfOk result (λ x. bytes.now ≡ head x.0 ++ x.1.now) }
     ensures fault { IfErr result (λ fault. (d : Declaration) → IsFault d bytes.now fault) }
@@ -331,7 +331,7 @@ fn judge_digest(bytes: &Hashed<'_>, after: &[u8]) -> Result<(), FileFault>
 fn judge_end(version: Version, bytes: &Hashed<'_>, after: &[u8]) -> Result<(), FileFault>
     ensures end { OnOk result ((d : Declaration) (v : View) → bytes.now ≡ counted version d (map.entries v) ++ after.now
         → bytes.now ≡ text_of version d v) }
-    ensures fault { IfErr result (λ fault. (d : Declaration) (v : View) → IsView d v → MayTell version v
+    ensures fault { IfErr result (λ fault. (d : Declaration) (v : View) → IsView d v → HasRecords version v
         → bytes.now ≡ counted version d (map.entries v) ++ after.now → IsFault d bytes.now fault) }
 {
     match version {

@@ -22,6 +22,6 @@ pub(crate) fn digits_of(hasher: Sha256) -> [u8; DIGITS]
 pub(crate) fn is_sealed(bytes: &Hashed<'_>, end: &[u8], digits: &[u8; DIGITS]) -> bool
     ensures { (front : List ℕ) → bytes.now ≡ front ++ end.now → IsTrue result ↔ (digits.now ≡ digest_of front) }
 {
-    let told = digits_of(bytes.hasher_before(end));
-    told.as_slice() == digits.as_slice()
+    let computed = digits_of(bytes.hasher_before(end));
+    computed.as_slice() == digits.as_slice()
 }

@@ -54,11 +54,11 @@ no_sum feed (r ∷ rows) h = ap (λ z. z +ℤ sum_of feed rows)
     number (Int x) e = absurd (true≢false e)
     number (Text x) e = refl
 
--- what a sum tells of its rows
-sum_tells : (b : Bool) (z : ℤ) (a : Meaning) → (b ≡ false → z ≡ pos 0) → sum_answer (cond b (Some z) None) ≡ Some a
+-- what a sum says of its rows
+sum_says : (b : Bool) (z : ℤ) (a : Meaning) → (b ≡ false → z ≡ pos 0) → sum_answer (cond b (Some z) None) ≡ Some a
     → (is_value a ≡ b) × (number_of a ≡ z)
-sum_tells false z a zero h = let e : Null ≡ a = cc in (ap is_value (sym e), ap number_of (sym e) ∙ sym (zero refl))
-sum_tells true z a zero h = by (is_whole z) h
+sum_says false z a zero h = let e : Null ≡ a = cc in (ap is_value (sym e), ap number_of (sym e) ∙ sym (zero refl))
+sum_says true z a zero h = by (is_whole z) h
   where
     by : (c : Bool) → option_map (λ z. Int z) (cond c (Some z) None) ≡ Some a → (is_value a ≡ true) × (number_of a ≡ z)
     by true h = let e : Int z ≡ a = cc in (ap is_value (sym e), ap number_of (sym e))
@@ -83,8 +83,8 @@ module _ (feed : Feed) (numbers links order : List ℕ) (cmp : ℕ → ℕ
   abbrev of : ℕ → Meaning
   of = fed feed.values feed.filter
 
-  abbrev told : ℕ → Meaning
-  told = fed (map a order) None
+  abbrev numbered : ℕ → Meaning
+  numbered = fed (map a order) None
 
   -- the rows of the coarser group, and the places of its finer ones
   abbrev rows : List ℕ
@@ -103,17 +103,17 @@ module _ (feed : Feed) (numbers links order : List ℕ) (cmp : ℕ → ℕ
   module _ {M : Type 0} (none : M) (plus : M → M → M) (left : (x : M) → plus none x ≡ x) (comm : (x y : M)
       → plus x y ≡ plus y x) (assoc : (x y z : M) → plus (plus x y) z ≡ plus x (plus y z)) where
     -- of the finer groups, by their places or by their numbers
-    by_number : (h : Meaning → M) → total none plus (λ j. h (told j)) finer ≡ total none plus (λ f. h (a f)) (filter is_of order)
+    by_number : (h : Meaning → M) → total none plus (λ j. h (numbered j)) finer ≡ total none plus (λ f. h (a f)) (filter is_of order)
     by_number h =
-        ap (total none plus (λ j. h (told j))) (rows_through order)
-        ∙ of_same none plus left comm assoc (λ j. h (told j)) (λ j. h (a (get_or order j 0)))
+        ap (total none plus (λ j. h (numbered j))) (rows_through order)
+        ∙ of_same none plus left comm assoc (λ j. h (numbered j)) (λ j. h (a (get_or order j 0)))
         (filter (λ j. is_of (get_or order j 0)) (places (length order)))
-        (all_kept (λ j. h (told j) ≡ h (a (get_or order j 0))) (λ j. is_of (get_or order j 0)) (places (length order))
-        (below_all (λ j. h (told j) ≡ h (a (get_or order j 0))) (length order) (λ j l. ap h (get_or-map a order j 0 Null l))))
+        (all_kept (λ j. h (numbered j) ≡ h (a (get_or order j 0))) (λ j. is_of (get_or order j 0)) (places (length order))
+        (below_all (λ j. h (numbered j) ≡ h (a (get_or order j 0))) (length order) (λ j l. ap h (get_or-map a order j 0 Null l))))
         ∙ of_places none plus left comm assoc is_of (λ f. h (a f)) order
 
     through : (h : Meaning → M) (w : ℕ → M) → AllByRecursion (λ f. h (a f) ≡ total none plus w (rows_of_group numbers f))
-        order → total none plus (λ j. h (told j)) finer ≡ total none plus w rows
+        order → total none plus (λ j. h (numbered j)) finer ≡ total none plus w rows
     through h w all =
         by_number h
         ∙ of_same none plus left comm assoc (λ f. h (a f)) (λ f. total none plus w (rows_of_group numbers f))
@@ -130,25 +130,25 @@ module _ (feed : Feed) (numbers links order : List ℕ) (cmp : ℕ → ℕ
 
   of_sums : AllByRecursion (part_of Sum) order → aggregate_of Sum parts finer ≡ aggregate_of Sum feed rows
   of_sums all =
-      sym (sum_as_answer told finer (sum_of told finer))
-      ∙ ap (λ b. sum_answer (cond b (Some (sum_of told finer)) None))
-      (any_is_total (λ j. is_value (told j)) finer
+      sym (sum_as_answer numbered finer (sum_of numbered finer))
+      ∙ ap (λ b. sum_answer (cond b (Some (sum_of numbered finer)) None))
+      (any_is_total (λ j. is_value (numbered j)) finer
       ∙ through false (λ a b. a || b) (λ x. refl) or_comm or_assoc is_value (λ r. is_value (of r))
       (all_implied (part_of Sum) (λ f. is_value (a f) ≡ total false (λ a b. a || b) (λ r. is_value (of r))
-      (rows_of_group numbers f)) (λ f e. (tells f e).0 ∙ any_is_total (λ r. is_value (of r)) (rows_of_group numbers f)) order all)
+      (rows_of_group numbers f)) (λ f e. (says f e).0 ∙ any_is_total (λ r. is_value (of r)) (rows_of_group numbers f)) order all)
       ∙ sym (any_is_total (λ r. is_value (of r)) rows))
       ∙ ap (λ z. sum_answer (cond (list_any (λ r. is_value (of r)) rows) (Some z) None))
-      (sum_is_total told finer
+      (sum_is_total numbered finer
       ∙ through (pos 0) (λ a b. a +ℤ b) +ℤ_idl +ℤ_comm +ℤ_assoc number_of (λ r. number_of (of r))
       (all_implied (part_of Sum) (λ f. number_of (a f) ≡ total (pos 0) (λ a b. a +ℤ b) (λ r. number_of (of r))
-      (rows_of_group numbers f)) (λ f e. (tells f e).1 ∙ sum_is_total of (rows_of_group numbers f)) order all)
+      (rows_of_group numbers f)) (λ f e. (says f e).1 ∙ sum_is_total of (rows_of_group numbers f)) order all)
       ∙ sym (sum_is_total of rows))
       ∙ sum_as_answer of rows (sum_of of rows)
     where
-      tells : (f : ℕ) → part_of Sum f → (is_value (a f) ≡ list_any (λ r. is_value (of r)) (rows_of_group numbers f))
+      says : (f : ℕ) → part_of Sum f → (is_value (a f) ≡ list_any (λ r. is_value (of r)) (rows_of_group numbers f))
           × (number_of (a f) ≡ sum_of of (rows_of_group numbers f))
-      tells f e =
-          sum_tells (list_any (λ r. is_value (of r)) (rows_of_group numbers f)) (sum_of of (rows_of_group numbers f)) (a f)
+      says f e =
+          sum_says (list_any (λ r. is_value (of r)) (rows_of_group numbers f)) (sum_of of (rows_of_group numbers f)) (a f)
           (no_sum of (rows_of_group numbers f))
           (sum_as_answer of (rows_of_group numbers f) (sum_of of (rows_of_group numbers f)) ∙ e)
 
@@ -156,15 +156,15 @@ module _ (feed : Feed) (numbers links order : List ℕ) (cmp : ℕ → ℕ
       → AllByRecursion (λ f. Int (pos (count_by p (rows_of_group numbers f))) ≡ a f) order
       → aggregate_of Sum parts finer ≡ Some (Int (pos (count_by p rows)))
   of_counts p few met all =
-      sym (sum_as_answer told finer (sum_of told finer))
-      ∙ ap (λ b. sum_answer (cond b (Some (sum_of told finer)) None))
-      (any_is_total (λ j. is_value (told j)) finer ∙ by_number false (λ a b. a || b) (λ x. refl) or_comm or_assoc is_value
+      sym (sum_as_answer numbered finer (sum_of numbered finer))
+      ∙ ap (λ b. sum_answer (cond b (Some (sum_of numbered finer)) None))
+      (any_is_total (λ j. is_value (numbered j)) finer ∙ by_number false (λ a b. a || b) (λ x. refl) or_comm or_assoc is_value
       ∙ of_same false (λ a b. a || b) (λ x. refl) or_comm or_assoc (λ f. is_value (a f)) (λ f. true) (filter is_of order)
       (all_kept (λ f. is_value (a f) ≡ true) is_of order (all_implied (λ f. Int (pos (count_by p (rows_of_group numbers f)))
       ≡ a f) (λ f. is_value (a f) ≡ true) (λ f e. ap is_value (sym e)) order all))
       ∙ sym (any_is_total (λ f. true) (filter is_of order)) ∙ some_kept is_of order met)
       ∙ ap (λ z. sum_answer (Some z))
-      (sum_is_total told finer
+      (sum_is_total numbered finer
       ∙ through (pos 0) (λ a b. a +ℤ b) +ℤ_idl +ℤ_comm +ℤ_assoc number_of (λ r. cond (p r) (pos 1) (pos 0))
       (all_implied (λ f. Int (pos (count_by p (rows_of_group numbers f))) ≡ a f) (λ f. number_of (a f)
       ≡ total (pos 0) (λ a b. a +ℤ b) (λ r. cond (p r) (pos 1) (pos 0)) (rows_of_group numbers f))
@@ -196,7 +196,7 @@ module _ (feed : Feed) (numbers links order : List ℕ) (cmp : ℕ → ℕ
       → AllByRecursion (λ f. first_or_null (sorted cmp (fed_values feed (rows_of_group numbers f))) ≡ a f) order
       → first_or_null (sorted cmp (fed_values parts finer)) ≡ first_or_null (sorted cmp (fed_values feed rows))
   of_leasts cmp total_order tie all =
-      least_is_total cmp total_order tie told finer
+      least_is_total cmp total_order tie numbered finer
       ∙ through Null (lesser cmp) (λ x. refl) (lesser_comm cmp total_order tie) (lesser_assoc cmp total_order tie) (λ v. v) of
       (all_implied (λ f. first_or_null (sorted cmp (fed_values feed (rows_of_group numbers f))) ≡ a f)
       (λ f. a f ≡ total Null (lesser cmp) of (rows_of_group numbers f))

@@ -52,8 +52,8 @@ module _ (rows : List Row) (n : ℕ) (long : length rows ≡ n) where
       ∙ ap (λ r. r >>= λ y. others >>= λ ys. Ok (y ∷ ys)) column_counted
       ∙ ap (λ r. r >>= λ ys. Ok ((count ∷ []) ∷ ys)) (columns_counted cs all.1)
 
-  row_told : (calls : List GroupCallPlan) → beside ([] ∷ []) (map (λ c. count ∷ []) calls) ≡ map (λ c. count) calls ∷ []
-  row_told calls = ap (λ l. l ∷ []) (map-map (λ column. value_at column 0) (λ c. count ∷ []) calls)
+  row_of_counts : (calls : List GroupCallPlan) → beside ([] ∷ []) (map (λ c. count ∷ []) calls) ≡ map (λ c. count) calls ∷ []
+  row_of_counts calls = ap (λ l. l ∷ []) (map-map (λ column. value_at column 0) (λ c. count ∷ []) calls)
 
   pub rows_counted : (g : GroupingPlan) → CountsRows g → group_rows g rows ≡ held_rows g.having (map (λ c. count) g.calls ∷ [])
   rows_counted g is =
@@ -62,7 +62,7 @@ module _ (rows : List Row) (n : ℕ) (long : length rows ≡ n) where
       ap (λ columns. not_too_many (groups_of columns g.sets rows) >>= after) is.columns
       ∙ ap (λ sets. not_too_many (groups_of [] sets rows) >>= after) is.sets
       ∙ ap (λ r. r >>= λ columns. held_rows g.having (beside ([] ∷ []) columns)) (columns_counted g.calls is.calls)
-      ∙ ap (held_rows g.having) (row_told g.calls)
+      ∙ ap (held_rows g.having) (row_of_counts g.calls)
 
 -- the same for one element more
 pub same_taken : {X Y : Type 0} (y : Y) (xs : List X) (i : ℕ) → i < length xs

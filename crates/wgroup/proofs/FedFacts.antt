@@ -13,24 +13,24 @@ use Rattle.wrows.specs.Outcomes.{◌>>=◌}
 use Rattle.wgroup.specs.declared.found.Groups as memory
 use Rattle.wgroup.specs.Held.{column_over, set_answers}
 use Rattle.wgroup.specs.Shared.{Feeds}
-use Rattle.wgroup.proofs.ColumnFacts.{null_told}
+use Rattle.wgroup.proofs.ColumnFacts.{null_column}
 
 -- what it comes to with a filter, if there is one
 abbrev pub answers_fed : AggregatePlan → List memory.Groups → List Meaning → Option (List Bool) → Result (List Meaning) AnswerFault
 answers_fed a sets values filter = in_range (flat_map (set_answers a.function (record { values = values; filter = filter })) sets)
 
 module _ (a : AggregatePlan) (rows : List Row) (sets : List memory.Groups) (values : List Meaning) where
-  abbrev told : Feed → Result (List Meaning) AnswerFault
-  told feed = in_range (flat_map (set_answers a.function feed) sets)
+  abbrev answers_by : Feed → Result (List Meaning) AnswerFault
+  answers_by feed = in_range (flat_map (set_answers a.function feed) sets)
 
   abbrev by_filter : List Meaning → Result (Option (List Bool)) AnswerFault → Result (List Meaning) AnswerFault
-  by_filter fed filters = (filters >>= λ filter. Ok (record { values = fed; filter = filter })) >>= told
+  by_filter fed filters = (filters >>= λ filter. Ok (record { values = fed; filter = filter })) >>= answers_by
 
   by_values : (r : Result (List Meaning) AnswerFault) (fed : List Meaning) → r ≡ Ok fed
-      → (r >>= λ values. filter_of a.filter rows >>= λ filter. Ok (record { values = values; filter = filter })) >>= told
+      → (r >>= λ values. filter_of a.filter rows >>= λ filter. Ok (record { values = values; filter = filter })) >>= answers_by
       ≡ by_filter fed (filter_of a.filter rows)
   by_values r fed e = ap (λ r. (r >>= λ values. filter_of a.filter rows >>= λ filter. Ok (record { values = values; filter = filter }))
-      >>= told) e
+      >>= answers_by) e
 
   same : (filters : Result (Option (List Bool)) AnswerFault) → by_filter values filters ≡ filters >>= answers_fed a sets values
   same (Ok filter) = refl
@@ -48,4 +48,4 @@ module _ (a : AggregatePlan) (rows : List Row) (sets : List memory.Groups) (valu
       → column_over rows sets (GroupAggregate a) ≡ filter_of a.filter rows >>= answers_fed a sets values
   column_fed (inl e) = by_values (column_of a.argument rows) values e ∙ same (filter_of a.filter rows)
   column_fed (inr (f, n)) = by_values (column_of a.argument rows) (map (value_on (Constant Null)) rows)
-      (ap (λ t. column_of t rows) n ∙ null_told rows) ∙ counted (map (value_on (Constant Null)) rows) f (filter_of a.filter rows)
+      (ap (λ t. column_of t rows) n ∙ null_column rows) ∙ counted (map (value_on (Constant Null)) rows) f (filter_of a.filter rows)

@@ -47,77 +47,77 @@ module _ (columns : SetColumns) (rows : List (Bor (List Value))) where
   abbrev w : ℕ
   w = length columns
 
-  abbrev told : List Row
-  told = rows_seen rows
+  abbrev seen : List Row
+  seen = rows_seen rows
 
-  long : length told ≡ length rows
+  long : length seen ≡ length rows
   long = length-map rows row_seen
 
   -- rows are the same by their cells where they agree
-  module _ (cells : List Value) (keyed : laid w n cells ≡ map (key_in columns) told) where
-    key_of : (i : ℕ) → i < n → key_at (laid w n cells) i ≡ group_key columns told i
-    key_of i h = ap (λ ks. get_or ks i []) keyed ∙ get_or-map (key_in columns) told i [] [] (omega (arith, long, h))
+  module _ (cells : List Value) (keyed : laid w n cells ≡ map (key_in columns) seen) where
+    key_of : (i : ℕ) → i < n → key_at (laid w n cells) i ≡ group_key columns seen i
+    key_of i h = ap (λ ks. get_or ks i []) keyed ∙ get_or-map (key_in columns) seen i [] [] (omega (arith, long, h))
 
-    slice_key : (i : ℕ) → i < n → map meaning (slice_at w cells i) ≡ group_key columns told i
+    slice_key : (i : ℕ) → i < n → map meaning (slice_at w cells i) ≡ group_key columns seen i
     slice_key i h = sym (row_at w n cells i h) ∙ key_of i h
 
-    key_wide : (i : ℕ) → length (group_key columns told i) ≡ length columns
-    key_wide i = length-map columns (set_value (key_at told i))
+    key_wide : (i : ℕ) → length (group_key columns seen i) ≡ length columns
+    key_wide i = length-map columns (set_value (key_at seen i))
 
-    same_agrees : (i j : ℕ) → i < n → j < n → same_row w cells i j ≡ agree columns told i j
-    same_agrees i j h k = cells_agree columns (slice_at w cells i) (slice_at w cells j) (group_key columns told i)
-        (group_key columns told j) (slice_key i h) (slice_key j k) (key_wide i) (key_wide j)
+    same_agrees : (i j : ℕ) → i < n → j < n → same_row w cells i j ≡ agree columns seen i j
+    same_agrees i j h k = cells_agree columns (slice_at w cells i) (slice_at w cells j) (group_key columns seen i)
+        (group_key columns seen j) (slice_key i h) (slice_key j k) (key_wide i) (key_wide j)
 
-    pub rows_agree : (firsts numbers : List ℕ) → IsSight (same_row w cells) n firsts numbers → IsSight (agree columns told) n firsts numbers
-    rows_agree = sights_agree (same_row w cells) (agree columns told) n same_agrees
+    pub rows_agree : (firsts numbers : List ℕ) → IsSight (same_row w cells) n firsts numbers → IsSight (agree columns seen) n firsts numbers
+    rows_agree = sights_agree (same_row w cells) (agree columns seen) n same_agrees
 
-  firsts_told : first_of (agree columns told) n ≡ first_rows columns told
-  firsts_told = ap (λ m. filter (λ i. not (list_any (agree columns told i) (places i))) (places m)) (sym long)
+  firsts_here : first_of (agree columns seen) n ≡ first_rows columns seen
+  firsts_here = ap (λ m. filter (λ i. not (list_any (agree columns seen i) (places i))) (places m)) (sym long)
 
   module _ (set firsts order numbers : List ℕ) (keys : List Value) (count : ℕ)
-      (sight : IsSight (agree columns told) n firsts numbers)
-      (are_keys : laid w (length firsts) keys ≡ map (group_key columns told) firsts) (are_so_many : count ≡ length firsts)
+      (sight : IsSight (agree columns seen) n firsts numbers)
+      (are_keys : laid w (length firsts) keys ≡ map (group_key columns seen) firsts) (are_so_many : count ≡ length firsts)
       (in_order : order ≡ numbers_by (ascending columns) (laid w (length firsts) keys) (length firsts))
       (below : All (λ i. i < length firsts) order) where
     abbrev first : ℕ → ℕ
     first g = get_or firsts g 0
 
-    key_here : (g : ℕ) → g < length firsts → key_at (laid w (length firsts) keys) g ≡ group_key columns told (first g)
-    key_here g h = ap (λ ks. get_or ks g []) are_keys ∙ get_or-map (group_key columns told) firsts g 0 [] h
+    key_here : (g : ℕ) → g < length firsts → key_at (laid w (length firsts) keys) g ≡ group_key columns seen (first g)
+    key_here g h = ap (λ ks. get_or ks g []) are_keys ∙ get_or-map (group_key columns seen) firsts g 0 [] h
 
-    rows_here : (g : ℕ) → g < length firsts → rows_of_group numbers g ≡ filter (agree columns told (first g)) (places (length told))
-    rows_here g h = rows_numbered (agree columns told) (agree_equiv columns told) n firsts numbers sight g h
-        ∙ ap (λ m. filter (agree columns told (first g)) (places m)) (sym long)
+    rows_here : (g : ℕ) → g < length firsts → rows_of_group numbers g ≡ filter (agree columns seen (first g)) (places (length seen))
+    rows_here g h = rows_numbered (agree columns seen) (agree_equiv columns seen) n firsts numbers sight g h
+        ∙ ap (λ m. filter (agree columns seen (first g)) (places m)) (sym long)
 
     abbrev group : ℕ → Group
     group g = record { set = set; key = key_at (laid w count keys) g; rows = rows_of_group numbers g }
 
-    group_here : (g : ℕ) → g < length firsts → group g ≡ group_of set columns told (first g)
+    group_here : (g : ℕ) → g < length firsts → group g ≡ group_of set columns seen (first g)
     group_here g h =
-        let key : key_at (laid w count keys) g ≡ group_key columns told (first g) =
+        let key : key_at (laid w count keys) g ≡ group_key columns seen (first g) =
         ap (λ m. key_at (laid w m keys) g) are_so_many ∙ key_here g h in
         let one : List Meaning → List ℕ → Group = λ k rs. record { set = set; key = k; rows = rs } in
-        ap (λ k. one k (rows_of_group numbers g)) key ∙ ap (λ rs. one (group_key columns told (first g)) rs) (rows_here g h)
+        ap (λ k. one k (rows_of_group numbers g)) key ∙ ap (λ rs. one (group_key columns seen (first g)) rs) (rows_here g h)
 
     abbrev by_key : ℕ → ℕ → Ordering
-    by_key = on (group_key columns told) (group_cmp columns)
+    by_key = on (group_key columns seen) (group_cmp columns)
 
-    order_here : map first order ≡ sorted by_key (first_rows columns told)
+    order_here : map first order ≡ sorted by_key (first_rows columns seen)
     order_here =
         ap (map first) (in_order ∙ sorted_same (λ g. g < length firsts) (on (key_at (laid w (length firsts) keys))
         (keys_cmp (ascending columns))) (on first by_key)
         (λ x y h k. ap (λ a. group_cmp columns a (key_at (laid w (length firsts) keys) y)) (key_here x h)
-        ∙ ap (λ b. group_cmp columns (group_key columns told (first x)) b) (key_here y k))
+        ∙ ap (λ b. group_cmp columns (group_key columns seen (first x)) b) (key_here y k))
         (places (length firsts)) (places_below 0 (length firsts) (length firsts) (omega arith)))
-        ∙ sym (sorted_map by_key first (places (length firsts))) ∙ ap (sorted by_key) (at_places firsts 0 ∙ sight.are_firsts ∙ firsts_told)
+        ∙ sym (sorted_map by_key first (places (length firsts))) ∙ ap (sorted by_key) (at_places firsts 0 ∙ sight.are_firsts ∙ firsts_here)
 
     -- the groups in memory are those that are meant
-    pub are_groups : map group order ≡ groups_by set columns told
+    pub are_groups : map group order ≡ groups_by set columns seen
     are_groups =
-        map_same group (λ g. group_of set columns told (first g)) order
-        (all_implied (λ g. g < length firsts) (λ g. group g ≡ group_of set columns told (first g)) group_here order
+        map_same group (λ g. group_of set columns seen (first g)) order
+        (all_implied (λ g. g < length firsts) (λ g. group g ≡ group_of set columns seen (first g)) group_here order
         (recursion_from_All (λ i. i < length firsts) order below))
-        ∙ sym (map-map (group_of set columns told) first order) ∙ ap (map (group_of set columns told)) order_here
+        ∙ sym (map-map (group_of set columns seen) first order) ∙ ap (map (group_of set columns seen)) order_here
 
 pub some_length : {X : Type 0} (xs : List X) → false ≡ (length xs == 0) → 0 < length xs
 some_length [] h = absurd (grind (arith, nat_tests))

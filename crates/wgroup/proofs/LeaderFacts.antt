@@ -128,7 +128,7 @@ module _ (c : ℕ → ℕ → Ordering) (total : IsTotalOrder c) where
   in_sorted z (x ∷ xs) (inl e) = in_inserted x z (sorted c xs) (inl e)
   in_sorted z (x ∷ xs) (inr h) = in_inserted x z (sorted c xs) (inr (in_sorted z xs h))
 
-  module _ (same : ℕ → ℕ → Bool) (eqv : IsEquivalence same) (n : ℕ) (tells : (i j : ℕ) → i < n → j < n → same i j ≡ is_eq (c i j))
+  module _ (same : ℕ → ℕ → Bool) (eqv : IsEquivalence same) (n : ℕ) (decides : (i j : ℕ) → i < n → j < n → same i j ≡ is_eq (c i j))
       (order : List ℕ) (is : order ≡ sorted c (places n)) (long : length order ≡ n) (within : (j : ℕ) → j < n → get_or order j 0 < n) where
     alike : (i j : ℕ) → same i j ≡ true → same i ≡ same j
     alike i j h = λ p k. eqv.congr i j k h p
@@ -142,7 +142,7 @@ module _ (c : ℕ → ℕ → Ordering) (total : IsTotalOrder c) where
         (found.0, (let l : found.0 < length order = found.1 in omega (arith, l, long)), found.2)
 
     equal_of : (i j : ℕ) → i < n → j < n → same i j ≡ true → c i j ≡ Equal
-    equal_of i j h k e = from_eq (c i j) (sym (tells i j h k) ∙ e)
+    equal_of i j h k e = from_eq (c i j) (sym (decides i j h k) ∙ e)
 
     not_less : (i j : ℕ) → i < n → j < n → same i j ≡ true → c i j ≡ Less → ⊥
     not_less i j h k e l = let p : Less ≡ Equal = sym l ∙ equal_of i j h k e in cc
@@ -166,7 +166,7 @@ module _ (c : ℕ → ℕ → Ordering) (total : IsTotalOrder c) where
     -- what is the same as a row, and stands before it, stands no further than a row that is another
     between : (last row i : ℕ) → last < n → row < n → i < n → (i ≡ last) ⊎ Before i last → Before last row
         → same row i ≡ true → same last row ≡ true
-    between last row i h k l up (inr p) e = tells last row h k ∙ ap is_eq p.0
+    between last row i h k l up (inr p) e = decides last row h k ∙ ap is_eq p.0
     between last row i h k l (inl q) (inl p) e = absurd (not_less i row l k (eqv.symm i row ∙ e) (ap (λ x. c x row) q ∙ p))
     between last row i h k l (inr q) (inl p) e = absurd (not_less i row l k (eqv.symm i row ∙ e) (before_less i last row q p))
 

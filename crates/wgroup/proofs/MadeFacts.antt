@@ -332,8 +332,8 @@ module _ (f : ℕ → Option Meaning) where
   all_in_range order ys h =
       let none : list_any is_none (map f order) ≡ false =
       ok_is_false (list_any is_none (map f order)) (map (λ r. unwrap_or r Null) (map f order)) ys h in
-      let told : map (λ r. unwrap_or r Null) (map f order) ≡ ys = go (list_any is_none (map f order)) none h in
-      (sym told ∙ map-map (λ r. unwrap_or r Null) f order, each_some order none)
+      let same : map (λ r. unwrap_or r Null) (map f order) ≡ ys = go (list_any is_none (map f order)) none h in
+      (sym same ∙ map-map (λ r. unwrap_or r Null) f order, each_some order none)
     where
       go : (b : Bool) → b ≡ false → unless b OutOfRange (map (λ r. unwrap_or r Null) (map f order)) ≡ Ok ys
           → map (λ r. unwrap_or r Null) (map f order) ≡ ys

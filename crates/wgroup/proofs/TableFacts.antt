@@ -79,11 +79,11 @@ near_wide slots first step few wide =
 pub free_near : (slots : List ℕ) (first groups step : ℕ) → first + 8 ≤ length slots
     → position (nat_le groups) (take 8 (drop first slots)) ≡ Some step → (step < 8) × (groups ≤ get_or slots (first + step) 0)
 free_near slots first groups step wide found =
-    let told = position-Some (nat_le groups) (take 8 (drop first slots)) step 0 found in
+    let here = position-Some (nat_le groups) (take 8 (drop first slots)) step 0 found in
     let d : length (drop first slots) ≡ length slots - first = length-drop first slots in
     let l : length (take 8 (drop first slots)) ≡ 8 = length-take-le 8 (drop first slots) (omega (arith, d, wide)) in
-    let few : step < 8 = omega (arith, told.0, l) in
-    let free : groups ≤ get_or (take 8 (drop first slots)) step 0 = leb-true groups (get_or (take 8 (drop first slots)) step 0) told.1 in
+    let few : step < 8 = omega (arith, here.0, l) in
+    let free : groups ≤ get_or (take 8 (drop first slots)) step 0 = leb-true groups (get_or (take 8 (drop first slots)) step 0) here.1 in
     (few, subst (λ n. groups ≤ n) (get_or-take 8 (drop first slots) step 0 few ∙ get_or-drop first slots step 0) free)
 
 stays_near : (slots : List ℕ) (first k x g : ℕ) → get_or slots k 0 ≢ g → is_among g (take 8 (drop first slots)) ≡ true
@@ -116,15 +116,15 @@ module _ (keyed : Keyed) (firsts : List ℕ) (keys : List Value) (has : HasKeys 
   abbrev columns : SetColumns
   columns = keyed.columns.now
 
-  abbrev told : List Row
-  told = rows_seen keyed.rows.now
+  abbrev seen : List Row
+  seen = rows_seen keyed.rows.now
 
   abbrev width : ℕ
   width = length columns
 
   long : length keys ≡ length firsts * width
-  long = sym (length-map keys meaning) ∙ ap length has ∙ laid_length width (group_key columns told) firsts
-      (group_keys_wide columns told firsts)
+  long = sym (length-map keys meaning) ∙ ap length has ∙ laid_length width (group_key columns seen) firsts
+      (group_keys_wide columns seen firsts)
 
   pub key_within : (number : ℕ) → number < length firsts → number * width + width ≤ length keys
   key_within number h =
@@ -133,35 +133,35 @@ module _ (keyed : Keyed) (firsts : List ℕ) (keys : List Value) (has : HasKeys 
       omega (arith, most, more, long)
 
   key_of : (number : ℕ) → number < length firsts → map meaning (take width (drop (number * width) keys))
-      ≡ group_key columns told (get_or firsts number 0)
+      ≡ group_key columns seen (get_or firsts number 0)
   key_of number h =
       sym (row_at width (length firsts) keys number h)
-      ∙ ap (λ l. get_or l number []) (laid_rows width (group_key columns told) firsts (group_keys_wide columns told firsts) keys has)
-      ∙ get_or-map (group_key columns told) firsts number 0 [] h
+      ∙ ap (λ l. get_or l number []) (laid_rows width (group_key columns seen) firsts (group_keys_wide columns seen firsts) keys has)
+      ∙ get_or-map (group_key columns seen) firsts number 0 [] h
 
   -- a row is of the group whose key it has
   pub same_key : (row number : ℕ) (key : List Value) → number < length firsts
       → key ≡ take width (drop (number * width) keys)
-      → pointwise same_meaning (group_key columns told row) (map meaning key) ≡ alike keyed row (get_or firsts number 0)
+      → pointwise same_meaning (group_key columns seen row) (map meaning key) ≡ alike keyed row (get_or firsts number 0)
   same_key row number key h is =
-      ap (λ k. pointwise same_meaning (group_key columns told row) k) (ap (map meaning) is ∙ key_of number h)
-      ∙ one_answer (pointwise same_meaning (group_key columns told row) (group_key columns told (get_or firsts number 0)))
+      ap (λ k. pointwise same_meaning (group_key columns seen row) k) (ap (map meaning) is ∙ key_of number h)
+      ∙ one_answer (pointwise same_meaning (group_key columns seen row) (group_key columns seen (get_or firsts number 0)))
       (alike keyed row (get_or firsts number 0))
-      (pointwise_decides meaning_decides (group_key columns told row) (group_key columns told (get_or firsts number 0)))
-      (agree_decides columns told row (get_or firsts number 0))
+      (pointwise_decides meaning_decides (group_key columns seen row) (group_key columns seen (get_or firsts number 0)))
+      (agree_decides columns seen row (get_or firsts number 0))
 
   pub is_one : (row number : ℕ) (key : List Value) → number < length firsts → key ≡ take width (drop (number * width) keys)
-      → pointwise same_meaning (group_key columns told row) (map meaning key) ≡ is_of_group keyed firsts row number
+      → pointwise same_meaning (group_key columns seen row) (map meaning key) ≡ is_of_group keyed firsts row number
   is_one row number key h is = same_key row number key h is ∙ ap (λ b. b && alike keyed row (get_or firsts number 0))
       (sym (lt-ltb number (length firsts) h))
 
   -- a group more
-  pub keys_more : (row : ℕ) (cells : List Meaning) (after : List Value) → cells ≡ key_at told row
+  pub keys_more : (row : ℕ) (cells : List Meaning) (after : List Value) → cells ≡ key_at seen row
       → map meaning after ≡ map meaning keys ++ key_in columns cells → HasKeys keyed (firsts ++ row ∷ []) after
   keys_more row cells after is made =
-      made ∙ ap (λ l. l ++ key_in columns cells) has ∙ ap (λ r. flat_map (group_key columns told) firsts ++ key_in columns r) is
-      ∙ ap (λ l. flat_map (group_key columns told) firsts ++ l) (sym (append-nil (group_key columns told row)))
-      ∙ sym (flat_map-append (group_key columns told) firsts (row ∷ []))
+      made ∙ ap (λ l. l ++ key_in columns cells) has ∙ ap (λ r. flat_map (group_key columns seen) firsts ++ key_in columns r) is
+      ∙ ap (λ l. flat_map (group_key columns seen) firsts ++ l) (sym (append-nil (group_key columns seen row)))
+      ∙ sym (flat_map-append (group_key columns seen) firsts (row ∷ []))
 
 module _ (keyed : Keyed) (firsts slots apart : List ℕ) where
   split : (first g : ℕ) → is_among g (looked_at slots apart first) ≡ (is_among g (take 8 (drop first slots)) || is_among g apart)

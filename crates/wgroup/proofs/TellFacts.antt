@@ -206,13 +206,13 @@ count_next sets i g from next all lt is e so_far =
 -- all rows, as they lie in memory
 module _ (columns : List (List Meaning)) (width : ℕ) (sets : List memory.Groups) (cells : List Value) (count : ℕ) (i : ℕ)
     (wide : AllByRecursion (λ (g : memory.Groups). g.width ≡ width) sets) (end : length sets ≤ i)
-    (told : flat_map (λ row. row) (sets_rows columns 0 sets) ≡ map meaning cells ++ flat_map (λ row. row)
+    (as_cells : flat_map (λ row. row) (sets_rows columns 0 sets) ≡ map meaning cells ++ flat_map (λ row. row)
     (sets_rows columns count (drop i sets))) (counted : count + length (all_groups (drop i sets)) ≡ length (all_groups sets)) where
   none_left : drop i sets ≡ []
   none_left = drop_whole i sets end
 
   lie : map meaning cells ≡ flat_map (λ row. row) (sets_rows columns 0 sets)
-  lie = sym (told ∙ ap (λ l. map meaning cells ++ flat_map (λ row. row) (sets_rows columns count l)) none_left
+  lie = sym (as_cells ∙ ap (λ l. map meaning cells ++ flat_map (λ row. row) (sets_rows columns count l)) none_left
       ∙ nothing_behind (map meaning cells))
 
   pub so_many : count ≡ length (all_groups sets)

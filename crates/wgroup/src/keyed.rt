@@ -1,4 +1,4 @@
-//! Rows, and the columns of a set by which they are told apart.
+//! Rows, and the columns of a set by which they are grouped.
 ghost use Rattle.std.specs.Prelude.{◌≡◌};
 ghost use Rattle.wvalues.specs.Meaning.{Null, meaning};
 

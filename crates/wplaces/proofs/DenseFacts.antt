@@ -31,7 +31,7 @@ before_last s row l h e = grind (arith, nat_tests)
 -- what the law of groups says of one partition
 module _ (p : Partition) (row before : ℕ) (s : Span) (h : row < length p.keys) (some : row ≡ 0 → ⊥)
     (ordered : AreOrdered (keys_cmp p.order) p.keys)
-    (told : (j : ℕ) → row ≡ j + 1 → before ≡ dense_rank_of p j)
+    (ranked : (j : ℕ) → row ≡ j + 1 → before ≡ dense_rank_of p j)
     (each : (j : ℕ) → j < length p.keys → is_in_span s j ≡ are_peers (keys_cmp p.order) p.keys (row - 1) j)
     (from : s.from ≤ row - 1) (to : row - 1 < s.to) where
   abbrev number : ℕ → ℕ
@@ -47,7 +47,7 @@ module _ (p : Partition) (row before : ℕ) (s : Span) (h : row < length p.keys)
   dense_same l peers =
       let tied : are_peers (keys_cmp p.order) p.keys (row - 1) (row - 1 + 1) ≡ true =
       sym (each (row - 1 + 1) (omega (arith, at, h))) ∙ before_last s (row - 1) from to (λ e. absurd (omega (arith, at, e, l))) in
-      told (row - 1) (sym at) ∙ ap (λ n. 1 + n) (sym (peers p.order p.keys (row - 1) ordered (omega (arith, at, h)) tied))
+      ranked (row - 1) (sym at) ∙ ap (λ n. 1 + n) (sym (peers p.order p.keys (row - 1) ordered (omega (arith, at, h)) tied))
       ∙ ap (λ i. 1 + number i) at
 
   pub dense_next : s.to ≤ row
@@ -59,7 +59,7 @@ module _ (p : Partition) (row before : ℕ) (s : Span) (h : row < length p.keys)
       let last : s.to ≡ row - 1 + 1 = omega (arith, at, l, to) in
       let other : are_peers (keys_cmp p.order) p.keys (row - 1) (row - 1 + 1) ≡ false =
       sym (each (row - 1 + 1) (omega (arith, at, h))) ∙ past_last s (row - 1) last in
-      let is : before ≡ 1 + number (row - 1) = told (row - 1) (sym at) in
+      let is : before ≡ 1 + number (row - 1) = ranked (row - 1) (sym at) in
       let step : number (row - 1 + 1) ≡ number (row - 1) + 1 = others p.order p.keys (row - 1) ordered (omega (arith, at, h)) other in
       let next : before + 1 ≡ 1 + number (row - 1 + 1) = omega (arith, is, step) in
       next ∙ ap (λ i. 1 + number i) at
@@ -74,9 +74,9 @@ dense_first p row h e ordered first =
 pub dense_few : (p : Partition) (row before : ℕ) (s : Span) → (row ≡ 0 → ⊥)
     → ((j : ℕ) → row ≡ j + 1 → before ≡ dense_rank_of p j)
     → s.from ≡ length (smaller_keys (keys_cmp p.order) p.keys (row - 1)) → s.from ≤ row - 1 → before ≤ row
-dense_few p row before s some told smaller from =
+dense_few p row before s some ranked smaller from =
     let at : row ≡ (row - 1) + 1 = omega (arith, some) in
-    let is : before ≡ 1 + group_number (keys_cmp p.order) p.keys (row - 1) = told (row - 1) at in
+    let is : before ≡ 1 + group_number (keys_cmp p.order) p.keys (row - 1) = ranked (row - 1) at in
     let few : group_number (keys_cmp p.order) p.keys (row - 1) ≤ length (smaller_keys (keys_cmp p.order) p.keys (row - 1)) =
     distinct_short (keys_cmp p.order) (smaller_keys (keys_cmp p.order) p.keys (row - 1)) in
     omega (arith, is, few, smaller, from, at)

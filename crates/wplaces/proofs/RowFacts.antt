@@ -23,16 +23,16 @@ same_answers f g a (suc n) h =
     ap (λ x. x ∷ map f (range_with_len (a + 1) n)) (h a (omega arith) (omega arith))
     ∙ ap (λ xs. g a ∷ xs) (same_answers f g (a + 1) n (λ j l m. h j (omega arith) (omega arith)))
 
--- what a closure tells of a range of rows is a column, where it tells each row's answer
+-- what a closure gives for a range of rows is a column, where it gives each row's answer
 pub column : {X F Z E : Type 0} {s : Map (Range ℕ) F} {g : Mut F (ℕ × Unit {0}) X} {f : F} (r : Result (Vec X Z) E)
-    (p : Partition) (n : ℕ) (told answer : ℕ → X) →
+    (p : Partition) (n : ℕ) (given answer : ℕ → X) →
     IsCollectResult (maps nat_range_steps g) s r → map_source s ≡ record { start = 0; end = n } → map_callee s ≡ f → n ≡ length p.keys →
-    ((x : ℕ) (y : X) (q : F) → Called g f (x, tt) y q → (q ≡ f) × (y ≡ told x)) → ((j : ℕ) → j < length p.keys → told j ≡ answer j) →
+    ((x : ℕ) (y : X) (q : F) → Called g f (x, tt) y q → (q ≡ f) × (y ≡ given x)) → ((j : ℕ) → j < length p.keys → given j ≡ answer j) →
     IfOk r (λ v. v.items ≡ each_row p answer)
-column r p n told answer ran source callee e closure same =
-    IfOk-weaker r (λ v. vec_items v ≡ map told (range_with_len 0 n)) (λ v. v.items ≡ each_row p answer)
-    (λ v q. q ∙ ap (λ m. map told (range_with_len 0 m)) e ∙ same_answers told answer 0 (length p.keys) (λ j l m. same j (omega arith)))
-    (items_from_collect r ran (YieldsList-from_map _ told (YieldsList-from_range 0 n n source (omega arith)) callee closure))
+column r p n given answer ran source callee e closure same =
+    IfOk-weaker r (λ v. vec_items v ≡ map given (range_with_len 0 n)) (λ v. v.items ≡ each_row p answer)
+    (λ v q. q ∙ ap (λ m. map given (range_with_len 0 m)) e ∙ same_answers given answer 0 (length p.keys) (λ j l m. same j (omega arith)))
+    (items_from_collect r ran (YieldsList-from_map _ given (YieldsList-from_range 0 n n source (omega arith)) callee closure))
 
 -- how many places lie before a place
 pub length_before : (a n i : ℕ) → i ≤ a + n → length (filter (λ j. nat_lt j i) (places_from a n)) ≡ i - a
@@ -52,5 +52,5 @@ column_more f a (suc n) j e =
 
 pub more_answers : {X : Type 0} (f : ℕ → X) (xs ys : List X) (n : ℕ) (x : X) → xs ≡ map f (places n) → ys ≡ xs ++ x ∷ []
     → x ≡ f n → ys ≡ map f (places (n + 1))
-more_answers f xs ys n x told e same = e ∙ ap (λ zs. zs ++ x ∷ []) told ∙ ap (λ y. map f (places n) ++ y ∷ []) same
+more_answers f xs ys n x given e same = e ∙ ap (λ zs. zs ++ x ∷ []) given ∙ ap (λ y. map f (places n) ++ y ∷ []) same
     ∙ sym (column_more f 0 n n (omega arith))

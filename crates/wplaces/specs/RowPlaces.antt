@@ -1,4 +1,4 @@
--- The places of the rows whose values are told: <lead or lag function>, <first or last value function>, <nth value function>.
+-- The places of the rows whose values are given: <lead or lag function>, <first or last value function>, <nth value function>.
 use Rattle.std.specs.Prelude.{ℕ, ◌+◌, ◌-◌, nat_le, nat_lt, Option, Some, None, if◌then◌else◌}
 use Rattle.std.specs.List.{slice_get, last_or}
 use Rattle.wframe.specs.Partition.{Partition}

@@ -15,11 +15,11 @@ pub fn ranks_tell_first_peers()
         → IsFirstPeer p i first → rank_of p i ≡ row_number_of p first }
 {}
 
-/// The tiles are as many as asked for and share out the rows, and the tile told for a row has it.
+/// The tiles are as many as asked for and share out the rows, and the tile given for a row has it.
 pub fn tiles_share_the_rows()
     ensures count { (rows tiles : ℕ) → 1 ≤ tiles → length (tile_sizes rows tiles) ≡ tiles }
     ensures shared { (rows tiles : ℕ) → 1 ≤ tiles → sum (tile_sizes rows tiles) ≡ rows }
-    ensures told { (rows tiles i : ℕ) → 1 ≤ tiles → i < rows
+    ensures holds { (rows tiles i : ℕ) → 1 ≤ tiles → i < rows
         → is_in_span (span_at (pieces 0 (tile_sizes rows tiles)) (tile_of rows tiles i - 1)) i ≡ true }
 {}
 

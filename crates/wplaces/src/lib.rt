@@ -1,7 +1,7 @@
 //! Ranks, and places in a partition or a frame.
 //!
 //! - Gives, for a row of one partition or for each, its number, rank or tile, or the place of the row whose value a call
-//!   tells. Numbers count from 1, places from 0, both in the partition's order. What is told of one row makes no list.
+//!   tells. Numbers count from 1, places from 0, both in the partition's order. The answer for one row makes no list.
 //! - Promises: the answers are the counts and places of the definitions. The one error is that memory was refused
 //!   for a list.
 //! - Asks: at least one tile for `ntile`, and a count from 1 on for `nth_value`. Which of several peers comes first is

@@ -85,7 +85,7 @@ module _ (s : SelectPlan) (ps : List ℕ) (reads : ReadsPlaces s ps) (sound : is
   numbers = kept_numbers (holds_by None) segments refs
 
   in_order : by_keys s.keys [] rows ≡ Ok numbers
-  in_order = ap (by_keys s.keys []) (sym (all_filtered rows)) ∙ of.tells (holds_by None)
+  in_order = ap (by_keys s.keys []) (sym (all_filtered rows)) ∙ of.orders (holds_by None)
 
   are_presorted : map (key_at rows) numbers ≡ map (referenced_row segments) refs
   are_presorted = presorted_rows segments refs (recursion_from_All (IsRowOf segments) refs of.within)

@@ -12,9 +12,9 @@ unanswered answers.TooManyRows = faults.TooManyRows
 unanswered answers.NoMemory = faults.NoMemory
 
 -- the table, or the fault of an answer, unless memory was refused
-abbrev pub Tells : Result TableParts AskFault → Result TableParts AnswerFault → Type 0
-Tells (Ok table) meant = meant ≡ Ok table
-Tells (Err faults.OutOfRange) meant = meant ≡ Err answers.OutOfRange
-Tells (Err faults.TooManyRows) meant = meant ≡ Err answers.TooManyRows
-Tells (Err faults.NoMemory) meant = Unit {0}
-Tells (Err other) meant = ⊥
+abbrev pub AnswersAs : Result TableParts AskFault → Result TableParts AnswerFault → Type 0
+AnswersAs (Ok table) meant = meant ≡ Ok table
+AnswersAs (Err faults.OutOfRange) meant = meant ≡ Err answers.OutOfRange
+AnswersAs (Err faults.TooManyRows) meant = meant ≡ Err answers.TooManyRows
+AnswersAs (Err faults.NoMemory) meant = Unit {0}
+AnswersAs (Err other) meant = ⊥

@@ -24,8 +24,8 @@ no_lists : (rows : List Row) → lists_of [] rows ≡ Ok (map (λ row. []) rows)
 no_lists rows = ap (λ b. unless b OutOfRange (map (λ row. []) rows)) (none_refused rows)
 
 -- where there is no key all rows stay, in their order
-stay : (by told : List (List Meaning)) → ordered [] by told ≡ told
-stay by told = ap (map (key_at told)) (by_no_key [] by (places (length told)) 0 refl) ∙ all_rows told
+stay : (by listed : List (List Meaning)) → ordered [] by listed ≡ listed
+stay by listed = ap (map (key_at listed)) (by_no_key [] by (places (length listed)) 0 refl) ∙ all_rows listed
 
 pub as_they_stand : (ts ks : List Formula) (order : List SortKey) (offset : ℕ) (limit : Option ℕ) (rows : List Row)
     → length ks ≡ length order → length order ≡ 0 → offset ≡ 0 → limit ≡ None → lists_of ts rows ≡ ordered_of ts ks order offset limit rows
@@ -35,12 +35,12 @@ as_they_stand ts [] [] offset limit rows k o f l = go (lists_of ts rows)
     keys = map (λ row. []) rows
 
     go : (lists : Result (List (List Meaning)) AnswerFault)
-        → lists ≡ (lists >>= λ told. lists_of [] rows >>= λ by. Ok (cut offset limit (ordered [] by told)))
+        → lists ≡ (lists >>= λ listed. lists_of [] rows >>= λ by. Ok (cut offset limit (ordered [] by listed)))
     go (Err fault) = refl
-    go (Ok told) = sym
-        (then_ok keys (lists_of [] rows) (λ by. Ok (cut offset limit (ordered [] by told))) (no_lists rows)
-        ∙ ap (λ n. Ok (cut n limit (ordered [] keys told))) f
-        ∙ ap (λ m. Ok (cut 0 m (ordered [] keys told))) l
-        ∙ ap Ok (stay keys told))
+    go (Ok listed) = sym
+        (then_ok keys (lists_of [] rows) (λ by. Ok (cut offset limit (ordered [] by listed))) (no_lists rows)
+        ∙ ap (λ n. Ok (cut n limit (ordered [] keys listed))) f
+        ∙ ap (λ m. Ok (cut 0 m (ordered [] keys listed))) l
+        ∙ ap Ok (stay keys listed))
 as_they_stand ts (t ∷ ks) [] offset limit rows k o f l = absurd (omega arith)
 as_they_stand ts ks (key ∷ order) offset limit rows k o f l = absurd (omega arith)

@@ -14,7 +14,7 @@ use Rattle.wrows.specs.Columns.{Row, beside, is_out_of_range, lists_of, value_at
 use Rattle.wsort.specs.LaidRows.{laid}
 use Rattle.wrows.specs.Picked.{row_beside}
 use Rattle.wrows.specs.Laid.{row_seen, rows_seen}
-use Rattle.wrows.proofs.RowFacts.{all_of_each, any_of_all, laid_length, laid_rows, length-places, map-map, told_all}
+use Rattle.wrows.proofs.RowFacts.{all_of_each, any_of_all, laid_length, laid_rows, length-places, map-map, all_in_range}
 
 -- the place of a number is the number
 place_from : (a n i d : ℕ) → i < n → a + i ≡ get_or (places_from a n) i d
@@ -29,8 +29,8 @@ place_is n i h = (let e : i ≡ 0 + i = omega arith in e) ∙ place_from 0 n i i
 pub filled_is : (rows columns : List (Bor (List Value))) (i : ℕ) (row : Bor (List Value)) (cells : List Meaning)
     → i < length rows → row ≡ get_or rows i row → cells ≡ map meaning row.now ++ map (λ column. value_at (map meaning column.now) i) columns
     → cells ≡ row_beside (rows_seen rows) (rows_seen columns) i
-filled_is rows columns i row cells h e told =
-    told
+filled_is rows columns i row cells h e listed =
+    listed
     ∙ ap (λ l. l ++ map (λ column. value_at (map meaning column.now) i) columns) (ap row_seen e ∙ sym (get_or-map row_seen rows i row [] h))
     ∙ ap (λ l. key_at (rows_seen rows) i ++ l) (sym (map-map (λ column. value_at column i) row_seen columns))
 
@@ -53,34 +53,34 @@ wide ts w B numbers long = all_of_each (λ i. length (map (λ t. value_on t (B i
     (λ i. length-map ts (λ t. value_on t (B i)) ∙ long) numbers
 
 -- the values on all rows
-pub beside_told : (ts : List Formula) (w : ℕ) (rows columns : List (Bor (List Value))) (cells : List Value) (n : ℕ)
+pub beside_lists : (ts : List Formula) (w : ℕ) (rows columns : List (Bor (List Value))) (cells : List Value) (n : ℕ)
     → length ts ≡ w → length rows ≤ n
     → list_any (λ i. list_any (λ t. is_out_of_range t (row_beside (rows_seen rows) (rows_seen columns) i)) ts)
     (take n (places (length rows))) ≡ false
     → map meaning cells ≡ flat_map (λ i. map (λ t. value_on t (row_beside (rows_seen rows) (rows_seen columns) i)) ts)
     (take n (places (length rows)))
     → lists_of ts (beside (rows_seen rows) (rows_seen columns)) ≡ Ok (laid w (length rows) cells)
-beside_told ts w rows columns cells n long h none told =
+beside_lists ts w rows columns cells n long h none listed =
     let B : ℕ → Row = row_beside (rows_seen rows) (rows_seen columns) in
     let numbers : List ℕ = places (length rows) in
     let long_enough : length numbers ≤ n = omega (arith, h, length-places 0 (length rows)) in
     let all : take n numbers ≡ numbers = take_all n numbers long_enough in
     let g : ℕ → Row = λ i. map (λ t. value_on t (B i)) ts in
     ap (lists_of ts) (sym (numbers_all rows columns))
-    ∙ told_all (λ row. list_any (λ t. is_out_of_range t row) ts) (λ row. map (λ t. value_on t row) ts) B OutOfRange numbers
+    ∙ all_in_range (λ row. list_any (λ t. is_out_of_range t row) ts) (λ row. map (λ t. value_on t row) ts) B OutOfRange numbers
     (laid w (length rows) cells) n long_enough none
     (ap (λ k. laid w k cells) (sym (length-places 0 (length rows))) ∙ laid_rows w g numbers (wide ts w B numbers long) cells
-    (told ∙ ap (flat_map g) all) ∙ ap (map g) (sym all))
+    (listed ∙ ap (flat_map g) all) ∙ ap (map g) (sym all))
 
 pub beside_filled : (ts : List Formula) (w : ℕ) (rows columns : List (Bor (List Value))) (cells : List Value) (n : ℕ)
     → length ts ≡ w → length rows ≤ n
     → map meaning cells ≡ flat_map (λ i. map (λ t. value_on t (row_beside (rows_seen rows) (rows_seen columns) i)) ts)
     (take n (places (length rows)))
     → length cells ≡ length rows * w
-beside_filled ts w rows columns cells n long h told =
+beside_filled ts w rows columns cells n long h listed =
     let B : ℕ → Row = row_beside (rows_seen rows) (rows_seen columns) in
     let numbers : List ℕ = places (length rows) in
     let g : ℕ → Row = λ i. map (λ t. value_on t (B i)) ts in
-    sym (length-map cells meaning) ∙ ap length told ∙ ap (λ l. length (flat_map g l))
+    sym (length-map cells meaning) ∙ ap length listed ∙ ap (λ l. length (flat_map g l))
     (take_all n numbers (omega (arith, h, length-places 0 (length rows))))
     ∙ laid_length w g numbers (wide ts w B numbers long) ∙ ap (λ k. k * w) (length-places 0 (length rows))

@@ -35,9 +35,9 @@ sorted_listed order key n =
         let room : i < length (places n) = omega (arith, h, length-places 0 n) in
         ap key (place_is n i h) ∙ sym (get_or-map key (places n) i i [] room)
 
-abbrev numbers_told : Result (List ℕ) AnswerFault → List ℕ
-numbers_told (Ok numbers) = numbers
-numbers_told (Err fault) = []
+abbrev numbers_or_none : Result (List ℕ) AnswerFault → List ℕ
+numbers_or_none (Ok numbers) = numbers
+numbers_or_none (Err fault) = []
 
 module _ (order : List SortKey) (offset : ℕ) (limit : Option ℕ) (n from count : ℕ) (f : from ≡ min offset n)
     (c : count ≡ at_most_limit limit (n - from)) (within : from + count ≤ n) where
@@ -48,7 +48,7 @@ module _ (order : List SortKey) (offset : ℕ) (limit : Option ℕ) (n from coun
   asked by = by >>= λ by. Ok (cut offset limit (numbers_by order by n))
 
   numbers_in : (by : List (List Meaning)) (first : List ℕ) → firsts (Ok by) ≡ Ok first → first ≡ take (from + count) (numbers_by order by n)
-  numbers_in by first e = sym (ap numbers_told e)
+  numbers_in by first e = sym (ap numbers_or_none e)
 
   asked_by : (by : Result (List (List Meaning)) AnswerFault) (first : List ℕ) → firsts by ≡ Ok first
       → asked by ≡ Ok (cut offset limit first)

@@ -70,22 +70,22 @@ picked_lists ps rows columns =
     ∙ ap (λ n. Ok (map (picked ps (rows_seen rows) (rows_seen columns)) (places n))) (length-map rows row_seen)
 
 -- where all rows are picked
-pub all_told : (ps : List ℕ) (rows columns : List (Bor (List Value))) (numbers : List ℕ) (cells : List Value)
+pub all_picked : (ps : List ℕ) (rows columns : List (Bor (List Value))) (numbers : List ℕ) (cells : List Value)
     → numbers ≡ places (length rows) → laid (length ps) (length numbers) cells
     ≡ map (picked ps (rows_seen rows) (rows_seen columns)) numbers
     → lists_of (map At ps) (beside (rows_seen rows) (rows_seen columns)) ≡ Ok (laid (length ps) (length rows) cells)
-all_told ps rows columns numbers cells e told =
+all_picked ps rows columns numbers cells e listed =
     picked_lists ps rows columns
     ∙ ap (λ l. Ok (map (picked ps (rows_seen rows) (rows_seen columns)) l)) (sym e)
-    ∙ ap Ok (sym told)
+    ∙ ap Ok (sym listed)
     ∙ ap (λ n. Ok (laid (length ps) n cells)) (ap length e ∙ length-places 0 (length rows))
 
 -- expressions that are plain columns
-pub plain_told : (exprs : List (Bor Expr)) (ps : List ℕ) (rows : List Row) (n : ℕ) (cells : List Value)
+pub plain_lists : (exprs : List (Bor Expr)) (ps : List ℕ) (rows : List Row) (n : ℕ) (cells : List Value)
     → formulas_seen exprs ≡ map At ps → lists_of (map At ps) rows ≡ Ok (laid (length ps) n cells)
     → lists_of (formulas_seen exprs) rows ≡ Ok (laid (length exprs) n cells)
-plain_told exprs ps rows n cells e told =
-    ap (λ ts. lists_of ts rows) e ∙ told
+plain_lists exprs ps rows n cells e listed =
+    ap (λ ts. lists_of ts rows) e ∙ listed
     ∙ ap (λ w. Ok (laid w n cells)) (sym (length-map ps At) ∙ ap length (sym e) ∙ length-map exprs formula_seen)
 
 pub plain_count : (exprs : List (Bor Expr)) (ps : List ℕ) → formulas_seen exprs ≡ map At ps → length ps ≡ length exprs
@@ -139,27 +139,27 @@ abbrev numbers_in : Result (List ℕ) AnswerFault → List ℕ
 numbers_in (Ok numbers) = numbers
 numbers_in (Err fault) = []
 
-module _ (order : List SortKey) (offset : ℕ) (limit : Option ℕ) (told : List Row) where
+module _ (order : List SortKey) (offset : ℕ) (limit : Option ℕ) (listed : List Row) where
   abbrev asked : ℕ → Result (List (List Meaning)) AnswerFault → Result (List ℕ) AnswerFault
   asked n by = by >>= λ by. Ok (cut offset limit (numbers_by order by n))
 
   abbrev answer : Result (List (List Meaning)) AnswerFault → Result (List Row) AnswerFault
-  answer by = by >>= λ by. Ok (cut offset limit (ordered order by told))
+  answer by = by >>= λ by. Ok (cut offset limit (ordered order by listed))
 
-  found : (n : ℕ) (numbers : List ℕ) (by : Result (List (List Meaning)) AnswerFault) → length told ≡ n
-      → asked n by ≡ Ok numbers → answer by ≡ Ok (map (key_at told) numbers)
+  found : (n : ℕ) (numbers : List ℕ) (by : Result (List (List Meaning)) AnswerFault) → length listed ≡ n
+      → asked n by ≡ Ok numbers → answer by ≡ Ok (map (key_at listed) numbers)
   found n numbers (Ok by) long e =
-      ap Ok (sym (map-cut (key_at told) offset limit (numbers_by order by (length told)))
-      ∙ ap (λ k. map (key_at told) (cut offset limit (numbers_by order by k))) long ∙ ap (map (key_at told)) (ap numbers_in e))
+      ap Ok (sym (map-cut (key_at listed) offset limit (numbers_by order by (length listed)))
+      ∙ ap (λ k. map (key_at listed) (cut offset limit (numbers_by order by k))) long ∙ ap (map (key_at listed)) (ap numbers_in e))
   found n numbers (Err fault) long e = absurd (cc)
 
 -- the items of the rows that are asked for, read behind the sort
-pub items_asked : (ts ks : List Formula) (order : List SortKey) (offset : ℕ) (limit : Option ℕ) (rows told : List Row)
-    (numbers : List ℕ) → lists_of ts rows ≡ Ok told → length told ≡ length rows → asked_of ks order offset limit rows ≡ Ok numbers
-    → ordered_of ts ks order offset limit rows ≡ Ok (map (key_at told) numbers)
-items_asked ts ks order offset limit rows told numbers e long h =
-    ap (λ r. r >>= λ told. answer order offset limit told (lists_of ks rows)) e
-    ∙ found order offset limit told (length rows) numbers (lists_of ks rows) long h
+pub items_asked : (ts ks : List Formula) (order : List SortKey) (offset : ℕ) (limit : Option ℕ) (rows listed : List Row)
+    (numbers : List ℕ) → lists_of ts rows ≡ Ok listed → length listed ≡ length rows → asked_of ks order offset limit rows ≡ Ok numbers
+    → ordered_of ts ks order offset limit rows ≡ Ok (map (key_at listed) numbers)
+items_asked ts ks order offset limit rows listed numbers e long h =
+    ap (λ r. r >>= λ listed. answer order offset limit listed (lists_of ks rows)) e
+    ∙ found order offset limit listed (length rows) numbers (lists_of ks rows) long h
 
 pub beside_long : (rows columns : List (Bor (List Value))) → length (beside (rows_seen rows) (rows_seen columns)) ≡ length rows
 beside_long rows columns = length-map (places (length (rows_seen rows))) (row_beside (rows_seen rows) (rows_seen columns))

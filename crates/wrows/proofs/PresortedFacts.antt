@@ -18,12 +18,12 @@ use Rattle.wrows.proofs.RowFacts.{then_ok}
 lists_long : (ts : List Formula) (rows : List Row) (lists : List (List Meaning)) → lists_of ts rows ≡ Ok lists → length lists ≡ length rows
 lists_long ts rows lists e = go _ e
   where
-    told : List (List Meaning)
-    told = map (λ row. map (λ t. value_on t row) ts) rows
+    listed : List (List Meaning)
+    listed = map (λ row. map (λ t. value_on t row) ts) rows
 
-    go : (b : Bool) → unless b OutOfRange told ≡ Ok lists → length lists ≡ length rows
+    go : (b : Bool) → unless b OutOfRange listed ≡ Ok lists → length lists ≡ length rows
     go true h = absurd (cc)
-    go false h = let same : told ≡ lists = cc in sym (ap length same) ∙ length-map rows (λ row. map (λ t. value_on t row) ts)
+    go false h = let same : listed ≡ lists = cc in sym (ap length same) ∙ length-map rows (λ row. map (λ t. value_on t row) ts)
 
 module _ (ts ks : List Formula) (order : List SortKey) (offset : ℕ) (limit : Option ℕ) (rows : List Row) where
   -- the rows of the numbers that are asked for
@@ -40,21 +40,21 @@ module _ (ts ks : List Formula) (order : List SortKey) (offset : ℕ) (limit : O
           ap (λ r. r >>= λ lists. Ok (map (key_at lists) taken)) e
           ∙ sym (ap (λ r. r >>= λ lists. lists_of ks rows >>= λ by. Ok (cut offset limit (ordered order by lists))) e)
 
-  -- where no numbers are told, since a key is out of range, nothing is
+  -- where there are no numbers, since a key is out of range, there are no rows
   pub asked_fails : {X Y : Type 0} (numbers : X → List ℕ) (view : Y → List Row) (fault : AnswerFault)
       → Gives numbers (Err fault) (asked_of ks order offset limit rows) → Gives view (Err fault) (ordered_of ts ks order offset limit rows)
   asked_fails {X} {Y} numbers view fault gives = go _ _ fault gives
     where
-      told : List Row
-      told = map (λ row. map (λ t. value_on t row) ts) rows
+      listed : List Row
+      listed = map (λ row. map (λ t. value_on t row) ts) rows
 
       by : List (List Meaning)
       by = map (λ row. map (λ t. value_on t row) ks) rows
 
       go : (a b : Bool) (fault : AnswerFault)
           → Gives numbers (Err fault) (unless a OutOfRange by >>= λ by. Ok (cut offset limit (numbers_by order by (length rows))))
-          → Gives view (Err fault) (unless b OutOfRange told >>= λ told. unless a OutOfRange by >>= λ by.
-          Ok (cut offset limit (ordered order by told)))
+          → Gives view (Err fault) (unless b OutOfRange listed >>= λ listed. unless a OutOfRange by >>= λ by.
+          Ok (cut offset limit (ordered order by listed)))
       go true true OutOfRange h = refl
       go true false OutOfRange h = refl
       go false b OutOfRange h = absurd (cc)
@@ -63,15 +63,15 @@ module _ (ts ks : List Formula) (order : List SortKey) (offset : ℕ) (limit : O
       go a b NoMemory h = tt
 
   -- the numbers that are asked for are cut from those of all
-  asked_told : (numbers taken : List ℕ) → numbers_of ks order rows ≡ Ok numbers → taken ≡ cut offset limit numbers
+  asked_numbers : (numbers taken : List ℕ) → numbers_of ks order rows ≡ Ok numbers → taken ≡ cut offset limit numbers
       → asked_of ks order offset limit rows ≡ Ok taken
-  asked_told numbers taken told is = go (lists_of ks rows) told
+  asked_numbers numbers taken listed is = go (lists_of ks rows) listed
     where
       go : (by : Result (List (List Meaning)) AnswerFault) → (by >>= λ by. Ok (numbers_by order by (length rows)))
           ≡ Ok numbers → (by >>= λ by. Ok (cut offset limit (numbers_by order by (length rows)))) ≡ Ok taken
       go (Ok by) h = let same : numbers_by order by (length rows) ≡ numbers = cc in ap (λ l. Ok (cut offset limit l)) same ∙ ap Ok (sym is)
       go (Err fault) h = absurd (cc)
 
-  pub told_is : (numbers taken : List ℕ) → numbers_of ks order rows ≡ Ok numbers → taken ≡ cut offset limit numbers
+  pub items_are : (numbers taken : List ℕ) → numbers_of ks order rows ≡ Ok numbers → taken ≡ cut offset limit numbers
       → items_at ts taken rows ≡ ordered_of ts ks order offset limit rows
-  told_is numbers taken told is = asked_is taken (asked_told numbers taken told is)
+  items_are numbers taken listed is = asked_is taken (asked_numbers numbers taken listed is)

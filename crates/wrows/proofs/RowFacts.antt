@@ -44,14 +44,14 @@ kept_all p h f fault xs ys n long none kept =
     unless_ok _ fault _ _ (any-map p f xs ∙ ap (list_any (λ x. p (f x))) (sym all) ∙ none)
     (filter-map h f xs ∙ ap (λ l. map f (filter (λ x. h (f x)) l)) (sym all) ∙ ap (map f) (sym kept))
 
--- a loop over all rows told a value for each, and none is at fault
-pub told_all : {X Y Z : Type 0} (p : Y → Bool) (g : Y → Z) (f : X → Y) (fault : AnswerFault) (xs : List X) (zs : List Z)
+-- a loop over all rows gave a value for each, and none is at fault
+pub all_in_range : {X Y Z : Type 0} (p : Y → Bool) (g : Y → Z) (f : X → Y) (fault : AnswerFault) (xs : List X) (zs : List Z)
     (n : ℕ) → length xs ≤ n → list_any (λ x. p (f x)) (take n xs) ≡ false → zs ≡ map (λ x. g (f x)) (take n xs)
     → unless (list_any p (map f xs)) fault (map g (map f xs)) ≡ Ok zs
-told_all p g f fault xs zs n long none told =
+all_in_range p g f fault xs zs n long none listed =
     let all : take n xs ≡ xs = take_all n xs long in
     unless_ok _ fault _ _ (any-map p f xs ∙ ap (list_any (λ x. p (f x))) (sym all) ∙ none)
-    (map-map g f xs ∙ ap (map (λ x. g (f x))) (sym all) ∙ sym told)
+    (map-map g f xs ∙ ap (map (λ x. g (f x))) (sym all) ∙ sym listed)
 
 map-front : (w : ℕ) (cells : List Value) → map meaning (take w cells) ≡ take w (map meaning cells)
 map-front zero cells = refl
@@ -102,8 +102,8 @@ any_next p xs i x h e none here = list_any_more p xs i x h ∙ ap (λ b. b || p 
 
 pub flat_next : {X Y : Type 0} (f : X → List Y) (xs : List X) (i : ℕ) (x : X) (before after : List Y) → i < length xs
     → x ≡ get_or xs i x → before ≡ flat_map f (take i xs) → after ≡ before ++ f x → after ≡ flat_map f (take (i + 1) xs)
-flat_next f xs i x before after h e told more =
-    more ∙ ap (λ l. l ++ f x) told ∙ flat_map_more f [] (take i xs) x ∙ ap (λ y. flat_map f (take i xs ++ y ∷ [])) e
+flat_next f xs i x before after h e listed more =
+    more ∙ ap (λ l. l ++ f x) listed ∙ flat_map_more f [] (take i xs) x ∙ ap (λ y. flat_map f (take i xs ++ y ∷ [])) e
     ∙ ap (flat_map f) (sym (take_more xs i x h))
 
 pub ok_is_false : {A : Type 0} (b : Bool) (x y : A) → unless b OutOfRange x ≡ Ok y → b ≡ false
@@ -203,13 +203,13 @@ lent_more w n cells i rows slice more h so_far is e =
     ∙ sym (take_more (laid w n cells) i [] within)
 
 -- the rows of some of the sorted numbers are a cut of the rows in order
-pub cut_rows : (order : List SortKey) (keys told rows : List (List Meaning)) (numbers : List ℕ) (offset : ℕ)
+pub cut_rows : (order : List SortKey) (keys listed rows : List (List Meaning)) (numbers : List ℕ) (offset : ℕ)
     (limit : Option ℕ) (from count : ℕ)
-    → numbers ≡ numbers_by order keys (length told) → from ≡ min offset (length numbers)
+    → numbers ≡ numbers_by order keys (length listed) → from ≡ min offset (length numbers)
     → count ≡ at_most_limit limit (length numbers - from)
-    → rows ≡ map (key_at told) (take count (drop from numbers)) → cut offset limit (ordered order keys told) ≡ rows
-cut_rows order keys told rows numbers offset limit from count is_sorted e f g =
-    sym (map-cut (key_at told) offset limit (numbers_by order keys (length told)))
-    ∙ ap (λ xs. map (key_at told) (cut offset limit xs)) (sym is_sorted)
-    ∙ ap (map (key_at told)) (sym (cut_numbers offset limit numbers from count e f))
+    → rows ≡ map (key_at listed) (take count (drop from numbers)) → cut offset limit (ordered order keys listed) ≡ rows
+cut_rows order keys listed rows numbers offset limit from count is_sorted e f g =
+    sym (map-cut (key_at listed) offset limit (numbers_by order keys (length listed)))
+    ∙ ap (λ xs. map (key_at listed) (cut offset limit xs)) (sym is_sorted)
+    ∙ ap (map (key_at listed)) (sym (cut_numbers offset limit numbers from count e f))
     ∙ sym g

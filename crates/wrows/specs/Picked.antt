@@ -41,4 +41,4 @@ numbers_of keys order rows = lists_of keys rows >>= λ by. Ok (numbers_by order 
 
 -- the items of the rows of these numbers. All items are evaluated, on every row
 abbrev pub items_at : List Formula → List ℕ → List Row → Result (List Row) AnswerFault
-items_at items numbers rows = lists_of items rows >>= λ told. Ok (map (key_at told) numbers)
+items_at items numbers rows = lists_of items rows >>= λ listed. Ok (map (key_at listed) numbers)

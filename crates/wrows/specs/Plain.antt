@@ -35,6 +35,6 @@ kept_of condition rows = held_rows condition rows >>= not_too_many
 -- the items of the rows that are asked for, in order. All items and keys are evaluated, on every row
 abbrev pub ordered_of : List Formula → List Formula → List SortKey → ℕ → Option ℕ → List Row → Result (List Row) AnswerFault
 ordered_of items keys order offset limit rows = do
-  told ← lists_of items rows
+  listed ← lists_of items rows
   by ← lists_of keys rows
-  Ok (cut offset limit (ordered order by told))
+  Ok (cut offset limit (ordered order by listed))

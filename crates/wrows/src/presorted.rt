@@ -31,8 +31,8 @@ fn evaluated_at(
     ensures rows { Gives rows_in result (items_at (formulas_seen items.now) numbers.now
         (beside (rows_seen rows.now) (rows_seen columns.now))) }
 {
-    let told = evaluated_lists(alloc, items, rows, columns)?;
-    let cells = gathered(alloc, &told, items.len(), rows.len(), numbers)?;
+    let lists = evaluated_lists(alloc, items, rows, columns)?;
+    let cells = gathered(alloc, &lists, items.len(), rows.len(), numbers)?;
     Ok(Cells {
         cells,
         width: items.len(),

@@ -27,7 +27,7 @@ use Rattle.wscope.specs.declared.source.SourceColumn.{SourceColumn}
 use Rattle.wscope.specs.Types.{Titled, type_of}
 use Rattle.wscope.specs.declared.called.Called.{Called}
 use Rattle.wscope.specs.Called.{first_called, is_called, is_unlike, same_shown}
-use Rattle.wscope.specs.Outputs.{shown, first_of, first_or, is_told, IsIndex}
+use Rattle.wscope.specs.Outputs.{shown, first_of, first_or, has_two, IsIndex}
 use Rattle.wscope.specs.Called.{is_star}
 use Rattle.wscope.specs.Texts.{by_text}
 use Rattle.wscope.proofs.WrittenOut.{or_else, or_else_none, some_first, first_split, star_first}
@@ -44,12 +44,12 @@ first_step : (b : Bool) (g : Option Called) (v : Called) (f : Option Shown) (s :
 first_step true g v f s eg ev = ap (λ (x : Shown). Some x) (ev refl) ∙ some_first f s
 first_step false g v f s eg ev = eg ∙ sym (or_else_none f)
 
-told_step : (b : Bool) (cs : List Titled) (q : List ℕ) (is : List ShownItem) (i : ShownItem) (g : Option Called)
-    (v : Called) (f : Option Shown) → is_called q i ≡ b → first_called q is ≡ f → is_told g ≡ list_any (is_unlike cs q f) is
+two_step : (b : Bool) (cs : List Titled) (q : List ℕ) (is : List ShownItem) (i : ShownItem) (g : Option Called)
+    (v : Called) (f : Option Shown) → is_called q i ≡ b → first_called q is ≡ f → has_two g ≡ list_any (is_unlike cs q f) is
     → (b ≡ true → v.is_ambiguous ≡ (list_any (is_unlike cs q f) is || not (same_shown cs (first_or f i.shown) i.shown)))
-    → is_told (cond b (Some v) g) ≡ list_any (is_unlike cs q (or_else f (if b then Some i.shown else None))) (is ++ i ∷ [])
-told_step true cs q is i g v f eb ef eg ev = ev refl ∙ sym (called_more cs q is i f ef eb)
-told_step false cs q is i g v f eb ef eg ev =
+    → has_two (cond b (Some v) g) ≡ list_any (is_unlike cs q (or_else f (if b then Some i.shown else None))) (is ++ i ∷ [])
+two_step true cs q is i g v f eb ef eg ev = ev refl ∙ sym (called_more cs q is i f ef eb)
+two_step false cs q is i g v f eb ef eg ev =
     eg ∙ sym (ap (λ (o : Option Shown). list_any (is_unlike cs q o) (is ++ i ∷ [])) (or_else_none f) ∙ other_more cs q is i f eb)
 
 -- the first item of a name, seen from an equal name
@@ -60,15 +60,15 @@ first_there : (old : BTreeMap (Bor (List ℕ)) Called) (cs : List Titled) (is : 
 first_there old cs is name v i q en ef h e = ef ∙ ap (λ (o : Option Shown). first_or o i.shown) (h.first name
     ∙ ap (λ (n : List ℕ). first_called n is) (same_name name.now i q en e))
 
-told_there : (old : BTreeMap (Bor (List ℕ)) Called) (cs : List Titled) (is : List ShownItem) (name : Bor (List ℕ))
+two_there : (old : BTreeMap (Bor (List ℕ)) Called) (cs : List Titled) (is : List ShownItem) (name : Bor (List ℕ))
     (v : Called) (i : ShownItem) (q : List ℕ) → name.now ≡ i.name
     → shown v.first ≡ first_or (first_of (get by_text old name)) i.shown
-    → v.is_ambiguous ≡ (is_told (get by_text old name) || not (same_shown cs (shown v.first) i.shown))
+    → v.is_ambiguous ≡ (has_two (get by_text old name) || not (same_shown cs (shown v.first) i.shown))
     → IsIndex old cs is → is_called q i ≡ true
     → v.is_ambiguous ≡ (list_any (is_unlike cs q (first_called q is)) is
     || not (same_shown cs (first_or (first_called q is) i.shown) i.shown))
-told_there old cs is name v i q en ef ea h e =
-    ea ∙ ap (λ (b : Bool). b || not (same_shown cs (shown v.first) i.shown)) (h.told name
+two_there old cs is name v i q en ef ea h e =
+    ea ∙ ap (λ (b : Bool). b || not (same_shown cs (shown v.first) i.shown)) (h.two name
     ∙ ap (λ (n : List ℕ). list_any (is_unlike cs n (first_called n is)) is) (same_name name.now i q en e))
     ∙ ap (λ (s : Shown). list_any (is_unlike cs q (first_called q is)) is || not (same_shown cs s i.shown))
     (first_there old cs is name v i q en ef h e)
@@ -76,7 +76,7 @@ told_there old cs is name v i q en ef ea h e =
 -- one more item
 pub index_step : (old new : BTreeMap (Bor (List ℕ)) Called) (cs : List Titled) (is : List ShownItem) (name : Bor (List ℕ))
     (v : Called) (i : ShownItem) → name.now ≡ i.name → shown v.first ≡ first_or (first_of (get by_text old name)) i.shown
-    → v.is_ambiguous ≡ (is_told (get by_text old name) || not (same_shown cs (shown v.first) i.shown))
+    → v.is_ambiguous ≡ (has_two (get by_text old name) || not (same_shown cs (shown v.first) i.shown))
     → Updates by_text old new name (Some v) → IsIndex old cs is → IsIndex new cs (is ++ i ∷ [])
 index_step old new cs is name v i en ef ea u h = record {
   first = λ q.
@@ -84,10 +84,10 @@ index_step old new cs is name v i en ef ea u h = record {
       ∙ first_step (is_called q.now i) (get by_text old q) v (first_called q.now is) i.shown (h.first q)
       (first_there old cs is name v i q.now en ef h)
       ∙ sym (first_split q.now is (i ∷ []));
-  told = λ q.
-      ap is_told (u.0 q) ∙ ap (λ (b : Bool). is_told (cond b (Some v) (get by_text old q))) (name_is name i q.now en)
-      ∙ told_step (is_called q.now i) cs q.now is i (get by_text old q) v (first_called q.now is) refl refl (h.told q)
-      (told_there old cs is name v i q.now en ef ea h)
+  two = λ q.
+      ap has_two (u.0 q) ∙ ap (λ (b : Bool). has_two (cond b (Some v) (get by_text old q))) (name_is name i q.now en)
+      ∙ two_step (is_called q.now i) cs q.now is i (get by_text old q) v (first_called q.now is) refl refl (h.two q)
+      (two_there old cs is name v i q.now en ef ea h)
       ∙ ap (λ (o : Option Shown). list_any (is_unlike cs q.now o) (is ++ i ∷ [])) (sym (first_split q.now is (i ∷ [])));
 }
 
@@ -96,8 +96,8 @@ pub star_again : (m : BTreeMap (Bor (List ℕ)) Called) (cs : List Titled) (item
     → list_any is_star items ≡ true → IsIndex m cs (written_out cs items) → IsIndex m cs (written_out cs items ++ columns_from 0 cs)
 star_again m cs items e h = record {
   first = λ q. h.first q ∙ sym (star_first q.now cs items e);
-  told = λ q.
-      h.told q ∙ sym (star_any (is_unlike cs q.now (first_called q.now (written_out cs items))) cs items e)
+  two = λ q.
+      h.two q ∙ sym (star_any (is_unlike cs q.now (first_called q.now (written_out cs items))) cs items e)
       ∙ ap (λ (o : Option Shown). list_any (is_unlike cs q.now o) (written_out cs items ++ columns_from 0 cs))
       (sym (star_first q.now cs items e));
 }
@@ -107,7 +107,7 @@ pub index_along : (m : BTreeMap (Bor (List ℕ)) Called) (cs : List Titled) (xs 
     → IsIndex m cs xs → IsIndex m cs ys
 index_along m cs xs ys e h = record {
   first = λ q. h.first q ∙ ap (λ (zs : List ShownItem). first_called q.now zs) e;
-  told = λ q. h.told q ∙ ap (λ (zs : List ShownItem). list_any (is_unlike cs q.now (first_called q.now zs)) zs) e;
+  two = λ q. h.two q ∙ ap (λ (zs : List ShownItem). list_any (is_unlike cs q.now (first_called q.now zs)) zs) e;
 }
 
 -- the column that `*` brings in from a place
@@ -198,5 +198,5 @@ found_some (Some c) = refl
 pub index_empty : (m : BTreeMap (Bor (List ℕ)) Called) (cs : List Titled) → IsEmpty m → IsIndex m cs []
 index_empty m cs e = record {
   first = λ q. ap (λ (es : List (Bor (List ℕ) × Called)). first_of (lookup (λ (k : Bor (List ℕ)). is_eq (by_text q k)) es)) e;
-  told = λ q. ap (λ (es : List (Bor (List ℕ) × Called)). is_told (lookup (λ (k : Bor (List ℕ)). is_eq (by_text q k)) es)) e;
+  two = λ q. ap (λ (es : List (Bor (List ℕ) × Called)). has_two (lookup (λ (k : Bor (List ℕ)). is_eq (by_text q k)) es)) e;
 }

@@ -23,9 +23,9 @@ first_of None = None
 first_of (Some c) = Some (shown c.first)
 
 -- whether items of a name have two expressions
-abbrev pub is_told : Option Called → Bool
-is_told None = false
-is_told (Some c) = c.is_ambiguous
+abbrev pub has_two : Option Called → Bool
+has_two None = false
+has_two (Some c) = c.is_ambiguous
 
 -- the first of the items so far, or else the next one
 abbrev pub first_or : Option Shown → Shown → Shown
@@ -35,4 +35,4 @@ first_or (Some s) next = s
 -- each name has the first of these items that is called so, and whether another one is unlike it
 pub record IsIndex (m : BTreeMap (Bor (List ℕ)) Called) (cs : List Titled) (is : List ShownItem) : Type 0 where
   pub first : (q : Bor (List ℕ)) → first_of (get by_text m q) ≡ first_called q.now is
-  pub told : (q : Bor (List ℕ)) → is_told (get by_text m q) ≡ list_any (is_unlike cs q.now (first_called q.now is)) is
+  pub two : (q : Bor (List ℕ)) → has_two (get by_text m q) ≡ list_any (is_unlike cs q.now (first_called q.now is)) is

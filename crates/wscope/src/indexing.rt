@@ -7,7 +7,7 @@ ghost use Rattle.wquery.specs.QueryTree.{ItemTree, view_item};
 ghost use Rattle.wscope.specs.declared.data_type.DataType.{DataType};
 ghost use Rattle.wscope.specs.Sources.{ShownItem, all_titled, columns_from, written_out};
 ghost use Rattle.wscope.specs.Called.{is_star, same_shown};
-ghost use Rattle.wscope.specs.Outputs.{shown, first_of, first_or, is_told, IsIndex};
+ghost use Rattle.wscope.specs.Outputs.{shown, first_of, first_or, has_two, IsIndex};
 
 use crate::called::Called;
 use crate::comparing::same_output;
@@ -26,7 +26,7 @@ fn with_item<'a>(
 ) -> Called<'a>
     ensures first { shown result.first ≡ first_or (first_of (option_copied known.entry)) (shown output.entry) }
     ensures ambiguous { result.is_ambiguous
-        ≡ (is_told (option_copied known.entry) || not (same_shown (all_titled columns.now) (shown result.first) (shown output.entry))) }
+        ≡ (has_two (option_copied known.entry) || not (same_shown (all_titled columns.now) (shown result.first) (shown output.entry))) }
 {
     match known {
         None => Called {

@@ -10,7 +10,7 @@ ghost use Rattle.wscope.specs.Called.{has_unlike, names};
 ghost use Rattle.wquery.specs.Tree.{Tree};
 ghost use Rattle.wscope.specs.Clauses.{clauses_in};
 ghost use Rattle.wscope.specs.Groups.{lent_columns};
-ghost use Rattle.wscope.specs.Outputs.{is_told};
+ghost use Rattle.wscope.specs.Outputs.{has_two};
 ghost use Rattle.wscope.specs.Scope.{item_has_name};
 ghost use Rattle.wscope.specs.Sources.{all_titled};
 ghost use Rattle.wscope.specs.Texts.{by_text};
@@ -42,7 +42,7 @@ pub struct Scope<'a> {
     pub(crate) grouping: BTreeSet<String>,
     ghost named: { (q : Bor (List ℕ)) → is_some (get by_text outputs q)
         ≡ list_any (item_has_name (all_titled columns.now) q.now) (clauses_in query.now).items },
-    ghost told: { (q : Bor (List ℕ)) → is_told (get by_text outputs q) ≡ has_unlike (all_titled columns.now)
+    ghost two: { (q : Bor (List ℕ)) → has_two (get by_text outputs q) ≡ has_unlike (all_titled columns.now)
         (clauses_in query.now).items q.now },
     pub ghost listed: { (p : Tree → Bool) → list_any p (lent_columns grouped.items)
         ≡ list_any p (all_columns (clauses_in query.now).grouping) },

@@ -9,7 +9,7 @@ ghost use Rattle.wquery.specs.Tree.{view, view_optional, view_key};
 ghost use Rattle.wscope.specs.Scope.{some_item, some_option, some_entry, some_sort, some_shown, some_anywhere};
 ghost use Rattle.wscope.specs.Scope.{item_has_name, is_output as stands_for_item};
 ghost use Rattle.wscope.specs.Called.{has_unlike, names};
-ghost use Rattle.wscope.specs.Outputs.{is_told};
+ghost use Rattle.wscope.specs.Outputs.{has_two};
 ghost use Rattle.wscope.specs.Scoped.{IsExpanded, scope_clauses, scope_columns};
 
 use crate::called::Called;
@@ -22,8 +22,8 @@ use crate::window_index::WindowIndex;
 use std::alloc::{AllocError, Global};
 use wquery::{Expression, Item, Key, Query, WindowEntry};
 
-fn told(known: Option<&Called>) -> bool
-    ensures { result ≡ is_told (option_copied known.entry) }
+fn has_two(known: Option<&Called>) -> bool
+    ensures { result ≡ has_two (option_copied known.entry) }
 {
     match known {
         None => false,
@@ -73,7 +73,7 @@ impl<'a> Scope<'a> {
     pub fn has_ambiguous_output(&self, name: &'a str) -> bool
         ensures { result ≡ has_unlike (scope_columns self.now) (scope_clauses self.now).items name.now }
     {
-        told(self.outputs.get(&name))
+        has_two(self.outputs.get(&name))
     }
 
     /// Whether a column of GROUP BY has this name.

@@ -13,7 +13,7 @@ use Rattle.wentries.specs.Knowledge.{Known, Live, Disputed, Retired, Floor, same
 use Rattle.wset.specs.Views.{View, is_below, own_status, view_telling, join_told, join}
 use Rattle.wset.specs.Items.{Item, SegmentItem, RetirementItem, FloorItem, name_of, is_retirement_of, is_floor_at}
 use Rattle.wset.specs.Items.{content_of, agreed, status_of, mark_of, view_of, view_of_item}
-use Rattle.wset.specs.Laws.{ViewOfUnion, ViewTellsStatus, ViewsAreSettled, AreAmong, SameItemsSameView}
+use Rattle.wset.specs.Laws.{ViewOfUnion, ViewHasStatus, ViewsAreSettled, AreAmong, SameItemsSameView}
 use Rattle.wentries.proofs.Floors.{same_name-true, same_name-refl, same_bytes-true, same_bytes-refl, both_cases, no_some}
 use Rattle.wset.proofs.ViewFloors.{same_test, top_floor, below_floor, get-settled, below-settled, settled-settled}
 use Rattle.wset.proofs.Joining.{or_first, or_second, with_none, with_floor, get-telling, get-join, same_view, join_laws}
@@ -205,7 +205,7 @@ own_of_status : (b : Bool) (cs : List (List ℕ)) → own_status (cond b (Some R
 own_of_status true cs = refl
 own_of_status false cs = own_agreed cs
 
-pub view_tells_status : ViewTellsStatus
+pub view_tells_status : ViewHasStatus
 view_tells_status items q =
     ap (λ b. cond b (Some Retired) (own_status (get (view_of items) q))) (below-view_of items q)
     ∙ ap (λ o. cond (list_any (is_floor_over q) items) (Some Retired) (own_status o)) (get-view_of items q)

@@ -21,8 +21,8 @@ abbrev pub ViewOfUnion : Type 0
 ViewOfUnion = (j k : List Item) → view_of (j ++ k) ≡ join (view_of j) (view_of k)
 
 -- a view of items tells the status of each name, unknown names too
-abbrev pub ViewTellsStatus : Type 0
-ViewTellsStatus = (items : List Item) (n : NameParts) → known_in (view_of items) n ≡ status_of items n
+abbrev pub ViewHasStatus : Type 0
+ViewHasStatus = (items : List Item) (n : NameParts) → known_in (view_of items) n ≡ status_of items n
 
 -- it is settled
 abbrev pub ViewsAreSettled : Type 0

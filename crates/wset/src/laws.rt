@@ -1,5 +1,5 @@
 //! The laws of views. The functions do nothing when run: each is the proof of its contract.
-ghost use Rattle.wset.specs.Laws.{JoinLaws, LaterNames, SameItemsSameView, ViewOfUnion, ViewTellsStatus, ViewsAreSettled};
+ghost use Rattle.wset.specs.Laws.{JoinLaws, LaterNames, SameItemsSameView, ViewOfUnion, ViewHasStatus, ViewsAreSettled};
 
 /// Joining views is associative, commutative and idempotent.
 pub fn join_laws()
@@ -13,7 +13,7 @@ pub fn view_of_union()
 
 /// The view of items tells the status of each name among them.
 pub fn view_tells_status()
-    ensures { ViewTellsStatus }
+    ensures { ViewHasStatus }
 {}
 
 /// The view of items has no name below a floor.

@@ -74,7 +74,7 @@ judged f = Err f
 
 module _ (d : Declaration) (at : Places) (h : List Step) (n p : ℕ) (node : NodeState) (stand : StandAt d at h)
     (place : p + 1 ≡ n) (low : p < node_count) (is : node ≡ get_or at.nodes p node) where
-  -- a node answered, and nobody was told anything
+  -- a node answered, and no node learned anything
   quietly : (c : Command) (r : Reply) (text : List ℕ) → Answers h c r → text ≡ text_of r
       → declared_by r (declaration h) ≡ declaration h → IsQuiet c r → AnswersAs d at h c text
   quietly c r text answers text_is same quiet = record {
@@ -149,13 +149,13 @@ module _ (d : Declaration) (at : Places) (h : List Step) (n p : ℕ) (node : Nod
   asked_at new query text same answers = subst (λ nodes. AnswersAs d (places nodes at.slots) h (Ask n query) text)
       (sym (same_nodes new same)) answers
 
-  pub take_at : (origin number bytes : List ℕ) (name : NameParts) (told : Result Taken SegmentFault) (new : NodeState)
+  pub take_at : (origin number bytes : List ℕ) (name : NameParts) (outcome : Result Taken SegmentFault) (new : NodeState)
       (text : List ℕ) → length bytes ≤ longest_segment → SpellsName origin number name
-      → IfOk told (λ word. word ≡ taken_word (known_in node.view name) bytes)
-      → OnOk told (new ≡ record node { view = join node.view (view_of_item (SegmentItem name bytes)) })
-      → OnOk told (IsOk (rows_of node.schema bytes))
-      → IfErr told (λ fault. Fails fault (rows_of node.schema bytes)) → OnErr told (new ≡ node)
-      → text ≡ take_text told → AnswersAs d (places (set at.nodes p new) at.slots) h (Take n origin number bytes) text
+      → IfOk outcome (λ word. word ≡ taken_word (known_in node.view name) bytes)
+      → OnOk outcome (new ≡ record node { view = join node.view (view_of_item (SegmentItem name bytes)) })
+      → OnOk outcome (IsOk (rows_of node.schema bytes))
+      → IfErr outcome (λ fault. Fails fault (rows_of node.schema bytes)) → OnErr outcome (new ≡ node)
+      → text ≡ take_text outcome → AnswersAs d (places (set at.nodes p new) at.slots) h (Take n origin number bytes) text
   take_at origin number bytes name (Ok word) new text short named word_is new_is read fails same text_is =
       taken_at origin number bytes name new word text named read word_is new_is text_is
   take_at origin number bytes name (Err fault) new text short named word_is new_is read fails same text_is =
@@ -217,10 +217,10 @@ module _ (d : Declaration) (at : Places) (h : List Step) (n p : ℕ) (node : Nod
         (record { delivers_none = λ m. refl; gets_none = λ m. refl; puts_none = λ k. refl; hears_none = λ m. refl })
   ]
 
-  pub ask_at : (query : List ℕ) (told : Result (Vec ℕ Global) AskFault) (new : NodeState) (text : List ℕ)
-      → length query ≤ longest_text → MatchResult told (λ bytes. IsAnswer node.schema node.view query (Ok bytes.items))
+  pub ask_at : (query : List ℕ) (outcome : Result (Vec ℕ Global) AskFault) (new : NodeState) (text : List ℕ)
+      → length query ≤ longest_text → MatchResult outcome (λ bytes. IsAnswer node.schema node.view query (Ok bytes.items))
       (λ fault. (fault ≡ queries.NoMemory) ⊎ IsAnswer node.schema node.view query (Err fault)) → new ≡ node
-      → text ≡ ask_text told → AnswersAs d (places (set at.nodes p new) at.slots) h (Ask n query) text
+      → text ≡ ask_text outcome → AnswersAs d (places (set at.nodes p new) at.slots) h (Ask n query) text
   ask_at query (Ok bytes) new text short answer same text_is =
       asked_at new query text same (answered_at query bytes.items text answer text_is)
   ask_at query (Err fault) new text short answer same text_is =
@@ -280,9 +280,9 @@ module _ (d : Declaration) (at : Places) (h : List Step) (n p : ℕ) (node : Nod
       quiet : (f : FileFault) → IsQuiet (Get slot n) (RefusedFile f)
       quiet f = record { delivers_none = λ m. refl; gets_none = λ m. refl; puts_none = λ k. refl; hears_none = λ m. refl }
 
-      told : (f : FileFault) → IsFault d (slot_file d h slot) f → judged f ≢ judged files.NoMemory → text ≡ file_text f
+      refused_so : (f : FileFault) → IsFault d (slot_file d h slot) f → judged f ≢ judged files.NoMemory → text ≡ file_text f
           → AnswersAs d at h (Get slot n) text
-      told f i other t =
+      refused_so f i other t =
           quietly (Get slot n) (RefusedFile f) text
           (under d h (Get slot n) (RefusedFile f) stand.declared (record {
             judged = Err f;
@@ -292,20 +292,20 @@ module _ (d : Declaration) (at : Places) (h : List Step) (n p : ℕ) (node : Nod
           })) t refl (quiet f)
 
       by : (f : FileFault) → IsFault d (slot_file d h slot) f → text ≡ file_text f → AnswersAs d at h (Get slot n) text
-      by files.OtherFormat i t = told files.OtherFormat i (λ w. cc) t
-      by files.Truncated i t = told files.Truncated i (λ w. cc) t
-      by files.NotRising i t = told files.NotRising i (λ w. cc) t
-      by files.OtherCount i t = told files.OtherCount i (λ w. cc) t
-      by files.OtherSchema i t = told files.OtherSchema i (λ w. cc) t
-      by (files.Segment fault) i t = told (files.Segment fault) i (λ w. cc) t
-      by files.Trailing i t = told files.Trailing i (λ w. cc) t
-      by files.OtherDigest i t = told files.OtherDigest i (λ w. cc) t
+      by files.OtherFormat i t = refused_so files.OtherFormat i (λ w. cc) t
+      by files.Truncated i t = refused_so files.Truncated i (λ w. cc) t
+      by files.NotRising i t = refused_so files.NotRising i (λ w. cc) t
+      by files.OtherCount i t = refused_so files.OtherCount i (λ w. cc) t
+      by files.OtherSchema i t = refused_so files.OtherSchema i (λ w. cc) t
+      by (files.Segment fault) i t = refused_so (files.Segment fault) i (λ w. cc) t
+      by files.Trailing i t = refused_so files.Trailing i (λ w. cc) t
+      by files.OtherDigest i t = refused_so files.OtherDigest i (λ w. cc) t
       by files.NoMemory i t = quietly (Get slot n) NoMemory text (inr (put_where d (is_put h slot) (held h slot) i, refl)) t
           refl (record { delivers_none = λ m. refl; gets_none = λ m. refl; puts_none = λ k. refl; hears_none = λ m. refl })
 
-  pub get_at : (slot q : ℕ) (bytes e : List ℕ) (told : Result (Unit {0}) FileFault) (new : NodeState) (text : List ℕ)
-      → q + 1 ≡ slot → q < slot_count → bytes ≡ get_or at.slots q e → OnOk told (LearnsFile node bytes new)
-      → IfErr told (λ fault. IsFault node.schema bytes fault) → OnErr told (new ≡ node) → text ≡ get_text told
+  pub get_at : (slot q : ℕ) (bytes e : List ℕ) (outcome : Result (Unit {0}) FileFault) (new : NodeState) (text : List ℕ)
+      → q + 1 ≡ slot → q < slot_count → bytes ≡ get_or at.slots q e → OnOk outcome (LearnsFile node bytes new)
+      → IfErr outcome (λ fault. IsFault node.schema bytes fault) → OnErr outcome (new ≡ node) → text ≡ get_text outcome
       → AnswersAs d (places (set at.nodes p new) at.slots) h (Get slot n) text
   get_at slot q bytes e (Ok _) new text slot_is q_low bytes_are learned fails same text_is =
       got_at slot q bytes e new text slot_is q_low bytes_are learned text_is

@@ -16,7 +16,7 @@ use Rattle.wstore.specs.Replies.{Line, TookLine, WasLine, FloorLine, RefusedLine
 use Rattle.wreplies.specs.Spelling.{no_memory}
 use Rattle.wstore.specs.History.{Step, Answers, LinesAnswer, IsRest, FeedBegins, PieceAnswers, Heard, heard, heard_items}
 use Rattle.wstore.specs.History.{heard_bad, entered, stream, handled, is_bad, declaration, known, held, slot_file}
-use Rattle.wstore.specs.Nodes.{NodeState, Tells, TellsAll, told_view}
+use Rattle.wstore.specs.Nodes.{NodeState, HandlesLines, HandlesAll, handled_view}
 use Rattle.wstore.specs.Feeding.{SendsAll, SendsPart, Feeds, FeedsPart, FedAs}
 use Rattle.wstore.specs.Steps.{FedPart}
 use Rattle.wstore.specs.Standing.{KnowsThese, IsSound, Listens, Places, StandAt, places}
@@ -66,10 +66,10 @@ each-both : (xs ys : List Item) → AllByRecursion IsMessage xs → AllByRecursi
 each-both [] ys h k = k
 each-both (x ∷ xs) ys h k = (h.0, each-both xs ys h.1 k)
 
-told_items : (items : List Item) (ls : List Line) → told_view (view_of items) ls ≡ view_of (items ++ flat_map line_items ls)
+told_items : (items : List Item) (ls : List Line) → handled_view (view_of items) ls ≡ view_of (items ++ flat_map line_items ls)
 told_items items [] = ap view_of (sym (append-nil items))
 told_items items (l ∷ ls) =
-    ap (λ v. told_view v ls) (sym (view_of_union items (line_items l)))
+    ap (λ v. handled_view v ls) (sym (view_of_union items (line_items l)))
     ∙ told_items (items ++ line_items l) ls
     ∙ ap view_of (append_assoc items (line_items l) (flat_map line_items ls))
 
@@ -141,7 +141,7 @@ module _ (d : Declaration) (at : Places) (h : List Step) (p : ℕ) (node : NodeS
     pushed_settled : IsSettled pushed.view
     pushed_settled = subst IsSettled (sym pushed_view) (views_are_settled (known h (p + 1)))
 
-    module _ (lines : List Line) (last : NodeState) (tells : Tells pushed lines last) where
+    module _ (lines : List Line) (last : NodeState) (tells : HandlesLines pushed lines last) where
       whole : stream h (p + 1) ++ piece ≡ flat_map message_text (handled h (p + 1) ++ map line_item lines) ++ last.held
       whole =
           ap (λ l. l ++ piece) (listens.held_is not_bad)
@@ -160,10 +160,10 @@ module _ (d : Declaration) (at : Places) (h : List Step) (p : ℕ) (node : NodeS
       knows_more : KnowsThese d (known h (p + 1) ++ flat_map line_items lines) last
       knows_more = record {
         schema_is = tells.schema_is ∙ pushed_schema;
-        view_is = tells.view_is pushed_settled ∙ ap (λ v. told_view v lines) pushed_view ∙ told_items (known h (p + 1)) lines;
+        view_is = tells.view_is pushed_settled ∙ ap (λ v. handled_view v lines) pushed_view ∙ told_items (known h (p + 1)) lines;
       }
 
-    module _ (lines : List Line) (bad : Bool) (new : NodeState) (all : TellsAll pushed lines bad new) where
+    module _ (lines : List Line) (bad : Bool) (new : NodeState) (all : HandlesAll pushed lines bad new) where
       answers : Answers h (Feed (p + 1) piece) (Fed lines bad)
       answers = under d h (Feed (p + 1) piece) (Fed lines bad) stand.declared
           (subst (λ b. PieceAnswers b d h (p + 1) piece (Fed lines bad)) (sym not_bad)

@@ -15,7 +15,7 @@ use Rattle.wset.proofs.Union.{below-view_of, get-view_of}
 use Rattle.wstream.specs.Messages.{IsMessage, IsOpen, IsBad, message_text}
 use Rattle.wstore.specs.Replies.{Line, TookLine, WasLine, FloorLine, RefusedLine, SpentLine, line_item, line_items, line_text, fed_text}
 use Rattle.wstore.specs.History.{LineAnswers, LinesAnswer}
-use Rattle.wstore.specs.Nodes.{NodeState, IsTold, Handles, Tells, TellsAll, told_view}
+use Rattle.wstore.specs.Nodes.{NodeState, IsTold, Handles, HandlesLines, HandlesAll, handled_view}
 use Rattle.wstore.specs.Feeding.{IsTextOf, SendsAll, SendsPart}
 use Rattle.wstore.specs.declared.node.Reply.{Reply}
 use Rattle.wstore.specs.declared.node.Reply.TheVariants as replies
@@ -57,7 +57,7 @@ front_behind a b c xs ys k w = (length xs + w.0, subst (Says a c) (sym (take_beh
 
 pub record SoFar (old new : NodeState) (held new_held : Sent) (count : ℕ) : Type 0 where
   pub lines : List Line
-  pub tells : Tells old lines new
+  pub tells : HandlesLines old lines new
   pub appends : Says held new_held (flat_map line_text lines)
   pub count_is : count ≡ length lines
 
@@ -85,7 +85,7 @@ join_nothing v settled = same_view v (join v (view_of [])) (λ q. sym (
     ∙ told_nothing v q settled))
 
 -- a settled view stays so
-told_settled : (v : View) (ls : List Line) → IsSettled v → IsSettled (told_view v ls)
+told_settled : (v : View) (ls : List Line) → IsSettled v → IsSettled (handled_view v ls)
 told_settled v [] settled = settled
 told_settled v (l ∷ ls) settled = told_settled (join v (view_of (line_items l))) ls (join_laws.settled v (view_of (line_items l)))
 
@@ -163,12 +163,12 @@ line_told d v w (FloorItem n) replies.NoMemory text t is = record {
   text_is = is;
 }
 
-view-push : (v : View) (ls : List Line) (l : Line) → told_view v (ls ++ l ∷ []) ≡ join (told_view v ls) (view_of (line_items l))
+view-push : (v : View) (ls : List Line) (l : Line) → handled_view v (ls ++ l ∷ []) ≡ join (handled_view v ls) (view_of (line_items l))
 view-push v [] l = refl
 view-push v (x ∷ ls) l = view-push (join v (view_of (line_items x))) ls l
 
 answers-push : (d : Declaration) (v : View) (ls : List Line) (l : Line) → LinesAnswer d v ls
-    → LineAnswers d (told_view v ls) l → LinesAnswer d v (ls ++ l ∷ [])
+    → LineAnswers d (handled_view v ls) l → LinesAnswer d v (ls ++ l ∷ [])
 answers-push d v [] l h k = (k, tt)
 answers-push d v (x ∷ ls) l h k = (h.0, answers-push d (join v (view_of (line_items x))) ls l h.1 k)
 
@@ -201,7 +201,7 @@ module _ (old mid new : NodeState) (a b c : Sent) (count : ℕ) (so_far : SoFar 
     mid_settled : IsSettled old.view → IsSettled mid.view
     mid_settled s = subst IsSettled (sym (so_far.tells.view_is s)) (told_settled old.view so_far.lines s)
 
-    more : Tells old (so_far.lines ++ last.line ∷ []) new
+    more : HandlesLines old (so_far.lines ++ last.line ∷ []) new
     more = record {
       schema_is = handles.schema_is ∙ so_far.tells.schema_is;
       view_is = λ s. last.view_is (mid_settled s) ∙ ap (λ v. join v (view_of (line_items last.line)))
@@ -242,7 +242,7 @@ module _ (old mid new : NodeState) (a b c : Sent) (count : ℕ) (so_far : SoFar 
     abbrev last_text : List ℕ
     last_text = fed_text (length so_far.lines) bad
 
-    all : (end : TellsAll old so_far.lines bad new) → Says b c last_text → SendsAll old new a c
+    all : (end : HandlesAll old so_far.lines bad new) → Says b c last_text → SendsAll old new a c
     all end k = record {
       lines = so_far.lines;
       bad = bad;
@@ -251,7 +251,7 @@ module _ (old mid new : NodeState) (a b c : Sent) (count : ℕ) (so_far : SoFar 
           says_more a b c (flat_map line_text so_far.lines) last_text so_far.appends k;
     }
 
-    part : (end : TellsAll old so_far.lines bad new) → ((n : ℕ) × Says b c (take n last_text)) → SendsPart old a c
+    part : (end : HandlesAll old so_far.lines bad new) → ((n : ℕ) × Says b c (take n last_text)) → SendsPart old a c
     part end w =
         let f = front_behind a b c (flat_map line_text so_far.lines) last_text so_far.appends w in
         inr (record { lines = so_far.lines; bad = bad; new = new; n = f.0; tells = end; appends = f.1 })
@@ -260,7 +260,7 @@ module _ (old mid new : NodeState) (a b c : Sent) (count : ℕ) (so_far : SoFar 
     new_is : new ≡ record mid { is_bad = false }
     new_is = is_open.2 ∙ ap (λ x. record mid { is_bad = x }) is_open.0
 
-    ended : TellsAll old so_far.lines false new
+    ended : HandlesAll old so_far.lines false new
     ended = record { last = mid; tells = so_far.tells; new_is = new_is; end = is_open.1 }
 
     pub all_told : Says b c (fed_text count false) → SendsAll old new a c
@@ -274,7 +274,7 @@ module _ (old mid new : NodeState) (a b c : Sent) (count : ℕ) (so_far : SoFar 
     rest_is_bad (inl e) = let wrong : true ≡ false = sym e ∙ so_far.tells.good ∙ good in cc
     rest_is_bad (inr e) = e
 
-    ended_bad : TellsAll old so_far.lines true new
+    ended_bad : HandlesAll old so_far.lines true new
     ended_bad = record { last = mid; tells = so_far.tells; new_is = ends.1; end = rest_is_bad ends.0 }
 
     pub bad_told : Says b c (fed_text 0 true) → SendsAll old new a c

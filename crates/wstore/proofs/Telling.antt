@@ -29,7 +29,7 @@ use Rattle.wscript.specs.declared.request.Refusal.{Refusal}
 use Rattle.wscript.specs.declared.request.Refusal.TheVariants as refusals
 use Rattle.wstore.proofs.Soundness.{nothing_known, sound_nothing}
 use Rattle.wstore.proofs.Standing.{IsQuiet, stand_quiet, untold, or_none, listens_still}
-use Rattle.wstore.specs.Sessions.{ClusterStands, IsSilent, Stands, Tells, refusal_text}
+use Rattle.wstore.specs.Sessions.{ClusterStands, IsSilent, Stands, RepliesWith, refusal_text}
 use Rattle.wstore.specs.declared.session.Session.{Session}
 
 none_of : (o : Option Declaration) → is_some o ≡ false → o ≡ None
@@ -115,7 +115,7 @@ fresh_stand d h c r k j is js declared quiet none unput silent = record {
 
 pub declares : (session : Session) (new : Places) (h : List Step) (bytes : List ℕ) (d : Declaration) → is_declared h ≡ false
     → Stands session h → ReadsDeclaration bytes (Ok d) → new ≡ places (replicate node_count (fresh_node d map.empty))
-    (replicate slot_count []) → Tells (record session { cluster = Some new }) h (Declare bytes) (111 ∷ 107 ∷ 10 ∷ [])
+    (replicate slot_count []) → RepliesWith (record session { cluster = Some new }) h (Declare bytes) (111 ∷ 107 ∷ 10 ∷ [])
 declares session new h bytes d e stands reads is =
     let none = nothing_yet session.cluster h e stands in
     let s : Step = record { command = Declare bytes; reply = Declared d } in
@@ -138,7 +138,7 @@ declares session new h bytes d e stands reads is =
 
 pub refuses_table : (session : Session) (h : List Step) (bytes text : List ℕ) (fault : SchemaFault) → is_declared h ≡ false
     → Stands session h → ReadsDeclaration bytes (Err fault) → fault ≢ tables.NoMemory → text ≡ table_text fault
-    → Tells session h (Declare bytes) text
+    → RepliesWith session h (Declare bytes) text
 refuses_table session h bytes text fault e stands reads judged text_is = record {
   reply = RefusedTable fault;
   answers = inl (subst (λ o. AnswersUnder o h (Declare bytes) (RefusedTable fault)) (sym (none_of (declaration h) e)) (judged, reads));
@@ -153,7 +153,8 @@ refuses_table session h bytes text fault e stands reads judged text_is = record 
 }
 
 -- a command that may find no memory
-pub finds_no_memory : (session : Session) (h : List Step) (c : Command) → MayLackMemory h c → Stands session h → Tells session h c no_memory
+pub finds_no_memory : (session : Session) (h : List Step) (c : Command) → MayLackMemory h c → Stands session h
+    → RepliesWith session h c no_memory
 finds_no_memory session h c may stands = record {
   reply = NoMemory;
   answers = inr (may, refl);
@@ -188,7 +189,7 @@ under h e = by (declaration h) refl e
 
 node_tells : (session : Session) (h : List Step) (c : Command) (r : Reply) (text : List ℕ) → is_declared h ≡ true
     → Stands session h → ((d : Declaration) → AnswersUnder (Some d) h c r) → declared_by r (declaration h) ≡ declaration h
-    → IsQuiet c r → text ≡ text_of r → Tells session h c text
+    → IsQuiet c r → text ≡ text_of r → RepliesWith session h c text
 node_tells session h c r text e stands answers same quiet text_is =
     let u = under h e in
     record {
@@ -199,7 +200,7 @@ node_tells session h c r text e stands answers same quiet text_is =
     }
 
 pub long_declaration : (session : Session) (h : List Step) (c : Command) → IsRefusedAs refusals.LongDeclaration c
-    → IsAllowed (is_declared h) c → Stands session h → Tells session h c (table_text tables.Syntax)
+    → IsAllowed (is_declared h) c → Stands session h → RepliesWith session h c (table_text tables.Syntax)
 long_declaration session h (Declare bytes) long allowed stands =
     refuses_table session h bytes (table_text tables.Syntax) tables.Syntax allowed stands
     (λ d spells. omega (arith, long, spells.short)) (λ e. cc) refl
@@ -213,7 +214,7 @@ long_declaration session h (Put m s) long allowed stands = absurd long
 long_declaration session h (Get s m) long allowed stands = absurd long
 
 pub bad_name : (session : Session) (h : List Step) (c : Command) (fault : NameFault)
-    → IsRefusedAs (refusals.BadName fault) c → IsAllowed (is_declared h) c → Stands session h → Tells session h c (name_text fault)
+    → IsRefusedAs (refusals.BadName fault) c → IsAllowed (is_declared h) c → Stands session h → RepliesWith session h c (name_text fault)
 bad_name session h (Declare bytes) fault named allowed stands = absurd named
 bad_name session h (Take n o m bytes) fault named allowed stands =
     node_tells session h (Take n o m bytes) (RefusedName fault) (name_text fault) allowed stands
@@ -250,7 +251,7 @@ unfolding rows_of
 too_long d bytes h = rw (less longest_segment (length bytes) h) refl
 
 pub long_segment : (session : Session) (h : List Step) (c : Command) → IsRefusedAs refusals.LongSegment c
-    → IsAllowed (is_declared h) c → Stands session h → Tells session h c (segment_text segments.TooLong)
+    → IsAllowed (is_declared h) c → Stands session h → RepliesWith session h c (segment_text segments.TooLong)
 long_segment session h (Declare bytes) long allowed stands = absurd long
 long_segment session h (Take n o m bytes) long allowed stands =
     node_tells session h (Take n o m bytes) (RefusedSegment segments.TooLong) (segment_text segments.TooLong) allowed stands
@@ -265,7 +266,7 @@ long_segment session h (Put m s) long allowed stands = absurd long
 long_segment session h (Get s m) long allowed stands = absurd long
 
 pub long_query : (session : Session) (h : List Step) (c : Command) → IsRefusedAs refusals.LongQuery c
-    → IsAllowed (is_declared h) c → Stands session h → Tells session h c (query_text queries.TooLong)
+    → IsAllowed (is_declared h) c → Stands session h → RepliesWith session h c (query_text queries.TooLong)
 long_query session h (Declare bytes) long allowed stands = absurd long
 long_query session h (Take n o m bytes) long allowed stands = absurd long
 long_query session h (Retire n o m) long allowed stands = absurd long
@@ -285,7 +286,7 @@ long_query session h (Ask n text) long allowed stands =
 
 -- a command that its form refuses
 pub refused : (reason : Refusal) (session : Session) (h : List Step) (c : Command) → IsRefusedAs reason c
-    → IsAllowed (is_declared h) c → Stands session h → Tells session h c (refusal_text reason)
+    → IsAllowed (is_declared h) c → Stands session h → RepliesWith session h c (refusal_text reason)
 refused refusals.LongDeclaration session h c is allowed stands = long_declaration session h c is allowed stands
 refused (refusals.BadName fault) session h c is allowed stands = bad_name session h c fault is allowed stands
 refused refusals.LongSegment session h c is allowed stands = long_segment session h c is allowed stands

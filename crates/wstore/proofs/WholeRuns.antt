@@ -10,7 +10,7 @@ use Rattle.std.specs.List.{flat_map}
 use Rattle.wscript.specs.Commands.{IsCommand, IsMalformed, spell}
 use Rattle.wstore.specs.History.{Step, Answers, is_declared}
 use Rattle.wstore.specs.Replies.{text_of, line_text, bad_script}
-use Rattle.wstore.specs.Runs.{Ran, asked, told, RepliesDone, RepliesBad, RepliesBegun, Replies}
+use Rattle.wstore.specs.Runs.{Ran, asked, replied, RepliesDone, RepliesBad, RepliesBegun, Replies}
 use Rattle.wstore.specs.Runs.{Stops, StopsRun, Begins, nothing, answer, lines, last}
 use Rattle.wstore.specs.Sessions.{Stands}
 use Rattle.wstore.specs.Steps.{StepsOn, StepEnds, StepFails}
@@ -28,7 +28,7 @@ pub record SoFar (session : Session) (first left : Option (List ℕ)) (begun hel
   pub ran : Ran [] steps history
   pub stands : Stands session history
   pub consumed : Consumes first left (asked steps)
-  pub written : Says begun held (told steps)
+  pub written : Says begun held (replied steps)
 
 pub none_so_far : (session : Session) (first : Option (List ℕ)) (begun : Sent) → Stands session [] → SoFar session first first begun begun
 none_so_far session first begun stands = record {
@@ -51,9 +51,10 @@ asked-more : (xs : List Step) (s : Step) → asked (xs ++ s ∷ []) ≡ asked xs
 asked-more [] s = append-nil (spell s.command)
 asked-more (y ∷ ys) s = ap (λ l. spell y.command ++ l) (asked-more ys s) ∙ sym (append_assoc (spell y.command) (asked ys) (spell s.command))
 
-told-more : (xs : List Step) (s : Step) → told (xs ++ s ∷ []) ≡ told xs ++ text_of s.reply
-told-more [] s = append-nil (text_of s.reply)
-told-more (y ∷ ys) s = ap (λ l. text_of y.reply ++ l) (told-more ys s) ∙ sym (append_assoc (text_of y.reply) (told ys) (text_of s.reply))
+replied-more : (xs : List Step) (s : Step) → replied (xs ++ s ∷ []) ≡ replied xs ++ text_of s.reply
+replied-more [] s = append-nil (text_of s.reply)
+replied-more (y ∷ ys) s = ap (λ l. text_of y.reply ++ l) (replied-more ys s)
+    ∙ sym (append_assoc (text_of y.reply) (replied ys) (text_of s.reply))
 
 pub one_step_more : (session new : Session) (first left new_left : Option (List ℕ)) (begun held new_held : Sent)
     → SoFar session first left begun held → ((h : List Step) → Stands session h → StepsOn new h left new_left held new_held)
@@ -68,7 +69,7 @@ one_step_more session new first left new_left begun held new_held so tells =
       stands = t.answered.stands;
       consumed = subst (Consumes first new_left) (sym (asked-more so.steps s)) (Consumes-trans first left new_left
           (asked so.steps) (spell t.command) so.consumed t.consumes);
-      written = subst (Says begun new_held) (sym (told-more so.steps s)) (says_more begun held new_held (told so.steps)
+      written = subst (Says begun new_held) (sym (replied-more so.steps s)) (says_more begun held new_held (replied so.steps)
           (text_of t.answered.reply) so.written t.answered.appends);
     }
 
@@ -82,8 +83,8 @@ module _ (session : Session) (first left new_left : Option (List ℕ)) (begun he
       let e = tells so.history so.stands in
       Consumes-whole first new_left (asked so.steps) (λ bytes. (written : List ℕ) × Says begun new_held written × RepliesDone bytes written)
       (Consumes-kept first left new_left (asked so.steps) so.consumed e.0) e.1 (
-        told so.steps,
-        subst (Says begun new_held) (append-nil (told so.steps)) (says_more begun held new_held (told so.steps) [] so.written e.2),
+        replied so.steps,
+        subst (Says begun new_held) (append-nil (replied so.steps)) (says_more begun held new_held (replied so.steps) [] so.written e.2),
         record { steps = so.steps; history = so.history; ran = so.ran; input_is = refl; output_is = refl },
       )
   run_ends Bad tells =
@@ -91,8 +92,8 @@ module _ (session : Session) (first left new_left : Option (List ℕ)) (begun he
       lift_front first left (asked so.steps) (λ xs. IsMalformed (is_declared so.history) xs) (λ bytes. (written : List ℕ)
       × Says begun new_held written × RepliesBad bytes written) so.consumed e.0
       (λ rest bad. (
-        told so.steps ++ bad_script,
-        says_more begun held new_held (told so.steps) bad_script so.written e.1,
+        replied so.steps ++ bad_script,
+        says_more begun held new_held (replied so.steps) bad_script so.written e.1,
         record { steps = so.steps; history = so.history; rest = rest; ran = so.ran; malformed = bad; input_is = refl; output_is = refl },
       ))
 
@@ -105,8 +106,8 @@ module _ (session : Session) (first left new_left : Option (List ℕ)) (begun he
       × RepliesBegun fault reads bytes written) so.consumed
       (fails so.history so.stands)
       (λ rest p. (
-        told so.steps ++ p.0,
-        says_more begun held new_held (told so.steps) p.0 so.written p.2,
+        replied so.steps ++ p.0,
+        says_more begun held new_held (replied so.steps) p.0 so.written p.2,
         record {
           steps = so.steps;
           history = so.history;
@@ -166,15 +167,15 @@ record Begun (old : List Step) (input output : List ℕ) : Type 0 where
   ran : Ran old steps history
   begins : Begins history rest part
   input_is : input ≡ asked steps ++ rest
-  output_is : output ≡ told steps ++ part
+  output_is : output ≡ replied steps ++ part
 
 -- the front ends in the reply to the first command, or behind it
 cut_step : (old : List Step) (s : Step) (steps : List Step) (rest part : List ℕ) (n : ℕ)
     → IsCommand (is_declared old) s.command → Answers old s.command s.reply
-    → (take n (text_of s.reply ++ (told steps ++ part)) ≡ take n (text_of s.reply))
-    ⊎ ((m : ℕ) × (take n (text_of s.reply ++ (told steps ++ part)) ≡ text_of s.reply ++ take m (told steps ++ part)))
-    → ((m : ℕ) → Begun (s ∷ old) (asked steps ++ rest) (take m (told steps ++ part)))
-    → Begun old (asked (s ∷ steps) ++ rest) (take n (told (s ∷ steps) ++ part))
+    → (take n (text_of s.reply ++ (replied steps ++ part)) ≡ take n (text_of s.reply))
+    ⊎ ((m : ℕ) × (take n (text_of s.reply ++ (replied steps ++ part)) ≡ text_of s.reply ++ take m (replied steps ++ part)))
+    → ((m : ℕ) → Begun (s ∷ old) (asked steps ++ rest) (take m (replied steps ++ part)))
+    → Begun old (asked (s ∷ steps) ++ rest) (take n (replied (s ∷ steps) ++ part))
 cut_step old s steps rest part n is answers (inl e) cut_rest = record {
   steps = [];
   history = old;
@@ -183,7 +184,7 @@ cut_step old s steps rest part n is answers (inl e) cut_rest = record {
   ran = refl;
   begins = answer s.command (asked steps ++ rest) s.reply n is (append_assoc (spell s.command) (asked steps) rest) answers;
   input_is = refl;
-  output_is = ap (take n) (append_assoc (text_of s.reply) (told steps) part) ∙ e;
+  output_is = ap (take n) (append_assoc (text_of s.reply) (replied steps) part) ∙ e;
 }
 cut_step old s steps rest part n is answers (inr e) cut_rest =
     let more = cut_rest e.0 in
@@ -196,12 +197,12 @@ cut_step old s steps rest part n is answers (inr e) cut_rest =
       begins = more.begins;
       input_is = append_assoc (spell s.command) (asked steps) rest ∙ ap (λ l. spell s.command ++ l) more.input_is
           ∙ sym (append_assoc (spell s.command) (asked more.steps) more.rest);
-      output_is = ap (take n) (append_assoc (text_of s.reply) (told steps) part) ∙ e.1 ∙ ap (λ l. text_of s.reply ++ l)
-          more.output_is ∙ sym (append_assoc (text_of s.reply) (told more.steps) more.part);
+      output_is = ap (take n) (append_assoc (text_of s.reply) (replied steps) part) ∙ e.1 ∙ ap (λ l. text_of s.reply ++ l)
+          more.output_is ∙ sym (append_assoc (text_of s.reply) (replied more.steps) more.part);
     }
 
 cut : (old h steps : List Step) (rest part : List ℕ) (n : ℕ) → Ran old steps h → Begins h rest part
-    → Begun old (asked steps ++ rest) (take n (told steps ++ part))
+    → Begun old (asked steps ++ rest) (take n (replied steps ++ part))
 cut old h [] rest part n ran begins = record {
   steps = [];
   history = h;
@@ -214,7 +215,7 @@ cut old h [] rest part n ran begins = record {
   output_is = refl;
 }
 cut old h (s ∷ steps) rest part n ran begins =
-    cut_step old s steps rest part n ran.0 ran.1 (front_over (text_of s.reply) (told steps ++ part) n)
+    cut_step old s steps rest part n ran.0 ran.1 (front_over (text_of s.reply) (replied steps ++ part) n)
     (λ m. cut (s ∷ old) h steps rest part m ran.2 begins)
 
 -- where a run stopped, what was said behind the replies begins what comes next
@@ -227,7 +228,7 @@ stops_begins faults.NoMemory reads h rest part (inl stops) = subst (Begins h res
 -- so a front of what was said is a beginning of the replies
 module _ (reads : ℕ) (input output : List ℕ) (n : ℕ) where
   by_cut : (h steps : List Step) (rest part : List ℕ) → Ran [] steps h → Begins h rest part → input ≡ asked steps ++ rest
-      → output ≡ told steps ++ part → RepliesBegun faults.Write reads input (take n output)
+      → output ≡ replied steps ++ part → RepliesBegun faults.Write reads input (take n output)
   by_cut h steps rest part ran begins i o =
       let b = cut [] h steps rest part n ran begins in
       record {
@@ -243,7 +244,7 @@ module _ (reads : ℕ) (input output : List ℕ) (n : ℕ) where
 
   front_of_replies : (end : End) → Replies end input output → RepliesBegun faults.Write reads input (take n output)
   front_of_replies Done r = by_cut r.history r.steps [] [] r.ran nothing (r.input_is ∙ sym (append-nil (asked r.steps)))
-      (r.output_is ∙ sym (append-nil (told r.steps)))
+      (r.output_is ∙ sym (append-nil (replied r.steps)))
   front_of_replies Bad r =
       let whole : take (length bad_script) bad_script ≡ bad_script = take_all (length bad_script) bad_script (omega arith) in
       by_cut r.history r.steps r.rest bad_script r.ran (subst (Begins r.history r.rest) whole

@@ -7,7 +7,7 @@ use Rattle.wstore.specs.Replies.{line_text, text_of}
 use Rattle.wscript.specs.Commands.{Command, Declare, Take, Retire, RetireTo, Listing, Ask, Feed, Put, Get}
 use Rattle.wstore.specs.History.{Step, MayLackMemory, is_put}
 use Rattle.wscript.specs.Requests.{IsFeedOf, IsOrderAt, KeepsBody}
-use Rattle.wstore.specs.Sessions.{Tells}
+use Rattle.wstore.specs.Sessions.{RepliesWith}
 use Rattle.wstore.specs.Steps.{Answered, AnsweredPart, AnsweredLines, Unanswered}
 use Rattle.wscript.specs.declared.request.Order.{Order}
 use Rattle.wscript.specs.declared.request.Order.TheVariants as orders
@@ -15,22 +15,23 @@ use Rattle.wstore.specs.declared.script_run.RunFault.{RunFault}
 use Rattle.wstore.specs.declared.script_run.RunFault.TheVariants as faults
 use Rattle.wstore.specs.declared.session.Session.{Session}
 
-module _ (session : Session) (h : List Step) (c : Command) (text : List ℕ) (held new_held : Sent) (tells : Tells session h c text) where
+module _ (session : Session) (h : List Step) (c : Command) (text : List ℕ) (held new_held : Sent)
+    (replies : RepliesWith session h c text) where
   pub answered : Says held new_held text → Answered session h c held new_held
   answered k = record {
-    reply = tells.reply;
-    answers = tells.answers;
-    appends = subst (Says held new_held) tells.text_is k;
-    stands = tells.stands;
+    reply = replies.reply;
+    answers = replies.answers;
+    appends = subst (Says held new_held) replies.text_is k;
+    stands = replies.stands;
   }
 
   pub answered_part : (n : ℕ) → Says held new_held (take n text) → AnsweredPart h c held new_held
   answered_part n k = record {
-    reply = tells.reply;
+    reply = replies.reply;
     n = n;
-    answers = tells.answers;
+    answers = replies.answers;
     appends =
-        subst (λ t. Says held new_held (take n t)) tells.text_is k;
+        subst (λ t. Says held new_held (take n t)) replies.text_is k;
   }
 
 -- a write fault leaves a front

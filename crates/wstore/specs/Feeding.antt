@@ -9,7 +9,7 @@ use Rattle.wstore.specs.History.{Step, Answers}
 use Rattle.wstore.specs.Standing.{Places, StandAt}
 use Rattle.wstore.specs.Replies.{text_of, Line, line_text, fed_text}
 use Rattle.wreplies.specs.Spelling.{taken_text, retired_text, segment_text, no_memory}
-use Rattle.wstore.specs.Nodes.{NodeState, Tells, TellsAll}
+use Rattle.wstore.specs.Nodes.{NodeState, HandlesLines, HandlesAll}
 use Rattle.wstore.specs.declared.node.Reply.{Reply}
 use Rattle.wstore.specs.declared.node.Reply.TheVariants as replies
 
@@ -24,7 +24,7 @@ IsTextOf replies.NoMemory text = text ≡ no_memory
 pub record SendsAll (old new : NodeState) (held new_held : Sent) : Type 0 where
   pub lines : List Line
   pub bad : Bool
-  pub tells : TellsAll old lines bad new
+  pub tells : HandlesAll old lines bad new
   pub appends : Says held new_held (flat_map line_text lines ++ fed_text (length lines) bad)
 
 -- a front was written of what the first messages are told
@@ -32,7 +32,7 @@ pub record SendsSome (old : NodeState) (held new_held : Sent) : Type 0 where
   pub lines : List Line
   pub new : NodeState
   pub n : ℕ
-  pub tells : Tells old lines new
+  pub tells : HandlesLines old lines new
   pub appends : Says held new_held (take n (flat_map line_text lines))
 
 -- or of all
@@ -41,7 +41,7 @@ pub record SendsFront (old : NodeState) (held new_held : Sent) : Type 0 where
   pub bad : Bool
   pub new : NodeState
   pub n : ℕ
-  pub tells : TellsAll old lines bad new
+  pub tells : HandlesAll old lines bad new
   pub appends : Says held new_held (take n (flat_map line_text lines ++ fed_text (length lines) bad))
 
 abbrev pub SendsPart : NodeState → Sent → Sent → Type 0

@@ -59,23 +59,23 @@ pub record Handles (old : NodeState) (reply : Reply) (new : NodeState) : Type 0 
   pub good : (old.is_bad ≡ false) × (new.is_bad ≡ false)
 
 -- the view behind messages that were told so
-abbrev pub told_view : View → List Line → View
-told_view v [] = v
-told_view v (l ∷ ls) = told_view (join v (view_of (line_items l))) ls
+abbrev pub handled_view : View → List Line → View
+handled_view v [] = v
+handled_view v (l ∷ ls) = handled_view (join v (view_of (line_items l))) ls
 
 -- messages were handled one after the other; the view of a node is settled, as each of items is
-pub record Tells (old : NodeState) (lines : List Line) (new : NodeState) : Type 0 where
+pub record HandlesLines (old : NodeState) (lines : List Line) (new : NodeState) : Type 0 where
   pub schema_is : new.schema ≡ old.schema
-  pub view_is : IsSettled old.view → new.view ≡ told_view old.view lines
+  pub view_is : IsSettled old.view → new.view ≡ handled_view old.view lines
   pub answers : IsSettled old.view → LinesAnswer old.schema old.view lines
   pub each : AllByRecursion IsMessage (map line_item lines)
   pub held_is : old.held ≡ flat_map message_text (map line_item lines) ++ new.held
   pub good : new.is_bad ≡ old.is_bad
 
 -- all messages that are whole were handled, and what is left is open, or bad
-pub record TellsAll (old : NodeState) (lines : List Line) (bad : Bool) (new : NodeState) : Type 0 where
+pub record HandlesAll (old : NodeState) (lines : List Line) (bad : Bool) (new : NodeState) : Type 0 where
   pub last : NodeState
-  pub tells : Tells old lines last
+  pub tells : HandlesLines old lines last
   pub new_is : new ≡ record last { is_bad = bad }
   pub end : IsRest bad last.held
 

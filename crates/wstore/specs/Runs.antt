@@ -19,8 +19,8 @@ Ran old (s ∷ steps) new = IsCommand (is_declared old) s.command × Answers old
 abbrev pub asked : List Step → List ℕ
 asked steps = flat_map (λ s. spell s.command) steps
 
-abbrev pub told : List Step → List ℕ
-told steps = flat_map (λ s. text_of s.reply) steps
+abbrev pub replied : List Step → List ℕ
+replied steps = flat_map (λ s. text_of s.reply) steps
 
 -- the input is whole commands, and the output their replies
 pub record RepliesDone (input output : List ℕ) : Type 0 where
@@ -28,7 +28,7 @@ pub record RepliesDone (input output : List ℕ) : Type 0 where
   pub history : List Step
   pub ran : Ran [] steps history
   pub input_is : input ≡ asked steps
-  pub output_is : output ≡ told steps
+  pub output_is : output ≡ replied steps
 
 -- the input is whole commands and then a malformed one, and the output their replies and a last line
 pub record RepliesBad (input output : List ℕ) : Type 0 where
@@ -38,7 +38,7 @@ pub record RepliesBad (input output : List ℕ) : Type 0 where
   pub ran : Ran [] steps history
   pub malformed : IsMalformed (is_declared history) rest
   pub input_is : input ≡ asked steps ++ rest
-  pub output_is : output ≡ told steps ++ bad_script
+  pub output_is : output ≡ replied steps ++ bad_script
 
 -- what comes next may begin so: a front of a reply to the next command, or of what the first messages of a piece are told, or
 -- of the last line
@@ -79,7 +79,7 @@ pub record RepliesBegun (fault : RunFault) (reads : ℕ) (input output : List �
   pub ran : Ran [] steps history
   pub stops : StopsRun fault reads history rest part
   pub input_is : input ≡ asked steps ++ rest
-  pub output_is : output ≡ told steps ++ part
+  pub output_is : output ≡ replied steps ++ part
 
 -- the input has these replies, where the run ended so
 abbrev pub Replies : End → List ℕ → List ℕ → Type 0

@@ -35,7 +35,7 @@ refusal_text refusals.LongSegment = segment_text segments.TooLong
 refusal_text refusals.LongQuery = query_text queries.TooLong
 
 -- a command was answered by this text, and the session stands behind it
-pub record Tells (session : Session) (h : List Step) (c : Command) (text : List ℕ) : Type 0 where
+pub record RepliesWith (session : Session) (h : List Step) (c : Command) (text : List ℕ) : Type 0 where
   pub reply : Reply
   pub answers : Answers h c reply
   pub text_is : text ≡ text_of reply

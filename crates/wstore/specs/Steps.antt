@@ -82,9 +82,9 @@ abbrev pub StepEnds : End → List Step → Option (List ℕ) → Option (List �
 StepEnds Done h left new_left held new_held = Keeps left new_left × IsAtEnd new_left × Says held new_held []
 StepEnds Bad h left new_left held new_held = IfSome left (λ xs. IsMalformed (is_declared h) xs) × Says held new_held bad_script
 
-abbrev pub StepTells : Option End → Session → List Step → Option (List ℕ) → Option (List ℕ) → Sent → Sent → Type 0
-StepTells None session h left new_left held new_held = StepsOn session h left new_left held new_held
-StepTells (Some end) session h left new_left held new_held = StepEnds end h left new_left held new_held
+abbrev pub StepLeads : Option End → Session → List Step → Option (List ℕ) → Option (List ℕ) → Sent → Sent → Type 0
+StepLeads None session h left new_left held new_held = StepsOn session h left new_left held new_held
+StepLeads (Some end) session h left new_left held new_held = StepEnds end h left new_left held new_held
 
 -- a step that failed
 abbrev pub StepFails : RunFault → List Step → Option (List ℕ) → Sent → Sent → Type 0

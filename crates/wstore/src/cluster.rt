@@ -75,11 +75,11 @@ fn empty_slots(alloc: Global) -> Result<Vec<Slot>, AllocError>
 }
 
 // What a take came to, as it is spelled. `AllocError`: a refusal found no memory.
-fn take_text(alloc: Global, told: Result<Taken, TakeError>) -> Result<Text, AllocError>
-    ensures text { IfOk result (λ text. bytes_of text ≡ take_text told) }
-    ensures lacks { OnErr result (IsErr told) }
+fn take_text(alloc: Global, outcome: Result<Taken, TakeError>) -> Result<Text, AllocError>
+    ensures text { IfOk result (λ text. bytes_of text ≡ take_text outcome) }
+    ensures lacks { OnErr result (IsErr outcome) }
 {
-    match told {
+    match outcome {
         Ok(word) => Ok(Text::Fixed(taken(word))),
         Err(fault) => {
             let text = refused_segment(alloc, fault)?;
@@ -89,10 +89,10 @@ fn take_text(alloc: Global, told: Result<Taken, TakeError>) -> Result<Text, Allo
 }
 
 // What a query came to, as it is spelled.
-fn ask_text(alloc: Global, told: Result<Vec<u8>, AskFault>) -> Result<Text, AllocError>
-    ensures { IfOk result (λ text. bytes_of text ≡ ask_text told) }
+fn ask_text(alloc: Global, outcome: Result<Vec<u8>, AskFault>) -> Result<Text, AllocError>
+    ensures { IfOk result (λ text. bytes_of text ≡ ask_text outcome) }
 {
-    match told {
+    match outcome {
         Ok(bytes) => {
             let text = answer(alloc, &bytes)?;
             Ok(text)
@@ -105,11 +105,11 @@ fn ask_text(alloc: Global, told: Result<Vec<u8>, AskFault>) -> Result<Text, Allo
 }
 
 // What reading a slot came to, as it is spelled. `AllocError`: the refusal of a segment found no memory.
-fn get_text(alloc: Global, told: Result<(), FileFault>) -> Result<Text, AllocError>
-    ensures text { IfOk result (λ text. bytes_of text ≡ get_text told) }
-    ensures lacks { OnErr result ((refused : SegmentFault) × (told ≡ Err (FileFault.Segment refused))) }
+fn get_text(alloc: Global, outcome: Result<(), FileFault>) -> Result<Text, AllocError>
+    ensures text { IfOk result (λ text. bytes_of text ≡ get_text outcome) }
+    ensures lacks { OnErr result ((refused : SegmentFault) × (outcome ≡ Err (FileFault.Segment refused))) }
 {
-    match told {
+    match outcome {
         Ok(()) => Ok(Text::Fixed(b"ok\n")),
         Err(fault) => {
             let text = refused_file(alloc, fault)?;
@@ -160,8 +160,8 @@ impl Cluster {
         ensures err { OnErr result (self.new ≡ self.old) }
     {
         let place = node.place();
-        let told = self.nodes[place].take(name, bytes);
-        take_text(self.alloc, told)
+        let outcome = self.nodes[place].take(name, bytes);
+        take_text(self.alloc, outcome)
     }
 
     /// Retires a name at a node.
@@ -205,8 +205,8 @@ impl Cluster {
         ensures same { self.new ≡ self.old }
     {
         let place = node.place();
-        let told = self.nodes[place].ask(text);
-        ask_text(self.alloc, told)
+        let outcome = self.nodes[place].ask(text);
+        ask_text(self.alloc, outcome)
     }
 
     /// Puts the exchange file of what a node knows into a slot. Later steps of the node do not reach it.
@@ -233,8 +233,8 @@ impl Cluster {
         let from = slot.place();
         let to = node.place();
         let file = self.slots[from].as_slice();
-        let told = self.nodes[to].get(file);
-        get_text(self.alloc, told)
+        let outcome = self.nodes[to].get(file);
+        get_text(self.alloc, outcome)
     }
 
     /// Feeds a node a piece of its delivery stream, and writes what its messages are told.

@@ -10,7 +10,7 @@ ghost use Rattle.wscript.specs.Requests.{IsCommandOf, IsFeedOf, IsOrderAt, IsRef
 ghost use Rattle.wstore.specs.History.{Step, is_declared};
 ghost use Rattle.wstore.specs.Runs.{Replies, RepliesBegun};
 ghost use Rattle.wstore.specs.Sessions.{Stands, MayStand};
-ghost use Rattle.wstore.specs.Steps.{HasCause, HasStepCause, HasWriteCause, Answered, Unanswered, StepTells, StepFails};
+ghost use Rattle.wstore.specs.Steps.{HasCause, HasStepCause, HasWriteCause, Answered, Unanswered, StepLeads, StepFails};
 
 use crate::session::{Session, refuse};
 use std::alloc::Global;
@@ -230,7 +230,7 @@ fn step<R: Read, W: Write>(
     requires output { IsSoundWriter output.old }
     requires answered { outbox.old.is_answered ≡ true }
     ensures tells { IfOk result (λ end. (h : List Step) → Stands session.old h
-        → StepTells end session.new h (left R.remaining source.old.held input.old)
+        → StepLeads end session.new h (left R.remaining source.old.held input.old)
         (left R.remaining source.new.held input.new) (sent W.contents outbox.old output.old) (sent W.contents outbox.new output.new)) }
     ensures answered { IfOk result (λ end. IsNone end → outbox.new.is_answered ≡ true) }
     ensures ready { OnOk result (IsReady source.new input.new output.new) }

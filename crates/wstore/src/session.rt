@@ -6,7 +6,7 @@ ghost use Rattle.wstore.specs.History.{Step, MayLackMemory, is_declared};
 ghost use Rattle.wreplies.specs.Texts.{bytes_of};
 ghost use Rattle.wlines.specs.Pending.{IsSoundWriter};
 ghost use Rattle.wlines.specs.Sent.{sent};
-ghost use Rattle.wstore.specs.Sessions.{Stands, Tells, refusal_text};
+ghost use Rattle.wstore.specs.Sessions.{Stands, RepliesWith, refusal_text};
 ghost use Rattle.wstore.specs.Steps.{Answered, FedPart};
 
 use crate::cluster::Cluster;
@@ -48,7 +48,7 @@ impl Session {
     /// Declares the table, if its bytes do. Where it finds no memory, nothing is changed.
     pub(crate) fn declare(&mut self, bytes: &[u8]) -> Result<Text, AllocError>
         ensures tells { IfOk result (λ text. (h : List Step) → is_declared h ≡ false → Stands self.old h
-            → Tells self.new h (Declare bytes.now) (bytes_of text)) }
+            → RepliesWith self.new h (Declare bytes.now) (bytes_of text)) }
         ensures err { OnErr result (self.new ≡ self.old) }
     {
         match Schema::read(self.alloc, bytes) {
@@ -68,7 +68,7 @@ impl Session {
     fn order(&mut self, node: NodeNumber, order: &Order) -> Result<Text, AllocError>
         requires { is_some self.old.cluster ≡ true }
         ensures tells { IfOk result (λ text. (h : List Step) (c : Spelled) → IsOrderAt node order.now c → Stands self.old h
-            → Tells self.new h c (bytes_of text)) }
+            → RepliesWith self.new h c (bytes_of text)) }
         ensures err { OnErr result ((h : List Step) → Stands self.old h → Stands self.new h) }
         ensures lacks { OnErr result ((h : List Step) (c : Spelled) → IsOrderAt node order.now c → Stands self.old h → MayLackMemory h c) }
     {
@@ -107,7 +107,8 @@ impl Session {
     /// The reply of a node, which may be that it finds no memory, where the command needs some.
     pub(crate) fn reply(&mut self, node: NodeNumber, order: &Order) -> Text
         requires { is_some self.old.cluster ≡ true }
-        ensures { (h : List Step) (c : Spelled) → IsOrderAt node order.now c → Stands self.old h → Tells self.new h c (bytes_of result) }
+        ensures { (h : List Step) (c : Spelled) → IsOrderAt node order.now c → Stands self.old h
+            → RepliesWith self.new h c (bytes_of result) }
     {
         match self.order(node, order) {
             Ok(text) => text,
@@ -131,7 +132,7 @@ fn refusal(reason: Refusal) -> &'static [u8]
 /// The refusal of a command whose form alone refuses it.
 pub(crate) fn refuse(reason: Refusal) -> &'static [u8]
     ensures { (session : Session) (h : List Step) (c : Spelled) → IsRefusedAs reason c → IsAllowed (is_declared h) c
-        → Stands session h → Tells session h c result.now }
+        → Stands session h → RepliesWith session h c result.now }
 {
     refusal(reason)
 }

@@ -20,7 +20,7 @@ use Rattle.wreplies.specs.declared.text.Text.{Text}
 use Rattle.wact.specs.declared.acted.Acted.{Acted}
 use Rattle.wact.specs.declared.opening.Opened.TheVariants as opens
 use Rattle.wact.specs.Acts.{Acts}
-use Rattle.wact.specs.Delivering.{IsFeed, IsToldUndelivered}
+use Rattle.wact.specs.Delivering.{IsFeed, IsRefusedSo}
 use Rattle.wact.specs.Opening.{Opens, TableRead, TableRefused}
 use Rattle.wact.specs.Outcomes.{IsRefused}
 use Rattle.wact.specs.Streams.{Feeds}
@@ -125,13 +125,13 @@ refused_open choice table store text acted calls is opened told = record {
 }
 
 -- what is told of a stream that is refused stores nothing
-stores_nothing : (reason : Stop) (acted : Acted) → IsToldUndelivered reason acted → is_some acted.store ≡ false
+stores_nothing : (reason : Stop) (acted : Acted) → IsRefusedSo reason acted → is_some acted.store ≡ false
 stores_nothing (stops.Segment fault) acted told = ap is_some told.2
 stores_nothing stops.Bad acted told = ap is_some told.2
 stores_nothing stops.NoMemory acted told = absurd told
 
 -- and it is no want of memory
-is_told : (reason : Stop) (acted : Acted) → IsToldUndelivered reason acted → reason ≢ stops.NoMemory
+is_told : (reason : Stop) (acted : Acted) → IsRefusedSo reason acted → reason ≢ stops.NoMemory
 is_told (stops.Segment fault) acted told = λ e. cc
 is_told stops.Bad acted told = λ e. cc
 is_told stops.NoMemory acted told = absurd told
@@ -139,7 +139,7 @@ is_told stops.NoMemory acted told = absurd told
 -- what is told of it is what feeding it gives
 told_feeds : (choice : Choice) (table : List ℕ) (store : Option (List ℕ)) (node : NodeState) (d : Declaration)
     (stream : List ℕ) (reason : Stop) (acted : Acted) (calls : List Call) → IsFeed choice → Opens table store (opens.Node node)
-    → d ≡ node.schema → IsUndelivered d stream reason → IsToldUndelivered reason acted
+    → d ≡ node.schema → IsUndelivered d stream reason → IsRefusedSo reason acted
     → CarriesOut choice table store stream acted calls calls
 told_feeds choice table store node d stream reason acted calls is opened same why told =
     let feeds : Feeds node.schema node.view store stream acted =
@@ -152,7 +152,7 @@ told_feeds choice table store node d stream reason acted calls is opened same wh
 pub refused_stream : (choice : Choice) (table : List ℕ) (store : Option (List ℕ)) (node : NodeState) (d : Declaration)
     (path : List ℕ) (reason : Stop) (acted : Acted) (old new : List Call) → IsFeed choice → input_path choice ≡ Some path
     → Opens table store (opens.Node node) → d ≡ node.schema → IsRefusedStream d path old new reason
-    → IsToldUndelivered reason acted → IsDone choice table store acted old new
+    → IsRefusedSo reason acted → IsDone choice table store acted old new
 refused_stream choice table store node d path reason acted old new is named opened same (ByFront front stops read) told = record {
   other = front;
   read = new;
@@ -170,7 +170,7 @@ refused_stream choice table store node d path reason acted old new is named open
 pub told_refused : (choice : Choice) (table : List ℕ) (store : Option (List ℕ)) (node : NodeState) (d : Declaration)
     (path : List ℕ) (reason : Stop) (r : Result Acted Fault) (old new : List Call) → FeedsFrom choice path
     → Opens table store (opens.Node node) → d ≡ node.schema → IsRefusedStream d path old new reason
-    → IfOk r (IsToldUndelivered reason) → IsEnded choice table store r old new
+    → IfOk r (IsRefusedSo reason) → IsEnded choice table store r old new
 told_refused choice table store node d path reason (Err fault) old new feeds opened same why told =
     Unready (refused_reads d path old new reason why)
 told_refused choice table store node d path reason (Ok acted) old new feeds opened same why told =

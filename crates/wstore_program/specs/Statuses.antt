@@ -37,5 +37,5 @@ pub data HasFileStatus (choice : Choice) (counts : CallCounts) (before after : L
     (status : ℕ) : Type 0 where
   Failed : (fault : Fault) → HasCause fault counts → IsGivenUp choice fault before after → Keeps old new → status ≡ 3
       → HasFileStatus choice counts before after old new status
-  Told : (acted : Acted) → IsPerformed choice acted before after → IsPrinted (bytes_of acted.output) acted.status counts old
+  Performed : (acted : Acted) → IsPerformed choice acted before after → IsPrinted (bytes_of acted.output) acted.status counts old
       new status → HasFileStatus choice counts before after old new status

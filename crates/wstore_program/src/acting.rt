@@ -3,7 +3,7 @@ ghost use Rattle.std.specs.Prelude.{◌≡◌, [], Ok, true, IfOk, IfErr, IfNone
 ghost use Rattle.wsegment.specs.Spelling.{ReadsDeclaration};
 ghost use Rattle.wbatch.specs.Batches.{stream_of};
 ghost use Rattle.wcommand.specs.Inputs.{is_act, paths_of};
-ghost use Rattle.wact.specs.Delivering.{IsFeed, IsToldUndelivered};
+ghost use Rattle.wact.specs.Delivering.{IsFeed, IsRefusedSo};
 ghost use Rattle.wact.specs.Streams.{Feeds};
 ghost use Rattle.wstore_program.specs.Performing.{OnlyReads, Performs, Puts, ReadsWhole, input_path};
 ghost use Rattle.wstore_program.specs.Working.{Ends, FeedsFrom, FeedsNode, Finishes, Gives, GivesOn, IsCounted, IsGiven};
@@ -288,7 +288,7 @@ fn refuse_stream<R: AllocGlobal + Eprint>(
     reason: Stop,
 ) -> Result<Acted, Fault>
     requires { IsSound system.old }
-    ensures told { IfOk result (IsToldUndelivered reason) }
+    ensures told { IfOk result (IsRefusedSo reason) }
     ensures counted { IsCounted result system.new }
 {
     let acted = match system.grown(undelivered(rt.alloc(), reason)) {

@@ -309,7 +309,7 @@ pub order_had : (width : ℕ) (segments : List (List Row)) (order : RowOrder) (k
     → ((rows : List Row) → AllByRecursion (λ row. length row ≡ width) rows → order rows ≡ Ok (run_of keys rows))
     → found ≡ refs_by keys segments → IsOrderFor segments order found
 order_had width segments order keys found law wide presorted is = record {
-  tells = λ holds. presorted (filter holds (joined segments)) (wide_kept width holds (joined segments) wide)
+  orders = λ holds. presorted (filter holds (joined segments)) (wide_kept width holds (joined segments) wide)
       ∙ ap Ok (sym (law holds keys segments)) ∙ ap (λ l. Ok (kept_numbers holds segments l)) (sym is);
   within = subst (All (IsRowOf segments)) (sym is) (All-from_recursion (IsRowOf segments) (refs_by keys segments)
       (refs_within keys segments));

@@ -285,4 +285,4 @@ pub order_presorted : (condition : Option Formula) (segments : List (List Row)) 
     → IsNumbered condition segments kept → (order : RowOrder) (refs : List RowRef) → IsOrderFor segments order refs
     → order (rows_seen kept.rows.items) ≡ Ok (presorted_numbers kept refs)
 order_presorted condition segments kept is order refs of =
-    ap order is.rows ∙ of.tells (holds_by condition) ∙ ap Ok (sym (numbers_are condition segments kept is refs of.within))
+    ap order is.rows ∙ of.orders (holds_by condition) ∙ ap Ok (sym (numbers_are condition segments kept is refs of.within))

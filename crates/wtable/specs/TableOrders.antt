@@ -48,8 +48,8 @@ abbrev pub RowOrder : Type 0
 RowOrder = List Row → Result (List ℕ) AnswerFault
 
 -- whatever rows are kept of all, the references tell their order
-abbrev pub TellsKept : List (List Row) → RowOrder → List RowRef → Type 0
-TellsKept segments order refs = (holds : Row → Bool) → order (filter holds (joined segments)) ≡ Ok (kept_numbers holds segments refs)
+abbrev pub OrdersKept : List (List Row) → RowOrder → List RowRef → Type 0
+OrdersKept segments order refs = (holds : Row → Bool) → order (filter holds (joined segments)) ≡ Ok (kept_numbers holds segments refs)
 
 -- the order of a window
 abbrev pub by_window : WindowPlan → RowOrder
@@ -72,7 +72,7 @@ pub record IsRowOf (segments : List (List Row)) (r : RowRef) : Type 0 where
 
 -- rows of some segments that tell an order of them
 pub record IsOrderFor (segments : List (List Row)) (order : RowOrder) (refs : List RowRef) : Type 0 where
-  pub tells : TellsKept segments order refs
+  pub orders : OrdersKept segments order refs
   pub within : All (IsRowOf segments) refs
 
 -- whatever rows are kept of all, no two of them share the keys of a window

@@ -8,7 +8,7 @@ use Rattle.wplan.specs.Formula.{formula}
 use Rattle.wrows.specs.declared.fault.AnswerFault.TheVariants.{OutOfRange}
 use Rattle.wrows.specs.Columns.{is_out_of_range, holds_on}
 use Rattle.wrows.specs.Laid.{row_seen, rows_seen}
-use Rattle.wrows.proofs.RowFacts.{told_all, refused_by, any_of_all}
+use Rattle.wrows.proofs.RowFacts.{all_in_range, refused_by, any_of_all}
 use Rattle.waggregate.proofs.FeedFacts.{some_too}
 use Rattle.waggregate.proofs.feeding.tests.Goals as goal
 
@@ -26,7 +26,7 @@ returns-in_err-holds-clause-gives c =
 pub returns-clause-gives : goal.returns-clause-gives
 returns-clause-gives c =
     let t = formula c.args.condition.now in
-    some_too _ OutOfRange _ _ (told_all (is_out_of_range t) (holds_on t) row_seen OutOfRange c.args.rows.now
+    some_too _ OutOfRange _ _ (all_in_range (is_out_of_range t) (holds_on t) row_seen OutOfRange c.args.rows.now
     c.loop-row.tests.items c.loop-row.row-index c.loop-row-test.false c.loop-row.invariant.in_range c.loop-row.invariant.so_far)
 
 pub returns-clause-len : goal.returns-clause-len

@@ -7,9 +7,9 @@ use Rattle.waggregate.proofs.folding.push_values.Given as goal
 
 abbrev pub invariant-loop-part : goal.invariant-loop-part
 invariant-loop-part g l =
-    let told = g.F.ToldFold.told l.fold in
+    let answer = g.F.AnsweringFold.answer l.fold in
     record {
-      in_range : list_any (λ part. is_none (told part)) (take l.part-index l.parts) ≡ false;
-      so_far : map meaning l.told.items ≡ map meaning l.fn.told.items ++ map (λ part. unwrap_or (told part) Null)
+      in_range : list_any (λ part. is_none (answer part)) (take l.part-index l.parts) ≡ false;
+      so_far : map meaning l.column.items ≡ map meaning l.fn.column.items ++ map (λ part. unwrap_or (answer part) Null)
           (take l.part-index l.parts);
     }

@@ -8,10 +8,10 @@ use Rattle.waggregate.proofs.folding.put_values.Given as goal
 
 abbrev pub invariant-loop-place : goal.invariant-loop-place
 invariant-loop-place g l =
-    let told = g.F.ToldFold.told l.fold in
+    let answer = g.F.AnsweringFold.answer l.fold in
     record {
       long : length l.column ≡ length l.fn.column;
-      in_range : list_any (λ part. is_none (told part)) (take l.place l.parts) ≡ false;
-      put : put_all (map meaning l.column) (drop l.place l.rows) (drop l.place (values_or_null (map told l.parts)))
-          ≡ put_all (map meaning l.fn.column) l.rows (values_or_null (map told l.parts));
+      in_range : list_any (λ part. is_none (answer part)) (take l.place l.parts) ≡ false;
+      put : put_all (map meaning l.column) (drop l.place l.rows) (drop l.place (values_or_null (map answer l.parts)))
+          ≡ put_all (map meaning l.fn.column) l.rows (values_or_null (map answer l.parts));
     }

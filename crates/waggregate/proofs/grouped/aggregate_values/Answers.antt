@@ -6,7 +6,7 @@ use Rattle.wslide.specs.Lawful.{by_value_in_total}
 use Rattle.waggregate.specs.Aggregating.{aggregate_of, fed_values, first_or_null}
 use Rattle.waggregate.specs.Grouped.{rows_of_group}
 use Rattle.waggregate.proofs.FrameFacts.{LeastLaw}
-use Rattle.waggregate.proofs.GroupFacts.{given_alike, values_told, sums_told, firsts_told}
+use Rattle.waggregate.proofs.GroupFacts.{given_alike, values_answered, sums_answered, firsts_answered}
 use Rattle.waggregate.proofs.grouped.aggregate_values.Goals as goal
 
 pub returns-in-CountRows-clause-gives : goal.returns-in-CountRows-clause-gives
@@ -21,7 +21,7 @@ returns-in-Count-clause-gives c = λ feed valued tested.
     let groups = c.args.groups.now in
     let order = c.args.order.now in
     given_alike c.fold_groups.result _ _
-    (values_told groups order c.requires.few feed (meanings c.args.values.now) (tests c.lent-tests.result) valued
+    (values_answered groups order c.requires.few feed (meanings c.args.values.now) (tests c.lent-tests.result) valued
     (c.lent-tests.ensures.value ∙ tested) c.counts_are_exact.ensures.values
     ∙ ap (λ f. map (λ g. aggregate_of f feed (rows_of_group groups g)) order) (sym c.in-Count.is))
     c.fold_groups.ensures.gives
@@ -31,7 +31,7 @@ returns-in-Sum-clause-gives c = λ feed valued tested.
     let groups = c.args.groups.now in
     let order = c.args.order.now in
     given_alike c.fold_groups-in-Sum.result _ _
-    (sums_told groups order c.requires.few feed (meanings c.args.values.now) (tests c.lent-tests.result) valued
+    (sums_answered groups order c.requires.few feed (meanings c.args.values.now) (tests c.lent-tests.result) valued
     (c.lent-tests.ensures.value ∙ tested) c.sums_are_exact.ensures (c.see_ranges.ensures.fed (tests c.lent-tests.result))
     ∙ ap (λ f. map (λ g. aggregate_of f feed (rows_of_group groups g)) order) (sym c.in-Sum.is))
     c.fold_groups-in-Sum.ensures.gives
@@ -43,7 +43,7 @@ returns-in-Min-clause-gives c = λ feed valued tested.
     let fold = c.extreme-fold.result in
     let is = c.extreme-fold.ensures in
     given_alike c.fold_groups-in-Min.result _ _
-    (firsts_told groups order c.requires.few feed (meanings fold.values.now) (tests fold.filter)
+    (firsts_answered groups order c.requires.few feed (meanings fold.values.now) (tests fold.filter)
     (ap meanings is.values ∙ valued) (is.filter ∙ c.lent-tests.ensures.value ∙ tested)
     c.stable_sorts_agree.ensures.first (by_value_in fold.greatest) (by_value_in_total fold.greatest)
     (subst (λ d. LeastLaw (by_value_in d)) (sym is.greatest) c.places_are_least.ensures.least)
@@ -58,7 +58,7 @@ returns-in-Max-clause-gives c = λ feed valued tested.
     let fold = c.extreme-fold-in-Max.result in
     let is = c.extreme-fold-in-Max.ensures in
     given_alike c.fold_groups-in-Max.result _ _
-    (firsts_told groups order c.requires.few feed (meanings fold.values.now) (tests fold.filter)
+    (firsts_answered groups order c.requires.few feed (meanings fold.values.now) (tests fold.filter)
     (ap meanings is.values ∙ valued) (is.filter ∙ c.lent-tests.ensures.value ∙ tested)
     c.stable_sorts_agree.ensures.first (by_value_in fold.greatest) (by_value_in_total fold.greatest)
     (subst (λ d. LeastLaw (by_value_in d)) (sym is.greatest) c.places_are_least.ensures.greatest)

@@ -3,7 +3,7 @@ use Rattle.std.proofs.lemmas.List.Elements.{All-same}
 use Rattle.std.proofs.lemmas.Result.{err_from_is_err_and}
 use Rattle.wslide.specs.Laws.{rows_fold}
 use Rattle.waggregate.specs.Grouped.{rows_of_group}
-use Rattle.waggregate.proofs.GroupFacts.{known_length, ordered_parts, told_column, told_fault, told_in_order, told_long}
+use Rattle.waggregate.proofs.GroupFacts.{known_length, ordered_parts, answers_column, fault_of_answers, answers_in_order, answers_length}
 use Rattle.waggregate.proofs.grouped.fold_groups.Goals as goal
 
 pub parts_in_order-requires : goal.parts_in_order-requires
@@ -30,19 +30,19 @@ returns-in_err-push_values-clause-gives g c =
     let f = c.args.fold.now in
     let fold_of = λ (k : ℕ). rows_fold (g.F.Fold.neutral f) (g.F.Fold.joined f) (g.F.Fold.part_at f) (rows_of_group c.args.groups.now k) in
     let known = c.deref.ensures.value ∙ c.in_ok-parts.ensures.folds in
-    let same = told_in_order (g.F.ToldFold.told f) fold_of c.args.count c.deref.result.now c.in_ok-ordered.ordered.items
+    let same = answers_in_order (g.F.AnsweringFold.answer f) fold_of c.args.count c.deref.result.now c.in_ok-ordered.ordered.items
     c.deref-2.result.now c.args.order.now known c.in_ok-ordered.ensures c.requires.ordered c.deref-2.ensures.value in
     let p = err_from_is_err_and c.from_residual-in_err-push_values.result c.from_residual-in_err-push_values.ensures.1 in
-    rw (p.1, p.2) (told_fault c.in_err-push_values.field-0.0 _ _ same c.in_err-push_values.ensures.gives)
+    rw (p.1, p.2) (fault_of_answers c.in_err-push_values.field-0.0 _ _ same c.in_err-push_values.ensures.gives)
 
 pub returns-clause-gives : goal.returns-clause-gives
 returns-clause-gives g c =
     let f = c.args.fold.now in
     let fold_of = λ (k : ℕ). rows_fold (g.F.Fold.neutral f) (g.F.Fold.joined f) (g.F.Fold.part_at f) (rows_of_group c.args.groups.now k) in
     let known = c.deref.ensures.value ∙ c.in_ok-parts.ensures.folds in
-    let same = told_in_order (g.F.ToldFold.told f) fold_of c.args.count c.deref.result.now c.in_ok-ordered.ordered.items
+    let same = answers_in_order (g.F.AnsweringFold.answer f) fold_of c.args.count c.deref.result.now c.in_ok-ordered.ordered.items
     c.deref-2.result.now c.args.order.now known c.in_ok-ordered.ensures c.requires.ordered c.deref-2.ensures.value in
-    told_column c.in_ok-told.told.items c.push_values.new.told.items _ _ same c.in_ok-told.ensures.items
+    answers_column c.in_ok-column.column.items c.push_values.new.column.items _ _ same c.in_ok-column.ensures.items
     c.in_ok-push_values.ensures.gives c.in_ok-push_values.ensures.added
 
 pub returns-clause-len : goal.returns-clause-len
@@ -50,7 +50,7 @@ returns-clause-len g c =
     let f = c.args.fold.now in
     let fold_of = λ (k : ℕ). rows_fold (g.F.Fold.neutral f) (g.F.Fold.joined f) (g.F.Fold.part_at f) (rows_of_group c.args.groups.now k) in
     let known = c.deref.ensures.value ∙ c.in_ok-parts.ensures.folds in
-    let same = told_in_order (g.F.ToldFold.told f) fold_of c.args.count c.deref.result.now c.in_ok-ordered.ordered.items
+    let same = answers_in_order (g.F.AnsweringFold.answer f) fold_of c.args.count c.deref.result.now c.in_ok-ordered.ordered.items
     c.deref-2.result.now c.args.order.now known c.in_ok-ordered.ensures c.requires.ordered c.deref-2.ensures.value in
-    told_long c.in_ok-told.told.items c.push_values.new.told.items _ (λ k. g.F.ToldFold.told f (fold_of k)) c.args.order.now
-    same c.in_ok-told.ensures.items c.in_ok-push_values.ensures.added
+    answers_length c.in_ok-column.column.items c.push_values.new.column.items _ (λ k. g.F.AnsweringFold.answer f (fold_of k))
+    c.args.order.now same c.in_ok-column.ensures.items c.in_ok-push_values.ensures.added

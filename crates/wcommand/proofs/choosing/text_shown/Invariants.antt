@@ -5,4 +5,5 @@ use Rattle.wcommand.proofs.choosing.text_shown.Given as goal
 
 abbrev pub invariant-characters : goal.invariant-characters
 invariant-characters l = IsUtf8 (chars_rest l.c-iterator)
-    × (string_bytes l.told ++ encode_utf8_all (map shown (chars (chars_rest l.c-iterator))) ≡ encode_utf8_all (map shown (chars l.fn.text)))
+    × (string_bytes l.shown_text ++ encode_utf8_all (map shown (chars (chars_rest l.c-iterator)))
+    ≡ encode_utf8_all (map shown (chars l.fn.text)))

@@ -56,14 +56,14 @@ returns-clause-gives c = λ feed known.
     let links = c.args.finer.now.numbers.items in
     let parts : List Meaning = map meaning c.args.parts.now in
     let fed : Feed = record { values = parts; filter = None } in
-    let told : AggregateFunction → List ℕ → List ℕ → List (Option Meaning) =
+    let answers_by : AggregateFunction → List ℕ → List ℕ → List (Option Meaning) =
     λ function numbers order. map (λ i. aggregate_of function fed (rows_of_group numbers i)) order in
     let numbers : c.deref-3.result.now ≡ map (λ i. get_or links i 0) f.order.items
     = c.deref-3.ensures.value ∙ c.in_ok-numbers.ensures ∙ ap (λ l. map (λ i. get_or l i 0) c.deref-2.result.now)
     c.deref.ensures.value ∙ ap (map (λ i. get_or links i 0)) c.deref-2.ensures.value in
     subst (λ l. Gives view c.aggregate_groups.result (in_range l))
-    (ap (λ function. told function c.deref-3.result.now c.deref-4.result.now) c.function_of_parts-function.ensures
-    ∙ ap (λ ns. told (function_of_parts c.args.function) ns c.deref-4.result.now) numbers
-    ∙ ap (told (function_of_parts c.args.function) (map (λ i. get_or links i 0) f.order.items)) c.deref-4.ensures.value
+    (ap (λ function. answers_by function c.deref-3.result.now c.deref-4.result.now) c.function_of_parts-function.ensures
+    ∙ ap (λ ns. answers_by (function_of_parts c.args.function) ns c.deref-4.result.now) numbers
+    ∙ ap (answers_by (function_of_parts c.args.function) (map (λ i. get_or links i 0) f.order.items)) c.deref-4.ensures.value
     ∙ parts_answer c.args.function feed f g c.args.finer.now parts c.requires.made c.requires.finer c.requires.few known)
     c.aggregate_groups.ensures.gives

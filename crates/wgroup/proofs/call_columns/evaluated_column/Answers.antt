@@ -23,8 +23,8 @@ returns-in_err-cells-clause-gives c =
     let fed : List Meaning → Result Feed AnswerFault = λ values. filter_of plan.filter rows >>= λ filter.
     Ok (record { values = values; filter = filter }) in
     let sets = c.args.grouped.now.sets.now in
-    let told : Feed → Result (List Meaning) AnswerFault = λ feed. in_range (flat_map (set_answers plan.function feed) sets) in
-    rw (p.1, p.2) (then_refused {X = Feed} (λ feed. feed) view fault (feed_of plan rows) told (then_refused {Y =
+    let answers_by : Feed → Result (List Meaning) AnswerFault = λ feed. in_range (flat_map (set_answers plan.function feed) sets) in
+    rw (p.1, p.2) (then_refused {X = Feed} (λ feed. feed) view fault (feed_of plan rows) answers_by (then_refused {Y =
     Feed} view (λ feed. feed) fault (column_of plan.argument rows) fed c.in_err-cells.ensures.gives))
 
 pub fed_column-requires-clause-values : goal.fed_column-requires-clause-values

@@ -6,7 +6,7 @@ use Rattle.wrows.specs.Outcomes.{Gives}
 use Rattle.waggregate.specs.Aggregating.{aggregate_of}
 use Rattle.waggregate.specs.Feeding.{values_of}
 use Rattle.waggregate.specs.Grouped.{rows_of_group}
-use Rattle.waggregate.specs.Summaries.{AreSummaries, groups_told}
+use Rattle.waggregate.specs.Summaries.{AreSummaries, group_count}
 use Rattle.wgroup.specs.Held.{row_numbers}
 use Rattle.wgroup.proofs.call_columns.group_answers.Goals as goal
 
@@ -16,7 +16,7 @@ answers-requires-clause-ordered c =
     let s = c.in-Some.known.now in
     let f = c.in-Some.ensures in
     let are : AreSummaries (values_of c.args.fed.now.argument) (row_numbers g) g.count s = c.requires.known None f.within s (f.is None) in
-    subst (All (λ k. k < groups_told s)) (sym c.deref.ensures.value)
+    subst (All (λ k. k < group_count s)) (sym c.deref.ensures.value)
     (subst (λ n. All (λ k. k < n) g.order.items) (sym are.long) g.below)
 
 pub returns-in-Some-clause-gives : goal.returns-in-Some-clause-gives
@@ -27,10 +27,10 @@ returns-in-Some-clause-gives c =
     let f = c.in-Some.ensures in
     let values = values_of c.args.fed.now.argument in
     let are : AreSummaries values (row_numbers g) g.count s = c.requires.known None f.within s (f.is None) in
-    let told : Option (List Bool) → List ℕ → List (Option Meaning) =
+    let answers_by : Option (List Bool) → List ℕ → List (Option Meaning) =
     λ tests order. map (λ i. aggregate_of c.args.fed.now.function (record { values = values; filter = tests })
     (rows_of_group (row_numbers g) i)) order in
     subst (λ l. Gives view c.answers.result (in_range l))
-    (ap (told None) c.deref.ensures.value
-    ∙ ap (λ (filter : Option (Vec Bool Global)). told (option_map (λ tests. tests.items) filter) g.order.items) (sym f.unfiltered))
+    (ap (answers_by None) c.deref.ensures.value
+    ∙ ap (λ (filter : Option (Vec Bool Global)). answers_by (option_map (λ tests. tests.items) filter) g.order.items) (sym f.unfiltered))
     (c.answers.ensures.gives values (row_numbers g) g.count are)

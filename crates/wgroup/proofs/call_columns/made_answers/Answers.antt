@@ -14,10 +14,10 @@ returns-in-None-clause-gives c =
     let view : Vec Value Global → List Meaning = λ column. map meaning column.items in
     let g = c.args.groups.now in
     let feed : Feed = fed_by c.args.fed.now.argument c.args.fed.now.filter in
-    let told : List ℕ → List ℕ → List (Option Meaning) =
+    let answers_by : List ℕ → List ℕ → List (Option Meaning) =
     λ numbers order. map (λ i. aggregate_of c.args.fed.now.function feed (rows_of_group numbers i)) order in
     subst (λ l. Gives view c.aggregate_groups.result (in_range l))
-    (ap (λ ns. told ns c.deref-in-None-2.result.now) (c.deref-in-None.ensures.value ∙ ap (λ v. v.items) c.deref.ensures
+    (ap (λ ns. answers_by ns c.deref-in-None-2.result.now) (c.deref-in-None.ensures.value ∙ ap (λ v. v.items) c.deref.ensures
     ∙ sym (ap (by_row g.numbers.value.items) c.in-None.is))
-    ∙ ap (told (row_numbers g)) c.deref-in-None-2.ensures.value)
+    ∙ ap (answers_by (row_numbers g)) c.deref-in-None-2.ensures.value)
     c.aggregate_groups.ensures.gives

@@ -31,7 +31,7 @@ invariant_of-result-clause-below c = subst (λ m. All (λ i. i < m) c.in_ok-orde
 pub returns-clause-groups : goal.returns-clause-groups
 returns-clause-groups c =
     let rows = c.args.rows.now in
-    let told = rows_seen rows in
+    let seen = rows_seen rows in
     let kept : SetColumns = set_columns c.args.columns.now c.args.set.now in
     let w = length kept in
     let firsts = c.args.firsts.items in
@@ -43,10 +43,10 @@ returns-clause-groups c =
     let count : m ≡ length firsts = c.len.ensures ∙ c.args.firsts.ok.0 in
     let so_many : c.len-count.result ≡ length firsts = c.len-count.ensures ∙ c.args.firsts.ok.0 in
     let columns : by ≡ kept = c.deref-2.ensures.value ∙ c.in_ok-kept.ensures in
-    let are_keys : laid w (length firsts) keys ≡ map (group_key kept told) firsts
+    let are_keys : laid w (length firsts) keys ≡ map (group_key kept seen) firsts
     = ap (λ k. laid (length k) (length firsts) keys) (sym columns) ∙ ap (λ f. laid (length by) (length f) keys)
     (sym c.deref-3.ensures.value) ∙ c.in_ok-keys.ensures.keys
-    ∙ ap (λ k. map (group_key k told) c.deref-3.result.now) columns ∙ ap (map (group_key kept told)) c.deref-3.ensures.value in
+    ∙ ap (λ k. map (group_key k seen) c.deref-3.result.now) columns ∙ ap (map (group_key kept seen)) c.deref-3.ensures.value in
     let in_order : order ≡ numbers_by (ascending kept) (laid w (length firsts) keys) (length firsts)
     = c.in_ok-order.ensures.order
     ∙ ap (λ ks. numbers_by ks (laid (length ks) m c.deref-4.result.now) m) (c.deref-5.ensures.value
@@ -63,7 +63,7 @@ returns-clause-groups c =
     ap (λ w. map (group w) order) (sym (columns_long c.args.columns.now c.args.set.now))
     ∙ are_groups kept rows c.in_ok-set.set.items firsts order numbers keys c.len-count.result c.requires are_keys so_many
     in_order (subst (λ k. All (λ i. i < k) order) count c.in_ok-order.ensures.below)
-    ∙ ap (λ s. groups_by s kept told) c.in_ok-set.ensures.items
+    ∙ ap (λ s. groups_by s kept seen) c.in_ok-set.ensures.items
 
 pub returns-clause-keyed : goal.returns-clause-keyed
 returns-clause-keyed c =

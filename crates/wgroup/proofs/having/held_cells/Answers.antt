@@ -54,11 +54,11 @@ returns-clause-rows c =
     let of_rows : kept_of condition (rows_seen rows) ≡ Ok (rows_seen kept) = c.in_ok-kept.ensures in
     let wide = kept_wide cells.width cells.count cells.cells.items condition rows kept cells.laid c.in_ok-rows.ensures
     c.requires long of_rows in
-    let told : laid cells.width c.len.result held ≡ rows_seen kept
+    let as_kept : laid cells.width c.len.result held ≡ rows_seen kept
     = ap (λ m. laid cells.width m held) (c.len.ensures ∙ c.in_ok-kept.kept.ok.0) ∙ laid_rows cells.width row_seen kept wide
     held (c.in_ok-held.ensures ∙ ap (flat_map row_seen) c.deref.ensures.value) in
     sym (kept_is_held condition (rows_in cells) (omega (
       arith,
       length-laid cells.width cells.count cells.cells.items,
       c.requires,
-    ))) ∙ ap (kept_of condition) (sym c.in_ok-rows.ensures) ∙ of_rows ∙ ap Ok (sym told)
+    ))) ∙ ap (kept_of condition) (sym c.in_ok-rows.ensures) ∙ of_rows ∙ ap Ok (sym as_kept)

@@ -7,5 +7,5 @@ returns-clause-count c = length-tile_sizes
 pub returns-clause-shared : goal.returns-clause-shared
 returns-clause-shared c = sum-tile_sizes
 
-pub returns-clause-told : goal.returns-clause-told
-returns-clause-told c = tile_has_row
+pub returns-clause-holds : goal.returns-clause-holds
+returns-clause-holds c = tile_has_row

@@ -14,10 +14,10 @@ returns-clause-rows c =
     let numbers = c.args.numbers.now in
     let rows = rows_seen c.args.rows.now in
     let columns = rows_seen c.args.columns.now in
-    let told = c.in_ok-push_rows.ensures
+    let listed = c.in_ok-push_rows.ensures
     ∙ ap (λ cells. map meaning cells ++ flat_map (picked places rows columns) numbers) c.in_ok-cells.ensures.items in
     laid_rows (length places) (picked places rows columns) numbers (picked_wide places rows columns numbers)
-    c.push_rows.new.cells.items told
+    c.push_rows.new.cells.items listed
 
 pub returns-clause-laid : goal.returns-clause-laid
 returns-clause-laid c =
@@ -25,7 +25,7 @@ returns-clause-laid c =
     let numbers = c.args.numbers.now in
     let rows = rows_seen c.args.rows.now in
     let columns = rows_seen c.args.columns.now in
-    let told = c.in_ok-push_rows.ensures
+    let listed = c.in_ok-push_rows.ensures
     ∙ ap (λ cells. map meaning cells ++ flat_map (picked places rows columns) numbers) c.in_ok-cells.ensures.items in
-    sym (length-map c.push_rows.new.cells.items meaning) ∙ ap length told
+    sym (length-map c.push_rows.new.cells.items meaning) ∙ ap length listed
     ∙ laid_length (length places) (picked places rows columns) numbers (picked_wide places rows columns numbers)

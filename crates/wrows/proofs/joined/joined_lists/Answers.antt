@@ -10,7 +10,7 @@ use Rattle.wrows.specs.Picked.{row_beside}
 use Rattle.wrows.specs.Columns.{Row, is_out_of_range, value_on}
 use Rattle.wrows.specs.Laid.{formulas_seen, formula_seen, rows_seen}
 use Rattle.wrows.proofs.RowFacts.{any_next, flat_next, ok_is_false, refused, length-places}
-use Rattle.wrows.proofs.BesideFacts.{any_beside, beside_filled, beside_told, filled_is, place_is}
+use Rattle.wrows.proofs.BesideFacts.{any_beside, beside_filled, beside_lists, filled_is, place_is}
 use Rattle.wrows.proofs.joined.joined_lists.Goals as goal
 
 pub returns-in_err-push_values-clause-gives : goal.returns-in_err-push_values-clause-gives
@@ -48,7 +48,7 @@ loop-number-preserved c =
 
 pub returns-clause-gives : goal.returns-clause-gives
 returns-clause-gives c =
-    beside_told (formulas_seen c.args.exprs.now) (length c.args.exprs.now) c.args.rows.now c.args.columns.now
+    beside_lists (formulas_seen c.args.exprs.now) (length c.args.exprs.now) c.args.rows.now c.args.columns.now
     c.loop-number.cells.items c.loop-number.number (length-map c.args.exprs.now formula_seen) c.loop-number-test.false
     c.loop-number.invariant.in_range c.loop-number.invariant.so_far
 

@@ -6,7 +6,7 @@ use Rattle.wframe.specs.Places.{places}
 use Rattle.wrows.specs.Laid.{rows_seen}
 use Rattle.wrows.specs.Columns.{value_at}
 use Rattle.wrows.specs.Picked.{picked, with_columns}
-use Rattle.wrows.proofs.PickFacts.{all_told, picked_wide}
+use Rattle.wrows.proofs.PickFacts.{all_picked, picked_wide}
 use Rattle.wrows.proofs.RowFacts.{laid_length, laid_rows, length-places, places_more}
 use Rattle.wrows.proofs.place_values.picked_lists.Goals as goal
 
@@ -28,9 +28,9 @@ returns-clause-gives c =
     let n : ℕ = length c.args.rows.now in
     let end : c.loop-row.row ≡ n = omega arith in
     let long : length (places n) ≡ n = length-places 0 n in
-    let told = laid_rows (length ps) (picked ps rows columns) (places n) (picked_wide ps rows columns (places n))
+    let listed = laid_rows (length ps) (picked ps rows columns) (places n) (picked_wide ps rows columns (places n))
     c.loop-row.cells.items (c.loop-row.invariant ∙ ap (λ k. flat_map (picked ps rows columns) (places k)) end) in
-    all_told ps c.args.rows.now c.args.columns.now (places n) c.loop-row.cells.items refl told
+    all_picked ps c.args.rows.now c.args.columns.now (places n) c.loop-row.cells.items refl listed
 
 pub returns-clause-laid : goal.returns-clause-laid
 returns-clause-laid c =

@@ -10,8 +10,8 @@ pub returns-clause-rows : goal.returns-clause-rows
 returns-clause-rows c =
     let n = length c.args.rows.now in
     let width = length c.args.items.now in
-    let told = laid width n c.in_ok-told.told.items in
-    then_ok told (lists_of (formulas_seen c.args.items.now) (beside (rows_seen c.args.rows.now)
-    (rows_seen c.args.columns.now))) (λ told. Ok (map (key_at told) c.args.numbers.now)) c.in_ok-told.ensures.gives
+    let listed = laid width n c.in_ok-lists.lists.items in
+    then_ok listed (lists_of (formulas_seen c.args.items.now) (beside (rows_seen c.args.rows.now)
+    (rows_seen c.args.columns.now))) (λ listed. Ok (map (key_at listed) c.args.numbers.now)) c.in_ok-lists.ensures.gives
     ∙ ap (λ xs. Ok (map (key_at (laid width n xs)) c.args.numbers.now)) (sym c.deref.ensures.value)
     ∙ ap Ok (sym c.in_ok-cells.ensures.rows)

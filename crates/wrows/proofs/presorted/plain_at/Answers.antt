@@ -16,7 +16,7 @@ returns-clause-rows c =
     let ps = c.args.places.now in
     let row_of = picked ps (rows_seen c.args.rows.now) (rows_seen c.args.columns.now) in
     then_ok (map row_of (places n)) (lists_of (map At ps) (beside (rows_seen c.args.rows.now)
-    (rows_seen c.args.columns.now))) (λ told. Ok (map (key_at told) c.args.numbers.now))
+    (rows_seen c.args.columns.now))) (λ listed. Ok (map (key_at listed) c.args.numbers.now))
     (picked_lists ps c.args.rows.now c.args.columns.now)
     ∙ ap Ok (sym (picked_at row_of n c.args.numbers.now (recursion_from_All (λ i. i < n) c.args.numbers.now c.requires)))
     ∙ ap Ok (sym c.in_ok-cells.ensures.rows)

@@ -6,7 +6,7 @@ use Rattle.wrows.specs.Laid.{formulas_seen, rows_in, rows_seen}
 use Rattle.wrows.specs.Outcomes.{Gives}
 use Rattle.wrows.specs.Plain.{cut}
 use Rattle.wrows.proofs.PickFacts.{cut_below}
-use Rattle.wrows.proofs.PresortedFacts.{told_is}
+use Rattle.wrows.proofs.PresortedFacts.{items_are}
 use Rattle.wrows.proofs.presorted.presorted_items.Goals as goal
 
 pub items_at-requires : goal.items_at-requires
@@ -17,8 +17,8 @@ items_at-requires c =
     (cut_below n c.args.asked.offset c.args.asked.limit c.args.numbers.items c.requires)
 
 pub returns-clause-rows : goal.returns-clause-rows
-returns-clause-rows c = λ keys order told.
+returns-clause-rows c = λ keys order listed.
     let P : Result (List Row) AnswerFault → Type 0 = λ meant. Gives rows_in c.items_at.result meant in
-    subst P (told_is (formulas_seen c.args.items.now) keys order c.args.asked.offset c.args.asked.limit
-    (beside (rows_seen c.args.rows.now) (rows_seen c.args.columns.now)) c.args.numbers.items c.deref.result.now told
+    subst P (items_are (formulas_seen c.args.items.now) keys order c.args.asked.offset c.args.asked.limit
+    (beside (rows_seen c.args.rows.now) (rows_seen c.args.columns.now)) c.args.numbers.items c.deref.result.now listed
     (c.deref.ensures.value ∙ c.in_ok-taken.ensures)) c.items_at.ensures.rows

@@ -8,7 +8,7 @@ use Rattle.wsort.specs.LaidRows.{laid}
 use Rattle.wrows.specs.declared.fault.AnswerFault.TheVariants.{OutOfRange}
 use Rattle.wrows.specs.Columns.{Row, is_out_of_range, value_on}
 use Rattle.wrows.specs.Laid.{formulas_seen, formula_seen, row_seen}
-use Rattle.wrows.proofs.RowFacts.{any_next, flat_next, ok_is_false, refused, any_of_all, told_all, laid_rows, laid_length, all_of_each}
+use Rattle.wrows.proofs.RowFacts.{any_next, flat_next, ok_is_false, refused, any_of_all, all_in_range, laid_rows, laid_length, all_of_each}
 use Rattle.wrows.proofs.rows.row_lists.Goals as goal
 
 pub returns-in_err-push_values-clause-gives : goal.returns-in_err-push_values-clause-gives
@@ -33,7 +33,7 @@ returns-clause-gives c =
     let ts = formulas_seen c.args.exprs.now in
     let rows = c.args.rows.now in
     let all : take c.loop-row.row-index rows ≡ rows = take_all c.loop-row.row-index rows c.loop-row-test.false in
-    told_all (λ row. list_any (λ t. is_out_of_range t row) ts) (λ row. map (λ t. value_on t row) ts) row_seen OutOfRange
+    all_in_range (λ row. list_any (λ t. is_out_of_range t row) ts) (λ row. map (λ t. value_on t row) ts) row_seen OutOfRange
     rows (laid (length c.args.exprs.now) (length rows) c.loop-row.cells.items) c.loop-row.row-index c.loop-row-test.false
     c.loop-row.invariant.in_range
     (laid_rows (length c.args.exprs.now) (λ r. map (λ t. value_on t (row_seen r)) ts) rows

@@ -9,7 +9,7 @@ pub returns : goal.returns
 returns c = λ condition segments is of.
     let plan = window_plan c.args.order.window.now in
     record {
-      numbers = ap (by_window plan) is.rows ∙ of.order.tells (holds_by condition)
+      numbers = ap (by_window plan) is.rows ∙ of.order.orders (holds_by condition)
           ∙ ap Ok (sym (c.in_ok-numbers.ensures ∙ ap (presorted_numbers c.args.kept.now) c.deref.ensures.value
           ∙ numbers_are condition segments c.args.kept.now is c.args.order.rows.items of.order.within));
       differ = λ known. subst (λ rows. KeysDiffer rows plan) (sym is.rows) (of.differ known (holds_by condition));

@@ -7,7 +7,7 @@ use Rattle.wquery.specs.declared.query.GroupElement.{GroupElement}
 use Rattle.wscope.specs.Called.{names}
 use Rattle.wscope.specs.Groups.{lent_columns}
 use Rattle.wscope.specs.Sources.{all_titled}
-use Rattle.wscope.proofs.Made.{named_by, told_by}
+use Rattle.wscope.proofs.Made.{named_by, two_by}
 use Rattle.wscope.proofs.scope.Scope.new.Goals as goal
 
 pub invariant_of-result : goal.invariant_of-result
@@ -16,7 +16,7 @@ invariant_of-result c =
     record {
       named = named_by c.in_ok-outputs.outputs (all_titled c.args.columns.now) c.as_slice.result.now
           c.args.query.now.items.items c.as_slice.ensures.value c.in_ok-outputs.ensures;
-      told = told_by c.in_ok-outputs.outputs (all_titled c.args.columns.now) c.as_slice.result.now
+      two = two_by c.in_ok-outputs.outputs (all_titled c.args.columns.now) c.as_slice.result.now
           c.args.query.now.items.items c.as_slice.ensures.value c.in_ok-outputs.ensures;
       listed = λ p. ap (list_any p) columns;
       kept = λ q. c.in_ok-grouping.ensures q ∙ ap (λ (xs : List (Bor Column)). list_any (names q) (lent_columns xs))
