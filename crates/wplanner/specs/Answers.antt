@@ -6,11 +6,12 @@ use Rattle.wplan.specs.Plans.{GroupingPlan, FunctionPlan, CallPlan, SelectPlan}
 use Rattle.wrows.specs.declared.fault.AnswerFault.{AnswerFault}
 use Rattle.wrows.specs.Outcomes.{◌>>=◌, each}
 use Rattle.wrows.specs.Columns.{Row, beside}
-use Rattle.wrows.specs.Plain.{kept_of, ordered_of}
+use Rattle.wrows.specs.Plain.{kept_of}
 use Rattle.wgroup.specs.Grouping.{group_rows}
 use Rattle.wcalls.specs.Windows.{Windowed, windowed}
 use Rattle.wcalls.specs.Functions.{function_column}
 use Rattle.wplanner.specs.Parts.{TableParts}
+pub use Rattle.wrows.specs.Plain.{items_of}
 
 -- the group rows of a grouped query, else the kept rows themselves
 abbrev pub left_rows : Option GroupingPlan → List Row → Result (List Row) AnswerFault
@@ -29,10 +30,6 @@ call_column rows windows c = column_in rows c.function (slice_get windows c.wind
 -- what the calls answer for each row, a column for each
 abbrev pub call_columns : SelectPlan → List Row → Result (List (List Meaning)) AnswerFault
 call_columns s rows = each (windowed rows) s.windows >>= λ windows. each (call_column rows windows) s.calls
-
--- the items of some rows, in order and cut
-abbrev pub items_of : SelectPlan → List Row → Result (List Row) AnswerFault
-items_of s rows = ordered_of (map (λ o. o.value) s.items) (map (λ k. k.value) s.keys) (map (λ k. k.order) s.keys) s.offset s.limit rows
 
 -- the items of the rows that are left, with what the calls answer behind their cells
 abbrev pub left_items : SelectPlan → List Row → Result (List Row) AnswerFault

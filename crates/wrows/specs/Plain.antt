@@ -4,6 +4,7 @@ use Rattle.wvalues.specs.declared.key.SortKey.{SortKey}
 use Rattle.wvalues.specs.Meaning.{Meaning}
 use Rattle.wframe.specs.Peers.{key_at}
 use Rattle.wplan.specs.Formula.{Formula}
+use Rattle.wplan.specs.Plans.{SelectPlan}
 use Rattle.wrows.specs.declared.fault.AnswerFault.{AnswerFault}
 use Rattle.wrows.specs.Outcomes.{◌>>=◌}
 use Rattle.wrows.specs.Columns.{Row, held_rows, not_too_many, lists_of}
@@ -38,3 +39,7 @@ ordered_of items keys order offset limit rows = do
   listed ← lists_of items rows
   by ← lists_of keys rows
   Ok (cut offset limit (ordered order by listed))
+
+-- the items that a SELECT answers of some rows
+abbrev pub items_of : SelectPlan → List Row → Result (List Row) AnswerFault
+items_of s rows = ordered_of (map (λ o. o.value) s.items) (map (λ k. k.value) s.keys) (map (λ k. k.order) s.keys) s.offset s.limit rows

@@ -23,18 +23,15 @@ use Rattle.wrows.specs.declared.fault.AnswerFault.TheVariants.{OutOfRange}
 use Rattle.wrows.specs.Outcomes.{unless, ◌>>=◌}
 use Rattle.wrows.specs.Columns.{Row, is_out_of_range, lists_of, value_on}
 use Rattle.wrows.specs.Laid.{row_seen, rows_seen}
-use Rattle.wrows.specs.Plain.{cut, numbers_by, ordered}
+use Rattle.wrows.specs.Plain.{cut, items_of, numbers_by, ordered}
 use Rattle.wrows.proofs.RowFacts.{map-cut, places_below, then_ok}
 use Rattle.wruns.specs.Runs.{keys_at, row_keys, run_of}
 use Rattle.wtable.specs.declared.leading.LeadingRows.{LeadingRows}
-use Rattle.wtable.specs.Leading.{AnswerForAll, AreInRange, Lead, comes_by, is_behind, ordered_items, rows_by}
+use Rattle.wtable.specs.Leading.{AnswerForAll, AreInRange, Lead, comes_by, is_behind, row_cmp, rows_by}
 use Rattle.wtable.specs.TableOrders.{AreColumns}
 use Rattle.wtable.proofs.ColumnFacts.{by_columns, columns_presorted, map-alike}
 use Rattle.wtable.proofs.FirstFacts as first
 use Rattle.wtable.proofs.SourceFacts.{all_places}
-
-abbrev pub row_cmp : List SortKey → Row → Row → Ordering
-row_cmp keys = on (row_keys keys) (keys_cmp keys)
 
 pub rows_total : (keys : List SortKey) → IsTotalOrder (row_cmp keys)
 rows_total keys = on_total (row_keys keys) (keys_total keys)
@@ -146,14 +143,14 @@ rows_in_order keys f rows =
 
 items_in_order : (width : ℕ) (s : SelectPlan) (keys : List SortKey) → AreInRange (map (λ (o : OutputPlan). o.value) s.items)
     → AreColumns width (map (λ (k : KeyPlan). k.value) s.keys) (map (λ (k : KeyPlan). k.order) s.keys) keys → (rows : List Row)
-    → ordered_items s rows ≡ Ok (cut s.offset s.limit (map (item_row s) (rows_by keys rows)))
+    → items_of s rows ≡ Ok (cut s.offset s.limit (map (item_row s) (rows_by keys rows)))
 items_in_order width s keys none are rows =
     let ts = map (λ (o : OutputPlan). o.value) s.items in
     let order = map (λ (k : KeyPlan). k.order) s.keys in
     let items : List Row = map (item_row s) rows in
     let by : List Row = map (row_keys keys) rows in
-    then_ok items (lists_of ts rows) (λ told. lists_of (map (λ (k : KeyPlan). k.value) s.keys) rows >>= λ by. Ok (cut s.offset s.limit
-    (ordered order by told))) (ap (λ b. unless b OutOfRange items) (none_at_fault ts none rows))
+    then_ok items (lists_of ts rows) (λ listed. lists_of (map (λ (k : KeyPlan). k.value) s.keys) rows >>= λ by. Ok (cut s.offset s.limit
+    (ordered order by listed))) (ap (λ b. unless b OutOfRange items) (none_at_fault ts none rows))
     ∙ then_ok by (lists_of (map (λ (k : KeyPlan). k.value) s.keys) rows) (λ by. Ok (cut s.offset s.limit (ordered order by items)))
     (ap (λ fs. lists_of fs rows) are.named ∙ columns_presorted keys rows)
     ∙ ap (λ n. Ok (cut s.offset s.limit (map (key_at items) (numbers_by order by n)))) (length-map rows (item_row s))
@@ -164,7 +161,7 @@ items_in_order width s keys none are rows =
 pub same_items : (width : ℕ) (s : SelectPlan) (keys : List SortKey) (most : ℕ) → AreInRange (map (λ (o : OutputPlan). o.value) s.items)
     → AreColumns width (map (λ (k : KeyPlan). k.value) s.keys) (map (λ (k : KeyPlan). k.order) s.keys) keys
     → s.offset ≤ most → s.limit ≡ Some (most - s.offset) → (rows all : List Row)
-    → take most (rows_by keys rows) ≡ take most (rows_by keys all) → ordered_items s rows ≡ ordered_items s all
+    → take most (rows_by keys rows) ≡ take most (rows_by keys all) → items_of s rows ≡ items_of s all
 same_items width s keys most none are within limit rows all same =
     items_in_order width s keys none are rows ∙ ap Ok (alike s.limit limit) ∙ sym (items_in_order width s keys none are all)
   where

@@ -1,5 +1,5 @@
 -- The first rows of the table in an order by columns, which are found without a list of the others.
-use Rattle.std.specs.Prelude.{◌≡◌, ◌<◌, ◌≤◌, ◌++◌, ℕ, Bool, false, not, IfSome, List, filter, length, map, take, Option, None, Some, Result}
+use Rattle.std.specs.Prelude.{◌≡◌, ◌<◌, ◌≤◌, ◌++◌, ℕ, Bool, false, not, IfSome, List, Ordering, filter, length, take, Option, None, Some}
 use Rattle.std.specs.Borrow.{Bor}
 use Rattle.std.specs.List.{list_any}
 use Rattle.std.specs.Ordering.{is_gt, is_lt, on}
@@ -9,25 +9,28 @@ use Rattle.wvalues.specs.Order.{keys_cmp}
 use Rattle.wframe.specs.Sorting.{sorted}
 use Rattle.wplan.specs.Formula.{Formula}
 use Rattle.wplan.specs.Plans.{SelectPlan}
-use Rattle.wrows.specs.declared.fault.AnswerFault.{AnswerFault}
 use Rattle.wrows.specs.Columns.{Row, is_out_of_range}
 use Rattle.wrows.specs.Laid.{row_seen, rows_seen}
-use Rattle.wrows.specs.Plain.{ordered_of}
+use Rattle.wrows.specs.Plain.{items_of}
 use Rattle.wruns.specs.Runs.{row_keys}
 use Rattle.wtable.specs.declared.leading.LeadingRows.{LeadingRows}
 
+-- the order of rows by keys that are columns
+abbrev pub row_cmp : List SortKey → Row → Row → Ordering
+row_cmp keys = on (row_keys keys) (keys_cmp keys)
+
 -- rows by keys that are columns; those that agree in them as they stood
 abbrev pub rows_by : List SortKey → List Row → List Row
-rows_by keys rows = sorted (on (row_keys keys) (keys_cmp keys)) rows
+rows_by keys rows = sorted (row_cmp keys) rows
 
 -- whether a row does not come after another one
 abbrev pub comes_by : List SortKey → Row → Row → Bool
-comes_by keys last row = not (is_gt (on (row_keys keys) (keys_cmp keys) row last))
+comes_by keys last row = not (is_gt (row_cmp keys row last))
 
 -- whether there is a pivot, and a row does not come before it
 abbrev pub is_behind : List SortKey → Row → Option (Bor (List Value)) → Bool
 is_behind keys row None = false
-is_behind keys row (Some pivot) = not (is_lt (on (row_keys keys) (keys_cmp keys) row (row_seen pivot)))
+is_behind keys row (Some pivot) = not (is_lt (row_cmp keys row (row_seen pivot)))
 
 -- Rows are held in place of all that were gone over: whatever rows follow, the same come first. No row that comes after the pivot is
 -- one of these
@@ -39,14 +42,10 @@ pub record Lead (keys : List SortKey) (most : ℕ) (all : List Row) (leading : L
 abbrev pub AreInRange : List Formula → Type 0
 AreInRange ts = (row : Row) → list_any (λ t. is_out_of_range t row) ts ≡ false
 
--- the items of rows that a SELECT without windows answers, in order and cut
-abbrev pub ordered_items : SelectPlan → List Row → Result (List Row) AnswerFault
-ordered_items s rows = ordered_of (map (λ o. o.value) s.items) (map (λ k. k.value) s.keys) (map (λ k. k.order) s.keys) s.offset s.limit rows
-
 -- some rows, of which a SELECT that has only items and an order answers what it does of all
 pub record AnswerForAll (s : SelectPlan) (all rows : List Row) : Type 0 where
   pub condition : s.condition ≡ None
   pub grouping : s.grouping ≡ None
   pub windows : length s.windows ≡ 0
-  pub items : ordered_items s rows ≡ ordered_items s all
+  pub items : items_of s rows ≡ items_of s all
   pub few : length rows < 2048
