@@ -30,7 +30,7 @@ use Rattle.wcalls.specs.Calls.{each_row}
 use Rattle.wcalls.specs.Arranged.{window_cmp, IsArranged, Answer, answer_on, answered}
 use Rattle.wcalls.proofs.Answering.{partition_answers, window_answers, answer_values, HasEachOnce}
 use Rattle.wframe.proofs.SortFacts as sorts
-use Rattle.wcalls.proofs.FilterFacts.{filter_sorted}
+use Rattle.wframe.proofs.SortFacts.{filter_sorted}
 use Rattle.wrows.proofs.RowFacts.{map-map, refused, map-taken, map-dropped, length-places, places_below}
 use Rattle.wcalls.proofs.WindowFacts.{whole_total, at_places, span_rows}
 use Rattle.wcalls.proofs.PlaceFacts.{once_from, place_in_span}

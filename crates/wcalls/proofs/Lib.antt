@@ -1,4 +1,3 @@
-mod FilterFacts
 mod WindowFacts
 mod PlaceFacts
 mod Answering

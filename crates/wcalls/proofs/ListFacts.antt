@@ -32,24 +32,6 @@ use Rattle.wcalls.specs.Listed.{lists_in, width_of}
 use Rattle.wcalls.specs.ListedColumns.{values_at}
 use Rattle.wcalls.proofs.PlainFacts.{list_at}
 
--- one more value of a column, of rows that are laid out one after another
-pub cell_more : (k w n : ℕ) (cells : List Value) (i : ℕ) (column more : List (Bor Value)) (slice : List Value)
-    (cell : Bor Value) → i < n → k < w → length slice ≡ w → values_seen column ≡ take i (key_column k (laid w n cells))
-    → slice ≡ take w (drop (i * w) cells)
-    → cell.now ≡ get_or slice k values.Null → more ≡ column ++ cell ∷ [] → values_seen more ≡ take (i + 1) (key_column k (laid w n cells))
-cell_more k w n cells i column more slice cell h l long so_far is value pushed =
-    ap values_seen pushed ∙ map-append (λ (v : Bor Value). meaning v.now) column (cell ∷ []) ∙ ap (λ l. l ++ meaning cell.now ∷ []) so_far
-    ∙ ap (λ v. take i (key_column k (laid w n cells)) ++ v ∷ []) here
-    ∙ sym (take_more (key_column k (laid w n cells)) i Null
-    (omega (arith, h, length-map (laid w n cells) (λ row. value_at row k), length-laid w n cells)))
-  where
-    here : meaning cell.now ≡ get_or (key_column k (laid w n cells)) i Null
-    here =
-        ap meaning value ∙ sym (get_or-map meaning slice k values.Null Null (omega (arith, l, long)))
-        ∙ ap (λ s. get_or (map meaning s) k Null) is
-        ∙ ap (λ r. value_at r k) (sym (row_at w n cells i h))
-        ∙ sym (get_or-map (λ row. value_at row k) (laid w n cells) i [] Null (omega (arith, h, length-laid w n cells)))
-
 -- each list has as many values as all
 width_at : (l : RowLists) (i : ℕ) → i < length (lists_in l) → length (key_at (lists_in l) i) ≡ width_of l
 width_at (Evaluated cells) i h = row_wide cells.width cells.count cells.cells.items i cells.laid

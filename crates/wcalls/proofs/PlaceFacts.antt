@@ -17,8 +17,7 @@ use Rattle.wframe.specs.Peers.{key_at, are_peers, AreOrdered, AreOrderedWithin}
 use Rattle.wframe.specs.Places.{places_from, places}
 use Rattle.wframe.specs.Sorting.{sorted}
 use Rattle.wcalls.specs.Windows.{Windowed, partition_rows, place_at}
-use Rattle.wframe.proofs.SortFacts.{IsUp, up_sorted}
-use Rattle.wcalls.proofs.FilterFacts.{filter_sorted}
+use Rattle.wframe.proofs.SortFacts.{IsUp, filter_sorted, up_sorted}
 use Rattle.wcalls.proofs.WindowFacts.{whole_cmp, whole_total, place_is}
 
 none_from : (i a n : ℕ) → i < a → filter (λ k. k == i) (places_from a n) ≡ []

@@ -17,8 +17,7 @@ use Rattle.wframe.specs.Places.{places_from, places, is_in_span}
 use Rattle.wframe.specs.Partitions.{IsPartition}
 use Rattle.wframe.specs.Sorting.{sorted}
 use Rattle.wcalls.specs.Windows.{Windowed, partition_rows}
-use Rattle.wframe.proofs.SortFacts.{tail_of}
-use Rattle.wcalls.proofs.FilterFacts.{filter_sorted}
+use Rattle.wframe.proofs.SortFacts.{filter_sorted, tail_of}
 use Rattle.wrows.proofs.RowFacts.{filter-map}
 use Rattle.wrows.proofs.MoreSorting.{sorted_same}
 

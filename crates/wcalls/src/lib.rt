@@ -38,4 +38,5 @@ mod window_order;
 
 pub use function_columns::window_columns;
 pub use listing::{ListedColumn, lent_columns, listed_columns};
+pub use parts::{key_orders, key_values};
 pub use window_order::{Presorted, WindowOrder, share_order};

@@ -48,8 +48,8 @@ fn value_orders(alloc: Global, values: &[Expr]) -> Result<Vec<SortKey>, AllocErr
     Ok(orders)
 }
 
-// The values of keys.
-fn key_values(alloc: Global, keys: &[ResolvedKey]) -> Result<Vec<&Expr>, AllocError>
+/// The values of keys. `AllocError`: a growth was refused.
+pub fn key_values(alloc: Global, keys: &[ResolvedKey]) -> Result<Vec<&Expr>, AllocError>
     ensures values { IfOk result (λ values. formulas_seen values.items ≡ map (λ k. k.value) (map key_plan keys.now)) }
     ensures len { IfOk result (λ values. length values.items ≡ length keys.now) }
 {
@@ -60,8 +60,8 @@ fn key_values(alloc: Global, keys: &[ResolvedKey]) -> Result<Vec<&Expr>, AllocEr
     Ok(values)
 }
 
-// How keys are ordered.
-fn key_orders(alloc: Global, keys: &[ResolvedKey]) -> Result<Vec<SortKey>, AllocError>
+/// How keys are ordered. `AllocError`: a growth was refused.
+pub fn key_orders(alloc: Global, keys: &[ResolvedKey]) -> Result<Vec<SortKey>, AllocError>
     ensures orders { IfOk result (λ orders. orders.items ≡ map (λ k. k.order) (map key_plan keys.now)) }
     ensures len { IfOk result (λ orders. length orders.items ≡ length keys.now) }
 {

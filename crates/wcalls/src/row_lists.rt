@@ -13,7 +13,7 @@ ghost use Rattle.wcalls.specs.Listed.{are_lent, lists_in, width_of};
 use crate::plain_lists::PlainLists;
 use std::alloc::{AllocError, Global};
 use wplan::Expr;
-use wrows::{AnswerFault, Cells, lists, place_of, slice_of};
+use wrows::{AnswerFault, Cells, lists, places_of, slice_of};
 use wvalues::Value;
 
 /// The values of several expressions on rows: a list for each row, by number.
@@ -23,21 +23,6 @@ pub(crate) enum RowLists<'a> {
     Evaluated(Cells),
     /// Plain columns, which are not copied.
     Plain(PlainLists<'a>),
-}
-
-// The places of expressions, where each is a plain column.
-fn places_of(alloc: Global, exprs: &[&Expr]) -> Result<Option<Vec<usize>>, AllocError>
-    ensures found { IfOk result (λ found. is_some found ≡ list_all is_plain exprs.now) }
-    ensures places { IfOk result (λ found. IfSome found (λ places. formulas_seen exprs.now ≡ map At places.items)) }
-{
-    let mut places = Vec::with_capacity(alloc, exprs.len())?;
-    for expr in exprs {
-        let Some(place) = place_of(expr) else {
-            return Ok(None);
-        };
-        places.push(place)?;
-    }
-    Ok(Some(places))
 }
 
 // The values of expressions, evaluated on every row.

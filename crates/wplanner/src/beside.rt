@@ -8,55 +8,32 @@ ghost use Rattle.wrows.specs.Columns.{beside};
 ghost use Rattle.wrows.specs.Laid.{rows_in, rows_seen};
 ghost use Rattle.wrows.specs.Outcomes.{Gives};
 ghost use Rattle.wrows.specs.Picked.{row_beside};
-ghost use Rattle.wrows.specs.Plain.{at_most_limit, cut};
+ghost use Rattle.wrows.specs.Plain.{cut};
 ghost use Rattle.wplanner.specs.Answers.{items_of, left_items};
 ghost use Rattle.wplanner.specs.Lent.{ReadsPlaces, text_in};
 ghost use Rattle.wplanner.specs.Sound.{is_sound_select};
 ghost use Rattle.wtable.specs.TableOrders.{ArePresorted, by_keys};
 
-use crate::parts::{item_names, key_orders, key_values};
+use crate::parts::item_names;
 use crate::printing::print;
 use crate::selecting::left_items;
 use crate::table::Table;
 use crate::windows::{call_columns, window_answers};
 use crate::work::Work;
 use std::alloc::{AllocError, Global};
+use wcalls::{key_orders, key_values};
 use wcolumns::{Column, LentColumn};
 use wplan::Selection;
 use wprinted::{Lie, PickedRows, RowsBeside, print_rows};
-use wrows::{AnswerFault, Cells, lists, sorted_numbers};
-use wtable::PresortedOrders;
+use wrows::{AnswerFault, Cells, asked_for, lists, sorted_numbers};
+use wtable::{PresortedOrders, asked_of};
 use wvalues::Value;
-
-// As many as are asked for, of so many.
-fn at_most(asked: u128, count: usize) -> usize
-    ensures value { result ≡ min asked count }
-    ensures within { result ≤ count }
-{
-    if asked < count as u128 {
-        asked as usize
-    } else {
-        count
-    }
-}
-
-// How many rows are left of so many, where there may be a limit.
-fn limited(limit: Option<u128>, count: usize) -> usize
-    ensures value { result ≡ at_most_limit limit count }
-    ensures within { result ≤ count }
-{
-    match limit {
-        None => count,
-        Some(limit) => at_most(limit, count),
-    }
-}
 
 // Of numbers in order, those that OFFSET and LIMIT ask for.
 fn asked_numbers<'a>(select: &Selection, numbers: &'a [u32]) -> &'a [u32]
     ensures { result.now ≡ cut select.now.offset select.now.limit numbers.now }
 {
-    let from = at_most(select.offset, numbers.len());
-    let count = limited(select.limit, numbers.len() - from);
+    let (from, count) = asked_for(asked_of(select), numbers.len());
     &numbers[from..from + count]
 }
 
@@ -95,12 +72,12 @@ pub(crate) fn standing_text(
         (map (values_at places.now) (cut select.now.offset select.now.limit (beside (rows_seen rows.now) (columns_seen columns.now))))) }
 {
     let names = item_names(alloc, &select.items)?;
-    let from = at_most(select.offset, rows.len());
+    let (from, count) = asked_for(asked_of(select), rows.len());
     let standing = RowsBeside {
         rows,
         columns,
         from,
-        count: limited(select.limit, rows.len() - from),
+        count,
         lie,
     };
     print_rows(alloc, &names, places, &standing)

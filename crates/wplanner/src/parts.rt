@@ -1,15 +1,14 @@
-//! The parts of a SELECT, each in a list of its own.
+//! The parts of a SELECT's items, each in a list of its own.
 ghost use Rattle.std.specs.Prelude.{◌≡◌, IfOk, IfSome, length, map};
 ghost use Rattle.std.specs.Rc.{rc_str_bytes};
 ghost use Rattle.wplan.specs.Formula.{At};
-ghost use Rattle.wplan.specs.Plans.{key_plan, output_plan};
+ghost use Rattle.wplan.specs.Plans.{output_plan};
 ghost use Rattle.wrows.specs.Laid.{formulas_seen};
 
 use std::alloc::{AllocError, Global};
 use std::rc::RcStr;
-use wplan::{Expr, Output, ResolvedKey};
+use wplan::{Expr, Output};
 use wrows::place_of;
-use wvalues::SortKey;
 
 /// The values of items.
 pub(crate) fn item_values(alloc: Global, items: &[Output]) -> Result<Vec<&Expr>, AllocError>
@@ -33,30 +32,6 @@ pub(crate) fn item_names(alloc: Global, items: &[Output]) -> Result<Vec<RcStr>, 
         names.push(item.name.clone()?)?;
     }
     Ok(names)
-}
-
-/// The values of keys.
-pub(crate) fn key_values(alloc: Global, keys: &[ResolvedKey]) -> Result<Vec<&Expr>, AllocError>
-    ensures values { IfOk result (λ values. formulas_seen values.items ≡ map (λ k. k.value) (map key_plan keys.now)) }
-    ensures len { IfOk result (λ values. length values.items ≡ length keys.now) }
-{
-    let mut values = Vec::with_capacity(alloc, keys.len())?;
-    for key in keys {
-        values.push(&key.value)?;
-    }
-    Ok(values)
-}
-
-/// How keys are ordered.
-pub(crate) fn key_orders(alloc: Global, keys: &[ResolvedKey]) -> Result<Vec<SortKey>, AllocError>
-    ensures orders { IfOk result (λ orders. orders.items ≡ map (λ k. k.order) (map key_plan keys.now)) }
-    ensures len { IfOk result (λ orders. length orders.items ≡ length keys.now) }
-{
-    let mut orders = Vec::with_capacity(alloc, keys.len())?;
-    for key in keys {
-        orders.push(key.order)?;
-    }
-    Ok(orders)
 }
 
 /// The places of items, where each is a plain column.

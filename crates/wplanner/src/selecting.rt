@@ -14,12 +14,12 @@ ghost use Rattle.wset.specs.Sets.{Becomes};
 ghost use Rattle.wtable.specs.TableOrders.{AreTableOrders, ArePresorted, by_keys};
 ghost use Rattle.wtable.specs.Tables.{rows_of_set};
 
-use crate::parts::{item_values, key_orders, key_values};
+use crate::parts::item_values;
 use crate::windows::{call_columns, window_answers};
 use crate::work::Work;
 use std::alloc::Global;
 use waggregate::Tally;
-use wcalls::{lent_columns, listed_columns};
+use wcalls::{key_orders, key_values, lent_columns, listed_columns};
 use wcolumns::Column;
 use wgroup::{counted_row, counts_rows, group_rows};
 use wplan::{Grouping, Selection};

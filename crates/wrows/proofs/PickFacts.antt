@@ -81,10 +81,10 @@ all_picked ps rows columns numbers cells e listed =
     ∙ ap (λ n. Ok (laid (length ps) n cells)) (ap length e ∙ length-places 0 (length rows))
 
 -- expressions that are plain columns
-pub plain_lists : (exprs : List (Bor Expr)) (ps : List ℕ) (rows : List Row) (n : ℕ) (cells : List Value)
+pub lent_lists : (exprs : List (Bor Expr)) (ps : List ℕ) (rows : List Row) (n : ℕ) (cells : List Value)
     → formulas_seen exprs ≡ map At ps → lists_of (map At ps) rows ≡ Ok (laid (length ps) n cells)
     → lists_of (formulas_seen exprs) rows ≡ Ok (laid (length exprs) n cells)
-plain_lists exprs ps rows n cells e listed =
+lent_lists exprs ps rows n cells e listed =
     ap (λ ts. lists_of ts rows) e ∙ listed
     ∙ ap (λ w. Ok (laid w n cells)) (sym (length-map ps At) ∙ ap length (sym e) ∙ length-map exprs formula_seen)
 

@@ -67,8 +67,8 @@ fn limited(limit: Option<u128>, count: usize) -> usize
     }
 }
 
-// The first of the rows that are asked for, and how many they are.
-fn asked_for(asked: Asked, count: usize) -> (usize, usize)
+/// The place of the first of so many rows that is asked for, and how many are.
+pub fn asked_for(asked: Asked, count: usize) -> (usize, usize)
     ensures first { result.0 ≡ min asked.offset count }
     ensures count { result.1 ≡ at_most_limit asked.limit (count - result.0) }
     ensures within { result.0 + result.1 ≤ count }

@@ -29,7 +29,7 @@ pub fn place_of(expr: &Expr) -> Option<usize>
 }
 
 /// The places of expressions, where each is a plain column.
-pub(crate) fn places_of(alloc: Global, exprs: &[&Expr]) -> Result<Option<Vec<usize>>, AllocError>
+pub fn places_of(alloc: Global, exprs: &[&Expr]) -> Result<Option<Vec<usize>>, AllocError>
     ensures found { IfOk result (λ found. is_some found ≡ list_all is_plain exprs.now) }
     ensures places { IfOk result (λ found. IfSome found (λ places. formulas_seen exprs.now ≡ map At places.items)) }
 {

@@ -1,11 +1,11 @@
 -- Orders of the table's rows by columns, of which those rows are left that a condition keeps.
 use Rattle.std.specs.Prelude.{◌≡◌, ◌<◌, ◌+◌, ◌-◌, ◌^◌, ℕ, Bool, true, false, if◌then◌else◌, List, [], ◌∷◌, All, IfSome}
 use Rattle.std.specs.Prelude.{filter, length, map, min, nat_lt, Option, Some, None, Result, Ok, slice_index_or, Vec}
-use Rattle.std.specs.Borrow.{Bor}
 use Rattle.std.specs.Global.{Global}
 use Rattle.wvalues.specs.declared.key.SortKey.{SortKey}
 use Rattle.wvalues.specs.Meaning.{Meaning}
-use Rattle.wplan.specs.declared.expr.Expr.{Expr, out-Expr}
+use Rattle.wplan.specs.declared.expr.Expr.{out-Expr}
+use Rattle.wplan.specs.declared.resolved.ResolvedKey.{ResolvedKey}
 use Rattle.wplan.specs.Formula.{At, Formula}
 use Rattle.wplan.specs.Plans.{KeyPlan, WindowPlan, window_plan}
 use Rattle.wrows.specs.declared.fault.AnswerFault.{AnswerFault}
@@ -30,8 +30,9 @@ abbrev pub is_within : ℕ → Option ℕ → Bool
 is_within width None = false
 is_within width (Some place) = nat_lt place width
 
-abbrev pub is_column : ℕ → Bor Expr → Bool
-is_column width e = is_within width (plain_place (out-Expr e.now))
+-- a key that is one of so many columns
+abbrev pub IsColumnKey : ℕ → ResolvedKey → Type 0
+IsColumnKey width key = is_within width (plain_place (out-Expr key.value)) ≡ true
 
 -- how a key orders, whatever it is of
 abbrev pub direction : SortKey → SortKey

@@ -1,17 +1,20 @@
 //! The first rows of the table in an order by columns, where few are asked for: they are found while the rows are gone over, and
 //! no list of the others is made.
-ghost use Rattle.std.specs.Prelude.{◌≡◌, ◌<◌, ◌≤◌, ◌-◌, ◌∷◌, ◌++◌, [], true, IfOk, IfSome, List, None, OnOk, Some};
+ghost use Rattle.std.specs.Prelude.{◌≡◌, ◌<◌, ◌≤◌, ◌+◌, ◌-◌, ◌∷◌, ◌++◌, [], false, true, All, IfNone, IfOk, IfSome, List};
+ghost use Rattle.std.specs.Prelude.{None, OnOk, Some};
 ghost use Rattle.std.specs.Prelude.{length, map, slice_index_or, take, ℕ};
+ghost use Rattle.std.specs.Option.{is_some};
 ghost use Rattle.wvalues.specs.Meaning.{Null, meaning};
 ghost use Rattle.wvalues.specs.Order.{key_cmp, keys_cmp};
 ghost use Rattle.wplan.specs.Plans.{output_plan, select_plan};
 ghost use Rattle.wrows.specs.Columns.{Row};
 ghost use Rattle.wrows.specs.Laid.{rows_seen};
 ghost use Rattle.wruns.specs.Runs.{row_keys};
-ghost use Rattle.wtable.specs.Leading.{AnswerForAll, AreInRange, Lead, is_behind, rows_by};
+ghost use Rattle.wtable.specs.Leading.{AnswerForAll, AreInRange, AsksColumns, AsksFirst, HasGone, IsColumnItem, Lead};
+ghost use Rattle.wtable.specs.Leading.{is_behind, rows_by};
 ghost use Rattle.wtable.specs.Tables.{rows_of_set};
 
-use crate::orders::key_columns;
+use crate::orders::{asked_of, key_columns};
 use std::alloc::{AllocError, Global};
 use std::cmp::Ordering;
 use wplan::{Output, Selection};
@@ -19,9 +22,6 @@ use wrows::place_of;
 use wsegment::Segment;
 use wset::SegmentSet;
 use wvalues::{SortKey, Value, compare};
-
-/// The most rows that are asked for, with those left out first.
-const MOST_ASKED: u128 = 1024;
 
 /// Of so many rows that are held those are left that come first, so that fewer are held always.
 const MOST_HELD: usize = 2048;
@@ -82,6 +82,7 @@ fn last_of<'a>(rows: &[&'a [Value]], most: usize) -> Option<&'a [Value]>
     requires { 0 < most }
     ensures within { IfSome result (λ last. most ≤ length rows.now) }
     ensures last { IfSome result (λ last. last ≡ slice_index_or rows.now (most - 1) last) }
+    ensures none { IfNone result (length rows.now < most) }
 {
     if rows.len() < most {
         None
@@ -95,6 +96,7 @@ impl<'a> LeadingRows<'a> {
     fn new(alloc: Global) -> LeadingRows<'a>
         ensures leads { (keys : List SortKey) (most : ℕ) → Lead keys most [] result }
         ensures few { length result.rows.items ≡ 0 }
+        ensures cuts { result.cuts ≡ 0 }
     {
         LeadingRows {
             rows: Vec::new(alloc),
@@ -119,6 +121,8 @@ impl<'a> LeadingRows<'a> {
         requires { 0 < most }
         ensures leads { (all : List Row) → Lead keys.now most all self.old → OnOk result (Lead keys.now most all self.new) }
         ensures few { OnOk result (length self.new.rows.items ≤ most) }
+        ensures pivot { OnOk result (most ≤ length self.old.rows.items → is_some self.new.pivot ≡ true) }
+        ensures cuts { OnOk result (self.new.cuts ≤ self.old.cuts + 1) }
     {
         self.rows.sort_by(|a, b| compare_rows(keys, a, b))?;
         self.rows.truncate(most);
@@ -131,10 +135,12 @@ impl<'a> LeadingRows<'a> {
     #[inline]
     fn push(&mut self, keys: &[SortKey], most: usize, row: &'a [Value]) -> Result<(), AllocError>
         requires some { 0 < most }
-        requires fewer { most < 2048 }
+        requires fewer { most ≤ 1024 }
         ensures leads { (all : List Row) → Lead keys.now most all self.old
             → OnOk result (Lead keys.now most (all ++ map meaning row.entry.now ∷ []) self.new) }
         ensures few { length self.old.rows.items < 2048 → OnOk result (length self.new.rows.items < 2048) }
+        ensures gone { (gone : ℕ) → HasGone self.old gone → OnOk result (HasGone self.new (gone + 1)) }
+        ensures behind { is_behind keys.now (map meaning row.entry.now) self.old.pivot ≡ true → OnOk result (self.new ≡ self.old) }
     {
         if self.is_behind(keys, row) {
             return Ok(());
@@ -155,13 +161,15 @@ fn push_all<'a>(
     segment: &'a Segment,
 ) -> Result<bool, AllocError>
     requires some { 0 < most }
-    requires fewer { most < 2048 }
+    requires fewer { most ≤ 1024 }
     ensures leads { (all : List Row) → Lead keys.now most all leading.old
         → IfOk result (λ whole. whole ≡ true → Lead keys.now most (all ++ segment.now.rows) leading.new) }
     ensures few { length leading.old.rows.items < 2048 → OnOk result (length leading.new.rows.items < 2048) }
+    ensures gone { (gone : ℕ) → HasGone leading.old gone → OnOk result (HasGone leading.new (gone + length segment.now.rows)) }
+    ensures cuts { IfOk result (λ whole. whole ≡ false → 12 ≤ leading.new.cuts) }
 {
     for row in 0..segment.rows() {
-        if leading.cuts > MOST_CUTS {
+        if leading.cuts >= MOST_CUTS {
             return Ok(false);
         }
         leading.push(keys, most, segment.row(row))?;
@@ -177,10 +185,11 @@ fn first_rows<'a>(
     set: &'a SegmentSet,
 ) -> Result<Option<Vec<&'a [Value]>>, AllocError>
     requires some { 0 < most }
-    requires fewer { most < 2048 }
+    requires fewer { most ≤ 1024 }
     ensures leads { IfOk result (λ found. IfSome found (λ rows. (more : List Row)
         → take most (rows_by keys.now (rows_seen rows.items ++ more)) ≡ take most (rows_by keys.now (rows_of_set set.now ++ more)))) }
     ensures few { IfOk result (λ found. IfSome found (λ rows. length rows.items < 2048)) }
+    ensures given { IfOk result (λ found. IfNone found (12288 ≤ length (rows_of_set set.now))) }
 {
     let mut leading = LeadingRows::new(alloc);
     'segments: for (_, kept) in set.lives() {
@@ -197,16 +206,17 @@ fn first_rows<'a>(
 // How many rows a SELECT asks for of the first in its order, with those left out first, where these are few.
 fn few_asked(select: &Selection) -> Option<usize>
     ensures some { IfSome result (λ most. 0 < most) }
-    ensures few { IfSome result (λ most. most < 2048) }
+    ensures few { IfSome result (λ most. most ≤ 1024) }
     ensures offset { IfSome result (λ most. select.now.offset ≤ most) }
     ensures limit { IfSome result (λ most. select.now.limit ≡ Some (most - select.now.offset)) }
+    ensures none { IfNone result ((width : ℕ) → ¬ (AsksFirst width select.now)) }
 {
     let limit = select.limit?;
-    if limit > MOST_ASKED || select.offset > MOST_ASKED {
+    if !asked_of(select).is_selected() {
         return None;
     }
     let most = select.offset + limit;
-    if most == 0 || most > MOST_ASKED {
+    if most == 0 {
         return None;
     }
     Some(most as usize)
@@ -214,7 +224,8 @@ fn few_asked(select: &Selection) -> Option<usize>
 
 // Whether items are plain columns, which are out of range on no row.
 fn are_columns(items: &[Output]) -> bool
-    ensures { result ≡ true → AreInRange (map (λ o. o.value) (map output_plan items.now)) }
+    ensures range { result ≡ true → AreInRange (map (λ o. o.value) (map output_plan items.now)) }
+    ensures none { result ≡ false → ¬ (All IsColumnItem items.now) }
 {
     for item in items {
         if place_of(&item.value).is_none() {
@@ -224,12 +235,13 @@ fn are_columns(items: &[Output]) -> bool
     true
 }
 
-// Whether a SELECT has only items that are plain columns, and an order.
+// Whether a SELECT asks for nothing of rows but plain columns, and perhaps an order.
 fn only_orders(select: &Selection) -> bool
     ensures condition { result ≡ true → (select_plan select.now).condition ≡ None }
     ensures grouping { result ≡ true → (select_plan select.now).grouping ≡ None }
     ensures windows { result ≡ true → length select.now.windows.items ≡ 0 }
     ensures items { result ≡ true → AreInRange (map (λ o. o.value) (map output_plan select.now.items.items)) }
+    ensures none { result ≡ false → ¬ (AsksColumns select.now) }
 {
     let None = &select.condition else {
         return false;
@@ -244,15 +256,17 @@ fn only_orders(select: &Selection) -> bool
 }
 
 /// Rows of the set's live segments of which a SELECT answers what it does of all, where it only asks for few of them in an order by
-/// columns; none where it asks for anything else, or rows had to be left out too often. They are fewer than 2,048, and stay where they
-/// lie. The one error is that memory was refused.
+/// columns; none where it asks for anything else, or rows had to be left out too often, for which there are 12,288 at least. They are
+/// fewer than 2,048, and stay where they lie. The one error is that memory was refused.
 pub fn leading_rows<'a>(
     alloc: Global,
     select: &Selection,
     set: &'a SegmentSet,
 ) -> Result<Option<Vec<&'a [Value]>>, AllocError>
-    ensures { IfOk result (λ found. IfSome found
+    ensures answer { IfOk result (λ found. IfSome found
         (λ rows. AnswerForAll (select_plan select.now) (rows_of_set set.now) (rows_seen rows.items))) }
+    ensures given { IfOk result (λ found. IfNone found (AsksFirst (length set.now.schema.columns) select.now
+        → 12288 ≤ length (rows_of_set set.now))) }
 {
     if !only_orders(select) {
         return Ok(None);

@@ -1,5 +1,5 @@
 //! Orders of the table's rows by columns, from the runs that its segments keep.
-ghost use Rattle.std.specs.Prelude.{◌≡◌, ◌<◌, ◌==◌, ◌&&◌, true, [], All, None, IfOk, IfSome, List, Ok, OnOk, length, map, not};
+ghost use Rattle.std.specs.Prelude.{◌≡◌, ◌<◌, ◌==◌, ◌&&◌, true, ◌≢◌, [], All, None, IfNone, IfOk, IfSome, List, Ok, OnOk, length, map, not};
 ghost use Rattle.std.specs.Option.{is_some};
 ghost use Rattle.wvalues.specs.Meaning.{Meaning};
 ghost use Rattle.wplan.specs.Formula.{At, formula};
@@ -12,7 +12,9 @@ ghost use Rattle.wruns.specs.Runs.{joined};
 ghost use Rattle.wset.specs.Running.{live_rows};
 ghost use Rattle.wset.specs.Sets.{Becomes};
 ghost use Rattle.wtable.specs.TableOrders.{AreColumns, AreTableOrders, AreWindowKeys, IsOrderFor, IsTableOrder, by_keys};
-ghost use Rattle.wtable.specs.TableOrders.{direction};
+ghost use Rattle.wtable.specs.TableOrders.{IsColumnKey, direction, is_within};
+ghost use Rattle.wplan.specs.declared.expr.Expr.{out-Expr};
+ghost use Rattle.wrows.specs.PlainColumns.{plain_place};
 
 use std::alloc::{AllocError, Global};
 use wcalls::share_order;
@@ -81,6 +83,7 @@ fn column_key(value: &Expr, order: &SortKey, width: usize) -> Option<SortKey>
     ensures value { IfSome result (λ key. formula value.now ≡ At key.col) }
     ensures order { IfSome result (λ key. direction order.now ≡ direction key) }
     ensures within { IfSome result (λ key. key.col < width) }
+    ensures none { IfNone result (is_within width (plain_place (out-Expr value.now)) ≢ true) }
 {
     let place = place_of(value)?;
     if place < width {
@@ -119,9 +122,10 @@ pub(crate) fn key_columns(
     asked_keys: &[ResolvedKey],
     width: usize,
 ) -> Result<Option<Vec<SortKey>>, AllocError>
-    ensures { IfOk result (λ found. IfSome found
+    ensures keys { IfOk result (λ found. IfSome found
         (λ keys. AreColumns width (map (λ k. k.value) (map key_plan asked_keys.now))
         (map (λ k. k.order) (map key_plan asked_keys.now)) keys.items)) }
+    ensures none { IfOk result (λ found. IfNone found (¬ (All (IsColumnKey width) asked_keys.now))) }
 {
     let mut keys = Vec::with_capacity(alloc, asked_keys.len())?;
     for asked in asked_keys {

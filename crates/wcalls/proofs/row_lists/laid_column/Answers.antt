@@ -5,7 +5,7 @@ use Rattle.wrows.specs.Columns.{value_at}
 use Rattle.wrows.specs.CodedRows.{key_column}
 use Rattle.wrows.specs.Laid.{rows_in}
 use Rattle.wrows.proofs.RowFacts.{length-laid, row_within}
-use Rattle.wcalls.proofs.ListFacts.{cell_more}
+use Rattle.wsort.proofs.RowFacts.{cell_more}
 use Rattle.wcalls.proofs.row_lists.laid_column.Goals as goal
 
 pub slice_of-requires : goal.slice_of-requires

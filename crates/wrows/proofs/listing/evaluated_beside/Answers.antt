@@ -2,7 +2,7 @@ use Rattle.std.proofs.Common.{◌≡◌, ◌*◌, ℕ, Vec, Global, length, map,
 use Rattle.wplan.specs.Formula.{At}
 use Rattle.wrows.specs.Columns.{beside}
 use Rattle.wrows.specs.Laid.{formulas_seen, rows_seen}
-use Rattle.wrows.proofs.PickFacts.{of_some, plain_count, plain_lists}
+use Rattle.wrows.proofs.PickFacts.{of_some, plain_count, lent_lists}
 use Rattle.wrows.proofs.listing.evaluated_beside.Goals as goal
 
 pub returns-clause-gives : goal.returns-clause-gives
@@ -10,7 +10,7 @@ returns-clause-gives c =
     let is : formulas_seen c.args.exprs.now ≡ map At c.deref.result.now
     = of_some (λ (places : Vec ℕ Global). formulas_seen c.args.exprs.now ≡ map At places.items) c.in_ok-plain.plain
     c.in-Some.places c.in-Some.is c.in_ok-plain.ensures.places ∙ ap (map At) (sym c.deref.ensures.value) in
-    plain_lists c.args.exprs.now c.deref.result.now (beside (rows_seen c.args.rows.now) (rows_seen c.args.columns.now))
+    lent_lists c.args.exprs.now c.deref.result.now (beside (rows_seen c.args.rows.now) (rows_seen c.args.columns.now))
     (length c.args.rows.now) c.in_ok-cells.cells.items is c.in_ok-cells.ensures.gives
 
 pub returns-clause-laid : goal.returns-clause-laid

@@ -1,7 +1,7 @@
 use Rattle.std.proofs.Common.{◌≡◌, ◌∙◌, ◌+◌, ◌*◌, ◌<◌, ◌≤◌, drop, length, sym, arith}
 use Rattle.std.proofs.lemmas.List.{length-drop, length-map, length-take-le}
 use Rattle.std.specs.Rc.{rc_str_bytes}
-use Rattle.wplanner.proofs.Rows.{laid-at, length-laid, row-within}
+use Rattle.wrows.proofs.RowFacts.{length-laid, row_at, row_within}
 use Rattle.wplanner.proofs.table.Table.row.Goals as goal
 
 pub overflow_mul-row : goal.overflow_mul-row
@@ -10,7 +10,7 @@ overflow_mul-row c =
     let width = length a.names.items in
     let row : c.args.row < a.rows = rw (← c.self.view_is, length-laid width a.rows a.cells.items) at c.requires in
     let is : c.len-width.result ≡ width = c.len-width.ensures ∙ a.names.ok.0 in
-    rw is (omega (arith, row-within width a.rows c.args.row row, c.self.invariant.filled, a.cells.ok, a.cells.small))
+    rw is (omega (arith, row_within width a.rows c.args.row row, c.self.invariant.filled, a.cells.ok, a.cells.small))
 
 pub cells_from-requires : goal.cells_from-requires
 cells_from-requires c =
@@ -18,7 +18,7 @@ cells_from-requires c =
     let width = length a.names.items in
     let row : c.args.row < a.rows = rw (← c.self.view_is, length-laid width a.rows a.cells.items) at c.requires in
     let is : c.len-width.result ≡ width = c.len-width.ensures ∙ a.names.ok.0 in
-    rw is (omega (arith, row-within width a.rows c.args.row row, c.self.invariant.filled))
+    rw is (omega (arith, row_within width a.rows c.args.row row, c.self.invariant.filled))
 
 pub returns-clause-values : goal.returns-clause-values
 returns-clause-values c =
@@ -26,7 +26,7 @@ returns-clause-values c =
     let width = length a.names.items in
     let row : c.args.row < a.rows = rw (← c.self.view_is, length-laid width a.rows a.cells.items) at c.requires in
     let is : c.len-width.result ≡ width = c.len-width.ensures ∙ a.names.ok.0 in
-    rw (← c.self.view_is, c.cells_from.ensures, is, c.deref.ensures.value) (sym (laid-at width a.rows a.cells.items c.args.row row))
+    rw (← c.self.view_is, c.cells_from.ensures, is, c.deref.ensures.value) (sym (row_at width a.rows a.cells.items c.args.row row))
 
 pub returns-clause-whole : goal.returns-clause-whole
 returns-clause-whole c =
@@ -35,7 +35,7 @@ returns-clause-whole c =
     let row : c.args.row < a.rows = rw (← c.self.view_is, length-laid width a.rows a.cells.items) at c.requires in
     let is : c.len-width.result ≡ width = c.len-width.ensures ∙ a.names.ok.0 in
     let inside : c.args.row * width + width ≤ length a.cells.items =
-    omega (arith, row-within width a.rows c.args.row row, c.self.invariant.filled) in
+    omega (arith, row_within width a.rows c.args.row row, c.self.invariant.filled) in
     let behind : width ≤ length (drop (c.args.row * width) a.cells.items) =
     omega (arith, inside, length-drop (c.args.row * width) a.cells.items) in
     rw (← c.self.view_is, c.cells_from.ensures, is, c.deref.ensures.value)

@@ -1,5 +1,5 @@
 use Rattle.std.proofs.Common.{◌∙◌, length, sym, ap}
-use Rattle.wplanner.proofs.Rows.{length-laid}
+use Rattle.wrows.proofs.RowFacts.{length-laid}
 use Rattle.wplanner.proofs.table.Table.rows.Goals as goal
 
 pub returns : goal.returns

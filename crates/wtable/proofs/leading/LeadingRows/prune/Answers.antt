@@ -16,7 +16,8 @@ use Rattle.wrows.proofs.MoreSorting.{sorted_map}
 use Rattle.wrows.specs.Laid.{row_seen, rows_seen}
 use Rattle.wrows.proofs.RowFacts.{map-taken}
 use Rattle.wruns.specs.Runs.{row_keys}
-use Rattle.wtable.proofs.LeadingFacts.{pruned, row_cmp}
+use Rattle.wtable.specs.Leading.{row_cmp}
+use Rattle.wtable.proofs.LeadingFacts.{pruned}
 use Rattle.wtable.proofs.leading.LeadingRows.prune.Goals as goal
 
 pub returns-clause-leads : goal.returns-clause-leads
