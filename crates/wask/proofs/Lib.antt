@@ -2,6 +2,6 @@ mod Accepted
 mod Answered
 mod Nodes
 pub mod OneAnswer
-mod Read
+pub mod Read
 mod SoundCalls
 mod SoundWindows

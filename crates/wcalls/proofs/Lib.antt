@@ -1,4 +1,4 @@
-mod WindowFacts
+pub mod WindowFacts
 mod PlaceFacts
 mod Answering
 mod ArrangedFacts

@@ -1,24 +1,22 @@
 -- Lists of values of rows, and what is made of them.
 use Rattle.std.proofs.Common.{◌≡◌, Option, None, Some, Vec, Global, ℕ, ◌+◌, ◌*◌, ◌<◌}
-use Rattle.std.proofs.Common.{List, [], ◌∷◌, ◌++◌, length, map, take, drop, get_or, refl, sym, ap, subst, ◌∙◌, arith}
+use Rattle.std.proofs.Common.{List, [], ◌∷◌, length, map, take, drop, get_or, refl, sym, ap, subst, ◌∙◌, arith}
 use Rattle.std.specs.Prelude.{All, IfSome, ◌≤◌, ◌^◌}
-use Rattle.std.specs.Borrow.{Bor}
 use Rattle.std.specs.List.{AllByRecursion}
 use Rattle.std.specs.Ordering.{on}
 use Rattle.std.proofs.lemmas.Cmp.{on_total}
-use Rattle.std.proofs.lemmas.List.{get_or-map, length-map, map-append, take_more}
+use Rattle.std.proofs.lemmas.List.{length-map}
 use Rattle.std.proofs.Math.Nat.{mul-le-mul_right}
 use Rattle.std.proofs.lemmas.List.Elements.{All-from_recursion, All-same, recursion_from_All}
 use Rattle.wvalues.specs.declared.key.SortKey.{SortKey}
-use Rattle.wvalues.specs.declared.value.Value.{Value}
 use Rattle.wvalues.specs.declared.value.Value.TheVariants as values
-use Rattle.wvalues.specs.Meaning.{Meaning, Null, meaning}
+use Rattle.wvalues.specs.Meaning.{Meaning, meaning}
 use Rattle.wvalues.specs.Order.{keys_cmp}
 use Rattle.wvalues.specs.OrderLaws.{keys_total}
 use Rattle.wframe.specs.Peers.{key_at}
 use Rattle.wframe.specs.Sorting.{sorted}
 use Rattle.wframe.proofs.SortFacts.{all_sorted, length_sorted}
-use Rattle.wrows.specs.CodedRows.{key_column, key_of, values_seen, AreCodes, AreRowCodes}
+use Rattle.wrows.specs.CodedRows.{key_column, key_of, AreCodes, AreRowCodes}
 use Rattle.wrows.specs.Columns.{value_at}
 use Rattle.wrows.specs.Laid.{row_seen, rows_in, rows_seen}
 use Rattle.wrows.specs.LaidRows.{laid}

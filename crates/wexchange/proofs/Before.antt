@@ -1,9 +1,8 @@
 -- What stands before a floor in a view is of smaller origins.
-use Rattle.std.proofs.Common.{◌≡◌, ℕ, Bool, true, false, cond, T, List, [], ◌∷◌, ◌++◌, None, Some, refl, sym, ap, ◌∙◌, subst, append_assoc}
+use Rattle.std.proofs.Common.{◌≡◌, Bool, true, false, cond, T, List, [], ◌∷◌, ◌++◌, None, Some, refl, sym, ap, ◌∙◌, subst, append_assoc}
 use Rattle.std.proofs.lemmas.Bool.{and_from, or_left, or_right}
 use Rattle.std.specs.List.{list_any}
 use Rattle.std.specs.Ordering.{nat_cmp, ordering_then, ordering_reverse}
-use Rattle.std.specs.Prelude.{◌==◌, nat_lt}
 use Rattle.std.specs.Cmp.Lexicographic.{slice_cmp}
 use Rattle.std.specs.declared.cmp.Ordering.{Ordering}
 use Rattle.std.specs.declared.cmp.Ordering.TheVariants.{Less, Equal, Greater}
@@ -14,21 +13,8 @@ use Rattle.wvalues.specs.Names.{NameParts, name_cmp, names_total}
 use Rattle.wentries.specs.Knowledge.{Known, Floor, is_above, is_over, same_bytes, same_name}
 use Rattle.wset.specs.Views.{View, IsSettled}
 use Rattle.wentries.specs.Entries.{AreOriginsBelow}
+use Rattle.wentries.proofs.Lows.{less_number, not_both}
 use Rattle.wentries.proofs.Floors.{first, second, less, same_bytes-refl, same_name-refl, same_name-true}
-
-not_both : Less ≡ Greater → ⊥
-not_both e = cc
-
-less_number : (a b : ℕ) → nat_cmp a b ≡ Less → nat_lt a b ≡ true
-less_number a b h = by (nat_lt a b) refl h
-  where
-    by_equal : (b : Bool) → cond b Equal Greater ≡ Less → ⊥
-    by_equal true e = cc
-    by_equal false e = cc
-
-    by : (c : Bool) → nat_lt a b ≡ c → cond c Less (cond (a == b) Equal Greater) ≡ Less → nat_lt a b ≡ true
-    by true is e = is
-    by false is e = absurd (by_equal (a == b) e)
 
 below_later : (x : NameParts) (ws : List (NameParts × Known)) (e : NameParts × Known) (es : List (NameParts × Known))
     → T (below_all name_cmp x (ws ++ e ∷ es)) → name_cmp x e.0 ≡ Less

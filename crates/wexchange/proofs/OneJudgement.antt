@@ -1,10 +1,8 @@
 -- Bytes are judged in one way: reading stops at one place, and there for one reason.
-use Rattle.std.proofs.Common.{◌≡◌, ◌≢◌, ◌≤◌, ℕ, Bool, true, false, ◌&&◌, T, List, [], ◌∷◌, ◌++◌, length, None, Some, Result, Ok}
+use Rattle.std.proofs.Common.{◌≡◌, ◌≢◌, ◌≤◌, ℕ, true, false, T, List, [], ◌∷◌, ◌++◌, length, None, Some, Result, Ok}
 use Rattle.std.proofs.Common.{Err, IsOk, inl, inr, refl, sym, ap, ◌∙◌, subst, arith, append_assoc, append-nil, length-append}
 use Rattle.std.specs.List.{flat_map, AllByRecursion}
-use Rattle.std.specs.Ordering.{is_lt}
-use Rattle.std.specs.declared.cmp.Ordering.{Ordering}
-use Rattle.std.specs.declared.cmp.Ordering.TheVariants.{Less, Equal, Greater}
+use Rattle.std.specs.declared.cmp.Ordering.TheVariants.{Less}
 use Rattle.std.specs.FinMap.Entries.{below_all}
 use Rattle.std.specs.FinMap.{entries, is_sorted, entries_sorted, same_entries_map}
 use Rattle.wvalues.specs.Meaning.{Meaning}
@@ -16,6 +14,7 @@ use Rattle.wsegment.specs.Spelling.{IsDeclaration}
 use Rattle.wsegment.specs.Rows.{rows_of}
 use Rattle.wsegment.specs.declared.fault.SegmentFault.{SegmentFault}
 use Rattle.wentries.specs.Knowledge.{Known, Live, Disputed, Retired, Floor}
+use Rattle.wentries.proofs.Floors.{first, second, less}
 use Rattle.wset.specs.Views.{View, IsSettled}
 use Rattle.wentries.specs.Entries.{AreBelow}
 use Rattle.wset.specs.Lending.{IsAbove, IsBehindOrigins}
@@ -340,19 +339,6 @@ good_end d v w rest more two is i = record {
     never r (file o h i e) = not_one (sym o ∙ two)
 
 -- ---- names
-
-pub first : (a b : Bool) → T (a && b) → T a
-first true b p = tt
-first false b p = absurd p
-
-pub second : (a b : Bool) → T (a && b) → T b
-second true b p = p
-second false b p = absurd p
-
-pub less : (o : Ordering) → T (is_lt o) → o ≡ Less
-less Less p = refl
-less Equal p = absurd p
-less Greater p = absurd p
 
 below_next : (x : NameParts) (ws : List (NameParts × Known)) (e : NameParts × Known) (es : List (NameParts × Known))
     → T (below_all name_cmp x (ws ++ e ∷ es)) → name_cmp x e.0 ≡ Less

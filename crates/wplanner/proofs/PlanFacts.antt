@@ -23,7 +23,7 @@ use Rattle.wplanner.specs.declared.fault.AskFault.{AskFault}
 use Rattle.wplanner.specs.Faults.{unanswered}
 use Rattle.wplanner.specs.Parts.{TableParts}
 use Rattle.wplanner.specs.Faults.{AnswersAs}
-use Rattle.wtable.proofs.SourceFacts.{all_places}
+use Rattle.wcalls.proofs.WindowFacts.{all_places}
 
 same_at_places : {X : Type 0} (f g : ℕ → X) (a n : ℕ) → ((j : ℕ) → f j ≡ g j) → map f (places_from a n) ≡ map g (places_from a n)
 same_at_places f g a zero h = refl

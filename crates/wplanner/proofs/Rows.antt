@@ -1,14 +1,13 @@
 -- Rows that are laid out one after another.
-use Rattle.std.proofs.Common.{◌≡◌, ◌∙◌, ◌+◌, ◌*◌, ◌<◌, ◌≤◌, ℕ, zero, suc, List, [], ◌∷◌}
-use Rattle.std.proofs.Common.{drop, take, get_or, length, map, refl, sym, ap, arith}
-use Rattle.std.proofs.Math.Nat.{mul-le-mul_right}
-use Rattle.std.proofs.lemmas.List.{drop-drop, length-drop, length-map, length-take-le}
+use Rattle.std.proofs.Common.{◌≡◌, ◌∙◌, ◌*◌, ◌≤◌, ℕ, zero, suc, List, ◌∷◌}
+use Rattle.std.proofs.Common.{drop, take, length, map, refl, sym, ap, arith}
+use Rattle.std.proofs.lemmas.List.{length-drop, length-map, length-take-le}
 use Rattle.wvalues.specs.declared.value.Value.{Value}
 use Rattle.wvalues.specs.Meaning.{Meaning, Null, meaning}
 use Rattle.wframe.specs.Places.{places}
 use Rattle.wprinted.specs.Printing.{values_at}
 use Rattle.wrows.specs.LaidRows.{laid}
-use Rattle.wtable.proofs.SourceFacts.{all_places}
+use Rattle.wcalls.proofs.WindowFacts.{all_places}
 
 -- the values at all places are the row
 pub laid-values : (width n : ℕ) (cells : List Value) → length cells ≡ n * width

@@ -1,5 +1,4 @@
 pub mod Quiet
-pub mod Words
 pub mod Behind
 pub mod Bodies
 pub mod Spelling

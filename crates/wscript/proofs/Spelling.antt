@@ -14,7 +14,7 @@ use Rattle.wscript.specs.Requests.{IsCommandOf, IsBadBehind, KeepsBody, Behind, 
 use Rattle.wscript.specs.declared.header_lines.Header.{Header}
 use Rattle.wscript.specs.declared.request.Request.{Request}
 use Rattle.wscript.specs.declared.request.Request.TheVariants as requests
-use Rattle.wscript.proofs.Words.{no_feed}
+use Rattle.wlines.proofs.Decimals.{no_feed}
 
 -- ---- header lines
 

@@ -1,6 +1,6 @@
 -- A text without tokens.
 use Rattle.std.proofs.Common.{◌≡◌, ◌≢◌, suc, ℕ, ◌<◌, ◌≤◌, ◌==◌, ◌∙◌, Bool, true, false, true≢false, List}
-use Rattle.std.proofs.Common.{[], ◌∷◌, length, map, Result, Ok, Err, refl, sym, ap, subst, arith}
+use Rattle.std.proofs.Common.{[], ◌∷◌, length, map, Result, Err, refl, sym, ap, subst, arith}
 use Rattle.std.specs.Prelude.{◌↔◌, IsTrue}
 use Rattle.std.proofs.lemmas.Bool.Decides.{nat_tests}
 use Rattle.wlexer.specs.Lexing.{HasFaultAt, Lexes}
@@ -15,20 +15,6 @@ use Rattle.wshell.specs.Replying.{IsBlank}
 abbrev has : List PlacedToken → Bool
 has [] = false
 has (x ∷ xs) = true
-
--- a text that was lexed is short and UTF-8
-pub lexed_text : {A : Type 0} (x : A) (text : List ℕ) → (Ok x ≡ Err lexing.TooLong) ↔ (65536 < length text)
-    → (Ok x ≡ Err lexing.NotUtf8) ↔ ((length text ≤ 65536) × IsForeign text) → IsText text
-lexed_text {A} x text long foreign = (short, λ f. other lexing.NotUtf8 (foreign.1 (short, f)))
-  where
-    ok : Result A LexFault
-    ok = Ok x
-
-    other : (fault : LexFault) → ok ≢ Err fault
-    other fault e = cc
-
-    short : length text ≤ 65536
-    short = let not_long : ¬ (65536 < length text) = λ h. other lexing.TooLong (long.1 h) in omega (arith, not_long)
 
 some_is_not_none : (n : ℕ) → (suc n == 0) ≡ false
 some_is_not_none n = grind (arith, nat_tests)

@@ -23,7 +23,7 @@ use Rattle.wexchange.specs.Files.{IsRecord, AreRecords, text_of}
 use Rattle.wexchange.specs.Judging.{IsFileOf}
 use Rattle.wexchange.specs.declared.version.Version.{Version}
 use Rattle.wexchange.specs.declared.version.Version.TheVariants.{One, Two}
-use Rattle.wexchange.proofs.OneJudgement.{first, second, less}
+use Rattle.wentries.proofs.Floors.{first, second, less}
 use Rattle.wexchange.proofs.OneText.{one_text}
 use Rattle.wstore.specs.History.{file_if}
 use Rattle.wstore.specs.Standing.{IsSound}

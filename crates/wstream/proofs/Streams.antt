@@ -1,9 +1,8 @@
 -- What stands first in a stream.
-use Rattle.std.proofs.Common.{◌≡◌, ◌≢◌, ℕ, zero, suc, ◌+◌, ◌-◌, ◌^◌, ◌<◌, ◌≤◌, List, [], ◌∷◌, ◌++◌, length, take, drop, get_or}
-use Rattle.std.proofs.Common.{inl, inr, refl, sym, ap, ◌∙◌, arith, append_assoc, length-append, take-append-drop, drop-cons}
+use Rattle.std.proofs.Common.{◌≡◌, ◌≢◌, ℕ, zero, suc, ◌+◌, ◌-◌, ◌^◌, ◌<◌, ◌≤◌, List, [], ◌∷◌, ◌++◌, length, take, drop}
+use Rattle.std.proofs.Common.{inl, inr, refl, sym, ap, ◌∙◌, arith, append_assoc, length-append}
 use Rattle.std.specs.Fmt.{decimal}
 use Rattle.std.proofs.lemmas.Fmt.{length-decimal-le}
-use Rattle.std.proofs.lemmas.List.{length-take-le}
 use Rattle.wlines.specs.Words.{Lacks}
 use Rattle.wlines.proofs.Cuts.{cut_once, no_cut}
 use Rattle.wvalues.specs.Names.{NameParts, IsName}
@@ -194,16 +193,6 @@ begins_content bytes body rest n len name within size is =
     )
 
 -- ---- how a header line and a body are cut off
-
-pub unfed_at : (xs : List ℕ) (i : ℕ) → i < length xs → get_or xs i 0 ≢ 10 → IsUnfed i xs
-unfed_at xs i lt other = record {
-  body = take i xs;
-  byte = get_or xs i 0;
-  more = drop (suc i) xs;
-  bytes_are = sym (take-append-drop i xs) ∙ ap (λ l. take i xs ++ l) (drop-cons xs i 0 lt);
-  length_is = length-take-le i xs (omega arith);
-  other = other;
-}
 
 -- a line that no message has
 abbrev pub IsOther : Form → Type 0

@@ -35,7 +35,7 @@ use Rattle.wcalls.specs.Frames as frames
 use Rattle.wcalls.specs.Windows.{Windowed, windowed}
 use Rattle.wcalls.specs.Ordered.{Ordered, both_cmp, in_order, ordered_rows}
 use Rattle.wtable.specs.TableOrders.{AreColumns, IsOrderFor, IsRowOf, RowOrder, by_keys, by_window, direction}
-use Rattle.wtable.proofs.SourceFacts.{all_places}
+use Rattle.wcalls.proofs.WindowFacts.{all_places}
 
 -- what keys are on rows
 none_in_range : (keys : List SortKey) (row : Row) → list_any (λ t. is_out_of_range t row) (map (λ k. At k.col) keys) ≡ false

@@ -1,7 +1,7 @@
 -- Rows that are held in place of all that were gone over, and what a SELECT answers of them.
 use Rattle.std.proofs.Common.{◌≡◌, ℕ, ◌+◌, ◌-◌, ◌<◌, ◌≤◌, ◌||◌, Bool, true, false, not, List, [], ◌∷◌, ◌++◌}
 use Rattle.std.proofs.Common.{length, map, filter, take, drop, get_or, append_assoc, Option, Some, None, Ok}
-use Rattle.std.proofs.Common.{append-nil, Global, Vec, Ordering, true≢false, refl, sym, ap, ◌∙◌, subst, arith}
+use Rattle.std.proofs.Common.{append-nil, Global, Vec, true≢false, refl, sym, ap, ◌∙◌, subst, arith}
 use Rattle.std.specs.Prelude.{IfSome}
 use Rattle.std.specs.Borrow.{Bor}
 use Rattle.std.specs.Cmp.{IsTotalOrder}
@@ -31,7 +31,7 @@ use Rattle.wtable.specs.Leading.{AnswerForAll, AreInRange, Lead, comes_by, is_be
 use Rattle.wtable.specs.TableOrders.{AreColumns}
 use Rattle.wtable.proofs.ColumnFacts.{by_columns, columns_presorted, map-alike}
 use Rattle.wtable.proofs.FirstFacts as first
-use Rattle.wtable.proofs.SourceFacts.{all_places}
+use Rattle.wcalls.proofs.WindowFacts.{all_places}
 
 pub rows_total : (keys : List SortKey) → IsTotalOrder (row_cmp keys)
 rows_total keys = on_total (row_keys keys) (keys_total keys)

@@ -1,6 +1,6 @@
 -- The rows of segments, one after another, are the table.
-use Rattle.std.proofs.Common.{◌≡◌, ℕ, zero, suc, ◌+◌, ◌<◌, ◌≤◌, List, [], ◌∷◌, ◌++◌, length, map, take, drop}
-use Rattle.std.proofs.Common.{get_or, drop-cons, take_all, refl, sym, ap, ◌∙◌, arith, append_assoc}
+use Rattle.std.proofs.Common.{◌≡◌, ℕ, ◌+◌, List, [], ◌∷◌, ◌++◌, map}
+use Rattle.std.proofs.Common.{refl, sym, ap, ◌∙◌, append_assoc}
 use Rattle.std.specs.List.{enumerate_from, flat_map, AllByRecursion}
 use Rattle.std.proofs.lemmas.List.{map-append}
 use Rattle.wvalues.specs.Names.{NameParts}
@@ -13,20 +13,6 @@ use Rattle.wentries.specs.Holding.{IsReadBy}
 use Rattle.wset.specs.Lending.{AreLivesOf}
 use Rattle.wtable.specs.Tables.{rows_of_set}
 use Rattle.wset.specs.Tables.{TableRow, content_rows, rows_or_none, segment_rows}
-use Rattle.wframe.specs.Places.{places_from, places}
-
--- the elements at some places
-at_places : {X : Type 0} (d : X) (xs : List X) (a n : ℕ) → a + n ≤ length xs → map (λ j. get_or xs j d) (places_from a n)
-    ≡ take n (drop a xs)
-at_places d xs a zero h = refl
-at_places d xs a (suc n) h =
-    let l : a < length xs = omega arith in
-    let s : suc a ≡ a + 1 = omega arith in
-    ap (λ l. get_or xs a d ∷ l) (at_places d xs (a + 1) n (omega arith) ∙ ap (λ k. take n (drop k xs)) (sym s))
-    ∙ sym (ap (take (suc n)) (drop-cons xs a d l))
-
-pub all_places : {X : Type 0} (d : X) (xs : List X) → map (λ j. get_or xs j d) (places (length xs)) ≡ xs
-all_places d xs = at_places d xs 0 (length xs) (omega arith) ∙ take_all (length xs) xs (omega arith)
 
 -- the rows of a live name
 abbrev pub live_rows : Declaration → (NameParts × List ℕ) → List (List Meaning)

@@ -1,6 +1,6 @@
 use Rattle.std.proofs.Common.{◌≡◌}
 use Rattle.std.specs.Fmt.{decimal}
-use Rattle.wscript.proofs.Words.{no_space}
+use Rattle.wlines.proofs.Decimals.{no_space}
 use Rattle.wscript.proofs.header_lines.split_number.Goals as goal
 
 pub returns-in_default-clause-only : goal.returns-in_default-clause-only

@@ -1,7 +1,8 @@
 use Rattle.std.proofs.Common.{rules, map, subst, sym}
 use Rattle.wlexer.specs.Lexing.{Lexes}
 use Rattle.wlexer.specs.Token.{placed}
-use Rattle.wshell.proofs.Blanks.{blank_by_tokens, faulty_is_filled, filled_is_false, lexed_text}
+use Rattle.wask.proofs.Read.{lexed_text}
+use Rattle.wshell.proofs.Blanks.{blank_by_tokens, faulty_is_filled, filled_is_false}
 use Rattle.wshell.proofs.replying.is_blank.Goals as goal
 
 pub returns-in-Ok : goal.returns-in-Ok
