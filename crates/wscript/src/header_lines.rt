@@ -1,5 +1,6 @@
 //! Header lines of commands.
 ghost use Rattle.std.specs.Prelude.{◌≡◌, ℕ, ◌^◌, ◌<◌, List, ◌∷◌, ◌++◌, IfSome, IsSomeAnd, decimal, Some};
+ghost use Rattle.wvalues.specs.NameReading.{ReadsName};
 ghost use Rattle.wlines.specs.Words.{IsWord};
 ghost use Rattle.wscript.specs.Commands.{AskForm, DeclareForm, FeedForm, FloorForm, Form, GetForm, IsForm, ListForm, PutForm};
 ghost use Rattle.wscript.specs.Commands.{RetireForm, TakeForm, line_of, pair_words, retire_words, take_words};
@@ -154,13 +155,12 @@ fn take_header(words: &[u8]) -> Option<Header>
     Some(Header::Take(node, Name::read(origin, number), len))
 }
 
-// The words behind `R`.
-fn retire_header(words: &[u8]) -> Option<Header>
-    ensures found { IfSome result (λ h. (node : ℕ) × (origin : List ℕ) × (number : List ℕ)
-        × IsForm (RetireForm node origin number) × IsHeaderOf h (RetireForm node origin number)
-        × (words.now ≡ retire_words node origin number)) }
+// The words behind `R` and `U`: the number of a node, and the words of a name.
+fn node_and_name(words: &[u8]) -> Option<(NodeNumber, Result<Name, NameFault>)>
+    ensures found { IfSome result (λ read. (origin : List ℕ) × (number : List ℕ) × IsForm (RetireForm read.0 origin number)
+        × ReadsName origin number read.1 × (words.now ≡ retire_words read.0 origin number)) }
     ensures only { (node : ℕ) (origin number : List ℕ) → IsForm (RetireForm node origin number)
-        → words.now ≡ retire_words node origin number → IsSomeAnd result (λ h. IsHeaderOf h (RetireForm node origin number)) }
+        → words.now ≡ retire_words node origin number → IsSomeAnd result (λ read. (node ≡ read.0) × ReadsName origin number read.1) }
 {
     let Some((first, rest)) = split_number(words) else {
         return None;
@@ -174,7 +174,21 @@ fn retire_header(words: &[u8]) -> Option<Header>
     if !is_word(number) {
         return None;
     }
-    Some(Header::Retire(node, Name::read(origin, number)))
+    Some((node, Name::read(origin, number)))
+}
+
+// The words behind `R`.
+fn retire_header(words: &[u8]) -> Option<Header>
+    ensures found { IfSome result (λ h. (node : ℕ) × (origin : List ℕ) × (number : List ℕ)
+        × IsForm (RetireForm node origin number) × IsHeaderOf h (RetireForm node origin number)
+        × (words.now ≡ retire_words node origin number)) }
+    ensures only { (node : ℕ) (origin number : List ℕ) → IsForm (RetireForm node origin number)
+        → words.now ≡ retire_words node origin number → IsSomeAnd result (λ h. IsHeaderOf h (RetireForm node origin number)) }
+{
+    let Some((node, name)) = node_and_name(words) else {
+        return None;
+    };
+    Some(Header::Retire(node, name))
 }
 
 // The words behind `U`.
@@ -185,19 +199,10 @@ fn floor_header(words: &[u8]) -> Option<Header>
     ensures only { (node : ℕ) (origin number : List ℕ) → IsForm (FloorForm node origin number)
         → words.now ≡ retire_words node origin number → IsSomeAnd result (λ h. IsHeaderOf h (FloorForm node origin number)) }
 {
-    let Some((first, rest)) = split_number(words) else {
+    let Some((node, name)) = node_and_name(words) else {
         return None;
     };
-    let Some(node) = NodeNumber::new(first) else {
-        return None;
-    };
-    let Some((origin, number)) = split_any(rest) else {
-        return None;
-    };
-    if !is_word(number) {
-        return None;
-    }
-    Some(Header::RetireTo(node, Name::read(origin, number)))
+    Some(Header::RetireTo(node, name))
 }
 
 // The words behind `L`.
