@@ -1,6 +1,7 @@
 -- The rows of segments on which a condition is true.
 use Rattle.std.proofs.Common.{◌≡◌, ℕ, ◌+◌, ◌<◌, ◌||◌, Bool, true, false, cond, List, [], ◌∷◌, ◌++◌, length, filter}
-use Rattle.std.proofs.Common.{take, take_all, get_or, append-nil, append_assoc, ◌≤◌, Some, Result, Ok, Err, refl, sym, ap, ◌∙◌}
+use Rattle.std.proofs.Common.{take, take-append-drop, drop, length-append, arith, take_all, get_or, append-nil, append_assoc, ◌≤◌}
+use Rattle.std.proofs.Common.{Some, Result, Ok, Err, refl, sym, ap, ◌∙◌}
 use Rattle.std.specs.List.{flat_map, list_any}
 use Rattle.std.proofs.lemmas.List.Elements.{filter-append, filter_more}
 use Rattle.std.proofs.lemmas.List.Folds.{list_any-append, list_any_at, list_any_more}
@@ -54,6 +55,21 @@ none_at_fault t stored i h none =
 pub held_whole : (p : Row → Bool) (stored old now : List Row) (i : ℕ) → length stored ≤ i → now ≡ old ++ filter p (take i stored)
     → now ≡ old ++ filter p stored
 held_whole p stored old now i h so_far = so_far ∙ ap (λ l. old ++ filter p l) (take_all i stored h)
+
+-- where so many are held of a part of a segment, so many are of the whole
+pub held_part : (p : Row → Bool) (stored old now : List Row) (i most : ℕ) → now ≡ old ++ filter p (take i stored)
+    → most < length now → most < length old + length (filter p stored)
+held_part p stored old now i most so_far many =
+    let all : filter p stored ≡ filter p (take i stored) ++ filter p (drop i stored) =
+    ap (filter p) (sym (take-append-drop i stored)) ∙ filter-append p (take i stored) (drop i stored) in
+    omega (
+      arith,
+      many,
+      ap length so_far,
+      length-append old (filter p (take i stored)),
+      ap length all,
+      length-append (filter p (take i stored)) (filter p (drop i stored)),
+    )
 
 -- where tests decide a condition, it is out of range on no row, and true on those that pass them
 pub none_decided : (tests : List NumberTest) (t : Formula) (rows : List Row) → Decide tests t → list_any (is_out_of_range t) rows ≡ false
@@ -115,6 +131,21 @@ module _ (t : Formula) (all : List Row) where
       in_range = in_range_left (is_out_of_range t) all segments left e is h.in_range none;
       so_far = held_left (holds_on t) before after all segments left e is h.so_far more;
     }
+
+    pub segment_many : (most : ℕ) → most < length before + length (filter (holds_on t) e.1.rows)
+        → most < length (filter (holds_on t) all)
+    segment_many most many =
+        let p : Row → Bool = holds_on t in
+        let here : filter p (rows_left segments) ≡ filter p e.1.rows ++ filter p (rows_left left) =
+        ap (λ l. filter p (rows_left l)) is ∙ filter-append p e.1.rows (rows_left left) in
+        omega (
+          arith,
+          many,
+          ap length h.so_far,
+          length-append before (filter p (rows_left segments)),
+          ap length here,
+          length-append (filter p e.1.rows) (filter p (rows_left left)),
+        )
 
     pub segment_refused : {X : Type 0} (view : X → List Row) (fault : AnswerFault) → Gives {X = Unit {0}} {Y = Unit {0}} (λ u. u)
         (Err fault) (unless (list_any (is_out_of_range t) e.1.rows) OutOfRange (tt {0})) → Gives view (Err fault) (held_rows (Some t) all)

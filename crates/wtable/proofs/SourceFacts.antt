@@ -1,5 +1,5 @@
 -- The rows of segments, one after another, are the table.
-use Rattle.std.proofs.Common.{◌≡◌, ℕ, ◌+◌, List, [], ◌∷◌, ◌++◌, map}
+use Rattle.std.proofs.Common.{◌≡◌, ℕ, ◌+◌, ◌≤◌, List, [], ◌∷◌, ◌++◌, length, length-append, map, arith}
 use Rattle.std.proofs.Common.{refl, sym, ap, ◌∙◌, append_assoc}
 use Rattle.std.specs.List.{enumerate_from, flat_map, AllByRecursion}
 use Rattle.std.proofs.lemmas.List.{map-append}
@@ -53,3 +53,9 @@ pub more_rows : (old now all : List (List Meaning)) (segments left : List (NameP
 more_rows old now all segments left e is before more =
     ap (λ l. l ++ flat_map (λ e. e.1.rows) left) more ∙ append_assoc old e.1.rows (flat_map (λ e. e.1.rows) left)
     ∙ ap (λ l. old ++ flat_map (λ e. e.1.rows) l) (sym is) ∙ before
+
+-- the rows that were gone over are no more than all
+pub gone_within : (old now all : List (List Meaning)) (segments left : List (NameParts × Content)) (e : NameParts × Content)
+    → segments ≡ e ∷ left → old ++ flat_map (λ e. e.1.rows) segments ≡ all → now ≡ old ++ e.1.rows → length now ≤ length all
+gone_within old now all segments left e is before more =
+    omega (arith, ap length (more_rows old now all segments left e is before more), length-append now (flat_map (λ e. e.1.rows) left))

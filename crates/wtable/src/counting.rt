@@ -9,8 +9,8 @@ use wset::SegmentSet;
 /// The most rows that are kept.
 const MOST_ROWS: usize = 2_147_483_647;
 
-// How many rows the live segments have, no further than a count goes.
-fn row_count(set: &SegmentSet) -> usize
+/// How many rows the live segments have, no further than a count goes.
+pub(crate) fn row_count(set: &SegmentSet) -> usize
     ensures { result ≡ min (length (rows_of_set set.now)) (2 ^ 64 - 1) }
 {
     let mut count = 0usize;

@@ -1,5 +1,6 @@
 //! The table's rows, as the live segments of a set have them.
-ghost use Rattle.std.specs.Prelude.{◌≡◌, ◌∷◌, ◌++◌, [], if◌then◌else◌, true, IfOk, OnOk, Some, filter, map};
+ghost use Rattle.std.specs.Prelude.{◌≡◌, ◌+◌, ◌<◌, ◌∷◌, ◌++◌, [], if◌then◌else◌, false, true, IfNone, IfOk, OnOk, Some, filter};
+ghost use Rattle.std.specs.Prelude.{length, map};
 ghost use Rattle.std.specs.List.{list_any};
 ghost use Rattle.wvalues.specs.Meaning.{meaning};
 ghost use Rattle.weval.specs.NumberTests.{passes_all};
@@ -10,9 +11,11 @@ ghost use Rattle.wrows.specs.Columns.{held_rows, holds_on, is_out_of_range};
 ghost use Rattle.wrows.specs.Laid.{rows_seen};
 ghost use Rattle.wrows.specs.Outcomes.{Gives, unless};
 ghost use Rattle.wrows.specs.Plain.{kept_of};
-ghost use Rattle.wtable.specs.Few.{GivesAtEnd, MayGive};
+ghost use Rattle.wtable.specs.Few.{GivesAtEnd, KeepsMany, MayGive, asks_for_orders as are_orders_asked};
+ghost use Rattle.wplan.specs.declared.expr.Expr as expr;
 ghost use Rattle.wtable.specs.Tables.{rows_of_set};
 
+use crate::counting::row_count;
 use crate::orders::asks_for_orders;
 use std::alloc::{AllocError, Global};
 use weval::NumberTests;
@@ -199,6 +202,8 @@ fn push_few_where<'a>(
         OutOfRange tt) }
     ensures added { IfOk result (λ all. all ≡ true → rows_seen held.new.items ≡ rows_seen held.old.items ++ filter
         (holds_on (formula condition.now.expr.now)) kept.now.content.rows) }
+    ensures stopped { IfOk result (λ all. all ≡ false → most < length held.old.items + length (filter
+        (holds_on (formula condition.now.expr.now)) kept.now.content.rows)) }
 {
     let segment = kept.segment()?;
     for row in 0..segment.rows() {
@@ -218,7 +223,9 @@ fn few_rows_where<'a>(
     set: &'a SegmentSet,
     most: usize,
 ) -> Result<Option<Vec<&'a [Value]>>, AnswerFault>
-    ensures { MayGive (λ held. rows_seen held.items) result (held_rows (Some (formula condition.now.expr.now)) (rows_of_set set.now)) }
+    ensures rows { MayGive (λ held. rows_seen held.items) result (held_rows (Some (formula condition.now.expr.now)) (rows_of_set set.now)) }
+    ensures given { IfOk result (λ found. IfNone found (most < length (filter (holds_on (formula condition.now.expr.now))
+        (rows_of_set set.now)))) }
 {
     let mut held = Vec::new(alloc);
     'segments: for (_, segment) in set.lives() {
@@ -230,15 +237,6 @@ fn few_rows_where<'a>(
     Ok(Some(held))
 }
 
-// How many rows the live segments have.
-fn row_count(set: &SegmentSet) -> usize {
-    let mut count: usize = 0;
-    for (_, segment) in set.lives() {
-        count = count.saturating_add(segment.rows());
-    }
-    count
-}
-
 // The rows of all live segments that a condition keeps, by name and then by place, where they are few among all of them; none
 // where they are not, as soon as that is seen. They stay where they lie. The condition is evaluated on every row before rows
 // are answered.
@@ -247,7 +245,8 @@ fn few_table_rows<'a>(
     condition: &Expr,
     set: &'a SegmentSet,
 ) -> Result<Option<Vec<&'a [Value]>>, AnswerFault>
-    ensures { MayGive (λ kept. rows_seen kept.items) result (kept_of (Some (formula condition.now)) (rows_of_set set.now)) }
+    ensures rows { MayGive (λ kept. rows_seen kept.items) result (kept_of (Some (formula condition.now)) (rows_of_set set.now)) }
+    ensures given { IfOk result (λ found. IfNone found (KeepsMany (formula condition.now) (rows_of_set set.now))) }
 {
     let most = row_count(set) / MANY_TIMES;
     let condition = Condition::new(alloc, condition)?;
@@ -272,7 +271,9 @@ pub fn few_kept_rows<'a>(
     select: &Selection,
     set: &'a SegmentSet,
 ) -> Result<Option<Vec<&'a [Value]>>, AnswerFault>
-    ensures { MayGive (λ kept. rows_seen kept.items) result (kept_of (optional_formula select.now.condition) (rows_of_set set.now)) }
+    ensures rows { MayGive (λ kept. rows_seen kept.items) result (kept_of (optional_formula select.now.condition) (rows_of_set set.now)) }
+    ensures given { (condition : expr.Expr) → select.now.condition ≡ Some condition → are_orders_asked select.now ≡ true
+        → IfOk result (λ found. IfNone found (KeepsMany (formula condition) (rows_of_set set.now))) }
 {
     match &select.condition {
         Some(condition) if asks_for_orders(select) => few_table_rows(alloc, condition, set),

@@ -1,5 +1,6 @@
 //! Orders of the table's rows by columns, from the runs that its segments keep.
-ghost use Rattle.std.specs.Prelude.{◌≡◌, ◌<◌, ◌==◌, ◌&&◌, true, ◌≢◌, [], All, None, IfNone, IfOk, IfSome, List, Ok, OnOk, length, map, not};
+ghost use Rattle.std.specs.Prelude.{◌≡◌, ◌<◌, ◌==◌, ◌&&◌, ◌||◌, true, ◌≢◌, [], All, None, IfNone, IfOk, IfSome, List, Ok, OnOk};
+ghost use Rattle.std.specs.Prelude.{length, map, nat_le, not};
 ghost use Rattle.std.specs.Option.{is_some};
 ghost use Rattle.wvalues.specs.Meaning.{Meaning};
 ghost use Rattle.wplan.specs.Formula.{At, formula};
@@ -15,6 +16,7 @@ ghost use Rattle.wtable.specs.TableOrders.{AreColumns, AreTableOrders, AreWindow
 ghost use Rattle.wtable.specs.TableOrders.{IsColumnKey, direction, is_within};
 ghost use Rattle.wplan.specs.declared.expr.Expr.{out-Expr};
 ghost use Rattle.wrows.specs.PlainColumns.{plain_place};
+ghost use Rattle.wtable.specs.Few.{asks_for_order, asks_for_orders as are_orders_asked};
 
 use std::alloc::{AllocError, Global};
 use wcalls::share_order;
@@ -272,13 +274,17 @@ pub fn asked_of(select: &Selection) -> Asked
 
 // Whether the order of ORDER BY is not taken from runs, behind so many that are: there is none, so few rows are asked for
 // that they are selected, or there are as many as are taken.
-fn is_left_out(select: &Selection, taken: usize) -> bool {
+fn is_left_out(select: &Selection, taken: usize) -> bool
+    ensures { result ≡ (not (asks_for_order select.now) || nat_le 4 taken) }
+{
     select.keys.is_empty() || asked_of(select).is_selected() || taken >= MOST_ORDERS
 }
 
 /// Whether a SELECT over the table may ask for orders of its rows: for those of windows, or for that of ORDER BY where rows are
 /// not selected. Rows that are grouped are not ordered.
-pub(crate) fn asks_for_orders(select: &Selection) -> bool {
+pub(crate) fn asks_for_orders(select: &Selection) -> bool
+    ensures { result ≡ are_orders_asked select.now }
+{
     if select.grouping.is_some() {
         return false;
     }

@@ -25,7 +25,8 @@ returns c =
     ∙ c.in_ok-names.ensures.names ∙ ap (λ xs. map (λ o. o.name) (map output_plan xs)) c.deref.ensures.value in
     let asked : rows_from rows columns from count ≡ cut select.offset select.limit (beside rows columns) =
     standing_are rows columns select.offset select.limit (length c.args.rows.now) from count
-    (sym (length-map c.args.rows.now row_seen)) (c.asked_for-from.ensures.first ∙ ap (λ n. min n (length c.args.rows.now)) c.asked_of.ensures.offset)
+    (sym (length-map c.args.rows.now row_seen))
+    (c.asked_for-from.ensures.first ∙ ap (λ n. min n (length c.args.rows.now)) c.asked_of.ensures.offset)
     (c.asked_for-from.ensures.count ∙ ap (λ limit. at_most_limit limit (length c.args.rows.now - from)) c.asked_of.ensures.limit) in
     IfOk-weaker c.print_rows.result (λ (bytes : Vec ℕ Global). bytes.items
     ≡ table_text (map rc_str_bytes c.deref-2.result.now) (map (values_at ps) (rows_from rows columns from count)))

@@ -17,7 +17,7 @@ returns-in_err-cells-in-Some-clause-rows c =
     let all = rows_of_set c.args.set.now in
     let rows = c.in-Some.rows.items in
     let answer : AnswerForAll plan all (rows_seen rows) =
-    subst (λ found. IfSome found (λ rows. AnswerForAll plan all (rows_seen rows.items))) c.in-Some.is c.in_ok-found.ensures in
+    subst (λ found. IfSome found (λ rows. AnswerForAll plan all (rows_seen rows.items))) c.in-Some.is c.in_ok-found.ensures.answer in
     rw (p.1, p.2) (subst (Gives rows_in (Err c.in_err-cells-in-Some.field-0.0))
     (sym (leading_answers plan all (rows_seen rows) answer c.requires c.in_ok-kept_count-in-Some.ensures.kept
     ∙ ap (λ l. left_items plan (rows_seen l)) (sym c.deref.ensures.value))) c.in_err-cells-in-Some.ensures.rows)
@@ -28,6 +28,6 @@ returns-in_ok-cells-in-Some-clause-rows c =
     let all = rows_of_set c.args.set.now in
     let rows = c.in-Some.rows.items in
     let answer : AnswerForAll plan all (rows_seen rows) =
-    subst (λ found. IfSome found (λ rows. AnswerForAll plan all (rows_seen rows.items))) c.in-Some.is c.in_ok-found.ensures in
+    subst (λ found. IfSome found (λ rows. AnswerForAll plan all (rows_seen rows.items))) c.in-Some.is c.in_ok-found.ensures.answer in
     leading_answers plan all (rows_seen rows) answer c.requires c.in_ok-kept_count-in-Some.ensures.kept
     ∙ ap (λ l. left_items plan (rows_seen l)) (sym c.deref.ensures.value) ∙ c.in_ok-cells-in-Some.ensures.rows

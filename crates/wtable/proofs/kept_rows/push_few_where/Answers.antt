@@ -1,10 +1,11 @@
-use Rattle.std.proofs.Common.{◌<◌, length, arith}
+use Rattle.std.proofs.Common.{◌<◌, Bool, length, arith}
+use Rattle.std.proofs.lemmas.List.{length-map}
 use Rattle.std.proofs.lemmas.Result.{err_from_is_err_and}
 use Rattle.wplan.specs.Formula.{formula}
-use Rattle.wrows.specs.Columns.{holds_on, is_out_of_range}
+use Rattle.wrows.specs.Columns.{Row, holds_on, is_out_of_range}
 use Rattle.wrows.specs.Laid.{row_seen, rows_seen}
 use Rattle.wrows.proofs.RowFacts.{ok_is_false}
-use Rattle.wtable.proofs.HeldFacts.{held_more, held_whole, in_range_more, none_at_fault, row_refused}
+use Rattle.wtable.proofs.HeldFacts.{held_more, held_part, held_whole, in_range_more, none_at_fault, row_refused}
 use Rattle.wtable.proofs.kept_rows.push_few_where.Goals as goal
 
 pub returns-in_err-push_where-clause-gives : goal.returns-in_err-push_where-clause-gives
@@ -42,3 +43,16 @@ returns-clause-added c =
     rw (← c.in_ok-segment.ensures) (λ whole. held_whole (holds_on t) stored (rows_seen c.args.held.now.items)
     (rows_seen c.loop-row.held.items) c.loop-row.row (omega (arith, c.loop-row-test.false, c.rows-row-end.ensures.count))
     c.loop-row.invariant.so_far)
+
+pub returns-then-len-most-clause-stopped : goal.returns-then-len-most-clause-stopped
+returns-then-len-most-clause-stopped c =
+    let p : Row → Bool = holds_on (formula c.args.condition.now.expr.now) in
+    let stored = c.in_ok-segment.segment.now.rows in
+    let old = c.args.held.now.items in
+    let held = c.loop-row.held.items in
+    let many : c.args.most < length (rows_seen held) = omega (arith, c.if-len-most.true, length-map held row_seen) in
+    rw (← c.in_ok-segment.ensures) (λ stopped. omega (
+      arith,
+      length-map old row_seen,
+      held_part p stored (rows_seen old) (rows_seen held) c.loop-row.row c.args.most c.loop-row.invariant.so_far many,
+    ))

@@ -7,8 +7,8 @@ use Rattle.wtable.specs.Tables.{rows_of_set}
 use Rattle.wtable.proofs.LeadingFacts.{answers}
 use Rattle.wtable.proofs.leading.leading_rows.Goals as goal
 
-pub returns : goal.returns
-returns c =
+pub returns-clause-answer : goal.returns-clause-answer
+returns-clause-answer c =
     let plan = select_plan c.args.select.now in
     let keys = c.deref-2.result.now in
     let w = length c.columns-width.result.now in
@@ -18,7 +18,10 @@ returns c =
     (subst (λ l. AreColumns w (map (λ k. k.value) (map key_plan l)) (map (λ k. k.order) (map key_plan l)) c.in-Some-columns.keys.items)
     c.deref.ensures.value
     (subst (λ found. IfSome found (λ ks. AreColumns w (map (λ k. k.value) (map key_plan c.deref.result.now))
-    (map (λ k. k.order) (map key_plan c.deref.result.now)) ks.items)) c.in-Some-columns.is c.in_ok-columns.ensures)) in
+    (map (λ k. k.order) (map key_plan c.deref.result.now)) ks.items)) c.in-Some-columns.is c.in_ok-columns.ensures.keys)) in
     answers w plan keys c.in-Some.most (only.condition refl) (only.grouping refl)
     (length-map c.args.select.now.windows.items window_plan ∙ only.windows refl) (only.items refl) are c.in-Some.ensures.offset
     c.in-Some.ensures.limit (rows_of_set c.args.set.now) c.in_ok-found.found c.in_ok-found.ensures.leads c.in_ok-found.ensures.few
+
+pub returns-in_default-clause-given : goal.returns-in_default-clause-given
+returns-in_default-clause-given c = λ asks. absurd (c.in_default.ensures.none (length c.args.set.now.schema.columns) asks)

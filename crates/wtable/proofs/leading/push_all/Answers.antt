@@ -1,4 +1,4 @@
-use Rattle.std.proofs.Common.{◌<◌, ◌++◌, ◌∷◌, [], length, take, take_all, append-nil, append_assoc, subst, sym, ap, ◌∙◌, arith}
+use Rattle.std.proofs.Common.{◌+◌, ◌<◌, ◌++◌, ◌∷◌, [], length, take, take_all, append-nil, append_assoc, subst, sym, ap, ◌∙◌, arith}
 use Rattle.std.proofs.lemmas.List.{take_more}
 use Rattle.wrows.specs.Laid.{row_seen}
 use Rattle.wtable.specs.Leading.{Lead}
@@ -8,6 +8,7 @@ pub loop-row-init : goal.loop-row-init
 loop-row-init c = record {
   leads = λ all lead. subst (λ rows. Lead c.args.keys.now c.args.most rows c.args.leading.now) (sym (append-nil all)) lead;
   few = λ few. few;
+  gone = λ gone h. omega (arith, h);
 }
 
 pub loop-row-preserved : goal.loop-row-preserved
@@ -21,6 +22,7 @@ loop-row-preserved c =
           ∙ ap (λ r. all ++ (take i stored ++ r ∷ [])) c.row.ensures.values ∙ ap (λ l. all ++ l) (sym (take_more stored i [] within)))
           (c.in_ok-push.ensures.leads (all ++ take i stored) (c.loop-row.invariant.leads all lead));
       few = λ few. c.in_ok-push.ensures.few (c.loop-row.invariant.few few);
+      gone = λ gone h. omega (arith, c.in_ok-push.ensures.gone (gone + i) (c.loop-row.invariant.gone gone h));
     }
 
 pub returns-clause-leads : goal.returns-clause-leads

@@ -23,7 +23,7 @@ returns-clause-order c = λ columns.
     (some_presorted (λ (k : Vec SortKey Global). AreColumns w
     (map (λ (k : KeyPlan). k.value) (map key_plan c.deref.result.now))
     (map (λ (k : KeyPlan). k.order) (map key_plan c.deref.result.now)) k.items) c.in_ok-found.found c.in-Some.keys
-    c.in-Some.is c.in_ok-found.ensures) in
+    c.in-Some.is c.in_ok-found.ensures.keys) in
     order_had w (live_rows s) (by_keys plans columns) keys c.in_ok-rows.rows.items c.kept_rows_stay_in_order.ensures
     (subst (λ n. AllByRecursion (λ row. length row ≡ n) (joined (live_rows s))) (sym wide) (live_wide s))
     (keys_given w plans keys are columns)

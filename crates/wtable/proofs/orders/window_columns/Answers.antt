@@ -25,7 +25,7 @@ returns c =
     (some_presorted (λ (k : Vec SortKey Global). AreColumns w
     (map (λ (k : KeyPlan). k.value) (map key_plan c.deref-2.result.now))
     (map (λ (k : KeyPlan). k.order) (map key_plan c.deref-2.result.now)) k.items) c.in_ok-others.others
-    c.in-Some-others.others c.in-Some-others.is c.in_ok-others.ensures) in
+    c.in-Some-others.others c.in-Some-others.is c.in_ok-others.ensures.keys) in
     let both : c.extend_from_slice.new.self.items ≡ c.in-Some.keys.items ++ c.in-Some-others.others.items =
     c.in_ok-extend_from_slice.ensures.items ∙ ap (λ l. c.in-Some.keys.items ++ l) c.deref-3.ensures.value in
     record {
