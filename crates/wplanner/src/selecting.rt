@@ -395,7 +395,8 @@ fn select_listed(
 
 /// What one SELECT answers on the rows of the set's live segments. Orders of them by columns are taken from the runs that the
 /// segments keep, and runs that are missing are made; nothing else of the set changes. Where WHERE keeps few rows these are put
-/// in order by themselves, and no run is made. Where it only counts them, no list of them is made.
+/// in order by themselves, and no run is made. Where it only counts them, or only asks for columns of the first few in an order by
+/// columns, no list of them is made.
 pub(crate) fn select_table_rows(
     alloc: Global,
     select: &Selection,

@@ -1,4 +1,5 @@
 //! How much work an answer took.
+ghost use Rattle.std.specs.Prelude.{◌≡◌};
 
 use waggregate::Tally;
 
@@ -13,7 +14,10 @@ pub(crate) struct Work {
 
 impl Work {
     /// None so far.
-    pub(crate) fn new() -> Work {
+    pub(crate) fn new() -> Work
+        ensures joins { result.joins ≡ 0 }
+        ensures orders { result.orders ≡ 0 }
+    {
         Work {
             joins: Tally::new(),
             orders: Tally::new(),
