@@ -8,7 +8,7 @@ use std::alloc::{AllocError, Global};
 use wreplies::{Text, refused_query};
 use wstore::{AskFault, Node};
 
-/// What a query is answer.
+/// The reply to a query.
 #[derive(Drop)]
 pub struct QueryReply {
     /// The bytes of the answer alone, or the refusal.
