@@ -22,7 +22,7 @@ use Rattle.wcalls.specs.Windows.{windowed}
 use Rattle.wplanner.specs.declared.fault.AskFault.{AskFault}
 use Rattle.wplanner.specs.Faults.{unanswered}
 use Rattle.wplanner.specs.Parts.{TableParts}
-use Rattle.wplanner.specs.Faults.{AnswersAs}
+use Rattle.wplanner.specs.Faults.{AnswersTable}
 use Rattle.wcalls.proofs.WindowFacts.{all_places}
 
 same_at_places : {X : Type 0} (f g : ℕ → X) (a n : ℕ) → ((j : ℕ) → f j ≡ g j) → map f (places_from a n) ≡ map g (places_from a n)
@@ -168,7 +168,7 @@ table_given ss rows cells names e n =
 
 -- a fault is the one that is asked for
 pub fault_given : (fault : AnswerFault) (asked : AskFault) (meant : Result TableParts AnswerFault)
-    → asked ≡ unanswered fault → Gives {X = TableParts} (λ t. t) (Err fault) meant → AnswersAs (Err asked) meant
-fault_given OutOfRange asked meant e g = let P : AskFault → Type 0 = λ a. AnswersAs (Err a) meant in subst P (sym e) g
-fault_given TooManyRows asked meant e g = let P : AskFault → Type 0 = λ a. AnswersAs (Err a) meant in subst P (sym e) g
-fault_given NoMemory asked meant e g = let P : AskFault → Type 0 = λ a. AnswersAs (Err a) meant in subst P (sym e) tt
+    → asked ≡ unanswered fault → Gives {X = TableParts} (λ t. t) (Err fault) meant → AnswersTable (Err asked) meant
+fault_given OutOfRange asked meant e g = let P : AskFault → Type 0 = λ a. AnswersTable (Err a) meant in subst P (sym e) g
+fault_given TooManyRows asked meant e g = let P : AskFault → Type 0 = λ a. AnswersTable (Err a) meant in subst P (sym e) g
+fault_given NoMemory asked meant e g = let P : AskFault → Type 0 = λ a. AnswersTable (Err a) meant in subst P (sym e) tt

@@ -12,9 +12,9 @@ unanswered answers.TooManyRows = faults.TooManyRows
 unanswered answers.NoMemory = faults.NoMemory
 
 -- the table, or the fault of an answer, unless memory was refused
-abbrev pub AnswersAs : Result TableParts AskFault → Result TableParts AnswerFault → Type 0
-AnswersAs (Ok table) meant = meant ≡ Ok table
-AnswersAs (Err faults.OutOfRange) meant = meant ≡ Err answers.OutOfRange
-AnswersAs (Err faults.TooManyRows) meant = meant ≡ Err answers.TooManyRows
-AnswersAs (Err faults.NoMemory) meant = Unit {0}
-AnswersAs (Err other) meant = ⊥
+abbrev pub AnswersTable : Result TableParts AskFault → Result TableParts AnswerFault → Type 0
+AnswersTable (Ok table) meant = meant ≡ Ok table
+AnswersTable (Err faults.OutOfRange) meant = meant ≡ Err answers.OutOfRange
+AnswersTable (Err faults.TooManyRows) meant = meant ≡ Err answers.TooManyRows
+AnswersTable (Err faults.NoMemory) meant = Unit {0}
+AnswersTable (Err other) meant = ⊥

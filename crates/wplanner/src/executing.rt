@@ -7,7 +7,7 @@ ghost use Rattle.wplan.specs.Plans.{plans, select_plan};
 ghost use Rattle.wrows.specs.Outcomes.{Gives};
 ghost use Rattle.wrows.specs.Laid.{rows_in};
 ghost use Rattle.wplanner.specs.Answers.{answer_of, names_of, select_of, table_answer, width_of};
-ghost use Rattle.wplanner.specs.Faults.{AnswersAs};
+ghost use Rattle.wplanner.specs.Faults.{AnswersTable};
 ghost use Rattle.wplanner.specs.Lent.{ReadsPlaces};
 ghost use Rattle.wplanner.specs.Sound.{is_sound_query, is_sound_select};
 ghost use Rattle.wtable.specs.Tables.{rows_of_set};
@@ -118,7 +118,7 @@ fn query_answer(
 /// is a tile at least, and places count from 1. So is each one that `resolve` answers, since it breaks no rule.
 pub fn execute(alloc: Global, set: &mut SegmentSet, query: &Resolved) -> Result<Table, AskFault>
     requires sound { is_sound_query (plans query.now) ≡ true }
-    ensures answered { AnswersAs result (table_answer (plans query.now) (rows_of_set set.old)) }
+    ensures answered { AnswersTable result (table_answer (plans query.now) (rows_of_set set.old)) }
     ensures same { Becomes set.old set.old.view set.new }
 {
     let table = query_answer(alloc, query.selections.as_slice(), set)?;
