@@ -18,7 +18,7 @@ use Rattle.wstore.specs.Replies.{Names, Answered, RefusedQuery, Fed, Done, Refus
 use Rattle.wstore.specs.History.{Step, Answers, AnswersUnder, DeclareAnswers, declaration, declared_by, is_declared}
 use Rattle.wstore.specs.Runs.{Ran, asked}
 use Rattle.wstore.specs.Laws.{EndsRun, OneReading}
-use Rattle.wscript.proofs.Words.{no_space}
+use Rattle.wlines.proofs.Decimals.{no_space}
 use Rattle.wscript.proofs.Spelling.{line_lacks}
 
 -- ---- words
