@@ -70,16 +70,16 @@ ActsOn d v (choices.Ask paths queries) old other acted = Asks d v (map (λ query
 ActsOn d v (choices.Shell paths) old other acted = ⊥
 
 -- where it may find no memory then: a name that is none needs none, nor does another store before its declaration
-abbrev pub MayLackMemory : Declaration → Choice → List ℕ → Type 0
-MayLackMemory d choices.Session other = ⊥
-MayLackMemory d (choices.Take paths origin number csv) other = AreName origin.now number.now
-MayLackMemory d (choices.Retire paths origin number) other = AreName origin.now number.now
-MayLackMemory d (choices.Floor paths origin number) other = AreName origin.now number.now
-MayLackMemory d (choices.Join paths path) other = HasTable d other
-MayLackMemory d (choices.Feed paths path) other = ⊤
-MayLackMemory d (choices.List paths) other = ⊤
-MayLackMemory d (choices.Ask paths queries) other = ⊤
-MayLackMemory d (choices.Shell paths) other = ⊥
+abbrev pub MayLackOn : Declaration → Choice → List ℕ → Type 0
+MayLackOn d choices.Session other = ⊥
+MayLackOn d (choices.Take paths origin number csv) other = AreName origin.now number.now
+MayLackOn d (choices.Retire paths origin number) other = AreName origin.now number.now
+MayLackOn d (choices.Floor paths origin number) other = AreName origin.now number.now
+MayLackOn d (choices.Join paths path) other = HasTable d other
+MayLackOn d (choices.Feed paths path) other = ⊤
+MayLackOn d (choices.List paths) other = ⊤
+MayLackOn d (choices.Ask paths queries) other = ⊤
+MayLackOn d (choices.Shell paths) other = ⊥
 
 -- the bytes are the file of a view, which is joined into that of a store that knows nothing
 pub record KnowsFile (d : Declaration) (bytes : List ℕ) (v : View) : Type 0 where
@@ -119,7 +119,7 @@ pub record Acts (choice : Choice) (table : List ℕ) (store : Option (List ℕ))
 pub data MayLackBy (d : Declaration) (choice : Choice) (store : Option (List ℕ)) (other : List ℕ) : Type 0 where
   InStore : HasFault d store files.NoMemory → MayLackBy d choice store other
   InRefusal : (fault : SegmentFault) → HasFault d store (files.Segment fault) → MayLackBy d choice store other
-  InSubcommand : (v : View) → Knows d store v → MayLackMemory d choice other → MayLackBy d choice store other
+  InSubcommand : (v : View) → Knows d store v → MayLackOn d choice other → MayLackBy d choice store other
 
 -- a declaration that is refused needs none
 abbrev pub MayLackRead : Result Declaration SchemaFault → Choice → Option (List ℕ) → List ℕ → Type 0

@@ -6,7 +6,7 @@ ghost use Rattle.wreplies.specs.Spelling.{name_text};
 ghost use Rattle.wscript.specs.Commands.{AreName};
 ghost use Rattle.wact.specs.Outcomes.{IsRefused};
 ghost use Rattle.wact.specs.Acts.{Acts, ActsBy, ActsOn, ActsRead, Joins, Lists, MayLack, MayLackBy};
-ghost use Rattle.wact.specs.Acts.{MayLackMemory, MayLackRead, OnName, Retires, RetiresTo, Takes};
+ghost use Rattle.wact.specs.Acts.{MayLackOn, MayLackRead, OnName, Retires, RetiresTo, Takes};
 
 use crate::acted::{Acted, answered, refused, stored};
 use crate::feeding::feed;
@@ -148,7 +148,7 @@ fn act_on(
     requires { is_act choice.now ≡ true }
     ensures does { IfOk result (λ acted. ActsOn node.old.schema node.old.view choice.now
         old.now other.now acted) }
-    ensures lacks { OnErr result (MayLackMemory node.old.schema choice.now other.now) }
+    ensures lacks { OnErr result (MayLackOn node.old.schema choice.now other.now) }
 {
     match *choice {
         Choice::Session => unreachable!(),

@@ -22,7 +22,7 @@ abbrev pub stream_of : Filled → List ℕ
 stream_of batch = stream_text batch.items batch.held
 
 -- each delivery can be delivered, and where it goes on what is held may become a message
-pub record IsKept (d : Declaration) (deliveries : List Delivery) (inbox : Inbox) (stopped : Option Stop) : Type 0 where
+pub record CanBeDelivered (d : Declaration) (deliveries : List Delivery) (inbox : Inbox) (stopped : Option Stop) : Type 0 where
   pub ready : AllByRecursion (IsReady d) deliveries
   pub unfinished : stopped ≡ None → IsOpen inbox.held
   pub good : stopped ≡ None → inbox.is_bad ≡ false

@@ -29,14 +29,14 @@ pub struct Batch {
 
 impl Model for Batch {
     ghost use Rattle.std.specs.Prelude.{map};
-    ghost use Rattle.wbatch.specs.Batches.{Filled, IsKept};
+    ghost use Rattle.wbatch.specs.Batches.{CanBeDelivered, Filled};
     ghost use Rattle.wbatch.specs.Deliveries.{item_of};
 
     ghost Value = { Filled };
 
     ghost view = { λ b. record { schema = b.schema; items = map item_of b.deliveries.items; held = b.inbox.held; stopped = b.stopped } };
 
-    ghost invariant = { λ b. IsKept b.schema b.deliveries.items b.inbox b.stopped };
+    ghost invariant = { λ b. CanBeDelivered b.schema b.deliveries.items b.inbox b.stopped };
 }
 
 // What the next message delivers, if it is whole.

@@ -2,7 +2,7 @@
 ghost use Rattle.std.specs.Prelude.{◌≡◌, ◌∷◌, Some, IfOk, IfErr, OnOk, OnErr, option_map};
 ghost use Rattle.std.specs.Io.KnownBytes.{Consumes, IsAtEnd};
 ghost use Rattle.wfolder.specs.Call.{Found};
-ghost use Rattle.wfolder.specs.Calls.{HasCause, IsSound};
+ghost use Rattle.wfolder.specs.Calls.{HasCause, NothingFailed};
 ghost use Rattle.wfiles.specs.Reading.{MayBegin, ReadsMore, read_more, read_to_end};
 
 use crate::reading::Reading;
@@ -24,12 +24,12 @@ fn read_rest<R, T: Read>(
     system: &mut System<'_, R>,
     reading: &mut Reading<T>,
 ) -> Result<Vec<u8>, Fault>
-    requires { IsSound system.old }
+    requires { NothingFailed system.old }
     ensures bytes { IfOk result (λ bytes. Consumes (T.remaining reading.old.reader) (T.remaining reading.new.reader)
         bytes.items × IsAtEnd (T.remaining reading.new.reader)) }
     ensures noted { IfOk result (λ bytes. reading.new.calls ≡ read_to_end (read_more bytes.items reading.old.calls)) }
     ensures begun { OnErr result (ReadsMore reading.old.calls reading.new.calls) }
-    ensures sound { OnOk result (IsSound system.new) }
+    ensures sound { OnOk result (NothingFailed system.new) }
     ensures cause { IfErr result (λ fault. HasCause fault system.new) }
 {
     let mut bytes = Vec::new(alloc);
@@ -56,10 +56,10 @@ fn read_file<R>(
     calls: &mut Record,
     reading: Reading<File>,
 ) -> Result<Vec<u8>, Fault>
-    requires { IsSound system.old }
+    requires { NothingFailed system.old }
     ensures found { IfOk result (λ bytes. calls.new.calls ≡ read_to_end (read_more bytes.items reading.calls)) }
     ensures begun { OnErr result (ReadsMore reading.calls calls.new.calls) }
-    ensures sound { OnOk result (IsSound system.new) }
+    ensures sound { OnOk result (NothingFailed system.new) }
     ensures cause { IfErr result (λ fault. HasCause fault system.new) }
 {
     let mut reading = reading;
@@ -75,10 +75,10 @@ pub fn read_if_there<R: Files<File = File> + AllocGlobal>(
     calls: &mut Record,
     path: &str,
 ) -> Result<Option<Vec<u8>>, Fault>
-    requires { IsSound system.old }
+    requires { NothingFailed system.old }
     ensures found { IfOk result (λ held. calls.new.calls ≡ Found path.now (option_map (λ bytes. bytes.items) held) ∷ calls.old.calls) }
     ensures begun { OnErr result (MayBegin path.now calls.old.calls calls.new.calls) }
-    ensures sound { OnOk result (IsSound system.new) }
+    ensures sound { OnOk result (NothingFailed system.new) }
     ensures cause { IfErr result (λ fault. HasCause fault system.new) }
 {
     let reading = match Reading::open_if_there(system, calls, path) {
@@ -99,10 +99,10 @@ pub fn read_whole<R: Files<File = File> + AllocGlobal>(
     calls: &mut Record,
     path: &str,
 ) -> Result<Vec<u8>, Fault>
-    requires { IsSound system.old }
+    requires { NothingFailed system.old }
     ensures found { IfOk result (λ bytes. calls.new.calls ≡ Found path.now (Some bytes.items) ∷ calls.old.calls) }
     ensures begun { OnErr result (MayBegin path.now calls.old.calls calls.new.calls) }
-    ensures sound { OnOk result (IsSound system.new) }
+    ensures sound { OnOk result (NothingFailed system.new) }
     ensures cause { IfErr result (λ fault. HasCause fault system.new) }
 {
     match Reading::open(system, calls, path) {
@@ -130,8 +130,8 @@ pub(crate) fn read_names<R: Files<File = File> + AllocGlobal>(
     system: &mut System<'_, R>,
     path: &str,
 ) -> Result<Vec<String>, Fault>
-    requires { IsSound system.old }
-    ensures sound { OnOk result (IsSound system.new) }
+    requires { NothingFailed system.old }
+    ensures sound { OnOk result (NothingFailed system.new) }
     ensures cause { IfErr result (λ fault. HasCause fault system.new) }
 {
     let folder = system.names(path)?;

@@ -1,7 +1,7 @@
 //! Where a store stands, and how it is replaced there.
 ghost use Rattle.std.specs.Prelude.{◌≡◌, ◌∷◌, true, IfErr, IfOk, OnErr, OnOk, is_ok, option_map, string_bytes};
 ghost use Rattle.wfolder.specs.Call.{Found, Locked};
-ghost use Rattle.wfolder.specs.Calls.{HasCause, IsSound};
+ghost use Rattle.wfolder.specs.Calls.{HasCause, NothingFailed};
 ghost use Rattle.wfolder.specs.Model.{IsLocked};
 ghost use Rattle.wfiles.specs.Reading.{MayBegin};
 ghost use Rattle.wfolder.specs.Replacing.{Replaces, fault_of};
@@ -50,8 +50,8 @@ fn path_behind<R: Files<File = File> + AllocGlobal>(
     system: &mut System<'_, R>,
     path: &str,
 ) -> Result<String, Fault>
-    requires { IsSound system.old }
-    ensures sound { OnOk result (IsSound system.new) }
+    requires { NothingFailed system.old }
+    ensures sound { OnOk result (NothingFailed system.new) }
     ensures cause { IfErr result (λ fault. HasCause fault system.new) }
 {
     if system.is_link(path)? {
@@ -66,9 +66,9 @@ fn lock_folder<R: Clock + Eprint>(
     calls: &mut Record,
     folder: &File,
 ) -> Result<(), Fault>
-    requires { IsSound system.old }
+    requires { NothingFailed system.old }
     ensures noted { calls.new.calls ≡ Locked (is_ok result) ∷ calls.old.calls }
-    ensures sound { OnOk result (IsSound system.new) }
+    ensures sound { OnOk result (NothingFailed system.new) }
     ensures cause { IfErr result (λ fault. HasCause fault system.new) }
 {
     let locked = system.lock(folder);
@@ -82,8 +82,8 @@ fn target_of<R: Files<File = File> + AllocGlobal>(
     system: &mut System<'_, R>,
     path: &str,
 ) -> Result<Target, Fault>
-    requires { IsSound system.old }
-    ensures sound { OnOk result (IsSound system.new) }
+    requires { NothingFailed system.old }
+    ensures sound { OnOk result (NothingFailed system.new) }
     ensures cause { IfErr result (λ fault. HasCause fault system.new) }
 {
     let access = system.replaceable(path)?;
@@ -107,10 +107,10 @@ impl Place {
         calls: &mut Record,
         path: &str,
     ) -> Result<Place, Fault>
-        requires { IsSound system.old }
+        requires { NothingFailed system.old }
         ensures locked { OnOk result (calls.new.calls ≡ Locked true ∷ calls.old.calls) }
         ensures missed { OnErr result (MissesLock calls.old.calls calls.new.calls) }
-        ensures sound { OnOk result (IsSound system.new) }
+        ensures sound { OnOk result (NothingFailed system.new) }
         ensures cause { IfErr result (λ fault. HasCause fault system.new) }
     {
         let target = target_of(alloc, system, path)?;
@@ -127,12 +127,12 @@ impl Place {
         system: &mut System<'_, R>,
         calls: &mut Record,
     ) -> Result<Option<Vec<u8>>, Fault>
-        requires { IsSound system.old }
+        requires { NothingFailed system.old }
         ensures path { self.new.target.path ≡ self.old.target.path }
         ensures found { IfOk result (λ held. calls.new.calls ≡ Found (string_bytes self.new.target.path)
             (option_map (λ bytes. bytes.items) held) ∷ calls.old.calls) }
         ensures begun { OnErr result (MayBegin (string_bytes self.new.target.path) calls.old.calls calls.new.calls) }
-        ensures sound { OnOk result (IsSound system.new) }
+        ensures sound { OnOk result (NothingFailed system.new) }
         ensures cause { IfErr result (λ fault. HasCause fault system.new) }
     {
         match system.replaceable(self.target.path.as_str()) {
@@ -153,10 +153,10 @@ impl Place {
         calls: &mut Record,
         bytes: &[u8],
     ) -> Result<(), NotReplaced>
-        requires sound { IsSound system.old }
+        requires sound { NothingFailed system.old }
         requires locked { IsLocked calls.old.calls }
         ensures replaces { Replaces (string_bytes self.now.target.path) bytes.now result calls.old.calls calls.new.calls }
-        ensures sound { OnOk result (IsSound system.new) }
+        ensures sound { OnOk result (NothingFailed system.new) }
         ensures cause { IfErr result (λ fault. HasCause (fault_of fault) system.new) }
     {
         let trace = mem::replace(calls, Record::new());

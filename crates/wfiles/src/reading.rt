@@ -1,7 +1,7 @@
 //! A file that is read in blocks. What was read of it is noted with each read.
 ghost use Rattle.std.specs.Prelude.{◌≡◌, ◌+◌, ◌<◌, ◌≤◌, ◌∷◌, [], None, length, IfOk, IfErr, IfNone, IfSome, OnOk, OnErr};
 ghost use Rattle.wfolder.specs.Call.{Began, Found};
-ghost use Rattle.wfolder.specs.Calls.{HasCause, IsSound};
+ghost use Rattle.wfolder.specs.Calls.{HasCause, NothingFailed};
 ghost use Rattle.wfiles.specs.Reading.{GivesBytes, NotesBytes};
 
 use crate::record::{BEGAN, FOUND, Record};
@@ -56,14 +56,14 @@ impl<T: Read> Reading<T> {
         system: &mut System<'_, R>,
         block: &mut [u8],
     ) -> Result<Option<usize>, Fault>
-        requires sound { IsSound system.old }
+        requires sound { NothingFailed system.old }
         requires room { 0 < length block.old }
         ensures bound { IfOk result (λ count. IfSome count (λ n. n ≤ length block.new)) }
         ensures bytes { IfOk result (λ count. GivesBytes (T.remaining self.old.reader) (T.remaining self.new.reader) block.new count) }
         ensures noted { IfOk result (λ count. NotesBytes self.old.calls self.new.calls block.new count) }
         ensures unread { OnErr result (self.new.calls ≡ self.old.calls) }
         ensures reads { OnOk result (system.new.reads ≡ system.old.reads + 1) }
-        ensures sound { OnOk result (IsSound system.new) }
+        ensures sound { OnOk result (NothingFailed system.new) }
         ensures cause { IfErr result (λ fault. HasCause fault system.new) }
     {
         let count = match system.read(&mut self.reader, block) {
@@ -83,10 +83,10 @@ impl Reading<File> {
         calls: &mut Record,
         path: &str,
     ) -> Result<Reading<File>, Fault>
-        requires { IsSound system.old }
+        requires { NothingFailed system.old }
         ensures begun { IfOk result (λ reading. reading.calls ≡ Began path.now [] ∷ calls.old.calls) }
         ensures unread { OnErr result (calls.new.calls ≡ calls.old.calls) }
-        ensures sound { OnOk result (IsSound system.new) }
+        ensures sound { OnOk result (NothingFailed system.new) }
         ensures cause { IfErr result (λ fault. HasCause fault system.new) }
     {
         match system.open(path) {
@@ -104,11 +104,11 @@ impl Reading<File> {
         calls: &mut Record,
         path: &str,
     ) -> Result<Option<Reading<File>>, Fault>
-        requires { IsSound system.old }
+        requires { NothingFailed system.old }
         ensures begun { IfOk result (λ found. IfSome found (λ reading. reading.calls ≡ Began path.now [] ∷ calls.old.calls)) }
         ensures none { IfOk result (λ found. IfNone found (calls.new.calls ≡ Found path.now None ∷ calls.old.calls)) }
         ensures unread { OnErr result (calls.new.calls ≡ calls.old.calls) }
-        ensures sound { OnOk result (IsSound system.new) }
+        ensures sound { OnOk result (NothingFailed system.new) }
         ensures cause { IfErr result (λ fault. HasCause fault system.new) }
     {
         match system.open_if_there(path) {

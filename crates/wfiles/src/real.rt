@@ -2,7 +2,7 @@
 //! the record rest on, and no proof shows it.
 ghost use Rattle.std.specs.Prelude.{◌≡◌, ◌∷◌, is_ok, IfErr, OnOk};
 ghost use Rattle.wfiles.specs.Noting.{call_of};
-ghost use Rattle.wfolder.specs.Calls.{HasCause, IsSound};
+ghost use Rattle.wfolder.specs.Calls.{HasCause, NothingFailed};
 
 use crate::files::read_names;
 use crate::record::{CREATED, MOVED, PERMITTED, REMOVED, Record, SYNCED, SYNCED_FOLDER, WROTE};

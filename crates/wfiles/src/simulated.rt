@@ -2,7 +2,7 @@
 //! disk in memory.
 ghost use Rattle.std.specs.Prelude.{◌≡◌, ◌∷◌, is_ok, IfErr, IfOk, OnOk};
 ghost use Rattle.wfiles.specs.Noting.{call_of};
-ghost use Rattle.wfolder.specs.Calls.{HasCause, IsSound};
+ghost use Rattle.wfolder.specs.Calls.{HasCause, NothingFailed};
 ghost use Rattle.wfolder.specs.Model.{IsLocked};
 
 use crate::record::{
@@ -24,7 +24,7 @@ pub struct Simulated<'a> {
 impl<'a> Simulated<'a> {
     /// A folder that holds this, whose lock is held, and whose machine stops behind so many calls.
     pub fn new(disk: Disk, calls_left: usize) -> Simulated<'a>
-        ensures sound { IsSound result.system }
+        ensures sound { NothingFailed result.system }
         ensures locked { IsLocked result.trace.calls }
     {
         let mut trace = Record::new();
@@ -54,9 +54,9 @@ impl<'a> Simulated<'a> {
 
     // Notes a call and answers it: one that is not done is a fault.
     fn answer(&mut self, number: u64, is_done: bool, path: &[u8], bytes: &[u8]) -> Result<(), Fault>
-        requires { IsSound self.old.system }
+        requires { NothingFailed self.old.system }
         ensures calls { self.new.trace.calls ≡ call_of number (is_ok result) path.now bytes.now ∷ self.old.trace.calls }
-        ensures sound { OnOk result (IsSound self.new.system) }
+        ensures sound { OnOk result (NothingFailed self.new.system) }
         ensures cause { IfErr result (λ fault. HasCause fault self.new.system) }
     {
         self.trace.note_call(number, is_done, path, bytes);

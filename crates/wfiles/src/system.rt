@@ -4,7 +4,7 @@ ghost use Rattle.std.specs.IoError.{error_kind};
 ghost use Rattle.std.specs.Fs.{IsReadonly};
 ghost use Rattle.std.specs.Io.KnownBytes.{Appends};
 ghost use Rattle.wfolder.specs.declared.fault.Fault.TheVariants.{NoMemory};
-ghost use Rattle.wfolder.specs.Calls.{HasCause, IsSound};
+ghost use Rattle.wfolder.specs.Calls.{HasCause, NothingFailed};
 ghost use Rattle.wfiles.specs.Reading.{GivesBytes};
 
 use std::alloc::AllocError;
@@ -111,7 +111,7 @@ fn take_lock<R: Clock + Eprint>(rt: &R, folder: &File) -> io::Result<()> {
 impl<'a, R> System<'a, R> {
     /// Nothing has been counted yet.
     pub fn new(files: &'a R) -> Self
-        ensures { IsSound result }
+        ensures { NothingFailed result }
     {
         System {
             files,
@@ -144,7 +144,7 @@ impl<'a, R> System<'a, R> {
 
     /// The fault of a growth that was refused.
     pub(crate) fn refused(&mut self) -> Fault
-        requires { IsSound self.old }
+        requires { NothingFailed self.old }
         ensures fault { result ≡ NoMemory }
         ensures cause { HasCause result self.new }
     {
@@ -154,11 +154,11 @@ impl<'a, R> System<'a, R> {
 
     /// What a growth of memory made. `NoMemory` where it was refused, and nowhere else.
     pub fn grown<T>(&mut self, made: Result<T, AllocError>) -> Result<T, Fault>
-        requires { IsSound self.old }
+        requires { NothingFailed self.old }
         ensures made { IfOk made (λ value. result ≡ Ok value) }
         ensures refused { OnErr made (result ≡ Err NoMemory) }
         ensures same { OnOk result (self.new ≡ self.old) }
-        ensures sound { OnOk result (IsSound self.new) }
+        ensures sound { OnOk result (NothingFailed self.new) }
         ensures cause { IfErr result (λ fault. HasCause fault self.new) }
     {
         match made {
@@ -169,7 +169,7 @@ impl<'a, R> System<'a, R> {
 
     // The fault of a call that read.
     fn read_failed(&mut self, error: &io::Error) -> Fault
-        requires { IsSound self.old }
+        requires { NothingFailed self.old }
         ensures memory { error_kind error.now ≡ ErrorKind.OutOfMemory → result ≡ NoMemory }
         ensures other { error_kind error.now ≢ ErrorKind.OutOfMemory → result ≡ Fault.Read }
         ensures cause { HasCause result self.new }
@@ -184,7 +184,7 @@ impl<'a, R> System<'a, R> {
 
     // The fault of a call that wrote.
     fn write_failed(&mut self, error: &io::Error) -> Fault
-        requires { IsSound self.old }
+        requires { NothingFailed self.old }
         ensures memory { error_kind error.now ≡ ErrorKind.OutOfMemory → result ≡ NoMemory }
         ensures other { error_kind error.now ≢ ErrorKind.OutOfMemory → result ≡ Fault.Write }
         ensures cause { HasCause result self.new }
@@ -199,7 +199,7 @@ impl<'a, R> System<'a, R> {
 
     /// The fault of a path that leads to no place for a file.
     pub(crate) fn misplaced(&mut self) -> Fault
-        requires { IsSound self.old }
+        requires { NothingFailed self.old }
         ensures fault { result ≡ Fault.Write }
         ensures cause { HasCause result self.new }
     {
@@ -214,11 +214,11 @@ impl<'a, R> System<'a, R> {
         reader: &mut T,
         block: &mut [u8],
     ) -> Result<Option<usize>, Fault>
-        requires { IsSound self.old }
+        requires { NothingFailed self.old }
         ensures bound { IfOk result (λ count. IfSome count (λ n. n ≤ length block.new)) }
         ensures bytes { IfOk result (λ count. GivesBytes (T.remaining reader.old) (T.remaining reader.new) block.new count) }
         ensures reads { OnOk result (self.new.reads ≡ self.old.reads + 1) }
-        ensures sound { OnOk result (IsSound self.new) }
+        ensures sound { OnOk result (NothingFailed self.new) }
         ensures cause { IfErr result (λ fault. HasCause fault self.new) }
     {
         if self.reads >= MOST_READS {
@@ -234,9 +234,9 @@ impl<'a, R> System<'a, R> {
 
     /// Writes these bytes, all of them.
     pub fn write<W: Write>(&mut self, writer: &mut W, bytes: &[u8]) -> Result<(), Fault>
-        requires { IsSound self.old }
+        requires { NothingFailed self.old }
         ensures bytes { OnOk result (Appends (W.contents writer.old) (W.contents writer.new) bytes.now) }
-        ensures sound { OnOk result (IsSound self.new) }
+        ensures sound { OnOk result (NothingFailed self.new) }
         ensures cause { IfErr result (λ fault. HasCause fault self.new) }
     {
         match writer.write_all(bytes) {
@@ -249,8 +249,8 @@ impl<'a, R> System<'a, R> {
 impl<R: Files<File = File> + AllocGlobal> System<'_, R> {
     /// Opens a file that has to be there.
     pub fn open(&mut self, path: &str) -> Result<File, Fault>
-        requires { IsSound self.old }
-        ensures sound { OnOk result (IsSound self.new) }
+        requires { NothingFailed self.old }
+        ensures sound { OnOk result (NothingFailed self.new) }
         ensures cause { IfErr result (λ fault. HasCause fault self.new) }
     {
         match File::open(self.files, path) {
@@ -261,8 +261,8 @@ impl<R: Files<File = File> + AllocGlobal> System<'_, R> {
 
     /// Opens a file, if there is one.
     pub fn open_if_there(&mut self, path: &str) -> Result<Option<File>, Fault>
-        requires { IsSound self.old }
-        ensures sound { OnOk result (IsSound self.new) }
+        requires { NothingFailed self.old }
+        ensures sound { OnOk result (NothingFailed self.new) }
         ensures cause { IfErr result (λ fault. HasCause fault self.new) }
     {
         match File::open(self.files, path) {
@@ -274,9 +274,9 @@ impl<R: Files<File = File> + AllocGlobal> System<'_, R> {
 
     // The permissions of a plain file with leave to write.
     fn permissions(&mut self, metadata: &Metadata) -> Result<Permissions, Fault>
-        requires { IsSound self.old }
+        requires { NothingFailed self.old }
         ensures writable { IfOk result (λ permissions. IsReadonly permissions → ⊥) }
-        ensures sound { OnOk result (IsSound self.new) }
+        ensures sound { OnOk result (NothingFailed self.new) }
         ensures cause { IfErr result (λ fault. HasCause fault self.new) }
     {
         let permissions = metadata.permissions();
@@ -289,9 +289,9 @@ impl<R: Files<File = File> + AllocGlobal> System<'_, R> {
     /// Who may read and write the file that a path leads to, if there is one: a plain file with leave to write. Nothing else is
     /// replaced: a device, a pipe, a folder, a file without leave to write, or a link to nothing is no place for a file.
     pub fn replaceable(&mut self, path: &str) -> Result<Option<Access>, Fault>
-        requires { IsSound self.old }
+        requires { NothingFailed self.old }
         ensures writable { IfOk result (λ found. IfSome found (λ access. IsReadonly access.permissions → ⊥)) }
-        ensures sound { OnOk result (IsSound self.new) }
+        ensures sound { OnOk result (NothingFailed self.new) }
         ensures cause { IfErr result (λ fault. HasCause fault self.new) }
     {
         match fs::metadata(self.files, path) {
@@ -310,9 +310,9 @@ impl<R: Files<File = File> + AllocGlobal> System<'_, R> {
 
     // Nothing, where a path leads to nothing and is no link.
     fn absent(&mut self, path: &str) -> Result<Option<Access>, Fault>
-        requires { IsSound self.old }
+        requires { NothingFailed self.old }
         ensures none { IfOk result (λ found. IsNone found) }
-        ensures sound { OnOk result (IsSound self.new) }
+        ensures sound { OnOk result (NothingFailed self.new) }
         ensures cause { IfErr result (λ fault. HasCause fault self.new) }
     {
         match fs::symlink_metadata(self.files, path) {
@@ -324,8 +324,8 @@ impl<R: Files<File = File> + AllocGlobal> System<'_, R> {
 
     /// Whether a path leads to a link.
     pub(crate) fn is_link(&mut self, path: &str) -> Result<bool, Fault>
-        requires { IsSound self.old }
-        ensures sound { OnOk result (IsSound self.new) }
+        requires { NothingFailed self.old }
+        ensures sound { OnOk result (NothingFailed self.new) }
         ensures cause { IfErr result (λ fault. HasCause fault self.new) }
     {
         match fs::symlink_metadata(self.files, path) {
@@ -337,8 +337,8 @@ impl<R: Files<File = File> + AllocGlobal> System<'_, R> {
 
     /// The path of a file behind all links.
     pub fn real_path(&mut self, path: &str) -> Result<String, Fault>
-        requires { IsSound self.old }
-        ensures sound { OnOk result (IsSound self.new) }
+        requires { NothingFailed self.old }
+        ensures sound { OnOk result (NothingFailed self.new) }
         ensures cause { IfErr result (λ fault. HasCause fault self.new) }
     {
         match fs::canonicalize(self.files, path) {
@@ -349,8 +349,8 @@ impl<R: Files<File = File> + AllocGlobal> System<'_, R> {
 
     /// Makes a new file, if nothing has its name. One that is closed is for its owner alone.
     pub(crate) fn create_new(&mut self, path: &str, is_closed: bool) -> Result<Option<File>, Fault>
-        requires { IsSound self.old }
-        ensures sound { OnOk result (IsSound self.new) }
+        requires { NothingFailed self.old }
+        ensures sound { OnOk result (NothingFailed self.new) }
         ensures cause { IfErr result (λ fault. HasCause fault self.new) }
     {
         match new_file(self.files, path, is_closed) {
@@ -362,8 +362,8 @@ impl<R: Files<File = File> + AllocGlobal> System<'_, R> {
 
     /// Gives a file this owner and group, and then the permissions, so that nobody may read it who may not read the other.
     pub(crate) fn permit(&mut self, file: &File, access: &Access) -> Result<(), Fault>
-        requires { IsSound self.old }
-        ensures sound { OnOk result (IsSound self.new) }
+        requires { NothingFailed self.old }
+        ensures sound { OnOk result (NothingFailed self.new) }
         ensures cause { IfErr result (λ fault. HasCause fault self.new) }
     {
         let permissions = self.grown(access.permissions.clone())?;
@@ -375,8 +375,8 @@ impl<R: Files<File = File> + AllocGlobal> System<'_, R> {
 
     /// Brings a file or a folder to the disk.
     pub(crate) fn sync(&mut self, file: &File) -> Result<(), Fault>
-        requires { IsSound self.old }
-        ensures sound { OnOk result (IsSound self.new) }
+        requires { NothingFailed self.old }
+        ensures sound { OnOk result (NothingFailed self.new) }
         ensures cause { IfErr result (λ fault. HasCause fault self.new) }
     {
         match file.sync_all() {
@@ -387,8 +387,8 @@ impl<R: Files<File = File> + AllocGlobal> System<'_, R> {
 
     /// Moves a file over another.
     pub(crate) fn rename(&mut self, from: &str, to: &str) -> Result<(), Fault>
-        requires { IsSound self.old }
-        ensures sound { OnOk result (IsSound self.new) }
+        requires { NothingFailed self.old }
+        ensures sound { OnOk result (NothingFailed self.new) }
         ensures cause { IfErr result (λ fault. HasCause fault self.new) }
     {
         match fs::rename(self.files, from, to) {
@@ -406,8 +406,8 @@ impl<R: Files<File = File> + AllocGlobal> System<'_, R> {
 
     /// A folder, which has to be there.
     pub(crate) fn folder(&mut self, path: &str) -> Result<File, Fault>
-        requires { IsSound self.old }
-        ensures sound { OnOk result (IsSound self.new) }
+        requires { NothingFailed self.old }
+        ensures sound { OnOk result (NothingFailed self.new) }
         ensures cause { IfErr result (λ fault. HasCause fault self.new) }
     {
         match File::open(self.files, path) {
@@ -418,8 +418,8 @@ impl<R: Files<File = File> + AllocGlobal> System<'_, R> {
 
     /// The names in a folder, to be read, each ended by a zero byte.
     pub(crate) fn names(&mut self, path: &str) -> Result<R::Dir, Fault>
-        requires { IsSound self.old }
-        ensures sound { OnOk result (IsSound self.new) }
+        requires { NothingFailed self.old }
+        ensures sound { OnOk result (NothingFailed self.new) }
         ensures cause { IfErr result (λ fault. HasCause fault self.new) }
     {
         match self.files.open_dir(path) {
@@ -433,8 +433,8 @@ impl<R: Clock + Eprint> System<'_, R> {
     /// Takes the lock of a folder. Where another program has it, this waits for a minute at most, and says so on standard error
     /// after a second.
     pub(crate) fn lock(&mut self, folder: &File) -> Result<(), Fault>
-        requires { IsSound self.old }
-        ensures sound { OnOk result (IsSound self.new) }
+        requires { NothingFailed self.old }
+        ensures sound { OnOk result (NothingFailed self.new) }
         ensures cause { IfErr result (λ fault. HasCause fault self.new) }
     {
         match take_lock(self.files, folder) {

@@ -5,7 +5,7 @@ use Rattle.std.proofs.Common.{None, Some, Result, Ok, Err, IfErr, refl, sym, ◌
 use Rattle.wfolder.specs.Call.{Call, Locked, Found, Created, Permitted, Wrote, Synced, Moved, SyncedFolder, Removed, Began}
 use Rattle.wfolder.specs.Model.{Disk, IsAmong, holds, IsLeft, Leaves, MayHold, LeadsTo, IsSameFile, IsSameName, IsSame}
 use Rattle.wfolder.specs.Model.{Creates, Writes, Syncs, Renames, SyncsFolder, Removes, IsLocked, IsOwn, Others, Runs}
-use Rattle.wfolder.specs.Replacing.{AtEachMoment, LeavesOldOrNew, ChangesOnlyOwn, IsKept, IsUnsynced, Replaces}
+use Rattle.wfolder.specs.Replacing.{AtEachMoment, LeavesOldOrNew, ChangesOnlyOwn, IsUnchanged, IsUnsynced, Replaces}
 use Rattle.wfolder.specs.declared.fault.Fault.{Fault}
 use Rattle.wfolder.specs.declared.replacing.NotReplaced.{NotReplaced}
 use Rattle.wfolder.specs.declared.replacing.NotReplaced.TheVariants.{Kept, Unsynced}
@@ -463,7 +463,7 @@ holds_same store d e same =
     ap (λ (f : Option ℕ). option_map e.bytes f) same.names.0
     ∙ held_same store d e (d.entry store) refl (λ number is. (same.files number (inl is)).0)
 
-pub is_kept : (store : List ℕ) (d e : Disk) → IsSame store d e → IsKept store d e
+pub is_kept : (store : List ℕ) (d e : Disk) → IsSame store d e → IsUnchanged store d e
 is_kept store d e same = record { holds_old = holds_same store d e same; leaves_old = crash_same store d e same }
 
 holds_file : (store bytes : List ℕ) (e : Disk) (file : ℕ) → e.entry store ≡ Some file → e.bytes file ≡ bytes → holds e store ≡ Some bytes

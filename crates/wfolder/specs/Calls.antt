@@ -17,7 +17,7 @@ abbrev pub most_reads : ℕ
 most_reads = 2 ^ 40
 
 -- no call has failed, no growth was refused, and the reads are within their number
-pub record IsSound (calls : CallCounts) : Type 0 where
+pub record NothingFailed (calls : CallCounts) : Type 0 where
   pub reads : calls.reads ≤ most_reads
   pub failed_reads : calls.failed_reads ≡ 0
   pub failed_writes : calls.failed_writes ≡ 0

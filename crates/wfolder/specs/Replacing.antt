@@ -40,7 +40,7 @@ ChangesOnlyOwn store (calls.Removed name done ∷ cs) = (IsOwn cs name ⊎ ((nam
 ChangesOnlyOwn store (c ∷ cs) = ChangesOnlyOwn store cs
 
 -- the store holds what it held, and a crash leaves nothing else than it might have left
-pub record IsKept (store : List ℕ) (d e : Disk) : Type 0 where
+pub record IsUnchanged (store : List ℕ) (d e : Disk) : Type 0 where
   pub holds_old : holds e store ≡ holds d store
   pub leaves_old : (held : Option (List ℕ)) → MayHold e store held → MayHold d store held
 
@@ -53,7 +53,7 @@ pub record IsReplaced (store bytes : List ℕ) (e : Disk) : Type 0 where
 -- bytes, and a crash may leave what it might have left before
 abbrev pub IsEnd : List ℕ → List ℕ → Result (Unit {0}) NotReplaced → Disk → Disk → Type 0
 IsEnd store bytes (Ok done) d e = IsReplaced store bytes e
-IsEnd store bytes (Err (Kept fault)) d e = IsKept store d e
+IsEnd store bytes (Err (Kept fault)) d e = IsUnchanged store d e
 IsEnd store bytes (Err (Unsynced fault)) d e = holds e store ≡ Some bytes
 
 -- a store is replaced by the calls between the one record and the other

@@ -1,7 +1,7 @@
 //! The calls on a folder that replacing a store makes.
 ghost use Rattle.std.specs.Prelude.{◌≡◌, ◌∷◌, List, IfOk, IfErr, OnOk, OnErr, is_ok, false};
 ghost use Rattle.wfolder.specs.Call.{Call, Created, Permitted, Wrote, Synced, Moved, SyncedFolder, Removed};
-ghost use Rattle.wfolder.specs.Calls.{CallCounts, HasCause, IsSound};
+ghost use Rattle.wfolder.specs.Calls.{CallCounts, HasCause, NothingFailed};
 ghost use Rattle.wfolder.specs.declared.fault.Fault.TheVariants.{NoMemory};
 
 use crate::fault::Fault;
@@ -41,67 +41,67 @@ pub trait Folder {
 
     /// The fault of a growth that was refused.
     fn lacks_memory(&mut self) -> Fault
-        requires { IsSound (counts self.old) }
+        requires { NothingFailed (counts self.old) }
         ensures fault { result ≡ NoMemory }
         ensures calls { calls self.new ≡ calls self.old }
         ensures cause { HasCause result (counts self.new) };
 
     /// The fault of a path that is no place for a file.
     fn misplaced(&mut self) -> Fault
-        requires { IsSound (counts self.old) }
+        requires { NothingFailed (counts self.old) }
         ensures fault { result ≡ Fault.Write }
         ensures calls { calls self.new ≡ calls self.old }
         ensures cause { HasCause result (counts self.new) };
 
     /// The names of the folder's files that begin as those of new files do.
     fn names(&mut self, alloc: Global, folder: &str) -> Result<Vec<String>, Fault>
-        requires { IsSound (counts self.old) }
+        requires { NothingFailed (counts self.old) }
         ensures calls { calls self.new ≡ calls self.old }
-        ensures sound { OnOk result (IsSound (counts self.new)) }
+        ensures sound { OnOk result (NothingFailed (counts self.new)) }
         ensures cause { IfErr result (λ fault. HasCause fault (counts self.new)) };
 
     /// Makes a new file, open for writing, and tells whether its name was free. One that is to have another's access is for its
     /// owner alone.
     fn create_new(&mut self, path: &str, is_closed: bool) -> Result<bool, Fault>
-        requires { IsSound (counts self.old) }
+        requires { NothingFailed (counts self.old) }
         ensures made { IfOk result (λ is_made. calls self.new ≡ Created path.now is_made ∷ calls self.old) }
         ensures failed { OnErr result (calls self.new ≡ Created path.now false ∷ calls self.old) }
-        ensures sound { OnOk result (IsSound (counts self.new)) }
+        ensures sound { OnOk result (NothingFailed (counts self.new)) }
         ensures cause { IfErr result (λ fault. HasCause fault (counts self.new)) };
 
     /// Gives the file that was made last, under this path, an owner, a group and a mode.
     fn permit(&mut self, path: &str, access: &Access) -> Result<(), Fault>
-        requires { IsSound (counts self.old) }
+        requires { NothingFailed (counts self.old) }
         ensures calls { calls self.new ≡ Permitted path.now (is_ok result) ∷ calls self.old }
-        ensures sound { OnOk result (IsSound (counts self.new)) }
+        ensures sound { OnOk result (NothingFailed (counts self.new)) }
         ensures cause { IfErr result (λ fault. HasCause fault (counts self.new)) };
 
     /// Writes these bytes, all of them, at the end of the file that was made last, under this path.
     fn write(&mut self, path: &str, bytes: &[u8]) -> Result<(), Fault>
-        requires { IsSound (counts self.old) }
+        requires { NothingFailed (counts self.old) }
         ensures calls { calls self.new ≡ Wrote path.now bytes.now (is_ok result) ∷ calls self.old }
-        ensures sound { OnOk result (IsSound (counts self.new)) }
+        ensures sound { OnOk result (NothingFailed (counts self.new)) }
         ensures cause { IfErr result (λ fault. HasCause fault (counts self.new)) };
 
     /// Brings the file that was made last, under this path, to the disk.
     fn sync(&mut self, path: &str) -> Result<(), Fault>
-        requires { IsSound (counts self.old) }
+        requires { NothingFailed (counts self.old) }
         ensures calls { calls self.new ≡ Synced path.now (is_ok result) ∷ calls self.old }
-        ensures sound { OnOk result (IsSound (counts self.new)) }
+        ensures sound { OnOk result (NothingFailed (counts self.new)) }
         ensures cause { IfErr result (λ fault. HasCause fault (counts self.new)) };
 
     /// Moves a file over another.
     fn rename(&mut self, from: &str, to: &str) -> Result<(), Fault>
-        requires { IsSound (counts self.old) }
+        requires { NothingFailed (counts self.old) }
         ensures calls { calls self.new ≡ Moved from.now to.now (is_ok result) ∷ calls self.old }
-        ensures sound { OnOk result (IsSound (counts self.new)) }
+        ensures sound { OnOk result (NothingFailed (counts self.new)) }
         ensures cause { IfErr result (λ fault. HasCause fault (counts self.new)) };
 
     /// Brings the names of the folder that is locked to the disk.
     fn sync_folder(&mut self) -> Result<(), Fault>
-        requires { IsSound (counts self.old) }
+        requires { NothingFailed (counts self.old) }
         ensures calls { calls self.new ≡ SyncedFolder (is_ok result) ∷ calls self.old }
-        ensures sound { OnOk result (IsSound (counts self.new)) }
+        ensures sound { OnOk result (NothingFailed (counts self.new)) }
         ensures cause { IfErr result (λ fault. HasCause fault (counts self.new)) };
 
     /// Removes a file, if it can, and tells whether it did. One that cannot be removed is no failure.

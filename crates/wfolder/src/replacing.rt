@@ -2,7 +2,7 @@
 ghost use Rattle.std.specs.Prelude.{◌≡◌, ◌≢◌, ◌++◌, ◌∷◌, [], Some, false, true, IfOk, IfErr, IfSome};
 ghost use Rattle.std.specs.Prelude.{OnOk, OnErr, IsTrue, is_ok, option_map, string_bytes};
 ghost use Rattle.std.specs.List.{list_all};
-ghost use Rattle.wfolder.specs.Calls.{HasCause, IsSound};
+ghost use Rattle.wfolder.specs.Calls.{HasCause, NothingFailed};
 ghost use Rattle.wfolder.specs.Names.{IsNewName, IsOurs, is_number_byte};
 ghost use Rattle.wfolder.specs.Order.{Beside, Brings, Idle, LeavesBeside, MakesNew, Placed};
 ghost use Rattle.wfolder.specs.Call.{SyncedFolder};
@@ -66,10 +66,10 @@ fn path_beside(alloc: Global, target: &Target, name: &str) -> Result<Option<Stri
 
 // Gives the new file the access of the old one, if there is one.
 fn allow<F: Folder>(folder: &mut F, target: &Target, new: &str) -> Result<(), Fault>
-    requires { IsSound (F.counts folder.old) }
+    requires { NothingFailed (F.counts folder.old) }
     ensures brings { Brings (string_bytes target.now.path) (F.calls folder.old) (Beside new.now (Some []) false)
         (F.calls folder.new) (Beside new.now (Some []) false) }
-    ensures sound { OnOk result (IsSound (F.counts folder.new)) }
+    ensures sound { OnOk result (NothingFailed (F.counts folder.new)) }
     ensures cause { IfErr result (λ fault. HasCause fault (F.counts folder.new)) }
 {
     match &target.access {
@@ -80,11 +80,11 @@ fn allow<F: Folder>(folder: &mut F, target: &Target, new: &str) -> Result<(), Fa
 
 // The bytes, in the new file, on the disk.
 fn fill<F: Folder>(folder: &mut F, target: &Target, new: &str, bytes: &[u8]) -> Result<(), Fault>
-    requires { IsSound (F.counts folder.old) }
+    requires { NothingFailed (F.counts folder.old) }
     ensures filled { OnOk result (Brings (string_bytes target.now.path) (F.calls folder.old)
         (Beside new.now (Some []) false) (F.calls folder.new) (Beside new.now (Some bytes.now) true)) }
     ensures left { OnErr result (LeavesBeside (string_bytes target.now.path) new.now (F.calls folder.old) (F.calls folder.new)) }
-    ensures sound { OnOk result (IsSound (F.counts folder.new)) }
+    ensures sound { OnOk result (NothingFailed (F.counts folder.new)) }
     ensures cause { IfErr result (λ fault. HasCause fault (F.counts folder.new)) }
 {
     allow(folder, target, new)?;
@@ -94,11 +94,11 @@ fn fill<F: Folder>(folder: &mut F, target: &Target, new: &str, bytes: &[u8]) -> 
 
 // The bytes in the new file, and then in the store's place.
 fn put<F: Folder>(folder: &mut F, target: &Target, new: &str, bytes: &[u8]) -> Result<(), Fault>
-    requires { IsSound (F.counts folder.old) }
+    requires { NothingFailed (F.counts folder.old) }
     ensures placed { OnOk result (Brings (string_bytes target.now.path) (F.calls folder.old)
         (Beside new.now (Some []) false) (F.calls folder.new) (Placed bytes.now)) }
     ensures left { OnErr result (LeavesBeside (string_bytes target.now.path) new.now (F.calls folder.old) (F.calls folder.new)) }
-    ensures sound { OnOk result (IsSound (F.counts folder.new)) }
+    ensures sound { OnOk result (NothingFailed (F.counts folder.new)) }
     ensures cause { IfErr result (λ fault. HasCause fault (F.counts folder.new)) }
 {
     fill(folder, target, new, bytes)?;
@@ -111,13 +111,13 @@ fn create_at<F: Folder>(
     target: &Target,
     path: String,
 ) -> Result<Option<String>, Fault>
-    requires sound { IsSound (F.counts folder.old) }
+    requires sound { NothingFailed (F.counts folder.old) }
     requires ours { IsOurs (string_bytes path) }
     requires other { string_bytes path ≢ string_bytes target.now.path }
     ensures makes { IfOk result (λ found. MakesNew (string_bytes target.now.path) (F.calls folder.old) (F.calls folder.new)
         (option_map (λ name. string_bytes name) found)) }
     ensures idle { OnErr result (Brings (string_bytes target.now.path) (F.calls folder.old) Idle (F.calls folder.new) Idle) }
-    ensures sound { OnOk result (IsSound (F.counts folder.new)) }
+    ensures sound { OnOk result (NothingFailed (F.counts folder.new)) }
     ensures cause { IfErr result (λ fault. HasCause fault (F.counts folder.new)) }
 {
     match folder.create_new(path.as_str(), target.access.is_some()) {
@@ -134,11 +134,11 @@ fn try_new<F: Folder>(
     target: &Target,
     number: u32,
 ) -> Result<Option<String>, Fault>
-    requires sound { IsSound (F.counts folder.old) }
+    requires sound { NothingFailed (F.counts folder.old) }
     ensures makes { IfOk result (λ found. MakesNew (string_bytes target.now.path) (F.calls folder.old) (F.calls folder.new)
         (option_map (λ name. string_bytes name) found)) }
     ensures idle { OnErr result (Brings (string_bytes target.now.path) (F.calls folder.old) Idle (F.calls folder.new) Idle) }
-    ensures sound { OnOk result (IsSound (F.counts folder.new)) }
+    ensures sound { OnOk result (NothingFailed (F.counts folder.new)) }
     ensures cause { IfErr result (λ fault. HasCause fault (F.counts folder.new)) }
 {
     let Ok(name) = format!(in alloc; ".wstore-{number}") else {
@@ -153,11 +153,11 @@ fn try_new<F: Folder>(
 
 // Makes a new file beside the store, under a name that is free.
 fn make_new<F: Folder>(alloc: Global, folder: &mut F, target: &Target) -> Result<String, Fault>
-    requires sound { IsSound (F.counts folder.old) }
+    requires sound { NothingFailed (F.counts folder.old) }
     ensures made { IfOk result (λ name. Brings (string_bytes target.now.path) (F.calls folder.old) Idle (F.calls folder.new)
         (Beside (string_bytes name) (Some []) false)) }
     ensures idle { OnErr result (Brings (string_bytes target.now.path) (F.calls folder.old) Idle (F.calls folder.new) Idle) }
-    ensures sound { OnOk result (IsSound (F.counts folder.new)) }
+    ensures sound { OnOk result (NothingFailed (F.counts folder.new)) }
     ensures cause { IfErr result (λ fault. HasCause fault (F.counts folder.new)) }
 {
     'tries: for number in 0..TRIES {
@@ -177,9 +177,9 @@ fn clear_name<F: Folder>(
     target: &Target,
     name: &str,
 ) -> Result<(), Fault>
-    requires sound { IsSound (F.counts folder.old) }
+    requires sound { NothingFailed (F.counts folder.old) }
     ensures idle { Brings (string_bytes target.now.path) (F.calls folder.old) Idle (F.calls folder.new) Idle }
-    ensures sound { OnOk result (IsSound (F.counts folder.new)) }
+    ensures sound { OnOk result (NothingFailed (F.counts folder.new)) }
     ensures cause { IfErr result (λ fault. HasCause fault (F.counts folder.new)) }
 {
     match path_beside(alloc, target, name) {
@@ -194,9 +194,9 @@ fn clear_name<F: Folder>(
 
 // Removes what runs that were killed have left in the folder. This run holds its lock, so no other is at work there.
 fn clear<F: Folder>(alloc: Global, folder: &mut F, target: &Target) -> Result<(), Fault>
-    requires sound { IsSound (F.counts folder.old) }
+    requires sound { NothingFailed (F.counts folder.old) }
     ensures idle { Brings (string_bytes target.now.path) (F.calls folder.old) Idle (F.calls folder.new) Idle }
-    ensures sound { OnOk result (IsSound (F.counts folder.new)) }
+    ensures sound { OnOk result (NothingFailed (F.counts folder.new)) }
     ensures cause { IfErr result (λ fault. HasCause fault (F.counts folder.new)) }
 {
     let names = match folder.names(alloc, target.folder.as_str()) {
@@ -213,11 +213,11 @@ fn clear<F: Folder>(alloc: Global, folder: &mut F, target: &Target) -> Result<()
 
 // Makes the new file, where nothing of an earlier run is left.
 fn begin<F: Folder>(alloc: Global, folder: &mut F, target: &Target) -> Result<String, Fault>
-    requires sound { IsSound (F.counts folder.old) }
+    requires sound { NothingFailed (F.counts folder.old) }
     ensures made { IfOk result (λ name. Brings (string_bytes target.now.path) (F.calls folder.old) Idle (F.calls folder.new)
         (Beside (string_bytes name) (Some []) false)) }
     ensures idle { OnErr result (Brings (string_bytes target.now.path) (F.calls folder.old) Idle (F.calls folder.new) Idle) }
-    ensures sound { OnOk result (IsSound (F.counts folder.new)) }
+    ensures sound { OnOk result (NothingFailed (F.counts folder.new)) }
     ensures cause { IfErr result (λ fault. HasCause fault (F.counts folder.new)) }
 {
     match clear(alloc, folder, target) {
@@ -249,10 +249,10 @@ impl NotReplaced {
 
 // Brings the folder to the disk, once the store is replaced.
 fn sync_folder<F: Folder>(folder: &mut F) -> Result<(), NotReplaced>
-    requires { IsSound (F.counts folder.old) }
+    requires { NothingFailed (F.counts folder.old) }
     ensures calls { F.calls folder.new ≡ SyncedFolder (is_ok result) ∷ F.calls folder.old }
     ensures unsynced { IfErr result (λ fault. IsUnsynced fault) }
-    ensures sound { OnOk result (IsSound (F.counts folder.new)) }
+    ensures sound { OnOk result (NothingFailed (F.counts folder.new)) }
     ensures cause { IfErr result (λ fault. HasCause (fault_of fault) (F.counts folder.new)) }
 {
     match folder.sync_folder() {
@@ -271,10 +271,10 @@ pub fn replace<F: Folder>(
     target: &Target,
     bytes: &[u8],
 ) -> Result<(), NotReplaced>
-    requires sound { IsSound (F.counts folder.old) }
+    requires sound { NothingFailed (F.counts folder.old) }
     requires locked { IsLocked (F.calls folder.old) }
     ensures replaces { Replaces (string_bytes target.now.path) bytes.now result (F.calls folder.old) (F.calls folder.new) }
-    ensures sound { OnOk result (IsSound (F.counts folder.new)) }
+    ensures sound { OnOk result (NothingFailed (F.counts folder.new)) }
     ensures cause { IfErr result (λ fault. HasCause (fault_of fault) (F.counts folder.new)) }
 {
     let new = match begin(alloc, folder, target) {

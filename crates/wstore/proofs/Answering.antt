@@ -36,7 +36,7 @@ use Rattle.wexchange.specs.declared.fault.FileFault.{FileFault}
 use Rattle.wexchange.specs.declared.fault.FileFault.TheVariants as files
 use Rattle.wexchange.proofs.Faults.{lacks_memory}
 use Rattle.wstore.specs.Nodes.{LearnsFile}
-use Rattle.wstore.specs.Standing.{KnowsThese, IsSound, Places, StandAt, AnswersAs, places}
+use Rattle.wstore.specs.Standing.{KnowsThese, HoldRecords, Places, StandAt, AnswersAs, places}
 use Rattle.wstore.proofs.Soundness.{sound_segment, sound_retirement, sound_floor, slot_view}
 use Rattle.wplanner.specs.declared.fault.AskFault.{AskFault}
 use Rattle.wplanner.specs.declared.fault.AskFault.TheVariants as queries
@@ -94,7 +94,7 @@ module _ (d : Declaration) (at : Places) (h : List Step) (n p : ℕ) (node : Nod
   here_schema = (subst (KnowsThese d (known h (p + 1))) (sym is) (stand.node p node low)).schema_is
 
   -- a node learned one item
-  learns : (c : Command) (r : Reply) (i : Item) (new : NodeState) → IsSound d (i ∷ [])
+  learns : (c : Command) (r : Reply) (i : Item) (new : NodeState) → HoldRecords d (i ∷ [])
       → declared_by r (declaration h) ≡ declaration h → new ≡ record node { view = join node.view (view_of_item i) }
       → ((m : ℕ) → delivers c r m ≡ cond (n == m) (i ∷ []) []) → ((m : ℕ) → gets c r m ≡ None)
       → ((k : ℕ) → puts c r k ≡ None) → ((m : ℕ) → heard c r m ≡ None)

@@ -19,14 +19,14 @@ use Rattle.wstore.specs.History.{heard_bad, entered, stream, handled, is_bad, de
 use Rattle.wstore.specs.Nodes.{NodeState, HandlesLines, HandlesAll, handled_view}
 use Rattle.wstore.specs.Feeding.{SendsAll, SendsPart, Feeds, FeedsPart, FedAs}
 use Rattle.wstore.specs.Steps.{FedPart}
-use Rattle.wstore.specs.Standing.{KnowsThese, IsSound, Listens, Places, StandAt, places}
+use Rattle.wstore.specs.Standing.{KnowsThese, HoldRecords, Listens, Places, StandAt, places}
 use Rattle.wstore.proofs.Soundness.{sound_nothing, sound_both, sound_segment, sound_retirement, sound_floor}
 use Rattle.wstore.proofs.Standing.{eqb_refl, eqb_other, told_here, told_elsewhere, listens_still, at_places, stand_quiet, under}
 
 -- one node changed, from one history to another
 stand_node : (d : Declaration) (at : Places) (h g : List Step) (p : ℕ) (new : NodeState) → StandAt d at h → p < node_count
     → declaration g ≡ declaration h → ((n : ℕ) → n ≢ p + 1 → known g n ≡ known h n) → KnowsThese d (known g (p + 1)) new
-    → IsSound d (known g (p + 1)) → ((n : ℕ) (node : NodeState) → n ≢ p + 1 → Listens h n node → Listens g n node)
+    → HoldRecords d (known g (p + 1)) → ((n : ℕ) (node : NodeState) → n ≢ p + 1 → Listens h n node → Listens g n node)
     → Listens g (p + 1) new → ((k : ℕ) → slot_file d g k ≡ slot_file d h k) → ((k : ℕ) → held g k ≡ held h k)
     → StandAt d (places (set at.nodes p new) at.slots) g
 stand_node d at h g p new stand low same known_same knows sound others listens slots helds = record {
@@ -45,7 +45,7 @@ stand_node d at h g p new stand low same known_same knows sound others listens s
       n e (omega (arith, stand.count, n_low));
   slot = λ k e k_low. stand.slot k e k_low ∙ sym (slots (k + 1));
   sound = λ n. by n (p + 1 == n) refl;
-  sound_slots = λ k. subst (IsSound d) (sym (helds k)) (stand.sound_slots k);
+  sound_slots = λ k. subst (HoldRecords d) (sym (helds k)) (stand.sound_slots k);
 }
   where
     differ : (a b : ℕ) → (a == b) ≡ false → a ≢ b
@@ -53,9 +53,9 @@ stand_node d at h g p new stand low same known_same knows sound others listens s
         let u : true ≡ false = sym (eqb_refl a) ∙ ap (λ q. a == q) same ∙ t in
         cc
 
-    by : (n : ℕ) (b : Bool) → (p + 1 == n) ≡ b → IsSound d (known g n)
-    by n true t = subst (λ m. IsSound d (known g m)) (eqb-true (p + 1) n t) sound
-    by n false t = subst (IsSound d) (sym (known_same n (λ e. differ (p + 1) n t (sym e)))) (stand.sound n)
+    by : (n : ℕ) (b : Bool) → (p + 1 == n) ≡ b → HoldRecords d (known g n)
+    by n true t = subst (λ m. HoldRecords d (known g m)) (eqb-true (p + 1) n t) sound
+    by n false t = subst (HoldRecords d) (sym (known_same n (λ e. differ (p + 1) n t (sym e)))) (stand.sound n)
 
 texts-both : (xs ys : List Item) → flat_map message_text xs ++ flat_map message_text ys ≡ flat_map message_text (xs ++ ys)
 texts-both [] ys = refl
@@ -74,7 +74,7 @@ told_items items (l ∷ ls) =
     ∙ ap view_of (append_assoc items (line_items l) (flat_map line_items ls))
 
 sound_lines : (d : Declaration) (v : View) (ls : List Line) → AllByRecursion IsMessage (map line_item ls)
-    → LinesAnswer d v ls → IsSound d (flat_map line_items ls)
+    → LinesAnswer d v ls → HoldRecords d (flat_map line_items ls)
 sound_lines d v [] h a = sound_nothing d
 sound_lines d v (TookLine n b word ∷ ls) h a = sound_both d (SegmentItem n b ∷ []) (flat_map line_items ls)
     (sound_segment d n b h.0.0 a.0.0) (sound_lines d (join v (view_of (SegmentItem n b ∷ []))) ls h.1 a.1)
@@ -120,11 +120,11 @@ module _ (d : Declaration) (at : Places) (h : List Step) (p : ℕ) (node : NodeS
         (λ e. other (sym e))) ∙ append-nil (known h n ++ []) ∙ append-nil (known h n)
 
     stands_after : (new : NodeState) → KnowsThese d (known h (p + 1) ++ flat_map line_items lines) new
-        → IsSound d (flat_map line_items lines) → Listens after (p + 1) new → StandAt d (places (set at.nodes p new) at.slots) after
+        → HoldRecords d (flat_map line_items lines) → Listens after (p + 1) new → StandAt d (places (set at.nodes p new) at.slots) after
     stands_after new k sound l =
         stand_node d at h after p new stand low refl known_elsewhere
         (subst (λ items. KnowsThese d items new) (sym known_here) k)
-        (subst (IsSound d) (sym known_here) (sound_both d (known h (p + 1)) (flat_map line_items lines) (stand.sound (p + 1)) sound))
+        (subst (HoldRecords d) (sym known_here) (sound_both d (known h (p + 1)) (flat_map line_items lines) (stand.sound (p + 1)) sound))
         (λ n x other y. listens_still h (Feed (p + 1) piece) (Fed lines bad) n x (heard_elsewhere n other) y)
         l (λ k. refl) (λ k. refl)
 
@@ -141,26 +141,26 @@ module _ (d : Declaration) (at : Places) (h : List Step) (p : ℕ) (node : NodeS
     pushed_settled : IsSettled pushed.view
     pushed_settled = subst IsSettled (sym pushed_view) (views_are_settled (known h (p + 1)))
 
-    module _ (lines : List Line) (last : NodeState) (tells : HandlesLines pushed lines last) where
+    module _ (lines : List Line) (last : NodeState) (handles : HandlesLines pushed lines last) where
       whole : stream h (p + 1) ++ piece ≡ flat_map message_text (handled h (p + 1) ++ map line_item lines) ++ last.held
       whole =
           ap (λ l. l ++ piece) (listens.held_is not_bad)
           ∙ append_assoc (flat_map message_text (handled h (p + 1))) node.held piece
-          ∙ ap (λ l. flat_map message_text (handled h (p + 1)) ++ l) (sym (ap (λ (x : NodeState). x.held) pushed_is) ∙ tells.held_is)
+          ∙ ap (λ l. flat_map message_text (handled h (p + 1)) ++ l) (sym (ap (λ (x : NodeState). x.held) pushed_is) ∙ handles.held_is)
           ∙ sym (append_assoc (flat_map message_text (handled h (p + 1))) (flat_map message_text (map line_item lines)) last.held)
           ∙ ap (λ l. l ++ last.held) (texts-both (handled h (p + 1)) (map line_item lines))
 
       answered : LinesAnswer d (view_of (known h (p + 1))) lines
       answered = subst (λ v. LinesAnswer d v lines) pushed_view (subst (λ s. LinesAnswer s pushed.view lines) pushed_schema
-          (tells.answers pushed_settled))
+          (handles.answers pushed_settled))
 
       begins : FeedBegins d h (p + 1) piece lines
-      begins = record { rest = last.held; good = not_bad; whole = whole; each = tells.each; lines_are = answered }
+      begins = record { rest = last.held; good = not_bad; whole = whole; each = handles.each; lines_are = answered }
 
       knows_more : KnowsThese d (known h (p + 1) ++ flat_map line_items lines) last
       knows_more = record {
-        schema_is = tells.schema_is ∙ pushed_schema;
-        view_is = tells.view_is pushed_settled ∙ ap (λ v. handled_view v lines) pushed_view ∙ told_items (known h (p + 1)) lines;
+        schema_is = handles.schema_is ∙ pushed_schema;
+        view_is = handles.view_is pushed_settled ∙ ap (λ v. handled_view v lines) pushed_view ∙ told_items (known h (p + 1)) lines;
       }
 
     module _ (lines : List Line) (bad : Bool) (new : NodeState) (all : HandlesAll pushed lines bad new) where
@@ -170,12 +170,12 @@ module _ (d : Declaration) (at : Places) (h : List Step) (p : ℕ) (node : NodeS
           (record {
             rest = all.last.held;
             splits = record {
-              whole = whole lines all.last all.tells;
-              each = each-both (handled h (p + 1)) (map line_item lines) listens.each all.tells.each;
+              whole = whole lines all.last all.handles;
+              each = each-both (handled h (p + 1)) (map line_item lines) listens.each all.handles.each;
               end = rest_ends bad all.last.held all.end;
             };
             end = all.end;
-            lines_are = answered lines all.last all.tells;
+            lines_are = answered lines all.last all.handles;
           }))
 
       listens_after : Listens (after lines bad) (p + 1) new
@@ -185,33 +185,33 @@ module _ (d : Declaration) (at : Places) (h : List Step) (p : ℕ) (node : NodeS
         held_is = λ _.
             ap (λ o. stream h (p + 1) ++ entered (is_bad h (p + 1)) o) (heard_here lines bad)
             ∙ ap (λ b. stream h (p + 1) ++ entered b (Some (news lines bad))) not_bad
-            ∙ whole lines all.last all.tells
+            ∙ whole lines all.last all.handles
             ∙ ap (λ l. flat_map message_text (handled h (p + 1) ++ map line_item lines) ++ l)
             (sym (ap (λ (x : NodeState). x.held) all.new_is))
             ∙ ap (λ o. flat_map message_text (handled h (p + 1) ++ heard_items o) ++ new.held) (sym (heard_here lines bad));
         each = subst (λ o. AllByRecursion IsMessage (handled h (p + 1) ++ heard_items o)) (sym (heard_here lines bad))
-            (each-both (handled h (p + 1)) (map line_item lines) listens.each all.tells.each);
+            (each-both (handled h (p + 1)) (map line_item lines) listens.each all.handles.each);
       }
 
       stands : StandAt d (places (set at.nodes p new) at.slots) (after lines bad)
       stands =
-          let k = knows_more lines all.last all.tells in
+          let k = knows_more lines all.last all.handles in
           stands_after lines bad new
           (record {
             schema_is = ap (λ (x : NodeState). x.schema) all.new_is ∙ k.schema_is;
             view_is =
                 ap (λ (x : NodeState). x.view) all.new_is ∙ k.view_is;
           })
-          (sound_lines d (view_of (known h (p + 1))) lines all.tells.each (answered lines all.last all.tells))
+          (sound_lines d (view_of (known h (p + 1))) lines all.handles.each (answered lines all.last all.handles))
           listens_after
 
     fed_all : (n : ℕ) (new : NodeState) (a b : Sent) → p + 1 ≡ n → SendsAll pushed new a b
         → FedAs d (places (set at.nodes p new) at.slots) h n piece a b
     fed_all n new a b place s = subst (λ m. FedAs d (places (set at.nodes p new) at.slots) h m piece a b) place (record {
       reply = Fed s.lines s.bad;
-      answers = answers s.lines s.bad new s.tells;
+      answers = answers s.lines s.bad new s.handles;
       appends = s.appends;
-      stand = stands s.lines s.bad new s.tells;
+      stand = stands s.lines s.bad new s.handles;
     })
 
     fed_part : (n : ℕ) (a b : Sent) → p + 1 ≡ n → SendsPart pushed a b → FedPart h n piece a b
@@ -226,10 +226,10 @@ module _ (d : Declaration) (at : Places) (h : List Step) (p : ℕ) (node : NodeS
           n = s.n;
           declared = stand.declared;
           command_is = refl;
-          begins = begins s.lines s.new s.tells;
+          begins = begins s.lines s.new s.handles;
           appends = s.appends;
         })
-        by (inr s) = inl (record { reply = Fed s.lines s.bad; n = s.n; answers = answers s.lines s.bad s.new s.tells; appends = s.appends })
+        by (inr s) = inl (record { reply = Fed s.lines s.bad; n = s.n; answers = answers s.lines s.bad s.new s.handles; appends = s.appends })
 
   -- ---- a piece that finds no memory
 

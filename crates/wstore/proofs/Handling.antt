@@ -57,14 +57,14 @@ front_behind a b c xs ys k w = (length xs + w.0, subst (Says a c) (sym (take_beh
 
 pub record SoFar (old new : NodeState) (held new_held : Sent) (count : ℕ) : Type 0 where
   pub lines : List Line
-  pub tells : HandlesLines old lines new
+  pub handles : HandlesLines old lines new
   pub appends : Says held new_held (flat_map line_text lines)
   pub count_is : count ≡ length lines
 
 pub nothing_told : (old : NodeState) (held : Sent) → SoFar old old held held 0
 nothing_told old held = record {
   lines = [];
-  tells = record { schema_is = refl; view_is = λ s. refl; answers = λ s. tt; each = tt; held_is = refl; good = refl };
+  handles = record { schema_is = refl; view_is = λ s. refl; answers = λ s. tt; each = tt; held_is = refl; good = refl };
   appends = says_nothing held;
   count_is = refl;
 }
@@ -199,28 +199,28 @@ module _ (old mid new : NodeState) (a b c : Sent) (count : ℕ) (so_far : SoFar 
     last = line_told mid.schema mid.view new.view handles.item reply text handles.told is
 
     mid_settled : IsSettled old.view → IsSettled mid.view
-    mid_settled s = subst IsSettled (sym (so_far.tells.view_is s)) (told_settled old.view so_far.lines s)
+    mid_settled s = subst IsSettled (sym (so_far.handles.view_is s)) (told_settled old.view so_far.lines s)
 
     more : HandlesLines old (so_far.lines ++ last.line ∷ []) new
     more = record {
-      schema_is = handles.schema_is ∙ so_far.tells.schema_is;
+      schema_is = handles.schema_is ∙ so_far.handles.schema_is;
       view_is = λ s. last.view_is (mid_settled s) ∙ ap (λ v. join v (view_of (line_items last.line)))
-          (so_far.tells.view_is s) ∙ sym (view-push old.view so_far.lines last.line);
-      answers = λ s. answers-push old.schema old.view so_far.lines last.line (so_far.tells.answers s)
-          (subst (λ v. LineAnswers old.schema v last.line) (so_far.tells.view_is s)
-          (subst (λ d. LineAnswers d mid.view last.line) so_far.tells.schema_is last.answers));
-      each = each-push so_far.lines last.line so_far.tells.each (subst IsMessage (sym last.item_is) handles.is);
+          (so_far.handles.view_is s) ∙ sym (view-push old.view so_far.lines last.line);
+      answers = λ s. answers-push old.schema old.view so_far.lines last.line (so_far.handles.answers s)
+          (subst (λ v. LineAnswers old.schema v last.line) (so_far.handles.view_is s)
+          (subst (λ d. LineAnswers d mid.view last.line) so_far.handles.schema_is last.answers));
+      each = each-push so_far.lines last.line so_far.handles.each (subst IsMessage (sym last.item_is) handles.is);
       held_is =
-          so_far.tells.held_is ∙ ap (λ x. flat_map message_text (map line_item so_far.lines) ++ x) (handles.held_is
+          so_far.handles.held_is ∙ ap (λ x. flat_map message_text (map line_item so_far.lines) ++ x) (handles.held_is
           ∙ ap (λ i. message_text i ++ new.held) (sym last.item_is))
           ∙ messages-push so_far.lines last.line new.held;
-      good = handles.good.1 ∙ sym handles.good.0 ∙ so_far.tells.good;
+      good = handles.good.1 ∙ sym handles.good.0 ∙ so_far.handles.good;
     }
 
     pub one_more : Says b c text → SoFar old new a c (count + 1)
     one_more k = record {
       lines = so_far.lines ++ last.line ∷ [];
-      tells = more;
+      handles = more;
       appends = subst (Says a c) (texts-push so_far.lines last.line) (says_more a b c (flat_map line_text so_far.lines)
           (line_text last.line) so_far.appends (subst (Says b c) last.text_is k));
       count_is = ap (λ n. n + 1) so_far.count_is ∙ sym (length-push so_far.lines last.line);
@@ -234,7 +234,7 @@ module _ (old mid new : NodeState) (a b c : Sent) (count : ℕ) (so_far : SoFar 
           lines = so_far.lines ++ last.line ∷ [];
           new = new;
           n = f.0;
-          tells = more;
+          handles = more;
           appends = subst (λ t. Says a c (take f.0 t)) (texts-push so_far.lines last.line) f.1;
         })
 
@@ -246,7 +246,7 @@ module _ (old mid new : NodeState) (a b c : Sent) (count : ℕ) (so_far : SoFar 
     all end k = record {
       lines = so_far.lines;
       bad = bad;
-      tells = end;
+      handles = end;
       appends =
           says_more a b c (flat_map line_text so_far.lines) last_text so_far.appends k;
     }
@@ -254,14 +254,14 @@ module _ (old mid new : NodeState) (a b c : Sent) (count : ℕ) (so_far : SoFar 
     part : (end : HandlesAll old so_far.lines bad new) → ((n : ℕ) × Says b c (take n last_text)) → SendsPart old a c
     part end w =
         let f = front_behind a b c (flat_map line_text so_far.lines) last_text so_far.appends w in
-        inr (record { lines = so_far.lines; bad = bad; new = new; n = f.0; tells = end; appends = f.1 })
+        inr (record { lines = so_far.lines; bad = bad; new = new; n = f.0; handles = end; appends = f.1 })
 
   module _ (is_open : (mid.is_bad ≡ false) × IsOpen mid.held × (new ≡ mid)) where
     new_is : new ≡ record mid { is_bad = false }
     new_is = is_open.2 ∙ ap (λ x. record mid { is_bad = x }) is_open.0
 
     ended : HandlesAll old so_far.lines false new
-    ended = record { last = mid; tells = so_far.tells; new_is = new_is; end = is_open.1 }
+    ended = record { last = mid; handles = so_far.handles; new_is = new_is; end = is_open.1 }
 
     pub all_told : Says b c (fed_text count false) → SendsAll old new a c
     all_told k = all false new_is ended (subst (λ n. Says b c (fed_text n false)) so_far.count_is k)
@@ -271,11 +271,11 @@ module _ (old mid new : NodeState) (a b c : Sent) (count : ℕ) (so_far : SoFar 
 
   module _ (good : old.is_bad ≡ false) (ends : ((mid.is_bad ≡ true) ⊎ IsBad mid.held) × (new ≡ record mid { is_bad = true })) where
     rest_is_bad : (mid.is_bad ≡ true) ⊎ IsBad mid.held → IsBad mid.held
-    rest_is_bad (inl e) = let wrong : true ≡ false = sym e ∙ so_far.tells.good ∙ good in cc
+    rest_is_bad (inl e) = let wrong : true ≡ false = sym e ∙ so_far.handles.good ∙ good in cc
     rest_is_bad (inr e) = e
 
     ended_bad : HandlesAll old so_far.lines true new
-    ended_bad = record { last = mid; tells = so_far.tells; new_is = ends.1; end = rest_is_bad ends.0 }
+    ended_bad = record { last = mid; handles = so_far.handles; new_is = ends.1; end = rest_is_bad ends.0 }
 
     pub bad_told : Says b c (fed_text 0 true) → SendsAll old new a c
     bad_told k = all true ends.1 ended_bad k
@@ -305,7 +305,7 @@ room old new a b count s = omega (
   arith,
   s.count_is,
   many s.lines,
-  ap length s.tells.held_is,
+  ap length s.handles.held_is,
   length-append (flat_map message_text (map line_item s.lines)) new.held,
 )
 

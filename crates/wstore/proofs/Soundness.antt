@@ -26,7 +26,7 @@ use Rattle.wexchange.specs.declared.version.Version.TheVariants.{One, Two}
 use Rattle.wentries.proofs.Floors.{first, second, less}
 use Rattle.wexchange.proofs.OneText.{one_text}
 use Rattle.wstore.specs.History.{file_if}
-use Rattle.wstore.specs.Standing.{IsSound}
+use Rattle.wstore.specs.Standing.{HoldRecords}
 
 no_known : (k : Known) → None ≡ Some k → ⊥
 no_known k e = cc
@@ -40,7 +40,7 @@ one_known j k e = cc
 pub nothing_known : empty ≡ view_of []
 nothing_known = same_view empty (view_of []) (λ q. get-empty name_cmp q ∙ sym (get-view_of [] q))
 
-pub sound_nothing : (d : Declaration) → IsSound d []
+pub sound_nothing : (d : Declaration) → HoldRecords d []
 sound_nothing d n k e = absurd (no_known k (sym (get-view_of [] n) ∙ e))
 
 joined : (d : Declaration) (n : NameParts) (a b : Known) → IsRecord d (n, a) → IsRecord d (n, b) → IsRecord d (n, join_known a b)
@@ -68,7 +68,7 @@ told d n None p j f g e = g j e
 told d n (Some a) None j f g e = f j e
 told d n (Some a) (Some b) j f g e = subst (λ k. IsRecord d (n, k)) (one_known (join_known a b) j e) (joined d n a b (f a refl) (g b refl))
 
-pub sound_both : (d : Declaration) (xs ys : List Item) → IsSound d xs → IsSound d ys → IsSound d (xs ++ ys)
+pub sound_both : (d : Declaration) (xs ys : List Item) → HoldRecords d xs → HoldRecords d ys → HoldRecords d (xs ++ ys)
 sound_both d xs ys f g n j e =
     by (is_below (view_of xs) n || is_below (view_of ys) n) (sym (get-join (view_of xs) (view_of ys) n)
     ∙ ap (λ v. get v n) (sym (view_of_union xs ys)) ∙ e)
@@ -100,14 +100,14 @@ sound_single d v m j single record_is q k e = by (same_name q m) refl (sym (sing
     by false s e = absurd (no_known k e)
 
 pub sound_segment : (d : Declaration) (m : NameParts) (bytes : List ℕ) → IsName m → IsOk (rows_of d bytes)
-    → IsSound d (SegmentItem m bytes ∷ [])
+    → HoldRecords d (SegmentItem m bytes ∷ [])
 sound_segment d m bytes name read = sound_single d (view_of_item (SegmentItem m bytes)) m (Live bytes)
     (segment_single m bytes) (name, read, fits d bytes read)
 
-pub sound_retirement : (d : Declaration) (m : NameParts) → IsName m → IsSound d (RetirementItem m ∷ [])
+pub sound_retirement : (d : Declaration) (m : NameParts) → IsName m → HoldRecords d (RetirementItem m ∷ [])
 sound_retirement d m name = sound_single d (view_of_item (RetirementItem m)) m Retired (retirement_single m) name
 
-pub sound_floor : (d : Declaration) (m : NameParts) → IsName m → IsSound d (FloorItem m ∷ [])
+pub sound_floor : (d : Declaration) (m : NameParts) → IsName m → HoldRecords d (FloorItem m ∷ [])
 sound_floor d m name = sound_single d (view_of_item (FloorItem m)) m Floor (floor_single m) name
 
 -- ---- entry by entry
@@ -140,7 +140,7 @@ all_found d (e ∷ es) h f = (
         let same : n ≡ e.0 = exact_names n e.0 c in
         absurd (no_known k (sym (find_below e.0 es (first _ _ h)) ∙ ap (λ m. find name_cmp m es) (sym same) ∙ found))
 
-pub records : (d : Declaration) (items : List Item) → IsSound d items → AreRecords d (view_of items)
+pub records : (d : Declaration) (items : List Item) → HoldRecords d items → AreRecords d (view_of items)
 records d items sound = all_found d (entries (view_of items)) (entries_sorted (view_of items))
     (λ n k found. sound n k (get-entries (view_of items) n ∙ found))
 
@@ -156,7 +156,7 @@ no_file d Two v more e = no_bytes 87 _ e
 
 -- the view whose file a slot holds is that of its items
 pub slot_view : (d : Declaration) (b : Bool) (items : List Item) (v : View) → IsFileOf d v (file_if b d items)
-    → IsSound d items → v ≡ view_of items
+    → HoldRecords d items → v ≡ view_of items
 slot_view d true items v f sound = (one_text d f.version Two v (view_of items) f.is_view.records (records d items sound)
     (sym f.bytes_are)).1
 slot_view d false items v f sound = absurd (no_file d f.version v [] (f.bytes_are ∙ sym (append-nil (text_of f.version d v))))

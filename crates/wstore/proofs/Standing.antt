@@ -18,7 +18,7 @@ use Rattle.wstore.specs.History.{heard, heard_items, heard_bad, entered, stream,
 use Rattle.wexchange.specs.Files.{file_of}
 use Rattle.wstream.specs.Messages.{IsMessage, message_text}
 use Rattle.std.specs.List.{flat_map, AllByRecursion}
-use Rattle.wstore.specs.Standing.{KnowsThese, IsSound, Listens, Places, StandAt, places}
+use Rattle.wstore.specs.Standing.{KnowsThese, HoldRecords, Listens, Places, StandAt, places}
 use Rattle.wstore.proofs.Soundness.{sound_both}
 
 pub eqb_refl : (n : ℕ) → (n == n) ≡ true
@@ -119,15 +119,15 @@ module _ (d : Declaration) (at : Places) (h : List Step) (c : Command) (r : Repl
   holds k bytes e x = x ∙ ap (λ o. file_if (is_put_by o (is_put h k)) d (replaced o (λ n. known h n) (held h k))) (sym e)
 
   -- what a slot holds stays sound, whatever was put
-  slots_sound : (k : ℕ) → IsSound d (held (step c r ∷ h) k)
+  slots_sound : (k : ℕ) → HoldRecords d (held (step c r ∷ h) k)
   slots_sound k = by (puts c r k)
     where
-      by : (o : Option ℕ) → IsSound d (replaced o (λ n. known h n) (held h k))
+      by : (o : Option ℕ) → HoldRecords d (replaced o (λ n. known h n) (held h k))
       by None = stand.sound_slots k
       by (Some n) = stand.sound n
 
-  nodes_sound : (n : ℕ) → delivers c r n ≡ [] → gets c r n ≡ None → IsSound d (known (step c r ∷ h) n)
-  nodes_sound n e f = subst (IsSound d) (sym (untold h c r n e f)) (stand.sound n)
+  nodes_sound : (n : ℕ) → delivers c r n ≡ [] → gets c r n ≡ None → HoldRecords d (known (step c r ∷ h) n)
+  nodes_sound n e f = subst (HoldRecords d) (sym (untold h c r n e f)) (stand.sound n)
 
   -- no node was told anything
   pub stand_quiet : IsQuiet c r → StandAt d at (step c r ∷ h)
@@ -144,7 +144,7 @@ module _ (d : Declaration) (at : Places) (h : List Step) (c : Command) (r : Repl
 
   -- one node learned these items, and the others nothing
   pub stand_told : (p : ℕ) (items : List Item) (old new : NodeState) → p < node_count → old ≡ get_or at.nodes p old
-      → new ≡ record old { view = join old.view (view_of items) } → IsSound d items
+      → new ≡ record old { view = join old.view (view_of items) } → HoldRecords d items
       → known (step c r ∷ h) (p + 1) ≡ known h (p + 1) ++ items → ((n : ℕ) → n ≢ p + 1 → delivers c r n ≡ [])
       → ((n : ℕ) → n ≢ p + 1 → gets c r n ≡ None) → ((k : ℕ) → puts c r k ≡ None) → ((n : ℕ) → heard c r n ≡ None)
       → StandAt d (places (set at.nodes p new) at.slots) (step c r ∷ h)
@@ -170,11 +170,11 @@ module _ (d : Declaration) (at : Places) (h : List Step) (c : Command) (r : Repl
           let u : true ≡ false = sym (eqb_refl p) ∙ ap (λ q. p == q) same ∙ t in
           cc
 
-      sound_at : (n : ℕ) → (b : Bool) → (p + 1 == n) ≡ b → IsSound d (known (step c r ∷ h) n)
+      sound_at : (n : ℕ) → (b : Bool) → (p + 1 == n) ≡ b → HoldRecords d (known (step c r ∷ h) n)
       sound_at n true t =
           let same_node : p + 1 ≡ n = eqb-true (p + 1) n t in
-          subst (λ m. IsSound d (known (step c r ∷ h) m)) same_node
-          (subst (IsSound d) (sym here) (sound_both d (known h (p + 1)) items (stand.sound (p + 1)) sound_items))
+          subst (λ m. HoldRecords d (known (step c r ∷ h) m)) same_node
+          (subst (HoldRecords d) (sym here) (sound_both d (known h (p + 1)) items (stand.sound (p + 1)) sound_items))
       sound_at n false t = nodes_sound n (quiet n (λ e. differ (p + 1) n t (sym e))) (quiet_gets n (λ e. differ (p + 1) n t (sym e)))
 
       told : KnowsThese d (known (step c r ∷ h) (p + 1)) new

@@ -23,7 +23,7 @@ use Rattle.wscript.specs.Requests.{IsRefusedAs}
 use Rattle.wstore.specs.History.{Step, AnswersUnder, MayLackMemory, declaration, declared_by, is_declared}
 use Rattle.wstore.specs.History.{is_put, is_put_by, held, known, puts, replaced, file_if, heard, heard_items}
 use Rattle.wstore.specs.History.{heard_bad, entered, stream, handled, is_bad, segment_reply}
-use Rattle.wstore.specs.Standing.{KnowsThese, IsSound, Listens, Places, StandAt, places}
+use Rattle.wstore.specs.Standing.{KnowsThese, HoldRecords, Listens, Places, StandAt, places}
 use Rattle.wplanner.specs.declared.fault.AskFault.TheVariants as queries
 use Rattle.wscript.specs.declared.request.Refusal.{Refusal}
 use Rattle.wscript.specs.declared.request.Refusal.TheVariants as refusals
@@ -106,8 +106,8 @@ fresh_stand d h c r k j is js declared quiet none unput silent = record {
       subst (Listens (record { command = c; reply = r } ∷ h) (n + 1))
       (sym (get_or-replicate {A = NodeState} k n (fresh d) x (omega (arith, is))))
       (listens_still h c r (n + 1) (fresh d) (quiet.hears_none (n + 1)) (silent_listens d h (n + 1) (silent (n + 1))));
-  sound = λ n. subst (IsSound d) (sym (untold h c r n (quiet.delivers_none n) (quiet.gets_none n) ∙ none n)) (sound_nothing d);
-  sound_slots = λ n. subst (IsSound d) (sym (holds_none (record { command = c; reply = r } ∷ h) n (still_unput n))) (sound_nothing d);
+  sound = λ n. subst (HoldRecords d) (sym (untold h c r n (quiet.delivers_none n) (quiet.gets_none n) ∙ none n)) (sound_nothing d);
+  sound_slots = λ n. subst (HoldRecords d) (sym (holds_none (record { command = c; reply = r } ∷ h) n (still_unput n))) (sound_nothing d);
 }
   where
     still_unput : (n : ℕ) → is_put (record { command = c; reply = r } ∷ h) n ≡ false

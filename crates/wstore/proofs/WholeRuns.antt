@@ -59,8 +59,8 @@ replied-more (y ∷ ys) s = ap (λ l. text_of y.reply ++ l) (replied-more ys s)
 pub one_step_more : (session new : Session) (first left new_left : Option (List ℕ)) (begun held new_held : Sent)
     → SoFar session first left begun held → ((h : List Step) → Stands session h → StepsOn new h left new_left held new_held)
     → SoFar new first new_left begun new_held
-one_step_more session new first left new_left begun held new_held so tells =
-    let t = tells so.history so.stands in
+one_step_more session new first left new_left begun held new_held so leads =
+    let t = leads so.history so.stands in
     let s : Step = record { command = t.command; reply = t.answered.reply } in
     record {
       steps = so.steps ++ s ∷ [];
@@ -79,16 +79,16 @@ module _ (session : Session) (first left new_left : Option (List ℕ)) (begun he
     (so : SoFar session first left begun held) where
   pub run_ends : (end : End) → ((h : List Step) → Stands session h → StepEnds end h left new_left held new_held)
       → IfSome first (λ bytes. (written : List ℕ) × Says begun new_held written × Replies end bytes written)
-  run_ends Done tells =
-      let e = tells so.history so.stands in
+  run_ends Done leads =
+      let e = leads so.history so.stands in
       Consumes-whole first new_left (asked so.steps) (λ bytes. (written : List ℕ) × Says begun new_held written × RepliesDone bytes written)
       (Consumes-kept first left new_left (asked so.steps) so.consumed e.0) e.1 (
         replied so.steps,
         subst (Says begun new_held) (append-nil (replied so.steps)) (says_more begun held new_held (replied so.steps) [] so.written e.2),
         record { steps = so.steps; history = so.history; ran = so.ran; input_is = refl; output_is = refl },
       )
-  run_ends Bad tells =
-      let e = tells so.history so.stands in
+  run_ends Bad leads =
+      let e = leads so.history so.stands in
       lift_front first left (asked so.steps) (λ xs. IsMalformed (is_declared so.history) xs) (λ bytes. (written : List ℕ)
       × Says begun new_held written × RepliesBad bytes written) so.consumed e.0
       (λ rest bad. (

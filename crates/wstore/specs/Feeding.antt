@@ -24,7 +24,7 @@ IsTextOf replies.NoMemory text = text ≡ no_memory
 pub record SendsAll (old new : NodeState) (held new_held : Sent) : Type 0 where
   pub lines : List Line
   pub bad : Bool
-  pub tells : HandlesAll old lines bad new
+  pub handles : HandlesAll old lines bad new
   pub appends : Says held new_held (flat_map line_text lines ++ fed_text (length lines) bad)
 
 -- a front was written of what the first messages are told
@@ -32,7 +32,7 @@ pub record SendsSome (old : NodeState) (held new_held : Sent) : Type 0 where
   pub lines : List Line
   pub new : NodeState
   pub n : ℕ
-  pub tells : HandlesLines old lines new
+  pub handles : HandlesLines old lines new
   pub appends : Says held new_held (take n (flat_map line_text lines))
 
 -- or of all
@@ -41,7 +41,7 @@ pub record SendsFront (old : NodeState) (held new_held : Sent) : Type 0 where
   pub bad : Bool
   pub new : NodeState
   pub n : ℕ
-  pub tells : HandlesAll old lines bad new
+  pub handles : HandlesAll old lines bad new
   pub appends : Says held new_held (take n (flat_map line_text lines ++ fed_text (length lines) bad))
 
 abbrev pub SendsPart : NodeState → Sent → Sent → Type 0

@@ -75,7 +75,7 @@ pub record HandlesLines (old : NodeState) (lines : List Line) (new : NodeState) 
 -- all messages that are whole were handled, and what is left is open, or bad
 pub record HandlesAll (old : NodeState) (lines : List Line) (bad : Bool) (new : NodeState) : Type 0 where
   pub last : NodeState
-  pub tells : HandlesLines old lines last
+  pub handles : HandlesLines old lines last
   pub new_is : new ≡ record last { is_bad = bad }
   pub end : IsRest bad last.held
 

@@ -20,8 +20,8 @@ pub record KnowsThese (d : Declaration) (items : List Item) (node : NodeState) :
   pub view_is : node.view ≡ view_of items
 
 -- each name of the view is a name, and each content a segment
-abbrev pub IsSound : Declaration → List Item → Type 0
-IsSound d items = (n : NameParts) (k : Known) → get (view_of items) n ≡ Some k → IsRecord d (n, k)
+abbrev pub HoldRecords : Declaration → List Item → Type 0
+HoldRecords d items = (n : NameParts) (k : Known) → get (view_of items) n ≡ Some k → IsRecord d (n, k)
 
 -- a node holds what its stream has behind the messages that were handled, unless the stream is bad
 pub record Listens (h : List Step) (n : ℕ) (node : NodeState) : Type 0 where
@@ -50,8 +50,8 @@ pub record StandAt (d : Declaration) (at : Places) (h : List Step) : Type 0 wher
   pub node : (n : ℕ) (e : NodeState) → n < node_count → KnowsThese d (known h (n + 1)) (slice_index_or at.nodes n e)
   pub listens : (n : ℕ) (e : NodeState) → n < node_count → Listens h (n + 1) (slice_index_or at.nodes n e)
   pub slot : (k : ℕ) (e : List ℕ) → k < slot_count → slice_index_or at.slots k e ≡ slot_file d h (k + 1)
-  pub sound : (n : ℕ) → IsSound d (known h n)
-  pub sound_slots : (k : ℕ) → IsSound d (held h k)
+  pub sound : (n : ℕ) → HoldRecords d (known h n)
+  pub sound_slots : (k : ℕ) → HoldRecords d (held h k)
 
 -- a command was answered by this text, and the nodes and slots stand behind it
 pub record AnswersAs (d : Declaration) (at : Places) (h : List Step) (c : Command) (text : List ℕ) : Type 0 where

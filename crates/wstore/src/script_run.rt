@@ -229,7 +229,7 @@ fn step<R: Read, W: Write>(
     requires input { IsSound input.old }
     requires output { IsSoundWriter output.old }
     requires answered { outbox.old.is_answered ≡ true }
-    ensures tells { IfOk result (λ end. (h : List Step) → Stands session.old h
+    ensures leads { IfOk result (λ end. (h : List Step) → Stands session.old h
         → StepLeads end session.new h (left R.remaining source.old.held input.old)
         (left R.remaining source.new.held input.new) (sent W.contents outbox.old output.old) (sent W.contents outbox.new output.new)) }
     ensures answered { IfOk result (λ end. IsNone end → outbox.new.is_answered ≡ true) }

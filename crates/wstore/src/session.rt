@@ -47,7 +47,7 @@ impl Session {
 
     /// Declares the table, if its bytes do. Where it finds no memory, nothing is changed.
     pub(crate) fn declare(&mut self, bytes: &[u8]) -> Result<Text, AllocError>
-        ensures tells { IfOk result (λ text. (h : List Step) → is_declared h ≡ false → Stands self.old h
+        ensures replies { IfOk result (λ text. (h : List Step) → is_declared h ≡ false → Stands self.old h
             → RepliesWith self.new h (Declare bytes.now) (bytes_of text)) }
         ensures err { OnErr result (self.new ≡ self.old) }
     {
@@ -67,7 +67,7 @@ impl Session {
     /// What a node answers. Where it finds no memory, nothing is changed.
     fn order(&mut self, node: NodeNumber, order: &Order) -> Result<Text, AllocError>
         requires { is_some self.old.cluster ≡ true }
-        ensures tells { IfOk result (λ text. (h : List Step) (c : Spelled) → IsOrderAt node order.now c → Stands self.old h
+        ensures replies { IfOk result (λ text. (h : List Step) (c : Spelled) → IsOrderAt node order.now c → Stands self.old h
             → RepliesWith self.new h c (bytes_of text)) }
         ensures err { OnErr result ((h : List Step) → Stands self.old h → Stands self.new h) }
         ensures lacks { OnErr result ((h : List Step) (c : Spelled) → IsOrderAt node order.now c → Stands self.old h → MayLackMemory h c) }

@@ -9,7 +9,7 @@ use Rattle.wact.specs.declared.acted.Acted.{Acted}
 use Rattle.wstore.specs.declared.script_run.End.{End}
 use Rattle.wstore.specs.declared.script_run.End.TheVariants as ends
 use Rattle.wstore.specs.declared.script_run.RunFault.{RunFault}
-use Rattle.wfolder.specs.Calls.{CallCounts, HasCause, IsSound}
+use Rattle.wfolder.specs.Calls.{CallCounts, HasCause, NothingFailed}
 use Rattle.wfolder.specs.Call.{Call}
 use Rattle.wstore_program.specs.Performing.{IsGivenUp, IsPerformed}
 use Rattle.wfolder.specs.declared.fault.Fault.{Fault}
@@ -22,7 +22,7 @@ script_status (Err fault) = 3
 
 -- a text that is printed: whole, with the status of what was done, or a fault has its cause
 pub data IsPrinted (text : List ℕ) (done : ℕ) (calls : CallCounts) (old new : Option (List ℕ)) (status : ℕ) : Type 0 where
-  Whole : IsSound calls → Appends old new text → status ≡ done → IsPrinted text done calls old new status
+  Whole : NothingFailed calls → Appends old new text → status ≡ done → IsPrinted text done calls old new status
   Unwritten : (fault : Fault) → HasCause fault calls → status ≡ 3 → IsPrinted text done calls old new status
 
 -- of words that choose nothing

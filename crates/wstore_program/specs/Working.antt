@@ -7,7 +7,7 @@ use Rattle.wbatch.specs.Batches.{stream_of}
 use Rattle.wcommand.specs.declared.choice.Choice.{Choice}
 use Rattle.wcommand.specs.Inputs.{is_act}
 use Rattle.wfolder.specs.Call.{Call}
-use Rattle.wfolder.specs.Calls.{CallCounts, HasCause, IsSound}
+use Rattle.wfolder.specs.Calls.{CallCounts, HasCause, NothingFailed}
 use Rattle.wfolder.specs.declared.fault.Fault.{Fault}
 use Rattle.wstore.specs.Nodes.{NodeState}
 use Rattle.wact.specs.declared.acted.Acted.{Acted}
@@ -59,7 +59,7 @@ FeedsFrom choice path = IsFeed choice × (input_path choice ≡ Some path)
 
 -- nothing has failed where there is no fault, and a fault has its cause
 abbrev pub IsCounted : {A : Type 0} → Result A Fault → CallCounts → Type 0
-IsCounted (Ok value) counts = IsSound counts
+IsCounted (Ok value) counts = NothingFailed counts
 IsCounted (Err fault) counts = HasCause fault counts
 
 -- it is carried out with this input, or at a fault it is not

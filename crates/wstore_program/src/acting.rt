@@ -8,7 +8,7 @@ ghost use Rattle.wact.specs.Streams.{Feeds};
 ghost use Rattle.wstore_program.specs.Performing.{OnlyReads, Performs, Puts, ReadsWhole, input_path};
 ghost use Rattle.wstore_program.specs.Working.{Ends, FeedsFrom, FeedsNode, Finishes, Gives, GivesOn, IsCounted, IsGiven};
 ghost use Rattle.wstore_program.specs.Working.{given_bytes, store_bytes};
-ghost use Rattle.wfolder.specs.Calls.{HasCause, IsSound};
+ghost use Rattle.wfolder.specs.Calls.{HasCause, NothingFailed};
 ghost use Rattle.wfolder.specs.Model.{IsLocked};
 ghost use Rattle.wfolder.specs.Replacing.{fault_of};
 
@@ -88,10 +88,10 @@ fn read_input<R: Files<File = File> + AllocGlobal>(
     calls: &mut Record,
     choice: &Choice<'_>,
 ) -> Result<Vec<u8>, Fault>
-    requires { IsSound system.old }
+    requires { NothingFailed system.old }
     ensures read { IfOk result (λ bytes. ReadsWhole choice.now bytes.items calls.old.calls calls.new.calls) }
     ensures unread { OnErr result (OnlyReads calls.old.calls calls.new.calls) }
-    ensures sound { OnOk result (IsSound system.new) }
+    ensures sound { OnOk result (NothingFailed system.new) }
     ensures cause { IfErr result (λ fault. HasCause fault system.new) }
 {
     match choice.input() {
@@ -110,9 +110,9 @@ fn acted_again<R>(
     first: Acted,
 ) -> Result<Acted, Fault>
     requires gives { Gives work.now given.now first }
-    requires sound { IsSound system.old }
+    requires sound { NothingFailed system.old }
     ensures acts { IfOk result (GivesOn work.now (store_bytes now.now) (given_bytes given.now)) }
-    ensures sound { OnOk result (IsSound system.new) }
+    ensures sound { OnOk result (NothingFailed system.new) }
     ensures cause { IfErr result (λ fault. HasCause fault system.new) }
 {
     if now == work.store {
@@ -130,10 +130,10 @@ fn put<R: Files<File = File> + AllocGlobal>(
     acted: &Acted,
 ) -> Result<(), NotReplaced>
     requires locked { IsLocked calls.old.calls }
-    requires sound { IsSound system.old }
+    requires sound { NothingFailed system.old }
     ensures puts { Puts (string_bytes place.now.target.path) (option_map (λ store. store.items) acted.now.store) result
         calls.old.calls calls.new.calls }
-    ensures sound { OnOk result (IsSound system.new) }
+    ensures sound { OnOk result (NothingFailed system.new) }
     ensures cause { IfErr result (λ fault. HasCause (fault_of fault) system.new) }
 {
     match &acted.store {
@@ -153,7 +153,7 @@ fn carry_out<R: Files<File = File> + AllocGlobal + Clock + Eprint>(
     first: Acted,
 ) -> Result<Acted, Fault>
     requires gives { Gives work.now given.now first }
-    requires sound { IsSound system.old }
+    requires sound { NothingFailed system.old }
     ensures finished { Finishes work.now (given_bytes given.now) result calls.old.calls calls.new.calls }
     ensures counted { IsCounted result system.new }
 {
@@ -185,7 +185,7 @@ fn finish<R: Files<File = File> + AllocGlobal + Clock + Eprint>(
     first: Acted,
 ) -> Result<Acted, Fault>
     requires gives { Gives work.now given.now first }
-    requires sound { IsSound system.old }
+    requires sound { NothingFailed system.old }
     ensures finished { Finishes work.now (given_bytes given.now) result calls.old.calls calls.new.calls }
     ensures counted { IsCounted result system.new }
 {
@@ -203,7 +203,7 @@ fn perform_on_bytes<R: Files<File = File> + AllocGlobal + Clock + Eprint>(
     work: &Work<'_, '_>,
 ) -> Result<Acted, Fault>
     requires act { is_act work.now.choice.now ≡ true }
-    requires sound { IsSound system.old }
+    requires sound { NothingFailed system.old }
     ensures ended { Ends work.now result calls.old.calls calls.new.calls }
     ensures counted { IsCounted result system.new }
 {
@@ -246,9 +246,9 @@ fn fed<R>(
 ) -> Result<Acted, Fault>
     requires declared { batch.now.schema ≡ node.schema }
     requires whole { batch.now.held ≡ [] }
-    requires sound { IsSound system.old }
+    requires sound { NothingFailed system.old }
     ensures feeds { IfOk result (λ acted. Feeds node.schema node.view hashed.now (stream_of batch.now) acted) }
-    ensures sound { OnOk result (IsSound system.new) }
+    ensures sound { OnOk result (NothingFailed system.new) }
     ensures cause { IfErr result (λ fault. HasCause fault system.new) }
 {
     system.grown(fed_on(alloc, node, hashed, batch))
@@ -267,7 +267,7 @@ fn deliver<R: Files<File = File> + AllocGlobal + Clock + Eprint>(
     requires feeds { FeedsNode work.now hashed.now node }
     requires declared { batch.now.schema ≡ node.schema }
     requires whole { batch.now.held ≡ [] }
-    requires sound { IsSound system.old }
+    requires sound { NothingFailed system.old }
     ensures finished { Finishes work.now (stream_of batch.now) result calls.old.calls calls.new.calls }
     ensures counted { IsCounted result system.new }
 {
@@ -287,7 +287,7 @@ fn refuse_stream<R: AllocGlobal + Eprint>(
     batch: &Batch,
     reason: Stop,
 ) -> Result<Acted, Fault>
-    requires { IsSound system.old }
+    requires { NothingFailed system.old }
     ensures told { IfOk result (IsRefusedSo reason) }
     ensures counted { IsCounted result system.new }
 {
@@ -311,7 +311,7 @@ fn feed_from<R: Files<File = File> + AllocGlobal + Clock + Eprint>(
 ) -> Result<Acted, Fault>
     requires stream { FeedsFrom work.now.choice.now stream.now }
     requires feeds { FeedsNode work.now hashed.now node }
-    requires sound { IsSound system.old }
+    requires sound { NothingFailed system.old }
     ensures ended { Ends work.now result calls.old.calls calls.new.calls }
     ensures counted { IsCounted result system.new }
 {
@@ -337,7 +337,7 @@ fn perform_feed<R: Files<File = File> + AllocGlobal + Clock + Eprint>(
     stream: &str,
 ) -> Result<Acted, Fault>
     requires stream { FeedsFrom work.now.choice.now stream.now }
-    requires sound { IsSound system.old }
+    requires sound { NothingFailed system.old }
     ensures ended { Ends work.now result calls.old.calls calls.new.calls }
     ensures counted { IsCounted result system.new }
 {
@@ -372,7 +372,7 @@ fn perform_on<R: Files<File = File> + AllocGlobal + Clock + Eprint>(
     work: &Work<'_, '_>,
 ) -> Result<Acted, Fault>
     requires act { is_act work.now.choice.now ≡ true }
-    requires sound { IsSound system.old }
+    requires sound { NothingFailed system.old }
     ensures ended { Ends work.now result calls.old.calls calls.new.calls }
     ensures counted { IsCounted result system.new }
 {
@@ -397,7 +397,7 @@ pub fn perform<R: Files<File = File> + AllocGlobal + Clock + Eprint>(
 ) -> Result<Acted, Fault>
     requires choice { is_act choice.now ≡ true }
     requires named { paths_of choice.now ≡ Some paths }
-    requires sound { IsSound system.old }
+    requires sound { NothingFailed system.old }
     ensures performed { Performs choice.now result calls.old.calls calls.new.calls }
     ensures counted { IsCounted result system.new }
 {

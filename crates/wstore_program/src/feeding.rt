@@ -4,7 +4,7 @@ ghost use Rattle.std.specs.Io.KnownBytes.{Consumes, IsAtEnd};
 ghost use Rattle.wbatch.specs.Batches.{stream_of};
 ghost use Rattle.wbatch.specs.Streams.{IsUndelivered};
 ghost use Rattle.wfolder.specs.Call.{Found};
-ghost use Rattle.wfolder.specs.Calls.{HasCause, IsSound};
+ghost use Rattle.wfolder.specs.Calls.{HasCause, NothingFailed};
 ghost use Rattle.wfiles.specs.Reading.{MayBegin, ReadsMore, read_more, read_to_end};
 ghost use Rattle.wstore_program.specs.Feeding.{IsRefusedStream, RefusesRead};
 
@@ -36,7 +36,7 @@ fn fill<R, T: Read>(
     reading: &mut Reading<T>,
     batch: &mut Batch,
 ) -> Result<Option<Stop>, Fault>
-    requires sound { IsSound system.old }
+    requires sound { NothingFailed system.old }
     requires new { stream_of batch.old ≡ [] }
     requires goes_on { batch.old.stopped ≡ None }
     ensures schema { OnOk result (batch.new.schema ≡ batch.old.schema) }
@@ -48,7 +48,7 @@ fn fill<R, T: Read>(
     ensures refused { IfOk result (λ stopped. IfSome stopped (RefusesRead batch.old.schema (T.remaining reading.old.reader)
         (T.remaining reading.new.reader) reading.old.calls reading.new.calls)) }
     ensures begun { OnErr result (ReadsMore reading.old.calls reading.new.calls) }
-    ensures sound { OnOk result (IsSound system.new) }
+    ensures sound { OnOk result (NothingFailed system.new) }
     ensures cause { IfErr result (λ fault. HasCause fault system.new) }
 {
     let mut block = [0u8; BLOCK];
@@ -75,7 +75,7 @@ pub(crate) fn fill_from<R: Files<File = File> + AllocGlobal>(
     path: &str,
     batch: &mut Batch,
 ) -> Result<Option<Stop>, Fault>
-    requires sound { IsSound system.old }
+    requires sound { NothingFailed system.old }
     requires new { stream_of batch.old ≡ [] }
     requires goes_on { batch.old.stopped ≡ None }
     ensures schema { OnOk result (batch.new.schema ≡ batch.old.schema) }
@@ -84,7 +84,7 @@ pub(crate) fn fill_from<R: Files<File = File> + AllocGlobal>(
         ∷ calls.old.calls)) }
     ensures refused { IfOk result (λ stopped. IfSome stopped (IsRefusedStream batch.old.schema path.now calls.old.calls calls.new.calls)) }
     ensures begun { OnErr result (MayBegin path.now calls.old.calls calls.new.calls) }
-    ensures sound { OnOk result (IsSound system.new) }
+    ensures sound { OnOk result (NothingFailed system.new) }
     ensures cause { IfErr result (λ fault. HasCause fault system.new) }
 {
     let mut reading = match Reading::open(system, calls, path) {

@@ -7,7 +7,7 @@
 ghost use Rattle.std.specs.Prelude.{◌≡◌, Some, true};
 ghost use Rattle.std.specs.Process.{exit_status};
 ghost use Rattle.wcommand.specs.Inputs.{is_act, paths_of};
-ghost use Rattle.wfolder.specs.Calls.{IsSound};
+ghost use Rattle.wfolder.specs.Calls.{NothingFailed};
 ghost use Rattle.wstore_program.specs.Statuses.{HasFileStatus, HasWordsStatus, IsPrinted, script_status};
 
 mod acting;
@@ -98,7 +98,7 @@ fn print<R, W: Write>(
     text: &[u8],
     done: u8,
 ) -> ExitCode
-    requires { IsSound system.old }
+    requires { NothingFailed system.old }
     ensures { IsPrinted text.now done system.new (W.contents output.old) (W.contents output.new) (exit_status result) }
 {
     match system.write(output, text) {
@@ -118,7 +118,7 @@ fn run_on_files<R: Files<File = File> + AllocGlobal + Clock + Eprint, W: Write>(
 ) -> ExitCode
     requires choice { is_act choice.now ≡ true }
     requires named { paths_of choice.now ≡ Some paths }
-    requires sound { IsSound system.old }
+    requires sound { NothingFailed system.old }
     ensures { HasFileStatus choice.now system.new calls.old.calls calls.new.calls (W.contents output.old)
         (W.contents output.new) (exit_status result) }
 {
@@ -135,7 +135,7 @@ fn tell<R, W: Write>(
     output: &mut W,
     fault: WordsFault,
 ) -> ExitCode
-    requires { IsSound system.old }
+    requires { NothingFailed system.old }
     ensures { HasWordsStatus fault system.new (W.contents output.old) (W.contents output.new) (exit_status result) }
 {
     match fault {
@@ -155,7 +155,7 @@ fn answer_input(
     calls: &mut Record,
     paths: Paths<'_>,
 ) -> ExitCode
-    requires { IsSound system.old }
+    requires { NothingFailed system.old }
 {
     let mut input = Counted::new(rt.stdin());
     let mut output = Counted::new(rt.stdout());

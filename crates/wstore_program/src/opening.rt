@@ -1,7 +1,7 @@
 //! What the bytes of a table and a store open.
 ghost use Rattle.std.specs.Prelude.{◌≡◌, IfErr, IfOk, OnOk, option_map};
 ghost use Rattle.wact.specs.Opening.{Opens};
-ghost use Rattle.wfolder.specs.Calls.{HasCause, IsSound};
+ghost use Rattle.wfolder.specs.Calls.{HasCause, NothingFailed};
 
 use std::alloc::Global;
 use wact::{Opened, Purpose, hashed, open_store};
@@ -27,9 +27,9 @@ pub(crate) fn opened<R>(
     store: &Option<Hashed<'_>>,
     purpose: Purpose,
 ) -> Result<Opened, Fault>
-    requires { IsSound system.old }
+    requires { NothingFailed system.old }
     ensures opens { IfOk result (λ opened. Opens table.now store.now opened) }
-    ensures sound { OnOk result (IsSound system.new) }
+    ensures sound { OnOk result (NothingFailed system.new) }
     ensures cause { IfErr result (λ fault. HasCause fault system.new) }
 {
     system.grown(open_store(alloc, table, store, purpose))

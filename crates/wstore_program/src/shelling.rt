@@ -1,7 +1,7 @@
 //! A shell on the files of a table and a store.
 ghost use Rattle.std.specs.Prelude.{◌≡◌, IfErr, IfOk, OnErr, OnOk};
 ghost use Rattle.std.specs.Process.{exit_status};
-ghost use Rattle.wfolder.specs.Calls.{HasCause, IsSound};
+ghost use Rattle.wfolder.specs.Calls.{HasCause, NothingFailed};
 ghost use Rattle.wlines.specs.Pending.{IsNew};
 ghost use Rattle.wstore_program.specs.Performing.{OnlyReads};
 ghost use Rattle.wstore_program.specs.Shelling.{Answers, HasShellStatus, IsOpened, IsRefusal, shell_status};
@@ -31,10 +31,10 @@ fn open_files<R: Files<File = File> + AllocGlobal>(
     calls: &mut Record,
     paths: Paths<'_>,
 ) -> Result<Opened, Fault>
-    requires { IsSound system.old }
+    requires { NothingFailed system.old }
     ensures opened { IfOk result (λ opened. IsOpened paths.entry opened calls.old.calls calls.new.calls) }
     ensures unread { OnErr result (OnlyReads calls.old.calls calls.new.calls) }
-    ensures sound { OnOk result (IsSound system.new) }
+    ensures sound { OnOk result (NothingFailed system.new) }
     ensures cause { IfErr result (λ fault. HasCause fault system.new) }
 {
     let alloc = rt.alloc();
@@ -101,7 +101,7 @@ pub(crate) fn run_shell<R: Files<File = File> + AllocGlobal + Eprint, I: Read, W
     output: &mut Counted<W>,
     paths: Paths<'_>,
 ) -> ExitCode
-    requires sound { IsSound system.old }
+    requires sound { NothingFailed system.old }
     requires input { IsNew input.old }
     requires output { IsNew output.old }
     ensures { HasShellStatus paths.entry system.new calls.old.calls calls.new.calls (I.remaining input.old.inner)

@@ -1,5 +1,5 @@
 use Rattle.std.proofs.Common.{rules, subst}
-use Rattle.wact.specs.Acts.{ActsOn, Done, InSubcommand, MayLackMemory, StoreRefused}
+use Rattle.wact.specs.Acts.{ActsOn, Done, InSubcommand, MayLackOn, StoreRefused}
 use Rattle.wact.proofs.Outcomes.{if_ok, on_err}
 use Rattle.wact.proofs.acting.act_by.Goals as goal
 
@@ -14,7 +14,7 @@ pub returns-in-Ok-clause-lacks : goal.returns-in-Ok-clause-lacks
 returns-in-Ok-clause-lacks c =
     let same = c.in-Ok.ensures.declared in
     on_err c.act_on.result (λ lack. InSubcommand c.in-Ok.node.view c.in-Ok.ensures.known
-    (subst (λ d. MayLackMemory d c.args.choice.now c.args.other.now) same lack)) c.act_on.ensures.lacks
+    (subst (λ d. MayLackOn d c.args.choice.now c.args.other.now) same lack)) c.act_on.ensures.lacks
 
 pub returns-in_ok-refused_file-in-Err-clause-acts : goal.returns-in_ok-refused_file-in-Err-clause-acts
 returns-in_ok-refused_file-in-Err-clause-acts c = StoreRefused c.in-Err.fault (search rules) c.in-Err.ensures.refused (search rules)

@@ -1,6 +1,6 @@
 use Rattle.std.proofs.Common.{◌≡◌, ◌-◌}
 use Rattle.std.specs.Io.KnownBytes.{Consumes}
-use Rattle.wfolder.specs.Calls.{IsSound, most_reads}
+use Rattle.wfolder.specs.Calls.{NothingFailed, most_reads}
 use Rattle.wfiles.specs.Reading.{read_more}
 use Rattle.wfiles.proofs.files.read_rest.Given as goal
 
@@ -8,7 +8,7 @@ abbrev pub invariant-reads : goal.invariant-reads
 invariant-reads g l = record {
   taken : Consumes (g.T.Read.remaining l.initial.reading.reader) (g.T.Read.remaining l.reading.reader) l.bytes.items;
   noted : l.reading.calls ≡ read_more l.bytes.items l.initial.reading.calls;
-  sound : IsSound l.system;
+  sound : NothingFailed l.system;
 }
 
 abbrev pub decreases-reads : goal.decreases-reads

@@ -30,8 +30,8 @@ returns-in_err-send-in-NoMemory-clause-fails g c =
     (answered_part c.args.session.now h read.0 no_memory _ _ (finds_no_memory c.args.session.now h read.0
     (kept_may_lack h read.0 read.1) stands) failed.front.0 (says_behind _ _ _ _ c.next_request.ensures.says failed.front.1))))
 
-pub returns-in_ok-send-in-NoMemory-clause-tells : goal.returns-in_ok-send-in-NoMemory-clause-tells
-returns-in_ok-send-in-NoMemory-clause-tells g c = λ h stands.
+pub returns-in_ok-send-in-NoMemory-clause-leads : goal.returns-in_ok-send-in-NoMemory-clause-leads
+returns-in_ok-send-in-NoMemory-clause-leads g c = λ h stands.
     let read = rw (c.in-NoMemory.is, c.is_declared-declared.ensures.history h stands) at c.in-Ok.ensures.reads in
     record {
       command = read.0;
@@ -57,13 +57,13 @@ returns-in_err-answer_command-in-Whole-clause-fails g c =
     (unanswered_behind c.in_err-answer_command-in-Whole.field-0.0 h read.0 _ _ _ c.next_request.ensures.says
     (c.in_err-answer_command-in-Whole.ensures.part h read.0 read.1 read.2.allowed stands)))
 
-pub returns-in_ok-send-in-Malformed-clause-tells : goal.returns-in_ok-send-in-Malformed-clause-tells
-returns-in_ok-send-in-Malformed-clause-tells g c = λ h stands.
+pub returns-in_ok-send-in-Malformed-clause-leads : goal.returns-in_ok-send-in-Malformed-clause-leads
+returns-in_ok-send-in-Malformed-clause-leads g c = λ h stands.
     let bad = rw (c.in-Malformed.is, c.is_declared-declared.ensures.history h stands) at c.in-Ok.ensures.reads in
     (bad, says_behind _ _ _ bad_script c.next_request.ensures.says c.in_ok-send-in-Malformed.ensures.ok)
 
-pub returns-in_ok-answer_command-in-Whole-clause-tells : goal.returns-in_ok-answer_command-in-Whole-clause-tells
-returns-in_ok-answer_command-in-Whole-clause-tells g c = λ h stands.
+pub returns-in_ok-answer_command-in-Whole-clause-leads : goal.returns-in_ok-answer_command-in-Whole-clause-leads
+returns-in_ok-answer_command-in-Whole-clause-leads g c = λ h stands.
     let read = rw (c.in-Whole.is, c.is_declared-declared.ensures.history h stands) at c.in-Ok.ensures.reads in
     record {
       command = read.0;

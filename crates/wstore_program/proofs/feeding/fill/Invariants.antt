@@ -1,7 +1,7 @@
 use Rattle.std.proofs.Common.{◌≡◌, ◌-◌, None}
 use Rattle.std.specs.Io.KnownBytes.{Consumes}
 use Rattle.wbatch.specs.Batches.{stream_of}
-use Rattle.wfolder.specs.Calls.{IsSound, most_reads}
+use Rattle.wfolder.specs.Calls.{NothingFailed, most_reads}
 use Rattle.wfiles.specs.Reading.{read_more}
 use Rattle.wstore_program.proofs.feeding.fill.Given as goal
 
@@ -11,7 +11,7 @@ invariant-reads g l = record {
   noted : l.reading.calls ≡ read_more (stream_of l.batch) l.initial.reading.calls;
   schema : l.batch.schema ≡ l.initial.batch.schema;
   goes_on : l.batch.stopped ≡ None;
-  sound : IsSound l.system;
+  sound : NothingFailed l.system;
 }
 
 abbrev pub decreases-reads : goal.decreases-reads

@@ -4,8 +4,8 @@ use Rattle.wstore.proofs.Orders.{if_refused}
 use Rattle.wstore.proofs.Writing.{order_may_lack}
 use Rattle.wstore.proofs.session.Session.order.Goals as goal
 
-pub returns-clause-tells : goal.returns-clause-tells
-returns-clause-tells c = λ h command order stands.
+pub returns-clause-replies : goal.returns-clause-replies
+returns-clause-replies c = λ h command order stands.
     let s : ClusterStands (Some c.in-Some.cluster) h = subst (λ o. ClusterStands o h) c.in-Some.is stands in
     let a = c.in_ok-text.ensures.answers s.0 h command order s.1 in
     record { reply = a.reply; answers = a.answers; text_is = a.text_is; stands = (s.0, a.stand) }
