@@ -9,6 +9,10 @@ use Rattle.wscope.specs.declared.function.Function.TheVariants.{LastValue, NthVa
 -- the function of this name
 abbrev pub function_of : List ℕ → Option Function
 function_of name =
+    if bytes_eq name (codes "count") then Some Count else (
+    if bytes_eq name (codes "sum") then Some Sum else (
+    if bytes_eq name (codes "min") then Some Min else (
+    if bytes_eq name (codes "max") then Some Max else (
     if bytes_eq name (codes "row_number") then Some RowNumber else (
     if bytes_eq name (codes "rank") then Some Rank else (
     if bytes_eq name (codes "dense_rank") then Some DenseRank else (
@@ -17,11 +21,7 @@ function_of name =
     if bytes_eq name (codes "lead") then Some Lead else (
     if bytes_eq name (codes "first_value") then Some FirstValue else (
     if bytes_eq name (codes "last_value") then Some LastValue else (
-    if bytes_eq name (codes "nth_value") then Some NthValue else (
-    if bytes_eq name (codes "count") then Some Count else (
-    if bytes_eq name (codes "sum") then Some Sum else (
-    if bytes_eq name (codes "min") then Some Min else (
-    if bytes_eq name (codes "max") then Some Max else None))))))))))))
+    if bytes_eq name (codes "nth_value") then Some NthValue else None))))))))))))
 
 -- whether it is an aggregate
 abbrev pub is_aggregate : Function → Bool

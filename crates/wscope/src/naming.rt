@@ -14,6 +14,7 @@ fn ends_like(name: &[u8], other: &[u8]) -> bool
 
 /// Whether two names are one. Most names that are not are told apart by their last bytes, in a part of the time that comparing
 /// them takes.
+#[inline(always)]
 pub(crate) fn is_same_name(name: &str, other: &str) -> bool
     ensures { result ≡ bytes_eq name.now other.now }
 {
@@ -27,6 +28,18 @@ pub(crate) fn is_same_name(name: &str, other: &str) -> bool
 pub fn function_of(name: &str) -> Option<Function>
     ensures { result ≡ function_named name.now }
 {
+    if is_same_name(name, "count") {
+        return Some(Function::Count);
+    }
+    if is_same_name(name, "sum") {
+        return Some(Function::Sum);
+    }
+    if is_same_name(name, "min") {
+        return Some(Function::Min);
+    }
+    if is_same_name(name, "max") {
+        return Some(Function::Max);
+    }
     if is_same_name(name, "row_number") {
         return Some(Function::RowNumber);
     }
@@ -53,18 +66,6 @@ pub fn function_of(name: &str) -> Option<Function>
     }
     if is_same_name(name, "nth_value") {
         return Some(Function::NthValue);
-    }
-    if is_same_name(name, "count") {
-        return Some(Function::Count);
-    }
-    if is_same_name(name, "sum") {
-        return Some(Function::Sum);
-    }
-    if is_same_name(name, "min") {
-        return Some(Function::Min);
-    }
-    if is_same_name(name, "max") {
-        return Some(Function::Max);
     }
     None
 }
