@@ -83,9 +83,10 @@ fn add_count(text: &mut Vec<u8>, count: usize) -> Result<(), AllocError>
 }
 
 /// What feeding a stream gives that is not delivered. Nothing of it is stored. `AllocError`: memory ran out while it was read, or a
-/// growth was refused.
+/// growth was refused, as only the text of a segment's fault may need one.
 pub fn undelivered(alloc: Global, reason: Stop) -> Result<Acted, AllocError>
-    ensures { IfOk result (IsRefusedSo reason) }
+    ensures refused { IfOk result (IsRefusedSo reason) }
+    ensures lacks { OnErr result (reason ≢ stops.Bad) }
 {
     match reason {
         Stop::Segment(fault) => {
@@ -107,8 +108,10 @@ pub fn feed_node(
 ) -> Result<Acted, AllocError>
     requires declared { batch.now.schema ≡ node.old.schema }
     requires whole { batch.now.held ≡ [] }
-    ensures { IfOk result (λ acted. Feeds node.old.schema node.old.view store.now
+    ensures feeds { IfOk result (λ acted. Feeds node.old.schema node.old.view store.now
         (stream_of batch.now) acted) }
+    ensures knows { OnOk result ((node.new.schema ≡ node.old.schema)
+        × (node.new.view ≡ delivered_view node.old.view batch.now.items)) }
 {
     let deliveries = batch.deliveries();
     let mut text = Vec::new(alloc);

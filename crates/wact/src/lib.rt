@@ -5,7 +5,8 @@
 //! - Promises: the table is judged first, then the store, then the subcommand. It does to the store what a node that
 //!   knows the store is told, and prints the reply of a script's command, of a query the answer alone. A refusal has
 //!   status 1 and no new store.
-//! - Asks: a choice other than the session.
+//! - Asks: of `act`, a choice other than the session and the shell; of `feed_store` and `feed_node`, a batch of the table's
+//!   declaration that is whole.
 //! - Leaves files and streams to the program, words to `wcommand`, and nodes to `wstore`.
 //!
 //! Read `specs/Outcomes.antt`, then `specs/Acts.antt`.

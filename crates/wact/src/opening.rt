@@ -1,5 +1,5 @@
 //! The node of a table and a store.
-ghost use Rattle.std.specs.Prelude.{◌≡◌, IfErr, IfOk, option_map};
+ghost use Rattle.std.specs.Prelude.{◌≡◌, ◌≤◌, IfErr, IfOk, OnErr, length, option_map};
 ghost use Rattle.std.specs.FinMap as map;
 ghost use Rattle.wstore.specs.Nodes.{fresh_node};
 ghost use Rattle.wact.specs.Acts.{HasFault, Knows};
@@ -87,14 +87,15 @@ fn open_by(
 }
 
 /// The node of a store, of which the bytes of the table's file and of the store's are lent, if there is one. The table is
-/// judged first. `AllocError`: a growth was refused.
+/// judged first. `AllocError`: a growth was refused, as none is for a table of over 65,536 bytes.
 pub fn open_store(
     alloc: Global,
     table: &[u8],
     store: &Option<Hashed<'_>>,
     purpose: Purpose,
 ) -> Result<Opened, AllocError>
-    ensures { IfOk result (λ opened. Opens table.now store.now opened) }
+    ensures opens { IfOk result (λ opened. Opens table.now store.now opened) }
+    ensures lacks { OnErr result (length table.now ≤ 65536) }
 {
     match Schema::read(alloc, table) {
         Ok(schema) => open_by(alloc, schema, store, purpose),

@@ -8,7 +8,7 @@
 //!   a cache holds it. What lies far apart is read some rows at a time before it is copied or put. What several aggregates
 //!   come to over groups that are fed alike is found in one pass over the rows, which reads what feeds them where it lies.
 //! - Asks: fewer than 2^31 rows.
-//! - Leaves expressions to `wplan`, frames to `wframe` and their folds to `wslide`.
+//! - Leaves expressions to `wplan` and their values to `weval`, frames to `wframe` and their folds to `wslide`.
 //!
 //! Read `specs/Aggregating.antt`, then `specs/Feeding.antt`, `specs/Grouped.antt`, `specs/Summaries.antt`, `specs/Alike.antt`,
 //! `specs/Put.antt`, `specs/FrameAnswers.antt`, `specs/BatchEnds.antt` and `specs/Batches.antt`.

@@ -1,5 +1,5 @@
 -- What a batch stands for.
-use Rattle.std.specs.Prelude.{◌≡◌, ℕ, List, Option, None, false}
+use Rattle.std.specs.Prelude.{◌≡◌, ℕ, List, [], ◌∷◌, Option, None, Some, Result, Ok, Err, Unit, tt, false}
 use Rattle.std.specs.List.{AllByRecursion}
 use Rattle.wsegment.specs.Declaration.{Declaration}
 use Rattle.wset.specs.Items.{Item}
@@ -9,6 +9,7 @@ use Rattle.wbatch.specs.Deliveries.{IsReady}
 use Rattle.wbatch.specs.Streams.{stream_text}
 use Rattle.wbatch.specs.declared.delivery.Delivery.{Delivery}
 use Rattle.wbatch.specs.declared.stop.Stop.{Stop}
+use Rattle.wbatch.specs.declared.stop.Stop.TheVariants as stops
 
 -- the declaration, the items in order, the bytes behind the messages of these, and why no more come, if none do
 pub record Filled : Type 0 where
@@ -20,6 +21,12 @@ pub record Filled : Type 0 where
 -- the stream that it was filled from
 abbrev pub stream_of : Filled → List ℕ
 stream_of batch = stream_text batch.items batch.held
+
+-- how a stream may end here: not where it stopped before, for the reason of that, nor inside a message
+abbrev pub ended : Option Stop → List ℕ → Result (Unit {0}) Stop
+ended (Some reason) held = Err reason
+ended None [] = Ok tt
+ended None (byte ∷ held) = Err stops.Bad
 
 -- each delivery can be delivered, and where it goes on what is held may become a message
 pub record CanBeDelivered (d : Declaration) (deliveries : List Delivery) (inbox : Inbox) (stopped : Option Stop) : Type 0 where

@@ -1,9 +1,10 @@
 //! Deliveries in order, made from a stream that comes in blocks.
-ghost use Rattle.std.specs.Prelude.{◌≡◌, ◌⊎◌, ◌++◌, [], true, false, None, Some, IfOk, IfErr, OnOk, length, map};
+ghost use Rattle.std.specs.Prelude.{◌≡◌, ◌⊎◌, ◌++◌, [], true, false, None, Some, Err, IfOk, IfErr, OnOk, length, map};
 ghost use Rattle.std.specs.List.{AllByRecursion};
 ghost use Rattle.wstream.specs.Messages.{IsOpen};
-ghost use Rattle.wbatch.specs.Batches.{stream_of};
+ghost use Rattle.wbatch.specs.Batches.{ended, stream_of};
 ghost use Rattle.wbatch.specs.Deliveries.{Adds, AddsAll, IsNext, IsReady, item_of};
+ghost use Rattle.wbatch.specs.declared.stop.Stop.{Stop};
 ghost use Rattle.wbatch.specs.Streams.{IsDelivered, IsUndelivered, Stops, stream_text};
 
 use crate::delivery::{Delivery, delivered};
@@ -154,6 +155,7 @@ impl Batch {
         ensures stops { IfErr result (λ reason. (self.old.stopped ≡ Some reason)
             ⊎ Stops self.old.schema (stream_of self.old ++ block.now) reason) }
         ensures stopped { IfErr result (λ reason. self.new.stopped ≡ Some reason) }
+        ensures stays { (reason : Stop) → self.old.stopped ≡ Some reason → (result ≡ Err reason) × (self.new ≡ self.old) }
     {
         if let Some(reason) = self.stopped {
             return Err(reason);
@@ -174,8 +176,10 @@ impl Batch {
         }
     }
 
-    /// Whether the stream may end here: all its messages can be delivered, and it ends behind the last of them.
+    /// Whether the stream may end here: all its messages can be delivered, and it ends behind the last of them. Where it does not,
+    /// it is why it stopped, or `Bad`.
     pub fn end(&self) -> Result<(), Stop>
+        ensures ended { result ≡ ended self.now.stopped self.now.held }
         ensures whole { OnOk result (self.now.held ≡ []) }
         ensures goes_on { OnOk result (self.now.stopped ≡ None) }
         ensures stops { IfErr result (λ reason. (self.now.stopped ≡ Some reason)

@@ -2,7 +2,7 @@
 //!
 //! - Gives columns of values, of counts, and of values that other rows have, and what a column has for a row.
 //! - Promises: what a column has is read where it lies, and takes no memory. Counts, and numbers of other rows, are of 32 bits.
-//! - Asks: nothing. A row that is not there has a null.
+//! - Asks: where a null is lent for a row that is not there, that it is one.
 //! - Leaves: what the columns are to `wcalls`, which makes them, and how they are printed to `wprinted`.
 //!
 //! Read `specs/Columns.antt`.

@@ -10,8 +10,8 @@
 //!   earlier one are made of its groups, where these are few, and what a call answers of what it answers for these. The row of
 //!   a group whose rows are counted and no more is made of their number. A plain column is read where it lies,
 //!   once for all calls without FILTER that follow each other and read it.
-//! - Asks: at most 2,147,483,647 rows.
-//! - Leaves aggregates to `waggregate` and expressions to `wplan`.
+//! - Asks: at most 2,147,483,647 rows; of `counted_row`, a grouping that counts them and no more.
+//! - Leaves aggregates to `waggregate`, expressions to `wplan` and their values to `weval`.
 //!
 //! Read `specs/Grouping.antt` and `specs/Laws.antt`, then `specs/Sight.antt`, `specs/Table.antt`, `specs/Held.antt`,
 //! `specs/Finer.antt`, `specs/Shared.antt` and `specs/Counting.antt`.

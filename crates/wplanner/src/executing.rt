@@ -172,8 +172,9 @@ fn lent_answer(
 }
 
 /// The bytes of the answer of a query, as `print` makes them of the table that `execute` answers, or its fault. Where the query
-/// is one SELECT whose items are plain columns, or answers of calls over windows, the rows are printed where they lie, and no
-/// table is made.
+/// is one SELECT that groups no rows and whose items are plain columns, or answers of calls over windows, the rows are printed
+/// where they lie, and no table is made, but where at most 1,024 rows of an order are asked for without a window, or calls stand
+/// behind the rows and no run tells the order.
 pub fn answer_text(
     alloc: Global,
     set: &mut SegmentSet,

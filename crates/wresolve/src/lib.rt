@@ -7,7 +7,7 @@
 //!   Each SELECT is judged and resolved at most once, by one scope, which is let go before that of the next is made.
 //! - Asks nothing. Memory is asked for scopes, the columns of sources and what is made; a walk goes as deep as the nesting alone.
 //! - Leaves the rules to `wrules`, names and windows to `wscope`, the sets of GROUP BY to `wgroupby`, which calls there are to
-//!   `wdistinct`, expressions, aggregates and functions to `wbinding`, values to `wplan`, the meaning of a query to `wplanner`.
+//!   `wdistinct`, expressions, aggregates and functions to `wbinding`, values to `weval`, the meaning of a query to `wplanner`.
 //!
 //! Read `specs/Shown.antt`, `specs/Selecting.antt`, `specs/Outcomes.antt`, then `specs/Judging.antt`.
 #![tactic(auto)]

@@ -10,7 +10,7 @@ pub enum AnswerFault {
     /// A number is not strictly between -2^95 and 2^95.
     #[error("a number is out of range")]
     OutOfRange,
-    /// More than 2,147,483,647 rows are kept.
+    /// More than 2,147,483,647 rows are kept, or as many groups are made.
     #[error("there are too many rows")]
     TooManyRows,
     /// Memory was refused. It judges nothing.

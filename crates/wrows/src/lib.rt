@@ -7,7 +7,8 @@
 //!   Where few rows are asked for, these alone are found. Items that are all plain columns are read behind the sort, of
 //!   the rows that are asked for. What lies far apart is read some rows at a time before it is copied.
 //! - Asks: an order for each key.
-//! - Leaves expressions to `wplan`, sorting to `wsort`, and groups, windows and whole queries to `wplanner`.
+//! - Leaves expressions to `wplan` and their values to `weval`, sorting to `wsort`, and groups, windows and whole queries to
+//!   `wplanner`.
 //!
 //! Read `specs/Outcomes.antt`, `specs/Columns.antt`, `specs/Sorting.antt` and `specs/Plain.antt`, then
 //! `specs/Laid.antt` and `specs/Picked.antt`.

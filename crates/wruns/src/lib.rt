@@ -5,7 +5,8 @@
 //!   all at once, and deals each segment's run out of that order. `all_differ` tells of rows in order whether two share keys.
 //! - Promises: a run is the one list of its segment's rows by its keys and then by place, whoever kept it; rows of several
 //!   segments are the one list by keys, then by segment and place. What groups save is measured, not promised.
-//! - Asks: runs by the keys that the rows are put in order by.
+//! - Asks: runs by the keys that the rows are put in order by, of the segments that they are handed with; of `all_differ`, rows
+//!   in that order.
 //! - Leaves names, sets and what is asked to `wset` and `wplanner`.
 //!
 //! Read `specs/Runs.antt`, `specs/Refs.antt`, then `specs/KeptRuns.antt`; `specs/Heads.antt` and `specs/Cuts.antt` say how

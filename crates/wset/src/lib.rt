@@ -9,8 +9,8 @@
 //!   commutative and idempotent (`laws`). No block of a set holds more than 512 entries. `ordered` gives the one
 //!   list of the rows by keys, then by name and place, and leaves the view as it is; runs are no part of it. `all_differ`
 //!   says yes just where no two live rows share the keys.
-//! - Asks: of `take_beside`, that both sets have one declaration; of `live_at` and `has_run`, that there is such a
-//!   live name; of `all_differ`, the rows that `ordered` gives for the keys.
+//! - Asks: of `take_beside`, that both sets have one declaration; of `take_judged`, bytes that were judged by the set's; of
+//!   `live_at` and `has_run`, that there is such a live name; of `all_differ`, the rows that `ordered` gives for the keys.
 //! - Leaves reading to `wsegment`, runs and their merge to `wruns`, what is held of a name and the blocks of entries to
 //!   `wentries`, files to `wexchange` and streams to `wstream`.
 //!

@@ -119,7 +119,8 @@ impl SegmentSet {
         }
     }
 
-    /// A set that knows nothing, for segments of the same declaration, which is lazy where this one is. It takes no memory.
+    /// A set that knows nothing, for segments of the same declaration, which is lazy where this one is. `AllocError`: the
+    /// declaration is shared too often. It takes no other memory.
     pub fn like(&self, alloc: Global) -> Result<SegmentSet, AllocError>
         ensures { IfOk result (λ set. set ≡ record { schema = self.now.schema; view = map.empty; orders = [] }) }
     {
