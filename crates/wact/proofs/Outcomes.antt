@@ -1,6 +1,7 @@
 -- Facts of what was done carry over to facts of the answer.
 use Rattle.std.proofs.Common.{◌≡◌, ◌≢◌, ◌⊎◌, ⊎_elim, ◌∙◌, ℕ, ◌<◌, ◌≤◌, Bool, true, false, true≢false, List, length, Option}
 use Rattle.std.proofs.Common.{Some, inl, inr, Result, Ok, Err, IfOk, OnErr, ap, subst, sym}
+use Rattle.std.specs.Prelude.{OnOk}
 use Rattle.std.proofs.lemmas.Bool.{cases_lt}
 use Rattle.std.specs.FinMap.{empty}
 use Rattle.wsegment.specs.Declaration.{Declaration}
@@ -51,6 +52,20 @@ acts choice table store other declared (Err e) reads done = tt
 pub on_err : {A E : Type 0} {P Q : Type 0} (r : Result A E) → (P → Q) → OnErr r P → OnErr r Q
 on_err (Ok v) f p = tt
 on_err (Err e) f p = f p
+
+-- what holds at all holds where an answer is there
+pub at_ok : {A E : Type 0} {P : Type 0} (r : Result A E) → P → OnOk r P
+at_ok (Ok v) p = p
+at_ok (Err e) p = tt
+
+-- and where memory is wanting
+pub at_err : {A E : Type 0} {P : Type 0} (r : Result A E) → P → OnErr r P
+at_err (Ok v) p = tt
+at_err (Err e) p = p
+
+-- bytes whose fault is no fault of their form are no more than a declaration may have
+pub short_by : {A : Type 0} (n : ℕ) (r : Result A SchemaFault) → (65536 < n → r ≡ Err tables.Syntax) → r ≢ Err tables.Syntax → n ≤ 65536
+short_by n r long other = ⊎_elim (λ more. absurd (other (long more))) (λ few. few) (cases_lt 65536 n)
 
 abbrev is_memory : SchemaFault → Bool
 is_memory tables.NoMemory = true

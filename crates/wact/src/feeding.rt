@@ -1,5 +1,5 @@
 //! Feeds a store the deliveries of a stream.
-ghost use Rattle.std.specs.Prelude.{◌≡◌, ◌++◌, ◌∷◌, [], None, Ok, false, map, IfErr, IfOk, OnErr, OnOk};
+ghost use Rattle.std.specs.Prelude.{◌≡◌, ◌≢◌, ◌×◌, ◌++◌, ◌∷◌, [], None, Ok, false, map, IfErr, IfOk, OnErr, OnOk};
 ghost use Rattle.std.specs.List.{AllByRecursion};
 ghost use Rattle.wsegment.specs.Spelling.{ReadsDeclaration};
 ghost use Rattle.wset.specs.Items.{SegmentItem, view_of_item};
@@ -9,11 +9,12 @@ ghost use Rattle.wset.specs.Words.{taken_word};
 ghost use Rattle.wbatch.specs.Batches.{stream_of};
 ghost use Rattle.wbatch.specs.Deliveries.{IsReady, item_of};
 ghost use Rattle.wbatch.specs.Streams.{IsUndelivered};
+ghost use Rattle.wbatch.specs.declared.stop.Stop.TheVariants as stops;
 ghost use Rattle.wcommand.specs.declared.choice.Choice.{Choice};
 ghost use Rattle.wstore.specs.Replies.{fed_text};
 ghost use Rattle.wact.specs.Acts.{Acts};
 ghost use Rattle.wact.specs.Delivering.{Delivers, IsFeed, IsRefusedSo};
-ghost use Rattle.wact.specs.Streams.{Feeds};
+ghost use Rattle.wact.specs.Streams.{Feeds, delivered_view};
 
 use crate::acted::{Acted, refused, stored};
 use crate::opening::{Opened, Purpose, open_store};

@@ -1,5 +1,6 @@
 //! Queries, answered one after the other.
-ghost use Rattle.std.specs.Prelude.{◌≡◌, IfOk, OnOk, map};
+ghost use Rattle.std.specs.Prelude.{◌≡◌, IfOk, OnErr, OnOk, map};
+ghost use Rattle.wask.specs.Texts.{IsText};
 ghost use Rattle.wact.specs.Queries.{Asks, IsReply, RepliesFollow, ReplyFollows};
 ghost use Rattle.wreplies.specs.Texts.{bytes_of};
 
@@ -17,9 +18,10 @@ pub struct QueryReply {
     pub is_refused: bool,
 }
 
-/// Answers a query on what the node knows. `AllocError`: a growth was refused.
+/// Answers a query on what the node knows. `AllocError`: a growth was refused, as none is for bytes that are too long or no UTF-8.
 pub fn reply(alloc: Global, node: &mut Node, query: &[u8]) -> Result<QueryReply, AllocError>
     ensures replies { IfOk result (λ reply. IsReply node.old.schema node.old.view query.now (bytes_of reply.text) reply.is_refused) }
+    ensures lacks { OnErr result (IsText query.now) }
     ensures same { node.new ≡ node.old }
 {
     match node.ask(query) {

@@ -1,5 +1,5 @@
 -- What the rows of a group come to, kept so that each aggregate of them can be answered.
-use Rattle.std.specs.Prelude.{◌≡◌, ℕ, pos, ◌<◌, ◌==◌, Bool, true, false, List}
+use Rattle.std.specs.Prelude.{◌≡◌, ¬, ℕ, pos, ◌<◌, ◌==◌, Bool, true, false, List}
 use Rattle.std.specs.Prelude.{length, map, filter, Option, Some, None, slice_index_or, if◌then◌else◌}
 use Rattle.std.specs.Ordering.{is_lt}
 use Rattle.std.specs.declared.cmp.Ordering.{Ordering}
@@ -122,3 +122,7 @@ pub record IsKnownFor (known : List (Option Summaries)) (place : ℕ) (function 
   pub within : place < length known
   pub is : (none : Option Summaries) → slice_index_or known place none ≡ Some s.now
   pub covered : covers s.now function ≡ true
+
+-- nothing is known there by which it is answered
+abbrev pub IsUnknownFor : List (Option Summaries) → ℕ → AggregateFunction → Option (Vec Bool Global) → Type 0
+IsUnknownFor known place function filter = (s : Bor Summaries) → ¬ (IsKnownFor known place function filter s)

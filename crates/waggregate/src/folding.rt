@@ -217,6 +217,7 @@ fn put_folds<F: AnsweringFold>(
         batch.now.partitions.now (batch_start batch.now) (batch_spans batch.now))) batch.now.rows.now result column.old column.new }
     ensures tallied { OnOk result (tally.new ≡ min (tally.old + F.count meter.new) (2 ^ 64 - 1)) }
     ensures joins { tally.new ≤ tally.old + most_by_queues batch.now.partitions.now.frame.exclusion (F.rows fold.now) }
+    ensures not_less { tally.old ≤ tally.new }
 {
     let mut parts = Vec::with_capacity(alloc, batch.rows.len())?;
     push_window_folds(
@@ -248,6 +249,7 @@ fn put_fed(
     requires few { length batch.now.rows.now < 2 ^ 31 }
     requires below { All (λ i. i < length column.old) batch.now.rows.now }
     ensures joins { tally.new ≤ tally.old + most_by_queues batch.now.partitions.now.frame.exclusion (length batch.now.rows.now) }
+    ensures not_less { tally.old ≤ tally.new }
     ensures answers { (feed : aggregating.Feed)
         → IsPicked feed batch.now.rows.now (meanings values.now) (option_map (λ tests. tests.items) filter.now)
         → Puts (batch_answers function feed batch.now.partitions.now (batch_start batch.now) (batch_spans batch.now)
@@ -303,6 +305,7 @@ fn put_batch(
     requires fed { All (λ i. i < rows_of fed.now.argument) batch.now.rows.now }
     requires below { All (λ i. i < length column.old) batch.now.rows.now }
     ensures joins { tally.new ≤ tally.old + most_by_queues batch.now.partitions.now.frame.exclusion (length batch.now.rows.now) }
+    ensures not_less { tally.old ≤ tally.new }
     ensures answers { Puts (batch_answers function (fed_by fed.now.argument fed.now.filter.now) batch.now.partitions.now
         (batch_start batch.now) (batch_spans batch.now) batch.now.rows.now) batch.now.rows.now result column.old column.new }
 {
@@ -331,6 +334,7 @@ pub fn put_frame_aggregates<'a>(
     requires fed { All (λ i. i < rows_of fed.now.argument) rows.now }
     requires below { All (λ i. i < length column.old) rows.now }
     ensures joins { tally.new ≤ tally.old + most_by_queues partitions.now.frame.exclusion (length rows.now) }
+    ensures not_less { tally.old ≤ tally.new }
     ensures answers { Puts (window_answers function (fed_by fed.now.argument fed.now.filter.now) partitions.now rows.now) rows.now
         result column.old column.new }
 {

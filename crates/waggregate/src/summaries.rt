@@ -1,5 +1,5 @@
 //! Aggregates of groups that are fed alike, in one pass over the rows.
-ghost use Rattle.std.specs.Prelude.{◌≡◌, ◌<◌, ◌^◌, ℕ, List, All, IfOk, IfSome, None, length, map, replicate, slice_index_or, true};
+ghost use Rattle.std.specs.Prelude.{◌≡◌, ◌<◌, ◌^◌, ℕ, List, All, IfOk, IfNone, IfSome, None, length, map, replicate, slice_index_or, true};
 ghost use Rattle.std.specs.Ordering.{is_lt};
 ghost use Rattle.wvalues.specs.Meaning.{Int, Meaning, Null, meaning};
 ghost use Rattle.wslide.specs.Aggregates.{IsInRange, by_value_in};
@@ -10,7 +10,7 @@ ghost use Rattle.waggregate.specs.Aggregating.{aggregate_of};
 ghost use Rattle.waggregate.specs.Feeding.{rows_of, value_or_none, values_of};
 ghost use Rattle.waggregate.specs.FrameAnswers.{answer_or_out_of_range};
 ghost use Rattle.waggregate.specs.Grouped.{rows_of_group};
-ghost use Rattle.waggregate.specs.Summaries.{AreSummaries, AreSummed, IsEmpty, IsKnownFor, IsWith, answer_at, answer_in};
+ghost use Rattle.waggregate.specs.Summaries.{AreSummaries, AreSummed, IsEmpty, IsKnownFor, IsUnknownFor, IsWith, answer_at, answer_in};
 ghost use Rattle.waggregate.specs.Summaries.{are_enough, covers, first_in, group_count, no_extremes, text_of, value_in, with_asked};
 ghost use Rattle.waggregate.specs.declared.summaries.Summary as summary;
 
@@ -272,7 +272,8 @@ pub fn summarize<'a>(
     requires rows { length groups.now ≡ rows_of argument }
     requires below { All (λ g. g < count) groups.now }
     requires few { length groups.now < 2 ^ 31 }
-    ensures { IfOk result (AreSummaries (values_of argument.entry) groups.now count) }
+    ensures summed { IfOk result (AreSummaries (values_of argument.entry) groups.now count) }
+    ensures asked { IfOk result (λ summaries. summaries.extremes ≡ extremes) }
 {
     // Laws, which do nothing.
     counts_are_exact();
@@ -323,14 +324,15 @@ impl<'a> Summaries<'a> {
     }
 }
 
-/// What is known at a place of the rows of each group, if an aggregate with this filter can be answered by it.
+/// What is known at a place of the rows of each group, if an aggregate with this filter can be answered by it, and else none.
 pub fn summaries_for<'a, 'b>(
     known: &'b [Option<Summaries<'a>>],
     place: usize,
     function: AggregateFunction,
     filter: &Option<Vec<bool>>,
 ) -> Option<&'b Summaries<'a>>
-    ensures { IfSome result (IsKnownFor known.now place function filter.now) }
+    ensures found { IfSome result (IsKnownFor known.now place function filter.now) }
+    ensures none { IfNone result (IsUnknownFor known.now place function filter.now) }
 {
     if filter.is_some() || place >= known.len() {
         return None;

@@ -1,6 +1,6 @@
 -- What a node establishes as it reads a text.
 use Rattle.std.proofs.Common.{◌≡◌, ◌≢◌, ◌↔◌, inl, inr, map, [], ◌∷◌, ℕ, ◌<◌, ◌≤◌, List}
-use Rattle.std.proofs.Common.{length, Result, Ok, Err, refl, sym, ap, subst, arith}
+use Rattle.std.proofs.Common.{length, Result, Ok, Err, refl, sym, ap, subst, ◌∙◌, arith}
 use Rattle.wlexer.specs.Token.{placed, meaning_of}
 use Rattle.wlexer.specs.declared.token.Token.{Token}
 use Rattle.wlexer.specs.declared.fault.LexFault.{LexFault}
@@ -11,22 +11,44 @@ use Rattle.wparser.specs.Queries.{Spells}
 use Rattle.wtokens.specs.Notation.{meanings}
 use Rattle.wexpressions.specs.declared.fault.ParseFault.{ParseFault}
 use Rattle.wexpressions.specs.declared.fault.ParseFault.TheVariants as parsing
-use Rattle.wask.specs.Texts.{IsForeign, IsRefused, IsText, Reads, said, syntactical}
+use Rattle.wask.specs.Texts.{IsForeign, IsRefused, IsText, Reads, lexical, said, syntactical}
 use Rattle.wplanner.specs.declared.fault.AskFault.TheVariants as faults
 
--- a text that was lexed is short and UTF-8
+-- bytes that are neither too long nor no UTF-8 are a text
+text_by : {A : Type 0} (r : Result A LexFault) (text : List ℕ) → (r ≡ Err lexing.TooLong) ↔ (65536 < length text)
+    → (r ≡ Err lexing.NotUtf8) ↔ ((length text ≤ 65536) × IsForeign text) → r ≢ Err lexing.TooLong → r ≢ Err lexing.NotUtf8
+    → IsText text
+text_by r text long foreign not_long not_foreign = (short, λ f. not_foreign (foreign.1 (short, f)))
+  where
+    short : length text ≤ 65536
+    short = let no : ¬ (65536 < length text) = λ h. not_long (long.1 h) in omega (arith, no)
+
+-- a text that was lexed is one
 pub lexed_text : {A : Type 0} (x : A) (text : List ℕ) → (Ok x ≡ Err lexing.TooLong) ↔ (65536 < length text)
     → (Ok x ≡ Err lexing.NotUtf8) ↔ ((length text ≤ 65536) × IsForeign text) → IsText text
-lexed_text {A} x text long foreign = (short, λ f. other lexing.NotUtf8 (foreign.1 (short, f)))
+lexed_text x text long foreign = text_by (Ok x) text long foreign (λ e. cc) (λ e. cc)
+
+-- and so are bytes for which memory was wanting
+pub text_lacking : {A : Type 0} (fault : LexFault) (r : Result A LexFault) (text : List ℕ) → r ≡ Err fault
+    → (r ≡ Err lexing.TooLong) ↔ (65536 < length text)
+    → (r ≡ Err lexing.NotUtf8) ↔ ((length text ≤ 65536) × IsForeign text) → lexical fault ≡ faults.NoMemory → IsText text
+text_lacking fault r text is long foreign lacks = text_by r text long foreign (λ e. other (sym e)) (λ e. no (sym e))
   where
-    ok : Result A LexFault
-    ok = Ok x
+    not_memory : (x : LexFault) → lexical x ≡ faults.NoMemory → x ≡ lexing.NoMemory
+    not_memory lexing.NoMemory h = refl
+    not_memory lexing.TooLong h = absurd (cc)
+    not_memory lexing.NotUtf8 h = absurd (cc)
+    not_memory (lexing.At place) h = absurd (cc)
 
-    other : (fault : LexFault) → ok ≢ Err fault
-    other fault e = cc
+    lacking : r ≡ Err lexing.NoMemory
+    lacking = is ∙ ap Err (not_memory fault lacks)
 
-    short : length text ≤ 65536
-    short = let not_long : ¬ (65536 < length text) = λ h. other lexing.TooLong (long.1 h) in omega (arith, not_long)
+    other : Err lexing.TooLong ≢ r
+    other e = let both : Err lexing.TooLong ≡ Err lexing.NoMemory = e ∙ lacking in cc
+
+    no : Err lexing.NotUtf8 ≢ r
+    no e = let both : Err lexing.NotUtf8 ≡ Err lexing.NoMemory = e ∙ lacking in cc
+
 
 said_placed : (tokens : List Token) → said (map placed tokens) ≡ meanings tokens
 said_placed [] = refl

@@ -1,7 +1,7 @@
 //! The way of a text: tokens, query, plan, table, bytes.
 ghost use Rattle.std.specs.Prelude.{◌≡◌, ◌⊎◌, Ok, Err, MatchResult};
 ghost use Rattle.wquery.specs.QueryTree.{view_query};
-ghost use Rattle.wask.specs.Texts.{IsRefused, Reads, lexical, syntactical};
+ghost use Rattle.wask.specs.Texts.{IsRefused, IsText, Reads, lexical, syntactical};
 ghost use Rattle.wset.specs.Sets.{Becomes};
 ghost use Rattle.wplanner.specs.declared.fault.AskFault.TheVariants.{NoMemory};
 ghost use Rattle.wask.specs.Answer.{IsAnswer, query_answer};
@@ -36,7 +36,8 @@ fn syntactical_fault(fault: ParseFault) -> AskFault
 
 // The query that a text spells, or why it spells none.
 fn read(alloc: Global, text: &[u8]) -> Result<Query, AskFault>
-    ensures { MatchResult result (λ query. Reads text.now (view_query query)) (λ fault. IsRefused text.now fault) }
+    ensures reads { MatchResult result (λ query. Reads text.now (view_query query)) (λ fault. IsRefused text.now fault) }
+    ensures lacks { result ≡ Err NoMemory → IsText text.now }
 {
     let tokens = match lex(alloc, text) {
         Err(fault) => return Err(lexical_fault(fault)),
@@ -68,11 +69,12 @@ fn answer(alloc: Global, set: &mut SegmentSet, query: &Query) -> Result<Vec<u8>,
 }
 
 /// The bytes of the answer to a text on the rows of the set, or its first fault. What the set knows stays as it is; cells of its
-/// segments may be made, and runs kept besides.
+/// segments may be made, and runs kept besides. Bytes that are too long or no UTF-8 are refused without memory.
 pub fn ask(alloc: Global, set: &mut SegmentSet, text: &[u8]) -> Result<Vec<u8>, AskFault>
     ensures answer { MatchResult result
         (λ bytes. IsAnswer set.old.schema set.old.view text.now (Ok bytes.items))
         (λ fault. (fault ≡ NoMemory) ⊎ IsAnswer set.old.schema set.old.view text.now (Err fault)) }
+    ensures lacks { result ≡ Err NoMemory → IsText text.now }
     ensures same { Becomes set.old set.old.view set.new }
 {
     let query = read(alloc, text)?;

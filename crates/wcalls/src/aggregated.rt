@@ -35,6 +35,7 @@ fn put_aggregates(
     requires values { rows_of fed.now.argument ≡ length arranged.now.order.now }
     requires room { length column.old ≡ length arranged.now.order.now }
     ensures joins { tally.new ≤ tally.old + most_by_queues arranged.now.partitions.now.frame.exclusion (length arranged.now.order.now) }
+    ensures not_less { tally.old ≤ tally.new }
     ensures column { (w : Windowed) → IsArranged w arranged.now.order.now arranged.now.partitions.now
         → Gives (λ _. map meaning column.new) result (answered w (λ p rows place. aggregate_of function
         (fed_by fed.now.argument fed.now.filter.now) (frame_numbers p rows place))) }
@@ -63,6 +64,7 @@ fn fed_column(
     requires wide { rows_of argument ≡ length arranged.now.rows.now }
     requires room { length column.old ≡ length arranged.now.order.now }
     ensures joins { tally.new ≤ tally.old + most_by_queues arranged.now.partitions.now.frame.exclusion (length arranged.now.order.now) }
+    ensures not_less { tally.old ≤ tally.new }
     ensures column { (w : Windowed) → IsArranged w arranged.now.order.now arranged.now.partitions.now
         → Gives (λ _. map meaning column.new) result (function_column (rows_seen arranged.now.rows.now) w
         (Aggregated (aggregate_plan aggregate.now))) }
@@ -85,6 +87,7 @@ fn evaluated_column(
 ) -> Result<(), AnswerFault>
     requires { length column.old ≡ length arranged.now.order.now }
     ensures joins { tally.new ≤ tally.old + most_by_queues arranged.now.partitions.now.frame.exclusion (length arranged.now.order.now) }
+    ensures not_less { tally.old ≤ tally.new }
     ensures column { (w : Windowed) → IsArranged w arranged.now.order.now arranged.now.partitions.now
         → Gives (λ _. map meaning column.new) result (function_column (rows_seen arranged.now.rows.now) w
         (Aggregated (aggregate_plan aggregate.now))) }
@@ -105,6 +108,7 @@ pub(crate) fn aggregated_column(
 ) -> Result<(), AnswerFault>
     requires { length column.old ≡ length arranged.now.order.now }
     ensures joins { tally.new ≤ tally.old + most_by_queues arranged.now.partitions.now.frame.exclusion (length arranged.now.order.now) }
+    ensures not_less { tally.old ≤ tally.new }
     ensures column { (w : Windowed) → IsArranged w arranged.now.order.now arranged.now.partitions.now
         → Gives (λ _. map meaning column.new) result (function_column (rows_seen arranged.now.rows.now) w
         (Aggregated (aggregate_plan aggregate.now))) }

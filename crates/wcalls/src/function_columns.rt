@@ -39,6 +39,7 @@ fn every_column<'r>(
     requires { list_all is_sound_function (functions_seen functions.now) ≡ true }
     ensures joins { tally.new ≤ tally.old + most_of_functions arranged.now.partitions.now.frame.exclusion
         (length arranged.now.order.now) (functions_seen functions.now) }
+    ensures not_less { tally.old ≤ tally.new }
     ensures columns { (w : Windowed) → IsArranged w arranged.now.order.now arranged.now.partitions.now
         → Gives (λ columns. map column_seen columns.items) result
         (each (function_column (rows_seen arranged.now.rows.now) w) (functions_seen functions.now)) }
@@ -78,6 +79,7 @@ pub fn window_columns<'r>(
     requires functions { list_all is_sound_function (functions_seen functions.now) ≡ true }
     ensures joins { tally.new ≤ tally.old + most_of_functions (frame_of (window_plan window.now).frame).exclusion
         (length rows.now) (functions_seen functions.now) }
+    ensures not_less { tally.old ≤ tally.new }
     ensures columns { Gives (λ columns. map column_seen columns.items) result
         (window_columns (window_plan window.now) (functions_seen functions.now) (rows_seen rows.entry.now)) }
     ensures kept { IfOk result (λ columns. map are_values columns.items ≡ map is_aggregate (functions_seen functions.now)) }

@@ -107,6 +107,7 @@ fn aggregates_column<'r>(
     tally: &mut Tally,
 ) -> Result<Column<'r>, AnswerFault>
     ensures joins { tally.new ≤ tally.old + most_by_queues arranged.now.partitions.now.frame.exclusion (length arranged.now.order.now) }
+    ensures not_less { tally.old ≤ tally.new }
     ensures column { (w : Windowed) → IsArranged w arranged.now.order.now arranged.now.partitions.now
         → Gives column_seen result (function_column (rows_seen arranged.now.rows.now) w (Aggregated (aggregate_plan aggregate.now))) }
     ensures kept { IfOk result (λ column. are_values column ≡ true) }
@@ -127,6 +128,7 @@ pub(crate) fn function_column<'r>(
     requires { is_sound_function (function_plan function.now) ≡ true }
     ensures joins { tally.new ≤ tally.old + most_of_function arranged.now.partitions.now.frame.exclusion
         (length arranged.now.order.now) (function_plan function.now) }
+    ensures not_less { tally.old ≤ tally.new }
     ensures column { (w : Windowed) → IsArranged w arranged.now.order.now arranged.now.partitions.now
         → Gives column_seen result (function_column (rows_seen arranged.now.rows.now) w (function_plan function.now)) }
     ensures kept { IfOk result (λ column. are_values column ≡ is_aggregate (function_plan function.now)) }

@@ -14,6 +14,7 @@ ghost use Rattle.wexchange.specs.Judging.{IsFault};
 ghost use Rattle.wstore.specs.History.{MayNeedMemory};
 ghost use Rattle.wstore.specs.Nodes.{IsTold, LearnsFile, NextReply, fresh_node};
 ghost use Rattle.wask.specs.Answer.{IsAnswer};
+ghost use Rattle.wask.specs.Texts.{IsText};
 
 use std::alloc::{AllocError, Global};
 use std::marker::Model;
@@ -269,6 +270,7 @@ impl Node {
         ensures answer { MatchResult result
             (λ bytes. IsAnswer self.old.schema self.old.view text.now (Ok bytes.items))
             (λ fault. (fault ≡ AskFault.NoMemory) ⊎ IsAnswer self.old.schema self.old.view text.now (Err fault)) }
+        ensures lacks { result ≡ Err AskFault.NoMemory → IsText text.now }
         ensures same { self.new ≡ self.old }
     {
         ask(self.alloc, &mut self.set, text)

@@ -1,5 +1,5 @@
 //! Orders of the kept rows that orders of all rows of the table give.
-ghost use Rattle.std.specs.Prelude.{◌≡◌, ◌<◌, [], All, IfOk, IfSome, List, None, Ok, Option, length, option_map, slice_index_or};
+ghost use Rattle.std.specs.Prelude.{◌≡◌, ◌<◌, [], All, IfOk, IfSome, List, None, Ok, Option, length, option_map, slice_index_or, IfNone, ◌+◌};
 ghost use Rattle.wplan.specs.Formula.{Formula};
 ghost use Rattle.wplan.specs.Plans.{KeyPlan, window_plan};
 ghost use Rattle.wrows.specs.Columns.{Row};
@@ -142,6 +142,8 @@ pub fn take_presorted(
     ensures order { (rows : List Row) → ArePresortedOf rows presorted.old.items
         → IfSome result (IsPresorted rows (window_plan window.now)) }
     ensures others { (rows : List Row) → ArePresortedOf rows presorted.old.items → ArePresortedOf rows presorted.new.items }
+    ensures none { IfNone result (presorted.new ≡ presorted.old) }
+    ensures one { IfSome result (λ _. length presorted.new.items + 1 ≡ length presorted.old.items) }
 {
     let Some(place) = place_presorted(presorted.as_slice(), window) else {
         return None;

@@ -2,6 +2,7 @@ use Rattle.std.proofs.Common.{rules, ◌≢◌, ◌≡◌, ◌⊎◌, Ok, Err, r
 use Rattle.wask.specs.Answer.{IsAnswer}
 use Rattle.wplanner.specs.declared.fault.AskFault.TheVariants.{NoMemory}
 use Rattle.wact.proofs.Outcomes.{but_memory}
+use Rattle.wact.proofs.Replying.{text_numbered}
 use Rattle.wact.proofs.queries.reply.Goals as goal
 
 pub returns-in-Ok-clause-replies : goal.returns-in-Ok-clause-replies
@@ -22,3 +23,11 @@ returns-in_ok-text-in-Err c =
       };
       same = c.in-Err.ensures.same;
     }
+
+pub returns-in_err-text-in-Err-clause-lacks : goal.returns-in_err-text-in-Err-clause-lacks
+returns-in_err-text-in-Err-clause-lacks c =
+    let other : c.in-Err.fault ≢ NoMemory = search rules in
+    let told : (c.in-Err.fault ≡ NoMemory) ⊎ IsAnswer c.args.node.now.schema c.args.node.now.view c.args.query.now
+    (Err c.in-Err.fault) = search rules in
+    text_numbered c.args.node.now.schema c.args.node.now.view c.args.query.now c.in-Err.fault c.in_err-text-in-Err.ensures.lacks
+    (but_memory other told)

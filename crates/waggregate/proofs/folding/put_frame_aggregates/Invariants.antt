@@ -22,6 +22,7 @@ invariant-loop-done l =
       put : put_all (map meaning l.column) (drop place l.rows) (values_or_null (answers (drop l.done all.spans)))
           ≡ put_all (map meaning l.fn.column) l.rows (values_or_null (answers all.spans));
       joins : l.tally ≤ l.fn.tally + most_by_queues all.frame.exclusion place;
+      not_less : l.fn.tally ≤ l.tally;
     }
 
 abbrev pub decreases-loop-done : goal.decreases-loop-done

@@ -14,6 +14,7 @@ abbrev pub invariant-loop-function : goal.invariant-loop-function
 invariant-loop-function l = record {
   joins : l.tally ≤ l.fn.tally + most_of_functions l.arranged.partitions.now.frame.exclusion (length l.arranged.order.now)
       (take l.function-index (functions_seen l.functions));
+  not_less : l.fn.tally ≤ l.tally;
   so_far : (w : Windowed) → IsArranged w l.arranged.order.now l.arranged.partitions.now
       → each (function_column (rows_seen l.arranged.rows.now) w) (take l.function-index (functions_seen l.functions))
       ≡ Ok (map column_seen l.columns.items);
