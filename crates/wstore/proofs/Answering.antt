@@ -25,7 +25,7 @@ use Rattle.wscript.specs.Commands.{Put, Get, longest_segment, longest_text, node
 use Rattle.wstore.specs.Replies.{Reply, text_of, Took, Was, RefusedSegment, Names, Answered, RefusedQuery}
 use Rattle.wstore.specs.Replies.{Done, RefusedFile, NoMemory, take_text, ask_text, get_text}
 use Rattle.wreplies.specs.Spelling.{file_text, taken_text, retired_text, segment_text, names_text, answer_text, query_text}
-use Rattle.wstore.specs.History.{Step, Answers, NodeAnswers, file_if, declaration, declared_by, segment_reply}
+use Rattle.wstore.specs.History.{Step, Answers, MayNeedMemory, NodeAnswers, file_if, declaration, declared_by, segment_reply}
 use Rattle.wstore.specs.History.{delivers, gets, puts, heard, drawn, held, is_put, known, slot_file}
 use Rattle.wask.specs.Answer.{IsAnswer}
 use Rattle.wexchange.specs.Files.{file_of, head, table_text}
@@ -161,6 +161,10 @@ module _ (d : Declaration) (at : Places) (h : List Step) (n p : ℕ) (node : Nod
   take_at origin number bytes name (Err fault) new text short named word_is new_is read fails same text_is =
       subst (λ nodes. AnswersAs d (places nodes at.slots) h (Take n origin number bytes) text) (sym (same_nodes new same))
       (refused_at origin number bytes name fault text short named fails text_is)
+
+  -- where an item needs memory at a node, the history says so
+  pub lacks_at : (item : Item) → MayNeedMemory node.view item → MayNeedMemory (view_of (known h n)) item
+  lacks_at item lacks = node_answers d at h n p node (λ _ v. MayNeedMemory v item) stand low is place lacks
 
   pub retired_at : (origin number : List ℕ) (name : NameParts) (new : NodeState) (word : Retired) (text : List ℕ)
       → SpellsName origin number name → word ≡ retired_word (known_in node.view name)

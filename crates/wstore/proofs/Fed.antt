@@ -229,7 +229,12 @@ module _ (d : Declaration) (at : Places) (h : List Step) (p : ℕ) (node : NodeS
           begins = begins s.lines s.new s.handles;
           appends = s.appends;
         })
-        by (inr s) = inl (record { reply = Fed s.lines s.bad; n = s.n; answers = answers s.lines s.bad s.new s.handles; appends = s.appends })
+        by (inr s) = inl (record {
+          reply = Fed s.lines s.bad;
+          n = s.n;
+          answers = answers s.lines s.bad s.new s.handles;
+          appends = s.appends;
+        })
 
   -- ---- a piece that finds no memory
 

@@ -5,7 +5,9 @@ use Rattle.wlines.specs.Sent.{Sent, Says}
 use Rattle.wlines.proofs.Saying.{says_behind}
 use Rattle.wstore.specs.Replies.{line_text, text_of}
 use Rattle.wscript.specs.Commands.{Command, Declare, Take, Retire, RetireTo, Listing, Ask, Feed, Put, Get}
-use Rattle.wstore.specs.History.{Step, MayLackMemory, is_put}
+use Rattle.wvalues.specs.Names.{NameParts}
+use Rattle.wset.specs.Items.{RetirementItem, FloorItem, view_of}
+use Rattle.wstore.specs.History.{Step, MayLackMemory, MayNeedMemory, is_put, known}
 use Rattle.wscript.specs.Requests.{IsFeedOf, IsOrderAt, KeepsBody}
 use Rattle.wstore.specs.Sessions.{RepliesWith}
 use Rattle.wstore.specs.Steps.{Answered, AnsweredPart, AnsweredLines, Unanswered}
@@ -102,69 +104,73 @@ kept_may_lack h (Feed m p) kept = tt
 kept_may_lack h (Put m s) kept = tt
 kept_may_lack h (Get s m) kept = absurd kept
 
--- so may what a node is told, asked, puts or gets, where the slot that it gets was put
+-- so may what a node is told, asked, puts or gets, where the slot that it gets was put, and the name that it retires is not retired
 pub order_may_lack : (n : ℕ) (order : Order) (h : List Step) (c : Command) → IsOrderAt n order c
-    → ((k : ℕ) → order ≡ orders.Get k → is_put h k ≡ true) → MayLackMemory h c
-order_may_lack n (orders.Take name kept) h (Take m o k b) is put = ((name, is.1), is.3)
-order_may_lack n (orders.Take name kept) h (Declare s) is put = is
-order_may_lack n (orders.Take name kept) h (Retire m o k) is put = absurd is
-order_may_lack n (orders.Take name kept) h (RetireTo m o k) is put = absurd is
-order_may_lack n (orders.Take name kept) h (Listing m) is put = tt
-order_may_lack n (orders.Take name kept) h (Ask m t) is put = absurd is
-order_may_lack n (orders.Take name kept) h (Feed m p) is put = tt
-order_may_lack n (orders.Take name kept) h (Put m s) is put = tt
-order_may_lack n (orders.Take name kept) h (Get s m) is put = absurd is
-order_may_lack n (orders.Retire name) h (Take m o k b) is put = absurd is
-order_may_lack n (orders.Retire name) h (Declare s) is put = is
-order_may_lack n (orders.Retire name) h (Retire m o k) is put = (name, is.1)
-order_may_lack n (orders.Retire name) h (RetireTo m o k) is put = absurd is
-order_may_lack n (orders.Retire name) h (Listing m) is put = tt
-order_may_lack n (orders.Retire name) h (Ask m t) is put = absurd is
-order_may_lack n (orders.Retire name) h (Feed m p) is put = tt
-order_may_lack n (orders.Retire name) h (Put m s) is put = tt
-order_may_lack n (orders.Retire name) h (Get s m) is put = absurd is
-order_may_lack n (orders.RetireTo name) h (Take m o k b) is put = absurd is
-order_may_lack n (orders.RetireTo name) h (Declare s) is put = is
-order_may_lack n (orders.RetireTo name) h (Retire m o k) is put = absurd is
-order_may_lack n (orders.RetireTo name) h (RetireTo m o k) is put = (name, is.1)
-order_may_lack n (orders.RetireTo name) h (Listing m) is put = tt
-order_may_lack n (orders.RetireTo name) h (Ask m t) is put = absurd is
-order_may_lack n (orders.RetireTo name) h (Feed m p) is put = tt
-order_may_lack n (orders.RetireTo name) h (Put m s) is put = tt
-order_may_lack n (orders.RetireTo name) h (Get s m) is put = absurd is
-order_may_lack n orders.List h (Take m o k b) is put = absurd is
-order_may_lack n orders.List h (Declare s) is put = is
-order_may_lack n orders.List h (Retire m o k) is put = absurd is
-order_may_lack n orders.List h (RetireTo m o k) is put = absurd is
-order_may_lack n orders.List h (Listing m) is put = tt
-order_may_lack n orders.List h (Ask m t) is put = absurd is
-order_may_lack n orders.List h (Feed m p) is put = tt
-order_may_lack n orders.List h (Put m s) is put = tt
-order_may_lack n orders.List h (Get s m) is put = absurd is
-order_may_lack n (orders.Ask kept) h (Take m o k b) is put = absurd is
-order_may_lack n (orders.Ask kept) h (Declare s) is put = is
-order_may_lack n (orders.Ask kept) h (Retire m o k) is put = absurd is
-order_may_lack n (orders.Ask kept) h (RetireTo m o k) is put = absurd is
-order_may_lack n (orders.Ask kept) h (Listing m) is put = tt
-order_may_lack n (orders.Ask kept) h (Ask m t) is put = is.2
-order_may_lack n (orders.Ask kept) h (Feed m p) is put = tt
-order_may_lack n (orders.Ask kept) h (Put m s) is put = tt
-order_may_lack n (orders.Ask kept) h (Get s m) is put = absurd is
-order_may_lack n (orders.Put k) h (Take m o j b) is put = absurd is
-order_may_lack n (orders.Put k) h (Declare s) is put = is
-order_may_lack n (orders.Put k) h (Retire m o j) is put = absurd is
-order_may_lack n (orders.Put k) h (RetireTo m o j) is put = absurd is
-order_may_lack n (orders.Put k) h (Listing m) is put = tt
-order_may_lack n (orders.Put k) h (Ask m t) is put = absurd is
-order_may_lack n (orders.Put k) h (Feed m p) is put = tt
-order_may_lack n (orders.Put k) h (Put m s) is put = tt
-order_may_lack n (orders.Put k) h (Get s m) is put = absurd is
-order_may_lack n (orders.Get k) h (Take m o j b) is put = absurd is
-order_may_lack n (orders.Get k) h (Declare s) is put = is
-order_may_lack n (orders.Get k) h (Retire m o j) is put = absurd is
-order_may_lack n (orders.Get k) h (RetireTo m o j) is put = absurd is
-order_may_lack n (orders.Get k) h (Listing m) is put = tt
-order_may_lack n (orders.Get k) h (Ask m t) is put = absurd is
-order_may_lack n (orders.Get k) h (Feed m p) is put = tt
-order_may_lack n (orders.Get k) h (Put m s) is put = tt
-order_may_lack n (orders.Get k) h (Get s m) is put = subst (λ j. is_put h j ≡ true) (sym is.0) (put k refl)
+    → ((k : ℕ) → order ≡ orders.Get k → is_put h k ≡ true)
+    → ((name : NameParts) → order ≡ orders.Retire name → MayNeedMemory (view_of (known h n)) (RetirementItem name))
+    → ((name : NameParts) → order ≡ orders.RetireTo name → MayNeedMemory (view_of (known h n)) (FloorItem name)) → MayLackMemory h c
+order_may_lack n (orders.Take name kept) h (Take m o k b) is put new rises = ((name, is.1), is.3)
+order_may_lack n (orders.Take name kept) h (Declare s) is put new rises = is
+order_may_lack n (orders.Take name kept) h (Retire m o k) is put new rises = absurd is
+order_may_lack n (orders.Take name kept) h (RetireTo m o k) is put new rises = absurd is
+order_may_lack n (orders.Take name kept) h (Listing m) is put new rises = tt
+order_may_lack n (orders.Take name kept) h (Ask m t) is put new rises = absurd is
+order_may_lack n (orders.Take name kept) h (Feed m p) is put new rises = tt
+order_may_lack n (orders.Take name kept) h (Put m s) is put new rises = tt
+order_may_lack n (orders.Take name kept) h (Get s m) is put new rises = absurd is
+order_may_lack n (orders.Retire name) h (Take m o k b) is put new rises = absurd is
+order_may_lack n (orders.Retire name) h (Declare s) is put new rises = is
+order_may_lack n (orders.Retire name) h (Retire m o k) is put new rises =
+    (name, is.1, subst (λ j. MayNeedMemory (view_of (known h j)) (RetirementItem name)) (sym is.0) (new name refl))
+order_may_lack n (orders.Retire name) h (RetireTo m o k) is put new rises = absurd is
+order_may_lack n (orders.Retire name) h (Listing m) is put new rises = tt
+order_may_lack n (orders.Retire name) h (Ask m t) is put new rises = absurd is
+order_may_lack n (orders.Retire name) h (Feed m p) is put new rises = tt
+order_may_lack n (orders.Retire name) h (Put m s) is put new rises = tt
+order_may_lack n (orders.Retire name) h (Get s m) is put new rises = absurd is
+order_may_lack n (orders.RetireTo name) h (Take m o k b) is put new rises = absurd is
+order_may_lack n (orders.RetireTo name) h (Declare s) is put new rises = is
+order_may_lack n (orders.RetireTo name) h (Retire m o k) is put new rises = absurd is
+order_may_lack n (orders.RetireTo name) h (RetireTo m o k) is put new rises =
+    (name, is.1, subst (λ j. MayNeedMemory (view_of (known h j)) (FloorItem name)) (sym is.0) (rises name refl))
+order_may_lack n (orders.RetireTo name) h (Listing m) is put new rises = tt
+order_may_lack n (orders.RetireTo name) h (Ask m t) is put new rises = absurd is
+order_may_lack n (orders.RetireTo name) h (Feed m p) is put new rises = tt
+order_may_lack n (orders.RetireTo name) h (Put m s) is put new rises = tt
+order_may_lack n (orders.RetireTo name) h (Get s m) is put new rises = absurd is
+order_may_lack n orders.List h (Take m o k b) is put new rises = absurd is
+order_may_lack n orders.List h (Declare s) is put new rises = is
+order_may_lack n orders.List h (Retire m o k) is put new rises = absurd is
+order_may_lack n orders.List h (RetireTo m o k) is put new rises = absurd is
+order_may_lack n orders.List h (Listing m) is put new rises = tt
+order_may_lack n orders.List h (Ask m t) is put new rises = absurd is
+order_may_lack n orders.List h (Feed m p) is put new rises = tt
+order_may_lack n orders.List h (Put m s) is put new rises = tt
+order_may_lack n orders.List h (Get s m) is put new rises = absurd is
+order_may_lack n (orders.Ask kept) h (Take m o k b) is put new rises = absurd is
+order_may_lack n (orders.Ask kept) h (Declare s) is put new rises = is
+order_may_lack n (orders.Ask kept) h (Retire m o k) is put new rises = absurd is
+order_may_lack n (orders.Ask kept) h (RetireTo m o k) is put new rises = absurd is
+order_may_lack n (orders.Ask kept) h (Listing m) is put new rises = tt
+order_may_lack n (orders.Ask kept) h (Ask m t) is put new rises = is.2
+order_may_lack n (orders.Ask kept) h (Feed m p) is put new rises = tt
+order_may_lack n (orders.Ask kept) h (Put m s) is put new rises = tt
+order_may_lack n (orders.Ask kept) h (Get s m) is put new rises = absurd is
+order_may_lack n (orders.Put k) h (Take m o j b) is put new rises = absurd is
+order_may_lack n (orders.Put k) h (Declare s) is put new rises = is
+order_may_lack n (orders.Put k) h (Retire m o j) is put new rises = absurd is
+order_may_lack n (orders.Put k) h (RetireTo m o j) is put new rises = absurd is
+order_may_lack n (orders.Put k) h (Listing m) is put new rises = tt
+order_may_lack n (orders.Put k) h (Ask m t) is put new rises = absurd is
+order_may_lack n (orders.Put k) h (Feed m p) is put new rises = tt
+order_may_lack n (orders.Put k) h (Put m s) is put new rises = tt
+order_may_lack n (orders.Put k) h (Get s m) is put new rises = absurd is
+order_may_lack n (orders.Get k) h (Take m o j b) is put new rises = absurd is
+order_may_lack n (orders.Get k) h (Declare s) is put new rises = is
+order_may_lack n (orders.Get k) h (Retire m o j) is put new rises = absurd is
+order_may_lack n (orders.Get k) h (RetireTo m o j) is put new rises = absurd is
+order_may_lack n (orders.Get k) h (Listing m) is put new rises = tt
+order_may_lack n (orders.Get k) h (Ask m t) is put new rises = absurd is
+order_may_lack n (orders.Get k) h (Feed m p) is put new rises = tt
+order_may_lack n (orders.Get k) h (Put m s) is put new rises = tt
+order_may_lack n (orders.Get k) h (Get s m) is put new rises = subst (λ j. is_put h j ≡ true) (sym is.0) (put k refl)

@@ -254,13 +254,15 @@ AnswersUnder (Some d) h (Feed n piece) r = PieceAnswers (is_bad h n) d h n piece
 AnswersUnder (Some d) h (Put n slot) r = r ≡ Done
 AnswersUnder (Some d) h (Get slot n) r = FileAnswers d (slot_file d h slot) r
 
--- the commands that may find no memory; any other is answered without it: a declaration, a name that is none, a body over its
--- limit, and a slot that was not put
+-- the commands that may find no memory; any other is answered without it: a declaration, a name that is none, one that the node
+-- knows as retired, a floor that it has reached, a body over its limit, and a slot that was not put
 abbrev pub MayLackMemory : List Step → Command → Type 0
 MayLackMemory h (Declare bytes) = ⊥
 MayLackMemory h (Take n origin number bytes) = AreName origin number × (length bytes ≤ longest_segment)
-MayLackMemory h (Retire n origin number) = AreName origin number
-MayLackMemory h (RetireTo n origin number) = AreName origin number
+MayLackMemory h (Retire n origin number) = (name : NameParts) × ReadsName origin number (Ok name)
+    × MayNeedMemory (view_of (known h n)) (RetirementItem name)
+MayLackMemory h (RetireTo n origin number) = (name : NameParts) × ReadsName origin number (Ok name)
+    × MayNeedMemory (view_of (known h n)) (FloorItem name)
 MayLackMemory h (Listing n) = ⊤
 MayLackMemory h (Ask n text) = length text ≤ longest_text
 MayLackMemory h (Feed n piece) = ⊤

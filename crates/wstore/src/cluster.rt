@@ -7,7 +7,9 @@ ghost use Rattle.wsegment.specs.Declaration.{Declaration};
 ghost use Rattle.wvalues.specs.NameReading.{ReadsName};
 ghost use Rattle.wscript.specs.Commands.{Command as Spelled, Take, Retire as Retiring, RetireTo as RetiringTo, Listing};
 ghost use Rattle.wscript.specs.Commands.{Ask, Put, Get, longest_segment, longest_text, node_count, slot_count};
-ghost use Rattle.wstore.specs.History.{Step, is_put};
+ghost use Rattle.wvalues.specs.Names.{NameParts};
+ghost use Rattle.wset.specs.Items.{FloorItem, RetirementItem, view_of};
+ghost use Rattle.wstore.specs.History.{MayNeedMemory, Step, is_put, known};
 ghost use Rattle.wstore.specs.Nodes.{fresh_node};
 ghost use Rattle.wstore.specs.Replies.{ask_text, get_text, take_text};
 ghost use Rattle.wreplies.specs.Texts.{bytes_of};
@@ -170,6 +172,8 @@ impl Cluster {
             → ReadsName origin number (Ok name) → StandAt d self.old h
             → AnswersAs d self.new h (Retiring node origin number) (bytes_of text)) }
         ensures err { OnErr result (self.new ≡ self.old) }
+        ensures lacks { OnErr result ((d : Declaration) (h : List Step) → StandAt d self.old h
+            → MayNeedMemory (view_of (known h node)) (RetirementItem name)) }
     {
         let place = node.place();
         let word = self.nodes[place].retire(name)?;
@@ -182,6 +186,8 @@ impl Cluster {
             → ReadsName origin number (Ok name) → StandAt d self.old h
             → AnswersAs d self.new h (RetiringTo node origin number) (bytes_of text)) }
         ensures err { OnErr result (self.new ≡ self.old) }
+        ensures lacks { OnErr result ((d : Declaration) (h : List Step) → StandAt d self.old h
+            → MayNeedMemory (view_of (known h node)) (FloorItem name)) }
     {
         let place = node.place();
         let word = self.nodes[place].retire_to(name)?;
@@ -266,6 +272,10 @@ impl Cluster {
         ensures err { OnErr result (self.new ≡ self.old) }
         ensures lacks { OnErr result ((slot : ℕ) (d : Declaration) (h : List Step) → order.now ≡ Order.Get slot
             → StandAt d self.old h → is_put h slot ≡ true) }
+        ensures retires { OnErr result ((name : NameParts) (d : Declaration) (h : List Step) → order.now ≡ Order.Retire name
+            → StandAt d self.old h → MayNeedMemory (view_of (known h node)) (RetirementItem name)) }
+        ensures rises { OnErr result ((name : NameParts) (d : Declaration) (h : List Step) → order.now ≡ Order.RetireTo name
+            → StandAt d self.old h → MayNeedMemory (view_of (known h node)) (FloorItem name)) }
     {
         match order {
             Order::Take(name, bytes) => self.take(node, *name, bytes),

@@ -1,5 +1,6 @@
 //! Orders of the kept rows that orders of all rows of the table give.
-ghost use Rattle.std.specs.Prelude.{◌≡◌, ◌<◌, [], All, IfOk, IfSome, List, None, Ok, Option, length, option_map, slice_index_or, IfNone, ◌+◌};
+ghost use Rattle.std.specs.Prelude.{◌≡◌, ◌<◌, ◌+◌, [], All, IfNone, IfOk, IfSome, List, None, Ok, Option, length};
+ghost use Rattle.std.specs.Prelude.{option_map, slice_index_or};
 ghost use Rattle.wplan.specs.Formula.{Formula};
 ghost use Rattle.wplan.specs.Plans.{KeyPlan, window_plan};
 ghost use Rattle.wrows.specs.Columns.{Row};

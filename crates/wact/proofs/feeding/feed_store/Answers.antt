@@ -10,7 +10,8 @@ feed_node-requires-clause-declared c =
 pub returns-in-Node : goal.returns-in-Node
 returns-in-Node c =
     let opens = rw c.in-Node.is at c.in_ok-node.ensures.opens in
-    if_ok c.feed_node.result (λ acted feeds choice is. acts_opened choice _ _ _ c.in-Node.node acted opens is feeds) c.feed_node.ensures.feeds
+    if_ok c.feed_node.result (λ acted feeds choice is. acts_opened choice _ _ _ c.in-Node.node acted opens is feeds)
+    c.feed_node.ensures.feeds
 
 pub returns-in-Refused : goal.returns-in-Refused
 returns-in-Refused c =

@@ -13,4 +13,5 @@ returns-clause-replies c = λ h command order stands.
 pub returns-in_err-text-clause-lacks : goal.returns-in_err-text-clause-lacks
 returns-in_err-text-clause-lacks c = if_refused c.from_residual.result _ (λ h command order stands.
     let s : ClusterStands (Some c.in-Some.cluster) h = subst (λ o. ClusterStands o h) c.in-Some.is stands in
-    order_may_lack c.args.node c.args.order.now h command order (λ slot is. c.in_err-text.ensures.lacks slot s.0 h is s.1))
+    order_may_lack c.args.node c.args.order.now h command order (λ slot is. c.in_err-text.ensures.lacks slot s.0 h is s.1)
+    (λ name is. c.in_err-text.ensures.retires name s.0 h is s.1) (λ name is. c.in_err-text.ensures.rises name s.0 h is s.1))
