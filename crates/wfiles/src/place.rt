@@ -15,7 +15,7 @@ use std::alloc::Global;
 use std::fs::File;
 use std::mem;
 use std::rt::{Clock, Files};
-use wfolder::{Fault, NotReplaced, Target, path_in, replace};
+use wfolder::{Fault, NotReplaced, Target, is_new_name, path_in, replace};
 
 /// A file that may be replaced: a plain one that may be written, found behind the links to it, or none yet. While this
 /// stands no other such program replaces a file of its folder.
@@ -76,7 +76,7 @@ fn lock_folder<R: Clock + Eprint>(
     locked
 }
 
-// Where the file of a path stands, if it is a plain one or none yet.
+// Where the file of a path stands, if it is a plain one or none yet, and no later run would take it for what a killed one has left.
 fn target_of<R: Files<File = File> + AllocGlobal>(
     alloc: Global,
     system: &mut System<'_, R>,
@@ -88,6 +88,9 @@ fn target_of<R: Files<File = File> + AllocGlobal>(
 {
     let access = system.replaceable(path)?;
     let found = path_behind(alloc, system, path)?;
+    if is_new_name(name_of(found.as_str()).as_bytes()) {
+        return Err(system.misplaced());
+    }
     let folder = system.grown(String::from_str(alloc, folder_of(found.as_str())))?;
     // spelled as new files are, so that the store is never taken for one
     let path = system.grown(path_in(alloc, folder.as_str(), name_of(found.as_str())))?;

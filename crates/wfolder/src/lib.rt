@@ -19,4 +19,4 @@ mod replacing;
 pub use disk::{Disk, Entry};
 pub use fault::Fault;
 pub use folder::{Access, Folder, Target};
-pub use replacing::{NotReplaced, path_in, replace};
+pub use replacing::{NotReplaced, is_new_name, path_in, replace};

@@ -29,8 +29,8 @@ fn are_number_bytes(bytes: &[u8]) -> bool
     bytes.iter().all(|byte| is_number_byte(*byte))
 }
 
-// Whether a file's name is one that this program gives to new files.
-fn is_new_name(name: &[u8]) -> bool
+/// Whether a file's name is one that this program gives to new files, and removes as what a killed run has left.
+pub fn is_new_name(name: &[u8]) -> bool
     ensures { IsTrue result → IsNewName name.now }
 {
     match name.strip_prefix(b".wstore-") {
