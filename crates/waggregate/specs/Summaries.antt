@@ -1,5 +1,5 @@
 -- What the rows of a group come to, kept so that each aggregate of them can be answered.
-use Rattle.std.specs.Prelude.{◌≡◌, ¬, ℕ, pos, ◌<◌, ◌==◌, Bool, true, false, List}
+use Rattle.std.specs.Prelude.{◌≡◌, ℕ, pos, ◌<◌, ◌==◌, Bool, true, false, List}
 use Rattle.std.specs.Prelude.{length, map, filter, Option, Some, None, slice_index_or, if◌then◌else◌}
 use Rattle.std.specs.Ordering.{is_lt}
 use Rattle.std.specs.declared.cmp.Ordering.{Ordering}

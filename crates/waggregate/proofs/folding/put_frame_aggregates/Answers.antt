@@ -124,6 +124,7 @@ loop-done-preserved c =
           (values_or_null (window_answers function feed all rows))) puts.put c.loop-done.invariant.put;
       joins = joins_next all rows tiles done b next function feed c.requires.rows c.args.tally.now c.loop-done.tally
           c.put_batch.new.tally c.loop-done.invariant.joins c.in_ok-put_batch.ensures.joins;
+      not_less = omega (arith, c.loop-done.invariant.not_less, c.in_ok-put_batch.ensures.not_less);
     }
 
 pub returns-clause-answers : goal.returns-clause-answers

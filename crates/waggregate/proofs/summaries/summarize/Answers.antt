@@ -5,8 +5,8 @@ use Rattle.waggregate.proofs.ArgumentFacts.{values_long}
 use Rattle.waggregate.proofs.SummaryFacts.{said, summed_long}
 use Rattle.waggregate.proofs.summaries.summarize.Goals as goal
 
-pub returns : goal.returns
-returns c =
+pub returns-clause-summed : goal.returns-clause-summed
+returns-clause-summed c =
     let values = values_of c.args.argument in
     let all = c.in_ok-groups.groups.items in
     let ranges = fed_in_range values
