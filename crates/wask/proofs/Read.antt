@@ -49,7 +49,6 @@ text_lacking fault r text is long foreign lacks = text_by r text long foreign (�
     no : Err lexing.NotUtf8 ≢ r
     no e = let both : Err lexing.NotUtf8 ≡ Err lexing.NoMemory = e ∙ lacking in cc
 
-
 said_placed : (tokens : List Token) → said (map placed tokens) ≡ meanings tokens
 said_placed [] = refl
 said_placed (t ∷ ts) = ap (λ l. meaning_of t ∷ l) (said_placed ts)

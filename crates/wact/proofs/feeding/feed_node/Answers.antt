@@ -14,6 +14,6 @@ returns-clause-feeds c =
 
 pub returns-clause-knows : goal.returns-clause-knows
 returns-clause-knows c = at_ok c.stored.result (
-      c.in_ok-deliver_all.ensures.schema_is,
-      c.in_ok-deliver_all.ensures.view_is ∙ ap (delivered_view c.args.node.now.view) c.deliveries-deliveries.ensures.items,
-    )
+  c.in_ok-deliver_all.ensures.schema_is,
+  c.in_ok-deliver_all.ensures.view_is ∙ ap (delivered_view c.args.node.now.view) c.deliveries-deliveries.ensures.items,
+)
