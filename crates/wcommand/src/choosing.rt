@@ -64,10 +64,8 @@ fn chosen<'a>(alloc: Global, matches: &ArgMatches<'a>) -> Result<Choice<'a>, Wor
     ensures choice { IfOk result (λ choice. IsChoice (subcommand_rows_of matches.now) choice) }
     ensures lacks { IfErr result (λ fault. fault ≡ NoMemory) }
 {
-    match choice_of(alloc, matches) {
-        Ok(choice) => Ok(choice),
-        Err(_) => Err(WordsFault::NoMemory),
-    }
+    let choice = choice_of(alloc, matches)?;
+    Ok(choice)
 }
 
 /// The subcommand that the words behind the program's name choose, with its values; `WordsFault::Help` where they ask
@@ -77,9 +75,7 @@ pub fn choose<'a>(alloc: Global, words: &'a [&'a str]) -> Result<Choice<'a>, Wor
     ensures chosen { Chooses (map (λ word. word.now) words.entry.now) result }
     ensures taken { takes command_set (map (λ word. word.now) words.entry.now) ≡ true → IfErr result (λ fault. fault ≡ NoMemory) }
 {
-    let Ok(command) = command_set(alloc) else {
-        return Err(WordsFault::NoMemory);
-    };
+    let command = command_set(alloc)?;
     match command.try_get_matches_from(words) {
         Ok(matches) => chosen(alloc, &matches),
         Err(error) => Err(words_fault(alloc, &error)),

@@ -5,7 +5,7 @@ ghost use Rattle.wcommand.specs.declared.fault.WordsFault.TheVariants.{NoMemory}
 use std::alloc::AllocError;
 use thiserror::Error;
 
-/// Why words choose nothing. Each text ends in a line feed.
+/// Why words choose nothing. The texts are those of `clap`: that each ends in a line feed is not proved.
 #[derive(Debug, Drop, Error)]
 pub enum WordsFault {
     /// The words ask for help or for the version: this is its text, for standard output.
