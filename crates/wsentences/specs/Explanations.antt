@@ -20,27 +20,28 @@ file_line file (c ∷ cs) = shown_text file ++ (codes ": " ++ (c ∷ cs ++ (10 �
 abbrev pub length_text : List ℕ → List ℕ
 length_text bytes = codes "it has " ++ (decimal (length bytes) ++ codes " bytes")
 
--- how many fields a row has, and how many the header; nothing, where the row is not there
+-- how many fields a row has, and how many the header, or nothing
 abbrev pub AddsLengths : ℕ → List ℕ → List ℕ → Type 0
 AddsLengths row old new = (new ≡ old) ⊎ ((fields : ℕ) × (columns : ℕ) × (new ≡ old ++ (codes "row " ++ (decimal row
     ++ (codes " has " ++ (decimal fields ++ (codes " fields, the header " ++ decimal columns)))))))
 
--- a row, with the field of it, under its column, that has a fault, if one has; nothing, where the row is not there
+-- a row, alone or with a field of it under its column, or nothing
 abbrev pub AddsRow : ℕ → List ℕ → List ℕ → Type 0
 AddsRow row old new = (new ≡ old) ⊎ ((new ≡ old ++ (codes "row " ++ decimal row)) ⊎ ((column : List ℕ) × (value : List ℕ)
     × (new ≡ old ++ (codes "row " ++ (decimal row ++ (codes ", column " ++ (shown_bytes column ++ (codes ": " ++ shown_value value))))))))
 
--- the field of the header that has a fault, or nothing, where none has
+-- a field of the header, or nothing
 abbrev pub AddsHeaderField : List ℕ → List ℕ → Type 0
 AddsHeaderField old new = (new ≡ old) ⊎ ((number : ℕ) × (field : List ℕ)
     × (new ≡ old ++ (codes "field " ++ (decimal number ++ (codes " of the header is " ++ shown_value field)))))
 
--- a column of the table that the header lacks, or nothing, where it lacks none
+-- a column of the table, or nothing
 abbrev pub AddsMissing : List Described → List ℕ → List ℕ → Type 0
 AddsMissing columns old new = (new ≡ old) ⊎ ((column : Described) × Contains columns column
     × (new ≡ old ++ (codes "there is no column " ++ column.name)))
 
--- where a segment has a fault is added to a text. Which field and which column it is, is only tested
+-- where a segment has a fault is added to a text. Which field and which column it is, is only tested; that nothing is added only where
+-- there is none is not proved
 abbrev pub AddsSegmentPlace : List Described → SegmentFault → List ℕ → List ℕ → List ℕ → Type 0
 AddsSegmentPlace columns segments.TooLong bytes old new = new ≡ old ++ length_text bytes
 AddsSegmentPlace columns segments.NoHeader bytes old new = new ≡ old

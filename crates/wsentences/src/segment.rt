@@ -258,7 +258,7 @@ fn reader_of<'a>(alloc: Global, bytes: &'a [u8]) -> Reader<&'a [u8]> {
         .from_reader(alloc, bytes)
 }
 
-/// Adds where a segment has this fault, and what stands there.
+/// Adds where a segment has this fault, and what stands there, if that is found.
 pub fn push_segment_place(
     alloc: Global,
     text: &mut String,

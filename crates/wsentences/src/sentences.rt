@@ -252,8 +252,6 @@ const Q28: Sentence = Sentence {
     words: "GROUP BY stands for more than 64 sets",
 };
 
-/// Q10 to Q28.
-
 const Q40: Sentence = Sentence {
     label: "Q40",
     words: "a number is not strictly between -2^95 and 2^95",
@@ -265,7 +263,7 @@ const Q41: Sentence = Sentence {
 };
 
 /// The sentence of a name that is none.
-pub fn name_sentence(fault: NameFault) -> Sentence
+pub(crate) fn name_sentence(fault: NameFault) -> Sentence
     ensures { result.label.now ≡ name_label fault }
 {
     match fault {
@@ -275,7 +273,7 @@ pub fn name_sentence(fault: NameFault) -> Sentence
 }
 
 /// The sentence of a declaration that is refused.
-pub fn table_sentence(fault: SchemaFault) -> Sentence
+pub(crate) fn table_sentence(fault: SchemaFault) -> Sentence
     ensures { result.label.now ≡ table_label fault }
 {
     match fault {
