@@ -1,5 +1,5 @@
 -- How names and places in files are told.
-use Rattle.std.specs.Prelude.{◌==◌, ◌++◌, ◌-◌, ℕ, List, ◌∷◌, codes, length}
+use Rattle.std.specs.Prelude.{◌==◌, ◌++◌, ℕ, List, ◌∷◌, codes}
 use Rattle.std.specs.Fmt.{decimal}
 use Rattle.std.specs.List.{before_first}
 use Rattle.wvalues.specs.Names.{NameParts}

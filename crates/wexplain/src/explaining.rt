@@ -1,6 +1,10 @@
 //! Why a subcommand was refused.
-ghost use Rattle.std.specs.Prelude.{IfOk, IfSome};
-ghost use Rattle.wexplain.specs.Refusals.{IsRefusal};
+ghost use Rattle.std.specs.Prelude.{◌≡◌, ◌≢◌, IfOk, IfSome, IsSome, codes, string_bytes};
+ghost use Rattle.wshown.specs.Shown.{BeginsWith};
+ghost use Rattle.wsentences.specs.Labels.{file_label, name_label, segment_label, table_label};
+ghost use Rattle.wvalues.specs.declared.name.NameFault.{NameFault};
+ghost use Rattle.wsegment.specs.declared.schema_fault.SchemaFault.{SchemaFault};
+ghost use Rattle.wexplain.specs.Refusals.{BeginsWithLabel, Explains, IsOfWords, refusal_line};
 
 use crate::exchange_file::explain_file;
 use crate::query::explain_query;
@@ -59,16 +63,20 @@ fn told_file(
     schema: &Schema,
     given: &Given<'_, '_, '_, '_, '_>,
     fault: FileFault,
-) -> Result<Option<String>, AllocError> {
+) -> Result<Option<String>, AllocError>
+    ensures { IfOk result (λ answer. IfSome answer (λ text. BeginsWith (file_label fault) (string_bytes text))) }
+{
     if let Some(other) = given.other
         && is_whole(alloc, schema, &given.store)
     {
-        return explain_file(alloc, other.path, schema, other.bytes, fault).map(Some);
+        let text = explain_file(alloc, other.path, schema, other.bytes, fault)?;
+        return Ok(Some(text));
     }
-    match given.store {
-        Some(store) => explain_file(alloc, store.path, schema, store.bytes, fault).map(Some),
-        None => Ok(None),
-    }
+    let Some(store) = given.store else {
+        return Ok(None);
+    };
+    let text = explain_file(alloc, store.path, schema, store.bytes, fault)?;
+    Ok(Some(text))
 }
 
 // Explains the fault of a segment, or of the first segment of a stream that has one.
@@ -77,27 +85,32 @@ fn told_segment(
     schema: &Schema,
     given: &Given<'_, '_, '_, '_, '_>,
     fault: SegmentFault,
-) -> Result<Option<String>, AllocError> {
+) -> Result<Option<String>, AllocError>
+    ensures { IfOk result (λ answer. IfSome answer (λ text. BeginsWith (segment_label fault) (string_bytes text))) }
+{
     if let Some(stream) = given.stream {
-        return explain_delivery(alloc, stream.path, schema, &stream.place, fault).map(Some);
+        let text = explain_delivery(alloc, stream.path, schema, &stream.place, fault)?;
+        return Ok(Some(text));
     }
-    match given.segment {
-        Some(segment) => explain_segment(alloc, segment.path, schema, segment.bytes, fault).map(
-            Some,
-        ),
-        None => Ok(None),
-    }
+    let Some(segment) = given.segment else {
+        return Ok(None);
+    };
+    let text = explain_segment(alloc, segment.path, schema, segment.bytes, fault)?;
+    Ok(Some(text))
 }
 
 // Explains what is wrong in a stream.
 fn told_stream(
     alloc: Global,
     given: &Given<'_, '_, '_, '_, '_>,
-) -> Result<Option<String>, AllocError> {
+) -> Result<Option<String>, AllocError>
+    ensures { IfOk result (λ answer. IfSome answer (λ text. BeginsWith (codes "B1") (string_bytes text))) }
+{
     let Some(stream) = given.stream else {
         return Ok(None);
     };
-    explain_stream(alloc, stream.path, &stream.place).map(Some)
+    let text = explain_stream(alloc, stream.path, &stream.place)?;
+    Ok(Some(text))
 }
 
 // Explains a refusal below a declaration that was read.
@@ -106,12 +119,15 @@ fn told_by(
     schema: &Schema,
     given: &Given<'_, '_, '_, '_, '_>,
     refusal: Refusal,
-) -> Result<Option<String>, AllocError> {
+) -> Result<Option<String>, AllocError>
+    ensures { IfOk result (λ answer. IfSome answer (λ text. BeginsWithLabel refusal (string_bytes text))) }
+{
     match refusal {
         Refusal::Segment(fault) => told_segment(alloc, schema, given, fault),
         Refusal::File(fault) => told_file(alloc, schema, given, fault),
         Refusal::Query(fault) => {
-            explain_query(alloc, schema, given.query.as_bytes(), fault).map(Some)
+            let text = explain_query(alloc, schema, given.query.as_bytes(), fault)?;
+            Ok(Some(text))
         }
         Refusal::Stream => told_stream(alloc, given),
         _ => Ok(None),
@@ -123,7 +139,9 @@ fn told_below(
     alloc: Global,
     given: &Given<'_, '_, '_, '_, '_>,
     refusal: Refusal,
-) -> Result<Option<String>, AllocError> {
+) -> Result<Option<String>, AllocError>
+    ensures { IfOk result (λ answer. IfSome answer (λ text. BeginsWithLabel refusal (string_bytes text))) }
+{
     match Schema::read(alloc, given.table.bytes) {
         Ok(schema) => told_by(alloc, &schema, given, refusal),
         Err(_) => Ok(None),
@@ -135,15 +153,20 @@ fn told(
     alloc: Global,
     refusal: Refusal,
     given: &Given<'_, '_, '_, '_, '_>,
-) -> Result<Option<String>, AllocError> {
+) -> Result<Option<String>, AllocError>
+    ensures some { IsOfWords refusal → IfOk result (λ answer. IsSome answer) }
+    ensures begins { IfOk result (λ answer. IfSome answer (λ text. BeginsWithLabel refusal (string_bytes text))) }
+{
     match refusal {
         Refusal::Declaration(fault) => {
             let table = given.table;
-            explain_declaration(alloc, table.path, table.bytes, fault).map(Some)
+            let text = explain_declaration(alloc, table.path, table.bytes, fault)?;
+            Ok(Some(text))
         }
         Refusal::Name(fault) => {
             let origin = given.origin.as_bytes();
-            explain_name(alloc, origin, given.number.as_bytes(), fault).map(Some)
+            let text = explain_name(alloc, origin, given.number.as_bytes(), fault)?;
+            Ok(Some(text))
         }
         _ => told_below(alloc, given, refusal),
     }
@@ -155,7 +178,10 @@ pub fn explain(
     reply: &[u8],
     given: &Given<'_, '_, '_, '_, '_>,
 ) -> Result<Option<String>, AllocError>
-    ensures { IfOk result (λ answer. IfSome answer (λ _. IsRefusal reply.now)) }
+    ensures explains { IfOk result (λ answer. IfSome answer (λ text. Explains reply.now (string_bytes text))) }
+    ensures name { (fault : NameFault) → reply.now ≡ refusal_line (name_label fault) → IfOk result (λ answer. IsSome answer) }
+    ensures table { (fault : SchemaFault) → fault ≢ SchemaFault.NoMemory → reply.now ≡ refusal_line (table_label fault)
+        → IfOk result (λ answer. IsSome answer) }
 {
     match refusal_of(reply) {
         Some(refusal) => told(alloc, refusal, given),

@@ -1,6 +1,10 @@
 //! From what a refused subcommand has printed to what is wrong.
-ghost use Rattle.std.specs.Prelude.{IfSome};
-ghost use Rattle.wexplain.specs.Refusals.{IsRefusal};
+ghost use Rattle.std.specs.Prelude.{◌≡◌, ◌≢◌, List, [], ℕ, IfSome, codes};
+ghost use Rattle.std.specs.List.{position};
+ghost use Rattle.wsentences.specs.Labels.{HasQueryLabel, file_label, name_label, segment_label, table_label};
+ghost use Rattle.wvalues.specs.declared.name.NameFault.{NameFault};
+ghost use Rattle.wsegment.specs.declared.schema_fault.SchemaFault.{SchemaFault};
+ghost use Rattle.wexplain.specs.Refusals.{IsCalled, Refuses, ends_label, label_in, refusal_line};
 
 use wexchange::FileFault;
 use wlines::split_word;
@@ -19,24 +23,45 @@ pub(crate) enum Refusal {
     Stream,
 }
 
-// The number behind a word, 0 where there is none.
-fn number_behind(words: &[u8]) -> u32 {
-    match split_word(words) {
-        Some((_, number)) => number_word(number).unwrap_or(0),
-        None => 0,
+// Where the label of a refusal ends.
+fn label_end(line: &[u8]) -> Option<usize>
+    ensures { result ≡ position ends_label line.now }
+{
+    line.iter().position(|byte| *byte == b' ' || *byte == b'\n')
+}
+
+// The label of a refusal.
+fn label_of(line: &[u8]) -> &[u8]
+    ensures { result.now ≡ label_in line.now }
+{
+    match label_end(line) {
+        Some(end) => &line[..end],
+        None => line,
     }
 }
 
-// The first word, and the number behind the second, 0 where there is none.
-fn label_of(words: &[u8]) -> (&[u8], u32) {
-    match split_word(words) {
-        Some((label, rest)) => (label, number_behind(rest)),
-        None => (words, 0),
+// What stands behind the first space of a line, if it has one.
+fn behind_word(line: &[u8]) -> &[u8] {
+    match split_word(line) {
+        Some((_, rest)) => rest,
+        None => b"",
     }
+}
+
+// The number that stands behind a label and a word, 0 where there is none.
+fn number_of(line: &[u8]) -> u32 {
+    let rest = behind_word(behind_word(line));
+    let number = match rest.strip_suffix(b"\n") {
+        Some(number) => number,
+        None => rest,
+    };
+    number_word(number).unwrap_or(0)
 }
 
 // A fault of a field that is not UTF-8: in a row from 1, or in the header.
-fn not_utf8(row: u32) -> SegmentFault {
+fn not_utf8(row: u32) -> SegmentFault
+    ensures { segment_label result ≡ codes "S3" }
+{
     if row == 0 {
         return SegmentFault::HeaderNotUtf8;
     }
@@ -44,8 +69,9 @@ fn not_utf8(row: u32) -> SegmentFault {
 }
 
 // The fault of a segment.
-fn segment_fault(words: &[u8]) -> Option<SegmentFault> {
-    let (label, row) = label_of(words);
+fn segment_fault(label: &[u8], row: u32) -> Option<SegmentFault>
+    ensures { IfSome result (λ fault. label.now ≡ segment_label fault) }
+{
     match label {
         b"S1" => Some(SegmentFault::TooLong),
         b"S2" => Some(SegmentFault::NoHeader),
@@ -60,47 +86,67 @@ fn segment_fault(words: &[u8]) -> Option<SegmentFault> {
     }
 }
 
-// The fault of a segment in a file.
-fn content_fault(words: &[u8]) -> Option<FileFault> {
-    let (_, rest) = split_word(words)?;
-    segment_fault(rest).map(FileFault::Segment)
+// The fault of a file whose segment has the fault of a line.
+fn content_fault(line: &[u8]) -> Option<FileFault>
+    ensures { IfSome result (λ fault. file_label fault ≡ codes "X6") }
+{
+    match segment_fault(label_of(line), number_of(line)) {
+        Some(fault) => Some(FileFault::Segment(fault)),
+        None => None,
+    }
 }
 
-// The fault of an exchange file.
-fn file_fault(words: &[u8]) -> Option<FileFault> {
-    match words {
+// The fault of an exchange file, in which that of a segment stands behind the label.
+fn file_fault(label: &[u8], behind: &[u8]) -> Option<FileFault>
+    ensures { IfSome result (λ fault. label.now ≡ file_label fault) }
+{
+    match label {
         b"X1" => Some(FileFault::OtherFormat),
         b"X2" => Some(FileFault::Truncated),
         b"X3" => Some(FileFault::NotRising),
         b"X4" => Some(FileFault::OtherCount),
         b"X5" => Some(FileFault::OtherSchema),
+        b"X6" => content_fault(behind),
         b"X7" => Some(FileFault::Trailing),
         b"X8" => Some(FileFault::OtherDigest),
-        _ => content_fault(words),
-    }
-}
-
-// The fault of a query.
-fn query_fault(words: &[u8]) -> Option<AskFault> {
-    let (label, place) = label_of(words);
-    let number = number_word(label.strip_prefix(b"Q")?)?;
-    match number {
-        1 => Some(AskFault::TooLong),
-        2 => Some(AskFault::NotUtf8),
-        3 => Some(AskFault::At {
-            place: place as usize,
-        }),
-        4 => Some(AskFault::Syntax),
-        10..=28 => Some(AskFault::Broken { rule: number as u8 }),
-        40 => Some(AskFault::OutOfRange),
-        41 => Some(AskFault::TooManyRows),
         _ => None,
     }
 }
 
+// The fault of a query that breaks a rule.
+fn rule_fault(label: &[u8]) -> Option<AskFault>
+    ensures { IfSome result (λ fault. (other : List ℕ) → HasQueryLabel fault other → other ≡ label.now) }
+{
+    let rule = number_word(label.strip_prefix(b"Q")?)?;
+    match rule {
+        10..=28 => Some(AskFault::Broken { rule: rule as u8 }),
+        _ => None,
+    }
+}
+
+// The fault of a query.
+fn query_fault(label: &[u8], place: u32) -> Option<AskFault>
+    ensures { IfSome result (λ fault. (other : List ℕ) → HasQueryLabel fault other → other ≡ label.now) }
+{
+    match label {
+        b"Q1" => Some(AskFault::TooLong),
+        b"Q2" => Some(AskFault::NotUtf8),
+        b"Q3" => Some(AskFault::At {
+            place: place as usize,
+        }),
+        b"Q4" => Some(AskFault::Syntax),
+        b"Q40" => Some(AskFault::OutOfRange),
+        b"Q41" => Some(AskFault::TooManyRows),
+        _ => rule_fault(label),
+    }
+}
+
 // The fault of a declaration.
-fn table_fault(words: &[u8]) -> Option<SchemaFault> {
-    match words {
+fn table_fault(label: &[u8]) -> Option<SchemaFault>
+    ensures found { IfSome result (λ fault. label.now ≡ table_label fault) }
+    ensures only { (fault : SchemaFault) → fault ≢ SchemaFault.NoMemory → label.now ≡ table_label fault → result ≡ Some fault }
+{
+    match label {
         b"T1" => Some(SchemaFault::Syntax),
         b"T2" => Some(SchemaFault::RepeatedColumn),
         b"T3" => Some(SchemaFault::ColumnCount),
@@ -109,31 +155,65 @@ fn table_fault(words: &[u8]) -> Option<SchemaFault> {
 }
 
 // The fault of a name.
-fn name_fault(words: &[u8]) -> Option<NameFault> {
-    match words {
+fn name_fault(label: &[u8]) -> Option<NameFault>
+    ensures found { IfSome result (λ fault. label.now ≡ name_label fault) }
+    ensures only { (fault : NameFault) → label.now ≡ name_label fault → result ≡ Some fault }
+{
+    match label {
         b"N1" => Some(NameFault::BadOrigin),
         b"N2" => Some(NameFault::BadNumber),
         _ => None,
     }
 }
 
-// What is refused in a line.
-fn refused(line: &[u8]) -> Option<Refusal> {
-    let words = line.strip_suffix(b"\n")?;
-    match words.first()? {
-        b'T' => table_fault(words).map(Refusal::Declaration),
-        b'N' => name_fault(words).map(Refusal::Name),
-        b'S' => segment_fault(words).map(Refusal::Segment),
-        b'X' => file_fault(words).map(Refusal::File),
-        b'Q' => query_fault(words).map(Refusal::Query),
-        b'B' => Some(Refusal::Stream),
+// The refusal of a stream.
+fn stream_refusal(label: &[u8]) -> Option<Refusal>
+    ensures { IfSome result (λ refusal. IsCalled refusal label.now) }
+{
+    match label {
+        b"B1" => Some(Refusal::Stream),
         _ => None,
     }
 }
 
+// What else than a name or a declaration is refused by a line of this label.
+fn refused_below(label: &[u8], line: &[u8]) -> Option<Refusal>
+    ensures filled { IfSome result (λ _. label.now ≢ []) }
+    ensures called { IfSome result (λ refusal. IsCalled refusal label.now) }
+{
+    match label.first()? {
+        b'S' => Some(Refusal::Segment(segment_fault(label, number_of(line))?)),
+        b'X' => Some(Refusal::File(file_fault(label, behind_word(line))?)),
+        b'Q' => Some(Refusal::Query(query_fault(label, number_of(line))?)),
+        b'B' => stream_refusal(label),
+        _ => None,
+    }
+}
+
+// What is refused in a line.
+fn refused(line: &[u8]) -> Option<Refusal>
+    ensures filled { IfSome result (λ _. label_in line.now ≢ []) }
+    ensures called { IfSome result (λ refusal. IsCalled refusal (label_in line.now)) }
+    ensures name { (fault : NameFault) → label_in line.now ≡ name_label fault → result ≡ Some (Refusal.Name fault) }
+    ensures table { (fault : SchemaFault) → fault ≢ SchemaFault.NoMemory → label_in line.now ≡ table_label fault
+        → result ≡ Some (Refusal.Declaration fault) }
+{
+    let label = label_of(line);
+    if let Some(fault) = name_fault(label) {
+        return Some(Refusal::Name(fault));
+    }
+    if let Some(fault) = table_fault(label) {
+        return Some(Refusal::Declaration(fault));
+    }
+    refused_below(label, line)
+}
+
 /// The refusal that a reply tells, if it tells one.
 pub(crate) fn refusal_of(reply: &[u8]) -> Option<Refusal>
-    ensures { IfSome result (λ _. IsRefusal reply.now) }
+    ensures found { IfSome result (λ refusal. Refuses reply.now refusal) }
+    ensures name { (fault : NameFault) → reply.now ≡ refusal_line (name_label fault) → result ≡ Some (Refusal.Name fault) }
+    ensures table { (fault : SchemaFault) → fault ≢ SchemaFault.NoMemory → reply.now ≡ refusal_line (table_label fault)
+        → result ≡ Some (Refusal.Declaration fault) }
 {
     match reply.strip_prefix(b"refused ") {
         Some(line) => refused(line),
