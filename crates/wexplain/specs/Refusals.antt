@@ -1,8 +1,12 @@
 -- What a refused subcommand has printed, and what an explanation of it begins with.
-use Rattle.std.specs.Prelude.{◌≡◌, ◌≢◌, ◌==◌, ◌||◌, ◌++◌, ⊤, ℕ, Bool, List, [], ◌∷◌, codes}
+use Rattle.std.specs.Prelude.{◌≡◌, ◌≢◌, ◌≤◌, ◌==◌, ◌||◌, ◌++◌, ⊤, ℕ, Bool, List, [], ◌∷◌, codes}
 use Rattle.std.specs.List.{before_first}
 use Rattle.wshown.specs.Shown.{BeginsWith}
 use Rattle.wsentences.specs.Labels.{HasQueryLabel, file_label, name_label, segment_label, table_label}
+use Rattle.wsegment.specs.Declaration.{Declaration, declaration_text}
+use Rattle.wsegment.specs.Spelling.{IsDeclaration}
+use Rattle.wplanner.specs.declared.fault.AskFault.{AskFault}
+use Rattle.wplanner.specs.declared.fault.AskFault.TheVariants as queries
 use Rattle.wexplain.specs.declared.reply.Refusal.{Refusal}
 use Rattle.wexplain.specs.declared.reply.Refusal.TheVariants as refusals
 
@@ -24,6 +28,24 @@ pub record Explains (reply text : List ℕ) : Type 0 where
   pub is : reply ≡ codes "refused " ++ line
   pub filled : label_in line ≢ []
   pub label : BeginsWith (label_in line) text
+
+-- a reply can tell this fault of a query: a rule that is broken has a number from 10 to 28
+abbrev pub IsTold : AskFault → Type 0
+IsTold (queries.Broken rule) = (10 ≤ rule) × (rule ≤ 28)
+IsTold queries.NoMemory = ⊥
+IsTold other = ⊤
+
+-- a reply tells the refusal of a query
+pub record RefusesQuery (reply : List ℕ) : Type 0 where
+  pub line : List ℕ
+  pub fault : AskFault
+  pub is : reply ≡ codes "refused " ++ line
+  pub told : IsTold fault
+  pub label : HasQueryLabel fault (label_in line)
+
+-- bytes declare a table
+abbrev pub IsDeclared : List ℕ → Type 0
+IsDeclared bytes = (d : Declaration) × IsDeclaration d × (bytes ≡ declaration_text d)
 
 -- ---- with the fault that it tells
 
@@ -57,3 +79,8 @@ abbrev pub IsOfWords : Refusal → Type 0
 IsOfWords (refusals.Declaration _) = ⊤
 IsOfWords (refusals.Name _) = ⊤
 IsOfWords _ = ⊥
+
+-- a query is refused
+abbrev pub IsOfQuery : Refusal → Type 0
+IsOfQuery (refusals.Query _) = ⊤
+IsOfQuery _ = ⊥

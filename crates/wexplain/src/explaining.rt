@@ -4,7 +4,7 @@ ghost use Rattle.wshown.specs.Shown.{BeginsWith};
 ghost use Rattle.wsentences.specs.Labels.{file_label, name_label, segment_label, table_label};
 ghost use Rattle.wvalues.specs.declared.name.NameFault.{NameFault};
 ghost use Rattle.wsegment.specs.declared.schema_fault.SchemaFault.{SchemaFault};
-ghost use Rattle.wexplain.specs.Refusals.{BeginsWithLabel, Explains, IsOfWords, refusal_line};
+ghost use Rattle.wexplain.specs.Refusals.{BeginsWithLabel, Explains, IsDeclared, IsOfQuery, IsOfWords, RefusesQuery, refusal_line};
 
 use crate::exchange_file::explain_file;
 use crate::query::explain_query;
@@ -13,7 +13,7 @@ use crate::stream::{explain_delivery, explain_stream};
 use std::alloc::{AllocError, Global};
 use wbatch::Place;
 use wexchange::{FileFault, read};
-use wsegment::{Schema, SegmentFault};
+use wsegment::{Schema, SchemaFault, SegmentFault};
 use wsentences::{explain_declaration, explain_name, explain_segment};
 
 /// A file, as it was read, and what it is called.
@@ -120,7 +120,8 @@ fn told_by(
     given: &Given<'_, '_, '_, '_, '_>,
     refusal: Refusal,
 ) -> Result<Option<String>, AllocError>
-    ensures { IfOk result (λ answer. IfSome answer (λ text. BeginsWithLabel refusal (string_bytes text))) }
+    ensures query { IsOfQuery refusal → IfOk result (λ answer. IsSome answer) }
+    ensures begins { IfOk result (λ answer. IfSome answer (λ text. BeginsWithLabel refusal (string_bytes text))) }
 {
     match refusal {
         Refusal::Segment(fault) => told_segment(alloc, schema, given, fault),
@@ -140,10 +141,12 @@ fn told_below(
     given: &Given<'_, '_, '_, '_, '_>,
     refusal: Refusal,
 ) -> Result<Option<String>, AllocError>
-    ensures { IfOk result (λ answer. IfSome answer (λ text. BeginsWithLabel refusal (string_bytes text))) }
+    ensures query { IsDeclared given.now.table.bytes.now → IsOfQuery refusal → IfOk result (λ answer. IsSome answer) }
+    ensures begins { IfOk result (λ answer. IfSome answer (λ text. BeginsWithLabel refusal (string_bytes text))) }
 {
     match Schema::read(alloc, given.table.bytes) {
         Ok(schema) => told_by(alloc, &schema, given, refusal),
+        Err(SchemaFault::NoMemory) => Err(AllocError),
         Err(_) => Ok(None),
     }
 }
@@ -154,7 +157,8 @@ fn told(
     refusal: Refusal,
     given: &Given<'_, '_, '_, '_, '_>,
 ) -> Result<Option<String>, AllocError>
-    ensures some { IsOfWords refusal → IfOk result (λ answer. IsSome answer) }
+    ensures words { IsOfWords refusal → IfOk result (λ answer. IsSome answer) }
+    ensures query { IsDeclared given.now.table.bytes.now → IsOfQuery refusal → IfOk result (λ answer. IsSome answer) }
     ensures begins { IfOk result (λ answer. IfSome answer (λ text. BeginsWithLabel refusal (string_bytes text))) }
 {
     match refusal {
@@ -182,6 +186,7 @@ pub fn explain(
     ensures name { (fault : NameFault) → reply.now ≡ refusal_line (name_label fault) → IfOk result (λ answer. IsSome answer) }
     ensures table { (fault : SchemaFault) → fault ≢ SchemaFault.NoMemory → reply.now ≡ refusal_line (table_label fault)
         → IfOk result (λ answer. IsSome answer) }
+    ensures query { IsDeclared given.now.table.bytes.now → RefusesQuery reply.now → IfOk result (λ answer. IsSome answer) }
 {
     match refusal_of(reply) {
         Some(refusal) => told(alloc, refusal, given),

@@ -1,10 +1,12 @@
 //! From what a refused subcommand has printed to what is wrong.
-ghost use Rattle.std.specs.Prelude.{◌≡◌, ◌≢◌, List, [], ℕ, IfSome, codes};
+ghost use Rattle.std.specs.Prelude.{◌≡◌, ◌≢◌, ◌≤◌, ◌++◌, List, [], ℕ, IfSome, IsSome, IsSomeAnd, codes};
+ghost use Rattle.std.specs.Fmt.{decimal};
 ghost use Rattle.std.specs.List.{position};
 ghost use Rattle.wsentences.specs.Labels.{HasQueryLabel, file_label, name_label, segment_label, table_label};
 ghost use Rattle.wvalues.specs.declared.name.NameFault.{NameFault};
 ghost use Rattle.wsegment.specs.declared.schema_fault.SchemaFault.{SchemaFault};
-ghost use Rattle.wexplain.specs.Refusals.{IsCalled, Refuses, ends_label, label_in, refusal_line};
+ghost use Rattle.wplanner.specs.declared.fault.AskFault.{AskFault};
+ghost use Rattle.wexplain.specs.Refusals.{IsCalled, IsOfQuery, IsTold, Refuses, RefusesQuery, ends_label, label_in, refusal_line};
 
 use wexchange::FileFault;
 use wlines::split_word;
@@ -115,7 +117,8 @@ fn file_fault(label: &[u8], behind: &[u8]) -> Option<FileFault>
 
 // The fault of a query that breaks a rule.
 fn rule_fault(label: &[u8]) -> Option<AskFault>
-    ensures { IfSome result (λ fault. (other : List ℕ) → HasQueryLabel fault other → other ≡ label.now) }
+    ensures only { (rule : ℕ) → 10 ≤ rule → rule ≤ 28 → label.now ≡ codes "Q" ++ decimal rule → IsSome result }
+    ensures found { IfSome result (λ fault. (other : List ℕ) → HasQueryLabel fault other → other ≡ label.now) }
 {
     let rule = number_word(label.strip_prefix(b"Q")?)?;
     match rule {
@@ -126,7 +129,8 @@ fn rule_fault(label: &[u8]) -> Option<AskFault>
 
 // The fault of a query.
 fn query_fault(label: &[u8], place: u32) -> Option<AskFault>
-    ensures { IfSome result (λ fault. (other : List ℕ) → HasQueryLabel fault other → other ≡ label.now) }
+    ensures only { (fault : AskFault) → IsTold fault → HasQueryLabel fault label.now → IsSome result }
+    ensures found { IfSome result (λ fault. (other : List ℕ) → HasQueryLabel fault other → other ≡ label.now) }
 {
     match label {
         b"Q1" => Some(AskFault::TooLong),
@@ -178,6 +182,7 @@ fn stream_refusal(label: &[u8]) -> Option<Refusal>
 
 // What else than a name or a declaration is refused by a line of this label.
 fn refused_below(label: &[u8], line: &[u8]) -> Option<Refusal>
+    ensures query { (fault : AskFault) → IsTold fault → HasQueryLabel fault label.now → IsSomeAnd result IsOfQuery }
     ensures filled { IfSome result (λ _. label.now ≢ []) }
     ensures called { IfSome result (λ refusal. IsCalled refusal label.now) }
 {
@@ -192,6 +197,7 @@ fn refused_below(label: &[u8], line: &[u8]) -> Option<Refusal>
 
 // What is refused in a line.
 fn refused(line: &[u8]) -> Option<Refusal>
+    ensures query { (fault : AskFault) → IsTold fault → HasQueryLabel fault (label_in line.now) → IsSomeAnd result IsOfQuery }
     ensures filled { IfSome result (λ _. label_in line.now ≢ []) }
     ensures called { IfSome result (λ refusal. IsCalled refusal (label_in line.now)) }
     ensures name { (fault : NameFault) → label_in line.now ≡ name_label fault → result ≡ Some (Refusal.Name fault) }
@@ -210,6 +216,7 @@ fn refused(line: &[u8]) -> Option<Refusal>
 
 /// The refusal that a reply tells, if it tells one.
 pub(crate) fn refusal_of(reply: &[u8]) -> Option<Refusal>
+    ensures query { RefusesQuery reply.now → IsSomeAnd result IsOfQuery }
     ensures found { IfSome result (λ refusal. Refuses reply.now refusal) }
     ensures name { (fault : NameFault) → reply.now ≡ refusal_line (name_label fault) → result ≡ Some (Refusal.Name fault) }
     ensures table { (fault : SchemaFault) → fault ≢ SchemaFault.NoMemory → reply.now ≡ refusal_line (table_label fault)
