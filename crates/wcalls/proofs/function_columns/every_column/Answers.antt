@@ -37,6 +37,7 @@ loop-function-preserved c =
     record {
       joins = joins_more most (functions_seen fs) i (function_plan f.now) _ _ _ h at c.loop-function.invariant.joins
           c.function_column.ensures.joins;
+      not_less = omega (arith, c.loop-function.invariant.not_less, c.function_column.ensures.not_less);
       so_far = λ w arranged.
           each_more (function_column (rows_seen c.args.arranged.now.rows.now) w) (functions_seen fs) i (map column_seen columns)
           (function_plan f.now) (column_seen column) h at (c.loop-function.invariant.so_far w arranged)
