@@ -14,7 +14,7 @@ pub answers-requires-clause-ordered : goal.answers-requires-clause-ordered
 answers-requires-clause-ordered c =
     let g = c.args.groups.now in
     let s = c.in-Some.known.now in
-    let f = c.in-Some.ensures in
+    let f = c.in-Some.ensures.found in
     let are : AreSummaries (values_of c.args.fed.now.argument) (row_numbers g) g.count s = c.requires.known None f.within s (f.is None) in
     subst (All (λ k. k < group_count s)) (sym c.deref.ensures.value)
     (subst (λ n. All (λ k. k < n) g.order.items) (sym are.long) g.below)
@@ -24,7 +24,7 @@ returns-in-Some-clause-gives c =
     let view : Vec Value Global → List Meaning = λ column. map meaning column.items in
     let g = c.args.groups.now in
     let s = c.in-Some.known.now in
-    let f = c.in-Some.ensures in
+    let f = c.in-Some.ensures.found in
     let values = values_of c.args.fed.now.argument in
     let are : AreSummaries values (row_numbers g) g.count s = c.requires.known None f.within s (f.is None) in
     let answers_by : Option (List Bool) → List ℕ → List (Option Meaning) =
