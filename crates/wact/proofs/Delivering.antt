@@ -13,8 +13,8 @@ use Rattle.wstream.specs.Messages.{message_text}
 use Rattle.wstore.specs.Nodes.{NodeState}
 use Rattle.wstore.specs.Replies.{fed_text}
 use Rattle.wbatch.specs.Batches.{Filled, stream_of}
-use Rattle.wbatch.specs.Deliveries.{IsReady, item_of}
-use Rattle.wbatch.specs.Streams.{EndsInside, IsDelivered, IsUndelivered, MeetsBad, MeetsSegment}
+use Rattle.wbatch.specs.Deliveries.{item_of}
+use Rattle.wbatch.specs.Streams.{IsDelivered, IsUndelivered}
 use Rattle.wbatch.specs.declared.delivery.Delivery.{Delivery}
 use Rattle.wbatch.specs.declared.stop.Stop.{Stop}
 use Rattle.wbatch.specs.declared.stop.Stop.TheVariants as stops

@@ -1,6 +1,6 @@
 -- Queries that are answered one after the other.
 use Rattle.std.proofs.Common.{◌≡◌, ◌∙◌, ◌||◌, ℕ, ◌+◌, ◌<◌, Bor, get_or, map, take, subst, Bool, true, false, suc, arith, List}
-use Rattle.std.proofs.Common.{[], ◌∷◌, ◌++◌, length, Result, Ok, Err, cond, inl, inr, true≢false, refl, sym, ap, append_assoc, append-nil}
+use Rattle.std.proofs.Common.{[], ◌∷◌, ◌++◌, length, Result, Err, cond, inl, inr, true≢false, refl, sym, ap, append_assoc, append-nil}
 use Rattle.std.specs.Prelude.{is_err}
 use Rattle.std.specs.List.{flat_map, list_any}
 use Rattle.std.proofs.lemmas.List.Folds.{list_any-append}
@@ -109,9 +109,9 @@ reply_follows d v query old mid new text p r s told line rest refused = record {
 pub text_numbered : (d : Declaration) (v : View) (text : List ℕ) (fault : AskFault) → has_number fault ≡ true
     → IsAnswer d v text (Err fault) → IsText text
 text_numbered d v text (faults.At place) h (inl unread) = unread.0
-text_numbered d v text (faults.At place) h (inr answered) = answered.1.0.0
+text_numbered d v text (faults.At place) h (inr answered) = answered.1.0
 text_numbered d v text (faults.Broken rule) h (inl unread) = absurd unread
-text_numbered d v text (faults.Broken rule) h (inr answered) = answered.1.0.0
+text_numbered d v text (faults.Broken rule) h (inr answered) = answered.1.0
 text_numbered d v text faults.TooLong h a = absurd (true≢false (sym h))
 text_numbered d v text faults.NotUtf8 h a = absurd (true≢false (sym h))
 text_numbered d v text faults.Syntax h a = absurd (true≢false (sym h))

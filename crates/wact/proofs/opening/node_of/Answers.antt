@@ -1,4 +1,4 @@
-use Rattle.std.proofs.Common.{rules, ◌∙◌, ap}
+use Rattle.std.proofs.Common.{rules, ap}
 use Rattle.wact.proofs.Outcomes.{knows_told}
 use Rattle.wact.proofs.opening.node_of.Goals as goal
 

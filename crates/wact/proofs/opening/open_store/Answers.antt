@@ -1,4 +1,4 @@
-use Rattle.std.proofs.Common.{rules, ◌≡◌, ◌≤◌, length}
+use Rattle.std.proofs.Common.{rules, length}
 use Rattle.wact.specs.Opening.{TableRead, TableRefused}
 use Rattle.wact.proofs.Outcomes.{at_err, if_ok, short_by}
 use Rattle.wact.proofs.opening.open_store.Goals as goal

@@ -1,7 +1,7 @@
 use Rattle.std.proofs.Common.{rules, ◌≢◌, ◌≡◌, ◌⊎◌, Ok, Err, refl}
 use Rattle.wask.specs.Answer.{IsAnswer}
 use Rattle.wplanner.specs.declared.fault.AskFault.TheVariants.{NoMemory}
-use Rattle.wact.proofs.Outcomes.{but_memory}
+use Rattle.wact.proofs.Outcomes.{at_err, but_memory}
 use Rattle.wact.proofs.Replying.{text_numbered}
 use Rattle.wact.proofs.queries.reply.Goals as goal
 
@@ -21,6 +21,7 @@ returns-in_ok-text-in-Err c =
             c.in_ok-text-in-Err.ensures.text;
         refused_is = refl;
       };
+      lacks = tt;
       same = c.in-Err.ensures.same;
     }
 
@@ -29,5 +30,5 @@ returns-in_err-text-in-Err-clause-lacks c =
     let other : c.in-Err.fault ≢ NoMemory = search rules in
     let told : (c.in-Err.fault ≡ NoMemory) ⊎ IsAnswer c.args.node.now.schema c.args.node.now.view c.args.query.now
     (Err c.in-Err.fault) = search rules in
-    text_numbered c.args.node.now.schema c.args.node.now.view c.args.query.now c.in-Err.fault c.in_err-text-in-Err.ensures.lacks
-    (but_memory other told)
+    at_err c.from_residual.result (text_numbered c.args.node.now.schema c.args.node.now.view c.args.query.now c.in-Err.fault
+    c.in_err-text-in-Err.ensures.lacks (but_memory other told))
