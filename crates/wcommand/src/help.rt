@@ -8,8 +8,9 @@ pub(crate) const ABOUT: &str =
 
 pub(crate) const AFTER: &str = "\
 Without a command wstore runs a script from standard input, as 'wstore session' does. The other commands
-work on two files: the declaration of the table, and the store, which is made where it is missing. Stores of
-one table can be copied to other machines and joined in any order, any number of times.
+work on two files: the declaration of the table, and the store. A store that is missing is empty, and the
+commands that change one make it. Stores of one table can be copied to other machines and joined in any
+order, any number of times.
 
 A declaration names the table and its columns, each an integer or a text:
   table sales
@@ -53,7 +54,7 @@ pub(crate) const TAKE: &str = "Take the rows of a CSV file into the store, under
 
 pub(crate) const AFTER_TAKE: &str = "\
 ORIGIN and NUMBER together are the name of the rows, as 'east 1': who made them, and which of theirs they are.
-Other rows need another name. The first line of CSV names the table's columns, in any order.
+A number is 1 to 999999999, without leading zeros. Other rows need another name. The first line of CSV names the table's columns, in any order.
 
 Prints:
   taken     the name is new, and its rows count

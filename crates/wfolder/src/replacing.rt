@@ -1,5 +1,5 @@
 //! A store, replaced whole.
-ghost use Rattle.std.specs.Prelude.{◌≡◌, ◌≢◌, ◌++◌, ◌∷◌, [], Some, false, true, IfOk, IfErr, IfSome};
+ghost use Rattle.std.specs.Prelude.{◌≡◌, ◌≢◌, ◌↔◌, ◌++◌, ◌∷◌, [], Some, false, true, IfOk, IfErr, IfSome};
 ghost use Rattle.std.specs.Prelude.{OnOk, OnErr, IsTrue, is_ok, option_map, string_bytes};
 ghost use Rattle.std.specs.List.{list_all};
 ghost use Rattle.wfolder.specs.Calls.{HasCause, NothingFailed};
@@ -31,7 +31,7 @@ fn are_number_bytes(bytes: &[u8]) -> bool
 
 /// Whether a file's name is one that this program gives to new files, and removes as what a killed run has left.
 pub fn is_new_name(name: &[u8]) -> bool
-    ensures { IsTrue result → IsNewName name.now }
+    ensures { IsTrue result ↔ IsNewName name.now }
 {
     match name.strip_prefix(b".wstore-") {
         Some(numbers) => are_number_bytes(numbers),

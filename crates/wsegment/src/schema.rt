@@ -83,7 +83,7 @@ impl Schema {
         Ok(Schema { declared })
     }
 
-    /// An equal schema. It shares all with this one, and takes no memory.
+    /// An equal schema. It shares all with this one: nothing is copied, and the only fault is of one that is shared too often.
     pub fn copy(&self) -> Result<Schema, AllocError>
         ensures { IfOk result (λ copied. copied ≡ self.now) }
     {

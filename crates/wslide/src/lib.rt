@@ -3,7 +3,7 @@
 //! - Gives the trait of lawful folds, the folds of the aggregates, and the fold of every frame of a partition.
 //! - Promises: each fold is that of the frame's rows from left to right, and the meter shows each join.
 //! - Asks: one column's values in the partition's order, each row's filter if there is one, room on the meter.
-//! - Leaves: partitions and frames to `wframe`, results and their range to `wplanner`.
+//! - Leaves: partitions and frames to `wframe`, results and their range to `waggregate`.
 //!
 //! Read `specs/Laws.antt`, `specs/Frames.antt` and `specs/Height.antt`; then `specs/Aggregates.antt` with
 //! `specs/Counts.antt`, `specs/Sums.antt` and `specs/Leasts.antt`; then `specs/Queue.antt` and `specs/Tree.antt`.
