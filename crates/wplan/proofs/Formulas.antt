@@ -1,5 +1,5 @@
 -- What a chain and a list say, by their parts.
-use Rattle.std.proofs.Common.{◌≡◌, Bool, List, sym, ap, ◌∙◌, map}
+use Rattle.std.proofs.Common.{◌≡◌, Bool, sym, ap, ◌∙◌, map}
 use Rattle.std.specs.declared.boxed.Box.{Box}
 use Rattle.std.specs.declared.vec.Vec.{Vec}
 use Rattle.std.specs.declared.alloc.Global.{Global}

@@ -1,5 +1,5 @@
 -- What an expression over a row says, wherever its parts lie in memory (<value expression>, <search condition>).
-use Rattle.std.specs.Prelude.{ℕ, Bool, List, [], ◌∷◌}
+use Rattle.std.specs.Prelude.{ℕ, Bool, List, [], ◌∷◌, map}
 use Rattle.std.specs.Rc.{rc_str_bytes}
 use Rattle.wquery.specs.declared.expression.Operator.{Operator}
 use Rattle.wquery.specs.declared.expression.Comparison.{Comparison}
@@ -53,6 +53,7 @@ expr_step (layer.Compare comparison l r) = Compared comparison l.value r.value
 expr_step (layer.IsNull negated e) = NullTest negated e.value
 expr_step (layer.Between negated e low high) = Within negated e.value low.value high.value
 expr_step (layer.In negated e list) = Among negated e.value (formulas list.items)
+expr_step (layer.InConstants negated e list) = Among negated e.value (formulas (map Constant list))
 
 abbrev pub further_step : layer.Further-F Formula Operand → Operand
 further_step l = record { operator = l.operator; operand = l.operand }

@@ -1,3 +1,4 @@
 pub mod Formula
+pub mod Constants
 pub mod Parts
 pub mod Plans

@@ -1,3 +1,4 @@
+use crate::constants::Constants;
 use std::rc::RcStr;
 use wquery::{Comparison, Operator};
 use wvalues::Whole;
@@ -40,6 +41,12 @@ pub enum Expr {
         negated: bool,
         operand: Box<Expr>,
         list: Vec<Expr>,
+    },
+    /// IN of which the list has constants alone.
+    InConstants {
+        negated: bool,
+        operand: Box<Expr>,
+        list: Constants,
     },
 }
 

@@ -9,9 +9,11 @@
 //! Read `specs/Formula.antt`, then `specs/Plans.antt`. `specs/Parts.antt` is for those who compare expressions part by part.
 #![tactic(auto)]
 
+mod constants;
 mod expr;
 mod resolved;
 
+pub use constants::Constants;
 pub use expr::{Expr, Further};
 pub use resolved::{
     Aggregate, AggregateFunction, CallOver, GroupCall, Grouping, Output, Resolved, ResolvedFrame,
