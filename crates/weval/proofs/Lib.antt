@@ -3,3 +3,4 @@ mod LeafFacts
 mod ReadFacts
 mod TruthFacts
 mod NumberFacts
+mod AmongFacts

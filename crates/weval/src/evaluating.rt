@@ -14,7 +14,8 @@ ghost use Rattle.weval.specs.declared.cell.EvalFault.TheVariants.{NoMemory};
 use crate::cell::{Cell, EvalFault};
 use crate::leaves::{between_in_place, compared_in_place};
 use crate::operating::{
-    applied, between_truth, cells_compared, negated_cell, null_cell, signed_cell, turned_truth,
+    applied, between_truth, cell_among, cells_compared, negated_cell, null_cell, signed_cell,
+    turned_truth,
 };
 use std::rc::RcStr;
 use wplan::{Expr, Further};
@@ -101,6 +102,14 @@ pub fn eval(e: &Expr, row: &[Value]) -> Result<Cell, EvalFault>
             operand,
             list,
         } => eval_in(*negated, &eval(operand, row)?, list.as_slice(), row),
+        Expr::InConstants {
+            negated,
+            operand,
+            list,
+        } => {
+            let found = cell_among(&eval(operand, row)?, list);
+            Ok(Cell::Truth(turned_truth(*negated, found)))
+        }
     }
 }
 

@@ -1,14 +1,17 @@
 //! What operators make of values and truths.
 
-ghost use Rattle.std.specs.Prelude.{◌≡◌, ◌+ℤ◌, ◌-ℤ◌, ◌*ℤ◌};
-ghost use Rattle.wvalues.specs.Meaning.{meaning};
+ghost use Rattle.std.specs.Prelude.{◌≡◌, ◌+ℤ◌, ◌-ℤ◌, ◌*ℤ◌, List, map};
+ghost use Rattle.wvalues.specs.Meaning.{meaning, Meaning};
+ghost use Rattle.wvalues.specs.declared.truth.Truth.TheVariants.{No};
+ghost use Rattle.wplan.specs.Formula.{constant, formulas};
 ghost use Rattle.wvalues.specs.Truth.{opposite};
 ghost use Rattle.weval.specs.Values.{Judged, ranged, on_numbers, apply, order_of, meets, judged, compared};
-ghost use Rattle.weval.specs.Values.{turned, is_null, between, signed, value_in, truth_of};
+ghost use Rattle.weval.specs.Values.{turned, is_among, is_null, between, signed, value_in, truth_of};
 ghost use Rattle.weval.specs.Cells.{outcome, Comes};
 
 use crate::cell::Cell;
 use std::cmp::Ordering;
+use wplan::Constants;
 use wquery::{Comparison, Operator};
 use wvalues::{Truth, Value, Whole};
 
@@ -103,6 +106,30 @@ pub(crate) fn cells_compared(comparison: Comparison, x: &Cell, y: &Cell) -> Trut
     match (x, y) {
         (Cell::Value(x), Cell::Value(y)) => judge(comparison, order(x, y)),
         _ => Truth::Unknown,
+    }
+}
+
+/// Whether a value is equal to one of a list's constants.
+#[tactic(auto, using(crate::proofs::AmongFacts::among_is))]
+fn value_among(x: &Value, list: &Constants) -> Truth
+    ensures { (row : List Meaning) → is_among row (meaning x.now) No (formulas (map constant list.now)) ≡ Judged result }
+{
+    if list.has_equal(x) {
+        Truth::Yes
+    } else if list.has_apart(x) {
+        Truth::Unknown
+    } else {
+        Truth::No
+    }
+}
+
+/// Whether what an expression comes to is equal to one of a list's constants.
+pub(crate) fn cell_among(x: &Cell, list: &Constants) -> Truth
+    ensures { (row : List Meaning) → is_among row (value_in (outcome x.now)) No (formulas (map constant list.now)) ≡ Judged result }
+{
+    match x {
+        Cell::Value(value) => value_among(value, list),
+        Cell::Truth(_) => value_among(&Value::Null, list),
     }
 }
 

@@ -1,5 +1,5 @@
 -- What an expression over a row says, wherever its parts lie in memory (<value expression>, <search condition>).
-use Rattle.std.specs.Prelude.{ℕ, Bool, List, [], ◌∷◌, map}
+use Rattle.std.specs.Prelude.{ℕ, suc, pos, negsuc, Bool, true, List, [], ◌∷◌, map}
 use Rattle.std.specs.Rc.{rc_str_bytes}
 use Rattle.wquery.specs.declared.expression.Operator.{Operator}
 use Rattle.wquery.specs.declared.expression.Comparison.{Comparison}
@@ -41,6 +41,13 @@ abbrev pub chained : Formula → List Operand → Formula
 chained first [] = first
 chained first (l ∷ ls) = chained (Applied l.operator first l.operand) ls
 
+-- a constant as it is written: a number below zero has a minus
+abbrev pub constant : Meaning → Formula
+constant Null = Constant Null
+constant (Int (pos n)) = Constant (Int (pos n))
+constant (Int (negsuc n)) = Signed true (Constant (Int (pos (suc n))))
+constant (Text text) = Constant (Text text)
+
 abbrev pub expr_step : layer.Expr-F Formula Operand → Formula
 expr_step layer.Null = Constant Null
 expr_step (layer.Number n) = Constant (Int n)
@@ -53,7 +60,7 @@ expr_step (layer.Compare comparison l r) = Compared comparison l.value r.value
 expr_step (layer.IsNull negated e) = NullTest negated e.value
 expr_step (layer.Between negated e low high) = Within negated e.value low.value high.value
 expr_step (layer.In negated e list) = Among negated e.value (formulas list.items)
-expr_step (layer.InConstants negated e list) = Among negated e.value (formulas (map Constant list))
+expr_step (layer.InConstants negated e list) = Among negated e.value (formulas (map constant list))
 
 abbrev pub further_step : layer.Further-F Formula Operand → Operand
 further_step l = record { operator = l.operator; operand = l.operand }

@@ -42,7 +42,7 @@ pub enum Expr {
         operand: Box<Expr>,
         list: Vec<Expr>,
     },
-    /// IN of which the list has constants alone.
+    /// IN of which the list has constants alone, numbers below zero with a minus.
     InConstants {
         negated: bool,
         operand: Box<Expr>,

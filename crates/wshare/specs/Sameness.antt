@@ -6,6 +6,8 @@ use Rattle.std.specs.Cmp.Lexicographic.{pointwise}
 use Rattle.std.specs.Ordering.{int_eq}
 use Rattle.std.specs.Rc.{rc_str_bytes}
 use Rattle.std.specs.Str.{bytes_eq}
+use Rattle.wvalues.specs.Meaning.{Meaning}
+use Rattle.wvalues.specs.Sameness.{same_meaning}
 use Rattle.wvalues.specs.declared.key.SortKey.{SortKey}
 use Rattle.wquery.specs.declared.expression.Operator.{Operator}
 use Rattle.wquery.specs.contracts.expression.Operator.{the_type as operators}
@@ -81,6 +83,10 @@ abbrev pub is_list_test : Bool → (Expr → Bool) → List (Expr → Bool) → 
 is_list_test negated same list (layer.In other x others) = beq negated other && (same x.value && pass_all list others.items)
 is_list_test negated same list _ = false
 
+abbrev pub is_constants_test : Bool → (Expr → Bool) → List Meaning → Parts → Bool
+is_constants_test negated same list (layer.InConstants other x others) = beq negated other && (same x.value && pointwise same_meaning list others)
+is_constants_test negated same list _ = false
+
 abbrev pub same_step : layer.Expr-F (Expr → Bool) (Further → Bool) → Expr → Bool
 same_step layer.Null e = is_null_word (out-Expr e)
 same_step (layer.Number n) e = is_number n (out-Expr e)
@@ -93,6 +99,7 @@ same_step (layer.Compare comparison x y) e = is_comparison comparison x.value y.
 same_step (layer.IsNull negated x) e = is_null_test negated x.value (out-Expr e)
 same_step (layer.Between negated x low high) e = is_range_test negated x.value low.value high.value (out-Expr e)
 same_step (layer.In negated x list) e = is_list_test negated x.value list.items (out-Expr e)
+same_step (layer.InConstants negated x list) e = is_constants_test negated x.value list (out-Expr e)
 
 abbrev pub same_link_step : layer.Further-F (Expr → Bool) (Further → Bool) → Further → Bool
 same_link_step l further = same_operator l.operator (out-Further further).operator && l.operand (out-Further further).operand

@@ -5,16 +5,17 @@ ghost use Rattle.std.specs.Cmp.Lexicographic.{pointwise};
 ghost use Rattle.std.proofs.Math.Bool.{beq};
 ghost use Rattle.std.specs.Rc.{rc_str_bytes};
 ghost use Rattle.wvalues.specs.Meaning.{Null, Int, Text};
+ghost use Rattle.wvalues.specs.Sameness.{same_meaning};
 ghost use Rattle.wplan.specs.declared.expr.Expr.{out-Expr};
 ghost use Rattle.wplan.specs.Formula.{Constant, At, Negation, Signed, Compared, NullTest, Within};
-ghost use Rattle.wplan.specs.Formula.{Among, chained, formula, formulas, operand_of};
+ghost use Rattle.wplan.specs.Formula.{Among, chained, constant, formula, formulas, operand_of};
 ghost use Rattle.wplan.specs.Plans.{key_plan, window_plan};
 ghost use Rattle.wshare.specs.Sameness.{is_null_word, is_number, is_text, is_place, is_negation, is_sign, is_chain, is_comparison};
-ghost use Rattle.wshare.specs.Sameness.{is_null_test, is_range_test, is_list_test, is_same, is_same_key, is_same_link};
+ghost use Rattle.wshare.specs.Sameness.{is_null_test, is_range_test, is_list_test, is_constants_test, is_same, is_same_key, is_same_link};
 ghost use Rattle.wshare.specs.Sameness.{is_same_order, same_comparison, same_operator, same_sort_key};
 
 use std::rc::RcStr;
-use wplan::{Expr, Further, ResolvedKey, ResolvedWindow};
+use wplan::{Constants, Expr, Further, ResolvedKey, ResolvedWindow};
 use wquery::{Comparison, Operator};
 use wvalues::{SortKey, Whole};
 
@@ -198,6 +199,31 @@ fn is_list_test(e: &Expr, negated: bool, operand: &Expr, list: &[Expr]) -> bool
     same_flag(negated, *other) && (same_value(x, operand) && same_values(others.as_slice(), list))
 }
 
+// Whether constants are the same as others, one by one.
+fn same_constants(list: &Constants, others: &Constants) -> bool
+    ensures exact { result ≡ pointwise same_meaning others.now list.now }
+    ensures alike { result ≡ true → others.now ≡ list.now }
+{
+    others.values() == list.values()
+}
+
+#[cycle(sameness)]
+#[tactic(auto, unfolding(wplan::specs::Formula::formula))]
+fn is_constants_test(e: &Expr, negated: bool, operand: &Expr, list: &Constants) -> bool
+    ensures exact { result ≡ is_constants_test negated (is_same operand.now) list.now (out-Expr e.now) }
+    ensures alike { result ≡ true → Among negated (formula operand.now) (formulas (map constant list.now)) ≡ formula e.now }
+{
+    let Expr::InConstants {
+        negated: other,
+        operand: x,
+        list: others,
+    } = e
+    else {
+        return false;
+    };
+    same_flag(negated, *other) && (same_value(x, operand) && same_constants(others, list))
+}
+
 // Whether an expression is written as another one is, part by part.
 #[cycle(sameness)]
 #[tactic(auto, unfolding(wplan::specs::Formula::formula, wplan::specs::Formula::operand_of, crate::specs::Sameness::is_same, crate::specs::Sameness::is_same_link))]
@@ -230,6 +256,11 @@ fn same_value(e: &Expr, other: &Expr) -> bool
             operand,
             list,
         } => is_list_test(e, *negated, operand, list.as_slice()),
+        Expr::InConstants {
+            negated,
+            operand,
+            list,
+        } => is_constants_test(e, *negated, operand, list),
     }
 }
 
