@@ -1,3 +1,4 @@
 pub mod Resolving
 pub mod Functions
 pub mod Groups
+pub mod Lookups

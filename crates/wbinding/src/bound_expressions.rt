@@ -1,8 +1,8 @@
 //! Makes expressions over rows.
 
 ghost use Rattle.std.specs.Prelude.{◌≡◌, IfOk, map};
-ghost use Rattle.wplan.specs.Formula.{formula, formulas, chained, operand_of, Constant, Negation};
-ghost use Rattle.wplan.specs.Formula.{Signed, Compared, NullTest, Within, Among};
+ghost use Rattle.wplan.specs.Formula.{formula, chained, operand_of, Constant, Negation};
+ghost use Rattle.wplan.specs.Formula.{Signed, Compared, NullTest, Within};
 ghost use Rattle.wbinding.specs.Resolving.{literal};
 
 use std::alloc::{AllocError, Global};
@@ -92,21 +92,5 @@ pub(crate) fn within(
         operand: Box::new(alloc, e)?,
         low: Box::new(alloc, low)?,
         high: Box::new(alloc, high)?,
-    })
-}
-
-#[tactic(auto, unfolding(wplan::specs::Formula::formula))]
-pub(crate) fn among(
-    alloc: Global,
-    negated: bool,
-    e: Expr,
-    list: Vec<Expr>,
-) -> Result<Expr, AllocError>
-    ensures { IfOk result (λ x. formula x ≡ Among negated (formula e) (formulas (map formula list.items))) }
-{
-    Ok(Expr::In {
-        negated,
-        operand: Box::new(alloc, e)?,
-        list,
     })
 }

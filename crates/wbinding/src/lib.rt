@@ -11,7 +11,7 @@
 //! - Leaves to `wscope` which column a name is, to `wgroupby` the sets of GROUP BY, to `wdistinct` which calls a row has, to
 //!   `wresolve` the SELECT around them.
 //!
-//! Read `specs/Resolving.antt`, `specs/Functions.antt`, `specs/Groups.antt`.
+//! Read `specs/Resolving.antt`, `specs/Functions.antt`, `specs/Groups.antt`, `specs/Lookups.antt`.
 #![tactic(auto)]
 
 mod arguments;
@@ -19,6 +19,7 @@ mod bound_expressions;
 mod functions;
 mod groups;
 mod layout;
+mod lookups;
 mod resolving;
 
 pub use functions::{build_function, build_option};

@@ -7,8 +7,9 @@ ghost use Rattle.wdistinct.specs.Places.{place_of_same};
 ghost use Rattle.wbinding.specs.Resolving.{branch_made, cell_of, layout_of, resolved, width};
 ghost use Rattle.wscope.specs.Types.{place_named as place_of_name};
 
-use crate::bound_expressions::{among, chain, compared, not, null_test, number, sign, within};
+use crate::bound_expressions::{chain, compared, not, null_test, number, sign, within};
 use crate::layout::RowLayout;
+use crate::lookups::among;
 use std::alloc::{AllocError, Global};
 use wplan::{Expr, Further};
 use wquery::{Call, Expression, Link};

@@ -109,8 +109,7 @@ pub(crate) fn cells_compared(comparison: Comparison, x: &Cell, y: &Cell) -> Trut
     }
 }
 
-/// Whether a value is equal to one of a list's constants.
-#[tactic(auto, using(crate::proofs::AmongFacts::among_is))]
+// Whether a value is equal to one of a list's constants.
 fn value_among(x: &Value, list: &Constants) -> Truth
     ensures { (row : List Meaning) → is_among row (meaning x.now) No (formulas (map constant list.now)) ≡ Judged result }
 {

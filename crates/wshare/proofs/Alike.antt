@@ -1,10 +1,14 @@
 -- Chains and lists that are written alike, of parts that are.
-use Rattle.std.proofs.Common.{◌≡◌, Bool, true, ◌&&◌, List, [], ◌∷◌, map, refl, sym, ap, ◌∙◌}
+use Rattle.std.proofs.Common.{◌≡◌, Bool, true, false, ◌&&◌, List, [], ◌∷◌, map, refl, sym, ap, ◌∙◌}
 use Rattle.std.proofs.Math.Bool.{beq}
 use Rattle.std.specs.Cmp.Lexicographic.{pointwise}
 use Rattle.std.specs.declared.boxed.Box.{Box}
 use Rattle.std.specs.declared.vec.Vec.{Vec}
 use Rattle.std.specs.declared.alloc.Global.{Global}
+use Rattle.std.proofs.lemmas.Bool.{false≢true}
+use Rattle.wvalues.specs.Meaning.{Meaning, meaning}
+use Rattle.wvalues.specs.Sameness.{meaning_decides, same_meaning}
+use Rattle.wvalues.specs.declared.value.Value.{Value}
 use Rattle.wplan.specs.declared.expr.Further.{Further}
 use Rattle.wplan.specs.declared.expr.Expr.{Expr, out-Expr}
 use Rattle.wplan.specs.declared.expr.Expr.TheVariants.{Chain, In, outs-Chain, outs-In}
@@ -45,3 +49,32 @@ list_same e operand d m n x list vs others r s f is at slice flag flag_is same t
     both (beq m n) r _ (sym flag ∙ flag_is) (both (is_same operand x.value) r _ (ap (is_same operand) (sym at) ∙ sym same
     ∙ true_is) (more ∙ ap (pointwise is_same list) slice ∙ sym (passes is_same list others.items)))
     ∙ sym (ap (is_list_test m (is_same operand) (map is_same list)) (ap out-Expr is ∙ outs-In n x others))
+
+mapped : (xs ys : List Value) → pointwise (λ (x y : Value). same_meaning (meaning x) (meaning y)) xs ys
+    ≡ pointwise same_meaning (map meaning xs) (map meaning ys)
+mapped [] [] = refl
+mapped [] (y ∷ ys) = refl
+mapped (x ∷ xs) [] = refl
+mapped (x ∷ xs) (y ∷ ys) = ap (λ b. same_meaning (meaning x) (meaning y) && b) (mapped xs ys)
+
+pub constants_same : (xs ys : List Value) (ms ns : List Meaning) (r : Bool) → map meaning xs ≡ ms → map meaning ys ≡ ns
+    → r ≡ pointwise (λ (x y : Value). same_meaning (meaning x) (meaning y)) xs ys → r ≡ pointwise same_meaning ms ns
+constants_same xs ys ms ns r first second same =
+    same ∙ mapped xs ys ∙ ap (λ zs. pointwise same_meaning zs (map meaning ys)) first ∙ ap (pointwise same_meaning ms) second
+
+and_left : (a b : Bool) → (a && b) ≡ true → a ≡ true
+and_left true b h = refl
+and_left false b h = h
+
+and_right : (a b : Bool) → (a && b) ≡ true → b ≡ true
+and_right true b h = h
+and_right false b h = absurd (false≢true h)
+
+pub constants_alike : (ms ns : List Meaning) → pointwise same_meaning ms ns ≡ true → ms ≡ ns
+constants_alike [] [] h = refl
+constants_alike [] (n ∷ ns) h = absurd (false≢true h)
+constants_alike (m ∷ ms) [] h = absurd (false≢true h)
+constants_alike (m ∷ ms) (n ∷ ns) h =
+    ap (λ (x : Meaning). x ∷ ms) ((meaning_decides m n).0 (and_left (same_meaning m n) (pointwise same_meaning ms ns) h))
+    ∙ ap (λ (xs : List Meaning). n ∷ xs)
+    (constants_alike ms ns (and_right (same_meaning m n) (pointwise same_meaning ms ns) h))

@@ -3,6 +3,8 @@ use Rattle.std.proofs.lemmas.Result.{err_from_is_err_and}
 use Rattle.wvalues.specs.Meaning.{meaning}
 use Rattle.wplan.specs.Formula.{operand_of}
 use Rattle.weval.specs.declared.cell.EvalFault.TheVariants.{NoMemory}
+use Rattle.weval.specs.Values.{Judged}
+use Rattle.weval.proofs.AmongFacts.{constants_give}
 use Rattle.weval.proofs.ReadFacts.{chain_reads, entry_reads, link_reads, list_reads}
 use Rattle.weval.proofs.Running.{along_ok, along_err, first_err, first_ok, chain_gives, in_gives, truth_fault}
 use Rattle.weval.proofs.evaluating.+eval.Goals as goal
@@ -72,3 +74,9 @@ eval_among-returns-in_err-y-clause-memory t c = λ h.
     let lacks : c.in_err-y.field-0.0 ≡ NoMemory = cc in
     entry_reads (map meaning c.args.row.now) c.args.list.now c.list.e-index c.e-item.result c.list-test.true c.e-item.is
     (c.in_err-y.ensures.memory (ap Err lacks))
+
+pub eval-returns-in_ok-eval-in-InConstants-clause-gives : goal.eval-returns-in_ok-eval-in-InConstants-clause-gives
+eval-returns-in_ok-eval-in-InConstants-clause-gives t c = ap Judged c.turned_truth-in-InConstants.ensures
+    ∙ constants_give (map meaning c.args.row.now) c.in-InConstants.list c.args.e.now c.deref-in-InConstants.result.now
+    c.in-InConstants.negated c.in-InConstants.operand c.in_ok-eval-in-InConstants.field-0 c.cell_among-found.result
+    c.in-InConstants.is c.deref-in-InConstants.ensures c.in_ok-eval-in-InConstants.ensures.gives (c.cell_among-found.ensures _)
