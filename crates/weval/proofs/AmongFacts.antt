@@ -115,5 +115,6 @@ constants_give row list e d negated operand x t is at value among =
   where
     found : Outcome → Outcome
     found o = after o (λ f. Judged (turned negated (truth_of f)))
+
     whole : Outcome → Outcome
     whole o = after o (λ x. found (is_among row (value_in x) No (formulas (map constant list))))
