@@ -316,9 +316,9 @@ fn put_batch(
 }
 
 /// Puts what an aggregate comes to over the frame of each row of a window at the number of the row, where `fed` is what the rows
-/// feed, and `rows` has their numbers in the window's order. It is `OutOfRange` where a result is so. The tally rises by the joins
-/// that it takes, which are at most three for each row, eight where the frame clause excludes rows. What the rows of some partitions
-/// feed is copied in the window's order, and then that of the next ones, so that a cache holds it while it is folded.
+/// feed, and `rows` has their numbers in the window's order. It is `OutOfRange` where a result is so. The tally rises with each
+/// join, by three for each row at most, and by eight where the frame clause excludes rows. What the rows of some partitions feed is
+/// copied in the window's order, and then that of the next ones, so that a cache holds it while it is folded.
 pub fn put_frame_aggregates<'a>(
     alloc: Global,
     function: AggregateFunction,

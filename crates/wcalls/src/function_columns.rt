@@ -63,8 +63,8 @@ fn every_column<'r>(
 ///
 /// Nothing is skipped: it is `OutOfRange` where an argument or a filter is so on any row, or a result is.
 ///
-/// The tally rises by the joins that are taken, which an aggregate alone takes: three for each row at most, and eight where
-/// the frame clause excludes rows.
+/// The tally rises with each join of an aggregate, by three for each row at most, and by eight where the frame clause excludes
+/// rows; other functions take no joins.
 pub fn window_columns<'r>(
     alloc: Global,
     window: &ResolvedWindow,

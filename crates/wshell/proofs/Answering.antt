@@ -45,9 +45,10 @@ module _ (d : Declaration) (v : View) (text bytes : List ℕ) (old new : Option 
   replied_whole (Err e) w = tt
 
   pub replied_part : {A : Type 0} (r : Result A ShellFault)
-      → OnErr r ((n : ℕ) × Appends old new (take n (reply_behind replied.is_any bytes))) → OnErr r (RepliesPart d v text old new replied)
-  replied_part (Ok x) w = tt
-  replied_part (Err e) w = Front reply.answer w.0 filled reply.answers
+      → IfErr r (λ e. e ≡ ends.Write) → OnErr r ((n : ℕ) × Appends old new (take n (reply_behind replied.is_any bytes)))
+      → IfErr r (RepliesPart d v text old new replied)
+  replied_part (Ok x) failed w = tt
+  replied_part (Err e) failed w = Front reply.answer w.0 failed filled reply.answers
       (subst (λ t. Appends old new (take w.0 (reply_behind replied.is_any t))) reply.text_is w.1)
 
 pub reply_cause : {A W : Type 0} (r : Result A ShellFault) (output : Counts W) → OnErr r (output.failures ≡ 1)
@@ -143,16 +144,16 @@ one_whole d v text old new replied new_replied t = by t (cases_lt 65536 (length 
         Answered answer (λ (blank : IsBlank text). too_many _ (kept_long text many) blank.is_text.0)
         (long_answer d v _ text answer many (kept_long text many) is) a e
 
-part_whole : (d : Declaration) (v : View) (text : List ℕ) (old new : Option (List ℕ)) (replied : Replied)
-    → RepliesPart d v (take room text) old new replied → RepliesPart d v text old new replied
-part_whole d v text old new replied t = by t (cases_lt 65536 (length (take room text)))
+part_whole : (d : Declaration) (v : View) (text : List ℕ) (old new : Option (List ℕ)) (replied : Replied) (fault : ShellFault)
+    → RepliesPart d v (take room text) old new replied fault → RepliesPart d v text old new replied fault
+part_whole d v text old new replied fault t = by t (cases_lt 65536 (length (take room text)))
   where
-    by : RepliesPart d v (take room text) old new replied → (65536 < length (take room text)) ⊎ (length (take room text) ≤ 65536)
-        → RepliesPart d v text old new replied
-    by t (inr few) = subst (λ k. RepliesPart d v k old new replied) (kept_whole text few) t
+    by : RepliesPart d v (take room text) old new replied fault
+        → (65536 < length (take room text)) ⊎ (length (take room text) ≤ 65536) → RepliesPart d v text old new replied fault
+    by t (inr few) = subst (λ k. RepliesPart d v k old new replied fault) (kept_whole text few) t
     by (Unanswered a) (inl many) = Unanswered a
-    by (Front answer n filled is a) (inl many) =
-        Front answer n (λ (blank : IsBlank text). too_many _ (kept_long text many) blank.is_text.0)
+    by (Front answer n failed filled is a) (inl many) =
+        Front answer n failed (λ (blank : IsBlank text). too_many _ (kept_long text many) blank.is_text.0)
         (long_answer d v _ text answer many (kept_long text many) is) a
 
 -- ---- a text behind others
@@ -187,20 +188,24 @@ module _ (d : Declaration) (v : View) (texts : List (List ℕ)) (text : List ℕ
       }
 
   -- all replies before, where nothing of that to the text is written, else a front of it too
-  pub one_part : RepliesPart d v (take room text) old new replied → FrontSoFar d v texts first new
-      ⊎ FrontSoFar d v (texts ++ text ∷ []) first new
-  one_part t = by (part_whole d v text old new replied t)
+  pub one_part : (fault : ShellFault) → RepliesPart d v (take room text) old new replied fault
+      → FrontSoFar d v texts first new fault ⊎ FrontSoFar d v (texts ++ text ∷ []) first new fault
+  one_part fault t = by (part_whole d v text old new replied fault t)
     where
-      by : RepliesPart d v text old new replied → FrontSoFar d v texts first new ⊎ FrontSoFar d v (texts ++ text ∷ []) first new
+      all : take (length (replies_text so_far.answers)) (replies_text so_far.answers) ≡ replies_text so_far.answers
+      all = take_all (length (replies_text so_far.answers)) (replies_text so_far.answers) (omega arith)
+
+      by : RepliesPart d v text old new replied fault
+          → FrontSoFar d v texts first new fault ⊎ FrontSoFar d v (texts ++ text ∷ []) first new fault
       by (Unanswered a) = inl (record {
         answers = so_far.answers;
         n = length (replies_text so_far.answers);
         are = so_far.are;
-        appends = subst (Appends first new) (append-nil (replies_text so_far.answers)
-            ∙ sym (take_all (length (replies_text so_far.answers)) (replies_text so_far.answers) (omega arith)))
+        appends = subst (Appends first new) (append-nil (replies_text so_far.answers) ∙ sym all)
             (Appends-trans first old new (replies_text so_far.answers) [] so_far.appends a);
+        whole = λ other. all;
       })
-      by (Front answer n filled is a) = inr (record {
+      by (Front answer n failed filled is a) = inr (record {
         answers = so_far.answers ++ answer ∷ [];
         n = length (replies_text so_far.answers) + n;
         are = replied_last d v texts so_far.answers text answer filled is so_far.are;
@@ -211,6 +216,7 @@ module _ (d : Declaration) (v : View) (texts : List (List ℕ)) (text : List ℕ
             ∙ replies_last so_far.answers answer))
             (Appends-trans first old new (replies_text so_far.answers)
             (take n (reply_behind replied.is_any (reply_text answer))) so_far.appends a);
+        whole = λ other. absurd (other failed);
       })
 
 pub nothing_replied : (d : Declaration) (v : View) (first : Option (List ℕ)) (replied : Replied) → Appends first first []

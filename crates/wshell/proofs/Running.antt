@@ -1,7 +1,7 @@
 -- An input that is read and answered.
 use Rattle.std.proofs.Common.{◌≡◌, ◌⊎◌, inl, inr, ◌∙◌, ℕ, suc, ◌+◌, ◌<◌, false, List, [], ◌∷◌, ◌++◌, take}
 use Rattle.std.proofs.Common.{drop, take-append-drop, get_or, length, Option, Some, None, IfSome, Result, Ok}
-use Rattle.std.proofs.Common.{Err, OnOk, OnErr, refl, sym, ap, subst, arith, append_assoc, append-nil}
+use Rattle.std.proofs.Common.{Err, IfErr, OnOk, OnErr, refl, sym, ap, subst, arith, append_assoc, append-nil}
 use Rattle.std.specs.List.{flat_map}
 use Rattle.std.specs.Io.KnownBytes.{Appends, Consumes, IsAtEnd, Keeps}
 use Rattle.std.proofs.KnownBytes.{Appends-nil, Consumes-kept, Consumes-nil, Consumes-trans}
@@ -33,14 +33,17 @@ stands_first d v first pending replied is any refused = record {
 
 -- all of the replies so far
 pub whole_front : (d : Declaration) (v : View) (texts : List (List ℕ)) (first contents : Option (List ℕ)) (replied : Replied)
-    → SoFar d v texts first contents replied → FrontSoFar d v texts first contents
-whole_front d v texts first contents replied s = record {
+    (fault : ShellFault) → SoFar d v texts first contents replied → FrontSoFar d v texts first contents fault
+whole_front d v texts first contents replied fault s = record {
   answers = s.answers;
   n = length (replies_text s.answers);
   are = s.are;
-  appends = subst (Appends first contents) (sym (take_all (length (replies_text s.answers)) (replies_text s.answers)
-      (omega arith))) s.appends;
+  appends = subst (Appends first contents) (sym all) s.appends;
+  whole = λ other. all;
 }
+  where
+    all : take (length (replies_text s.answers)) (replies_text s.answers) ≡ replies_text s.answers
+    all = take_all (length (replies_text s.answers)) (replies_text s.answers) (omega arith)
 
 module _ (d : Declaration) (v : View) (first : Option (List ℕ)) (input : List ℕ) (contents : Option (List ℕ))
     (pending : Kept) (replied : Replied) (stands : StandsBehind d v first input contents pending replied) where
@@ -73,13 +76,13 @@ module _ (d : Declaration) (v : View) (first : Option (List ℕ)) (input : List 
           (subst (λ k. RepliesOne d v k contents new replied new_replied) stands.is.text_is t);
     }
 
-    pub begun_replied : (new : Option (List ℕ)) → RepliesPart d v pending.text contents new replied
-        → IsBegun d v first (input ++ b ∷ []) new
-    begun_replied new t = by (one_part d v stands.queries stands.rest first contents new replied stands.so_far
-        (subst (λ k. RepliesPart d v k contents new replied) stands.is.text_is t))
+    pub begun_replied : (new : Option (List ℕ)) (fault : ShellFault) → RepliesPart d v pending.text contents new replied fault
+        → IsBegun d v first (input ++ b ∷ []) new fault
+    begun_replied new fault t = by (one_part d v stands.queries stands.rest first contents new replied stands.so_far fault
+        (subst (λ k. RepliesPart d v k contents new replied fault) stands.is.text_is t))
       where
-        by : FrontSoFar d v stands.queries first new ⊎ FrontSoFar d v (stands.queries ++ stands.rest ∷ []) first new
-            → IsBegun d v first (input ++ b ∷ []) new
+        by : FrontSoFar d v stands.queries first new fault ⊎ FrontSoFar d v (stands.queries ++ stands.rest ∷ []) first new fault
+            → IsBegun d v first (input ++ b ∷ []) new fault
         by (inl front) = record {
           queries = stands.queries;
           more = stands.rest ++ b ∷ [];
@@ -96,13 +99,13 @@ module _ (d : Declaration) (v : View) (first : Option (List ℕ)) (input : List 
         }
 
   -- the replies so far
-  pub begun_so_far : IsBegun d v first input contents
-  begun_so_far = record {
+  pub begun_so_far : (fault : ShellFault) → IsBegun d v first input contents fault
+  begun_so_far fault = record {
     queries = stands.queries;
     more = stands.rest;
     whole = stands.splits.whole;
     each = stands.splits.each;
-    front = whole_front d v stands.queries first contents replied stands.so_far;
+    front = whole_front d v stands.queries first contents replied fault stands.so_far;
   }
 
   -- the end of the input
@@ -124,13 +127,13 @@ module _ (d : Declaration) (v : View) (first : Option (List ℕ)) (input : List 
         },
       )
 
-  pub replies_part : (new : Option (List ℕ)) → RepliesPart d v pending.text contents new replied → (written : List ℕ)
-      × Appends first new written × RepliesBegun d v input written
-  replies_part new t = by (one_part d v stands.queries stands.rest first contents new replied stands.so_far
-      (subst (λ k. RepliesPart d v k contents new replied) stands.is.text_is t))
+  pub replies_part : (new : Option (List ℕ)) (fault : ShellFault) → RepliesPart d v pending.text contents new replied fault
+      → (written : List ℕ) × Appends first new written × RepliesBegun d v fault input written
+  replies_part new fault t = by (one_part d v stands.queries stands.rest first contents new replied stands.so_far fault
+      (subst (λ k. RepliesPart d v k contents new replied fault) stands.is.text_is t))
     where
-      by : FrontSoFar d v stands.queries first new ⊎ FrontSoFar d v (stands.queries ++ stands.rest ∷ []) first new
-          → (written : List ℕ) × Appends first new written × RepliesBegun d v input written
+      by : FrontSoFar d v stands.queries first new fault ⊎ FrontSoFar d v (stands.queries ++ stands.rest ∷ []) first new fault
+          → (written : List ℕ) × Appends first new written × RepliesBegun d v fault input written
       by (inl front) = (
         take front.n (replies_text front.answers),
         front.appends,
@@ -141,6 +144,7 @@ module _ (d : Declaration) (v : View) (first : Option (List ℕ)) (input : List 
           begins = First stands.queries stands.rest stands.splits.whole stands.splits.each;
           are = front.are;
           output_is = refl;
+          whole = front.whole;
         },
       )
       by (inr front) = (
@@ -153,13 +157,14 @@ module _ (d : Declaration) (v : View) (first : Option (List ℕ)) (input : List 
           begins = All stands.queries stands.rest stands.splits;
           are = front.are;
           output_is = refl;
+          whole = front.whole;
         },
       )
 
 -- more of the input behind it
 pub begun_more : (d : Declaration) (v : View) (first : Option (List ℕ)) (input more : List ℕ) (contents : Option (List ℕ))
-    → IsBegun d v first input contents → IsBegun d v first (input ++ more) contents
-begun_more d v first input more contents begun = record {
+    (fault : ShellFault) → IsBegun d v first input contents fault → IsBegun d v first (input ++ more) contents fault
+begun_more d v first input more contents fault begun = record {
   queries = begun.queries;
   more = begun.more ++ more;
   whole = ap (λ l. l ++ more) begun.whole ∙ append_assoc (flat_map ended begun.queries) begun.more more;
@@ -184,11 +189,11 @@ module _ (d : Declaration) (v : View) where
   goes_on_replied (Err e) b old new pending new_pending replied new_replied end t empty = tt
 
   pub gives_up_replied : {A : Type 0} (r : Result A ShellFault) (b : ℕ) (old new : Option (List ℕ)) (pending : Kept)
-      (replied : Replied) → EndsAt pending.mode b → OnErr r (RepliesPart d v pending.text old new replied)
-      → OnErr r (GivesUp d v (b ∷ []) old new pending replied)
+      (replied : Replied) → EndsAt pending.mode b → IfErr r (RepliesPart d v pending.text old new replied)
+      → IfErr r (GivesUp d v (b ∷ []) old new pending replied)
   gives_up_replied (Ok x) b old new pending replied end t = tt
   gives_up_replied (Err e) b old new pending replied end t =
-      λ first input stands. begun_replied d v first input old pending replied stands b end new t
+      λ first input stands. begun_replied d v first input old pending replied stands b end new e t
 
   -- a byte that belongs to the query
   pub goes_on_more : (b : ℕ) (old : Option (List ℕ)) (pending new_pending : Kept) (replied : Replied) → ¬ (EndsAt pending.mode b)
@@ -208,15 +213,16 @@ module _ (d : Declaration) (v : View) where
   goes_on_trans xs ys a b c p q r k l m one two = λ first input stands.
       subst (λ i. StandsBehind d v first i c r m) (append_assoc input xs ys) (two first (input ++ xs) (one first input stands))
 
-  pub gives_up_trans : (xs ys : List ℕ) (a b c : Option (List ℕ)) (p q : Kept) (k l : Replied) → GoesOn d v xs a b p q k l
-      → GivesUp d v ys b c q l → GivesUp d v (xs ++ ys) a c p k
-  gives_up_trans xs ys a b c p q k l one two = λ first input stands.
-      subst (λ i. IsBegun d v first i c) (append_assoc input xs ys) (two first (input ++ xs) (one first input stands))
+  pub gives_up_trans : (xs ys : List ℕ) (a b c : Option (List ℕ)) (p q : Kept) (k l : Replied) (fault : ShellFault)
+      → GoesOn d v xs a b p q k l → GivesUp d v ys b c q l fault → GivesUp d v (xs ++ ys) a c p k fault
+  gives_up_trans xs ys a b c p q k l fault one two = λ first input stands.
+      subst (λ i. IsBegun d v first i c fault) (append_assoc input xs ys) (two first (input ++ xs) (one first input stands))
 
-  pub gives_up_more : (xs ys : List ℕ) (a c : Option (List ℕ)) (p : Kept) (k : Replied) → GivesUp d v xs a c p k
-      → GivesUp d v (xs ++ ys) a c p k
-  gives_up_more xs ys a c p k one = λ first input stands.
-      subst (λ i. IsBegun d v first i c) (append_assoc input xs ys) (begun_more d v first (input ++ xs) ys c (one first input stands))
+  pub gives_up_more : (xs ys : List ℕ) (a c : Option (List ℕ)) (p : Kept) (k : Replied) (fault : ShellFault)
+      → GivesUp d v xs a c p k fault → GivesUp d v (xs ++ ys) a c p k fault
+  gives_up_more xs ys a c p k fault one = λ first input stands.
+      subst (λ i. IsBegun d v first i c fault) (append_assoc input xs ys)
+      (begun_more d v first (input ++ xs) ys c fault (one first input stands))
 
   -- the next byte of a block
   pub next_byte : (block : List ℕ) (i b other : ℕ) (x y z : Option (List ℕ)) (p q r : Kept) (k l m : Replied)
@@ -226,12 +232,14 @@ module _ (d : Declaration) (v : View) where
       subst (λ bs. GoesOn d v bs x z p r k m) (taken_more block i b other more is) (goes_on_trans (take i block) (b ∷ []) x
       y z p q r k l m one two)
 
-  pub last_byte : (block : List ℕ) (i b other : ℕ) (x y z : Option (List ℕ)) (p q : Kept) (k l : Replied) → i < length block
-      → b ≡ get_or block i other → GoesOn d v (take i block) x y p q k l → GivesUp d v (b ∷ []) y z q l → GivesUp d v block x z p k
-  last_byte block i b other x y z p q k l more is one two =
-      subst (λ bs. GivesUp d v bs x z p k)
+  pub last_byte : (block : List ℕ) (i b other : ℕ) (x y z : Option (List ℕ)) (p q : Kept) (k l : Replied) (fault : ShellFault)
+      → i < length block → b ≡ get_or block i other → GoesOn d v (take i block) x y p q k l
+      → GivesUp d v (b ∷ []) y z q l fault → GivesUp d v block x z p k fault
+  last_byte block i b other x y z p q k l fault more is one two =
+      subst (λ bs. GivesUp d v bs x z p k fault)
       (ap (λ bs. bs ++ drop (i + 1) block) (taken_more block i b other more is) ∙ take-append-drop (i + 1) block)
-      (gives_up_more (take i block ++ b ∷ []) (drop (i + 1) block) x z p k (gives_up_trans (take i block) (b ∷ []) x y z p q k l one two))
+      (gives_up_more (take i block ++ b ∷ []) (drop (i + 1) block) x z p k fault
+      (gives_up_trans (take i block) (b ∷ []) x y z p q k l fault one two))
 
   -- ---- the input so far
 
@@ -258,22 +266,22 @@ module _ (d : Declaration) (v : View) where
   }
 
   pub front_block : (block : List ℕ) (left mid new first old contents : Option (List ℕ)) (p : Kept) (k : Replied)
-      → StandsAfter d v left mid first old p k → Consumes mid new block → GivesUp d v block old contents p k
-      → TakesFront d v left first contents
-  front_block block left mid new first old contents p k s eats up = record {
+      (fault : ShellFault) → StandsAfter d v left mid first old p k → Consumes mid new block
+      → GivesUp d v block old contents p k fault → TakesFront d v left first contents fault
+  front_block block left mid new first old contents p k fault s eats up = record {
     input = s.input ++ block;
     new_left = new;
     consumes = Consumes-trans left mid new s.input block s.consumes eats;
     begun = up first s.input s.stands;
   }
 
-  pub front_after : (left mid first contents : Option (List ℕ)) (pending : Kept) (replied : Replied)
-      → StandsAfter d v left mid first contents pending replied → TakesFront d v left first contents
-  front_after left mid first contents pending replied s = record {
+  pub front_after : (left mid first contents : Option (List ℕ)) (pending : Kept) (replied : Replied) (fault : ShellFault)
+      → StandsAfter d v left mid first contents pending replied → TakesFront d v left first contents fault
+  front_after left mid first contents pending replied fault s = record {
     input = s.input;
     new_left = mid;
     consumes = s.consumes;
-    begun = begun_so_far d v first s.input contents pending replied s.stands;
+    begun = begun_so_far d v first s.input contents pending replied s.stands fault;
   }
 
   -- no reply waits
@@ -300,9 +308,10 @@ module _ (node new_node : NodeState) (kept text : List ℕ) (old new : Option (L
   same_one new_replied t = subst (λ (n : NodeState). RepliesOne n.schema n.view kept old new replied new_replied) same
       (subst (λ x. RepliesOne new_node.schema new_node.view x old new replied new_replied) is t)
 
-  pub same_part : RepliesPart new_node.schema new_node.view text old new replied → RepliesPart node.schema node.view kept old new replied
-  same_part t = subst (λ (n : NodeState). RepliesPart n.schema n.view kept old new replied) same
-      (subst (λ x. RepliesPart new_node.schema new_node.view x old new replied) is t)
+  pub same_part : (fault : ShellFault) → RepliesPart new_node.schema new_node.view text old new replied fault
+      → RepliesPart node.schema node.view kept old new replied fault
+  same_part fault t = subst (λ (n : NodeState). RepliesPart n.schema n.view kept old new replied fault) same
+      (subst (λ x. RepliesPart new_node.schema new_node.view x old new replied fault) is t)
 
 at_end : (left new_left : Option (List ℕ)) (input : List ℕ) → Consumes left new_left input → IsAtEnd new_left
     → IfSome left (λ bytes. bytes ≡ input)
@@ -325,24 +334,25 @@ all_replied d v left new_left first contents new pending replied new_replied tak
     (sym e) (replies_all d v first takes.input contents pending replied takes.stands new new_replied t))
 
 pub all_begun : (d : Declaration) (v : View) (left new_left first contents new : Option (List ℕ)) (pending : Kept)
-    (replied : Replied) → StandsAfter d v left new_left first contents pending replied → IsAtEnd new_left
-    → RepliesPart d v pending.text contents new replied
-    → IfSome left (λ bytes. (written : List ℕ) × Appends first new written × RepliesBegun d v bytes written)
-all_begun d v left new_left first contents new pending replied takes end t =
+    (replied : Replied) (fault : ShellFault) → StandsAfter d v left new_left first contents pending replied → IsAtEnd new_left
+    → RepliesPart d v pending.text contents new replied fault
+    → IfSome left (λ bytes. (written : List ℕ) × Appends first new written × RepliesBegun d v fault bytes written)
+all_begun d v left new_left first contents new pending replied fault takes end t =
     if_some left _ _ (at_end left new_left takes.input takes.consumes end) (λ bytes e.
-    subst (λ (b : List ℕ). (written : List ℕ) × Appends first new written × RepliesBegun d v b written) (sym e)
-    (replies_part d v first takes.input contents pending replied takes.stands new t))
+    subst (λ (b : List ℕ). (written : List ℕ) × Appends first new written × RepliesBegun d v fault b written) (sym e)
+    (replies_part d v first takes.input contents pending replied takes.stands new fault t))
 
 -- a front of the input
-pub front_begun : (d : Declaration) (v : View) (left first contents : Option (List ℕ)) → TakesFront d v left first contents
-    → IfSome left (λ bytes. (written : List ℕ) × Appends first contents written × RepliesBegun d v bytes written)
-front_begun d v left first contents takes = by left takes.new_left takes.consumes
+pub front_begun : (d : Declaration) (v : View) (left first contents : Option (List ℕ)) (fault : ShellFault)
+    → TakesFront d v left first contents fault
+    → IfSome left (λ bytes. (written : List ℕ) × Appends first contents written × RepliesBegun d v fault bytes written)
+front_begun d v left first contents fault takes = by left takes.new_left takes.consumes
   where
     front : List ℕ
     front = take takes.begun.front.n (replies_text takes.begun.front.answers)
 
     by : (left new_left : Option (List ℕ)) → Consumes left new_left takes.input
-        → IfSome left (λ bytes. (written : List ℕ) × Appends first contents written × RepliesBegun d v bytes written)
+        → IfSome left (λ bytes. (written : List ℕ) × Appends first contents written × RepliesBegun d v fault bytes written)
     by None new_left k = tt
     by (Some xs) None k = absurd k
     by (Some xs) (Some ys) k = (
@@ -357,14 +367,15 @@ front_begun d v left first contents takes = by left takes.new_left takes.consume
             takes.begun.each;
         are = takes.begun.front.are;
         output_is = refl;
+        whole = takes.begun.front.whole;
       },
     )
 
 -- nothing was read and nothing written
-pub nothing_begun : (d : Declaration) (v : View) (left first : Option (List ℕ))
-    → IfSome left (λ bytes. (written : List ℕ) × Appends first first written × RepliesBegun d v bytes written)
-nothing_begun d v None first = tt
-nothing_begun d v (Some xs) first = (
+pub nothing_begun : (d : Declaration) (v : View) (left first : Option (List ℕ)) (fault : ShellFault)
+    → IfSome left (λ bytes. (written : List ℕ) × Appends first first written × RepliesBegun d v fault bytes written)
+nothing_begun d v None first fault = tt
+nothing_begun d v (Some xs) first fault = (
   [],
   Appends-nil first,
   record {
@@ -374,5 +385,6 @@ nothing_begun d v (Some xs) first = (
     begins = First [] xs refl tt;
     are = tt;
     output_is = refl;
+    whole = λ other. refl;
   },
 )

@@ -40,11 +40,12 @@ pub data RepliesOne (d : Declaration) (v : View) (text : List ℕ) (old new : Op
       → new_replied ≡ record { is_any = true; is_refused = replied.is_refused || is_err answer }
       → RepliesOne d v text old new replied new_replied
 
--- nothing was written, or a front of the reply
-pub data RepliesPart (d : Declaration) (v : View) (text : List ℕ) (old new : Option (List ℕ)) (replied : Replied) : Type 0 where
-  Unanswered : Appends old new [] → RepliesPart d v text old new replied
-  Front : (answer : Result (List ℕ) AskFault) (n : ℕ) → ¬ (IsBlank text) → IsAnswer d v text answer
-      → Appends old new (take n (reply_behind replied.is_any (reply_text answer))) → RepliesPart d v text old new replied
+-- nothing was written, or where writing failed a front of the reply
+pub data RepliesPart (d : Declaration) (v : View) (text : List ℕ) (old new : Option (List ℕ)) (replied : Replied)
+    (fault : ShellFault) : Type 0 where
+  Unanswered : Appends old new [] → RepliesPart d v text old new replied fault
+  Front : (answer : Result (List ℕ) AskFault) (n : ℕ) → fault ≡ faults.Write → ¬ (IsBlank text) → IsAnswer d v text answer
+      → Appends old new (take n (reply_behind replied.is_any (reply_text answer))) → RepliesPart d v text old new replied fault
 
 -- the cause of a fault of a reply: the reader has no part in it
 abbrev pub HasReplyCause : {W : Type 0} → ShellFault → Counts W → Type 0

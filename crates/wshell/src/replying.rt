@@ -119,7 +119,7 @@ pub(crate) fn reply_to<W: Write>(
     ensures ok { OnOk result (RepliesOne node.old.schema node.old.view text.now (W.contents output.old.inner)
         (W.contents output.new.inner) replied.old replied.new) }
     ensures sound { OnOk result (IsSoundWriter output.new) }
-    ensures part { OnErr result (RepliesPart node.old.schema node.old.view text.now (W.contents output.old.inner)
+    ensures part { IfErr result (RepliesPart node.old.schema node.old.view text.now (W.contents output.old.inner)
         (W.contents output.new.inner) replied.old) }
     ensures cause { IfErr result (λ fault. HasReplyCause fault output.new) }
 {

@@ -42,7 +42,7 @@ fn end_query<W: Write>(
         (W.contents output.new.inner) replied.old replied.new) }
     ensures empty { OnOk result (IsPending pending.new []) }
     ensures sound { OnOk result (IsSoundWriter output.new) }
-    ensures part { OnErr result (RepliesPart node.old.schema node.old.view pending.old.text (W.contents output.old.inner)
+    ensures part { IfErr result (RepliesPart node.old.schema node.old.view pending.old.text (W.contents output.old.inner)
         (W.contents output.new.inner) replied.old) }
     ensures cause { IfErr result (λ fault. HasReplyCause fault output.new) }
 {
@@ -67,7 +67,7 @@ fn take_byte<W: Write>(
     ensures ok { OnOk result (GoesOn node.old.schema node.old.view (byte ∷ []) (W.contents output.old.inner)
         (W.contents output.new.inner) pending.old pending.new replied.old replied.new) }
     ensures sound { OnOk result (IsSoundWriter output.new) }
-    ensures part { OnErr result (GivesUp node.old.schema node.old.view (byte ∷ []) (W.contents output.old.inner)
+    ensures part { IfErr result (GivesUp node.old.schema node.old.view (byte ∷ []) (W.contents output.old.inner)
         (W.contents output.new.inner) pending.old replied.old) }
     ensures cause { IfErr result (λ fault. HasReplyCause fault output.new) }
 {
@@ -92,7 +92,7 @@ fn take_block<W: Write>(
     ensures ok { OnOk result (GoesOn node.old.schema node.old.view block.now (W.contents output.old.inner)
         (W.contents output.new.inner) pending.old pending.new replied.old replied.new) }
     ensures sound { OnOk result (IsSoundWriter output.new) }
-    ensures part { OnErr result (GivesUp node.old.schema node.old.view block.now (W.contents output.old.inner)
+    ensures part { IfErr result (GivesUp node.old.schema node.old.view block.now (W.contents output.old.inner)
         (W.contents output.new.inner) pending.old replied.old) }
     ensures cause { IfErr result (λ fault. HasReplyCause fault output.new) }
 {
@@ -145,7 +145,7 @@ fn take_all<R: Read, W: Write>(
         (R.remaining input.new.inner) (W.contents output.old.inner) (W.contents output.new.inner) pending.new replied.new) }
     ensures end { OnOk result (IsAtEnd (R.remaining input.new.inner)) }
     ensures sound { OnOk result (IsSound input.new × IsSoundWriter output.new) }
-    ensures part { OnErr result (TakesFront node.old.schema node.old.view (R.remaining input.old.inner)
+    ensures part { IfErr result (TakesFront node.old.schema node.old.view (R.remaining input.old.inner)
         (W.contents output.old.inner) (W.contents output.new.inner)) }
     ensures read { IfErr result (λ fault. fault ≡ ShellFault.Read
         → KeepsUp node.old.schema node.old.view (R.remaining input.old.inner) (R.remaining input.new.inner)
@@ -182,10 +182,10 @@ pub fn run<R: Read, W: Write>(
     ensures replies { IfOk result (λ is_refused. IfSome (R.remaining input.old.inner) (λ bytes.
         (written : List ℕ) × Appends (W.contents output.old.inner) (W.contents output.new.inner) written
         × Replies node.old.schema node.old.view bytes written is_refused)) }
-    // At a fault it is a beginning of them.
-    ensures begun { OnErr result (IfSome (R.remaining input.old.inner) (λ bytes.
+    // At a fault it is a beginning of them, in which a reply is cut where writing failed alone.
+    ensures begun { IfErr result (λ fault. IfSome (R.remaining input.old.inner) (λ bytes.
         (written : List ℕ) × Appends (W.contents output.old.inner) (W.contents output.new.inner) written
-        × RepliesBegun node.old.schema node.old.view bytes written)) }
+        × RepliesBegun node.old.schema node.old.view fault bytes written)) }
     // Where a read fails, each query that ended in what was read before was answered, and its reply written.
     ensures prompt { IfErr result (λ fault. fault ≡ ShellFault.Read
         → KeepsUp node.old.schema node.old.view (R.remaining input.old.inner) (R.remaining input.new.inner)

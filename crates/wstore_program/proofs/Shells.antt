@@ -46,8 +46,8 @@ pub run_outcome : {I W : Type 0} (node : NodeState) (left new_left : Option (Lis
     (old new : Option (List ℕ)) (output : Counts W) (end : Result Bool ShellFault)
     → IfOk end (λ is_refused. IfSome left (λ bytes. (written : List ℕ) × Appends old new written
     × runs.Replies node.schema node.view bytes written is_refused))
-    → OnErr end (IfSome left (λ bytes. (written : List ℕ) × Appends old new written
-    × runs.RepliesBegun node.schema node.view bytes written))
+    → IfErr end (λ fault. IfSome left (λ bytes. (written : List ℕ) × Appends old new written
+    × runs.RepliesBegun node.schema node.view fault bytes written))
     → IfErr end (λ fault. fault ≡ ends.Read → runs.KeepsUp node.schema node.view left new_left old new)
     → IfErr end (λ fault. runs.HasCause fault input output) → IsRun node left new_left input old new output end
 run_outcome node left new_left input old new output (Ok is_refused) replies begun prompt cause = replies

@@ -41,7 +41,7 @@ abbrev pub IsRun : {I W : Type 0} → NodeState → Option (List ℕ) → Option
 IsRun node left new_left input old new output (Ok is_refused) = IfSome left (λ bytes. (written : List ℕ)
     × Appends old new written × runs.Replies node.schema node.view bytes written is_refused)
 IsRun node left new_left input old new output (Err fault) =
-    IfSome left (λ bytes. (written : List ℕ) × Appends old new written × runs.RepliesBegun node.schema node.view bytes written)
+    IfSome left (λ bytes. (written : List ℕ) × Appends old new written × runs.RepliesBegun node.schema node.view fault bytes written)
     × (fault ≡ faults.Read → runs.KeepsUp node.schema node.view left new_left old new)
     × runs.HasCause fault input output
 

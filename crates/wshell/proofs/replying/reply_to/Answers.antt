@@ -8,4 +8,4 @@ returns-in-Ok-clause-ok g c = replied_whole _ _ _ _ _ _ _ _ _ (not_blank _ _ c.i
 
 pub returns-in-Ok-clause-part : goal.returns-in-Ok-clause-part
 returns-in-Ok-clause-part g c = replied_part _ _ _ _ _ _ _ c.write_query_reply.new.replied _ (not_blank _ _ c.in-Ok-false.ensures
-    c.in-Ok-false.field-0-test) c.in-Ok.ensures.replies c.write_query_reply.result c.write_query_reply.ensures.front
+    c.in-Ok-false.field-0-test) c.in-Ok.ensures.replies c.write_query_reply.result c.write_query_reply.ensures.fault c.write_query_reply.ensures.front
