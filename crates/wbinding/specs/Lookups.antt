@@ -1,5 +1,5 @@
 -- IN a list of constants, which is made to be looked up.
-use Rattle.std.specs.Prelude.{Bool, true, false, pos, negsuc, suc, zero, List}
+use Rattle.std.specs.Prelude.{Bool, true, false, pos, suc, List}
 use Rattle.std.specs.List.{list_all}
 use Rattle.wplan.specs.Parts.{Parts}
 use Rattle.wplan.specs.declared.expr.Expr.{Expr, out-Expr}

@@ -1,6 +1,6 @@
 //! Makes IN a list.
 
-ghost use Rattle.std.specs.Prelude.{◌≡◌, IfOk, IfSome, map};
+ghost use Rattle.std.specs.Prelude.{◌≡◌, IfOk, IfSome, map, true};
 ghost use Rattle.std.specs.Option.{is_some};
 ghost use Rattle.wvalues.specs.Meaning.{meaning, Int};
 ghost use Rattle.wplan.specs.declared.expr.Expr.{out-Expr};
