@@ -1,2 +1,3 @@
 pub mod Safety
+pub mod Sites
 pub mod Steps

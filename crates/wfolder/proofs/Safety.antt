@@ -259,7 +259,7 @@ owns store cs stage (reads {stage = Beside name bytes durable} r) = owns store _
 owns store cs stage (reads {stage = Placed bytes} r) = tt
 owns store cs stage (reads {stage = Durable bytes} r) = tt
 owns store cs stage (clears other ours r) = tt
-owns store cs stage (misses r) = tt
+owns store cs stage (misses other ours r) = tt
 owns store cs stage (makes other ours r) = (other, inl refl)
 owns store cs stage (permits r) = owns store _ _ r
 owns store cs stage (writes r) = owns store _ _ r
@@ -294,7 +294,7 @@ holds_at store base cs stage d e held (clears {name = name} {done = true} other 
 holds_at store base cs stage d e held (clears {name = name} {done = false} other ours r) runs =
     others_leave store cs stage d runs.1 e tt (stay store base cs runs.1 e held runs.4)
     (same_stage store stage d runs.0 runs.1 runs.3 (holds_at store base _ Idle d runs.0 held r runs.2))
-holds_at store base cs stage d e held (misses r) runs =
+holds_at store base cs stage d e held (misses other ours r) runs =
     others_leave store cs stage d runs.1 e tt (stay store base cs runs.1 e held runs.4)
     (same_stage store stage d runs.0 runs.1 runs.3 (holds_at store base _ Idle d runs.0 held r runs.2))
 holds_at store base cs stage d e held (makes {name = name} other ours r) runs =
@@ -408,8 +408,8 @@ at_each store bytes base cs stage locked tells (reads r) =
     (at_last store bytes base cs stage locked tells (reads r), at_each store bytes base _ _ locked tells r)
 at_each store bytes base cs stage locked tells (clears other ours r) =
     (at_last store bytes base cs stage locked tells (clears other ours r), at_each store bytes base _ _ locked tt r)
-at_each store bytes base cs stage locked tells (misses r) =
-    (at_last store bytes base cs stage locked tells (misses r), at_each store bytes base _ _ locked tt r)
+at_each store bytes base cs stage locked tells (misses other ours r) =
+    (at_last store bytes base cs stage locked tells (misses other ours r), at_each store bytes base _ _ locked tt r)
 at_each store bytes base cs stage locked tells (makes other ours r) =
     (at_last store bytes base cs stage locked tells (makes other ours r), at_each store bytes base _ _ locked tt r)
 at_each store bytes base cs stage locked tells (permits r) =
@@ -439,8 +439,8 @@ only_own store cs stage begins = tt
 only_own store cs stage (locks r) = only_own store _ _ r
 only_own store cs stage (reads r) = only_own store _ _ r
 only_own store cs stage (clears other ours r) = (inr (other, ours), only_own store _ _ r)
-only_own store cs stage (misses r) = only_own store _ _ r
-only_own store cs stage (makes other ours r) = only_own store _ _ r
+only_own store cs stage (misses other ours r) = ((other, ours), only_own store _ _ r)
+only_own store cs stage (makes other ours r) = ((other, ours), only_own store _ _ r)
 only_own store cs stage (permits r) = ((owns store _ _ r).1, only_own store _ _ r)
 only_own store cs stage (writes r) = ((owns store _ _ r).1, only_own store _ _ r)
 only_own store cs stage (spoils r) = ((owns store _ _ r).1, only_own store _ _ r)
@@ -451,6 +451,34 @@ only_own store cs stage (removes r) = (inl (owns store _ _ r).1, only_own store 
 only_own store cs stage (keeps r) = (inl (owns store _ _ r).1, only_own store _ _ r)
 only_own store cs stage (folder_synced r) = only_own store _ _ r
 only_own store cs stage (folder_unsynced r) = only_own store _ _ r
+
+-- this run's own file at a stage, if there is one
+abbrev pub IsItsOwn : Stage → List ℕ → Type 0
+IsItsOwn Idle name = ⊥
+IsItsOwn (Beside own bytes durable) name = name ≡ own
+IsItsOwn (Placed bytes) name = ⊥
+IsItsOwn (Durable bytes) name = ⊥
+
+-- this run has one file of its own at most: the one beside the store
+one_own : (store : List ℕ) (cs : List Call) (stage : Stage) (name : List ℕ) → Reaches store cs stage → IsOwn cs name → IsItsOwn stage name
+one_own store cs stage name begins own = own
+one_own store cs stage name (locks r) own = one_own store _ _ name r own
+one_own store cs stage name (reads r) own = one_own store _ _ name r own
+one_own store cs stage name (clears {done = true} other ours r) own = one_own store _ Idle name r own.1
+one_own store cs stage name (clears {done = false} other ours r) own = one_own store _ Idle name r own
+one_own store cs stage name (misses other ours r) own = one_own store _ Idle name r own
+one_own store cs stage name (makes other ours r) (inl is) = is
+one_own store cs stage name (makes other ours r) (inr own) = absurd (one_own store _ Idle name r own)
+one_own store cs stage name (permits r) own = one_own store _ _ name r own
+one_own store cs stage name (writes r) own = one_own store _ _ name r own
+one_own store cs stage name (spoils r) own = one_own store _ _ name r own
+one_own store cs stage name (syncs r) own = one_own store _ _ name r own
+one_own store cs stage name (places r) own = own.0 (one_own store _ _ name r own.1)
+one_own store cs stage name (stays r) own = one_own store _ _ name r own
+one_own store cs stage name (removes r) own = own.0 (one_own store _ _ name r own.1)
+one_own store cs stage name (keeps r) own = one_own store _ _ name r own
+one_own store cs stage name (folder_synced r) own = one_own store _ _ name r own
+one_own store cs stage name (folder_unsynced r) own = one_own store _ _ name r own
 
 -- the bytes of the file to which a name leads
 held_same : (store : List ℕ) (d e : Disk) (file : Option ℕ) → d.entry store ≡ file → ((number : ℕ) → file ≡ Some number
@@ -476,16 +504,23 @@ ends_kept store bytes fault old new locked a = record {
   since = a.since;
   is = a.is;
   own = only_own store a.since Idle a.reaches;
+  clears = λ name own. absurd (one_own store a.since Idle name a.reaches own);
   moments = at_each store bytes old a.since Idle locked tt a.reaches;
   end = λ d e runs. is_kept store d e (holds_at store old a.since Idle d e locked a.reaches runs);
 }
 
 pub ends_beside : (store bytes name : List ℕ) (known : Option (List ℕ)) (durable : Bool) (fault : Fault)
-    (old new : List Call) → IsLocked old → After store old new (Beside name known durable) → Replaces store bytes (Err (Kept fault)) old new
-ends_beside store bytes name known durable fault old new locked a = record {
+    (old new : List Call) → IsLocked old → (a : After store old new (Beside name known durable))
+    → (before : List Call) × (a.since ≡ Removed name false ∷ before) → Replaces store bytes (Err (Kept fault)) old new
+ends_beside store bytes name known durable fault old new locked a last = record {
   since = a.since;
   is = a.is;
   own = only_own store a.since (Beside name known durable) a.reaches;
+  clears = λ at own. (
+    last.0,
+    last.1 ∙ ap (λ (n : List ℕ). Removed n false ∷ last.0)
+        (sym (one_own store a.since (Beside name known durable) at a.reaches own)),
+  );
   moments = at_each store bytes old a.since (Beside name known durable) locked tt a.reaches;
   end = λ d e runs. is_kept store d e (holds_at store old a.since (Beside name known durable) d e locked a.reaches runs).0;
 }
@@ -496,6 +531,7 @@ ends_durable store bytes old new locked a = record {
   since = a.since;
   is = a.is;
   own = only_own store a.since (Durable bytes) a.reaches;
+  clears = λ name own. absurd (one_own store a.since (Durable bytes) name a.reaches own);
   moments = at_each store bytes old a.since (Durable bytes) locked refl a.reaches;
   end = λ d e runs.
       let p = holds_at store old a.since (Durable bytes) d e locked a.reaches runs in
@@ -508,6 +544,7 @@ ends_unsynced store bytes fault old new locked a = record {
   since = a.since;
   is = a.is;
   own = only_own store a.since (Placed bytes) a.reaches;
+  clears = λ name own. absurd (one_own store a.since (Placed bytes) name a.reaches own);
   moments = at_each store bytes old a.since (Placed bytes) locked refl a.reaches;
   end = λ d e runs.
       let p = holds_at store old a.since (Placed bytes) d e locked a.reaches runs in
@@ -525,7 +562,11 @@ pub given_up : (store bytes name : List ℕ) (fault : Fault) (gone : Bool) (old 
 given_up store bytes name fault true old mid new locked left is =
     ends_kept store bytes fault old new locked (after (Removed name true) is (λ cs r. removes r) left.2)
 given_up store bytes name fault false old mid new locked left is = ends_beside store bytes name left.0 left.1 fault old new
-    locked (after (Removed name false) is (λ cs r. keeps r) left.2)
+    locked (record {
+      since = Removed name false ∷ left.2.since;
+      is = is ∙ ap (λ cs. Removed name false ∷ cs) left.2.is;
+      reaches = keeps left.2.reaches;
+    }) (left.2.since, refl)
 
 -- behind the move the folder is brought to the disk, or not
 pub ended : (store bytes : List ℕ) (r : Result (Unit {0}) NotReplaced) (old mid new : List Call) → IsLocked old

@@ -2,7 +2,7 @@
 use Rattle.std.specs.Prelude.{is_ok}
 use Rattle.std.proofs.Common.{◌≡◌, ◌≢◌, ℕ, Bool, true, false, List, [], ◌∷◌, Option, Some, None, Result, Ok, Err, OnOk, OnErr, ◌∙◌, ap}
 use Rattle.wfolder.specs.Call.{Call, Created, Permitted, Wrote, Synced, Moved, Removed}
-use Rattle.wfolder.specs.Names.{IsOurs}
+use Rattle.wfolder.specs.Names.{IsNewBeside}
 use Rattle.wfolder.specs.Order.{Stage, Idle, Beside, Placed, Reaches, After, Brings, LeavesBeside, clears}
 use Rattle.wfolder.specs.Order.{misses, makes, permits, writes, spoils, syncs, places, stays}
 
@@ -25,18 +25,19 @@ on_err (Err e) p = p
 
 -- a name that is free, or taken
 pub created : {store name at : List ℕ} {old new : List Call} {made : Bool} → made ≡ true → at ≡ name → name ≢ store
-    → IsOurs name → new ≡ Created at made ∷ old → Brings store old Idle new (Beside name (Some []) false)
+    → IsNewBeside store name → new ≡ Created at made ∷ old → Brings store old Idle new (Beside name (Some []) false)
 created {name = name} {at = at} {old = old} is_made is_at other ours is base a =
     after (Created name true) (is ∙ ap (λ (made : Bool). Created at made ∷ old) is_made
     ∙ ap (λ (at : List ℕ). Created at true ∷ old) is_at) (λ cs r. makes other ours r) a
 
-pub missed : {store name : List ℕ} {old new : List Call} {made : Bool} → made ≡ false → new ≡ Created name made ∷ old
-    → Brings store old Idle new Idle
-missed {name = name} {old = old} is_missed is base a =
-    after (Created name false) (is ∙ ap (λ (made : Bool). Created name made ∷ old) is_missed) (λ cs r. misses r) a
+pub missed : {store name at : List ℕ} {old new : List Call} {made : Bool} → made ≡ false → at ≡ name → name ≢ store
+    → IsNewBeside store name → new ≡ Created at made ∷ old → Brings store old Idle new Idle
+missed {name = name} {at = at} {old = old} is_missed is_at other ours is base a =
+    after (Created name false) (is ∙ ap (λ (made : Bool). Created at made ∷ old) is_missed
+    ∙ ap (λ (at : List ℕ). Created at false ∷ old) is_at) (λ cs r. misses other ours r) a
 
 -- what a run that was killed has left
-pub cleared : {store name at : List ℕ} {old new : List Call} {done : Bool} → at ≡ name → IsOurs name × (name ≢ store)
+pub cleared : {store name at : List ℕ} {old new : List Call} {done : Bool} → at ≡ name → IsNewBeside store name × (name ≢ store)
     → new ≡ Removed at done ∷ old → Brings store old Idle new Idle
 cleared {name = name} {old = old} {done = done} is_at ours is base a =
     after (Removed name done) (is ∙ ap (λ (at : List ℕ). Removed at done ∷ old) is_at) (λ cs r. clears ours.1 ours.0 r) a

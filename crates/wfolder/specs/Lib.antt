@@ -4,3 +4,4 @@ pub mod Model
 pub mod Names
 pub mod Order
 pub mod Replacing
+pub mod Target

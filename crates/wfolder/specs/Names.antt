@@ -1,6 +1,6 @@
--- The names of new files.
-use Rattle.std.specs.Prelude.{◌≡◌, ◌||◌, ◌==◌, ℕ, Bool, true, List, ◌∷◌, ◌++◌, take, drop, codes}
-use Rattle.std.specs.List.{list_all}
+-- The names of new files, and of a store in its folder.
+use Rattle.std.specs.Prelude.{◌≡◌, ◌||◌, ◌==◌, ℕ, Bool, true, false, List, ◌∷◌, ◌++◌, take, drop, codes}
+use Rattle.std.specs.List.{list_all, list_any}
 use Rattle.std.specs.Char.{is_ascii_digit}
 
 -- a digit, or a - between two numbers
@@ -12,9 +12,36 @@ pub record IsNewName (name : List ℕ) : Type 0 where
   pub begins : take 8 name ≡ codes ".wstore-"
   pub numbers : list_all is_number_byte (drop 8 name) ≡ true
 
--- the path of a new file of this program: such a name in a folder
-pub record IsOurs (path : List ℕ) : Type 0 where
+-- a / stands in the name
+abbrev pub has_slash : List ℕ → Bool
+has_slash name = list_any (λ b. b == 47) name
+
+-- the name of a file of a folder that no run takes for what a killed one has left
+pub record IsStoreName (name : List ℕ) : Type 0 where
+  pub plain : has_slash name ≡ false
+  pub kept : IsNewName name → ⊥
+
+-- the path of a store, and that of its folder
+pub record Site : Type 0 where
+  pub path : List ℕ
   pub folder : List ℕ
+
+-- the store of this name in a folder
+abbrev pub site_at : List ℕ → List ℕ → Site
+site_at folder name = record { path = folder ++ 47 ∷ name; folder = folder }
+
+-- the store stands in the folder, under such a name
+pub record IsSited (site : Site) : Type 0 where
   pub name : List ℕ
-  pub is : path ≡ folder ++ 47 ∷ name
+  pub is : site.path ≡ site.folder ++ 47 ∷ name
+  pub store_name : IsStoreName name
+
+-- the path of a new file beside the store: such a name in the folder that the store's own path names
+pub record IsNewBeside (store path : List ℕ) : Type 0 where
+  pub folder : List ℕ
+  pub own : List ℕ
+  pub name : List ℕ
+  pub store_is : store ≡ folder ++ 47 ∷ own
+  pub plain : has_slash own ≡ false
+  pub path_is : path ≡ folder ++ 47 ∷ name
   pub new : IsNewName name

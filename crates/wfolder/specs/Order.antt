@@ -1,6 +1,6 @@
 -- How far a run has come in replacing a store, by its calls alone.
 use Rattle.std.specs.Prelude.{◌≡◌, ◌≢◌, ℕ, Bool, true, false, List, [], ◌∷◌, ◌++◌, Option, None, Some}
-use Rattle.wfolder.specs.Names.{IsOurs}
+use Rattle.wfolder.specs.Names.{IsNewBeside}
 use Rattle.wfolder.specs.Call.{Call, Locked, Found, Created, Permitted, Wrote, Synced, Moved, SyncedFolder, Removed}
 
 pub data Stage : Type 0 where
@@ -20,11 +20,12 @@ pub data Reaches (store : List ℕ) : List Call → Stage → Type 0 where
   reads : {cs : List Call} {stage : Stage} {name : List ℕ} {held : Option (List ℕ)} → Reaches store cs stage
       → Reaches store (Found name held ∷ cs) stage
   -- what a run that was killed has left
-  clears : {cs : List Call} {name : List ℕ} {done : Bool} → name ≢ store → IsOurs name → Reaches store cs Idle
+  clears : {cs : List Call} {name : List ℕ} {done : Bool} → name ≢ store → IsNewBeside store name → Reaches store cs Idle
       → Reaches store (Removed name done ∷ cs) Idle
   -- a name that is taken
-  misses : {cs : List Call} {name : List ℕ} → Reaches store cs Idle → Reaches store (Created name false ∷ cs) Idle
-  makes : {cs : List Call} {name : List ℕ} → name ≢ store → IsOurs name → Reaches store cs Idle
+  misses : {cs : List Call} {name : List ℕ} → name ≢ store → IsNewBeside store name → Reaches store cs Idle
+      → Reaches store (Created name false ∷ cs) Idle
+  makes : {cs : List Call} {name : List ℕ} → name ≢ store → IsNewBeside store name → Reaches store cs Idle
       → Reaches store (Created name true ∷ cs) (Beside name (Some []) false)
   permits : {cs : List Call} {name : List ℕ} {bytes : Option (List ℕ)} {durable done : Bool} → Reaches store cs (Beside name bytes durable)
       → Reaches store (Permitted name done ∷ cs) (Beside name bytes durable)

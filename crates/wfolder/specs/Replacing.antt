@@ -1,8 +1,8 @@
 -- What replacing a store does to it.
-use Rattle.std.specs.Prelude.{◌≡◌, ◌≢◌, ◌⊎◌, ⊤, ℕ, List, [], ◌∷◌, ◌++◌, Option, Some, Result, Ok, Err}
+use Rattle.std.specs.Prelude.{◌≡◌, ◌≢◌, ◌⊎◌, ⊤, ℕ, false, List, [], ◌∷◌, ◌++◌, Option, Some, Result, Ok, Err}
 use Rattle.wfolder.specs.Call.{Call}
 use Rattle.wfolder.specs.Call as calls
-use Rattle.wfolder.specs.Names.{IsOurs}
+use Rattle.wfolder.specs.Names.{IsNewBeside}
 use Rattle.wfolder.specs.Model.{Disk, MayHold, IsOwn, Runs, holds}
 use Rattle.wfolder.specs.declared.fault.Fault.{Fault}
 use Rattle.wfolder.specs.declared.replacing.NotReplaced.{NotReplaced}
@@ -28,16 +28,25 @@ abbrev pub LeavesOldOrNew : List ℕ → List ℕ → List Call → List Call �
 LeavesOldOrNew store bytes base cs = (d e : Disk) → Runs store base d cs e → (held : Option (List ℕ)) → MayHold e store held
     → MayHold d store held ⊎ (held ≡ Some bytes)
 
--- only what this run made, or a run that was killed, is removed; only what this run made is written and moved, over the store alone
+-- a new file beside the store, and not the store
+abbrev pub IsNewHere : List ℕ → List ℕ → Type 0
+IsNewHere store name = (name ≢ store) × IsNewBeside store name
+
+-- new files are made beside the store alone; only what this run made, or there a run that was killed, is removed; only what this run
+-- made is written and moved, over the store alone
 abbrev pub ChangesOnlyOwn : List ℕ → List Call → Type 0
 ChangesOnlyOwn store [] = ⊤
-ChangesOnlyOwn store (calls.Created name done ∷ cs) = ChangesOnlyOwn store cs
+ChangesOnlyOwn store (calls.Created name done ∷ cs) = IsNewHere store name × ChangesOnlyOwn store cs
 ChangesOnlyOwn store (calls.Permitted name done ∷ cs) = IsOwn cs name × ChangesOnlyOwn store cs
 ChangesOnlyOwn store (calls.Wrote name written done ∷ cs) = IsOwn cs name × ChangesOnlyOwn store cs
 ChangesOnlyOwn store (calls.Synced name done ∷ cs) = IsOwn cs name × ChangesOnlyOwn store cs
 ChangesOnlyOwn store (calls.Moved from to done ∷ cs) = (IsOwn cs from × (to ≡ store)) × ChangesOnlyOwn store cs
-ChangesOnlyOwn store (calls.Removed name done ∷ cs) = (IsOwn cs name ⊎ ((name ≢ store) × IsOurs name)) × ChangesOnlyOwn store cs
+ChangesOnlyOwn store (calls.Removed name done ∷ cs) = (IsOwn cs name ⊎ IsNewHere store name) × ChangesOnlyOwn store cs
 ChangesOnlyOwn store (c ∷ cs) = ChangesOnlyOwn store cs
+
+-- of what this run made nothing stands but where the last call was to remove it, and was refused
+abbrev pub ClearsOwn : List Call → Type 0
+ClearsOwn cs = (name : List ℕ) → IsOwn cs name → (before : List Call) × (cs ≡ calls.Removed name false ∷ before)
 
 -- the store holds what it held, and a crash leaves nothing else than it might have left
 pub record IsUnchanged (store : List ℕ) (d e : Disk) : Type 0 where
@@ -61,5 +70,6 @@ pub record Replaces (store bytes : List ℕ) (result : Result (Unit {0}) NotRepl
   pub since : List Call
   pub is : new ≡ since ++ old
   pub own : ChangesOnlyOwn store since
+  pub clears : ClearsOwn since
   pub moments : AtEachMoment (LeavesOldOrNew store bytes old) since
   pub end : (d e : Disk) → Runs store old d since e → IsEnd store bytes result d e

@@ -19,17 +19,6 @@ pub struct Access {
     pub permissions: Permissions,
 }
 
-/// Where a store stands: its path, that of its folder, and who may read and write the file that stands there, if there is one.
-#[derive(Drop)]
-pub struct Target {
-    /// The path of the store, behind the links to it.
-    pub path: String,
-    /// The path of its folder, in which the new file is made.
-    pub folder: String,
-    /// The access of the file that stands there.
-    pub access: Option<Access>,
-}
-
 /// A folder whose calls are recorded with their answers. What they do to the folder, and what a crash may leave of it, the
 /// definitions over this record say. Each fault has its cause in the counts.
 pub trait Folder {

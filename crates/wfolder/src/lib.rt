@@ -14,9 +14,12 @@
 mod disk;
 mod fault;
 mod folder;
+mod names;
 mod replacing;
+mod target;
 
 pub use disk::{Disk, Entry};
 pub use fault::Fault;
-pub use folder::{Access, Folder, Target};
-pub use replacing::{NotReplaced, is_new_name, path_in, replace};
+pub use folder::{Access, Folder};
+pub use replacing::{NotReplaced, replace};
+pub use target::Target;

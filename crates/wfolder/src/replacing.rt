@@ -1,78 +1,43 @@
 //! A store, replaced whole.
 ghost use Rattle.std.specs.Prelude.{◌≡◌, ◌≢◌, ◌↔◌, ◌++◌, ◌∷◌, [], Some, false, true, IfOk, IfErr, IfSome};
 ghost use Rattle.std.specs.Prelude.{OnOk, OnErr, IsTrue, is_ok, option_map, string_bytes};
-ghost use Rattle.std.specs.List.{list_all};
 ghost use Rattle.wfolder.specs.Calls.{HasCause, NothingFailed};
-ghost use Rattle.wfolder.specs.Names.{IsNewName, IsOurs, is_number_byte};
+ghost use Rattle.wfolder.specs.Names.{IsNewBeside};
 ghost use Rattle.wfolder.specs.Order.{Beside, Brings, Idle, LeavesBeside, MakesNew, Placed};
 ghost use Rattle.wfolder.specs.Call.{SyncedFolder};
 ghost use Rattle.wfolder.specs.Model.{IsLocked};
 ghost use Rattle.wfolder.specs.Replacing.{IsUnsynced, Replaces, fault_of};
 
 use crate::fault::Fault;
-use crate::folder::{Folder, Target};
+use crate::folder::Folder;
+use crate::names::{is_new_name, path_in};
+use crate::target::Target;
 use std::alloc::{AllocError, Global};
 
 /// How many names are tried for a new file.
 const TRIES: u32 = 1000;
 
-// A digit, or the - between two numbers.
-fn is_number_byte(byte: u8) -> bool
-    ensures { result ≡ is_number_byte byte }
-{
-    byte.is_ascii_digit() || byte == b'-'
-}
-
-fn are_number_bytes(bytes: &[u8]) -> bool
-    ensures { result ≡ list_all is_number_byte bytes.now }
-{
-    bytes.iter().all(|byte| is_number_byte(*byte))
-}
-
-/// Whether a file's name is one that this program gives to new files, and removes as what a killed run has left.
-pub fn is_new_name(name: &[u8]) -> bool
-    ensures { IsTrue result ↔ IsNewName name.now }
-{
-    match name.strip_prefix(b".wstore-") {
-        Some(numbers) => are_number_bytes(numbers),
-        None => false,
-    }
-}
-
-/// The path of a file in a folder.
-pub fn path_in(alloc: Global, folder: &str, name: &str) -> Result<String, AllocError>
-    ensures { IfOk result (λ path. string_bytes path ≡ folder.now ++ 47 ∷ name.now) }
-{
-    let mut path = String::from_str(alloc, folder)?;
-    path.push_str("/")?;
-    path.push_str(name)?;
-    Ok(path)
-}
-
-// The path of a file whose name is that of a new one, if it is not the store itself.
+// The path of a file beside the store whose name is that of a new one.
 fn path_beside(alloc: Global, target: &Target, name: &str) -> Result<Option<String>, AllocError>
-    ensures { IfOk result (λ found. IfSome found (λ path. IsOurs (string_bytes path)
-        × (string_bytes path ≢ string_bytes target.now.path))) }
+    ensures { IfOk result (λ found. IfSome found (λ path. IsNewBeside target.now.path (string_bytes path)
+        × (string_bytes path ≢ target.now.path))) }
 {
     if !is_new_name(name.as_bytes()) {
         return Ok(None);
     }
-    let path = path_in(alloc, target.folder.as_str(), name)?;
-    if path == target.path {
-        return Ok(None);
-    }
+    let path = path_in(alloc, target.folder(), name)?;
     Ok(Some(path))
 }
 
 // Gives the new file the access of the old one, if there is one.
 fn allow<F: Folder>(folder: &mut F, target: &Target, new: &str) -> Result<(), Fault>
     requires { NothingFailed (F.counts folder.old) }
-    ensures brings { Brings (string_bytes target.now.path) (F.calls folder.old) (Beside new.now (Some []) false)
+    ensures brings { Brings target.now.path (F.calls folder.old) (Beside new.now (Some []) false)
         (F.calls folder.new) (Beside new.now (Some []) false) }
     ensures sound { OnOk result (NothingFailed (F.counts folder.new)) }
     ensures cause { IfErr result (λ fault. HasCause fault (F.counts folder.new)) }
 {
-    match &target.access {
+    match target.access() {
         Some(access) => folder.permit(new, access),
         None => Ok(()),
     }
@@ -81,9 +46,9 @@ fn allow<F: Folder>(folder: &mut F, target: &Target, new: &str) -> Result<(), Fa
 // The bytes, in the new file, on the disk.
 fn fill<F: Folder>(folder: &mut F, target: &Target, new: &str, bytes: &[u8]) -> Result<(), Fault>
     requires { NothingFailed (F.counts folder.old) }
-    ensures filled { OnOk result (Brings (string_bytes target.now.path) (F.calls folder.old)
+    ensures filled { OnOk result (Brings target.now.path (F.calls folder.old)
         (Beside new.now (Some []) false) (F.calls folder.new) (Beside new.now (Some bytes.now) true)) }
-    ensures left { OnErr result (LeavesBeside (string_bytes target.now.path) new.now (F.calls folder.old) (F.calls folder.new)) }
+    ensures left { OnErr result (LeavesBeside target.now.path new.now (F.calls folder.old) (F.calls folder.new)) }
     ensures sound { OnOk result (NothingFailed (F.counts folder.new)) }
     ensures cause { IfErr result (λ fault. HasCause fault (F.counts folder.new)) }
 {
@@ -95,14 +60,14 @@ fn fill<F: Folder>(folder: &mut F, target: &Target, new: &str, bytes: &[u8]) -> 
 // The bytes in the new file, and then in the store's place.
 fn put<F: Folder>(folder: &mut F, target: &Target, new: &str, bytes: &[u8]) -> Result<(), Fault>
     requires { NothingFailed (F.counts folder.old) }
-    ensures placed { OnOk result (Brings (string_bytes target.now.path) (F.calls folder.old)
+    ensures placed { OnOk result (Brings target.now.path (F.calls folder.old)
         (Beside new.now (Some []) false) (F.calls folder.new) (Placed bytes.now)) }
-    ensures left { OnErr result (LeavesBeside (string_bytes target.now.path) new.now (F.calls folder.old) (F.calls folder.new)) }
+    ensures left { OnErr result (LeavesBeside target.now.path new.now (F.calls folder.old) (F.calls folder.new)) }
     ensures sound { OnOk result (NothingFailed (F.counts folder.new)) }
     ensures cause { IfErr result (λ fault. HasCause fault (F.counts folder.new)) }
 {
     fill(folder, target, new, bytes)?;
-    folder.rename(new, target.path.as_str())
+    folder.rename(new, target.path())
 }
 
 // Makes a new file of this path, if the name is free.
@@ -112,15 +77,15 @@ fn create_at<F: Folder>(
     path: String,
 ) -> Result<Option<String>, Fault>
     requires sound { NothingFailed (F.counts folder.old) }
-    requires ours { IsOurs (string_bytes path) }
-    requires other { string_bytes path ≢ string_bytes target.now.path }
-    ensures makes { IfOk result (λ found. MakesNew (string_bytes target.now.path) (F.calls folder.old) (F.calls folder.new)
+    requires ours { IsNewBeside target.now.path (string_bytes path) }
+    requires other { string_bytes path ≢ target.now.path }
+    ensures makes { IfOk result (λ found. MakesNew target.now.path (F.calls folder.old) (F.calls folder.new)
         (option_map (λ name. string_bytes name) found)) }
-    ensures idle { OnErr result (Brings (string_bytes target.now.path) (F.calls folder.old) Idle (F.calls folder.new) Idle) }
+    ensures idle { OnErr result (Brings target.now.path (F.calls folder.old) Idle (F.calls folder.new) Idle) }
     ensures sound { OnOk result (NothingFailed (F.counts folder.new)) }
     ensures cause { IfErr result (λ fault. HasCause fault (F.counts folder.new)) }
 {
-    match folder.create_new(path.as_str(), target.access.is_some()) {
+    match folder.create_new(path.as_str(), target.access().is_some()) {
         Ok(true) => Ok(Some(path)),
         Ok(false) => Ok(None),
         Err(fault) => Err(fault),
@@ -135,9 +100,9 @@ fn try_new<F: Folder>(
     number: u32,
 ) -> Result<Option<String>, Fault>
     requires sound { NothingFailed (F.counts folder.old) }
-    ensures makes { IfOk result (λ found. MakesNew (string_bytes target.now.path) (F.calls folder.old) (F.calls folder.new)
+    ensures makes { IfOk result (λ found. MakesNew target.now.path (F.calls folder.old) (F.calls folder.new)
         (option_map (λ name. string_bytes name) found)) }
-    ensures idle { OnErr result (Brings (string_bytes target.now.path) (F.calls folder.old) Idle (F.calls folder.new) Idle) }
+    ensures idle { OnErr result (Brings target.now.path (F.calls folder.old) Idle (F.calls folder.new) Idle) }
     ensures sound { OnOk result (NothingFailed (F.counts folder.new)) }
     ensures cause { IfErr result (λ fault. HasCause fault (F.counts folder.new)) }
 {
@@ -154,9 +119,9 @@ fn try_new<F: Folder>(
 // Makes a new file beside the store, under a name that is free.
 fn make_new<F: Folder>(alloc: Global, folder: &mut F, target: &Target) -> Result<String, Fault>
     requires sound { NothingFailed (F.counts folder.old) }
-    ensures made { IfOk result (λ name. Brings (string_bytes target.now.path) (F.calls folder.old) Idle (F.calls folder.new)
+    ensures made { IfOk result (λ name. Brings target.now.path (F.calls folder.old) Idle (F.calls folder.new)
         (Beside (string_bytes name) (Some []) false)) }
-    ensures idle { OnErr result (Brings (string_bytes target.now.path) (F.calls folder.old) Idle (F.calls folder.new) Idle) }
+    ensures idle { OnErr result (Brings target.now.path (F.calls folder.old) Idle (F.calls folder.new) Idle) }
     ensures sound { OnOk result (NothingFailed (F.counts folder.new)) }
     ensures cause { IfErr result (λ fault. HasCause fault (F.counts folder.new)) }
 {
@@ -178,7 +143,7 @@ fn clear_name<F: Folder>(
     name: &str,
 ) -> Result<(), Fault>
     requires sound { NothingFailed (F.counts folder.old) }
-    ensures idle { Brings (string_bytes target.now.path) (F.calls folder.old) Idle (F.calls folder.new) Idle }
+    ensures idle { Brings target.now.path (F.calls folder.old) Idle (F.calls folder.new) Idle }
     ensures sound { OnOk result (NothingFailed (F.counts folder.new)) }
     ensures cause { IfErr result (λ fault. HasCause fault (F.counts folder.new)) }
 {
@@ -195,11 +160,11 @@ fn clear_name<F: Folder>(
 // Removes what runs that were killed have left in the folder. This run holds its lock, so no other is at work there.
 fn clear<F: Folder>(alloc: Global, folder: &mut F, target: &Target) -> Result<(), Fault>
     requires sound { NothingFailed (F.counts folder.old) }
-    ensures idle { Brings (string_bytes target.now.path) (F.calls folder.old) Idle (F.calls folder.new) Idle }
+    ensures idle { Brings target.now.path (F.calls folder.old) Idle (F.calls folder.new) Idle }
     ensures sound { OnOk result (NothingFailed (F.counts folder.new)) }
     ensures cause { IfErr result (λ fault. HasCause fault (F.counts folder.new)) }
 {
-    let names = match folder.names(alloc, target.folder.as_str()) {
+    let names = match folder.names(alloc, target.folder()) {
         Ok(names) => names,
         Err(fault) => return Err(fault),
     };
@@ -214,9 +179,9 @@ fn clear<F: Folder>(alloc: Global, folder: &mut F, target: &Target) -> Result<()
 // Makes the new file, where nothing of an earlier run is left.
 fn begin<F: Folder>(alloc: Global, folder: &mut F, target: &Target) -> Result<String, Fault>
     requires sound { NothingFailed (F.counts folder.old) }
-    ensures made { IfOk result (λ name. Brings (string_bytes target.now.path) (F.calls folder.old) Idle (F.calls folder.new)
+    ensures made { IfOk result (λ name. Brings target.now.path (F.calls folder.old) Idle (F.calls folder.new)
         (Beside (string_bytes name) (Some []) false)) }
-    ensures idle { OnErr result (Brings (string_bytes target.now.path) (F.calls folder.old) Idle (F.calls folder.new) Idle) }
+    ensures idle { OnErr result (Brings target.now.path (F.calls folder.old) Idle (F.calls folder.new) Idle) }
     ensures sound { OnOk result (NothingFailed (F.counts folder.new)) }
     ensures cause { IfErr result (λ fault. HasCause fault (F.counts folder.new)) }
 {
@@ -273,7 +238,7 @@ pub fn replace<F: Folder>(
 ) -> Result<(), NotReplaced>
     requires sound { NothingFailed (F.counts folder.old) }
     requires locked { IsLocked (F.calls folder.old) }
-    ensures replaces { Replaces (string_bytes target.now.path) bytes.now result (F.calls folder.old) (F.calls folder.new) }
+    ensures replaces { Replaces target.now.path bytes.now result (F.calls folder.old) (F.calls folder.new) }
     ensures sound { OnOk result (NothingFailed (F.counts folder.new)) }
     ensures cause { IfErr result (λ fault. HasCause (fault_of fault) (F.counts folder.new)) }
 {

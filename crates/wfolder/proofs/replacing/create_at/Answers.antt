@@ -7,7 +7,9 @@ returns-in-Ok-true-clause-makes g c = created c.in-Ok-true.field-0-test c.as_str
     c.requires.ours c.in-Ok-true.ensures.made
 
 pub returns-in-Ok-false-clause-makes : goal.returns-in-Ok-false-clause-makes
-returns-in-Ok-false-clause-makes g c = missed c.in-Ok-false.field-0-test c.in-Ok-false.ensures.made
+returns-in-Ok-false-clause-makes g c = missed c.in-Ok-false.field-0-test c.as_str.ensures.value
+    c.requires.other c.requires.ours c.in-Ok-false.ensures.made
 
 pub returns-in-Err-clause-idle : goal.returns-in-Err-clause-idle
-returns-in-Err-clause-idle g c = missed refl c.in-Err.ensures.failed
+returns-in-Err-clause-idle g c = missed refl c.as_str.ensures.value c.requires.other c.requires.ours
+    c.in-Err.ensures.failed

@@ -4,7 +4,7 @@ use Rattle.wfolder.proofs.replacing.replace.Goals as goal
 
 pub returns-in-Err-clause-replaces : goal.returns-in-Err-clause-replaces
 returns-in-Err-clause-replaces g c =
-    let store = string_bytes c.args.target.now.path in
+    let store = c.args.target.now.path in
     let old = g.F.Folder.calls c.args.folder.now in
     ends_kept store c.args.bytes.now c.in-Err.fault old _ c.requires.locked (c.in-Err.ensures.idle old (from_nothing store old))
 
