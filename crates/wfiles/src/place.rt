@@ -1,9 +1,10 @@
 //! Where a store stands, and how it is replaced there.
-ghost use Rattle.std.specs.Prelude.{◌≡◌, ◌∷◌, true, IfErr, IfOk, OnErr, OnOk, is_ok, option_map, string_bytes};
+ghost use Rattle.std.specs.Prelude.{◌≡◌, ◌∷◌, true, IfErr, IfOk, OnErr, OnOk, is_ok, option_map};
 ghost use Rattle.wfolder.specs.Call.{Found, Locked};
 ghost use Rattle.wfolder.specs.Calls.{HasCause, NothingFailed};
 ghost use Rattle.wfolder.specs.Model.{IsLocked};
 ghost use Rattle.wfiles.specs.Reading.{MayBegin};
+ghost use Rattle.wfolder.specs.Names.{IsSited};
 ghost use Rattle.wfolder.specs.Replacing.{Replaces, fault_of};
 ghost use Rattle.wfiles.specs.Place.{MissesLock};
 
@@ -15,14 +16,13 @@ use std::alloc::Global;
 use std::fs::File;
 use std::mem;
 use std::rt::{Clock, Files};
-use wfolder::{Fault, NotReplaced, Target, is_new_name, path_in, replace};
+use wfolder::{Fault, NotReplaced, Target, replace};
 
 /// A file that may be replaced: a plain one that may be written, found behind the links to it, or none yet. While this
 /// stands no other such program replaces a file of its folder.
 #[derive(Drop)]
 pub struct Place {
-    /// Where it stands.
-    pub target: Target,
+    target: Target,
     folder: File,
 }
 
@@ -88,22 +88,19 @@ fn target_of<R: Files<File = File> + AllocGlobal>(
 {
     let access = system.replaceable(path)?;
     let found = path_behind(alloc, system, path)?;
-    if is_new_name(name_of(found.as_str()).as_bytes()) {
-        return Err(system.misplaced());
+    let folder = folder_of(found.as_str());
+    let made = Target::new(alloc, folder, name_of(found.as_str()), access);
+    let target = system.grown(made)?;
+    match target {
+        Some(target) => Ok(target),
+        None => Err(system.misplaced()),
     }
-    let folder = system.grown(String::from_str(alloc, folder_of(found.as_str())))?;
-    // spelled as new files are, so that the store is never taken for one
-    let path = system.grown(path_in(alloc, folder.as_str(), name_of(found.as_str())))?;
-    Ok(Target {
-        path,
-        folder,
-        access,
-    })
 }
 
 impl Place {
     /// Where the file of a path stands, with the lock of its folder. It waits until no other such program replaces a file of the
-    /// folder, for a minute at most; a folder that cannot be locked is a write fault. At a fault this run does not have the lock.
+    /// folder, for a minute at most; a folder that cannot be locked is a write fault, as is a name that new files have. At a fault
+    /// this run does not have the lock.
     pub fn find<R: Files<File = File> + AllocGlobal + Clock + Eprint>(
         alloc: Global,
         system: &mut System<'_, R>,
@@ -112,14 +109,23 @@ impl Place {
     ) -> Result<Place, Fault>
         requires { NothingFailed system.old }
         ensures locked { OnOk result (calls.new.calls ≡ Locked true ∷ calls.old.calls) }
+        ensures sited { IfOk result (λ place. IsSited place.target) }
         ensures missed { OnErr result (MissesLock calls.old.calls calls.new.calls) }
         ensures sound { OnOk result (NothingFailed system.new) }
         ensures cause { IfErr result (λ fault. HasCause fault system.new) }
     {
         let target = target_of(alloc, system, path)?;
-        let folder = system.folder(target.folder.as_str())?;
+        let folder = system.folder(target.folder())?;
         lock_folder(system, calls, &folder)?;
         Ok(Place { target, folder })
+    }
+
+    /// The path of the file, behind the links to it.
+    pub fn path(&self) -> &str
+        ensures path { result.now ≡ self.now.target.path }
+        ensures sited { IsSited self.now.target }
+    {
+        self.target.path()
     }
 
     /// The bytes of the file as it stands now, while no other run replaces it, if it may still be replaced. Who may read and write
@@ -132,16 +138,16 @@ impl Place {
     ) -> Result<Option<Vec<u8>>, Fault>
         requires { NothingFailed system.old }
         ensures path { self.new.target.path ≡ self.old.target.path }
-        ensures found { IfOk result (λ held. calls.new.calls ≡ Found (string_bytes self.new.target.path)
+        ensures found { IfOk result (λ held. calls.new.calls ≡ Found self.new.target.path
             (option_map (λ bytes. bytes.items) held) ∷ calls.old.calls) }
-        ensures begun { OnErr result (MayBegin (string_bytes self.new.target.path) calls.old.calls calls.new.calls) }
+        ensures begun { OnErr result (MayBegin self.new.target.path calls.old.calls calls.new.calls) }
         ensures sound { OnOk result (NothingFailed system.new) }
         ensures cause { IfErr result (λ fault. HasCause fault system.new) }
     {
-        match system.replaceable(self.target.path.as_str()) {
+        match system.replaceable(self.target.path()) {
             Ok(access) => {
-                self.target.access = access;
-                read_if_there(alloc, system, calls, self.target.path.as_str())
+                self.target.set_access(access);
+                read_if_there(alloc, system, calls, self.target.path())
             }
             Err(fault) => Err(fault),
         }
@@ -158,7 +164,7 @@ impl Place {
     ) -> Result<(), NotReplaced>
         requires sound { NothingFailed system.old }
         requires locked { IsLocked calls.old.calls }
-        ensures replaces { Replaces (string_bytes self.now.target.path) bytes.now result calls.old.calls calls.new.calls }
+        ensures replaces { Replaces self.now.target.path bytes.now result calls.old.calls calls.new.calls }
         ensures sound { OnOk result (NothingFailed system.new) }
         ensures cause { IfErr result (λ fault. HasCause (fault_of fault) system.new) }
     {

@@ -3,12 +3,13 @@
 //! - Gives the calls on a folder that a replacement makes, over any folder that records them with their answers; the replacement, by
 //!   a file that is written beside the store; and for tests a disk in memory, with what a crash leaves of it.
 //! - Promises: whichever call of a replacement a machine stops in, the store holds what it might have held before, or the new bytes
-//!   whole: that is a theorem over the record of the calls, for every folder that does what `specs/Model.antt` says of them. A fault
-//!   comes only where a call failed or a growth was refused, as the folder counts them.
+//!   whole: that is a theorem over the record of the calls, for every folder that does what `specs/Model.antt` says of them. New files
+//!   are made and removed in the store's own folder alone. A fault comes only where a call failed or a growth was refused, as the
+//!   folder counts them.
 //! - Asks: a folder whose lock is held, in which nothing has failed yet.
 //! - Leaves the files of a real system to `wfiles`, and what the bytes mean to the program.
 //!
-//! Read `specs/Call.antt`, `specs/Model.antt`, then `specs/Replacing.antt` and `specs/Calls.antt`.
+//! Read `specs/Call.antt`, `specs/Model.antt` and `specs/Names.antt`, then `specs/Replacing.antt` and `specs/Calls.antt`.
 #![tactic(auto)]
 
 mod disk;

@@ -229,7 +229,8 @@ fn sync_folder<F: Folder>(folder: &mut F) -> Result<(), NotReplaced>
 /// Puts these bytes in the place of the store's, whole, while this run holds the lock of its folder. They are written into a
 /// new file beside it, which is brought to the disk and moved over the store, and then the folder is brought to the disk. A
 /// machine that stops in any of the calls leaves the store that it might have left before, or these bytes. `Ok`: the store has
-/// these bytes, and a crash leaves them. Only what this run made, or a run that was killed, is changed or removed.
+/// these bytes, and a crash leaves them. Only what this run made in the store's own folder, or what a run that was killed has left
+/// there, is changed or removed; and of what this run made nothing stays but the store, unless its removal is refused.
 pub fn replace<F: Folder>(
     alloc: Global,
     folder: &mut F,

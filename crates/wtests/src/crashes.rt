@@ -87,17 +87,13 @@ impl<'a> Case<'a> {
         Ok(disk)
     }
 
-    fn target(self, alloc: Global) -> Result<Target, AllocError> {
+    fn target(self, alloc: Global) -> Result<Option<Target>, AllocError> {
         let access = Access {
             owner: 7,
             group: 8,
             permissions: Permissions::from_mode(0o640),
         };
-        Ok(Target {
-            path: String::from_str(alloc, PATHS.store)?,
-            folder: String::from_str(alloc, "d")?,
-            access: self.is_permitted.then_some(access),
-        })
+        Target::new(alloc, "d", "store", self.is_permitted.then_some(access))
     }
 
     // Whether a path may hold this after a crash, where the replacement ended so.
@@ -176,7 +172,10 @@ impl Seen {
 
     // Replaces a store with the machine stopping at each call in turn, until it is done.
     fn replace(&mut self, alloc: Global, case: Case<'_>) -> Result<(), AllocError> {
-        let target = case.target(alloc)?;
+        let Some(target) = case.target(alloc)? else {
+            self.torn = self.torn.saturating_add(1);
+            return Ok(());
+        };
         for stop in 0..MANY_CALLS {
             let mut folder = Simulated::new(case.disk(alloc)?, stop);
             let end = replace(alloc, &mut folder, &target, case.new);
