@@ -6,7 +6,7 @@ ghost use Rattle.wfolder.specs.Model.{IsLocked};
 ghost use Rattle.wfiles.specs.Reading.{MayBegin};
 ghost use Rattle.wfolder.specs.Names.{IsSited};
 ghost use Rattle.wfolder.specs.Replacing.{Replaces, fault_of};
-ghost use Rattle.wfiles.specs.Place.{MissesLock};
+ghost use Rattle.wfiles.specs.Place.{MissesLock, place_path, place_site};
 
 use crate::files::read_if_there;
 use crate::real::RealFolder;
@@ -109,7 +109,7 @@ impl Place {
     ) -> Result<Place, Fault>
         requires { NothingFailed system.old }
         ensures locked { OnOk result (calls.new.calls ≡ Locked true ∷ calls.old.calls) }
-        ensures sited { IfOk result (λ place. IsSited place.target) }
+        ensures sited { IfOk result (λ place. IsSited (place_site place)) }
         ensures missed { OnErr result (MissesLock calls.old.calls calls.new.calls) }
         ensures sound { OnOk result (NothingFailed system.new) }
         ensures cause { IfErr result (λ fault. HasCause fault system.new) }
@@ -122,8 +122,8 @@ impl Place {
 
     /// The path of the file, behind the links to it.
     pub fn path(&self) -> &str
-        ensures path { result.now ≡ self.now.target.path }
-        ensures sited { IsSited self.now.target }
+        ensures path { result.now ≡ place_path self.now }
+        ensures sited { IsSited (place_site self.now) }
     {
         self.target.path()
     }
@@ -137,10 +137,10 @@ impl Place {
         calls: &mut Record,
     ) -> Result<Option<Vec<u8>>, Fault>
         requires { NothingFailed system.old }
-        ensures path { self.new.target.path ≡ self.old.target.path }
-        ensures found { IfOk result (λ held. calls.new.calls ≡ Found self.new.target.path
+        ensures path { place_path self.new ≡ place_path self.old }
+        ensures found { IfOk result (λ held. calls.new.calls ≡ Found (place_path self.new)
             (option_map (λ bytes. bytes.items) held) ∷ calls.old.calls) }
-        ensures begun { OnErr result (MayBegin self.new.target.path calls.old.calls calls.new.calls) }
+        ensures begun { OnErr result (MayBegin (place_path self.new) calls.old.calls calls.new.calls) }
         ensures sound { OnOk result (NothingFailed system.new) }
         ensures cause { IfErr result (λ fault. HasCause fault system.new) }
     {
@@ -164,7 +164,7 @@ impl Place {
     ) -> Result<(), NotReplaced>
         requires sound { NothingFailed system.old }
         requires locked { IsLocked calls.old.calls }
-        ensures replaces { Replaces self.now.target.path bytes.now result calls.old.calls calls.new.calls }
+        ensures replaces { Replaces (place_path self.now) bytes.now result calls.old.calls calls.new.calls }
         ensures sound { OnOk result (NothingFailed system.new) }
         ensures cause { IfErr result (λ fault. HasCause (fault_of fault) system.new) }
     {

@@ -1,6 +1,6 @@
 //! The names of new files, and of a store in its folder.
-ghost use Rattle.std.specs.Prelude.{◌≡◌, ◌↔◌, ◌++◌, ◌∷◌, ◌||◌, ◌==◌, IfOk, IsTrue, string_bytes};
-ghost use Rattle.std.specs.List.{list_all, list_any};
+ghost use Rattle.std.specs.Prelude.{◌≡◌, ◌↔◌, ◌++◌, ◌∷◌, IfOk, IsTrue, string_bytes};
+ghost use Rattle.std.specs.List.{list_all};
 ghost use Rattle.wfolder.specs.Names.{IsNewName, IsStoreName, has_slash, is_number_byte};
 
 use std::alloc::{AllocError, Global};

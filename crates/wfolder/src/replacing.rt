@@ -1,6 +1,6 @@
 //! A store, replaced whole.
-ghost use Rattle.std.specs.Prelude.{◌≡◌, ◌≢◌, ◌↔◌, ◌++◌, ◌∷◌, [], Some, false, true, IfOk, IfErr, IfSome};
-ghost use Rattle.std.specs.Prelude.{OnOk, OnErr, IsTrue, is_ok, option_map, string_bytes};
+ghost use Rattle.std.specs.Prelude.{◌≡◌, ◌≢◌, ◌∷◌, [], Some, false, true, IfOk, IfErr, IfSome};
+ghost use Rattle.std.specs.Prelude.{OnOk, OnErr, is_ok, option_map, string_bytes};
 ghost use Rattle.wfolder.specs.Calls.{HasCause, NothingFailed};
 ghost use Rattle.wfolder.specs.Names.{IsNewBeside};
 ghost use Rattle.wfolder.specs.Order.{Beside, Brings, Idle, LeavesBeside, MakesNew, Placed};

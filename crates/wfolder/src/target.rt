@@ -1,6 +1,6 @@
 //! Where a store stands.
 ghost use Rattle.std.specs.Prelude.{◌≡◌, ◌↔◌, IfOk, IfSome, IsTrue, is_some};
-ghost use Rattle.wfolder.specs.Names.{IsNewName, IsSited, IsStoreName, site_at};
+ghost use Rattle.wfolder.specs.Names.{IsSited, IsStoreName, site_at};
 
 use crate::folder::Access;
 use crate::names::{is_store_name, path_in};
