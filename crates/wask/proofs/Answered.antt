@@ -1,12 +1,18 @@
 -- What a node establishes as it answers a text.
-use Rattle.std.proofs.Common.{◌≡◌, ◌⊎◌, inl, inr, List, ℕ, Result, Ok, Err, MatchResult, refl}
+use Rattle.std.proofs.Common.{◌≡◌, ◌⊎◌, inl, inr, List, ℕ, true, false, Result, Ok, Err, IfErr, MatchResult, refl, sym, ap, ◌∙◌}
+use Rattle.std.proofs.lemmas.Bool.{false≢true}
 use Rattle.wsegment.specs.Declaration.{Declaration}
 use Rattle.wset.specs.Views.{View}
 use Rattle.wquery.specs.QueryTree.{QueryTree}
 use Rattle.wplanner.specs.declared.fault.AskFault.{AskFault}
 use Rattle.wplanner.specs.declared.fault.AskFault.TheVariants as faults
 use Rattle.wask.specs.Texts.{IsRefused, IsUnread, Reads}
-use Rattle.wask.specs.Answer.{IsAnswer, query_answer}
+use Rattle.wask.specs.Answer.{IsAnswer, comes_before_rows, query_answer}
+use Rattle.wplanner.specs.Faults.{unanswered}
+use Rattle.wplanner.specs.Parts.{TableParts}
+use Rattle.wplanner.specs.Texts.{printed}
+use Rattle.wrows.specs.declared.fault.AnswerFault.{AnswerFault}
+use Rattle.wrows.specs.declared.fault.AnswerFault.TheVariants as answers
 
 -- a fault that is want of memory or an answer
 abbrev IsTold : Declaration → View → List ℕ → AskFault → Type 0
@@ -52,3 +58,23 @@ pub answered_by : {A : Type 0} (d : Declaration) (v : View) (text : List ℕ) (q
     → MatchResult r (λ a. IsAnswer d v text (Ok (items a))) (λ fault. (fault ≡ faults.NoMemory) ⊎ IsAnswer d v text (Err fault))
 answered_by d v text q items (Ok a) reads told = (q, reads, told)
 answered_by d v text q items (Err fault) reads told = unanswered d v text q fault reads told
+
+-- what is answered on rows is no refusal of the text
+pub refused_on_rows : {A : Type 0} (r : Result A AskFault) (P : A → Type 0) (Q : Type 0) (meant : Result TableParts AnswerFault)
+    → MatchResult r P (λ fault. (fault ≡ faults.NoMemory) ⊎ (printed meant ≡ Err fault))
+    → IfErr r (λ fault. comes_before_rows fault ≡ true → Q)
+refused_on_rows (Ok x) P Q meant is = tt
+refused_on_rows (Err faults.NoMemory) P Q meant is = λ before. absurd (false≢true before)
+refused_on_rows (Err faults.OutOfRange) P Q meant is = λ before. absurd (false≢true before)
+refused_on_rows (Err faults.TooManyRows) P Q meant is = λ before. absurd (false≢true before)
+refused_on_rows (Err f) P Q meant (inl e) = λ before. absurd (false≢true (ap comes_before_rows (sym e) ∙ before))
+refused_on_rows (Err f) P Q (Ok table) (inr e) = λ before. absurd (cc)
+refused_on_rows (Err f) P Q (Err g) (inr e) = λ before. absurd (false≢true (sym (behind g) ∙ ap comes_before_rows (same e) ∙ before))
+  where
+    behind : (g : AnswerFault) → comes_before_rows (unanswered g) ≡ false
+    behind answers.OutOfRange = refl
+    behind answers.TooManyRows = refl
+    behind answers.NoMemory = refl
+
+    same : Err (unanswered g) ≡ Err f → unanswered g ≡ f
+    same e = cc

@@ -1,5 +1,5 @@
 -- What a text is answered on the rows of a view.
-use Rattle.std.specs.Prelude.{◌≡◌, ℕ, List, Option, None, Some, Result, Ok, Err, ◌⊎◌}
+use Rattle.std.specs.Prelude.{◌≡◌, ℕ, Bool, true, false, List, Option, None, Some, Result, Ok, Err, ◌⊎◌}
 use Rattle.wsegment.specs.Declaration.{Declaration}
 use Rattle.wset.specs.Views.{View}
 use Rattle.wquery.specs.QueryTree.{QueryTree}
@@ -11,6 +11,13 @@ use Rattle.wtable.specs.Tables.{rows_of_view}
 use Rattle.wplanner.specs.declared.fault.AskFault.{AskFault}
 use Rattle.wplanner.specs.declared.fault.AskFault.TheVariants as faults
 use Rattle.wask.specs.Texts.{Reads, IsUnread}
+
+-- by such a fault a text is refused before a row is looked at
+abbrev pub comes_before_rows : AskFault → Bool
+comes_before_rows faults.OutOfRange = false
+comes_before_rows faults.TooManyRows = false
+comes_before_rows faults.NoMemory = false
+comes_before_rows _ = true
 
 -- the first broken rule, else what is meant
 abbrev pub unless_broken : Option Rule → Result (List ℕ) AskFault → Result (List ℕ) AskFault

@@ -1,10 +1,10 @@
 //! The way of a text: tokens, query, plan, table, bytes.
-ghost use Rattle.std.specs.Prelude.{◌≡◌, ◌⊎◌, Ok, Err, MatchResult};
+ghost use Rattle.std.specs.Prelude.{◌≡◌, ◌⊎◌, true, Ok, Err, IfErr, MatchResult};
 ghost use Rattle.wquery.specs.QueryTree.{view_query};
 ghost use Rattle.wask.specs.Texts.{IsRefused, IsText, Reads, lexical, syntactical};
 ghost use Rattle.wset.specs.Sets.{Becomes};
 ghost use Rattle.wplanner.specs.declared.fault.AskFault.TheVariants.{NoMemory};
-ghost use Rattle.wask.specs.Answer.{IsAnswer, query_answer};
+ghost use Rattle.wask.specs.Answer.{IsAnswer, comes_before_rows, query_answer};
 
 use std::alloc::Global;
 use wlexer::{LexFault, lex};
@@ -54,6 +54,7 @@ fn answer(alloc: Global, set: &mut SegmentSet, query: &Query) -> Result<Vec<u8>,
     ensures answer { MatchResult result
         (λ bytes. query_answer set.old.schema set.old.view (view_query query.now) ≡ Ok bytes.items)
         (λ fault. (fault ≡ NoMemory) ⊎ (query_answer set.old.schema set.old.view (view_query query.now) ≡ Err fault)) }
+    ensures unread { IfErr result (λ fault. comes_before_rows fault ≡ true → set.new ≡ set.old) }
     ensures same { Becomes set.old set.old.view set.new }
 {
     match resolve(alloc, set.schema(), query) {
@@ -69,12 +70,14 @@ fn answer(alloc: Global, set: &mut SegmentSet, query: &Query) -> Result<Vec<u8>,
 }
 
 /// The bytes of the answer to a text on the rows of the set, or its first fault. What the set knows stays as it is; cells of its
-/// segments may be made, and runs kept besides. Bytes that are too long or no UTF-8 are refused without memory.
+/// segments may be made, and runs kept besides, but of a text that is refused as a query the set stays as it was. Bytes that are
+/// too long or no UTF-8 are refused without memory.
 pub fn ask(alloc: Global, set: &mut SegmentSet, text: &[u8]) -> Result<Vec<u8>, AskFault>
     ensures answer { MatchResult result
         (λ bytes. IsAnswer set.old.schema set.old.view text.now (Ok bytes.items))
         (λ fault. (fault ≡ NoMemory) ⊎ IsAnswer set.old.schema set.old.view text.now (Err fault)) }
     ensures lacks { result ≡ Err NoMemory → IsText text.now }
+    ensures unread { IfErr result (λ fault. comes_before_rows fault ≡ true → set.new ≡ set.old) }
     ensures same { Becomes set.old set.old.view set.new }
 {
     let query = read(alloc, text)?;

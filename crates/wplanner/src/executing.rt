@@ -111,8 +111,8 @@ fn query_answer(
 /// that it is evaluated on, or a result is, whatever is left out, and `TooManyRows` where more than 2,147,483,647 rows are
 /// kept or groups of all sets together made. Otherwise it answers the table, unless memory is refused.
 ///
-/// Where rows of the table are ordered by columns of it, for a window or for ORDER BY, and are not grouped, their order comes
-/// from runs that the segments keep. Runs that are missing are made, whatever is answered; what the set knows stays as it is.
+/// What the set knows stays as it is. Where rows of the table are ordered by columns of it and are not grouped, their order may come
+/// from runs that the segments keep, and runs that are missing may be made: `table_orders` of `wtable` says of which orders.
 ///
 /// The query is to be sound: it has a SELECT, each call is over one of its windows, an offset in RANGE has one key, there
 /// is a tile at least, and places count from 1. So is each one that `resolve` answers, since it breaks no rule.

@@ -153,7 +153,7 @@ fn text_by_runs(
 
 /// The text of what a SELECT answers on the rows of the set's live segments, whose items are columns and answers of calls at some
 /// places. The rows are printed where they lie, and no value of theirs is copied, but where calls stand behind them and an order is
-/// asked for that no run tells. Runs that are missing are made, and nothing else of the set changes.
+/// asked for that no run tells. What the set knows stays as it is; runs may be made.
 pub(crate) fn lent_text(
     alloc: Global,
     select: &Selection,

@@ -3,7 +3,11 @@ ghost use Rattle.std.specs.Prelude.{◌≡◌, IfOk, IfSome, length, map};
 ghost use Rattle.std.specs.Rc.{rc_str_bytes};
 ghost use Rattle.wplan.specs.Formula.{At};
 ghost use Rattle.wplan.specs.Plans.{output_plan};
+ghost use Rattle.std.specs.List.{list_all};
+ghost use Rattle.std.specs.Option.{is_some};
+ghost use Rattle.wplan.specs.declared.expr.Expr.{out-Expr};
 ghost use Rattle.wrows.specs.Laid.{formulas_seen};
+ghost use Rattle.wrows.specs.PlainColumns.{plain_place};
 
 use std::alloc::{AllocError, Global};
 use std::rc::RcStr;
@@ -36,7 +40,8 @@ pub(crate) fn item_names(alloc: Global, items: &[Output]) -> Result<Vec<RcStr>, 
 
 /// The places of items, where each is a plain column.
 pub(crate) fn item_places(alloc: Global, items: &[Output]) -> Result<Option<Vec<usize>>, AllocError>
-    ensures { IfOk result (λ found. IfSome found (λ places. map (λ o. o.value) (map output_plan items.now) ≡ map At places.items)) }
+    ensures places { IfOk result (λ found. IfSome found (λ places. map (λ o. o.value) (map output_plan items.now) ≡ map At places.items)) }
+    ensures found { IfOk result (λ found. is_some found ≡ list_all (λ o. is_some (plain_place (out-Expr o.value))) items.now) }
 {
     let mut places = Vec::with_capacity(alloc, items.len())?;
     for item in items {

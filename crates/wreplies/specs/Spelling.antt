@@ -87,6 +87,13 @@ query_text queries.OutOfRange = codes "refused Q40\n"
 query_text queries.TooManyRows = codes "refused Q41\n"
 query_text queries.NoMemory = no_memory
 
+-- a fault of a segment that is told with the number of a row
+abbrev pub has_row : SegmentFault → Bool
+has_row (segments.RowNotUtf8 row) = true
+has_row (segments.RowLength row) = true
+has_row (segments.NotInteger row) = true
+has_row _ = false
+
 -- a fault of a query that is told with a number
 abbrev pub has_number : AskFault → Bool
 has_number (queries.At place) = true

@@ -1,6 +1,6 @@
 //! Refusals of segments, exchange files and queries.
-ghost use Rattle.std.specs.Prelude.{◌≡◌, ◌≢◌, ◌++◌, IfOk, OnErr, OnOk, true};
-ghost use Rattle.wreplies.specs.Spelling.{at_number, file_text, has_number, query_text, segment_text, segment_words};
+ghost use Rattle.std.specs.Prelude.{◌≡◌, IfOk, OnErr, true};
+ghost use Rattle.wreplies.specs.Spelling.{at_number, file_text, has_number, has_row, query_text, segment_text};
 ghost use Rattle.wreplies.specs.Texts.{bytes_of};
 
 use crate::text::{Text, push_at};
@@ -18,49 +18,54 @@ fn refused_at(alloc: Global, words: &[u8], number: u64) -> Result<Text, AllocErr
     Ok(Text::Made(text))
 }
 
-// Adds the fault of a segment.
-fn push_segment_fault(text: &mut Vec<u8>, fault: SegmentFault) -> Result<(), AllocError>
-    ensures { OnOk result (text.new.items ≡ text.old.items ++ segment_words fault) }
-{
-    match fault {
-        SegmentFault::TooLong => text.extend_from_slice(b"S1\n"),
-        SegmentFault::NoHeader => text.extend_from_slice(b"S2\n"),
-        SegmentFault::HeaderNotUtf8 => text.extend_from_slice(b"S3\n"),
-        SegmentFault::RowNotUtf8 { row } => push_at(text, b"S3 row ", u64::from(row)),
-        SegmentFault::UnknownColumn => text.extend_from_slice(b"S4\n"),
-        SegmentFault::RepeatedColumn => text.extend_from_slice(b"S5\n"),
-        SegmentFault::MissingColumn => text.extend_from_slice(b"S6\n"),
-        SegmentFault::RowLength { row } => push_at(text, b"S7 row ", u64::from(row)),
-        SegmentFault::NotInteger { row } => push_at(text, b"S8 row ", u64::from(row)),
-        SegmentFault::TooManyRows => text.extend_from_slice(b"S9\n"),
-        SegmentFault::NoMemory => Ok(()),
-    }
-}
-
-// A refusal that ends in the fault of a segment.
-fn refused_with(alloc: Global, words: &[u8], fault: SegmentFault) -> Result<Text, AllocError>
-    ensures { IfOk result (λ text. bytes_of text ≡ words.now ++ segment_words fault) }
-{
-    let mut text = Vec::from_slice(alloc, words)?;
-    push_segment_fault(&mut text, fault)?;
-    Ok(Text::Made(text))
-}
-
-/// The refusal of a segment. `AllocError`: a growth was refused, which want of memory itself does not ask for.
+/// The refusal of a segment. `AllocError`: a growth was refused, which a refusal with the number of a row alone asks for.
 pub fn refused_segment(alloc: Global, fault: SegmentFault) -> Result<Text, AllocError>
     ensures text { IfOk result (λ text. bytes_of text ≡ segment_text fault) }
-    ensures lacks { OnErr result (fault ≢ SegmentFault.NoMemory) }
+    ensures lacks { OnErr result (has_row fault ≡ true) }
 {
     match fault {
+        SegmentFault::TooLong => Ok(Text::Fixed(b"refused S1\n")),
+        SegmentFault::NoHeader => Ok(Text::Fixed(b"refused S2\n")),
+        SegmentFault::HeaderNotUtf8 => Ok(Text::Fixed(b"refused S3\n")),
+        SegmentFault::RowNotUtf8 { row } => refused_at(alloc, b"refused S3 row ", u64::from(row)),
+        SegmentFault::UnknownColumn => Ok(Text::Fixed(b"refused S4\n")),
+        SegmentFault::RepeatedColumn => Ok(Text::Fixed(b"refused S5\n")),
+        SegmentFault::MissingColumn => Ok(Text::Fixed(b"refused S6\n")),
+        SegmentFault::RowLength { row } => refused_at(alloc, b"refused S7 row ", u64::from(row)),
+        SegmentFault::NotInteger { row } => refused_at(alloc, b"refused S8 row ", u64::from(row)),
+        SegmentFault::TooManyRows => Ok(Text::Fixed(b"refused S9\n")),
         SegmentFault::NoMemory => Ok(Text::Fixed(b"no memory\n")),
-        _ => refused_with(alloc, b"refused ", fault),
     }
 }
 
-/// The refusal of an exchange file. `AllocError`: a growth was refused, which the refusal of a segment alone asks for.
+// The refusal of an exchange file in which a segment is refused.
+fn refused_segment_of_file(alloc: Global, fault: SegmentFault) -> Result<Text, AllocError>
+    ensures text { IfOk result (λ text. bytes_of text ≡ file_text (FileFault.Segment fault)) }
+    ensures lacks { OnErr result (has_row fault ≡ true) }
+{
+    match fault {
+        SegmentFault::TooLong => Ok(Text::Fixed(b"refused X6 S1\n")),
+        SegmentFault::NoHeader => Ok(Text::Fixed(b"refused X6 S2\n")),
+        SegmentFault::HeaderNotUtf8 => Ok(Text::Fixed(b"refused X6 S3\n")),
+        SegmentFault::RowNotUtf8 { row } => {
+            refused_at(alloc, b"refused X6 S3 row ", u64::from(row))
+        }
+        SegmentFault::UnknownColumn => Ok(Text::Fixed(b"refused X6 S4\n")),
+        SegmentFault::RepeatedColumn => Ok(Text::Fixed(b"refused X6 S5\n")),
+        SegmentFault::MissingColumn => Ok(Text::Fixed(b"refused X6 S6\n")),
+        SegmentFault::RowLength { row } => refused_at(alloc, b"refused X6 S7 row ", u64::from(row)),
+        SegmentFault::NotInteger { row } => {
+            refused_at(alloc, b"refused X6 S8 row ", u64::from(row))
+        }
+        SegmentFault::TooManyRows => Ok(Text::Fixed(b"refused X6 S9\n")),
+        SegmentFault::NoMemory => Ok(Text::Fixed(b"refused X6 ")),
+    }
+}
+
+/// The refusal of an exchange file. `AllocError`: a growth was refused, which the number of a segment's row alone asks for.
 pub fn refused_file(alloc: Global, fault: FileFault) -> Result<Text, AllocError>
     ensures text { IfOk result (λ text. bytes_of text ≡ file_text fault) }
-    ensures lacks { OnErr result ((refused : SegmentFault) × (fault ≡ FileFault.Segment refused)) }
+    ensures lacks { OnErr result ((refused : SegmentFault) × (fault ≡ FileFault.Segment refused) × (has_row refused ≡ true)) }
 {
     match fault {
         FileFault::OtherFormat => Ok(Text::Fixed(b"refused X1\n")),
@@ -68,7 +73,7 @@ pub fn refused_file(alloc: Global, fault: FileFault) -> Result<Text, AllocError>
         FileFault::NotRising => Ok(Text::Fixed(b"refused X3\n")),
         FileFault::OtherCount => Ok(Text::Fixed(b"refused X4\n")),
         FileFault::OtherSchema => Ok(Text::Fixed(b"refused X5\n")),
-        FileFault::Segment(refused) => refused_with(alloc, b"refused X6 ", refused),
+        FileFault::Segment(refused) => refused_segment_of_file(alloc, refused),
         FileFault::Trailing => Ok(Text::Fixed(b"refused X7\n")),
         FileFault::OtherDigest => Ok(Text::Fixed(b"refused X8\n")),
         FileFault::NoMemory => Ok(Text::Fixed(b"no memory\n")),

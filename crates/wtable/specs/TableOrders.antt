@@ -6,6 +6,8 @@ use Rattle.wvalues.specs.declared.key.SortKey.{SortKey}
 use Rattle.wvalues.specs.Meaning.{Meaning}
 use Rattle.wplan.specs.declared.expr.Expr.{out-Expr}
 use Rattle.wplan.specs.declared.resolved.ResolvedKey.{ResolvedKey}
+use Rattle.wplan.specs.declared.resolved.ResolvedWindow.{ResolvedWindow}
+use Rattle.wshare.specs.Sameness.{is_same_order}
 use Rattle.wplan.specs.Formula.{At, Formula}
 use Rattle.wplan.specs.Plans.{KeyPlan, WindowPlan, window_plan}
 use Rattle.wrows.specs.declared.fault.AnswerFault.{AnswerFault}
@@ -84,6 +86,14 @@ DifferKept segments plan = (holds : Row → Bool) → KeysDiffer (filter holds (
 pub record IsTableOrder (segments : List (List Row)) (t : TableOrder) : Type 0 where
   pub order : IsOrderFor segments (by_window (window_plan t.window.now)) t.rows.items
   pub differ : t.differ ≡ true → DifferKept segments (window_plan t.window.now)
+
+-- an order of the table's rows that is also that of a window
+abbrev pub shares : ResolvedWindow → TableOrder → Bool
+shares window t = is_same_order t.window.now window
+
+-- a presorted order that is also that of a window
+abbrev pub presorts : ResolvedWindow → PresortedOrder → Bool
+presorts window t = is_same_order t.window.now window
 
 -- orders of the table's rows that a SELECT asks for
 pub record AreTableOrders (segments : List (List Row)) (plans : List KeyPlan) (t : TableOrders) : Type 0 where

@@ -1,6 +1,8 @@
 //! Orders of the table's rows by columns, from the runs that its segments keep.
-ghost use Rattle.std.specs.Prelude.{◌≡◌, ◌<◌, ◌==◌, ◌&&◌, ◌||◌, true, ◌≢◌, [], All, None, IfNone, IfOk, IfSome, List, Ok, OnOk};
+ghost use Rattle.std.specs.Prelude.{◌≡◌, ◌<◌, ◌≤◌, ◌+◌, ◌==◌, ◌&&◌, ◌||◌, true, false, if◌then◌else◌, ◌≢◌, [], All, None};
+ghost use Rattle.std.specs.Prelude.{IfNone, IfOk, IfSome, List, Ok, OnOk};
 ghost use Rattle.std.specs.Prelude.{length, map, nat_le, not};
+ghost use Rattle.std.specs.List.{list_any};
 ghost use Rattle.std.specs.Option.{is_some};
 ghost use Rattle.wvalues.specs.Meaning.{Meaning};
 ghost use Rattle.wplan.specs.Formula.{At, formula};
@@ -13,7 +15,7 @@ ghost use Rattle.wruns.specs.Runs.{joined};
 ghost use Rattle.wset.specs.Running.{live_rows};
 ghost use Rattle.wset.specs.Sets.{Becomes};
 ghost use Rattle.wtable.specs.TableOrders.{AreColumns, AreTableOrders, AreWindowKeys, IsOrderFor, IsTableOrder, by_keys};
-ghost use Rattle.wtable.specs.TableOrders.{IsColumnKey, direction, is_within};
+ghost use Rattle.wtable.specs.TableOrders.{IsColumnKey, direction, is_within, shares};
 ghost use Rattle.wplan.specs.declared.expr.Expr.{out-Expr};
 ghost use Rattle.wrows.specs.PlainColumns.{plain_place};
 ghost use Rattle.wtable.specs.Few.{asks_for_order, asks_for_orders as are_orders_asked};
@@ -162,7 +164,9 @@ fn window_columns(
 }
 
 // Whether one of some orders is also that of a window, or they are as many as are taken from runs.
-fn is_served(orders: &[TableOrder], window: &ResolvedWindow) -> bool {
+fn is_served(orders: &[TableOrder], window: &ResolvedWindow) -> bool
+    ensures { result ≡ (nat_le 4 (length orders.now) || list_any (shares window.now) orders.now) }
+{
     if orders.len() >= MOST_ORDERS {
         return true;
     }
@@ -218,6 +222,7 @@ fn add_order<'a>(
 ) -> Result<(), AllocError>
     requires { All (IsTableOrder (live_rows set.old)) orders.old.items }
     ensures orders { OnOk result (All (IsTableOrder (live_rows set.old)) orders.new.items) }
+    ensures few { length orders.old.items ≤ 4 → OnOk result (length orders.new.items ≤ 4) }
     ensures same { Becomes set.old set.old.view set.new }
 {
     if is_served(orders, window) {
@@ -249,6 +254,7 @@ fn window_orders<'a>(
     set: &mut SegmentSet,
 ) -> Result<Vec<TableOrder<'a>>, AllocError>
     ensures orders { IfOk result (λ orders. All (IsTableOrder (live_rows set.old)) orders.items) }
+    ensures few { IfOk result (λ orders. length orders.items ≤ 4) }
     ensures same { Becomes set.old set.old.view set.new }
 {
     let width = set.schema().columns().len();
@@ -301,6 +307,9 @@ fn key_order(
 ) -> Result<Option<Vec<RowRef>>, AllocError>
     ensures order { IfOk result (λ found. IfSome found (λ refs. (columns : List (List Meaning))
         → IsOrderFor (live_rows set.old) (by_keys (select_plan select.now).keys columns) refs.items)) }
+    ensures found { IfOk result (λ found. asks_for_order select.now ≡ true → taken < 4
+        → All (IsColumnKey (length set.old.schema.columns)) select.now.keys.items → is_some found ≡ true) }
+    ensures few { 4 ≤ taken → IfOk result (λ found. found ≡ None) }
     ensures same { Becomes set.old set.old.view set.new }
 {
     if is_left_out(select, taken) {
@@ -318,16 +327,22 @@ fn key_order(
 
 /// The table's rows in the orders that a SELECT over it asks for, where these are by columns and the rows are not grouped: in
 /// four of them at most, those of its windows first. They come from the runs that the segments keep; runs that are missing are
-/// made, and nothing else of the set changes. The one error is that memory was refused.
+/// made, and orders that are merged of them are kept. Of a SELECT that asks for none the set stays as it is. The one error is that
+/// memory was refused.
 pub fn table_orders<'a>(
     alloc: Global,
     select: &'a Selection,
     set: &mut SegmentSet,
 ) -> Result<TableOrders<'a>, AllocError>
     ensures orders { IfOk result (AreTableOrders (live_rows set.old) (select_plan select.entry.now).keys) }
+    ensures few { IfOk result (λ t. length t.windows.items + (if is_some t.keys then 1 else 0) ≤ 4) }
+    ensures keys { IfOk result (λ t. select.entry.now.grouping ≡ None → asks_for_order select.entry.now ≡ true
+        → length t.windows.items < 4 → All (IsColumnKey (length set.old.schema.columns)) select.entry.now.keys.items
+        → is_some t.keys ≡ true) }
+    ensures idle { are_orders_asked select.entry.now ≡ false → set.new ≡ set.old }
     ensures same { Becomes set.old set.old.view set.new }
 {
-    if select.grouping.is_some() {
+    if !asks_for_orders(select) {
         return Ok(TableOrders::none(alloc));
     }
     let windows = window_orders(alloc, &select.windows, set)?;

@@ -1,13 +1,15 @@
 //! Orders of the kept rows that orders of all rows of the table give.
-ghost use Rattle.std.specs.Prelude.{◌≡◌, ◌<◌, ◌+◌, [], All, IfNone, IfOk, IfSome, List, None, Ok, Option, length};
+ghost use Rattle.std.specs.Prelude.{◌≡◌, ◌<◌, ℕ, [], All, IfNone, IfOk, IfSome, List, None, Ok, Option, length};
 ghost use Rattle.std.specs.Prelude.{option_map, slice_index_or};
+ghost use Rattle.std.specs.List.{list_any, remove};
+ghost use Rattle.std.specs.Option.{is_some};
 ghost use Rattle.wplan.specs.Formula.{Formula};
 ghost use Rattle.wplan.specs.Plans.{KeyPlan, window_plan};
 ghost use Rattle.wrows.specs.Columns.{Row};
 ghost use Rattle.wrows.specs.Laid.{rows_seen};
 ghost use Rattle.wcalls.specs.PresortedRows.{IsPresorted};
 ghost use Rattle.wtable.specs.TableOrders.{AreTableOrders, ArePresorted, ArePresortedOf, IsNumbered};
-ghost use Rattle.wtable.specs.TableOrders.{IsTableOrder, IsPresortedOf, presorted_numbers};
+ghost use Rattle.wtable.specs.TableOrders.{IsTableOrder, IsPresortedOf, presorted_numbers, presorts};
 
 use crate::numbered_rows::{NumberedRows, presorted_numbers};
 use crate::orders::{TableOrder, TableOrders};
@@ -72,9 +74,10 @@ fn presorted_windows<'a>(
     orders: Vec<TableOrder<'a>>,
     kept: &NumberedRows,
 ) -> Result<Vec<PresortedOrder<'a>>, AllocError>
-    ensures { (condition : Option Formula) (segments : List (List Row)) → IsNumbered condition segments kept.now
+    ensures orders { (condition : Option Formula) (segments : List (List Row)) → IsNumbered condition segments kept.now
         → All (IsTableOrder segments) orders.entry.items
         → IfOk result (λ presorted. ArePresortedOf (rows_seen kept.now.rows.items) presorted.items) }
+    ensures each { IfOk result (λ presorted. length presorted.items ≡ length orders.entry.items) }
 {
     let mut left = orders;
     let mut presorted = Vec::with_capacity(alloc, left.len())?;
@@ -102,16 +105,19 @@ fn presorted_keys(
     }
 }
 
-/// The numbers of the kept rows in orders of all rows, which are let go one after another. The one error is that memory was
+/// The numbers of the kept rows in each of some orders of all rows, which are let go one after another. The one error is that memory was
 /// refused.
 pub fn presorted_orders<'a>(
     alloc: Global,
     orders: TableOrders<'a>,
     kept: &NumberedRows,
 ) -> Result<PresortedOrders<'a>, AllocError>
-    ensures { (condition : Option Formula) (segments : List (List Row)) (keys : List KeyPlan)
+    ensures orders { (condition : Option Formula) (segments : List (List Row)) (keys : List KeyPlan)
         → IsNumbered condition segments kept.now → AreTableOrders segments keys orders.entry
         → IfOk result (ArePresorted (rows_seen kept.now.rows.items) keys) }
+    ensures windows { IfOk result (λ t. length t.windows.items ≡ length orders.entry.windows.items) }
+    ensures keys { IfOk result (λ t. option_map (λ numbers. numbers.items) t.keys
+        ≡ option_map (λ rows. presorted_numbers kept.now rows.items) orders.entry.keys) }
 {
     let TableOrders { windows, keys } = orders;
     let windows = presorted_windows(alloc, windows, kept)?;
@@ -122,6 +128,7 @@ pub fn presorted_orders<'a>(
 // The place of an order that is also that of a window.
 #[tactic(auto, using(crate::proofs::DifferFacts::presorted_for))]
 fn place_presorted(presorted: &[PresortedOrder], window: &ResolvedWindow) -> Option<usize>
+    ensures found { is_some result ≡ list_any (presorts window.now) presorted.now }
     ensures place { IfSome result (λ place. place < length presorted.now) }
     ensures order { (rows : List Row) → ArePresortedOf rows presorted.now → IfSome result (λ place. (d : PresortedOrder)
         → IsPresorted rows (window_plan window.now) (slice_index_or presorted.now place d).presorted) }
@@ -140,11 +147,13 @@ pub fn take_presorted(
     presorted: &mut Vec<PresortedOrder>,
     window: &ResolvedWindow,
 ) -> Option<Presorted>
+    ensures found { is_some result ≡ list_any (presorts window.now) presorted.old.items }
     ensures order { (rows : List Row) → ArePresortedOf rows presorted.old.items
         → IfSome result (IsPresorted rows (window_plan window.now)) }
     ensures others { (rows : List Row) → ArePresortedOf rows presorted.old.items → ArePresortedOf rows presorted.new.items }
     ensures none { IfNone result (presorted.new ≡ presorted.old) }
-    ensures one { IfSome result (λ _. length presorted.new.items + 1 ≡ length presorted.old.items) }
+    ensures one { IfSome result (λ _. (place : ℕ) × (place < length presorted.old.items)
+        × (presorted.new.items ≡ remove presorted.old.items place)) }
 {
     let Some(place) = place_presorted(presorted.as_slice(), window) else {
         return None;

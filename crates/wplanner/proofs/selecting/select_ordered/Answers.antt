@@ -9,5 +9,5 @@ pub kept_items-requires-clause-presorted : goal.kept_items-requires-clause-preso
 kept_items-requires-clause-presorted c =
     let plans = map key_plan c.args.select.now.keys.items in
     subst (λ l. ArePresorted (rows_seen l) plans c.in_ok-presorted.presorted) (sym c.deref.ensures.value)
-    (c.in_ok-presorted.ensures (optional_formula c.args.select.now.condition) (live_rows c.args.set.now) plans
+    (c.in_ok-presorted.ensures.orders (optional_formula c.args.select.now.condition) (live_rows c.args.set.now) plans
     c.in_ok-kept.ensures.numbered c.requires.orders)

@@ -12,5 +12,6 @@ pub loop-window-preserved : goal.loop-window-preserved
 loop-window-preserved c = record {
   orders = subst (λ segments. All (IsTableOrder segments) c.add_order.new.orders.items)
       (live_same c.args.set.now c.loop-window.set c.loop-window.invariant.same) c.in_default.ensures.orders;
+  few = c.in_default.ensures.few c.loop-window.invariant.few;
   same = same_then c.args.set.now c.loop-window.set c.add_order.new.set c.loop-window.invariant.same c.in_default.ensures.same;
 }

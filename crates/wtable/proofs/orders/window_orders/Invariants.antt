@@ -1,3 +1,4 @@
+use Rattle.std.proofs.Common.{◌≤◌, length}
 use Rattle.std.specs.Prelude.{All}
 use Rattle.wset.specs.Running.{live_rows}
 use Rattle.wset.specs.Sets.{Becomes}
@@ -7,5 +8,6 @@ use Rattle.wtable.proofs.orders.window_orders.Given as goal
 abbrev pub invariant-loop-window : goal.invariant-loop-window
 invariant-loop-window l = record {
   orders : All (IsTableOrder (live_rows l.fn.set)) l.orders.items;
+  few : length l.orders.items ≤ 4;
   same : Becomes l.fn.set l.fn.set.view l.set;
 }

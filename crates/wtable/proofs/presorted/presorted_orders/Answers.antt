@@ -21,11 +21,11 @@ keys_of segments plans rows f (Some n) None presorted e h = absurd (cc)
 keys_of segments plans rows f (Some n) (Some r) presorted e h = λ columns. let same : n.items ≡ f r.items = cc in
     presorted (by_keys plans columns) r.items (h columns) ∙ ap Ok (sym same)
 
-pub returns : goal.returns
-returns c = λ condition segments plans is are.
+pub returns-clause-orders : goal.returns-clause-orders
+returns-clause-orders c = λ condition segments plans is are.
     let kept = c.args.kept.now in
     record {
-      windows = c.in_ok-windows.ensures condition segments is are.windows;
+      windows = c.in_ok-windows.ensures.orders condition segments is are.windows;
       keys = keys_of segments plans (rows_seen kept.rows.items) (presorted_numbers kept) c.in_ok-keys.keys
           c.args.orders.keys (order_presorted condition segments kept is) c.in_ok-keys.ensures are.keys;
     }
