@@ -120,8 +120,8 @@ impl Inbox {
         }
     }
 
-    /// Adds a piece of the stream at the end. Where the stream was found bad or memory runs out, nothing that is held
-    /// changes.
+    /// Adds a piece of the stream at the end. Where the stream was found bad, the inbox stays as it is; where memory runs out, what
+    /// it holds does. Else nothing was handed out since.
     pub fn push(&mut self, piece: &[u8]) -> Result<(), PushFault>
         ensures ok { OnOk result (self.new.held ≡ self.old.held ++ piece.now) }
         ensures good { OnOk result (self.old.is_bad ≡ false) }
@@ -129,6 +129,8 @@ impl Inbox {
         ensures bad { result ≡ Err PushFault.Bad → self.old.is_bad ≡ true }
         ensures stays_bad { self.old.is_bad ≡ true → result ≡ Err PushFault.Bad }
         ensures err { OnErr result (self.new.held ≡ self.old.held) }
+        ensures kept { self.old.is_bad ≡ true → self.new ≡ self.old }
+        ensures handed { self.old.is_bad ≡ false → self.new.handed ≡ Some None }
     {
         if self.is_bad {
             return Err(PushFault::Bad);

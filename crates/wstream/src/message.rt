@@ -20,7 +20,7 @@ pub enum Message<'a> {
 #[error("the stream is bad")]
 pub struct BadStream;
 
-/// Why an inbox does not take a piece. It is then as it was.
+/// Why an inbox does not take a piece. What it holds is then as it was.
 #[derive(Clone, Copy, Debug, PartialEq, Eq, Error)]
 pub enum PushFault {
     /// B1: the stream was found bad.
