@@ -10,5 +10,5 @@ answer_text-requires c = record {
       (plans c.in-Ok.resolved) c.in-Ok.ensures;
 }
 
-pub returns-in-Ok-clause-unread : goal.returns-in-Ok-clause-unread
-returns-in-Ok-clause-unread c = refused_on_rows c.answer_text.result _ _ _ c.answer_text.ensures.answer
+pub returns-in_ok-make-in-Ok-clause-unread : goal.returns-in_ok-make-in-Ok-clause-unread
+returns-in_ok-make-in-Ok-clause-unread c = refused_on_rows c.answer_text.result _ _ _ c.answer_text.ensures.answer
