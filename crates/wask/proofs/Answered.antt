@@ -8,7 +8,7 @@ use Rattle.wplanner.specs.declared.fault.AskFault.{AskFault}
 use Rattle.wplanner.specs.declared.fault.AskFault.TheVariants as faults
 use Rattle.wask.specs.Texts.{IsRefused, IsUnread, Reads}
 use Rattle.wask.specs.Answer.{IsAnswer, comes_before_rows, query_answer}
-use Rattle.wplanner.specs.Faults.{unanswered}
+use Rattle.wplanner.specs.Faults as rows
 use Rattle.wplanner.specs.Parts.{TableParts}
 use Rattle.wplanner.specs.Texts.{printed}
 use Rattle.wrows.specs.declared.fault.AnswerFault.{AnswerFault}
@@ -59,6 +59,10 @@ pub answered_by : {A : Type 0} (d : Declaration) (v : View) (text : List ℕ) (q
 answered_by d v text q items (Ok a) reads told = (q, reads, told)
 answered_by d v text q items (Err fault) reads told = unanswered d v text q fault reads told
 
+abbrev fault_in : Result (List ℕ) AskFault → AskFault
+fault_in (Ok bytes) = faults.NoMemory
+fault_in (Err fault) = fault
+
 -- what is answered on rows is no refusal of the text
 pub refused_on_rows : {A : Type 0} (r : Result A AskFault) (P : A → Type 0) (Q : Type 0) (meant : Result TableParts AnswerFault)
     → MatchResult r P (λ fault. (fault ≡ faults.NoMemory) ⊎ (printed meant ≡ Err fault))
@@ -69,12 +73,9 @@ refused_on_rows (Err faults.OutOfRange) P Q meant is = λ before. absurd (false�
 refused_on_rows (Err faults.TooManyRows) P Q meant is = λ before. absurd (false≢true before)
 refused_on_rows (Err f) P Q meant (inl e) = λ before. absurd (false≢true (ap comes_before_rows (sym e) ∙ before))
 refused_on_rows (Err f) P Q (Ok table) (inr e) = λ before. absurd (cc)
-refused_on_rows (Err f) P Q (Err g) (inr e) = λ before. absurd (false≢true (sym (behind g) ∙ ap comes_before_rows (same e) ∙ before))
+refused_on_rows (Err f) P Q (Err g) (inr e) = λ before. absurd (false≢true (sym (behind g) ∙ ap comes_before_rows (ap fault_in e) ∙ before))
   where
-    behind : (g : AnswerFault) → comes_before_rows (unanswered g) ≡ false
+    behind : (g : AnswerFault) → comes_before_rows (rows.unanswered g) ≡ false
     behind answers.OutOfRange = refl
     behind answers.TooManyRows = refl
     behind answers.NoMemory = refl
-
-    same : Err (unanswered g) ≡ Err f → unanswered g ≡ f
-    same e = cc
