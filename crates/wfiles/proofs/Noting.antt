@@ -1,7 +1,7 @@
 -- What is noted while a file is read.
 use Rattle.std.proofs.Common.{◌≡◌, ◌≢◌, inr, refl, ap, ◌∙◌, ℕ, zero, suc, arith, ◌≤◌, List}
 use Rattle.std.proofs.Common.{[], ◌∷◌, ◌++◌, length, take, Some, append_assoc, append-nil}
-use Rattle.wfolder.specs.Call.{Call, Locked, Found, Created, Permitted, Wrote, Synced, Moved, SyncedFolder, Removed, Began}
+use Rattle.wfolder.specs.Call.{Call, Locked, Found, Listed, Created, Permitted, Wrote, Synced, Moved, SyncedFolder, Removed, Began}
 use Rattle.wfiles.specs.Noting.{read_on}
 use Rattle.wfiles.specs.Reading.{MayBegin, ReadsMore, read_more, read_to_end}
 
@@ -11,8 +11,9 @@ reads_none [] = refl
 reads_none (Began name bytes ∷ cs) = ap (λ bs. Began name bs ∷ cs) (append-nil bytes)
 reads_none (Locked done ∷ cs) = refl
 reads_none (Found name held ∷ cs) = refl
-reads_none (Created name done ∷ cs) = refl
-reads_none (Permitted name done ∷ cs) = refl
+reads_none (Listed folder names ∷ cs) = refl
+reads_none (Created name closed done ∷ cs) = refl
+reads_none (Permitted name rights done ∷ cs) = refl
 reads_none (Wrote name bytes done ∷ cs) = refl
 reads_none (Synced name done ∷ cs) = refl
 reads_none (Moved from to done ∷ cs) = refl
@@ -26,8 +27,9 @@ goes_on bytes b block [] = refl
 goes_on bytes b block (Began name before ∷ cs) = ap (λ bs. Began name bs ∷ cs) (append_assoc before bytes (b ∷ block))
 goes_on bytes b block (Locked done ∷ cs) = refl
 goes_on bytes b block (Found name held ∷ cs) = refl
-goes_on bytes b block (Created name done ∷ cs) = refl
-goes_on bytes b block (Permitted name done ∷ cs) = refl
+goes_on bytes b block (Listed folder names ∷ cs) = refl
+goes_on bytes b block (Created name closed done ∷ cs) = refl
+goes_on bytes b block (Permitted name rights done ∷ cs) = refl
 goes_on bytes b block (Wrote name written done ∷ cs) = refl
 goes_on bytes b block (Synced name done ∷ cs) = refl
 goes_on bytes b block (Moved from to done ∷ cs) = refl
@@ -40,8 +42,9 @@ stops [] = refl
 stops (Began name bytes ∷ cs) = refl
 stops (Locked done ∷ cs) = refl
 stops (Found name held ∷ cs) = refl
-stops (Created name done ∷ cs) = refl
-stops (Permitted name done ∷ cs) = refl
+stops (Listed folder names ∷ cs) = refl
+stops (Created name closed done ∷ cs) = refl
+stops (Permitted name rights done ∷ cs) = refl
 stops (Wrote name written done ∷ cs) = refl
 stops (Synced name done ∷ cs) = refl
 stops (Moved from to done ∷ cs) = refl

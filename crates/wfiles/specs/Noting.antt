@@ -1,19 +1,20 @@
 -- What is noted of calls.
-use Rattle.std.specs.Prelude.{ℕ, Bool, List, [], ◌∷◌, ◌++◌, ◌==◌, cond, if◌then◌else◌, None, Some, slice_index}
-use Rattle.wfolder.specs.Call.{Call, Locked, Found, Created, Permitted, Wrote, Synced, Moved, SyncedFolder, Removed, Began}
+use Rattle.std.specs.Prelude.{ℕ, Bool, List, [], ◌∷◌, ◌++◌, ◌==◌, true, false, cond, if◌then◌else◌, None, Some, slice_index}
+use Rattle.wfolder.specs.Call.{Call, Rights, Locked, Found, Listed, Created, Permitted, Wrote, Synced, Moved, SyncedFolder, Removed, Began}
 
 -- a call as it is noted: its number, and 1 where it was done
 abbrev pub call_of : ℕ → Bool → List ℕ → List ℕ → Call
 call_of n done name bytes =
     if n == 0 then Locked done
     else if n == 1 then Found name (cond done (Some bytes) None)
-    else if n == 2 then Created name done
-    else if n == 3 then Permitted name done
+    else if n == 2 then Created name false done
+    else if n == 3 then Created name true done
     else if n == 4 then Wrote name bytes done
     else if n == 5 then Synced name done
     else if n == 6 then Moved name bytes done
     else if n == 7 then SyncedFolder done
     else if n == 8 then Removed name done
+    else if n == 10 then Listed name (cond done (Some []) None)
     else Began name bytes
 
 -- a read of the file that the newest call began to read gave these bytes, none at its end
@@ -22,7 +23,19 @@ read_on [] (Began name bytes ∷ cs) = Found name (Some bytes) ∷ cs
 read_on (b ∷ bs) (Began name bytes ∷ cs) = Began name (bytes ++ b ∷ bs) ∷ cs
 read_on block cs = cs
 
--- the calls with what is noted: a call, or by the third number what a read gave
+-- the newest call listed this name too
+abbrev pub name_on : List ℕ → List Call → List Call
+name_on name (Listed folder (Some names) ∷ cs) = Listed folder (Some (names ++ name ∷ [])) ∷ cs
+name_on name cs = cs
+
+-- an owner, a group and a mode, behind three other numbers
+abbrev pub rights_in : List ℕ → Rights
+rights_in numbers = record { owner = slice_index numbers 3; group = slice_index numbers 4; mode = slice_index numbers 5 }
+
+-- the calls with what is noted: by the third number what a read gave, a name that was listed, that an access was given, or another call
 abbrev pub noted : List ℕ → List ℕ → List ℕ → List Call → List Call
-noted numbers name bytes cs = if slice_index numbers 2 == 1 then read_on bytes cs else call_of (slice_index numbers 0)
-    (slice_index numbers 1 == 1) name bytes ∷ cs
+noted numbers name bytes cs =
+    if slice_index numbers 2 == 1 then read_on bytes cs
+    else if slice_index numbers 2 == 2 then name_on name cs
+    else if slice_index numbers 2 == 3 then Permitted name (rights_in numbers) (slice_index numbers 1 == 1) ∷ cs
+    else call_of (slice_index numbers 0) (slice_index numbers 1 == 1) name bytes ∷ cs

@@ -1,5 +1,5 @@
 //! Files, read whole.
-ghost use Rattle.std.specs.Prelude.{◌≡◌, ◌∷◌, Some, IfOk, IfErr, OnOk, OnErr, option_map};
+ghost use Rattle.std.specs.Prelude.{◌≡◌, ◌≢◌, ◌∷◌, Some, IfOk, IfErr, OnOk, OnErr, option_map};
 ghost use Rattle.std.specs.Io.KnownBytes.{Consumes, IsAtEnd};
 ghost use Rattle.wfolder.specs.Call.{Found};
 ghost use Rattle.wfolder.specs.Calls.{HasCause, NothingFailed};
@@ -29,6 +29,7 @@ fn read_rest<R, T: Read>(
         bytes.items × IsAtEnd (T.remaining reading.new.reader)) }
     ensures noted { IfOk result (λ bytes. reading.new.calls ≡ read_to_end (read_more bytes.items reading.old.calls)) }
     ensures begun { OnErr result (ReadsMore reading.old.calls reading.new.calls) }
+    ensures kind { IfErr result (λ fault. fault ≢ Fault.Write) }
     ensures sound { OnOk result (NothingFailed system.new) }
     ensures cause { IfErr result (λ fault. HasCause fault system.new) }
 {
@@ -131,6 +132,7 @@ pub(crate) fn read_names<R: Files<File = File> + AllocGlobal>(
     path: &str,
 ) -> Result<Vec<String>, Fault>
     requires { NothingFailed system.old }
+    ensures kind { IfErr result (λ fault. fault ≢ Fault.Write) }
     ensures sound { OnOk result (NothingFailed system.new) }
     ensures cause { IfErr result (λ fault. HasCause fault system.new) }
 {

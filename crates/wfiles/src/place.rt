@@ -164,7 +164,7 @@ impl Place {
     ) -> Result<(), NotReplaced>
         requires sound { NothingFailed system.old }
         requires locked { IsLocked calls.old.calls }
-        ensures replaces { Replaces (place_path self.now) bytes.now result calls.old.calls calls.new.calls }
+        ensures replaces { Replaces (place_site self.now) bytes.now result calls.old.calls calls.new.calls }
         ensures sound { OnOk result (NothingFailed system.new) }
         ensures cause { IfErr result (λ fault. HasCause (fault_of fault) system.new) }
     {

@@ -1,5 +1,5 @@
 //! A file that is read in blocks. What was read of it is noted with each read.
-ghost use Rattle.std.specs.Prelude.{◌≡◌, ◌+◌, ◌<◌, ◌≤◌, ◌∷◌, [], None, length, IfOk, IfErr, IfNone, IfSome, OnOk, OnErr};
+ghost use Rattle.std.specs.Prelude.{◌≡◌, ◌≢◌, ◌+◌, ◌<◌, ◌≤◌, ◌∷◌, [], None, length, IfOk, IfErr, IfNone, IfSome, OnOk, OnErr};
 ghost use Rattle.wfolder.specs.Call.{Began, Found};
 ghost use Rattle.wfolder.specs.Calls.{HasCause, NothingFailed};
 ghost use Rattle.wfiles.specs.Reading.{GivesBytes, NotesBytes};
@@ -63,6 +63,7 @@ impl<T: Read> Reading<T> {
         ensures noted { IfOk result (λ count. NotesBytes self.old.calls self.new.calls block.new count) }
         ensures unread { OnErr result (self.new.calls ≡ self.old.calls) }
         ensures reads { OnOk result (system.new.reads ≡ system.old.reads + 1) }
+        ensures kind { IfErr result (λ fault. fault ≢ Fault.Write) }
         ensures sound { OnOk result (NothingFailed system.new) }
         ensures cause { IfErr result (λ fault. HasCause fault system.new) }
     {

@@ -5,7 +5,7 @@ ghost use Rattle.wfiles.specs.Noting.{call_of};
 ghost use Rattle.wfolder.specs.Calls.{HasCause, NothingFailed};
 
 use crate::files::read_names;
-use crate::record::{CREATED, MOVED, PERMITTED, REMOVED, Record, SYNCED, SYNCED_FOLDER, WROTE};
+use crate::record::{LISTED, MOVED, REMOVED, Record, SYNCED, SYNCED_FOLDER, WROTE};
 use crate::system::System;
 use std::alloc::Global;
 use std::fs::File;
@@ -66,22 +66,31 @@ impl<R: Files<File = File> + AllocGlobal> Folder for RealFolder<'_, '_, R> {
     }
 
     fn names(&mut self, alloc: Global, folder: &str) -> Result<Vec<String>, Fault> {
-        read_names(alloc, &mut self.system, folder)
+        match read_names(alloc, &mut self.system, folder) {
+            Ok(names) => {
+                self.trace.note_names(folder.as_bytes(), names.as_slice());
+                Ok(names)
+            }
+            Err(fault) => {
+                self.note(LISTED, false, folder.as_bytes(), &[]);
+                Err(fault)
+            }
+        }
     }
 
     fn create_new(&mut self, path: &str, is_closed: bool) -> Result<bool, Fault> {
         match self.system.create_new(path, is_closed) {
             Ok(Some(file)) => {
                 self.made = Some(file);
-                self.note(CREATED, true, path.as_bytes(), &[]);
+                self.trace.note_create(true, path.as_bytes(), is_closed);
                 Ok(true)
             }
             Ok(None) => {
-                self.note(CREATED, false, path.as_bytes(), &[]);
+                self.trace.note_create(false, path.as_bytes(), is_closed);
                 Ok(false)
             }
             Err(fault) => {
-                self.note(CREATED, false, path.as_bytes(), &[]);
+                self.trace.note_create(false, path.as_bytes(), is_closed);
                 Err(fault)
             }
         }
@@ -92,7 +101,8 @@ impl<R: Files<File = File> + AllocGlobal> Folder for RealFolder<'_, '_, R> {
             Some(file) => self.system.permit(file, access),
             None => Err(self.system.misplaced()),
         };
-        self.note(PERMITTED, given.is_ok(), path.as_bytes(), &[]);
+        self.trace
+            .note_permit(given.is_ok(), path.as_bytes(), access);
         given
     }
 

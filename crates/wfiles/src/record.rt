@@ -1,18 +1,20 @@
 //! The calls that were made on files and folders, in a list that only clauses read.
-ghost use Rattle.std.specs.Prelude.{◌≡◌, List, [], ◌∷◌};
+ghost use Rattle.std.specs.Prelude.{◌≡◌, List, [], ◌∷◌, Some, map, string_bytes};
 ghost use Rattle.std.specs.Borrow.{ftrue};
-ghost use Rattle.wfolder.specs.Call.{Call};
+ghost use Rattle.wfolder.specs.Call.{Call, Created, Listed, Permitted, rights_of};
 ghost use Rattle.wfiles.specs.Noting.{call_of, noted, read_on};
 
 use std::marker::{Model, PhantomData};
+use std::os::unix::fs::PermissionsExt;
+use wfolder::Access;
 
 pub(crate) const LOCKED: u64 = 0;
 
 pub(crate) const FOUND: u64 = 1;
 
-pub(crate) const CREATED: u64 = 2;
+const CREATED: u64 = 2;
 
-pub(crate) const PERMITTED: u64 = 3;
+const CREATED_CLOSED: u64 = 3;
 
 pub(crate) const WROTE: u64 = 4;
 
@@ -25,6 +27,8 @@ pub(crate) const SYNCED_FOLDER: u64 = 7;
 pub(crate) const REMOVED: u64 = 8;
 
 pub(crate) const BEGAN: u64 = 9;
+
+pub(crate) const LISTED: u64 = 10;
 
 /// The calls that read files, and those on the folder of a store, the newest first. It takes no room: only clauses read it, and only
 /// this crate adds to it.
@@ -60,6 +64,38 @@ impl Record {
             self.note(&[number, 1, 0], path, bytes);
         } else {
             self.note(&[number, 0, 0], path, bytes);
+        }
+    }
+
+    /// Notes that a new file is made, for its owner alone or not, or is not made.
+    pub(crate) fn note_create(&mut self, is_made: bool, path: &[u8], is_closed: bool)
+        ensures { self.new.calls ≡ Created path.now is_closed is_made ∷ self.old.calls }
+    {
+        let number = if is_closed { CREATED_CLOSED } else { CREATED };
+        self.note_call(number, is_made, path, &[]);
+    }
+
+    /// Notes that the file of a path is given an access, or is not.
+    pub(crate) fn note_permit(&mut self, is_done: bool, path: &[u8], access: &Access)
+        ensures { self.new.calls ≡ Permitted path.now (rights_of access.now) is_done ∷ self.old.calls }
+    {
+        let owner = u64::from(access.owner);
+        let group = u64::from(access.group);
+        let mode = u64::from(access.permissions.mode());
+        if is_done {
+            self.note(&[0, 1, 3, owner, group, mode], path, &[]);
+        } else {
+            self.note(&[0, 0, 3, owner, group, mode], path, &[]);
+        }
+    }
+
+    /// Notes that these names of a folder's files were listed.
+    pub(crate) fn note_names(&mut self, folder: &[u8], names: &[String])
+        ensures { self.new.calls ≡ Listed folder.now (Some (map string_bytes names.now)) ∷ self.old.calls }
+    {
+        self.note_call(LISTED, true, folder, &[]);
+        'names: for name in names.iter() {
+            self.note(&[0, 0, 2], name.as_bytes(), &[]);
         }
     }
 

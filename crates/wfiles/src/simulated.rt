@@ -1,15 +1,14 @@
 //! A folder in memory whose machine stops at a call, for tests of what replaces files: each method makes the call that it notes on a
 //! disk in memory.
-ghost use Rattle.std.specs.Prelude.{◌≡◌, ◌∷◌, is_ok, IfErr, IfOk, OnOk};
+ghost use Rattle.std.specs.Prelude.{◌≡◌, ◌≢◌, ◌∷◌, is_ok, IfErr, IfOk, OnOk};
 ghost use Rattle.wfiles.specs.Noting.{call_of};
 ghost use Rattle.wfolder.specs.Calls.{HasCause, NothingFailed};
 ghost use Rattle.wfolder.specs.Model.{IsLocked};
 
-use crate::record::{
-    CREATED, LOCKED, MOVED, PERMITTED, REMOVED, Record, SYNCED, SYNCED_FOLDER, WROTE,
-};
+use crate::record::{LISTED, LOCKED, MOVED, REMOVED, Record, SYNCED, SYNCED_FOLDER, WROTE};
 use crate::system::System;
 use std::alloc::Global;
+use std::io::{self, ErrorKind};
 use wfolder::{Access, Disk, Fault, Folder};
 
 /// A folder whose machine stops at a call: that one and each later one is a fault, and does nothing.
@@ -52,19 +51,32 @@ impl<'a> Simulated<'a> {
         runs
     }
 
-    // Notes a call and answers it: one that is not done is a fault.
-    fn answer(&mut self, number: u64, is_done: bool, path: &[u8], bytes: &[u8]) -> Result<(), Fault>
+    // The answer to a call: one that is not done is a fault.
+    fn told(&mut self, is_done: bool) -> Result<(), Fault>
         requires { NothingFailed self.old.system }
-        ensures calls { self.new.trace.calls ≡ call_of number (is_ok result) path.now bytes.now ∷ self.old.trace.calls }
+        ensures done { is_ok result ≡ is_done }
+        ensures calls { self.new.trace.calls ≡ self.old.trace.calls }
+        ensures kind { IfErr result (λ fault. fault ≢ Fault.Read) }
         ensures sound { OnOk result (NothingFailed self.new.system) }
         ensures cause { IfErr result (λ fault. HasCause fault self.new.system) }
     {
-        self.trace.note_call(number, is_done, path, bytes);
         if is_done {
             Ok(())
         } else {
             Err(self.system.misplaced())
         }
+    }
+
+    // Notes a call and answers it.
+    fn answer(&mut self, number: u64, is_done: bool, path: &[u8], bytes: &[u8]) -> Result<(), Fault>
+        requires { NothingFailed self.old.system }
+        ensures calls { self.new.trace.calls ≡ call_of number (is_ok result) path.now bytes.now ∷ self.old.trace.calls }
+        ensures kind { IfErr result (λ fault. fault ≢ Fault.Read) }
+        ensures sound { OnOk result (NothingFailed self.new.system) }
+        ensures cause { IfErr result (λ fault. HasCause fault self.new.system) }
+    {
+        self.trace.note_call(number, is_done, path, bytes);
+        self.told(is_done)
     }
 }
 
@@ -83,25 +95,37 @@ impl Folder for Simulated<'_> {
 
     fn names(&mut self, alloc: Global, folder: &str) -> Result<Vec<String>, Fault> {
         if !self.runs() {
-            return Err(self.system.misplaced());
+            self.trace.note_call(LISTED, false, folder.as_bytes(), &[]);
+            let error = io::Error::from(ErrorKind::TimedOut);
+            return Err(self.system.read_failed(&error));
         }
-        self.system.grown(self.disk.names(alloc, folder))
+        match self.disk.names(alloc, folder) {
+            Ok(names) => {
+                self.trace.note_names(folder.as_bytes(), names.as_slice());
+                Ok(names)
+            }
+            Err(_) => {
+                self.trace.note_call(LISTED, false, folder.as_bytes(), &[]);
+                Err(self.system.refused())
+            }
+        }
     }
 
-    fn create_new(&mut self, path: &str, _is_closed: bool) -> Result<bool, Fault> {
+    fn create_new(&mut self, path: &str, is_closed: bool) -> Result<bool, Fault> {
         if !self.runs() {
-            self.trace.note_call(CREATED, false, path.as_bytes(), &[]);
+            self.trace.note_create(false, path.as_bytes(), is_closed);
             return Err(self.system.misplaced());
         }
         let made = self.disk.create(path);
         self.trace
-            .note_call(CREATED, made == Ok(true), path.as_bytes(), &[]);
+            .note_create(made == Ok(true), path.as_bytes(), is_closed);
         self.system.grown(made)
     }
 
-    fn permit(&mut self, path: &str, _access: &Access) -> Result<(), Fault> {
+    fn permit(&mut self, path: &str, access: &Access) -> Result<(), Fault> {
         let is_done = self.runs();
-        self.answer(PERMITTED, is_done, path.as_bytes(), &[])
+        self.trace.note_permit(is_done, path.as_bytes(), access);
+        self.told(is_done)
     }
 
     fn write(&mut self, path: &str, bytes: &[u8]) -> Result<(), Fault> {

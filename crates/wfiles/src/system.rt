@@ -167,11 +167,12 @@ impl<'a, R> System<'a, R> {
         }
     }
 
-    // The fault of a call that read.
-    fn read_failed(&mut self, error: &io::Error) -> Fault
+    /// The fault of a call that read.
+    pub(crate) fn read_failed(&mut self, error: &io::Error) -> Fault
         requires { NothingFailed self.old }
         ensures memory { error_kind error.now ≡ ErrorKind.OutOfMemory → result ≡ NoMemory }
         ensures other { error_kind error.now ≢ ErrorKind.OutOfMemory → result ≡ Fault.Read }
+        ensures kind { result ≢ Fault.Write }
         ensures cause { HasCause result self.new }
     {
         if is_out_of_memory(error) {
@@ -187,6 +188,7 @@ impl<'a, R> System<'a, R> {
         requires { NothingFailed self.old }
         ensures memory { error_kind error.now ≡ ErrorKind.OutOfMemory → result ≡ NoMemory }
         ensures other { error_kind error.now ≢ ErrorKind.OutOfMemory → result ≡ Fault.Write }
+        ensures kind { result ≢ Fault.Read }
         ensures cause { HasCause result self.new }
     {
         if is_out_of_memory(error) {
@@ -218,6 +220,7 @@ impl<'a, R> System<'a, R> {
         ensures bound { IfOk result (λ count. IfSome count (λ n. n ≤ length block.new)) }
         ensures bytes { IfOk result (λ count. GivesBytes (T.remaining reader.old) (T.remaining reader.new) block.new count) }
         ensures reads { OnOk result (self.new.reads ≡ self.old.reads + 1) }
+        ensures kind { IfErr result (λ fault. fault ≢ Fault.Write) }
         ensures sound { OnOk result (NothingFailed self.new) }
         ensures cause { IfErr result (λ fault. HasCause fault self.new) }
     {
@@ -236,6 +239,7 @@ impl<'a, R> System<'a, R> {
     pub fn write<W: Write>(&mut self, writer: &mut W, bytes: &[u8]) -> Result<(), Fault>
         requires { NothingFailed self.old }
         ensures bytes { OnOk result (Appends (W.contents writer.old) (W.contents writer.new) bytes.now) }
+        ensures kind { IfErr result (λ fault. fault ≢ Fault.Read) }
         ensures sound { OnOk result (NothingFailed self.new) }
         ensures cause { IfErr result (λ fault. HasCause fault self.new) }
     {
@@ -350,6 +354,7 @@ impl<R: Files<File = File> + AllocGlobal> System<'_, R> {
     /// Makes a new file, if nothing has its name. One that is closed is for its owner alone.
     pub(crate) fn create_new(&mut self, path: &str, is_closed: bool) -> Result<Option<File>, Fault>
         requires { NothingFailed self.old }
+        ensures kind { IfErr result (λ fault. fault ≢ Fault.Read) }
         ensures sound { OnOk result (NothingFailed self.new) }
         ensures cause { IfErr result (λ fault. HasCause fault self.new) }
     {
@@ -363,6 +368,7 @@ impl<R: Files<File = File> + AllocGlobal> System<'_, R> {
     /// Gives a file this owner and group, and then the permissions, so that nobody may read it who may not read the other.
     pub(crate) fn permit(&mut self, file: &File, access: &Access) -> Result<(), Fault>
         requires { NothingFailed self.old }
+        ensures kind { IfErr result (λ fault. fault ≢ Fault.Read) }
         ensures sound { OnOk result (NothingFailed self.new) }
         ensures cause { IfErr result (λ fault. HasCause fault self.new) }
     {
@@ -376,6 +382,7 @@ impl<R: Files<File = File> + AllocGlobal> System<'_, R> {
     /// Brings a file or a folder to the disk.
     pub(crate) fn sync(&mut self, file: &File) -> Result<(), Fault>
         requires { NothingFailed self.old }
+        ensures kind { IfErr result (λ fault. fault ≢ Fault.Read) }
         ensures sound { OnOk result (NothingFailed self.new) }
         ensures cause { IfErr result (λ fault. HasCause fault self.new) }
     {
@@ -388,6 +395,7 @@ impl<R: Files<File = File> + AllocGlobal> System<'_, R> {
     /// Moves a file over another.
     pub(crate) fn rename(&mut self, from: &str, to: &str) -> Result<(), Fault>
         requires { NothingFailed self.old }
+        ensures kind { IfErr result (λ fault. fault ≢ Fault.Read) }
         ensures sound { OnOk result (NothingFailed self.new) }
         ensures cause { IfErr result (λ fault. HasCause fault self.new) }
     {
@@ -419,6 +427,7 @@ impl<R: Files<File = File> + AllocGlobal> System<'_, R> {
     /// The names in a folder, to be read, each ended by a zero byte.
     pub(crate) fn names(&mut self, path: &str) -> Result<R::Dir, Fault>
         requires { NothingFailed self.old }
+        ensures kind { IfErr result (λ fault. fault ≢ Fault.Write) }
         ensures sound { OnOk result (NothingFailed self.new) }
         ensures cause { IfErr result (λ fault. HasCause fault self.new) }
     {

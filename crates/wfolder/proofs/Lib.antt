@@ -1,3 +1,4 @@
+pub mod Ends
 pub mod Safety
 pub mod Sites
 pub mod Steps

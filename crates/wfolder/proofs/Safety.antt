@@ -1,17 +1,13 @@
 -- What the calls of a run that replaces a store may lead to.
-use Rattle.std.specs.Prelude.{⊤, is_ok}
+use Rattle.std.specs.Prelude.{⊤, is_none}
 use Rattle.std.proofs.Common.{◌≡◌, ◌≢◌, ◌⊎◌, inl, inr, ⊎_elim, ℕ, Bool, true, false, List, [], ◌∷◌, ◌++◌, Option}
-use Rattle.std.proofs.Common.{None, Some, Result, Ok, Err, IfErr, refl, sym, ◌∙◌, ap, subst, rules, option_map}
-use Rattle.wfolder.specs.Call.{Call, Locked, Found, Created, Permitted, Wrote, Synced, Moved, SyncedFolder, Removed, Began}
+use Rattle.std.proofs.Common.{None, Some, refl, sym, ◌∙◌, ap, subst, rules, option_map}
+use Rattle.wfolder.specs.Call.{Call, Rights, Locked, Found, Listed, Created, Permitted, Wrote, Synced, Moved, SyncedFolder, Removed, Began}
 use Rattle.wfolder.specs.Model.{Disk, IsAmong, holds, IsLeft, Leaves, MayHold, LeadsTo, IsSameFile, IsSameName, IsSame}
 use Rattle.wfolder.specs.Model.{Creates, Writes, Syncs, Renames, SyncsFolder, Removes, IsLocked, IsOwn, Others, Runs}
-use Rattle.wfolder.specs.Replacing.{AtEachMoment, LeavesOldOrNew, ChangesOnlyOwn, IsUnchanged, IsUnsynced, Replaces}
-use Rattle.wfolder.specs.declared.fault.Fault.{Fault}
-use Rattle.wfolder.specs.declared.replacing.NotReplaced.{NotReplaced}
-use Rattle.wfolder.specs.declared.replacing.NotReplaced.TheVariants.{Kept, Unsynced}
-use Rattle.wfolder.proofs.Steps.{after}
-use Rattle.wfolder.specs.Order.{After, Brings, LeavesBeside, Stage, Idle, Beside, Placed, Durable, Reaches}
-use Rattle.wfolder.specs.Order.{begins, locks, reads, clears, misses, makes, permits, writes, spoils, syncs}
+use Rattle.wfolder.specs.Replacing.{AtEachMoment, LeavesOldOrNew, ChangesOnlyOwn, IsPermitted, KeepsAccess, IsUnchanged}
+use Rattle.wfolder.specs.Order.{Stage, Idle, Beside, Placed, Durable, Reaches}
+use Rattle.wfolder.specs.Order.{begins, locks, reads, lists, clears, misses, makes, permits, forbids, writes, spoils, syncs}
 use Rattle.wfolder.specs.Order.{places, stays, removes, keeps, folder_synced, folder_unsynced}
 
 pub same_refl : (name : List ℕ) (d : Disk) → IsSame name d d
@@ -66,13 +62,13 @@ pub record IsDurable (store bytes : List ℕ) (e : Disk) : Type 0 where
 -- what holds of the state at each stage
 abbrev pub Holds : List ℕ → Stage → Disk → Disk → Type 0
 Holds store Idle d e = IsSame store d e
-Holds store (Beside name bytes durable) d e = IsSame store d e × IsBeside store name bytes durable e
+Holds store (Beside name ready bytes durable) d e = IsSame store d e × IsBeside store name bytes durable e
 Holds store (Placed bytes) d e = IsPlaced store bytes d e
 Holds store (Durable bytes) d e = IsDurable store bytes e
 
 -- a file beside the store is this run's own
 abbrev pub Owns : List ℕ → List Call → Stage → Type 0
-Owns store cs (Beside name bytes durable) = (name ≢ store) × IsOwn cs name
+Owns store cs (Beside name ready bytes durable) = (name ≢ store) × IsOwn cs name
 Owns store cs Idle = ⊤
 Owns store cs (Placed bytes) = ⊤
 Owns store cs (Durable bytes) = ⊤
@@ -120,8 +116,9 @@ locked_on (Locked true ∷ cs) base held = tt
 locked_on (Locked false ∷ cs) base held = locked_on cs base held
 locked_on (Found name bytes ∷ cs) base held = locked_on cs base held
 locked_on (Began name bytes ∷ cs) base held = locked_on cs base held
-locked_on (Created name done ∷ cs) base held = locked_on cs base held
-locked_on (Permitted name done ∷ cs) base held = locked_on cs base held
+locked_on (Listed folder names ∷ cs) base held = locked_on cs base held
+locked_on (Created name closed done ∷ cs) base held = locked_on cs base held
+locked_on (Permitted name rights done ∷ cs) base held = locked_on cs base held
 locked_on (Wrote name bytes done ∷ cs) base held = locked_on cs base held
 locked_on (Synced name done ∷ cs) base held = locked_on cs base held
 locked_on (Moved from to done ∷ cs) base held = locked_on cs base held
@@ -141,7 +138,7 @@ stay store base cs d e held others =
 others_leave : (store : List ℕ) (cs : List Call) (stage : Stage) (d mid e : Disk) → Owns store cs stage
     → Stay store cs mid e → Holds store stage d mid → Holds store stage d e
 others_leave store cs Idle d mid e owns others h = same_trans store d mid e h others.store_stays
-others_leave store cs (Beside name bytes durable) d mid e owns others h = (
+others_leave store cs (Beside name ready bytes durable) d mid e owns others h = (
   same_trans store d mid e h.0 others.store_stays,
   beside_on store name bytes durable mid e others.store_stays
       (others.own_stays name owns.1) h.1,
@@ -155,7 +152,7 @@ same_stage store stage d mid e is h = subst (Holds store stage d) (sym is) h
 
 -- each call that changes something
 made : (store name : List ℕ) (d mid e : Disk) → name ≢ store → Creates name mid e → IsSame store d mid
-    → Holds store (Beside name (Some []) false) d e
+    → Holds store (Beside name true (Some []) false) d e
 made store name d mid e other c same =
     let names : IsSameName mid e store = c.names store (λ is. other (sym is)) in
     let stays : IsSame store mid e = record {
@@ -189,9 +186,9 @@ one_file : (name : List ℕ) (d : Disk) (a b : ℕ) → d.entry name ≡ Some a 
 one_file name d a b first second = let same : Some a ≡ Some b = sym first ∙ second in search rules
 
 wrote : (store name written : List ℕ) (bytes bytes' : Option (List ℕ)) (durable done : Bool) (d mid e : Disk)
-    → Writes name written done mid e → Holds store (Beside name bytes durable) d mid
+    → Writes name written done mid e → Holds store (Beside name true bytes durable) d mid
     → ((known : List ℕ) → bytes' ≡ Some known → (done ≡ true) × (old : List ℕ) × (bytes ≡ Some old)
-    × (known ≡ old ++ written)) → Holds store (Beside name bytes' false) d e
+    × (known ≡ old ++ written)) → Holds store (Beside name true bytes' false) d e
 wrote store name written bytes bytes' durable done d mid e w h content =
     let is : w.file ≡ h.1.file = one_file name mid h.1.file w.file h.1.leads w.leads in
     let away : LeadsTo mid store w.file → ⊥ = λ to. h.1.away (subst (LeadsTo mid store) is to) in (
@@ -208,7 +205,7 @@ wrote store name written bytes bytes' durable done d mid e w h content =
     )
 
 synced : (store name : List ℕ) (bytes : Option (List ℕ)) (durable done : Bool) (d mid e : Disk) → Syncs name done mid e
-    → Holds store (Beside name bytes durable) d mid → Holds store (Beside name bytes done) d e
+    → Holds store (Beside name true bytes durable) d mid → Holds store (Beside name true bytes done) d e
 synced store name bytes durable done d mid e w h =
     let is : w.file ≡ h.1.file = one_file name mid h.1.file w.file h.1.leads w.leads in
     let away : LeadsTo mid store w.file → ⊥ = λ to. h.1.away (subst (LeadsTo mid store) is to) in (
@@ -223,7 +220,7 @@ synced store name bytes durable done d mid e w h =
     )
 
 placed : (store name bytes : List ℕ) (d mid e : Disk) → Renames name store mid e
-    → Holds store (Beside name (Some bytes) true) d mid → IsPlaced store bytes d e
+    → Holds store (Beside name true (Some bytes) true) d mid → IsPlaced store bytes d e
 placed store name bytes d mid e r h =
     let content = h.1.content bytes refl in
     record {
@@ -248,20 +245,22 @@ durable store bytes d mid e s p = record {
   left = s.left store ∙ ap (λ f. f ∷ []) p.leads;
 }
 
-pub owns : (store : List ℕ) (cs : List Call) (stage : Stage) → Reaches store cs stage → Owns store cs stage
+pub owns : (store : List ℕ) {access : Option Rights} (cs : List Call) (stage : Stage) → Reaches store access cs stage → Owns store cs stage
 owns store cs stage begins = tt
 owns store cs stage (locks {stage = Idle} r) = tt
-owns store cs stage (locks {stage = Beside name bytes durable} r) = owns store _ _ r
+owns store cs stage (locks {stage = Beside name ready bytes durable} r) = owns store _ _ r
 owns store cs stage (locks {stage = Placed bytes} r) = tt
 owns store cs stage (locks {stage = Durable bytes} r) = tt
 owns store cs stage (reads {stage = Idle} r) = tt
-owns store cs stage (reads {stage = Beside name bytes durable} r) = owns store _ _ r
+owns store cs stage (reads {stage = Beside name ready bytes durable} r) = owns store _ _ r
 owns store cs stage (reads {stage = Placed bytes} r) = tt
 owns store cs stage (reads {stage = Durable bytes} r) = tt
+owns store cs stage (lists r) = tt
 owns store cs stage (clears other ours r) = tt
-owns store cs stage (misses other ours r) = tt
-owns store cs stage (makes other ours r) = (other, inl refl)
-owns store cs stage (permits r) = owns store _ _ r
+owns store cs stage (misses other ours closed r) = tt
+owns store cs stage (makes other ours closed none r) = (other, inl refl)
+owns store cs stage (permits is r) = owns store _ _ r
+owns store cs stage (forbids is r) = owns store _ _ r
 owns store cs stage (writes r) = owns store _ _ r
 owns store cs stage (spoils r) = owns store _ _ r
 owns store cs stage (syncs r) = owns store _ _ r
@@ -279,7 +278,8 @@ none_known : (a : List ℕ) → None ≡ Some a → ⊥
 none_known a is = search rules
 
 -- the state behind the calls, at whichever stage they bring the run to
-pub holds_at : (store : List ℕ) (base cs : List Call) (stage : Stage) (d e : Disk) → IsLocked base → Reaches store cs stage
+pub holds_at : (store : List ℕ) {access : Option Rights} (base cs : List Call) (stage : Stage) (d e : Disk) → IsLocked base
+    → Reaches store access cs stage
     → Runs store base d cs e → Holds store stage d e
 holds_at store base cs stage d e held begins runs = runs.store_stays held
 holds_at store base cs stage d e held (locks r) runs =
@@ -288,21 +288,27 @@ holds_at store base cs stage d e held (locks r) runs =
 holds_at store base cs stage d e held (reads r) runs =
     others_leave store cs stage d runs.1 e (owns store cs stage (reads r)) (stay store base cs runs.1 e held runs.4)
     (same_stage store stage d runs.0 runs.1 runs.3.0 (holds_at store base _ stage d runs.0 held r runs.2))
+holds_at store base cs stage d e held (lists r) runs =
+    others_leave store cs stage d runs.1 e tt (stay store base cs runs.1 e held runs.4)
+    (same_stage store stage d runs.0 runs.1 runs.3 (holds_at store base _ Idle d runs.0 held r runs.2))
 holds_at store base cs stage d e held (clears {name = name} {done = true} other ours r) runs =
     others_leave store cs stage d runs.1 e tt (stay store base cs runs.1 e held runs.4) (removed store name d runs.0 runs.1
     other runs.3 (holds_at store base _ Idle d runs.0 held r runs.2))
 holds_at store base cs stage d e held (clears {name = name} {done = false} other ours r) runs =
     others_leave store cs stage d runs.1 e tt (stay store base cs runs.1 e held runs.4)
     (same_stage store stage d runs.0 runs.1 runs.3 (holds_at store base _ Idle d runs.0 held r runs.2))
-holds_at store base cs stage d e held (misses other ours r) runs =
+holds_at store base cs stage d e held (misses other ours closed r) runs =
     others_leave store cs stage d runs.1 e tt (stay store base cs runs.1 e held runs.4)
     (same_stage store stage d runs.0 runs.1 runs.3 (holds_at store base _ Idle d runs.0 held r runs.2))
-holds_at store base cs stage d e held (makes {name = name} other ours r) runs =
-    others_leave store cs stage d runs.1 e (owns store cs stage (makes other ours r))
+holds_at store base cs stage d e held (makes {name = name} other ours closed none r) runs =
+    others_leave store cs stage d runs.1 e (owns store cs stage (makes other ours closed none r))
     (stay store base cs runs.1 e held runs.4) (made store name d runs.0 runs.1 other runs.3
     (holds_at store base _ Idle d runs.0 held r runs.2))
-holds_at store base cs stage d e held (permits r) runs =
-    others_leave store cs stage d runs.1 e (owns store cs stage (permits r)) (stay store base cs runs.1 e held runs.4)
+holds_at store base cs stage d e held (permits {name = name} {ready = ready} {bytes = bytes} {durable = before} is r) runs =
+    others_leave store cs stage d runs.1 e (owns store cs stage (permits is r)) (stay store base cs runs.1 e held runs.4)
+    (same_stage store stage d runs.0 runs.1 runs.3 (holds_at store base _ (Beside name ready bytes before) d runs.0 held r runs.2))
+holds_at store base cs stage d e held (forbids is r) runs =
+    others_leave store cs stage d runs.1 e (owns store cs stage (forbids is r)) (stay store base cs runs.1 e held runs.4)
     (same_stage store stage d runs.0 runs.1 runs.3 (holds_at store base _ stage d runs.0 held r runs.2))
 holds_at store base cs stage d e held (writes {name = name} {bytes = bytes} {written = written} r) runs =
     others_leave store cs stage d runs.1 e (owns store cs stage (writes r)) (stay store base cs runs.1 e held runs.4)
@@ -312,9 +318,10 @@ holds_at store base cs stage d e held (spoils {name = name} {written = written} 
     others_leave store cs stage d runs.1 e (owns store cs stage (spoils r)) (stay store base cs runs.1 e held runs.4)
     (wrote store name written _ _ _ false d runs.0 runs.1 runs.3 (holds_at store base _ _ d runs.0 held r runs.2)
     (λ known is. absurd (none_known _ is)))
-holds_at store base cs stage d e held (syncs {name = name} {done = done} r) runs =
+holds_at store base cs stage d e held (syncs {name = name} {ready = ready} {bytes = bytes} {durable = before} {done = done} r) runs =
     others_leave store cs stage d runs.1 e (owns store cs stage (syncs r)) (stay store base cs runs.1 e held runs.4)
-    (synced store name _ _ done d runs.0 runs.1 runs.3 (holds_at store base _ _ d runs.0 held r runs.2))
+    (synced store name bytes before done d runs.0 runs.1 runs.3
+    (holds_at store base _ (Beside name ready bytes before) d runs.0 held r runs.2))
 holds_at store base cs stage d e held (places {name = name} {bytes = bytes} r) runs =
     others_leave store cs stage d runs.1 e tt (stay store base cs runs.1 e held runs.4)
     (placed store name bytes d runs.0 runs.1 runs.3 (holds_at store base _ _ d runs.0 held r runs.2))
@@ -337,7 +344,7 @@ holds_at store base cs stage d e held (folder_unsynced r) runs =
 -- what a crash leaves at each stage, where the bytes are these
 abbrev pub Tells : List ℕ → Stage → Type 0
 Tells bytes Idle = ⊤
-Tells bytes (Beside name known durable) = ⊤
+Tells bytes (Beside name ready known durable) = ⊤
 Tells bytes (Placed placed) = placed ≡ bytes
 Tells bytes (Durable durable) = durable ≡ bytes
 
@@ -376,7 +383,7 @@ crash_placed store bytes d e p held may = from may.file (subst (IsAmong may.file
       leaves = left_same d e file held (λ number is. p.files number (subst (λ (f : Option ℕ). IsAmong f (d.left store)) is old)) leaves;
     })
 
-crash_durable : (store bytes : List ℕ) (e : Disk) → IsDurable store bytes e → (held : Option (List ℕ))
+pub crash_durable : (store bytes : List ℕ) (e : Disk) → IsDurable store bytes e → (held : Option (List ℕ))
     → MayHold e store held → held ≡ Some bytes
 crash_durable store bytes e p held may = from may.file (subst (IsAmong may.file) p.left may.among) may.leaves
   where
@@ -387,33 +394,38 @@ crash_durable store bytes e p held may = from may.file (subst (IsAmong may.file)
 crash : (store bytes : List ℕ) (stage : Stage) (d e : Disk) → Tells bytes stage → Holds store stage d e
     → (held : Option (List ℕ)) → MayHold e store held → MayHold d store held ⊎ (held ≡ Some bytes)
 crash store bytes Idle d e tells h held may = inl (crash_same store d e h held may)
-crash store bytes (Beside name known durable) d e tells h held may = inl (crash_same store d e h.0 held may)
+crash store bytes (Beside name ready known durable) d e tells h held may = inl (crash_same store d e h.0 held may)
 crash store bytes (Placed placed) d e tells h held may = ⊎_elim (λ old. inl old) (λ new. inr (new ∙ ap Some tells))
     (crash_placed store placed d e h held may)
 crash store bytes (Durable durable) d e tells h held may = inr (crash_durable store durable e h held may ∙ ap Some tells)
 
 -- a crash at the last moment
-pub at_last : (store bytes : List ℕ) (base cs : List Call) (stage : Stage) → IsLocked base → Tells bytes stage
-    → Reaches store cs stage → LeavesOldOrNew store bytes base cs
+pub at_last : (store bytes : List ℕ) {access : Option Rights} (base cs : List Call) (stage : Stage) → IsLocked base → Tells bytes stage
+    → Reaches store access cs stage → LeavesOldOrNew store bytes base cs
 at_last store bytes base cs stage locked tells r d e runs held may =
     crash store bytes stage d e tells (holds_at store base cs stage d e locked r runs) held may
 
 -- a crash at each moment
-pub at_each : (store bytes : List ℕ) (base cs : List Call) (stage : Stage) → IsLocked base → Tells bytes stage
-    → Reaches store cs stage → AtEachMoment (LeavesOldOrNew store bytes base) cs
-at_each store bytes base cs stage locked tells begins = at_last store bytes base [] Idle locked tt begins
+pub at_each : (store bytes : List ℕ) {access : Option Rights} (base cs : List Call) (stage : Stage) → IsLocked base → Tells bytes stage
+    → Reaches store access cs stage → AtEachMoment (LeavesOldOrNew store bytes base) cs
+at_each store bytes {access = access} base cs stage locked tells begins =
+    at_last store bytes {access = access} base [] Idle locked tt begins
 at_each store bytes base cs stage locked tells (locks r) =
     (at_last store bytes base cs stage locked tells (locks r), at_each store bytes base _ _ locked tells r)
 at_each store bytes base cs stage locked tells (reads r) =
     (at_last store bytes base cs stage locked tells (reads r), at_each store bytes base _ _ locked tells r)
+at_each store bytes base cs stage locked tells (lists r) =
+    (at_last store bytes base cs stage locked tells (lists r), at_each store bytes base _ _ locked tt r)
 at_each store bytes base cs stage locked tells (clears other ours r) =
     (at_last store bytes base cs stage locked tells (clears other ours r), at_each store bytes base _ _ locked tt r)
-at_each store bytes base cs stage locked tells (misses other ours r) =
-    (at_last store bytes base cs stage locked tells (misses other ours r), at_each store bytes base _ _ locked tt r)
-at_each store bytes base cs stage locked tells (makes other ours r) =
-    (at_last store bytes base cs stage locked tells (makes other ours r), at_each store bytes base _ _ locked tt r)
-at_each store bytes base cs stage locked tells (permits r) =
-    (at_last store bytes base cs stage locked tells (permits r), at_each store bytes base _ _ locked tt r)
+at_each store bytes base cs stage locked tells (misses other ours closed r) =
+    (at_last store bytes base cs stage locked tells (misses other ours closed r), at_each store bytes base _ _ locked tt r)
+at_each store bytes base cs stage locked tells (makes other ours closed none r) =
+    (at_last store bytes base cs stage locked tells (makes other ours closed none r), at_each store bytes base _ _ locked tt r)
+at_each store bytes base cs stage locked tells (permits is r) =
+    (at_last store bytes base cs stage locked tells (permits is r), at_each store bytes base _ _ locked tt r)
+at_each store bytes base cs stage locked tells (forbids is r) =
+    (at_last store bytes base cs stage locked tells (forbids is r), at_each store bytes base _ _ locked tt r)
 at_each store bytes base cs stage locked tells (writes r) =
     (at_last store bytes base cs stage locked tells (writes r), at_each store bytes base _ _ locked tt r)
 at_each store bytes base cs stage locked tells (spoils r) =
@@ -434,14 +446,17 @@ at_each store bytes base cs stage locked tells (folder_unsynced r) =
     (at_last store bytes base cs stage locked tells (folder_unsynced r), at_each store bytes base _ _ locked tells r)
 
 -- only what is this run's own is changed
-pub only_own : (store : List ℕ) (cs : List Call) (stage : Stage) → Reaches store cs stage → ChangesOnlyOwn store cs
+pub only_own : (store : List ℕ) {access : Option Rights} (cs : List Call) (stage : Stage) → Reaches store access cs stage
+    → ChangesOnlyOwn store cs
 only_own store cs stage begins = tt
 only_own store cs stage (locks r) = only_own store _ _ r
 only_own store cs stage (reads r) = only_own store _ _ r
+only_own store cs stage (lists r) = only_own store _ _ r
 only_own store cs stage (clears other ours r) = (inr (other, ours), only_own store _ _ r)
-only_own store cs stage (misses other ours r) = ((other, ours), only_own store _ _ r)
-only_own store cs stage (makes other ours r) = ((other, ours), only_own store _ _ r)
-only_own store cs stage (permits r) = ((owns store _ _ r).1, only_own store _ _ r)
+only_own store cs stage (misses other ours closed r) = ((other, ours), only_own store _ _ r)
+only_own store cs stage (makes other ours closed none r) = ((other, ours), only_own store _ _ r)
+only_own store cs stage (permits is r) = ((owns store _ _ r).1, only_own store _ _ r)
+only_own store cs stage (forbids is r) = ((owns store _ _ r).1, only_own store _ _ r)
 only_own store cs stage (writes r) = ((owns store _ _ r).1, only_own store _ _ r)
 only_own store cs stage (spoils r) = ((owns store _ _ r).1, only_own store _ _ r)
 only_own store cs stage (syncs r) = ((owns store _ _ r).1, only_own store _ _ r)
@@ -452,24 +467,90 @@ only_own store cs stage (keeps r) = (inl (owns store _ _ r).1, only_own store _ 
 only_own store cs stage (folder_synced r) = only_own store _ _ r
 only_own store cs stage (folder_unsynced r) = only_own store _ _ r
 
+-- what is to be so before bytes are written into the file of a name
+abbrev pub HasRights : Option Rights → List Call → List ℕ → Type 0
+HasRights access cs name = (access ≡ None) ⊎ IsPermitted cs name
+
+-- the file beside the store has the access, where it is said to
+abbrev pub Readies : Option Rights → List Call → Stage → Type 0
+Readies access cs Idle = ⊤
+Readies access cs (Beside name ready bytes durable) = ready ≡ true → HasRights access cs name
+Readies access cs (Placed bytes) = ⊤
+Readies access cs (Durable bytes) = ⊤
+
+none_is : (access : Option Rights) (ready : Bool) → ready ≡ is_none access → ready ≡ true → access ≡ None
+none_is access ready is has = search rules
+
+readies : (store : List ℕ) {access : Option Rights} (cs : List Call) (stage : Stage) → Reaches store access cs stage
+    → Readies access cs stage
+readies store cs stage begins = tt
+readies store cs stage (locks {stage = Idle} r) = tt
+readies store cs stage (locks {stage = Beside name ready bytes durable} r) = readies store _ _ r
+readies store cs stage (locks {stage = Placed bytes} r) = tt
+readies store cs stage (locks {stage = Durable bytes} r) = tt
+readies store cs stage (reads {stage = Idle} r) = tt
+readies store cs stage (reads {stage = Beside name ready bytes durable} r) = readies store _ _ r
+readies store cs stage (reads {stage = Placed bytes} r) = tt
+readies store cs stage (reads {stage = Durable bytes} r) = tt
+readies store cs stage (lists r) = tt
+readies store cs stage (clears other ours r) = tt
+readies store cs stage (misses other ours closed r) = tt
+readies store cs stage (makes other ours closed none r) = λ has. inl (none_is _ _ none has)
+readies store cs stage (permits is r) = λ has. inr (inl refl)
+readies store cs stage (forbids is r) = readies store _ _ r
+readies store cs stage (writes r) = readies store _ _ r
+readies store cs stage (spoils r) = readies store _ _ r
+readies store cs stage (syncs r) = readies store _ _ r
+readies store cs stage (places r) = tt
+readies store cs stage (stays r) = readies store _ _ r
+readies store cs stage (removes r) = tt
+readies store cs stage (keeps r) = readies store _ _ r
+readies store cs stage (folder_synced r) = tt
+readies store cs stage (folder_unsynced r) = tt
+
+-- the new file has the access, before anything is written into it
+pub keeps_access : (store : List ℕ) {access : Option Rights} (cs : List Call) (stage : Stage) → Reaches store access cs stage
+    → KeepsAccess access cs
+keeps_access store cs stage begins = tt
+keeps_access store cs stage (locks r) = keeps_access store _ _ r
+keeps_access store cs stage (reads r) = keeps_access store _ _ r
+keeps_access store cs stage (lists r) = keeps_access store _ _ r
+keeps_access store cs stage (clears other ours r) = keeps_access store _ _ r
+keeps_access store cs stage (misses other ours closed r) = (closed, keeps_access store _ _ r)
+keeps_access store cs stage (makes other ours closed none r) = (closed, keeps_access store _ _ r)
+keeps_access store cs stage (permits is r) = (is, keeps_access store _ _ r)
+keeps_access store cs stage (forbids is r) = (is, keeps_access store _ _ r)
+keeps_access store cs stage (writes r) = (readies store _ _ r refl, keeps_access store _ _ r)
+keeps_access store cs stage (spoils r) = (readies store _ _ r refl, keeps_access store _ _ r)
+keeps_access store cs stage (syncs r) = keeps_access store _ _ r
+keeps_access store cs stage (places r) = (readies store _ _ r refl, keeps_access store _ _ r)
+keeps_access store cs stage (stays r) = (readies store _ _ r refl, keeps_access store _ _ r)
+keeps_access store cs stage (removes r) = keeps_access store _ _ r
+keeps_access store cs stage (keeps r) = keeps_access store _ _ r
+keeps_access store cs stage (folder_synced r) = keeps_access store _ _ r
+keeps_access store cs stage (folder_unsynced r) = keeps_access store _ _ r
+
 -- this run's own file at a stage, if there is one
 abbrev pub IsItsOwn : Stage → List ℕ → Type 0
 IsItsOwn Idle name = ⊥
-IsItsOwn (Beside own bytes durable) name = name ≡ own
+IsItsOwn (Beside own ready bytes durable) name = name ≡ own
 IsItsOwn (Placed bytes) name = ⊥
 IsItsOwn (Durable bytes) name = ⊥
 
 -- this run has one file of its own at most: the one beside the store
-one_own : (store : List ℕ) (cs : List Call) (stage : Stage) (name : List ℕ) → Reaches store cs stage → IsOwn cs name → IsItsOwn stage name
+pub one_own : (store : List ℕ) {access : Option Rights} (cs : List Call) (stage : Stage) (name : List ℕ)
+    → Reaches store access cs stage → IsOwn cs name → IsItsOwn stage name
 one_own store cs stage name begins own = own
 one_own store cs stage name (locks r) own = one_own store _ _ name r own
 one_own store cs stage name (reads r) own = one_own store _ _ name r own
+one_own store cs stage name (lists r) own = one_own store _ Idle name r own
 one_own store cs stage name (clears {done = true} other ours r) own = one_own store _ Idle name r own.1
 one_own store cs stage name (clears {done = false} other ours r) own = one_own store _ Idle name r own
-one_own store cs stage name (misses other ours r) own = one_own store _ Idle name r own
-one_own store cs stage name (makes other ours r) (inl is) = is
-one_own store cs stage name (makes other ours r) (inr own) = absurd (one_own store _ Idle name r own)
-one_own store cs stage name (permits r) own = one_own store _ _ name r own
+one_own store cs stage name (misses other ours closed r) own = one_own store _ Idle name r own
+one_own store cs stage name (makes other ours closed none r) (inl is) = is
+one_own store cs stage name (makes other ours closed none r) (inr own) = absurd (one_own store _ Idle name r own)
+one_own store cs stage name (permits is r) own = one_own store _ _ name r own
+one_own store cs stage name (forbids is r) own = one_own store _ _ name r own
 one_own store cs stage name (writes r) own = one_own store _ _ name r own
 one_own store cs stage name (spoils r) own = one_own store _ _ name r own
 one_own store cs stage name (syncs r) own = one_own store _ _ name r own
@@ -494,106 +575,6 @@ holds_same store d e same =
 pub is_kept : (store : List ℕ) (d e : Disk) → IsSame store d e → IsUnchanged store d e
 is_kept store d e same = record { holds_old = holds_same store d e same; leaves_old = crash_same store d e same }
 
-holds_file : (store bytes : List ℕ) (e : Disk) (file : ℕ) → e.entry store ≡ Some file → e.bytes file ≡ bytes → holds e store ≡ Some bytes
+pub holds_file : (store bytes : List ℕ) (e : Disk) (file : ℕ) → e.entry store ≡ Some file → e.bytes file ≡ bytes
+    → holds e store ≡ Some bytes
 holds_file store bytes e file leads content = ap (λ (f : Option ℕ). option_map e.bytes f) leads ∙ ap Some content
-
--- the three ends
-pub ends_kept : (store bytes : List ℕ) (fault : Fault) (old new : List Call) → IsLocked old → After store old new Idle
-    → Replaces store bytes (Err (Kept fault)) old new
-ends_kept store bytes fault old new locked a = record {
-  since = a.since;
-  is = a.is;
-  own = only_own store a.since Idle a.reaches;
-  clears = λ name own. absurd (one_own store a.since Idle name a.reaches own);
-  moments = at_each store bytes old a.since Idle locked tt a.reaches;
-  end = λ d e runs. is_kept store d e (holds_at store old a.since Idle d e locked a.reaches runs);
-}
-
-pub ends_beside : (store bytes name : List ℕ) (known : Option (List ℕ)) (durable : Bool) (fault : Fault)
-    (old new : List Call) → IsLocked old → (a : After store old new (Beside name known durable))
-    → (before : List Call) × (a.since ≡ Removed name false ∷ before) → Replaces store bytes (Err (Kept fault)) old new
-ends_beside store bytes name known durable fault old new locked a last = record {
-  since = a.since;
-  is = a.is;
-  own = only_own store a.since (Beside name known durable) a.reaches;
-  clears = λ at own. (
-    last.0,
-    last.1 ∙ ap (λ (n : List ℕ). Removed n false ∷ last.0)
-        (sym (one_own store a.since (Beside name known durable) at a.reaches own)),
-  );
-  moments = at_each store bytes old a.since (Beside name known durable) locked tt a.reaches;
-  end = λ d e runs. is_kept store d e (holds_at store old a.since (Beside name known durable) d e locked a.reaches runs).0;
-}
-
-pub ends_durable : (store bytes : List ℕ) (old new : List Call) → IsLocked old → After store old new (Durable bytes)
-    → Replaces store bytes (Ok tt) old new
-ends_durable store bytes old new locked a = record {
-  since = a.since;
-  is = a.is;
-  own = only_own store a.since (Durable bytes) a.reaches;
-  clears = λ name own. absurd (one_own store a.since (Durable bytes) name a.reaches own);
-  moments = at_each store bytes old a.since (Durable bytes) locked refl a.reaches;
-  end = λ d e runs.
-      let p = holds_at store old a.since (Durable bytes) d e locked a.reaches runs in
-      record { holds_new = holds_file store bytes e p.file p.leads p.content; leaves_new = crash_durable store bytes e p };
-}
-
-pub ends_unsynced : (store bytes : List ℕ) (fault : Fault) (old new : List Call) → IsLocked old
-    → After store old new (Placed bytes) → Replaces store bytes (Err (Unsynced fault)) old new
-ends_unsynced store bytes fault old new locked a = record {
-  since = a.since;
-  is = a.is;
-  own = only_own store a.since (Placed bytes) a.reaches;
-  clears = λ name own. absurd (one_own store a.since (Placed bytes) name a.reaches own);
-  moments = at_each store bytes old a.since (Placed bytes) locked refl a.reaches;
-  end = λ d e runs.
-      let p = holds_at store old a.since (Placed bytes) d e locked a.reaches runs in
-      holds_file store bytes e p.file p.leads p.content;
-}
-
--- from no call on
-pub from_nothing : (store : List ℕ) (old : List Call) → After store old old Idle
-from_nothing store old = record { since = []; is = refl; reaches = begins }
-
--- behind a move that failed the new file is removed, or stays
-pub given_up : (store bytes name : List ℕ) (fault : Fault) (gone : Bool) (old mid new : List Call) → IsLocked old
-    → (known : Option (List ℕ)) × (durable : Bool) × After store old mid (Beside name known durable) → new ≡ Removed name gone ∷ mid
-    → Replaces store bytes (Err (Kept fault)) old new
-given_up store bytes name fault true old mid new locked left is =
-    ends_kept store bytes fault old new locked (after (Removed name true) is (λ cs r. removes r) left.2)
-given_up store bytes name fault false old mid new locked left is = ends_beside store bytes name left.0 left.1 fault old new
-    locked (record {
-      since = Removed name false ∷ left.2.since;
-      is = is ∙ ap (λ cs. Removed name false ∷ cs) left.2.is;
-      reaches = keeps left.2.reaches;
-    }) (left.2.since, refl)
-
--- behind the move the folder is brought to the disk, or not
-pub ended : (store bytes : List ℕ) (r : Result (Unit {0}) NotReplaced) (old mid new : List Call) → IsLocked old
-    → IfErr r (λ fault. IsUnsynced fault) → After store old mid (Placed bytes) → new ≡ SyncedFolder (is_ok r) ∷ mid
-    → Replaces store bytes r old new
-ended store bytes (Ok done) old mid new locked unsynced a is =
-    ends_durable store bytes old new locked (after (SyncedFolder true) is (λ cs r. folder_synced r) a)
-ended store bytes (Err (Kept fault)) old mid new locked unsynced a is = absurd unsynced
-ended store bytes (Err (Unsynced fault)) old mid new locked unsynced a is =
-    ends_unsynced store bytes fault old new locked (after (SyncedFolder false) is (λ cs r. folder_unsynced r) a)
-
--- a run that makes its new file, and gives up
-pub gave_up : (store bytes name at gone_at : List ℕ) (fault : Fault) (gone : Bool) (old begun mid new : List Call)
-    → IsLocked old → at ≡ name → gone_at ≡ name → Brings store old Idle begun (Beside name (Some []) false)
-    → LeavesBeside store at begun mid
-    → new ≡ Removed gone_at gone ∷ mid → Replaces store bytes (Err (Kept fault)) old new
-gave_up store bytes name at gone_at fault gone old begun mid new locked is_at is_gone first left is =
-    let here : LeavesBeside store name begun mid = subst (λ (n : List ℕ). LeavesBeside store n begun mid) is_at left in
-    given_up store bytes name fault gone old mid new locked (here old (first old (from_nothing store old)))
-    (is ∙ ap (λ (n : List ℕ). Removed n gone ∷ mid) is_gone)
-
--- a run that makes its new file, and puts it in the store's place
-pub went_through : (store bytes name at : List ℕ) (r : Result (Unit {0}) NotReplaced) (old begun mid new : List Call)
-    → IsLocked old → at ≡ name → Brings store old Idle begun (Beside name (Some []) false)
-    → Brings store begun (Beside at (Some []) false) mid (Placed bytes) → IfErr r (λ fault. IsUnsynced fault)
-    → new ≡ SyncedFolder (is_ok r) ∷ mid → Replaces store bytes r old new
-went_through store bytes name at r old begun mid new locked is_at first then unsynced is =
-    let here : Brings store begun (Beside name (Some []) false) mid (Placed bytes) =
-    subst (λ (n : List ℕ). Brings store begun (Beside n (Some []) false) mid (Placed bytes)) is_at then in
-    ended store bytes r old mid new locked unsynced (here old (first old (from_nothing store old))) is

@@ -1,5 +1,17 @@
 -- A call on a file or a folder, with what it answered.
 use Rattle.std.specs.Prelude.{ℕ, Bool, List, Option}
+use Rattle.std.specs.Fs.{permissions_mode}
+use Rattle.wfolder.specs.declared.folder.Access.{Access}
+
+-- an owner, a group and a mode
+pub record Rights : Type 0 where
+  pub owner : ℕ
+  pub group : ℕ
+  pub mode : ℕ
+
+-- those of an access
+abbrev pub rights_of : Access → Rights
+rights_of access = record { owner = access.owner; group = access.group; mode = permissions_mode access.permissions }
 
 -- names and bytes as they were passed; a flag tells whether the call was done
 pub data Call : Type 0 where
@@ -7,10 +19,13 @@ pub data Call : Type 0 where
   Locked : Bool → Call
   -- the file of a name was read whole, or there was none
   Found : List ℕ → Option (List ℕ) → Call
-  -- a new file is made under a name that leads to none; else the name is taken, or the call failed
-  Created : List ℕ → Bool → Call
+  -- the names of a folder's files that begin as those of new files do were listed, or could not be
+  Listed : List ℕ → Option (List (List ℕ)) → Call
+  -- a new file is made under a name that leads to none, by the first flag for its owner alone; else the name is taken, or the call
+  -- failed
+  Created : List ℕ → Bool → Bool → Call
   -- the file of a name is given an owner, a group and a mode
-  Permitted : List ℕ → Bool → Call
+  Permitted : List ℕ → Rights → Bool → Call
   -- bytes are written at the end of the file of a name
   Wrote : List ℕ → List ℕ → Bool → Call
   -- the file of a name is brought to the disk

@@ -1,5 +1,7 @@
 -- What is counted of the program's calls on files and streams, and the causes of its faults.
-use Rattle.std.specs.Prelude.{◌≡◌, ◌⊎◌, ℕ, ◌^◌, ◌≤◌}
+use Rattle.std.specs.Prelude.{◌≡◌, ◌⊎◌, ⊤, ℕ, ◌^◌, ◌≤◌, false, List, [], ◌∷◌, None}
+use Rattle.wfolder.specs.Call.{Call}
+use Rattle.wfolder.specs.Call as calls
 use Rattle.wfolder.specs.declared.fault.Fault.{Fault}
 use Rattle.wfolder.specs.declared.fault.Fault.TheVariants as faults
 
@@ -46,3 +48,21 @@ abbrev pub HasCause : Fault → CallCounts → Type 0
 HasCause faults.Read calls = ReadFailed calls
 HasCause faults.Write calls = WriteFailed calls
 HasCause faults.NoMemory calls = LacksMemory calls
+
+-- this call was refused, with a fault of its kind
+abbrev pub IsRefused : Fault → Call → Type 0
+IsRefused faults.Read (calls.Listed folder None) = ⊤
+IsRefused faults.Write (calls.Created name closed false) = ⊤
+IsRefused faults.Write (calls.Permitted name rights false) = ⊤
+IsRefused faults.Write (calls.Wrote name written false) = ⊤
+IsRefused faults.Write (calls.Synced name false) = ⊤
+IsRefused faults.Write (calls.Moved from to false) = ⊤
+IsRefused faults.Write (calls.SyncedFolder false) = ⊤
+IsRefused fault c = ⊥
+
+-- the last of the calls, but for removals, was refused, with a fault of its kind; of a growth that was refused no call tells
+abbrev pub HasRefusal : Fault → List Call → Type 0
+HasRefusal faults.NoMemory cs = ⊤
+HasRefusal fault [] = ⊥
+HasRefusal fault (calls.Removed name done ∷ cs) = HasRefusal fault cs
+HasRefusal fault (c ∷ cs) = IsRefused fault c

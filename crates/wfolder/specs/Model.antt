@@ -124,9 +124,10 @@ abbrev pub Does : Call → Disk → Disk → Type 0
 Does (calls.Locked done) d e = e ≡ d
 Does (calls.Found name held) d e = (e ≡ d) × (held ≡ holds d name)
 Does (calls.Began name bytes) d e = e ≡ d
-Does (calls.Created name true) d e = Creates name d e
-Does (calls.Created name false) d e = e ≡ d
-Does (calls.Permitted name done) d e = e ≡ d
+Does (calls.Listed folder names) d e = e ≡ d
+Does (calls.Created name closed true) d e = Creates name d e
+Does (calls.Created name closed false) d e = e ≡ d
+Does (calls.Permitted name rights done) d e = e ≡ d
 Does (calls.Wrote name written done) d e = Writes name written done d e
 Does (calls.Synced name done) d e = Syncs name done d e
 Does (calls.Moved from to true) d e = Renames from to d e
@@ -139,7 +140,7 @@ Does (calls.Removed name false) d e = e ≡ d
 -- the name is one under which this run made a file that still stands there, by its calls, the newest first
 abbrev pub IsOwn : List Call → List ℕ → Type 0
 IsOwn [] name = ⊥
-IsOwn (calls.Created made true ∷ cs) name = (name ≡ made) ⊎ IsOwn cs name
+IsOwn (calls.Created made closed true ∷ cs) name = (name ≡ made) ⊎ IsOwn cs name
 IsOwn (calls.Moved from to true ∷ cs) name = (name ≢ from) × IsOwn cs name
 IsOwn (calls.Removed gone true ∷ cs) name = (name ≢ gone) × IsOwn cs name
 IsOwn (c ∷ cs) name = IsOwn cs name

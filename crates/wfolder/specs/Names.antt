@@ -1,7 +1,8 @@
 -- The names of new files, and of a store in its folder.
-use Rattle.std.specs.Prelude.{◌≡◌, ◌||◌, ◌==◌, ℕ, Bool, true, false, List, ◌∷◌, ◌++◌, take, drop, codes}
+use Rattle.std.specs.Prelude.{◌≡◌, ◌||◌, ◌==◌, ℕ, Bool, true, false, List, ◌∷◌, ◌++◌, take, drop, codes, Option}
 use Rattle.std.specs.List.{list_all, list_any}
 use Rattle.std.specs.Char.{is_ascii_digit}
+use Rattle.wfolder.specs.Call.{Rights}
 
 -- a digit, or a - between two numbers
 abbrev pub is_number_byte : ℕ → Bool
@@ -21,14 +22,19 @@ pub record IsStoreName (name : List ℕ) : Type 0 where
   pub plain : has_slash name ≡ false
   pub kept : IsNewName name → ⊥
 
--- the path of a store, and that of its folder
+-- the path of a store, that of its folder, and whose the file is that stands there, and what they and others may do, if there is one
 pub record Site : Type 0 where
   pub path : List ℕ
   pub folder : List ℕ
+  pub access : Option Rights
 
 -- the store of this name in a folder
-abbrev pub site_at : List ℕ → List ℕ → Site
-site_at folder name = record { path = folder ++ 47 ∷ name; folder = folder }
+abbrev pub site_at : List ℕ → List ℕ → Option Rights → Site
+site_at folder name access = record { path = folder ++ 47 ∷ name; folder = folder; access = access }
+
+-- the same place, where the file is another
+abbrev pub with_access : Site → Option Rights → Site
+with_access site access = record { path = site.path; folder = site.folder; access = access }
 
 -- the store stands in the folder, under such a name
 pub record IsSited (site : Site) : Type 0 where

@@ -1,71 +1,107 @@
 -- How far a run has come in replacing a store, by its calls alone.
-use Rattle.std.specs.Prelude.{◌≡◌, ◌≢◌, ℕ, Bool, true, false, List, [], ◌∷◌, ◌++◌, Option, None, Some}
-use Rattle.wfolder.specs.Names.{IsNewBeside}
-use Rattle.wfolder.specs.Call.{Call, Locked, Found, Created, Permitted, Wrote, Synced, Moved, SyncedFolder, Removed}
+use Rattle.std.specs.Prelude.{◌≡◌, ◌≢◌, ℕ, Bool, true, false, List, [], ◌∷◌, ◌++◌, Option, None, Some, is_none, is_some}
+use Rattle.wfolder.specs.Calls.{HasRefusal}
+use Rattle.wfolder.specs.Names.{IsNewBeside, Site}
+use Rattle.wfolder.specs.Call.{Call, Rights, Locked, Found, Listed, Created, Permitted, Wrote, Synced, Moved, SyncedFolder, Removed}
+use Rattle.wfolder.specs.declared.fault.Fault.{Fault}
+use Rattle.wfolder.specs.declared.fault.Fault.TheVariants as faults
 
 pub data Stage : Type 0 where
   -- nothing of this run stands in the folder
   Idle : Stage
-  -- a new file stands beside the store, with these bytes if they are known, and whether all of them were brought to the disk
-  Beside : List ℕ → Option (List ℕ) → Bool → Stage
+  -- a new file stands beside the store: whether it has the access of the one that it replaces, if there is one; its bytes, if they are
+  -- known; and whether all of them were brought to the disk
+  Beside : List ℕ → Bool → Option (List ℕ) → Bool → Stage
   -- the store is the new file, which has these bytes
   Placed : List ℕ → Stage
   -- and the folder was brought to the disk
   Durable : List ℕ → Stage
 
--- these calls, the newest first, bring a run from nothing to a stage
-pub data Reaches (store : List ℕ) : List Call → Stage → Type 0 where
-  begins : Reaches store [] Idle
-  locks : {cs : List Call} {stage : Stage} {done : Bool} → Reaches store cs stage → Reaches store (Locked done ∷ cs) stage
-  reads : {cs : List Call} {stage : Stage} {name : List ℕ} {held : Option (List ℕ)} → Reaches store cs stage
-      → Reaches store (Found name held ∷ cs) stage
+-- these calls, the newest first, bring a run from nothing to a stage, where the store under this path has this access
+pub data Reaches (store : List ℕ) (access : Option Rights) : List Call → Stage → Type 0 where
+  begins : Reaches store access [] Idle
+  locks : {cs : List Call} {stage : Stage} {done : Bool} → Reaches store access cs stage → Reaches store access (Locked done ∷ cs) stage
+  reads : {cs : List Call} {stage : Stage} {name : List ℕ} {held : Option (List ℕ)} → Reaches store access cs stage
+      → Reaches store access (Found name held ∷ cs) stage
+  lists : {cs : List Call} {folder : List ℕ} {names : Option (List (List ℕ))} → Reaches store access cs Idle
+      → Reaches store access (Listed folder names ∷ cs) Idle
   -- what a run that was killed has left
-  clears : {cs : List Call} {name : List ℕ} {done : Bool} → name ≢ store → IsNewBeside store name → Reaches store cs Idle
-      → Reaches store (Removed name done ∷ cs) Idle
+  clears : {cs : List Call} {name : List ℕ} {done : Bool} → name ≢ store → IsNewBeside store name → Reaches store access cs Idle
+      → Reaches store access (Removed name done ∷ cs) Idle
   -- a name that is taken
-  misses : {cs : List Call} {name : List ℕ} → name ≢ store → IsNewBeside store name → Reaches store cs Idle
-      → Reaches store (Created name false ∷ cs) Idle
-  makes : {cs : List Call} {name : List ℕ} → name ≢ store → IsNewBeside store name → Reaches store cs Idle
-      → Reaches store (Created name true ∷ cs) (Beside name (Some []) false)
-  permits : {cs : List Call} {name : List ℕ} {bytes : Option (List ℕ)} {durable done : Bool} → Reaches store cs (Beside name bytes durable)
-      → Reaches store (Permitted name done ∷ cs) (Beside name bytes durable)
-  writes : {cs : List Call} {name bytes written : List ℕ} {durable : Bool} → Reaches store cs (Beside name (Some bytes) durable)
-      → Reaches store (Wrote name written true ∷ cs) (Beside name (Some (bytes ++ written)) false)
+  misses : {cs : List Call} {name : List ℕ} {closed : Bool} → name ≢ store → IsNewBeside store name → closed ≡ is_some access
+      → Reaches store access cs Idle → Reaches store access (Created name closed false ∷ cs) Idle
+  -- where the store has no access to be kept, there is none to be given
+  makes : {cs : List Call} {name : List ℕ} {closed ready : Bool} → name ≢ store → IsNewBeside store name → closed ≡ is_some access
+      → ready ≡ is_none access → Reaches store access cs Idle
+      → Reaches store access (Created name closed true ∷ cs) (Beside name ready (Some []) false)
+  permits : {cs : List Call} {name : List ℕ} {rights : Rights} {ready : Bool} {bytes : Option (List ℕ)} {durable : Bool}
+      → access ≡ Some rights → Reaches store access cs (Beside name ready bytes durable)
+      → Reaches store access (Permitted name rights true ∷ cs) (Beside name true bytes durable)
+  forbids : {cs : List Call} {name : List ℕ} {rights : Rights} {ready : Bool} {bytes : Option (List ℕ)} {durable : Bool}
+      → access ≡ Some rights → Reaches store access cs (Beside name ready bytes durable)
+      → Reaches store access (Permitted name rights false ∷ cs) (Beside name ready bytes durable)
+  -- only into a file that has its access
+  writes : {cs : List Call} {name bytes written : List ℕ} {durable : Bool} → Reaches store access cs (Beside name true (Some bytes) durable)
+      → Reaches store access (Wrote name written true ∷ cs) (Beside name true (Some (bytes ++ written)) false)
   spoils : {cs : List Call} {name written : List ℕ} {bytes : Option (List ℕ)} {durable : Bool}
-      → Reaches store cs (Beside name bytes durable)
-      → Reaches store (Wrote name written false ∷ cs) (Beside name None false)
-  syncs : {cs : List Call} {name : List ℕ} {bytes : Option (List ℕ)} {durable done : Bool} → Reaches store cs (Beside name bytes durable)
-      → Reaches store (Synced name done ∷ cs) (Beside name bytes done)
-  -- only a file that was brought to the disk whole
-  places : {cs : List Call} {name bytes : List ℕ} → Reaches store cs (Beside name (Some bytes) true)
-      → Reaches store (Moved name store true ∷ cs) (Placed bytes)
-  stays : {cs : List Call} {name : List ℕ} {bytes : Option (List ℕ)} {durable : Bool} → Reaches store cs (Beside name bytes durable)
-      → Reaches store (Moved name store false ∷ cs) (Beside name bytes durable)
-  removes : {cs : List Call} {name : List ℕ} {bytes : Option (List ℕ)} {durable : Bool} → Reaches store cs (Beside name bytes durable)
-      → Reaches store (Removed name true ∷ cs) Idle
-  keeps : {cs : List Call} {name : List ℕ} {bytes : Option (List ℕ)} {durable : Bool} → Reaches store cs (Beside name bytes durable)
-      → Reaches store (Removed name false ∷ cs) (Beside name bytes durable)
-  folder_synced : {cs : List Call} {bytes : List ℕ} → Reaches store cs (Placed bytes)
-      → Reaches store (SyncedFolder true ∷ cs) (Durable bytes)
-  folder_unsynced : {cs : List Call} {bytes : List ℕ} → Reaches store cs (Placed bytes)
-      → Reaches store (SyncedFolder false ∷ cs) (Placed bytes)
+      → Reaches store access cs (Beside name true bytes durable)
+      → Reaches store access (Wrote name written false ∷ cs) (Beside name true None false)
+  syncs : {cs : List Call} {name : List ℕ} {ready : Bool} {bytes : Option (List ℕ)} {durable done : Bool}
+      → Reaches store access cs (Beside name ready bytes durable)
+      → Reaches store access (Synced name done ∷ cs) (Beside name ready bytes done)
+  -- only a file that has its access and was brought to the disk whole
+  places : {cs : List Call} {name bytes : List ℕ} → Reaches store access cs (Beside name true (Some bytes) true)
+      → Reaches store access (Moved name store true ∷ cs) (Placed bytes)
+  stays : {cs : List Call} {name : List ℕ} {bytes : Option (List ℕ)} {durable : Bool}
+      → Reaches store access cs (Beside name true bytes durable)
+      → Reaches store access (Moved name store false ∷ cs) (Beside name true bytes durable)
+  removes : {cs : List Call} {name : List ℕ} {ready : Bool} {bytes : Option (List ℕ)} {durable : Bool}
+      → Reaches store access cs (Beside name ready bytes durable)
+      → Reaches store access (Removed name true ∷ cs) Idle
+  keeps : {cs : List Call} {name : List ℕ} {ready : Bool} {bytes : Option (List ℕ)} {durable : Bool}
+      → Reaches store access cs (Beside name ready bytes durable)
+      → Reaches store access (Removed name false ∷ cs) (Beside name ready bytes durable)
+  folder_synced : {cs : List Call} {bytes : List ℕ} → Reaches store access cs (Placed bytes)
+      → Reaches store access (SyncedFolder true ∷ cs) (Durable bytes)
+  folder_unsynced : {cs : List Call} {bytes : List ℕ} → Reaches store access cs (Placed bytes)
+      → Reaches store access (SyncedFolder false ∷ cs) (Placed bytes)
 
 -- the calls since these brought the run to a stage
-pub record After (store : List ℕ) (base now : List Call) (stage : Stage) : Type 0 where
+pub record After (site : Site) (base now : List Call) (stage : Stage) : Type 0 where
   pub since : List Call
   pub is : now ≡ since ++ base
-  pub reaches : Reaches store since stage
+  pub reaches : Reaches site.path site.access since stage
+
+-- and the last of them was refused with this fault
+pub record Refused (site : Site) (fault : Fault) (base now : List Call) (stage : Stage) : Type 0 where
+  pub after : After site base now stage
+  pub refusal : HasRefusal fault after.since
+
+-- a new file stands beside the store, which may not be whole, and the last of the calls was refused
+pub record Spoilt (site : Site) (name : List ℕ) (fault : Fault) (base now : List Call) : Type 0 where
+  pub ready : Bool
+  pub bytes : Option (List ℕ)
+  pub durable : Bool
+  pub refused : Refused site fault base now (Beside name ready bytes durable)
+
+-- an empty file stands beside the store, and was given no access yet
+abbrev pub new_file : Site → List ℕ → Stage
+new_file site name = Beside name (is_none site.access) (Some []) false
 
 -- from the one stage to the other
-abbrev pub Brings : List ℕ → List Call → Stage → List Call → Stage → Type 0
-Brings store old from new to = (base : List Call) → After store base old from → After store base new to
+abbrev pub Brings : Site → List Call → Stage → List Call → Stage → Type 0
+Brings site old from new to = (base : List Call) → After site base old from → After site base new to
+
+-- nothing of this run stands in the folder, and at the fault nothing does
+abbrev pub LeavesIdle : Site → Fault → List Call → List Call → Type 0
+LeavesIdle site fault old new = (base : List Call) → After site base old Idle → Refused site fault base new Idle
 
 -- a new file that may not be whole is left beside the store
-abbrev pub LeavesBeside : List ℕ → List ℕ → List Call → List Call → Type 0
-LeavesBeside store name old new = (base : List Call) → After store base old (Beside name (Some []) false)
-    → (bytes : Option (List ℕ)) × (durable : Bool) × After store base new (Beside name bytes durable)
+abbrev pub LeavesBeside : Site → List ℕ → Fault → List Call → List Call → Type 0
+LeavesBeside site name fault old new = (base : List Call) → After site base old (new_file site name) → Spoilt site name fault base new
 
--- a new file of this name stands beside the store, if one was made
-abbrev pub MakesNew : List ℕ → List Call → List Call → Option (List ℕ) → Type 0
-MakesNew store old new (Some name) = Brings store old Idle new (Beside name (Some []) false)
-MakesNew store old new None = Brings store old Idle new Idle
+-- a new file of this name stands beside the store, if one was made; else the last call was to make one, and was refused
+abbrev pub MakesNew : Site → List Call → List Call → Option (List ℕ) → Type 0
+MakesNew site old new (Some name) = Brings site old Idle new (new_file site name)
+MakesNew site old new None = LeavesIdle site faults.Write old new

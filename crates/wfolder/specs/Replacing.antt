@@ -1,8 +1,9 @@
 -- What replacing a store does to it.
-use Rattle.std.specs.Prelude.{◌≡◌, ◌≢◌, ◌⊎◌, ⊤, ℕ, false, List, [], ◌∷◌, ◌++◌, Option, Some, Result, Ok, Err}
-use Rattle.wfolder.specs.Call.{Call}
+use Rattle.std.specs.Prelude.{◌≡◌, ◌≢◌, ◌⊎◌, ⊤, ℕ, true, false, List, [], ◌∷◌, ◌++◌, Option, None, Some, Result, Ok, Err, IfErr, is_some}
+use Rattle.wfolder.specs.Call.{Call, Rights}
 use Rattle.wfolder.specs.Call as calls
-use Rattle.wfolder.specs.Names.{IsNewBeside}
+use Rattle.wfolder.specs.Calls.{HasRefusal}
+use Rattle.wfolder.specs.Names.{IsNewBeside, Site}
 use Rattle.wfolder.specs.Model.{Disk, MayHold, IsOwn, Runs, holds}
 use Rattle.wfolder.specs.declared.fault.Fault.{Fault}
 use Rattle.wfolder.specs.declared.replacing.NotReplaced.{NotReplaced}
@@ -36,8 +37,8 @@ IsNewHere store name = (name ≢ store) × IsNewBeside store name
 -- made is written and moved, over the store alone
 abbrev pub ChangesOnlyOwn : List ℕ → List Call → Type 0
 ChangesOnlyOwn store [] = ⊤
-ChangesOnlyOwn store (calls.Created name done ∷ cs) = IsNewHere store name × ChangesOnlyOwn store cs
-ChangesOnlyOwn store (calls.Permitted name done ∷ cs) = IsOwn cs name × ChangesOnlyOwn store cs
+ChangesOnlyOwn store (calls.Created name closed done ∷ cs) = IsNewHere store name × ChangesOnlyOwn store cs
+ChangesOnlyOwn store (calls.Permitted name rights done ∷ cs) = IsOwn cs name × ChangesOnlyOwn store cs
 ChangesOnlyOwn store (calls.Wrote name written done ∷ cs) = IsOwn cs name × ChangesOnlyOwn store cs
 ChangesOnlyOwn store (calls.Synced name done ∷ cs) = IsOwn cs name × ChangesOnlyOwn store cs
 ChangesOnlyOwn store (calls.Moved from to done ∷ cs) = (IsOwn cs from × (to ≡ store)) × ChangesOnlyOwn store cs
@@ -47,6 +48,23 @@ ChangesOnlyOwn store (c ∷ cs) = ChangesOnlyOwn store cs
 -- of what this run made nothing stands but where the last call was to remove it, and was refused
 abbrev pub ClearsOwn : List Call → Type 0
 ClearsOwn cs = (name : List ℕ) → IsOwn cs name → (before : List Call) × (cs ≡ calls.Removed name false ∷ before)
+
+-- the new file of a name was given its access since it was made, by the calls, the newest first
+abbrev pub IsPermitted : List Call → List ℕ → Type 0
+IsPermitted [] name = ⊥
+IsPermitted (calls.Created made closed true ∷ cs) name = (name ≢ made) × IsPermitted cs name
+IsPermitted (calls.Permitted given rights true ∷ cs) name = (name ≡ given) ⊎ IsPermitted cs name
+IsPermitted (c ∷ cs) name = IsPermitted cs name
+
+-- where the store has an access, each new file is made for its owner alone, is given just this owner, group and mode, and has them before
+-- anything is written into it and before it is moved; where it has none, no file is given any
+abbrev pub KeepsAccess : Option Rights → List Call → Type 0
+KeepsAccess access [] = ⊤
+KeepsAccess access (calls.Created name closed done ∷ cs) = (closed ≡ is_some access) × KeepsAccess access cs
+KeepsAccess access (calls.Permitted name rights done ∷ cs) = (access ≡ Some rights) × KeepsAccess access cs
+KeepsAccess access (calls.Wrote name written done ∷ cs) = ((access ≡ None) ⊎ IsPermitted cs name) × KeepsAccess access cs
+KeepsAccess access (calls.Moved from to done ∷ cs) = ((access ≡ None) ⊎ IsPermitted cs from) × KeepsAccess access cs
+KeepsAccess access (c ∷ cs) = KeepsAccess access cs
 
 -- the store holds what it held, and a crash leaves nothing else than it might have left
 pub record IsUnchanged (store : List ℕ) (d e : Disk) : Type 0 where
@@ -65,11 +83,13 @@ IsEnd store bytes (Ok done) d e = IsReplaced store bytes e
 IsEnd store bytes (Err (Kept fault)) d e = IsUnchanged store d e
 IsEnd store bytes (Err (Unsynced fault)) d e = holds e store ≡ Some bytes
 
--- a store is replaced by the calls between the one record and the other
-pub record Replaces (store bytes : List ℕ) (result : Result (Unit {0}) NotReplaced) (old new : List Call) : Type 0 where
+-- a store is replaced by the calls between the one record and the other; a read or a write fault is that of the last of them
+pub record Replaces (site : Site) (bytes : List ℕ) (result : Result (Unit {0}) NotReplaced) (old new : List Call) : Type 0 where
   pub since : List Call
   pub is : new ≡ since ++ old
-  pub own : ChangesOnlyOwn store since
+  pub own : ChangesOnlyOwn site.path since
+  pub access : KeepsAccess site.access since
   pub clears : ClearsOwn since
-  pub moments : AtEachMoment (LeavesOldOrNew store bytes old) since
-  pub end : (d e : Disk) → Runs store old d since e → IsEnd store bytes result d e
+  pub refusal : IfErr result (λ fault. HasRefusal (fault_of fault) since)
+  pub moments : AtEachMoment (LeavesOldOrNew site.path bytes old) since
+  pub end : (d e : Disk) → Runs site.path old d since e → IsEnd site.path bytes result d e

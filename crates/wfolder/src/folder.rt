@@ -1,6 +1,6 @@
 //! The calls on a folder that replacing a store makes.
-ghost use Rattle.std.specs.Prelude.{◌≡◌, ◌∷◌, List, IfOk, IfErr, OnOk, OnErr, is_ok, false};
-ghost use Rattle.wfolder.specs.Call.{Call, Created, Permitted, Wrote, Synced, Moved, SyncedFolder, Removed};
+ghost use Rattle.std.specs.Prelude.{◌≡◌, ◌≢◌, ◌∷◌, List, None, Some, IfOk, IfErr, OnOk, OnErr, is_ok, false, map, string_bytes};
+ghost use Rattle.wfolder.specs.Call.{Call, Listed, Created, Permitted, Wrote, Synced, Moved, SyncedFolder, Removed, rights_of};
 ghost use Rattle.wfolder.specs.Calls.{CallCounts, HasCause, NothingFailed};
 ghost use Rattle.wfolder.specs.declared.fault.Fault.TheVariants.{NoMemory};
 
@@ -45,7 +45,9 @@ pub trait Folder {
     /// The names of the folder's files that begin as those of new files do.
     fn names(&mut self, alloc: Global, folder: &str) -> Result<Vec<String>, Fault>
         requires { NothingFailed (counts self.old) }
-        ensures calls { calls self.new ≡ calls self.old }
+        ensures listed { IfOk result (λ names. calls self.new ≡ Listed folder.now (Some (map string_bytes names.items)) ∷ calls self.old) }
+        ensures failed { OnErr result (calls self.new ≡ Listed folder.now None ∷ calls self.old) }
+        ensures kind { IfErr result (λ fault. fault ≢ Fault.Write) }
         ensures sound { OnOk result (NothingFailed (counts self.new)) }
         ensures cause { IfErr result (λ fault. HasCause fault (counts self.new)) };
 
@@ -53,15 +55,17 @@ pub trait Folder {
     /// owner alone.
     fn create_new(&mut self, path: &str, is_closed: bool) -> Result<bool, Fault>
         requires { NothingFailed (counts self.old) }
-        ensures made { IfOk result (λ is_made. calls self.new ≡ Created path.now is_made ∷ calls self.old) }
-        ensures failed { OnErr result (calls self.new ≡ Created path.now false ∷ calls self.old) }
+        ensures made { IfOk result (λ is_made. calls self.new ≡ Created path.now is_closed is_made ∷ calls self.old) }
+        ensures failed { OnErr result (calls self.new ≡ Created path.now is_closed false ∷ calls self.old) }
+        ensures kind { IfErr result (λ fault. fault ≢ Fault.Read) }
         ensures sound { OnOk result (NothingFailed (counts self.new)) }
         ensures cause { IfErr result (λ fault. HasCause fault (counts self.new)) };
 
     /// Gives the file that was made last, under this path, an owner, a group and a mode.
     fn permit(&mut self, path: &str, access: &Access) -> Result<(), Fault>
         requires { NothingFailed (counts self.old) }
-        ensures calls { calls self.new ≡ Permitted path.now (is_ok result) ∷ calls self.old }
+        ensures calls { calls self.new ≡ Permitted path.now (rights_of access.now) (is_ok result) ∷ calls self.old }
+        ensures kind { IfErr result (λ fault. fault ≢ Fault.Read) }
         ensures sound { OnOk result (NothingFailed (counts self.new)) }
         ensures cause { IfErr result (λ fault. HasCause fault (counts self.new)) };
 
@@ -69,6 +73,7 @@ pub trait Folder {
     fn write(&mut self, path: &str, bytes: &[u8]) -> Result<(), Fault>
         requires { NothingFailed (counts self.old) }
         ensures calls { calls self.new ≡ Wrote path.now bytes.now (is_ok result) ∷ calls self.old }
+        ensures kind { IfErr result (λ fault. fault ≢ Fault.Read) }
         ensures sound { OnOk result (NothingFailed (counts self.new)) }
         ensures cause { IfErr result (λ fault. HasCause fault (counts self.new)) };
 
@@ -76,6 +81,7 @@ pub trait Folder {
     fn sync(&mut self, path: &str) -> Result<(), Fault>
         requires { NothingFailed (counts self.old) }
         ensures calls { calls self.new ≡ Synced path.now (is_ok result) ∷ calls self.old }
+        ensures kind { IfErr result (λ fault. fault ≢ Fault.Read) }
         ensures sound { OnOk result (NothingFailed (counts self.new)) }
         ensures cause { IfErr result (λ fault. HasCause fault (counts self.new)) };
 
@@ -83,6 +89,7 @@ pub trait Folder {
     fn rename(&mut self, from: &str, to: &str) -> Result<(), Fault>
         requires { NothingFailed (counts self.old) }
         ensures calls { calls self.new ≡ Moved from.now to.now (is_ok result) ∷ calls self.old }
+        ensures kind { IfErr result (λ fault. fault ≢ Fault.Read) }
         ensures sound { OnOk result (NothingFailed (counts self.new)) }
         ensures cause { IfErr result (λ fault. HasCause fault (counts self.new)) };
 
@@ -90,6 +97,7 @@ pub trait Folder {
     fn sync_folder(&mut self) -> Result<(), Fault>
         requires { NothingFailed (counts self.old) }
         ensures calls { calls self.new ≡ SyncedFolder (is_ok result) ∷ calls self.old }
+        ensures kind { IfErr result (λ fault. fault ≢ Fault.Read) }
         ensures sound { OnOk result (NothingFailed (counts self.new)) }
         ensures cause { IfErr result (λ fault. HasCause fault (counts self.new)) };
 

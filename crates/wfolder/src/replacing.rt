@@ -1,9 +1,9 @@
 //! A store, replaced whole.
-ghost use Rattle.std.specs.Prelude.{◌≡◌, ◌≢◌, ◌∷◌, [], Some, false, true, IfOk, IfErr, IfSome};
-ghost use Rattle.std.specs.Prelude.{OnOk, OnErr, is_ok, option_map, string_bytes};
+ghost use Rattle.std.specs.Prelude.{◌≡◌, ◌≢◌, ◌↔◌, ◌∷◌, [], Some, true, false, IfOk, IfErr, IfSome, IsTrue};
+ghost use Rattle.std.specs.Prelude.{OnOk, is_ok, is_some, option_map, string_bytes};
 ghost use Rattle.wfolder.specs.Calls.{HasCause, NothingFailed};
-ghost use Rattle.wfolder.specs.Names.{IsNewBeside};
-ghost use Rattle.wfolder.specs.Order.{Beside, Brings, Idle, LeavesBeside, MakesNew, Placed};
+ghost use Rattle.wfolder.specs.Names.{IsNewBeside, IsNewName};
+ghost use Rattle.wfolder.specs.Order.{Beside, Brings, Idle, LeavesBeside, LeavesIdle, MakesNew, Placed, new_file};
 ghost use Rattle.wfolder.specs.Call.{SyncedFolder};
 ghost use Rattle.wfolder.specs.Model.{IsLocked};
 ghost use Rattle.wfolder.specs.Replacing.{IsUnsynced, Replaces, fault_of};
@@ -19,8 +19,9 @@ const TRIES: u32 = 1000;
 
 // The path of a file beside the store whose name is that of a new one.
 fn path_beside(alloc: Global, target: &Target, name: &str) -> Result<Option<String>, AllocError>
-    ensures { IfOk result (λ found. IfSome found (λ path. IsNewBeside target.now.path (string_bytes path)
+    ensures beside { IfOk result (λ found. IfSome found (λ path. IsNewBeside target.now.path (string_bytes path)
         × (string_bytes path ≢ target.now.path))) }
+    ensures found { IfOk result (λ found. IsTrue (is_some found) ↔ IsNewName name.now) }
 {
     if !is_new_name(name.as_bytes()) {
         return Ok(None);
@@ -32,8 +33,9 @@ fn path_beside(alloc: Global, target: &Target, name: &str) -> Result<Option<Stri
 // Gives the new file the access of the old one, if there is one.
 fn allow<F: Folder>(folder: &mut F, target: &Target, new: &str) -> Result<(), Fault>
     requires { NothingFailed (F.counts folder.old) }
-    ensures brings { Brings target.now.path (F.calls folder.old) (Beside new.now (Some []) false)
-        (F.calls folder.new) (Beside new.now (Some []) false) }
+    ensures given { OnOk result (Brings target.now (F.calls folder.old) (new_file target.now new.now)
+        (F.calls folder.new) (Beside new.now true (Some []) false)) }
+    ensures left { IfErr result (λ fault. LeavesBeside target.now new.now fault (F.calls folder.old) (F.calls folder.new)) }
     ensures sound { OnOk result (NothingFailed (F.counts folder.new)) }
     ensures cause { IfErr result (λ fault. HasCause fault (F.counts folder.new)) }
 {
@@ -46,9 +48,9 @@ fn allow<F: Folder>(folder: &mut F, target: &Target, new: &str) -> Result<(), Fa
 // The bytes, in the new file, on the disk.
 fn fill<F: Folder>(folder: &mut F, target: &Target, new: &str, bytes: &[u8]) -> Result<(), Fault>
     requires { NothingFailed (F.counts folder.old) }
-    ensures filled { OnOk result (Brings target.now.path (F.calls folder.old)
-        (Beside new.now (Some []) false) (F.calls folder.new) (Beside new.now (Some bytes.now) true)) }
-    ensures left { OnErr result (LeavesBeside target.now.path new.now (F.calls folder.old) (F.calls folder.new)) }
+    ensures filled { OnOk result (Brings target.now (F.calls folder.old) (new_file target.now new.now)
+        (F.calls folder.new) (Beside new.now true (Some bytes.now) true)) }
+    ensures left { IfErr result (λ fault. LeavesBeside target.now new.now fault (F.calls folder.old) (F.calls folder.new)) }
     ensures sound { OnOk result (NothingFailed (F.counts folder.new)) }
     ensures cause { IfErr result (λ fault. HasCause fault (F.counts folder.new)) }
 {
@@ -60,9 +62,9 @@ fn fill<F: Folder>(folder: &mut F, target: &Target, new: &str, bytes: &[u8]) -> 
 // The bytes in the new file, and then in the store's place.
 fn put<F: Folder>(folder: &mut F, target: &Target, new: &str, bytes: &[u8]) -> Result<(), Fault>
     requires { NothingFailed (F.counts folder.old) }
-    ensures placed { OnOk result (Brings target.now.path (F.calls folder.old)
-        (Beside new.now (Some []) false) (F.calls folder.new) (Placed bytes.now)) }
-    ensures left { OnErr result (LeavesBeside target.now.path new.now (F.calls folder.old) (F.calls folder.new)) }
+    ensures placed { OnOk result (Brings target.now (F.calls folder.old) (new_file target.now new.now)
+        (F.calls folder.new) (Placed bytes.now)) }
+    ensures left { IfErr result (λ fault. LeavesBeside target.now new.now fault (F.calls folder.old) (F.calls folder.new)) }
     ensures sound { OnOk result (NothingFailed (F.counts folder.new)) }
     ensures cause { IfErr result (λ fault. HasCause fault (F.counts folder.new)) }
 {
@@ -79,9 +81,9 @@ fn create_at<F: Folder>(
     requires sound { NothingFailed (F.counts folder.old) }
     requires ours { IsNewBeside target.now.path (string_bytes path) }
     requires other { string_bytes path ≢ target.now.path }
-    ensures makes { IfOk result (λ found. MakesNew target.now.path (F.calls folder.old) (F.calls folder.new)
+    ensures makes { IfOk result (λ found. MakesNew target.now (F.calls folder.old) (F.calls folder.new)
         (option_map (λ name. string_bytes name) found)) }
-    ensures idle { OnErr result (Brings target.now.path (F.calls folder.old) Idle (F.calls folder.new) Idle) }
+    ensures idle { IfErr result (λ fault. LeavesIdle target.now fault (F.calls folder.old) (F.calls folder.new)) }
     ensures sound { OnOk result (NothingFailed (F.counts folder.new)) }
     ensures cause { IfErr result (λ fault. HasCause fault (F.counts folder.new)) }
 {
@@ -100,9 +102,9 @@ fn try_new<F: Folder>(
     number: u32,
 ) -> Result<Option<String>, Fault>
     requires sound { NothingFailed (F.counts folder.old) }
-    ensures makes { IfOk result (λ found. MakesNew target.now.path (F.calls folder.old) (F.calls folder.new)
+    ensures makes { IfOk result (λ found. MakesNew target.now (F.calls folder.old) (F.calls folder.new)
         (option_map (λ name. string_bytes name) found)) }
-    ensures idle { OnErr result (Brings target.now.path (F.calls folder.old) Idle (F.calls folder.new) Idle) }
+    ensures idle { IfErr result (λ fault. LeavesIdle target.now fault (F.calls folder.old) (F.calls folder.new)) }
     ensures sound { OnOk result (NothingFailed (F.counts folder.new)) }
     ensures cause { IfErr result (λ fault. HasCause fault (F.counts folder.new)) }
 {
@@ -119,9 +121,9 @@ fn try_new<F: Folder>(
 // Makes a new file beside the store, under a name that is free.
 fn make_new<F: Folder>(alloc: Global, folder: &mut F, target: &Target) -> Result<String, Fault>
     requires sound { NothingFailed (F.counts folder.old) }
-    ensures made { IfOk result (λ name. Brings target.now.path (F.calls folder.old) Idle (F.calls folder.new)
-        (Beside (string_bytes name) (Some []) false)) }
-    ensures idle { OnErr result (Brings target.now.path (F.calls folder.old) Idle (F.calls folder.new) Idle) }
+    ensures made { IfOk result (λ name. Brings target.now (F.calls folder.old) Idle (F.calls folder.new)
+        (new_file target.now (string_bytes name))) }
+    ensures idle { IfErr result (λ fault. LeavesIdle target.now fault (F.calls folder.old) (F.calls folder.new)) }
     ensures sound { OnOk result (NothingFailed (F.counts folder.new)) }
     ensures cause { IfErr result (λ fault. HasCause fault (F.counts folder.new)) }
 {
@@ -143,7 +145,8 @@ fn clear_name<F: Folder>(
     name: &str,
 ) -> Result<(), Fault>
     requires sound { NothingFailed (F.counts folder.old) }
-    ensures idle { Brings target.now.path (F.calls folder.old) Idle (F.calls folder.new) Idle }
+    ensures cleared { OnOk result (Brings target.now (F.calls folder.old) Idle (F.calls folder.new) Idle) }
+    ensures idle { IfErr result (λ fault. LeavesIdle target.now fault (F.calls folder.old) (F.calls folder.new)) }
     ensures sound { OnOk result (NothingFailed (F.counts folder.new)) }
     ensures cause { IfErr result (λ fault. HasCause fault (F.counts folder.new)) }
 {
@@ -160,7 +163,8 @@ fn clear_name<F: Folder>(
 // Removes what runs that were killed have left in the folder. This run holds its lock, so no other is at work there.
 fn clear<F: Folder>(alloc: Global, folder: &mut F, target: &Target) -> Result<(), Fault>
     requires sound { NothingFailed (F.counts folder.old) }
-    ensures idle { Brings target.now.path (F.calls folder.old) Idle (F.calls folder.new) Idle }
+    ensures cleared { OnOk result (Brings target.now (F.calls folder.old) Idle (F.calls folder.new) Idle) }
+    ensures idle { IfErr result (λ fault. LeavesIdle target.now fault (F.calls folder.old) (F.calls folder.new)) }
     ensures sound { OnOk result (NothingFailed (F.counts folder.new)) }
     ensures cause { IfErr result (λ fault. HasCause fault (F.counts folder.new)) }
 {
@@ -179,9 +183,9 @@ fn clear<F: Folder>(alloc: Global, folder: &mut F, target: &Target) -> Result<()
 // Makes the new file, where nothing of an earlier run is left.
 fn begin<F: Folder>(alloc: Global, folder: &mut F, target: &Target) -> Result<String, Fault>
     requires sound { NothingFailed (F.counts folder.old) }
-    ensures made { IfOk result (λ name. Brings target.now.path (F.calls folder.old) Idle (F.calls folder.new)
-        (Beside (string_bytes name) (Some []) false)) }
-    ensures idle { OnErr result (Brings target.now.path (F.calls folder.old) Idle (F.calls folder.new) Idle) }
+    ensures made { IfOk result (λ name. Brings target.now (F.calls folder.old) Idle (F.calls folder.new)
+        (new_file target.now (string_bytes name))) }
+    ensures idle { IfErr result (λ fault. LeavesIdle target.now fault (F.calls folder.old) (F.calls folder.new)) }
     ensures sound { OnOk result (NothingFailed (F.counts folder.new)) }
     ensures cause { IfErr result (λ fault. HasCause fault (F.counts folder.new)) }
 {
@@ -217,6 +221,7 @@ fn sync_folder<F: Folder>(folder: &mut F) -> Result<(), NotReplaced>
     requires { NothingFailed (F.counts folder.old) }
     ensures calls { F.calls folder.new ≡ SyncedFolder (is_ok result) ∷ F.calls folder.old }
     ensures unsynced { IfErr result (λ fault. IsUnsynced fault) }
+    ensures kind { IfErr result (λ fault. fault_of fault ≢ Fault.Read) }
     ensures sound { OnOk result (NothingFailed (F.counts folder.new)) }
     ensures cause { IfErr result (λ fault. HasCause (fault_of fault) (F.counts folder.new)) }
 {
@@ -239,7 +244,7 @@ pub fn replace<F: Folder>(
 ) -> Result<(), NotReplaced>
     requires sound { NothingFailed (F.counts folder.old) }
     requires locked { IsLocked (F.calls folder.old) }
-    ensures replaces { Replaces target.now.path bytes.now result (F.calls folder.old) (F.calls folder.new) }
+    ensures replaces { Replaces target.now bytes.now result (F.calls folder.old) (F.calls folder.new) }
     ensures sound { OnOk result (NothingFailed (F.counts folder.new)) }
     ensures cause { IfErr result (λ fault. HasCause (fault_of fault) (F.counts folder.new)) }
 {

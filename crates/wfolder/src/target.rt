@@ -1,6 +1,7 @@
 //! Where a store stands.
-ghost use Rattle.std.specs.Prelude.{◌≡◌, ◌↔◌, IfOk, IfSome, IsTrue, is_some};
-ghost use Rattle.wfolder.specs.Names.{IsSited, IsStoreName, site_at};
+ghost use Rattle.std.specs.Prelude.{◌≡◌, ◌↔◌, IfOk, IfSome, IsTrue, is_some, option_map};
+ghost use Rattle.wfolder.specs.Call.{rights_of};
+ghost use Rattle.wfolder.specs.Names.{IsSited, IsStoreName, site_at, with_access};
 
 use crate::folder::Access;
 use crate::names::{is_store_name, path_in};
@@ -8,8 +9,8 @@ use std::alloc::{AllocError, Global};
 use std::marker::Model;
 
 /// Where a store stands: its path behind the links to it, that of its folder, in which the new file is made, and who may read and
-/// write the file that stands there, if there is one. In a contract it is the two paths; the one is always that of a file in the
-/// other, under a name that no run takes for what a killed one has left.
+/// write the file that stands there, if there is one. In a contract it is the two paths and that access; the one path is always that
+/// of a file in the other, under a name that no run takes for what a killed one has left.
 #[derive(Drop)]
 pub struct Target {
     path: String,
@@ -37,7 +38,7 @@ impl Target {
         name: &str,
         access: Option<Access>,
     ) -> Result<Option<Target>, AllocError>
-        ensures site { IfOk result (λ found. IfSome found (λ target. target ≡ site_at folder.now name.now)) }
+        ensures site { IfOk result (λ found. IfSome found (λ target. target ≡ site_at folder.now name.now (option_map rights_of access))) }
         ensures found { IfOk result (λ found. IsTrue (is_some found) ↔ IsStoreName name.now) }
     {
         if !is_store_name(name.as_bytes()) {
@@ -69,13 +70,15 @@ impl Target {
     }
 
     /// Who may read and write the file that stands there, if there is one.
-    pub fn access(&self) -> Option<&Access> {
+    pub fn access(&self) -> Option<&Access>
+        ensures { option_map (λ access. rights_of access.now) result ≡ self.now.access }
+    {
         self.access.as_ref()
     }
 
     /// Notes who may read and write the file that stands there now.
     pub fn set_access(&mut self, access: Option<Access>)
-        ensures { self.new ≡ self.old }
+        ensures { self.new ≡ with_access self.old (option_map rights_of access) }
     {
         self.access = access;
     }

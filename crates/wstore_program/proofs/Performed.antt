@@ -9,6 +9,7 @@ use Rattle.wcommand.specs.declared.choice.Paths.{Paths}
 use Rattle.wcommand.specs.Inputs.{input_of, paths_of}
 use Rattle.wfolder.specs.Call.{Call, Began, Found, Locked}
 use Rattle.wfiles.specs.Reading.{MayBegin}
+use Rattle.wfolder.specs.Names.{Site}
 use Rattle.wfolder.specs.Replacing.{fault_of}
 use Rattle.wfolder.specs.declared.fault.Fault.{Fault}
 use Rattle.wfolder.specs.declared.fault.Fault.TheVariants as faults
@@ -93,20 +94,21 @@ pub unfound : (choice : Choice) (table other path : List ℕ) (fault : Fault) (o
 unfound choice table other path fault old locked new l begun = Unfound path (subst (λ cs. MayBegin path cs new) l begun)
 
 -- a new store is put in the place of what was read
-pub put_in_place : (choice : Choice) (acted : Acted) (table : List ℕ) (store held : Option (List ℕ)) (other path : List ℕ)
+pub put_in_place : (choice : Choice) (acted : Acted) (table : List ℕ) (store held : Option (List ℕ)) (other : List ℕ) (site : Site)
     (old locked read new : List Call) → Acts choice table held other acted → locked ≡ Locked true ∷ old
-    → read ≡ Found path held ∷ locked → Puts path (new_store acted) (Ok tt) read new → CarriesOut choice table store other acted old new
-put_in_place choice acted table store held other path old locked read new acts l r puts =
-    Put path held acts (subst (λ cs. Puts path (new_store acted) (Ok tt) cs new) (found_locked path held old locked read l r) puts)
+    → read ≡ Found site.path held ∷ locked → Puts site (new_store acted) (Ok tt) read new
+    → CarriesOut choice table store other acted old new
+put_in_place choice acted table store held other site old locked read new acts l r puts =
+    Put site held acts (subst (λ cs. Puts site (new_store acted) (Ok tt) cs new) (found_locked site.path held old locked read l r) puts)
 
 -- a new store is not put there
-pub not_put : (choice : Choice) (acted : Acted) (table : List ℕ) (held : Option (List ℕ)) (other path : List ℕ)
+pub not_put : (choice : Choice) (acted : Acted) (table : List ℕ) (held : Option (List ℕ)) (other : List ℕ) (site : Site)
     (old locked read new : List Call) (why : NotReplaced) (fault : Fault) → Acts choice table held other acted
-    → locked ≡ Locked true ∷ old → read ≡ Found path held ∷ locked → Puts path (new_store acted) (Err why) read new
+    → locked ≡ Locked true ∷ old → read ≡ Found site.path held ∷ locked → Puts site (new_store acted) (Err why) read new
     → fault ≡ fault_of why → IsNotCarriedOut choice table other fault old new
-not_put choice acted table held other path old locked read new why fault acts l r puts is =
-    NotPut held acted path why acts is (subst (λ cs. Puts path (new_store acted) (Err why) cs new)
-    (found_locked path held old locked read l r) puts)
+not_put choice acted table held other site old locked read new why fault acts l r puts is =
+    NotPut held acted site why acts is (subst (λ cs. Puts site (new_store acted) (Err why) cs new)
+    (found_locked site.path held old locked read l r) puts)
 
 none_mapped : {A B : Type 0} (f : A → B) (o : Option A) → is_some o ≡ false → option_map f o ≡ None
 none_mapped f None e = refl

@@ -7,6 +7,7 @@ use Rattle.wbatch.specs.declared.stop.Stop.{Stop}
 use Rattle.wbatch.specs.declared.stop.Stop.TheVariants as stops
 use Rattle.wfolder.specs.Call.{Call, Began, Found, Locked}
 use Rattle.wfiles.specs.Reading.{MayBegin}
+use Rattle.wfolder.specs.Names.{Site}
 use Rattle.wfolder.specs.Replacing.{Replaces, fault_of}
 use Rattle.wfiles.specs.Place.{MissesLock}
 use Rattle.wfolder.specs.declared.fault.Fault.{Fault}
@@ -69,18 +70,18 @@ new_store acted = option_map (λ store. store.items) acted.store
 abbrev pub read_locked : List ℕ → Option (List ℕ) → List Call → List Call
 read_locked path held old = Found path held ∷ Locked true ∷ old
 
--- a new store is put in the place of the one under this path, if there is one
-abbrev pub Puts : List ℕ → Option (List ℕ) → Result (Unit {0}) NotReplaced → List Call → List Call → Type 0
-Puts path None result old new = (result ≡ Ok tt) × (new ≡ old)
-Puts path (Some bytes) result old new = Replaces path bytes result old new
+-- where there is a new store, it is put in the place of the one that stands here
+abbrev pub Puts : Site → Option (List ℕ) → Result (Unit {0}) NotReplaced → List Call → List Call → Type 0
+Puts site None result old new = (result ≡ Ok tt) × (new ≡ old)
+Puts site (Some bytes) result old new = Replaces site bytes result old new
 
 -- it is what the subcommand gives on this table and input, and on the store that was read, whose file is not touched where there is
 -- no new store; or on the store that was found under the lock, in whose place the new one is put
 pub data CarriesOut (choice : Choice) (table : List ℕ) (store : Option (List ℕ)) (other : List ℕ) (acted : Acted)
     (old new : List Call) : Type 0 where
   Untouched : Acts choice table store other acted → new_store acted ≡ None → new ≡ old → CarriesOut choice table store other acted old new
-  Put : (path : List ℕ) (held : Option (List ℕ)) → Acts choice table held other acted
-      → Puts path (new_store acted) (Ok tt) (read_locked path held old) new → CarriesOut choice table store other acted old new
+  Put : (site : Site) (held : Option (List ℕ)) → Acts choice table held other acted
+      → Puts site (new_store acted) (Ok tt) (read_locked site.path held old) new → CarriesOut choice table store other acted old new
 
 -- the store is not touched: the lock is not tried for, or not had; or it is had, and the store is read, or not to its end, or not at
 -- all; or the new store that the subcommand gives on the bytes that were found there is not put in its place, or may not stay there
@@ -88,9 +89,9 @@ pub data IsNotCarriedOut (choice : Choice) (table other : List ℕ) (fault : Fau
   Unlocked : MissesLock old new → IsNotCarriedOut choice table other fault old new
   Unfound : (path : List ℕ) → MayBegin path (Locked true ∷ old) new → IsNotCarriedOut choice table other fault old new
   Unchanged : (path : List ℕ) (held : Option (List ℕ)) → new ≡ read_locked path held old → IsNotCarriedOut choice table other fault old new
-  NotPut : (held : Option (List ℕ)) (acted : Acted) (path : List ℕ) (why : NotReplaced) → Acts choice table held other acted
+  NotPut : (held : Option (List ℕ)) (acted : Acted) (site : Site) (why : NotReplaced) → Acts choice table held other acted
       → fault ≡ fault_of why
-      → Puts path (new_store acted) (Err why) (read_locked path held old) new → IsNotCarriedOut choice table other fault old new
+      → Puts site (new_store acted) (Err why) (read_locked site.path held old) new → IsNotCarriedOut choice table other fault old new
 
 -- it is carried out, or at a fault it is not
 abbrev pub IsFinished : Choice → List ℕ → Option (List ℕ) → List ℕ → Result Acted Fault → List Call → List Call → Type 0

@@ -8,7 +8,7 @@ ghost use Rattle.wact.specs.Streams.{Feeds};
 ghost use Rattle.wstore_program.specs.Performing.{OnlyReads, Performs, Puts, ReadsWhole, input_path};
 ghost use Rattle.wstore_program.specs.Working.{Ends, FeedsFrom, FeedsNode, Finishes, Gives, GivesOn, IsCounted, IsGiven};
 ghost use Rattle.wstore_program.specs.Working.{given_bytes, store_bytes};
-ghost use Rattle.wfiles.specs.Place.{place_path};
+ghost use Rattle.wfiles.specs.Place.{place_site};
 ghost use Rattle.wfolder.specs.Calls.{HasCause, NothingFailed};
 ghost use Rattle.wfolder.specs.Model.{IsLocked};
 ghost use Rattle.wfolder.specs.Replacing.{fault_of};
@@ -132,7 +132,7 @@ fn put<R: Files<File = File> + AllocGlobal>(
 ) -> Result<(), NotReplaced>
     requires locked { IsLocked calls.old.calls }
     requires sound { NothingFailed system.old }
-    ensures puts { Puts (place_path place.now) (option_map (λ store. store.items) acted.now.store) result
+    ensures puts { Puts (place_site place.now) (option_map (λ store. store.items) acted.now.store) result
         calls.old.calls calls.new.calls }
     ensures sound { OnOk result (NothingFailed system.new) }
     ensures cause { IfErr result (λ fault. HasCause (fault_of fault) system.new) }

@@ -4,6 +4,6 @@ use Rattle.wfolder.proofs.replacing.clear.Given as goal
 
 abbrev pub invariant-names : goal.invariant-names
 invariant-names g l = record {
-  idle : Brings l.target.path (g.F.Folder.calls l.fn.folder) Idle (g.F.Folder.calls l.folder) Idle;
+  idle : Brings l.target (g.F.Folder.calls l.fn.folder) Idle (g.F.Folder.calls l.folder) Idle;
   sound : NothingFailed (g.F.Folder.counts l.folder);
 }
