@@ -124,11 +124,12 @@ impl KeptRuns {
         }
     }
 
-    /// Makes the run of these keys, if it is not kept. Of five runs the one that was made first is let go. After want of memory
-    /// all is as it was.
+    /// Makes the run of these keys, if it is not kept: one that is kept takes no memory. Of five runs the one that was made first
+    /// is let go. After want of memory all is as it was.
     pub fn make(&mut self, keys: &[SortKey]) -> Result<(), AllocError>
         ensures content { self.new.content ≡ self.old.content }
         ensures kept { IsAmong self.old.orders keys.now → self.new.orders ≡ self.old.orders }
+        ensures needless { IsAmong self.old.orders keys.now → IsOk result }
         ensures made { (IsAmong self.old.orders keys.now → ⊥)
             → OnOk result (self.new.orders ≡ keep_last 4 (self.old.orders ++ keys.now ∷ [])) }
         ensures has { OnOk result (IsAmong self.new.orders keys.now) }
@@ -144,12 +145,13 @@ impl KeptRuns {
         keep(self.alloc, &mut self.runs, shared)
     }
 
-    /// Keeps a run of the segment that was made elsewhere, if none of its keys is kept. Of five runs the one that was made first is
-    /// let go. After want of memory all is as it was.
+    /// Keeps a run of the segment that was made elsewhere, if none of its keys is kept: else it takes no memory. Of five runs the
+    /// one that was made first is let go. After want of memory all is as it was.
     pub fn keep_run(&mut self, run: Rc<Run>) -> Result<(), AllocError>
         requires { IsRunOf self.old.content.rows run.value }
         ensures content { self.new.content ≡ self.old.content }
         ensures kept { IsAmong self.old.orders run.value.keys → self.new.orders ≡ self.old.orders }
+        ensures needless { IsAmong self.old.orders run.value.keys → IsOk result }
         ensures made { (IsAmong self.old.orders run.value.keys → ⊥)
             → OnOk result (self.new.orders ≡ keep_last 4 (self.old.orders ++ run.value.keys ∷ [])) }
         ensures has { OnOk result (IsAmong self.new.orders run.value.keys) }
@@ -188,8 +190,8 @@ impl KeptRuns {
         }
     }
 
-    /// The run of these keys, which is made where it is not kept. Of five runs the one that was made first is let go. After want
-    /// of memory all is as it was.
+    /// The run of these keys, which is made where it is not kept: one that is kept takes no memory. Of five runs the one that was
+    /// made first is let go. After want of memory all is as it was.
     pub fn get_or_make(&mut self, keys: &[SortKey]) -> Result<&Run, AllocError>
         ensures* rests { sem 𝓛 (Rests the_row self.entry (λ new. LendsRun self.old keys.now new result)) }
     {

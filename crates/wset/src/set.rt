@@ -193,6 +193,8 @@ impl SegmentSet {
         ensures word { IfOk result (λ word. word ≡ taken_word (known_in self.old.view name) kept.content.bytes) }
         ensures ok { let item = view_of_item (SegmentItem name kept.content.bytes) in
             OnOk result (Becomes self.old (join self.old.view item) self.new) }
+        ensures idle { (result ≡ Ok Taken.Same) ⊎ (result ≡ Ok Taken.Ignored) → self.new ≡ self.old }
+        ensures same { known_in self.old.view name ≡ Some (Live kept.content.bytes) → result ≡ Ok Taken.Same }
         ensures err { OnErr result (self.new ≡ self.old) }
     {
         if self.known_segment(&name, kept.bytes()).is_some() {
@@ -221,6 +223,7 @@ impl SegmentSet {
         ensures read { IfOk result (λ kept. IsReadBy self.now.schema kept.content) }
         ensures bytes { IfOk result (λ kept. kept.content.bytes ≡ bytes.now) }
         ensures refused { IfErr result (λ fault. Fails fault (rows_of self.now.schema bytes.now)) }
+        ensures long { 67108864 < length bytes.now → result ≡ Err SegmentFault.TooLong }
     {
         if self.is_lazy {
             return self.judge(bytes);
@@ -235,6 +238,7 @@ impl SegmentSet {
         ensures read { IfOk result (λ kept. IsReadBy self.now.schema kept.content) }
         ensures bytes { IfOk result (λ kept. kept.content.bytes ≡ bytes.now) }
         ensures refused { IfErr result (λ fault. Fails fault (rows_of self.now.schema bytes.now)) }
+        ensures long { 67108864 < length bytes.now → result ≡ Err SegmentFault.TooLong }
     {
         let judged = Judged::read(self.alloc, &self.schema, bytes)?;
         let Ok(judged) = Rc::new(self.alloc, judged) else {
@@ -245,8 +249,8 @@ impl SegmentSet {
     }
 
     /// Takes a segment: these bytes under this name. The bytes are read first, whatever is known of the
-    /// name, unless it is live with these bytes, which were read before: that takes no memory. Where they
-    /// are refused, or memory runs out, the set is as it was.
+    /// name, unless it is live with these bytes, which were read before: that takes no memory, as bytes that are too long take
+    /// none. Where they are refused, or memory runs out, and where they tell nothing new, the set is as it was, its runs included.
     pub fn take(&mut self, name: Name, bytes: &[u8]) -> Result<Taken, TakeError>
         ensures word { IfOk result (λ word. word ≡ taken_word (known_in self.old.view name) bytes.now) }
         ensures ok { let item = view_of_item (SegmentItem name bytes.now) in
@@ -254,7 +258,9 @@ impl SegmentSet {
         ensures read { OnOk result (IsOk (rows_of self.old.schema bytes.now)) }
         ensures refused { IfErr result (λ fault. Fails fault (rows_of self.old.schema bytes.now)) }
         ensures err { OnErr result (self.new ≡ self.old) }
+        ensures idle { (result ≡ Ok Taken.Same) ⊎ (result ≡ Ok Taken.Ignored) → self.new ≡ self.old }
         ensures same { known_in self.old.view name ≡ Some (Live bytes.now) → result ≡ Ok Taken.Same }
+        ensures long { 67108864 < length bytes.now → result ≡ Err SegmentFault.TooLong }
     {
         if self.known_segment(&name, bytes).is_some() {
             return Ok(Taken::Same);
@@ -272,6 +278,7 @@ impl SegmentSet {
         ensures ok { let item = view_of_item (SegmentItem name judged.now.value.bytes) in
             OnOk result (Becomes self.old (join self.old.view item) self.new) }
         ensures err { OnErr result (self.new ≡ self.old) }
+        ensures idle { (result ≡ Ok Taken.Same) ⊎ (result ≡ Ok Taken.Ignored) → self.new ≡ self.old }
         ensures same { known_in self.old.view name ≡ Some (Live judged.now.value.bytes) → result ≡ Ok Taken.Same }
     {
         if self.known_segment(&name, judged.bytes()).is_some() {
@@ -309,7 +316,13 @@ impl SegmentSet {
         ensures read { OnOk result (IsOk (rows_of self.old.schema bytes.now)) }
         ensures refused { IfErr result (λ fault. Fails fault (rows_of self.old.schema bytes.now)) }
         ensures err { OnErr result (self.new ≡ self.old) }
+        ensures idle { (result ≡ Ok Taken.Same) ⊎ (result ≡ Ok Taken.Ignored) → self.new ≡ self.old }
+        ensures same { known_in self.old.view name ≡ Some (Live bytes.now) → result ≡ Ok Taken.Same }
+        ensures long { 67108864 < length bytes.now → result ≡ Err SegmentFault.TooLong }
     {
+        if self.known_segment(&name, bytes).is_some() {
+            return Ok(Taken::Same);
+        }
         let Some(kept) = known.known_segment(&name, bytes) else {
             return self.take(name, bytes);
         };
@@ -318,13 +331,14 @@ impl SegmentSet {
         Ok(taken)
     }
 
-    /// Retires a name. A name that is retired takes no memory; where memory runs out the set is as it was.
+    /// Retires a name. A name that is retired takes no memory; there, and where memory runs out, the set is as it was.
     pub fn retire(&mut self, name: Name) -> Result<Retired, AllocError>
         ensures word { IfOk result (λ word. word ≡ retired_word (known_in self.old.view name)) }
         ensures ok { let item = view_of_item (RetirementItem name) in
             OnOk result (Becomes self.old (join self.old.view item) self.new) }
         ensures err { OnErr result (self.new ≡ self.old) }
         ensures same { known_in self.old.view name ≡ Some Gone → result ≡ Ok Retired.Same }
+        ensures idle { result ≡ Ok Retired.Same → self.new ≡ self.old }
     {
         if self.is_retired(&name) {
             return Ok(Retired::Same);
@@ -352,13 +366,14 @@ impl SegmentSet {
 
     /// Retires all names of an origin up to this one, for good: a floor. What is held below it is dropped: that looks
     /// at the entries of the blocks from the origin's first name to the floor, and at the first entry of each other
-    /// block. A floor that does not rise takes no memory; where memory runs out the set is as it was.
+    /// block. A floor that does not rise takes no memory; there, and where memory runs out, the set is as it was.
     pub fn retire_to(&mut self, name: Name) -> Result<Retired, AllocError>
         ensures word { IfOk result (λ word. word ≡ floor_word self.old.view name) }
         ensures ok { let item = view_of_item (FloorItem name) in
             OnOk result (Becomes self.old (join self.old.view item) self.new) }
         ensures err { OnErr result (self.new ≡ self.old) }
         ensures same { is_reached self.old.view name ≡ true → result ≡ Ok Retired.Same }
+        ensures idle { result ≡ Ok Retired.Same → self.new ≡ self.old }
     {
         if self.is_reached(&name) {
             return Ok(Retired::Same);
@@ -417,13 +432,15 @@ impl SegmentSet {
     }
 
     /// Makes a name disputed, unless it is retired: two different contents of it are known, though
-    /// neither is at hand. A name that is disputed or retired takes no memory; where memory runs out the set
+    /// neither is at hand. A name that is disputed or retired takes no memory; there, and where memory runs out, the set
     /// is as it was.
     pub fn dispute(&mut self, name: Name) -> Result<(), AllocError>
         ensures ok { OnOk result
             (Becomes self.old (join self.old.view (only_disputed name)) self.new) }
         ensures err { OnErr result (self.new ≡ self.old) }
         ensures same { (known_in self.old.view name ≡ Some Disputed) ⊎ (known_in self.old.view name ≡ Some Gone) → IsOk result }
+        ensures idle { (known_in self.old.view name ≡ Some Disputed) ⊎ (known_in self.old.view name ≡ Some Gone)
+            → self.new ≡ self.old }
     {
         if self.is_settled(&name) {
             return Ok(());
@@ -452,6 +469,7 @@ impl SegmentSet {
         ensures refused { result ≡ Err JoinError.OtherSchema → self.old.schema ≢ other.now.schema }
         ensures other { self.old.schema ≢ other.now.schema → result ≡ Err JoinError.OtherSchema }
         ensures known { self.old.schema ≡ other.now.schema → join self.old.view other.now.view ≡ self.old.view → IsOk result }
+        ensures idle { self.old.schema ≡ other.now.schema → join self.old.view other.now.view ≡ self.old.view → self.new ≡ self.old }
         ensures err { OnErr result (self.new ≡ self.old) }
     {
         if !self.is_alike(other) {

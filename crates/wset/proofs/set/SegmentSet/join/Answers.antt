@@ -1,4 +1,5 @@
 use Rattle.std.proofs.Common.{◌≡◌, ◌∙◌, sym, ap, subst, length, arith}
+use Rattle.std.proofs.lemmas.Bool.{true≢false}
 use Rattle.wset.specs.Views.{join}
 use Rattle.wentries.specs.Entries.{AllHeldBy, known_entries}
 use Rattle.wentries.specs.Blocks.{flat}
@@ -67,3 +68,10 @@ returns-in_default-starts_of-clause-known c = λ alike same.
     let teaches = rw (c.deref.ensures.value, c.deref-2.ensures.value) at c.teaches.ensures.new in
     sym (teaches (known_again _ _ _ _ c.self.invariant.rising c.other.invariant.rising c.other.invariant.settled
     (ap (λ s. s.view) c.self.view_is) (ap (λ s. s.view) c.other.view_is) same)) ∙ c.if-not-teaches.false
+
+pub returns-clause-idle : goal.returns-clause-idle
+returns-clause-idle c = λ alike same.
+    let teaches = rw (c.deref.ensures.value, c.deref-2.ensures.value) at c.teaches.ensures.new in
+    let told = teaches (known_again _ _ _ _ c.self.invariant.rising c.other.invariant.rising c.other.invariant.settled
+    (ap (λ s. s.view) c.self.view_is) (ap (λ s. s.view) c.other.view_is) same) in
+    absurd (true≢false (sym (sym told ∙ c.if-not-teaches.false)))
