@@ -35,7 +35,10 @@ fn value_in<'a>(row: &'a [Value], column: Option<usize>, null: &'a Value) -> &'a
 fn is_same_value(a: &Value, b: &Value) -> bool
     ensures { result ≡ same_meaning (meaning a.now) (meaning b.now) }
 {
-    a == b
+    match (a, b) {
+        (Value::Int(x), Value::Int(y)) => x == y,
+        _ => a == b,
+    }
 }
 
 // Whether a row of cells has these values in the columns of a set.
@@ -75,6 +78,7 @@ fn feed(value: &Value, hasher: &mut FoldHasher)
 }
 
 // The hash of a row's values in the columns of a set.
+#[inline(always)]
 fn hash_of_key(columns: &[Option<usize>], row: &[Value], null: &Value) -> u64
     requires { meaning null.now ≡ Null }
     ensures { result ≡ hash_of_key (key_in columns.now (map meaning row.now)) }
@@ -87,6 +91,7 @@ fn hash_of_key(columns: &[Option<usize>], row: &[Value], null: &Value) -> u64
 }
 
 /// The hash of a row's key.
+#[inline(always)]
 pub(crate) fn key_hash(keyed: &Keyed, row: usize) -> u64
     ensures { result ≡ key_hash keyed.now row }
 {

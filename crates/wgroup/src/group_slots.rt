@@ -97,6 +97,18 @@ fn free_slot(slots: &[u32], groups: usize) -> Option<usize>
 }
 
 impl Table {
+    /// Guesses of the numbers of some rows' groups, from a row on: what stands in the first slot of each. Nothing is done between one
+    /// row and the next, so that the processor has many slots on their way from memory at once.
+    #[inline(never)]
+    pub(crate) fn guess(&self, keyed: &Keyed, from: usize, guesses: &mut [u32])
+        requires { 8 ≤ length self.now.slots.items }
+    {
+        for step in 0..guesses.len() {
+            let hash = key_hash(keyed, from.saturating_add(step));
+            guesses[step] = self.slots[slot_of(&self.slots, hash)];
+        }
+    }
+
     // The group of a row, of whose key this is the first slot, if it is of one that was seen. What else changes is the count
     // of looks.
     fn group_seen(&mut self, keyed: &Keyed, first: usize, row: usize) -> Option<u32>
@@ -142,8 +154,9 @@ impl Table {
         Ok(number)
     }
 
-    /// The number of a row's group, of 32 bits, which is added where no earlier row is of it.
-    pub(crate) fn number_of(&mut self, keyed: &Keyed, row: usize) -> Result<u32, AllocError>
+    // The number of a row's group, of 32 bits, which is added where no earlier row is of it.
+    #[inline(never)]
+    fn number_of(&mut self, keyed: &Keyed, row: usize) -> Result<u32, AllocError>
         requires held { Holds keyed.now row self.old }
         requires row { row < 2 ^ 32 }
         requires few { length self.old.firsts.items < 2 ^ 32 }
@@ -155,5 +168,25 @@ impl Table {
             Some(number) => Ok(number),
             None => self.add(keyed, first, row),
         }
+    }
+    /// The number of a row's group, of 32 bits, which is added where no earlier row is of it. A guess of it, which may be any number,
+    /// is looked at first.
+    #[inline(always)]
+    pub(crate) fn number_guessed(
+        &mut self,
+        keyed: &Keyed,
+        row: usize,
+        guess: u32,
+    ) -> Result<u32, AllocError>
+        requires held { Holds keyed.now row self.old }
+        requires row { row < 2 ^ 32 }
+        requires few { length self.old.firsts.items < 2 ^ 32 }
+        ensures held { OnOk result (Holds keyed.now (row + 1) self.new) }
+        ensures number { IfOk result (λ number. number ≡ position_or_len (alike keyed.now row) (first_of (alike keyed.now) (row + 1))) }
+    {
+        if is_of_group(keyed, self, guess as usize, row) {
+            return Ok(guess);
+        }
+        self.number_of(keyed, row)
     }
 }

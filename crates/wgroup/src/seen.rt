@@ -32,6 +32,9 @@ const SLOTS_OF_GROUP: usize = 1 << 2;
 /// With how many groups that stand apart a row is compared at most, in the mean of all rows.
 const MOST_LOOKS: usize = 8;
 
+/// Of how many rows the groups are guessed before they are found.
+const GUESSED: usize = 1 << 6;
+
 // The most groups of so many rows that are found by a table.
 fn most_groups(rows: usize) -> usize
     ensures some { 1 ≤ result }
@@ -61,8 +64,12 @@ fn tabled_groups(alloc: Global, keyed: &Keyed) -> Result<Option<Sight>, AllocErr
     let most = most_groups(count);
     let mut table = empty_table(alloc, (most * SLOTS_OF_GROUP).next_power_of_two())?;
     let mut numbers = Vec::with_capacity(alloc, count)?;
+    let mut guesses = [0u32; GUESSED];
     for row in 0..count {
-        numbers.push(table.number_of(keyed, row)?)?;
+        if row % GUESSED == 0 {
+            table.guess(keyed, row, &mut guesses);
+        }
+        numbers.push(table.number_guessed(keyed, row, guesses[row % GUESSED])?)?;
         if is_slow(&table, most, count) {
             return Ok(None);
         }

@@ -15,9 +15,9 @@ pub loop-row-preserved : goal.loop-row-preserved
 loop-row-preserved c =
     let keyed = c.args.keyed.now in
     record {
-      held = c.in_ok-number_of.ensures.held;
+      held = c.in_ok-number_guessed.ensures.held;
       numbered = c.in_ok-push.ensures.items
           ∙ numbers_next (alike keyed) (agree_equiv keyed.columns.now (rows_seen keyed.rows.now)) c.loop-row.row
-          c.in_ok-number_of.field-0 c.loop-row.numbers.items c.loop-row.invariant.numbered c.in_ok-number_of.ensures.number;
+          c.in_ok-number_guessed.field-0 c.loop-row.numbers.items c.loop-row.invariant.numbered c.in_ok-number_guessed.ensures.number;
       few = c.is_slow.ensures c.if-is_slow.false;
     }
