@@ -3,7 +3,7 @@ ghost use Rattle.std.specs.Prelude.{◌≡◌, pos, IfOk, map};
 ghost use Rattle.wvalues.specs.Meaning.{Int, meaning};
 ghost use Rattle.wcolumns.specs.Columns.{column_seen, columns_seen, counted, read_in};
 ghost use Rattle.wrows.specs.Laid.{rows_seen};
-ghost use Rattle.wcalls.specs.ListedValues.{listed_seen};
+ghost use Rattle.wcalls.specs.ListedValues.{is_lent, keeps_values, listed_seen};
 
 use std::alloc::{AllocError, Global};
 use wcolumns::{Column, LentColumn, OtherRows};
@@ -83,7 +83,8 @@ fn other_values(alloc: Global, others: &OtherRows) -> Result<Vec<Value>, AllocEr
 
 // The values that a column has.
 fn listed<'b>(alloc: Global, column: &'b Column<'_>) -> Result<ListedColumn<'b>, AllocError>
-    ensures { IfOk result (λ listed. listed_seen listed ≡ column_seen column.now) }
+    ensures seen { IfOk result (λ listed. listed_seen listed ≡ column_seen column.now) }
+    ensures lent { IfOk result (λ listed. is_lent listed ≡ keeps_values column.now) }
 {
     match column {
         Column::Values(values) => Ok(ListedColumn::Lent(values)),
@@ -92,12 +93,13 @@ fn listed<'b>(alloc: Global, column: &'b Column<'_>) -> Result<ListedColumn<'b>,
     }
 }
 
-/// The values that each of some columns has.
+/// The values that each of some columns has. Those of a column that keeps values are lent, and take no memory.
 pub fn listed_columns<'b>(
     alloc: Global,
     columns: &[LentColumn<'b>],
 ) -> Result<Vec<ListedColumn<'b>>, AllocError>
-    ensures { IfOk result (λ lists. map listed_seen lists.items ≡ columns_seen columns.now) }
+    ensures seen { IfOk result (λ lists. map listed_seen lists.items ≡ columns_seen columns.now) }
+    ensures lent { IfOk result (λ lists. map is_lent lists.items ≡ map (λ lent. keeps_values lent.column.now) columns.now) }
 {
     let mut lists = Vec::with_capacity(alloc, columns.len())?;
     for lent in columns {

@@ -1,5 +1,5 @@
 //! Values as integers of 32 bits that stand as a key orders them.
-ghost use Rattle.std.specs.Prelude.{◌≡◌, IfSome, if◌then◌else◌, pos, ◌-ℤ◌, ◌+ℤ◌, ◌<ℤ◌, ◌-◌, ◌^◌};
+ghost use Rattle.std.specs.Prelude.{◌≡◌, IfSome, None, if◌then◌else◌, pos, ◌-ℤ◌, ◌+ℤ◌, ◌<ℤ◌, ◌-◌, ◌^◌};
 ghost use Rattle.wvalues.specs.Meaning.{meaning, Int};
 ghost use Rattle.wcodes.specs.Bases.{base_in, first_yet, sooner};
 ghost use Rattle.wcodes.specs.Codes.{code, step, HasCode};
@@ -12,11 +12,13 @@ fn step_between(from: Whole, to: Whole) -> Option<u32>
     ensures above { IfSome result (λ c. pos 0 <ℤ (to -ℤ from +ℤ pos 1)) }
     ensures below { IfSome result (λ c. (to -ℤ from +ℤ pos 1) <ℤ pos (2 ^ 32 - 1)) }
     ensures code { IfSome result (λ c. pos c ≡ to -ℤ from +ℤ pos 1) }
+    ensures none { result ≡ None → pos 0 <ℤ (to -ℤ from +ℤ pos 1) → (to -ℤ from +ℤ pos 1) <ℤ pos (2 ^ 32 - 1) → ⊥ }
 {
     let step = to.get() - from.get() + 1;
-    match u32::try_from(step) {
-        Ok(code) if 0 < code && code < u32::MAX => Some(code),
-        _ => None,
+    if 0 < step && step < u32::MAX as i128 {
+        Some(step as u32)
+    } else {
+        None
     }
 }
 
@@ -24,6 +26,7 @@ fn step_between(from: Whole, to: Whole) -> Option<u32>
 fn code_of_number(key: &SortKey, base: Whole, number: Whole) -> Option<u32>
     ensures has { IfSome result (λ c. HasCode key.now base (Int number)) }
     ensures code { IfSome result (λ c. pos c ≡ step key.now base number) }
+    ensures none { result ≡ None → HasCode key.now base (Int number) → ⊥ }
 {
     if key.desc {
         step_between(number, base)
@@ -44,6 +47,7 @@ fn code_of_null(key: &SortKey) -> u32
 pub fn code_of(key: &SortKey, base: Whole, cell: &Value) -> Option<u32>
     ensures has { IfSome result (λ c. HasCode key.now base (meaning cell.now)) }
     ensures code { IfSome result (λ c. pos c ≡ code key.now base (meaning cell.now)) }
+    ensures none { result ≡ None → HasCode key.now base (meaning cell.now) → ⊥ }
 {
     match cell {
         Value::Null => Some(code_of_null(key)),

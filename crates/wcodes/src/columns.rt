@@ -1,7 +1,7 @@
 //! Codes of 32 bits for the values of a column.
-ghost use Rattle.std.specs.Prelude.{◌≡◌, ◌≤◌, ◌^◌, All, length, map, IfOk, IfSome};
+ghost use Rattle.std.specs.Prelude.{◌≡◌, ◌↔◌, ◌≤◌, ◌^◌, All, IfOk, IfSome, IsTrue, None, false, is_some, length, map};
 ghost use Rattle.wcodes.specs.Codes.{HasCode};
-ghost use Rattle.wcodes.specs.CodedRows.{code_from, values_seen, AreCodes};
+ghost use Rattle.wcodes.specs.CodedRows.{AreCodes, code_from, leads_with_text, values_seen};
 
 use crate::codes::{base_of, code_of};
 use crate::ranks::ranked_codes;
@@ -21,6 +21,7 @@ pub fn codes_from(
 ) -> Result<Option<Vec<u32>>, AllocError>
     ensures codes { IfOk result (λ found. IfSome found (λ codes. codes.items ≡ map (code_from key.now base) (values_seen column.now))) }
     ensures have { IfOk result (λ found. IfSome found (λ codes. All (HasCode key.now base) (values_seen column.now))) }
+    ensures none { IfOk result (λ found. found ≡ None → All (HasCode key.now base) (values_seen column.now) → ⊥) }
 {
     let mut codes = Vec::with_capacity(alloc, column.len())?;
     for cell in column {
@@ -34,8 +35,10 @@ pub fn codes_from(
 
 // Whether the first value of a column that is not null is a text. The values of one key are all texts or all numbers, but for
 // nulls, so this tells before a look at all of them how they have their codes.
-fn holds_texts(column: &[&Value]) -> bool {
-    for value in column {
+fn leads_with_text(column: &[&Value]) -> bool
+    ensures { result ≡ leads_with_text (values_seen column.now) }
+{
+    'values: for value in column {
         match value {
             Value::Null => {}
             Value::Int(_) => return false,
@@ -52,7 +55,7 @@ pub fn column_codes(alloc: Global, column: &[&Value], key: &SortKey) -> Result<V
     requires { length column.now ≤ 2 ^ 32 }
     ensures { IfOk result (λ codes. AreCodes key.now (values_seen column.now) codes.items) }
 {
-    if holds_texts(column) {
+    if leads_with_text(column) {
         return ranked_codes(alloc, column, key);
     }
     match codes_from(alloc, column, key, base_of(key, column)) {
@@ -83,9 +86,10 @@ pub fn number_codes(
     key: &SortKey,
 ) -> Result<Option<Vec<u32>>, AllocError>
     requires { length column.now ≤ 2 ^ 32 }
-    ensures { IfOk result (λ found. IfSome found (λ codes. AreCodes key.now (values_seen column.now) codes.items)) }
+    ensures codes { IfOk result (λ found. IfSome found (λ codes. AreCodes key.now (values_seen column.now) codes.items)) }
+    ensures numbers { IfOk result (λ found. IsTrue (is_some found) ↔ (leads_with_text (values_seen column.now) ≡ false)) }
 {
-    if holds_texts(column) {
+    if leads_with_text(column) {
         return Ok(None);
     }
     match codes_from(alloc, column, key, near_base(column, key)) {

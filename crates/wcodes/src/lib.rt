@@ -2,10 +2,11 @@
 //!
 //! - Gives codes of 32 bits for the values of a column, by which rows are sorted, or told apart alone, and the codes of some
 //!   of its rows, whose numbers are of 32 bits too.
-//! - Promises: codes are distances of numbers from the one that the key puts first, or from one near them where they only tell
-//!   rows apart, where all lie close enough, and else ranks among the distinct values. Few distinct values are found by a table,
-//!   in which each is looked for in few slots, so that no values make it slow; many are sorted beside integers of 64 bits that
-//!   foretell their order.
+//! - Promises: the codes of two rows stand as the key orders their values, or are equal just where the values are.
+//! - How, which no clause says: codes are distances of numbers from the one that the key puts first, or from one near them where
+//!   they only tell rows apart, where all lie close enough, and else ranks among the distinct values. Few distinct values are
+//!   found by a table, in which each is looked for in few slots, so that no values make it slow; many are sorted beside integers
+//!   of 64 bits that foretell their order.
 //! - Asks: the order of one key, and at most 2^32 values where they are ranked.
 //! - Leaves: rows, and their order by codes, to `wsort`.
 //!

@@ -1,6 +1,6 @@
 //! The text of rows that stay where they lie, with what calls over windows answer for them beside their cells. A table is made only
 //! where calls stand behind rows and an order is asked for that is not presorted.
-ghost use Rattle.std.specs.Prelude.{◌≡◌, ◌≤◌, ◌<◌, ◌^◌, [], true, IfOk, IfSome, None, Ok, length, map, min};
+ghost use Rattle.std.specs.Prelude.{◌≡◌, ◌==◌, ◌≤◌, ◌<◌, ◌^◌, [], true, IfOk, IfSome, None, Ok, length, map, min};
 ghost use Rattle.wcolumns.specs.Columns.{columns_seen};
 ghost use Rattle.wplan.specs.Plans.{select_plan};
 ghost use Rattle.wprinted.specs.Printing.{table_text, values_at};
@@ -220,7 +220,8 @@ fn is_presorted(select: &Selection, presorted: &PresortedOrders) -> bool
 
 /// Whether a SELECT calls for no window.
 pub(crate) fn is_unwindowed(select: &Selection) -> bool
-    ensures { result ≡ true → length (select_plan select.now).windows ≡ 0 }
+    ensures plan { result ≡ true → length (select_plan select.now).windows ≡ 0 }
+    ensures exact { result ≡ (length select.now.windows.items == 0) }
 {
     select.windows.is_empty()
 }

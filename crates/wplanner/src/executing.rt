@@ -1,5 +1,5 @@
 //! Answers resolved queries.
-ghost use Rattle.std.specs.Prelude.{◌≡◌, ◌<◌, ◌⊎◌, ◌∷◌, [], true, Err, IfOk, IfSome, MatchResult, Ok, length, map};
+ghost use Rattle.std.specs.Prelude.{◌≡◌, ◌≢◌, ◌<◌, ◌⊎◌, ◌∷◌, [], true, Err, IfNone, IfOk, IfSome, MatchResult, Ok, length, map};
 ghost use Rattle.std.specs.List.{list_all};
 ghost use Rattle.std.specs.Rc.{rc_str_bytes};
 ghost use Rattle.wset.specs.Sets.{Becomes};
@@ -144,7 +144,8 @@ fn printed_answer(
 
 // The SELECT of a query that is one alone.
 fn one_select(selects: &[Selection]) -> Option<&Selection>
-    ensures { IfSome result (λ select. map select_plan selects.now ≡ select_plan select.now ∷ []) }
+    ensures one { IfSome result (λ select. map select_plan selects.now ≡ select_plan select.now ∷ []) }
+    ensures none { IfNone result (length selects.now ≢ 1) }
 {
     if selects.len() == 1 {
         Some(&selects[0])

@@ -1,12 +1,13 @@
 //! The text of what a SELECT over the table answers whose items are plain columns or answers of its calls: the rows that WHERE
 //! keeps are printed where they lie.
 ghost use Rattle.std.specs.Prelude.{◌≡◌, [], true, IfOk, IfSome, None, length};
+ghost use Rattle.std.specs.Option.{is_some};
 ghost use Rattle.wplan.specs.Plans.{select_plan};
 ghost use Rattle.wrows.specs.Outcomes.{Gives};
 ghost use Rattle.wset.specs.Running.{live_rows};
 ghost use Rattle.wset.specs.Sets.{Becomes};
 ghost use Rattle.wplanner.specs.Answers.{select_of};
-ghost use Rattle.wplanner.specs.Lent.{ReadsPlaces, text_in};
+ghost use Rattle.wplanner.specs.Lent.{ReadsPlaces, is_lent, text_in};
 ghost use Rattle.wplanner.specs.Sound.{is_sound_select};
 ghost use Rattle.wtable.specs.Few.{MayGive};
 ghost use Rattle.wtable.specs.TableOrders.{AreTableOrders, IsOrderFor, by_keys};
@@ -179,7 +180,8 @@ pub(crate) fn lent_places(
     alloc: Global,
     select: &Selection,
 ) -> Result<Option<Vec<usize>>, AllocError>
-    ensures { IfOk result (λ found. IfSome found (λ places. ReadsPlaces (select_plan select.now) places.items)) }
+    ensures places { IfOk result (λ found. IfSome found (λ places. ReadsPlaces (select_plan select.now) places.items)) }
+    ensures found { IfOk result (λ found. is_some found ≡ is_lent select.now) }
 {
     if select.grouping.is_some() {
         return Ok(None);

@@ -1,11 +1,12 @@
 //! A condition that is judged on many rows.
-ghost use Rattle.std.specs.Prelude.{◌≡◌, IfOk, map};
+ghost use Rattle.std.specs.Prelude.{◌≡◌, true, Err, IfOk, None, map};
 ghost use Rattle.std.specs.Option.{ForSome, is_some};
 ghost use Rattle.wvalues.specs.Meaning.{meaning};
 ghost use Rattle.wplan.specs.declared.expr.Expr.{out-Expr};
 ghost use Rattle.wplan.specs.Formula.{formula};
 ghost use Rattle.weval.specs.NumberTests.{Decide, are_number_tests};
-ghost use Rattle.wrows.specs.declared.fault.AnswerFault.TheVariants.{OutOfRange};
+ghost use Rattle.weval.specs.Reads.{reads_text};
+ghost use Rattle.wrows.specs.declared.fault.AnswerFault.TheVariants.{NoMemory, OutOfRange};
 ghost use Rattle.wrows.specs.Outcomes.{Gives, unless};
 ghost use Rattle.wrows.specs.Columns.{is_out_of_range, holds_on};
 
@@ -36,10 +37,13 @@ impl<'a> Condition<'a> {
         Ok(Condition { expr, tests })
     }
 
-    /// Whether it is true on a row, `OutOfRange` where a part of it is so there. Where it has tests, it is judged by these alone.
+    /// Whether it is true on a row, `OutOfRange` where a part of it is so there. Where it has tests, it is judged by these alone, and
+    /// takes no memory. `NoMemory`: a text that it reads is shared too often.
     #[inline(always)]
     pub fn holds(&self, row: &[Value]) -> Result<bool, AnswerFault>
-        ensures { Gives (λ b. b) result (unless (is_out_of_range (formula self.now.expr.now) (map meaning row.now)) OutOfRange
+        ensures memory { result ≡ Err NoMemory → (self.now.tests ≡ None)
+            × (reads_text (map meaning row.now) (formula self.now.expr.now) ≡ true) }
+        ensures holds { Gives (λ b. b) result (unless (is_out_of_range (formula self.now.expr.now) (map meaning row.now)) OutOfRange
             (holds_on (formula self.now.expr.now) (map meaning row.now))) }
     {
         match &self.tests {

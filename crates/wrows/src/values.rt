@@ -1,9 +1,10 @@
 //! What an expression comes to on one row.
-ghost use Rattle.std.specs.Prelude.{◌≡◌, map};
+ghost use Rattle.std.specs.Prelude.{◌≡◌, true, Err, map};
 ghost use Rattle.wvalues.specs.Meaning.{meaning};
 ghost use Rattle.wplan.specs.Formula.{formula};
+ghost use Rattle.weval.specs.Reads.{reads_text};
 ghost use Rattle.weval.specs.Values.{is_yes};
-ghost use Rattle.wrows.specs.declared.fault.AnswerFault.TheVariants.{OutOfRange};
+ghost use Rattle.wrows.specs.declared.fault.AnswerFault.TheVariants.{NoMemory, OutOfRange};
 ghost use Rattle.wrows.specs.Outcomes.{Gives, unless};
 ghost use Rattle.wrows.specs.Columns.{is_out_of_range, holds_on, value_on};
 
@@ -18,9 +19,11 @@ fn is_yes(truth: Truth) -> bool
     matches!(truth, Truth::Yes)
 }
 
-/// Whether a condition is true on a row, `OutOfRange` where a part of it is so there.
+/// Whether a condition is true on a row, `OutOfRange` where a part of it is so there. `NoMemory`: a text that it reads is shared too
+/// often.
 pub fn holds(condition: &Expr, row: &[Value]) -> Result<bool, AnswerFault>
-    ensures { Gives (λ b. b) result (unless (is_out_of_range (formula condition.now) (map meaning row.now)) OutOfRange
+    ensures memory { result ≡ Err NoMemory → reads_text (map meaning row.now) (formula condition.now) ≡ true }
+    ensures holds { Gives (λ b. b) result (unless (is_out_of_range (formula condition.now) (map meaning row.now)) OutOfRange
         (holds_on (formula condition.now) (map meaning row.now))) }
 {
     match truth_on(condition, row) {

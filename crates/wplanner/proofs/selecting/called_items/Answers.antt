@@ -32,7 +32,7 @@ returns-clause-rows c =
     let P : Result (List Row) AnswerFault → Type 0 = λ meant. Gives rows_in c.items_beside_by.result meant in
     let same : beside rows (rows_seen c.deref-7.result.now) ≡ beside rows (columns_of_calls answers s.calls) =
     ap (λ l. beside rows (rows_seen l)) c.deref-7.ensures.value ∙ ap (beside rows) c.in_ok-lists.ensures
-    ∙ ap (λ l. beside rows (map listed_seen l)) c.deref-6.ensures.value ∙ ap (beside rows) c.in_ok-listed.ensures
+    ∙ ap (λ l. beside rows (map listed_seen l)) c.deref-6.ensures.value ∙ ap (beside rows) c.in_ok-listed.ensures.seen
     ∙ ap (λ l. beside rows (columns_seen l)) c.deref-5.ensures.value ∙ ap (beside rows) c.in_ok-columns.ensures
     ∙ ap (λ l. beside rows (columns_of_calls (map columns_in l) (map call_plan c.deref-4.result.now))) c.deref-3.ensures.value
     ∙ ap (λ l. beside rows (columns_of_calls answers (map call_plan l))) c.deref-4.ensures.value in

@@ -18,7 +18,7 @@ returns-in_err-holds c =
     let rows = rows_seen c.args.rows.now in
     let view : Vec (Bor (List Value)) Global → List Row = λ held. rows_seen held.items in
     rw (p.1, p.2) (refused_by (λ (b : Bool). b) view c.in_err-holds.field-0.0 (is_out_of_range t row)
-    (list_any (is_out_of_range t) rows) (holds_on t row) (filter (holds_on t) rows) c.in_err-holds.ensures
+    (list_any (is_out_of_range t) rows) (holds_on t row) (filter (holds_on t) rows) c.in_err-holds.ensures.holds
     (any_of_all (is_out_of_range t) row_seen c.args.rows.now c.loop-row.row-index c.row-item.result c.loop-row-test.true c.row-item.is))
 
 pub returns : goal.returns

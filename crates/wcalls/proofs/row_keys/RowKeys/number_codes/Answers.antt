@@ -21,4 +21,4 @@ returns c =
     let seen : values_seen c.deref.result.now ≡ column = ap values_seen c.deref.ensures.value ∙ c.in_ok-column.ensures in
     let P : SortKey → List Meaning → Type 0 = λ k values. IfSome found (λ codes. AreCodes k values codes.items) in
     one_key_found keys.lists orders found keys.wide one few
-    (subst (λ k. P k column) key (subst (λ values. P c.index.result.now values) seen c.in_ok-found.ensures))
+    (subst (λ k. P k column) key (subst (λ values. P c.index.result.now values) seen c.in_ok-found.ensures.codes))
